@@ -1,0 +1,86 @@
+-- What always holds of a mutex, as callers see it.
+use Rattle.std.proofs.Common.{◌≡◌, ◌≢◌, ℕ, ◌+◌, ◌<◌, ◌≤◌, Bool, true, false, List, [], ◌∷◌, length, Option, Some, refl, ap, arith, sym, ◌∙◌}
+use Rattle.std.specs.List.{sum_by}
+use Rattle.std.proofs.lemmas.List.Sums.{sum_by-cons}
+use Rattle.lock_event.specs.declared.event.Entry.{Entry}
+use Rattle.lock_event.specs.declared.event.EntryId.{EntryId}
+use Rattle.lock_event.specs.Lists.{marked_count, IsMarkedFirst}
+use Rattle.lock_queue.specs.Queues.{Queue}
+use Rattle.lock_core.specs.declared.program.mutex.Place.{Place}
+use Rattle.lock_core.specs.declared.program.mutex.Place.TheVariants.{Out, Holding, Enter, Try, Clear, CancelUncount, CancelLeave, Join, Look, Ask, Retry, PassOn, Count, JoinStarved, LookAlone, PassOnListed, AskStarved, Seize, Uncount, Leave, RefuseUncount, RefuseLeave, RefuseNotifyMemory, RefuseNotifyStarved, ReleaseNotify}
+use Rattle.lock_core.specs.declared.program.mutex.Action.{Action}
+use Rattle.lock_core.specs.declared.program.mutex.Action.TheVariants as act
+use Rattle.lock_core.specs.declared.program.mutex.Found.{Found}
+use Rattle.lock_core.specs.declared.program.mutex.Found.TheVariants.{Done, Free, Held, SomeStarved, AtLimit, NoMemory, Yes, No}
+use Rattle.lock_core.specs.declared.mutex.word.Word.{Word}
+use Rattle.lock_core.specs.Mutex.Roles.{bit, holds, counted, listed, waits, owes, is_resting}
+use Rattle.lock_core.specs.Mutex.Effects.{OnWord}
+use Rattle.lock_core.specs.Mutex.Seats.{OnList}
+use Rattle.lock_core.specs.Mutex.Tally.{IsSound, tally_of, counts_of}
+use Rattle.lock_core.specs.Mutex.Machine.{Lock, IsLock}
+use Rattle.lock_core.specs.Mutex.Acts.{Finds, IsAtRest, IsMutex}
+
+-- a resting party owes nothing, and waits where it is listed
+rests : (x : Place) → is_resting x ≡ true → (owes x ≡ 0) × (waits x ≡ listed x)
+rests Out h = (refl, refl)
+rests Holding h = (refl, refl)
+rests Ask h = (refl, refl)
+rests AskStarved h = (refl, refl)
+rests _ h = absurd (cc)
+
+all_rest : (ps : List Place) → IsAtRest ps → (sum_by owes ps ≡ 0) × (sum_by waits ps ≡ sum_by listed ps)
+all_rest [] h = (refl, refl)
+all_rest (x ∷ xs) h =
+    let one = rests x h.0 in
+    let more = all_rest xs h.1 in
+    (omega (arith, sum_by-cons owes x xs), omega (arith, sum_by-cons waits x xs, sum_by-cons listed x xs))
+
+module _ (w : Word) (places : List Place) (list : Queue) where
+  abbrev the_lock : Lock
+  the_lock = record { places = places; entries = list.entries; limit = w.limit }
+
+  pub is_mutex : IsLock w places list → IsMarkedFirst list.entries → IsMutex the_lock
+  is_mutex lock ordered =
+      record {
+        one_holder = omega (arith, lock.sound.held, lock.sound.one_holder);
+        few_starved = omega (arith, lock.sound.starved, lock.sound.limited);
+        owners = lock.owners;
+        in_order = ordered;
+        wakes = λ rest free some.
+            let all = all_rest places rest in
+            let owed : 0 < sum_by owes places + marked_count list.entries = lock.sound.owed (omega (arith, lock.sound.held)) (omega (arith, lock.sound.in_list, all.1)) in
+            omega (arith, all.0);
+      }
+
+  -- what an action found, said of the parties
+  pub finds : (p : ℕ) (memory : Bool) (a : Action) (f : Found) (v : Word) (s t : Queue) → IsLock w places list → OnWord a f w v → OnList p memory a f s t → Finds memory a f the_lock
+  finds p memory act.Nothing Done v s t k e l = tt
+  finds p memory act.Nothing _ v s t k e l = absurd e
+  finds p memory act.Take Free v s t k e l = (k.sound.held ∙ ap bit e.0, k.sound.starved ∙ e.1)
+  finds p memory act.Take (Held starving) v s t k e l = (k.sound.held ∙ ap bit e.0, k.sound.starved ∙ e.1)
+  finds p memory act.Take SomeStarved v s t k e l = rw k.sound.starved e.0
+  finds p memory act.Take _ v s t k e l = absurd e
+  finds p memory act.TakeAlone Free v s t k e l = (k.sound.held ∙ ap bit e.0, k.sound.starved ∙ e.1)
+  finds p memory act.TakeAlone (Held starving) v s t k e l = k.sound.held ∙ ap bit e.0
+  finds p memory act.TakeAlone SomeStarved v s t k e l = (k.sound.held ∙ ap bit e.0, λ one. e.1 (sym k.sound.starved ∙ one))
+  finds p memory act.TakeAlone _ v s t k e l = absurd e
+  finds p memory act.Set Free v s t k e l = k.sound.held ∙ ap bit e.0
+  finds p memory act.Set (Held starving) v s t k e l = k.sound.held ∙ ap bit e.0
+  finds p memory act.Set _ v s t k e l = absurd e
+  finds p memory act.Count Done v s t k e l = rw k.sound.starved e.0
+  finds p memory act.Count AtLimit v s t k e l = k.sound.starved ∙ e.0
+  finds p memory act.Count _ v s t k e l = absurd e
+  finds p memory act.Uncount Done v s t k e l = tt
+  finds p memory act.Uncount _ v s t k e l = absurd e
+  finds p memory act.Clear Done v s t k e l = k.sound.held ∙ ap bit e.0
+  finds p memory act.Clear _ v s t k e l = absurd e
+  finds p memory act.Join Done v s t k e l = tt
+  finds p memory act.Join NoMemory v s t k e l = l.0
+  finds p memory act.Join _ v s t k e l = absurd e
+  finds p memory act.Ask Yes v s t k e l = tt
+  finds p memory act.Ask No v s t k e l = tt
+  finds p memory act.Ask _ v s t k e l = absurd e
+  finds p memory act.Leave Done v s t k e l = tt
+  finds p memory act.Leave _ v s t k e l = absurd e
+  finds p memory act.Notify Done v s t k e l = tt
+  finds p memory act.Notify _ v s t k e l = absurd e

@@ -1,0 +1,50 @@
+-- An action of one party keeps what always holds of a mutex.
+use Rattle.std.proofs.Common.{◌≡◌, ℕ, ◌+◌, ◌<◌, ◌≤◌, Bool, List, Option, None, length, get_or, arith, refl, sym, ap, subst, ◌∙◌, length-set, get_or-set_same, get_or-set_other}
+use Rattle.std.proofs.Math.ListN.{set}
+use Rattle.std.proofs.Math.Decide.{ℕ_discrete}
+use Rattle.lock_queue.specs.Queues.{Queue}
+use Rattle.lock_queue.specs.Parties.{entries_of}
+use Rattle.lock_event.specs.declared.event.EntryId.{EntryId}
+use Rattle.lock_core.specs.declared.program.mutex.Place.{Place}
+use Rattle.lock_core.specs.declared.program.mutex.Action.{Action}
+use Rattle.lock_core.specs.declared.program.mutex.Action.TheVariants as act
+use Rattle.lock_core.specs.declared.program.mutex.Place.TheVariants.{Out}
+use Rattle.lock_core.specs.Mutex.Roles.{listed}
+use Rattle.lock_core.specs.Mutex.Parties.{OnParties}
+use Rattle.lock_core.specs.declared.program.mutex.Found.{Found}
+use Rattle.lock_core.specs.declared.mutex.word.Word.{Word}
+use Rattle.lock_core.specs.Mutex.Program.{action_of, next_of, place_after}
+use Rattle.lock_core.specs.Mutex.Effects.{OnWord}
+use Rattle.lock_core.specs.Mutex.Seats.{CanDo, OnList}
+use Rattle.lock_core.specs.Mutex.Tally.{IsSound, tally_of, counts_of}
+use Rattle.lock_core.specs.Mutex.Machine.{IsLock, SameRoles, place_at}
+use Rattle.lock_core.proofs.MutexMachine.CanDo.{can_do, once}
+use Rattle.lock_core.proofs.MutexMachine.Owners.{on_parties, parties_kept, lengths, others}
+use Rattle.lock_core.proofs.MutexMachine.Steps.{Effect, Moves}
+use Rattle.lock_core.proofs.MutexMachine.Effects.{numbers}
+use Rattle.lock_core.proofs.MutexMachine.Parties.{moves, counted_all}
+use Rattle.lock_core.proofs.MutexMachine.Kept.{kept, follows, after}
+
+module _ (p : ℕ) (v w : Word) (places : List Place) (list new : Queue) (memory : Bool) where
+  pub locked : (from : Place) (f : Found) → IsLock v places list → p < length places → SameRoles from (place_at places p)
+      → OnWord (action_of from) f v w → OnList p memory (action_of from) f list new → IsLock w (set places p (after from f)) new
+  locked from f lock known same word list_did =
+      let to : Place = after from f in
+      let can : CanDo p (action_of from) v list = can_do p v places list lock known from same in
+      let effect : Effect (action_of from) f (tally_of v list.entries) (tally_of w new.entries) = numbers v w list new p memory (action_of from) f word list_did can in
+      let move : Moves from to (counts_of places) (counts_of (set places p to)) = moves places p from to known same in
+      let follow = follows (tally_of v list.entries) (tally_of w new.entries) (counts_of places) (counts_of (set places p to)) from f effect lock.sound move in
+      let parties : OnParties p (action_of from) f list.entries new.entries = on_parties list new p memory (action_of from) f list_did in
+      let leaving : action_of from ≡ act.Leave → 0 < entries_of p list.entries = λ e. (let seat : CanDo p act.Leave v list = rw e at can in seat.1) in
+      let counts = lengths list.entries new.entries p (action_of from) f parties leaving in
+      let size : length new.entries + listed from ≡ length list.entries + listed to = follow.in_list in
+      let own : entries_of p new.entries ≡ listed to = omega (arith, lock.owners p, same.standing, counts, size) in
+      record {
+        owners = λ j. elim (ℕ_discrete j p) as (λ _. entries_of j new.entries ≡ listed (place_at (set places p to) j)) [
+          | yes e ↦ (let P : ℕ → Type 0 = λ k. entries_of k new.entries ≡ listed (place_at (set places p to) k) in
+              subst P (sym e) (rw (get_or-set_same places p to Out known) own))
+          | no apart ↦ rw (get_or-set_other places p j to Out apart) (others list.entries new.entries p (action_of from) f parties j apart ∙ lock.owners j)
+        ];
+        sound = kept (tally_of v list.entries) (tally_of w new.entries) (counts_of places) (counts_of (set places p to)) from f effect lock.sound (counted_all places) (counted_all (set places p to)) move;
+        as_many = parties_kept list new p memory (action_of from) f list_did ∙ (lock.as_many ∙ sym (length-set places p to));
+      }

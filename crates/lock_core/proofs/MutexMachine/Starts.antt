@@ -1,0 +1,27 @@
+-- A call begins with the roles that its party has.
+use Rattle.std.proofs.Common.{◌≡◌, Option, Some, None, refl}
+use Rattle.lock_core.specs.declared.program.mutex.Place.{Place}
+use Rattle.lock_core.specs.declared.program.mutex.Place.TheVariants.{Out, Holding, Enter, Try, Clear, CancelUncount, CancelLeave, Join, Look, Ask, Retry, PassOn, Count, JoinStarved, LookAlone, PassOnListed, AskStarved, Seize, Uncount, Leave, RefuseUncount, RefuseLeave, RefuseNotifyMemory, RefuseNotifyStarved, ReleaseNotify}
+use Rattle.lock_core.specs.declared.program.mutex.LockCall.{LockCall}
+use Rattle.lock_core.specs.declared.program.mutex.LockCall.TheVariants as call
+use Rattle.lock_core.specs.Mutex.Program.{start_of}
+use Rattle.lock_core.specs.Mutex.Machine.{SameRoles}
+
+some_eq : {A : Type 0} {x y : A} → Some x ≡ Some y → x ≡ y
+some_eq e = cc
+
+pub start_same : (c : LockCall) (at from : Place) → start_of c at ≡ Some from → SameRoles from at
+start_same call.Lock Out from e = rw (← some_eq e) (record { holding = refl; starving = refl; standing = refl; waiting = refl; owing = refl })
+start_same call.Lock _ from e = absurd (cc)
+start_same call.Try Out from e = rw (← some_eq e) (record { holding = refl; starving = refl; standing = refl; waiting = refl; owing = refl })
+start_same call.Try _ from e = absurd (cc)
+start_same call.Poll Out from e = rw (← some_eq e) (record { holding = refl; starving = refl; standing = refl; waiting = refl; owing = refl })
+start_same call.Poll Ask from e = rw (← some_eq e) (record { holding = refl; starving = refl; standing = refl; waiting = refl; owing = refl })
+start_same call.Poll AskStarved from e = rw (← some_eq e) (record { holding = refl; starving = refl; standing = refl; waiting = refl; owing = refl })
+start_same call.Poll _ from e = absurd (cc)
+start_same call.Release Holding from e = rw (← some_eq e) (record { holding = refl; starving = refl; standing = refl; waiting = refl; owing = refl })
+start_same call.Release _ from e = absurd (cc)
+start_same call.Cancel Out from e = rw (← some_eq e) (record { holding = refl; starving = refl; standing = refl; waiting = refl; owing = refl })
+start_same call.Cancel Ask from e = rw (← some_eq e) (record { holding = refl; starving = refl; standing = refl; waiting = refl; owing = refl })
+start_same call.Cancel AskStarved from e = rw (← some_eq e) (record { holding = refl; starving = refl; standing = refl; waiting = refl; owing = refl })
+start_same call.Cancel _ from e = absurd (cc)

@@ -1,0 +1,61 @@
+-- An action of one party keeps what always holds of the mutex.
+use Rattle.std.proofs.Common.{◌≡◌, ◌+◌, ◌<◌, ◌≤◌, ℕ, zero, suc, List, [], ◌∷◌, None, length, get_or, arith, refl, sym, ap, subst, ◌∙◌, length-set}
+use Rattle.std.proofs.Math.ListN.{set}
+use Rattle.lock_core.specs.declared.program.mutex.Place.{Place}
+use Rattle.lock_core.specs.Mutex.Program.{action_of, next_of, place_after}
+use Rattle.lock_core.specs.Mutex.Effects.{OnWord}
+use Rattle.lock_core.specs.Mutex.Seats.{CanDo, OnList}
+use Rattle.lock_core.specs.Mutex.Tally.{IsSound, tally_of, counts_of}
+use Rattle.lock_core.specs.Mutex.Machine.{IsLock, SameRoles, place_at}
+use Rattle.lock_core.proofs.MutexMachine.CanDo.{can_do, once}
+use Rattle.lock_core.proofs.MutexMachine.Laws.{finds}
+use Rattle.lock_core.proofs.MutexMachine.Owners.{on_parties}
+use Rattle.lock_core.proofs.MutexMachine.Effects.{limit_kept}
+use Rattle.lock_core.proofs.MutexMachine.Kept.{after}
+use Rattle.lock_core.proofs.MutexMachine.Fair.{acts_fairly}
+use Rattle.lock_core.proofs.MutexMachine.Locks.{locked}
+use Rattle.lock_core.proofs.mutex.locking.Lock.act.Goals as goal
+
+pub carry_out-found-requires : goal.carry_out-found-requires
+carry_out-found-requires c =
+    let known : c.args.party < length c.self.inside.places.items = rw (ap (λ l. length l.places) c.self.view_is) c.requires.known in
+    let same : SameRoles c.args.from (place_at c.self.inside.places.items c.args.party) = rw (ap (λ l. l.places) c.self.view_is) c.requires.begins in
+    rw c.action_at-action.ensures
+    (can_do c.args.party c.self.inside.word c.self.inside.places.items c.self.inside.list c.self.invariant known c.args.from same)
+
+pub invariant_of-self : goal.invariant_of-self
+invariant_of-self c =
+    let known : c.args.party < length c.self.inside.places.items = rw (ap (λ l. length l.places) c.self.view_is) c.requires.known in
+    let same : SameRoles c.args.from (place_at c.self.inside.places.items c.args.party) = rw (ap (λ l. l.places) c.self.view_is) c.requires.begins in
+    let to : c.after.result ≡ after c.args.from c.carry_out-found.result =
+    c.after.ensures ∙ ap (place_after c.args.from) c.decide-next.ensures in
+    let word : OnWord (action_of c.args.from) c.carry_out-found.result c.self.inside.word c.carry_out-found.new.word =
+    rw c.action_at-action.ensures at c.carry_out-found.ensures.word in
+    let list : OnList c.args.party c.args.memory (action_of c.args.from) c.carry_out-found.result c.self.inside.list c.carry_out-found.new.list =
+    rw c.action_at-action.ensures at c.carry_out-found.ensures.list in
+    rw to (locked c.args.party c.self.inside.word c.carry_out-found.new.word c.self.inside.places.items c.self.inside.list c.carry_out-found.new.list c.args.memory c.args.from c.carry_out-found.result c.self.invariant known same word list)
+
+pub returns-clause-acts : goal.returns-clause-acts
+returns-clause-acts c =
+    let known : c.args.party < length c.self.inside.places.items = rw (ap (λ l. length l.places) c.self.view_is) c.requires.known in
+    let same : SameRoles c.args.from (place_at c.self.inside.places.items c.args.party) = rw (ap (λ l. l.places) c.self.view_is) c.requires.begins in
+    let to : c.after.result ≡ after c.args.from c.carry_out-found.result =
+    c.after.ensures ∙ ap (place_after c.args.from) c.decide-next.ensures in
+    let word : OnWord (action_of c.args.from) c.carry_out-found.result c.self.inside.word c.carry_out-found.new.word =
+    rw c.action_at-action.ensures at c.carry_out-found.ensures.word in
+    let list : OnList c.args.party c.args.memory (action_of c.args.from) c.carry_out-found.result c.self.inside.list c.carry_out-found.new.list =
+    rw c.action_at-action.ensures at c.carry_out-found.ensures.list in
+    let limit : c.carry_out-found.new.word.limit ≡ c.self.inside.word.limit =
+    limit_kept c.args.party c.args.memory (action_of c.args.from) c.carry_out-found.result c.self.inside.word c.carry_out-found.new.word word in
+    rw (← c.self.view_is)
+    (record {
+      found = c.carry_out-found.result;
+      finds = finds c.self.inside.word c.self.inside.places.items c.self.inside.list c.args.party c.args.memory (action_of c.args.from) c.carry_out-found.result c.carry_out-found.new.word c.self.inside.list c.carry_out-found.new.list c.self.invariant word list;
+      next_is = c.decide-next.ensures;
+      list = on_parties c.self.inside.list c.carry_out-found.new.list c.args.party c.args.memory (action_of c.args.from) c.carry_out-found.result list;
+      places = ap (set c.self.inside.places.items c.args.party) c.after.ensures;
+      limit = limit;
+    })
+
+pub returns-clause-fair : goal.returns-clause-fair
+returns-clause-fair c = acts_fairly c.args.memory c.args.party c.args.from c.decide-next.result c.args.self.now _ c.requires.known c.requires.begins (returns-clause-acts c)

@@ -1,0 +1,9 @@
+pub mod Program
+pub mod Roles
+pub mod Effects
+pub mod Seats
+pub mod Tally
+pub mod Parties
+pub mod Machine
+pub mod Acts
+pub mod Courses

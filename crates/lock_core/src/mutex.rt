@@ -1,0 +1,6 @@
+//! The mutex.
+
+mod locking;
+mod word;
+
+pub use locking::Lock;

@@ -1,0 +1,183 @@
+//! A mutex as a machine: its word, its list, and where each party stands.
+
+ghost use Rattle.std.specs.Prelude.{◌≡◌, ℕ, ◌+◌, ◌<◌, ◌≤◌, ◌^◌, true, false, length, Some, None, slice_set, slice_index_or, IfOk, IsSome, IsSomeAnd};
+ghost use Rattle.lock_core.specs.Mutex.Program.{next_of, action_of, place_after};
+
+use crate::program::mutex::{Action, End, Found, LockCall, Next, Place, action_at, decide, start};
+use super::word::Word;
+use lock_queue::WaitQueue;
+use std::alloc::{AllocError, Global};
+use std::marker::Model;
+
+/// A mutex, and the program of each of its parties.
+#[derive(Drop)]
+pub struct Lock {
+    word: Word,
+    list: WaitQueue,
+    places: Vec<Place>,
+}
+
+impl Model for Lock {
+    ghost use Rattle.lock_core.specs.Mutex.Machine.{Lock, IsLock};
+
+    ghost Value = { Lock };
+
+    ghost view = { λ m. record { places = m.places.items; entries = m.list.entries; limit = m.word.limit } };
+
+    ghost invariant = { λ m. IsLock m.word m.places.items m.list };
+}
+
+ghost use Rattle.lock_core.specs.Mutex.Effects.{OnWord};
+ghost use Rattle.lock_core.specs.Mutex.Seats.{OnList, CanDo};
+ghost use Rattle.lock_core.specs.Mutex.Machine.{SameRoles, place_at, new_lock};
+ghost use Rattle.lock_core.specs.Mutex.Acts.{Acts, TakenFairly, IsMutex, Holds, holders, starved as starved_lem};
+ghost use Rattle.lock_core.specs.Mutex.Program.{start_of};
+ghost use Rattle.lock_core.specs.Mutex.Roles.{bit};
+ghost use Rattle.lock_core.specs.Mutex.Courses.{Begins, GoesOn};
+
+/// Carries out one action for a party.
+fn carry_out(
+    word: &mut Word,
+    list: &mut WaitQueue,
+    party: u32,
+    action: Action,
+    memory: bool,
+    starving: bool,
+) -> Found
+    requires { CanDo party action word.old list.old }
+    ensures word { OnWord action result word.old word.new }
+    ensures list { OnList party memory action result list.old list.new }
+{
+    match action {
+        Action::Nothing => Found::Done,
+        Action::Take => word.take(starving),
+        Action::TakeAlone => word.take_alone(),
+        Action::Set => word.set(),
+        Action::Count => word.count(),
+        Action::Uncount => word.uncount(),
+        Action::Clear => word.clear(),
+        Action::Join if memory => {
+            list.join(party);
+            Found::Done
+        }
+        Action::Join => Found::NoMemory,
+        Action::Ask => {
+            if list.ask(party) {
+                Found::Yes
+            } else {
+                Found::No
+            }
+        }
+        Action::Leave => {
+            list.leave(party);
+            Found::Done
+        }
+        Action::Notify => {
+            list.notify(1);
+            Found::Done
+        }
+    }
+}
+
+impl Lock {
+    /// A free mutex for so many parties, none of which has called yet.
+    pub fn new(alloc: Global, parties: u32, limit: u32) -> Result<Lock, AllocError>
+        ensures { IfOk result (λ l. l ≡ new_lock parties limit) }
+    {
+        let mut places = Vec::new(alloc);
+        places.resize(parties as usize, Place::Out)?;
+        let list = WaitQueue::new(alloc, parties)?;
+        Ok(Lock {
+            word: Word::new(limit),
+            list,
+            places,
+        })
+    }
+
+    /// Begins a call of a party with its first action.
+    pub fn begin(&mut self, party: u32, call: LockCall, memory: bool, starving: bool) -> Next
+        requires known { party < length self.old.places }
+        requires can { IsSome (start_of call (place_at self.old.places party)) }
+        ensures acts { IsSomeAnd (start_of call (place_at self.old.places party)) (λ from. Acts memory party from result self.old self.new) }
+        ensures leads { Begins call result (place_at self.new.places party) }
+        ensures fair { TakenFairly self.old self.new }
+    {
+        match start(call, self.place(party)) {
+            Some(from) => self.act(party, from, memory, starving),
+            None => unreachable!(),
+        }
+    }
+
+    /// Goes on with a call of a party, by one action.
+    pub fn go(&mut self, party: u32, memory: bool, starving: bool) -> Next
+        requires known { party < length self.old.places }
+        ensures acts { Acts memory party (place_at self.old.places party) result self.old self.new }
+        ensures leads { GoesOn (place_at self.old.places party) result (place_at self.new.places party) }
+        ensures fair { TakenFairly self.old self.new }
+    {
+        self.act(party, self.place(party), memory, starving)
+    }
+
+    /// Where a party stands.
+    pub fn place(&self, party: u32) -> Place
+        requires { party < length self.now.places }
+        ensures { result ≡ place_at self.now.places party }
+    {
+        self.places[party as usize]
+    }
+
+    /// Whether the lock is held.
+    pub fn is_held(&self) -> bool
+        ensures { bit result ≡ holders self.now }
+    {
+        self.word.held
+    }
+
+    /// How many parties are counted as starved.
+    pub fn starved(&self) -> u32
+        ensures { result ≡ starved_lem self.now }
+    {
+        self.word.starved
+    }
+
+    /// What always holds of a mutex. It does nothing.
+    pub fn laws(&self)
+        ensures { IsMutex self.now }
+    {
+        self.list.laws();
+    }
+
+    /// One action of a party's program, whose place was `from`.
+    fn act(&mut self, party: u32, from: Place, memory: bool, starving: bool) -> Next
+        requires known { party < length self.old.places }
+        requires begins { SameRoles from (place_at self.old.places party) }
+        ensures acts { Acts memory party from result self.old self.new }
+        ensures fair { TakenFairly self.old self.new }
+    {
+        let at = party as usize;
+        let action = action_at(from);
+        let found = carry_out(
+            &mut self.word,
+            &mut self.list,
+            party,
+            action,
+            memory,
+            starving,
+        );
+        let next = decide(from, found);
+        self.places[at] = after(from, next);
+        next
+    }
+}
+
+/// Where a party stands after this.
+fn after(from: Place, next: Next) -> Place
+    ensures { result ≡ place_after from next }
+{
+    match next {
+        Next::Do(_, place) => place,
+        Next::End(End::Got) => Place::Holding,
+        Next::End(End::Pending) => from,
+        Next::End(_) => Place::Out,
+    }
+}

@@ -1,0 +1,93 @@
+//! The word of a mutex: whether it is held, and how many parties are counted as starved.
+
+ghost use Rattle.std.specs.Prelude.{◌≡◌, ℕ, ◌<◌, ◌≤◌, ◌^◌, true, false};
+ghost use Rattle.lock_core.specs.declared.program.mutex.Action.TheVariants as act;
+ghost use Rattle.lock_core.specs.Mutex.Effects.{OnWord, new_word};
+
+use crate::program::mutex::Found;
+
+/// The word of a mutex.
+#[derive(Clone, Copy, Debug, PartialEq, Eq)]
+pub struct Word {
+    pub held: bool,
+    pub starved: u32,
+    pub limit: u32,
+}
+
+impl Word {
+    /// NotFree holds it, and nobody is starved.
+    pub fn new(limit: u32) -> Word
+        ensures { result ≡ new_word limit }
+    {
+        Word {
+            held: false,
+            starved: 0,
+            limit,
+        }
+    }
+
+    pub fn take(&mut self, starving: bool) -> Found
+        ensures { OnWord act.Take result self.old self.new }
+    {
+        if self.starved > 0 {
+            Found::SomeStarved
+        } else if self.held {
+            Found::Held { starving }
+        } else {
+            self.held = true;
+            Found::Free
+        }
+    }
+
+    pub fn take_alone(&mut self) -> Found
+        ensures { OnWord act.TakeAlone result self.old self.new }
+    {
+        if self.held {
+            Found::Held { starving: false }
+        } else if self.starved == 1 {
+            self.held = true;
+            Found::Free
+        } else {
+            Found::SomeStarved
+        }
+    }
+
+    pub fn set(&mut self) -> Found
+        ensures { OnWord act.Set result self.old self.new }
+    {
+        if self.held {
+            Found::Held { starving: false }
+        } else {
+            self.held = true;
+            Found::Free
+        }
+    }
+
+    pub fn count(&mut self) -> Found
+        requires { self.old.starved ≤ self.old.limit }
+        ensures { OnWord act.Count result self.old self.new }
+    {
+        if self.starved == self.limit {
+            Found::AtLimit
+        } else {
+            self.starved += 1;
+            Found::Done
+        }
+    }
+
+    pub fn uncount(&mut self) -> Found
+        requires { 0 < self.old.starved }
+        ensures { OnWord act.Uncount result self.old self.new }
+    {
+        self.starved -= 1;
+        Found::Done
+    }
+
+    pub fn clear(&mut self) -> Found
+        requires { self.old.held ≡ true }
+        ensures { OnWord act.Clear result self.old self.new }
+    {
+        self.held = false;
+        Found::Done
+    }
+}

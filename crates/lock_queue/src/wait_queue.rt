@@ -1,0 +1,135 @@
+//! A waiting list of numbered parties.
+
+ghost use Rattle.std.specs.Prelude.{◌≡◌, ℕ, ◌<◌, ◌≤◌, true, false, [], IfOk, IsTrue, length, slice_get};
+ghost use Rattle.lock_event.specs.Lists.{joined, notified, notified_additionally, without, left, is_marked_at};
+ghost use Rattle.lock_queue.specs.Parties.{entries_of, is_party, party_of};
+ghost use Rattle.lock_queue.specs.Queues.{queue, IsQueue};
+
+use crate::seat::{ask, join, leave};
+use lock_event::{Entry, EntryId, Event, Slot};
+use std::alloc::{AllocError, Global};
+use std::marker::Model;
+
+/// A waiting list in which each of so many parties has at most one entry.
+#[derive(Drop)]
+pub struct WaitQueue {
+    list: Event<u32>,
+    seats: Vec<Option<EntryId>>,
+}
+
+impl Model for WaitQueue {
+    ghost use Rattle.std.specs.Prelude.{length};
+    ghost use Rattle.lock_queue.specs.Queues.{Queue, IsWaiting};
+    ghost use Rattle.lock_queue.specs.Parties.{by_party};
+
+    ghost Value = { Queue };
+
+    ghost view = { λ w. record { parties = length w.seats.items; entries = by_party w.list.entries } };
+
+    ghost invariant = { λ w. IsWaiting w.seats.items w.list.entries w.list.room };
+}
+
+impl WaitQueue {
+    /// The empty list of so many parties. No join needs memory afterwards.
+    pub fn new(alloc: Global, parties: u32) -> Result<WaitQueue, AllocError>
+        ensures { IfOk result (λ w. w ≡ queue parties []) }
+    {
+        let mut seats = Vec::new(alloc);
+        seats.resize(parties as usize, None)?;
+        let mut list = Event::new(alloc);
+        match list.reserve(parties as usize) {
+            Ok(()) => Ok(WaitQueue { list, seats }),
+            Err(_) => Err(AllocError),
+        }
+    }
+
+    /// How many entries the list has.
+    pub fn len(&self) -> usize
+        ensures { result ≡ length self.now.entries }
+    {
+        self.list.len()
+    }
+
+    /// The entry at this place, counted from the front: its party and what it has been told. None
+    /// past the last.
+    pub fn entry(&self, index: usize) -> Option<Entry<u32>>
+        ensures { result ≡ slice_get self.now.entries index }
+    {
+        if index < self.list.len() {
+            let entry = self.list.entry(index);
+            Some(Entry {
+                key: party(&entry.key),
+                mark: entry.mark,
+            })
+        } else {
+            None
+        }
+    }
+
+    /// The party joins the list.
+    pub fn join(&mut self, party: u32)
+        requires known { party < self.old.parties }
+        requires out { entries_of party self.old.entries ≡ 0 }
+        ensures { self.new ≡ queue self.old.parties (joined self.old.entries party) }
+    {
+        let at = party as usize;
+        let mut seat = self.seats[at];
+        join(&mut self.list, &mut seat, party);
+        self.seats[at] = seat;
+    }
+
+    /// The party asks for its notification: told, it is out of the list.
+    pub fn ask(&mut self, party: u32) -> bool
+        requires known { party < self.old.parties }
+        requires listed { 0 < entries_of party self.old.entries }
+        ensures answer { result ≡ is_marked_at (is_party party) self.old.entries }
+        ensures told { IsTrue result → self.new ≡ queue self.old.parties (without (is_party party) self.old.entries) }
+        ensures waiting { result ≡ false → self.new ≡ self.old }
+    {
+        let at = party as usize;
+        let mut seat = self.seats[at];
+        let told = ask(&mut self.list, &mut seat, party);
+        self.seats[at] = seat;
+        told
+    }
+
+    /// The party leaves the list, and what it was told goes on.
+    pub fn leave(&mut self, party: u32)
+        requires known { party < self.old.parties }
+        requires listed { 0 < entries_of party self.old.entries }
+        ensures { self.new ≡ queue self.old.parties (left (is_party party) self.old.entries) }
+    {
+        let at = party as usize;
+        let mut seat = self.seats[at];
+        leave(&mut self.list, &mut seat, party);
+        self.seats[at] = seat;
+    }
+
+    /// Waiting entries from the front on are notified until `n` are marked.
+    pub fn notify(&mut self, n: usize)
+        ensures { self.new ≡ queue self.old.parties (notified self.old.entries n) }
+    {
+        self.list.notify(n);
+    }
+
+    /// `n` more waiting entries are notified additionally.
+    pub fn notify_additional(&mut self, n: usize)
+        ensures { self.new ≡ queue self.old.parties (notified_additionally self.old.entries n) }
+    {
+        self.list.notify_additional(n);
+    }
+
+    /// What always holds of such a list. It does nothing.
+    pub fn laws(&self)
+        ensures { IsQueue self.now }
+    {
+        self.list.in_order();
+    }
+}
+
+/// The party that stands in an entry.
+fn party(slot: &Slot<u32>) -> u32
+    ensures { result ≡ party_of slot.now }
+{
+    slot.waker.unwrap_or(0)
+}
