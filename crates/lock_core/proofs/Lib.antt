@@ -1,1 +1,2 @@
 pub mod MutexMachine
+pub mod MutexWorld

@@ -1,2 +1,5 @@
 pub mod Refusals
+pub mod Standings
+pub mod Steps
+pub mod Rights
 pub mod Mutex

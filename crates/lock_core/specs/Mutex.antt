@@ -7,3 +7,8 @@ pub mod Parties
 pub mod Machine
 pub mod Acts
 pub mod Courses
+pub mod State
+pub mod Legal
+pub mod View
+pub mod Plans
+pub mod Table

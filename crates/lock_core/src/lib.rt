@@ -5,6 +5,7 @@ mod moves;
 pub mod mutex;
 pub mod program;
 mod refusal;
+pub mod standing;
 
 pub use lock_event::{Entry, Mark};
 pub use moves::{Answer, Call, Got, Inputs, Made, Move, What};

@@ -79,10 +79,10 @@ cancelling CancelUncount f h = refl
 cancelling CancelLeave f h = refl
 cancelling _ f h = absurd (cc)
 
-goes : (p : Place) (f : Found) → GoesOn p (next_of p f) (place_after p (next_of p f))
+pub goes : (p : Place) (f : Found) → GoesOn p (next_of p f) (place_after p (next_of p f))
 goes p f = record { takes = λ h. takes p f (polling p h); releases = releasing p f; cancels = cancelling p f }
 
-begins : (c : LockCall) (at from : Place) (f : Found) → start_of c at ≡ Some from → Begins c (next_of from f) (place_after from (next_of from f))
+pub begins : (c : LockCall) (at from : Place) (f : Found) → start_of c at ≡ Some from → Begins c (next_of from f) (place_after from (next_of from f))
 begins call.Lock Out from f e = rw (← some_eq e) (takes Enter f refl)
 begins call.Lock _ from f e = absurd (cc)
 begins call.Poll Out from f e = rw (← some_eq e) (takes Enter f refl)

@@ -4,6 +4,7 @@ use Rattle.lock_core.specs.declared.program.mutex.Place.{Place}
 use Rattle.lock_core.specs.declared.program.mutex.Place.TheVariants.{Out, Holding, Enter, Try, Clear, CancelUncount, CancelLeave, Join, Look, Ask, Retry, PassOn, Count, JoinStarved, LookAlone, PassOnListed, AskStarved, Seize, Uncount, Leave, RefuseUncount, RefuseLeave, RefuseNotifyMemory, RefuseNotifyStarved, ReleaseNotify}
 use Rattle.lock_core.specs.declared.program.mutex.LockCall.{LockCall}
 use Rattle.lock_core.specs.declared.program.mutex.LockCall.TheVariants as call
+use Rattle.lock_core.specs.declared.refusal.Refusal.TheVariants.{Memory, Starved}
 use Rattle.lock_core.specs.declared.program.mutex.Next.{Next}
 use Rattle.lock_core.specs.declared.program.mutex.Next.TheVariants as next
 use Rattle.lock_core.specs.declared.program.mutex.End.TheVariants.{Got, Pending, NotFree, GivenBack, Refused}
@@ -50,7 +51,8 @@ abbrev pub Takes : Next → Place → Type 0
 Takes (next.Do action p) to = is_taking to ≡ true
 Takes (next.End Got) to = to ≡ Holding
 Takes (next.End Pending) to = is_waiting to ≡ true
-Takes (next.End (Refused refusal)) to = to ≡ Out
+Takes (next.End (Refused Memory)) to = to ≡ Out
+Takes (next.End (Refused Starved)) to = to ≡ Out
 Takes (next.End _) to = ⊥
 
 abbrev pub Tries : Next → Place → Type 0

@@ -1,10 +1,11 @@
 //! A mutex as a machine: its word, its list, and where each party stands.
 
-ghost use Rattle.std.specs.Prelude.{◌≡◌, ℕ, ◌+◌, ◌<◌, ◌≤◌, ◌^◌, true, false, length, Some, None, slice_set, slice_index_or, IfOk, IsSome, IsSomeAnd};
+ghost use Rattle.std.specs.Prelude.{◌≡◌, ℕ, ◌+◌, ◌<◌, ◌≤◌, ◌^◌, true, false, length, Some, None, slice_set, slice_index_or, slice_get, IfOk, IsSome, IsSomeAnd};
 ghost use Rattle.lock_core.specs.Mutex.Program.{next_of, action_of, place_after};
 
 use crate::program::mutex::{Action, End, Found, LockCall, Next, Place, action_at, decide, start};
 use super::word::Word;
+use lock_event::Entry;
 use lock_queue::WaitQueue;
 use std::alloc::{AllocError, Global};
 use std::marker::Model;
@@ -131,6 +132,21 @@ impl Lock {
         ensures { bit result ≡ holders self.now }
     {
         self.word.held
+    }
+
+    /// How many entries its list has.
+    pub fn waiting(&self) -> usize
+        ensures { result ≡ length self.now.entries }
+    {
+        self.list.len()
+    }
+
+    /// The entry at this place of its list, counted from the front: the party, and what it has been
+    /// told. None past the last.
+    pub fn entry(&self, index: usize) -> Option<Entry<u32>>
+        ensures { result ≡ slice_get self.now.entries index }
+    {
+        self.list.entry(index)
     }
 
     /// How many parties are counted as starved.

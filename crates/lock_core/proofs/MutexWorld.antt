@@ -1,0 +1,10 @@
+pub mod Begun
+pub mod Tables
+pub mod Views
+pub mod Rows
+pub mod Turns
+pub mod Answers
+pub mod Owns
+pub mod Legals
+pub mod Events
+pub mod Opening

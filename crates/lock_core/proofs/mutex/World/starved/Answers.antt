@@ -1,0 +1,9 @@
+-- The word's number is the size of the starved set.
+use Rattle.std.proofs.Common.{ap, sym, ◌∙◌}
+use Rattle.lock_core.specs.Mutex.Acts.{starved}
+use Rattle.lock_core.specs.Mutex.State.{how_many}
+use Rattle.lock_core.proofs.MutexWorld.Views.{how_many-seen}
+use Rattle.lock_core.proofs.mutex.World.starved.Goals as goal
+
+pub returns : goal.returns
+returns c = c.starved.ensures ∙ (ap starved c.lock.ensures ∙ (sym (how_many-seen c.self.inside.table.lock.places) ∙ ap (λ w. how_many w.state.starved) c.self.view_is))

@@ -1,0 +1,9 @@
+-- The table's step is legal, as callers see it.
+use Rattle.lock_core.proofs.MutexWorld.Events.{event_good}
+use Rattle.lock_core.proofs.mutex.World.step.Goals as goal
+
+pub returns-clause-legal : goal.returns-clause-legal
+returns-clause-legal c = rw (← c.self.view_is) ((event_good c.self.inside.table c.step-answer.new.self c.args.m.now c.step-answer.result c.step-answer.ensures c.laws.ensures.mutex c.laws.ensures.fits c.laws-2.ensures.mutex c.laws-2.ensures.fits).legal)
+
+pub returns-clause-at_once : goal.returns-clause-at_once
+returns-clause-at_once c = rw (← c.self.view_is) ((event_good c.self.inside.table c.step-answer.new.self c.args.m.now c.step-answer.result c.step-answer.ensures c.laws.ensures.mutex c.laws.ensures.fits c.laws-2.ensures.mutex c.laws-2.ensures.fits).at_once)

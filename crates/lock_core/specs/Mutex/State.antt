@@ -1,0 +1,54 @@
+-- What callers see of a mutex's World: its state, its list, and how each party stands.
+use Rattle.std.specs.Prelude.{◌≡◌, ℕ, ◌==◌, ◌&&◌, ◌+◌, if◌then◌else◌, Bool, true, false, List, [], ◌∷◌, Option, Some, None, is_none, slice_index_or, replicate}
+use Rattle.lock_event.specs.declared.event.Entry.{Entry}
+use Rattle.lock_event.specs.declared.event.Mark.{Mark}
+use Rattle.lock_event.specs.Lists.{mark_at}
+use Rattle.lock_queue.specs.Parties.{is_party, entries_of}
+use Rattle.lock_core.specs.declared.standing.Rest.TheVariants.{Idle}
+use Rattle.lock_core.specs.Standings.{Standing, outside, forgotten}
+
+-- The holder, if any; for each party whether it is starved; and the value last left.
+pub record State : Type 0 where
+  pub holder : Option ℕ
+  pub starved : List Bool
+  pub value : ℕ
+
+-- The state, the list of waiting parties with their marks, how each party stands, and how many parties may be starved.
+pub record World : Type 0 where
+  pub state : State
+  pub entries : List (Entry ℕ)
+  pub standings : List Standing
+  pub limit : ℕ
+
+-- A party past the table stands as one that is forgotten: it moves no more.
+abbrev pub standing_of : World → ℕ → Standing
+standing_of w p = slice_index_or w.standings p forgotten
+
+abbrev pub is_starved : State → ℕ → Bool
+is_starved s p = slice_index_or s.starved p false
+
+-- How many of these are true.
+abbrev pub how_many : List Bool → ℕ
+how_many [] = 0
+how_many (b ∷ bs) = (if b then 1 else 0) + how_many bs
+
+-- Nobody holds the lock, and nobody is starved.
+abbrev pub is_free : State → Bool
+is_free s = is_none s.holder && (how_many s.starved == 0)
+
+-- What the party has been told in the list, if it stands there.
+abbrev pub mark_of : World → ℕ → Option Mark
+mark_of w p = mark_at (is_party p) w.entries
+
+-- The party stands in no list, and isn't starved.
+abbrev pub IsClear : World → ℕ → Type 0
+IsClear w p = (entries_of p w.entries ≡ 0) × (is_starved w.state p ≡ false)
+
+-- As it is made: nobody holds the lock, nobody is starved or listed, and each party is idle.
+abbrev pub new_world : ℕ → ℕ → ℕ → World
+new_world parties limit value = record {
+  state = record { holder = None; starved = replicate parties false; value = value };
+  entries = [];
+  standings = replicate parties (outside Idle);
+  limit = limit;
+}

@@ -1,0 +1,62 @@
+-- How callers see what stands behind a mutex's World.
+use Rattle.std.specs.Prelude.{ℕ, ◌+◌, ◌==◌, if◌then◌else◌, Bool, List, [], ◌∷◌, map, Option, Some, None}
+use Rattle.lock_core.specs.declared.refusal.Refusal.TheVariants.{Memory, Starved}
+use Rattle.lock_core.specs.declared.program.mutex.Place.{Place}
+use Rattle.lock_core.specs.declared.program.mutex.Place.TheVariants as place
+use Rattle.lock_core.specs.declared.moves.Answer.{Answer}
+use Rattle.lock_core.specs.declared.moves.Answer.TheVariants.{Ready, GivenBack}
+use Rattle.lock_core.specs.declared.moves.Got.TheVariants.{Value}
+use Rattle.lock_core.specs.declared.standing.Stage.{Stage}
+use Rattle.lock_core.specs.declared.standing.Stage.TheVariants.{Outside, Inside, Forgotten}
+use Rattle.lock_core.specs.Standings.{Standing, outside, inside, forgotten, refused}
+use Rattle.lock_core.specs.Mutex.Roles.{holds, counted}
+use Rattle.lock_core.specs.Mutex.Machine.{Lock}
+use Rattle.lock_core.specs.Mutex.Table.{Table}
+use Rattle.lock_core.specs.Mutex.State.{World}
+
+abbrev pub is_holder : Place → Bool
+is_holder x = holds x == 1
+
+abbrev pub is_counted : Place → Bool
+is_counted x = counted x == 1
+
+-- the first party that holds the lock, counted from n
+abbrev pub holder_from : ℕ → List Place → Option ℕ
+holder_from n [] = None
+holder_from n (x ∷ xs) = if is_holder x then Some n else holder_from (n + 1) xs
+
+-- the answer that a call at this place will give, over this value, if it is decided
+abbrev pub verdict : ℕ → Place → Option Answer
+verdict v place.Leave = Some (Ready (Value v))
+verdict v (place.Uncount listed) = Some (Ready (Value v))
+verdict v place.RefuseUncount = Some (refused Memory)
+verdict v (place.RefuseLeave told) = Some (refused Starved)
+verdict v place.RefuseNotifyMemory = Some (refused Memory)
+verdict v place.RefuseNotifyStarved = Some (refused Starved)
+verdict v place.Clear = Some GivenBack
+verdict v place.ReleaseNotify = Some GivenBack
+verdict v place.CancelUncount = Some GivenBack
+verdict v place.CancelLeave = Some GivenBack
+verdict v place.Out = Some GivenBack
+verdict v _ = None
+
+abbrev pub stands_as : ℕ → Stage → Place → Standing
+stands_as v (Outside r) x = outside r
+stands_as v (Inside w) x = inside w (verdict v x)
+stands_as v Forgotten x = forgotten
+
+abbrev pub standings : ℕ → List Stage → List Place → List Standing
+standings v [] xs = []
+standings v (s ∷ ss) [] = []
+standings v (s ∷ ss) (x ∷ xs) = stands_as v s x ∷ standings v ss xs
+
+abbrev pub seen : Lock → List Stage → ℕ → World
+seen l ss v = record {
+  state = record { holder = holder_from 0 l.places; starved = map is_counted l.places; value = v };
+  entries = l.entries;
+  standings = standings v ss l.places;
+  limit = l.limit;
+}
+
+abbrev pub view_of : Table → World
+view_of t = seen t.lock t.stages t.value

@@ -1,0 +1,212 @@
+#!/usr/bin/env python3
+"""Writes the case table of a mutex's steps: crates/lock_core/proofs/MutexWorld/Rows.antt.
+
+Run it at the top of the repository after a change of the mutex's program. Each row is one place
+with one finding of its action: what the step changes, and what it decides.
+"""
+
+HEAD = '''-- Each step of a call, place by place: what it changes, and what it decides. Written by generators/mutex_rows.py.
+use Rattle.std.proofs.Common.{◌≡◌, ℕ, ◌<◌, ◌==◌, ◌⊎◌, inl, inr, Bool, true, false, Option, Some, None, refl}
+use Rattle.lock_core.specs.declared.refusal.Refusal.{Refusal}
+use Rattle.lock_core.specs.declared.refusal.Refusal.TheVariants as refusal
+use Rattle.lock_core.specs.declared.program.mutex.Place.{Place}
+use Rattle.lock_core.specs.declared.program.mutex.Place.TheVariants.{Out, Holding, Enter, Try, Clear, CancelUncount, CancelLeave, Join, Look, Ask, Retry, PassOn, Count, JoinStarved, LookAlone, PassOnListed, AskStarved, Seize, Uncount, Leave, RefuseUncount, RefuseLeave, RefuseNotifyMemory, RefuseNotifyStarved, ReleaseNotify}
+use Rattle.lock_core.specs.declared.program.mutex.Action.{Action}
+use Rattle.lock_core.specs.declared.program.mutex.Action.TheVariants as act
+use Rattle.lock_core.specs.declared.program.mutex.Next.{Next}
+use Rattle.lock_core.specs.declared.program.mutex.Next.TheVariants as next
+use Rattle.lock_core.specs.declared.program.mutex.End.TheVariants as «end»
+use Rattle.lock_core.specs.declared.program.mutex.Found.{Found}
+use Rattle.lock_core.specs.declared.program.mutex.Found.TheVariants.{Done, Free, Held, SomeStarved, AtLimit, NoMemory, Yes, No}
+use Rattle.lock_core.specs.declared.moves.Answer.{Answer}
+use Rattle.lock_core.specs.declared.moves.Answer.TheVariants as answer
+use Rattle.lock_core.specs.declared.moves.Got.TheVariants.{Value}
+use Rattle.lock_core.specs.Refusals.{number_of}
+use Rattle.lock_core.specs.Standings.{refused}
+use Rattle.lock_core.specs.Steps.{Deed, nothing, changes, does, joins, asks, leaves, notifies}
+use Rattle.lock_core.specs.Mutex.Program.{action_of, next_of}
+use Rattle.lock_core.specs.Mutex.Roles.{counted, listed}
+use Rattle.lock_core.specs.Mutex.Machine.{Lock}
+use Rattle.lock_core.specs.Mutex.Acts.{Finds, holders, starved}
+use Rattle.lock_core.specs.Mutex.Legal.{Change, ListName, takes, releases, starves, recovers, puts, for_the_lock, gives_back}
+use Rattle.lock_core.specs.Mutex.View.{is_holder, is_counted, verdict}
+use Rattle.lock_core.proofs.MutexMachine.Kept.{after}
+
+-- what an action changes that found this
+abbrev pub deed_of : Action → Found → Deed Change ListName
+deed_of act.Take Free = changes takes
+deed_of act.TakeAlone Free = changes takes
+deed_of act.Set Free = changes takes
+deed_of act.Count Done = changes starves
+deed_of act.Uncount Done = changes recovers
+deed_of act.Clear Done = changes releases
+deed_of act.Join Done = does for_the_lock joins
+deed_of act.Ask Yes = does for_the_lock asks
+deed_of act.Leave Done = does for_the_lock leaves
+deed_of act.Notify Done = does for_the_lock (notifies 1)
+deed_of _ _ = nothing
+
+abbrev pub is_at_try : Place → Bool
+is_at_try Try = true
+is_at_try _ = false
+
+-- the answer of a try, or of another call
+abbrev pub answer_by : Bool → ℕ → Next → Answer
+answer_by trying v (next.Do action p) = answer.Stepped
+answer_by true v (next.End «end».Got) = answer.Granted (Value v)
+answer_by false v (next.End «end».Got) = answer.Ready (Value v)
+answer_by trying v (next.End «end».Pending) = answer.Pending
+answer_by trying v (next.End «end».NotFree) = answer.None
+answer_by trying v (next.End «end».GivenBack) = answer.GivenBack
+answer_by trying v (next.End («end».Refused r)) = refused r
+
+abbrev pub is_after_ready : Answer → Bool
+is_after_ready (answer.Refused n) = n == number_of refusal.Finished
+is_after_ready _ = false
+
+-- how a deed turns whether its party holds the lock, and whether it is starved
+abbrev pub Holds : Deed Change ListName → Bool → Bool → Type 0
+Holds (changes takes) b c = (b ≡ false) × (c ≡ true)
+Holds (changes releases) b c = (b ≡ true) × (c ≡ false)
+Holds _ b c = c ≡ b
+
+abbrev pub Starves : Deed Change ListName → Bool → Bool → Type 0
+Starves (changes starves) b c = (b ≡ false) × (c ≡ true)
+Starves (changes recovers) b c = (b ≡ true) × (c ≡ false)
+Starves _ b c = c ≡ b
+
+-- what a deed found, and that no step of a program puts a value
+abbrev pub Finding : Deed Change ListName → Lock → Place → Type 0
+Finding (changes takes) l from = (holders l ≡ 0) × ((starved l ≡ 0) ⊎ (counted from ≡ 1))
+Finding (changes starves) l from = starved l < l.limit
+Finding (changes (puts v)) l from = ⊥
+Finding _ l from = Unit {0}
+
+abbrev pub verdict_then : ℕ → Bool → Next → Option Answer
+verdict_then v trying (next.Do a q) = verdict v q
+verdict_then v trying (next.End e) = Some (answer_by trying v (next.End e))
+
+-- why a step refuses its call
+abbrev pub Refuses : Bool → Lock → Place → Found → Refusal → Type 0
+Refuses memory l from f refusal.Memory = (memory ≡ false) × (listed from ≡ 0) × (deed_of (action_of from) f ≡ nothing)
+Refuses memory l from f refusal.Starved = starved l ≡ l.limit
+Refuses memory l from f _ = ⊥
+
+-- why a step decides its call on an answer
+abbrev pub Reason : Bool → Lock → ℕ → Place → Found → Answer → Type 0
+Reason memory l v from f answer.Pending = (action_of from ≡ act.Ask) × (f ≡ No) × (listed from ≡ 1)
+Reason memory l v from f (answer.Ready got) = (is_holder (after from f) ≡ true) × (got ≡ Value v)
+Reason memory l v from f (answer.Granted got) = (is_holder (after from f) ≡ true) × (got ≡ Value v)
+Reason memory l v from f answer.None = Unit {0}
+Reason memory l v from f (answer.Refused n) = (r : Refusal) × (n ≡ number_of r) × Refuses memory l from f r
+Reason memory l v from f _ = ⊥
+
+abbrev pub Judged : Bool → Lock → ℕ → Place → Found → Option Answer → Option Answer → Type 0
+Judged memory l v from f (Some b) o = (o ≡ Some b) × (gives_back (deed_of (action_of from) f) ≡ true)
+Judged memory l v from f None None = Unit {0}
+Judged memory l v from f None (Some b) = Reason memory l v from f b
+
+pub record Row (memory : Bool) (l : Lock) (v : ℕ) (from : Place) (f : Found) : Type 0 where
+  pub holds : Holds (deed_of (action_of from) f) (is_holder from) (is_holder (after from f))
+  pub starves : Starves (deed_of (action_of from) f) (is_counted from) (is_counted (after from f))
+  pub finding : Finding (deed_of (action_of from) f) l from
+  pub judged : Judged memory l v from f (verdict v from) (verdict_then v (is_at_try from) (next_of from f))
+  pub over : is_after_ready (answer_by (is_at_try from) v (next_of from f)) ≡ false
+
+module _ (memory : Bool) (l : Lock) (v : ℕ) where
+  pub row : (from : Place) (f : Found) → Finds memory (action_of from) f l → Row memory l v from f
+'''
+
+TAKES = ('Take', 'TakeAlone', 'Set')
+# How a step is judged: as it was decided before, not yet decided, or decided now for a reason.
+KEPT = '(refl, refl)'
+UNDECIDED = 'tt'
+TAKEN = '(refl, refl)'
+NOT_FREE = 'tt'
+WAITING = '(refl, refl, refl)'
+NO_MEMORY = '(refusal.Memory, refl, (e, refl, refl))'
+AT_LIMIT = '(refusal.Starved, refl, e)'
+
+rows = []
+
+
+def row(place, action, found, judged):
+    takes = action in TAKES and found == 'Free'
+    holds = KEPT if takes or action == 'Clear' else 'refl'
+    counts = action == 'Count' and found == 'Done'
+    starves = KEPT if counts or action == 'Uncount' else 'refl'
+    finding = 'tt'
+    if takes:
+        finding = {'Take': '(e.0, inl e.1)', 'TakeAlone': '(e.0, inr refl)', 'Set': '(e, inr refl)'}[action]
+    if counts:
+        finding = 'e'
+    rows.append(f'  row {place} {found} e = record {{ holds = {holds}; starves = {starves}; finding = {finding}; judged = {judged}; over = refl }}')
+
+
+def rest(place):
+    rows.append(f'  row {place} _ e = absurd e')
+
+
+def one(place, action, judged):
+    row(place, action, 'Done', judged)
+    rest(place)
+
+
+def take(place, free, other):
+    row(place, 'Take', 'Free', free)
+    for found in ('(Held true)', '(Held false)', 'SomeStarved'):
+        row(place, 'Take', found, other)
+    rest(place)
+
+
+def join(place):
+    row(place, 'Join', 'Done', UNDECIDED)
+    row(place, 'Join', 'NoMemory', NO_MEMORY)
+    rest(place)
+
+
+def ask(place):
+    row(place, 'Ask', 'Yes', UNDECIDED)
+    row(place, 'Ask', 'No', WAITING)
+    rest(place)
+
+
+one('Out', 'Nothing', KEPT)
+one('Holding', 'Nothing', TAKEN)
+take('Enter', TAKEN, UNDECIDED)
+take('Try', TAKEN, NOT_FREE)
+one('Clear', 'Clear', KEPT)
+one('CancelUncount', 'Uncount', KEPT)
+one('CancelLeave', 'Leave', KEPT)
+join('(Join true)')
+join('(Join false)')
+take('(Look told)', TAKEN, UNDECIDED)
+ask('Ask')
+take('Retry', TAKEN, UNDECIDED)
+one('PassOn', 'Notify', UNDECIDED)
+for flags in ('true told', 'false true', 'false false'):
+    row(f'(Count {flags})', 'Count', 'Done', UNDECIDED)
+    row(f'(Count {flags})', 'Count', 'AtLimit', AT_LIMIT)
+    rest(f'(Count {flags})')
+join('JoinStarved')
+row('LookAlone', 'TakeAlone', 'Free', TAKEN)
+row('LookAlone', 'TakeAlone', '(Held b)', UNDECIDED)
+row('LookAlone', 'TakeAlone', 'SomeStarved', UNDECIDED)
+rest('LookAlone')
+one('PassOnListed', 'Notify', UNDECIDED)
+ask('AskStarved')
+row('Seize', 'Set', 'Free', TAKEN)
+row('Seize', 'Set', '(Held b)', UNDECIDED)
+rest('Seize')
+one('(Uncount true)', 'Uncount', KEPT)
+one('(Uncount false)', 'Uncount', KEPT)
+one('Leave', 'Leave', KEPT)
+one('RefuseUncount', 'Uncount', KEPT)
+one('(RefuseLeave true)', 'Leave', KEPT)
+one('(RefuseLeave false)', 'Leave', KEPT)
+one('RefuseNotifyMemory', 'Notify', KEPT)
+one('RefuseNotifyStarved', 'Notify', KEPT)
+one('ReleaseNotify', 'Notify', KEPT)
+
+with open('crates/lock_core/proofs/MutexWorld/Rows.antt', 'w', encoding='utf-8') as out:
+    out.write(HEAD + '\n'.join(rows) + '\n')
