@@ -8,3 +8,4 @@ pub mod Owns
 pub mod Legals
 pub mod Events
 pub mod Opening
+pub mod Sound

@@ -12,3 +12,4 @@ pub mod Legal
 pub mod View
 pub mod Plans
 pub mod Table
+pub mod Laws

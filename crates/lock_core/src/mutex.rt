@@ -7,9 +7,10 @@ mod locking;
 mod table;
 mod word;
 
-ghost use Rattle.std.specs.Prelude.{◌≡◌, ℕ, IfOk, IsErr, OnErr, length, slice_get, is_some};
+ghost use Rattle.std.specs.Prelude.{◌≡◌, ℕ, true, IfOk, IfErr, length, slice_get, is_some};
 ghost use Rattle.lock_core.specs.Mutex.State.{new_world, how_many};
 ghost use Rattle.lock_core.specs.Mutex.Legal.{Legal, AnswersAtOnce};
+ghost use Rattle.lock_core.specs.Mutex.Laws.{IsSound, IsAwake, is_at_rest};
 
 use crate::{Answer, Move, Refusal};
 use lock_event::Entry;
@@ -41,7 +42,8 @@ impl World {
     /// A World of so many idle parties, numbered from 0, over a free lock with this value. No step
     /// needs memory afterwards. Refused, for memory alone, nothing is kept.
     pub fn new(alloc: Global, parties: u32, value: u64) -> Result<World, Refusal>
-        ensures { IfOk result (λ w. w ≡ new_world parties MOST_STARVED value) }
+        ensures opening { IfOk result (λ w. w ≡ new_world parties MOST_STARVED value) }
+        ensures refused { IfErr result (λ r. r ≡ Refusal.Memory) }
     {
         match Table::new(alloc, parties, value, MOST_STARVED) {
             Ok(table) => Ok(World { table }),
@@ -58,6 +60,14 @@ impl World {
         let answer = self.table.step(m);
         self.table.laws();
         answer
+    }
+
+    /// What always holds of a World, between any two moves. It does nothing.
+    pub fn laws(&self)
+        ensures sound { IsSound self.now }
+        ensures awake { is_at_rest self.now ≡ true → IsAwake self.now }
+    {
+        self.table.laws();
     }
 
     /// Whether the lock is held.

@@ -1,0 +1,95 @@
+-- What always holds of a mutex's World, and that no notification is lost at rest.
+use Rattle.std.proofs.Common.{◌≡◌, ℕ, ◌+◌, ◌<◌, ◌≤◌, ◌⊎◌, ◌&&◌, inl, inr, Bool, true, false, List, [], ◌∷◌, length, zero, suc, Some, None, refl, arith, ap, sym, ◌∙◌, subst}
+use Rattle.std.specs.List.{list_all}
+use Rattle.lock_queue.specs.Parties.{entries_of}
+use Rattle.lock_core.specs.declared.program.mutex.Place.{Place}
+use Rattle.lock_core.specs.declared.program.mutex.Place.TheVariants as place
+use Rattle.lock_core.specs.declared.standing.Rest.TheVariants as rest
+use Rattle.lock_core.specs.declared.standing.Stage.{Stage}
+use Rattle.lock_core.specs.declared.standing.Stage.TheVariants.{Outside, Inside, Forgotten}
+use Rattle.lock_core.specs.Standings.{Standing, outside, forgotten}
+use Rattle.lock_core.specs.Rights.{Right, hold, excludes}
+use Rattle.lock_core.specs.Mutex.Roles.{holds, listed, is_resting}
+use Rattle.lock_core.specs.Mutex.Machine.{place_at}
+use Rattle.lock_core.specs.Mutex.Acts as lock
+use Rattle.lock_core.specs.Mutex.Acts.{IsMutex}
+use Rattle.lock_core.specs.Mutex.Plans.{stage_at, goes_with}
+use Rattle.lock_core.specs.Mutex.Table.{Table, IsTable}
+use Rattle.lock_core.specs.Mutex.State.{World, standing_of}
+use Rattle.lock_core.specs.Mutex.Laws.{HasRight, IsSound, is_outside, is_at_rest, IsAwake}
+use Rattle.lock_core.specs.Mutex.View.{stands_as, standings, view_of}
+use Rattle.lock_core.proofs.MutexMachine.CanDo.{once}
+use Rattle.lock_core.proofs.MutexWorld.Views as view
+use Rattle.lock_core.proofs.MutexWorld.Owns as owns
+use Rattle.lock_core.proofs.MutexWorld.Tables.{PendingAt, for_pending, for_idle, for_holding}
+
+excluded : (w : World) (p q : ℕ) (r s : Right) → HasRight w p r → HasRight w q s → p ≡ q
+excluded w p q hold hold a b = cc
+excluded w p q hold _ a b = absurd b
+excluded w p q _ s a b = absurd a
+
+pub sound : (t : Table) → IsMutex t.lock → IsTable t.lock t.stages → IsSound (view_of t)
+sound t laws fits = record {
+  exclusion = λ p q r s a b e. excluded (view_of t) p q r s a b;
+  each = owns.each t.lock t.stages t.value laws fits;
+  few_starved = rw view.how_many-seen laws.few_starved;
+  once = λ p. rw (laws.owners p) (once (place_at t.lock.places p));
+  in_order = laws.in_order;
+}
+
+-- ---- at rest
+
+forgotten_rests : (x : Place) → goes_with Forgotten x ≡ true → is_resting x ≡ true
+forgotten_rests place.Out g = refl
+forgotten_rests place.Holding g = refl
+forgotten_rests place.Ask g = refl
+forgotten_rests place.AskStarved g = refl
+forgotten_rests _ g = absurd (cc)
+
+-- a party that is outside every call rests
+rests : (v : ℕ) (s : Stage) (x : Place) → goes_with s x ≡ true → is_outside (stands_as v s x) ≡ true → is_resting x ≡ true
+rests v (Outside rest.Idle) x g o = for_idle (λ x. is_resting x ≡ true) refl x g
+rests v (Outside rest.Pending) x g o = for_pending (λ x. is_resting x ≡ true) (record { out = refl; ask = refl; starved = refl }) x g
+rests v (Outside rest.Holding) x g o = for_holding (λ x. is_resting x ≡ true) refl x g
+rests v (Outside rest.Finished) x g o = absurd (cc)
+rests v (Inside w) x g o = absurd (cc)
+rests v Forgotten x g o = forgotten_rests x g
+
+split : (a b : Bool) → a && b ≡ true → (a ≡ true) × (b ≡ true)
+split true b h = (refl, h)
+split false b h = absurd (cc)
+
+all_rest : (v : ℕ) (ss : List Stage) (ps : List Place) → length ss ≡ length ps → ((p : ℕ) → p < length ss → goes_with (stage_at ss p) (place_at ps p) ≡ true) → list_all is_outside (standings v ss ps) ≡ true → lock.IsAtRest ps
+all_rest v [] [] e fits rest = tt
+all_rest v [] (x ∷ xs) e fits rest = absurd (omega arith)
+all_rest v (s ∷ ss) [] e fits rest = absurd (omega arith)
+all_rest v (s ∷ ss) (x ∷ xs) e fits rest =
+    let both = split (is_outside (stands_as v s x)) (list_all is_outside (standings v ss xs)) rest in
+    (rests v s x (fits 0 (omega arith)) both.0, all_rest v ss xs (omega arith) (λ p h. fits (suc p) (omega arith)) both.1)
+
+-- a listed party that is outside every call is pending, or was
+listed_pends : (v : ℕ) (s : Stage) (x : Place) → goes_with s x ≡ true → is_outside (stands_as v s x) ≡ true → 0 < listed x → (stands_as v s x ≡ outside rest.Pending) ⊎ (stands_as v s x ≡ forgotten)
+listed_pends v (Outside rest.Idle) x g o some = let none : listed x ≡ 0 = for_idle (λ x. listed x ≡ 0) refl x g in absurd (omega arith)
+listed_pends v (Outside rest.Pending) x g o some = inl refl
+listed_pends v (Outside rest.Holding) x g o some = let none : listed x ≡ 0 = for_holding (λ x. listed x ≡ 0) refl x g in absurd (omega arith)
+listed_pends v (Outside rest.Finished) x g o some = absurd (cc)
+listed_pends v (Inside w) x g o some = absurd (cc)
+listed_pends v Forgotten x g o some = inr refl
+
+one_rests : (v : ℕ) (ss : List Stage) (ps : List Place) (p : ℕ) → list_all is_outside (standings v ss ps) ≡ true → p < length ss → length ss ≡ length ps → is_outside (stands_as v (stage_at ss p) (place_at ps p)) ≡ true
+one_rests v [] ps p h k e = absurd (omega arith)
+one_rests v (s ∷ ss) [] p h k e = absurd (omega arith)
+one_rests v (s ∷ ss) (x ∷ xs) zero h k e = (split (is_outside (stands_as v s x)) (list_all is_outside (standings v ss xs)) h).0
+one_rests v (s ∷ ss) (x ∷ xs) (suc p) h k e = one_rests v ss xs p (split (is_outside (stands_as v s x)) (list_all is_outside (standings v ss xs)) h).1 (omega arith) (omega arith)
+
+pub awake : (t : Table) → IsMutex t.lock → IsTable t.lock t.stages → is_at_rest (view_of t) ≡ true → IsAwake (view_of t)
+awake t laws fits resting = record {
+  marked = λ free. laws.wakes (all_rest t.value t.stages t.lock.places fits.as_many fits.fits resting) (view.none_holds 0 t.lock.places free.0) free.1;
+  pending = λ p some.
+      let there : 0 < listed (place_at t.lock.places p) = rw (laws.owners p) at some in
+      rw (owns.stood t.lock t.stages t.value laws fits p)
+      (elim (owns.in_or_past t.stages p) as (λ _. (stands_as t.value (stage_at t.stages p) (place_at t.lock.places p) ≡ outside rest.Pending) ⊎ (stands_as t.value (stage_at t.stages p) (place_at t.lock.places p) ≡ forgotten)) [
+        | inl known ↦ listed_pends t.value (stage_at t.stages p) (place_at t.lock.places p) (fits.fits p known) (one_rests t.value t.stages t.lock.places p resting known fits.as_many) there
+        | inr past ↦ rw past (inr refl)
+      ]);
+}

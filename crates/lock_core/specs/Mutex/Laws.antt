@@ -1,0 +1,43 @@
+-- What always holds of a mutex's World, between any two moves.
+use Rattle.std.specs.Prelude.{◌≡◌, ℕ, ◌<◌, ◌≤◌, ◌⊎◌, Bool, true, false, length, Some, None}
+use Rattle.std.specs.List.{list_all}
+use Rattle.lock_event.specs.Lists.{marked_count, IsMarkedFirst}
+use Rattle.lock_queue.specs.Parties.{entries_of}
+use Rattle.lock_core.specs.declared.standing.Rest.TheVariants.{Pending}
+use Rattle.lock_core.specs.Standings.{Standing, outside, inside, forgotten}
+use Rattle.lock_core.specs.Rights.{Right, hold, excludes}
+use Rattle.lock_core.specs.Mutex.State.{World, standing_of, how_many}
+use Rattle.lock_core.specs.Mutex.Legal.{HasItsOwn}
+
+-- The rights in the state: a mutex knows one, that of its holder.
+abbrev pub HasRight : World → ℕ → Right → Type 0
+HasRight w p hold = w.state.holder ≡ Some p
+HasRight w p _ = ⊥
+
+pub record IsSound (w : World) : Type 0 where
+  -- Two parties never have rights that exclude each other.
+  pub exclusion : (p q : ℕ) (r s : Right) → HasRight w p r → HasRight w q s → excludes r s ≡ true → p ≡ q
+  -- Each party has what its standing says.
+  pub each : (p : ℕ) → HasItsOwn w p (standing_of w p)
+  pub few_starved : how_many w.state.starved ≤ w.limit
+  -- No party stands in the list twice, and the marked entries stand before the waiting ones.
+  pub once : (p : ℕ) → entries_of p w.entries ≤ 1
+  pub in_order : IsMarkedFirst w.entries
+
+-- Outside every call.
+abbrev pub is_outside : Standing → Bool
+is_outside (inside w decided) = false
+is_outside s = true
+
+-- Nobody is inside a call.
+abbrev pub is_at_rest : World → Bool
+is_at_rest w = list_all is_outside w.standings
+
+-- The lock is free, and some party waits for it in the list.
+abbrev pub IsFreeAndWanted : World → Type 0
+IsFreeAndWanted w = (w.state.holder ≡ None) × (0 < length w.entries)
+
+-- At rest no notification is lost: if the lock is free and wanted then some entry is marked; and each entry belongs to a party that is pending, or was when it was forgotten.
+pub record IsAwake (w : World) : Type 0 where
+  pub marked : IsFreeAndWanted w → 0 < marked_count w.entries
+  pub pending : (p : ℕ) → 0 < entries_of p w.entries → (standing_of w p ≡ outside Pending) ⊎ (standing_of w p ≡ forgotten)
