@@ -14,11 +14,10 @@ ghost use Rattle.lock_core.specs.Mutex.Laws.{IsSound, IsAwake, is_at_rest};
 
 use crate::{Answer, Move, Refusal};
 use lock_event::Entry;
+pub use locking::Lock;
 use std::alloc::Global;
 use std::marker::Model;
 use table::Table;
-
-pub use locking::Lock;
 
 /// The greatest number of starved parties of a mutex.
 pub const MOST_STARVED: u32 = 1_073_741_823;
@@ -114,3 +113,6 @@ impl World {
         self.table.value()
     }
 }
+
+#[cfg(test)]
+mod tests;

@@ -297,6 +297,7 @@ uncalled t m b k test none = elim (owns.in_or_past t.stages m.party) as (λ _. c
   inside_plan : (b : Bool) → b ≡ nat_lt m.party (length t.stages) → (if b then plan_of (stage_at t.stages m.party) m.what else None) ≡ None → m.party < length t.stages → plan_of (stage_at t.stages m.party) m.what ≡ None
   inside_plan true e h known = h
   inside_plan false e h known = absurd (not_within m.party (length t.stages) e known)
+
   past_call : (what : What) → call_in knows forgotten what ≡ None
   past_call (Begin c i) = refl
   past_call (Go i) = refl

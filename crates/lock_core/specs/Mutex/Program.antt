@@ -74,6 +74,20 @@ after_count false false AtLimit = ends (Refused Starved)
 after_count true told _ = go_to AskStarved
 after_count false told _ = go_to JoinStarved
 
+-- what comes after a place of a call that is decided, whatever was found there
+abbrev pub after_decision : Place → Next
+after_decision (Uncount true) = go_to Leave
+after_decision RefuseUncount = go_to RefuseNotifyMemory
+after_decision (RefuseLeave true) = go_to RefuseNotifyStarved
+after_decision (RefuseLeave false) = ends (Refused Starved)
+after_decision RefuseNotifyStarved = ends (Refused Starved)
+after_decision RefuseNotifyMemory = ends (Refused Memory)
+after_decision Clear = go_to ReleaseNotify
+after_decision CancelUncount = go_to CancelLeave
+after_decision ReleaseNotify = ends GivenBack
+after_decision CancelLeave = ends GivenBack
+after_decision _ = ends Got
+
 -- what comes after a place where this was found
 abbrev pub next_of : Place → Found → Next
 next_of Out _ = ends GivenBack

@@ -3,8 +3,8 @@
 ghost use Rattle.std.specs.Prelude.{◌≡◌, ℕ, ◌+◌, ◌<◌, ◌≤◌, ◌^◌, true, false, length, Some, None, slice_set, slice_index_or, slice_get, IfOk, IsSome, IsSomeAnd};
 ghost use Rattle.lock_core.specs.Mutex.Program.{next_of, action_of, place_after};
 
-use crate::program::mutex::{Action, End, Found, LockCall, Next, Place, action_at, decide, start};
 use super::word::Word;
+use crate::program::mutex::{Action, End, Found, LockCall, Next, Place, action_at, decide, start};
 use lock_event::Entry;
 use lock_queue::WaitQueue;
 use std::alloc::{AllocError, Global};

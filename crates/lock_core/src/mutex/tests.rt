@@ -1,0 +1,132 @@
+use super::*;
+use crate::program::mutex::{End, LockCall, Next, Place};
+use crate::{Call, Got, Inputs, Made, Mark, What};
+use std::alloc::AllocError;
+use std::test::Fail;
+
+const INPUTS: Inputs = Inputs {
+    memory: true,
+    starving: false,
+    made: Made::Pending,
+};
+
+fn begin(world: &mut World, party: u32, call: Call) -> Answer {
+    world.step(&Move {
+        party,
+        what: What::Begin(call, INPUTS),
+    })
+}
+
+fn go(world: &mut World, party: u32) -> Answer {
+    world.step(&Move {
+        party,
+        what: What::Go(INPUTS),
+    })
+}
+
+fn told(world: &World, index: usize) -> Option<(u32, Mark)> {
+    world.entry(index).map(|entry| (entry.key, entry.mark))
+}
+
+#[test]
+fn a_release_wakes_the_next(rt: HostRuntime) -> Result<(), Fail> {
+    let mut world = World::new(rt.alloc(), 2, 0)?;
+    assert_eq!(rt;
+        begin(&mut world, 0, Call::Lock),
+        Answer::Ready(Got::Value(0))
+    );
+    assert_eq!(rt; begin(&mut world, 1, Call::Lock), Answer::Stepped);
+    assert_eq!(rt; go(&mut world, 1), Answer::Stepped);
+    assert_eq!(rt; go(&mut world, 1), Answer::Stepped);
+    assert_eq!(rt; go(&mut world, 1), Answer::Pending);
+    assert_eq!(rt; world.waiting(), 1);
+    assert_eq!(rt; told(&world, 0), Some((1, Mark::Waiting)));
+    assert_eq!(rt;
+        begin(&mut world, 0, Call::Put(5)),
+        Answer::Granted(Got::Value(5))
+    );
+    assert!(rt; world.is_locked());
+    assert_eq!(rt; begin(&mut world, 0, Call::Drop), Answer::Stepped);
+    assert_eq!(rt; go(&mut world, 0), Answer::GivenBack);
+    assert!(rt; !world.is_locked());
+    assert_eq!(rt; told(&world, 0), Some((1, Mark::Notified)));
+    assert_eq!(rt; told(&world, 1), None);
+    assert_eq!(rt; begin(&mut world, 1, Call::Poll), Answer::Stepped);
+    assert_eq!(rt; go(&mut world, 1), Answer::Ready(Got::Value(5)));
+    assert_eq!(rt; world.waiting(), 0);
+    assert_eq!(rt; world.starved(), 0);
+    assert_eq!(rt; world.value(), 5);
+    world.laws();
+    assert_eq!(rt; world.into_inner(), 5);
+    Ok(())
+}
+
+#[test]
+fn a_move_that_is_not_possible_changes_nothing(rt: HostRuntime) -> Result<(), Fail> {
+    let mut world = World::new(rt.alloc(), 2, 7)?;
+    assert_eq!(rt;
+        begin(&mut world, 0, Call::TryLock),
+        Answer::Granted(Got::Value(7))
+    );
+    let moves = [
+        (2, What::Begin(Call::Lock, INPUTS)),
+        (u32::MAX, What::Go(INPUTS)),
+        (0, What::Go(INPUTS)),
+        (0, What::Begin(Call::Lock, INPUTS)),
+        (1, What::Begin(Call::Poll, INPUTS)),
+        (1, What::Begin(Call::Drop, INPUTS)),
+        (1, What::Begin(Call::Put(9), INPUTS)),
+        (1, What::Begin(Call::Read, INPUTS)),
+        (1, What::Begin(Call::Wait, INPUTS)),
+        (1, What::Begin(Call::AddPermits(1), INPUTS)),
+    ];
+    for (party, what) in moves {
+        assert_eq!(rt;
+            world.step(&Move { party, what }),
+            Answer::NotPossible,
+            "{party}: {what:?}"
+        );
+    }
+    assert!(rt; world.is_locked());
+    assert_eq!(rt; world.value(), 7);
+    assert_eq!(rt; begin(&mut world, 1, Call::TryLock), Answer::None);
+    assert_eq!(rt; begin(&mut world, 0, Call::Poll), Answer::Refused(6));
+    Ok(())
+}
+
+#[test]
+fn the_machine_alone_hands_its_lock_on(rt: HostRuntime) -> Result<(), AllocError> {
+    let mut lock = Lock::new(rt.alloc(), 2, 1)?;
+    assert_eq!(rt; lock.place(0), Place::Out);
+    // The machine's calls are asked for in the order that their places allow.
+    if matches!(lock.place(0), Place::Out) {
+        assert_eq!(rt;
+            lock.begin(0, LockCall::Lock, true, false),
+            Next::End(End::Got)
+        );
+    }
+    assert!(rt; lock.is_held());
+    assert_eq!(rt; lock.starved(), 0);
+    assert_eq!(rt; lock.waiting(), 0);
+    assert!(rt; lock.entry(0).is_none());
+    lock.laws();
+    Ok(())
+}
+
+#[test]
+fn refusals_have_their_numbers_and_texts(rt: HostRuntime) -> Result<(), Fail> {
+    let refusals = [
+        (Refusal::Memory, 1, "no memory"),
+        (Refusal::Starved, 2, "too many starved waiters"),
+        (Refusal::Readers, 3, "too many readers"),
+        (Refusal::Permits, 4, "too many permits"),
+        (Refusal::Generations, 5, "too many generations"),
+        (Refusal::Finished, 6, "polled after it was ready"),
+    ];
+    for (refusal, number, text) in refusals {
+        assert_eq!(rt; refusal.number(), number);
+        let shown = format!(in rt.alloc(); "{refusal}")?;
+        assert_eq!(rt; shown.as_str(), text);
+    }
+    Ok(())
+}
