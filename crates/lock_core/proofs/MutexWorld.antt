@@ -9,3 +9,4 @@ pub mod Legals
 pub mod Events
 pub mod Opening
 pub mod Sound
+pub mod Rights

@@ -13,3 +13,4 @@ pub mod View
 pub mod Plans
 pub mod Table
 pub mod Laws
+pub mod Runs

@@ -1,4 +1,8 @@
-//! The cores of the locks: state machines whose every call is a program of places.
+//! The cores of the locks: state machines whose every call is a program of places, one action a step.
+//!
+//! What all primitives share stands in `moves` (moves and answers), [`standing`] (how a party stands,
+//! and which calls it may begin) and [`Refusal`]; each primitive has a module of its own, and a
+//! program in [`program`].
 #![tactic(auto)]
 
 mod moves;

@@ -1,7 +1,11 @@
 //! The mutex: its machine, and its World.
 //!
 //! [`Lock`] is the machine alone, on which the turn of a read-write lock and the inner lock of a
-//! barrier stand; [`World`] is a mutex over a number with the standing of each party.
+//! barrier stand; [`World`] is a mutex over a number, in which each party has its standing.
+//!
+//! The Rust crate's `Mutex` lends a value of any type and runs in threads. Here the value is a number,
+//! a guard is a party that holds the lock, and one step is one call, so that contracts can speak of
+//! every interleaving: specs/Mutex/State says what is seen, specs/Mutex/Legal what a step may do.
 
 mod locking;
 mod table;
@@ -19,7 +23,7 @@ use std::alloc::Global;
 use std::marker::Model;
 use table::Table;
 
-/// The greatest number of starved parties of a mutex.
+/// The greatest number of starved parties of a mutex. The Rust crate aborts where this project refuses.
 pub const MOST_STARVED: u32 = 1_073_741_823;
 
 /// A mutex over a number, its parties, and their calls.
@@ -38,8 +42,9 @@ impl Model for World {
 }
 
 impl World {
-    /// A World of so many idle parties, numbered from 0, over a free lock with this value. No step
-    /// needs memory afterwards. Refused, for memory alone, nothing is kept.
+    /// A World of so many idle parties, numbered from 0, over a free lock with this value. As many
+    /// parties may be starved as [`MOST_STARVED`] says. Refused for memory alone, and then nothing is
+    /// kept; afterwards no step needs memory. The clause `opening` says what is made.
     pub fn new(alloc: Global, parties: u32, value: u64) -> Result<World, Refusal>
         ensures opening { IfOk result (λ w. w ≡ new_world parties MOST_STARVED value) }
         ensures refused { IfErr result (λ r. r ≡ Refusal.Memory) }
@@ -50,7 +55,15 @@ impl World {
         }
     }
 
-    /// One move.
+    /// One move: a party begins a call with its first action, or carries out the next action of the call
+    /// that it is in.
+    ///
+    /// The answer is `Stepped` where the call goes on, and else the call's result. A move that the party
+    /// can't make, a party past the table and a call of another World are answered `NotPossible` and
+    /// change nothing. It takes no memory: `Refused(1)` comes where the move's input says so. The clause
+    /// `legal` says all that a step may do, and `at_once` what a try and a first poll answer.
+    ///
+    /// The Rust crate's `lock` carries out a whole poll in one call, and never refuses.
     pub fn step(&mut self, m: &Move) -> Answer
         ensures legal { Legal self.old m.now result self.new }
         ensures at_once { AnswersAtOnce self.old m.now result self.new }
@@ -61,7 +74,8 @@ impl World {
         answer
     }
 
-    /// What always holds of a World, between any two moves. It does nothing.
+    /// What always holds of a World, between any two moves: nobody has the lock beside its holder, each
+    /// party has what its standing says, and at rest no notification is lost. It does nothing.
     pub fn laws(&self)
         ensures sound { IsSound self.now }
         ensures awake { is_at_rest self.now ≡ true → IsAwake self.now }
@@ -69,7 +83,7 @@ impl World {
         self.table.laws();
     }
 
-    /// Whether the lock is held.
+    /// Whether the lock is held, as its word says. The Rust crate shows it in its debug text alone.
     pub fn is_locked(&self) -> bool
         ensures { result ≡ is_some self.now.state.holder }
     {
@@ -77,14 +91,14 @@ impl World {
         self.table.lock().is_held()
     }
 
-    /// How many parties are starved.
+    /// How many parties are starved, as the word says.
     pub fn starved(&self) -> u32
         ensures { result ≡ how_many self.now.state.starved }
     {
         self.table.lock().starved()
     }
 
-    /// How many entries the list has.
+    /// How many entries the list of waiting parties has.
     pub fn waiting(&self) -> usize
         ensures { result ≡ length self.now.entries }
     {
@@ -99,18 +113,18 @@ impl World {
         self.table.lock().entry(index)
     }
 
-    /// The value.
+    /// The value that the last put left, or that the World was made with.
     pub fn value(&self) -> u64
         ensures { result ≡ self.now.state.value }
     {
         self.table.value()
     }
 
-    /// The value, and the World is gone.
+    /// The value, and the World is gone. Whoever held the lock or waited for it is forgotten.
     pub fn into_inner(self) -> u64
         ensures { result ≡ self.state.value }
     {
-        self.table.value()
+        Table::value(&self.table)
     }
 }
 

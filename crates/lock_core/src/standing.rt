@@ -1,4 +1,5 @@
-//! How a party stands: outside every call, inside one, or forgotten. All Worlds share this.
+//! How a party stands: outside every call, inside one, or forgotten. All Worlds share this, and
+//! specs/Standings says which moves a party may make, and how its calls end.
 
 ghost use Rattle.std.specs.Prelude.{◌≡◌};
 ghost use Rattle.lock_core.specs.Standings.{kind_of};
@@ -60,7 +61,7 @@ pub enum Stage {
 }
 
 impl Call {
-    /// The kind of the call.
+    /// The kind of the call, as specs/Standings lists it.
     pub fn kind(self) -> Kind
         ensures { result ≡ kind_of self }
     {

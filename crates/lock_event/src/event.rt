@@ -1,24 +1,30 @@
 //! A list of waiting entries, in order of joining.
 
-ghost use Rattle.std.specs.Prelude.{◌≡◌, ℕ, ◌+◌, ◌<◌, ◌≤◌, ◌↔◌, List, [], length, Bool, true, false, IsTrue, IfOk, OnOk, OnErr, Some, None, slice_get, vec_capacity, vec_len, count_by, remove, slice_set};
-ghost use Rattle.lock_event.specs.Lists.{joined, notified, notified_additionally, with_key, is_marked_at, mark_at, left, passed_on, without, IsMarkedFirst, IsListed, IsAt, is_listed, is_marked, mark_waiting as mark_waiting_lem, marked_count};
-ghost use Rattle.lock_event.specs.Slots.{has_id, slot_of};
+ghost use Rattle.std.specs.Prelude.{◌≡◌, ℕ, ◌+◌, ◌<◌, ◌≤◌, ◌↔◌, List, [], length, Bool, true, false, IsTrue, IfOk, OnOk, OnErr, IsOk, IsNone, Some, None, slice_get, vec_capacity, vec_len, count_by, remove, slice_set};
+ghost use Rattle.std.specs.List.{All, position};
+ghost use Rattle.lock_event.specs.Lists.{joined, notified, notified_additionally, with_key, is_marked_at, left, passed_on, without, IsMarkedFirst, IsListed, IsAt, is_listed, is_marked, mark_waiting as mark_waiting_lem};
+ghost use Rattle.lock_event.specs.Slots.{has_id, slot_of, is_due, first_waker, without_waker, IsTakenBelow, TakesWaker};
 
 use std::alloc::Global;
 
-/// Memory for one more entry was refused.
+/// The memory that a call asked for was refused.
 #[derive(Clone, Copy, Debug, PartialEq, Eq)]
 pub struct Memory;
 
-/// What an entry has been told.
+/// What an entry has been told: nothing yet, or one notification, of one of two kinds.
 #[derive(Clone, Copy, Debug, PartialEq, Eq)]
 pub enum Mark {
+    /// Nothing yet.
     Waiting,
+    /// Notified by [`Event::notify`], which counts the entries that are marked already.
     Notified,
+    /// Notified by [`Event::notify_additional`], which doesn't count them.
     Additional,
 }
 
-/// Names one entry of a list.
+/// Names one entry of one list, as long as the entry stands there.
+///
+/// Once the entry has left, the list may give the same id to a new one.
 #[derive(Clone, Copy, Debug, PartialEq, Eq)]
 pub struct EntryId {
     number: usize,
@@ -27,18 +33,27 @@ pub struct EntryId {
 /// One entry: who stands there, and what it has been told.
 #[derive(Drop)]
 pub struct Entry<K> {
+    /// Who stands there.
     pub key: K,
+    /// What it has been told.
     pub mark: Mark,
 }
 
-/// Who stands in an entry of an [`Event`]: its name, and what is kept to wake it with.
+/// Who stands in an entry of an [`Event`].
 #[derive(Drop)]
 pub struct Slot<W> {
+    /// The entry's name.
     pub id: EntryId,
+    /// What is kept to wake it with: the newest one handed to [`Event::poll_entry`], until
+    /// [`Event::next_waker`] takes it.
     pub waker: Option<W>,
 }
 
-/// A list of entries, each waiting, notified, or notified additionally.
+/// A list of entries in order of joining, each waiting, notified, or notified additionally.
+///
+/// Contracts see it as its entries and its room, the number of entries that it can have without
+/// more memory. Only [`Event::listen`] and [`Event::reserve`] take memory, and only they can be
+/// refused.
 #[derive(Drop)]
 pub struct Event<W> {
     entries: Vec<Entry<Slot<W>>>,
@@ -58,9 +73,10 @@ impl<W> std::marker::Model for Event<W> {
 }
 
 impl<W: Drop> Event<W> {
-    /// The empty list.
+    /// The empty list. It takes no memory yet: it has room for no entry (`room`).
     pub fn new(alloc: Global) -> Event<W>
-        ensures { result.entries ≡ [] }
+        ensures entries { result.entries ≡ [] }
+        ensures room { result.room ≡ 0 }
     {
         Event {
             entries: Vec::new(alloc),
@@ -81,7 +97,8 @@ impl<W: Drop> Event<W> {
         self.entries.is_empty()
     }
 
-    /// The entry at this place, counted from the front.
+    /// The entry at this place, counted from the front. There has to be one: `index` is below
+    /// [`Event::len`].
     pub fn entry(&self, index: usize) -> &Entry<Slot<W>>
         requires { index < length self.now.entries }
         ensures { slice_get self.now.entries index ≡ Some result.now }
@@ -89,43 +106,63 @@ impl<W: Drop> Event<W> {
         &self.entries[index]
     }
 
-    /// No join is refused while the list is shorter than it now is and `n` more.
+    /// Makes room for `n` entries more than there are now (`room`): while the list is shorter than
+    /// that, [`Event::listen`] isn't refused.
+    ///
+    /// [`Memory`] comes only where that room was missing (`succeeds`) and memory was refused. The
+    /// list then is as it was (`entries`), with at least the room that it had (`kept`).
     pub fn reserve(&mut self, n: usize) -> Result<(), Memory>
         ensures entries { self.new.entries ≡ self.old.entries }
         ensures room { OnOk result (length self.old.entries + n ≤ self.new.room) }
+        ensures kept { self.old.room ≤ self.new.room }
+        ensures succeeds { length self.old.entries + n ≤ self.old.room → IsOk result }
     {
         self.entries.reserve(n).map_err(|_| Memory)
     }
 
-    /// Marked entries stand before waiting ones. It does nothing.
+    /// Marked entries always stand before waiting ones. The call does nothing: its clause hands a
+    /// caller's proof that fact.
     pub fn in_order(&self)
         ensures { IsMarkedFirst self.now.entries }
     {
         let _ = &self.entries;
     }
 
-    /// A name that no entry has.
+    /// An id that no entry has. Mostly it is the number after the back entry's, found in one pass;
+    /// where an entry has that number already, the smallest free one.
     fn unused(&self) -> EntryId
         ensures { is_listed (has_id result) self.now.entries ≡ false }
     {
-        for number in 0..self.entries.len() {
+        if let Some(back) = self.entries.last() {
+            let number = back.key.id.number.wrapping_add(1);
             if !self.has(EntryId { number }) {
                 return EntryId { number };
             }
         }
-        EntryId {
-            number: self.entries.len(),
-        }
+        self.smallest_unused()
     }
 
-    /// Whether an entry of this name stands in the list.
+    /// The smallest number that no entry has. Each number that is taken costs one pass.
+    fn smallest_unused(&self) -> EntryId
+        ensures unused { is_listed (has_id result) self.now.entries ≡ false }
+        ensures smallest { IsTakenBelow result.number self.now.entries }
+    {
+        for number in 0..self.len() {
+            if !self.has(EntryId { number }) {
+                return EntryId { number };
+            }
+        }
+        EntryId { number: self.len() }
+    }
+
+    /// Whether an entry has this id.
     fn has(&self, id: EntryId) -> bool
         ensures { result ≡ is_listed (has_id id) self.now.entries }
     {
         self.entries.iter().any(|e| e.key.id.number == id.number)
     }
 
-    /// The place of the entry of this name.
+    /// The place of the entry that has this id.
     fn find(&self, id: EntryId) -> usize
         requires { IsListed (has_id id) self.now.entries }
         ensures { IsAt (has_id id) self.now.entries result }
@@ -135,15 +172,22 @@ impl<W: Drop> Event<W> {
                 return i;
             }
         }
-        self.entries.len()
+        unreachable!()
     }
 
-    /// A new waiting entry at the back.
+    /// A new waiting entry joins at the back, with no waker and an id that no other entry has
+    /// (`joined`, `fresh`). The id of an entry that has left may come again.
+    ///
+    /// [`Memory`] comes only where the list is as long as its room (`succeeds`) and memory was
+    /// refused. The list then is as it was (`refused`). Room never shrinks (`room`).
+    ///
+    /// It takes one pass over the list, or in the rare case that the number after the back entry's
+    /// is taken, one pass for each entry at most.
     pub fn listen(&mut self) -> Result<EntryId, Memory>
         ensures joined { IfOk result (λ id. self.new.entries ≡ joined self.old.entries (slot_of id None)) }
         ensures fresh { IfOk result (λ id. is_listed (has_id id) self.old.entries ≡ false) }
         ensures refused { OnErr result (self.new.entries ≡ self.old.entries) }
-        ensures full { OnErr result (self.old.room ≤ length self.old.entries) }
+        ensures succeeds { length self.old.entries < self.old.room → IsOk result }
         ensures room { self.old.room ≤ self.new.room }
     {
         let id = self.unused();
@@ -157,7 +201,8 @@ impl<W: Drop> Event<W> {
         }
     }
 
-    /// Waiting entries from the front on are notified until `n` are marked.
+    /// Waiting entries, from the front on, are notified until `n` entries are marked or none waits.
+    /// Those marked before count, of either kind (`entries`). Any `n` is fine, `usize::MAX` too.
     pub fn notify(&mut self, n: usize)
         ensures entries { self.new.entries ≡ notified self.old.entries n }
         ensures room { self.new.room ≡ self.old.room }
@@ -165,7 +210,8 @@ impl<W: Drop> Event<W> {
         notify_in(&mut self.entries, n);
     }
 
-    /// `n` more waiting entries are notified additionally.
+    /// The first `n` waiting entries are notified additionally, or all where fewer wait. Those
+    /// marked before don't count (`entries`). Any `n` is fine, `usize::MAX` too.
     pub fn notify_additional(&mut self, n: usize)
         ensures entries { self.new.entries ≡ notified_additionally self.old.entries n }
         ensures room { self.new.room ≡ self.old.room }
@@ -173,7 +219,8 @@ impl<W: Drop> Event<W> {
         mark_waiting(&mut self.entries, Mark::Additional, n);
     }
 
-    /// Whether the entry has been notified, of either kind.
+    /// Whether this entry, which has to stand in the list, has been notified, by either kind of
+    /// notification.
     pub fn is_notified(&self, id: EntryId) -> bool
         requires { IsListed (has_id id) self.now.entries }
         ensures { result ≡ is_marked_at (has_id id) self.now.entries }
@@ -182,7 +229,9 @@ impl<W: Drop> Event<W> {
         self.entries[at].mark.is_marked()
     }
 
-    /// Asks for the entry's notification: a notified entry is taken out, a waiting one keeps `w`.
+    /// Asks for the notification of this entry, which has to stand in the list. If it has one, of
+    /// either kind, the entry leaves the list with it, and `w` is dropped (`answer`, `notified`). If
+    /// not, the entry keeps `w` to be woken with, in place of what it kept before (`waiting`).
     pub fn poll_entry(&mut self, id: EntryId, w: W) -> bool
         requires { IsListed (has_id id) self.old.entries }
         ensures answer { result ≡ is_marked_at (has_id id) self.old.entries }
@@ -202,7 +251,34 @@ impl<W: Drop> Event<W> {
         marked
     }
 
-    /// The entry leaves, and what it was told goes on to the next.
+    /// Takes out the waker of the first notified entry that still holds one, of either kind. All
+    /// else stays: the entries' order, ids and marks, and the other wakers (`entries`). It is `None`
+    /// exactly where no notified entry holds a waker (`none`), and then nothing changes (`unchanged`).
+    ///
+    /// Called until it answers `None`, it hands out each waker that is due once.
+    pub fn next_waker(&mut self) -> Option<W>
+        ensures waker { result ≡ first_waker self.old.entries }
+        ensures entries { self.new.entries ≡ without_waker self.old.entries }
+        ensures none { IsNone result ↔ All (λ e. is_due e ≡ false) self.old.entries }
+        ensures unchanged { IsNone result → self.new ≡ self.old }
+        ensures room { self.new.room ≡ self.old.room }
+    {
+        match self.due() {
+            Some(at) => take_waker(&mut self.entries, at),
+            None => None,
+        }
+    }
+
+    /// The place of the first notified entry that holds a waker.
+    fn due(&self) -> Option<usize>
+        ensures { result ≡ position is_due self.now.entries }
+    {
+        self.entries.iter().position(|e| e.is_due())
+    }
+
+    /// This entry, which has to stand in the list, leaves it without asking. A notification that it
+    /// had goes on, as one of the same kind: to the next waiting entry, or where it was a plain one,
+    /// to none if another entry is marked (`entries`).
     pub fn leave(&mut self, id: EntryId)
         requires { IsListed (has_id id) self.old.entries }
         ensures entries { self.new.entries ≡ left (has_id id) self.old.entries }
@@ -215,8 +291,17 @@ impl<W: Drop> Event<W> {
     }
 }
 
+impl<W> Entry<Slot<W>> {
+    /// Notified, and still holds a waker.
+    fn is_due(&self) -> bool
+        ensures { result ≡ is_due self.now }
+    {
+        self.mark.is_marked() && self.key.waker.is_some()
+    }
+}
+
 impl Mark {
-    /// Notified, of either kind.
+    /// Whether this is a notification, of either kind.
     pub fn is_marked(self) -> bool
         ensures { result ≡ is_marked self }
     {
@@ -241,6 +326,7 @@ fn mark_waiting<K: Drop>(entries: &mut Vec<Entry<K>>, mark: Mark, n: usize)
     }
 }
 
+/// Takes out the entry at this place.
 fn take_out<K: Drop>(entries: &mut Vec<Entry<K>>, at: usize)
     requires { at < vec_len entries.old }
     ensures items { entries.new.items ≡ remove entries.old.items at }
@@ -249,12 +335,22 @@ fn take_out<K: Drop>(entries: &mut Vec<Entry<K>>, at: usize)
     entries.remove(at);
 }
 
+/// Replaces the entry at this place.
 fn put<K: Drop>(entries: &mut Vec<Entry<K>>, at: usize, entry: Entry<K>)
     requires { at < vec_len entries.old }
     ensures items { entries.new.items ≡ slice_set entries.old.items at entry }
     ensures room { vec_capacity entries.new ≡ vec_capacity entries.old }
 {
     entries[at] = entry;
+}
+
+/// Takes out the waker of the entry at this place.
+fn take_waker<W: Drop>(entries: &mut Vec<Entry<Slot<W>>>, at: usize) -> Option<W>
+    requires { at < vec_len entries.old }
+    ensures waker { TakesWaker entries.old.items at result entries.new.items }
+    ensures room { vec_capacity entries.new ≡ vec_capacity entries.old }
+{
+    entries[at].key.waker.take()
 }
 
 /// How many entries are marked.
@@ -264,6 +360,7 @@ fn count_marked<K>(entries: &[Entry<K>]) -> usize
     entries.iter().filter(|e| e.mark.is_marked()).count()
 }
 
+/// Notifies waiting entries from the front on until `n` are marked.
 fn notify_in<K: Drop>(entries: &mut Vec<Entry<K>>, n: usize)
     ensures items { entries.new.items ≡ notified entries.old.items n }
     ensures room { vec_capacity entries.new ≡ vec_capacity entries.old }
@@ -272,7 +369,7 @@ fn notify_in<K: Drop>(entries: &mut Vec<Entry<K>>, n: usize)
     mark_waiting(entries, Mark::Notified, n.saturating_sub(marked));
 }
 
-/// What an entry that left was told goes on to the list.
+/// What an entry was told that has left goes on to the list.
 fn pass_on<K: Drop>(entries: &mut Vec<Entry<K>>, mark: Mark)
     ensures items { entries.new.items ≡ passed_on (Some mark) entries.old.items }
     ensures room { vec_capacity entries.new ≡ vec_capacity entries.old }
@@ -283,3 +380,6 @@ fn pass_on<K: Drop>(entries: &mut Vec<Entry<K>>, mark: Mark)
         Mark::Additional => mark_waiting(entries, Mark::Additional, 1),
     }
 }
+
+#[cfg(test)]
+mod tests;

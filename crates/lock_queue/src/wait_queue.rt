@@ -1,6 +1,6 @@
 //! A waiting list of numbered parties.
 
-ghost use Rattle.std.specs.Prelude.{◌≡◌, ℕ, ◌<◌, ◌≤◌, true, false, [], IfOk, IsTrue, length, slice_get};
+ghost use Rattle.std.specs.Prelude.{◌≡◌, ℕ, ◌<◌, ◌≤◌, ◌↔◌, true, false, [], IfOk, IsTrue, length, slice_get};
 ghost use Rattle.lock_event.specs.Lists.{joined, notified, notified_additionally, without, left, is_marked_at};
 ghost use Rattle.lock_queue.specs.Parties.{entries_of, is_party, party_of};
 ghost use Rattle.lock_queue.specs.Queues.{queue, IsQueue};
@@ -11,6 +11,10 @@ use std::alloc::{AllocError, Global};
 use std::marker::Model;
 
 /// A waiting list in which each of so many parties has at most one entry.
+///
+/// Parties are numbered from 0, and each entry's key is its party's number. Contracts see the number
+/// of parties, which never changes, and the entries in order of joining. The room for all parties
+/// is there from [`WaitQueue::new`] on, so that no other call takes memory or can be refused.
 #[derive(Drop)]
 pub struct WaitQueue {
     list: Event<u32>,
@@ -30,7 +34,9 @@ impl Model for WaitQueue {
 }
 
 impl WaitQueue {
-    /// The empty list of so many parties. No join needs memory afterwards.
+    /// The empty list of so many parties.
+    ///
+    /// [`AllocError`] comes only where memory for the parties' seats or entries was refused.
     pub fn new(alloc: Global, parties: u32) -> Result<WaitQueue, AllocError>
         ensures { IfOk result (λ w. w ≡ queue parties []) }
     {
@@ -50,12 +56,19 @@ impl WaitQueue {
         self.list.len()
     }
 
-    /// The entry at this place, counted from the front: its party and what it has been told. None
-    /// past the last.
+    /// Whether the list has no entry.
+    pub fn is_empty(&self) -> bool
+        ensures { IsTrue result ↔ (self.now.entries ≡ []) }
+    {
+        self.len() == 0
+    }
+
+    /// The entry at this place, counted from the front: its party's number and what it has been told.
+    /// `None` past the last entry.
     pub fn entry(&self, index: usize) -> Option<Entry<u32>>
         ensures { result ≡ slice_get self.now.entries index }
     {
-        if index < self.list.len() {
+        if index < self.len() {
             let entry = self.list.entry(index);
             Some(Entry {
                 key: party(&entry.key),
@@ -66,7 +79,8 @@ impl WaitQueue {
         }
     }
 
-    /// The party joins the list.
+    /// The party joins the list at the back, to wait. It has to be one of the parties (`known`) that
+    /// has no entry yet (`out`).
     pub fn join(&mut self, party: u32)
         requires known { party < self.old.parties }
         requires out { entries_of party self.old.entries ≡ 0 }
@@ -78,7 +92,9 @@ impl WaitQueue {
         self.seats[at] = seat;
     }
 
-    /// The party asks for its notification: told, it is out of the list.
+    /// The party, which has an entry (`listed`), asks for its notification. If it has one, of either
+    /// kind, its entry leaves the list with it (`answer`, `told`). If not, it waits on at its place,
+    /// and its entry still bears its number (`waiting`).
     pub fn ask(&mut self, party: u32) -> bool
         requires known { party < self.old.parties }
         requires listed { 0 < entries_of party self.old.entries }
@@ -93,7 +109,9 @@ impl WaitQueue {
         told
     }
 
-    /// The party leaves the list, and what it was told goes on.
+    /// The party, which has an entry (`listed`), leaves the list without asking. A notification that
+    /// it had goes on, as one of the same kind: to the next waiting entry, or where it was a plain
+    /// one, to none if another entry is marked.
     pub fn leave(&mut self, party: u32)
         requires known { party < self.old.parties }
         requires listed { 0 < entries_of party self.old.entries }
@@ -105,21 +123,25 @@ impl WaitQueue {
         self.seats[at] = seat;
     }
 
-    /// Waiting entries from the front on are notified until `n` are marked.
+    /// Waiting entries, from the front on, are notified until `n` entries are marked or none waits.
+    /// Those marked before count, of either kind.
     pub fn notify(&mut self, n: usize)
         ensures { self.new ≡ queue self.old.parties (notified self.old.entries n) }
     {
         self.list.notify(n);
     }
 
-    /// `n` more waiting entries are notified additionally.
+    /// The first `n` waiting entries are notified additionally, or all where fewer wait. Those
+    /// marked before don't count.
     pub fn notify_additional(&mut self, n: usize)
         ensures { self.new ≡ queue self.old.parties (notified_additionally self.old.entries n) }
     {
         self.list.notify_additional(n);
     }
 
-    /// What always holds of such a list. It does nothing.
+    /// What always holds of such a list: no party has two entries, none past the last party has
+    /// one, and marked entries stand before waiting ones. The call does nothing: its clause hands a
+    /// caller's proof these facts.
     pub fn laws(&self)
         ensures { IsQueue self.now }
     {
@@ -133,3 +155,6 @@ fn party(slot: &Slot<u32>) -> u32
 {
     slot.waker.unwrap_or(0)
 }
+
+#[cfg(test)]
+mod tests;

@@ -1,5 +1,5 @@
 -- What always holds of a mutex's World, and that no notification is lost at rest.
-use Rattle.std.proofs.Common.{◌≡◌, ℕ, ◌+◌, ◌<◌, ◌≤◌, ◌⊎◌, ◌&&◌, inl, inr, Bool, true, false, List, [], ◌∷◌, length, zero, suc, Some, None, refl, arith, ap, sym, ◌∙◌, subst}
+use Rattle.std.proofs.Common.{◌≡◌, ℕ, ◌+◌, ◌<◌, ◌≤◌, ◌⊎◌, ◌&&◌, inl, inr, Bool, true, false, List, [], ◌∷◌, length, zero, suc, Option, Some, None, refl, arith, ap, sym, ◌∙◌, subst}
 use Rattle.std.specs.List.{list_all}
 use Rattle.lock_queue.specs.Parties.{entries_of}
 use Rattle.lock_core.specs.declared.program.mutex.Place.{Place}
@@ -7,7 +7,9 @@ use Rattle.lock_core.specs.declared.program.mutex.Place.TheVariants as place
 use Rattle.lock_core.specs.declared.standing.Rest.TheVariants as rest
 use Rattle.lock_core.specs.declared.standing.Stage.{Stage}
 use Rattle.lock_core.specs.declared.standing.Stage.TheVariants.{Outside, Inside, Forgotten}
-use Rattle.lock_core.specs.Standings.{Standing, outside, forgotten}
+use Rattle.lock_core.specs.declared.moves.Answer.{Answer}
+use Rattle.lock_core.specs.declared.standing.Within.{Within}
+use Rattle.lock_core.specs.Standings.{Standing, outside, inside, forgotten}
 use Rattle.lock_core.specs.Rights.{Right, hold, excludes}
 use Rattle.lock_core.specs.Mutex.Roles.{holds, listed, is_resting}
 use Rattle.lock_core.specs.Mutex.Machine.{place_at}
@@ -16,23 +18,40 @@ use Rattle.lock_core.specs.Mutex.Acts.{IsMutex}
 use Rattle.lock_core.specs.Mutex.Plans.{stage_at, goes_with}
 use Rattle.lock_core.specs.Mutex.Table.{Table, IsTable}
 use Rattle.lock_core.specs.Mutex.State.{World, standing_of}
-use Rattle.lock_core.specs.Mutex.Laws.{HasRight, IsSound, is_outside, is_at_rest, IsAwake}
-use Rattle.lock_core.specs.Mutex.View.{stands_as, standings, view_of}
+use Rattle.lock_core.specs.Mutex.Laws.{HasRight, IsSound, is_long_call, is_outside, is_at_rest, IsAwake}
+use Rattle.lock_core.specs.Mutex.View.{verdict, stands_as, standings, view_of}
 use Rattle.lock_core.proofs.MutexMachine.CanDo.{once}
 use Rattle.lock_core.proofs.MutexWorld.Views as view
 use Rattle.lock_core.proofs.MutexWorld.Owns as owns
-use Rattle.lock_core.proofs.MutexWorld.Tables.{PendingAt, for_pending, for_idle, for_holding}
+use Rattle.lock_core.proofs.MutexWorld.Tables.{PendingAt, for_pending, for_idle, for_holding, ForWithin, for_within}
+
+within_eq : (w u : Within) (o p : Option Answer) → inside w o ≡ inside u p → w ≡ u
+within_eq w u o p e = cc
 
 excluded : (w : World) (p q : ℕ) (r s : Right) → HasRight w p r → HasRight w q s → p ≡ q
 excluded w p q hold hold a b = cc
 excluded w p q hold _ a b = absurd b
 excluded w p q _ s a b = absurd a
 
+-- a stage inside a call is a poll's or a drop's
+in_a_call : (v : ℕ) (s : Stage) (x : Place) (u : Within) (d : Option Answer) → goes_with s x ≡ true → stands_as v s x ≡ inside u d → is_long_call u.kind u.was ≡ true
+in_a_call v (Outside r) x u d g e = absurd (cc)
+in_a_call v (Inside w) x u d g e =
+    let same : w ≡ u = within_eq w u (verdict v x) d e in
+    let here : is_long_call w.kind w.was ≡ true = for_within (λ w x. is_long_call w.kind w.was ≡ true) (record { first = λ x h. refl; later = λ x h. refl; release = λ x h. refl; cancel = λ x h. refl }) w x g in
+    let P : Within → Type 0 = λ w. is_long_call w.kind w.was ≡ true in
+    subst P same here
+in_a_call v Forgotten x u d g e = absurd (cc)
+
 pub sound : (t : Table) → IsMutex t.lock → IsTable t.lock t.stages → IsSound (view_of t)
 sound t laws fits = record {
   exclusion = λ p q r s a b e. excluded (view_of t) p q r s a b;
   each = owns.each t.lock t.stages t.value laws fits;
   few_starved = rw view.how_many-seen laws.few_starved;
+  inside_calls = λ p u d e. elim (owns.in_or_past t.stages p) as (λ _. is_long_call u.kind u.was ≡ true) [
+    | inl known ↦ in_a_call t.value (stage_at t.stages p) (place_at t.lock.places p) u d (fits.fits p known) (sym (owns.stood t.lock t.stages t.value laws fits p) ∙ e)
+    | inr past ↦ (let never : stands_as t.value Forgotten (place_at t.lock.places p) ≡ inside u d = rw past at (sym (owns.stood t.lock t.stages t.value laws fits p) ∙ e) in absurd (cc))
+  ];
   once = λ p. rw (laws.owners p) (once (place_at t.lock.places p));
   in_order = laws.in_order;
 }

@@ -1,4 +1,8 @@
-//! A mutex as a machine: its word, its list, and where each party stands.
+//! The mutex machine: its word, its list, and where each party stands in its program.
+//!
+//! A World stands on it, and so do the turn of a read-write lock and the inner lock of a barrier. What
+//! they may rest on is said by its contracts alone: a call leads on as specs/Mutex/Courses says, every
+//! step is one of the programs' (specs/Mutex/Acts), and [`Lock::laws`] says what always holds.
 
 ghost use Rattle.std.specs.Prelude.{◌≡◌, ℕ, ◌+◌, ◌<◌, ◌≤◌, ◌^◌, true, false, length, Some, None, slice_set, slice_index_or, slice_get, IfOk, IsSome, IsSomeAnd};
 ghost use Rattle.lock_core.specs.Mutex.Program.{next_of, action_of, place_after};
@@ -10,7 +14,10 @@ use lock_queue::WaitQueue;
 use std::alloc::{AllocError, Global};
 use std::marker::Model;
 
-/// A mutex, and the program of each of its parties.
+/// A mutex without a value, and the place of each of its parties.
+///
+/// The Rust crate keeps the word and the list in atomics and the place in each future; here one step is
+/// one call.
 #[derive(Drop)]
 pub struct Lock {
     word: Word,
@@ -81,7 +88,8 @@ fn carry_out(
 }
 
 impl Lock {
-    /// A free mutex for so many parties, none of which has called yet.
+    /// A free mutex for so many parties, numbered from 0, none of which has called yet; at most `limit`
+    /// of them may be starved at a time. Refused for memory alone; afterwards no step needs any.
     pub fn new(alloc: Global, parties: u32, limit: u32) -> Result<Lock, AllocError>
         ensures { IfOk result (λ l. l ≡ new_lock parties limit) }
     {
@@ -95,7 +103,9 @@ impl Lock {
         })
     }
 
-    /// Begins a call of a party with its first action.
+    /// Begins a call of a party with its first action. `memory` says whether a join finds memory,
+    /// `starving` whether the party has waited for too long. The caller begins a call only where the
+    /// party's place allows it.
     pub fn begin(&mut self, party: u32, call: LockCall, memory: bool, starving: bool) -> Next
         requires known { party < length self.old.places }
         requires can { IsSome (start_of call (place_at self.old.places party)) }
@@ -109,7 +119,7 @@ impl Lock {
         }
     }
 
-    /// Goes on with a call of a party, by one action.
+    /// Goes on with a call of a party, by one action, with the inputs as [`Lock::begin`] takes them.
     pub fn go(&mut self, party: u32, memory: bool, starving: bool) -> Next
         requires known { party < length self.old.places }
         ensures acts { Acts memory party (place_at self.old.places party) result self.old self.new }
@@ -119,7 +129,7 @@ impl Lock {
         self.act(party, self.place(party), memory, starving)
     }
 
-    /// Where a party stands.
+    /// Where a party stands in its program.
     pub fn place(&self, party: u32) -> Place
         requires { party < length self.now.places }
         ensures { result ≡ place_at self.now.places party }

@@ -6,7 +6,7 @@ ghost use Rattle.lock_core.specs.Mutex.Effects.{OnWord, new_word};
 
 use crate::program::mutex::Found;
 
-/// The word of a mutex.
+/// The word of a mutex: whether it is held, how many parties are starved, and how many may be.
 #[derive(Clone, Copy, Debug, PartialEq, Eq)]
 pub struct Word {
     pub held: bool,
@@ -15,7 +15,7 @@ pub struct Word {
 }
 
 impl Word {
-    /// NotFree holds it, and nobody is starved.
+    /// Nobody holds it, and nobody is starved.
     pub fn new(limit: u32) -> Word
         ensures { result ≡ new_word limit }
     {
@@ -26,6 +26,8 @@ impl Word {
         }
     }
 
+    /// Takes it if nobody holds it and nobody is starved. `starving` goes into what is found of a held
+    /// word, for the program that asks for it.
     pub fn take(&mut self, starving: bool) -> Found
         ensures { OnWord act.Take result self.old self.new }
     {
@@ -39,6 +41,7 @@ impl Word {
         }
     }
 
+    /// Takes it if nobody holds it and one party is starved.
     pub fn take_alone(&mut self) -> Found
         ensures { OnWord act.TakeAlone result self.old self.new }
     {
@@ -52,6 +55,7 @@ impl Word {
         }
     }
 
+    /// Takes it if nobody holds it, whoever is starved.
     pub fn set(&mut self) -> Found
         ensures { OnWord act.Set result self.old self.new }
     {
@@ -63,6 +67,7 @@ impl Word {
         }
     }
 
+    /// One more party is starved, below the limit.
     pub fn count(&mut self) -> Found
         requires { self.old.starved ≤ self.old.limit }
         ensures { OnWord act.Count result self.old self.new }
@@ -75,6 +80,7 @@ impl Word {
         }
     }
 
+    /// One party fewer is starved.
     pub fn uncount(&mut self) -> Found
         requires { 0 < self.old.starved }
         ensures { OnWord act.Uncount result self.old self.new }
@@ -83,6 +89,7 @@ impl Word {
         Found::Done
     }
 
+    /// Nobody holds it any more.
     pub fn clear(&mut self) -> Found
         requires { self.old.held ≡ true }
         ensures { OnWord act.Clear result self.old self.new }

@@ -1,11 +1,7 @@
-use Rattle.std.proofs.Common.{◌≡◌, ◌<◌, ◌≤◌, ℕ, true, false, None, Some, Option, length, get_or, arith, refl, sym, ap, subst, ◌∙◌, length-set, IsTrue}
-use Rattle.std.proofs.Math.ListN.{set}
-use Rattle.lock_event.specs.declared.event.EntryId.{EntryId}
-use Rattle.lock_event.specs.Lists.{without, left, joined, is_marked_at}
-use Rattle.lock_queue.specs.Parties.{by_party, entries_of, is_party}
-use Rattle.lock_queue.specs.Seats.{Seat, seat_of, IsSeated, Joins, Departs, Asked, seat_at}
-use Rattle.lock_queue.specs.Queues.{queue, Queue, IsWaiting}
-use Rattle.lock_queue.proofs.Queues.{read, seat, roomy, joins, asked, takes, leaves, asks}
+use Rattle.std.proofs.Common.{◌≡◌, ◌<◌, None, length, sym, ap, ◌∙◌}
+use Rattle.lock_queue.specs.Parties.{by_party, entries_of}
+use Rattle.lock_queue.specs.Seats.{seat_at}
+use Rattle.lock_queue.proofs.Queues.{read, seat, asked, asks}
 use Rattle.lock_queue.proofs.wait_queue.WaitQueue.ask.Goals as goal
 
 -- the seat as it is read

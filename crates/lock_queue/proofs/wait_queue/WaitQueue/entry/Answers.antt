@@ -1,9 +1,13 @@
-use Rattle.std.proofs.Common.{◌≡◌, ◌≤◌, ap, arith, length, slice_get, sym, ◌∙◌, Some}
+use Rattle.std.proofs.Common.{◌≤◌, ap, arith, length, sym}
 use Rattle.std.proofs.lemmas.Option.{slice_get_past}
-use Rattle.lock_event.specs.Lists.{entry}
-use Rattle.lock_queue.specs.Parties.{by_party, party_of}
+use Rattle.lock_queue.specs.Parties.{party_of}
 use Rattle.lock_queue.proofs.Rekeyed.{length-rekeyed, slice_get-rekeyed}
 use Rattle.lock_queue.proofs.wait_queue.WaitQueue.entry.Goals as goal
+
+pub entry-entry-requires : goal.entry-entry-requires
+entry-entry-requires c =
+    let seen = ap (λ q. length q.entries) c.self.view_is in
+    omega (arith, seen, length-rekeyed party_of c.self.inside.list.entries, c.len.ensures, c.if-index-len.true)
 
 pub returns-then-index-len : goal.returns-then-index-len
 returns-then-index-len c =
@@ -12,6 +16,5 @@ returns-then-index-len c =
 
 pub returns-else-index-len : goal.returns-else-index-len
 returns-else-index-len c =
-    let size = length-rekeyed party_of c.self.inside.list.entries in
-    let past : length (by_party c.self.inside.list.entries) ≤ c.args.index = omega (arith, size, c.len.ensures, c.if-index-len.false) in
-    rw (← c.self.view_is) (sym (slice_get_past (by_party c.self.inside.list.entries) c.args.index past))
+    let past : length c.args.self.now.entries ≤ c.args.index = omega (arith, c.len.ensures, c.if-index-len.false) in
+    sym (slice_get_past c.args.self.now.entries c.args.index past)

@@ -1,4 +1,4 @@
-use Rattle.std.proofs.Common.{◌≡◌, ap, length, sym, ◌∙◌}
+use Rattle.std.proofs.Common.{sym, ◌∙◌}
 use Rattle.lock_queue.specs.Parties.{party_of}
 use Rattle.lock_queue.proofs.Rekeyed.{length-rekeyed}
 use Rattle.lock_queue.proofs.wait_queue.WaitQueue.len.Goals as goal

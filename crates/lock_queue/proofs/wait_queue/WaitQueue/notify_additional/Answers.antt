@@ -1,10 +1,9 @@
-use Rattle.std.proofs.Common.{◌≡◌, ℕ, ◌-◌, ap, arith, length, sym, ◌∙◌, refl, ◌≤◌}
-use Rattle.lock_event.specs.declared.event.Mark.TheVariants.{Notified, Additional}
-use Rattle.lock_event.specs.Lists.{marked_count, notified, notified_additionally}
+use Rattle.std.proofs.Common.{ap, arith, length, ◌∙◌}
+use Rattle.lock_event.specs.declared.event.Mark.TheVariants.{Additional}
 use Rattle.lock_queue.specs.Parties.{by_party, party_of}
-use Rattle.lock_queue.specs.Queues.{queue, IsWaiting}
+use Rattle.lock_queue.specs.Queues.{queue}
 use Rattle.lock_queue.proofs.Queues.{marked}
-use Rattle.lock_queue.proofs.Rekeyed.{rekeyed-notified, rekeyed-mark_waiting}
+use Rattle.lock_queue.proofs.Rekeyed.{rekeyed-mark_waiting}
 use Rattle.lock_queue.proofs.wait_queue.WaitQueue.notify_additional.Goals as goal
 
 pub invariant_of-self : goal.invariant_of-self

@@ -1,0 +1,216 @@
+use super::*;
+use Mark::{Additional, Notified, Waiting};
+use std::process::Abort;
+use std::test::Fail;
+
+// Joins. A join that is refused has to leave the list as it was, and is tried once more: so each
+// test also passes where one allocation fails, whichever it is.
+fn join(rt: &impl Abort, list: &mut Event<u32>) -> Result<EntryId, Fail> {
+    let before = list.len();
+    if let Ok(id) = list.listen() {
+        assert_eq!(rt; list.len(), before + 1);
+        return Ok(id);
+    }
+    assert_eq!(rt; list.len(), before);
+    Ok(list.listen()?)
+}
+
+fn poll(rt: &impl Abort, list: &mut Event<u32>, id: EntryId, waker: u32) -> bool {
+    assert!(rt; list.has(id));
+    list.poll_entry(id, waker)
+}
+
+fn leave(rt: &impl Abort, list: &mut Event<u32>, id: EntryId) {
+    assert!(rt; list.has(id));
+    list.leave(id);
+}
+
+// The list has exactly these marks, from front to back.
+fn assert_marks(rt: &impl Abort, list: &Event<u32>, marks: &[Mark]) {
+    assert_eq!(rt; list.len(), marks.len());
+    for (i, mark) in marks.iter().enumerate() {
+        assert!(rt; i < list.len());
+        assert_eq!(rt; list.entry(i).mark, *mark, "at {i}");
+    }
+}
+
+#[test]
+fn entries_join_at_the_back_and_wait(rt: HostRuntime) -> Result<(), Fail> {
+    let mut list = Event::new(rt.alloc());
+    assert!(rt; list.is_empty());
+    let first = join(&rt, &mut list)?;
+    let second = join(&rt, &mut list)?;
+    assert!(rt; !list.is_empty());
+    assert_marks(&rt, &list, &[Waiting, Waiting]);
+    assert!(rt; list.has(first));
+    assert!(rt; !list.is_notified(first));
+    assert_eq!(rt; list.len(), 2);
+    assert_eq!(rt; list.entry(0).key.id, first);
+    assert_eq!(rt; list.entry(1).key.id, second);
+    assert_eq!(rt; list.entry(1).key.waker, None);
+    Ok(())
+}
+
+#[test]
+fn notify_counts_those_already_marked(rt: HostRuntime) -> Result<(), Fail> {
+    let mut list = Event::new(rt.alloc());
+    let first = join(&rt, &mut list)?;
+    for _ in 0..3 {
+        join(&rt, &mut list)?;
+    }
+    list.notify(1);
+    assert_marks(&rt, &list, &[Notified, Waiting, Waiting, Waiting]);
+    assert!(rt; list.has(first));
+    assert!(rt; list.is_notified(first));
+    list.notify(1);
+    assert_marks(&rt, &list, &[Notified, Waiting, Waiting, Waiting]);
+    list.notify_additional(1);
+    list.notify(2);
+    assert_marks(&rt, &list, &[Notified, Additional, Waiting, Waiting]);
+    list.notify(3);
+    assert_marks(&rt, &list, &[Notified, Additional, Notified, Waiting]);
+    list.notify(0);
+    assert_marks(&rt, &list, &[Notified, Additional, Notified, Waiting]);
+    Ok(())
+}
+
+#[test]
+fn additional_notifications_do_not_count_those_already_marked(rt: HostRuntime) -> Result<(), Fail> {
+    let mut list = Event::new(rt.alloc());
+    for _ in 0..4 {
+        join(&rt, &mut list)?;
+    }
+    list.notify(1);
+    list.notify_additional(1);
+    assert_marks(&rt, &list, &[Notified, Additional, Waiting, Waiting]);
+    list.notify_additional(1);
+    assert_marks(&rt, &list, &[Notified, Additional, Additional, Waiting]);
+    Ok(())
+}
+
+#[test]
+fn the_largest_number_notifies_all_that_wait(rt: HostRuntime) -> Result<(), Fail> {
+    let mut list = Event::new(rt.alloc());
+    list.notify(usize::MAX);
+    for _ in 0..2 {
+        join(&rt, &mut list)?;
+    }
+    list.notify(usize::MAX);
+    assert_marks(&rt, &list, &[Notified, Notified]);
+    join(&rt, &mut list)?;
+    list.notify_additional(usize::MAX);
+    assert_marks(&rt, &list, &[Notified, Notified, Additional]);
+    Ok(())
+}
+
+#[test]
+fn a_leaving_entry_passes_on_a_notification_of_its_kind(rt: HostRuntime) -> Result<(), Fail> {
+    let mut list = Event::new(rt.alloc());
+    let a = join(&rt, &mut list)?;
+    let b = join(&rt, &mut list)?;
+    let c = join(&rt, &mut list)?;
+    let d = join(&rt, &mut list)?;
+    let e = join(&rt, &mut list)?;
+    leave(&rt, &mut list, e);
+    assert_marks(&rt, &list, &[Waiting, Waiting, Waiting, Waiting]);
+
+    // A plain one goes to the next that waits.
+    list.notify(1);
+    leave(&rt, &mut list, a);
+    assert_marks(&rt, &list, &[Notified, Waiting, Waiting]);
+
+    // An additional one goes on, though another entry is marked.
+    list.notify_additional(1);
+    leave(&rt, &mut list, c);
+    assert_marks(&rt, &list, &[Notified, Additional]);
+
+    // A plain one goes to none, since another entry is marked.
+    join(&rt, &mut list)?;
+    leave(&rt, &mut list, b);
+    assert_marks(&rt, &list, &[Additional, Waiting]);
+    assert_eq!(rt; list.len(), 2);
+    assert_eq!(rt; list.entry(0).key.id, d);
+    Ok(())
+}
+
+#[test]
+fn an_entry_keeps_the_newest_waker_until_it_is_notified(rt: HostRuntime) -> Result<(), Fail> {
+    let mut list = Event::new(rt.alloc());
+    let id = join(&rt, &mut list)?;
+    assert!(rt; !poll(&rt, &mut list, id, 5));
+    assert!(rt; !poll(&rt, &mut list, id, 7));
+    assert_eq!(rt; list.next_waker(), None);
+    list.notify(1);
+    assert_eq!(rt; list.next_waker(), Some(7));
+    assert_eq!(rt; list.next_waker(), None);
+    assert_marks(&rt, &list, &[Notified]);
+    assert!(rt; poll(&rt, &mut list, id, 9));
+    assert!(rt; list.is_empty());
+    assert_eq!(rt; list.next_waker(), None);
+    Ok(())
+}
+
+#[test]
+fn next_waker_takes_those_of_notified_entries_from_the_front(rt: HostRuntime) -> Result<(), Fail> {
+    let mut list = Event::new(rt.alloc());
+    for waker in [Some(1), None, Some(3), Some(4), Some(5)] {
+        let id = join(&rt, &mut list)?;
+        if let Some(waker) = waker {
+            assert!(rt; !poll(&rt, &mut list, id, waker));
+        }
+    }
+    list.notify(3);
+    list.notify_additional(1);
+    let marks = [Notified, Notified, Notified, Additional, Waiting];
+    assert_marks(&rt, &list, &marks);
+    for waker in [1, 3, 4] {
+        assert_eq!(rt; list.next_waker(), Some(waker));
+        assert_marks(&rt, &list, &marks);
+    }
+    assert_eq!(rt; list.next_waker(), None);
+    assert_eq!(rt; list.len(), 5);
+    assert_eq!(rt; list.entry(4).key.waker, Some(5));
+    Ok(())
+}
+
+#[test]
+fn ids_are_distinct(rt: HostRuntime) -> Result<(), Fail> {
+    let mut list = Event::new(rt.alloc());
+    let front = join(&rt, &mut list)?;
+    for _ in 0..3 {
+        join(&rt, &mut list)?;
+    }
+    let back = join(&rt, &mut list)?;
+    leave(&rt, &mut list, front);
+    join(&rt, &mut list)?;
+    leave(&rt, &mut list, back);
+    join(&rt, &mut list)?;
+    assert_eq!(rt; list.len(), 5);
+    for i in 0..list.len() {
+        for j in 0..i {
+            assert!(rt;
+                list.entry(i).key.id != list.entry(j).key.id,
+                "at {j} and {i}"
+            );
+        }
+    }
+    Ok(())
+}
+
+#[test]
+fn reserve_makes_room_or_leaves_the_list_as_it_was(rt: HostRuntime) -> Result<(), Fail> {
+    let mut list = Event::new(rt.alloc());
+    join(&rt, &mut list)?;
+    if list.reserve(20).is_err() {
+        assert_marks(&rt, &list, &[Waiting]);
+        list.reserve(20)?;
+    }
+    // No memory holds so many entries.
+    assert_eq!(rt; list.reserve(usize::MAX), Err(Memory));
+    assert_marks(&rt, &list, &[Waiting]);
+    for _ in 0..20 {
+        assert!(rt; list.listen().is_ok());
+    }
+    assert_eq!(rt; list.len(), 21);
+    Ok(())
+}
