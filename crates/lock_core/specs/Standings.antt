@@ -13,6 +13,8 @@ use Rattle.lock_core.specs.declared.standing.Kind.{Kind}
 use Rattle.lock_core.specs.declared.standing.Kind.TheVariants as kind
 use Rattle.lock_core.specs.declared.standing.Rest.{Rest}
 use Rattle.lock_core.specs.declared.standing.Rest.TheVariants.{Idle, Pending, Holding, Finished}
+use Rattle.lock_core.specs.declared.standing.Stage.{Stage}
+use Rattle.lock_core.specs.declared.standing.Stage.TheVariants.{Inside}
 use Rattle.lock_core.specs.declared.standing.Within.{Within}
 use Rattle.lock_core.specs.Refusals.{number_of}
 
@@ -21,6 +23,11 @@ pub data Standing : Type 0 where
   outside : Rest → Standing
   inside : Within → Option Answer → Standing
   forgotten : Standing
+
+-- Outside every call, as a World keeps it.
+abbrev pub is_outside_stage : Stage → Bool
+is_outside_stage (Inside w) = false
+is_outside_stage s = true
 
 -- The kind of a call: a try, one of the calls on what a party has, or the first poll of a future.
 abbrev pub kind_of : Call → Kind

@@ -11,6 +11,6 @@ pub mod program;
 mod refusal;
 pub mod standing;
 
-pub use lock_event::{Entry, Mark};
+pub use lock_event::{Entry, Mark, Memory};
 pub use moves::{Answer, Call, Got, Inputs, Made, Move, What};
 pub use refusal::Refusal;

@@ -11,13 +11,14 @@ mod locking;
 mod table;
 mod word;
 
-ghost use Rattle.std.specs.Prelude.{◌≡◌, ℕ, true, IfOk, IfErr, length, slice_get, is_some};
+ghost use Rattle.std.specs.Prelude.{◌≡◌, ◌<◌, ◌≤◌, ℕ, true, [], ◌∷◌, ◌++◌, IfOk, IfErr, OnErr, length, min, slice_get, is_some, vec_len, vec_capacity};
 ghost use Rattle.lock_core.specs.Mutex.State.{new_world, how_many};
 ghost use Rattle.lock_core.specs.Mutex.Legal.{Legal, AnswersAtOnce};
 ghost use Rattle.lock_core.specs.Mutex.Laws.{IsSound, IsAwake, is_at_rest};
+ghost use Rattle.lock_core.specs.Mutex.Runs.{Runs, rights_of};
 
 use crate::{Answer, Move, Refusal};
-use lock_event::Entry;
+use lock_event::{Entry, Memory};
 pub use locking::Lock;
 use std::alloc::Global;
 use std::marker::Model;
@@ -49,7 +50,21 @@ impl World {
         ensures opening { IfOk result (λ w. w ≡ new_world parties MOST_STARVED value) }
         ensures refused { IfErr result (λ r. r ≡ Refusal.Memory) }
     {
-        match Table::new(alloc, parties, value, MOST_STARVED) {
+        World::with_limits(alloc, parties, value, MOST_STARVED)
+    }
+
+    /// A World as [`World::new`] makes it, in which at most so many parties may be starved at a time. A
+    /// number above [`MOST_STARVED`] means that one.
+    pub fn with_limits(
+        alloc: Global,
+        parties: u32,
+        value: u64,
+        starved: u32,
+    ) -> Result<World, Refusal>
+        ensures opening { IfOk result (λ w. w ≡ new_world parties (min starved MOST_STARVED) value) }
+        ensures refused { IfErr result (λ r. r ≡ Refusal.Memory) }
+    {
+        match Table::new(alloc, parties, value, starved.min(MOST_STARVED)) {
             Ok(table) => Ok(World { table }),
             Err(_) => Err(Refusal::Memory),
         }
@@ -72,6 +87,36 @@ impl World {
         let answer = self.table.step(m);
         self.table.laws();
         answer
+    }
+
+    /// Steps through a list of moves, and answers each. Refused, for memory for the answers alone, the
+    /// World is unchanged.
+    ///
+    /// The clause `runs` says that the answers are those of a chain of legal steps, after each of which
+    /// the rights that the answers tell of are the state's, rights that exclude each other don't
+    /// coexist, and, where nobody is inside a call, no notification is lost.
+    pub fn run(&mut self, alloc: Global, moves: &[Move]) -> Result<Vec<Answer>, Memory>
+        ensures runs { IfOk result (λ answers. Runs (rights_of self.old) self.old moves.now answers.items self.new) }
+        ensures refused { OnErr result (self.new ≡ self.old) }
+    {
+        let Ok(mut answers) = Vec::with_capacity(alloc, moves.len()) else {
+            return Err(Memory);
+        };
+        for m in moves {
+            self.laws();
+            let answer = self.step(m);
+            self.laws();
+            push_within(&mut answers, answer);
+        }
+        Ok(answers)
+    }
+
+    /// Whether nobody is inside a call.
+    pub fn at_rest(&self) -> bool
+        ensures { result ≡ is_at_rest self.now }
+    {
+        self.table.laws();
+        self.table.at_rest()
     }
 
     /// What always holds of a World, between any two moves: nobody has the lock beside its holder, each
@@ -125,6 +170,18 @@ impl World {
         ensures { result ≡ self.state.value }
     {
         Table::value(&self.table)
+    }
+}
+
+/// Adds an answer, for which there is room.
+fn push_within(answers: &mut Vec<Answer>, answer: Answer)
+    requires { vec_len answers.old < vec_capacity answers.old }
+    ensures items { answers.new.items ≡ answers.old.items ++ answer ∷ [] }
+    ensures room { vec_capacity answers.old ≤ vec_capacity answers.new }
+{
+    match answers.push(answer) {
+        Ok(()) => {}
+        Err(_) => unreachable!(),
     }
 }
 

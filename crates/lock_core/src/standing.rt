@@ -2,7 +2,7 @@
 //! specs/Standings says which moves a party may make, and how its calls end.
 
 ghost use Rattle.std.specs.Prelude.{◌≡◌};
-ghost use Rattle.lock_core.specs.Standings.{kind_of};
+ghost use Rattle.lock_core.specs.Standings.{kind_of, is_outside_stage};
 
 use crate::Call;
 
@@ -82,5 +82,14 @@ impl Call {
             Call::Poll => Kind::LaterPoll,
             _ => Kind::FirstPoll,
         }
+    }
+}
+
+impl Stage {
+    /// Whether the party is outside every call.
+    pub fn is_outside(&self) -> bool
+        ensures { result ≡ is_outside_stage self.now }
+    {
+        !matches!(self, Stage::Inside(_))
     }
 }

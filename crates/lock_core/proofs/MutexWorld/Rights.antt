@@ -60,6 +60,17 @@ state_rights w sound p out = by_standing (standing_of w p) out (sound.each p) wh
   by_standing (inside u d) o own = absurd (cc)
   by_standing forgotten o own = (holder_test w.state.holder p, holder_means w.state.holder p)
 
+-- whoever has the lock by the answers is the state's holder
+holds_by : (w : World) → IsSound w → (p : ℕ) → rights_of w p ≡ true → w.state.holder ≡ Some p
+holds_by w sound p has = by_standing (standing_of w p) (sound.each p) has where
+  by_standing : (s : Standing) → HasItsOwn w p s → has_by s w.state.holder p ≡ true → w.state.holder ≡ Some p
+  by_standing (outside rest.Idle) own e = absurd (cc)
+  by_standing (outside rest.Pending) own e = absurd (cc)
+  by_standing (outside rest.Holding) own e = own.1
+  by_standing (outside rest.Finished) own e = absurd (cc)
+  by_standing (inside u d) own e = absurd (cc)
+  by_standing forgotten own e = holder_means w.state.holder p e
+
 -- ---- the party that moves
 
 not_held : (b : Bool) (r : Rest) (h : Option ℕ) (p : ℕ) → has_by (outside r) h p ≡ false → has_by (outside (if b then r else rest.Pending)) h p ≡ false
@@ -235,8 +246,15 @@ moved_rights had got w same rights p out = ((λ h. same p ∙ (rights p out).0 h
 pub holds_well : (had : ℕ → Bool) (w : World) (m : Move) (a : Answer) (v : World) → ((p : ℕ) → had p ≡ rights_of w p) → IsSound w → Legal w m a v → AnswersAtOnce w m a v → IsSound v → (is_at_rest v ≡ true → IsAwake v)
     → ((p : ℕ) → rights_after had m a p ≡ rights_of v p) × HoldsWell (rights_after had m a) v
 holds_well had w m a v known sound legal now then_sound then_awake =
-    let after : (p : ℕ) → rights_after had m a p ≡ rights_of v p = λ p. same_after (m.party == p) (had p) (rights_of w p) (known p) ∙ rights_step w m a v sound legal now p in
-    (after, record { rights = moved_rights (rights_after had m a) (rights_of v) v after (state_rights v then_sound); sound = then_sound; awake = then_awake })
+    let after : (p : ℕ) → rights_after had m a p ≡ rights_of v p = λ p. same_after (m.party == p) (had p) (rights_of w p) (known p) ∙ rights_step w m a v sound legal now p in (
+      after,
+      record {
+        rights = moved_rights (rights_after had m a) (rights_of v) v after (state_rights v then_sound);
+        exclusion = λ p q hp hq. let one = holds_by v then_sound p (sym (after p) ∙ hp) in let other = holds_by v then_sound q (sym (after q) ∙ hq) in cc;
+        sound = then_sound;
+        awake = then_awake;
+      },
+    )
   where
     same_after : (b : Bool) (x y : Bool) → x ≡ y → (if b then right_after x m.what a else x) ≡ (if b then right_after y m.what a else y)
     same_after b x y e = ap (λ z. if b then right_after z m.what a else z) e
@@ -247,3 +265,10 @@ runs_more had w [] [] v m a u runs step well = let P : World → Type 0 = λ x. 
 runs_more had w [] (b ∷ more) v m a u runs step well = absurd runs
 runs_more had w (n ∷ ms) [] v m a u runs step well = absurd runs
 runs_more had w (n ∷ ms) (b ∷ more) v m a u runs step well = (runs.0, runs.1, runs.2, runs_more (rights_after had n b) runs.0 ms more v m a u runs.3 step well)
+
+-- the rights after one more move
+pub rights_more : (had : ℕ → Bool) (w : World) (ms : List Move) (answers : List Answer) (v : World) (m : Move) (a : Answer) → Runs had w ms answers v → rights_by had (ms ++ m ∷ []) (answers ++ a ∷ []) ≡ rights_after (rights_by had ms answers) m a
+rights_more had w [] [] v m a runs = refl
+rights_more had w [] (b ∷ more) v m a runs = absurd runs
+rights_more had w (n ∷ ms) [] v m a runs = absurd runs
+rights_more had w (n ∷ ms) (b ∷ more) v m a runs = rights_more (rights_after had n b) runs.0 ms more v m a runs.3

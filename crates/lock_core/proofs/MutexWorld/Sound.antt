@@ -9,7 +9,7 @@ use Rattle.lock_core.specs.declared.standing.Stage.{Stage}
 use Rattle.lock_core.specs.declared.standing.Stage.TheVariants.{Outside, Inside, Forgotten}
 use Rattle.lock_core.specs.declared.moves.Answer.{Answer}
 use Rattle.lock_core.specs.declared.standing.Within.{Within}
-use Rattle.lock_core.specs.Standings.{Standing, outside, inside, forgotten}
+use Rattle.lock_core.specs.Standings.{Standing, outside, inside, forgotten, is_outside_stage}
 use Rattle.lock_core.specs.Rights.{Right, hold, excludes}
 use Rattle.lock_core.specs.Mutex.Roles.{holds, listed, is_resting}
 use Rattle.lock_core.specs.Mutex.Machine.{place_at}
@@ -112,3 +112,14 @@ awake t laws fits resting = record {
         | inr past ↦ rw past (inr refl)
       ]);
 }
+
+same_outside : (v : ℕ) (s : Stage) (x : Place) → is_outside (stands_as v s x) ≡ is_outside_stage s
+same_outside v (Outside r) x = refl
+same_outside v (Inside w) x = refl
+same_outside v Forgotten x = refl
+
+-- the World is at rest where its table is
+pub rest_seen : (v : ℕ) (ss : List Stage) (ps : List Place) → length ss ≡ length ps → list_all is_outside (standings v ss ps) ≡ list_all is_outside_stage ss
+rest_seen v [] xs e = refl
+rest_seen v (s ∷ ss) [] e = absurd (omega arith)
+rest_seen v (s ∷ ss) (x ∷ xs) e = let more = rest_seen v ss xs (omega arith) in let one = same_outside v s x in cc

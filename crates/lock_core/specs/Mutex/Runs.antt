@@ -44,9 +44,11 @@ rights_of w p = has_by (standing_of w p) w.state.holder p
 abbrev pub HasItsRights : (ℕ → Bool) → World → Type 0
 HasItsRights had w = (p : ℕ) → is_outside (standing_of w p) ≡ true → (w.state.holder ≡ Some p) ↔ (had p ≡ true)
 
--- What holds after each step of a run: the rights by the answers are the state's, nothing is excluded, and at rest no notification is lost.
+-- What holds after each step of a run: the rights by the answers are the state's, rights that exclude each other never coexist, and at rest no notification is lost.
 pub record HoldsWell (had : ℕ → Bool) (w : World) : Type 0 where
   pub rights : HasItsRights had w
+  -- Nor do two parties have the lock by the answers.
+  pub exclusion : (p q : ℕ) → had p ≡ true → had q ≡ true → p ≡ q
   pub sound : IsSound w
   pub awake : is_at_rest w ≡ true → IsAwake w
 

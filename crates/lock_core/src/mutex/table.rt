@@ -5,6 +5,8 @@ ghost use Rattle.lock_core.specs.Standings.{inputs_of};
 ghost use Rattle.lock_core.specs.Mutex.Acts.{IsMutex};
 ghost use Rattle.lock_core.specs.Mutex.Plans.{plan_of, begins_by, answer_of, stage_after};
 ghost use Rattle.lock_core.specs.Mutex.Table.{IsStep, IsTable, new_table};
+ghost use Rattle.lock_core.specs.Standings.{is_outside_stage};
+ghost use Rattle.std.specs.List.{list_all};
 
 use super::locking::Lock;
 use crate::program::mutex::{End, LockCall, Next};
@@ -147,6 +149,13 @@ impl Table {
         ensures fits { IsTable self.now.lock self.now.stages }
     {
         self.lock.laws();
+    }
+
+    /// Whether nobody is inside a call.
+    pub(crate) fn at_rest(&self) -> bool
+        ensures { result ≡ list_all is_outside_stage self.now.stages }
+    {
+        self.stages.iter().all(|stage| stage.is_outside())
     }
 
     /// The lock.
