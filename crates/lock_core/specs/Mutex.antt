@@ -14,3 +14,4 @@ pub mod Plans
 pub mod Table
 pub mod Laws
 pub mod Runs
+pub mod Lending

@@ -14,7 +14,7 @@ use Rattle.lock_core.specs.declared.standing.Kind.TheVariants as kind
 use Rattle.lock_core.specs.declared.standing.Rest.{Rest}
 use Rattle.lock_core.specs.declared.standing.Rest.TheVariants.{Idle, Pending, Holding, Finished}
 use Rattle.lock_core.specs.declared.standing.Stage.{Stage}
-use Rattle.lock_core.specs.declared.standing.Stage.TheVariants.{Inside}
+use Rattle.lock_core.specs.declared.standing.Stage.TheVariants.{Outside, Inside, Forgotten}
 use Rattle.lock_core.specs.declared.standing.Within.{Within}
 use Rattle.lock_core.specs.Refusals.{number_of}
 
@@ -28,6 +28,12 @@ pub data Standing : Type 0 where
 abbrev pub is_outside_stage : Stage → Bool
 is_outside_stage (Inside w) = false
 is_outside_stage s = true
+
+-- Whoever is pending or holds a right when a value is put from outside every call is forgotten.
+abbrev pub forgets : Stage → Stage
+forgets (Outside Pending) = Forgotten
+forgets (Outside Holding) = Forgotten
+forgets s = s
 
 -- The kind of a call: a try, one of the calls on what a party has, or the first poll of a future.
 abbrev pub kind_of : Call → Kind

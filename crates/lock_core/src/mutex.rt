@@ -42,6 +42,9 @@ impl Model for World {
     ghost view = { λ w. view_of w.table };
 }
 
+ghost use Rattle.std.specs.Borrow.{sem};
+ghost use Rattle.lock_core.specs.Mutex.Lending.{LendsValue};
+
 impl World {
     /// A World of so many idle parties, numbered from 0, over a free lock with this value. As many
     /// parties may be starved as [`MOST_STARVED`] says. Refused for memory alone, and then nothing is
@@ -163,6 +166,21 @@ impl World {
         ensures { result ≡ self.now.state.value }
     {
         self.table.value()
+    }
+
+    /// Lends the value, of a World at rest. Whoever was pending or held the lock is forgotten: from then on
+    /// its moves are not possible, and its entry stays in the list. A later holder finds what was left
+    /// behind the reference.
+    ///
+    /// The Rust crate's `get_mut` asks for the only reference to the mutex, so that no guard or future
+    /// can be left.
+    pub fn get_mut(&mut self) -> &mut u64
+        requires { is_at_rest self.old ≡ true }
+        ensures* lends { sem 𝓛 (LendsValue self.entry result) }
+        ensures value { result.now ≡ self.old.state.value }
+    {
+        self.table.laws();
+        self.table.value_mut()
     }
 
     /// The value, and the World is gone. Whoever held the lock or waited for it is forgotten.

@@ -2,7 +2,7 @@
 //! specs/Standings says which moves a party may make, and how its calls end.
 
 ghost use Rattle.std.specs.Prelude.{◌≡◌};
-ghost use Rattle.lock_core.specs.Standings.{kind_of, is_outside_stage};
+ghost use Rattle.lock_core.specs.Standings.{kind_of, is_outside_stage, forgets};
 
 use crate::Call;
 
@@ -86,6 +86,17 @@ impl Call {
 }
 
 impl Stage {
+    /// The stage once a value was put from outside every call: whoever was pending or held a right is
+    /// forgotten.
+    pub fn forgotten(self) -> Stage
+        ensures { result ≡ forgets self }
+    {
+        match self {
+            Stage::Outside(Rest::Pending | Rest::Holding) => Stage::Forgotten,
+            other => other,
+        }
+    }
+
     /// Whether the party is outside every call.
     pub fn is_outside(&self) -> bool
         ensures { result ≡ is_outside_stage self.now }

@@ -1,6 +1,7 @@
 -- What always holds of a mutex's World, and that no notification is lost at rest.
-use Rattle.std.proofs.Common.{◌≡◌, ℕ, ◌+◌, ◌<◌, ◌≤◌, ◌⊎◌, ◌&&◌, inl, inr, Bool, true, false, List, [], ◌∷◌, length, zero, suc, Option, Some, None, refl, arith, ap, sym, ◌∙◌, subst}
+use Rattle.std.proofs.Common.{◌≡◌, ℕ, ◌+◌, ◌<◌, ◌≤◌, ◌⊎◌, ◌&&◌, inl, inr, Bool, true, false, List, [], ◌∷◌, length, map, zero, suc, Option, Some, None, refl, arith, ap, sym, ◌∙◌, subst}
 use Rattle.std.specs.List.{list_all}
+use Rattle.std.proofs.lemmas.List.{length-map}
 use Rattle.lock_queue.specs.Parties.{entries_of}
 use Rattle.lock_core.specs.declared.program.mutex.Place.{Place}
 use Rattle.lock_core.specs.declared.program.mutex.Place.TheVariants as place
@@ -9,16 +10,17 @@ use Rattle.lock_core.specs.declared.standing.Stage.{Stage}
 use Rattle.lock_core.specs.declared.standing.Stage.TheVariants.{Outside, Inside, Forgotten}
 use Rattle.lock_core.specs.declared.moves.Answer.{Answer}
 use Rattle.lock_core.specs.declared.standing.Within.{Within}
-use Rattle.lock_core.specs.Standings.{Standing, outside, inside, forgotten, is_outside_stage}
+use Rattle.lock_core.specs.Standings.{Standing, outside, inside, forgotten, is_outside_stage, forgets}
 use Rattle.lock_core.specs.Rights.{Right, hold, excludes}
 use Rattle.lock_core.specs.Mutex.Roles.{holds, listed, is_resting}
-use Rattle.lock_core.specs.Mutex.Machine.{place_at}
+use Rattle.lock_core.specs.Mutex.Machine.{Lock, place_at}
 use Rattle.lock_core.specs.Mutex.Acts as lock
 use Rattle.lock_core.specs.Mutex.Acts.{IsMutex}
 use Rattle.lock_core.specs.Mutex.Plans.{stage_at, goes_with}
 use Rattle.lock_core.specs.Mutex.Table.{Table, IsTable}
 use Rattle.lock_core.specs.Mutex.State.{World, standing_of}
 use Rattle.lock_core.specs.Mutex.Laws.{HasRight, IsSound, is_long_call, is_outside, is_at_rest, IsAwake}
+use Rattle.lock_core.specs.Mutex.Lending.{table_with, is_forgotten_then, world_with}
 use Rattle.lock_core.specs.Mutex.View.{verdict, stands_as, standings, view_of}
 use Rattle.lock_core.proofs.MutexMachine.CanDo.{once}
 use Rattle.lock_core.proofs.MutexWorld.Views as view
@@ -123,3 +125,52 @@ pub rest_seen : (v : ℕ) (ss : List Stage) (ps : List Place) → length ss ≡ 
 rest_seen v [] xs e = refl
 rest_seen v (s ∷ ss) [] e = absurd (omega arith)
 rest_seen v (s ∷ ss) (x ∷ xs) e = let more = rest_seen v ss xs (omega arith) in let one = same_outside v s x in cc
+
+-- ---- a value put at rest
+
+every : (ss : List Stage) (p : ℕ) → list_all is_outside_stage ss ≡ true → p < length ss → is_outside_stage (stage_at ss p) ≡ true
+every [] p h k = absurd (omega arith)
+every (s ∷ ss) zero h k = (split (is_outside_stage s) (list_all is_outside_stage ss) h).0
+every (s ∷ ss) (suc p) h k = every ss p (split (is_outside_stage s) (list_all is_outside_stage ss) h).1 (omega arith)
+
+forgets_at : (ss : List Stage) (p : ℕ) → stage_at (map forgets ss) p ≡ forgets (stage_at ss p)
+forgets_at [] p = refl
+forgets_at (s ∷ ss) zero = refl
+forgets_at (s ∷ ss) (suc p) = forgets_at ss p
+
+still_fits : (s : Stage) (x : Place) → is_outside_stage s ≡ true → goes_with s x ≡ true → goes_with (forgets s) x ≡ true
+still_fits (Outside rest.Idle) x h g = g
+still_fits (Outside rest.Pending) x h g = for_pending (λ x. goes_with Forgotten x ≡ true) (record { out = refl; ask = refl; starved = refl }) x g
+still_fits (Outside rest.Holding) x h g = for_holding (λ x. goes_with Forgotten x ≡ true) refl x g
+still_fits (Outside rest.Finished) x h g = g
+still_fits (Inside w) x h g = absurd (cc)
+still_fits Forgotten x h g = g
+
+pub forgotten_fits : (l : Lock) (ss : List Stage) → IsTable l ss → list_all is_outside_stage ss ≡ true → IsTable l (map forgets ss)
+forgotten_fits l ss fits rest =
+    record {
+      as_many = length-map ss forgets ∙ fits.as_many;
+      fits = λ p h.
+          let k : p < length ss = omega (arith, length-map ss forgets) in
+          rw forgets_at (still_fits (stage_at ss p) (place_at l.places p) (every ss p rest k) (fits.fits p k));
+    }
+
+forgets_one : (v u : ℕ) (s : Stage) (x : Place) → is_outside_stage s ≡ true → stands_as u (forgets s) x ≡ is_forgotten_then (stands_as v s x)
+forgets_one v u (Outside rest.Idle) x h = refl
+forgets_one v u (Outside rest.Pending) x h = refl
+forgets_one v u (Outside rest.Holding) x h = refl
+forgets_one v u (Outside rest.Finished) x h = refl
+forgets_one v u (Inside w) x h = absurd (cc)
+forgets_one v u Forgotten x h = refl
+
+forgets_seen : (v u : ℕ) (ss : List Stage) (ps : List Place) → list_all is_outside_stage ss ≡ true → standings u (map forgets ss) ps ≡ map is_forgotten_then (standings v ss ps)
+forgets_seen v u [] xs h = refl
+forgets_seen v u (s ∷ ss) [] h = refl
+forgets_seen v u (s ∷ ss) (x ∷ xs) h =
+    let both = split (is_outside_stage s) (list_all is_outside_stage ss) h in
+    let more = forgets_seen v u ss xs both.1 in
+    let one = forgets_one v u s x both.0 in cc
+
+-- a table whose value was put is seen as the World in which it was
+pub put_seen : (t : Table) (v : ℕ) → list_all is_outside_stage t.stages ≡ true → view_of (table_with t v) ≡ world_with (view_of t) v
+put_seen t v rest = let all = forgets_seen t.value v t.stages t.lock.places rest in cc

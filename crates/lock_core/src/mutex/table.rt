@@ -1,11 +1,11 @@
 //! What stands behind a mutex's World: the lock, the stage of each party, and the value.
 
-ghost use Rattle.std.specs.Prelude.{◌≡◌, ℕ, ◌<◌, length, IfOk};
+ghost use Rattle.std.specs.Prelude.{◌≡◌, ℕ, ◌<◌, true, length, map, IfOk};
 ghost use Rattle.lock_core.specs.Standings.{inputs_of};
 ghost use Rattle.lock_core.specs.Mutex.Acts.{IsMutex};
 ghost use Rattle.lock_core.specs.Mutex.Plans.{plan_of, begins_by, answer_of, stage_after};
 ghost use Rattle.lock_core.specs.Mutex.Table.{IsStep, IsTable, new_table};
-ghost use Rattle.lock_core.specs.Standings.{is_outside_stage};
+ghost use Rattle.lock_core.specs.Standings.{is_outside_stage, forgets};
 ghost use Rattle.std.specs.List.{list_all};
 
 use super::locking::Lock;
@@ -105,6 +105,15 @@ impl What {
     }
 }
 
+/// Whoever is pending or holds the lock is forgotten.
+fn forget_all(stages: &mut Vec<Stage>)
+    ensures { stages.new.items ≡ map forgets stages.old.items }
+{
+    for stage in stages.iter_mut() {
+        *stage = stage.forgotten();
+    }
+}
+
 /// A lock over a number, and at which stage of its calls each party is.
 #[derive(Drop)]
 pub(crate) struct Table {
@@ -122,6 +131,9 @@ impl Model for Table {
 
     ghost invariant = { λ t. IsTable t.lock t.stages.items };
 }
+
+ghost use Rattle.std.specs.Borrow.{sem};
+ghost use Rattle.lock_core.specs.Mutex.Lending.{LendsTableValue};
 
 impl Table {
     /// So many idle parties, over a free lock with this value.
@@ -170,6 +182,16 @@ impl Table {
         ensures { result ≡ self.now.value }
     {
         self.value
+    }
+
+    /// Lends the value from outside every call: whoever is pending or holds the lock is forgotten.
+    pub(crate) fn value_mut(&mut self) -> &mut u64
+        requires { list_all is_outside_stage self.old.stages ≡ true }
+        ensures* lends { sem 𝓛 (LendsTableValue self.entry result) }
+        ensures value { result.now ≡ self.old.value }
+    {
+        forget_all(&mut self.stages);
+        &mut self.value
     }
 
     /// One move.

@@ -1,0 +1,37 @@
+-- A mutex's value, lent from outside every call.
+use Rattle.std.specs.Prelude.{ℕ, map}
+use Rattle.std.specs.Borrow.{Lends, MutBor, Fml, u64}
+use Rattle.lock_core.specs.Standings.{forgets}
+use Rattle.lock_core.specs.Mutex.Table.{Table}
+use Rattle.lock_core.specs.contracts.mutex.table.Table.{the_row}
+use Rattle.lock_core.specs.contracts.mutex.World.{the_row as world_row}
+use Rattle.lock_core.specs.declared.standing.Rest.TheVariants.{Pending, Holding}
+use Rattle.lock_core.specs.Standings.{Standing, outside, forgotten}
+use Rattle.lock_core.specs.Mutex.State.{World}
+
+-- The table once a value was put: whoever was pending or held the lock is forgotten.
+abbrev pub table_with : Table → ℕ → Table
+table_with t v = record { lock = t.lock; stages = map forgets t.stages; value = v }
+
+-- The table ends with the last value that was left behind the reference.
+abbrev pub LendsTableValue : MutBor Table → MutBor ℕ → Fml
+LendsTableValue t r = Lends the_row u64 t r (table_with t.now)
+
+-- Whoever is pending or holds the lock is forgotten.
+abbrev pub is_forgotten_then : Standing → Standing
+is_forgotten_then (outside Pending) = forgotten
+is_forgotten_then (outside Holding) = forgotten
+is_forgotten_then s = s
+
+-- The World once a value was put from outside every call: the state keeps its holder and its starved set, and whoever was pending or held the lock is forgotten.
+abbrev pub world_with : World → ℕ → World
+world_with w v = record {
+  state = record { holder = w.state.holder; starved = w.state.starved; value = v };
+  entries = w.entries;
+  standings = map is_forgotten_then w.standings;
+  limit = w.limit;
+}
+
+-- The World ends with the last value that was left behind the reference.
+abbrev pub LendsValue : MutBor World → MutBor ℕ → Fml
+LendsValue w r = Lends world_row u64 w r (world_with w.now)
