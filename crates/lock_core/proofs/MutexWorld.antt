@@ -10,3 +10,4 @@ pub mod Events
 pub mod Opening
 pub mod Sound
 pub mod Rights
+pub mod Opened

@@ -31,15 +31,16 @@ pub const MOST_STARVED: u32 = 1_073_741_823;
 #[derive(Drop)]
 pub struct World {
     table: Table,
+    opening_value: u64,
 }
 
 impl Model for World {
     ghost use Rattle.lock_core.specs.Mutex.State.{World};
-    ghost use Rattle.lock_core.specs.Mutex.View.{view_of};
+    ghost use Rattle.lock_core.specs.Mutex.View.{opened, view_of};
 
     ghost Value = { World };
 
-    ghost view = { λ w. view_of w.table };
+    ghost view = { λ w. opened w.opening_value (view_of w.table) };
 }
 
 ghost use Rattle.std.specs.Borrow.{sem};
@@ -68,7 +69,10 @@ impl World {
         ensures refused { IfErr result (λ r. r ≡ Refusal.Memory) }
     {
         match Table::new(alloc, parties, value, starved.min(MOST_STARVED)) {
-            Ok(table) => Ok(World { table }),
+            Ok(table) => Ok(World {
+                table,
+                opening_value: value,
+            }),
             Err(_) => Err(Refusal::Memory),
         }
     }

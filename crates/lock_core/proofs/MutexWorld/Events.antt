@@ -91,7 +91,7 @@ impossible : (t : Table) (m : Move) → Laws t → call_of (view_of t) m ≡ Non
 impossible t m k none = record {
   legal = record {
     possible = record { exactly = ((λ e. none), (λ e. refl)); unchanged = λ e. refl };
-    one_change = record { deed = nothing; state = refl; entries = refl; limit = refl; others = λ q apart. refl; parties = refl; parting = λ h. refl };
+    one_change = record { deed = nothing; state = refl; entries = refl; limit = refl; opening_value = refl; others = λ q apart. refl; parties = refl; parting = λ h. refl };
     taken_fairly = λ q is was. absurd (was is);
     others_keep = record { lock = λ q apart. ((λ h. h), (λ h. h)); starved = λ q apart. refl; limit = λ was is. absurd (cc) };
     carries = record {
@@ -133,7 +133,7 @@ polled_again t p i k at =
     record {
       legal = record {
         possible = record { exactly = ((λ e. absurd (cc)), (λ e. absurd (cc))); unchanged = λ e. refl };
-        one_change = record { deed = nothing; state = refl; entries = refl; limit = refl; others = λ q apart. refl; parties = refl; parting = λ h. refl };
+        one_change = record { deed = nothing; state = refl; entries = refl; limit = refl; opening_value = refl; others = λ q apart. refl; parties = refl; parting = λ h. refl };
         taken_fairly = λ q is was. absurd (was is);
         others_keep = record { lock = λ q apart. ((λ h. h), (λ h. h)); starved = λ q apart. refl; limit = λ was is. absurd (cc) };
         carries = record {
@@ -207,6 +207,7 @@ module _ (t : Table) (n : ℕ) (p : ℕ) (i : Inputs) where
             state = refl;
             entries = refl;
             limit = refl;
+            opening_value = refl;
             others = λ q apart. stood left q k2 ∙ (unvalued t.value n (stage_at t.stages q) (place_at t.lock.places q) (view.verdict_same n t.value (place_at t.lock.places q) (out q apart)) ∙ sym (stood t q k));
             parties = view.length-standings n t.stages t.lock.places k.fits.as_many ∙ sym (view.length-standings t.value t.stages t.lock.places k.fits.as_many);
             parting = λ h. let no : is_decided (outside rest.Holding) || is_drop (Begin (call.Put n) i) ≡ true = rw is at h in absurd (cc);

@@ -277,6 +277,7 @@ module _ (m : Move) (l : Lock) (es : List (Entry ℕ)) (ss : List Stage) (v : �
       state = state_is deed r.holds r.starves r.finding;
       entries = answers.list_is memory l m.party (action_of from) f l.entries es k.finds k.list;
       limit = refl;
+      opening_value = refl;
       others = others;
       parties = view.length-standings v stages new_lock.places k.new_fits.as_many ∙ (length-set ss m.party (stage_after w onward) ∙ sym (view.length-standings v ss l.places k.old_fits.as_many));
       parting = parting;

@@ -6,7 +6,7 @@ use Rattle.lock_core.specs.declared.standing.Stage.TheVariants.{Outside}
 use Rattle.lock_core.specs.Standings.{outside}
 use Rattle.lock_core.specs.Mutex.State.{new_world}
 use Rattle.lock_core.specs.Mutex.Table.{new_table}
-use Rattle.lock_core.specs.Mutex.View.{is_counted, holder_from, standings, view_of}
+use Rattle.lock_core.specs.Mutex.View.{is_counted, holder_from, standings, opened, view_of}
 
 no_holder : (n k : ℕ) → holder_from k (replicate n place.Out) ≡ None
 no_holder zero k = refl
@@ -20,5 +20,5 @@ all_idle : (n v : ℕ) → standings v (replicate n (Outside Idle)) (replicate n
 all_idle zero v = refl
 all_idle (suc n) v = ap (λ l. outside Idle ∷ l) (all_idle n v)
 
-pub starts_new : (parties limit value : ℕ) → view_of (new_table parties limit value) ≡ new_world parties limit value
+pub starts_new : (parties limit value : ℕ) → opened value (view_of (new_table parties limit value)) ≡ new_world parties limit value
 starts_new parties limit value = let h = no_holder parties 0 in let s = none_starved parties in let i = all_idle parties value in cc

@@ -88,6 +88,7 @@ pub record ChangesOneThing (old : World) (m : Move) (new : World) : Type 0 where
   pub state : new.state ≡ state_after m.party deed old.state
   pub entries : new.entries ≡ entries_after m.party deed old.entries
   pub limit : new.limit ≡ old.limit
+  pub opening_value : new.opening_value ≡ old.opening_value
   pub others : (q : ℕ) → q ≢ m.party → standing_of new q ≡ standing_of old q
   pub parties : length new.standings ≡ length old.standings
   pub parting : is_decided (standing_of old m.party) || is_drop m.what ≡ true → gives_back deed ≡ true

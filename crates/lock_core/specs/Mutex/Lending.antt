@@ -25,11 +25,9 @@ is_forgotten_then s = s
 
 -- The World once a value was put from outside every call: the state keeps its holder and its starved set, and whoever was pending or held the lock is forgotten.
 abbrev pub world_with : World → ℕ → World
-world_with w v = record {
-  state = record { holder = w.state.holder; starved = w.state.starved; value = v };
-  entries = w.entries;
+world_with w v = record w {
+  state = record w.state { value = v };
   standings = map is_forgotten_then w.standings;
-  limit = w.limit;
 }
 
 -- The World ends with the last value that was left behind the reference.

@@ -1,5 +1,5 @@
 -- What callers see of a mutex's World: its state, its list, and how each party stands.
-use Rattle.std.specs.Prelude.{◌≡◌, ℕ, ◌==◌, ◌&&◌, ◌+◌, if◌then◌else◌, Bool, true, false, List, [], ◌∷◌, Option, Some, None, is_none, slice_index_or, replicate}
+use Rattle.std.specs.Prelude.{◌≡◌, ℕ, ◌==◌, ◌&&◌, ◌+◌, if◌then◌else◌, Bool, true, false, List, [], ◌∷◌, Option, Some, None, is_none, slice_index_or, replicate, length}
 use Rattle.lock_event.specs.declared.event.Entry.{Entry}
 use Rattle.lock_event.specs.declared.event.Mark.{Mark}
 use Rattle.lock_event.specs.Lists.{mark_at}
@@ -13,12 +13,13 @@ pub record State : Type 0 where
   pub starved : List Bool
   pub value : ℕ
 
--- The state, the list of waiting parties with their marks, how each party stands, and how many parties may be starved.
+-- The state, the list of waiting parties with their marks, how each party stands, how many parties may be starved, and the value that the World was made with.
 pub record World : Type 0 where
   pub state : State
   pub entries : List (Entry ℕ)
   pub standings : List Standing
   pub limit : ℕ
+  pub opening_value : ℕ
 
 -- A party past the table stands as one that is forgotten: it moves no more.
 abbrev pub standing_of : World → ℕ → Standing
@@ -51,4 +52,9 @@ new_world parties limit value = record {
   entries = [];
   standings = replicate parties (outside Idle);
   limit = limit;
+  opening_value = value;
 }
+
+-- The World as it was made, by the numbers that it keeps: how many parties, the limit, and the value.
+abbrev pub opening_of : World → World
+opening_of w = new_world (length w.standings) w.limit w.opening_value

@@ -56,7 +56,13 @@ seen l ss v = record {
   entries = l.entries;
   standings = standings v ss l.places;
   limit = l.limit;
+  opening_value = 0;
 }
 
+-- a World that was made with this value
+abbrev pub opened : ℕ → World → World
+opened n w = record w { opening_value = n }
+
+-- a table as it is seen, but for the value that its World was made with
 abbrev pub view_of : Table → World
 view_of t = seen t.lock t.stages t.value

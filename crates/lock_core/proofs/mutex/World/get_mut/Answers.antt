@@ -4,6 +4,7 @@ use Rattle.std.specs.List.{list_all}
 use Rattle.lock_core.specs.Standings.{is_outside_stage}
 use Rattle.lock_core.specs.Mutex.Laws.{is_at_rest}
 use Rattle.lock_core.specs.Mutex.Lending.{world_with}
+use Rattle.lock_core.specs.Mutex.View.{opened}
 use Rattle.lock_core.proofs.MutexWorld.Sound.{rest_seen, put_seen}
 use Rattle.lock_core.proofs.mutex.World.get_mut.Goals as goal
 
@@ -17,4 +18,4 @@ returns c =
     let resting : list_all is_outside_stage c.self.inside.table.stages ≡ true =
     sym (rest_seen c.self.inside.table.value c.self.inside.table.stages c.self.inside.table.lock.places c.laws.ensures.fits.as_many)
     ∙ (ap is_at_rest c.self.view_is ∙ c.requires) in
-    ((refl, λ v. put_seen c.self.inside.table v resting ∙ ap (λ w. world_with w v) c.self.view_is), record { lends = tt; value = c.value_mut.ensures.value ∙ ap (λ w. w.state.value) c.self.view_is })
+    ((refl, λ v. ap (opened c.self.inside.opening_value) (put_seen c.self.inside.table v resting) ∙ ap (λ w. world_with w v) c.self.view_is), record { lends = tt; value = c.value_mut.ensures.value ∙ ap (λ w. w.state.value) c.self.view_is })
