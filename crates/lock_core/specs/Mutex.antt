@@ -15,3 +15,4 @@ pub mod Table
 pub mod Laws
 pub mod Runs
 pub mod Lending
+pub mod Openings

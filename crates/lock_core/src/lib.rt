@@ -5,12 +5,14 @@
 //! program in [`program`].
 #![tactic(auto)]
 
+mod any_world;
 mod moves;
 pub mod mutex;
 pub mod program;
 mod refusal;
 pub mod standing;
 
+pub use any_world::AnyWorld;
 pub use lock_event::{Entry, Mark, Memory};
 pub use moves::{Answer, Call, Got, Inputs, Made, Move, What};
 pub use refusal::Refusal;

@@ -17,7 +17,7 @@ ghost use Rattle.lock_core.specs.Mutex.Legal.{Legal, AnswersAtOnce};
 ghost use Rattle.lock_core.specs.Mutex.Laws.{IsSound, IsAwake, is_at_rest};
 ghost use Rattle.lock_core.specs.Mutex.Runs.{Runs, rights_of};
 
-use crate::{Answer, Move, Refusal};
+use crate::{AnyWorld, Answer, Move, Refusal};
 use lock_event::{Entry, Memory};
 pub use locking::Lock;
 use std::alloc::Global;
@@ -192,6 +192,29 @@ impl World {
         ensures { result ≡ self.state.value }
     {
         Table::value(&self.table)
+    }
+}
+
+impl AnyWorld for World {
+    ghost use Rattle.lock_core.specs.Mutex.Legal as mutex;
+    ghost use Rattle.lock_core.specs.Mutex.State.{opening_of};
+    ghost use Rattle.lock_core.specs.Mutex.Laws as laws;
+    ghost use Rattle.lock_core.specs.Mutex.Openings.{opening_kept};
+
+    ghost legal = { mutex.Legal };
+
+    ghost opening = { opening_of };
+
+    ghost is_at_rest = { laws.is_at_rest };
+
+    ghost keeps_opening = { opening_kept };
+
+    fn step(&mut self, m: &Move) -> Answer {
+        World::step(self, m)
+    }
+
+    fn at_rest(&self) -> bool {
+        World::at_rest(self)
     }
 }
 

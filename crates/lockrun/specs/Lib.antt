@@ -1,0 +1,5 @@
+pub mod Faults
+pub mod Lines
+pub mod Scripts
+pub mod Commands
+pub mod Answers

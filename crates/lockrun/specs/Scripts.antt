@@ -1,0 +1,33 @@
+-- What the program is asked for, and what a script is.
+use Rattle.std.specs.Prelude.{ℕ, ◌+◌, ◌≤◌, ◌⊎◌, Option, List, [], ◌∷◌, length, All, codes}
+use Rattle.std.specs.Io.KnownBytes.{Consumes, IsAtEnd}
+use Rattle.lockrun.specs.declared.run.TheConstants.{LIMIT}
+use Rattle.lockrun.specs.declared.command.Command.{Command}
+use Rattle.lockrun.specs.Commands.{Asks}
+use Rattle.lockrun.specs.Lines.{lines_of, words_of, IsSkipped, IsPrintable, IsTrimmed}
+
+-- the arguments that ask for a script: the one word `script`
+abbrev pub asked : List (List ℕ)
+asked = codes "script" ∷ []
+
+-- a line that asks for a command: its words do, it is printable ASCII, and no space stands at an end
+pub record IsCommand (line : List ℕ) : Type 0 where
+  pub command : Command
+  pub asks : Asks (words_of line) command
+  pub printable : IsPrintable line
+  pub trimmed : IsTrimmed line
+
+-- a line that a script may have: one that is skipped, or one that asks for a command
+abbrev pub IsLine : List ℕ → Type 0
+IsLine line = IsSkipped line ⊎ IsCommand line
+
+-- a whole script: it is short enough, and each of its lines is one that a script may have
+pub record IsScript (text : List ℕ) : Type 0 where
+  pub short : length text ≤ LIMIT
+  pub lines : All IsLine (lines_of text)
+
+-- what was read is what the input lost, and is the whole input unless it is longer than a script
+pub record IsStartOfScript (old new : Option (List ℕ)) (text : List ℕ) : Type 0 where
+  pub taken : Consumes old new text
+  pub whole : length text ≤ LIMIT → IsAtEnd new
+  pub most : length text ≤ LIMIT + 1

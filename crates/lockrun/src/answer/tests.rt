@@ -1,0 +1,42 @@
+use super::{write_answer, write_entry};
+use lock_core::{Answer, Got, Mark};
+use std::test::Fail;
+
+#[test]
+fn writes_each_answer(rt: HostRuntime) -> Result<(), Fail> {
+    for (answer, text) in [
+        (Answer::Stepped, "stepped\n"),
+        (Answer::Pending, "pending\n"),
+        (Answer::Ready(Got::Plain), "ready\n"),
+        (Answer::Ready(Got::Value(0)), "ready 0\n"),
+        (Answer::Ready(Got::Leader(true)), "ready leader\n"),
+        (Answer::Ready(Got::Leader(false)), "ready follower\n"),
+        (Answer::Ready(Got::Taken(2)), "ready taken 2\n"),
+        (Answer::Ready(Got::Failed), "ready failed\n"),
+        (Answer::Granted(Got::Plain), "granted\n"),
+        (
+            Answer::Granted(Got::Value(u64::MAX)),
+            "granted 18446744073709551615\n",
+        ),
+        (Answer::None, "none\n"),
+        (Answer::GivenBack, "given back\n"),
+        (Answer::Waiting, "waiting\n"),
+        (Answer::Refused(6), "refused 6\n"),
+        (Answer::NotPossible, "not possible\n"),
+    ] {
+        let mut output = Vec::new(rt.alloc());
+        write_answer(answer, &mut output)?;
+        assert_eq!(rt; output.as_slice(), text.as_bytes(), "{answer:?}");
+    }
+    Ok(())
+}
+
+#[test]
+fn writes_the_entries_of_a_list(rt: HostRuntime) -> Result<(), Fail> {
+    let mut output = Vec::new(rt.alloc());
+    write_entry("", 10, Mark::Additional, &mut output)?;
+    write_entry(" ", 1, Mark::Notified, &mut output)?;
+    write_entry(" ", 2, Mark::Waiting, &mut output)?;
+    assert_eq!(rt; output.as_slice(), b"10a 1n 2w".as_slice());
+    Ok(())
+}

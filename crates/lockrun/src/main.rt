@@ -1,0 +1,52 @@
+//! Carries out a script of moves on the Worlds of the locks, and prints each answer.
+#![tactic(auto)]
+
+mod answer;
+mod command;
+mod fault;
+mod line;
+mod run;
+
+use fault::Fault;
+use std::env;
+use std::io::{BufWriter, ErrorKind};
+use std::process::ExitCode;
+use std::rt::Env;
+
+/// The arguments after the program's name.
+fn arguments<R: Env + AllocGlobal>(rt: &R) -> Result<Vec<String>, Fault> {
+    let mut words = Vec::new(rt.alloc());
+    match env::args(rt) {
+        Ok(all) => {
+            for word in all.skip(1) {
+                words.push(word).map_err(|_| Fault::Memory)?;
+            }
+            Ok(words)
+        }
+        // An argument that is no text is not the word that is asked for.
+        Err(e) => match e.kind() {
+            ErrorKind::OutOfMemory => Err(Fault::Memory),
+            _ => Err(Fault::Usage),
+        },
+    }
+}
+
+/// The whole run on the streams of the process, as its status.
+fn status(rt: &HostRuntime) -> Result<u8, Fault> {
+    let words = arguments(rt)?;
+    let mut output = BufWriter::new(rt.alloc(), rt.stdout()).map_err(|_| Fault::Memory)?;
+    Ok(run::run(
+        rt.alloc(),
+        words.as_slice(),
+        &mut rt.stdin(),
+        &mut output,
+        &mut rt.stderr(),
+    ))
+}
+
+fn main(rt: HostRuntime) -> ExitCode {
+    ExitCode::from(match status(&rt) {
+        Ok(status) => status,
+        Err(fault) => run::report(fault, &mut rt.stderr()),
+    })
+}

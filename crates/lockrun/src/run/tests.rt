@@ -1,0 +1,471 @@
+use super::{LIMIT, run};
+use std::alloc::AllocError;
+use std::io;
+use std::io::{ErrorKind, Read, Write};
+use std::process::Abort;
+use std::test::Fail;
+
+/// Gives its text, and once that is given fails in this way, or ends.
+#[derive(Drop)]
+struct Source<'a> {
+    rest: &'a [u8],
+    failure: Option<ErrorKind>,
+    given: usize,
+}
+
+impl<'a> Source<'a> {
+    fn new(text: &'a [u8]) -> Source<'a> {
+        Source {
+            rest: text,
+            failure: None,
+            given: 0,
+        }
+    }
+}
+
+impl Read for Source<'_> {
+    fn read(&mut self, buf: &mut [u8]) -> io::Result<usize> {
+        if self.rest.is_empty() {
+            return match self.failure {
+                None => Ok(0),
+                Some(kind) => {
+                    // A reader that was interrupted goes on at the next read.
+                    if kind == ErrorKind::Interrupted {
+                        self.failure = None;
+                    }
+                    Err(io::Error::from(kind))
+                }
+            };
+        }
+        let count = self.rest.len().min(buf.len());
+        let (front, rest) = self.rest.split_at(count);
+        buf[..count].copy_from_slice(front);
+        self.rest = rest;
+        self.given = self.given.saturating_add(count);
+        Ok(count)
+    }
+}
+
+/// Keeps what is written, while there is room. A flush fails where it is to.
+#[derive(Drop)]
+struct Sink {
+    kept: Vec<u8>,
+    room: usize,
+    flushes: bool,
+}
+
+impl Sink {
+    fn new(rt: &impl AllocGlobal) -> Sink {
+        Sink {
+            kept: Vec::new(rt.alloc()),
+            room: usize::MAX,
+            flushes: true,
+        }
+    }
+}
+
+impl Write for Sink {
+    fn write(&mut self, buf: &[u8]) -> io::Result<usize> {
+        let count = buf.len().min(self.room);
+        if count == 0 && !buf.is_empty() {
+            return Err(io::Error::from(ErrorKind::BrokenPipe));
+        }
+        self.kept.extend_from_slice(&buf[..count])?;
+        self.room -= count;
+        Ok(count)
+    }
+
+    fn flush(&mut self) -> io::Result<()> {
+        if self.flushes {
+            Ok(())
+        } else {
+            Err(io::Error::from(ErrorKind::BrokenPipe))
+        }
+    }
+}
+
+/// What was kept, as text.
+fn text_of(sink: &Sink) -> &str {
+    str::from_utf8(sink.kept.as_slice()).unwrap_or("bytes that are no text")
+}
+
+fn arguments(rt: &impl AllocGlobal, words: &[&str]) -> Result<Vec<String>, AllocError> {
+    let mut all = Vec::new(rt.alloc());
+    for word in words {
+        all.push(String::from_str(rt.alloc(), *word)?)?;
+    }
+    Ok(all)
+}
+
+/// Runs this script from and into memory, and wants this output, error output and status.
+fn expect<R: AllocGlobal + Abort>(
+    rt: &R,
+    script: &[u8],
+    output: &str,
+    errors: &str,
+    status: u8,
+) -> Result<(), Fail> {
+    let shown = str::from_utf8(script).unwrap_or("bytes that are no text");
+    let words = arguments(rt, &["script"])?;
+    let mut source = Source::new(script);
+    let mut answers = Sink::new(rt);
+    let mut faults = Sink::new(rt);
+    let ended = run(
+        rt.alloc(),
+        words.as_slice(),
+        &mut source,
+        &mut answers,
+        &mut faults,
+    );
+    assert_eq!(rt; text_of(&answers), output, "output of {shown:?}");
+    assert_eq!(rt; text_of(&faults), errors, "errors of {shown:?}");
+    assert_eq!(rt; ended, status, "status of {shown:?}");
+    Ok(())
+}
+
+#[test]
+fn answers_the_first_run(rt: HostRuntime) -> Result<(), Fail> {
+    let script = b"mutex 1 0\nbegin 0 lock\nbegin 0 put 5\nshow\n";
+    let answers = "ok\nready 0\ngranted 5\nmutex locked=1 starved=0 value=5 list=[]\n";
+    expect(&rt, script, answers, "", 0)
+}
+
+#[test]
+fn a_release_wakes_the_next(rt: HostRuntime) -> Result<(), Fail> {
+    let script =
+        b"mutex 2 0\nbegin 0 lock\nbegin 1 lock\ngo 1\ngo 1\ngo 1\nbegin 0 put 5\nbegin 0 drop\ngo 0\nshow\nbegin 1 poll\ngo 1\n";
+    let answers =
+        "ok\nready 0\nstepped\nstepped\nstepped\npending\ngranted 5\nstepped\ngiven back\nmutex locked=0 starved=0 value=5 list=[1n]\nstepped\nready 5\n";
+    expect(&rt, script, answers, "", 0)
+}
+
+#[test]
+fn answers_each_good_line(rt: HostRuntime) -> Result<(), Fail> {
+    let fresh = "ok\nmutex locked=0 starved=0 value=0 list=[]\n";
+    for (script, answers) in [
+        // What is skipped.
+        ("", ""),
+        ("\n", ""),
+        ("\n\n# a note\n#\n#show\n# two  words \n", ""),
+        // The last line may lack its line feed, and words may stand further apart.
+        ("mutex 1 0", "ok\n"),
+        ("mutex 1 0\n\nshow", fresh),
+        ("mutex   64  0\nshow\n", fresh),
+        // Numbers of 1 and of 20 digits, the greatest among them.
+        (
+            "mutex 00000000000000000001 00000000000000000000\nshow\n",
+            fresh,
+        ),
+        (
+            "mutex 1 18446744073709551615\nbegin 0 lock\n",
+            "ok\nready 18446744073709551615\n",
+        ),
+        // A new World takes the place of the old one.
+        (
+            "mutex 2 7\nmutex 1 0\nshow\n",
+            "ok\nok\nmutex locked=0 starved=0 value=0 list=[]\n",
+        ),
+        // Parties past the table, and past 32 bits.
+        (
+            "mutex 2 0\nbegin 2 lock\ngo 2\n",
+            "ok\nnot possible\nnot possible\n",
+        ),
+        (
+            "mutex 1 0\nbegin 4294967296 lock\ngo 18446744073709551615\nbegin 4294967295 lock\n",
+            "ok\nnot possible\nnot possible\nnot possible\n",
+        ),
+        // Calls that an idle party can't make.
+        (
+            "mutex 1 0\nbegin 0 put 5\nbegin 0 poll\ngo 0\n",
+            "ok\nnot possible\nnot possible\nnot possible\n",
+        ),
+        // Inputs, in any order.
+        (
+            "mutex 1 3\nbegin 0 lock nomem starving made=7\n",
+            "ok\nready 3\n",
+        ),
+        (
+            "mutex 1 3\nbegin 0 lock made=fail  nomem\n",
+            "ok\nready 3\n",
+        ),
+        (
+            "mutex 1 3\nbegin 0 lock starving\nbegin 0 put 4 nomem\n",
+            "ok\nready 3\ngranted 4\n",
+        ),
+    ] {
+        expect(&rt, script.as_bytes(), answers, "", 0)?;
+    }
+    Ok(())
+}
+
+#[test]
+fn stops_at_a_bad_line(rt: HostRuntime) -> Result<(), Fail> {
+    for line in [
+        // Spaces at an end.
+        " ",
+        "  ",
+        " show",
+        "show ",
+        " # note",
+        // Unknown words.
+        "foo",
+        "Show",
+        "shows",
+        "do 0 lock",
+        "getmut 1",
+        "take",
+        "rwlock 1 0",
+        "begin 0 trylock",
+        "begin 0 Lock",
+        "begin 0 read",
+        // Missing and spare numbers and words.
+        "mutex",
+        "mutex 1",
+        "mutex 1 0 0",
+        "begin",
+        "begin 0",
+        "begin 0 put",
+        "begin 0 put 5 6",
+        "begin 0 lock 5",
+        "begin lock",
+        "go",
+        "go 0 0",
+        "go 0 lock",
+        "show 0",
+        // Words that are no numbers.
+        "mutex 1 x",
+        "mutex 1 +0",
+        "mutex 1 -0",
+        "mutex 1 0x1",
+        "mutex 1 18446744073709551616",
+        "mutex 1 000000000000000000000",
+        "mutex 1 99999999999999999999",
+        "go 18446744073709551616",
+        // Numbers of parties out of their range.
+        "mutex 0 0",
+        "mutex 65 0",
+        "mutex 4294967297 0",
+        // Inputs given twice, and what is no input.
+        "go 0 nomem nomem",
+        "go 0 starving nomem starving",
+        "go 0 made=1 made=1",
+        "go 0 made=fail made=1",
+        "go 0 made=1 nomem made=fail",
+        "go 0 made",
+        "go 0 made=",
+        "go 0 made=x",
+        "go 0 made= 1",
+        "go 0 made=18446744073709551616",
+        "go 0 memory",
+        // Bytes that aren't printable ASCII.
+        "show\t",
+        "sh\tow",
+        "show\r",
+        "sh\u{0}ow",
+        "show\u{7f}",
+        "sh\u{e9}ow",
+        "mutex 1\t0",
+        "\u{0}",
+        "#\t",
+        "# a note\r",
+        "#\u{7f}",
+        "# \u{e9}",
+        "#\u{1f}",
+    ] {
+        let script = format!(in rt.alloc(); "mutex 1 0\n{line}\nshow\n")?;
+        expect(&rt, script.as_bytes(), "ok\n", "lockrun: line 2: bad\n", 1)?;
+    }
+    expect(
+        &rt,
+        b"mutex 1 0\n# \x80\nshow\n",
+        "ok\n",
+        "lockrun: line 2: bad\n",
+        1,
+    )?;
+    expect(
+        &rt,
+        b"mutex 1 0\n\xffshow",
+        "ok\n",
+        "lockrun: line 2: bad\n",
+        1,
+    )
+}
+
+#[test]
+fn counts_lines_and_wants_a_world_first(rt: HostRuntime) -> Result<(), Fail> {
+    for (script, answers, faults) in [
+        ("show\n", "", "lockrun: line 1: bad\n"),
+        ("\n\ngo 0\n", "", "lockrun: line 3: bad\n"),
+        (
+            "# a note\nbegin 4294967296 lock\nmutex 1 0\n",
+            "",
+            "lockrun: line 2: bad\n",
+        ),
+        (
+            "# a note\n\nmutex 1 0\n\n# more\nfoo\nshow\n",
+            "ok\n",
+            "lockrun: line 6: bad\n",
+        ),
+        ("mutex 1 0\nmutex 0 0", "ok\n", "lockrun: line 2: bad\n"),
+    ] {
+        expect(&rt, script.as_bytes(), answers, faults, 1)?;
+    }
+    Ok(())
+}
+
+#[test]
+fn wants_the_one_argument(rt: HostRuntime) -> Result<(), Fail> {
+    let usage = "usage: lockrun script | lockrun threads K\n";
+    let wrong: [&[&str]; 7] = [
+        &[],
+        &[""],
+        &["Script"],
+        &["script "],
+        &["script", "x"],
+        &["threads", "4"],
+        &["x", "script"],
+    ];
+    for words in wrong {
+        let words = arguments(&rt, words)?;
+        let mut source = Source::new(b"mutex 1 0\n");
+        let mut answers = Sink::new(&rt);
+        answers.flushes = false;
+        let mut faults = Sink::new(&rt);
+        let ended = run(
+            rt.alloc(),
+            words.as_slice(),
+            &mut source,
+            &mut answers,
+            &mut faults,
+        );
+        assert_eq!(rt; ended, 2, "status of {words:?}");
+        assert_eq!(rt; answers.kept.len(), 0, "output of {words:?}");
+        assert_eq!(rt; text_of(&faults), usage, "errors of {words:?}");
+        assert_eq!(rt; source.given, 0, "what {words:?} read");
+    }
+    Ok(())
+}
+
+#[test]
+fn bounds_the_length(rt: HostRuntime) -> Result<(), Fail> {
+    let words = arguments(&rt, &["script"])?;
+    let long = "lockrun: script too long\n";
+    for (more, output, errors, status, given) in [
+        (0, "ok\n", "", 0, LIMIT),
+        (1, "", long, 1, LIMIT + 1),
+        (70_000, "", long, 1, LIMIT + 1),
+    ] {
+        let mut text = vec![in rt.alloc(); b'#'; LIMIT + more]?;
+        for (place, byte) in text.iter_mut().zip(b"mutex 1 0\n") {
+            *place = *byte;
+        }
+        let mut source = Source::new(text.as_slice());
+        // One byte past the limit settles it, and the rest isn't asked for.
+        if more > 0 {
+            source.failure = Some(ErrorKind::BrokenPipe);
+        }
+        let mut answers = Sink::new(&rt);
+        let mut faults = Sink::new(&rt);
+        let ended = run(
+            rt.alloc(),
+            words.as_slice(),
+            &mut source,
+            &mut answers,
+            &mut faults,
+        );
+        assert_eq!(rt; text_of(&answers), output, "output at {more} more");
+        assert_eq!(rt; text_of(&faults), errors, "errors at {more} more");
+        assert_eq!(rt; ended, status, "status at {more} more");
+        assert_eq!(rt; source.given, given, "bytes read at {more} more");
+    }
+    Ok(())
+}
+
+#[test]
+fn tells_of_reads_that_fail(rt: HostRuntime) -> Result<(), Fail> {
+    let words = arguments(&rt, &["script"])?;
+    let failed = "lockrun: read failed\n";
+    for (text, kind, output, errors, status) in [
+        ("", ErrorKind::BrokenPipe, "", failed, 3),
+        ("mutex 1 0\nsh", ErrorKind::BrokenPipe, "", failed, 3),
+        ("foo\n", ErrorKind::OutOfMemory, "", failed, 3),
+        // A read that was interrupted is made again.
+        ("mutex 1 0\n", ErrorKind::Interrupted, "ok\n", "", 0),
+    ] {
+        let mut source = Source::new(text.as_bytes());
+        source.failure = Some(kind);
+        let mut answers = Sink::new(&rt);
+        let mut faults = Sink::new(&rt);
+        let ended = run(
+            rt.alloc(),
+            words.as_slice(),
+            &mut source,
+            &mut answers,
+            &mut faults,
+        );
+        assert_eq!(rt; text_of(&answers), output, "output of {text:?}, {kind:?}");
+        assert_eq!(rt; text_of(&faults), errors, "errors of {text:?}, {kind:?}");
+        assert_eq!(rt; ended, status, "status of {text:?}, {kind:?}");
+    }
+    Ok(())
+}
+
+#[test]
+fn tells_of_writes_that_fail(rt: HostRuntime) -> Result<(), Fail> {
+    let words = arguments(&rt, &["script"])?;
+    let failed = "lockrun: write failed\n";
+    let all = usize::MAX;
+    for (text, room, flushes, output, errors) in [
+        ("mutex 1 0\nshow\n", 0, true, "", failed),
+        ("mutex 1 0\nbegin 0 lock\nshow\n", 5, true, "ok\nre", failed),
+        ("mutex 1 0\nfoo\n", 2, true, "ok", failed),
+        ("mutex 1 0\n", all, false, "ok\n", failed),
+        // What comes before a bad line is flushed before that line is told of.
+        ("mutex 1 0\nfoo\n", all, false, "ok\n", failed),
+    ] {
+        let mut source = Source::new(text.as_bytes());
+        let mut answers = Sink::new(&rt);
+        answers.room = room;
+        answers.flushes = flushes;
+        let mut faults = Sink::new(&rt);
+        let ended = run(
+            rt.alloc(),
+            words.as_slice(),
+            &mut source,
+            &mut answers,
+            &mut faults,
+        );
+        assert_eq!(rt; text_of(&answers), output, "output of {text:?}, {room}");
+        assert_eq!(rt; text_of(&faults), errors, "errors of {text:?}, {room}");
+        assert_eq!(rt; ended, 3, "status of {text:?}, {room}");
+    }
+    Ok(())
+}
+
+#[test]
+fn keeps_the_status_where_errors_cannot_be_written(rt: HostRuntime) -> Result<(), Fail> {
+    let script = arguments(&rt, &["script"])?;
+    let none = arguments(&rt, &[])?;
+    for (words, text, output, status) in [
+        (&none, "", "", 2),
+        (&script, "mutex 1 0\nfoo\n", "ok\n", 1),
+        (&script, "mutex 1 0\n", "ok\n", 0),
+    ] {
+        let mut source = Source::new(text.as_bytes());
+        let mut answers = Sink::new(&rt);
+        let mut faults = Sink::new(&rt);
+        faults.room = 0;
+        faults.flushes = false;
+        let ended = run(
+            rt.alloc(),
+            words.as_slice(),
+            &mut source,
+            &mut answers,
+            &mut faults,
+        );
+        assert_eq!(rt; ended, status, "status of {text:?}");
+        assert_eq!(rt; text_of(&answers), output, "output of {text:?}");
+        assert_eq!(rt; faults.kept.len(), 0, "errors of {text:?}");
+    }
+    Ok(())
+}
