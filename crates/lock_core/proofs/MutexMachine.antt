@@ -9,3 +9,4 @@ pub mod Starts
 pub mod Laws
 pub mod Fair
 pub mod Courses
+pub mod Alone

@@ -6,6 +6,7 @@ pub mod Tally
 pub mod Parties
 pub mod Machine
 pub mod Acts
+pub mod Ranks
 pub mod Courses
 pub mod State
 pub mod Legal

@@ -3,8 +3,8 @@
 ghost use Rattle.std.specs.Prelude.{◌≡◌, ℕ, ◌+◌, ◌<◌, ◌≤◌, ◌^◌, true, false, length, Some, None, slice_set, slice_index_or, slice_get, IfOk, IsSome, IsSomeAnd};
 ghost use Rattle.lock_core.specs.Mutex.Program.{next_of, action_of, place_after};
 
-use crate::program::mutex::{Action, End, Found, LockCall, Next, Place, action_at, decide, start};
 use super::word::Word;
+use crate::program::mutex::{Action, End, Found, LockCall, Next, Place, action_at, decide, start};
 use lock_event::Entry;
 use lock_queue::WaitQueue;
 use std::alloc::{AllocError, Global};
@@ -35,6 +35,7 @@ ghost use Rattle.lock_core.specs.Mutex.Acts.{Acts, TakenFairly, IsMutex, Holds, 
 ghost use Rattle.lock_core.specs.Mutex.Program.{start_of};
 ghost use Rattle.lock_core.specs.Mutex.Roles.{bit};
 ghost use Rattle.lock_core.specs.Mutex.Courses.{Begins, GoesOn};
+ghost use Rattle.lock_core.specs.Mutex.Ranks.{left, left_after, own_mark, free, steps_left, most_steps};
 
 /// Carries out one action for a party.
 fn carry_out(
@@ -95,13 +96,15 @@ impl Lock {
         })
     }
 
-    /// Begins a call of a party with its first action.
+    /// Begins a call of a party with its first action. If only this party moves until it ends, the
+    /// call has at most so many steps as `bounded` says.
     pub fn begin(&mut self, party: u32, call: LockCall, memory: bool, starving: bool) -> Next
         requires known { party < length self.old.places }
         requires can { IsSome (start_of call (place_at self.old.places party)) }
         ensures acts { IsSomeAnd (start_of call (place_at self.old.places party)) (λ from. Acts memory party from result self.old self.new) }
         ensures leads { Begins call result (place_at self.new.places party) }
         ensures fair { TakenFairly self.old self.new }
+        ensures bounded { left_after result self.new party < most_steps call }
     {
         match start(call, self.place(party)) {
             Some(from) => self.act(party, from, memory, starving),
@@ -109,12 +112,14 @@ impl Lock {
         }
     }
 
-    /// Goes on with a call of a party, by one action.
+    /// Goes on with a call of a party, by one action. It leaves fewer steps to do (`falls`), so that
+    /// a party that moves alone ends its call, whatever the others were about.
     pub fn go(&mut self, party: u32, memory: bool, starving: bool) -> Next
         requires known { party < length self.old.places }
         ensures acts { Acts memory party (place_at self.old.places party) result self.old self.new }
         ensures leads { GoesOn (place_at self.old.places party) result (place_at self.new.places party) }
         ensures fair { TakenFairly self.old self.new }
+        ensures falls { left_after result self.new party < steps_left self.old party }
     {
         self.act(party, self.place(party), memory, starving)
     }
@@ -169,6 +174,7 @@ impl Lock {
         requires begins { SameRoles from (place_at self.old.places party) }
         ensures acts { Acts memory party from result self.old self.new }
         ensures fair { TakenFairly self.old self.new }
+        ensures falls { left_after result self.new party < left from (own_mark self.old party) (free self.old) }
     {
         let at = party as usize;
         let action = action_at(from);

@@ -1,0 +1,59 @@
+-- How many steps of a party's call are left, if the others stand still.
+use Rattle.std.specs.Prelude.{ℕ, ◌+◌, ◌-◌, ◌*◌, Bool, true, false}
+use Rattle.lock_event.specs.Lists.{is_marked_at}
+use Rattle.lock_queue.specs.Parties.{is_party}
+use Rattle.lock_core.specs.declared.program.mutex.Place.{Place}
+use Rattle.lock_core.specs.declared.program.mutex.Place.TheVariants.{Enter, Clear, CancelUncount, Join, Look, Ask, Retry, PassOn, Count, JoinStarved, LookAlone, PassOnListed, AskStarved, Seize, Uncount, RefuseUncount, RefuseLeave}
+use Rattle.lock_core.specs.declared.program.mutex.LockCall.{LockCall}
+use Rattle.lock_core.specs.declared.program.mutex.LockCall.TheVariants as call
+use Rattle.lock_core.specs.declared.program.mutex.Next.{Next}
+use Rattle.lock_core.specs.declared.program.mutex.Next.TheVariants as next
+use Rattle.lock_core.specs.Mutex.Roles.{bit}
+use Rattle.lock_core.specs.Mutex.Machine.{Lock, place_at}
+use Rattle.lock_core.specs.Mutex.Acts.{holders}
+
+-- How many steps are left at most from a place, where the party's own entry is marked (1, else 0) and the lock is free (1, else 0).
+abbrev pub left : Place → ℕ → ℕ → ℕ
+left Enter marked free = 9
+left (Join told) marked free = 8
+left (Look told) marked free = 7 + 6 * marked
+left Ask marked free = 1 + 11 * marked
+left Retry marked free = 11
+left PassOn marked free = 10
+left (Count true told) marked free = 6
+left (Count false told) marked free = 9
+left JoinStarved marked free = 3 + 5 * free
+left LookAlone marked free = 2 + 4 * marked + 5 * free
+left PassOnListed marked free = 6
+left AskStarved marked free = 1 + 4 * marked
+left Seize marked free = 4
+left (Uncount true) marked free = 2
+left RefuseUncount marked free = 2
+left (RefuseLeave told) marked free = 2
+left Clear marked free = 2
+left CancelUncount marked free = 2
+left _ marked free = 1
+
+-- Whether the party's own entry is marked, and whether nobody holds the lock, as 1 or 0.
+abbrev pub own_mark : Lock → ℕ → ℕ
+own_mark l p = bit (is_marked_at (is_party p) l.entries)
+
+abbrev pub free : Lock → ℕ
+free l = 1 - holders l
+
+-- How many steps the party's call still takes at most if only this party moves, whatever the word and the list are.
+abbrev pub steps_left : Lock → ℕ → ℕ
+steps_left l p = left (place_at l.places p) (own_mark l p) (free l)
+
+-- How many steps are left once a step has decided this: none where the call is over.
+abbrev pub left_after : Next → Lock → ℕ → ℕ
+left_after (next.Do action q) l p = steps_left l p
+left_after (next.End e) l p = 0
+
+-- No call takes more steps than this, its first one counted, if only its party moves.
+abbrev pub most_steps : LockCall → ℕ
+most_steps call.Lock = 12
+most_steps call.Poll = 12
+most_steps call.Try = 1
+most_steps call.Release = 2
+most_steps call.Cancel = 2
