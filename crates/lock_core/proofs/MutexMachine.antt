@@ -10,3 +10,5 @@ pub mod Laws
 pub mod Fair
 pub mod Courses
 pub mod Alone
+pub mod Solo
+pub mod SoloPolls

@@ -8,6 +8,7 @@ pub mod Machine
 pub mod Acts
 pub mod Ranks
 pub mod Courses
+pub mod Solo
 pub mod State
 pub mod Legal
 pub mod View

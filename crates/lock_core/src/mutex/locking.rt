@@ -35,6 +35,7 @@ ghost use Rattle.lock_core.specs.Mutex.Acts.{Acts, TakenFairly, IsMutex, Holds, 
 ghost use Rattle.lock_core.specs.Mutex.Program.{start_of};
 ghost use Rattle.lock_core.specs.Mutex.Roles.{bit};
 ghost use Rattle.lock_core.specs.Mutex.Courses.{Begins, GoesOn};
+ghost use Rattle.lock_core.specs.Mutex.Solo.{SoloPolls};
 ghost use Rattle.lock_core.specs.Mutex.Ranks.{left, left_after, own_mark, free, steps_left, most_steps};
 
 /// Carries out one action for a party.
@@ -166,6 +167,14 @@ impl Lock {
         ensures { IsMutex self.now }
     {
         self.list.laws();
+    }
+
+    /// What polls do to a free mutex that are carried out one after the other, each alone: among as
+    /// many of them as its list has entries one takes the lock. It does nothing.
+    pub fn solo_polls(&self)
+        ensures { holders self.now ≡ 0 → SoloPolls self.now }
+    {
+        self.laws();
     }
 
     /// One action of a party's program, whose place was `from`.
