@@ -1,24 +1,23 @@
 -- Where a poll leads that is carried out alone while the lock is free.
-use Rattle.std.proofs.Common.{◌≡◌, ◌≢◌, ℕ, zero, suc, ◌+◌, ◌-◌, ◌<◌, ◌≤◌, ◌⊎◌, inl, inr, Bool, true, false, Option, Some, None, IsSomeAnd, List, [], ◌∷◌, length, get_or, refl, sym, ap, arith, subst, ◌∙◌, get_or-set_same, get_or-set_other, length-set}
+use Rattle.std.proofs.Common.{◌≡◌, ◌≢◌, ℕ, ◌+◌, ◌<◌, ◌⊎◌, inl, inr, true, false, List, length, get_or, refl, ap, arith, subst, ◌∙◌, get_or-set_same, get_or-set_other, length-set}
 use Rattle.std.proofs.Math.ListN.{set}
 use Rattle.std.specs.List.{sum_by}
 use Rattle.std.proofs.lemmas.List.Sums.{sum_by-set}
 use Rattle.lock_event.specs.declared.event.Entry.{Entry}
 use Rattle.lock_event.specs.Lists.{is_marked_at, joined, notified, without}
-use Rattle.lock_queue.specs.Parties.{is_party, entries_of}
-use Rattle.lock_core.specs.declared.refusal.Refusal.TheVariants.{Memory, Starved}
+use Rattle.lock_queue.specs.Parties.{is_party}
+use Rattle.lock_core.specs.declared.refusal.Refusal.TheVariants.{Starved}
 use Rattle.lock_core.specs.declared.program.mutex.Place.{Place}
-use Rattle.lock_core.specs.declared.program.mutex.Place.TheVariants.{Out, Holding, Enter, Try, Clear, CancelUncount, CancelLeave, Join, Look, Ask, Retry, PassOn, Count, JoinStarved, LookAlone, PassOnListed, AskStarved, Seize, Uncount, Leave, RefuseUncount, RefuseLeave, RefuseNotifyMemory, RefuseNotifyStarved, ReleaseNotify}
-use Rattle.lock_core.specs.declared.program.mutex.Action.{Action}
+use Rattle.lock_core.specs.declared.program.mutex.Place.TheVariants.{Out, Ask, Retry, PassOn, Count, JoinStarved, LookAlone, PassOnListed, AskStarved, Seize, Uncount, RefuseNotifyStarved}
 use Rattle.lock_core.specs.declared.program.mutex.Action.TheVariants as act
 use Rattle.lock_core.specs.declared.program.mutex.Next.{Next}
 use Rattle.lock_core.specs.declared.program.mutex.Next.TheVariants as next
 use Rattle.lock_core.specs.declared.program.mutex.End.{End}
-use Rattle.lock_core.specs.declared.program.mutex.End.TheVariants.{Got, Pending, NotFree, GivenBack, Refused}
+use Rattle.lock_core.specs.declared.program.mutex.End.TheVariants.{Got, Pending, Refused}
 use Rattle.lock_core.specs.declared.program.mutex.Found.{Found}
 use Rattle.lock_core.specs.declared.program.mutex.Found.TheVariants.{Done, Free, Held, SomeStarved, AtLimit, NoMemory, Yes, No}
-use Rattle.lock_core.specs.Mutex.Program.{action_of, next_of, place_after, go_to, ends}
-use Rattle.lock_core.specs.Mutex.Roles.{holds, counted, listed}
+use Rattle.lock_core.specs.Mutex.Program.{next_of, place_after, go_to, ends}
+use Rattle.lock_core.specs.Mutex.Roles.{holds, counted}
 use Rattle.lock_core.specs.Mutex.Parties.{OnParties}
 use Rattle.lock_core.specs.Mutex.Machine.{Lock, place_at}
 use Rattle.lock_core.specs.Mutex.Acts.{Acts, Finds, holders, starved}

@@ -1,5 +1,5 @@
 -- Polls in a row, each carried out alone while the lock is free.
-use Rattle.std.proofs.Common.{◌≡◌, ◌≢◌, ℕ, zero, suc, ◌+◌, ◌-◌, ◌<◌, ◌≤◌, ◌⊎◌, inl, inr, Bool, true, false, Option, Some, None, IsSomeAnd, List, [], ◌∷◌, length, get_or, refl, sym, ap, arith, subst, ◌∙◌}
+use Rattle.std.proofs.Common.{◌≡◌, ◌≢◌, ℕ, zero, suc, ◌+◌, ◌-◌, ◌<◌, ◌≤◌, ◌⊎◌, inl, inr, true, false, IsSomeAnd, List, [], ◌∷◌, length, refl, sym, ap, arith, subst, ◌∙◌}
 use Rattle.std.proofs.Math.Decide.{ℕ_discrete}
 use Rattle.std.specs.List.{sum_by}
 use Rattle.std.proofs.lemmas.List.Sums.{sum_by-cons}
@@ -13,7 +13,6 @@ use Rattle.lock_event.proofs.Counts.{length-joined, length-without, marked_count
 use Rattle.lock_queue.specs.Parties.{is_party, entries_of}
 use Rattle.lock_queue.proofs.Rekeyed.{entries_of-joined, entries_of-mark_waiting, entries_of-without_own, entries_of-without_other}
 use Rattle.lock_queue.proofs.Queues.{own_one, other_one}
-use Rattle.lock_core.specs.declared.refusal.Refusal.{Refusal}
 use Rattle.lock_core.specs.declared.refusal.Refusal.TheVariants as refusal
 use Rattle.lock_core.specs.declared.program.mutex.Place.{Place}
 use Rattle.lock_core.specs.declared.program.mutex.Place.TheVariants.{Out, Holding, Ask, AskStarved}
@@ -21,13 +20,13 @@ use Rattle.lock_core.specs.declared.program.mutex.LockCall.TheVariants as call
 use Rattle.lock_core.specs.declared.program.mutex.Next.{Next}
 use Rattle.lock_core.specs.declared.program.mutex.Next.TheVariants as next
 use Rattle.lock_core.specs.declared.program.mutex.End.{End}
-use Rattle.lock_core.specs.declared.program.mutex.End.TheVariants.{Got, Pending, NotFree, GivenBack, Refused}
+use Rattle.lock_core.specs.declared.program.mutex.End.TheVariants.{Got, Pending, Refused}
 use Rattle.lock_core.specs.Mutex.Program.{start_of}
 use Rattle.lock_core.specs.Mutex.Roles.{holds, counted, listed, is_resting}
 use Rattle.lock_core.specs.Mutex.Courses.{is_waiting}
 use Rattle.lock_core.specs.Mutex.Machine.{Lock, place_at}
 use Rattle.lock_core.specs.Mutex.Acts.{Acts, IsMutex, IsAtRest, IsStarved, holders, starved}
-use Rattle.lock_core.specs.Mutex.Solo.{GoesOnAlone, last, step, BeginsPoll, PollsAlone, at_once, begun, IsCalled, unstarved, unstarved_listed, Took, StandsBack, GaveWay, PollsInTurn, SoloPolls}
+use Rattle.lock_core.specs.Mutex.Solo.{GoesOnAlone, last, step, PollsAlone, at_once, begun, IsCalled, unstarved, unstarved_listed, Took, GaveWay, PollsInTurn, SoloPolls}
 use Rattle.lock_core.proofs.MutexMachine.Owners.{listed_one}
 use Rattle.lock_core.proofs.MutexMachine.Solo.{Reached, Gives, Ends, polls_unstarved, polls_starved}
 

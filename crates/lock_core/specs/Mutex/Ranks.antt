@@ -1,5 +1,5 @@
 -- How many steps of a party's call are left, if the others stand still.
-use Rattle.std.specs.Prelude.{ℕ, ◌+◌, ◌-◌, ◌*◌, Bool, true, false}
+use Rattle.std.specs.Prelude.{ℕ, ◌==◌, if◌then◌else◌, Bool, true, false}
 use Rattle.lock_event.specs.Lists.{is_marked_at}
 use Rattle.lock_queue.specs.Parties.{is_party}
 use Rattle.lock_core.specs.declared.program.mutex.Place.{Place}
@@ -8,25 +8,24 @@ use Rattle.lock_core.specs.declared.program.mutex.LockCall.{LockCall}
 use Rattle.lock_core.specs.declared.program.mutex.LockCall.TheVariants as call
 use Rattle.lock_core.specs.declared.program.mutex.Next.{Next}
 use Rattle.lock_core.specs.declared.program.mutex.Next.TheVariants as next
-use Rattle.lock_core.specs.Mutex.Roles.{bit}
 use Rattle.lock_core.specs.Mutex.Machine.{Lock, place_at}
 use Rattle.lock_core.specs.Mutex.Acts.{holders}
 
--- How many steps are left at most from a place, where the party's own entry is marked (1, else 0) and the lock is free (1, else 0).
-abbrev pub left : Place → ℕ → ℕ → ℕ
+-- How many steps are left at most from a place, by whether the party's own entry is marked and whether the lock is free.
+abbrev pub left : Place → Bool → Bool → ℕ
 left Enter marked free = 9
 left (Join told) marked free = 8
-left (Look told) marked free = 7 + 6 * marked
-left Ask marked free = 1 + 11 * marked
-left Retry marked free = 11
-left PassOn marked free = 10
+left (Look told) marked free = if marked then 11 else 7
+left Ask marked free = if marked then 10 else 1
+left Retry marked free = 9
+left PassOn marked free = 8
 left (Count true told) marked free = 6
-left (Count false told) marked free = 9
-left JoinStarved marked free = 3 + 5 * free
-left LookAlone marked free = 2 + 4 * marked + 5 * free
-left PassOnListed marked free = 6
-left AskStarved marked free = 1 + 4 * marked
-left Seize marked free = 4
+left (Count false told) marked free = 7
+left JoinStarved marked free = if free then 6 else 3
+left LookAlone marked free = if free then 5 else (if marked then 6 else 2)
+left PassOnListed marked free = if free then 4 else 6
+left AskStarved marked free = if marked then (if free then 3 else 5) else 1
+left Seize marked free = if free then 2 else 4
 left (Uncount true) marked free = 2
 left RefuseUncount marked free = 2
 left (RefuseLeave told) marked free = 2
@@ -34,16 +33,16 @@ left Clear marked free = 2
 left CancelUncount marked free = 2
 left _ marked free = 1
 
--- Whether the party's own entry is marked, and whether nobody holds the lock, as 1 or 0.
-abbrev pub own_mark : Lock → ℕ → ℕ
-own_mark l p = bit (is_marked_at (is_party p) l.entries)
+-- Whether the party's own entry is marked, and whether nobody holds the lock.
+abbrev pub is_own_marked : Lock → ℕ → Bool
+is_own_marked l p = is_marked_at (is_party p) l.entries
 
-abbrev pub free : Lock → ℕ
-free l = 1 - holders l
+abbrev pub is_open : Lock → Bool
+is_open l = holders l == 0
 
 -- How many steps the party's call still takes at most if only this party moves, whatever the word and the list are.
 abbrev pub steps_left : Lock → ℕ → ℕ
-steps_left l p = left (place_at l.places p) (own_mark l p) (free l)
+steps_left l p = left (place_at l.places p) (is_own_marked l p) (is_open l)
 
 -- How many steps are left once a step has decided this: none where the call is over.
 abbrev pub left_after : Next → Lock → ℕ → ℕ

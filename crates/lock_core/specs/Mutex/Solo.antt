@@ -1,16 +1,15 @@
 -- Polls that are carried out alone, each from its first action to its end before another party moves.
-use Rattle.std.specs.Prelude.{◌≡◌, ◌≢◌, ℕ, zero, suc, ◌+◌, ◌-◌, ◌<◌, ◌≤◌, ◌⊎◌, Bool, true, false, List, [], ◌∷◌, length, Option, Some, None, IsSomeAnd}
+use Rattle.std.specs.Prelude.{◌≡◌, ◌≢◌, ℕ, zero, suc, ◌+◌, ◌-◌, ◌<◌, ◌⊎◌, true, length, IsSomeAnd}
 use Rattle.std.specs.List.{sum_by}
-use Rattle.lock_event.specs.declared.event.Entry.{Entry}
 use Rattle.lock_event.specs.Lists.{marked_count, is_marked_at}
 use Rattle.lock_queue.specs.Parties.{is_party}
-use Rattle.lock_core.specs.declared.refusal.Refusal.TheVariants.{Memory, Starved}
+use Rattle.lock_core.specs.declared.refusal.Refusal.TheVariants.{Starved}
 use Rattle.lock_core.specs.declared.program.mutex.Place.TheVariants.{Out, Holding, Ask, AskStarved}
 use Rattle.lock_core.specs.declared.program.mutex.Action.{Action}
 use Rattle.lock_core.specs.declared.program.mutex.Place.{Place}
 use Rattle.lock_core.specs.declared.program.mutex.LockCall.TheVariants as call
 use Rattle.lock_core.specs.declared.program.mutex.End.{End}
-use Rattle.lock_core.specs.declared.program.mutex.End.TheVariants.{Got, Pending, NotFree, GivenBack, Refused}
+use Rattle.lock_core.specs.declared.program.mutex.End.TheVariants.{Got, Pending, Refused}
 use Rattle.lock_core.specs.declared.program.mutex.Next.{Next}
 use Rattle.lock_core.specs.declared.program.mutex.Next.TheVariants as next
 use Rattle.lock_core.specs.Mutex.Program.{start_of}

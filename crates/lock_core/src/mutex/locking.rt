@@ -36,7 +36,7 @@ ghost use Rattle.lock_core.specs.Mutex.Program.{start_of};
 ghost use Rattle.lock_core.specs.Mutex.Roles.{bit};
 ghost use Rattle.lock_core.specs.Mutex.Courses.{Begins, GoesOn};
 ghost use Rattle.lock_core.specs.Mutex.Solo.{SoloPolls};
-ghost use Rattle.lock_core.specs.Mutex.Ranks.{left, left_after, own_mark, free, steps_left, most_steps};
+ghost use Rattle.lock_core.specs.Mutex.Ranks.{left, left_after, is_own_marked, is_open, steps_left, most_steps};
 
 /// Carries out one action for a party.
 fn carry_out(
@@ -183,7 +183,7 @@ impl Lock {
         requires begins { SameRoles from (place_at self.old.places party) }
         ensures acts { Acts memory party from result self.old self.new }
         ensures fair { TakenFairly self.old self.new }
-        ensures falls { left_after result self.new party < left from (own_mark self.old party) (free self.old) }
+        ensures falls { left_after result self.new party < left from (is_own_marked self.old party) (is_open self.old) }
     {
         let at = party as usize;
         let action = action_at(from);

@@ -1,13 +1,11 @@
 -- An action of one party keeps what always holds of the mutex.
-use Rattle.std.proofs.Common.{◌≡◌, ◌+◌, ◌<◌, ◌≤◌, ℕ, zero, suc, List, [], ◌∷◌, None, length, get_or, arith, refl, sym, ap, subst, ◌∙◌, length-set}
+use Rattle.std.proofs.Common.{◌≡◌, ◌<◌, length, ap, ◌∙◌}
 use Rattle.std.proofs.Math.ListN.{set}
-use Rattle.lock_core.specs.declared.program.mutex.Place.{Place}
-use Rattle.lock_core.specs.Mutex.Program.{action_of, next_of, place_after}
+use Rattle.lock_core.specs.Mutex.Program.{action_of, place_after}
 use Rattle.lock_core.specs.Mutex.Effects.{OnWord}
-use Rattle.lock_core.specs.Mutex.Seats.{CanDo, OnList}
-use Rattle.lock_core.specs.Mutex.Tally.{IsSound, tally_of, counts_of}
-use Rattle.lock_core.specs.Mutex.Machine.{IsLock, SameRoles, place_at}
-use Rattle.lock_core.proofs.MutexMachine.CanDo.{can_do, once}
+use Rattle.lock_core.specs.Mutex.Seats.{OnList}
+use Rattle.lock_core.specs.Mutex.Machine.{SameRoles, place_at}
+use Rattle.lock_core.proofs.MutexMachine.CanDo.{can_do}
 use Rattle.lock_core.proofs.MutexMachine.Laws.{finds}
 use Rattle.lock_core.proofs.MutexMachine.Owners.{on_parties}
 use Rattle.lock_core.proofs.MutexMachine.Effects.{limit_kept}
