@@ -33,10 +33,11 @@ left Clear marked free = 2
 left CancelUncount marked free = 2
 left _ marked free = 1
 
--- Whether the party's own entry is marked, and whether nobody holds the lock.
+-- The party's own entry is marked.
 abbrev pub is_own_marked : Lock → ℕ → Bool
 is_own_marked l p = is_marked_at (is_party p) l.entries
 
+-- Nobody holds the lock.
 abbrev pub is_open : Lock → Bool
 is_open l = holders l == 0
 

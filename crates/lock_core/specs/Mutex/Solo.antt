@@ -36,10 +36,11 @@ pub data PollsAlone (p : ℕ) (e : End) (new : Lock) : Lock → Type 0 where
 abbrev pub IsCalled : Lock → ℕ → Type 0
 IsCalled l p = (is_waiting (place_at l.places p) ≡ true) × (is_marked_at (is_party p) l.entries ≡ true)
 
--- How many entries of the list are of parties that aren't starved.
+-- 1 for a party that isn't counted as starved, else 0.
 abbrev pub unstarved : Lock → ℕ → ℕ
 unstarved l p = 1 - counted (place_at l.places p)
 
+-- How many entries of the list are of parties that aren't starved.
 abbrev pub unstarved_listed : Lock → ℕ
 unstarved_listed l = sum_by (λ e. unstarved l e.key) l.entries
 
