@@ -9,3 +9,6 @@ pub mod Starts
 pub mod Laws
 pub mod Fair
 pub mod Courses
+pub mod Alone
+pub mod Solo
+pub mod SoloPolls

@@ -6,7 +6,9 @@ pub mod Tally
 pub mod Parties
 pub mod Machine
 pub mod Acts
+pub mod Ranks
 pub mod Courses
+pub mod Solo
 pub mod State
 pub mod Legal
 pub mod View

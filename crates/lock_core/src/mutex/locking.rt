@@ -42,6 +42,8 @@ ghost use Rattle.lock_core.specs.Mutex.Acts.{Acts, TakenFairly, IsMutex, Holds, 
 ghost use Rattle.lock_core.specs.Mutex.Program.{start_of};
 ghost use Rattle.lock_core.specs.Mutex.Roles.{bit};
 ghost use Rattle.lock_core.specs.Mutex.Courses.{Begins, GoesOn};
+ghost use Rattle.lock_core.specs.Mutex.Solo.{SoloPolls};
+ghost use Rattle.lock_core.specs.Mutex.Ranks.{left, left_after, is_own_marked, is_open, steps_left, most_steps};
 
 /// Carries out one action for a party.
 fn carry_out(
@@ -105,13 +107,15 @@ impl Lock {
 
     /// Begins a call of a party with its first action. `memory` says whether a join finds memory,
     /// `starving` whether the party has waited for too long. The caller begins a call only where the
-    /// party's place allows it.
+    /// party's place allows it. If only this party moves until the call ends, it has at most so many
+    /// steps as `bounded` says.
     pub fn begin(&mut self, party: u32, call: LockCall, memory: bool, starving: bool) -> Next
         requires known { party < length self.old.places }
         requires can { IsSome (start_of call (place_at self.old.places party)) }
         ensures acts { IsSomeAnd (start_of call (place_at self.old.places party)) (λ from. Acts memory party from result self.old self.new) }
         ensures leads { Begins call result (place_at self.new.places party) }
         ensures fair { TakenFairly self.old self.new }
+        ensures bounded { left_after result self.new party < most_steps call }
     {
         match start(call, self.place(party)) {
             Some(from) => self.act(party, from, memory, starving),
@@ -119,12 +123,15 @@ impl Lock {
         }
     }
 
-    /// Goes on with a call of a party, by one action, with the inputs as [`Lock::begin`] takes them.
+    /// Goes on with a call of a party, by one action, with the inputs as [`Lock::begin`] takes them. It
+    /// leaves fewer steps to do (`falls`), so that a party that moves alone ends its call, whatever the
+    /// others were about.
     pub fn go(&mut self, party: u32, memory: bool, starving: bool) -> Next
         requires known { party < length self.old.places }
         ensures acts { Acts memory party (place_at self.old.places party) result self.old self.new }
         ensures leads { GoesOn (place_at self.old.places party) result (place_at self.new.places party) }
         ensures fair { TakenFairly self.old self.new }
+        ensures falls { left_after result self.new party < steps_left self.old party }
     {
         self.act(party, self.place(party), memory, starving)
     }
@@ -173,12 +180,21 @@ impl Lock {
         self.list.laws();
     }
 
+    /// What polls do to a free mutex that are carried out one after the other, each alone: among as
+    /// many of them as its list has entries one takes the lock. It does nothing.
+    pub fn solo_polls(&self)
+        ensures { holders self.now ≡ 0 → SoloPolls self.now }
+    {
+        self.laws();
+    }
+
     /// One action of a party's program, whose place was `from`.
     fn act(&mut self, party: u32, from: Place, memory: bool, starving: bool) -> Next
         requires known { party < length self.old.places }
         requires begins { SameRoles from (place_at self.old.places party) }
         ensures acts { Acts memory party from result self.old self.new }
         ensures fair { TakenFairly self.old self.new }
+        ensures falls { left_after result self.new party < left from (is_own_marked self.old party) (is_open self.old) }
     {
         let at = party as usize;
         let action = action_at(from);

@@ -1,18 +1,19 @@
 -- An action of one party keeps what always holds of the mutex.
-use Rattle.std.proofs.Common.{◌≡◌, ◌+◌, ◌<◌, ◌≤◌, ℕ, zero, suc, List, [], ◌∷◌, None, length, get_or, arith, refl, sym, ap, subst, ◌∙◌, length-set}
+use Rattle.std.proofs.Common.{◌≡◌, ◌<◌, length, ap, ◌∙◌}
 use Rattle.std.proofs.Math.ListN.{set}
-use Rattle.lock_core.specs.declared.program.mutex.Place.{Place}
-use Rattle.lock_core.specs.Mutex.Program.{action_of, next_of, place_after}
+use Rattle.lock_core.specs.Mutex.Program.{action_of, place_after}
 use Rattle.lock_core.specs.Mutex.Effects.{OnWord}
-use Rattle.lock_core.specs.Mutex.Seats.{CanDo, OnList}
-use Rattle.lock_core.specs.Mutex.Tally.{IsSound, tally_of, counts_of}
-use Rattle.lock_core.specs.Mutex.Machine.{IsLock, SameRoles, place_at}
-use Rattle.lock_core.proofs.MutexMachine.CanDo.{can_do, once}
+use Rattle.lock_core.specs.Mutex.Seats.{OnList}
+use Rattle.lock_core.specs.Mutex.Machine.{SameRoles, place_at}
+use Rattle.lock_core.proofs.MutexMachine.CanDo.{can_do}
 use Rattle.lock_core.proofs.MutexMachine.Laws.{finds}
 use Rattle.lock_core.proofs.MutexMachine.Owners.{on_parties}
 use Rattle.lock_core.proofs.MutexMachine.Effects.{limit_kept}
 use Rattle.lock_core.proofs.MutexMachine.Kept.{after}
 use Rattle.lock_core.proofs.MutexMachine.Fair.{acts_fairly}
+use Rattle.lock_core.proofs.MutexMachine.Alone.{fewer}
+use Rattle.lock_queue.specs.Parties.{entries_of}
+use Rattle.lock_core.specs.Mutex.Roles.{listed}
 use Rattle.lock_core.proofs.MutexMachine.Locks.{locked}
 use Rattle.lock_core.proofs.mutex.locking.Lock.act.Goals as goal
 
@@ -59,3 +60,10 @@ returns-clause-acts c =
 
 pub returns-clause-fair : goal.returns-clause-fair
 returns-clause-fair c = acts_fairly c.args.memory c.args.party c.args.from c.decide-next.result c.args.self.now _ c.requires.known c.requires.begins (returns-clause-acts c)
+
+pub returns-clause-falls : goal.returns-clause-falls
+returns-clause-falls c =
+    let own : entries_of c.args.party c.self.inside.list.entries ≡ listed (place_at c.self.inside.places.items c.args.party) = c.self.invariant.owners c.args.party in
+    let own_now : entries_of c.args.party c.args.self.now.entries ≡ listed (place_at c.args.self.now.places c.args.party) =
+    rw (← ap (λ l. l.entries) c.self.view_is, ← ap (λ l. l.places) c.self.view_is) own in
+    fewer c.args.memory c.args.party c.args.from c.decide-next.result c.args.self.now _ c.requires.known c.requires.begins own_now (returns-clause-acts c)
