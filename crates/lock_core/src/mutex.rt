@@ -17,7 +17,7 @@ ghost use Rattle.lock_core.specs.Mutex.Legal.{Legal, AnswersAtOnce};
 ghost use Rattle.lock_core.specs.Mutex.Laws.{IsSound, IsAwake, is_at_rest};
 ghost use Rattle.lock_core.specs.Mutex.Runs.{Runs, rights_of};
 
-use crate::{AnyWorld, Answer, Move, Refusal};
+use crate::{Answer, AnyWorld, Move, Refusal};
 use lock_event::{Entry, Memory};
 pub use locking::Lock;
 use std::alloc::Global;
