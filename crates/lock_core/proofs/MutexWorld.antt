@@ -11,3 +11,4 @@ pub mod Opening
 pub mod Sound
 pub mod Rights
 pub mod Opened
+pub mod Whole

@@ -18,3 +18,4 @@ pub mod Laws
 pub mod Runs
 pub mod Lending
 pub mod Openings
+pub mod Whole

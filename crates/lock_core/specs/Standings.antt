@@ -86,10 +86,14 @@ abbrev pub inputs_of : What → Inputs
 inputs_of (Begin c inputs) = inputs
 inputs_of (Go inputs) = inputs
 
--- Every answer but NotPossible, and every answer but Stepped.
+-- Every answer but NotPossible; and Stepped alone.
 abbrev pub is_possible : Answer → Bool
 is_possible answer.NotPossible = false
 is_possible _ = true
+
+abbrev pub is_stepped : Answer → Bool
+is_stepped answer.Stepped = true
+is_stepped _ = false
 
 -- The answer that names this refusal.
 abbrev pub refused : Refusal → Answer

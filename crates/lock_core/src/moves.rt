@@ -1,5 +1,8 @@
 //! The words that all Worlds share: moves, what a program needs from outside, and answers.
 
+ghost use Rattle.std.specs.Prelude.{◌≡◌};
+ghost use Rattle.lock_core.specs.Standings.{is_stepped};
+
 /// One event: a party begins a call, or goes on with the one that it is in.
 #[derive(Clone, Copy, Debug, PartialEq, Eq)]
 pub struct Move {
@@ -123,4 +126,13 @@ pub enum Answer {
     Refused(u8),
     /// The party couldn't make this move. Nothing changed.
     NotPossible,
+}
+
+impl Answer {
+    /// Whether the call goes on.
+    pub fn is_stepped(self) -> bool
+        ensures { result ≡ is_stepped self }
+    {
+        matches!(self, Answer::Stepped)
+    }
 }

@@ -16,8 +16,9 @@ ghost use Rattle.lock_core.specs.Mutex.State.{new_world, how_many};
 ghost use Rattle.lock_core.specs.Mutex.Legal.{Legal, AnswersAtOnce};
 ghost use Rattle.lock_core.specs.Mutex.Laws.{IsSound, IsAwake, is_at_rest};
 ghost use Rattle.lock_core.specs.Mutex.Runs.{Runs, rights_of};
+ghost use Rattle.lock_core.specs.Mutex.Whole.{IsWholeCall};
 
-use crate::{Answer, AnyWorld, Move, Refusal};
+use crate::{Answer, AnyWorld, Call, Inputs, Move, Refusal};
 use lock_event::{Entry, Memory};
 pub use locking::Lock;
 use std::alloc::Global;
@@ -116,6 +117,19 @@ impl World {
             push_within(&mut answers, answer);
         }
         Ok(answers)
+    }
+
+    /// Begins a call of a party and goes on with it, with the same inputs, to its end. It works for every
+    /// call, not for polls alone, and from every World, whatever the other parties are about.
+    ///
+    /// The answer is the call's result, never `Stepped`; `NotPossible` changes nothing. The clause `whole`
+    /// says that this is a run, of at most 12 steps for a poll, 2 for a drop and 1 for any other call, after
+    /// which the party is outside the call.
+    pub fn poll_whole(&mut self, party: u32, call: Call, inputs: Inputs) -> Answer
+        ensures whole { IsWholeCall self.old party call inputs result self.new }
+    {
+        self.table.laws();
+        self.table.poll_whole(party, call, inputs)
     }
 
     /// Whether nobody is inside a call.

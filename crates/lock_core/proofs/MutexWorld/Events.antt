@@ -282,7 +282,7 @@ begun (Some from) h = (from, refl, h)
 
 -- ---- any move
 
-known_move : (n : ℕ) (ss : List Stage) (p : Plan) (s : Option Plan) (b : Bool) → b ≡ nat_lt n (length ss) → (if b then s else None) ≡ Some p → (n < length ss) × (s ≡ Some p)
+pub known_move : (n : ℕ) (ss : List Stage) (p : Plan) (s : Option Plan) (b : Bool) → b ≡ nat_lt n (length ss) → (if b then s else None) ≡ Some p → (n < length ss) × (s ≡ Some p)
 known_move n ss p s true e h = (grind (arith, nat_tests), h)
 known_move n ss p s false e h = absurd (cc)
 

@@ -1,6 +1,6 @@
 use super::*;
 use crate::program::mutex::{End, LockCall, Next, Place};
-use crate::{Call, Got, Inputs, Made, Mark, What};
+use crate::{Got, Made, Mark, What};
 use std::alloc::AllocError;
 use std::test::Fail;
 

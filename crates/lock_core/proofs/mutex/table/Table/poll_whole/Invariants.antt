@@ -1,0 +1,12 @@
+use Rattle.std.proofs.Common.{ℕ, suc}
+use Rattle.lock_core.specs.declared.moves.Answer.{Answer}
+use Rattle.lock_core.specs.declared.moves.Answer.TheVariants as answer
+use Rattle.lock_core.specs.Mutex.Table.{Table}
+use Rattle.lock_core.proofs.MutexWorld.Whole.{SoFar, steps_to_go}
+use Rattle.lock_core.proofs.mutex.table.Table.poll_whole.Given as goal
+
+abbrev pub invariant-loop-answer : goal.invariant-loop-answer
+invariant-loop-answer l = SoFar l.fn.self l.fn.party l.fn.call l.fn.inputs l.answer l.self
+
+abbrev pub decreases-loop-answer : goal.decreases-loop-answer
+decreases-loop-answer l = steps_to_go l.answer l.self l.fn.party
