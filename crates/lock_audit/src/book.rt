@@ -89,3 +89,6 @@ fn push_within(history: &mut Vec<(Move, Answer)>, m: Move, answer: Answer)
         Err(_) => unreachable!(),
     }
 }
+
+#[cfg(test)]
+mod tests;

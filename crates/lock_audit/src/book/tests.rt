@@ -1,0 +1,114 @@
+use super::*;
+use lock_core::mutex::World;
+use lock_core::{Call, Got, Inputs, Made, Mark, What};
+use std::process::Abort;
+
+const INPUTS: Inputs = Inputs {
+    memory: true,
+    starving: false,
+    made: Made::Pending,
+};
+
+fn begin(party: u32, call: Call) -> Move {
+    Move {
+        party,
+        what: What::Begin(call, INPUTS),
+    }
+}
+
+fn go(party: u32) -> Move {
+    Move {
+        party,
+        what: What::Go(INPUTS),
+    }
+}
+
+const ZERO: Got = Got::Value(0);
+
+/// Two parties wait for a lock. It is released, the first one is dropped, and the second one takes it.
+fn dropped_waiter() -> [(Move, Answer); 14] {
+    [
+        (begin(0, Call::Lock), Answer::Ready(ZERO)),
+        (begin(1, Call::Lock), Answer::Stepped),
+        (go(1), Answer::Stepped),
+        (go(1), Answer::Stepped),
+        (go(1), Answer::Pending),
+        (begin(2, Call::Lock), Answer::Stepped),
+        (go(2), Answer::Stepped),
+        (go(2), Answer::Stepped),
+        (go(2), Answer::Pending),
+        (begin(0, Call::Drop), Answer::Stepped),
+        (go(0), Answer::GivenBack),
+        (begin(1, Call::Drop), Answer::GivenBack),
+        (begin(2, Call::Poll), Answer::Stepped),
+        (go(2), Answer::Ready(ZERO)),
+    ]
+}
+
+/// A World, made again once where memory was refused.
+fn world(rt: &(impl AllocGlobal + Abort)) -> World {
+    match World::new(rt.alloc(), 3, 0) {
+        Ok(world) => world,
+        Err(_) => World::new(rt.alloc(), 3, 0).expect(rt, "only one allocation is refused"),
+    }
+}
+
+/// Records a move, once more where memory was refused; then nothing had changed.
+fn record(rt: &impl Abort, book: &mut Book<World>, m: Move) -> Answer {
+    let recorded = book.history().len();
+    let locked = book.world().is_locked();
+    match book.record(m) {
+        Ok(answer) => answer,
+        Err(Memory) => {
+            assert_eq!(rt; book.history().len(), recorded);
+            assert_eq!(rt; book.world().is_locked(), locked);
+            book.record(m).expect(rt, "only one allocation is refused")
+        }
+    }
+}
+
+#[test]
+fn a_book_records_each_move_with_its_answer(rt: HostRuntime) {
+    let mut book = Book::new(rt.alloc(), world(&rt));
+    assert_eq!(rt; book.history().len(), 0);
+    for (m, answer) in dropped_waiter() {
+        assert_eq!(rt; record(&rt, &mut book, m), answer, "{m:?}");
+    }
+    book.replays();
+    assert_eq!(rt; book.history().len(), 14);
+    for ((m, answer), (recorded, given)) in dropped_waiter().iter().zip(book.history()) {
+        assert_eq!(rt; m, recorded);
+        assert_eq!(rt; answer, given);
+    }
+    assert!(rt; book.world().is_locked());
+    assert_eq!(rt; book.world().waiting(), 0);
+}
+
+#[test]
+fn a_run_gives_the_same_answers(rt: HostRuntime) {
+    let moves = dropped_waiter().map(|(m, _)| m);
+    let mut world = world(&rt);
+    let answers = match world.run(rt.alloc(), &moves) {
+        Ok(answers) => answers,
+        Err(Memory) => {
+            assert!(rt; !world.is_locked());
+            let again = world.run(rt.alloc(), &moves);
+            again.expect(&rt, "only one allocation is refused")
+        }
+    };
+    assert_eq!(rt; answers.len(), 14);
+    for ((m, answer), given) in dropped_waiter().iter().zip(answers.iter()) {
+        assert_eq!(rt; answer, given, "{m:?}");
+    }
+    assert!(rt; world.at_rest());
+}
+
+#[test]
+fn a_dropped_waiter_passes_its_notification_on(rt: HostRuntime) {
+    let mut book = Book::new(rt.alloc(), world(&rt));
+    for (m, _) in dropped_waiter().iter().take(12) {
+        record(&rt, &mut book, *m);
+    }
+    let next = book.world().entry(0).map(|entry| (entry.key, entry.mark));
+    assert_eq!(rt; next, Some((2, Mark::Notified)));
+}
