@@ -9,8 +9,9 @@ use Rattle.lock_core.specs.declared.program.mutex.LockCall.TheVariants as call
 use Rattle.lock_core.specs.declared.program.mutex.Next.{Next}
 use Rattle.lock_core.specs.declared.program.mutex.Next.TheVariants as next
 use Rattle.lock_core.specs.declared.program.mutex.End.TheVariants.{GivenBack}
-use Rattle.lock_core.specs.Mutex.Program.{next_of, place_after, start_of}
-use Rattle.lock_core.specs.Mutex.Courses.{is_taking, is_releasing, is_cancelling, Takes, Tries, Releases, Cancels, Begins, GoesOn}
+use Rattle.lock_core.specs.declared.program.mutex.Action.TheVariants as act
+use Rattle.lock_core.specs.Mutex.Program.{action_of, next_of, place_after, start_of}
+use Rattle.lock_core.specs.Mutex.Courses.{is_taking, is_releasing, is_cancelling, Takes, Tries, Releases, Cancels, Begins, GoesOn, HeedsClock}
 use Rattle.lock_core.specs.Mutex.Machine.{Lock, place_at}
 use Rattle.lock_core.specs.Mutex.Acts.{Acts}
 
@@ -108,3 +109,11 @@ module _ (memory : Bool) (p : ℕ) (next : Next) (old new : Lock) (known : p < l
 
   pub begins_so : (c : LockCall) (from : Place) → start_of c (place_at old.places p) ≡ Some from → Acts memory p from next old new → Begins c next (place_at new.places p)
   begins_so c from e a = rw (lands from a, a.next_is) (begins c (place_at old.places p) from a.found e)
+
+-- the clock is heeded where the lock is found held
+pub heeds : (starving : Bool) (p : Place) (f : Found) → ((long : Bool) → action_of p ≡ act.Take → f ≡ Held long → long ≡ starving) → HeedsClock starving p (next_of p f)
+heeds starving Retry Free k = tt
+heeds starving Retry (Held true) k = sym (k true refl refl)
+heeds starving Retry (Held false) k = sym (k false refl refl)
+heeds starving Retry _ k = tt
+heeds starving _ f k = tt

@@ -83,3 +83,9 @@ pub record GoesOn (at : Place) (n : Next) (to : Place) : Type 0 where
   pub takes : is_taking at ≡ true → Takes n to
   pub releases : is_releasing at ≡ true → (n ≡ next.End GivenBack) × (to ≡ Out)
   pub cancels : is_cancelling at ≡ true → Cancels n to
+
+-- A party that was notified and finds the lock held counts itself as starved if it has waited for too long, and else joins the list again. Nowhere else does the clock matter.
+abbrev pub HeedsClock : Bool → Place → Next → Type 0
+HeedsClock starving Retry (next.Do action (Join told)) = starving ≡ false
+HeedsClock starving Retry (next.Do action (Count listed told)) = starving ≡ true
+HeedsClock starving p n = Unit {0}

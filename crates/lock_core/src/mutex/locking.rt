@@ -4,7 +4,7 @@
 //! they may rest on is said by its contracts alone: a call leads on as specs/Mutex/Courses says, every
 //! step is one of the programs' (specs/Mutex/Acts), and [`Lock::laws`] says what always holds.
 
-ghost use Rattle.std.specs.Prelude.{◌≡◌, ℕ, ◌+◌, ◌<◌, ◌≤◌, ◌^◌, true, false, length, Some, None, slice_set, slice_index_or, slice_get, IfOk, IsSome, IsSomeAnd};
+ghost use Rattle.std.specs.Prelude.{◌≡◌, ℕ, Bool, ◌+◌, ◌<◌, ◌≤◌, ◌^◌, true, false, length, Some, None, slice_set, slice_index_or, slice_get, IfOk, IsSome, IsSomeAnd};
 ghost use Rattle.lock_core.specs.Mutex.Program.{next_of, action_of, place_after};
 
 use super::word::Word;
@@ -41,7 +41,7 @@ ghost use Rattle.lock_core.specs.Mutex.Machine.{SameRoles, place_at, new_lock};
 ghost use Rattle.lock_core.specs.Mutex.Acts.{Acts, TakenFairly, IsMutex, Holds, holders, starved as starved_lem};
 ghost use Rattle.lock_core.specs.Mutex.Program.{start_of};
 ghost use Rattle.lock_core.specs.Mutex.Roles.{bit};
-ghost use Rattle.lock_core.specs.Mutex.Courses.{Begins, GoesOn};
+ghost use Rattle.lock_core.specs.Mutex.Courses.{Begins, GoesOn, HeedsClock};
 ghost use Rattle.lock_core.specs.Mutex.Solo.{SoloPolls};
 ghost use Rattle.lock_core.specs.Mutex.Ranks.{left, left_after, is_own_marked, is_open, steps_left, most_steps};
 
@@ -57,6 +57,7 @@ fn carry_out(
     requires { CanDo party action word.old list.old }
     ensures word { OnWord action result word.old word.new }
     ensures list { OnList party memory action result list.old list.new }
+    ensures clock { (long : Bool) → action ≡ Action.Take → result ≡ Found.Held long → long ≡ starving }
 {
     match action {
         Action::Nothing => Found::Done,
@@ -132,6 +133,7 @@ impl Lock {
         ensures leads { GoesOn (place_at self.old.places party) result (place_at self.new.places party) }
         ensures fair { TakenFairly self.old self.new }
         ensures falls { left_after result self.new party < steps_left self.old party }
+        ensures clock { HeedsClock starving (place_at self.old.places party) result }
     {
         self.act(party, self.place(party), memory, starving)
     }
@@ -195,6 +197,7 @@ impl Lock {
         ensures acts { Acts memory party from result self.old self.new }
         ensures fair { TakenFairly self.old self.new }
         ensures falls { left_after result self.new party < left from (is_own_marked self.old party) (is_open self.old) }
+        ensures clock { HeedsClock starving from result }
     {
         let at = party as usize;
         let action = action_at(from);

@@ -1,6 +1,6 @@
 //! The word of a mutex: whether it is held, and how many parties are counted as starved.
 
-ghost use Rattle.std.specs.Prelude.{◌≡◌, ℕ, ◌<◌, ◌≤◌, ◌^◌, true, false};
+ghost use Rattle.std.specs.Prelude.{◌≡◌, ℕ, ◌<◌, ◌≤◌, ◌^◌, Bool, true, false};
 ghost use Rattle.lock_core.specs.declared.program.mutex.Action.TheVariants as act;
 ghost use Rattle.lock_core.specs.Mutex.Effects.{OnWord, new_word};
 
@@ -29,7 +29,8 @@ impl Word {
     /// Takes it if nobody holds it and nobody is starved. `starving` goes into what is found of a held
     /// word, for the program that asks for it.
     pub fn take(&mut self, starving: bool) -> Found
-        ensures { OnWord act.Take result self.old self.new }
+        ensures word { OnWord act.Take result self.old self.new }
+        ensures clock { (long : Bool) → result ≡ Found.Held long → long ≡ starving }
     {
         if self.starved > 0 {
             Found::SomeStarved

@@ -1,5 +1,5 @@
 -- An action of one party keeps what always holds of the mutex.
-use Rattle.std.proofs.Common.{◌≡◌, ◌<◌, length, ap, ◌∙◌}
+use Rattle.std.proofs.Common.{◌≡◌, Bool, ◌<◌, length, ap, ◌∙◌}
 use Rattle.std.proofs.Math.ListN.{set}
 use Rattle.lock_core.specs.Mutex.Program.{action_of, place_after}
 use Rattle.lock_core.specs.Mutex.Effects.{OnWord}
@@ -15,6 +15,9 @@ use Rattle.lock_core.proofs.MutexMachine.Alone.{fewer}
 use Rattle.lock_queue.specs.Parties.{entries_of}
 use Rattle.lock_core.specs.Mutex.Roles.{listed}
 use Rattle.lock_core.proofs.MutexMachine.Locks.{locked}
+use Rattle.lock_core.specs.declared.program.mutex.Action.TheVariants as act
+use Rattle.lock_core.specs.declared.program.mutex.Found.TheVariants.{Held}
+use Rattle.lock_core.proofs.MutexMachine.Courses.{heeds}
 use Rattle.lock_core.proofs.mutex.locking.Lock.act.Goals as goal
 
 pub carry_out-found-requires : goal.carry_out-found-requires
@@ -67,3 +70,9 @@ returns-clause-falls c =
     let own_now : entries_of c.args.party c.args.self.now.entries ≡ listed (place_at c.args.self.now.places c.args.party) =
     rw (← ap (λ l. l.entries) c.self.view_is, ← ap (λ l. l.places) c.self.view_is) own in
     fewer c.args.memory c.args.party c.args.from c.decide-next.result c.args.self.now _ c.requires.known c.requires.begins own_now (returns-clause-acts c)
+
+pub returns-clause-clock : goal.returns-clause-clock
+returns-clause-clock c =
+    let found : (long : Bool) → action_of c.args.from ≡ act.Take → c.carry_out-found.result ≡ Held long → long ≡ c.args.starving =
+    λ long a f. c.carry_out-found.ensures.clock long (c.action_at-action.ensures ∙ a) f in
+    rw c.decide-next.ensures (heeds c.args.starving c.args.from c.carry_out-found.result found)
