@@ -1,5 +1,5 @@
 use super::*;
-use crate::program::mutex::{End, LockCall, Next, Place};
+use crate::program::mutex::{Action, End, LockCall, Next, Place};
 use crate::{Got, Made, Mark, What};
 use std::alloc::AllocError;
 use std::test::Fail;
@@ -91,6 +91,52 @@ fn a_move_that_is_not_possible_changes_nothing(rt: HostRuntime) -> Result<(), Fa
     assert_eq!(rt; world.value(), 7);
     assert_eq!(rt; begin(&mut world, 1, Call::TryLock), Answer::None);
     assert_eq!(rt; begin(&mut world, 0, Call::Poll), Answer::Refused(6));
+    Ok(())
+}
+
+#[test]
+fn too_many_starved_parties_are_refused(rt: HostRuntime) -> Result<(), Fail> {
+    let starving = Inputs {
+        starving: true,
+        ..INPUTS
+    };
+    let mut world = World::with_limits(rt.alloc(), 4, 0, 1)?;
+    let ready = Answer::Ready(Got::Value(0));
+    let granted = Answer::Granted(Got::Value(0));
+    assert_eq!(rt; world.poll_whole(0, Call::Lock, INPUTS), ready);
+    assert_eq!(rt; world.poll_whole(1, Call::Lock, INPUTS), Answer::Pending);
+    assert_eq!(rt; world.poll_whole(0, Call::Drop, INPUTS), Answer::GivenBack);
+    assert_eq!(rt; world.poll_whole(2, Call::TryLock, INPUTS), granted);
+    assert_eq!(rt; world.poll_whole(1, Call::Poll, starving), Answer::Pending);
+    assert_eq!(rt; world.poll_whole(3, Call::Lock, INPUTS), Answer::Refused(2));
+    assert!(rt; world.is_locked());
+    assert_eq!(rt; world.starved(), 1);
+    assert_eq!(rt; told(&world, 0), Some((1, Mark::Waiting)));
+    assert_eq!(rt;
+        world.poll_whole(9, Call::Lock, INPUTS),
+        Answer::NotPossible
+    );
+    Ok(())
+}
+
+#[test]
+fn a_value_put_at_rest_forgets_the_holder(rt: HostRuntime) -> Result<(), Fail> {
+    let mut world = World::new(rt.alloc(), 2, 0)?;
+    assert_eq!(rt;
+        begin(&mut world, 0, Call::TryLock),
+        Answer::Granted(Got::Value(0))
+    );
+    assert_eq!(rt; begin(&mut world, 1, Call::Lock), Answer::Stepped);
+    assert!(rt; Answer::Stepped.is_stepped() && !world.at_rest());
+    assert_eq!(rt; go(&mut world, 1), Answer::Stepped);
+    assert_eq!(rt; go(&mut world, 1), Answer::Stepped);
+    assert_eq!(rt; go(&mut world, 1), Answer::Pending);
+    assert!(rt; world.at_rest());
+    *world.get_mut() = 9;
+    assert_eq!(rt; world.value(), 9);
+    assert_eq!(rt; begin(&mut world, 0, Call::Drop), Answer::NotPossible);
+    assert_eq!(rt; begin(&mut world, 1, Call::Poll), Answer::NotPossible);
+    assert!(rt; world.is_locked());
     Ok(())
 }
 
