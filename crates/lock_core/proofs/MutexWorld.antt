@@ -12,3 +12,4 @@ pub mod Sound
 pub mod Rights
 pub mod Opened
 pub mod Whole
+pub mod Bound

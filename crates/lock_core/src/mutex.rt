@@ -11,12 +11,13 @@ mod locking;
 mod table;
 mod word;
 
-ghost use Rattle.std.specs.Prelude.{◌≡◌, ◌<◌, ◌≤◌, ℕ, true, [], ◌∷◌, ◌++◌, IfOk, IfErr, OnErr, length, min, slice_get, is_some, vec_len, vec_capacity};
+ghost use Rattle.std.specs.Prelude.{◌≡◌, ◌<◌, ◌≤◌, ℕ, true, [], ◌∷◌, ◌++◌, None, IfOk, IfErr, OnErr, length, min, slice_get, is_some, vec_len, vec_capacity};
 ghost use Rattle.lock_core.specs.Mutex.State.{new_world, how_many};
 ghost use Rattle.lock_core.specs.Mutex.Legal.{Legal, AnswersAtOnce};
-ghost use Rattle.lock_core.specs.Mutex.Laws.{IsSound, IsAwake, is_at_rest};
+ghost use Rattle.lock_core.specs.Mutex.Laws.{IsSound, IsAwake, IsFreeAndWanted, is_at_rest};
 ghost use Rattle.lock_core.specs.Mutex.Runs.{Runs, rights_of};
 ghost use Rattle.lock_core.specs.Mutex.Whole.{IsWholeCall};
+ghost use Rattle.lock_core.specs.Mutex.Bound.{IsSolo, SoloPoll, IsBounded};
 
 use crate::{Answer, AnyWorld, Call, Inputs, Move, Refusal};
 use lock_event::{Entry, Memory};
@@ -147,6 +148,18 @@ impl World {
         ensures awake { is_at_rest self.now ≡ true → IsAwake self.now }
     {
         self.table.laws();
+    }
+
+    /// How often a free lock may be passed over, at rest, while somebody waits for it: each of as many
+    /// solo polls in turn as the list has entries is a poll of [`World::poll_whole`] with the clause
+    /// `solo`, and one of them takes the lock. It does nothing.
+    ///
+    /// A solo poll is a whole one of a party whose entry is marked. The limit of starved parties is to
+    /// stay above their number.
+    pub fn solo_polls(&self)
+        ensures bounded { is_at_rest self.now ≡ true → IsFreeAndWanted self.now → IsBounded self.now }
+    {
+        self.laws();
     }
 
     /// Whether the lock is held, as its word says. The Rust crate shows it in its debug text alone.
