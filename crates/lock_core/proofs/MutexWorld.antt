@@ -13,3 +13,5 @@ pub mod Rights
 pub mod Opened
 pub mod Whole
 pub mod Bound
+pub mod BoundRuns
+pub mod BoundSeen

@@ -128,6 +128,7 @@ impl World {
     /// which the party is outside the call.
     pub fn poll_whole(&mut self, party: u32, call: Call, inputs: Inputs) -> Answer
         ensures whole { IsWholeCall self.old party call inputs result self.new }
+        ensures solo { call ≡ Call.Poll → IsSolo self.old party inputs → self.old.state.holder ≡ None → SoloPoll self.old party result self.new }
     {
         self.table.laws();
         self.table.poll_whole(party, call, inputs)
