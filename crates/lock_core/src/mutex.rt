@@ -126,6 +126,11 @@ impl World {
     /// The answer is the call's result, never `Stepped`; `NotPossible` changes nothing. The clause `whole`
     /// says that this is a run, of at most 12 steps for a poll, 2 for a drop and 1 for any other call, after
     /// which the party is outside the call.
+    ///
+    /// The clause `solo` speaks of a poll whose party is pending with a marked entry and finds memory,
+    /// while nobody holds the lock. It takes the lock, or, if its party isn't starved and another is,
+    /// waits on as a starved one with the notification handed on. Where the limit of starved parties is
+    /// met it may instead be refused.
     pub fn poll_whole(&mut self, party: u32, call: Call, inputs: Inputs) -> Answer
         ensures whole { IsWholeCall self.old party call inputs result self.new }
         ensures solo { call ≡ Call.Poll → IsSolo self.old party inputs → self.old.state.holder ≡ None → SoloPoll self.old party result self.new }
@@ -151,12 +156,13 @@ impl World {
         self.table.laws();
     }
 
-    /// How often a free lock may be passed over, at rest, while somebody waits for it: each of as many
-    /// solo polls in turn as the list has entries is a poll of [`World::poll_whole`] with the clause
-    /// `solo`, and one of them takes the lock. It does nothing.
+    /// How often a lock that is free, at rest, may be passed over while parties wait for it: among as many
+    /// solo polls in turn as the list has entries one takes the lock. It does nothing.
     ///
-    /// A solo poll is a whole one of a party whose entry is marked. The limit of starved parties is to
-    /// stay above their number.
+    /// A solo poll is a [`World::poll_whole`] of a pending party whose entry is marked and that finds
+    /// memory. In none of them may as many parties be starved already as the limit allows. The clause
+    /// `bounded` also says that some entry is marked, so that there is a party to poll, unless it was
+    /// forgotten.
     pub fn solo_polls(&self)
         ensures bounded { is_at_rest self.now ≡ true → IsFreeAndWanted self.now → IsBounded self.now }
     {

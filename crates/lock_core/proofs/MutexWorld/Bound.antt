@@ -61,6 +61,6 @@ pub bounded : (w : World) → IsSound w → IsAwake w → IsFreeAndWanted w → 
 bounded w sound awake wanted =
     let found = first_marked w.entries sound.in_order (awake.marked wanted) in
     record {
-      some_told = (found.0, found.1, awake.pending found.0 found.2);
+      some_marked = (found.0, found.1, awake.pending found.0 found.2);
       one_takes = fewer_than_listed w awake wanted.0 wanted.1;
     }

@@ -79,14 +79,17 @@ module _ (p : ℕ) (i : Inputs) (memory : i.memory ≡ true) where
   ends_so what t u from a found not_stepped um uf s =
       let n = ends t.value s.next (λ h. not_stepped (s.answer ∙ h)) in
       let M : Bool → Type 0 = λ b. Acts b p from (next.End n.0) t.lock u.lock in
-      let N : Next → Type 0 = λ x. Acts (inputs_of what).memory p from x t.lock u.lock in
-      (n.0, subst M found (subst N n.1 s.acts), record {
-        answer = s.answer ∙ ap (answer_of kind.LaterPoll t.value) n.1;
-        stages = s.stages ∙ ap (λ x. set t.stages p (stage_after later x)) n.1;
-        value = s.value;
-        mutex = um;
-        fits = uf;
-      })
+      let N : Next → Type 0 = λ x. Acts (inputs_of what).memory p from x t.lock u.lock in (
+        n.0,
+        subst M found (subst N n.1 s.acts),
+        record {
+          answer = s.answer ∙ ap (answer_of kind.LaterPoll t.value) n.1;
+          stages = s.stages ∙ ap (λ x. set t.stages p (stage_after later x)) n.1;
+          value = s.value;
+          mutex = um;
+          fits = uf;
+        },
+      )
 
   goes_so : (what : What) (t u : Table) (from : Place) → (inputs_of what).memory ≡ true → Steps later from (record { party = p; what = what }) t answer.Stepped u → Onward t p from u
   goes_so what t u from found s =

@@ -119,7 +119,7 @@ module _ (n : ℕ) where
       pending = k.answer;
       starved = starved_seen u p ∙ ap is_counted back.0;
       as_long = back.1;
-      told = g.notified (omega (arith, back.1, some_listed p t.lock.entries there));
+      marked = g.notified (omega (arith, back.1, some_listed p t.lock.entries there));
       fewer = omega (arith, unstarved_seen t t.lock.entries, unstarved_seen u u.lock.entries, g.fewer);
       rests = rests_seen tf k.fits k.stages;
     }

@@ -35,19 +35,20 @@ pub record Takes (w : World) (p : ℕ) (a : Answer) (v : World) : Type 0 where
   pub kept : v.state.value ≡ w.state.value
   pub holder : v.state.holder ≡ Some p
 
--- The poll left the lock free and gave way to a starved party: its own wasn't starved, and is from now on.
+-- The poll left the lock free and gave way: its own party wasn't starved while another was.
 pub record GivesWay (w : World) (p : ℕ) (a : Answer) (v : World) : Type 0 where
   pub was_unstarved : is_starved w.state p ≡ false
   pub some_starved : 0 < how_many w.state.starved
   pub free : v.state.holder ≡ None
-  -- It is pending again in a list as long as before,
+  -- It is pending again, from now on as a starved party, in a list as long as before,
   pub pending : a ≡ answer.Pending
   pub starved : is_starved v.state p ≡ true
   pub as_long : length v.entries ≡ length w.entries
-  -- in which some entry is marked, so that another solo poll may follow;
-  pub told : 0 < marked_count v.entries
+  -- in which some entry is marked;
+  pub marked : 0 < marked_count v.entries
   -- and one entry less is of a party that isn't starved.
   pub fewer : unstarved_listed v + 1 ≡ unstarved_listed w
+  -- A World at rest stays at rest.
   pub rests : is_at_rest w ≡ true → is_at_rest v ≡ true
 
 -- What a solo poll does to a free lock: it takes it or gives way, unless the limit of starved parties is met; and whatever the limit, it takes it if its party is starved, or if nobody is.
@@ -55,7 +56,7 @@ pub record SoloPoll (w : World) (p : ℕ) (a : Answer) (v : World) : Type 0 wher
   pub takes_or_gives_way : how_many w.state.starved < w.limit → Takes w p a v ⊎ GivesWay w p a v
   pub takes : (is_starved w.state p ≡ true) ⊎ (how_many w.state.starved ≡ 0) → Takes w p a v
 
--- A solo poll that doesn't take the lock, though fewer parties are starved than may be; `free` is what every solo poll of a free lock ensures.
+-- A whole solo poll that doesn't take the lock, while fewer parties are starved than may be; `free` is what each solo poll of a free lock does.
 pub record PassesOver (w : World) (p : ℕ) (inputs : Inputs) (a : Answer) (v : World) : Type 0 where
   pub solo : IsSolo w p inputs
   pub limit : how_many w.state.starved < w.limit
@@ -68,7 +69,7 @@ abbrev pub SoloPolls : ℕ → World → World → Type 0
 SoloPolls zero w v = v ≡ w
 SoloPolls (suc n) w v = (p : ℕ) × (inputs : Inputs) × (a : Answer) × (mid : World) × PassesOver w p inputs a mid × SoloPolls n mid v
 
--- At rest, where somebody waits for a free lock, some marked entry is there, of a party that is pending, or was when it was forgotten; and fewer solo polls in turn pass the lock over than the list has entries, so that among as many one takes it.
+-- What holds at rest where somebody waits for a free lock: some entry is marked, of a party that is pending, or was when it was forgotten; and fewer solo polls in turn pass the lock over than the list has entries, so that among as many one takes it.
 pub record IsBounded (w : World) : Type 0 where
-  pub some_told : (p : ℕ) × (is_marked_at (is_party p) w.entries ≡ true) × ((standing_of w p ≡ outside Pending) ⊎ (standing_of w p ≡ forgotten))
+  pub some_marked : (p : ℕ) × (is_marked_at (is_party p) w.entries ≡ true) × ((standing_of w p ≡ outside Pending) ⊎ (standing_of w p ≡ forgotten))
   pub one_takes : (n : ℕ) (v : World) → SoloPolls n w v → n < length w.entries
