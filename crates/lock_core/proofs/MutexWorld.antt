@@ -12,3 +12,6 @@ pub mod Sound
 pub mod Rights
 pub mod Opened
 pub mod Whole
+pub mod Bound
+pub mod BoundRuns
+pub mod BoundSeen

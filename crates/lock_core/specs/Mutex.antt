@@ -19,3 +19,4 @@ pub mod Runs
 pub mod Lending
 pub mod Openings
 pub mod Whole
+pub mod Bound

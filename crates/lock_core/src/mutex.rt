@@ -11,12 +11,13 @@ mod locking;
 mod table;
 mod word;
 
-ghost use Rattle.std.specs.Prelude.{◌≡◌, ◌<◌, ◌≤◌, ℕ, true, [], ◌∷◌, ◌++◌, IfOk, IfErr, OnErr, length, min, slice_get, is_some, vec_len, vec_capacity};
+ghost use Rattle.std.specs.Prelude.{◌≡◌, ◌<◌, ◌≤◌, ℕ, true, [], ◌∷◌, ◌++◌, None, IfOk, IfErr, OnErr, length, min, slice_get, is_some, vec_len, vec_capacity};
 ghost use Rattle.lock_core.specs.Mutex.State.{new_world, how_many};
 ghost use Rattle.lock_core.specs.Mutex.Legal.{Legal, AnswersAtOnce};
-ghost use Rattle.lock_core.specs.Mutex.Laws.{IsSound, IsAwake, is_at_rest};
+ghost use Rattle.lock_core.specs.Mutex.Laws.{IsSound, IsAwake, IsFreeAndWanted, is_at_rest};
 ghost use Rattle.lock_core.specs.Mutex.Runs.{Runs, rights_of};
 ghost use Rattle.lock_core.specs.Mutex.Whole.{IsWholeCall};
+ghost use Rattle.lock_core.specs.Mutex.Bound.{IsSolo, SoloPoll, IsBounded};
 
 use crate::{Answer, AnyWorld, Call, Inputs, Move, Refusal};
 use lock_event::{Entry, Memory};
@@ -125,8 +126,14 @@ impl World {
     /// The answer is the call's result, never `Stepped`; `NotPossible` changes nothing. The clause `whole`
     /// says that this is a run, of at most 12 steps for a poll, 2 for a drop and 1 for any other call, after
     /// which the party is outside the call.
+    ///
+    /// The clause `solo` speaks of a poll whose party is pending with a marked entry and finds memory,
+    /// while nobody holds the lock. It takes the lock, or, if its party isn't starved and another is,
+    /// waits on as a starved one with the notification handed on. Where the limit of starved parties is
+    /// met it may instead be refused.
     pub fn poll_whole(&mut self, party: u32, call: Call, inputs: Inputs) -> Answer
         ensures whole { IsWholeCall self.old party call inputs result self.new }
+        ensures solo { call ≡ Call.Poll → IsSolo self.old party inputs → self.old.state.holder ≡ None → SoloPoll self.old party result self.new }
     {
         self.table.laws();
         self.table.poll_whole(party, call, inputs)
@@ -147,6 +154,19 @@ impl World {
         ensures awake { is_at_rest self.now ≡ true → IsAwake self.now }
     {
         self.table.laws();
+    }
+
+    /// How often a lock that is free, at rest, may be passed over while parties wait for it: among as many
+    /// solo polls in turn as the list has entries one takes the lock. It does nothing.
+    ///
+    /// A solo poll is a [`World::poll_whole`] of a pending party whose entry is marked and that finds
+    /// memory. In none of them may as many parties be starved already as the limit allows. The clause
+    /// `bounded` also says that some entry is marked, so that there is a party to poll, unless it was
+    /// forgotten.
+    pub fn solo_polls(&self)
+        ensures bounded { is_at_rest self.now ≡ true → IsFreeAndWanted self.now → IsBounded self.now }
+    {
+        self.laws();
     }
 
     /// Whether the lock is held, as its word says. The Rust crate shows it in its debug text alone.

@@ -277,7 +277,7 @@ head_marked e es first some = grind arith
 own_first : (e : Entry ℕ) (es : List (Entry ℕ)) → is_marked e.mark ≡ true → (is_marked_at (is_party e.key) (e ∷ es) ≡ true) × (0 < entries_of e.key (e ∷ es))
 own_first e es told = (grind (arith, nat_tests), grind (arith, nat_tests))
 
-first_marked : (l : List (Entry ℕ)) → IsMarkedFirst l → 0 < marked_count l → (q : ℕ) × (is_marked_at (is_party q) l ≡ true) × (0 < entries_of q l)
+pub first_marked : (l : List (Entry ℕ)) → IsMarkedFirst l → 0 < marked_count l → (q : ℕ) × (is_marked_at (is_party q) l ≡ true) × (0 < entries_of q l)
 first_marked [] first some = absurd (omega arith)
 first_marked (e ∷ es) first some = let own = own_first e es (head_marked e es first.0 some) in (e.key, own.0, own.1)
 

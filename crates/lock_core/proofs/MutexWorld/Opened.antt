@@ -37,4 +37,4 @@ module _ (n : ℕ) where
   sound_opened w s = record { exclusion = s.exclusion; each = s.each; few_starved = s.few_starved; inside_calls = s.inside_calls; once = s.once; in_order = s.in_order }
 
   pub awake_opened : (w : World) → IsAwake w → IsAwake (opened n w)
-  awake_opened w k = record { marked = k.marked; pending = k.pending }
+  awake_opened w k = record { marked = k.marked; pending = k.pending; starved = k.starved }

@@ -21,7 +21,7 @@ use Rattle.lock_core.specs.Mutex.Table.{Table, IsTable}
 use Rattle.lock_core.specs.Mutex.State.{World, standing_of}
 use Rattle.lock_core.specs.Mutex.Laws.{HasRight, IsSound, is_long_call, is_outside, is_at_rest, IsAwake}
 use Rattle.lock_core.specs.Mutex.Lending.{table_with, is_forgotten_then, world_with}
-use Rattle.lock_core.specs.Mutex.View.{verdict, stands_as, standings, view_of}
+use Rattle.lock_core.specs.Mutex.View.{is_counted, verdict, stands_as, standings, view_of}
 use Rattle.lock_core.proofs.MutexMachine.CanDo.{once}
 use Rattle.lock_core.proofs.MutexWorld.Views as view
 use Rattle.lock_core.proofs.MutexWorld.Owns as owns
@@ -103,6 +103,19 @@ one_rests v (s ∷ ss) [] p h k e = absurd (omega arith)
 one_rests v (s ∷ ss) (x ∷ xs) zero h k e = (split (is_outside (stands_as v s x)) (list_all is_outside (standings v ss xs)) h).0
 one_rests v (s ∷ ss) (x ∷ xs) (suc p) h k e = one_rests v ss xs p (split (is_outside (stands_as v s x)) (list_all is_outside (standings v ss xs)) h).1 (omega arith) (omega arith)
 
+-- a starved party that rests is listed
+starved_rests : (x : Place) → is_resting x ≡ true → is_counted x ≡ true → 0 < listed x
+starved_rests place.AskStarved h c = omega arith
+starved_rests place.Out h c = absurd (cc)
+starved_rests place.Holding h c = absurd (cc)
+starved_rests place.Ask h c = absurd (cc)
+starved_rests _ h c = absurd (cc)
+
+resting_at : (ps : List Place) (q : ℕ) → lock.IsAtRest ps → is_resting (place_at ps q) ≡ true
+resting_at [] q rest = refl
+resting_at (x ∷ xs) zero rest = rest.0
+resting_at (x ∷ xs) (suc q) rest = resting_at xs q rest.1
+
 pub awake : (t : Table) → IsMutex t.lock → IsTable t.lock t.stages → is_at_rest (view_of t) ≡ true → IsAwake (view_of t)
 awake t laws fits resting = record {
   marked = λ free. laws.wakes (all_rest t.value t.stages t.lock.places fits.as_many fits.fits resting) (view.none_holds 0 t.lock.places free.0) free.1;
@@ -113,6 +126,11 @@ awake t laws fits resting = record {
         | inl known ↦ listed_pends t.value (stage_at t.stages p) (place_at t.lock.places p) (fits.fits p known) (one_rests t.value t.stages t.lock.places p resting known fits.as_many) there
         | inr past ↦ rw past (inr refl)
       ]);
+  starved = λ p counts.
+      let ps = t.lock.places in
+      let here : is_counted (place_at ps p) ≡ true = sym (view.starved_at ps p) ∙ counts in
+      let at_rest = all_rest t.value t.stages ps fits.as_many fits.fits resting in
+      rw (laws.owners p) (starved_rests (place_at ps p) (resting_at ps p at_rest) here);
 }
 
 same_outside : (v : ℕ) (s : Stage) (x : Place) → is_outside (stands_as v s x) ≡ is_outside_stage s

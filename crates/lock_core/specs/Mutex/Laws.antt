@@ -11,7 +11,7 @@ use Rattle.lock_core.specs.declared.standing.Rest.TheVariants.{Idle, Pending, Ho
 use Rattle.lock_core.specs.declared.standing.Within.{Within}
 use Rattle.lock_core.specs.Standings.{Standing, outside, inside, forgotten}
 use Rattle.lock_core.specs.Rights.{Right, hold, excludes}
-use Rattle.lock_core.specs.Mutex.State.{World, standing_of, how_many}
+use Rattle.lock_core.specs.Mutex.State.{World, standing_of, is_starved, how_many}
 use Rattle.lock_core.specs.Mutex.Legal.{HasItsOwn}
 
 -- The rights in the state: a mutex knows one, that of its holder.
@@ -52,7 +52,8 @@ is_at_rest w = list_all is_outside w.standings
 abbrev pub IsFreeAndWanted : World → Type 0
 IsFreeAndWanted w = (w.state.holder ≡ None) × (0 < length w.entries)
 
--- At rest no notification is lost: if the lock is free and wanted then some entry is marked; and each entry belongs to a party that is pending, or was when it was forgotten.
+-- At rest no notification is lost: if the lock is free and wanted then some entry is marked; each entry belongs to a party that is pending, or was when it was forgotten; and each starved party has an entry.
 pub record IsAwake (w : World) : Type 0 where
   pub marked : IsFreeAndWanted w → 0 < marked_count w.entries
   pub pending : (p : ℕ) → 0 < entries_of p w.entries → (standing_of w p ≡ outside Pending) ⊎ (standing_of w p ≡ forgotten)
+  pub starved : (p : ℕ) → is_starved w.state p ≡ true → 0 < entries_of p w.entries

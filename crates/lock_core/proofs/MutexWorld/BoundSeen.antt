@@ -1,0 +1,165 @@
+-- What a poll that is carried out alone does to a free lock, as callers see it.
+use Rattle.std.proofs.Common.{◌≡◌, ◌≢◌, ℕ, zero, suc, ◌+◌, ◌-◌, ◌<◌, ◌⊎◌, inl, inr, if◌then◌else◌, Bool, true, false, List, [], ◌∷◌, length, map, None, refl, sym, ap, ◌∙◌, subst, arith, ◌&&◌}
+use Rattle.std.proofs.Math.ListN.{set}
+use Rattle.std.specs.List.{sum_by, list_all}
+use Rattle.std.proofs.lemmas.List.Sums.{sum_by-cons}
+use Rattle.std.proofs.lemmas.Bool.Decides.{nat_tests}
+use Rattle.lock_event.specs.declared.event.Entry.{Entry}
+use Rattle.lock_event.specs.Lists.{is_marked_at}
+use Rattle.lock_queue.specs.Parties.{is_party, entries_of}
+use Rattle.lock_core.specs.declared.program.mutex.Place.{Place}
+use Rattle.lock_core.specs.declared.program.mutex.End.{End}
+use Rattle.lock_core.specs.declared.program.mutex.End.TheVariants as «end»
+use Rattle.lock_core.specs.declared.program.mutex.Next.TheVariants as next
+use Rattle.lock_core.specs.declared.refusal.Refusal.TheVariants as refusal
+use Rattle.lock_core.specs.declared.moves.Answer.{Answer}
+use Rattle.lock_core.specs.declared.moves.Answer.TheVariants as answer
+use Rattle.lock_core.specs.declared.moves.Call.{Call}
+use Rattle.lock_core.specs.declared.moves.Call.TheVariants as call
+use Rattle.lock_core.specs.declared.moves.Got.TheVariants.{Value}
+use Rattle.lock_core.specs.declared.moves.Inputs.{Inputs}
+use Rattle.lock_core.specs.declared.standing.Kind.TheVariants as kind
+use Rattle.lock_core.specs.declared.standing.Rest.{Rest}
+use Rattle.lock_core.specs.declared.standing.Rest.TheVariants as rest
+use Rattle.lock_core.specs.declared.standing.Stage.{Stage}
+use Rattle.lock_core.specs.declared.standing.Stage.TheVariants.{Outside, Inside, Forgotten}
+use Rattle.lock_core.specs.Standings.{Standing, outside, forgotten, is_outside_stage}
+use Rattle.lock_core.specs.Mutex.Roles.{bit, holds, counted, listed}
+use Rattle.lock_core.specs.Mutex.Courses.{is_waiting}
+use Rattle.lock_core.specs.Mutex.Machine.{Lock, place_at}
+use Rattle.lock_core.specs.Mutex.Acts.{IsMutex, IsStarved, holders, starved}
+use Rattle.lock_core.specs.Mutex.Plans.{answer_of, stage_at, goes_with}
+use Rattle.lock_core.specs.Mutex.Solo.{PollsAlone, IsCalled, Took, StandsBack, GaveWay, SoloPolls, unstarved, unstarved_listed as machine_unstarved}
+use Rattle.lock_core.specs.Mutex.Table.{Table, IsTable}
+use Rattle.lock_core.specs.Mutex.State.{World, standing_of, is_starved, how_many}
+use Rattle.lock_core.specs.Mutex.Laws.{is_at_rest}
+use Rattle.lock_core.specs.Mutex.View.{is_counted, stands_as, opened, view_of}
+use Rattle.lock_core.specs.Mutex.Whole.{WholeCall}
+use Rattle.lock_core.specs.Mutex.Bound.{IsSolo, unstarved_in, unstarved_listed, Takes, GivesWay, SoloPoll}
+use Rattle.lock_core.proofs.MutexMachine.SoloPolls.{solo_polls}
+use Rattle.lock_core.proofs.MutexWorld.BoundRuns.{Ended, polls_alone}
+use Rattle.lock_core.proofs.MutexWorld.Sound.{rest_seen}
+use Rattle.lock_core.proofs.MutexWorld.Tables.{for_pending}
+use Rattle.lock_core.proofs.MutexWorld.Views as view
+use Rattle.lock_core.proofs.MutexWorld.Owns as owns
+
+rest_eq : (r s : Rest) → outside r ≡ outside s → r ≡ s
+rest_eq r s h = cc
+
+pending_stage : (v : ℕ) (s : Stage) (x : Place) → stands_as v s x ≡ outside rest.Pending → s ≡ Outside rest.Pending
+pending_stage v (Outside r) x h = ap Outside (rest_eq r rest.Pending h)
+pending_stage v (Inside w) x h = absurd (cc)
+pending_stage v Forgotten x h = absurd (cc)
+
+marked_listed : (p : ℕ) (l : List (Entry ℕ)) → is_marked_at (is_party p) l ≡ true → 0 < entries_of p l
+marked_listed p [] h = absurd (cc)
+marked_listed p (e ∷ es) h = grind (arith, nat_tests, marked_listed p es)
+
+some_listed : (p : ℕ) (l : List (Entry ℕ)) → 0 < entries_of p l → 0 < length l
+some_listed p [] h = absurd (omega arith)
+some_listed p (e ∷ es) h = omega arith
+
+-- a pending party with an entry waits
+waits_listed : (x : Place) → goes_with (Outside rest.Pending) x ≡ true → 0 < listed x → is_waiting x ≡ true
+waits_listed x g = for_pending (λ x. 0 < listed x → is_waiting x ≡ true) (record { out = λ h. absurd (omega arith); ask = λ h. refl; starved = λ h. refl }) x g
+
+split : (a b : Bool) → a && b ≡ true → (a ≡ true) × (b ≡ true)
+split true b h = (refl, h)
+split false b h = absurd (cc)
+
+both : (a b : Bool) → a ≡ true → b ≡ true → a && b ≡ true
+both a b ha hb = rw (ha, hb) refl
+
+-- one more party outside leaves all outside
+still_outside : (ss : List Stage) (p : ℕ) (s : Stage) → is_outside_stage s ≡ true → list_all is_outside_stage ss ≡ true → list_all is_outside_stage (set ss p s) ≡ true
+still_outside [] p s h all = refl
+still_outside (x ∷ xs) zero s h all = both (is_outside_stage s) (list_all is_outside_stage xs) h (split (is_outside_stage x) (list_all is_outside_stage xs) all).1
+still_outside (x ∷ xs) (suc p) s h all =
+    let two = split (is_outside_stage x) (list_all is_outside_stage xs) all in
+    both (is_outside_stage x) (list_all is_outside_stage (set xs p s)) two.0 (still_outside xs p s h two.1)
+
+apart : (b : Bool) → (if b then 0 else 1) ≡ 1 - bit b
+apart true = refl
+apart false = refl
+
+module _ (n : ℕ) where
+  abbrev shown : Table → World
+  shown t = opened n (view_of t)
+
+  starved_seen : (t : Table) (p : ℕ) → is_starved (shown t).state p ≡ is_counted (place_at t.lock.places p)
+  starved_seen t p = view.starved_at t.lock.places p
+
+  -- the entries of parties that aren't starved are as many
+  unstarved_seen : (t : Table) (es : List (Entry ℕ)) → unstarved_in (shown t).state es ≡ sum_by (λ e. unstarved t.lock e.key) es
+  unstarved_seen t [] = refl
+  unstarved_seen t (e ∷ es) =
+      let x : Place = place_at t.lock.places e.key in
+      let here : (if is_starved (shown t).state e.key then 0 else 1) ≡ 1 - counted x =
+      ap (λ b. if b then 0 else 1) (starved_seen t e.key) ∙ (apart (is_counted x) ∙ ap (λ c. 1 - c) (view.counted_bit x)) in
+      omega (arith, here, sum_by-cons (λ e. unstarved t.lock e.key) e es, unstarved_seen t es)
+
+  module _ (t u : Table) (p : ℕ) (a : Answer) where
+    takes_seen : (e : End) → Took p e u.lock → Ended t p a u e → Takes (shown t) p a (shown u)
+    takes_seen e took k = record {
+      ready = k.answer ∙ (ap (λ x. answer_of kind.LaterPoll t.value (next.End x)) took.0 ∙ ap (λ v. answer.Ready (Value v)) (sym k.value));
+      kept = k.value;
+      holder = view.holds_it u.lock.places p k.mutex.one_holder (ap holds took.1);
+    }
+
+    rests_seen : IsTable t.lock t.stages → IsTable u.lock u.stages → u.stages ≡ set t.stages p (Outside rest.Pending) → is_at_rest (shown t) ≡ true → is_at_rest (shown u) ≡ true
+    rests_seen tf uf is resting =
+        let before : list_all is_outside_stage t.stages ≡ true = sym (rest_seen t.value t.stages t.lock.places tf.as_many) ∙ resting in
+        rest_seen u.value u.stages u.lock.places uf.as_many ∙ (ap (list_all is_outside_stage) is ∙ still_outside t.stages p (Outside rest.Pending) refl before)
+
+    gives_seen : (e : End) → IsTable t.lock t.stages → 0 < entries_of p t.lock.entries → starved t.lock < t.lock.limit → GaveWay p t.lock e u.lock → StandsBack p t.lock e u.lock → Ended t p a u e → GivesWay (shown t) p a (shown u)
+    gives_seen «end».Pending tf there below g back k = record {
+      was_unstarved = starved_seen t p ∙ ap is_counted g.unstarved_here;
+      some_starved = rw view.how_many-seen g.starved_there;
+      free = view.none_held 0 u.lock.places g.free;
+      pending = k.answer;
+      starved = starved_seen u p ∙ ap is_counted back.0;
+      as_long = back.1;
+      marked = g.notified (omega (arith, back.1, some_listed p t.lock.entries there));
+      fewer = omega (arith, unstarved_seen t t.lock.entries, unstarved_seen u u.lock.entries, g.fewer);
+      rests = rests_seen tf k.fits k.stages;
+    }
+    gives_seen («end».Refused refusal.Starved) tf there below g back k = absurd (omega (arith, back.2))
+    gives_seen _ tf there below g back k = absurd back
+
+  module _ (t : Table) (p : ℕ) (i : Inputs) (tm : IsMutex t.lock) (tf : IsTable t.lock t.stages) (solo : IsSolo (shown t) p i) where
+    -- the party stands pending in the table
+    at_stage : (p < length t.stages) × (stage_at t.stages p ≡ Outside rest.Pending)
+    at_stage = elim (owns.in_or_past t.stages p) as (λ _. (p < length t.stages) × (stage_at t.stages p ≡ Outside rest.Pending)) [
+      | inl known ↦ (known, pending_stage t.value (stage_at t.stages p) (place_at t.lock.places p) (sym (owns.stood t.lock t.stages t.value tm tf p) ∙ solo.pending))
+      | inr past ↦ (let never : stands_as t.value Forgotten (place_at t.lock.places p) ≡ outside rest.Pending = rw past at (sym (owns.stood t.lock t.stages t.value tm tf p) ∙ solo.pending) in absurd (cc))
+    ]
+
+    listed_here : 0 < entries_of p t.lock.entries
+    listed_here = marked_listed p t.lock.entries solo.marked
+
+    is_called : IsCalled t.lock p
+    is_called =
+        let fits : goes_with (Outside rest.Pending) (place_at t.lock.places p) ≡ true = ap (λ s. goes_with s (place_at t.lock.places p)) (sym at_stage.1) ∙ tf.fits p at_stage.0 in
+        (waits_listed (place_at t.lock.places p) fits (omega (arith, tm.owners p, listed_here)), solo.marked)
+
+    either_seen : (u : Table) (a : Answer) (e : End) → Ended t p a u e → starved t.lock < t.lock.limit → Took p e u.lock ⊎ GaveWay p t.lock e u.lock → Takes (shown t) p a (shown u) ⊎ GivesWay (shown t) p a (shown u)
+    either_seen u a e k below (inl took) = inl (takes_seen t u p a e took k)
+    either_seen u a e k below (inr gave) = inr (gives_seen t u p a e tf listed_here below gave gave.stands_back k)
+
+    why_seen : (is_starved (shown t).state p ≡ true) ⊎ (how_many (shown t).state.starved ≡ 0) → IsStarved t.lock p ⊎ (starved t.lock ≡ 0)
+    why_seen (inl starving) = inl (sym (view.counted_bit (place_at t.lock.places p)) ∙ ap bit (sym (starved_seen t p) ∙ starving))
+    why_seen (inr none) = inr (sym (view.how_many-seen t.lock.places) ∙ none)
+
+    poll_seen : (u : Table) (a : Answer) → WholeCall t p call.Poll i a u → (shown t).state.holder ≡ None → SoloPoll (shown t) p a (shown u)
+    poll_seen u a whole free =
+        let polls = polls_alone p i solo.memory t u a at_stage.0 at_stage.1 whole in
+        let law = solo_polls t.lock tm (view.none_holds 0 t.lock.places free) in
+        record {
+          takes_or_gives_way = λ below. either_seen u a polls.0 polls.2 (rw view.how_many-seen at below) (law.takes_or_gives_way p polls.0 u.lock is_called polls.1);
+          takes = λ why. takes_seen t u p a polls.0 (law.takes p polls.0 u.lock is_called (why_seen why) polls.1) polls.2;
+        }
+
+  pub solo_seen : (t u : Table) (p : ℕ) (c : Call) (i : Inputs) (a : Answer) → IsMutex t.lock → IsTable t.lock t.stages → WholeCall t p c i a u → c ≡ call.Poll → IsSolo (shown t) p i → (shown t).state.holder ≡ None → SoloPoll (shown t) p a (shown u)
+  solo_seen t u p c i a tm tf whole is solo free =
+      let W : Call → Type 0 = λ x. WholeCall t p x i a u in
+      poll_seen t p i tm tf solo u a (subst W is whole) free
