@@ -1,5 +1,6 @@
 -- Each step keeps what always holds of the numbers.
 use Rattle.std.proofs.Common.{◌≡◌, ℕ, ◌+◌, ◌<◌, ◌≤◌, zero, suc, true, false, arith}
+use Rattle.lock_queue.proofs.Debts.{still_owed}
 use Rattle.lock_core.specs.declared.program.mutex.Place.{Place}
 use Rattle.lock_core.specs.declared.program.mutex.Place.TheVariants.{Out, Holding, Enter, Try, Clear, CancelUncount, CancelLeave, Join, Look, Ask, Retry, PassOn, Count, JoinStarved, LookAlone, PassOnListed, AskStarved, Seize, Uncount, Leave, RefuseUncount, RefuseLeave, RefuseNotifyMemory, RefuseNotifyStarved, ReleaseNotify}
 use Rattle.lock_core.specs.declared.program.mutex.Found.{Found}
@@ -19,11 +20,6 @@ pub record Follows (s t : Tally) (p q : Place) : Type 0 where
   pub in_list : t.size + listed p ≡ s.size + listed q
   pub one : t.held ≤ 1
   pub limited : t.starved ≤ t.limit
-
--- an entry left: what somebody owes is still owed, and a mark goes on
-still_owed : (owing size m n : ℕ) → (0 < size → 0 < m → 0 < n) → 0 < size → 0 < owing + m → 0 < owing + n
-still_owed owing size zero n goes some h = omega arith
-still_owed owing size (suc m) n goes some h = let k : 0 < n = goes some (omega arith) in omega arith
 
 -- a starved party that doesn't hold the lock waits or owes, so that something is owed
 starved_owed : (starving owing waiting m : ℕ) → 0 < starving → starving ≤ owing + waiting → (0 < waiting → 0 < owing + m) → 0 < owing + m

@@ -1,11 +1,13 @@
 -- What always holds of a mutex, as callers see it.
-use Rattle.std.proofs.Common.{◌≡◌, ◌≢◌, ℕ, ◌+◌, ◌<◌, ◌≤◌, Bool, true, false, List, [], ◌∷◌, length, Option, Some, refl, ap, arith, sym, ◌∙◌}
+use Rattle.std.proofs.Common.{◌≡◌, ◌≢◌, ℕ, ◌+◌, ◌<◌, ◌≤◌, Bool, true, false, zero, suc, List, [], ◌∷◌, length, Option, Some, refl, ap, arith, sym, ◌∙◌}
 use Rattle.std.specs.List.{sum_by}
 use Rattle.std.proofs.lemmas.List.Sums.{sum_by-cons}
 use Rattle.lock_event.specs.declared.event.Entry.{Entry}
 use Rattle.lock_event.specs.declared.event.EntryId.{EntryId}
 use Rattle.lock_event.specs.Lists.{marked_count, IsMarkedFirst}
 use Rattle.lock_queue.specs.Queues.{Queue}
+use Rattle.lock_queue.specs.Debts.{Roles, Rests, AllRest}
+use Rattle.lock_queue.proofs.Debts.{paid_at_rest}
 use Rattle.lock_core.specs.declared.program.mutex.Place.{Place}
 use Rattle.lock_core.specs.declared.program.mutex.Place.TheVariants.{Out, Holding, Enter, Try, Clear, CancelUncount, CancelLeave, Join, Look, Ask, Retry, PassOn, Count, JoinStarved, LookAlone, PassOnListed, AskStarved, Seize, Uncount, Leave, RefuseUncount, RefuseLeave, RefuseNotifyMemory, RefuseNotifyStarved, ReleaseNotify}
 use Rattle.lock_core.specs.declared.program.mutex.Action.{Action}
@@ -17,23 +19,36 @@ use Rattle.lock_core.specs.Mutex.Roles.{bit, holds, counted, listed, waits, owes
 use Rattle.lock_core.specs.Mutex.Effects.{OnWord}
 use Rattle.lock_core.specs.Mutex.Seats.{OnList}
 use Rattle.lock_core.specs.Mutex.Tally.{IsSound, tally_of, counts_of}
-use Rattle.lock_core.specs.Mutex.Machine.{Lock, IsLock}
+use Rattle.lock_core.specs.Mutex.Machine.{Lock, IsLock, place_at}
 use Rattle.lock_core.specs.Mutex.Acts.{Finds, IsAtRest, IsMutex}
 
+abbrev roles : Roles Place
+roles = record { listed = listed; waits = waits; owes = owes }
+
 -- a resting party owes nothing, and waits where it is listed
-rests : (x : Place) → is_resting x ≡ true → (owes x ≡ 0) × (waits x ≡ listed x)
+rests : (x : Place) → is_resting x ≡ true → Rests roles x
 rests Out h = (refl, refl)
 rests Holding h = (refl, refl)
 rests Ask h = (refl, refl)
 rests AskStarved h = (refl, refl)
 rests _ h = absurd (cc)
 
-all_rest : (ps : List Place) → IsAtRest ps → (sum_by owes ps ≡ 0) × (sum_by waits ps ≡ sum_by listed ps)
-all_rest [] h = (refl, refl)
-all_rest (x ∷ xs) h =
-    let one = rests x h.0 in
-    let more = all_rest xs h.1 in
-    (omega (arith, sum_by-cons owes x xs), omega (arith, sum_by-cons waits x xs, sum_by-cons listed x xs))
+all_rest : (ps : List Place) → IsAtRest ps → AllRest roles ps
+all_rest [] h = tt
+all_rest (x ∷ xs) h = (rests x h.0, all_rest xs h.1)
+
+-- a starved party that rests is listed
+starved_rests : (x : Place) → is_resting x ≡ true → counted x ≡ 1 → listed x ≡ 1
+starved_rests AskStarved h c = refl
+starved_rests Out h c = absurd (omega arith)
+starved_rests Holding h c = absurd (omega arith)
+starved_rests Ask h c = absurd (omega arith)
+starved_rests _ h c = absurd (cc)
+
+pub resting_at : (ps : List Place) (q : ℕ) → IsAtRest ps → is_resting (place_at ps q) ≡ true
+resting_at [] q h = refl
+resting_at (x ∷ xs) zero h = h.0
+resting_at (x ∷ xs) (suc q) h = resting_at xs q h.1
 
 module _ (w : Word) (places : List Place) (list : Queue) where
   abbrev the_lock : Lock
@@ -46,10 +61,8 @@ module _ (w : Word) (places : List Place) (list : Queue) where
         few_starved = omega (arith, lock.sound.starved, lock.sound.limited);
         owners = lock.owners;
         in_order = ordered;
-        wakes = λ rest free some.
-            let all = all_rest places rest in
-            let owed : 0 < sum_by owes places + marked_count list.entries = lock.sound.owed (omega (arith, lock.sound.held)) (omega (arith, lock.sound.in_list, all.1)) in
-            omega (arith, all.0);
+        wakes = λ rest free some. paid_at_rest roles (bit w.held ≡ 0) places (length list.entries) (marked_count list.entries) (all_rest places rest) lock.sound.in_list lock.sound.owed (omega (arith, lock.sound.held)) some;
+        starved_listed = λ rest p counts. lock.owners p ∙ starved_rests (place_at places p) (resting_at places p rest) counts;
       }
 
   -- what an action found, said of the parties

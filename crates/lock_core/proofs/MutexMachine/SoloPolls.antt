@@ -27,6 +27,7 @@ use Rattle.lock_core.specs.Mutex.Courses.{is_waiting}
 use Rattle.lock_core.specs.Mutex.Machine.{Lock, place_at}
 use Rattle.lock_core.specs.Mutex.Acts.{Acts, IsMutex, IsAtRest, IsStarved, holders, starved}
 use Rattle.lock_core.specs.Mutex.Solo.{GoesOnAlone, last, step, PollsAlone, at_once, begun, IsCalled, unstarved, unstarved_listed, Took, GaveWay, PollsInTurn, SoloPolls}
+use Rattle.lock_core.proofs.MutexMachine.Laws.{resting_at}
 use Rattle.lock_core.proofs.MutexMachine.Owners.{listed_one}
 use Rattle.lock_core.proofs.MutexMachine.Solo.{Reached, Gives, Ends, polls_unstarved, polls_starved}
 
@@ -288,11 +289,6 @@ pending_at Holding h there = absurd (omega arith)
 pending_at Ask h there = refl
 pending_at AskStarved h there = refl
 pending_at _ h there = absurd (cc)
-
-resting_at : (ps : List Place) (q : ℕ) → IsAtRest ps → is_resting (place_at ps q) ≡ true
-resting_at [] q rest = refl
-resting_at (x ∷ xs) zero rest = rest.0
-resting_at (x ∷ xs) (suc q) rest = resting_at xs q rest.1
 
 -- what polls do that are carried out alone while the lock is free
 pub solo_polls : (l : Lock) → IsMutex l → holders l ≡ 0 → SoloPolls l

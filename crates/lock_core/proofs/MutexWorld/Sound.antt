@@ -2,6 +2,7 @@
 use Rattle.std.proofs.Common.{◌≡◌, ℕ, ◌+◌, ◌<◌, ◌≤◌, ◌⊎◌, ◌&&◌, inl, inr, Bool, true, false, List, [], ◌∷◌, length, map, zero, suc, Option, Some, None, refl, arith, ap, sym, ◌∙◌, subst}
 use Rattle.std.specs.List.{list_all}
 use Rattle.std.proofs.lemmas.List.{length-map}
+use Rattle.std.proofs.lemmas.Bool.Decides.{nat_tests}
 use Rattle.lock_queue.specs.Parties.{entries_of}
 use Rattle.lock_core.specs.declared.program.mutex.Place.{Place}
 use Rattle.lock_core.specs.declared.program.mutex.Place.TheVariants as place
@@ -12,7 +13,7 @@ use Rattle.lock_core.specs.declared.moves.Answer.{Answer}
 use Rattle.lock_core.specs.declared.standing.Within.{Within}
 use Rattle.lock_core.specs.Standings.{Standing, outside, inside, forgotten, is_outside_stage, forgets}
 use Rattle.lock_core.specs.Rights.{Right, hold, excludes}
-use Rattle.lock_core.specs.Mutex.Roles.{holds, listed, is_resting}
+use Rattle.lock_core.specs.Mutex.Roles.{holds, counted, listed, is_resting}
 use Rattle.lock_core.specs.Mutex.Machine.{Lock, place_at}
 use Rattle.lock_core.specs.Mutex.Acts as lock
 use Rattle.lock_core.specs.Mutex.Acts.{IsMutex}
@@ -103,18 +104,8 @@ one_rests v (s ∷ ss) [] p h k e = absurd (omega arith)
 one_rests v (s ∷ ss) (x ∷ xs) zero h k e = (split (is_outside (stands_as v s x)) (list_all is_outside (standings v ss xs)) h).0
 one_rests v (s ∷ ss) (x ∷ xs) (suc p) h k e = one_rests v ss xs p (split (is_outside (stands_as v s x)) (list_all is_outside (standings v ss xs)) h).1 (omega arith) (omega arith)
 
--- a starved party that rests is listed
-starved_rests : (x : Place) → is_resting x ≡ true → is_counted x ≡ true → 0 < listed x
-starved_rests place.AskStarved h c = omega arith
-starved_rests place.Out h c = absurd (cc)
-starved_rests place.Holding h c = absurd (cc)
-starved_rests place.Ask h c = absurd (cc)
-starved_rests _ h c = absurd (cc)
-
-resting_at : (ps : List Place) (q : ℕ) → lock.IsAtRest ps → is_resting (place_at ps q) ≡ true
-resting_at [] q rest = refl
-resting_at (x ∷ xs) zero rest = rest.0
-resting_at (x ∷ xs) (suc q) rest = resting_at xs q rest.1
+one_counted : (x : Place) → is_counted x ≡ true → counted x ≡ 1
+one_counted x h = grind (arith, nat_tests)
 
 pub awake : (t : Table) → IsMutex t.lock → IsTable t.lock t.stages → is_at_rest (view_of t) ≡ true → IsAwake (view_of t)
 awake t laws fits resting = record {
@@ -129,8 +120,8 @@ awake t laws fits resting = record {
   starved = λ p counts.
       let ps = t.lock.places in
       let here : is_counted (place_at ps p) ≡ true = sym (view.starved_at ps p) ∙ counts in
-      let at_rest = all_rest t.value t.stages ps fits.as_many fits.fits resting in
-      rw (laws.owners p) (starved_rests (place_at ps p) (resting_at ps p at_rest) here);
+      let one : entries_of p t.lock.entries ≡ 1 = laws.starved_listed (all_rest t.value t.stages ps fits.as_many fits.fits resting) p (one_counted (place_at ps p) here) in
+      omega arith;
 }
 
 same_outside : (v : ℕ) (s : Stage) (x : Place) → is_outside (stands_as v s x) ≡ is_outside_stage s

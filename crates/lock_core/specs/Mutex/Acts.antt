@@ -78,3 +78,5 @@ pub record IsMutex (l : Lock) : Type 0 where
   pub in_order : IsMarkedFirst l.entries
   -- at rest, a list that waits for a free lock has a marked entry
   pub wakes : IsAtRest l.places → holders l ≡ 0 → 0 < length l.entries → 0 < marked_count l.entries
+  -- and every starved party is listed
+  pub starved_listed : IsAtRest l.places → (p : ℕ) → IsStarved l p → entries_of p l.entries ≡ 1

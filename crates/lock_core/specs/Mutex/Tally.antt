@@ -3,6 +3,7 @@ use Rattle.std.specs.Prelude.{◌≡◌, ℕ, ◌+◌, ◌<◌, ◌≤◌, List,
 use Rattle.std.specs.List.{sum_by}
 use Rattle.lock_event.specs.declared.event.Entry.{Entry}
 use Rattle.lock_event.specs.Lists.{marked_count}
+use Rattle.lock_queue.specs.Debts.{IsOwed}
 use Rattle.lock_core.specs.declared.program.mutex.Place.{Place}
 use Rattle.lock_core.specs.declared.mutex.word.Word.{Word}
 use Rattle.lock_core.specs.Mutex.Roles.{bit, holds, counted, listed as stands, waits, owes}
@@ -31,7 +32,7 @@ pub record IsSound (s : Tally) (a : Counts) : Type 0 where
   pub limited : s.starved ≤ s.limit
   pub in_list : a.listed ≡ s.size
   -- a free lock that a listed party waits for has a marked entry, or somebody still owes it a look
-  pub owed : s.held ≡ 0 → 0 < a.waiting → 0 < a.owing + s.marked
+  pub owed : IsOwed (s.held ≡ 0) a.waiting a.owing s.marked
 
 abbrev pub tally_of : {K : Type 0} → Word → List (Entry K) → Tally
 tally_of w l = record { held = bit w.held; starved = w.starved; limit = w.limit; size = length l; marked = marked_count l }
