@@ -19,4 +19,5 @@ pub mod Runs
 pub mod Lending
 pub mod Openings
 pub mod Whole
+pub mod TableCalls
 pub mod Bound

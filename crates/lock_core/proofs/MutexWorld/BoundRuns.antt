@@ -29,7 +29,8 @@ use Rattle.lock_core.specs.Mutex.Acts.{Acts, IsMutex}
 use Rattle.lock_core.specs.Mutex.Plans.{answer_of, stage_after, stage_at, within}
 use Rattle.lock_core.specs.Mutex.Solo.{GoesOnAlone, last, step, PollsAlone, at_once, begun, BeginsPoll}
 use Rattle.lock_core.specs.Mutex.Table.{Table, IsTable, Steps, Does, IsStep, plan_in}
-use Rattle.lock_core.specs.Mutex.Whole.{going_on, moves_of, answers_of, TableRuns, WholeCall}
+use Rattle.lock_core.specs.Mutex.Whole.{going_on, moves_of, answers_of}
+use Rattle.lock_core.specs.Mutex.TableCalls.{TableRuns, WholeCall}
 use Rattle.lock_core.proofs.MutexWorld.Tables.{planned}
 
 -- a later poll

@@ -34,7 +34,7 @@ use Rattle.lock_core.specs.Mutex.Table.{Table, IsTable}
 use Rattle.lock_core.specs.Mutex.State.{World, standing_of, is_starved, how_many}
 use Rattle.lock_core.specs.Mutex.Laws.{is_at_rest}
 use Rattle.lock_core.specs.Mutex.View.{is_counted, stands_as, opened, view_of}
-use Rattle.lock_core.specs.Mutex.Whole.{WholeCall}
+use Rattle.lock_core.specs.Mutex.TableCalls.{WholeCall}
 use Rattle.lock_core.specs.Mutex.Bound.{IsSolo, unstarved_in, unstarved_listed, Takes, GivesWay, SoloPoll}
 use Rattle.lock_core.proofs.MutexMachine.SoloPolls.{solo_polls}
 use Rattle.lock_core.proofs.MutexWorld.BoundRuns.{Ended, polls_alone}

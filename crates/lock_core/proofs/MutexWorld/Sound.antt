@@ -21,7 +21,8 @@ use Rattle.lock_core.specs.Mutex.Plans.{stage_at, goes_with}
 use Rattle.lock_core.specs.Mutex.Table.{Table, IsTable}
 use Rattle.lock_core.specs.Mutex.State.{World, standing_of}
 use Rattle.lock_core.specs.Mutex.Laws.{HasRight, IsSound, is_long_call, is_outside, is_at_rest, IsAwake}
-use Rattle.lock_core.specs.Mutex.Lending.{table_with, is_forgotten_then, world_with}
+use Rattle.lock_core.specs.Mutex.Lending.{is_forgotten_then, world_with}
+use Rattle.lock_core.specs.Mutex.TableCalls.{table_with}
 use Rattle.lock_core.specs.Mutex.View.{is_counted, verdict, stands_as, standings, view_of}
 use Rattle.lock_core.proofs.MutexMachine.CanDo.{once}
 use Rattle.lock_core.proofs.MutexWorld.Views as view

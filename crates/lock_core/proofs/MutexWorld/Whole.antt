@@ -37,7 +37,8 @@ use Rattle.lock_core.specs.Mutex.Legal.{Legal, call_of}
 use Rattle.lock_core.specs.Mutex.Laws.{is_outside}
 use Rattle.lock_core.specs.Mutex.Runs.{Runs, rights_of, rights_after}
 use Rattle.lock_core.specs.Mutex.View.{opened, view_of}
-use Rattle.lock_core.specs.Mutex.Whole.{going_on, moves_of, answers_of, most_steps_of, TableRuns, WholeCall, IsWholeCall}
+use Rattle.lock_core.specs.Mutex.Whole.{going_on, moves_of, answers_of, most_steps_of, IsWholeCall}
+use Rattle.lock_core.specs.Mutex.TableCalls.{TableRuns, WholeCall}
 use Rattle.lock_core.proofs.MutexWorld.Opened.{legal_opened, at_once_opened, sound_opened, awake_opened}
 use Rattle.lock_core.proofs.MutexWorld.Rights.{holds_well}
 use Rattle.lock_core.proofs.MutexWorld.Sound.{sound, awake}

@@ -1,21 +1,10 @@
 -- A mutex's value, lent from outside every call.
 use Rattle.std.specs.Prelude.{ℕ, map}
 use Rattle.std.specs.Borrow.{Lends, MutBor, Fml, u64}
-use Rattle.lock_core.specs.Standings.{forgets}
-use Rattle.lock_core.specs.Mutex.Table.{Table}
-use Rattle.lock_core.specs.contracts.mutex.table.Table.{the_row}
-use Rattle.lock_core.specs.contracts.mutex.World.{the_row as world_row}
+use Rattle.lock_core.specs.contracts.mutex.World.{the_row}
 use Rattle.lock_core.specs.declared.standing.Rest.TheVariants.{Pending, Holding}
 use Rattle.lock_core.specs.Standings.{Standing, outside, forgotten}
 use Rattle.lock_core.specs.Mutex.State.{World}
-
--- The table once a value was put: whoever was pending or held the lock is forgotten.
-abbrev pub table_with : Table → ℕ → Table
-table_with t v = record { lock = t.lock; stages = map forgets t.stages; value = v }
-
--- The table ends with the last value that was left behind the reference.
-abbrev pub LendsTableValue : MutBor Table → MutBor ℕ → Fml
-LendsTableValue t r = Lends the_row u64 t r (table_with t.now)
 
 -- Whoever is pending or holds the lock is forgotten.
 abbrev pub is_forgotten_then : Standing → Standing
@@ -32,4 +21,4 @@ world_with w v = record w {
 
 -- The World ends with the last value that was left behind the reference.
 abbrev pub LendsValue : MutBor World → MutBor ℕ → Fml
-LendsValue w r = Lends world_row u64 w r (world_with w.now)
+LendsValue w r = Lends the_row u64 w r (world_with w.now)

@@ -11,8 +11,6 @@ use Rattle.lock_core.specs.Standings.{is_possible}
 use Rattle.lock_core.specs.Mutex.State.{World, standing_of}
 use Rattle.lock_core.specs.Mutex.Laws.{is_outside}
 use Rattle.lock_core.specs.Mutex.Runs.{Runs, rights_of}
-use Rattle.lock_core.specs.Mutex.Acts.{IsMutex}
-use Rattle.lock_core.specs.Mutex.Table.{Table, IsTable, IsStep}
 
 -- The party goes on with its call.
 abbrev pub going_on : ℕ → Inputs → Move
@@ -40,18 +38,3 @@ pub record IsWholeCall (old : World) (p : ℕ) (c : Call) (inputs : Inputs) (a :
   pub few : more + 1 ≤ most_steps_of c
   pub ended : a ≢ Stepped
   pub outside : is_possible a ≡ true → is_outside (standing_of new p) ≡ true
-
--- ---- the same of what stands behind a World
-
--- a chain of steps
-abbrev pub TableRuns : Table → List Move → List Answer → Table → Type 0
-TableRuns t [] [] u = u ≡ t
-TableRuns t (m ∷ ms) (a ∷ more) u = (mid : Table) × IsStep t m a mid × IsMutex mid.lock × IsTable mid.lock mid.stages × TableRuns mid ms more u
-TableRuns t [] (a ∷ more) u = ⊥
-TableRuns t (m ∷ ms) [] u = ⊥
-
-pub record WholeCall (t : Table) (p : ℕ) (c : Call) (inputs : Inputs) (a : Answer) (u : Table) : Type 0 where
-  pub more : ℕ
-  pub runs : TableRuns t (moves_of p c inputs more) (answers_of more a) u
-  pub few : more + 1 ≤ most_steps_of c
-  pub ended : a ≢ Stepped

@@ -133,8 +133,7 @@ impl Model for Table {
 }
 
 ghost use Rattle.std.specs.Borrow.{sem};
-ghost use Rattle.lock_core.specs.Mutex.Lending.{LendsTableValue};
-ghost use Rattle.lock_core.specs.Mutex.Whole.{WholeCall};
+ghost use Rattle.lock_core.specs.Mutex.TableCalls.{LendsTableValue, WholeCall};
 
 impl Table {
     /// So many idle parties, over a free lock with this value.
