@@ -1,3 +1,6 @@
+ghost use Rattle.std.specs.Prelude.{◌≡◌};
+ghost use Rattle.lock_core.specs.Mutex.State.{opening_of};
+
 use super::*;
 use lock_core::mutex::World;
 use lock_core::{Call, Got, Inputs, Made, Mark, What};
@@ -46,7 +49,9 @@ fn dropped_waiter() -> [(Move, Answer); 14] {
 }
 
 /// A World, made again once where memory was refused.
-fn world(rt: &(impl AllocGlobal + Abort)) -> World {
+fn world(rt: &(impl AllocGlobal + Abort)) -> World
+    ensures { result ≡ opening_of result }
+{
     match World::new(rt.alloc(), 3, 0) {
         Ok(world) => world,
         Err(_) => World::new(rt.alloc(), 3, 0).expect(rt, "only one allocation is refused"),
