@@ -1,6 +1,7 @@
 pub mod Asked
-pub mod Commands
+pub mod Calls
 pub mod Lines
 pub mod Numbers
 pub mod Reading
 pub mod Scripts
+pub mod Inputs

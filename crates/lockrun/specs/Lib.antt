@@ -3,3 +3,4 @@ pub mod Lines
 pub mod Scripts
 pub mod Commands
 pub mod Answers
+pub mod Openings

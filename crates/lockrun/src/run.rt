@@ -1,20 +1,27 @@
 //! A whole run, from its arguments to its status, over any reader and writers.
 
 #[cfg(test)]
+mod rows;
+#[cfg(test)]
 mod tests;
 
-ghost use Rattle.std.specs.Prelude.{◌≡◌, ◌≢◌, ◌⊎◌, ◌+◌, ◌<◌, ◌≤◌, ◌↔◌, ℕ, List, All, length, map, vec_len, string_bytes, Ok, Err, IsOk, IsErr, IsTrue, IfOk, OnOk, OnErr, IfSome};
+ghost use Rattle.std.specs.Prelude.{◌≡◌, ◌≢◌, ◌⊎◌, ◌+◌, ◌<◌, ◌≤◌, ◌^◌, ◌↔◌, ℕ, List, All, true, false, min, codes, length, map, vec_len, string_bytes, Some, Ok, Err, IsOk, IsErr, IsTrue, IfOk, OnOk, OnErr, IfSome};
 ghost use Rattle.std.specs.Io.{StartsWith, appended_bytes};
-ghost use Rattle.std.specs.Io.KnownBytes.{Consumes, IsAtEnd, Keeps};
+ghost use Rattle.std.specs.Io.KnownBytes.{Appends, Consumes, IsAtEnd, Keeps};
+ghost use Rattle.lock_core.specs.Mutex.Laws.{is_at_rest};
+ghost use Rattle.lock_core.specs.Mutex.Legal.{Legal};
+ghost use Rattle.lock_core.specs.Mutex.Lending.{world_with};
+ghost use Rattle.lockrun.specs.Answers.{Prints};
+ghost use Rattle.lockrun.specs.Openings.{limit_of, world_of};
 ghost use Rattle.lockrun.specs.Scripts.{asked, IsLine, IsScript, IsStartOfScript};
 ghost use Rattle.lockrun.specs.Lines.{lines_of};
 ghost use Rattle.lockrun.specs.Faults.{status_of};
 
-use crate::command::{self, Command, Model};
+use crate::command::{self, Command, Model, Request};
 use crate::fault::Fault;
 use crate::{answer, line};
-use lock_core::mutex::World;
-use lock_core::{Answer, Move, Refusal, What};
+use lock_core::mutex::{MOST_STARVED, World};
+use lock_core::{Answer, Call, Inputs, Move, Refusal, What};
 use std::alloc::Global;
 use std::io;
 use std::io::{ErrorKind, Read, Write};
@@ -179,13 +186,9 @@ fn answer_line<O: Write>(
     match command::parse(line) {
         None => bad,
         Some(Command::New(model)) => make(alloc, model, world, output),
-        Some(Command::Step { party, what }) => match world {
+        Some(Command::On(request)) => match world {
             None => bad,
-            Some(world) => written(answer::write_answer(step(world, party, what), output)),
-        },
-        Some(Command::Show) => match world {
-            None => bad,
-            Some(world) => written(answer::write_mutex(world, output)),
+            Some(world) => written(carry_out(request, world, output)),
         },
     }
 }
@@ -197,10 +200,16 @@ fn make<O: Write>(
     world: &mut Option<World>,
     output: &mut O,
 ) -> Result<(), Fault>
-    ensures { result ≢ Err Fault.Usage }
+    ensures made { OnOk result (world.new ≡ Some (world_of model)) }
+    ensures prints { OnOk result (Appends (O.contents output.old) (O.contents output.new) (codes "ok\n")) }
+    ensures asked { result ≢ Err Fault.Usage }
 {
-    let Model::Mutex { parties, value } = model;
-    match World::new(alloc, parties, value) {
+    let Model::Mutex {
+        parties,
+        value,
+        starved,
+    } = model;
+    match World::with_limits(alloc, parties, value, limit(starved)) {
         Ok(made) => {
             *world = Some(made);
             written(answer::write_ok(output))
@@ -210,12 +219,74 @@ fn make<O: Write>(
     }
 }
 
+/// How many parties of a mutex may be starved at a time. A number past 32 bits is above the greatest.
+fn limit(starved: Option<u64>) -> u32
+    ensures { min result MOST_STARVED ≡ limit_of starved }
+{
+    match starved {
+        None => MOST_STARVED,
+        Some(count) => u32::try_from(count).unwrap_or(u32::MAX),
+    }
+}
+
+/// Carries out what is asked of a World, and writes the answer.
+fn carry_out<O: Write>(request: Request, world: &mut World, output: &mut O) -> io::Result<()>
+    ensures put { (v : ℕ) → request ≡ Request.Put v → is_at_rest world.old ≡ true
+        → (world.new ≡ world_with world.old v)
+        × Prints (O.contents output.old) (O.contents output.new) result (codes "ok") }
+    ensures not_at_rest { (v : ℕ) → request ≡ Request.Put v → is_at_rest world.old ≡ false
+        → (world.new ≡ world.old)
+        × Prints (O.contents output.old) (O.contents output.new) result (codes "not possible") }
+    ensures take { request ≡ Request.Take → (world.new ≡ world.old)
+        × Prints (O.contents output.old) (O.contents output.new) result (codes "not possible") }
+    ensures show { request ≡ Request.Show → world.new ≡ world.old }
+{
+    match request {
+        Request::Step { party, what } => answer::write_answer(step(world, party, what), output),
+        Request::Whole {
+            party,
+            call,
+            inputs,
+        } => answer::write_answer(poll_whole(world, party, call, inputs), output),
+        Request::Put(value) if put(world, value) => answer::write_ok(output),
+        // No value of a mutex can be taken while the mutex stays.
+        Request::Put(_) | Request::Take => answer::write_answer(Answer::NotPossible, output),
+        Request::Show => answer::write_mutex(world, output),
+    }
+}
+
 /// One move. A party whose number is past 32 bits is past the table.
-fn step(world: &mut World, party: u64, what: What) -> Answer {
+fn step(world: &mut World, party: u64, what: What) -> Answer
+    ensures legal { party < 2 ^ 32 → Legal world.old (record { party = party; what = what }) result world.new }
+    ensures past { 2 ^ 32 ≤ party → (result ≡ Answer.NotPossible) × (world.new ≡ world.old) }
+{
     match u32::try_from(party) {
         Ok(party) => world.step(&Move { party, what }),
         Err(_) => Answer::NotPossible,
     }
+}
+
+/// A whole call. A party whose number is past 32 bits is past the table.
+fn poll_whole(world: &mut World, party: u64, call: Call, inputs: Inputs) -> Answer
+    ensures past { 2 ^ 32 ≤ party → (result ≡ Answer.NotPossible) × (world.new ≡ world.old) }
+{
+    match u32::try_from(party) {
+        Ok(party) => world.poll_whole(party, call, inputs),
+        Err(_) => Answer::NotPossible,
+    }
+}
+
+/// Leaves this value in a World at rest, and says whether it was at rest.
+fn put(world: &mut World, value: u64) -> bool
+    ensures at_rest { result ≡ is_at_rest world.old }
+    ensures put { result ≡ true → world.new ≡ world_with world.old value }
+    ensures kept { result ≡ false → world.new ≡ world.old }
+{
+    let is_at_rest = world.at_rest();
+    if is_at_rest {
+        *world.get_mut() = value;
+    }
+    is_at_rest
 }
 
 /// A write that failed, as a fault.

@@ -1,3 +1,4 @@
+use super::rows::ROWS;
 use super::{LIMIT, run};
 use std::alloc::AllocError;
 use std::io;
@@ -124,19 +125,35 @@ fn expect<R: AllocGlobal + Abort>(
 }
 
 #[test]
-fn answers_the_first_run(rt: HostRuntime) -> Result<(), Fail> {
-    let script = b"mutex 1 0\nbegin 0 lock\nbegin 0 put 5\nshow\n";
-    let answers = "ok\nready 0\ngranted 5\nmutex locked=1 starved=0 value=5 list=[]\n";
-    expect(&rt, script, answers, "", 0)
+fn answers_the_stored_rows(rt: HostRuntime) -> Result<(), Fail> {
+    for (script, answers) in ROWS {
+        expect(&rt, script.as_bytes(), answers, "", 0)?;
+    }
+    Ok(())
 }
 
 #[test]
-fn a_release_wakes_the_next(rt: HostRuntime) -> Result<(), Fail> {
-    let script =
-        b"mutex 2 0\nbegin 0 lock\nbegin 1 lock\ngo 1\ngo 1\ngo 1\nbegin 0 put 5\nbegin 0 drop\ngo 0\nshow\nbegin 1 poll\ngo 1\n";
-    let answers =
-        "ok\nready 0\nstepped\nstepped\nstepped\npending\ngranted 5\nstepped\ngiven back\nmutex locked=0 starved=0 value=5 list=[1n]\nstepped\nready 5\n";
-    expect(&rt, script, answers, "", 0)
+fn changes_the_value_at_rest(rt: HostRuntime) -> Result<(), Fail> {
+    for (script, answers) in [
+        // The holder is forgotten, and its lock stays locked.
+        (
+            "mutex 2 0\ndo 0 lock\ngetmut 9\nshow\ndo 0 drop\ndo 1 trylock\ntake\n",
+            "ok\nready 0\nok\nmutex locked=1 starved=0 value=9 list=[]\nnot possible\nnone\nnot possible\n",
+        ),
+        // A later holder finds the greatest value that there is.
+        (
+            "mutex 1 5\ngetmut 18446744073709551615\ndo 0 lock\n",
+            "ok\nok\nready 18446744073709551615\n",
+        ),
+        // A party is inside a call, and goes on with it after.
+        (
+            "mutex 2 3\ndo 0 lock\nbegin 1 lock\ngetmut 9\ntake\nshow\ngo 1\ngo 1\ngo 1\ngetmut 9\n",
+            "ok\nready 3\nstepped\nnot possible\nnot possible\nmutex locked=1 starved=0 value=3 list=[]\nstepped\nstepped\npending\nok\n",
+        ),
+    ] {
+        expect(&rt, script.as_bytes(), answers, "", 0)?;
+    }
+    Ok(())
 }
 
 #[test]
@@ -174,10 +191,27 @@ fn answers_each_good_line(rt: HostRuntime) -> Result<(), Fail> {
             "mutex 1 0\nbegin 4294967296 lock\ngo 18446744073709551615\nbegin 4294967295 lock\n",
             "ok\nnot possible\nnot possible\nnot possible\n",
         ),
+        (
+            "mutex 2 0\ndo 2 lock\ndo 4294967296 lock\ndo 18446744073709551615 trylock\ndo 0 trylock\n",
+            "ok\nnot possible\nnot possible\nnot possible\ngranted 0\n",
+        ),
+        // How many parties may be starved: a number past the greatest means that one.
+        ("mutex 1 0 0\nshow\n", fresh),
+        ("mutex 1 0 4294967296\nshow\n", fresh),
+        ("mutex 1 0 18446744073709551615\nshow\n", fresh),
         // Calls that an idle party can't make.
         (
-            "mutex 1 0\nbegin 0 put 5\nbegin 0 poll\ngo 0\n",
-            "ok\nnot possible\nnot possible\nnot possible\n",
+            "mutex 1 0\nbegin 0 put 5\nbegin 0 poll\ngo 0\ndo 0 drop\n",
+            "ok\nnot possible\nnot possible\nnot possible\nnot possible\n",
+        ),
+        // Each call of a mutex, begun and whole.
+        (
+            "mutex 1 0\nbegin 0 trylock\nbegin 0 put 5\nbegin 0 drop\ngo 0\n",
+            "ok\ngranted 0\ngranted 5\nstepped\ngiven back\n",
+        ),
+        (
+            "mutex 2 0\ndo 0 lock\ndo 1 lock\ndo 0 put 5\ndo 0 drop\ndo 1 poll\ndo 0 trylock\n",
+            "ok\nready 0\npending\ngranted 5\ngiven back\nready 5\nnone\n",
         ),
         // Inputs, in any order.
         (
@@ -189,8 +223,8 @@ fn answers_each_good_line(rt: HostRuntime) -> Result<(), Fail> {
             "ok\nready 3\n",
         ),
         (
-            "mutex 1 3\nbegin 0 lock starving\nbegin 0 put 4 nomem\n",
-            "ok\nready 3\ngranted 4\n",
+            "mutex 1 3\nbegin 0 lock starving\nbegin 0 put 4 nomem\ndo 0 put 5 made=00 starving\n",
+            "ok\nready 3\ngranted 4\ngranted 5\n",
         ),
     ] {
         expect(&rt, script.as_bytes(), answers, "", 0)?;
@@ -211,17 +245,22 @@ fn stops_at_a_bad_line(rt: HostRuntime) -> Result<(), Fail> {
         "foo",
         "Show",
         "shows",
-        "do 0 lock",
-        "getmut 1",
-        "take",
+        "Do 0 lock",
+        "getMut 1",
+        "takes",
         "rwlock 1 0",
-        "begin 0 trylock",
+        "semaphore 1 1",
+        "cell 1",
+        "barrier 1 1",
         "begin 0 Lock",
         "begin 0 read",
+        "do 0 foo",
+        "do 0 acquire",
+        "do 0 set 5",
         // Missing and spare numbers and words.
         "mutex",
         "mutex 1",
-        "mutex 1 0 0",
+        "mutex 1 0 0 0",
         "begin",
         "begin 0",
         "begin 0 put",
@@ -232,6 +271,18 @@ fn stops_at_a_bad_line(rt: HostRuntime) -> Result<(), Fail> {
         "go 0 0",
         "go 0 lock",
         "show 0",
+        "do",
+        "do 0",
+        "do lock",
+        "do 0 put",
+        "do 0 put nomem",
+        "do 0 lock 5",
+        "do 0 trylock lock",
+        "getmut",
+        "getmut 1 2",
+        "getmut 1 nomem",
+        "take 0",
+        "take nomem",
         // Words that are no numbers.
         "mutex 1 x",
         "mutex 1 +0",
@@ -241,6 +292,11 @@ fn stops_at_a_bad_line(rt: HostRuntime) -> Result<(), Fail> {
         "mutex 1 000000000000000000000",
         "mutex 1 99999999999999999999",
         "go 18446744073709551616",
+        "mutex 1 0 x",
+        "mutex 1 0 18446744073709551616",
+        "do 18446744073709551616 lock",
+        "getmut x",
+        "getmut 18446744073709551616",
         // Numbers of parties out of their range.
         "mutex 0 0",
         "mutex 65 0",
@@ -257,6 +313,9 @@ fn stops_at_a_bad_line(rt: HostRuntime) -> Result<(), Fail> {
         "go 0 made= 1",
         "go 0 made=18446744073709551616",
         "go 0 memory",
+        "do 0 lock nomem nomem",
+        "do 0 lock starving starving",
+        "do 0 lock made=fail made=fail",
         // Bytes that aren't printable ASCII.
         "show\t",
         "sh\tow",
@@ -296,6 +355,14 @@ fn counts_lines_and_wants_a_world_first(rt: HostRuntime) -> Result<(), Fail> {
     for (script, answers, faults) in [
         ("show\n", "", "lockrun: line 1: bad\n"),
         ("\n\ngo 0\n", "", "lockrun: line 3: bad\n"),
+        ("do 0 lock\n", "", "lockrun: line 1: bad\n"),
+        ("getmut 1\n", "", "lockrun: line 1: bad\n"),
+        ("take\n", "", "lockrun: line 1: bad\n"),
+        (
+            "mutex 2 0\ndo 1 poll\nfoo\n",
+            "ok\nnot possible\n",
+            "lockrun: line 3: bad\n",
+        ),
         (
             "# a note\nbegin 4294967296 lock\nmutex 1 0\n",
             "",

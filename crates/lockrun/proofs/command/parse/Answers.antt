@@ -1,5 +1,7 @@
-use Rattle.std.proofs.Common.{◌∙◌}
+use Rattle.std.proofs.Common.{subst, sym}
+use Rattle.lockrun.specs.Commands.{Asks}
 use Rattle.lockrun.proofs.command.parse.Goals as goal
 
-pub returns-then-is_trimmed-clause-mutex : goal.returns-then-is_trimmed-clause-mutex
-returns-then-is_trimmed-clause-mutex c = λ rest p v printable trimmed e m. c.whole.ensures.mutex rest p v (c.new.ensures ∙ e) m
+pub returns-then-is_trimmed-clause-asked : goal.returns-then-is_trimmed-clause-asked
+returns-then-is_trimmed-clause-asked c = λ command printable trimmed asks.
+    c.whole.ensures.asked command (subst (λ words. Asks words command) (sym c.new.ensures) asks)

@@ -1,0 +1,28 @@
+#!/bin/sh
+# Compares what the built `lockrun script` prints for each scripts/NAME.script with scripts/NAME.answers, and
+# its status with 0. It ends at the first difference, with status 1. It builds nothing.
+#
+# Run it at the top of the repository, after `rt run` in crates/lockrun has built the program:
+# bench/check-rows.sh [PROGRAM]. PROGRAM is crates/lockrun/out/lockrun if left out.
+set -eu
+
+program=${1:-crates/lockrun/out/lockrun}
+work=$(mktemp -d)
+trap 'rm -rf "$work"' EXIT
+
+count=0
+for script in scripts/*.script; do
+    answers=${script%.script}.answers
+    status=0
+    "$program" script <"$script" >"$work/printed" || status=$?
+    if [ "$status" != 0 ]; then
+        echo "$script: the status is $status" >&2
+        exit 1
+    fi
+    if ! diff "$answers" "$work/printed" >&2; then
+        echo "$script: other answers" >&2
+        exit 1
+    fi
+    count=$((count + 1))
+done
+echo "$count scripts give their answers"

@@ -1,0 +1,50 @@
+//! The stored rows: each script with its answers, as they stand in scripts/.
+
+/// Each script, and what the program prints for it.
+pub const ROWS: [(&str, &str); 9] = [
+    // count-comes-off-before-the-entry
+    (
+        "mutex 4 0\ndo 0 lock\ndo 1 lock\ndo 0 drop\ndo 2 trylock\ndo 1 poll starving\nshow\ndo 2 drop\nbegin 1 drop\ndo 3 lock\ngo 1\nshow\n",
+        "ok\nready 0\npending\ngiven back\ngranted 0\npending\nmutex locked=1 starved=1 value=0 list=[1w]\ngiven back\nstepped\nready 0\ngiven back\nmutex locked=1 starved=0 value=0 list=[]\n",
+    ),
+    // dropped-waiter-passes-on
+    (
+        "mutex 3 0\ndo 0 lock\ndo 1 lock\ndo 2 lock\ndo 0 drop\nshow\ndo 1 drop\nshow\ndo 2 poll\n",
+        "ok\nready 0\npending\npending\ngiven back\nmutex locked=0 starved=0 value=0 list=[1n 2w]\ngiven back\nmutex locked=0 starved=0 value=0 list=[2n]\nready 0\n",
+    ),
+    // first-run
+    (
+        "mutex 1 0\nbegin 0 lock\nbegin 0 put 5\nshow\n",
+        "ok\nready 0\ngranted 5\nmutex locked=1 starved=0 value=5 list=[]\n",
+    ),
+    // forgotten-future
+    (
+        "mutex 3 0\ndo 0 lock\ndo 1 lock\ndo 2 lock\ndo 0 drop\ndo 2 poll\ndo 2 drop\ndo 2 trylock\n",
+        "ok\nready 0\npending\npending\ngiven back\npending\ngiven back\ngranted 0\n",
+    ),
+    // refused-memory-then-repeated
+    (
+        "mutex 2 7\ndo 0 lock\ndo 1 lock nomem\nshow\ndo 1 poll\ndo 0 drop\ndo 1 poll\ndo 1 poll\n",
+        "ok\nready 7\nrefused 1\nmutex locked=1 starved=0 value=7 list=[]\npending\ngiven back\nready 7\nrefused 6\n",
+    ),
+    // refused-poll-gives-its-count-back
+    (
+        "mutex 4 0\ndo 0 lock\ndo 1 lock\ndo 0 drop\ndo 2 trylock\ndo 1 poll starving nomem\ndo 2 drop\ndo 3 trylock\n",
+        "ok\nready 0\npending\ngiven back\ngranted 0\nrefused 1\ngiven back\ngranted 0\n",
+    ),
+    // release-wakes-the-next
+    (
+        "mutex 2 0\nbegin 0 lock\nbegin 1 lock\ngo 1\ngo 1\ngo 1\nbegin 0 put 5\nbegin 0 drop\ngo 0\nshow\nbegin 1 poll\ngo 1\n",
+        "ok\nready 0\nstepped\nstepped\nstepped\npending\ngranted 5\nstepped\ngiven back\nmutex locked=0 starved=0 value=5 list=[1n]\nstepped\nready 5\n",
+    ),
+    // starved-goes-first
+    (
+        "mutex 4 0\ndo 0 lock\ndo 1 lock\ndo 0 drop\ndo 2 trylock\ndo 1 poll starving\nshow\ndo 2 drop\ndo 3 trylock\ndo 1 poll\nshow\n",
+        "ok\nready 0\npending\ngiven back\ngranted 0\npending\nmutex locked=1 starved=1 value=0 list=[1w]\ngiven back\nnone\nready 0\nmutex locked=1 starved=0 value=0 list=[]\n",
+    ),
+    // starved-limit
+    (
+        "mutex 4 0 1\ndo 0 lock\ndo 1 lock\ndo 0 drop\ndo 2 trylock\ndo 1 poll starving\ndo 3 lock\nshow\n",
+        "ok\nready 0\npending\ngiven back\ngranted 0\npending\nrefused 2\nmutex locked=1 starved=1 value=0 list=[1w]\n",
+    ),
+];
