@@ -11,6 +11,7 @@ ghost use Rattle.std.specs.Io.KnownBytes.{Appends, Consumes, IsAtEnd, Keeps};
 ghost use Rattle.lock_core.specs.Mutex.Laws.{is_at_rest};
 ghost use Rattle.lock_core.specs.Mutex.Legal.{Legal};
 ghost use Rattle.lock_core.specs.Mutex.Lending.{world_with};
+ghost use Rattle.lock_core.specs.Mutex.Whole.{IsWholeCall};
 ghost use Rattle.lockrun.specs.Answers.{Prints};
 ghost use Rattle.lockrun.specs.Openings.{limit_of, world_of};
 ghost use Rattle.lockrun.specs.Scripts.{asked, IsLine, IsScript, IsStartOfScript};
@@ -268,6 +269,7 @@ fn step(world: &mut World, party: u64, what: What) -> Answer
 
 /// A whole call. A party whose number is past 32 bits is past the table.
 fn poll_whole(world: &mut World, party: u64, call: Call, inputs: Inputs) -> Answer
+    ensures whole { party < 2 ^ 32 → IsWholeCall world.old party call inputs result world.new }
     ensures past { 2 ^ 32 ≤ party → (result ≡ Answer.NotPossible) × (world.new ≡ world.old) }
 {
     match u32::try_from(party) {
