@@ -1,14 +1,12 @@
 -- Solo polls in turn: each that gives way leaves one entry less of a party that isn't starved.
-use Rattle.std.proofs.Common.{◌≡◌, ◌≢◌, ℕ, zero, suc, ◌+◌, ◌<◌, ◌≤◌, ◌⊎◌, inl, inr, if◌then◌else◌, Bool, true, false, List, [], ◌∷◌, length, get_or, Some, None, refl, sym, ◌∙◌, arith}
+use Rattle.std.proofs.Common.{◌≡◌, ◌≢◌, ℕ, zero, suc, ◌+◌, ◌<◌, ◌≤◌, ◌⊎◌, inl, inr, if◌then◌else◌, Bool, true, false, List, [], ◌∷◌, length, get_or, Some, None, refl, arith}
 use Rattle.std.proofs.lemmas.Bool.Decides.{nat_tests}
 use Rattle.lock_event.specs.declared.event.Entry.{Entry}
-use Rattle.lock_event.specs.Lists.{is_marked, is_marked_at, marked_count, IsMarkedFirst}
-use Rattle.lock_queue.specs.Parties.{is_party, entries_of}
+use Rattle.lock_queue.specs.Parties.{entries_of}
 use Rattle.lock_core.specs.declared.moves.Answer.{Answer}
-use Rattle.lock_core.specs.declared.moves.Inputs.{Inputs}
 use Rattle.lock_core.specs.Mutex.State.{State, World, is_starved, how_many}
 use Rattle.lock_core.specs.Mutex.Laws.{IsSound, IsAwake, IsFreeAndWanted}
-use Rattle.lock_core.specs.Mutex.Bound.{IsSolo, unstarved_in, unstarved_listed, Takes, GivesWay, SoloPoll, PassesOver, SoloPolls, IsBounded}
+use Rattle.lock_core.specs.Mutex.Bound.{unstarved_in, unstarved_listed, Takes, GivesWay, SoloPolls, IsBounded}
 use Rattle.lock_core.proofs.MutexMachine.SoloPolls.{first_marked}
 
 -- where some are true, one is

@@ -1,5 +1,5 @@
 -- A whole poll of a pending party is one that the machine carries out alone.
-use Rattle.std.proofs.Common.{◌≡◌, ◌≢◌, ℕ, zero, suc, ◌<◌, Bool, true, false, List, [], ◌∷◌, ◌++◌, length, replicate, Option, Some, None, IsSomeAnd, refl, sym, ap, ◌∙◌, subst, arith, get_or-set_same, length-set, set-set}
+use Rattle.std.proofs.Common.{◌≡◌, ◌≢◌, ℕ, zero, suc, ◌<◌, Bool, true, [], ◌∷◌, ◌++◌, length, replicate, Option, Some, None, IsSomeAnd, refl, sym, ap, ◌∙◌, subst, arith, get_or-set_same, length-set, set-set}
 use Rattle.std.proofs.Math.ListN.{set}
 use Rattle.lock_core.specs.declared.program.mutex.Action.{Action}
 use Rattle.lock_core.specs.declared.program.mutex.Place.{Place}
@@ -24,11 +24,11 @@ use Rattle.lock_core.specs.declared.standing.Stage.TheVariants.{Outside, Inside,
 use Rattle.lock_core.specs.declared.standing.Within.{Within}
 use Rattle.lock_core.specs.Standings.{inputs_of}
 use Rattle.lock_core.specs.Mutex.Program.{start_of}
-use Rattle.lock_core.specs.Mutex.Machine.{Lock, place_at}
+use Rattle.lock_core.specs.Mutex.Machine.{place_at}
 use Rattle.lock_core.specs.Mutex.Acts.{Acts, IsMutex}
 use Rattle.lock_core.specs.Mutex.Plans.{answer_of, stage_after, stage_at, within}
 use Rattle.lock_core.specs.Mutex.Solo.{GoesOnAlone, last, step, PollsAlone, at_once, begun, BeginsPoll}
-use Rattle.lock_core.specs.Mutex.Table.{Table, IsTable, Steps, Does, IsStep, plan_in}
+use Rattle.lock_core.specs.Mutex.Table.{Table, IsTable, Steps, Does, IsStep}
 use Rattle.lock_core.specs.Mutex.Whole.{going_on, moves_of, answers_of}
 use Rattle.lock_core.specs.Mutex.TableCalls.{TableRuns, WholeCall}
 use Rattle.lock_core.proofs.MutexWorld.Tables.{planned}

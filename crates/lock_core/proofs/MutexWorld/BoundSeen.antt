@@ -1,5 +1,5 @@
 -- What a poll that is carried out alone does to a free lock, as callers see it.
-use Rattle.std.proofs.Common.{◌≡◌, ◌≢◌, ℕ, zero, suc, ◌+◌, ◌-◌, ◌<◌, ◌⊎◌, inl, inr, if◌then◌else◌, Bool, true, false, List, [], ◌∷◌, length, map, None, refl, sym, ap, ◌∙◌, subst, arith, ◌&&◌}
+use Rattle.std.proofs.Common.{◌≡◌, ℕ, zero, suc, ◌-◌, ◌<◌, ◌⊎◌, inl, inr, if◌then◌else◌, Bool, true, false, List, [], ◌∷◌, length, None, refl, sym, ap, ◌∙◌, subst, arith, ◌&&◌}
 use Rattle.std.proofs.Math.ListN.{set}
 use Rattle.std.specs.List.{sum_by, list_all}
 use Rattle.std.proofs.lemmas.List.Sums.{sum_by-cons}
@@ -23,19 +23,19 @@ use Rattle.lock_core.specs.declared.standing.Rest.{Rest}
 use Rattle.lock_core.specs.declared.standing.Rest.TheVariants as rest
 use Rattle.lock_core.specs.declared.standing.Stage.{Stage}
 use Rattle.lock_core.specs.declared.standing.Stage.TheVariants.{Outside, Inside, Forgotten}
-use Rattle.lock_core.specs.Standings.{Standing, outside, forgotten, is_outside_stage}
+use Rattle.lock_core.specs.Standings.{outside, is_outside_stage}
 use Rattle.lock_core.specs.Mutex.Roles.{bit, holds, counted, listed}
 use Rattle.lock_core.specs.Mutex.Courses.{is_waiting}
-use Rattle.lock_core.specs.Mutex.Machine.{Lock, place_at}
-use Rattle.lock_core.specs.Mutex.Acts.{IsMutex, IsStarved, holders, starved}
+use Rattle.lock_core.specs.Mutex.Machine.{place_at}
+use Rattle.lock_core.specs.Mutex.Acts.{IsMutex, IsStarved, starved}
 use Rattle.lock_core.specs.Mutex.Plans.{answer_of, stage_at, goes_with}
-use Rattle.lock_core.specs.Mutex.Solo.{PollsAlone, IsCalled, Took, StandsBack, GaveWay, SoloPolls, unstarved, unstarved_listed as machine_unstarved}
+use Rattle.lock_core.specs.Mutex.Solo.{IsCalled, Took, StandsBack, GaveWay, unstarved}
 use Rattle.lock_core.specs.Mutex.Table.{Table, IsTable}
-use Rattle.lock_core.specs.Mutex.State.{World, standing_of, is_starved, how_many}
+use Rattle.lock_core.specs.Mutex.State.{World, is_starved, how_many}
 use Rattle.lock_core.specs.Mutex.Laws.{is_at_rest}
 use Rattle.lock_core.specs.Mutex.View.{is_counted, stands_as, opened, view_of}
 use Rattle.lock_core.specs.Mutex.TableCalls.{WholeCall}
-use Rattle.lock_core.specs.Mutex.Bound.{IsSolo, unstarved_in, unstarved_listed, Takes, GivesWay, SoloPoll}
+use Rattle.lock_core.specs.Mutex.Bound.{IsSolo, unstarved_in, Takes, GivesWay, SoloPoll}
 use Rattle.lock_core.proofs.MutexMachine.SoloPolls.{solo_polls}
 use Rattle.lock_core.proofs.MutexWorld.BoundRuns.{Ended, polls_alone}
 use Rattle.lock_core.proofs.MutexWorld.Sound.{rest_seen}
