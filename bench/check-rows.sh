@@ -1,12 +1,14 @@
 #!/bin/sh
 # Compares what the built `lockrun script` prints for each scripts/NAME.script with scripts/NAME.answers, and
-# its status with 0. It ends at the first difference, with status 1. It builds nothing.
+# its status with 0; the same texts have to stand in the tests' rows. It ends at the first difference, with
+# status 1. It builds nothing.
 #
 # Run it at the top of the repository, after `rt run` in crates/lockrun has built the program:
 # bench/check-rows.sh [PROGRAM]. PROGRAM is crates/lockrun/out/lockrun if left out.
 set -eu
 
 program=${1:-crates/lockrun/out/lockrun}
+rows=crates/lockrun/src/run/rows.rt
 work=$(mktemp -d)
 trap 'rm -rf "$work"' EXIT
 
@@ -23,6 +25,13 @@ for script in scripts/*.script; do
         echo "$script: other answers" >&2
         exit 1
     fi
+    for text in "$script" "$answers"; do
+        literal=$(awk '{ printf "%s\\n", $0 }' "$text")
+        if ! grep -qF "\"$literal\"" "$rows"; then
+            echo "$text: not in $rows" >&2
+            exit 1
+        fi
+    done
     count=$((count + 1))
 done
 echo "$count scripts give their answers"

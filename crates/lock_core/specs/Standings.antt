@@ -1,5 +1,5 @@
 -- How a party stands, which moves it may make, and how its calls end. All Worlds share this.
-use Rattle.std.specs.Prelude.{◌≡◌, ℕ, ◌==◌, ◌&&◌, ◌||◌, if◌then◌else◌, Bool, true, false, Option, Some, None, is_some}
+use Rattle.std.specs.Prelude.{◌≡◌, ℕ, ◌==◌, ◌&&◌, ◌||◌, if◌then◌else◌, Bool, true, false, Option, Some, None}
 use Rattle.lock_core.specs.declared.moves.Answer.{Answer}
 use Rattle.lock_core.specs.declared.moves.Answer.TheVariants as answer
 use Rattle.lock_core.specs.declared.moves.Call.{Call}

@@ -1,6 +1,6 @@
 -- The inputs that words give.
-use Rattle.std.proofs.Common.{◌≡◌, ℕ, ◌+◌, Bool, true, false, cond, List, [], ◌∷◌, ◌++◌, refl, sym, subst, ◌∙◌, ap, arith, not, ◌&&◌}
-use Rattle.std.specs.Prelude.{Option, Some, None, IsTrue, codes, bytes_eq, count_by, filter}
+use Rattle.std.proofs.Common.{◌≡◌, ℕ, Bool, true, false, cond, List, [], ◌∷◌, ◌++◌, refl, sym, subst, ◌∙◌, ap, arith, not, ◌&&◌}
+use Rattle.std.specs.Prelude.{IsTrue, codes, bytes_eq, count_by, filter}
 use Rattle.std.proofs.lemmas.List.Elements.{filter-append}
 use Rattle.std.proofs.lemmas.List.Sums.{sum_by-append}
 use Rattle.lock_core.specs.declared.moves.Inputs.{Inputs}

@@ -5,3 +5,4 @@ pub mod Numbers
 pub mod Reading
 pub mod Scripts
 pub mod Inputs
+pub mod Texts

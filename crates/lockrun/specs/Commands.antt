@@ -1,5 +1,5 @@
 -- What a line's words ask for.
-use Rattle.std.specs.Prelude.{◌≡◌, ℕ, ◌≤◌, Bool, if◌then◌else◌, not, ◌&&◌, List, [], ◌∷◌, ◌++◌, codes, bytes_eq, count_by, filter, Option, None, Some, ⊤}
+use Rattle.std.specs.Prelude.{◌≡◌, ℕ, ◌≤◌, Bool, if◌then◌else◌, not, ◌&&◌, List, [], ◌∷◌, ◌++◌, codes, bytes_eq, count_by, filter, Option, None, Some}
 use Rattle.lock_core.specs.declared.moves.Call.{Call}
 use Rattle.lock_core.specs.declared.moves.Call.TheVariants as call
 use Rattle.lock_core.specs.declared.moves.Inputs.{Inputs}

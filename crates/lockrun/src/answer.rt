@@ -3,10 +3,10 @@
 #[cfg(test)]
 mod tests;
 
-ghost use Rattle.std.specs.Prelude.{◌≡◌, ◌++◌, ℕ, true, false, codes, OnOk};
+ghost use Rattle.std.specs.Prelude.{◌≡◌, ◌++◌, ℕ, [], true, false, codes, OnOk};
 ghost use Rattle.std.specs.Fmt.{decimal};
 ghost use Rattle.std.specs.Io.KnownBytes.{Appends};
-ghost use Rattle.lockrun.specs.Answers.{Prints};
+ghost use Rattle.lockrun.specs.Answers.{mutex_text, Prints};
 
 use lock_core::mutex::World;
 use lock_core::{Answer, Got, Mark};
@@ -89,8 +89,11 @@ fn write_got<O: Write>(how: &str, got: Got, output: &mut O) -> io::Result<()>
     }
 }
 
-/// Writes the state of a mutex, as one line.
-pub fn write_mutex<O: Write>(world: &World, output: &mut O) -> io::Result<()> {
+/// Writes the state of a mutex, as one line. The clause leaves open what stands for a list with entries.
+pub fn write_mutex<O: Write>(world: &World, output: &mut O) -> io::Result<()>
+    ensures empty { world.now.entries ≡ []
+        → Prints (O.contents output.old) (O.contents output.new) result (mutex_text world.now) }
+{
     let locked = u8::from(world.is_locked());
     let starved = world.starved();
     let value = world.value();
@@ -98,16 +101,22 @@ pub fn write_mutex<O: Write>(world: &World, output: &mut O) -> io::Result<()> {
         output,
         "mutex locked={locked} starved={starved} value={value} list=["
     )?;
-    for index in 0..usize::MAX {
-        match world.entry(index) {
-            None => break,
-            Some(entry) => {
-                let gap = if index == 0 { "" } else { " " };
-                write_entry(gap, entry.key, entry.mark, output)?;
-            }
-        }
-    }
+    write_list(world, output)?;
     writeln!(output, "]")
+}
+
+/// Writes the list of the parties that wait for a mutex.
+fn write_list<O: Write>(world: &World, output: &mut O) -> io::Result<()>
+    ensures empty { world.now.entries ≡ [] → output.new ≡ output.old }
+{
+    for index in 0..world.waiting() {
+        let Some(entry) = world.entry(index) else {
+            break;
+        };
+        let gap = if index == 0 { "" } else { " " };
+        write_entry(gap, entry.key, entry.mark, output)?;
+    }
+    Ok(())
 }
 
 /// Writes an entry of a list, the party and its mark, after what sets it apart from the one before it.

@@ -5,14 +5,14 @@ mod rows;
 #[cfg(test)]
 mod tests;
 
-ghost use Rattle.std.specs.Prelude.{◌≡◌, ◌≢◌, ◌⊎◌, ◌+◌, ◌<◌, ◌≤◌, ◌^◌, ◌↔◌, ℕ, List, All, true, false, min, codes, length, map, vec_len, string_bytes, Some, Ok, Err, IsOk, IsErr, IsTrue, IfOk, OnOk, OnErr, IfSome};
+ghost use Rattle.std.specs.Prelude.{◌≡◌, ◌≢◌, ◌⊎◌, ◌+◌, ◌<◌, ◌≤◌, ◌^◌, ◌↔◌, ℕ, List, [], All, true, false, min, codes, length, map, vec_len, string_bytes, Some, Ok, Err, IsOk, IsErr, IsTrue, IfOk, OnOk, OnErr, IfSome};
 ghost use Rattle.std.specs.Io.{StartsWith, appended_bytes};
 ghost use Rattle.std.specs.Io.KnownBytes.{Appends, Consumes, IsAtEnd, Keeps};
 ghost use Rattle.lock_core.specs.Mutex.Laws.{is_at_rest};
 ghost use Rattle.lock_core.specs.Mutex.Legal.{Legal};
 ghost use Rattle.lock_core.specs.Mutex.Lending.{world_with};
 ghost use Rattle.lock_core.specs.Mutex.Whole.{IsWholeCall};
-ghost use Rattle.lockrun.specs.Answers.{Prints};
+ghost use Rattle.lockrun.specs.Answers.{mutex_text, Prints};
 ghost use Rattle.lockrun.specs.Openings.{limit_of, world_of};
 ghost use Rattle.lockrun.specs.Scripts.{asked, IsLine, IsScript, IsStartOfScript};
 ghost use Rattle.lockrun.specs.Lines.{lines_of};
@@ -240,7 +240,8 @@ fn carry_out<O: Write>(request: Request, world: &mut World, output: &mut O) -> i
         × Prints (O.contents output.old) (O.contents output.new) result (codes "not possible") }
     ensures take { request ≡ Request.Take → (world.new ≡ world.old)
         × Prints (O.contents output.old) (O.contents output.new) result (codes "not possible") }
-    ensures show { request ≡ Request.Show → world.new ≡ world.old }
+    ensures show { request ≡ Request.Show → (world.new ≡ world.old) × (world.old.entries ≡ []
+        → Prints (O.contents output.old) (O.contents output.new) result (mutex_text world.old)) }
 {
     match request {
         Request::Step { party, what } => answer::write_answer(step(world, party, what), output),

@@ -1,16 +1,14 @@
 -- Each action can be done where the program does it.
-use Rattle.std.proofs.Common.{◌≡◌, ℕ, ◌+◌, ◌*◌, ◌<◌, ◌≤◌, Bool, true, false, List, length, get_or, Option, None, arith, refl, sym, ◌∙◌, ap, get_or-set_same, length-set}
-use Rattle.std.proofs.Math.ListN.{set}
-use Rattle.std.specs.List.{sum_by, All}
-use Rattle.std.proofs.lemmas.List.Sums.{sum_by-set, sum_by-le, get_or-le-sum_by}
+use Rattle.std.proofs.Common.{◌≡◌, ℕ, ◌<◌, ◌≤◌, Bool, true, false, List, length, get_or, arith, refl}
+use Rattle.std.specs.List.{sum_by}
+use Rattle.std.proofs.lemmas.List.Sums.{get_or-le-sum_by}
 use Rattle.lock_queue.specs.Queues.{Queue}
 use Rattle.lock_queue.specs.Parties.{entries_of}
-use Rattle.lock_event.specs.declared.event.EntryId.{EntryId}
 use Rattle.lock_core.specs.declared.program.mutex.Place.{Place}
 use Rattle.lock_core.specs.declared.program.mutex.Place.TheVariants.{Out, Holding, Enter, Try, Clear, CancelUncount, CancelLeave, Join, Look, Ask, Retry, PassOn, Count, JoinStarved, LookAlone, PassOnListed, AskStarved, Seize, Uncount, Leave, RefuseUncount, RefuseLeave, RefuseNotifyMemory, RefuseNotifyStarved, ReleaseNotify}
 use Rattle.lock_core.specs.declared.mutex.word.Word.{Word}
 use Rattle.lock_core.specs.Mutex.Program.{action_of}
-use Rattle.lock_core.specs.Mutex.Roles.{bit, holds, counted, listed, waits, owes}
+use Rattle.lock_core.specs.Mutex.Roles.{bit, holds, counted, listed}
 use Rattle.lock_core.specs.Mutex.Seats.{CanDo}
 use Rattle.lock_core.specs.Mutex.Machine.{IsLock, place_at, SameRoles}
 

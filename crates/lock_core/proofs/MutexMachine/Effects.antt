@@ -1,10 +1,9 @@
 -- What an action does, in numbers.
-use Rattle.std.proofs.Common.{◌≡◌, ◌≢◌, ℕ, ◌+◌, ◌-◌, ◌<◌, ◌≤◌, Some, Bool, true, false, List, length, refl, ap, arith, sym, ◌∙◌}
+use Rattle.std.proofs.Common.{◌≡◌, ℕ, ◌+◌, ◌-◌, Bool, true, false, length, ap, ◌∙◌}
 use Rattle.lock_event.specs.declared.event.Mark.TheVariants.{Notified}
-use Rattle.lock_event.specs.Lists.{marked_count, notified, joined, without, is_listed, left, mark_at}
-use Rattle.lock_event.specs.Slots.{has_id, slot_of}
+use Rattle.lock_event.specs.Lists.{marked_count, notified, without, is_listed, mark_at}
 use Rattle.lock_event.proofs.Marks.{marked_count-joined, length-mark_waiting}
-use Rattle.lock_event.proofs.Counts.{length-joined, length-without, marked_count-without_marked, is_listed-marked, marked_count-notified, marked_count-left, length-left, length-passed_on}
+use Rattle.lock_event.proofs.Counts.{length-joined, length-without, marked_count-without_marked, is_listed-marked, marked_count-notified, marked_count-left, length-passed_on}
 use Rattle.lock_core.specs.declared.program.mutex.Action.{Action}
 use Rattle.lock_core.specs.declared.program.mutex.Action.TheVariants as act
 use Rattle.lock_core.specs.declared.program.mutex.Found.{Found}
@@ -13,11 +12,11 @@ use Rattle.lock_core.specs.declared.mutex.word.Word.{Word}
 use Rattle.lock_core.specs.Mutex.Roles.{bit}
 use Rattle.lock_core.specs.Mutex.Effects.{OnWord, word}
 use Rattle.lock_core.specs.Mutex.Seats.{CanDo, OnList}
-use Rattle.lock_queue.specs.Parties.{is_party, entries_of}
-use Rattle.lock_queue.specs.Queues.{Queue, queue}
+use Rattle.lock_queue.specs.Parties.{is_party}
+use Rattle.lock_queue.specs.Queues.{Queue}
 use Rattle.lock_core.specs.Mutex.Tally.{Tally, tally_of}
 use Rattle.lock_core.proofs.MutexMachine.Owners.{listed_one}
-use Rattle.lock_core.proofs.MutexMachine.Steps.{Effect, SameWord, SameList, Left}
+use Rattle.lock_core.proofs.MutexMachine.Steps.{Effect, SameWord, SameList}
 
 module _ (v w : Word) (s t : Queue) where
   abbrev before : Tally

@@ -1,5 +1,5 @@
 -- A lock is taken only where nobody holds it, and where nobody or the taker is starved.
-use Rattle.std.proofs.Common.{◌≡◌, ◌≢◌, ℕ, ◌+◌, ◌<◌, ◌≤◌, ◌⊎◌, inl, inr, Bool, true, false, List, length, get_or, refl, arith, sym, ◌∙◌, ap, subst, get_or-set_same, get_or-set_other}
+use Rattle.std.proofs.Common.{◌≡◌, ℕ, ◌<◌, ◌⊎◌, inl, inr, Bool, true, false, length, refl, arith, sym, ◌∙◌, subst, get_or-set_same, get_or-set_other}
 use Rattle.std.proofs.Math.ListN.{set}
 use Rattle.std.proofs.Math.Decide.{ℕ_discrete}
 use Rattle.lock_core.specs.declared.program.mutex.Place.{Place}
@@ -7,7 +7,7 @@ use Rattle.lock_core.specs.declared.program.mutex.Place.TheVariants.{Out, Holdin
 use Rattle.lock_core.specs.declared.program.mutex.Next.{Next}
 use Rattle.lock_core.specs.declared.program.mutex.Found.{Found}
 use Rattle.lock_core.specs.declared.program.mutex.Found.TheVariants.{Done, Free, Held, SomeStarved, AtLimit, NoMemory, Yes, No}
-use Rattle.lock_core.specs.Mutex.Program.{action_of, next_of, place_after}
+use Rattle.lock_core.specs.Mutex.Program.{action_of, place_after}
 use Rattle.lock_core.specs.Mutex.Roles.{holds, counted}
 use Rattle.lock_core.specs.Mutex.Machine.{Lock, place_at, SameRoles}
 use Rattle.lock_core.specs.Mutex.Acts.{Acts, Finds, holders, starved, TakenFairly}

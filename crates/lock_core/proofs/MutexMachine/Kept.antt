@@ -6,7 +6,7 @@ use Rattle.lock_core.specs.declared.program.mutex.Place.TheVariants.{Out, Holdin
 use Rattle.lock_core.specs.declared.program.mutex.Found.{Found}
 use Rattle.lock_core.specs.declared.program.mutex.Found.TheVariants.{Done, Free, Held, SomeStarved, AtLimit, NoMemory, Yes, No}
 use Rattle.lock_core.specs.Mutex.Program.{action_of, next_of, place_after}
-use Rattle.lock_core.specs.Mutex.Roles.{holds, counted, listed, waits, owes}
+use Rattle.lock_core.specs.Mutex.Roles.{holds, counted, listed}
 use Rattle.lock_core.specs.Mutex.Tally.{Tally, Counts, IsSound}
 use Rattle.lock_core.proofs.MutexMachine.Steps.{Effect, IsCounted, Moves}
 

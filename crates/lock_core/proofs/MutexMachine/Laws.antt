@@ -1,24 +1,19 @@
 -- What always holds of a mutex, as callers see it.
-use Rattle.std.proofs.Common.{◌≡◌, ◌≢◌, ℕ, ◌+◌, ◌<◌, ◌≤◌, Bool, true, false, zero, suc, List, [], ◌∷◌, length, Option, Some, refl, ap, arith, sym, ◌∙◌}
-use Rattle.std.specs.List.{sum_by}
-use Rattle.std.proofs.lemmas.List.Sums.{sum_by-cons}
-use Rattle.lock_event.specs.declared.event.Entry.{Entry}
-use Rattle.lock_event.specs.declared.event.EntryId.{EntryId}
+use Rattle.std.proofs.Common.{◌≡◌, ℕ, Bool, true, zero, suc, List, [], ◌∷◌, length, refl, ap, arith, sym, ◌∙◌}
 use Rattle.lock_event.specs.Lists.{marked_count, IsMarkedFirst}
 use Rattle.lock_queue.specs.Queues.{Queue}
 use Rattle.lock_queue.specs.Debts.{Roles, Rests, AllRest}
 use Rattle.lock_queue.proofs.Debts.{paid_at_rest}
 use Rattle.lock_core.specs.declared.program.mutex.Place.{Place}
-use Rattle.lock_core.specs.declared.program.mutex.Place.TheVariants.{Out, Holding, Enter, Try, Clear, CancelUncount, CancelLeave, Join, Look, Ask, Retry, PassOn, Count, JoinStarved, LookAlone, PassOnListed, AskStarved, Seize, Uncount, Leave, RefuseUncount, RefuseLeave, RefuseNotifyMemory, RefuseNotifyStarved, ReleaseNotify}
+use Rattle.lock_core.specs.declared.program.mutex.Place.TheVariants.{Out, Holding, Ask, AskStarved}
 use Rattle.lock_core.specs.declared.program.mutex.Action.{Action}
 use Rattle.lock_core.specs.declared.program.mutex.Action.TheVariants as act
 use Rattle.lock_core.specs.declared.program.mutex.Found.{Found}
 use Rattle.lock_core.specs.declared.program.mutex.Found.TheVariants.{Done, Free, Held, SomeStarved, AtLimit, NoMemory, Yes, No}
 use Rattle.lock_core.specs.declared.mutex.word.Word.{Word}
-use Rattle.lock_core.specs.Mutex.Roles.{bit, holds, counted, listed, waits, owes, is_resting}
+use Rattle.lock_core.specs.Mutex.Roles.{bit, counted, listed, waits, owes, is_resting}
 use Rattle.lock_core.specs.Mutex.Effects.{OnWord}
 use Rattle.lock_core.specs.Mutex.Seats.{OnList}
-use Rattle.lock_core.specs.Mutex.Tally.{IsSound, tally_of, counts_of}
 use Rattle.lock_core.specs.Mutex.Machine.{Lock, IsLock, place_at}
 use Rattle.lock_core.specs.Mutex.Acts.{Finds, IsAtRest, IsMutex}
 

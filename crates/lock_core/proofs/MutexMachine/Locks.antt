@@ -1,24 +1,22 @@
 -- An action of one party keeps what always holds of a mutex.
-use Rattle.std.proofs.Common.{◌≡◌, ℕ, ◌+◌, ◌<◌, ◌≤◌, Bool, List, Option, None, length, get_or, arith, refl, sym, ap, subst, ◌∙◌, length-set, get_or-set_same, get_or-set_other}
+use Rattle.std.proofs.Common.{◌≡◌, ℕ, ◌+◌, ◌<◌, Bool, List, length, arith, sym, subst, ◌∙◌, length-set, get_or-set_same, get_or-set_other}
 use Rattle.std.proofs.Math.ListN.{set}
 use Rattle.std.proofs.Math.Decide.{ℕ_discrete}
 use Rattle.lock_queue.specs.Queues.{Queue}
 use Rattle.lock_queue.specs.Parties.{entries_of}
-use Rattle.lock_event.specs.declared.event.EntryId.{EntryId}
 use Rattle.lock_core.specs.declared.program.mutex.Place.{Place}
-use Rattle.lock_core.specs.declared.program.mutex.Action.{Action}
 use Rattle.lock_core.specs.declared.program.mutex.Action.TheVariants as act
 use Rattle.lock_core.specs.declared.program.mutex.Place.TheVariants.{Out}
 use Rattle.lock_core.specs.Mutex.Roles.{listed}
 use Rattle.lock_core.specs.Mutex.Parties.{OnParties}
 use Rattle.lock_core.specs.declared.program.mutex.Found.{Found}
 use Rattle.lock_core.specs.declared.mutex.word.Word.{Word}
-use Rattle.lock_core.specs.Mutex.Program.{action_of, next_of, place_after}
+use Rattle.lock_core.specs.Mutex.Program.{action_of}
 use Rattle.lock_core.specs.Mutex.Effects.{OnWord}
 use Rattle.lock_core.specs.Mutex.Seats.{CanDo, OnList}
-use Rattle.lock_core.specs.Mutex.Tally.{IsSound, tally_of, counts_of}
+use Rattle.lock_core.specs.Mutex.Tally.{tally_of, counts_of}
 use Rattle.lock_core.specs.Mutex.Machine.{IsLock, SameRoles, place_at}
-use Rattle.lock_core.proofs.MutexMachine.CanDo.{can_do, once}
+use Rattle.lock_core.proofs.MutexMachine.CanDo.{can_do}
 use Rattle.lock_core.proofs.MutexMachine.Owners.{on_parties, parties_kept, lengths, others}
 use Rattle.lock_core.proofs.MutexMachine.Steps.{Effect, Moves}
 use Rattle.lock_core.proofs.MutexMachine.Effects.{numbers}

@@ -1,20 +1,14 @@
 -- Whose the entries are, after an action of one party.
-use Rattle.std.proofs.Common.{◌≡◌, ◌≢◌, ℕ, ◌+◌, ◌-◌, ◌<◌, ◌≤◌, Bool, true, false, List, [], ◌∷◌, length, get_or, Option, Some, None, arith, refl, sym, ◌∙◌, ap}
-use Rattle.std.proofs.Math.ListN.{set}
+use Rattle.std.proofs.Common.{◌≡◌, ◌≢◌, ℕ, ◌+◌, ◌-◌, ◌<◌, Bool, true, List, [], ◌∷◌, length, arith, refl, ◌∙◌, ap}
 use Rattle.lock_event.specs.declared.event.Entry.{Entry}
-use Rattle.lock_event.specs.declared.event.Slot.{Slot}
-use Rattle.lock_event.specs.declared.event.EntryId.{EntryId}
 use Rattle.lock_event.specs.declared.event.Mark.TheVariants.{Waiting, Notified}
-use Rattle.lock_event.specs.Lists.{entry, marked_count, joined, notified, without, left, mark_at, key_at, passed_on, is_listed, is_marked_at}
-use Rattle.lock_event.specs.Slots.{has_id, slot_of}
-use Rattle.lock_event.specs.Waiting.{Waiters}
+use Rattle.lock_event.specs.Lists.{entry, marked_count, without, mark_at, is_listed, is_marked_at}
 use Rattle.lock_event.proofs.Marks.{length-mark_waiting}
-use Rattle.lock_event.proofs.Counts.{length-joined, length-without, length-passed_on, is_listed-marked}
+use Rattle.lock_event.proofs.Counts.{length-joined, length-without, length-passed_on}
 use Rattle.lock_core.specs.declared.program.mutex.Action.{Action}
 use Rattle.lock_core.specs.declared.program.mutex.Action.TheVariants as act
 use Rattle.lock_core.specs.declared.program.mutex.Found.{Found}
-use Rattle.lock_core.specs.declared.program.mutex.Found.TheVariants.{Done, Free, Held, SomeStarved, AtLimit, NoMemory, Yes, No}
-use Rattle.lock_core.specs.declared.mutex.word.Word.{Word}
+use Rattle.lock_core.specs.declared.program.mutex.Found.TheVariants.{Done, NoMemory, Yes, No}
 use Rattle.lock_core.specs.Mutex.Seats.{OnList}
 use Rattle.lock_queue.specs.Queues.{Queue}
 use Rattle.lock_core.specs.Mutex.Parties.{OnParties}

@@ -1,12 +1,12 @@
 -- One party goes from one place to another.
-use Rattle.std.proofs.Common.{◌≡◌, ℕ, ◌+◌, ◌<◌, ◌≤◌, List, [], ◌∷◌, length, get_or, arith, true, false, refl, get_or-set_same, length-set}
+use Rattle.std.proofs.Common.{ℕ, ◌+◌, ◌<◌, ◌≤◌, List, [], ◌∷◌, length, get_or, arith, true, false, get_or-set_same, length-set}
 use Rattle.std.proofs.Math.ListN.{set}
 use Rattle.std.specs.List.{sum_by}
 use Rattle.std.proofs.lemmas.List.Sums.{sum_by-set, sum_by-le-sum_by, get_or-le-sum_by, sum_by-cons}
 use Rattle.lock_core.specs.declared.program.mutex.Place.{Place}
 use Rattle.lock_core.specs.declared.program.mutex.Place.TheVariants.{Out, Holding, Enter, Try, Clear, CancelUncount, CancelLeave, Join, Look, Ask, Retry, PassOn, Count, JoinStarved, LookAlone, PassOnListed, AskStarved, Seize, Uncount, Leave, RefuseUncount, RefuseLeave, RefuseNotifyMemory, RefuseNotifyStarved, ReleaseNotify}
-use Rattle.lock_core.specs.Mutex.Roles.{bit, holds, counted, listed, waits, owes}
-use Rattle.lock_core.specs.Mutex.Tally.{Counts, counts_of}
+use Rattle.lock_core.specs.Mutex.Roles.{holds, counted, listed, waits, owes}
+use Rattle.lock_core.specs.Mutex.Tally.{counts_of}
 use Rattle.lock_core.specs.Mutex.Machine.{place_at, SameRoles}
 use Rattle.lock_core.proofs.MutexMachine.Steps.{IsCounted, Moves}
 

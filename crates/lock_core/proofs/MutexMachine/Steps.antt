@@ -1,11 +1,11 @@
 -- What a step does to the numbers.
-use Rattle.std.proofs.Common.{◌≡◌, ℕ, ◌+◌, ◌<◌, ◌≤◌, ◌≢◌}
+use Rattle.std.proofs.Common.{◌≡◌, ◌+◌, ◌<◌, ◌≤◌, ◌≢◌}
 use Rattle.lock_core.specs.declared.program.mutex.Place.{Place}
 use Rattle.lock_core.specs.declared.program.mutex.Action.{Action}
 use Rattle.lock_core.specs.declared.program.mutex.Action.TheVariants as act
 use Rattle.lock_core.specs.declared.program.mutex.Found.{Found}
 use Rattle.lock_core.specs.declared.program.mutex.Found.TheVariants.{Done, Free, Held, SomeStarved, AtLimit, NoMemory, Yes, No}
-use Rattle.lock_core.specs.Mutex.Tally.{Tally, Counts, IsSound}
+use Rattle.lock_core.specs.Mutex.Tally.{Tally, Counts}
 use Rattle.lock_core.specs.Mutex.Roles.{holds, counted, listed as stands, waits, owes}
 
 abbrev pub SameWord : Tally → Tally → Type 0

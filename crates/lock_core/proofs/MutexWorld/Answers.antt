@@ -1,12 +1,11 @@
 -- What an action's answer says of its party's standing, and what it does to the list.
-use Rattle.std.proofs.Common.{◌≡◌, ℕ, ◌==◌, inl, inr, Bool, true, false, List, [], ◌∷◌, Some, None, refl, arith, sym, ◌∙◌, if◌then◌else◌}
+use Rattle.std.proofs.Common.{◌≡◌, ℕ, Bool, true, false, List, [], ◌∷◌, Some, refl, arith, sym, ◌∙◌, if◌then◌else◌}
 use Rattle.std.proofs.lemmas.Bool.Decides.{nat_tests}
 use Rattle.lock_event.specs.declared.event.Entry.{Entry}
 use Rattle.lock_event.specs.declared.event.Mark.{Mark}
 use Rattle.lock_event.specs.declared.event.Mark.TheVariants.{Waiting, Notified, Additional}
 use Rattle.lock_event.specs.Lists.{mark_at, is_marked, is_marked_at, without}
 use Rattle.lock_queue.specs.Parties.{is_party, entries_of}
-use Rattle.lock_core.specs.declared.refusal.Refusal.TheVariants as refusal
 use Rattle.lock_core.specs.declared.program.mutex.Place.{Place}
 use Rattle.lock_core.specs.declared.program.mutex.Place.TheVariants as place
 use Rattle.lock_core.specs.declared.program.mutex.Action.{Action}
@@ -16,7 +15,6 @@ use Rattle.lock_core.specs.declared.program.mutex.Found.TheVariants.{Done, Free,
 use Rattle.lock_core.specs.declared.program.mutex.Next.{Next}
 use Rattle.lock_core.specs.declared.program.mutex.Next.TheVariants as next
 use Rattle.lock_core.specs.declared.program.mutex.End.TheVariants as «end»
-use Rattle.lock_core.specs.declared.moves.Answer.{Answer}
 use Rattle.lock_core.specs.declared.standing.Kind.{Kind}
 use Rattle.lock_core.specs.declared.standing.Kind.TheVariants as kind
 use Rattle.lock_core.specs.declared.standing.Within.{Within}

@@ -1,5 +1,5 @@
 -- Which stages and moves a plan comes from: one case for each call that a mutex's party may begin.
-use Rattle.std.proofs.Common.{◌≡◌, ℕ, Option, Some, None, refl, sym, ap, subst}
+use Rattle.std.proofs.Common.{◌≡◌, ℕ, Some, subst}
 use Rattle.lock_core.specs.declared.program.mutex.LockCall.{LockCall}
 use Rattle.lock_core.specs.declared.program.mutex.LockCall.TheVariants as lock_call
 use Rattle.lock_core.specs.declared.moves.Call.{Call}
@@ -7,7 +7,6 @@ use Rattle.lock_core.specs.declared.moves.Call.TheVariants as call
 use Rattle.lock_core.specs.declared.moves.Inputs.{Inputs}
 use Rattle.lock_core.specs.declared.moves.What.{What}
 use Rattle.lock_core.specs.declared.moves.What.TheVariants.{Begin, Go}
-use Rattle.lock_core.specs.declared.mutex.table.Plan.{Plan}
 use Rattle.lock_core.specs.declared.mutex.table.Plan.TheVariants as plan
 use Rattle.lock_core.specs.declared.standing.Kind.TheVariants as kind
 use Rattle.lock_core.specs.declared.standing.Rest.{Rest}

@@ -1,16 +1,14 @@
 -- Each move is legal, as callers see it.
-use Rattle.std.proofs.Common.{◌≡◌, ◌≢◌, ℕ, ◌<◌, ◌||◌, ◌==◌, if◌then◌else◌, inl, inr, Bool, true, false, List, length, nat_lt, Option, Some, None, IsSomeAnd, refl, arith, ap, sym, ◌∙◌, subst}
+use Rattle.std.proofs.Common.{◌≡◌, ◌≢◌, ℕ, ◌<◌, ◌||◌, if◌then◌else◌, inl, inr, Bool, true, false, List, length, nat_lt, Option, Some, None, IsSomeAnd, refl, arith, ap, sym, ◌∙◌, subst}
 use Rattle.std.proofs.Math.ListN.{set}
 use Rattle.std.proofs.lemmas.Bool.Decides.{nat_tests}
 use Rattle.lock_event.specs.declared.event.Entry.{Entry}
 use Rattle.lock_queue.specs.Parties.{entries_of}
 use Rattle.lock_core.specs.declared.refusal.Refusal.TheVariants as refusal
 use Rattle.lock_core.specs.declared.program.mutex.Place.{Place}
-use Rattle.lock_core.specs.declared.program.mutex.LockCall.{LockCall}
 use Rattle.lock_core.specs.declared.program.mutex.Next.{Next}
 use Rattle.lock_core.specs.declared.moves.Answer.{Answer}
 use Rattle.lock_core.specs.declared.moves.Answer.TheVariants as answer
-use Rattle.lock_core.specs.declared.moves.Call.{Call}
 use Rattle.lock_core.specs.declared.moves.Call.TheVariants as call
 use Rattle.lock_core.specs.declared.moves.Got.TheVariants.{Value}
 use Rattle.lock_core.specs.declared.moves.Inputs.{Inputs}
@@ -24,16 +22,15 @@ use Rattle.lock_core.specs.declared.standing.Rest.TheVariants as rest
 use Rattle.lock_core.specs.declared.standing.Stage.{Stage}
 use Rattle.lock_core.specs.declared.standing.Stage.TheVariants.{Outside, Inside, Forgotten}
 use Rattle.lock_core.specs.declared.standing.Within.{Within}
-use Rattle.lock_core.specs.Standings.{Standing, outside, inside, forgotten, call_in, is_possible, refused, StandsAfter, is_decided, decision}
+use Rattle.lock_core.specs.Standings.{Standing, outside, inside, forgotten, call_in, refused, StandsAfter, is_decided, decision}
 use Rattle.lock_core.specs.Steps.{nothing, changes}
 use Rattle.lock_core.specs.Mutex.Program.{start_of, next_of, place_after}
-use Rattle.lock_core.specs.Mutex.Courses.{Begins, GoesOn}
-use Rattle.lock_core.specs.Mutex.Machine.{Lock, place_at}
+use Rattle.lock_core.specs.Mutex.Machine.{place_at}
 use Rattle.lock_core.specs.Mutex.Acts.{IsMutex}
 use Rattle.lock_core.specs.Mutex.Plans.{plan_of, answer_of, stage_after, stage_at, goes_with, within}
 use Rattle.lock_core.specs.Mutex.Table.{Table, IsTable, Steps, Does, IsStep, plan_in}
 use Rattle.lock_core.specs.Mutex.State.{World, standing_of}
-use Rattle.lock_core.specs.Mutex.Legal.{knows, puts, call_of, is_drop, is_try, is_poll_after_ready, is_first_poll, is_refusal, put_in, DecidesOn, HasItsOwn, Legal, AnswersAtOnce}
+use Rattle.lock_core.specs.Mutex.Legal.{knows, puts, call_of, is_drop, is_poll_after_ready, is_first_poll, HasItsOwn, Legal, AnswersAtOnce}
 use Rattle.lock_core.specs.Mutex.Roles.{bit, holds}
 use Rattle.lock_core.specs.Mutex.View.{is_holder, verdict, stands_as, view_of}
 use Rattle.lock_core.proofs.MutexMachine.Courses.{begins, goes}

@@ -22,16 +22,14 @@ use Rattle.lock_core.specs.declared.program.mutex.Found.TheVariants.{Free, Held,
 use Rattle.lock_core.specs.declared.program.mutex.Next.{Next}
 use Rattle.lock_core.specs.declared.moves.Answer.{Answer}
 use Rattle.lock_core.specs.declared.moves.Answer.TheVariants as answer
-use Rattle.lock_core.specs.declared.moves.Got.{Got}
 use Rattle.lock_core.specs.declared.moves.Got.TheVariants.{Value}
 use Rattle.lock_core.specs.declared.moves.Move.{Move}
-use Rattle.lock_core.specs.declared.standing.Kind.{Kind}
 use Rattle.lock_core.specs.declared.standing.Rest.TheVariants as rest
 use Rattle.lock_core.specs.declared.standing.Stage.{Stage}
 use Rattle.lock_core.specs.declared.standing.Stage.TheVariants.{Forgotten}
 use Rattle.lock_core.specs.declared.standing.Within.{Within}
 use Rattle.lock_core.specs.Refusals.{number_of}
-use Rattle.lock_core.specs.Standings.{Standing, inside, call_in, inputs_of, is_possible, refused, StandsAfter, is_decided, decision}
+use Rattle.lock_core.specs.Standings.{Standing, inside, inputs_of, StandsAfter, is_decided, decision}
 use Rattle.lock_core.specs.Steps.{Deed, nothing, changes, does}
 use Rattle.lock_core.specs.Mutex.Program.{action_of, next_of}
 use Rattle.lock_core.specs.Mutex.Roles.{bit, holds, counted, listed}
@@ -40,12 +38,12 @@ use Rattle.lock_core.specs.Mutex.Machine.{Lock, place_at}
 use Rattle.lock_core.specs.Mutex.Acts.{Finds, holders, starved, IsMutex}
 use Rattle.lock_core.specs.Mutex.Plans.{answer_of, stage_after, stage_at}
 use Rattle.lock_core.specs.Mutex.Table.{IsTable}
-use Rattle.lock_core.specs.Mutex.State.{State, World, standing_of, is_starved, how_many, is_free, mark_of, IsClear}
-use Rattle.lock_core.specs.Mutex.Legal.{Change, ListName, takes, releases, starves, recovers, puts, for_the_lock, state_after, entries_after, gives_back, is_drop, is_try, is_first_poll, call_of, put_in, DecidesOn, IsPossible, ChangesOneThing, IsTakenFairly, OthersKeepTheirs, Carries, Waits, IsCause, IsRefusedForCause, LeavesClear, IsValueKept, EndsProperly, Legal, AnswersAtOnce}
+use Rattle.lock_core.specs.Mutex.State.{State, World, standing_of, is_starved, how_many, is_free, mark_of}
+use Rattle.lock_core.specs.Mutex.Legal.{Change, ListName, takes, releases, starves, recovers, puts, state_after, entries_after, gives_back, is_drop, is_first_poll, call_of, DecidesOn, IsPossible, ChangesOneThing, IsTakenFairly, OthersKeepTheirs, Carries, Waits, IsCause, IsRefusedForCause, LeavesClear, IsValueKept, EndsProperly, Legal, AnswersAtOnce}
 use Rattle.lock_core.specs.Mutex.View.{is_holder, is_counted, verdict, stands_as, seen}
 use Rattle.lock_core.proofs.MutexMachine.Kept.{after}
 use Rattle.lock_core.proofs.MutexWorld.Rows.{Row, row, deed_of, is_at_try, answer_by, is_after_ready, Holds, Starves, Finding, Refuses, Reason, Judged, verdict_then}
-use Rattle.lock_core.proofs.MutexWorld.Turns.{Turn, is_try_kind}
+use Rattle.lock_core.proofs.MutexWorld.Turns.{Turn}
 use Rattle.lock_core.proofs.MutexWorld.Views as view
 use Rattle.lock_core.proofs.MutexWorld.Answers as answers
 use Rattle.lock_core.proofs.MutexWorld.Owns as owns

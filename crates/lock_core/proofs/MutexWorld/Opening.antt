@@ -1,5 +1,5 @@
 -- A new table is seen as a new World.
-use Rattle.std.proofs.Common.{◌≡◌, ℕ, ◌+◌, Bool, true, false, List, [], ◌∷◌, map, replicate, zero, suc, Option, Some, None, refl, ap, ◌∙◌}
+use Rattle.std.proofs.Common.{◌≡◌, ℕ, ◌+◌, false, ◌∷◌, map, replicate, zero, suc, None, refl, ap}
 use Rattle.lock_core.specs.declared.program.mutex.Place.TheVariants as place
 use Rattle.lock_core.specs.declared.standing.Rest.TheVariants.{Idle}
 use Rattle.lock_core.specs.declared.standing.Stage.TheVariants.{Outside}

@@ -1,5 +1,5 @@
 -- After each step the rights by the answers are the state's.
-use Rattle.std.proofs.Common.{◌≡◌, ◌≢◌, ℕ, ◌==◌, ◌++◌, ◌&&◌, ◌⊎◌, ◌↔◌, if◌then◌else◌, inl, inr, Bool, true, false, List, [], ◌∷◌, Option, Some, None, refl, arith, ap, sym, ◌∙◌, subst}
+use Rattle.std.proofs.Common.{◌≡◌, ◌≢◌, ℕ, ◌==◌, ◌++◌, ◌⊎◌, ◌↔◌, if◌then◌else◌, inl, inr, Bool, true, false, List, [], ◌∷◌, Option, Some, None, refl, arith, ap, sym, ◌∙◌, subst}
 use Rattle.std.proofs.Math.Decide.{ℕ_discrete}
 use Rattle.std.proofs.lemmas.Bool.Decides.{nat_tests}
 use Rattle.lock_core.specs.declared.refusal.Refusal.TheVariants as refusal
@@ -18,7 +18,7 @@ use Rattle.lock_core.specs.declared.standing.Kind.TheVariants as kind
 use Rattle.lock_core.specs.declared.standing.Rest.{Rest}
 use Rattle.lock_core.specs.declared.standing.Rest.TheVariants as rest
 use Rattle.lock_core.specs.declared.standing.Within.{Within}
-use Rattle.lock_core.specs.Standings.{Standing, outside, inside, forgotten, call_in, may_end, is_possible, refused, rest_after, leaves_as_it_was, StandsAfter}
+use Rattle.lock_core.specs.Standings.{Standing, outside, inside, forgotten, call_in, may_end, is_possible, refused, leaves_as_it_was, StandsAfter}
 use Rattle.lock_core.specs.Mutex.State.{World, standing_of, is_free}
 use Rattle.lock_core.specs.Mutex.Legal.{knows, is_drop, is_try, is_poll_after_ready, put_in, call_of, HasItsOwn, Legal, AnswersAtOnce}
 use Rattle.lock_core.specs.Mutex.Laws.{IsSound, IsAwake, is_long_call, is_outside, is_at_rest}

@@ -1,5 +1,5 @@
 -- What always holds of a mutex's World, and that no notification is lost at rest.
-use Rattle.std.proofs.Common.{◌≡◌, ℕ, ◌+◌, ◌<◌, ◌≤◌, ◌⊎◌, ◌&&◌, inl, inr, Bool, true, false, List, [], ◌∷◌, length, map, zero, suc, Option, Some, None, refl, arith, ap, sym, ◌∙◌, subst}
+use Rattle.std.proofs.Common.{◌≡◌, ℕ, ◌<◌, ◌⊎◌, ◌&&◌, inl, inr, Bool, true, false, List, [], ◌∷◌, length, map, zero, suc, Option, refl, arith, sym, ◌∙◌, subst}
 use Rattle.std.specs.List.{list_all}
 use Rattle.std.proofs.lemmas.List.{length-map}
 use Rattle.std.proofs.lemmas.Bool.Decides.{nat_tests}
@@ -11,15 +11,15 @@ use Rattle.lock_core.specs.declared.standing.Stage.{Stage}
 use Rattle.lock_core.specs.declared.standing.Stage.TheVariants.{Outside, Inside, Forgotten}
 use Rattle.lock_core.specs.declared.moves.Answer.{Answer}
 use Rattle.lock_core.specs.declared.standing.Within.{Within}
-use Rattle.lock_core.specs.Standings.{Standing, outside, inside, forgotten, is_outside_stage, forgets}
-use Rattle.lock_core.specs.Rights.{Right, hold, excludes}
-use Rattle.lock_core.specs.Mutex.Roles.{holds, counted, listed, is_resting}
+use Rattle.lock_core.specs.Standings.{outside, inside, forgotten, is_outside_stage, forgets}
+use Rattle.lock_core.specs.Rights.{Right, hold}
+use Rattle.lock_core.specs.Mutex.Roles.{counted, listed, is_resting}
 use Rattle.lock_core.specs.Mutex.Machine.{Lock, place_at}
 use Rattle.lock_core.specs.Mutex.Acts as lock
 use Rattle.lock_core.specs.Mutex.Acts.{IsMutex}
 use Rattle.lock_core.specs.Mutex.Plans.{stage_at, goes_with}
 use Rattle.lock_core.specs.Mutex.Table.{Table, IsTable}
-use Rattle.lock_core.specs.Mutex.State.{World, standing_of}
+use Rattle.lock_core.specs.Mutex.State.{World}
 use Rattle.lock_core.specs.Mutex.Laws.{HasRight, IsSound, is_long_call, is_outside, is_at_rest, IsAwake}
 use Rattle.lock_core.specs.Mutex.Lending.{is_forgotten_then, world_with}
 use Rattle.lock_core.specs.Mutex.TableCalls.{table_with}
@@ -27,7 +27,7 @@ use Rattle.lock_core.specs.Mutex.View.{is_counted, verdict, stands_as, standings
 use Rattle.lock_core.proofs.MutexMachine.CanDo.{once}
 use Rattle.lock_core.proofs.MutexWorld.Views as view
 use Rattle.lock_core.proofs.MutexWorld.Owns as owns
-use Rattle.lock_core.proofs.MutexWorld.Tables.{PendingAt, for_pending, for_idle, for_holding, ForWithin, for_within}
+use Rattle.lock_core.proofs.MutexWorld.Tables.{for_pending, for_idle, for_holding, for_within}
 
 within_eq : (w u : Within) (o p : Option Answer) → inside w o ≡ inside u p → w ≡ u
 within_eq w u o p e = cc

@@ -1,5 +1,5 @@
 -- A party's stage goes with its place after each move.
-use Rattle.std.proofs.Common.{◌≡◌, ℕ, ◌<◌, Bool, true, false, List, [], ◌∷◌, zero, suc, nat_lt, Option, Some, None, IsSome, IsSomeAnd, arith, length, get_or, refl, sym, ◌∙◌, ap, subst, get_or-set_same, get_or-set_other, length-set}
+use Rattle.std.proofs.Common.{◌≡◌, ℕ, ◌<◌, true, List, [], ◌∷◌, zero, suc, nat_lt, Option, Some, None, IsSome, IsSomeAnd, arith, length, get_or, refl, sym, ◌∙◌, ap, subst, get_or-set_same, get_or-set_other, length-set}
 use Rattle.std.proofs.Math.ListN.{set}
 use Rattle.std.proofs.Math.Decide.{ℕ_discrete}
 use Rattle.std.proofs.lemmas.Bool.Decides.{nat_tests}
@@ -24,13 +24,13 @@ use Rattle.lock_core.specs.declared.standing.Stage.{Stage}
 use Rattle.lock_core.specs.declared.standing.Stage.TheVariants.{Outside, Inside, Forgotten}
 use Rattle.lock_core.specs.declared.standing.Within.{Within}
 use Rattle.lock_core.specs.Standings.{inputs_of}
-use Rattle.lock_core.specs.Mutex.Program.{start_of, place_after}
+use Rattle.lock_core.specs.Mutex.Program.{start_of}
 use Rattle.lock_core.specs.Mutex.Courses.{is_taking, is_waiting, is_releasing, is_cancelling, Takes, Tries, Releases, Cancels, Begins, GoesOn}
 use Rattle.lock_core.specs.Mutex.Machine.{Lock, place_at}
 use Rattle.lock_core.specs.Mutex.Acts.{Acts}
 use Rattle.lock_core.specs.Mutex.Plans.{plan_of, answer_of, stage_after, stage_at, goes_with, is_within, within}
 use Rattle.lock_core.specs.Mutex.Table.{Table, IsTable, Steps, plan_in}
-use Rattle.lock_core.proofs.MutexWorld.Begun.{ForStarts, for_start, for_go}
+use Rattle.lock_core.proofs.MutexWorld.Begun.{for_start, for_go}
 
 -- ---- a call begins only where the lock's program can
 

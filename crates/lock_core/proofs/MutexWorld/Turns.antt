@@ -1,5 +1,5 @@
 -- Where a move's step begins, and what its party's standing says of it.
-use Rattle.std.proofs.Common.{◌≡◌, ℕ, ◌==◌, Bool, true, false, Option, Some, None, refl, arith, sym, ◌∙◌, ap, subst}
+use Rattle.std.proofs.Common.{◌≡◌, ℕ, ◌==◌, Bool, true, false, Option, Some, None, refl, arith, subst}
 use Rattle.std.proofs.lemmas.Bool.Decides.{nat_tests}
 use Rattle.lock_core.specs.declared.refusal.Refusal.TheVariants as refusal
 use Rattle.lock_core.specs.declared.program.mutex.Place.{Place}
@@ -25,16 +25,16 @@ use Rattle.lock_core.specs.declared.standing.Stage.TheVariants.{Outside, Inside,
 use Rattle.lock_core.specs.declared.standing.Within.{Within}
 use Rattle.lock_core.specs.Standings.{Standing, outside, inside, call_in, is_decided, StandsAfter}
 use Rattle.lock_core.specs.Mutex.Program.{start_of}
-use Rattle.lock_core.specs.Mutex.Courses.{is_taking, is_waiting, is_releasing, is_cancelling, Takes, Tries, Releases, Cancels, Begins, GoesOn}
+use Rattle.lock_core.specs.Mutex.Courses.{is_taking, is_releasing, is_cancelling, Takes, Tries, Releases, Cancels, Begins, GoesOn}
 use Rattle.lock_core.specs.Mutex.Machine.{SameRoles}
 use Rattle.lock_core.specs.Mutex.Plans.{plan_of, begins_by, answer_of, stage_after, goes_with, within}
 use Rattle.lock_core.specs.Mutex.Roles.{listed}
 use Rattle.lock_core.specs.Mutex.View.{verdict, stands_as}
 use Rattle.lock_core.specs.Mutex.Legal.{knows, is_drop, is_try, is_poll_after_ready, is_first_poll, put_in}
 use Rattle.lock_core.proofs.MutexMachine.Starts.{start_same}
-use Rattle.lock_core.proofs.MutexWorld.Begun.{ForStarts, for_start, for_go}
+use Rattle.lock_core.proofs.MutexWorld.Begun.{for_start, for_go}
 use Rattle.lock_core.proofs.MutexWorld.Rows.{is_at_try}
-use Rattle.lock_core.proofs.MutexWorld.Tables.{PendingAt, for_pending, for_idle, for_holding, ForWithin, for_within}
+use Rattle.lock_core.proofs.MutexWorld.Tables.{for_pending, for_idle, for_holding, for_within}
 
 abbrev pub is_try_kind : Kind → Bool
 is_try_kind kind.Try = true

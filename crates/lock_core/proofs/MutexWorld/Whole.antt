@@ -1,14 +1,13 @@
 -- A call that is carried out alone ends within its number of steps.
-use Rattle.std.proofs.Common.{◌≡◌, ◌≢◌, ℕ, ◌+◌, ◌<◌, ◌≤◌, if◌then◌else◌, Bool, true, false, List, [], ◌∷◌, ◌++◌, length, nat_lt, replicate, zero, suc, Option, Some, None, IsSomeAnd, refl, arith, ap, sym, ◌∙◌, subst}
+use Rattle.std.proofs.Common.{◌≡◌, ◌≢◌, ℕ, ◌+◌, ◌<◌, ◌≤◌, Bool, true, false, List, [], ◌∷◌, ◌++◌, length, nat_lt, replicate, zero, suc, Option, Some, None, IsSomeAnd, refl, arith, ap, sym, ◌∙◌, subst}
 use Rattle.std.proofs.lemmas.List.{replicate-append-replicate}
 use Rattle.lock_core.specs.declared.program.mutex.LockCall.{LockCall}
-use Rattle.lock_core.specs.declared.program.mutex.LockCall.TheVariants as lock_call
 use Rattle.lock_core.specs.declared.program.mutex.Next.{Next}
 use Rattle.lock_core.specs.declared.program.mutex.Next.TheVariants as next
 use Rattle.lock_core.specs.declared.program.mutex.End.TheVariants as «end»
 use Rattle.lock_core.specs.declared.refusal.Refusal.TheVariants as refusal
 use Rattle.lock_core.specs.declared.moves.Got.TheVariants.{Value}
-use Rattle.lock_core.specs.Standings.{Standing, outside, inputs_of, is_possible, is_stepped, refused, StandsAfter}
+use Rattle.lock_core.specs.Standings.{inputs_of, is_possible, is_stepped, refused, StandsAfter}
 use Rattle.lock_core.specs.declared.program.mutex.Place.{Place}
 use Rattle.lock_core.specs.declared.program.mutex.Place.TheVariants.{Look, Ask, JoinStarved, LookAlone, PassOnListed, AskStarved, Seize, Count, Uncount}
 use Rattle.lock_core.specs.declared.moves.Answer.{Answer}
@@ -26,7 +25,7 @@ use Rattle.lock_core.specs.declared.standing.Kind.TheVariants as kind
 use Rattle.lock_core.specs.declared.standing.Stage.{Stage}
 use Rattle.lock_core.specs.declared.standing.Within.{Within}
 use Rattle.lock_core.specs.Mutex.Program.{start_of}
-use Rattle.lock_core.specs.Mutex.Machine.{Lock, SameRoles, place_at}
+use Rattle.lock_core.specs.Mutex.Machine.{SameRoles, place_at}
 use Rattle.lock_core.specs.Mutex.Acts.{Acts, IsMutex}
 use Rattle.lock_core.specs.Mutex.Plans.{plan_of, answer_of, stage_at}
 use Rattle.lock_core.specs.Mutex.Ranks.{left, steps_left, left_after, most_steps, is_own_marked, is_open}
@@ -44,7 +43,7 @@ use Rattle.lock_core.proofs.MutexWorld.Rights.{holds_well}
 use Rattle.lock_core.proofs.MutexWorld.Sound.{sound, awake}
 use Rattle.lock_core.proofs.MutexMachine.Alone.{fewer, within}
 use Rattle.lock_core.proofs.MutexMachine.Starts.{start_same}
-use Rattle.lock_core.proofs.MutexWorld.Begun.{ForStarts, for_start, for_go}
+use Rattle.lock_core.proofs.MutexWorld.Begun.{for_start, for_go}
 use Rattle.lock_core.proofs.MutexWorld.Events.{known_move, event_good}
 
 -- how many steps are left after this answer

@@ -1,9 +1,8 @@
 -- What one step of a party may do to a mutex.
-use Rattle.std.specs.Prelude.{◌≡◌, ◌≢◌, ℕ, ◌+◌, ◌<◌, ◌≤◌, ◌⊎◌, Bool, true, false, List, [], ◌∷◌, length, slice_set}
+use Rattle.std.specs.Prelude.{◌≡◌, ◌≢◌, ℕ, ◌<◌, ◌≤◌, ◌⊎◌, Bool, true, false, List, [], ◌∷◌, length, slice_set}
 use Rattle.std.specs.List.{sum_by}
 use Rattle.lock_event.specs.Lists.{marked_count, IsMarkedFirst}
 use Rattle.lock_core.specs.declared.program.mutex.Place.{Place}
-use Rattle.lock_core.specs.declared.program.mutex.Place.TheVariants.{Out}
 use Rattle.lock_core.specs.declared.program.mutex.Action.{Action}
 use Rattle.lock_core.specs.declared.program.mutex.Action.TheVariants as act
 use Rattle.lock_core.specs.declared.program.mutex.Found.{Found}

@@ -1,14 +1,13 @@
 -- What a caller can tell of a party's calls without the program's places.
-use Rattle.std.specs.Prelude.{◌≡◌, ℕ, Bool, true, false, ◌||◌}
+use Rattle.std.specs.Prelude.{◌≡◌, Bool, true, false}
 use Rattle.lock_core.specs.declared.program.mutex.Place.{Place}
-use Rattle.lock_core.specs.declared.program.mutex.Place.TheVariants.{Out, Holding, Enter, Try, Clear, CancelUncount, CancelLeave, Join, Look, Ask, Retry, PassOn, Count, JoinStarved, LookAlone, PassOnListed, AskStarved, Seize, Uncount, Leave, RefuseUncount, RefuseLeave, RefuseNotifyMemory, RefuseNotifyStarved, ReleaseNotify}
+use Rattle.lock_core.specs.declared.program.mutex.Place.TheVariants.{Out, Holding, CancelUncount, CancelLeave, Join, Look, Ask, Retry, PassOn, Count, JoinStarved, LookAlone, PassOnListed, AskStarved, Seize, Uncount, Leave, RefuseUncount, RefuseLeave, RefuseNotifyMemory, RefuseNotifyStarved, ReleaseNotify}
 use Rattle.lock_core.specs.declared.program.mutex.LockCall.{LockCall}
 use Rattle.lock_core.specs.declared.program.mutex.LockCall.TheVariants as call
 use Rattle.lock_core.specs.declared.refusal.Refusal.TheVariants.{Memory, Starved}
 use Rattle.lock_core.specs.declared.program.mutex.Next.{Next}
 use Rattle.lock_core.specs.declared.program.mutex.Next.TheVariants as next
 use Rattle.lock_core.specs.declared.program.mutex.End.TheVariants.{Got, Pending, NotFree, GivenBack, Refused}
-use Rattle.lock_core.specs.Mutex.Roles.{is_resting}
 
 -- it is inside a poll
 abbrev pub is_taking : Place → Bool

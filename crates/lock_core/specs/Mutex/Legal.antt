@@ -10,14 +10,14 @@ use Rattle.lock_core.specs.declared.moves.Call.TheVariants as call
 use Rattle.lock_core.specs.declared.moves.Got.TheVariants.{Value}
 use Rattle.lock_core.specs.declared.moves.Move.{Move}
 use Rattle.lock_core.specs.declared.moves.What.{What}
-use Rattle.lock_core.specs.declared.moves.What.TheVariants.{Begin, Go}
+use Rattle.lock_core.specs.declared.moves.What.TheVariants.{Begin}
 use Rattle.lock_core.specs.declared.refusal.Refusal.{Refusal}
 use Rattle.lock_core.specs.declared.refusal.Refusal.TheVariants as refusal
 use Rattle.lock_core.specs.declared.standing.Rest.TheVariants.{Idle, Pending, Holding, Finished}
 use Rattle.lock_core.specs.declared.standing.Within.{Within}
 use Rattle.lock_core.specs.Refusals.{number_of}
-use Rattle.lock_core.specs.Standings.{Standing, outside, inside, forgotten, call_in, inputs_of, is_possible, refused, rest_after, leaves_as_it_was, StandsAfter, is_decided, Decides, decision}
-use Rattle.lock_core.specs.Steps.{Deed, nothing, changes, does, ListFunction, list_after, is_parting}
+use Rattle.lock_core.specs.Standings.{Standing, outside, inside, call_in, inputs_of, is_possible, refused, leaves_as_it_was, StandsAfter, is_decided, Decides, decision}
+use Rattle.lock_core.specs.Steps.{Deed, nothing, changes, does, list_after, is_parting}
 use Rattle.lock_core.specs.Mutex.State.{State, World, standing_of, is_starved, how_many, is_free, mark_of, IsClear}
 
 -- The calls of a mutex.

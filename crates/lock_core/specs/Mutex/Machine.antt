@@ -1,10 +1,6 @@
 -- A mutex: where each party stands, and who waits in its list.
-use Rattle.std.specs.Prelude.{◌≡◌, ℕ, ◌+◌, ◌<◌, ◌≤◌, ◌^◌, List, [], ◌∷◌, length, map, Option, Some, None, unwrap_or, Bool, true, false, slice_index_or, vec_len, replicate}
-use Rattle.std.specs.List.{sum_by}
+use Rattle.std.specs.Prelude.{◌≡◌, ℕ, List, [], length, slice_index_or, replicate}
 use Rattle.lock_event.specs.declared.event.Entry.{Entry}
-use Rattle.lock_event.specs.declared.event.Slot.{Slot}
-use Rattle.lock_event.specs.declared.event.EntryId.{EntryId}
-use Rattle.lock_event.specs.Lists.{entry, marked_count}
 use Rattle.lock_core.specs.declared.program.mutex.Place.{Place}
 use Rattle.lock_core.specs.declared.program.mutex.Place.TheVariants.{Out}
 use Rattle.lock_core.specs.declared.mutex.word.Word.{Word}

@@ -1,5 +1,5 @@
 -- A step of a mutex keeps the numbers that its World was made with.
-use Rattle.std.specs.Prelude.{◌≡◌, ℕ, length}
+use Rattle.std.specs.Prelude.{◌≡◌, length}
 use Rattle.std.proofs.Common.{ap, ◌∙◌}
 use Rattle.lock_core.specs.declared.moves.Answer.{Answer}
 use Rattle.lock_core.specs.declared.moves.Move.{Move}

@@ -1,12 +1,12 @@
 -- The list of a mutex as its parties see it.
-use Rattle.std.specs.Prelude.{◌≡◌, ℕ, ◌+◌, ◌<◌, Bool, true, false, ◌==◌, if◌then◌else◌, List, [], ◌∷◌}
+use Rattle.std.specs.Prelude.{◌≡◌, ℕ, true, false, List}
 use Rattle.lock_event.specs.declared.event.Entry.{Entry}
-use Rattle.lock_event.specs.Lists.{entry, joined, notified, left, without, is_marked_at}
+use Rattle.lock_event.specs.Lists.{joined, notified, left, without, is_marked_at}
 use Rattle.lock_queue.specs.Parties.{is_party}
 use Rattle.lock_core.specs.declared.program.mutex.Action.{Action}
 use Rattle.lock_core.specs.declared.program.mutex.Action.TheVariants as act
 use Rattle.lock_core.specs.declared.program.mutex.Found.{Found}
-use Rattle.lock_core.specs.declared.program.mutex.Found.TheVariants.{Done, Free, Held, SomeStarved, AtLimit, NoMemory, Yes, No}
+use Rattle.lock_core.specs.declared.program.mutex.Found.TheVariants.{Done, Yes}
 
 -- the list function that an action is, for this party
 abbrev pub OnParties : ℕ → Action → Found → List (Entry ℕ) → List (Entry ℕ) → Type 0

@@ -1,6 +1,5 @@
 -- Which moves of a mutex's parties are possible, and what each answers, place by place.
-use Rattle.std.specs.Prelude.{ℕ, ◌||◌, Bool, true, false, List, Option, Some, None, slice_index_or, if◌then◌else◌}
-use Rattle.lock_core.specs.declared.program.mutex.LockCall.{LockCall}
+use Rattle.std.specs.Prelude.{ℕ, Bool, true, false, List, Option, Some, None, slice_index_or}
 use Rattle.lock_core.specs.declared.program.mutex.LockCall.TheVariants as lock_call
 use Rattle.lock_core.specs.declared.program.mutex.Next.{Next}
 use Rattle.lock_core.specs.declared.program.mutex.Next.TheVariants as next
@@ -19,7 +18,7 @@ use Rattle.lock_core.specs.declared.mutex.table.Plan.TheVariants as plan
 use Rattle.lock_core.specs.declared.standing.Kind.{Kind}
 use Rattle.lock_core.specs.declared.standing.Kind.TheVariants as kind
 use Rattle.lock_core.specs.declared.standing.Rest.{Rest}
-use Rattle.lock_core.specs.declared.standing.Rest.TheVariants.{Idle, Pending, Holding, Finished}
+use Rattle.lock_core.specs.declared.standing.Rest.TheVariants.{Idle, Pending, Holding}
 use Rattle.lock_core.specs.declared.standing.Stage.{Stage}
 use Rattle.lock_core.specs.declared.standing.Stage.TheVariants.{Outside, Inside, Forgotten}
 use Rattle.lock_core.specs.declared.standing.Within.{Within}

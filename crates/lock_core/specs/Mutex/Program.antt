@@ -1,6 +1,5 @@
 -- The places of a mutex's calls: the action at each, and what comes after what it finds.
 use Rattle.std.specs.Prelude.{Bool, true, false, Option, Some, None}
-use Rattle.lock_core.specs.declared.refusal.Refusal.{Refusal}
 use Rattle.lock_core.specs.declared.refusal.Refusal.TheVariants.{Memory, Starved}
 use Rattle.lock_core.specs.declared.program.mutex.Place.{Place}
 use Rattle.lock_core.specs.declared.program.mutex.Place.TheVariants.{Out, Holding, Enter, Try, Clear, CancelUncount, CancelLeave, Join, Look, Ask, Retry, PassOn, Count, JoinStarved, LookAlone, PassOnListed, AskStarved, Seize, Uncount, Leave, RefuseUncount, RefuseLeave, RefuseNotifyMemory, RefuseNotifyStarved, ReleaseNotify}
@@ -9,7 +8,7 @@ use Rattle.lock_core.specs.declared.program.mutex.LockCall.TheVariants as call
 use Rattle.lock_core.specs.declared.program.mutex.Action.{Action}
 use Rattle.lock_core.specs.declared.program.mutex.Action.TheVariants as act
 use Rattle.lock_core.specs.declared.program.mutex.Found.{Found}
-use Rattle.lock_core.specs.declared.program.mutex.Found.TheVariants.{Done, Free, Held, SomeStarved, AtLimit, NoMemory, Yes, No}
+use Rattle.lock_core.specs.declared.program.mutex.Found.TheVariants.{Done, Free, Held, AtLimit, Yes}
 use Rattle.lock_core.specs.declared.program.mutex.End.{End}
 use Rattle.lock_core.specs.declared.program.mutex.End.TheVariants.{Got, Pending, NotFree, GivenBack, Refused}
 use Rattle.lock_core.specs.declared.program.mutex.Next.{Next}

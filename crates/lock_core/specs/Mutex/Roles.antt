@@ -1,7 +1,7 @@
 -- What a party at a place has and owes, each as 1 or 0, so that sums over the parties count them.
 use Rattle.std.specs.Prelude.{ℕ, Bool, true, false}
 use Rattle.lock_core.specs.declared.program.mutex.Place.{Place}
-use Rattle.lock_core.specs.declared.program.mutex.Place.TheVariants.{Out, Holding, Enter, Try, Clear, CancelUncount, CancelLeave, Join, Look, Ask, Retry, PassOn, Count, JoinStarved, LookAlone, PassOnListed, AskStarved, Seize, Uncount, Leave, RefuseUncount, RefuseLeave, RefuseNotifyMemory, RefuseNotifyStarved, ReleaseNotify}
+use Rattle.lock_core.specs.declared.program.mutex.Place.TheVariants.{Out, Holding, Clear, CancelUncount, CancelLeave, Look, Ask, Retry, PassOn, Count, JoinStarved, LookAlone, PassOnListed, AskStarved, Seize, Uncount, Leave, RefuseUncount, RefuseLeave, RefuseNotifyMemory, RefuseNotifyStarved, ReleaseNotify}
 
 abbrev pub bit : Bool → ℕ
 bit true = 1

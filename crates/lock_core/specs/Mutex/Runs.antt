@@ -1,11 +1,11 @@
 -- Whole runs of a mutex's World, and the rights that the answers alone tell of.
-use Rattle.std.specs.Prelude.{◌≡◌, ℕ, ◌==◌, ◌&&◌, ◌↔◌, if◌then◌else◌, Bool, true, false, List, [], ◌∷◌, Option, Some, None}
+use Rattle.std.specs.Prelude.{◌≡◌, ℕ, ◌==◌, ◌↔◌, if◌then◌else◌, Bool, true, false, List, [], ◌∷◌, Option, Some, None}
 use Rattle.lock_core.specs.declared.moves.Answer.{Answer}
 use Rattle.lock_core.specs.declared.moves.Answer.TheVariants as answer
 use Rattle.lock_core.specs.declared.moves.Move.{Move}
 use Rattle.lock_core.specs.declared.moves.What.{What}
 use Rattle.lock_core.specs.declared.standing.Rest.TheVariants.{Holding}
-use Rattle.lock_core.specs.Standings.{Standing, outside, inside, forgotten}
+use Rattle.lock_core.specs.Standings.{Standing, outside, forgotten}
 use Rattle.lock_core.specs.Mutex.State.{World, standing_of}
 use Rattle.lock_core.specs.Mutex.Legal.{Legal, is_drop}
 use Rattle.lock_core.specs.Mutex.Laws.{IsSound, IsAwake, is_outside, is_at_rest}

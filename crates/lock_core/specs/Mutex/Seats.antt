@@ -7,7 +7,7 @@ use Rattle.lock_core.specs.declared.mutex.word.Word.{Word}
 use Rattle.lock_core.specs.declared.program.mutex.Action.{Action}
 use Rattle.lock_core.specs.declared.program.mutex.Action.TheVariants as act
 use Rattle.lock_core.specs.declared.program.mutex.Found.{Found}
-use Rattle.lock_core.specs.declared.program.mutex.Found.TheVariants.{Done, Free, Held, SomeStarved, AtLimit, NoMemory, Yes, No}
+use Rattle.lock_core.specs.declared.program.mutex.Found.TheVariants.{Done, NoMemory, Yes, No}
 
 -- actions on the list; one on the word leaves the list alone
 abbrev pub OnList : ℕ → Bool → Action → Found → Queue → Queue → Type 0

@@ -1,5 +1,5 @@
 -- What stands behind a mutex's World, and what one move does to it.
-use Rattle.std.specs.Prelude.{◌≡◌, ℕ, ◌<◌, Bool, true, false, List, length, Option, Some, None, IsSomeAnd, slice_set, replicate, nat_lt, if◌then◌else◌}
+use Rattle.std.specs.Prelude.{◌≡◌, ℕ, ◌<◌, true, List, length, Option, Some, None, IsSomeAnd, slice_set, replicate, nat_lt, if◌then◌else◌}
 use Rattle.lock_core.specs.declared.refusal.Refusal.TheVariants.{Finished}
 use Rattle.lock_core.specs.declared.program.mutex.Next.{Next}
 use Rattle.lock_core.specs.declared.program.mutex.Place.{Place}

@@ -141,6 +141,46 @@ fn a_value_put_at_rest_forgets_the_holder(rt: HostRuntime) -> Result<(), Fail> {
 }
 
 #[test]
+fn a_solo_poll_gives_way_to_a_starved_party_which_takes_the_lock(
+    rt: HostRuntime,
+) -> Result<(), Fail> {
+    let late = Inputs {
+        memory: true,
+        starving: true,
+        made: Made::Pending,
+    };
+    let mut world = World::with_limits(rt.alloc(), 3, 4, 3)?;
+    assert_eq!(rt;
+        world.poll_whole(0, Call::Lock, INPUTS),
+        Answer::Ready(Got::Value(4))
+    );
+    assert_eq!(rt; world.poll_whole(1, Call::Lock, INPUTS), Answer::Pending);
+    assert_eq!(rt; world.poll_whole(2, Call::Lock, INPUTS), Answer::Pending);
+    assert_eq!(rt; world.poll_whole(0, Call::Drop, INPUTS), Answer::GivenBack);
+    assert_eq!(rt;
+        world.poll_whole(0, Call::TryLock, INPUTS),
+        Answer::Granted(Got::Value(4))
+    );
+    assert_eq!(rt; world.poll_whole(1, Call::Poll, late), Answer::Pending);
+    assert_eq!(rt; world.starved(), 1);
+    assert_eq!(rt; world.poll_whole(0, Call::Drop, INPUTS), Answer::GivenBack);
+    assert_eq!(rt; told(&world, 0), Some((2, Mark::Notified)));
+    world.solo_polls();
+    assert_eq!(rt; world.poll_whole(2, Call::Poll, INPUTS), Answer::Pending);
+    assert!(rt; !world.is_locked());
+    assert_eq!(rt; world.starved(), 2);
+    assert_eq!(rt; world.waiting(), 2);
+    assert_eq!(rt; told(&world, 0), Some((1, Mark::Notified)));
+    assert_eq!(rt;
+        world.poll_whole(1, Call::Poll, INPUTS),
+        Answer::Ready(Got::Value(4))
+    );
+    assert!(rt; world.is_locked());
+    assert_eq!(rt; world.starved(), 1);
+    Ok(())
+}
+
+#[test]
 fn the_machine_alone_hands_its_lock_on(rt: HostRuntime) -> Result<(), AllocError> {
     let mut lock = Lock::new(rt.alloc(), 2, 1)?;
     assert_eq!(rt; lock.place(0), Place::Out);

@@ -1,4 +1,4 @@
-use Rattle.std.proofs.Common.{◌≡◌, rules, codes, sym, ◌∙◌}
+use Rattle.std.proofs.Common.{rules}
 use Rattle.lockrun.proofs.Calls.{asked_call}
 use Rattle.lockrun.proofs.command.call.Goals as goal
 

@@ -1,4 +1,4 @@
-use Rattle.std.proofs.Common.{◌≡◌, rules}
+use Rattle.std.proofs.Common.{rules}
 use Rattle.lockrun.proofs.Inputs.{maker_added, maker_refused}
 use Rattle.lockrun.proofs.command.with_word.Goals as goal
 

@@ -1,7 +1,3 @@
-use Rattle.std.proofs.Common.{ℕ, suc}
-use Rattle.lock_core.specs.declared.moves.Answer.{Answer}
-use Rattle.lock_core.specs.declared.moves.Answer.TheVariants as answer
-use Rattle.lock_core.specs.Mutex.Table.{Table}
 use Rattle.lock_core.proofs.MutexWorld.Whole.{SoFar, steps_to_go}
 use Rattle.lock_core.proofs.mutex.table.Table.poll_whole.Given as goal
 
