@@ -1,7 +1,7 @@
 -- What a contract sees of a book, and when a history replays.
 use Rattle.std.specs.Prelude.{◌≡◌, List, [], ◌∷◌}
-use Rattle.lock_core.specs.declared.moves.Answer.{Answer}
-use Rattle.lock_core.specs.declared.moves.Move.{Move}
+use Rattle.lock_world.specs.declared.moves.Answer.{Answer}
+use Rattle.lock_world.specs.declared.moves.Move.{Move}
 
 -- A World, and its moves with their answers, oldest first.
 pub record Pages (W : Type 0) : Type 0 where

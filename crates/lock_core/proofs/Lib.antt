@@ -1,2 +1,1 @@
-pub mod MutexMachine
 pub mod MutexWorld

@@ -1,5 +1,1 @@
-pub mod Refusals
-pub mod Standings
-pub mod Steps
-pub mod Rights
 pub mod Mutex

@@ -1,14 +1,3 @@
-pub mod Program
-pub mod Roles
-pub mod Effects
-pub mod Seats
-pub mod Tally
-pub mod Parties
-pub mod Machine
-pub mod Acts
-pub mod Ranks
-pub mod Courses
-pub mod Solo
 pub mod State
 pub mod Legal
 pub mod View

@@ -1,17 +1,13 @@
-//! The mutex: its machine, and its World.
-//!
-//! [`Lock`] is the machine alone, on which the turn of a read-write lock and the inner lock of a
-//! barrier stand; [`World`] is a mutex over a number, in which each party has its standing.
+//! The mutex's World: a mutex over a number, in which each party has its standing. It stands on the
+//! machine of `mutex_machine`.
 //!
 //! The Rust crate's `Mutex` lends a value of any type and runs in threads. Here the value is a number,
 //! a guard is a party that holds the lock, and one step is one call, so that contracts can speak of
 //! every interleaving: specs/Mutex/State says what is seen, specs/Mutex/Legal what a step may do.
 
-mod locking;
 mod table;
-mod word;
 
-ghost use Rattle.std.specs.Prelude.{◌≡◌, ◌<◌, ◌≤◌, ℕ, true, [], ◌∷◌, ◌++◌, None, IfOk, IfErr, OnErr, length, min, slice_get, is_some, vec_len, vec_capacity};
+ghost use Rattle.std.specs.Prelude.{◌≡◌, Bool, ◌<◌, ◌≤◌, ℕ, true, [], ◌∷◌, ◌++◌, None, IfOk, IfErr, OnErr, length, min, slice_get, is_some, vec_len, vec_capacity};
 ghost use Rattle.lock_core.specs.Mutex.State.{new_world, how_many};
 ghost use Rattle.lock_core.specs.Mutex.Legal.{Legal, AnswersAtOnce};
 ghost use Rattle.lock_core.specs.Mutex.Laws.{IsSound, IsAwake, IsFreeAndWanted, is_at_rest};
@@ -19,9 +15,8 @@ ghost use Rattle.lock_core.specs.Mutex.Runs.{Runs, rights_of};
 ghost use Rattle.lock_core.specs.Mutex.Whole.{IsWholeCall};
 ghost use Rattle.lock_core.specs.Mutex.Bound.{IsSolo, SoloPoll, IsBounded};
 
-use crate::{Answer, AnyWorld, Call, Inputs, Move, Refusal};
 use lock_event::{Entry, Memory};
-pub use locking::Lock;
+use lock_world::{Answer, AnyWorld, Call, Inputs, Move, Refusal};
 use std::alloc::Global;
 use std::marker::Model;
 use table::Table;
@@ -231,20 +226,42 @@ impl World {
 
 impl AnyWorld for World {
     ghost use Rattle.lock_core.specs.Mutex.Legal as mutex;
-    ghost use Rattle.lock_core.specs.Mutex.State.{opening_of};
+    ghost use Rattle.lock_core.specs.Mutex.State as state;
     ghost use Rattle.lock_core.specs.Mutex.Laws as laws;
+    ghost use Rattle.lock_core.specs.Mutex.Runs.{HoldsWell, rights_of, rights_after};
+    ghost use Rattle.lock_core.specs.Mutex.Whole.{most_steps_of};
     ghost use Rattle.lock_core.specs.Mutex.Openings.{opening_kept};
 
     ghost legal = { mutex.Legal };
 
-    ghost opening = { opening_of };
+    ghost opening = { state.opening_of };
+
+    ghost standing_of = { state.standing_of };
 
     ghost is_at_rest = { laws.is_at_rest };
+
+    ghost Known = { ℕ → Bool };
+
+    ghost known_of = { rights_of };
+
+    ghost learn = { rights_after };
+
+    ghost is_well = { HoldsWell };
+
+    ghost most_steps = { most_steps_of };
 
     ghost keeps_opening = { opening_kept };
 
     fn step(&mut self, m: &Move) -> Answer {
         World::step(self, m)
+    }
+
+    fn run(&mut self, alloc: Global, moves: &[Move]) -> Result<Vec<Answer>, Memory> {
+        World::run(self, alloc, moves)
+    }
+
+    fn poll_whole(&mut self, party: u32, call: Call, inputs: Inputs) -> Answer {
+        World::poll_whole(self, party, call, inputs)
     }
 
     fn at_rest(&self) -> bool {

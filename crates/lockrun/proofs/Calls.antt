@@ -1,8 +1,8 @@
 -- The words of a call.
 use Rattle.std.proofs.Common.{◌≡◌, ℕ, List, ◌∷◌, sym, subst, ◌∙◌}
 use Rattle.std.specs.Prelude.{Option, Some, codes}
-use Rattle.lock_core.specs.declared.moves.Call.{Call}
-use Rattle.lock_core.specs.declared.moves.Call.TheVariants as call
+use Rattle.lock_world.specs.declared.moves.Call.{Call}
+use Rattle.lock_world.specs.declared.moves.Call.TheVariants as call
 use Rattle.lockrun.specs.Commands.{BeginsWithCall, IsWordOf}
 
 -- what is answered to a word that takes no number is answered to it and the words after it

@@ -1,11 +1,11 @@
 -- What a line's words ask for.
 use Rattle.std.specs.Prelude.{◌≡◌, ℕ, ◌≤◌, Bool, if◌then◌else◌, not, ◌&&◌, List, [], ◌∷◌, ◌++◌, codes, bytes_eq, count_by, filter, Option, None, Some}
-use Rattle.lock_core.specs.declared.moves.Call.{Call}
-use Rattle.lock_core.specs.declared.moves.Call.TheVariants as call
-use Rattle.lock_core.specs.declared.moves.Inputs.{Inputs}
-use Rattle.lock_core.specs.declared.moves.Made.{Made}
-use Rattle.lock_core.specs.declared.moves.Made.TheVariants as made
-use Rattle.lock_core.specs.declared.moves.What.TheVariants.{Begin, Go}
+use Rattle.lock_world.specs.declared.moves.Call.{Call}
+use Rattle.lock_world.specs.declared.moves.Call.TheVariants as call
+use Rattle.lock_world.specs.declared.moves.Inputs.{Inputs}
+use Rattle.lock_world.specs.declared.moves.Made.{Made}
+use Rattle.lock_world.specs.declared.moves.Made.TheVariants as made
+use Rattle.lock_world.specs.declared.moves.What.TheVariants.{Begin, Go}
 use Rattle.lockrun.specs.declared.command.Verb.{Verb}
 use Rattle.lockrun.specs.declared.command.Verb.TheVariants as verb
 use Rattle.lockrun.specs.declared.command.Command.{Command}

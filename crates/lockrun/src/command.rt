@@ -1,9 +1,9 @@
 //! What a line of a script asks for.
 
 ghost use Rattle.std.specs.Prelude.{◌≡◌, ◌≢◌, ◌↔◌, ◌≤◌, ◌++◌, ℕ, List, [], ◌∷◌, Option, Some, codes, IsSome, OnSome, IfSome, IfNone, IsTrue};
-ghost use Rattle.lock_core.specs.declared.moves.Call.{Call};
-ghost use Rattle.lock_core.specs.declared.moves.Inputs.{Inputs};
-ghost use Rattle.lock_core.specs.declared.moves.Made.{Made};
+ghost use Rattle.lock_world.specs.declared.moves.Call.{Call};
+ghost use Rattle.lock_world.specs.declared.moves.Inputs.{Inputs};
+ghost use Rattle.lock_world.specs.declared.moves.Made.{Made};
 ghost use Rattle.lockrun.specs.Commands.{name_of, verb_of, AreOfCall, Asks, BeginsWithCall, Details, IsWordOf};
 ghost use Rattle.lockrun.specs.Commands.{is_of_maker, WritesInputs, WritesLimit, WritesMade};
 ghost use Rattle.lockrun.specs.declared.command.Command.{Command};

@@ -6,24 +6,24 @@ use Rattle.lock_event.specs.declared.event.Mark.{Mark}
 use Rattle.lock_event.specs.declared.event.Mark.TheVariants.{Waiting, Notified, Additional}
 use Rattle.lock_event.specs.Lists.{mark_at, is_marked, is_marked_at, without}
 use Rattle.lock_queue.specs.Parties.{is_party, entries_of}
-use Rattle.lock_core.specs.declared.program.mutex.Place.{Place}
-use Rattle.lock_core.specs.declared.program.mutex.Place.TheVariants as place
-use Rattle.lock_core.specs.declared.program.mutex.Action.{Action}
-use Rattle.lock_core.specs.declared.program.mutex.Action.TheVariants as act
-use Rattle.lock_core.specs.declared.program.mutex.Found.{Found}
-use Rattle.lock_core.specs.declared.program.mutex.Found.TheVariants.{Done, Free, Held, SomeStarved, AtLimit, NoMemory, Yes, No}
-use Rattle.lock_core.specs.declared.program.mutex.Next.{Next}
-use Rattle.lock_core.specs.declared.program.mutex.Next.TheVariants as next
-use Rattle.lock_core.specs.declared.program.mutex.End.TheVariants as «end»
-use Rattle.lock_core.specs.declared.standing.Kind.{Kind}
-use Rattle.lock_core.specs.declared.standing.Kind.TheVariants as kind
-use Rattle.lock_core.specs.declared.standing.Within.{Within}
-use Rattle.lock_core.specs.Standings.{decision, is_possible}
-use Rattle.lock_core.specs.Mutex.Program.{place_after}
+use Rattle.mutex_machine.specs.declared.program.Place.{Place}
+use Rattle.mutex_machine.specs.declared.program.Place.TheVariants as place
+use Rattle.mutex_machine.specs.declared.program.Action.{Action}
+use Rattle.mutex_machine.specs.declared.program.Action.TheVariants as act
+use Rattle.mutex_machine.specs.declared.program.Found.{Found}
+use Rattle.mutex_machine.specs.declared.program.Found.TheVariants.{Done, Free, Held, SomeStarved, AtLimit, NoMemory, Yes, No}
+use Rattle.mutex_machine.specs.declared.program.Next.{Next}
+use Rattle.mutex_machine.specs.declared.program.Next.TheVariants as next
+use Rattle.mutex_machine.specs.declared.program.End.TheVariants as «end»
+use Rattle.lock_world.specs.declared.standing.Kind.{Kind}
+use Rattle.lock_world.specs.declared.standing.Kind.TheVariants as kind
+use Rattle.lock_world.specs.declared.standing.Within.{Within}
+use Rattle.lock_world.specs.Standings.{decision, is_possible}
+use Rattle.mutex_machine.specs.Program.{place_after}
 use Rattle.lock_core.specs.Mutex.Plans.{answer_of, stage_after}
-use Rattle.lock_core.specs.Mutex.Parties.{OnParties}
-use Rattle.lock_core.specs.Mutex.Acts.{Finds}
-use Rattle.lock_core.specs.Mutex.Machine.{Lock}
+use Rattle.mutex_machine.specs.Parties.{OnParties}
+use Rattle.mutex_machine.specs.Acts.{Finds}
+use Rattle.mutex_machine.specs.Machine.{Lock}
 use Rattle.lock_core.specs.Mutex.View.{stands_as}
 use Rattle.lock_core.specs.Mutex.Legal.{entries_after, is_refusal}
 use Rattle.lock_core.proofs.MutexWorld.Rows.{deed_of, answer_by, verdict_then}

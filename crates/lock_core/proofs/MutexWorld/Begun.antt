@@ -1,19 +1,19 @@
 -- Which stages and moves a plan comes from: one case for each call that a mutex's party may begin.
 use Rattle.std.proofs.Common.{◌≡◌, ℕ, Some, subst}
-use Rattle.lock_core.specs.declared.program.mutex.LockCall.{LockCall}
-use Rattle.lock_core.specs.declared.program.mutex.LockCall.TheVariants as lock_call
-use Rattle.lock_core.specs.declared.moves.Call.{Call}
-use Rattle.lock_core.specs.declared.moves.Call.TheVariants as call
-use Rattle.lock_core.specs.declared.moves.Inputs.{Inputs}
-use Rattle.lock_core.specs.declared.moves.What.{What}
-use Rattle.lock_core.specs.declared.moves.What.TheVariants.{Begin, Go}
+use Rattle.mutex_machine.specs.declared.program.LockCall.{LockCall}
+use Rattle.mutex_machine.specs.declared.program.LockCall.TheVariants as lock_call
+use Rattle.lock_world.specs.declared.moves.Call.{Call}
+use Rattle.lock_world.specs.declared.moves.Call.TheVariants as call
+use Rattle.lock_world.specs.declared.moves.Inputs.{Inputs}
+use Rattle.lock_world.specs.declared.moves.What.{What}
+use Rattle.lock_world.specs.declared.moves.What.TheVariants.{Begin, Go}
 use Rattle.lock_core.specs.declared.mutex.table.Plan.TheVariants as plan
-use Rattle.lock_core.specs.declared.standing.Kind.TheVariants as kind
-use Rattle.lock_core.specs.declared.standing.Rest.{Rest}
-use Rattle.lock_core.specs.declared.standing.Rest.TheVariants.{Idle, Pending, Holding, Finished}
-use Rattle.lock_core.specs.declared.standing.Stage.{Stage}
-use Rattle.lock_core.specs.declared.standing.Stage.TheVariants.{Outside, Inside, Forgotten}
-use Rattle.lock_core.specs.declared.standing.Within.{Within}
+use Rattle.lock_world.specs.declared.standing.Kind.TheVariants as kind
+use Rattle.lock_world.specs.declared.standing.Rest.{Rest}
+use Rattle.lock_world.specs.declared.standing.Rest.TheVariants.{Idle, Pending, Holding, Finished}
+use Rattle.lock_world.specs.declared.standing.Stage.{Stage}
+use Rattle.lock_world.specs.declared.standing.Stage.TheVariants.{Outside, Inside, Forgotten}
+use Rattle.lock_world.specs.declared.standing.Within.{Within}
 use Rattle.lock_core.specs.Mutex.Plans.{begins_by, plan_of, within}
 
 call_eq : {c d : LockCall} {v w : Within} → Some (plan.Start c v) ≡ Some (plan.Start d w) → c ≡ d

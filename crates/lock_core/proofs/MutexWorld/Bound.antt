@@ -3,11 +3,11 @@ use Rattle.std.proofs.Common.{◌≡◌, ◌≢◌, ℕ, zero, suc, ◌+◌, ◌
 use Rattle.std.proofs.lemmas.Bool.Decides.{nat_tests}
 use Rattle.lock_event.specs.declared.event.Entry.{Entry}
 use Rattle.lock_queue.specs.Parties.{entries_of}
-use Rattle.lock_core.specs.declared.moves.Answer.{Answer}
+use Rattle.lock_world.specs.declared.moves.Answer.{Answer}
 use Rattle.lock_core.specs.Mutex.State.{State, World, is_starved, how_many}
 use Rattle.lock_core.specs.Mutex.Laws.{IsSound, IsAwake, IsFreeAndWanted}
 use Rattle.lock_core.specs.Mutex.Bound.{unstarved_in, unstarved_listed, Takes, GivesWay, SoloPolls, IsBounded}
-use Rattle.lock_core.proofs.MutexMachine.SoloPolls.{first_marked}
+use Rattle.mutex_machine.proofs.SoloPolls.{first_marked}
 
 -- where some are true, one is
 some_true : (bs : List Bool) → 0 < how_many bs → (q : ℕ) × (get_or bs q false ≡ true)

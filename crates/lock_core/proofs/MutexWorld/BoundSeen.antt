@@ -7,36 +7,36 @@ use Rattle.std.proofs.lemmas.Bool.Decides.{nat_tests}
 use Rattle.lock_event.specs.declared.event.Entry.{Entry}
 use Rattle.lock_event.specs.Lists.{is_marked_at}
 use Rattle.lock_queue.specs.Parties.{is_party, entries_of}
-use Rattle.lock_core.specs.declared.program.mutex.Place.{Place}
-use Rattle.lock_core.specs.declared.program.mutex.End.{End}
-use Rattle.lock_core.specs.declared.program.mutex.End.TheVariants as «end»
-use Rattle.lock_core.specs.declared.program.mutex.Next.TheVariants as next
-use Rattle.lock_core.specs.declared.refusal.Refusal.TheVariants as refusal
-use Rattle.lock_core.specs.declared.moves.Answer.{Answer}
-use Rattle.lock_core.specs.declared.moves.Answer.TheVariants as answer
-use Rattle.lock_core.specs.declared.moves.Call.{Call}
-use Rattle.lock_core.specs.declared.moves.Call.TheVariants as call
-use Rattle.lock_core.specs.declared.moves.Got.TheVariants.{Value}
-use Rattle.lock_core.specs.declared.moves.Inputs.{Inputs}
-use Rattle.lock_core.specs.declared.standing.Kind.TheVariants as kind
-use Rattle.lock_core.specs.declared.standing.Rest.{Rest}
-use Rattle.lock_core.specs.declared.standing.Rest.TheVariants as rest
-use Rattle.lock_core.specs.declared.standing.Stage.{Stage}
-use Rattle.lock_core.specs.declared.standing.Stage.TheVariants.{Outside, Inside, Forgotten}
-use Rattle.lock_core.specs.Standings.{outside, is_outside_stage}
-use Rattle.lock_core.specs.Mutex.Roles.{bit, holds, counted, listed}
-use Rattle.lock_core.specs.Mutex.Courses.{is_waiting}
-use Rattle.lock_core.specs.Mutex.Machine.{place_at}
-use Rattle.lock_core.specs.Mutex.Acts.{IsMutex, IsStarved, starved}
+use Rattle.mutex_machine.specs.declared.program.Place.{Place}
+use Rattle.mutex_machine.specs.declared.program.End.{End}
+use Rattle.mutex_machine.specs.declared.program.End.TheVariants as «end»
+use Rattle.mutex_machine.specs.declared.program.Next.TheVariants as next
+use Rattle.lock_world.specs.declared.refusal.Refusal.TheVariants as refusal
+use Rattle.lock_world.specs.declared.moves.Answer.{Answer}
+use Rattle.lock_world.specs.declared.moves.Answer.TheVariants as answer
+use Rattle.lock_world.specs.declared.moves.Call.{Call}
+use Rattle.lock_world.specs.declared.moves.Call.TheVariants as call
+use Rattle.lock_world.specs.declared.moves.Got.TheVariants.{Value}
+use Rattle.lock_world.specs.declared.moves.Inputs.{Inputs}
+use Rattle.lock_world.specs.declared.standing.Kind.TheVariants as kind
+use Rattle.lock_world.specs.declared.standing.Rest.{Rest}
+use Rattle.lock_world.specs.declared.standing.Rest.TheVariants as rest
+use Rattle.lock_world.specs.declared.standing.Stage.{Stage}
+use Rattle.lock_world.specs.declared.standing.Stage.TheVariants.{Outside, Inside, Forgotten}
+use Rattle.lock_world.specs.Standings.{outside, is_outside_stage}
+use Rattle.mutex_machine.specs.Roles.{bit, holds, counted, listed}
+use Rattle.mutex_machine.specs.Courses.{is_waiting}
+use Rattle.mutex_machine.specs.Machine.{place_at}
+use Rattle.mutex_machine.specs.Acts.{IsMutex, IsStarved, starved}
 use Rattle.lock_core.specs.Mutex.Plans.{answer_of, stage_at, goes_with}
-use Rattle.lock_core.specs.Mutex.Solo.{IsCalled, Took, StandsBack, GaveWay, unstarved}
+use Rattle.mutex_machine.specs.Solo.{IsCalled, Took, StandsBack, GaveWay, unstarved}
 use Rattle.lock_core.specs.Mutex.Table.{Table, IsTable}
 use Rattle.lock_core.specs.Mutex.State.{World, is_starved, how_many}
 use Rattle.lock_core.specs.Mutex.Laws.{is_at_rest}
 use Rattle.lock_core.specs.Mutex.View.{is_counted, stands_as, opened, view_of}
 use Rattle.lock_core.specs.Mutex.TableCalls.{WholeCall}
 use Rattle.lock_core.specs.Mutex.Bound.{IsSolo, unstarved_in, Takes, GivesWay, SoloPoll}
-use Rattle.lock_core.proofs.MutexMachine.SoloPolls.{solo_polls}
+use Rattle.mutex_machine.proofs.SoloPolls.{solo_polls}
 use Rattle.lock_core.proofs.MutexWorld.BoundRuns.{Ended, polls_alone}
 use Rattle.lock_core.proofs.MutexWorld.Sound.{rest_seen}
 use Rattle.lock_core.proofs.MutexWorld.Tables.{for_pending}

@@ -4,36 +4,36 @@ use Rattle.std.proofs.Math.ListN.{set}
 use Rattle.std.proofs.lemmas.Bool.Decides.{nat_tests}
 use Rattle.lock_event.specs.declared.event.Entry.{Entry}
 use Rattle.lock_queue.specs.Parties.{entries_of}
-use Rattle.lock_core.specs.declared.refusal.Refusal.TheVariants as refusal
-use Rattle.lock_core.specs.declared.program.mutex.Place.{Place}
-use Rattle.lock_core.specs.declared.program.mutex.Next.{Next}
-use Rattle.lock_core.specs.declared.moves.Answer.{Answer}
-use Rattle.lock_core.specs.declared.moves.Answer.TheVariants as answer
-use Rattle.lock_core.specs.declared.moves.Call.TheVariants as call
-use Rattle.lock_core.specs.declared.moves.Got.TheVariants.{Value}
-use Rattle.lock_core.specs.declared.moves.Inputs.{Inputs}
-use Rattle.lock_core.specs.declared.moves.Move.{Move}
-use Rattle.lock_core.specs.declared.moves.What.{What}
-use Rattle.lock_core.specs.declared.moves.What.TheVariants.{Begin, Go}
+use Rattle.lock_world.specs.declared.refusal.Refusal.TheVariants as refusal
+use Rattle.mutex_machine.specs.declared.program.Place.{Place}
+use Rattle.mutex_machine.specs.declared.program.Next.{Next}
+use Rattle.lock_world.specs.declared.moves.Answer.{Answer}
+use Rattle.lock_world.specs.declared.moves.Answer.TheVariants as answer
+use Rattle.lock_world.specs.declared.moves.Call.TheVariants as call
+use Rattle.lock_world.specs.declared.moves.Got.TheVariants.{Value}
+use Rattle.lock_world.specs.declared.moves.Inputs.{Inputs}
+use Rattle.lock_world.specs.declared.moves.Move.{Move}
+use Rattle.lock_world.specs.declared.moves.What.{What}
+use Rattle.lock_world.specs.declared.moves.What.TheVariants.{Begin, Go}
 use Rattle.lock_core.specs.declared.mutex.table.Plan.{Plan}
 use Rattle.lock_core.specs.declared.mutex.table.Plan.TheVariants as plan
-use Rattle.lock_core.specs.declared.standing.Kind.TheVariants as kind
-use Rattle.lock_core.specs.declared.standing.Rest.TheVariants as rest
-use Rattle.lock_core.specs.declared.standing.Stage.{Stage}
-use Rattle.lock_core.specs.declared.standing.Stage.TheVariants.{Outside, Inside, Forgotten}
-use Rattle.lock_core.specs.declared.standing.Within.{Within}
-use Rattle.lock_core.specs.Standings.{Standing, outside, inside, forgotten, call_in, refused, StandsAfter, is_decided, decision}
-use Rattle.lock_core.specs.Steps.{nothing, changes}
-use Rattle.lock_core.specs.Mutex.Program.{start_of, next_of, place_after}
-use Rattle.lock_core.specs.Mutex.Machine.{place_at}
-use Rattle.lock_core.specs.Mutex.Acts.{IsMutex}
+use Rattle.lock_world.specs.declared.standing.Kind.TheVariants as kind
+use Rattle.lock_world.specs.declared.standing.Rest.TheVariants as rest
+use Rattle.lock_world.specs.declared.standing.Stage.{Stage}
+use Rattle.lock_world.specs.declared.standing.Stage.TheVariants.{Outside, Inside, Forgotten}
+use Rattle.lock_world.specs.declared.standing.Within.{Within}
+use Rattle.lock_world.specs.Standings.{Standing, outside, inside, forgotten, call_in, refused, StandsAfter, is_decided, decision}
+use Rattle.lock_world.specs.Steps.{nothing, changes}
+use Rattle.mutex_machine.specs.Program.{start_of, next_of, place_after}
+use Rattle.mutex_machine.specs.Machine.{place_at}
+use Rattle.mutex_machine.specs.Acts.{IsMutex}
 use Rattle.lock_core.specs.Mutex.Plans.{plan_of, answer_of, stage_after, stage_at, goes_with, within}
 use Rattle.lock_core.specs.Mutex.Table.{Table, IsTable, Steps, Does, IsStep, plan_in}
 use Rattle.lock_core.specs.Mutex.State.{World, standing_of}
 use Rattle.lock_core.specs.Mutex.Legal.{knows, puts, call_of, is_drop, is_poll_after_ready, is_first_poll, HasItsOwn, Legal, AnswersAtOnce}
-use Rattle.lock_core.specs.Mutex.Roles.{bit, holds}
+use Rattle.mutex_machine.specs.Roles.{bit, holds}
 use Rattle.lock_core.specs.Mutex.View.{is_holder, verdict, stands_as, view_of}
-use Rattle.lock_core.proofs.MutexMachine.Courses.{begins, goes}
+use Rattle.mutex_machine.proofs.Courses.{begins, goes}
 use Rattle.lock_core.proofs.MutexWorld.Begun.{for_finished, for_put}
 use Rattle.lock_core.proofs.MutexWorld.Turns.{Turn, starting, going, begun_stands, going_stands, not_called}
 use Rattle.lock_core.proofs.MutexWorld.Tables.{going_within}

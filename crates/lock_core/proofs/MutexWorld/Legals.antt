@@ -11,37 +11,37 @@ use Rattle.std.specs.List.{sum_by}
 use Rattle.lock_event.specs.declared.event.Entry.{Entry}
 use Rattle.lock_event.specs.declared.event.Mark.TheVariants.{Waiting}
 use Rattle.lock_queue.specs.Parties.{entries_of}
-use Rattle.lock_core.specs.declared.refusal.Refusal.{Refusal}
-use Rattle.lock_core.specs.declared.refusal.Refusal.TheVariants as refusal
-use Rattle.lock_core.specs.declared.program.mutex.Place.{Place}
-use Rattle.lock_core.specs.declared.program.mutex.Place.TheVariants.{Out, Enter, Try}
-use Rattle.lock_core.specs.declared.program.mutex.Action.TheVariants as act
-use Rattle.lock_core.specs.declared.program.mutex.Action.{Action}
-use Rattle.lock_core.specs.declared.program.mutex.Found.{Found}
-use Rattle.lock_core.specs.declared.program.mutex.Found.TheVariants.{Free, Held, SomeStarved, No}
-use Rattle.lock_core.specs.declared.program.mutex.Next.{Next}
-use Rattle.lock_core.specs.declared.moves.Answer.{Answer}
-use Rattle.lock_core.specs.declared.moves.Answer.TheVariants as answer
-use Rattle.lock_core.specs.declared.moves.Got.TheVariants.{Value}
-use Rattle.lock_core.specs.declared.moves.Move.{Move}
-use Rattle.lock_core.specs.declared.standing.Rest.TheVariants as rest
-use Rattle.lock_core.specs.declared.standing.Stage.{Stage}
-use Rattle.lock_core.specs.declared.standing.Stage.TheVariants.{Forgotten}
-use Rattle.lock_core.specs.declared.standing.Within.{Within}
-use Rattle.lock_core.specs.Refusals.{number_of}
-use Rattle.lock_core.specs.Standings.{Standing, inside, inputs_of, StandsAfter, is_decided, decision}
-use Rattle.lock_core.specs.Steps.{Deed, nothing, changes, does}
-use Rattle.lock_core.specs.Mutex.Program.{action_of, next_of}
-use Rattle.lock_core.specs.Mutex.Roles.{bit, holds, counted, listed}
-use Rattle.lock_core.specs.Mutex.Parties.{OnParties}
-use Rattle.lock_core.specs.Mutex.Machine.{Lock, place_at}
-use Rattle.lock_core.specs.Mutex.Acts.{Finds, holders, starved, IsMutex}
+use Rattle.lock_world.specs.declared.refusal.Refusal.{Refusal}
+use Rattle.lock_world.specs.declared.refusal.Refusal.TheVariants as refusal
+use Rattle.mutex_machine.specs.declared.program.Place.{Place}
+use Rattle.mutex_machine.specs.declared.program.Place.TheVariants.{Out, Enter, Try}
+use Rattle.mutex_machine.specs.declared.program.Action.TheVariants as act
+use Rattle.mutex_machine.specs.declared.program.Action.{Action}
+use Rattle.mutex_machine.specs.declared.program.Found.{Found}
+use Rattle.mutex_machine.specs.declared.program.Found.TheVariants.{Free, Held, SomeStarved, No}
+use Rattle.mutex_machine.specs.declared.program.Next.{Next}
+use Rattle.lock_world.specs.declared.moves.Answer.{Answer}
+use Rattle.lock_world.specs.declared.moves.Answer.TheVariants as answer
+use Rattle.lock_world.specs.declared.moves.Got.TheVariants.{Value}
+use Rattle.lock_world.specs.declared.moves.Move.{Move}
+use Rattle.lock_world.specs.declared.standing.Rest.TheVariants as rest
+use Rattle.lock_world.specs.declared.standing.Stage.{Stage}
+use Rattle.lock_world.specs.declared.standing.Stage.TheVariants.{Forgotten}
+use Rattle.lock_world.specs.declared.standing.Within.{Within}
+use Rattle.lock_world.specs.Refusals.{number_of}
+use Rattle.lock_world.specs.Standings.{Standing, inside, inputs_of, StandsAfter, is_decided, decision}
+use Rattle.lock_world.specs.Steps.{Deed, nothing, changes, does}
+use Rattle.mutex_machine.specs.Program.{action_of, next_of}
+use Rattle.mutex_machine.specs.Roles.{bit, holds, counted, listed}
+use Rattle.mutex_machine.specs.Parties.{OnParties}
+use Rattle.mutex_machine.specs.Machine.{Lock, place_at}
+use Rattle.mutex_machine.specs.Acts.{Finds, holders, starved, IsMutex}
 use Rattle.lock_core.specs.Mutex.Plans.{answer_of, stage_after, stage_at}
 use Rattle.lock_core.specs.Mutex.Table.{IsTable}
 use Rattle.lock_core.specs.Mutex.State.{State, World, standing_of, is_starved, how_many, is_free, mark_of}
 use Rattle.lock_core.specs.Mutex.Legal.{Change, ListName, takes, releases, starves, recovers, puts, state_after, entries_after, gives_back, is_drop, is_first_poll, call_of, DecidesOn, IsPossible, ChangesOneThing, IsTakenFairly, OthersKeepTheirs, Carries, Waits, IsCause, IsRefusedForCause, LeavesClear, IsValueKept, EndsProperly, Legal, AnswersAtOnce}
 use Rattle.lock_core.specs.Mutex.View.{is_holder, is_counted, verdict, stands_as, seen}
-use Rattle.lock_core.proofs.MutexMachine.Kept.{after}
+use Rattle.mutex_machine.proofs.Kept.{after}
 use Rattle.lock_core.proofs.MutexWorld.Rows.{Row, row, deed_of, is_at_try, answer_by, is_after_ready, Holds, Starves, Finding, Refuses, Reason, Judged, verdict_then}
 use Rattle.lock_core.proofs.MutexWorld.Turns.{Turn}
 use Rattle.lock_core.proofs.MutexWorld.Views as view

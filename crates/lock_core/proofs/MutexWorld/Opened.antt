@@ -1,9 +1,9 @@
 -- What holds of a table as it is seen holds whatever value its World was made with.
 use Rattle.std.proofs.Common.{ℕ, refl, ap}
-use Rattle.lock_core.specs.declared.moves.Answer.{Answer}
-use Rattle.lock_core.specs.declared.moves.Move.{Move}
-use Rattle.lock_core.specs.declared.refusal.Refusal.{Refusal}
-use Rattle.lock_core.specs.declared.refusal.Refusal.TheVariants as refusal
+use Rattle.lock_world.specs.declared.moves.Answer.{Answer}
+use Rattle.lock_world.specs.declared.moves.Move.{Move}
+use Rattle.lock_world.specs.declared.refusal.Refusal.{Refusal}
+use Rattle.lock_world.specs.declared.refusal.Refusal.TheVariants as refusal
 use Rattle.lock_core.specs.Mutex.State.{World}
 use Rattle.lock_core.specs.Mutex.Legal.{IsCause, Legal, AnswersAtOnce}
 use Rattle.lock_core.specs.Mutex.Laws.{IsSound, IsAwake}

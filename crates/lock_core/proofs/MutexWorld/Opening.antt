@@ -1,9 +1,9 @@
 -- A new table is seen as a new World.
 use Rattle.std.proofs.Common.{◌≡◌, ℕ, ◌+◌, false, ◌∷◌, map, replicate, zero, suc, None, refl, ap}
-use Rattle.lock_core.specs.declared.program.mutex.Place.TheVariants as place
-use Rattle.lock_core.specs.declared.standing.Rest.TheVariants.{Idle}
-use Rattle.lock_core.specs.declared.standing.Stage.TheVariants.{Outside}
-use Rattle.lock_core.specs.Standings.{outside}
+use Rattle.mutex_machine.specs.declared.program.Place.TheVariants as place
+use Rattle.lock_world.specs.declared.standing.Rest.TheVariants.{Idle}
+use Rattle.lock_world.specs.declared.standing.Stage.TheVariants.{Outside}
+use Rattle.lock_world.specs.Standings.{outside}
 use Rattle.lock_core.specs.Mutex.State.{new_world}
 use Rattle.lock_core.specs.Mutex.Table.{new_table}
 use Rattle.lock_core.specs.Mutex.View.{is_counted, holder_from, standings, opened, view_of}

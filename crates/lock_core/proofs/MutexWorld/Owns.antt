@@ -1,17 +1,17 @@
 -- What each party has, by how it stands.
 use Rattle.std.proofs.Common.{◌≡◌, ◌≢◌, ℕ, ◌<◌, ◌⊎◌, inl, inr, true, false, List, length, Option, Some, None, refl, arith, ap, ◌∙◌, suc, zero, [], ◌∷◌}
-use Rattle.lock_core.specs.declared.program.mutex.Place.{Place}
-use Rattle.lock_core.specs.declared.program.mutex.Place.TheVariants as place
-use Rattle.lock_core.specs.declared.moves.Answer.{Answer}
-use Rattle.lock_core.specs.declared.standing.Rest.TheVariants as rest
-use Rattle.lock_core.specs.declared.standing.Stage.{Stage}
-use Rattle.lock_core.specs.declared.standing.Stage.TheVariants.{Outside, Inside, Forgotten}
-use Rattle.lock_core.specs.declared.standing.Within.{Within}
-use Rattle.lock_core.specs.Standings.{inside}
-use Rattle.lock_core.specs.Mutex.Courses.{is_taking, is_releasing, is_cancelling}
-use Rattle.lock_core.specs.Mutex.Roles.{holds, listed}
-use Rattle.lock_core.specs.Mutex.Machine.{Lock, place_at}
-use Rattle.lock_core.specs.Mutex.Acts.{IsMutex}
+use Rattle.mutex_machine.specs.declared.program.Place.{Place}
+use Rattle.mutex_machine.specs.declared.program.Place.TheVariants as place
+use Rattle.lock_world.specs.declared.moves.Answer.{Answer}
+use Rattle.lock_world.specs.declared.standing.Rest.TheVariants as rest
+use Rattle.lock_world.specs.declared.standing.Stage.{Stage}
+use Rattle.lock_world.specs.declared.standing.Stage.TheVariants.{Outside, Inside, Forgotten}
+use Rattle.lock_world.specs.declared.standing.Within.{Within}
+use Rattle.lock_world.specs.Standings.{inside}
+use Rattle.mutex_machine.specs.Courses.{is_taking, is_releasing, is_cancelling}
+use Rattle.mutex_machine.specs.Roles.{holds, listed}
+use Rattle.mutex_machine.specs.Machine.{Lock, place_at}
+use Rattle.mutex_machine.specs.Acts.{IsMutex}
 use Rattle.lock_core.specs.Mutex.Plans.{stage_at, goes_with}
 use Rattle.lock_core.specs.Mutex.Table.{IsTable}
 use Rattle.lock_core.specs.Mutex.State.{standing_of, IsClear}

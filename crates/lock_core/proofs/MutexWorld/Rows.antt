@@ -1,29 +1,29 @@
 -- Each step of a call, place by place: what it changes, and what it decides. Written by generators/mutex_rows.py.
 use Rattle.std.proofs.Common.{◌≡◌, ℕ, ◌<◌, ◌==◌, ◌⊎◌, inl, inr, Bool, true, false, Option, Some, None, refl}
-use Rattle.lock_core.specs.declared.refusal.Refusal.{Refusal}
-use Rattle.lock_core.specs.declared.refusal.Refusal.TheVariants as refusal
-use Rattle.lock_core.specs.declared.program.mutex.Place.{Place}
-use Rattle.lock_core.specs.declared.program.mutex.Place.TheVariants.{Out, Holding, Enter, Try, Clear, CancelUncount, CancelLeave, Join, Look, Ask, Retry, PassOn, Count, JoinStarved, LookAlone, PassOnListed, AskStarved, Seize, Uncount, Leave, RefuseUncount, RefuseLeave, RefuseNotifyMemory, RefuseNotifyStarved, ReleaseNotify}
-use Rattle.lock_core.specs.declared.program.mutex.Action.{Action}
-use Rattle.lock_core.specs.declared.program.mutex.Action.TheVariants as act
-use Rattle.lock_core.specs.declared.program.mutex.Next.{Next}
-use Rattle.lock_core.specs.declared.program.mutex.Next.TheVariants as next
-use Rattle.lock_core.specs.declared.program.mutex.End.TheVariants as «end»
-use Rattle.lock_core.specs.declared.program.mutex.Found.{Found}
-use Rattle.lock_core.specs.declared.program.mutex.Found.TheVariants.{Done, Free, Held, SomeStarved, AtLimit, NoMemory, Yes, No}
-use Rattle.lock_core.specs.declared.moves.Answer.{Answer}
-use Rattle.lock_core.specs.declared.moves.Answer.TheVariants as answer
-use Rattle.lock_core.specs.declared.moves.Got.TheVariants.{Value}
-use Rattle.lock_core.specs.Refusals.{number_of}
-use Rattle.lock_core.specs.Standings.{refused}
-use Rattle.lock_core.specs.Steps.{Deed, nothing, changes, does, joins, asks, leaves, notifies}
-use Rattle.lock_core.specs.Mutex.Program.{action_of, next_of}
-use Rattle.lock_core.specs.Mutex.Roles.{counted, listed}
-use Rattle.lock_core.specs.Mutex.Machine.{Lock}
-use Rattle.lock_core.specs.Mutex.Acts.{Finds, holders, starved}
+use Rattle.lock_world.specs.declared.refusal.Refusal.{Refusal}
+use Rattle.lock_world.specs.declared.refusal.Refusal.TheVariants as refusal
+use Rattle.mutex_machine.specs.declared.program.Place.{Place}
+use Rattle.mutex_machine.specs.declared.program.Place.TheVariants.{Out, Holding, Enter, Try, Clear, CancelUncount, CancelLeave, Join, Look, Ask, Retry, PassOn, Count, JoinStarved, LookAlone, PassOnListed, AskStarved, Seize, Uncount, Leave, RefuseUncount, RefuseLeave, RefuseNotifyMemory, RefuseNotifyStarved, ReleaseNotify}
+use Rattle.mutex_machine.specs.declared.program.Action.{Action}
+use Rattle.mutex_machine.specs.declared.program.Action.TheVariants as act
+use Rattle.mutex_machine.specs.declared.program.Next.{Next}
+use Rattle.mutex_machine.specs.declared.program.Next.TheVariants as next
+use Rattle.mutex_machine.specs.declared.program.End.TheVariants as «end»
+use Rattle.mutex_machine.specs.declared.program.Found.{Found}
+use Rattle.mutex_machine.specs.declared.program.Found.TheVariants.{Done, Free, Held, SomeStarved, AtLimit, NoMemory, Yes, No}
+use Rattle.lock_world.specs.declared.moves.Answer.{Answer}
+use Rattle.lock_world.specs.declared.moves.Answer.TheVariants as answer
+use Rattle.lock_world.specs.declared.moves.Got.TheVariants.{Value}
+use Rattle.lock_world.specs.Refusals.{number_of}
+use Rattle.lock_world.specs.Standings.{refused}
+use Rattle.lock_world.specs.Steps.{Deed, nothing, changes, does, joins, asks, leaves, notifies}
+use Rattle.mutex_machine.specs.Program.{action_of, next_of}
+use Rattle.mutex_machine.specs.Roles.{counted, listed}
+use Rattle.mutex_machine.specs.Machine.{Lock}
+use Rattle.mutex_machine.specs.Acts.{Finds, holders, starved}
 use Rattle.lock_core.specs.Mutex.Legal.{Change, ListName, takes, releases, starves, recovers, puts, for_the_lock, gives_back}
 use Rattle.lock_core.specs.Mutex.View.{is_holder, is_counted, verdict}
-use Rattle.lock_core.proofs.MutexMachine.Kept.{after}
+use Rattle.mutex_machine.proofs.Kept.{after}
 
 -- what an action changes that found this
 abbrev pub deed_of : Action → Found → Deed Change ListName

@@ -4,27 +4,27 @@ use Rattle.std.specs.List.{list_all}
 use Rattle.std.proofs.lemmas.List.{length-map}
 use Rattle.std.proofs.lemmas.Bool.Decides.{nat_tests}
 use Rattle.lock_queue.specs.Parties.{entries_of}
-use Rattle.lock_core.specs.declared.program.mutex.Place.{Place}
-use Rattle.lock_core.specs.declared.program.mutex.Place.TheVariants as place
-use Rattle.lock_core.specs.declared.standing.Rest.TheVariants as rest
-use Rattle.lock_core.specs.declared.standing.Stage.{Stage}
-use Rattle.lock_core.specs.declared.standing.Stage.TheVariants.{Outside, Inside, Forgotten}
-use Rattle.lock_core.specs.declared.moves.Answer.{Answer}
-use Rattle.lock_core.specs.declared.standing.Within.{Within}
-use Rattle.lock_core.specs.Standings.{outside, inside, forgotten, is_outside_stage, forgets}
-use Rattle.lock_core.specs.Rights.{Right, hold}
-use Rattle.lock_core.specs.Mutex.Roles.{counted, listed, is_resting}
-use Rattle.lock_core.specs.Mutex.Machine.{Lock, place_at}
-use Rattle.lock_core.specs.Mutex.Acts as lock
-use Rattle.lock_core.specs.Mutex.Acts.{IsMutex}
+use Rattle.mutex_machine.specs.declared.program.Place.{Place}
+use Rattle.mutex_machine.specs.declared.program.Place.TheVariants as place
+use Rattle.lock_world.specs.declared.standing.Rest.TheVariants as rest
+use Rattle.lock_world.specs.declared.standing.Stage.{Stage}
+use Rattle.lock_world.specs.declared.standing.Stage.TheVariants.{Outside, Inside, Forgotten}
+use Rattle.lock_world.specs.declared.moves.Answer.{Answer}
+use Rattle.lock_world.specs.declared.standing.Within.{Within}
+use Rattle.lock_world.specs.Standings.{is_outside, outside, inside, forgotten, is_outside_stage, forgets}
+use Rattle.lock_world.specs.Rights.{Right, hold}
+use Rattle.mutex_machine.specs.Roles.{counted, listed, is_resting}
+use Rattle.mutex_machine.specs.Machine.{Lock, place_at}
+use Rattle.mutex_machine.specs.Acts as lock
+use Rattle.mutex_machine.specs.Acts.{IsMutex}
 use Rattle.lock_core.specs.Mutex.Plans.{stage_at, goes_with}
 use Rattle.lock_core.specs.Mutex.Table.{Table, IsTable}
 use Rattle.lock_core.specs.Mutex.State.{World}
-use Rattle.lock_core.specs.Mutex.Laws.{HasRight, IsSound, is_long_call, is_outside, is_at_rest, IsAwake}
+use Rattle.lock_core.specs.Mutex.Laws.{HasRight, IsSound, is_long_call, is_at_rest, IsAwake}
 use Rattle.lock_core.specs.Mutex.Lending.{is_forgotten_then, world_with}
 use Rattle.lock_core.specs.Mutex.TableCalls.{table_with}
 use Rattle.lock_core.specs.Mutex.View.{is_counted, verdict, stands_as, standings, view_of}
-use Rattle.lock_core.proofs.MutexMachine.CanDo.{once}
+use Rattle.mutex_machine.proofs.CanDo.{once}
 use Rattle.lock_core.proofs.MutexWorld.Views as view
 use Rattle.lock_core.proofs.MutexWorld.Owns as owns
 use Rattle.lock_core.proofs.MutexWorld.Tables.{for_pending, for_idle, for_holding, for_within}

@@ -3,31 +3,31 @@ use Rattle.std.proofs.Common.{◌≡◌, ℕ, ◌<◌, true, List, [], ◌∷◌
 use Rattle.std.proofs.Math.ListN.{set}
 use Rattle.std.proofs.Math.Decide.{ℕ_discrete}
 use Rattle.std.proofs.lemmas.Bool.Decides.{nat_tests}
-use Rattle.lock_core.specs.declared.refusal.Refusal.TheVariants as refusal
-use Rattle.lock_core.specs.declared.program.mutex.Place.{Place}
-use Rattle.lock_core.specs.declared.program.mutex.Place.TheVariants.{Out, Holding, Ask, AskStarved}
-use Rattle.lock_core.specs.declared.program.mutex.LockCall.{LockCall}
-use Rattle.lock_core.specs.declared.program.mutex.LockCall.TheVariants as lock_call
-use Rattle.lock_core.specs.declared.program.mutex.Next.{Next}
-use Rattle.lock_core.specs.declared.program.mutex.Next.TheVariants as next
-use Rattle.lock_core.specs.declared.program.mutex.End.TheVariants as «end»
-use Rattle.lock_core.specs.declared.moves.Answer.{Answer}
-use Rattle.lock_core.specs.declared.moves.Move.{Move}
-use Rattle.lock_core.specs.declared.moves.What.{What}
+use Rattle.lock_world.specs.declared.refusal.Refusal.TheVariants as refusal
+use Rattle.mutex_machine.specs.declared.program.Place.{Place}
+use Rattle.mutex_machine.specs.declared.program.Place.TheVariants.{Out, Holding, Ask, AskStarved}
+use Rattle.mutex_machine.specs.declared.program.LockCall.{LockCall}
+use Rattle.mutex_machine.specs.declared.program.LockCall.TheVariants as lock_call
+use Rattle.mutex_machine.specs.declared.program.Next.{Next}
+use Rattle.mutex_machine.specs.declared.program.Next.TheVariants as next
+use Rattle.mutex_machine.specs.declared.program.End.TheVariants as «end»
+use Rattle.lock_world.specs.declared.moves.Answer.{Answer}
+use Rattle.lock_world.specs.declared.moves.Move.{Move}
+use Rattle.lock_world.specs.declared.moves.What.{What}
 use Rattle.lock_core.specs.declared.mutex.table.Plan.{Plan}
 use Rattle.lock_core.specs.declared.mutex.table.Plan.TheVariants as plan
-use Rattle.lock_core.specs.declared.standing.Kind.{Kind}
-use Rattle.lock_core.specs.declared.standing.Kind.TheVariants as kind
-use Rattle.lock_core.specs.declared.standing.Rest.{Rest}
-use Rattle.lock_core.specs.declared.standing.Rest.TheVariants as rest
-use Rattle.lock_core.specs.declared.standing.Stage.{Stage}
-use Rattle.lock_core.specs.declared.standing.Stage.TheVariants.{Outside, Inside, Forgotten}
-use Rattle.lock_core.specs.declared.standing.Within.{Within}
-use Rattle.lock_core.specs.Standings.{inputs_of}
-use Rattle.lock_core.specs.Mutex.Program.{start_of}
-use Rattle.lock_core.specs.Mutex.Courses.{is_taking, is_waiting, is_releasing, is_cancelling, Takes, Tries, Releases, Cancels, Begins, GoesOn}
-use Rattle.lock_core.specs.Mutex.Machine.{Lock, place_at}
-use Rattle.lock_core.specs.Mutex.Acts.{Acts}
+use Rattle.lock_world.specs.declared.standing.Kind.{Kind}
+use Rattle.lock_world.specs.declared.standing.Kind.TheVariants as kind
+use Rattle.lock_world.specs.declared.standing.Rest.{Rest}
+use Rattle.lock_world.specs.declared.standing.Rest.TheVariants as rest
+use Rattle.lock_world.specs.declared.standing.Stage.{Stage}
+use Rattle.lock_world.specs.declared.standing.Stage.TheVariants.{Outside, Inside, Forgotten}
+use Rattle.lock_world.specs.declared.standing.Within.{Within}
+use Rattle.lock_world.specs.Standings.{inputs_of}
+use Rattle.mutex_machine.specs.Program.{start_of}
+use Rattle.mutex_machine.specs.Courses.{is_taking, is_waiting, is_releasing, is_cancelling, Takes, Tries, Releases, Cancels, Begins, GoesOn}
+use Rattle.mutex_machine.specs.Machine.{Lock, place_at}
+use Rattle.mutex_machine.specs.Acts.{Acts}
 use Rattle.lock_core.specs.Mutex.Plans.{plan_of, answer_of, stage_after, stage_at, goes_with, is_within, within}
 use Rattle.lock_core.specs.Mutex.Table.{Table, IsTable, Steps, plan_in}
 use Rattle.lock_core.proofs.MutexWorld.Begun.{for_start, for_go}

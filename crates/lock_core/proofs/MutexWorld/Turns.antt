@@ -1,37 +1,37 @@
 -- Where a move's step begins, and what its party's standing says of it.
 use Rattle.std.proofs.Common.{◌≡◌, ℕ, ◌==◌, Bool, true, false, Option, Some, None, refl, arith, subst}
 use Rattle.std.proofs.lemmas.Bool.Decides.{nat_tests}
-use Rattle.lock_core.specs.declared.refusal.Refusal.TheVariants as refusal
-use Rattle.lock_core.specs.declared.program.mutex.Place.{Place}
-use Rattle.lock_core.specs.declared.program.mutex.Place.TheVariants.{Out, Holding, Enter, Try, Clear, CancelUncount, CancelLeave, Ask, AskStarved}
-use Rattle.lock_core.specs.declared.program.mutex.LockCall.{LockCall}
-use Rattle.lock_core.specs.declared.program.mutex.LockCall.TheVariants as lock_call
-use Rattle.lock_core.specs.declared.program.mutex.Next.{Next}
-use Rattle.lock_core.specs.declared.program.mutex.Next.TheVariants as next
-use Rattle.lock_core.specs.declared.program.mutex.End.TheVariants as «end»
-use Rattle.lock_core.specs.declared.moves.Answer.{Answer}
-use Rattle.lock_core.specs.declared.moves.Answer.TheVariants as answer
-use Rattle.lock_core.specs.declared.moves.Call.{Call}
-use Rattle.lock_core.specs.declared.moves.Call.TheVariants as call
-use Rattle.lock_core.specs.declared.moves.What.{What}
-use Rattle.lock_core.specs.declared.moves.What.TheVariants.{Begin, Go}
+use Rattle.lock_world.specs.declared.refusal.Refusal.TheVariants as refusal
+use Rattle.mutex_machine.specs.declared.program.Place.{Place}
+use Rattle.mutex_machine.specs.declared.program.Place.TheVariants.{Out, Holding, Enter, Try, Clear, CancelUncount, CancelLeave, Ask, AskStarved}
+use Rattle.mutex_machine.specs.declared.program.LockCall.{LockCall}
+use Rattle.mutex_machine.specs.declared.program.LockCall.TheVariants as lock_call
+use Rattle.mutex_machine.specs.declared.program.Next.{Next}
+use Rattle.mutex_machine.specs.declared.program.Next.TheVariants as next
+use Rattle.mutex_machine.specs.declared.program.End.TheVariants as «end»
+use Rattle.lock_world.specs.declared.moves.Answer.{Answer}
+use Rattle.lock_world.specs.declared.moves.Answer.TheVariants as answer
+use Rattle.lock_world.specs.declared.moves.Call.{Call}
+use Rattle.lock_world.specs.declared.moves.Call.TheVariants as call
+use Rattle.lock_world.specs.declared.moves.What.{What}
+use Rattle.lock_world.specs.declared.moves.What.TheVariants.{Begin, Go}
 use Rattle.lock_core.specs.declared.mutex.table.Plan.TheVariants as plan
-use Rattle.lock_core.specs.declared.standing.Kind.{Kind}
-use Rattle.lock_core.specs.declared.standing.Kind.TheVariants as kind
-use Rattle.lock_core.specs.declared.standing.Rest.{Rest}
-use Rattle.lock_core.specs.declared.standing.Rest.TheVariants as rest
-use Rattle.lock_core.specs.declared.standing.Stage.{Stage}
-use Rattle.lock_core.specs.declared.standing.Stage.TheVariants.{Outside, Inside, Forgotten}
-use Rattle.lock_core.specs.declared.standing.Within.{Within}
-use Rattle.lock_core.specs.Standings.{Standing, outside, inside, call_in, is_decided, StandsAfter}
-use Rattle.lock_core.specs.Mutex.Program.{start_of}
-use Rattle.lock_core.specs.Mutex.Courses.{is_taking, is_releasing, is_cancelling, Takes, Tries, Releases, Cancels, Begins, GoesOn}
-use Rattle.lock_core.specs.Mutex.Machine.{SameRoles}
+use Rattle.lock_world.specs.declared.standing.Kind.{Kind}
+use Rattle.lock_world.specs.declared.standing.Kind.TheVariants as kind
+use Rattle.lock_world.specs.declared.standing.Rest.{Rest}
+use Rattle.lock_world.specs.declared.standing.Rest.TheVariants as rest
+use Rattle.lock_world.specs.declared.standing.Stage.{Stage}
+use Rattle.lock_world.specs.declared.standing.Stage.TheVariants.{Outside, Inside, Forgotten}
+use Rattle.lock_world.specs.declared.standing.Within.{Within}
+use Rattle.lock_world.specs.Standings.{Standing, outside, inside, call_in, is_decided, StandsAfter}
+use Rattle.mutex_machine.specs.Program.{start_of}
+use Rattle.mutex_machine.specs.Courses.{is_taking, is_releasing, is_cancelling, Takes, Tries, Releases, Cancels, Begins, GoesOn}
+use Rattle.mutex_machine.specs.Machine.{SameRoles}
 use Rattle.lock_core.specs.Mutex.Plans.{plan_of, begins_by, answer_of, stage_after, goes_with, within}
-use Rattle.lock_core.specs.Mutex.Roles.{listed}
+use Rattle.mutex_machine.specs.Roles.{listed}
 use Rattle.lock_core.specs.Mutex.View.{verdict, stands_as}
 use Rattle.lock_core.specs.Mutex.Legal.{knows, is_drop, is_try, is_poll_after_ready, is_first_poll, put_in}
-use Rattle.lock_core.proofs.MutexMachine.Starts.{start_same}
+use Rattle.mutex_machine.proofs.Starts.{start_same}
 use Rattle.lock_core.proofs.MutexWorld.Begun.{for_start, for_go}
 use Rattle.lock_core.proofs.MutexWorld.Rows.{is_at_try}
 use Rattle.lock_core.proofs.MutexWorld.Tables.{for_pending, for_idle, for_holding, for_within}

@@ -4,14 +4,14 @@ use Rattle.std.specs.Prelude.{is_some}
 use Rattle.std.proofs.Math.ListN.{set}
 use Rattle.std.specs.List.{sum_by}
 use Rattle.std.proofs.lemmas.List.Sums.{sum_by-cons}
-use Rattle.lock_core.specs.declared.program.mutex.Place.{Place}
-use Rattle.lock_core.specs.declared.program.mutex.Place.TheVariants.{Out, Holding, Enter, Try, Clear, CancelUncount, CancelLeave, Join, Look, Ask, Retry, PassOn, Count, JoinStarved, LookAlone, PassOnListed, AskStarved, Seize, Uncount, Leave, RefuseUncount, RefuseLeave, RefuseNotifyMemory, RefuseNotifyStarved, ReleaseNotify}
-use Rattle.lock_core.specs.declared.standing.Stage.{Stage}
-use Rattle.lock_core.specs.declared.standing.Stage.TheVariants.{Forgotten}
-use Rattle.lock_core.specs.Mutex.Roles.{bit, holds, counted}
+use Rattle.mutex_machine.specs.declared.program.Place.{Place}
+use Rattle.mutex_machine.specs.declared.program.Place.TheVariants.{Out, Holding, Enter, Try, Clear, CancelUncount, CancelLeave, Join, Look, Ask, Retry, PassOn, Count, JoinStarved, LookAlone, PassOnListed, AskStarved, Seize, Uncount, Leave, RefuseUncount, RefuseLeave, RefuseNotifyMemory, RefuseNotifyStarved, ReleaseNotify}
+use Rattle.lock_world.specs.declared.standing.Stage.{Stage}
+use Rattle.lock_world.specs.declared.standing.Stage.TheVariants.{Forgotten}
+use Rattle.mutex_machine.specs.Roles.{bit, holds, counted}
 use Rattle.lock_core.specs.Mutex.Plans.{stage_at}
-use Rattle.lock_core.specs.Mutex.Machine.{place_at}
-use Rattle.lock_core.specs.Standings.{forgotten}
+use Rattle.mutex_machine.specs.Machine.{place_at}
+use Rattle.lock_world.specs.Standings.{forgotten}
 use Rattle.lock_core.specs.Mutex.State.{how_many}
 use Rattle.lock_core.specs.Mutex.View.{is_holder, is_counted, holder_from, verdict, stands_as, standings}
 

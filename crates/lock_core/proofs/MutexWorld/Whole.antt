@@ -1,48 +1,48 @@
 -- A call that is carried out alone ends within its number of steps.
 use Rattle.std.proofs.Common.{◌≡◌, ◌≢◌, ℕ, ◌+◌, ◌<◌, ◌≤◌, Bool, true, false, List, [], ◌∷◌, ◌++◌, length, nat_lt, replicate, zero, suc, Option, Some, None, IsSomeAnd, refl, arith, ap, sym, ◌∙◌, subst}
 use Rattle.std.proofs.lemmas.List.{replicate-append-replicate}
-use Rattle.lock_core.specs.declared.program.mutex.LockCall.{LockCall}
-use Rattle.lock_core.specs.declared.program.mutex.Next.{Next}
-use Rattle.lock_core.specs.declared.program.mutex.Next.TheVariants as next
-use Rattle.lock_core.specs.declared.program.mutex.End.TheVariants as «end»
-use Rattle.lock_core.specs.declared.refusal.Refusal.TheVariants as refusal
-use Rattle.lock_core.specs.declared.moves.Got.TheVariants.{Value}
-use Rattle.lock_core.specs.Standings.{inputs_of, is_possible, is_stepped, refused, StandsAfter}
-use Rattle.lock_core.specs.declared.program.mutex.Place.{Place}
-use Rattle.lock_core.specs.declared.program.mutex.Place.TheVariants.{Look, Ask, JoinStarved, LookAlone, PassOnListed, AskStarved, Seize, Count, Uncount}
-use Rattle.lock_core.specs.declared.moves.Answer.{Answer}
-use Rattle.lock_core.specs.declared.moves.Answer.TheVariants as answer
-use Rattle.lock_core.specs.declared.moves.Call.{Call}
-use Rattle.lock_core.specs.declared.moves.Call.TheVariants as call
-use Rattle.lock_core.specs.declared.moves.Inputs.{Inputs}
-use Rattle.lock_core.specs.declared.moves.Move.{Move}
-use Rattle.lock_core.specs.declared.moves.What.{What}
-use Rattle.lock_core.specs.declared.moves.What.TheVariants.{Begin, Go}
+use Rattle.mutex_machine.specs.declared.program.LockCall.{LockCall}
+use Rattle.mutex_machine.specs.declared.program.Next.{Next}
+use Rattle.mutex_machine.specs.declared.program.Next.TheVariants as next
+use Rattle.mutex_machine.specs.declared.program.End.TheVariants as «end»
+use Rattle.lock_world.specs.declared.refusal.Refusal.TheVariants as refusal
+use Rattle.lock_world.specs.declared.moves.Got.TheVariants.{Value}
+use Rattle.lock_world.specs.Standings.{is_outside, inputs_of, is_possible, is_stepped, refused, StandsAfter}
+use Rattle.mutex_machine.specs.declared.program.Place.{Place}
+use Rattle.mutex_machine.specs.declared.program.Place.TheVariants.{Look, Ask, JoinStarved, LookAlone, PassOnListed, AskStarved, Seize, Count, Uncount}
+use Rattle.lock_world.specs.declared.moves.Answer.{Answer}
+use Rattle.lock_world.specs.declared.moves.Answer.TheVariants as answer
+use Rattle.lock_world.specs.declared.moves.Call.{Call}
+use Rattle.lock_world.specs.declared.moves.Call.TheVariants as call
+use Rattle.lock_world.specs.declared.moves.Inputs.{Inputs}
+use Rattle.lock_world.specs.declared.moves.Move.{Move}
+use Rattle.lock_world.specs.declared.moves.What.{What}
+use Rattle.lock_world.specs.declared.moves.What.TheVariants.{Begin, Go}
 use Rattle.lock_core.specs.declared.mutex.table.Plan.{Plan}
 use Rattle.lock_core.specs.declared.mutex.table.Plan.TheVariants as plan
-use Rattle.lock_core.specs.declared.standing.Kind.{Kind}
-use Rattle.lock_core.specs.declared.standing.Kind.TheVariants as kind
-use Rattle.lock_core.specs.declared.standing.Stage.{Stage}
-use Rattle.lock_core.specs.declared.standing.Within.{Within}
-use Rattle.lock_core.specs.Mutex.Program.{start_of}
-use Rattle.lock_core.specs.Mutex.Machine.{SameRoles, place_at}
-use Rattle.lock_core.specs.Mutex.Acts.{Acts, IsMutex}
+use Rattle.lock_world.specs.declared.standing.Kind.{Kind}
+use Rattle.lock_world.specs.declared.standing.Kind.TheVariants as kind
+use Rattle.lock_world.specs.declared.standing.Stage.{Stage}
+use Rattle.lock_world.specs.declared.standing.Within.{Within}
+use Rattle.mutex_machine.specs.Program.{start_of}
+use Rattle.mutex_machine.specs.Machine.{SameRoles, place_at}
+use Rattle.mutex_machine.specs.Acts.{Acts, IsMutex}
 use Rattle.lock_core.specs.Mutex.Plans.{plan_of, answer_of, stage_at}
-use Rattle.lock_core.specs.Mutex.Ranks.{left, steps_left, left_after, most_steps, is_own_marked, is_open}
+use Rattle.mutex_machine.specs.Ranks.{left, steps_left, left_after, most_steps, is_own_marked, is_open}
 use Rattle.lock_core.specs.Mutex.Table.{Table, IsTable, Steps, Does, IsStep, plan_in}
-use Rattle.lock_core.specs.declared.standing.Rest.TheVariants as rest
+use Rattle.lock_world.specs.declared.standing.Rest.TheVariants as rest
 use Rattle.lock_core.specs.Mutex.State.{World, standing_of}
 use Rattle.lock_core.specs.Mutex.Legal.{Legal, call_of}
-use Rattle.lock_core.specs.Mutex.Laws.{is_outside}
 use Rattle.lock_core.specs.Mutex.Runs.{Runs, rights_of, rights_after}
 use Rattle.lock_core.specs.Mutex.View.{opened, view_of}
-use Rattle.lock_core.specs.Mutex.Whole.{going_on, moves_of, answers_of, most_steps_of, IsWholeCall}
+use Rattle.lock_world.specs.Whole.{going_on, moves_of, answers_of}
+use Rattle.lock_core.specs.Mutex.Whole.{most_steps_of, IsWholeCall}
 use Rattle.lock_core.specs.Mutex.TableCalls.{TableRuns, WholeCall}
 use Rattle.lock_core.proofs.MutexWorld.Opened.{legal_opened, at_once_opened, sound_opened, awake_opened}
 use Rattle.lock_core.proofs.MutexWorld.Rights.{holds_well}
 use Rattle.lock_core.proofs.MutexWorld.Sound.{sound, awake}
-use Rattle.lock_core.proofs.MutexMachine.Alone.{fewer, within}
-use Rattle.lock_core.proofs.MutexMachine.Starts.{start_same}
+use Rattle.mutex_machine.proofs.Alone.{fewer, within}
+use Rattle.mutex_machine.proofs.Starts.{start_same}
 use Rattle.lock_core.proofs.MutexWorld.Begun.{for_start, for_go}
 use Rattle.lock_core.proofs.MutexWorld.Events.{known_move, event_good}
 

@@ -3,14 +3,14 @@ use Rattle.std.specs.Prelude.{◌≡◌, ℕ, ◌<◌, ◌≤◌, ◌⊎◌, Boo
 use Rattle.std.specs.List.{list_all}
 use Rattle.lock_event.specs.Lists.{marked_count, IsMarkedFirst}
 use Rattle.lock_queue.specs.Parties.{entries_of}
-use Rattle.lock_core.specs.declared.moves.Answer.{Answer}
-use Rattle.lock_core.specs.declared.standing.Kind.{Kind}
-use Rattle.lock_core.specs.declared.standing.Kind.TheVariants as kind
-use Rattle.lock_core.specs.declared.standing.Rest.{Rest}
-use Rattle.lock_core.specs.declared.standing.Rest.TheVariants.{Idle, Pending, Holding}
-use Rattle.lock_core.specs.declared.standing.Within.{Within}
-use Rattle.lock_core.specs.Standings.{Standing, outside, inside, forgotten}
-use Rattle.lock_core.specs.Rights.{Right, hold, excludes}
+use Rattle.lock_world.specs.declared.moves.Answer.{Answer}
+use Rattle.lock_world.specs.declared.standing.Kind.{Kind}
+use Rattle.lock_world.specs.declared.standing.Kind.TheVariants as kind
+use Rattle.lock_world.specs.declared.standing.Rest.{Rest}
+use Rattle.lock_world.specs.declared.standing.Rest.TheVariants.{Idle, Pending, Holding}
+use Rattle.lock_world.specs.declared.standing.Within.{Within}
+use Rattle.lock_world.specs.Standings.{Standing, outside, inside, forgotten, is_outside}
+use Rattle.lock_world.specs.Rights.{Right, hold, excludes}
 use Rattle.lock_core.specs.Mutex.State.{World, standing_of, is_starved, how_many}
 use Rattle.lock_core.specs.Mutex.Legal.{HasItsOwn}
 
@@ -38,11 +38,6 @@ pub record IsSound (w : World) : Type 0 where
   -- No party stands in the list twice, and the marked entries stand before the waiting ones.
   pub once : (p : ℕ) → entries_of p w.entries ≤ 1
   pub in_order : IsMarkedFirst w.entries
-
--- Outside every call.
-abbrev pub is_outside : Standing → Bool
-is_outside (inside w decided) = false
-is_outside s = true
 
 -- Nobody is inside a call.
 abbrev pub is_at_rest : World → Bool

@@ -2,8 +2,8 @@
 use Rattle.std.specs.Prelude.{ℕ, map}
 use Rattle.std.specs.Borrow.{Lends, MutBor, Fml, u64}
 use Rattle.lock_core.specs.contracts.mutex.World.{the_row}
-use Rattle.lock_core.specs.declared.standing.Rest.TheVariants.{Pending, Holding}
-use Rattle.lock_core.specs.Standings.{Standing, outside, forgotten}
+use Rattle.lock_world.specs.declared.standing.Rest.TheVariants.{Pending, Holding}
+use Rattle.lock_world.specs.Standings.{Standing, outside, forgotten}
 use Rattle.lock_core.specs.Mutex.State.{World}
 
 -- Whoever is pending or holds the lock is forgotten.

@@ -1,8 +1,8 @@
 -- A step of a mutex keeps the numbers that its World was made with.
 use Rattle.std.specs.Prelude.{◌≡◌, length}
 use Rattle.std.proofs.Common.{ap, ◌∙◌}
-use Rattle.lock_core.specs.declared.moves.Answer.{Answer}
-use Rattle.lock_core.specs.declared.moves.Move.{Move}
+use Rattle.lock_world.specs.declared.moves.Answer.{Answer}
+use Rattle.lock_world.specs.declared.moves.Move.{Move}
 use Rattle.lock_core.specs.Mutex.State.{World, new_world, opening_of}
 use Rattle.lock_core.specs.Mutex.Legal.{Legal}
 

@@ -1,29 +1,29 @@
 -- Which moves of a mutex's parties are possible, and what each answers, place by place.
 use Rattle.std.specs.Prelude.{ℕ, Bool, true, false, List, Option, Some, None, slice_index_or}
-use Rattle.lock_core.specs.declared.program.mutex.LockCall.TheVariants as lock_call
-use Rattle.lock_core.specs.declared.program.mutex.Next.{Next}
-use Rattle.lock_core.specs.declared.program.mutex.Next.TheVariants as next
-use Rattle.lock_core.specs.declared.program.mutex.End.TheVariants as «end»
-use Rattle.lock_core.specs.declared.program.mutex.Place.{Place}
-use Rattle.lock_core.specs.declared.program.mutex.Place.TheVariants as place
-use Rattle.lock_core.specs.declared.moves.Answer.{Answer}
-use Rattle.lock_core.specs.declared.moves.Answer.TheVariants as answer
-use Rattle.lock_core.specs.declared.moves.Call.{Call}
-use Rattle.lock_core.specs.declared.moves.Call.TheVariants as call
-use Rattle.lock_core.specs.declared.moves.Got.TheVariants.{Value}
-use Rattle.lock_core.specs.declared.moves.What.{What}
-use Rattle.lock_core.specs.declared.moves.What.TheVariants.{Begin, Go}
+use Rattle.mutex_machine.specs.declared.program.LockCall.TheVariants as lock_call
+use Rattle.mutex_machine.specs.declared.program.Next.{Next}
+use Rattle.mutex_machine.specs.declared.program.Next.TheVariants as next
+use Rattle.mutex_machine.specs.declared.program.End.TheVariants as «end»
+use Rattle.mutex_machine.specs.declared.program.Place.{Place}
+use Rattle.mutex_machine.specs.declared.program.Place.TheVariants as place
+use Rattle.lock_world.specs.declared.moves.Answer.{Answer}
+use Rattle.lock_world.specs.declared.moves.Answer.TheVariants as answer
+use Rattle.lock_world.specs.declared.moves.Call.{Call}
+use Rattle.lock_world.specs.declared.moves.Call.TheVariants as call
+use Rattle.lock_world.specs.declared.moves.Got.TheVariants.{Value}
+use Rattle.lock_world.specs.declared.moves.What.{What}
+use Rattle.lock_world.specs.declared.moves.What.TheVariants.{Begin, Go}
 use Rattle.lock_core.specs.declared.mutex.table.Plan.{Plan}
 use Rattle.lock_core.specs.declared.mutex.table.Plan.TheVariants as plan
-use Rattle.lock_core.specs.declared.standing.Kind.{Kind}
-use Rattle.lock_core.specs.declared.standing.Kind.TheVariants as kind
-use Rattle.lock_core.specs.declared.standing.Rest.{Rest}
-use Rattle.lock_core.specs.declared.standing.Rest.TheVariants.{Idle, Pending, Holding}
-use Rattle.lock_core.specs.declared.standing.Stage.{Stage}
-use Rattle.lock_core.specs.declared.standing.Stage.TheVariants.{Outside, Inside, Forgotten}
-use Rattle.lock_core.specs.declared.standing.Within.{Within}
-use Rattle.lock_core.specs.Standings.{refused}
-use Rattle.lock_core.specs.Mutex.Courses.{is_taking, is_waiting, is_releasing, is_cancelling}
+use Rattle.lock_world.specs.declared.standing.Kind.{Kind}
+use Rattle.lock_world.specs.declared.standing.Kind.TheVariants as kind
+use Rattle.lock_world.specs.declared.standing.Rest.{Rest}
+use Rattle.lock_world.specs.declared.standing.Rest.TheVariants.{Idle, Pending, Holding}
+use Rattle.lock_world.specs.declared.standing.Stage.{Stage}
+use Rattle.lock_world.specs.declared.standing.Stage.TheVariants.{Outside, Inside, Forgotten}
+use Rattle.lock_world.specs.declared.standing.Within.{Within}
+use Rattle.lock_world.specs.Standings.{refused}
+use Rattle.mutex_machine.specs.Courses.{is_taking, is_waiting, is_releasing, is_cancelling}
 
 abbrev pub within : Kind → Rest → Within
 within k r = record { kind = k; was = r }

@@ -1,14 +1,15 @@
 -- Whole runs of a mutex's World, and the rights that the answers alone tell of.
 use Rattle.std.specs.Prelude.{◌≡◌, ℕ, ◌==◌, ◌↔◌, if◌then◌else◌, Bool, true, false, List, [], ◌∷◌, Option, Some, None}
-use Rattle.lock_core.specs.declared.moves.Answer.{Answer}
-use Rattle.lock_core.specs.declared.moves.Answer.TheVariants as answer
-use Rattle.lock_core.specs.declared.moves.Move.{Move}
-use Rattle.lock_core.specs.declared.moves.What.{What}
-use Rattle.lock_core.specs.declared.standing.Rest.TheVariants.{Holding}
-use Rattle.lock_core.specs.Standings.{Standing, outside, forgotten}
+use Rattle.lock_world.specs.declared.moves.Answer.{Answer}
+use Rattle.lock_world.specs.declared.moves.Answer.TheVariants as answer
+use Rattle.lock_world.specs.declared.moves.Move.{Move}
+use Rattle.lock_world.specs.declared.moves.What.{What}
+use Rattle.lock_world.specs.declared.standing.Rest.TheVariants.{Holding}
+use Rattle.lock_world.specs.Standings.{Standing, outside, forgotten, is_outside}
+use Rattle.lock_world.specs.Runs as runs
 use Rattle.lock_core.specs.Mutex.State.{World, standing_of}
 use Rattle.lock_core.specs.Mutex.Legal.{Legal, is_drop}
-use Rattle.lock_core.specs.Mutex.Laws.{IsSound, IsAwake, is_outside, is_at_rest}
+use Rattle.lock_core.specs.Mutex.Laws.{IsSound, IsAwake, is_at_rest}
 
 -- Whether a party has the lock by its answers alone, after a move of its own: Ready and Granted give it the lock, and the first event of a drop takes it away.
 abbrev pub right_after : Bool → What → Answer → Bool
@@ -54,7 +55,8 @@ pub record HoldsWell (had : ℕ → Bool) (w : World) : Type 0 where
 
 -- A chain of legal steps, one answer a move, after each of which all is well; `had` tells the rights by the answers so far.
 abbrev pub Runs : (ℕ → Bool) → World → List Move → List Answer → World → Type 0
-Runs had w [] [] v = v ≡ w
-Runs had w (m ∷ ms) (a ∷ more) v = (mid : World) × Legal w m a mid × HoldsWell (rights_after had m a) mid × Runs (rights_after had m a) mid ms more v
-Runs had w [] (a ∷ more) v = ⊥
-Runs had w (m ∷ ms) [] v = ⊥
+Runs = runs.Runs Legal rights_after HoldsWell
+
+-- A run in which the rights are known as the World has them where it begins.
+abbrev pub RunsOn : World → List Move → List Answer → World → Type 0
+RunsOn w = Runs (rights_of w) w

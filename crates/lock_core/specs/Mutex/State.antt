@@ -4,8 +4,8 @@ use Rattle.lock_event.specs.declared.event.Entry.{Entry}
 use Rattle.lock_event.specs.declared.event.Mark.{Mark}
 use Rattle.lock_event.specs.Lists.{mark_at}
 use Rattle.lock_queue.specs.Parties.{is_party, entries_of}
-use Rattle.lock_core.specs.declared.standing.Rest.TheVariants.{Idle}
-use Rattle.lock_core.specs.Standings.{Standing, outside, forgotten}
+use Rattle.lock_world.specs.declared.standing.Rest.TheVariants.{Idle}
+use Rattle.lock_world.specs.Standings.{Standing, outside, forgotten}
 
 -- The holder, if any; for each party whether it is starved; and the value last left.
 pub record State : Type 0 where

@@ -1,22 +1,22 @@
 -- What stands behind a mutex's World, and what one move does to it.
 use Rattle.std.specs.Prelude.{◌≡◌, ℕ, ◌<◌, true, List, length, Option, Some, None, IsSomeAnd, slice_set, replicate, nat_lt, if◌then◌else◌}
-use Rattle.lock_core.specs.declared.refusal.Refusal.TheVariants.{Finished}
-use Rattle.lock_core.specs.declared.program.mutex.Next.{Next}
-use Rattle.lock_core.specs.declared.program.mutex.Place.{Place}
-use Rattle.lock_core.specs.declared.moves.Answer.{Answer}
-use Rattle.lock_core.specs.declared.moves.Answer.TheVariants.{NotPossible, Granted}
-use Rattle.lock_core.specs.declared.moves.Got.TheVariants.{Value}
-use Rattle.lock_core.specs.declared.moves.Move.{Move}
+use Rattle.lock_world.specs.declared.refusal.Refusal.TheVariants.{Finished}
+use Rattle.mutex_machine.specs.declared.program.Next.{Next}
+use Rattle.mutex_machine.specs.declared.program.Place.{Place}
+use Rattle.lock_world.specs.declared.moves.Answer.{Answer}
+use Rattle.lock_world.specs.declared.moves.Answer.TheVariants.{NotPossible, Granted}
+use Rattle.lock_world.specs.declared.moves.Got.TheVariants.{Value}
+use Rattle.lock_world.specs.declared.moves.Move.{Move}
 use Rattle.lock_core.specs.declared.mutex.table.Plan.{Plan}
 use Rattle.lock_core.specs.declared.mutex.table.Plan.TheVariants as plan
-use Rattle.lock_core.specs.declared.standing.Rest.TheVariants.{Idle}
-use Rattle.lock_core.specs.declared.standing.Stage.{Stage}
-use Rattle.lock_core.specs.declared.standing.Stage.TheVariants.{Outside}
-use Rattle.lock_core.specs.declared.standing.Within.{Within}
-use Rattle.lock_core.specs.Standings.{inputs_of, refused}
-use Rattle.lock_core.specs.Mutex.Program.{start_of}
-use Rattle.lock_core.specs.Mutex.Machine.{Lock, place_at, new_lock}
-use Rattle.lock_core.specs.Mutex.Acts.{Acts}
+use Rattle.lock_world.specs.declared.standing.Rest.TheVariants.{Idle}
+use Rattle.lock_world.specs.declared.standing.Stage.{Stage}
+use Rattle.lock_world.specs.declared.standing.Stage.TheVariants.{Outside}
+use Rattle.lock_world.specs.declared.standing.Within.{Within}
+use Rattle.lock_world.specs.Standings.{inputs_of, refused}
+use Rattle.mutex_machine.specs.Program.{start_of}
+use Rattle.mutex_machine.specs.Machine.{Lock, place_at, new_lock}
+use Rattle.mutex_machine.specs.Acts.{Acts}
 use Rattle.lock_core.specs.Mutex.Plans.{plan_of, answer_of, stage_after, stage_at, goes_with}
 
 -- the lock, at which stage each party is, and the value

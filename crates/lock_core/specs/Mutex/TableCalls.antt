@@ -2,15 +2,16 @@
 use Rattle.std.specs.Prelude.{◌≡◌, ◌≢◌, ℕ, ◌+◌, ◌≤◌, List, [], ◌∷◌, map}
 use Rattle.std.specs.Borrow.{Lends, MutBor, Fml, u64}
 use Rattle.lock_core.specs.contracts.mutex.table.Table.{the_row}
-use Rattle.lock_core.specs.declared.moves.Answer.{Answer}
-use Rattle.lock_core.specs.declared.moves.Answer.TheVariants.{Stepped}
-use Rattle.lock_core.specs.declared.moves.Call.{Call}
-use Rattle.lock_core.specs.declared.moves.Inputs.{Inputs}
-use Rattle.lock_core.specs.declared.moves.Move.{Move}
-use Rattle.lock_core.specs.Standings.{forgets}
-use Rattle.lock_core.specs.Mutex.Acts.{IsMutex}
+use Rattle.lock_world.specs.declared.moves.Answer.{Answer}
+use Rattle.lock_world.specs.declared.moves.Answer.TheVariants.{Stepped}
+use Rattle.lock_world.specs.declared.moves.Call.{Call}
+use Rattle.lock_world.specs.declared.moves.Inputs.{Inputs}
+use Rattle.lock_world.specs.declared.moves.Move.{Move}
+use Rattle.lock_world.specs.Standings.{forgets}
+use Rattle.mutex_machine.specs.Acts.{IsMutex}
 use Rattle.lock_core.specs.Mutex.Table.{Table, IsTable, IsStep}
-use Rattle.lock_core.specs.Mutex.Whole.{moves_of, answers_of, most_steps_of}
+use Rattle.lock_world.specs.Whole.{moves_of, answers_of}
+use Rattle.lock_core.specs.Mutex.Whole.{most_steps_of}
 
 -- a chain of steps
 abbrev pub TableRuns : Table → List Move → List Answer → Table → Type 0

@@ -1,16 +1,16 @@
 -- How callers see what stands behind a mutex's World.
 use Rattle.std.specs.Prelude.{ℕ, ◌+◌, ◌==◌, if◌then◌else◌, Bool, List, [], ◌∷◌, map, Option, Some, None}
-use Rattle.lock_core.specs.declared.refusal.Refusal.TheVariants.{Memory, Starved}
-use Rattle.lock_core.specs.declared.program.mutex.Place.{Place}
-use Rattle.lock_core.specs.declared.program.mutex.Place.TheVariants as place
-use Rattle.lock_core.specs.declared.moves.Answer.{Answer}
-use Rattle.lock_core.specs.declared.moves.Answer.TheVariants.{Ready, GivenBack}
-use Rattle.lock_core.specs.declared.moves.Got.TheVariants.{Value}
-use Rattle.lock_core.specs.declared.standing.Stage.{Stage}
-use Rattle.lock_core.specs.declared.standing.Stage.TheVariants.{Outside, Inside, Forgotten}
-use Rattle.lock_core.specs.Standings.{Standing, outside, inside, forgotten, refused}
-use Rattle.lock_core.specs.Mutex.Roles.{holds, counted}
-use Rattle.lock_core.specs.Mutex.Machine.{Lock}
+use Rattle.lock_world.specs.declared.refusal.Refusal.TheVariants.{Memory, Starved}
+use Rattle.mutex_machine.specs.declared.program.Place.{Place}
+use Rattle.mutex_machine.specs.declared.program.Place.TheVariants as place
+use Rattle.lock_world.specs.declared.moves.Answer.{Answer}
+use Rattle.lock_world.specs.declared.moves.Answer.TheVariants.{Ready, GivenBack}
+use Rattle.lock_world.specs.declared.moves.Got.TheVariants.{Value}
+use Rattle.lock_world.specs.declared.standing.Stage.{Stage}
+use Rattle.lock_world.specs.declared.standing.Stage.TheVariants.{Outside, Inside, Forgotten}
+use Rattle.lock_world.specs.Standings.{Standing, outside, inside, forgotten, refused}
+use Rattle.mutex_machine.specs.Roles.{holds, counted}
+use Rattle.mutex_machine.specs.Machine.{Lock}
 use Rattle.lock_core.specs.Mutex.Table.{Table}
 use Rattle.lock_core.specs.Mutex.State.{World}
 

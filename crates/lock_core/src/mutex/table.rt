@@ -1,17 +1,16 @@
 //! What stands behind a mutex's World: the lock, the stage of each party, and the value.
 
 ghost use Rattle.std.specs.Prelude.{◌≡◌, ℕ, ◌<◌, true, length, map, IfOk};
-ghost use Rattle.lock_core.specs.Standings.{inputs_of};
-ghost use Rattle.lock_core.specs.Mutex.Acts.{IsMutex};
+ghost use Rattle.mutex_machine.specs.Acts.{IsMutex};
 ghost use Rattle.lock_core.specs.Mutex.Plans.{plan_of, begins_by, answer_of, stage_after};
 ghost use Rattle.lock_core.specs.Mutex.Table.{IsStep, IsTable, new_table};
-ghost use Rattle.lock_core.specs.Standings.{is_outside_stage, forgets};
+ghost use Rattle.lock_world.specs.Standings.{is_outside_stage, forgets};
 ghost use Rattle.std.specs.List.{list_all};
 
-use super::locking::Lock;
-use crate::program::mutex::{End, LockCall, Next};
-use crate::standing::{Kind, Rest, Stage, Within};
-use crate::{Answer, Call, Got, Inputs, Move, Refusal, What};
+use lock_world::standing::{Kind, Rest, Stage, Within};
+use lock_world::{Answer, Call, Got, Inputs, Move, Refusal, What};
+use mutex_machine::Lock;
+use mutex_machine::program::{End, LockCall, Next};
 use std::alloc::{AllocError, Global};
 use std::marker::Model;
 
@@ -92,16 +91,6 @@ fn stage_then(within: Within, next: Next) -> Stage
         Next::End(End::Pending | End::Refused(_)) => Stage::Outside(Rest::Pending),
         Next::End(End::NotFree) => Stage::Outside(within.was),
         Next::End(End::GivenBack) => Stage::Outside(Rest::Idle),
-    }
-}
-
-impl What {
-    fn inputs(self) -> Inputs
-        ensures { result ≡ inputs_of self }
-    {
-        match self {
-            What::Begin(_, inputs) | What::Go(inputs) => inputs,
-        }
     }
 }
 

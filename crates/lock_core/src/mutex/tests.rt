@@ -1,7 +1,5 @@
 use super::*;
-use crate::program::mutex::{Action, End, LockCall, Next, Place};
 use crate::{Got, Made, Mark, What};
-use std::alloc::AllocError;
 use std::test::Fail;
 
 const INPUTS: Inputs = Inputs {
@@ -177,42 +175,5 @@ fn a_solo_poll_gives_way_to_a_starved_party_which_takes_the_lock(
     );
     assert!(rt; world.is_locked());
     assert_eq!(rt; world.starved(), 1);
-    Ok(())
-}
-
-#[test]
-fn the_machine_alone_hands_its_lock_on(rt: HostRuntime) -> Result<(), AllocError> {
-    let mut lock = Lock::new(rt.alloc(), 2, 1)?;
-    assert_eq!(rt; lock.place(0), Place::Out);
-    // The machine's calls are asked for in the order that their places allow.
-    if matches!(lock.place(0), Place::Out) {
-        assert_eq!(rt;
-            lock.begin(0, LockCall::Lock, true, false),
-            Next::End(End::Got)
-        );
-    }
-    assert!(rt; lock.is_held());
-    assert_eq!(rt; lock.starved(), 0);
-    assert_eq!(rt; lock.waiting(), 0);
-    assert!(rt; lock.entry(0).is_none());
-    lock.laws();
-    Ok(())
-}
-
-#[test]
-fn refusals_have_their_numbers_and_texts(rt: HostRuntime) -> Result<(), Fail> {
-    let refusals = [
-        (Refusal::Memory, 1, "no memory"),
-        (Refusal::Starved, 2, "too many starved waiters"),
-        (Refusal::Readers, 3, "too many readers"),
-        (Refusal::Permits, 4, "too many permits"),
-        (Refusal::Generations, 5, "too many generations"),
-        (Refusal::Finished, 6, "polled after it was ready"),
-    ];
-    for (refusal, number, text) in refusals {
-        assert_eq!(rt; refusal.number(), number);
-        let shown = format!(in rt.alloc(); "{refusal}")?;
-        assert_eq!(rt; shown.as_str(), text);
-    }
     Ok(())
 }

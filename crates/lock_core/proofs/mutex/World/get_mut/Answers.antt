@@ -1,7 +1,7 @@
 -- A value is put in the World as in its table.
 use Rattle.std.proofs.Common.{◌≡◌, true, refl, ap, sym, ◌∙◌}
 use Rattle.std.specs.List.{list_all}
-use Rattle.lock_core.specs.Standings.{is_outside_stage}
+use Rattle.lock_world.specs.Standings.{is_outside_stage}
 use Rattle.lock_core.specs.Mutex.Laws.{is_at_rest}
 use Rattle.lock_core.specs.Mutex.Lending.{world_with}
 use Rattle.lock_core.specs.Mutex.View.{opened}

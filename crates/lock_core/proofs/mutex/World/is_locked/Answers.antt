@@ -1,7 +1,7 @@
 -- The word is held exactly if there is a holder.
 use Rattle.std.proofs.Common.{ap, ◌∙◌}
 use Rattle.std.specs.Prelude.{is_some}
-use Rattle.lock_core.specs.Mutex.Acts.{holders}
+use Rattle.mutex_machine.specs.Acts.{holders}
 use Rattle.lock_core.proofs.MutexWorld.Views.{held_seen}
 use Rattle.lock_core.proofs.mutex.World.is_locked.Goals as goal
 

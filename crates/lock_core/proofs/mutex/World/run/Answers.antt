@@ -1,7 +1,7 @@
 -- Each move adds a legal step to the run.
 use Rattle.std.proofs.Common.{◌≡◌, ◌++◌, ◌∷◌, ℕ, Bool, [], List, length-append, take, arith, subst, sym, ap, ◌∙◌}
 use Rattle.std.proofs.lemmas.List.{take_more}
-use Rattle.lock_core.specs.declared.moves.Move.{Move}
+use Rattle.lock_world.specs.declared.moves.Move.{Move}
 use Rattle.lock_core.specs.Mutex.Runs.{Runs, rights_by, rights_of}
 use Rattle.lock_core.proofs.MutexWorld.Rights.{runs_more, rights_more, holds_well}
 use Rattle.lock_core.proofs.mutex.World.run.Goals as goal

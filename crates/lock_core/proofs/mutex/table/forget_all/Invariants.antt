@@ -1,5 +1,5 @@
 use Rattle.std.proofs.Common.{◌≡◌, ◌++◌, take, drop, map}
-use Rattle.lock_core.specs.Standings.{forgets}
+use Rattle.lock_world.specs.Standings.{forgets}
 use Rattle.lock_core.proofs.mutex.table.forget_all.Given as goal
 
 abbrev pub invariant-loop-stage : goal.invariant-loop-stage

@@ -2,8 +2,8 @@
 use Rattle.std.proofs.Common.{◌≡◌, ◌<◌, true, Some, length, arith, refl, ap, sym, ◌∙◌}
 use Rattle.std.proofs.Math.ListN.{set}
 use Rattle.lock_core.specs.declared.mutex.table.Plan.TheVariants as plan
-use Rattle.lock_core.specs.Mutex.Program.{start_of, place_after}
-use Rattle.lock_core.specs.Mutex.Machine.{place_at}
+use Rattle.mutex_machine.specs.Program.{start_of, place_after}
+use Rattle.mutex_machine.specs.Machine.{place_at}
 use Rattle.lock_core.specs.Mutex.Plans.{plan_of, goes_with}
 use Rattle.lock_core.specs.Mutex.Table.{Table, plan_in}
 use Rattle.lock_core.proofs.MutexWorld.Tables.{can_begin, begun_fits, going_fits, going_within, table_kept, began, steps_from, stage_read, planned}

@@ -1,0 +1,6 @@
+pub mod Refusals
+pub mod Standings
+pub mod Steps
+pub mod Rights
+pub mod Runs
+pub mod Whole

@@ -1,0 +1,94 @@
+-- What always holds of a mutex, as callers see it.
+use Rattle.std.proofs.Common.{◌≡◌, ℕ, Bool, true, zero, suc, List, [], ◌∷◌, length, refl, ap, arith, sym, ◌∙◌}
+use Rattle.lock_event.specs.Lists.{marked_count, IsMarkedFirst}
+use Rattle.lock_queue.specs.Queues.{Queue}
+use Rattle.lock_queue.specs.Debts.{Roles, Rests, AllRest}
+use Rattle.lock_queue.proofs.Debts.{paid_at_rest}
+use Rattle.mutex_machine.specs.declared.program.Place.{Place}
+use Rattle.mutex_machine.specs.declared.program.Place.TheVariants.{Out, Holding, Ask, AskStarved}
+use Rattle.mutex_machine.specs.declared.program.Action.{Action}
+use Rattle.mutex_machine.specs.declared.program.Action.TheVariants as act
+use Rattle.mutex_machine.specs.declared.program.Found.{Found}
+use Rattle.mutex_machine.specs.declared.program.Found.TheVariants.{Done, Free, Held, SomeStarved, AtLimit, NoMemory, Yes, No}
+use Rattle.mutex_machine.specs.declared.word.Word.{Word}
+use Rattle.mutex_machine.specs.Roles.{bit, counted, listed, waits, owes, is_resting}
+use Rattle.mutex_machine.specs.Effects.{OnWord}
+use Rattle.mutex_machine.specs.Seats.{OnList}
+use Rattle.mutex_machine.specs.Machine.{Lock, IsLock, place_at}
+use Rattle.mutex_machine.specs.Acts.{Finds, IsAtRest, IsMutex}
+
+abbrev roles : Roles Place
+roles = record { listed = listed; waits = waits; owes = owes }
+
+-- a resting party owes nothing, and waits where it is listed
+rests : (x : Place) → is_resting x ≡ true → Rests roles x
+rests Out h = (refl, refl)
+rests Holding h = (refl, refl)
+rests Ask h = (refl, refl)
+rests AskStarved h = (refl, refl)
+rests _ h = absurd (cc)
+
+all_rest : (ps : List Place) → IsAtRest ps → AllRest roles ps
+all_rest [] h = tt
+all_rest (x ∷ xs) h = (rests x h.0, all_rest xs h.1)
+
+-- a starved party that rests is listed
+starved_rests : (x : Place) → is_resting x ≡ true → counted x ≡ 1 → listed x ≡ 1
+starved_rests AskStarved h c = refl
+starved_rests Out h c = absurd (omega arith)
+starved_rests Holding h c = absurd (omega arith)
+starved_rests Ask h c = absurd (omega arith)
+starved_rests _ h c = absurd (cc)
+
+pub resting_at : (ps : List Place) (q : ℕ) → IsAtRest ps → is_resting (place_at ps q) ≡ true
+resting_at [] q h = refl
+resting_at (x ∷ xs) zero h = h.0
+resting_at (x ∷ xs) (suc q) h = resting_at xs q h.1
+
+module _ (w : Word) (places : List Place) (list : Queue) where
+  abbrev the_lock : Lock
+  the_lock = record { places = places; entries = list.entries; limit = w.limit }
+
+  pub is_mutex : IsLock w places list → IsMarkedFirst list.entries → IsMutex the_lock
+  is_mutex lock ordered =
+      record {
+        one_holder = omega (arith, lock.sound.held, lock.sound.one_holder);
+        few_starved = omega (arith, lock.sound.starved, lock.sound.limited);
+        owners = lock.owners;
+        in_order = ordered;
+        wakes = λ rest free some. paid_at_rest roles (bit w.held ≡ 0) places (length list.entries) (marked_count list.entries) (all_rest places rest) lock.sound.in_list lock.sound.owed (omega (arith, lock.sound.held)) some;
+        starved_listed = λ rest p counts. lock.owners p ∙ starved_rests (place_at places p) (resting_at places p rest) counts;
+      }
+
+  -- what an action found, said of the parties
+  pub finds : (p : ℕ) (memory : Bool) (a : Action) (f : Found) (v : Word) (s t : Queue) → IsLock w places list → OnWord a f w v → OnList p memory a f s t → Finds memory a f the_lock
+  finds p memory act.Nothing Done v s t k e l = tt
+  finds p memory act.Nothing _ v s t k e l = absurd e
+  finds p memory act.Take Free v s t k e l = (k.sound.held ∙ ap bit e.0, k.sound.starved ∙ e.1)
+  finds p memory act.Take (Held starving) v s t k e l = (k.sound.held ∙ ap bit e.0, k.sound.starved ∙ e.1)
+  finds p memory act.Take SomeStarved v s t k e l = rw k.sound.starved e.0
+  finds p memory act.Take _ v s t k e l = absurd e
+  finds p memory act.TakeAlone Free v s t k e l = (k.sound.held ∙ ap bit e.0, k.sound.starved ∙ e.1)
+  finds p memory act.TakeAlone (Held starving) v s t k e l = k.sound.held ∙ ap bit e.0
+  finds p memory act.TakeAlone SomeStarved v s t k e l = (k.sound.held ∙ ap bit e.0, λ one. e.1 (sym k.sound.starved ∙ one))
+  finds p memory act.TakeAlone _ v s t k e l = absurd e
+  finds p memory act.Set Free v s t k e l = k.sound.held ∙ ap bit e.0
+  finds p memory act.Set (Held starving) v s t k e l = k.sound.held ∙ ap bit e.0
+  finds p memory act.Set _ v s t k e l = absurd e
+  finds p memory act.Count Done v s t k e l = rw k.sound.starved e.0
+  finds p memory act.Count AtLimit v s t k e l = k.sound.starved ∙ e.0
+  finds p memory act.Count _ v s t k e l = absurd e
+  finds p memory act.Uncount Done v s t k e l = tt
+  finds p memory act.Uncount _ v s t k e l = absurd e
+  finds p memory act.Clear Done v s t k e l = k.sound.held ∙ ap bit e.0
+  finds p memory act.Clear _ v s t k e l = absurd e
+  finds p memory act.Join Done v s t k e l = tt
+  finds p memory act.Join NoMemory v s t k e l = l.0
+  finds p memory act.Join _ v s t k e l = absurd e
+  finds p memory act.Ask Yes v s t k e l = tt
+  finds p memory act.Ask No v s t k e l = tt
+  finds p memory act.Ask _ v s t k e l = absurd e
+  finds p memory act.Leave Done v s t k e l = tt
+  finds p memory act.Leave _ v s t k e l = absurd e
+  finds p memory act.Notify Done v s t k e l = tt
+  finds p memory act.Notify _ v s t k e l = absurd e

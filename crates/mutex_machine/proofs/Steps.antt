@@ -1,0 +1,58 @@
+-- What a step does to the numbers.
+use Rattle.std.proofs.Common.{◌≡◌, ◌+◌, ◌<◌, ◌≤◌, ◌≢◌}
+use Rattle.mutex_machine.specs.declared.program.Place.{Place}
+use Rattle.mutex_machine.specs.declared.program.Action.{Action}
+use Rattle.mutex_machine.specs.declared.program.Action.TheVariants as act
+use Rattle.mutex_machine.specs.declared.program.Found.{Found}
+use Rattle.mutex_machine.specs.declared.program.Found.TheVariants.{Done, Free, Held, SomeStarved, AtLimit, NoMemory, Yes, No}
+use Rattle.mutex_machine.specs.Tally.{Tally, Counts}
+use Rattle.mutex_machine.specs.Roles.{holds, counted, listed as stands, waits, owes}
+
+abbrev pub SameWord : Tally → Tally → Type 0
+SameWord s t = (t.held ≡ s.held) × (t.starved ≡ s.starved) × (t.limit ≡ s.limit)
+
+abbrev pub SameList : Tally → Tally → Type 0
+SameList s t = (t.size ≡ s.size) × (t.marked ≡ s.marked)
+
+-- an entry left, and what it was told went on
+abbrev pub Left : Tally → Tally → Type 0
+Left s t = (t.size + 1 ≡ s.size) × (0 < t.size → 0 < s.marked → 0 < t.marked)
+
+-- what an action does to the numbers where it finds this
+abbrev pub Effect : Action → Found → Tally → Tally → Type 0
+Effect act.Nothing Done s t = SameWord s t × SameList s t
+Effect act.Take Free s t = (s.held ≡ 0) × (s.starved ≡ 0) × (t.held ≡ 1) × (t.starved ≡ s.starved) × (t.limit ≡ s.limit) × SameList s t
+Effect act.Take (Held starving) s t = (s.held ≡ 1) × (s.starved ≡ 0) × SameWord s t × SameList s t
+Effect act.Take SomeStarved s t = (0 < s.starved) × SameWord s t × SameList s t
+Effect act.TakeAlone Free s t = (s.held ≡ 0) × (s.starved ≡ 1) × (t.held ≡ 1) × (t.starved ≡ s.starved) × (t.limit ≡ s.limit) × SameList s t
+Effect act.TakeAlone (Held starving) s t = (s.held ≡ 1) × SameWord s t × SameList s t
+Effect act.TakeAlone SomeStarved s t = (s.held ≡ 0) × (s.starved ≢ 1) × SameWord s t × SameList s t
+Effect act.Set Free s t = (s.held ≡ 0) × (t.held ≡ 1) × (t.starved ≡ s.starved) × (t.limit ≡ s.limit) × SameList s t
+Effect act.Set (Held starving) s t = (s.held ≡ 1) × SameWord s t × SameList s t
+Effect act.Count Done s t = (s.starved < s.limit) × (t.held ≡ s.held) × (t.starved ≡ s.starved + 1) × (t.limit ≡ s.limit) × SameList s t
+Effect act.Count AtLimit s t = (s.starved ≡ s.limit) × SameWord s t × SameList s t
+Effect act.Uncount Done s t = (t.held ≡ s.held) × (t.starved + 1 ≡ s.starved) × (t.limit ≡ s.limit) × SameList s t
+Effect act.Clear Done s t = (s.held ≡ 1) × (t.held ≡ 0) × (t.starved ≡ s.starved) × (t.limit ≡ s.limit) × SameList s t
+Effect act.Join Done s t = SameWord s t × (t.size ≡ s.size + 1) × (t.marked ≡ s.marked)
+Effect act.Join NoMemory s t = SameWord s t × SameList s t
+Effect act.Ask Yes s t = SameWord s t × (t.size + 1 ≡ s.size) × (t.marked + 1 ≡ s.marked)
+Effect act.Ask No s t = SameWord s t × SameList s t
+Effect act.Leave Done s t = SameWord s t × Left s t
+Effect act.Notify Done s t = SameWord s t × (t.size ≡ s.size) × (0 < s.size → 0 < t.marked)
+Effect _ _ s t = ⊥
+
+-- what holds of the numbers because it holds of each place
+pub record IsCounted (a : Counts) : Type 0 where
+  pub starving_cared : a.starving ≤ a.owing + a.waiting + a.holding
+  pub waiting_listed : a.waiting ≤ a.listed
+
+-- one party goes from p to q
+pub record Moves (p q : Place) (a b : Counts) : Type 0 where
+  pub holding : b.holding + holds p ≡ a.holding + holds q
+  pub starving : b.starving + counted p ≡ a.starving + counted q
+  pub listed : b.listed + stands p ≡ a.listed + stands q
+  pub waiting : b.waiting + waits p ≡ a.waiting + waits q
+  pub owing : b.owing + owes p ≡ a.owing + owes q
+  -- the party is one of those that are counted
+  pub owes_itself : owes q ≤ b.owing
+  pub holds_itself : holds q ≤ b.holding

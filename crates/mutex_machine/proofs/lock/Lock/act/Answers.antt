@@ -1,0 +1,78 @@
+-- An action of one party keeps what always holds of the mutex.
+use Rattle.std.proofs.Common.{◌≡◌, Bool, ◌<◌, length, ap, ◌∙◌}
+use Rattle.std.proofs.Math.ListN.{set}
+use Rattle.mutex_machine.specs.Program.{action_of, place_after}
+use Rattle.mutex_machine.specs.Effects.{OnWord}
+use Rattle.mutex_machine.specs.Seats.{OnList}
+use Rattle.mutex_machine.specs.Machine.{SameRoles, place_at}
+use Rattle.mutex_machine.proofs.CanDo.{can_do}
+use Rattle.mutex_machine.proofs.Laws.{finds}
+use Rattle.mutex_machine.proofs.Owners.{on_parties}
+use Rattle.mutex_machine.proofs.Effects.{limit_kept}
+use Rattle.mutex_machine.proofs.Kept.{after}
+use Rattle.mutex_machine.proofs.Fair.{acts_fairly}
+use Rattle.mutex_machine.proofs.Alone.{fewer}
+use Rattle.lock_queue.specs.Parties.{entries_of}
+use Rattle.mutex_machine.specs.Roles.{listed}
+use Rattle.mutex_machine.proofs.Locks.{locked}
+use Rattle.mutex_machine.specs.declared.program.Action.TheVariants as act
+use Rattle.mutex_machine.specs.declared.program.Found.TheVariants.{Held}
+use Rattle.mutex_machine.proofs.Courses.{heeds}
+use Rattle.mutex_machine.proofs.lock.Lock.act.Goals as goal
+
+pub carry_out-found-requires : goal.carry_out-found-requires
+carry_out-found-requires c =
+    let known : c.args.party < length c.self.inside.places.items = rw (ap (λ l. length l.places) c.self.view_is) c.requires.known in
+    let same : SameRoles c.args.from (place_at c.self.inside.places.items c.args.party) = rw (ap (λ l. l.places) c.self.view_is) c.requires.begins in
+    rw c.action_at-action.ensures
+    (can_do c.args.party c.self.inside.word c.self.inside.places.items c.self.inside.list c.self.invariant known c.args.from same)
+
+pub invariant_of-self : goal.invariant_of-self
+invariant_of-self c =
+    let known : c.args.party < length c.self.inside.places.items = rw (ap (λ l. length l.places) c.self.view_is) c.requires.known in
+    let same : SameRoles c.args.from (place_at c.self.inside.places.items c.args.party) = rw (ap (λ l. l.places) c.self.view_is) c.requires.begins in
+    let to : c.after.result ≡ after c.args.from c.carry_out-found.result =
+    c.after.ensures ∙ ap (place_after c.args.from) c.decide-next.ensures in
+    let word : OnWord (action_of c.args.from) c.carry_out-found.result c.self.inside.word c.carry_out-found.new.word =
+    rw c.action_at-action.ensures at c.carry_out-found.ensures.word in
+    let list : OnList c.args.party c.args.memory (action_of c.args.from) c.carry_out-found.result c.self.inside.list c.carry_out-found.new.list =
+    rw c.action_at-action.ensures at c.carry_out-found.ensures.list in
+    rw to (locked c.args.party c.self.inside.word c.carry_out-found.new.word c.self.inside.places.items c.self.inside.list c.carry_out-found.new.list c.args.memory c.args.from c.carry_out-found.result c.self.invariant known same word list)
+
+pub returns-clause-acts : goal.returns-clause-acts
+returns-clause-acts c =
+    let known : c.args.party < length c.self.inside.places.items = rw (ap (λ l. length l.places) c.self.view_is) c.requires.known in
+    let same : SameRoles c.args.from (place_at c.self.inside.places.items c.args.party) = rw (ap (λ l. l.places) c.self.view_is) c.requires.begins in
+    let to : c.after.result ≡ after c.args.from c.carry_out-found.result =
+    c.after.ensures ∙ ap (place_after c.args.from) c.decide-next.ensures in
+    let word : OnWord (action_of c.args.from) c.carry_out-found.result c.self.inside.word c.carry_out-found.new.word =
+    rw c.action_at-action.ensures at c.carry_out-found.ensures.word in
+    let list : OnList c.args.party c.args.memory (action_of c.args.from) c.carry_out-found.result c.self.inside.list c.carry_out-found.new.list =
+    rw c.action_at-action.ensures at c.carry_out-found.ensures.list in
+    let limit : c.carry_out-found.new.word.limit ≡ c.self.inside.word.limit =
+    limit_kept c.args.party c.args.memory (action_of c.args.from) c.carry_out-found.result c.self.inside.word c.carry_out-found.new.word word in
+    rw (← c.self.view_is)
+    (record {
+      found = c.carry_out-found.result;
+      finds = finds c.self.inside.word c.self.inside.places.items c.self.inside.list c.args.party c.args.memory (action_of c.args.from) c.carry_out-found.result c.carry_out-found.new.word c.self.inside.list c.carry_out-found.new.list c.self.invariant word list;
+      next_is = c.decide-next.ensures;
+      list = on_parties c.self.inside.list c.carry_out-found.new.list c.args.party c.args.memory (action_of c.args.from) c.carry_out-found.result list;
+      places = ap (set c.self.inside.places.items c.args.party) c.after.ensures;
+      limit = limit;
+    })
+
+pub returns-clause-fair : goal.returns-clause-fair
+returns-clause-fair c = acts_fairly c.args.memory c.args.party c.args.from c.decide-next.result c.args.self.now _ c.requires.known c.requires.begins (returns-clause-acts c)
+
+pub returns-clause-falls : goal.returns-clause-falls
+returns-clause-falls c =
+    let own : entries_of c.args.party c.self.inside.list.entries ≡ listed (place_at c.self.inside.places.items c.args.party) = c.self.invariant.owners c.args.party in
+    let own_now : entries_of c.args.party c.args.self.now.entries ≡ listed (place_at c.args.self.now.places c.args.party) =
+    rw (← ap (λ l. l.entries) c.self.view_is, ← ap (λ l. l.places) c.self.view_is) own in
+    fewer c.args.memory c.args.party c.args.from c.decide-next.result c.args.self.now _ c.requires.known c.requires.begins own_now (returns-clause-acts c)
+
+pub returns-clause-clock : goal.returns-clause-clock
+returns-clause-clock c =
+    let found : (long : Bool) → action_of c.args.from ≡ act.Take → c.carry_out-found.result ≡ Held long → long ≡ c.args.starving =
+    λ long a f. c.carry_out-found.ensures.clock long (c.action_at-action.ensures ∙ a) f in
+    rw c.decide-next.ensures (heeds c.args.starving c.args.from c.carry_out-found.result found)

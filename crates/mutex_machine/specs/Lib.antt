@@ -1,0 +1,11 @@
+pub mod Program
+pub mod Roles
+pub mod Effects
+pub mod Seats
+pub mod Tally
+pub mod Parties
+pub mod Machine
+pub mod Acts
+pub mod Ranks
+pub mod Courses
+pub mod Solo

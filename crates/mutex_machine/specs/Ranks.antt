@@ -1,0 +1,59 @@
+-- How many steps of a party's call are left, if the others stand still.
+use Rattle.std.specs.Prelude.{ℕ, ◌==◌, if◌then◌else◌, Bool, true, false}
+use Rattle.lock_event.specs.Lists.{is_marked_at}
+use Rattle.lock_queue.specs.Parties.{is_party}
+use Rattle.mutex_machine.specs.declared.program.Place.{Place}
+use Rattle.mutex_machine.specs.declared.program.Place.TheVariants.{Enter, Clear, CancelUncount, Join, Look, Ask, Retry, PassOn, Count, JoinStarved, LookAlone, PassOnListed, AskStarved, Seize, Uncount, RefuseUncount, RefuseLeave}
+use Rattle.mutex_machine.specs.declared.program.LockCall.{LockCall}
+use Rattle.mutex_machine.specs.declared.program.LockCall.TheVariants as call
+use Rattle.mutex_machine.specs.declared.program.Next.{Next}
+use Rattle.mutex_machine.specs.declared.program.Next.TheVariants as next
+use Rattle.mutex_machine.specs.Machine.{Lock, place_at}
+use Rattle.mutex_machine.specs.Acts.{holders}
+
+-- How many steps are left at most from a place, by whether the party's own entry is marked and whether the lock is free.
+abbrev pub left : Place → Bool → Bool → ℕ
+left Enter marked free = 9
+left (Join told) marked free = 8
+left (Look told) marked free = if marked then 11 else 7
+left Ask marked free = if marked then 10 else 1
+left Retry marked free = 9
+left PassOn marked free = 8
+left (Count true told) marked free = 6
+left (Count false told) marked free = 7
+left JoinStarved marked free = if free then 6 else 3
+left LookAlone marked free = if free then 5 else (if marked then 6 else 2)
+left PassOnListed marked free = if free then 4 else 6
+left AskStarved marked free = if marked then (if free then 3 else 5) else 1
+left Seize marked free = if free then 2 else 4
+left (Uncount true) marked free = 2
+left RefuseUncount marked free = 2
+left (RefuseLeave told) marked free = 2
+left Clear marked free = 2
+left CancelUncount marked free = 2
+left _ marked free = 1
+
+-- The party's own entry is marked.
+abbrev pub is_own_marked : Lock → ℕ → Bool
+is_own_marked l p = is_marked_at (is_party p) l.entries
+
+-- Nobody holds the lock.
+abbrev pub is_open : Lock → Bool
+is_open l = holders l == 0
+
+-- How many steps the party's call still takes at most if only this party moves, whatever the word and the list are.
+abbrev pub steps_left : Lock → ℕ → ℕ
+steps_left l p = left (place_at l.places p) (is_own_marked l p) (is_open l)
+
+-- How many steps are left once a step has decided this: none where the call is over.
+abbrev pub left_after : Next → Lock → ℕ → ℕ
+left_after (next.Do action q) l p = steps_left l p
+left_after (next.End e) l p = 0
+
+-- No call takes more steps than this, its first one counted, if only its party moves.
+abbrev pub most_steps : LockCall → ℕ
+most_steps call.Lock = 12
+most_steps call.Poll = 12
+most_steps call.Try = 1
+most_steps call.Release = 2
+most_steps call.Cancel = 2
