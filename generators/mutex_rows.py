@@ -1,5 +1,6 @@
 #!/usr/bin/env python3
-"""Writes the case table of a mutex's steps: crates/lock_core/proofs/MutexWorld/Rows.antt.
+"""Writes the case tables of a mutex's steps: crates/mutex_machine/proofs/Rows.antt, of the machine,
+and crates/lock_core/proofs/MutexWorld/Rows.antt, of its World with its answers.
 
 Run it at the top of the repository after a change of the mutex's program. Each row is one place
 with one finding of its action: what the step changes, and what it decides.
@@ -29,7 +30,8 @@ use Rattle.mutex_machine.specs.Roles.{counted, listed}
 use Rattle.mutex_machine.specs.Machine.{Lock}
 use Rattle.mutex_machine.specs.Acts.{Finds, holders, starved}
 use Rattle.lock_core.specs.Mutex.Legal.{Change, ListName, takes, releases, starves, recovers, puts, for_the_lock, gives_back}
-use Rattle.lock_core.specs.Mutex.View.{is_holder, is_counted, verdict}
+use Rattle.mutex_machine.specs.State.{is_holder, is_counted}
+use Rattle.lock_core.specs.Mutex.View.{verdict}
 use Rattle.mutex_machine.proofs.Kept.{after}
 
 -- what an action changes that found this
@@ -117,34 +119,126 @@ module _ (memory : Bool) (l : Lock) (v : ℕ) where
   pub row : (from : Place) (f : Found) → Finds memory (action_of from) f l → Row memory l v from f
 '''
 
+MACHINE_HEAD = """-- Each action of a party, place by place: what it changes, and what it decides. Written by generators/mutex_rows.py.
+use Rattle.std.proofs.Common.{◌≡◌, ℕ, ◌<◌, ◌⊎◌, inl, inr, Bool, true, false, Option, Some, None, refl}
+use Rattle.lock_world.specs.declared.refusal.Refusal.TheVariants.{Memory, Starved}
+use Rattle.lock_world.specs.Steps.{Deed, nothing, changes, does, joins, asks, leaves, notifies}
+use Rattle.mutex_machine.specs.declared.program.Place.{Place}
+use Rattle.mutex_machine.specs.declared.program.Place.TheVariants.{Out, Holding, Enter, Try, Clear, CancelUncount, CancelLeave, Join, Look, Ask, Retry, PassOn, Count, JoinStarved, LookAlone, PassOnListed, AskStarved, Seize, Uncount, Leave, RefuseUncount, RefuseLeave, RefuseNotifyMemory, RefuseNotifyStarved, ReleaseNotify}
+use Rattle.mutex_machine.specs.declared.program.Action.{Action}
+use Rattle.mutex_machine.specs.declared.program.Action.TheVariants as act
+use Rattle.mutex_machine.specs.declared.program.Next.{Next}
+use Rattle.mutex_machine.specs.declared.program.Next.TheVariants as next
+use Rattle.mutex_machine.specs.declared.program.End.{End}
+use Rattle.mutex_machine.specs.declared.program.End.TheVariants.{Got, Pending, NotFree, GivenBack, Refused}
+use Rattle.mutex_machine.specs.declared.program.Found.{Found}
+use Rattle.mutex_machine.specs.declared.program.Found.TheVariants.{Done, Free, Held, SomeStarved, AtLimit, NoMemory, Yes, No}
+use Rattle.mutex_machine.specs.Program.{action_of, next_of}
+use Rattle.mutex_machine.specs.Roles.{counted, listed}
+use Rattle.mutex_machine.specs.Machine.{Lock}
+use Rattle.mutex_machine.specs.Acts.{Finds, holders, starved}
+use Rattle.mutex_machine.specs.State.{is_holder, is_counted}
+use Rattle.mutex_machine.specs.Legal.{Change, ListName, takes, releases, starves, recovers, for_the_lock, gives_back, decision}
+use Rattle.mutex_machine.proofs.Kept.{after}
+
+-- what an action changes that found this
+abbrev pub deed_of : Action → Found → Deed Change ListName
+deed_of act.Take Free = changes takes
+deed_of act.TakeAlone Free = changes takes
+deed_of act.Set Free = changes takes
+deed_of act.Count Done = changes starves
+deed_of act.Uncount Done = changes recovers
+deed_of act.Clear Done = changes releases
+deed_of act.Join Done = does for_the_lock joins
+deed_of act.Ask Yes = does for_the_lock asks
+deed_of act.Leave Done = does for_the_lock leaves
+deed_of act.Notify Done = does for_the_lock (notifies 1)
+deed_of _ _ = nothing
+
+-- how a deed turns whether its party holds the lock, and whether it is starved
+abbrev pub Holds : Deed Change ListName → Bool → Bool → Type 0
+Holds (changes takes) b c = (b ≡ false) × (c ≡ true)
+Holds (changes releases) b c = (b ≡ true) × (c ≡ false)
+Holds _ b c = c ≡ b
+
+abbrev pub Starves : Deed Change ListName → Bool → Bool → Type 0
+Starves (changes starves) b c = (b ≡ false) × (c ≡ true)
+Starves (changes recovers) b c = (b ≡ true) × (c ≡ false)
+Starves _ b c = c ≡ b
+
+abbrev pub decision_by : Next → Option End
+decision_by (next.Do a q) = decision q
+decision_by (next.End e) = Some e
+
+-- why an action decides its call on an end
+abbrev pub Reason : Bool → Lock → Place → Found → End → Type 0
+Reason memory l from f Got = is_holder (after from f) ≡ true
+Reason memory l from f Pending = (action_of from ≡ act.Ask) × (f ≡ No) × (listed from ≡ 1)
+Reason memory l from f NotFree = (holders l ≡ 1) ⊎ (0 < starved l)
+Reason memory l from f GivenBack = Unit {0}
+Reason memory l from f (Refused Memory) = (memory ≡ false) × (listed from ≡ 0) × (deed_of (action_of from) f ≡ nothing)
+Reason memory l from f (Refused Starved) = starved l ≡ l.limit
+Reason memory l from f (Refused _) = ⊥
+
+abbrev pub Judged : Bool → Lock → Place → Found → Option End → Option End → Type 0
+Judged memory l from f (Some e) o = (o ≡ Some e) × (gives_back (deed_of (action_of from) f) ≡ true)
+Judged memory l from f None None = Unit {0}
+Judged memory l from f None (Some e) = Reason memory l from f e
+
+pub record Row (memory : Bool) (l : Lock) (from : Place) (f : Found) : Type 0 where
+  pub holds : Holds (deed_of (action_of from) f) (is_holder from) (is_holder (after from f))
+  pub starves : Starves (deed_of (action_of from) f) (is_counted from) (is_counted (after from f))
+  pub judged : Judged memory l from f (decision from) (decision_by (next_of from f))
+
+module _ (memory : Bool) (l : Lock) where
+  pub row : (from : Place) (f : Found) → Finds memory (action_of from) f l → Row memory l from f
+"""
+
 TAKES = ('Take', 'TakeAlone', 'Set')
-# How a step is judged: as it was decided before, not yet decided, or decided now for a reason.
-KEPT = '(refl, refl)'
-UNDECIDED = 'tt'
-TAKEN = '(refl, refl)'
-NOT_FREE = 'tt'
-WAITING = '(refl, refl, refl)'
-NO_MEMORY = '(refusal.Memory, refl, (e, refl, refl))'
-AT_LIMIT = '(refusal.Starved, refl, e)'
+BOTH = '(refl, refl)'
+# How a step is judged: as it was decided before, not yet decided, or decided now for a reason. Each table
+# has its own words for it.
+KEPT, UNDECIDED, TAKEN, NOT_FREE, WAITING, NO_MEMORY, AT_LIMIT = range(7)
+WORLD_SAYS = {
+    KEPT: BOTH,
+    UNDECIDED: 'tt',
+    TAKEN: BOTH,
+    NOT_FREE: 'tt',
+    WAITING: '(refl, refl, refl)',
+    NO_MEMORY: '(refusal.Memory, refl, (e, refl, refl))',
+    AT_LIMIT: '(refusal.Starved, refl, e)',
+}
+MACHINE_SAYS = {
+    **WORLD_SAYS,
+    TAKEN: 'refl',
+    NO_MEMORY: '(e, refl, refl)',
+    AT_LIMIT: 'e',
+}
 
 rows = []
+machine_rows = []
 
 
 def row(place, action, found, judged):
     takes = action in TAKES and found == 'Free'
-    holds = KEPT if takes or action == 'Clear' else 'refl'
+    holds = BOTH if takes or action == 'Clear' else 'refl'
     counts = action == 'Count' and found == 'Done'
-    starves = KEPT if counts or action == 'Uncount' else 'refl'
+    starves = BOTH if counts or action == 'Uncount' else 'refl'
     finding = 'tt'
     if takes:
         finding = {'Take': '(e.0, inl e.1)', 'TakeAlone': '(e.0, inr refl)', 'Set': '(e, inr refl)'}[action]
     if counts:
         finding = 'e'
-    rows.append(f'  row {place} {found} e = record {{ holds = {holds}; starves = {starves}; finding = {finding}; judged = {judged}; over = refl }}')
+    said = MACHINE_SAYS[judged]
+    if judged == NOT_FREE:
+        said = 'inr e' if found == 'SomeStarved' else 'inl e.0'
+    rows.append(f'  row {place} {found} e = record {{ holds = {holds}; starves = {starves}; finding = {finding}; judged = {WORLD_SAYS[judged]}; over = refl }}')
+    machine_rows.append(f'  row {place} {found} e = record {{ holds = {holds}; starves = {starves}; judged = {said} }}')
 
 
 def rest(place):
     rows.append(f'  row {place} _ e = absurd e')
+    machine_rows.append(f'  row {place} _ e = absurd e')
 
 
 def one(place, action, judged):
@@ -210,3 +304,6 @@ one('ReleaseNotify', 'Notify', KEPT)
 
 with open('crates/lock_core/proofs/MutexWorld/Rows.antt', 'w', encoding='utf-8') as out:
     out.write(HEAD + '\n'.join(rows) + '\n')
+
+with open('crates/mutex_machine/proofs/Rows.antt', 'w', encoding='utf-8') as out:
+    out.write(MACHINE_HEAD + '\n'.join(machine_rows) + '\n')

@@ -12,3 +12,7 @@ pub mod Courses
 pub mod Alone
 pub mod Solo
 pub mod SoloPolls
+pub mod Callers
+pub mod Seen
+pub mod Rows
+pub mod Legal

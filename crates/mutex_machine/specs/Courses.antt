@@ -9,6 +9,16 @@ use Rattle.mutex_machine.specs.declared.program.Next.{Next}
 use Rattle.mutex_machine.specs.declared.program.Next.TheVariants as next
 use Rattle.mutex_machine.specs.declared.program.End.TheVariants.{Got, Pending, NotFree, GivenBack, Refused}
 
+-- it is outside every call, without the lock
+abbrev pub is_out : Place → Bool
+is_out Out = true
+is_out _ = false
+
+-- it is outside every call, with the lock
+abbrev pub is_holding : Place → Bool
+is_holding Holding = true
+is_holding _ = false
+
 -- it is inside a poll
 abbrev pub is_taking : Place → Bool
 is_taking (Join told) = true

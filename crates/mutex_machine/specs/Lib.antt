@@ -9,3 +9,5 @@ pub mod Acts
 pub mod Ranks
 pub mod Courses
 pub mod Solo
+pub mod State
+pub mod Legal

@@ -39,6 +39,7 @@ ghost use Rattle.mutex_machine.specs.Effects.{OnWord};
 ghost use Rattle.mutex_machine.specs.Seats.{OnList, CanDo};
 ghost use Rattle.mutex_machine.specs.Machine.{SameRoles, place_at, new_lock};
 ghost use Rattle.mutex_machine.specs.Acts.{Acts, TakenFairly, IsMutex, Holds, holders, starved as starved_lem};
+ghost use Rattle.mutex_machine.specs.Legal.{IsLegal, TakesAtOnce, TakesFrom, decision, decided_by};
 ghost use Rattle.mutex_machine.specs.Program.{start_of};
 ghost use Rattle.mutex_machine.specs.Roles.{bit};
 ghost use Rattle.mutex_machine.specs.Courses.{Begins, GoesOn, HeedsClock};
@@ -115,9 +116,12 @@ impl Lock {
         requires can { IsSome (start_of call (place_at self.old.places party)) }
         ensures acts { IsSomeAnd (start_of call (place_at self.old.places party)) (λ from. Acts memory party from result self.old self.new) }
         ensures leads { Begins call result (place_at self.new.places party) }
+        ensures legal { IsLegal memory party (decided_by call) result self.old self.new }
+        ensures at_once { TakesAtOnce call party self.old self.new }
         ensures fair { TakenFairly self.old self.new }
         ensures bounded { left_after result self.new party < most_steps call }
     {
+        self.laws();
         match start(call, self.place(party)) {
             Some(from) => self.act(party, from, memory, starving),
             None => unreachable!(),
@@ -131,6 +135,7 @@ impl Lock {
         requires known { party < length self.old.places }
         ensures acts { Acts memory party (place_at self.old.places party) result self.old self.new }
         ensures leads { GoesOn (place_at self.old.places party) result (place_at self.new.places party) }
+        ensures legal { IsLegal memory party (decision (place_at self.old.places party)) result self.old self.new }
         ensures fair { TakenFairly self.old self.new }
         ensures falls { left_after result self.new party < steps_left self.old party }
         ensures clock { HeedsClock starving (place_at self.old.places party) result }
@@ -195,6 +200,8 @@ impl Lock {
         requires known { party < length self.old.places }
         requires begins { SameRoles from (place_at self.old.places party) }
         ensures acts { Acts memory party from result self.old self.new }
+        ensures legal { IsLegal memory party (decision from) result self.old self.new }
+        ensures at_once { TakesFrom from party self.old self.new }
         ensures fair { TakenFairly self.old self.new }
         ensures falls { left_after result self.new party < left from (is_own_marked self.old party) (is_open self.old) }
         ensures clock { HeedsClock starving from result }

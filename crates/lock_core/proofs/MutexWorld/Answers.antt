@@ -1,11 +1,8 @@
 -- What an action's answer says of its party's standing, and what it does to the list.
-use Rattle.std.proofs.Common.{◌≡◌, ℕ, Bool, true, false, List, [], ◌∷◌, Some, refl, arith, sym, ◌∙◌, if◌then◌else◌}
-use Rattle.std.proofs.lemmas.Bool.Decides.{nat_tests}
+use Rattle.std.proofs.Common.{◌≡◌, ℕ, Bool, true, false, List, refl, sym, ◌∙◌, if◌then◌else◌}
 use Rattle.lock_event.specs.declared.event.Entry.{Entry}
-use Rattle.lock_event.specs.declared.event.Mark.{Mark}
-use Rattle.lock_event.specs.declared.event.Mark.TheVariants.{Waiting, Notified, Additional}
-use Rattle.lock_event.specs.Lists.{mark_at, is_marked, is_marked_at, without}
-use Rattle.lock_queue.specs.Parties.{is_party, entries_of}
+use Rattle.lock_event.specs.Lists.{is_marked_at, without}
+use Rattle.lock_queue.specs.Parties.{is_party}
 use Rattle.mutex_machine.specs.declared.program.Place.{Place}
 use Rattle.mutex_machine.specs.declared.program.Place.TheVariants as place
 use Rattle.mutex_machine.specs.declared.program.Action.{Action}
@@ -102,13 +99,3 @@ list_is memory lock p act.Join _ l m e o = absurd e
 list_is memory lock p act.Ask _ l m e o = absurd e
 list_is memory lock p act.Leave _ l m e o = absurd e
 list_is memory lock p act.Notify _ l m e o = absurd e
-
-unmarked : (m : Mark) → is_marked m ≡ false → m ≡ Waiting
-unmarked Waiting h = refl
-unmarked Notified h = absurd (cc)
-unmarked Additional h = absurd (cc)
-
--- a party that stands in the list without a mark waits
-pub waits_at : (p : ℕ) (l : List (Entry ℕ)) → entries_of p l ≡ 1 → is_marked_at (is_party p) l ≡ false → mark_at (is_party p) l ≡ Some Waiting
-waits_at p [] one un = absurd (omega arith)
-waits_at p (e ∷ es) one un = grind (arith, nat_tests, unmarked e.mark, waits_at p es)

@@ -33,13 +33,15 @@ use Rattle.mutex_machine.specs.Solo.{IsCalled, Took, StandsBack, GaveWay, unstar
 use Rattle.lock_core.specs.Mutex.Table.{Table, IsTable}
 use Rattle.lock_core.specs.Mutex.State.{World, is_starved, how_many}
 use Rattle.lock_core.specs.Mutex.Laws.{is_at_rest}
-use Rattle.lock_core.specs.Mutex.View.{is_counted, stands_as, opened, view_of}
+use Rattle.mutex_machine.specs.State.{is_counted}
+use Rattle.lock_core.specs.Mutex.View.{stands_as, opened, view_of}
 use Rattle.lock_core.specs.Mutex.TableCalls.{WholeCall}
 use Rattle.lock_core.specs.Mutex.Bound.{IsSolo, unstarved_in, Takes, GivesWay, SoloPoll}
 use Rattle.mutex_machine.proofs.SoloPolls.{solo_polls}
 use Rattle.lock_core.proofs.MutexWorld.BoundRuns.{Ended, polls_alone}
 use Rattle.lock_core.proofs.MutexWorld.Sound.{rest_seen}
 use Rattle.lock_core.proofs.MutexWorld.Tables.{for_pending}
+use Rattle.mutex_machine.proofs.Seen as sees
 use Rattle.lock_core.proofs.MutexWorld.Views as view
 use Rattle.lock_core.proofs.MutexWorld.Owns as owns
 
@@ -87,7 +89,7 @@ module _ (n : ℕ) where
   shown t = opened n (view_of t)
 
   starved_seen : (t : Table) (p : ℕ) → is_starved (shown t).state p ≡ is_counted (place_at t.lock.places p)
-  starved_seen t p = view.starved_at t.lock.places p
+  starved_seen t p = sees.starved_at t.lock.places p
 
   -- the entries of parties that aren't starved are as many
   unstarved_seen : (t : Table) (es : List (Entry ℕ)) → unstarved_in (shown t).state es ≡ sum_by (λ e. unstarved t.lock e.key) es
@@ -95,7 +97,7 @@ module _ (n : ℕ) where
   unstarved_seen t (e ∷ es) =
       let x : Place = place_at t.lock.places e.key in
       let here : (if is_starved (shown t).state e.key then 0 else 1) ≡ 1 - counted x =
-      ap (λ b. if b then 0 else 1) (starved_seen t e.key) ∙ (apart (is_counted x) ∙ ap (λ c. 1 - c) (view.counted_bit x)) in
+      ap (λ b. if b then 0 else 1) (starved_seen t e.key) ∙ (apart (is_counted x) ∙ ap (λ c. 1 - c) (sees.counted_bit x)) in
       omega (arith, here, sum_by-cons (λ e. unstarved t.lock e.key) e es, unstarved_seen t es)
 
   module _ (t u : Table) (p : ℕ) (a : Answer) where
@@ -103,7 +105,7 @@ module _ (n : ℕ) where
     takes_seen e took k = record {
       ready = k.answer ∙ (ap (λ x. answer_of kind.LaterPoll t.value (next.End x)) took.0 ∙ ap (λ v. answer.Ready (Value v)) (sym k.value));
       kept = k.value;
-      holder = view.holds_it u.lock.places p k.mutex.one_holder (ap holds took.1);
+      holder = sees.holds_it u.lock.places p k.mutex.one_holder (ap holds took.1);
     }
 
     rests_seen : IsTable t.lock t.stages → IsTable u.lock u.stages → u.stages ≡ set t.stages p (Outside rest.Pending) → is_at_rest (shown t) ≡ true → is_at_rest (shown u) ≡ true
@@ -115,7 +117,7 @@ module _ (n : ℕ) where
     gives_seen «end».Pending tf there below g back k = record {
       was_unstarved = starved_seen t p ∙ ap is_counted g.unstarved_here;
       some_starved = rw view.how_many-seen g.starved_there;
-      free = view.none_held 0 u.lock.places g.free;
+      free = sees.none_held 0 u.lock.places g.free;
       pending = k.answer;
       starved = starved_seen u p ∙ ap is_counted back.0;
       as_long = back.1;
@@ -147,13 +149,13 @@ module _ (n : ℕ) where
     either_seen u a e k below (inr gave) = inr (gives_seen t u p a e tf listed_here below gave gave.stands_back k)
 
     why_seen : (is_starved (shown t).state p ≡ true) ⊎ (how_many (shown t).state.starved ≡ 0) → IsStarved t.lock p ⊎ (starved t.lock ≡ 0)
-    why_seen (inl starving) = inl (sym (view.counted_bit (place_at t.lock.places p)) ∙ ap bit (sym (starved_seen t p) ∙ starving))
+    why_seen (inl starving) = inl (sym (sees.counted_bit (place_at t.lock.places p)) ∙ ap bit (sym (starved_seen t p) ∙ starving))
     why_seen (inr none) = inr (sym (view.how_many-seen t.lock.places) ∙ none)
 
     poll_seen : (u : Table) (a : Answer) → WholeCall t p call.Poll i a u → (shown t).state.holder ≡ None → SoloPoll (shown t) p a (shown u)
     poll_seen u a whole free =
         let polls = polls_alone p i solo.memory t u a at_stage.0 at_stage.1 whole in
-        let law = solo_polls t.lock tm (view.none_holds 0 t.lock.places free) in
+        let law = solo_polls t.lock tm (sees.none_holds 0 t.lock.places free) in
         record {
           takes_or_gives_way = λ below. either_seen u a polls.0 polls.2 (rw view.how_many-seen at below) (law.takes_or_gives_way p polls.0 u.lock is_called polls.1);
           takes = λ why. takes_seen t u p a polls.0 (law.takes p polls.0 u.lock is_called (why_seen why) polls.1) polls.2;

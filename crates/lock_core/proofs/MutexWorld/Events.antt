@@ -32,12 +32,14 @@ use Rattle.lock_core.specs.Mutex.Table.{Table, IsTable, Steps, Does, IsStep, pla
 use Rattle.lock_core.specs.Mutex.State.{World, standing_of}
 use Rattle.lock_core.specs.Mutex.Legal.{knows, puts, call_of, is_drop, is_poll_after_ready, is_first_poll, HasItsOwn, Legal, AnswersAtOnce}
 use Rattle.mutex_machine.specs.Roles.{bit, holds}
-use Rattle.lock_core.specs.Mutex.View.{is_holder, verdict, stands_as, view_of}
+use Rattle.mutex_machine.specs.State.{is_holder}
+use Rattle.lock_core.specs.Mutex.View.{verdict, stands_as, view_of}
 use Rattle.mutex_machine.proofs.Courses.{begins, goes}
 use Rattle.lock_core.proofs.MutexWorld.Begun.{for_finished, for_put}
 use Rattle.lock_core.proofs.MutexWorld.Turns.{Turn, starting, going, begun_stands, going_stands, not_called}
 use Rattle.lock_core.proofs.MutexWorld.Tables.{going_within}
 use Rattle.lock_core.proofs.MutexWorld.Legals as legals
+use Rattle.mutex_machine.proofs.Seen as sees
 use Rattle.lock_core.proofs.MutexWorld.Views as view
 use Rattle.lock_core.proofs.MutexWorld.Owns as owns
 
@@ -194,7 +196,7 @@ module _ (t : Table) (n : ℕ) (p : ℕ) (i : Inputs) where
       let not_over : is_poll_after_ready (standing_of (view_of t) p) (Begin (call.Put n) i) ≡ false = rw is refl in
       let not_first : is_first_poll (standing_of (view_of t) p) (Begin (call.Put n) i) (entries_of p t.lock.entries) ≡ false = rw is refl in
       let out : (q : ℕ) → q ≢ p → holds (place_at t.lock.places q) ≡ 0 =
-      λ q apart. sym (view.holds_bit (place_at t.lock.places q)) ∙ no_bit (is_holder (place_at t.lock.places q)) (λ one. apart (same_party p q (sym own.1 ∙ view.holds_it t.lock.places q k.mutex.one_holder (sym (view.holds_bit (place_at t.lock.places q)) ∙ one)))) in
+      λ q apart. sym (sees.holds_bit (place_at t.lock.places q)) ∙ no_bit (is_holder (place_at t.lock.places q)) (λ one. apart (same_party p q (sym own.1 ∙ sees.holds_it t.lock.places q k.mutex.one_holder (sym (sees.holds_bit (place_at t.lock.places q)) ∙ one)))) in
       let only : (b : Answer) → decision (answer.Granted (Value n)) (standing_of (view_of left) p) ≡ Some b → Some (answer.Granted (Value n)) ≡ Some b = λ b d. sym (ap (decision (answer.Granted (Value n))) now) ∙ d in
       record {
         legal = record {

@@ -11,6 +11,7 @@ use Rattle.std.specs.List.{sum_by}
 use Rattle.lock_event.specs.declared.event.Entry.{Entry}
 use Rattle.lock_event.specs.declared.event.Mark.TheVariants.{Waiting}
 use Rattle.lock_queue.specs.Parties.{entries_of}
+use Rattle.lock_queue.proofs.Told.{waits_at}
 use Rattle.lock_world.specs.declared.refusal.Refusal.{Refusal}
 use Rattle.lock_world.specs.declared.refusal.Refusal.TheVariants as refusal
 use Rattle.mutex_machine.specs.declared.program.Place.{Place}
@@ -40,10 +41,12 @@ use Rattle.lock_core.specs.Mutex.Plans.{answer_of, stage_after, stage_at}
 use Rattle.lock_core.specs.Mutex.Table.{IsTable}
 use Rattle.lock_core.specs.Mutex.State.{State, World, standing_of, is_starved, how_many, is_free, mark_of}
 use Rattle.lock_core.specs.Mutex.Legal.{Change, ListName, takes, releases, starves, recovers, puts, state_after, entries_after, gives_back, is_drop, is_first_poll, call_of, DecidesOn, IsPossible, ChangesOneThing, IsTakenFairly, OthersKeepTheirs, Carries, Waits, IsCause, IsRefusedForCause, LeavesClear, IsValueKept, EndsProperly, Legal, AnswersAtOnce}
-use Rattle.lock_core.specs.Mutex.View.{is_holder, is_counted, verdict, stands_as, seen}
+use Rattle.mutex_machine.specs.State.{is_holder, is_counted}
+use Rattle.lock_core.specs.Mutex.View.{verdict, stands_as, seen}
 use Rattle.mutex_machine.proofs.Kept.{after}
 use Rattle.lock_core.proofs.MutexWorld.Rows.{Row, row, deed_of, is_at_try, answer_by, is_after_ready, Holds, Starves, Finding, Refuses, Reason, Judged, verdict_then}
 use Rattle.lock_core.proofs.MutexWorld.Turns.{Turn}
+use Rattle.mutex_machine.proofs.Seen as sees
 use Rattle.lock_core.proofs.MutexWorld.Views as view
 use Rattle.lock_core.proofs.MutexWorld.Answers as answers
 use Rattle.lock_core.proofs.MutexWorld.Owns as owns
@@ -218,13 +221,13 @@ module _ (m : Move) (l : Lock) (es : List (Entry ℕ)) (ss : List Stage) (v : �
     -- ---- the state
 
     is_there : is_holder here ≡ true → holds here ≡ 1
-    is_there h = sym (view.holds_bit here) ∙ ap bit h
+    is_there h = sym (sees.holds_bit here) ∙ ap bit h
 
     has_it : is_holder to ≡ true → new.state.holder ≡ Some m.party
-    has_it h = view.holds_it new_lock.places m.party k.new_laws.one_holder (ap holds lands ∙ (sym (view.holds_bit to) ∙ ap bit h))
+    has_it h = sees.holds_it new_lock.places m.party k.new_laws.one_holder (ap holds lands ∙ (sym (sees.holds_bit to) ∙ ap bit h))
 
     same_holder : is_holder to ≡ is_holder from → new.state.holder ≡ old.state.holder
-    same_holder h = view.same_holder 0 l.places m.party to (h ∙ holds_from)
+    same_holder h = sees.same_holder 0 l.places m.party to (h ∙ holds_from)
 
     same_starved : is_counted to ≡ is_counted from → new.state.starved ≡ old.state.starved
     same_starved h = map-set_same is_counted l.places m.party to Out (h ∙ counts_from)
@@ -236,8 +239,8 @@ module _ (m : Move) (l : Lock) (es : List (Entry ℕ)) (ss : List Stage) (v : �
     gone h n =
         let sum : sum_by holds new_lock.places + holds here ≡ sum_by holds l.places + holds to = sum_by-set holds l.places m.party to Out there in
         let had : holds here ≡ 1 = is_there (sym holds_from ∙ h) in
-        let has : holds to ≡ 0 = sym (view.holds_bit to) ∙ ap bit n in
-        view.none_held 0 new_lock.places (omega (arith, k.old_laws.one_holder))
+        let has : holds to ≡ 0 = sym (sees.holds_bit to) ∙ ap bit n in
+        sees.none_held 0 new_lock.places (omega (arith, k.old_laws.one_holder))
 
     state_is : (d : Deed Change ListName) → Holds d (is_holder from) (is_holder to) → Starves d (is_counted from) (is_counted to) → Finding d l from → new.state ≡ state_after m.party d old.state
     state_is nothing h s i = made _ _ _ _ (same_holder h) (same_starved s)
@@ -286,21 +289,21 @@ module _ (m : Move) (l : Lock) (es : List (Entry ℕ)) (ss : List Stage) (v : �
 
     fairly : old.state.holder ≢ Some m.party → new.state.holder ≡ Some m.party → (old.state.holder ≡ None) × ((how_many old.state.starved ≡ 0) ⊎ (is_starved old.state m.party ≡ true))
     fairly was is =
-        let mine : holds to ≡ 1 = sym (ap holds lands) ∙ view.is_held_by new_lock.places m.party is in
-        let now : is_holder to ≡ true = view.is_one (is_holder to) (view.holds_bit to ∙ mine) in
-        let before : is_holder from ≡ false = not_true (is_holder from) (λ h. was (view.holds_it l.places m.party k.old_laws.one_holder (is_there (sym holds_from ∙ h)))) in
+        let mine : holds to ≡ 1 = sym (ap holds lands) ∙ sees.is_held_by new_lock.places m.party is in
+        let now : is_holder to ≡ true = sees.is_one (is_holder to) (sees.holds_bit to ∙ mine) in
+        let before : is_holder from ≡ false = not_true (is_holder from) (λ h. was (sees.holds_it l.places m.party k.old_laws.one_holder (is_there (sym holds_from ∙ h)))) in
         let free = was_free r.finding (took deed (is_holder from) (is_holder to) r.holds before now) in (
-          view.none_held 0 l.places free.0,
+          sees.none_held 0 l.places free.0,
           elim free.1 as (λ _. (how_many old.state.starved ≡ 0) ⊎ (is_starved old.state m.party ≡ true)) [
             | inl none ↦ inl (view.how_many-seen l.places ∙ none)
-            | inr own ↦ inr (view.starved_at l.places m.party ∙ (sym counts_from ∙ view.is_one (is_counted from) (view.counted_bit from ∙ own)))
+            | inr own ↦ inr (sees.starved_at l.places m.party ∙ (sym counts_from ∙ sees.is_one (is_counted from) (sees.counted_bit from ∙ own)))
           ],
         )
 
     kept_by : (q : ℕ) → q ≢ m.party → (new.state.holder ≡ Some q → old.state.holder ≡ Some q) × (old.state.holder ≡ Some q → new.state.holder ≡ Some q)
     kept_by q apart = (
-      (λ h. view.holds_it l.places q k.old_laws.one_holder (sym (ap holds (stays q apart)) ∙ view.is_held_by new_lock.places q h)),
-      (λ h. view.holds_it new_lock.places q k.new_laws.one_holder (ap holds (stays q apart) ∙ view.is_held_by l.places q h)),
+      (λ h. sees.holds_it l.places q k.old_laws.one_holder (sym (ap holds (stays q apart)) ∙ sees.is_held_by new_lock.places q h)),
+      (λ h. sees.holds_it new_lock.places q k.new_laws.one_holder (ap holds (stays q apart) ∙ sees.is_held_by l.places q h)),
     )
 
     taken_fairly : IsTakenFairly old new
@@ -316,10 +319,10 @@ module _ (m : Move) (l : Lock) (es : List (Entry ℕ)) (ss : List Stage) (v : �
     others_keep : OthersKeepTheirs old m new
     others_keep = record {
       lock = kept_by;
-      starved = λ q apart. view.starved_at new_lock.places q ∙ (ap is_counted (stays q apart) ∙ sym (view.starved_at l.places q));
+      starved = λ q apart. sees.starved_at new_lock.places q ∙ (ap is_counted (stays q apart) ∙ sym (sees.starved_at l.places q));
       limit = λ was is.
-          let before : is_counted from ≡ false = counts_from ∙ (sym (view.starved_at l.places m.party) ∙ was) in
-          let now : is_counted to ≡ true = sym (ap is_counted lands) ∙ (sym (view.starved_at new_lock.places m.party) ∙ is) in
+          let before : is_counted from ≡ false = counts_from ∙ (sym (sees.starved_at l.places m.party) ∙ was) in
+          let now : is_counted to ≡ true = sym (ap is_counted lands) ∙ (sym (sees.starved_at new_lock.places m.party) ∙ is) in
           rw view.how_many-seen (below r.finding (counted_now deed (is_counted from) (is_counted to) r.starves before now));
     }
 
@@ -341,7 +344,7 @@ module _ (m : Move) (l : Lock) (es : List (Entry ℕ)) (ss : List Stage) (v : �
     waits_there : action_of from ≡ act.Ask → f ≡ No → listed from ≡ 1 → mark_of new m.party ≡ Some Waiting
     waits_there a g one =
         let o = asked m.party (action_of from) f l.entries es k.list a g in
-        rw o.1 (answers.waits_at m.party l.entries (stands_listed ∙ one) o.0)
+        rw o.1 (waits_at m.party l.entries (stands_listed ∙ one) o.0)
 
     waits : Waits old m said new
     waits d = elim (reason answer.Pending d) as (λ _. mark_of new m.party ≡ Some Waiting) [ inl e ↦ absurd (cc) | inr y ↦ waits_there y.0 y.1 y.2 ]
@@ -403,10 +406,10 @@ module _ (m : Move) (l : Lock) (es : List (Entry ℕ)) (ss : List Stage) (v : �
     -- ---- immediate answers
 
     free_is : holders l ≡ 0 → starved l ≡ 0 → is_free old.state ≡ true
-    free_is h s = free_test old.state.holder (how_many old.state.starved) (view.none_held 0 l.places h) (view.how_many-seen l.places ∙ s)
+    free_is h s = free_test old.state.holder (how_many old.state.starved) (sees.none_held 0 l.places h) (view.how_many-seen l.places ∙ s)
 
     free_says : is_free old.state ≡ true → (holders l ≡ 0) × (starved l ≡ 0)
-    free_says t = let m = free_means old.state.holder (how_many old.state.starved) t in (view.none_holds 0 l.places m.0, sym (view.how_many-seen l.places) ∙ m.1)
+    free_says t = let m = free_means old.state.holder (how_many old.state.starved) t in (sees.none_holds 0 l.places m.0, sym (view.how_many-seen l.places) ∙ m.1)
 
     pub step_at_once : AnswersAtOnce old m said new
     step_at_once = record {
@@ -414,7 +417,7 @@ module _ (m : Move) (l : Lock) (es : List (Entry ℕ)) (ss : List Stage) (v : �
       first_poll = λ first.
           let now : is_first_poll (stands_as v (stage_at ss m.party) here) m.what (entries_of m.party l.entries) ≡ true = rw stood at first in
           let goes = at_enter memory l from f (k.turn.first now (k.old_laws.owners m.party)) k.finds in (
-            (λ h. let took = goes.1 (sym (ap holds lands) ∙ view.is_held_by new_lock.places m.party h) in free_is took.0 took.1),
-            (λ t. let free = free_says t in has_it (view.is_one (is_holder to) (view.holds_bit to ∙ goes.0 free.0 free.1))),
+            (λ h. let took = goes.1 (sym (ap holds lands) ∙ sees.is_held_by new_lock.places m.party h) in free_is took.0 took.1),
+            (λ t. let free = free_says t in has_it (sees.is_one (is_holder to) (sees.holds_bit to ∙ goes.0 free.0 free.1))),
           );
     }

@@ -6,7 +6,8 @@ use Rattle.lock_world.specs.declared.standing.Stage.TheVariants.{Outside}
 use Rattle.lock_world.specs.Standings.{outside}
 use Rattle.lock_core.specs.Mutex.State.{new_world}
 use Rattle.lock_core.specs.Mutex.Table.{new_table}
-use Rattle.lock_core.specs.Mutex.View.{is_counted, holder_from, standings, opened, view_of}
+use Rattle.mutex_machine.specs.State.{is_counted, holder_from}
+use Rattle.lock_core.specs.Mutex.View.{standings, opened, view_of}
 
 no_holder : (n k : ℕ) → holder_from k (replicate n place.Out) ≡ None
 no_holder zero k = refl

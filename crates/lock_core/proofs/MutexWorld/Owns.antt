@@ -16,7 +16,9 @@ use Rattle.lock_core.specs.Mutex.Plans.{stage_at, goes_with}
 use Rattle.lock_core.specs.Mutex.Table.{IsTable}
 use Rattle.lock_core.specs.Mutex.State.{standing_of, IsClear}
 use Rattle.lock_core.specs.Mutex.Legal.{HasItsOwn}
-use Rattle.lock_core.specs.Mutex.View.{is_counted, verdict, stands_as, seen}
+use Rattle.mutex_machine.specs.State.{is_counted}
+use Rattle.lock_core.specs.Mutex.View.{verdict, stands_as, seen}
+use Rattle.mutex_machine.proofs.Seen as sees
 use Rattle.lock_core.proofs.MutexWorld.Views as view
 use Rattle.lock_core.proofs.MutexWorld.Tables.{for_pending, for_idle, for_holding, for_within}
 
@@ -52,10 +54,10 @@ module _ (l : Lock) (ss : List Stage) (v : ℕ) (laws : IsMutex l) (fits : IsTab
   stood q = view.standings_at v ss l.places fits.as_many q
 
   pub clear_at : (q : ℕ) → listed (place_at l.places q) ≡ 0 → is_counted (place_at l.places q) ≡ false → IsClear (seen l ss v) q
-  clear_at q li co = (laws.owners q ∙ li, view.starved_at l.places q ∙ co)
+  clear_at q li co = (laws.owners q ∙ li, sees.starved_at l.places q ∙ co)
 
   not_holder : (q : ℕ) → holds (place_at l.places q) ≡ 0 → (seen l ss v).state.holder ≢ Some q
-  not_holder q none h = let one = view.is_held_by l.places q h in absurd (omega arith)
+  not_holder q none h = let one = sees.is_held_by l.places q h in absurd (omega arith)
 
   has : (q : ℕ) (s : Stage) (x : Place) → place_at l.places q ≡ x → goes_with s x ≡ true → HasItsOwn (seen l ss v) q (stands_as v s x)
   has q (Outside rest.Idle) x at g =
@@ -66,7 +68,7 @@ module _ (l : Lock) (ss : List Stage) (v : ℕ) (laws : IsMutex l) (fits : IsTab
       for_pending Q (record { out = λ e. not_holder q (ap holds e); ask = λ e. not_holder q (ap holds e); starved = λ e. not_holder q (ap holds e) }) x g at
   has q (Outside rest.Holding) x at g =
       let Q : Place → Type 0 = λ x. place_at l.places q ≡ x → IsClear (seen l ss v) q × ((seen l ss v).state.holder ≡ Some q) in
-      for_holding Q (λ e. (clear_at q (ap listed e) (ap is_counted e), view.holds_it l.places q laws.one_holder (ap holds e))) x g at
+      for_holding Q (λ e. (clear_at q (ap listed e) (ap is_counted e), sees.holds_it l.places q laws.one_holder (ap holds e))) x g at
   has q (Outside rest.Finished) x at g = absurd (cc)
   has q (Inside w) x at g = inside_has (verdict v x) refl where
     inside_has : (o : Option Answer) → verdict v x ≡ o → HasItsOwn (seen l ss v) q (inside w o)

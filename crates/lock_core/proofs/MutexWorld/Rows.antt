@@ -22,7 +22,8 @@ use Rattle.mutex_machine.specs.Roles.{counted, listed}
 use Rattle.mutex_machine.specs.Machine.{Lock}
 use Rattle.mutex_machine.specs.Acts.{Finds, holders, starved}
 use Rattle.lock_core.specs.Mutex.Legal.{Change, ListName, takes, releases, starves, recovers, puts, for_the_lock, gives_back}
-use Rattle.lock_core.specs.Mutex.View.{is_holder, is_counted, verdict}
+use Rattle.mutex_machine.specs.State.{is_holder, is_counted}
+use Rattle.lock_core.specs.Mutex.View.{verdict}
 use Rattle.mutex_machine.proofs.Kept.{after}
 
 -- what an action changes that found this

@@ -23,8 +23,10 @@ use Rattle.lock_core.specs.Mutex.State.{World}
 use Rattle.lock_core.specs.Mutex.Laws.{HasRight, IsSound, is_long_call, is_at_rest, IsAwake}
 use Rattle.lock_core.specs.Mutex.Lending.{is_forgotten_then, world_with}
 use Rattle.lock_core.specs.Mutex.TableCalls.{table_with}
-use Rattle.lock_core.specs.Mutex.View.{is_counted, verdict, stands_as, standings, view_of}
+use Rattle.mutex_machine.specs.State.{is_counted}
+use Rattle.lock_core.specs.Mutex.View.{verdict, stands_as, standings, view_of}
 use Rattle.mutex_machine.proofs.CanDo.{once}
+use Rattle.mutex_machine.proofs.Seen as sees
 use Rattle.lock_core.proofs.MutexWorld.Views as view
 use Rattle.lock_core.proofs.MutexWorld.Owns as owns
 use Rattle.lock_core.proofs.MutexWorld.Tables.{for_pending, for_idle, for_holding, for_within}
@@ -110,7 +112,7 @@ one_counted x h = grind (arith, nat_tests)
 
 pub awake : (t : Table) → IsMutex t.lock → IsTable t.lock t.stages → is_at_rest (view_of t) ≡ true → IsAwake (view_of t)
 awake t laws fits resting = record {
-  marked = λ free. laws.wakes (all_rest t.value t.stages t.lock.places fits.as_many fits.fits resting) (view.none_holds 0 t.lock.places free.0) free.1;
+  marked = λ free. laws.wakes (all_rest t.value t.stages t.lock.places fits.as_many fits.fits resting) (sees.none_holds 0 t.lock.places free.0) free.1;
   pending = λ p some.
       let there : 0 < listed (place_at t.lock.places p) = rw (laws.owners p) at some in
       rw (owns.stood t.lock t.stages t.value laws fits p)
@@ -120,7 +122,7 @@ awake t laws fits resting = record {
       ]);
   starved = λ p counts.
       let ps = t.lock.places in
-      let here : is_counted (place_at ps p) ≡ true = sym (view.starved_at ps p) ∙ counts in
+      let here : is_counted (place_at ps p) ≡ true = sym (sees.starved_at ps p) ∙ counts in
       let one : entries_of p t.lock.entries ≡ 1 = laws.starved_listed (all_rest t.value t.stages ps fits.as_many fits.fits resting) p (one_counted (place_at ps p) here) in
       omega arith;
 }

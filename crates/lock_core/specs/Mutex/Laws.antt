@@ -9,7 +9,7 @@ use Rattle.lock_world.specs.declared.standing.Kind.TheVariants as kind
 use Rattle.lock_world.specs.declared.standing.Rest.{Rest}
 use Rattle.lock_world.specs.declared.standing.Rest.TheVariants.{Idle, Pending, Holding}
 use Rattle.lock_world.specs.declared.standing.Within.{Within}
-use Rattle.lock_world.specs.Standings.{Standing, outside, inside, forgotten, is_outside}
+use Rattle.lock_world.specs.Standings.{outside, inside, forgotten, is_outside}
 use Rattle.lock_world.specs.Rights.{Right, hold, excludes}
 use Rattle.lock_core.specs.Mutex.State.{World, standing_of, is_starved, how_many}
 use Rattle.lock_core.specs.Mutex.Legal.{HasItsOwn}

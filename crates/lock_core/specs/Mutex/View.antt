@@ -1,5 +1,5 @@
 -- How callers see what stands behind a mutex's World.
-use Rattle.std.specs.Prelude.{ℕ, ◌+◌, ◌==◌, if◌then◌else◌, Bool, List, [], ◌∷◌, map, Option, Some, None}
+use Rattle.std.specs.Prelude.{ℕ, List, [], ◌∷◌, Option, Some, None}
 use Rattle.lock_world.specs.declared.refusal.Refusal.TheVariants.{Memory, Starved}
 use Rattle.mutex_machine.specs.declared.program.Place.{Place}
 use Rattle.mutex_machine.specs.declared.program.Place.TheVariants as place
@@ -9,21 +9,10 @@ use Rattle.lock_world.specs.declared.moves.Got.TheVariants.{Value}
 use Rattle.lock_world.specs.declared.standing.Stage.{Stage}
 use Rattle.lock_world.specs.declared.standing.Stage.TheVariants.{Outside, Inside, Forgotten}
 use Rattle.lock_world.specs.Standings.{Standing, outside, inside, forgotten, refused}
-use Rattle.mutex_machine.specs.Roles.{holds, counted}
 use Rattle.mutex_machine.specs.Machine.{Lock}
+use Rattle.mutex_machine.specs.State.{holder_of, starved_of}
 use Rattle.lock_core.specs.Mutex.Table.{Table}
 use Rattle.lock_core.specs.Mutex.State.{World}
-
-abbrev pub is_holder : Place → Bool
-is_holder x = holds x == 1
-
-abbrev pub is_counted : Place → Bool
-is_counted x = counted x == 1
-
--- the first party that holds the lock, counted from n
-abbrev pub holder_from : ℕ → List Place → Option ℕ
-holder_from n [] = None
-holder_from n (x ∷ xs) = if is_holder x then Some n else holder_from (n + 1) xs
 
 -- the answer that a call at this place will give, over this value, if it is decided
 abbrev pub verdict : ℕ → Place → Option Answer
@@ -52,7 +41,7 @@ standings v (s ∷ ss) (x ∷ xs) = stands_as v s x ∷ standings v ss xs
 
 abbrev pub seen : Lock → List Stage → ℕ → World
 seen l ss v = record {
-  state = record { holder = holder_from 0 l.places; starved = map is_counted l.places; value = v };
+  state = record { holder = holder_of l; starved = starved_of l; value = v };
   entries = l.entries;
   standings = standings v ss l.places;
   limit = l.limit;

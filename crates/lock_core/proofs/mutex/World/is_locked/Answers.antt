@@ -2,7 +2,7 @@
 use Rattle.std.proofs.Common.{ap, ◌∙◌}
 use Rattle.std.specs.Prelude.{is_some}
 use Rattle.mutex_machine.specs.Acts.{holders}
-use Rattle.lock_core.proofs.MutexWorld.Views.{held_seen}
+use Rattle.mutex_machine.proofs.Seen.{held_seen}
 use Rattle.lock_core.proofs.mutex.World.is_locked.Goals as goal
 
 pub returns : goal.returns

@@ -1,5 +1,6 @@
 -- An action of one party keeps what always holds of the mutex.
-use Rattle.std.proofs.Common.{◌≡◌, Bool, ◌<◌, length, ap, ◌∙◌}
+use Rattle.std.proofs.Common.{◌≡◌, Bool, ◌<◌, ◌≤◌, length, ap, ◌∙◌, arith}
+use Rattle.std.specs.List.{sum_by}
 use Rattle.std.proofs.Math.ListN.{set}
 use Rattle.mutex_machine.specs.Program.{action_of, place_after}
 use Rattle.mutex_machine.specs.Effects.{OnWord}
@@ -13,7 +14,8 @@ use Rattle.mutex_machine.proofs.Kept.{after}
 use Rattle.mutex_machine.proofs.Fair.{acts_fairly}
 use Rattle.mutex_machine.proofs.Alone.{fewer}
 use Rattle.lock_queue.specs.Parties.{entries_of}
-use Rattle.mutex_machine.specs.Roles.{listed}
+use Rattle.mutex_machine.specs.Roles.{holds, listed}
+use Rattle.mutex_machine.proofs.Legal.{acts_legally, entered}
 use Rattle.mutex_machine.proofs.Locks.{locked}
 use Rattle.mutex_machine.specs.declared.program.Action.TheVariants as act
 use Rattle.mutex_machine.specs.declared.program.Found.TheVariants.{Held}
@@ -76,3 +78,32 @@ returns-clause-clock c =
     let found : (long : Bool) → action_of c.args.from ≡ act.Take → c.carry_out-found.result ≡ Held long → long ≡ c.args.starving =
     λ long a f. c.carry_out-found.ensures.clock long (c.action_at-action.ensures ∙ a) f in
     rw c.decide-next.ensures (heeds c.args.starving c.args.from c.carry_out-found.result found)
+
+-- what the action needs and leaves, said of the value
+pub returns-clause-legal : goal.returns-clause-legal
+returns-clause-legal c =
+    let acts = returns-clause-acts c in
+    let then = invariant_of-self c in
+    let own : entries_of c.args.party c.self.inside.list.entries ≡ listed (place_at c.self.inside.places.items c.args.party) = c.self.invariant.owners c.args.party in
+    let one : sum_by holds c.self.inside.places.items ≤ 1 = omega (arith, c.self.invariant.sound.held, c.self.invariant.sound.one_holder) in
+    acts_legally c.args.memory c.args.party c.args.from c.decide-next.result c.args.self.now _ (record {
+      there = c.requires.known;
+      same = c.requires.begins;
+      one = rw (← ap (λ l. l.places) c.self.view_is) one;
+      one_then = omega (arith, then.sound.held, then.sound.one_holder);
+      own = rw (← ap (λ l. l.entries) c.self.view_is, ← ap (λ l. l.places) c.self.view_is) own;
+    }) acts
+
+pub returns-clause-at_once : goal.returns-clause-at_once
+returns-clause-at_once c =
+    let acts = returns-clause-acts c in
+    let then = invariant_of-self c in
+    let own : entries_of c.args.party c.self.inside.list.entries ≡ listed (place_at c.self.inside.places.items c.args.party) = c.self.invariant.owners c.args.party in
+    let one : sum_by holds c.self.inside.places.items ≤ 1 = omega (arith, c.self.invariant.sound.held, c.self.invariant.sound.one_holder) in
+    entered c.args.memory c.args.party c.args.from c.decide-next.result c.args.self.now _ (record {
+      there = c.requires.known;
+      same = c.requires.begins;
+      one = rw (← ap (λ l. l.places) c.self.view_is) one;
+      one_then = omega (arith, then.sound.held, then.sound.one_holder);
+      own = rw (← ap (λ l. l.entries) c.self.view_is, ← ap (λ l. l.places) c.self.view_is) own;
+    }) acts

@@ -1,9 +1,14 @@
 -- A call begins with the roles that its party has.
-use Rattle.std.proofs.Common.{◌≡◌, Some, sym, ◌∙◌}
+use Rattle.std.proofs.Common.{◌≡◌, Option, Some, sym, ◌∙◌, subst}
 use Rattle.mutex_machine.proofs.Starts.{start_same}
 use Rattle.mutex_machine.specs.Program.{start_of}
 use Rattle.mutex_machine.proofs.Courses.{begins_so}
 use Rattle.mutex_machine.proofs.Alone.{begun_within}
+use Rattle.lock_queue.specs.Parties.{entries_of}
+use Rattle.mutex_machine.specs.declared.program.End.{End}
+use Rattle.mutex_machine.specs.Roles.{listed}
+use Rattle.mutex_machine.specs.Legal.{IsLegal, decision, decided_by}
+use Rattle.mutex_machine.proofs.Legal.{begins_decided, begins_fresh}
 use Rattle.mutex_machine.proofs.lock.Lock.begin.Goals as goal
 
 pub act-requires-clause-begins : goal.act-requires-clause-begins
@@ -19,3 +24,16 @@ pub returns-clause-bounded : goal.returns-clause-bounded
 returns-clause-bounded c =
     let starts : start_of c.args.call c.place.result ≡ Some c.in-Some.from = sym c.start.ensures ∙ c.in-Some.is in
     begun_within c.args.call c.place.result c.in-Some.from c.args.self.now c.args.party _ starts c.act.ensures.falls
+
+pub returns-clause-legal : goal.returns-clause-legal
+returns-clause-legal c =
+    let starts : start_of c.args.call c.place.result ≡ Some c.in-Some.from = sym c.start.ensures ∙ c.in-Some.is in
+    let from : decision c.in-Some.from ≡ decided_by c.args.call = begins_decided c.args.call c.place.result c.in-Some.from starts in
+    let P : Option End → Type 0 = λ d. IsLegal c.args.memory c.args.party d c.act.result c.args.self.now c.act.new.self in
+    subst P from c.act.ensures.legal
+
+pub returns-clause-at_once : goal.returns-clause-at_once
+returns-clause-at_once c fresh =
+    let starts : start_of c.args.call c.place.result ≡ Some c.in-Some.from = sym c.start.ensures ∙ c.in-Some.is in
+    let own : entries_of c.args.party c.args.self.now.entries ≡ listed c.place.result = rw c.place.ensures (c.laws.ensures.owners c.args.party) in
+    c.act.ensures.at_once (begins_fresh c.args.call c.place.result c.in-Some.from (entries_of c.args.party c.args.self.now.entries) own starts fresh)

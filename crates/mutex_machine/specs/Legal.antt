@@ -1,0 +1,115 @@
+-- What one action of a party may do to a mutex, said without its places.
+use Rattle.std.specs.Prelude.{◌≡◌, ◌≢◌, ℕ, ◌<◌, ◌==◌, ◌⊎◌, ◌↔◌, Bool, true, false, List, length, Option, Some, None, slice_set}
+use Rattle.lock_event.specs.declared.event.Entry.{Entry}
+use Rattle.lock_event.specs.declared.event.Mark.TheVariants.{Waiting}
+use Rattle.lock_event.specs.Lists.{mark_at}
+use Rattle.lock_queue.specs.Parties.{is_party, entries_of}
+use Rattle.lock_world.specs.declared.refusal.Refusal.TheVariants.{Memory, Starved}
+use Rattle.lock_world.specs.Steps.{Deed, nothing, changes, does, list_after, is_parting}
+use Rattle.mutex_machine.specs.declared.program.Place.{Place}
+use Rattle.mutex_machine.specs.declared.program.Place.TheVariants as place
+use Rattle.mutex_machine.specs.declared.program.LockCall.{LockCall}
+use Rattle.mutex_machine.specs.declared.program.LockCall.TheVariants as call
+use Rattle.mutex_machine.specs.declared.program.End.{End}
+use Rattle.mutex_machine.specs.declared.program.End.TheVariants.{Got, Pending, NotFree, GivenBack, Refused}
+use Rattle.mutex_machine.specs.declared.program.Next.{Next}
+use Rattle.mutex_machine.specs.declared.program.Next.TheVariants as next
+use Rattle.mutex_machine.specs.Machine.{Lock, place_at}
+use Rattle.mutex_machine.specs.Acts.{holders, starved}
+use Rattle.mutex_machine.specs.State.{holder_of, starved_of}
+
+-- The changes of a mutex: the party takes the lock or gives it back, is counted as starved or no more.
+pub data Change : Type 0 where
+  takes : Change
+  releases : Change
+  starves : Change
+  recovers : Change
+
+-- A mutex has one list: of the parties that wait for the lock.
+pub data ListName : Type 0 where
+  for_the_lock : ListName
+
+abbrev pub holder_after : ℕ → Deed Change ListName → Option ℕ → Option ℕ
+holder_after p (changes takes) h = Some p
+holder_after p (changes releases) h = None
+holder_after p _ h = h
+
+abbrev pub starved_after : ℕ → Deed Change ListName → List Bool → List Bool
+starved_after p (changes starves) s = slice_set s p true
+starved_after p (changes recovers) s = slice_set s p false
+starved_after p _ s = s
+
+abbrev pub entries_after : ℕ → Deed Change ListName → List (Entry ℕ) → List (Entry ℕ)
+entries_after p (does for_the_lock f) l = list_after p f l
+entries_after p _ l = l
+
+-- Once its call is decided, a party only gives back: the lock, its starved count, its entry, a notification.
+abbrev pub gives_back : Deed Change ListName → Bool
+gives_back nothing = true
+gives_back (changes releases) = true
+gives_back (changes recovers) = true
+gives_back (changes _) = false
+gives_back (does list f) = is_parting f
+
+-- The end on which the call of a party at this place is decided.
+abbrev pub decision : Place → Option End
+decision place.Leave = Some Got
+decision (place.Uncount listed) = Some Got
+decision place.RefuseUncount = Some (Refused Memory)
+decision (place.RefuseLeave told) = Some (Refused Starved)
+decision place.RefuseNotifyMemory = Some (Refused Memory)
+decision place.RefuseNotifyStarved = Some (Refused Starved)
+decision place.Clear = Some GivenBack
+decision place.ReleaseNotify = Some GivenBack
+decision place.CancelUncount = Some GivenBack
+decision place.CancelLeave = Some GivenBack
+decision place.Out = Some GivenBack
+decision _ = None
+
+-- The end on which a call is decided from its beginning.
+abbrev pub decided_by : LockCall → Option End
+decided_by call.Release = Some GivenBack
+decided_by call.Cancel = Some GivenBack
+decided_by _ = None
+
+-- The end on which a call is decided once an action has led here.
+abbrev pub decided_then : Next → Place → Option End
+decided_then (next.Do action q) to = decision to
+decided_then (next.End e) to = Some e
+
+-- Why a call may be decided on this end: the party has the lock; it stands waiting in the list; the lock was held or somebody starved; its join found no memory; or as many parties were starved as may be.
+abbrev pub IsReason : Bool → ℕ → Lock → Lock → End → Type 0
+IsReason memory p old new Got = holder_of new ≡ Some p
+IsReason memory p old new Pending = mark_at (is_party p) new.entries ≡ Some Waiting
+IsReason memory p old new NotFree = (holders old ≡ 1) ⊎ (0 < starved old)
+IsReason memory p old new GivenBack = Unit {0}
+IsReason memory p old new (Refused Memory) = (memory ≡ false) × (entries_of p old.entries ≡ 0) × (new.entries ≡ old.entries)
+IsReason memory p old new (Refused Starved) = starved old ≡ old.limit
+IsReason memory p old new (Refused _) = ⊥
+
+-- An action changes one thing of the mutex or does one list function, never both, and moves no other party. A call that was decided only gives back, and keeps its decision; one that is decided now has its reason.
+pub record IsLegal (memory : Bool) (p : ℕ) (decided : Option End) (onward : Next) (old new : Lock) : Type 0 where
+  pub deed : Deed Change ListName
+  pub holder : holder_of new ≡ holder_after p deed (holder_of old)
+  pub starved : starved_of new ≡ starved_after p deed (starved_of old)
+  pub entries : new.entries ≡ entries_after p deed old.entries
+  pub limit : new.limit ≡ old.limit
+  pub parties : length new.places ≡ length old.places
+  pub others : (q : ℕ) → q ≢ p → place_at new.places q ≡ place_at old.places q
+  pub kept : (e : End) → decided ≡ Some e → (decided_then onward (place_at new.places p) ≡ Some e) × (gives_back deed ≡ true)
+  pub reason : (e : End) → decided ≡ None → decided_then onward (place_at new.places p) ≡ Some e → IsReason memory p old new e
+
+-- A call whose first action takes a free lock: a first poll, a try, and a poll of a party that stands in no list, as it does after a refusal.
+abbrev pub is_fresh : LockCall → ℕ → Bool
+is_fresh call.Lock listed = true
+is_fresh call.Try listed = true
+is_fresh call.Poll listed = listed == 0
+is_fresh _ listed = false
+
+-- Such a call takes the lock at once exactly where nobody holds it and nobody is starved.
+abbrev pub TakesAtOnce : LockCall → ℕ → Lock → Lock → Type 0
+TakesAtOnce c p old new = is_fresh c (entries_of p old.entries) ≡ true → (holder_of new ≡ Some p) ↔ ((holders old ≡ 0) × (starved old ≡ 0))
+
+-- So does the action of either place at which such a call begins.
+abbrev pub TakesFrom : Place → ℕ → Lock → Lock → Type 0
+TakesFrom from p old new = (from ≡ place.Enter) ⊎ (from ≡ place.Try) → (holder_of new ≡ Some p) ↔ ((holders old ≡ 0) × (starved old ≡ 0))

@@ -1,0 +1,23 @@
+-- A mutex as those see it who don't know its places: who holds it, and who is starved.
+use Rattle.std.specs.Prelude.{ℕ, ◌+◌, ◌==◌, if◌then◌else◌, Bool, List, [], ◌∷◌, map, Option, Some, None}
+use Rattle.mutex_machine.specs.declared.program.Place.{Place}
+use Rattle.mutex_machine.specs.Roles.{holds, counted}
+use Rattle.mutex_machine.specs.Machine.{Lock}
+
+abbrev pub is_holder : Place → Bool
+is_holder x = holds x == 1
+
+abbrev pub is_counted : Place → Bool
+is_counted x = counted x == 1
+
+-- the first party that holds the lock, counted from n
+abbrev pub holder_from : ℕ → List Place → Option ℕ
+holder_from n [] = None
+holder_from n (x ∷ xs) = if is_holder x then Some n else holder_from (n + 1) xs
+
+-- The party that holds the lock, if any; and for each party whether it is starved.
+abbrev pub holder_of : Lock → Option ℕ
+holder_of l = holder_from 0 l.places
+
+abbrev pub starved_of : Lock → List Bool
+starved_of l = map is_counted l.places
