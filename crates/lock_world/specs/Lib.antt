@@ -4,3 +4,4 @@ pub mod Steps
 pub mod Rights
 pub mod Runs
 pub mod Whole
+pub mod Frame

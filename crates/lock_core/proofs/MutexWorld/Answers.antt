@@ -22,7 +22,8 @@ use Rattle.mutex_machine.specs.Parties.{OnParties}
 use Rattle.mutex_machine.specs.Acts.{Finds}
 use Rattle.mutex_machine.specs.Machine.{Lock}
 use Rattle.lock_core.specs.Mutex.View.{stands_as}
-use Rattle.lock_core.specs.Mutex.Legal.{entries_after, is_refusal}
+use Rattle.lock_world.specs.Frame.{is_refusal}
+use Rattle.lock_core.specs.Mutex.Legal.{entries_after}
 use Rattle.lock_core.proofs.MutexWorld.Rows.{deed_of, answer_by, verdict_then}
 use Rattle.lock_core.proofs.MutexWorld.Turns.{is_try_kind}
 

@@ -30,7 +30,8 @@ use Rattle.mutex_machine.specs.Acts.{IsMutex}
 use Rattle.lock_core.specs.Mutex.Plans.{plan_of, answer_of, stage_after, stage_at, goes_with, within}
 use Rattle.lock_core.specs.Mutex.Table.{Table, IsTable, Steps, Does, IsStep, plan_in}
 use Rattle.lock_core.specs.Mutex.State.{World, standing_of}
-use Rattle.lock_core.specs.Mutex.Legal.{knows, puts, call_of, is_drop, is_poll_after_ready, is_first_poll, HasItsOwn, Legal, AnswersAtOnce}
+use Rattle.lock_world.specs.Frame.{is_drop, is_poll_after_ready}
+use Rattle.lock_core.specs.Mutex.Legal.{knows, puts, call_of, is_first_poll, HasItsOwn, Legal, AnswersAtOnce}
 use Rattle.mutex_machine.specs.Roles.{bit, holds}
 use Rattle.mutex_machine.specs.State.{is_holder}
 use Rattle.lock_core.specs.Mutex.View.{verdict, stands_as, view_of}

@@ -20,7 +20,8 @@ use Rattle.lock_world.specs.declared.standing.Rest.TheVariants as rest
 use Rattle.lock_world.specs.declared.standing.Within.{Within}
 use Rattle.lock_world.specs.Standings.{is_outside, Standing, outside, inside, forgotten, call_in, may_end, is_possible, refused, leaves_as_it_was, StandsAfter}
 use Rattle.lock_core.specs.Mutex.State.{World, standing_of, is_free}
-use Rattle.lock_core.specs.Mutex.Legal.{knows, is_drop, is_try, is_poll_after_ready, put_in, call_of, HasItsOwn, Legal, AnswersAtOnce}
+use Rattle.lock_world.specs.Frame.{is_drop, is_poll_after_ready, put_in}
+use Rattle.lock_core.specs.Mutex.Legal.{knows, is_try, call_of, HasItsOwn, Legal, AnswersAtOnce}
 use Rattle.lock_core.specs.Mutex.Laws.{IsSound, IsAwake, is_long_call, is_at_rest}
 use Rattle.lock_core.specs.Mutex.Runs.{right_after, rights_after, is_holder_of, has_by, rights_of, rights_by, HasItsRights, HoldsWell, Runs}
 

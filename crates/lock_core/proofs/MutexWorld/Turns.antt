@@ -30,7 +30,8 @@ use Rattle.mutex_machine.specs.Machine.{SameRoles}
 use Rattle.lock_core.specs.Mutex.Plans.{plan_of, begins_by, answer_of, stage_after, goes_with, within}
 use Rattle.mutex_machine.specs.Roles.{listed}
 use Rattle.lock_core.specs.Mutex.View.{verdict, stands_as}
-use Rattle.lock_core.specs.Mutex.Legal.{knows, is_drop, is_try, is_poll_after_ready, is_first_poll, put_in}
+use Rattle.lock_world.specs.Frame.{is_drop, is_poll_after_ready, put_in}
+use Rattle.lock_core.specs.Mutex.Legal.{knows, is_try, is_first_poll}
 use Rattle.mutex_machine.proofs.Starts.{start_same}
 use Rattle.lock_core.proofs.MutexWorld.Begun.{for_start, for_go}
 use Rattle.lock_core.proofs.MutexWorld.Rows.{is_at_try}

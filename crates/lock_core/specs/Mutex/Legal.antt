@@ -15,8 +15,9 @@ use Rattle.lock_world.specs.declared.refusal.Refusal.{Refusal}
 use Rattle.lock_world.specs.declared.refusal.Refusal.TheVariants as refusal
 use Rattle.lock_world.specs.declared.standing.Rest.TheVariants.{Idle, Pending, Holding, Finished}
 use Rattle.lock_world.specs.declared.standing.Within.{Within}
-use Rattle.lock_world.specs.Refusals.{number_of}
-use Rattle.lock_world.specs.Standings.{Standing, outside, inside, call_in, inputs_of, is_possible, refused, leaves_as_it_was, StandsAfter, is_decided, Decides, decision}
+use Rattle.lock_world.specs.Standings.{Standing, outside, inside, inputs_of, is_possible, is_decided}
+use Rattle.lock_world.specs.Frame as frame
+use Rattle.lock_world.specs.Frame.{is_drop, is_refusal, put_in}
 use Rattle.lock_world.specs.Steps.{Deed, nothing, changes, does, list_after, is_parting}
 use Rattle.lock_core.specs.Mutex.State.{State, World, standing_of, is_starved, how_many, is_free, mark_of, IsClear}
 
@@ -31,18 +32,16 @@ knows _ = false
 
 -- The call that a move belongs to, where its party may make it.
 abbrev pub call_of : World → Move → Option Within
-call_of w m = call_in knows (standing_of w m.party) m.what
+call_of = frame.call_of standing_of knows
 
 -- The step from old to new decides its party's call on this answer.
 abbrev pub DecidesOn : World → Move → Answer → World → Answer → Type 0
-DecidesOn old m a new b = Decides (standing_of old m.party) a (standing_of new m.party) b
+DecidesOn = frame.DecidesOn standing_of
 
 -- ---- Which moves are possible
 
--- A move is answered NotPossible exactly where its party may not make it, and then nothing changes.
-pub record IsPossible (old : World) (m : Move) (a : Answer) (new : World) : Type 0 where
-  pub exactly : (a ≡ answer.NotPossible) ↔ (call_of old m ≡ None)
-  pub unchanged : a ≡ answer.NotPossible → new ≡ old
+abbrev pub IsPossible : World → Move → Answer → World → Type 0
+IsPossible = frame.IsPossible standing_of knows
 
 -- ---- What changes
 
@@ -77,10 +76,6 @@ gives_back (changes releases) = true
 gives_back (changes recovers) = true
 gives_back (changes _) = false
 gives_back (does list f) = is_parting f
-
-abbrev pub is_drop : What → Bool
-is_drop (Begin call.Drop inputs) = true
-is_drop _ = false
 
 -- A move changes one thing of the state or does one list function, never both, and moves no other party.
 pub record ChangesOneThing (old : World) (m : Move) (new : World) : Type 0 where
@@ -124,16 +119,8 @@ IsCause old m new refusal.Starved = how_many old.state.starved ≡ old.limit
 IsCause old m new refusal.Finished = new ≡ old
 IsCause old m new _ = ⊥
 
--- A poll of a party that holds the lock.
-abbrev pub is_poll_after_ready : Standing → What → Bool
-is_poll_after_ready (outside Holding) (Begin call.Poll inputs) = true
-is_poll_after_ready (outside Finished) (Begin call.Poll inputs) = true
-is_poll_after_ready s _ = false
-
--- A refusal has its cause; and exactly a poll after ready is refused as that.
-pub record IsRefusedForCause (old : World) (m : Move) (a : Answer) (new : World) : Type 0 where
-  pub cause : (n : ℕ) → DecidesOn old m a new (answer.Refused n) → (r : Refusal) × (n ≡ number_of r) × IsCause old m new r
-  pub after_ready : (a ≡ refused refusal.Finished) ↔ (is_poll_after_ready (standing_of old m.party) m.what ≡ true)
+abbrev pub IsRefusedForCause : World → Move → Answer → World → Type 0
+IsRefusedForCause = frame.IsRefusedForCause standing_of IsCause
 
 -- ---- What parties have
 
@@ -146,20 +133,12 @@ HasItsOwn w p (outside Pending) = w.state.holder ≢ Some p
 HasItsOwn w p (inside within None) = w.state.holder ≢ Some p
 HasItsOwn w p _ = Unit {0}
 
-abbrev pub is_refusal : Answer → Bool
-is_refusal (answer.Refused n) = if leaves_as_it_was n then false else true
-is_refusal _ = false
-
 -- Each party has what its standing says; and after a refusal its future is as when it was made, in no list and not starved.
 pub record LeavesClear (m : Move) (a : Answer) (new : World) : Type 0 where
   pub each : (p : ℕ) → HasItsOwn new p (standing_of new p)
   pub refused : is_refusal a ≡ true → IsClear new m.party
 
 -- ---- The value
-
-abbrev pub put_in : What → Option ℕ
-put_in (Begin (call.Put v) inputs) = Some v
-put_in _ = None
 
 -- A put of the holder is granted and leaves its value; nothing else changes the value.
 pub record IsValueKept (old : World) (m : Move) (a : Answer) (new : World) : Type 0 where
@@ -168,10 +147,8 @@ pub record IsValueKept (old : World) (m : Move) (a : Answer) (new : World) : Typ
 
 -- ---- How a call ends
 
--- A possible move leaves its party inside its call exactly if it is answered Stepped, and else outside, by an answer with which such a call may end; a call that is decided ends with the answer that it is decided on.
-pub record EndsProperly (old : World) (m : Move) (a : Answer) (new : World) : Type 0 where
-  pub stands : (within : Within) → call_of old m ≡ Some within → StandsAfter Holding within a (standing_of new m.party)
-  pub as_decided : (within : Within) (b : Answer) → standing_of old m.party ≡ inside within (Some b) → is_possible a ≡ true → decision a (standing_of new m.party) ≡ Some b
+abbrev pub EndsProperly : World → Move → Answer → World → Type 0
+EndsProperly = frame.EndsProperly standing_of knows Holding
 
 -- ---- The legal step
 

@@ -8,7 +8,8 @@ use Rattle.lock_world.specs.declared.standing.Rest.TheVariants.{Holding}
 use Rattle.lock_world.specs.Standings.{Standing, outside, forgotten, is_outside}
 use Rattle.lock_world.specs.Runs as runs
 use Rattle.lock_core.specs.Mutex.State.{World, standing_of}
-use Rattle.lock_core.specs.Mutex.Legal.{Legal, is_drop}
+use Rattle.lock_world.specs.Frame.{is_drop}
+use Rattle.lock_core.specs.Mutex.Legal.{Legal}
 use Rattle.lock_core.specs.Mutex.Laws.{IsSound, IsAwake, is_at_rest}
 
 -- Whether a party has the lock by its answers alone, after a move of its own: Ready and Granted give it the lock, and the first event of a drop takes it away.
