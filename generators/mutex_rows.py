@@ -166,6 +166,12 @@ Starves (changes starves) b c = (b ≡ false) × (c ≡ true)
 Starves (changes recovers) b c = (b ≡ true) × (c ≡ false)
 Starves _ b c = c ≡ b
 
+-- what a deed found
+abbrev pub Finding : Deed Change ListName → Lock → Place → Type 0
+Finding (changes takes) l from = (holders l ≡ 0) × ((starved l ≡ 0) ⊎ (counted from ≡ 1))
+Finding (changes starves) l from = starved l < l.limit
+Finding _ l from = Unit {0}
+
 abbrev pub decision_by : Next → Option End
 decision_by (next.Do a q) = decision q
 decision_by (next.End e) = Some e
@@ -188,6 +194,7 @@ Judged memory l from f None (Some e) = Reason memory l from f e
 pub record Row (memory : Bool) (l : Lock) (from : Place) (f : Found) : Type 0 where
   pub holds : Holds (deed_of (action_of from) f) (is_holder from) (is_holder (after from f))
   pub starves : Starves (deed_of (action_of from) f) (is_counted from) (is_counted (after from f))
+  pub finding : Finding (deed_of (action_of from) f) l from
   pub judged : Judged memory l from f (decision from) (decision_by (next_of from f))
 
 module _ (memory : Bool) (l : Lock) where
@@ -233,7 +240,7 @@ def row(place, action, found, judged):
     if judged == NOT_FREE:
         said = 'inr e' if found == 'SomeStarved' else 'inl e.0'
     rows.append(f'  row {place} {found} e = record {{ holds = {holds}; starves = {starves}; finding = {finding}; judged = {WORLD_SAYS[judged]}; over = refl }}')
-    machine_rows.append(f'  row {place} {found} e = record {{ holds = {holds}; starves = {starves}; judged = {said} }}')
+    machine_rows.append(f'  row {place} {found} e = record {{ holds = {holds}; starves = {starves}; finding = {finding}; judged = {said} }}')
 
 
 def rest(place):

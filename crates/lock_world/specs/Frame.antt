@@ -38,16 +38,16 @@ is_refusal _ = false
 
 -- ---- The clauses, by how the parties of a World stand
 
--- The call that a move belongs to, where its party may make it.
-abbrev pub call_of : {W : Type 0} → (W → ℕ → Standing) → (Call → Bool) → W → Move → Option Within
-call_of standing_of knows w m = call_in knows (standing_of w m.party) m.what
+-- The call that a move belongs to, where its party may make it; `knows` tells which calls a World knows of a party, by the guard that it has.
+abbrev pub call_of : {W : Type 0} → (W → ℕ → Standing) → (W → ℕ → Call → Bool) → W → Move → Option Within
+call_of standing_of knows w m = call_in (knows w m.party) (standing_of w m.party) m.what
 
 -- The step from old to new decides its party's call on this answer.
 abbrev pub DecidesOn : {W : Type 0} → (W → ℕ → Standing) → W → Move → Answer → W → Answer → Type 0
 DecidesOn standing_of old m a new b = Decides (standing_of old m.party) a (standing_of new m.party) b
 
 -- A move is answered NotPossible exactly where its party may not make it, and then nothing changes.
-pub record IsPossible {W : Type 0} (standing_of : W → ℕ → Standing) (knows : Call → Bool) (old : W) (m : Move) (a : Answer) (new : W) : Type 0 where
+pub record IsPossible {W : Type 0} (standing_of : W → ℕ → Standing) (knows : W → ℕ → Call → Bool) (old : W) (m : Move) (a : Answer) (new : W) : Type 0 where
   pub exactly : (a ≡ answer.NotPossible) ↔ (call_of standing_of knows old m ≡ None)
   pub unchanged : a ≡ answer.NotPossible → new ≡ old
 
@@ -57,6 +57,6 @@ pub record IsRefusedForCause {W : Type 0} (standing_of : W → ℕ → Standing)
   pub after_ready : (a ≡ refused refusal.Finished) ↔ (is_poll_after_ready (standing_of old m.party) m.what ≡ true)
 
 -- A possible move leaves its party inside its call exactly if it is answered Stepped, and else outside, by an answer with which such a call may end; a call that is decided ends with the answer that it is decided on. `ready` is how a party of this World stands whose future has been ready.
-pub record EndsProperly {W : Type 0} (standing_of : W → ℕ → Standing) (knows : Call → Bool) (ready : Rest) (old : W) (m : Move) (a : Answer) (new : W) : Type 0 where
+pub record EndsProperly {W : Type 0} (standing_of : W → ℕ → Standing) (knows : W → ℕ → Call → Bool) (ready : Rest) (old : W) (m : Move) (a : Answer) (new : W) : Type 0 where
   pub stands : (within : Within) → call_of standing_of knows old m ≡ Some within → StandsAfter ready within a (standing_of new m.party)
   pub as_decided : (within : Within) (b : Answer) → standing_of old m.party ≡ inside within (Some b) → is_possible a ≡ true → decision a (standing_of new m.party) ≡ Some b

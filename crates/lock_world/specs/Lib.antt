@@ -5,3 +5,5 @@ pub mod Rights
 pub mod Runs
 pub mod Whole
 pub mod Frame
+pub mod Rosters
+pub mod Accounts

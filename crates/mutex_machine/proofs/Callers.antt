@@ -1,7 +1,7 @@
 -- What the machines above may rest on that take a mutex for a part of their own: which calls may begin, what its parties have, and that a step moves one of them. They name none of its places.
-use Rattle.std.proofs.Common.{◌≡◌, ◌≢◌, ℕ, zero, suc, Bool, true, length, replicate, get_or, IsSome, refl, ap, ◌∙◌, length-set, get_or-set_other}
+use Rattle.std.proofs.Common.{◌≡◌, ◌≢◌, ℕ, ◌≤◌, zero, suc, Bool, true, false, length, replicate, get_or, IsSome, refl, ap, arith, ◌∙◌, length-set, get_or-set_other}
 use Rattle.mutex_machine.specs.declared.program.Place.{Place}
-use Rattle.mutex_machine.specs.declared.program.Place.TheVariants.{Out, Holding, Ask, AskStarved}
+use Rattle.mutex_machine.specs.declared.program.Place.TheVariants.{Out, Holding, Ask, AskStarved, Count, Uncount}
 use Rattle.mutex_machine.specs.declared.program.LockCall.TheVariants as call
 use Rattle.mutex_machine.specs.declared.program.Next.{Next}
 use Rattle.mutex_machine.specs.Program.{start_of, place_after}
@@ -45,6 +45,13 @@ holding_unlisted _ h = absurd (cc)
 pub holding_holds : (x : Place) → is_holding x ≡ true → holds x ≡ 1
 holding_holds Holding h = refl
 holding_holds _ h = absurd (cc)
+
+pub listed_once : (x : Place) → listed x ≤ 1
+listed_once (Count true told) = omega arith
+listed_once (Count false told) = omega arith
+listed_once (Uncount true) = omega arith
+listed_once (Uncount false) = omega arith
+listed_once _ = omega arith
 
 -- and that it rests
 pub out_rests : (x : Place) → is_out x ≡ true → is_resting x ≡ true

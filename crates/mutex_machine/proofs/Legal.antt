@@ -26,14 +26,14 @@ use Rattle.mutex_machine.specs.declared.program.Next.TheVariants as next
 use Rattle.mutex_machine.specs.declared.program.End.{End}
 use Rattle.mutex_machine.specs.declared.program.End.TheVariants.{Got, Pending, NotFree, GivenBack, Refused}
 use Rattle.mutex_machine.specs.Program.{start_of, action_of, next_of}
-use Rattle.mutex_machine.specs.Roles.{bit, holds, listed}
+use Rattle.mutex_machine.specs.Roles.{bit, holds, counted, listed}
 use Rattle.mutex_machine.specs.Parties.{OnParties}
 use Rattle.mutex_machine.specs.Machine.{Lock, SameRoles, place_at}
 use Rattle.mutex_machine.specs.Acts.{Acts, Finds, holders, starved}
 use Rattle.mutex_machine.specs.State.{is_holder, is_counted, holder_of, starved_of}
-use Rattle.mutex_machine.specs.Legal.{Change, ListName, takes, releases, starves, recovers, holder_after, starved_after, entries_after, gives_back, decision, decided_by, decided_then, IsReason, IsLegal, is_fresh}
+use Rattle.mutex_machine.specs.Legal.{Change, ListName, takes, releases, starves, recovers, holder_after, starved_after, entries_after, gives_back, decision, decided_by, decided_then, IsReason, IsAllowed, IsLegal, is_fresh}
 use Rattle.mutex_machine.proofs.Kept.{after}
-use Rattle.mutex_machine.proofs.Rows.{Row, row, deed_of, decision_by, Holds, Starves, Reason, Judged}
+use Rattle.mutex_machine.proofs.Rows.{Row, row, deed_of, decision_by, Holds, Starves, Finding, Reason, Judged}
 use Rattle.mutex_machine.proofs.Seen as sees
 
 asked_yes : (b : Bool) (l m : List (Entry ℕ)) → b ≡ true → (if b then m else l) ≡ m
@@ -173,6 +173,17 @@ module _ (memory : Bool) (p : ℕ) (from : Place) (f : Found) (l : Lock) (es : L
     starved_is (changes recovers) s = map-set is_counted l.places p to ∙ ap (set (map is_counted l.places) p) s.1
     starved_is (does list g) s = same_starved s
 
+    counts_there : is_counted here ≡ true → counted here ≡ 1
+    counts_there h = sym (sees.counted_bit here) ∙ ap bit h
+
+    allowed_so : (d : Deed Change ListName) → Holds d (is_holder from) (is_holder to) → Starves d (is_counted from) (is_counted to) → Finding d l from → IsAllowed p d l
+    allowed_so nothing h s i = tt
+    allowed_so (changes takes) h s i = (i.0, elim i.1 as (λ _. (starved l ≡ 0) ⊎ (counted here ≡ 1)) [ inl e ↦ inl e | inr e ↦ inr (sym k.same.starving ∙ e) ])
+    allowed_so (changes releases) h s i = is_there (sym holds_from ∙ h.0)
+    allowed_so (changes starves) h s i = (sym (sees.counted_bit here) ∙ ap bit (sym counts_from ∙ s.0), i)
+    allowed_so (changes recovers) h s i = counts_there (sym counts_from ∙ s.0)
+    allowed_so (does list g) h s i = tt
+
     list_so : es ≡ entries_after p deed l.entries
     list_so = list_is memory l p (action_of from) f l.entries es k.finds k.list
 
@@ -196,6 +207,7 @@ module _ (memory : Bool) (p : ℕ) (from : Place) (f : Found) (l : Lock) (es : L
     pub legal : IsLegal memory p (decision from) (next_of from f) l new
     legal = record {
       deed = deed;
+      allowed = allowed_so deed r.holds r.starves r.finding;
       holder = holder_is deed r.holds;
       starved = starved_is deed r.starves;
       entries = list_so;

@@ -1,5 +1,5 @@
 -- Each action of a party, place by place: what it changes, and what it decides. Written by generators/mutex_rows.py.
-use Rattle.std.proofs.Common.{◌≡◌, ◌<◌, ◌⊎◌, inl, inr, Bool, true, false, Option, Some, None, refl}
+use Rattle.std.proofs.Common.{◌≡◌, ℕ, ◌<◌, ◌⊎◌, inl, inr, Bool, true, false, Option, Some, None, refl}
 use Rattle.lock_world.specs.declared.refusal.Refusal.TheVariants.{Memory, Starved}
 use Rattle.lock_world.specs.Steps.{Deed, nothing, changes, does, joins, asks, leaves, notifies}
 use Rattle.mutex_machine.specs.declared.program.Place.{Place}
@@ -13,7 +13,7 @@ use Rattle.mutex_machine.specs.declared.program.End.TheVariants.{Got, Pending, N
 use Rattle.mutex_machine.specs.declared.program.Found.{Found}
 use Rattle.mutex_machine.specs.declared.program.Found.TheVariants.{Done, Free, Held, SomeStarved, AtLimit, NoMemory, Yes, No}
 use Rattle.mutex_machine.specs.Program.{action_of, next_of}
-use Rattle.mutex_machine.specs.Roles.{listed}
+use Rattle.mutex_machine.specs.Roles.{counted, listed}
 use Rattle.mutex_machine.specs.Machine.{Lock}
 use Rattle.mutex_machine.specs.Acts.{Finds, holders, starved}
 use Rattle.mutex_machine.specs.State.{is_holder, is_counted}
@@ -45,6 +45,12 @@ Starves (changes starves) b c = (b ≡ false) × (c ≡ true)
 Starves (changes recovers) b c = (b ≡ true) × (c ≡ false)
 Starves _ b c = c ≡ b
 
+-- what a deed found
+abbrev pub Finding : Deed Change ListName → Lock → Place → Type 0
+Finding (changes takes) l from = (holders l ≡ 0) × ((starved l ≡ 0) ⊎ (counted from ≡ 1))
+Finding (changes starves) l from = starved l < l.limit
+Finding _ l from = Unit {0}
+
 abbrev pub decision_by : Next → Option End
 decision_by (next.Do a q) = decision q
 decision_by (next.End e) = Some e
@@ -67,90 +73,91 @@ Judged memory l from f None (Some e) = Reason memory l from f e
 pub record Row (memory : Bool) (l : Lock) (from : Place) (f : Found) : Type 0 where
   pub holds : Holds (deed_of (action_of from) f) (is_holder from) (is_holder (after from f))
   pub starves : Starves (deed_of (action_of from) f) (is_counted from) (is_counted (after from f))
+  pub finding : Finding (deed_of (action_of from) f) l from
   pub judged : Judged memory l from f (decision from) (decision_by (next_of from f))
 
 module _ (memory : Bool) (l : Lock) where
   pub row : (from : Place) (f : Found) → Finds memory (action_of from) f l → Row memory l from f
-  row Out Done e = record { holds = refl; starves = refl; judged = (refl, refl) }
+  row Out Done e = record { holds = refl; starves = refl; finding = tt; judged = (refl, refl) }
   row Out _ e = absurd e
-  row Holding Done e = record { holds = refl; starves = refl; judged = refl }
+  row Holding Done e = record { holds = refl; starves = refl; finding = tt; judged = refl }
   row Holding _ e = absurd e
-  row Enter Free e = record { holds = (refl, refl); starves = refl; judged = refl }
-  row Enter (Held true) e = record { holds = refl; starves = refl; judged = tt }
-  row Enter (Held false) e = record { holds = refl; starves = refl; judged = tt }
-  row Enter SomeStarved e = record { holds = refl; starves = refl; judged = tt }
+  row Enter Free e = record { holds = (refl, refl); starves = refl; finding = (e.0, inl e.1); judged = refl }
+  row Enter (Held true) e = record { holds = refl; starves = refl; finding = tt; judged = tt }
+  row Enter (Held false) e = record { holds = refl; starves = refl; finding = tt; judged = tt }
+  row Enter SomeStarved e = record { holds = refl; starves = refl; finding = tt; judged = tt }
   row Enter _ e = absurd e
-  row Try Free e = record { holds = (refl, refl); starves = refl; judged = refl }
-  row Try (Held true) e = record { holds = refl; starves = refl; judged = inl e.0 }
-  row Try (Held false) e = record { holds = refl; starves = refl; judged = inl e.0 }
-  row Try SomeStarved e = record { holds = refl; starves = refl; judged = inr e }
+  row Try Free e = record { holds = (refl, refl); starves = refl; finding = (e.0, inl e.1); judged = refl }
+  row Try (Held true) e = record { holds = refl; starves = refl; finding = tt; judged = inl e.0 }
+  row Try (Held false) e = record { holds = refl; starves = refl; finding = tt; judged = inl e.0 }
+  row Try SomeStarved e = record { holds = refl; starves = refl; finding = tt; judged = inr e }
   row Try _ e = absurd e
-  row Clear Done e = record { holds = (refl, refl); starves = refl; judged = (refl, refl) }
+  row Clear Done e = record { holds = (refl, refl); starves = refl; finding = tt; judged = (refl, refl) }
   row Clear _ e = absurd e
-  row CancelUncount Done e = record { holds = refl; starves = (refl, refl); judged = (refl, refl) }
+  row CancelUncount Done e = record { holds = refl; starves = (refl, refl); finding = tt; judged = (refl, refl) }
   row CancelUncount _ e = absurd e
-  row CancelLeave Done e = record { holds = refl; starves = refl; judged = (refl, refl) }
+  row CancelLeave Done e = record { holds = refl; starves = refl; finding = tt; judged = (refl, refl) }
   row CancelLeave _ e = absurd e
-  row (Join true) Done e = record { holds = refl; starves = refl; judged = tt }
-  row (Join true) NoMemory e = record { holds = refl; starves = refl; judged = (e, refl, refl) }
+  row (Join true) Done e = record { holds = refl; starves = refl; finding = tt; judged = tt }
+  row (Join true) NoMemory e = record { holds = refl; starves = refl; finding = tt; judged = (e, refl, refl) }
   row (Join true) _ e = absurd e
-  row (Join false) Done e = record { holds = refl; starves = refl; judged = tt }
-  row (Join false) NoMemory e = record { holds = refl; starves = refl; judged = (e, refl, refl) }
+  row (Join false) Done e = record { holds = refl; starves = refl; finding = tt; judged = tt }
+  row (Join false) NoMemory e = record { holds = refl; starves = refl; finding = tt; judged = (e, refl, refl) }
   row (Join false) _ e = absurd e
-  row (Look told) Free e = record { holds = (refl, refl); starves = refl; judged = refl }
-  row (Look told) (Held true) e = record { holds = refl; starves = refl; judged = tt }
-  row (Look told) (Held false) e = record { holds = refl; starves = refl; judged = tt }
-  row (Look told) SomeStarved e = record { holds = refl; starves = refl; judged = tt }
+  row (Look told) Free e = record { holds = (refl, refl); starves = refl; finding = (e.0, inl e.1); judged = refl }
+  row (Look told) (Held true) e = record { holds = refl; starves = refl; finding = tt; judged = tt }
+  row (Look told) (Held false) e = record { holds = refl; starves = refl; finding = tt; judged = tt }
+  row (Look told) SomeStarved e = record { holds = refl; starves = refl; finding = tt; judged = tt }
   row (Look told) _ e = absurd e
-  row Ask Yes e = record { holds = refl; starves = refl; judged = tt }
-  row Ask No e = record { holds = refl; starves = refl; judged = (refl, refl, refl) }
+  row Ask Yes e = record { holds = refl; starves = refl; finding = tt; judged = tt }
+  row Ask No e = record { holds = refl; starves = refl; finding = tt; judged = (refl, refl, refl) }
   row Ask _ e = absurd e
-  row Retry Free e = record { holds = (refl, refl); starves = refl; judged = refl }
-  row Retry (Held true) e = record { holds = refl; starves = refl; judged = tt }
-  row Retry (Held false) e = record { holds = refl; starves = refl; judged = tt }
-  row Retry SomeStarved e = record { holds = refl; starves = refl; judged = tt }
+  row Retry Free e = record { holds = (refl, refl); starves = refl; finding = (e.0, inl e.1); judged = refl }
+  row Retry (Held true) e = record { holds = refl; starves = refl; finding = tt; judged = tt }
+  row Retry (Held false) e = record { holds = refl; starves = refl; finding = tt; judged = tt }
+  row Retry SomeStarved e = record { holds = refl; starves = refl; finding = tt; judged = tt }
   row Retry _ e = absurd e
-  row PassOn Done e = record { holds = refl; starves = refl; judged = tt }
+  row PassOn Done e = record { holds = refl; starves = refl; finding = tt; judged = tt }
   row PassOn _ e = absurd e
-  row (Count true told) Done e = record { holds = refl; starves = (refl, refl); judged = tt }
-  row (Count true told) AtLimit e = record { holds = refl; starves = refl; judged = e }
+  row (Count true told) Done e = record { holds = refl; starves = (refl, refl); finding = e; judged = tt }
+  row (Count true told) AtLimit e = record { holds = refl; starves = refl; finding = tt; judged = e }
   row (Count true told) _ e = absurd e
-  row (Count false true) Done e = record { holds = refl; starves = (refl, refl); judged = tt }
-  row (Count false true) AtLimit e = record { holds = refl; starves = refl; judged = e }
+  row (Count false true) Done e = record { holds = refl; starves = (refl, refl); finding = e; judged = tt }
+  row (Count false true) AtLimit e = record { holds = refl; starves = refl; finding = tt; judged = e }
   row (Count false true) _ e = absurd e
-  row (Count false false) Done e = record { holds = refl; starves = (refl, refl); judged = tt }
-  row (Count false false) AtLimit e = record { holds = refl; starves = refl; judged = e }
+  row (Count false false) Done e = record { holds = refl; starves = (refl, refl); finding = e; judged = tt }
+  row (Count false false) AtLimit e = record { holds = refl; starves = refl; finding = tt; judged = e }
   row (Count false false) _ e = absurd e
-  row JoinStarved Done e = record { holds = refl; starves = refl; judged = tt }
-  row JoinStarved NoMemory e = record { holds = refl; starves = refl; judged = (e, refl, refl) }
+  row JoinStarved Done e = record { holds = refl; starves = refl; finding = tt; judged = tt }
+  row JoinStarved NoMemory e = record { holds = refl; starves = refl; finding = tt; judged = (e, refl, refl) }
   row JoinStarved _ e = absurd e
-  row LookAlone Free e = record { holds = (refl, refl); starves = refl; judged = refl }
-  row LookAlone (Held b) e = record { holds = refl; starves = refl; judged = tt }
-  row LookAlone SomeStarved e = record { holds = refl; starves = refl; judged = tt }
+  row LookAlone Free e = record { holds = (refl, refl); starves = refl; finding = (e.0, inr refl); judged = refl }
+  row LookAlone (Held b) e = record { holds = refl; starves = refl; finding = tt; judged = tt }
+  row LookAlone SomeStarved e = record { holds = refl; starves = refl; finding = tt; judged = tt }
   row LookAlone _ e = absurd e
-  row PassOnListed Done e = record { holds = refl; starves = refl; judged = tt }
+  row PassOnListed Done e = record { holds = refl; starves = refl; finding = tt; judged = tt }
   row PassOnListed _ e = absurd e
-  row AskStarved Yes e = record { holds = refl; starves = refl; judged = tt }
-  row AskStarved No e = record { holds = refl; starves = refl; judged = (refl, refl, refl) }
+  row AskStarved Yes e = record { holds = refl; starves = refl; finding = tt; judged = tt }
+  row AskStarved No e = record { holds = refl; starves = refl; finding = tt; judged = (refl, refl, refl) }
   row AskStarved _ e = absurd e
-  row Seize Free e = record { holds = (refl, refl); starves = refl; judged = refl }
-  row Seize (Held b) e = record { holds = refl; starves = refl; judged = tt }
+  row Seize Free e = record { holds = (refl, refl); starves = refl; finding = (e, inr refl); judged = refl }
+  row Seize (Held b) e = record { holds = refl; starves = refl; finding = tt; judged = tt }
   row Seize _ e = absurd e
-  row (Uncount true) Done e = record { holds = refl; starves = (refl, refl); judged = (refl, refl) }
+  row (Uncount true) Done e = record { holds = refl; starves = (refl, refl); finding = tt; judged = (refl, refl) }
   row (Uncount true) _ e = absurd e
-  row (Uncount false) Done e = record { holds = refl; starves = (refl, refl); judged = (refl, refl) }
+  row (Uncount false) Done e = record { holds = refl; starves = (refl, refl); finding = tt; judged = (refl, refl) }
   row (Uncount false) _ e = absurd e
-  row Leave Done e = record { holds = refl; starves = refl; judged = (refl, refl) }
+  row Leave Done e = record { holds = refl; starves = refl; finding = tt; judged = (refl, refl) }
   row Leave _ e = absurd e
-  row RefuseUncount Done e = record { holds = refl; starves = (refl, refl); judged = (refl, refl) }
+  row RefuseUncount Done e = record { holds = refl; starves = (refl, refl); finding = tt; judged = (refl, refl) }
   row RefuseUncount _ e = absurd e
-  row (RefuseLeave true) Done e = record { holds = refl; starves = refl; judged = (refl, refl) }
+  row (RefuseLeave true) Done e = record { holds = refl; starves = refl; finding = tt; judged = (refl, refl) }
   row (RefuseLeave true) _ e = absurd e
-  row (RefuseLeave false) Done e = record { holds = refl; starves = refl; judged = (refl, refl) }
+  row (RefuseLeave false) Done e = record { holds = refl; starves = refl; finding = tt; judged = (refl, refl) }
   row (RefuseLeave false) _ e = absurd e
-  row RefuseNotifyMemory Done e = record { holds = refl; starves = refl; judged = (refl, refl) }
+  row RefuseNotifyMemory Done e = record { holds = refl; starves = refl; finding = tt; judged = (refl, refl) }
   row RefuseNotifyMemory _ e = absurd e
-  row RefuseNotifyStarved Done e = record { holds = refl; starves = refl; judged = (refl, refl) }
+  row RefuseNotifyStarved Done e = record { holds = refl; starves = refl; finding = tt; judged = (refl, refl) }
   row RefuseNotifyStarved _ e = absurd e
-  row ReleaseNotify Done e = record { holds = refl; starves = refl; judged = (refl, refl) }
+  row ReleaseNotify Done e = record { holds = refl; starves = refl; finding = tt; judged = (refl, refl) }
   row ReleaseNotify _ e = absurd e

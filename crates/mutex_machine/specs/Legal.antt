@@ -15,7 +15,8 @@ use Rattle.mutex_machine.specs.declared.program.End.TheVariants.{Got, Pending, N
 use Rattle.mutex_machine.specs.declared.program.Next.{Next}
 use Rattle.mutex_machine.specs.declared.program.Next.TheVariants as next
 use Rattle.mutex_machine.specs.Machine.{Lock, place_at}
-use Rattle.mutex_machine.specs.Acts.{holders, starved}
+use Rattle.mutex_machine.specs.Acts.{holders, starved, Holds, IsStarved}
+use Rattle.mutex_machine.specs.Roles.{counted}
 use Rattle.mutex_machine.specs.State.{holder_of, starved_of}
 
 -- The changes of a mutex: the party takes the lock or gives it back, is counted as starved or no more.
@@ -87,9 +88,18 @@ IsReason memory p old new (Refused Memory) = (memory ≡ false) × (entries_of p
 IsReason memory p old new (Refused Starved) = starved old ≡ old.limit
 IsReason memory p old new (Refused _) = ⊥
 
--- An action changes one thing of the mutex or does one list function, never both, and moves no other party. A call that was decided only gives back, and keeps its decision; one that is decided now has its reason.
+-- Where a change may be made: the lock is taken where nobody holds it, and nobody is starved or the taker is; a party is counted once, below the limit.
+abbrev pub IsAllowed : ℕ → Deed Change ListName → Lock → Type 0
+IsAllowed p (changes takes) l = (holders l ≡ 0) × ((starved l ≡ 0) ⊎ IsStarved l p)
+IsAllowed p (changes releases) l = Holds l p
+IsAllowed p (changes starves) l = (counted (place_at l.places p) ≡ 0) × (starved l < l.limit)
+IsAllowed p (changes recovers) l = IsStarved l p
+IsAllowed p _ l = Unit {0}
+
+-- An action changes one thing of the mutex where it may, or does one list function, never both, and moves no other party. A call that was decided only gives back, and keeps its decision; one that is decided now has its reason.
 pub record IsLegal (memory : Bool) (p : ℕ) (decided : Option End) (onward : Next) (old new : Lock) : Type 0 where
   pub deed : Deed Change ListName
+  pub allowed : IsAllowed p deed old
   pub holder : holder_of new ≡ holder_after p deed (holder_of old)
   pub starved : starved_of new ≡ starved_after p deed (starved_of old)
   pub entries : new.entries ≡ entries_after p deed old.entries

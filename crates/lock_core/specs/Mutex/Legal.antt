@@ -32,7 +32,7 @@ knows _ = false
 
 -- The call that a move belongs to, where its party may make it.
 abbrev pub call_of : World → Move → Option Within
-call_of = frame.call_of standing_of knows
+call_of = frame.call_of standing_of (λ w p. knows)
 
 -- The step from old to new decides its party's call on this answer.
 abbrev pub DecidesOn : World → Move → Answer → World → Answer → Type 0
@@ -41,7 +41,7 @@ DecidesOn = frame.DecidesOn standing_of
 -- ---- Which moves are possible
 
 abbrev pub IsPossible : World → Move → Answer → World → Type 0
-IsPossible = frame.IsPossible standing_of knows
+IsPossible = frame.IsPossible standing_of (λ w p. knows)
 
 -- ---- What changes
 
@@ -148,7 +148,7 @@ pub record IsValueKept (old : World) (m : Move) (a : Answer) (new : World) : Typ
 -- ---- How a call ends
 
 abbrev pub EndsProperly : World → Move → Answer → World → Type 0
-EndsProperly = frame.EndsProperly standing_of knows Holding
+EndsProperly = frame.EndsProperly standing_of (λ w p. knows) Holding
 
 -- ---- The legal step
 
