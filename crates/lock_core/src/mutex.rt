@@ -8,7 +8,8 @@
 mod table;
 
 ghost use Rattle.std.specs.Prelude.{◌≡◌, Bool, ◌<◌, ◌≤◌, ℕ, true, [], ◌∷◌, ◌++◌, None, IfOk, IfErr, OnErr, length, min, slice_get, is_some, vec_len, vec_capacity};
-ghost use Rattle.lock_core.specs.Mutex.State.{new_world, how_many};
+ghost use Rattle.lock_world.specs.Rosters.{how_many};
+ghost use Rattle.lock_core.specs.Mutex.State.{new_world};
 ghost use Rattle.lock_core.specs.Mutex.Legal.{Legal, AnswersAtOnce};
 ghost use Rattle.lock_core.specs.Mutex.Laws.{IsSound, IsAwake, IsFreeAndWanted, is_at_rest};
 ghost use Rattle.lock_core.specs.Mutex.Runs.{Runs, rights_of};

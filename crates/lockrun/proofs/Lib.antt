@@ -6,3 +6,5 @@ pub mod Reading
 pub mod Scripts
 pub mod Inputs
 pub mod Texts
+pub mod Mutex
+pub mod Plays

@@ -4,3 +4,7 @@ pub mod Scripts
 pub mod Commands
 pub mod Answers
 pub mod Openings
+pub mod Requests
+pub mod Mutex
+pub mod Worlds
+pub mod Plays

@@ -3,40 +3,19 @@
 #[cfg(test)]
 mod tests;
 
-ghost use Rattle.std.specs.Prelude.{◌≡◌, ◌++◌, ℕ, [], true, false, codes, OnOk};
-ghost use Rattle.std.specs.Fmt.{decimal};
+ghost use Rattle.std.specs.Prelude.{◌≡◌, ◌++◌, ℕ, List, codes, decimal, length, slice_get, OnOk};
 ghost use Rattle.std.specs.Io.KnownBytes.{Appends};
-ghost use Rattle.lockrun.specs.Answers.{mutex_text, Prints};
+ghost use Rattle.lockrun.specs.Answers.{answer_text, entry_text, got_text, list_text, reply_text, Prints};
 
-use lock_core::mutex::World;
-use lock_core::{Answer, Got, Mark};
+use crate::played::Reply;
+use lock_core::{Answer, Got};
+use lock_event::{Entry, Mark};
 use std::io;
 use std::io::Write;
 
 /// Writes the answer of a move, as one line.
 pub fn write_answer<O: Write>(answer: Answer, output: &mut O) -> io::Result<()>
-    ensures stepped { answer ≡ Answer.Stepped
-        → Prints (O.contents output.old) (O.contents output.new) result (codes "stepped") }
-    ensures pending { answer ≡ Answer.Pending
-        → Prints (O.contents output.old) (O.contents output.new) result (codes "pending") }
-    ensures none { answer ≡ Answer.None
-        → Prints (O.contents output.old) (O.contents output.new) result (codes "none") }
-    ensures given_back { answer ≡ Answer.GivenBack
-        → Prints (O.contents output.old) (O.contents output.new) result (codes "given back") }
-    ensures waiting { answer ≡ Answer.Waiting
-        → Prints (O.contents output.old) (O.contents output.new) result (codes "waiting") }
-    ensures not_possible { answer ≡ Answer.NotPossible
-        → Prints (O.contents output.old) (O.contents output.new) result (codes "not possible") }
-    ensures refused { (n : ℕ) → answer ≡ Answer.Refused n
-        → Prints (O.contents output.old) (O.contents output.new) result (codes "refused " ++ decimal n) }
-    ensures ready { answer ≡ Answer.Ready Got.Plain
-        → Prints (O.contents output.old) (O.contents output.new) result (codes "ready") }
-    ensures ready_value { (v : ℕ) → answer ≡ Answer.Ready (Got.Value v)
-        → Prints (O.contents output.old) (O.contents output.new) result (codes "ready " ++ decimal v) }
-    ensures granted { answer ≡ Answer.Granted Got.Plain
-        → Prints (O.contents output.old) (O.contents output.new) result (codes "granted") }
-    ensures granted_value { (v : ℕ) → answer ≡ Answer.Granted (Got.Value v)
-        → Prints (O.contents output.old) (O.contents output.new) result (codes "granted " ++ decimal v) }
+    ensures { Prints (O.contents output.old) (O.contents output.new) result (answer_text answer) }
 {
     match answer {
         Answer::Stepped => writeln!(output, "stepped"),
@@ -58,26 +37,22 @@ pub fn write_refused<O: Write>(number: u8, output: &mut O) -> io::Result<()>
     writeln!(output, "refused {number}")
 }
 
-/// Writes that a new World stands, as one line.
-pub fn write_ok<O: Write>(output: &mut O) -> io::Result<()>
-    ensures { Prints (O.contents output.old) (O.contents output.new) result (codes "ok") }
+/// Writes the reply to what was asked from outside every call, as one line. A new World is told of as
+/// [`Reply::Done`].
+pub fn write_reply<O: Write>(reply: Reply, output: &mut O) -> io::Result<()>
+    ensures { Prints (O.contents output.old) (O.contents output.new) result (reply_text reply) }
 {
-    writeln!(output, "ok")
+    match reply {
+        Reply::Done => writeln!(output, "ok"),
+        Reply::Nothing => writeln!(output, "none"),
+        Reply::Value(value) => writeln!(output, "{value}"),
+        Reply::NotPossible => writeln!(output, "not possible"),
+    }
 }
 
 /// Writes how a call succeeded and what it got, as one line.
 fn write_got<O: Write>(how: &str, got: Got, output: &mut O) -> io::Result<()>
-    ensures plain { got ≡ Got.Plain → Prints (O.contents output.old) (O.contents output.new) result how.now }
-    ensures value { (v : ℕ) → got ≡ Got.Value v → Prints (O.contents output.old) (O.contents output.new) result
-        (how.now ++ codes " " ++ decimal v) }
-    ensures leader { got ≡ Got.Leader true → Prints (O.contents output.old) (O.contents output.new) result
-        (how.now ++ codes " leader") }
-    ensures follower { got ≡ Got.Leader false → Prints (O.contents output.old) (O.contents output.new) result
-        (how.now ++ codes " follower") }
-    ensures taken { (v : ℕ) → got ≡ Got.Taken v → Prints (O.contents output.old) (O.contents output.new) result
-        (how.now ++ codes " taken " ++ decimal v) }
-    ensures failed { got ≡ Got.Failed → Prints (O.contents output.old) (O.contents output.new) result
-        (how.now ++ codes " failed") }
+    ensures { Prints (O.contents output.old) (O.contents output.new) result (how.now ++ got_text got) }
 {
     match got {
         Got::Plain => writeln!(output, "{how}"),
@@ -89,46 +64,43 @@ fn write_got<O: Write>(how: &str, got: Got, output: &mut O) -> io::Result<()>
     }
 }
 
-/// Writes the state of a mutex, as one line. The clause leaves open what stands for a list with entries.
-pub fn write_mutex<O: Write>(world: &World, output: &mut O) -> io::Result<()>
-    ensures empty { world.now.entries ≡ []
-        → Prints (O.contents output.old) (O.contents output.new) result (mutex_text world.now) }
-{
-    let locked = u8::from(world.is_locked());
-    let starved = world.starved();
-    let value = world.value();
-    write!(
-        output,
-        "mutex locked={locked} starved={starved} value={value} list=["
-    )?;
-    write_list(world, output)?;
-    writeln!(output, "]")
+/// A list of waiting parties, to be shown.
+pub trait Listed {
+    ghost use Rattle.lock_event.specs.declared.event.Entry.{Entry};
+
+    /// Its entries, the front first.
+    ghost entries: { Self → List (Entry ℕ) };
+
+    /// How many entries it has.
+    fn waiting(&self) -> usize
+        ensures { result ≡ length (entries self.now) };
+
+    /// The entry at this place, counted from the front. None past the last.
+    fn entry(&self, index: usize) -> Option<Entry<u32>>
+        ensures { result ≡ slice_get (entries self.now) index };
 }
 
-/// Writes the list of the parties that wait for a mutex.
-fn write_list<O: Write>(world: &World, output: &mut O) -> io::Result<()>
-    ensures empty { world.now.entries ≡ [] → output.new ≡ output.old }
+/// Writes a list of waiting parties.
+pub fn write_list<L: Listed, O: Write>(list: &L, output: &mut O) -> io::Result<()>
+    ensures { OnOk result (Appends (O.contents output.old) (O.contents output.new) (list_text (L.entries list.now))) }
 {
-    for index in 0..world.waiting() {
-        let Some(entry) = world.entry(index) else {
+    write!(output, "[")?;
+    for index in 0..list.waiting() {
+        let Some(entry) = list.entry(index) else {
             break;
         };
         let gap = if index == 0 { "" } else { " " };
-        write_entry(gap, entry.key, entry.mark, output)?;
+        write_entry(gap, &entry, output)?;
     }
-    Ok(())
+    write!(output, "]")
 }
 
 /// Writes an entry of a list, the party and its mark, after what sets it apart from the one before it.
-fn write_entry<O: Write>(gap: &str, party: u32, mark: Mark, output: &mut O) -> io::Result<()>
-    ensures waiting { mark ≡ Mark.Waiting → OnOk result
-        (Appends (O.contents output.old) (O.contents output.new) (gap.now ++ decimal party ++ codes "w")) }
-    ensures notified { mark ≡ Mark.Notified → OnOk result
-        (Appends (O.contents output.old) (O.contents output.new) (gap.now ++ decimal party ++ codes "n")) }
-    ensures additional { mark ≡ Mark.Additional → OnOk result
-        (Appends (O.contents output.old) (O.contents output.new) (gap.now ++ decimal party ++ codes "a")) }
+fn write_entry<O: Write>(gap: &str, entry: &Entry<u32>, output: &mut O) -> io::Result<()>
+    ensures { OnOk result (Appends (O.contents output.old) (O.contents output.new) (gap.now ++ entry_text entry.now)) }
 {
-    let letter = match mark {
+    let party = entry.key;
+    let letter = match entry.mark {
         Mark::Waiting => 'w',
         Mark::Notified => 'n',
         Mark::Additional => 'a',

@@ -5,7 +5,9 @@ mod answer;
 mod command;
 mod fault;
 mod line;
+mod played;
 mod run;
+mod world;
 
 use fault::Fault;
 use std::env;

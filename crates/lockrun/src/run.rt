@@ -5,24 +5,21 @@ mod rows;
 #[cfg(test)]
 mod tests;
 
-ghost use Rattle.std.specs.Prelude.{◌≡◌, ◌≢◌, ◌⊎◌, ◌+◌, ◌<◌, ◌≤◌, ◌^◌, ◌↔◌, ℕ, List, [], All, true, false, min, codes, length, map, vec_len, string_bytes, Some, Ok, Err, IsOk, IsErr, IsTrue, IfOk, OnOk, OnErr, IfSome};
+ghost use Rattle.std.specs.Prelude.{◌≡◌, ◌≢◌, ◌⊎◌, ◌+◌, ◌<◌, ◌≤◌, ◌↔◌, ◌++◌, ℕ, List, [], ◌∷◌, All, codes, length, map, vec_len, string_bytes, Some, Ok, Err, IsOk, IsErr, IsTrue, IfOk, OnOk, OnErr, IfSome};
 ghost use Rattle.std.specs.Io.{StartsWith, appended_bytes};
 ghost use Rattle.std.specs.Io.KnownBytes.{Appends, Consumes, IsAtEnd, Keeps};
-ghost use Rattle.lock_core.specs.Mutex.Laws.{is_at_rest};
-ghost use Rattle.lock_core.specs.Mutex.Legal.{Legal};
-ghost use Rattle.lock_core.specs.Mutex.Lending.{world_with};
-ghost use Rattle.lock_core.specs.Mutex.Whole.{IsWholeCall};
-ghost use Rattle.lockrun.specs.Answers.{mutex_text, Prints};
-ghost use Rattle.lockrun.specs.Openings.{limit_of, world_of};
+ghost use Rattle.lockrun.specs.Openings.{world_of};
+ghost use Rattle.lockrun.specs.Plays.{IsPlayed, Leads, PlaysLine};
 ghost use Rattle.lockrun.specs.Scripts.{asked, IsLine, IsScript, IsStartOfScript};
 ghost use Rattle.lockrun.specs.Lines.{lines_of};
 ghost use Rattle.lockrun.specs.Faults.{status_of};
 
-use crate::command::{self, Command, Model, Request};
+use crate::command::{self, Command, Model};
 use crate::fault::Fault;
+use crate::played::Reply;
+use crate::world::World;
 use crate::{answer, line};
-use lock_core::mutex::{MOST_STARVED, World};
-use lock_core::{Answer, Call, Inputs, Move, Refusal, What};
+use lock_world::Refusal;
 use std::alloc::Global;
 use std::io;
 use std::io::{ErrorKind, Read, Write};
@@ -48,6 +45,8 @@ pub fn run<I: Read, O: Write, E: Write>(
     ensures asked { map string_bytes words.now ≡ asked → result ≢ 2 }
     ensures script { map string_bytes words.now ≡ asked → result ≡ 0
         → IfSome (I.remaining input.old) IsScript }
+    ensures played { map string_bytes words.now ≡ asked → result ≡ 0
+        → IfSome (I.remaining input.old) (λ text. IsPlayed text (O.contents output.old) (O.contents output.new)) }
     ensures long { map string_bytes words.now ≡ asked
         → IfSome (I.remaining input.old) (λ text. LIMIT < length text → ((result ≡ 1) ⊎ (result ≡ 3))
         × Keeps (O.contents output.old) (O.contents output.new)) }
@@ -85,6 +84,8 @@ pub fn report<E: Write>(fault: Fault, errors: &mut E) -> u8
 /// refused, are flushed.
 fn script<I: Read, O: Write>(alloc: Global, input: &mut I, output: &mut O) -> Result<(), Fault>
     ensures script { OnOk result (IfSome (I.remaining input.old) IsScript) }
+    ensures played { OnOk result (IfSome (I.remaining input.old)
+        (λ text. IsPlayed text (O.contents output.old) (O.contents output.new))) }
     ensures long { IfSome (I.remaining input.old) (λ text. LIMIT < length text
         → IsErr result × Keeps (O.contents output.old) (O.contents output.new)) }
     ensures asked { result ≢ Err Fault.Usage }
@@ -155,6 +156,7 @@ fn read_more<I: Read>(input: &mut I, buffer: &mut [u8], text: &mut Vec<u8>) -> R
 /// Answers each line of a script in turn, up to the first fault.
 fn answer_lines<O: Write>(alloc: Global, text: &[u8], output: &mut O) -> Result<(), Fault>
     ensures lines { OnOk result (All IsLine (lines_of text.now)) }
+    ensures played { OnOk result (IsPlayed text.now (O.contents output.old) (O.contents output.new)) }
     ensures asked { result ≢ Err Fault.Usage }
 {
     let mut world = None;
@@ -178,6 +180,8 @@ fn answer_line<O: Write>(
     output: &mut O,
 ) -> Result<(), Fault>
     ensures line { OnOk result (IsLine line.now) }
+    ensures played { OnOk result ((bytes : List ℕ) × PlaysLine line.now world.old world.new bytes
+        × Appends (O.contents output.old) (O.contents output.new) bytes) }
     ensures asked { result ≢ Err Fault.Usage }
 {
     if line::is_skipped(line) {
@@ -186,10 +190,27 @@ fn answer_line<O: Write>(
     let bad = Err(Fault::BadLine(number));
     match command::parse(line) {
         None => bad,
-        Some(Command::New(model)) => make(alloc, model, world, output),
-        Some(Command::On(request)) => match world {
-            None => bad,
-            Some(world) => written(carry_out(request, world, output)),
+        Some(command) => answer_command(alloc, number, command, world, output),
+    }
+}
+
+/// Answers the command of the line of this number.
+fn answer_command<O: Write>(
+    alloc: Global,
+    number: u64,
+    command: Command,
+    world: &mut Option<World>,
+    output: &mut O,
+) -> Result<(), Fault>
+    ensures leads { OnOk result ((text : List ℕ) × Leads command world.old world.new text
+        × Appends (O.contents output.old) (O.contents output.new) (text ++ 10 ∷ [])) }
+    ensures asked { result ≢ Err Fault.Usage }
+{
+    match command {
+        Command::New(model) => make(alloc, model, world, output),
+        Command::On(request) => match world {
+            None => Err(Fault::BadLine(number)),
+            Some(world) => written(world.carry_out(request, output)),
         },
     }
 }
@@ -205,91 +226,14 @@ fn make<O: Write>(
     ensures prints { OnOk result (Appends (O.contents output.old) (O.contents output.new) (codes "ok\n")) }
     ensures asked { result ≢ Err Fault.Usage }
 {
-    let Model::Mutex {
-        parties,
-        value,
-        starved,
-    } = model;
-    match World::with_limits(alloc, parties, value, limit(starved)) {
+    match World::new(alloc, model) {
         Ok(made) => {
             *world = Some(made);
-            written(answer::write_ok(output))
+            written(answer::write_reply(Reply::Done, output))
         }
         Err(Refusal::Memory) => Err(Fault::Memory),
         Err(refusal) => written(answer::write_refused(refusal.number(), output)),
     }
-}
-
-/// How many parties of a mutex may be starved at a time. A number past 32 bits is above the greatest.
-fn limit(starved: Option<u64>) -> u32
-    ensures { min result MOST_STARVED ≡ limit_of starved }
-{
-    match starved {
-        None => MOST_STARVED,
-        Some(count) => u32::try_from(count).unwrap_or(u32::MAX),
-    }
-}
-
-/// Carries out what is asked of a World, and writes the answer.
-fn carry_out<O: Write>(request: Request, world: &mut World, output: &mut O) -> io::Result<()>
-    ensures put { (v : ℕ) → request ≡ Request.Put v → is_at_rest world.old ≡ true
-        → (world.new ≡ world_with world.old v)
-        × Prints (O.contents output.old) (O.contents output.new) result (codes "ok") }
-    ensures not_at_rest { (v : ℕ) → request ≡ Request.Put v → is_at_rest world.old ≡ false
-        → (world.new ≡ world.old)
-        × Prints (O.contents output.old) (O.contents output.new) result (codes "not possible") }
-    ensures take { request ≡ Request.Take → (world.new ≡ world.old)
-        × Prints (O.contents output.old) (O.contents output.new) result (codes "not possible") }
-    ensures show { request ≡ Request.Show → (world.new ≡ world.old) × (world.old.entries ≡ []
-        → Prints (O.contents output.old) (O.contents output.new) result (mutex_text world.old)) }
-{
-    match request {
-        Request::Step { party, what } => answer::write_answer(step(world, party, what), output),
-        Request::Whole {
-            party,
-            call,
-            inputs,
-        } => answer::write_answer(poll_whole(world, party, call, inputs), output),
-        Request::Put(value) if put(world, value) => answer::write_ok(output),
-        // No value of a mutex can be taken while the mutex stays.
-        Request::Put(_) | Request::Take => answer::write_answer(Answer::NotPossible, output),
-        Request::Show => answer::write_mutex(world, output),
-    }
-}
-
-/// One move. A party whose number is past 32 bits is past the table.
-fn step(world: &mut World, party: u64, what: What) -> Answer
-    ensures legal { party < 2 ^ 32 → Legal world.old (record { party = party; what = what }) result world.new }
-    ensures past { 2 ^ 32 ≤ party → (result ≡ Answer.NotPossible) × (world.new ≡ world.old) }
-{
-    match u32::try_from(party) {
-        Ok(party) => world.step(&Move { party, what }),
-        Err(_) => Answer::NotPossible,
-    }
-}
-
-/// A whole call. A party whose number is past 32 bits is past the table.
-fn poll_whole(world: &mut World, party: u64, call: Call, inputs: Inputs) -> Answer
-    ensures whole { party < 2 ^ 32 → IsWholeCall world.old party call inputs result world.new }
-    ensures past { 2 ^ 32 ≤ party → (result ≡ Answer.NotPossible) × (world.new ≡ world.old) }
-{
-    match u32::try_from(party) {
-        Ok(party) => world.poll_whole(party, call, inputs),
-        Err(_) => Answer::NotPossible,
-    }
-}
-
-/// Leaves this value in a World at rest, and says whether it was at rest.
-fn put(world: &mut World, value: u64) -> bool
-    ensures at_rest { result ≡ is_at_rest world.old }
-    ensures put { result ≡ true → world.new ≡ world_with world.old value }
-    ensures kept { result ≡ false → world.new ≡ world.old }
-{
-    let is_at_rest = world.at_rest();
-    if is_at_rest {
-        *world.get_mut() = value;
-    }
-    is_at_rest
 }
 
 /// A write that failed, as a fault.

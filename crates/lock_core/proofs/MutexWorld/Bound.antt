@@ -4,7 +4,8 @@ use Rattle.std.proofs.lemmas.Bool.Decides.{nat_tests}
 use Rattle.lock_event.specs.declared.event.Entry.{Entry}
 use Rattle.lock_queue.specs.Parties.{entries_of}
 use Rattle.lock_world.specs.declared.moves.Answer.{Answer}
-use Rattle.lock_core.specs.Mutex.State.{State, World, is_starved, how_many}
+use Rattle.lock_world.specs.Rosters.{how_many}
+use Rattle.lock_core.specs.Mutex.State.{State, World, is_starved}
 use Rattle.lock_core.specs.Mutex.Laws.{IsSound, IsAwake, IsFreeAndWanted}
 use Rattle.lock_core.specs.Mutex.Bound.{unstarved_in, unstarved_listed, Takes, GivesWay, SoloPolls, IsBounded}
 use Rattle.mutex_machine.proofs.SoloPolls.{first_marked}

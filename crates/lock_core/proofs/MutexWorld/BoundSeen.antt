@@ -31,7 +31,8 @@ use Rattle.mutex_machine.specs.Acts.{IsMutex, IsStarved, starved}
 use Rattle.lock_core.specs.Mutex.Plans.{answer_of, stage_at, goes_with}
 use Rattle.mutex_machine.specs.Solo.{IsCalled, Took, StandsBack, GaveWay, unstarved}
 use Rattle.lock_core.specs.Mutex.Table.{Table, IsTable}
-use Rattle.lock_core.specs.Mutex.State.{World, is_starved, how_many}
+use Rattle.lock_world.specs.Rosters.{how_many}
+use Rattle.lock_core.specs.Mutex.State.{World, is_starved}
 use Rattle.lock_core.specs.Mutex.Laws.{is_at_rest}
 use Rattle.mutex_machine.specs.State.{is_counted}
 use Rattle.lock_core.specs.Mutex.View.{stands_as, opened, view_of}

@@ -39,7 +39,8 @@ use Rattle.mutex_machine.specs.Machine.{Lock, place_at}
 use Rattle.mutex_machine.specs.Acts.{Finds, holders, starved, IsMutex}
 use Rattle.lock_core.specs.Mutex.Plans.{answer_of, stage_after, stage_at}
 use Rattle.lock_core.specs.Mutex.Table.{IsTable}
-use Rattle.lock_core.specs.Mutex.State.{State, World, standing_of, is_starved, how_many, is_free, mark_of}
+use Rattle.lock_world.specs.Rosters.{how_many}
+use Rattle.lock_core.specs.Mutex.State.{State, World, standing_of, is_starved, is_free, mark_of}
 use Rattle.lock_world.specs.Frame.{is_drop}
 use Rattle.lock_core.specs.Mutex.Legal.{Change, ListName, takes, releases, starves, recovers, puts, state_after, entries_after, gives_back, is_first_poll, call_of, DecidesOn, IsPossible, ChangesOneThing, IsTakenFairly, OthersKeepTheirs, Carries, Waits, IsCause, IsRefusedForCause, LeavesClear, IsValueKept, EndsProperly, Legal, AnswersAtOnce}
 use Rattle.mutex_machine.specs.State.{is_holder, is_counted}

@@ -10,7 +10,7 @@ use Rattle.mutex_machine.specs.Roles.{bit, holds, counted}
 use Rattle.lock_core.specs.Mutex.Plans.{stage_at}
 use Rattle.mutex_machine.specs.Machine.{place_at}
 use Rattle.lock_world.specs.Standings.{forgotten}
-use Rattle.lock_core.specs.Mutex.State.{how_many}
+use Rattle.lock_world.specs.Rosters.{how_many}
 use Rattle.mutex_machine.specs.State.{is_counted}
 use Rattle.lock_core.specs.Mutex.View.{verdict, stands_as, standings}
 use Rattle.mutex_machine.proofs.Seen as sees

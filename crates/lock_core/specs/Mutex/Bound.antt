@@ -10,7 +10,8 @@ use Rattle.lock_world.specs.declared.moves.Got.TheVariants.{Value}
 use Rattle.lock_world.specs.declared.moves.Inputs.{Inputs}
 use Rattle.lock_world.specs.declared.standing.Rest.TheVariants.{Pending}
 use Rattle.lock_world.specs.Standings.{outside, forgotten}
-use Rattle.lock_core.specs.Mutex.State.{State, World, standing_of, is_starved, how_many}
+use Rattle.lock_world.specs.Rosters.{how_many}
+use Rattle.lock_core.specs.Mutex.State.{State, World, standing_of, is_starved}
 use Rattle.lock_core.specs.Mutex.Laws.{is_at_rest}
 use Rattle.lock_core.specs.Mutex.Whole.{IsWholeCall}
 

@@ -11,7 +11,8 @@ use Rattle.lock_world.specs.declared.standing.Rest.TheVariants.{Idle, Pending, H
 use Rattle.lock_world.specs.declared.standing.Within.{Within}
 use Rattle.lock_world.specs.Standings.{outside, inside, forgotten, is_outside}
 use Rattle.lock_world.specs.Rights.{Right, hold, excludes}
-use Rattle.lock_core.specs.Mutex.State.{World, standing_of, is_starved, how_many}
+use Rattle.lock_world.specs.Rosters.{how_many}
+use Rattle.lock_core.specs.Mutex.State.{World, standing_of, is_starved}
 use Rattle.lock_core.specs.Mutex.Legal.{HasItsOwn}
 
 -- The rights in the state: a mutex knows one, that of its holder.

@@ -19,7 +19,8 @@ use Rattle.lock_world.specs.Standings.{Standing, outside, inside, inputs_of, is_
 use Rattle.lock_world.specs.Frame as frame
 use Rattle.lock_world.specs.Frame.{is_drop, is_refusal, put_in}
 use Rattle.lock_world.specs.Steps.{Deed, nothing, changes, does, list_after, is_parting}
-use Rattle.lock_core.specs.Mutex.State.{State, World, standing_of, is_starved, how_many, is_free, mark_of, IsClear}
+use Rattle.lock_world.specs.Rosters.{how_many}
+use Rattle.lock_core.specs.Mutex.State.{State, World, standing_of, is_starved, is_free, mark_of, IsClear}
 
 -- The calls of a mutex.
 abbrev pub knows : Call → Bool

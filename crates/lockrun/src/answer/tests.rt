@@ -1,5 +1,7 @@
-use super::{write_answer, write_entry};
-use lock_core::{Answer, Got, Mark};
+use super::{write_answer, write_entry, write_reply};
+use crate::played::Reply;
+use lock_core::{Answer, Got};
+use lock_event::{Entry, Mark};
 use std::test::Fail;
 
 #[test]
@@ -32,11 +34,31 @@ fn writes_each_answer(rt: HostRuntime) -> Result<(), Fail> {
 }
 
 #[test]
-fn writes_the_entries_of_a_list(rt: HostRuntime) -> Result<(), Fail> {
+fn writes_each_reply(rt: HostRuntime) -> Result<(), Fail> {
+    for (reply, text) in [
+        (Reply::Done, "ok\n"),
+        (Reply::Nothing, "none\n"),
+        (Reply::Value(0), "0\n"),
+        (Reply::Value(u64::MAX), "18446744073709551615\n"),
+        (Reply::NotPossible, "not possible\n"),
+    ] {
+        let mut output = Vec::new(rt.alloc());
+        write_reply(reply, &mut output)?;
+        assert_eq!(rt; output.as_slice(), text.as_bytes(), "{reply:?}");
+    }
+    Ok(())
+}
+
+#[test]
+fn writes_each_mark(rt: HostRuntime) -> Result<(), Fail> {
     let mut output = Vec::new(rt.alloc());
-    write_entry("", 10, Mark::Additional, &mut output)?;
-    write_entry(" ", 1, Mark::Notified, &mut output)?;
-    write_entry(" ", 2, Mark::Waiting, &mut output)?;
+    for (gap, key, mark) in [
+        ("", 10, Mark::Additional),
+        (" ", 1, Mark::Notified),
+        (" ", 2, Mark::Waiting),
+    ] {
+        write_entry(gap, &Entry { key, mark }, &mut output)?;
+    }
     assert_eq!(rt; output.as_slice(), b"10a 1n 2w".as_slice());
     Ok(())
 }

@@ -1,11 +1,21 @@
 use Rattle.lockrun.proofs.Lines.{lines-more}
+use Rattle.lockrun.proofs.Plays.{played_none, played_more, played_all}
 use Rattle.lockrun.proofs.Scripts.{lines-none}
 use Rattle.lockrun.specs.Scripts.{IsLine}
 use Rattle.lockrun.proofs.run.answer_lines.Goals as goal
 
+pub loop-rest-init : goal.loop-rest-init
+loop-rest-init g c = record { good = λ all. all; played = played_none _ _ }
+
 pub loop-rest-preserved : goal.loop-rest-preserved
-loop-rest-preserved g c = λ others.
-    c.loop-rest.invariant (lines-more IsLine c.loop-rest.rest.now c.cut.result.0.now c.cut.result.1.now c.cut.ensures.piece c.cut.ensures.after c.in_ok-answer_line.ensures.line others)
+loop-rest-preserved g c = record {
+  good = λ others.
+      c.loop-rest.invariant.good (lines-more IsLine c.loop-rest.rest.now c.cut.result.0.now c.cut.result.1.now c.cut.ensures.piece c.cut.ensures.after c.in_ok-answer_line.ensures.line others);
+  played = played_more _ _ _ _ _ _ _ _ _ c.loop-rest.invariant.played c.cut.ensures.piece c.cut.ensures.after c.in_ok-answer_line.ensures.played;
+}
 
 pub returns-clause-lines : goal.returns-clause-lines
-returns-clause-lines g c = c.loop-rest.invariant (lines-none c.loop-rest.rest.now c.loop-rest-test.ensures)
+returns-clause-lines g c = c.loop-rest.invariant.good (lines-none c.loop-rest.rest.now c.loop-rest-test.ensures)
+
+pub returns-clause-played : goal.returns-clause-played
+returns-clause-played g c = played_all _ _ _ _ _ c.loop-rest.invariant.played c.loop-rest-test.ensures

@@ -1,7 +1,7 @@
 -- The word's number is the size of the starved set.
 use Rattle.std.proofs.Common.{ap, sym, ◌∙◌}
 use Rattle.mutex_machine.specs.Acts.{starved}
-use Rattle.lock_core.specs.Mutex.State.{how_many}
+use Rattle.lock_world.specs.Rosters.{how_many}
 use Rattle.lock_core.proofs.MutexWorld.Views.{how_many-seen}
 use Rattle.lock_core.proofs.mutex.World.starved.Goals as goal
 
