@@ -1,0 +1,17 @@
+pub mod Steps
+pub mod Leads
+pub mod Fits
+pub mod Links
+pub mod Places
+pub mod Starts
+pub mod Lines
+pub mod Kept
+pub mod Machines
+pub mod CanDo
+pub mod Finds
+pub mod New
+pub mod Laws
+pub mod Lowers
+pub mod Falls
+pub mod Alone
+pub mod Solo

@@ -1,0 +1,71 @@
+-- What an action says of its party's own marks and of its steps in the turn.
+use Rattle.std.proofs.Common.{◌≡◌, ℕ, ◌<◌, Bool, true, false, List, [], ◌∷◌, refl, ap, arith}
+use Rattle.std.proofs.lemmas.Bool.Decides.{nat_tests}
+use Rattle.lock_event.specs.declared.event.Entry.{Entry}
+use Rattle.lock_event.specs.Lists.{is_marked_at, joined}
+use Rattle.lock_queue.specs.Parties.{is_party, entries_of}
+use Rattle.mutex_machine.specs.declared.program.Next.{Next as TurnNext}
+use Rattle.mutex_machine.specs.declared.program.Next.TheVariants as turn_next
+use Rattle.mutex_machine.specs.Machine.{Lock}
+use Rattle.mutex_machine.specs.Ranks.{left_after as turn_left_after, steps_left as turn_steps_left, most_steps as most_turn_steps}
+use Rattle.rwlock_machine.specs.declared.program.Action.{Action}
+use Rattle.rwlock_machine.specs.declared.program.Action.TheVariants as act
+use Rattle.rwlock_machine.specs.declared.program.Found.{Found}
+use Rattle.rwlock_machine.specs.declared.program.Found.TheVariants.{Done, Yes, Turn}
+use Rattle.rwlock_machine.specs.declared.program.Next.{Next}
+use Rattle.rwlock_machine.specs.declared.program.Next.TheVariants as next
+use Rattle.rwlock_machine.specs.Parties.{OnNoWriter, OnNoReaders}
+use Rattle.rwlock_machine.specs.Turns.{OnTurn}
+use Rattle.rwlock_machine.specs.Ranks.{left}
+
+-- how many steps are left after this, by numbers alone
+abbrev pub then_left : Next → Bool → Bool → ℕ → ℕ
+then_left (next.Do action q) here there turn = left q here there turn
+then_left (next.End e q) here there turn = 0
+
+abbrev pub turn_left : TurnNext → ℕ → ℕ
+turn_left (turn_next.Do action q) turn = turn
+turn_left (turn_next.End e) turn = 0
+
+module _ (here there : Bool) (turn : ℕ) (here' there' : Bool) (turn' : ℕ) where
+  abbrev pub Lowers : Action → Found → Type 0
+  Lowers act.Read f = here' ≡ here
+  Lowers act.Load f = there' ≡ there
+  Lowers act.JoinNoWriter Done = here' ≡ false
+  Lowers act.AskNoWriter Yes = here ≡ true
+  Lowers act.JoinNoReaders Done = there' ≡ false
+  Lowers act.AskNoReaders Yes = there ≡ true
+  Lowers (act.Begin c) (Turn n) = turn_left n turn' < most_turn_steps c
+  Lowers (act.Begin c) f = ⊥
+  Lowers act.Go (Turn n) = turn_left n turn' < turn
+  Lowers act.Go f = ⊥
+  Lowers _ f = Unit {0}
+
+-- a party that joins isn't marked yet
+unmarked : (p : ℕ) (l : List (Entry ℕ)) → entries_of p l ≡ 0 → is_marked_at (is_party p) (joined l p) ≡ false
+unmarked p [] out = grind (arith, nat_tests)
+unmarked p (e ∷ es) out = grind (arith, nat_tests, unmarked p es)
+
+turn_left_is : (n : TurnNext) (l : Lock) (p k : ℕ) → turn_left_after n l p < k → turn_left n (turn_steps_left l p) < k
+turn_left_is (turn_next.Do action q) l p k h = h
+turn_left_is (turn_next.End e) l p k h = h
+
+module _ (memory starving : Bool) (p : ℕ) (l m l' m' : List (Entry ℕ)) (t u : Lock) where
+  pub lowers : (a : Action) (f : Found) → OnNoWriter p a f l l' → OnNoReaders p a f m m' → OnTurn memory starving p a f t u
+      → (a ≡ act.JoinNoWriter → entries_of p l ≡ 0) → (a ≡ act.JoinNoReaders → entries_of p m ≡ 0)
+      → Lowers (is_marked_at (is_party p) l) (is_marked_at (is_party p) m) (turn_steps_left t p) (is_marked_at (is_party p) l') (is_marked_at (is_party p) m') (turn_steps_left u p) a f
+  lowers act.Read f el em et out_w out_r = ap (is_marked_at (is_party p)) el
+  lowers act.Load f el em et out_w out_r = ap (is_marked_at (is_party p)) em
+  lowers act.JoinNoWriter Done el em et out_w out_r = rw el (unmarked p l (out_w refl))
+  lowers act.JoinNoWriter _ el em et out_w out_r = tt
+  lowers act.AskNoWriter Yes el em et out_w out_r = el.0
+  lowers act.AskNoWriter _ el em et out_w out_r = tt
+  lowers act.JoinNoReaders Done el em et out_w out_r = rw em (unmarked p m (out_r refl))
+  lowers act.JoinNoReaders _ el em et out_w out_r = tt
+  lowers act.AskNoReaders Yes el em et out_w out_r = em.0
+  lowers act.AskNoReaders _ el em et out_w out_r = tt
+  lowers (act.Begin c) (Turn n) el em et out_w out_r = turn_left_is n u p (most_turn_steps c) et.bounded
+  lowers (act.Begin c) _ el em et out_w out_r = absurd et
+  lowers act.Go (Turn n) el em et out_w out_r = turn_left_is n u p (turn_steps_left t p) et.falls
+  lowers act.Go _ el em et out_w out_r = absurd et
+  lowers _ f el em et out_w out_r = tt

@@ -1,0 +1,10 @@
+pub mod Program
+pub mod Roles
+pub mod Effects
+pub mod Parties
+pub mod Turns
+pub mod Tally
+pub mod Machine
+pub mod Acts
+pub mod Ranks
+pub mod Solo

@@ -1,0 +1,59 @@
+-- Polls that are carried out alone, each from its first action to its end before another party moves.
+use Rattle.std.specs.Prelude.{◌≡◌, ℕ, ◌<◌, Bool, true, false, length, IsSomeAnd}
+use Rattle.lock_event.specs.Lists.{is_marked_at}
+use Rattle.lock_queue.specs.Parties.{is_party}
+use Rattle.rwlock_machine.specs.declared.program.Place.{Place}
+use Rattle.rwlock_machine.specs.declared.program.Place.TheVariants.{Reading, Writing, AskNoWriter, AwaitNoReaders}
+use Rattle.rwlock_machine.specs.declared.program.Action.{Action}
+use Rattle.rwlock_machine.specs.declared.program.RwCall.TheVariants as call
+use Rattle.rwlock_machine.specs.declared.program.End.{End}
+use Rattle.rwlock_machine.specs.declared.program.End.TheVariants.{Got}
+use Rattle.rwlock_machine.specs.declared.program.Next.{Next}
+use Rattle.rwlock_machine.specs.declared.program.Next.TheVariants as next
+use Rattle.rwlock_machine.specs.Program.{start_of}
+use Rattle.rwlock_machine.specs.Machine.{RwLock, place_at}
+use Rattle.rwlock_machine.specs.Acts.{Acts, IsAtRest, readers, marked}
+
+-- A party inside a call goes on with it alone, always finding memory, until the call ends so and leaves this lock.
+pub data GoesOnAlone (p : ℕ) (e : End) (new : RwLock) : RwLock → Type 0 where
+  last : (old : RwLock) (starving : Bool) (to : Place) → Acts true starving p (place_at old.places p) (next.End e to) old new → GoesOnAlone p e new old
+  step : (old mid : RwLock) (starving : Bool) (a : Action) (to : Place) → Acts true starving p (place_at old.places p) (next.Do a to) old mid → GoesOnAlone p e new mid → GoesOnAlone p e new old
+
+-- The first action of a party's poll.
+abbrev pub BeginsPoll : Bool → ℕ → Next → RwLock → RwLock → Type 0
+BeginsPoll starving p n old new = IsSomeAnd (start_of call.Poll (place_at old.places p)) (λ from. Acts true starving p from n old new)
+
+-- A party's poll is carried out alone, always finding memory: it begins at the old lock, ends so, and leaves the new one.
+pub data PollsAlone (p : ℕ) (e : End) (new : RwLock) : RwLock → Type 0 where
+  at_once : (old : RwLock) (starving : Bool) (to : Place) → BeginsPoll starving p (next.End e to) old new → PollsAlone p e new old
+  begun : (old mid : RwLock) (starving : Bool) (a : Action) (to : Place) → BeginsPoll starving p (next.Do a to) old mid → GoesOnAlone p e new mid → PollsAlone p e new old
+
+-- A party that is pending in one of the lists.
+abbrev pub waits_to_read : Place → Bool
+waits_to_read AskNoWriter = true
+waits_to_read _ = false
+
+abbrev pub waits_to_write : Place → Bool
+waits_to_write (AwaitNoReaders upgrade) = true
+waits_to_write _ = false
+
+-- And has been notified there.
+abbrev pub IsCalledToRead : RwLock → ℕ → Type 0
+IsCalledToRead v p = (waits_to_read (place_at v.places p) ≡ true) × (is_marked_at (is_party p) v.no_writer ≡ true)
+
+abbrev pub IsCalledToWrite : RwLock → ℕ → Type 0
+IsCalledToWrite v p = (waits_to_write (place_at v.places p) ≡ true) × (is_marked_at (is_party p) v.no_readers ≡ true)
+
+-- The poll was ready, and its party has this right.
+abbrev pub Took : ℕ → Place → End → RwLock → Type 0
+Took p right e new = (e ≡ Got) × (place_at new.places p ≡ right)
+
+-- What polls that are carried out alone do to a lock that is free for them.
+pub record SoloPolls (v : RwLock) : Type 0 where
+  -- Where the bit is clear and readers are below their limit, such a poll of a notified reader reads.
+  pub reads : marked v ≡ 0 → readers v < v.limit → (p : ℕ) (e : End) (new : RwLock) → IsCalledToRead v p → PollsAlone p e new v → Took p Reading e new
+  -- Where no reader is left, such a poll of a party that waits for this writes, notified or not.
+  pub writes : readers v ≡ 0 → (p : ℕ) (e : End) (new : RwLock) → waits_to_write (place_at v.places p) ≡ true → PollsAlone p e new v → Took p Writing e new
+  -- At rest, where somebody waits in a list for something free, some party there has been notified.
+  pub some_reader_called : IsAtRest v → marked v ≡ 0 → 0 < length v.no_writer → (p : ℕ) × IsCalledToRead v p
+  pub some_writer_called : IsAtRest v → readers v ≡ 0 → 0 < length v.no_readers → (p : ℕ) × IsCalledToWrite v p

@@ -1,0 +1,320 @@
+//! The machine of a read-write lock: its word, its two lists, the turn, and where each party stands in
+//! its program.
+//!
+//! A World stands on it. What it may rest on is said by the contracts alone: every step is one of the
+//! programs' (specs/Acts), [`RwLock::laws`] says what always holds, and a call that its party carries
+//! out alone ends in time (specs/Ranks). The turn is a mutex machine, of which this one uses no more
+//! than its contracts say.
+
+ghost use Rattle.std.specs.Prelude.{◌≡◌, ◌<◌, false, length, slice_get, replicate, IfOk, IsSome, IsSomeAnd};
+ghost use Rattle.lock_queue.specs.Parties.{entries_of};
+ghost use Rattle.mutex_machine.specs.Acts.{TakenFairly};
+ghost use Rattle.rwlock_machine.specs.declared.program.Place.TheVariants as place;
+ghost use Rattle.rwlock_machine.specs.declared.program.Found.TheVariants.{NoMemory};
+ghost use Rattle.rwlock_machine.specs.Program.{start_of, place_after};
+ghost use Rattle.rwlock_machine.specs.Roles.{bit};
+ghost use Rattle.rwlock_machine.specs.Effects.{OnWord, CanDo};
+ghost use Rattle.rwlock_machine.specs.Parties.{Joins, Asks, OnNoWriter, OnNoReaders};
+ghost use Rattle.rwlock_machine.specs.Turns.{OnTurn};
+ghost use Rattle.rwlock_machine.specs.Machine.{SameRoles, place_at, new_rwlock};
+ghost use Rattle.rwlock_machine.specs.Acts.{Acts, IsRwLock, readers as readers_lem, marked};
+ghost use Rattle.rwlock_machine.specs.Solo.{SoloPolls};
+ghost use Rattle.rwlock_machine.specs.Ranks.{left_from, left_after, steps_left, most_steps};
+
+use crate::program::{Action, Found, Next, Place, RwCall, action_at, decide, start};
+use crate::word::Word;
+use lock_event::Entry;
+use lock_queue::WaitQueue;
+use mutex_machine::Lock;
+use std::alloc::{AllocError, Global};
+use std::marker::Model;
+
+/// A read-write lock without a value, and the place of each of its parties.
+#[derive(Drop)]
+pub struct RwLock {
+    word: Word,
+    places: Vec<Place>,
+    no_writer: WaitQueue,
+    no_readers: WaitQueue,
+    turn: Lock,
+}
+
+impl Model for RwLock {
+    ghost use Rattle.rwlock_machine.specs.Machine.{RwLock, IsMachine};
+
+    ghost Value = { RwLock };
+
+    ghost view = { λ m. record { places = m.places.items; no_writer = m.no_writer.entries; no_readers = m.no_readers.entries; turn = m.turn; limit = m.word.limit } };
+
+    ghost invariant = { λ m. IsMachine m.word m.places.items m.no_writer m.no_readers m.turn };
+}
+
+/// The party joins the list, if there is memory for it.
+fn join(list: &mut WaitQueue, party: u32, memory: bool) -> Found
+    requires known { party < list.old.parties }
+    requires out { entries_of party list.old.entries ≡ 0 }
+    ensures list { Joins party result list.old.entries list.new.entries }
+    ensures parties { list.new.parties ≡ list.old.parties }
+    ensures memory { result ≡ NoMemory → memory ≡ false }
+{
+    if memory {
+        list.join(party);
+        Found::Done
+    } else {
+        Found::NoMemory
+    }
+}
+
+/// The party asks for its notification.
+fn ask(list: &mut WaitQueue, party: u32) -> Found
+    requires known { party < list.old.parties }
+    requires listed { 0 < entries_of party list.old.entries }
+    ensures list { Asks party result list.old.entries list.new.entries }
+    ensures parties { list.new.parties ≡ list.old.parties }
+{
+    if list.ask(party) {
+        Found::Yes
+    } else {
+        Found::No
+    }
+}
+
+/// Carries out one action for a party.
+fn carry_out(
+    word: &mut Word,
+    no_writer: &mut WaitQueue,
+    no_readers: &mut WaitQueue,
+    turn: &mut Lock,
+    party: u32,
+    action: Action,
+    memory: bool,
+    starving: bool,
+) -> Found
+    requires { CanDo party action word.old no_writer.old no_readers.old turn.old }
+    ensures word { OnWord action result word.old word.new }
+    ensures no_writer { OnNoWriter party action result no_writer.old.entries no_writer.new.entries }
+    ensures no_readers { OnNoReaders party action result no_readers.old.entries no_readers.new.entries }
+    ensures parties_w { no_writer.new.parties ≡ no_writer.old.parties }
+    ensures parties_r { no_readers.new.parties ≡ no_readers.old.parties }
+    ensures turn { OnTurn memory starving party action result turn.old turn.new }
+    ensures memory { result ≡ NoMemory → memory ≡ false }
+{
+    match action {
+        Action::Nothing => Found::Done,
+        Action::Read => word.read(),
+        Action::Add => word.add(),
+        Action::Off => word.off(),
+        Action::Load => word.load(),
+        Action::Mark => word.mark(),
+        Action::TryWrite => word.try_write(),
+        Action::TryUpgrade => word.try_upgrade(),
+        Action::Upgrade => word.upgrade(),
+        Action::Down => word.down(),
+        Action::Unmark => word.unmark(),
+        Action::JoinNoWriter => join(no_writer, party, memory),
+        Action::AskNoWriter => ask(no_writer, party),
+        Action::LeaveNoWriter => {
+            no_writer.leave(party);
+            Found::Done
+        }
+        Action::NotifyNoWriter => {
+            no_writer.notify(1);
+            Found::Done
+        }
+        Action::JoinNoReaders => join(no_readers, party, memory),
+        Action::AskNoReaders => ask(no_readers, party),
+        Action::LeaveNoReaders => {
+            no_readers.leave(party);
+            Found::Done
+        }
+        Action::NotifyNoReaders => {
+            no_readers.notify(1);
+            Found::Done
+        }
+        Action::Begin(call) => Found::Turn(turn.begin(party, call, memory, starving)),
+        Action::Go => Found::Turn(turn.go(party, memory, starving)),
+    }
+}
+
+/// So many parties, each of which is out.
+fn all_out(alloc: Global, parties: u32) -> Result<Vec<Place>, AllocError>
+    ensures { IfOk result (λ v. v.items ≡ replicate parties place.Out) }
+{
+    let mut places = Vec::new(alloc);
+    places.resize(parties as usize, Place::Out)?;
+    Ok(places)
+}
+
+impl RwLock {
+    /// A free lock for so many parties, numbered from 0, none of which has called yet; at most `starved`
+    /// of them may be starved for the turn at a time, and at most `readers` may read. Refused for memory
+    /// alone; afterwards no step needs any.
+    pub fn new(
+        alloc: Global,
+        parties: u32,
+        starved: u32,
+        readers: u32,
+    ) -> Result<RwLock, AllocError>
+        ensures { IfOk result (λ l. l ≡ new_rwlock parties starved readers) }
+    {
+        let places = all_out(alloc, parties)?;
+        let no_writer = WaitQueue::new(alloc, parties)?;
+        let no_readers = WaitQueue::new(alloc, parties)?;
+        let turn = Lock::new(alloc, parties, starved)?;
+        Ok(RwLock {
+            word: Word::new(readers),
+            places,
+            no_writer,
+            no_readers,
+            turn,
+        })
+    }
+
+    /// Begins a call of a party with its first action. `memory` says whether a join finds memory,
+    /// `starving` whether the party has waited for the turn for too long. The caller begins a call only
+    /// where the party's place allows it. If only this party moves until the call ends, it has at most
+    /// so many steps as `bounded` says.
+    pub fn begin(&mut self, party: u32, call: RwCall, memory: bool, starving: bool) -> Next
+        requires known { party < length self.old.places }
+        requires can { IsSome (start_of call (place_at self.old.places party)) }
+        ensures acts { IsSomeAnd (start_of call (place_at self.old.places party)) (λ from. Acts memory starving party from result self.old self.new) }
+        ensures fair { TakenFairly self.old.turn self.new.turn }
+        ensures bounded { left_after result self.new party < most_steps call }
+    {
+        match start(call, self.place(party)) {
+            Some(from) => self.act(party, from, memory, starving),
+            None => unreachable!(),
+        }
+    }
+
+    /// Goes on with a call of a party, by one action, with the inputs as [`RwLock::begin`] takes them. It
+    /// leaves fewer steps to do (`falls`), so that a party that moves alone ends its call, whatever the
+    /// others were about.
+    pub fn go(&mut self, party: u32, memory: bool, starving: bool) -> Next
+        requires known { party < length self.old.places }
+        ensures acts { Acts memory starving party (place_at self.old.places party) result self.old self.new }
+        ensures fair { TakenFairly self.old.turn self.new.turn }
+        ensures falls { left_after result self.new party < steps_left self.old party }
+    {
+        self.act(party, self.place(party), memory, starving)
+    }
+
+    /// How many parties there are.
+    pub fn parties(&self) -> usize
+        ensures { result ≡ length self.now.places }
+    {
+        self.places.len()
+    }
+
+    /// Where a party stands in its program.
+    pub fn place(&self, party: u32) -> Place
+        requires { party < length self.now.places }
+        ensures { result ≡ place_at self.now.places party }
+    {
+        self.places[party as usize]
+    }
+
+    /// Whether the writer's bit is set.
+    pub fn is_writer_marked(&self) -> bool
+        ensures { bit result ≡ marked self.now }
+    {
+        self.word.writer
+    }
+
+    /// How many readers there are.
+    pub fn readers(&self) -> u32
+        ensures { result ≡ readers_lem self.now }
+    {
+        self.word.readers
+    }
+
+    /// The mutex that is the turn.
+    pub fn turn(&self) -> &Lock
+        ensures { result.now ≡ self.now.turn }
+    {
+        &self.turn
+    }
+
+    /// How many entries the list has of those that wait for no writer.
+    pub fn no_writer_len(&self) -> usize
+        ensures { result ≡ length self.now.no_writer }
+    {
+        self.no_writer.len()
+    }
+
+    /// The entry at this place of that list, counted from the front: the party, and what it has been
+    /// told. None past the last.
+    pub fn no_writer_entry(&self, index: usize) -> Option<Entry<u32>>
+        ensures { result ≡ slice_get self.now.no_writer index }
+    {
+        self.no_writer.entry(index)
+    }
+
+    /// How many entries the list has of those that wait for no readers.
+    pub fn no_readers_len(&self) -> usize
+        ensures { result ≡ length self.now.no_readers }
+    {
+        self.no_readers.len()
+    }
+
+    /// The entry at this place of that list, as [`RwLock::no_writer_entry`] gives one.
+    pub fn no_readers_entry(&self, index: usize) -> Option<Entry<u32>>
+        ensures { result ≡ slice_get self.now.no_readers index }
+    {
+        self.no_readers.entry(index)
+    }
+
+    /// What always holds of a read-write lock. It does nothing.
+    pub fn laws(&self)
+        ensures { IsRwLock self.now }
+    {
+        self.turn.laws();
+        self.no_writer.laws();
+        self.no_readers.laws();
+    }
+
+    /// What a poll does that is carried out alone where the lock is free for it: it takes the right. It
+    /// does nothing.
+    pub fn solo_polls(&self)
+        ensures { SoloPolls self.now }
+    {
+        self.laws();
+    }
+
+    /// One action of a party's program, whose place was `from`.
+    fn act(&mut self, party: u32, from: Place, memory: bool, starving: bool) -> Next
+        requires known { party < length self.old.places }
+        requires begins { SameRoles from (place_at self.old.places party) }
+        ensures acts { Acts memory starving party from result self.old self.new }
+        ensures fair { TakenFairly self.old.turn self.new.turn }
+        ensures falls { left_after result self.new party < left_from from self.old party }
+    {
+        let at = party as usize;
+        self.turn.laws();
+        let found = carry_out(
+            &mut self.word,
+            &mut self.no_writer,
+            &mut self.no_readers,
+            &mut self.turn,
+            party,
+            action_at(from),
+            memory,
+            starving,
+        );
+        let next = decide(from, found);
+        self.places[at] = after(next);
+        next
+    }
+}
+
+/// Where a party stands after this.
+fn after(next: Next) -> Place
+    ensures { result ≡ place_after next }
+{
+    match next {
+        Next::Do(_, place) | Next::End(_, place) => place,
+    }
+}
+
+#[cfg(test)]
+mod tests;
