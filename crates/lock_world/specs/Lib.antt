@@ -6,4 +6,3 @@ pub mod Runs
 pub mod Whole
 pub mod Frame
 pub mod Rosters
-pub mod Accounts
