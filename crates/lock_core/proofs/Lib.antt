@@ -1,1 +1,2 @@
 pub mod MutexWorld
+pub mod RwLockWorld

@@ -1,1 +1,2 @@
 pub mod Mutex
+pub mod RwLock

@@ -4,7 +4,9 @@
 //! handed on here.
 #![tactic(auto)]
 
+mod answers;
 pub mod mutex;
+pub mod rwlock;
 
 pub use lock_event::{Entry, Mark, Memory};
 pub use lock_world::{Answer, AnyWorld, Call, Got, Inputs, Made, Move, Refusal, What};

@@ -16,6 +16,7 @@ ghost use Rattle.lock_core.specs.Mutex.Runs.{Runs, rights_of};
 ghost use Rattle.lock_core.specs.Mutex.Whole.{IsWholeCall};
 ghost use Rattle.lock_core.specs.Mutex.Bound.{IsSolo, SoloPoll, IsBounded};
 
+use crate::answers::push_within;
 use lock_event::{Entry, Memory};
 use lock_world::{Answer, AnyWorld, Call, Inputs, Move, Refusal};
 use std::alloc::Global;
@@ -267,18 +268,6 @@ impl AnyWorld for World {
 
     fn at_rest(&self) -> bool {
         World::at_rest(self)
-    }
-}
-
-/// Adds an answer, for which there is room.
-fn push_within(answers: &mut Vec<Answer>, answer: Answer)
-    requires { vec_len answers.old < vec_capacity answers.old }
-    ensures items { answers.new.items ≡ answers.old.items ++ answer ∷ [] }
-    ensures room { vec_capacity answers.old ≤ vec_capacity answers.new }
-{
-    match answers.push(answer) {
-        Ok(()) => {}
-        Err(_) => unreachable!(),
     }
 }
 

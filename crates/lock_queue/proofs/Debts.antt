@@ -1,8 +1,8 @@
 -- A debt to a waiting list lives until somebody pays it, and at rest it is paid.
-use Rattle.std.proofs.Common.{◌≡◌, ℕ, ◌+◌, ◌-◌, ◌<◌, ◌≤◌, zero, suc, List, [], ◌∷◌, refl, arith}
+use Rattle.std.proofs.Common.{◌≡◌, ℕ, ◌+◌, ◌<◌, ◌≤◌, zero, suc, List, [], ◌∷◌, refl, arith}
 use Rattle.std.specs.List.{sum_by}
 use Rattle.std.proofs.lemmas.List.Sums.{sum_by-cons}
-use Rattle.lock_queue.specs.Debts.{IsOwed, Roles, Rests, AllRest}
+use Rattle.lock_queue.specs.Debts.{IsOwed, Roles, AllRest}
 
 module _ {P : Type 0} (r : Roles P) where
   pub all_rest : (ps : List P) → AllRest r ps → (sum_by r.owes ps ≡ 0) × (sum_by r.waits ps ≡ sum_by r.listed ps)

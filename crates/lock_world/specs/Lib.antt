@@ -6,3 +6,5 @@ pub mod Runs
 pub mod Whole
 pub mod Frame
 pub mod Rosters
+pub mod Accounts
+pub mod Bounds

@@ -16,3 +16,4 @@ pub mod Callers
 pub mod Seen
 pub mod Rows
 pub mod Legal
+pub mod Parts

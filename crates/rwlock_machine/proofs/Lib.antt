@@ -14,4 +14,5 @@ pub mod Laws
 pub mod Lowers
 pub mod Falls
 pub mod Alone
+pub mod SoloTurns
 pub mod Solo

@@ -6,6 +6,10 @@ use Rattle.std.proofs.lemmas.List.Sums.{sum_by-set}
 use Rattle.lock_event.specs.declared.event.Entry.{Entry}
 use Rattle.lock_event.specs.Lists.{is_marked_at}
 use Rattle.lock_queue.specs.Parties.{is_party}
+use Rattle.mutex_machine.specs.declared.program.Place.{Place as TurnPlace}
+use Rattle.mutex_machine.specs.Roles.{listed}
+use Rattle.mutex_machine.specs.Machine.{place_at as turn_at}
+use Rattle.mutex_machine.proofs.Callers.{out_unlisted, holding_unlisted}
 use Rattle.mutex_machine.proofs.SoloPolls.{first_marked}
 use Rattle.rwlock_machine.specs.declared.program.Place.{Place}
 use Rattle.rwlock_machine.specs.declared.program.Place.TheVariants.{Out, Made, Reading, Upgradable, Writing, EnterRead, AskNoWriter, PassOn, WaitTurn, AwaitNoReaders, LookUnlisted, LeaveNoReaders}
@@ -17,11 +21,12 @@ use Rattle.rwlock_machine.specs.declared.program.End.TheVariants.{Got}
 use Rattle.rwlock_machine.specs.declared.program.Next.{Next}
 use Rattle.rwlock_machine.specs.declared.program.Next.TheVariants as next
 use Rattle.rwlock_machine.specs.Program.{next_of, place_after, go_to, ends}
-use Rattle.rwlock_machine.specs.Roles.{reads, marks, in_no_writer, in_no_readers, is_resting}
+use Rattle.rwlock_machine.specs.Roles.{reads, marks, in_no_writer, in_no_readers, fits_turn, is_resting}
 use Rattle.rwlock_machine.specs.Parties.{OnNoWriter}
 use Rattle.rwlock_machine.specs.Machine.{RwLock, place_at}
 use Rattle.rwlock_machine.specs.Acts.{Acts, Finds, IsRwLock, readers, marked}
-use Rattle.rwlock_machine.specs.Solo.{GoesOnAlone, last, step, PollsAlone, at_once, begun, waits_to_read, waits_to_write, Took, SoloPolls}
+use Rattle.rwlock_machine.specs.Solo.{GoesOnAlone, last, step, PollsAlone, at_once, begun, waits_to_read, waits_to_write, waits_for_turn, Took, SoloPolls}
+use Rattle.rwlock_machine.proofs.SoloTurns.{either, must_take}
 
 module _ (p : ℕ) (v : RwLock) where
   -- since v only this party has moved, and it stands at x
@@ -113,7 +118,7 @@ reader_at : (x : Place) → waits_to_read x ≡ true → x ≡ AskNoWriter
 reader_at AskNoWriter h = refl
 reader_at _ h = absurd (cc)
 
-writer_at : (x : Place) → waits_to_write x ≡ true → (upgrade : Bool) × (x ≡ AwaitNoReaders upgrade)
+pub writer_at : (x : Place) → waits_to_write x ≡ true → (upgrade : Bool) × (x ≡ AwaitNoReaders upgrade)
 writer_at (AwaitNoReaders upgrade) h = (upgrade, refl)
 writer_at _ h = absurd (cc)
 
@@ -176,11 +181,25 @@ pending_r (WaitTurn q) h there = absurd (omega arith)
 pending_r (LookUnlisted upgrade) h there = absurd (omega arith)
 pending_r _ h there = absurd (cc)
 
+pending_t : (x : Place) (t : TurnPlace) → is_resting x ≡ true → fits_turn x t ≡ true → 0 < listed t → waits_for_turn x ≡ true
+pending_t (WaitTurn q) t h fits there = refl
+pending_t AskNoWriter t h fits there = absurd (omega (arith, there, out_unlisted t fits))
+pending_t Out t h fits there = absurd (omega (arith, there, out_unlisted t fits))
+pending_t (Made w) t h fits there = absurd (omega (arith, there, out_unlisted t fits))
+pending_t Reading t h fits there = absurd (omega (arith, there, out_unlisted t fits))
+pending_t Upgradable t h fits there = absurd (omega (arith, there, holding_unlisted t fits))
+pending_t Writing t h fits there = absurd (omega (arith, there, holding_unlisted t fits))
+pending_t (AwaitNoReaders upgrade) t h fits there = absurd (omega (arith, there, holding_unlisted t fits))
+pending_t (LookUnlisted upgrade) t h fits there = absurd (omega (arith, there, holding_unlisted t fits))
+pending_t _ t h fits there = absurd (cc)
+
 -- what polls do that are carried out alone
 pub solo_polls : (v : RwLock) → IsRwLock v → SoloPolls v
 solo_polls v laws = record {
   reads = λ free below p e new called polls. reader_polls p e new v free below called.0 called.1 polls;
   writes = λ none p e new waits polls. writer_polls p e new v none waits polls;
+  takes_turn_or_gives_way = λ free below p e new called polls. either p e new v laws free below called polls;
+  takes_turn = λ free below p e new called why polls. must_take p e new v laws free below called why polls;
   some_reader_called = λ rest free some.
       let found = first_marked v.no_writer laws.in_order_no_writer (laws.wakes_no_writer rest free some) in
       let there : 0 < in_no_writer (place_at v.places found.0) = omega (arith, laws.owners_no_writer found.0, found.2) in
@@ -189,4 +208,8 @@ solo_polls v laws = record {
       let found = first_marked v.no_readers laws.in_order_no_readers (laws.wakes_no_readers rest free some) in
       let there : 0 < in_no_readers (place_at v.places found.0) = omega (arith, laws.owners_no_readers found.0, found.2) in
       (found.0, (pending_r (place_at v.places found.0) (rest found.0) there, found.1));
+  some_turn_called = λ rest free some.
+      let found = first_marked v.turn.entries laws.turn.in_order (laws.wakes_turn rest free some) in
+      let there : 0 < listed (turn_at v.turn.places found.0) = omega (arith, laws.turn.owners found.0, found.2) in
+      (found.0, (pending_t (place_at v.places found.0) (turn_at v.turn.places found.0) (rest found.0) (laws.in_turn found.0) there, found.1));
 }

@@ -1,13 +1,17 @@
 -- Polls that are carried out alone, each from its first action to its end before another party moves.
-use Rattle.std.specs.Prelude.{◌≡◌, ℕ, ◌<◌, Bool, true, false, length, IsSomeAnd}
+use Rattle.std.specs.Prelude.{◌≡◌, ℕ, ◌<◌, ◌⊎◌, Bool, true, false, length, slice_set, IsSomeAnd}
 use Rattle.lock_event.specs.Lists.{is_marked_at}
 use Rattle.lock_queue.specs.Parties.{is_party}
+use Rattle.lock_world.specs.declared.refusal.Refusal.TheVariants.{Starved}
+use Rattle.mutex_machine.specs.declared.program.End.TheVariants as turn_end
+use Rattle.mutex_machine.specs.Acts.{IsStarved, holders, starved}
+use Rattle.mutex_machine.specs.Solo.{GaveWay}
 use Rattle.rwlock_machine.specs.declared.program.Place.{Place}
-use Rattle.rwlock_machine.specs.declared.program.Place.TheVariants.{Reading, Writing, AskNoWriter, AwaitNoReaders}
+use Rattle.rwlock_machine.specs.declared.program.Place.TheVariants.{Made, Reading, Upgradable, Writing, AskNoWriter, WaitTurn, AwaitNoReaders}
 use Rattle.rwlock_machine.specs.declared.program.Action.{Action}
 use Rattle.rwlock_machine.specs.declared.program.RwCall.TheVariants as call
 use Rattle.rwlock_machine.specs.declared.program.End.{End}
-use Rattle.rwlock_machine.specs.declared.program.End.TheVariants.{Got}
+use Rattle.rwlock_machine.specs.declared.program.End.TheVariants.{Got, Pending, Refused}
 use Rattle.rwlock_machine.specs.declared.program.Next.{Next}
 use Rattle.rwlock_machine.specs.declared.program.Next.TheVariants as next
 use Rattle.rwlock_machine.specs.Program.{start_of}
@@ -37,6 +41,10 @@ abbrev pub waits_to_write : Place → Bool
 waits_to_write (AwaitNoReaders upgrade) = true
 waits_to_write _ = false
 
+abbrev pub waits_for_turn : Place → Bool
+waits_for_turn (WaitTurn purpose) = true
+waits_for_turn _ = false
+
 -- And has been notified there.
 abbrev pub IsCalledToRead : RwLock → ℕ → Type 0
 IsCalledToRead v p = (waits_to_read (place_at v.places p) ≡ true) × (is_marked_at (is_party p) v.no_writer ≡ true)
@@ -44,9 +52,37 @@ IsCalledToRead v p = (waits_to_read (place_at v.places p) ≡ true) × (is_marke
 abbrev pub IsCalledToWrite : RwLock → ℕ → Type 0
 IsCalledToWrite v p = (waits_to_write (place_at v.places p) ≡ true) × (is_marked_at (is_party p) v.no_readers ≡ true)
 
+abbrev pub IsCalledToTurn : RwLock → ℕ → Type 0
+IsCalledToTurn v p = (waits_for_turn (place_at v.places p) ≡ true) × (is_marked_at (is_party p) v.turn.entries ≡ true)
+
 -- The poll was ready, and its party has this right.
 abbrev pub Took : ℕ → Place → End → RwLock → Type 0
 Took p right e new = (e ≡ Got) × (place_at new.places p ≡ right)
+
+-- The poll took the turn: its party is upgradable or writes, or is pending until no reader is left.
+abbrev pub TookTurn : ℕ → End → RwLock → Type 0
+TookTurn p Got new = (place_at new.places p ≡ Upgradable) ⊎ (place_at new.places p ≡ Writing)
+TookTurn p Pending new = waits_to_write (place_at new.places p) ≡ true
+TookTurn p _ new = ⊥
+
+-- A future that is in no list stands here, as when it was made.
+abbrev pub is_made : Place → Bool
+is_made (Made wanted) = true
+is_made _ = false
+
+-- A party that gave way in the turn's mutex waits for the turn as before; or it was refused, since no more parties may be starved, and its future is as when it was made.
+abbrev pub StandsBack : ℕ → RwLock → End → RwLock → Type 0
+StandsBack p old Pending new = GaveWay p old.turn turn_end.Pending new.turn × (place_at new.places p ≡ place_at old.places p)
+StandsBack p old (Refused Starved) new = GaveWay p old.turn (turn_end.Refused Starved) new.turn × (is_made (place_at new.places p) ≡ true)
+StandsBack p old _ new = ⊥
+
+-- The poll gave way, and did nothing but in the turn.
+pub record GaveTurnWay (p : ℕ) (old : RwLock) (e : End) (new : RwLock) : Type 0 where
+  pub stands_back : StandsBack p old e new
+  pub places : new.places ≡ slice_set old.places p (place_at new.places p)
+  pub no_writer : new.no_writer ≡ old.no_writer
+  pub no_readers : new.no_readers ≡ old.no_readers
+  pub limit : new.limit ≡ old.limit
 
 -- What polls that are carried out alone do to a lock that is free for them.
 pub record SoloPolls (v : RwLock) : Type 0 where
@@ -54,6 +90,11 @@ pub record SoloPolls (v : RwLock) : Type 0 where
   pub reads : marked v ≡ 0 → readers v < v.limit → (p : ℕ) (e : End) (new : RwLock) → IsCalledToRead v p → PollsAlone p e new v → Took p Reading e new
   -- Where no reader is left, such a poll of a party that waits for this writes, notified or not.
   pub writes : readers v ≡ 0 → (p : ℕ) (e : End) (new : RwLock) → waits_to_write (place_at v.places p) ≡ true → PollsAlone p e new v → Took p Writing e new
+  -- Where nobody has the turn and readers are below their limit, such a poll of a party that was notified for the turn takes it or gives way,
+  pub takes_turn_or_gives_way : holders v.turn ≡ 0 → readers v < v.limit → (p : ℕ) (e : End) (new : RwLock) → IsCalledToTurn v p → PollsAlone p e new v → TookTurn p e new ⊎ GaveTurnWay p v e new
+  -- and takes it if its party is starved, or if nobody is.
+  pub takes_turn : holders v.turn ≡ 0 → readers v < v.limit → (p : ℕ) (e : End) (new : RwLock) → IsCalledToTurn v p → IsStarved v.turn p ⊎ (starved v.turn ≡ 0) → PollsAlone p e new v → TookTurn p e new
   -- At rest, where somebody waits in a list for something free, some party there has been notified.
   pub some_reader_called : IsAtRest v → marked v ≡ 0 → 0 < length v.no_writer → (p : ℕ) × IsCalledToRead v p
   pub some_writer_called : IsAtRest v → readers v ≡ 0 → 0 < length v.no_readers → (p : ℕ) × IsCalledToWrite v p
+  pub some_turn_called : IsAtRest v → holders v.turn ≡ 0 → 0 < length v.turn.entries → (p : ℕ) × IsCalledToTurn v p

@@ -273,8 +273,9 @@ impl RwLock {
         self.no_readers.laws();
     }
 
-    /// What a poll does that is carried out alone where the lock is free for it: it takes the right. It
-    /// does nothing.
+    /// What a poll does that is carried out alone where the lock is free for it: a notified reader reads,
+    /// one that waits for readers writes, and one that was notified for the turn takes it or gives way to
+    /// a party that is starved for it. It does nothing.
     pub fn solo_polls(&self)
         ensures { SoloPolls self.now }
     {

@@ -1,9 +1,10 @@
 ghost use Rattle.std.specs.Prelude.{◌≡◌};
 ghost use Rattle.lock_core.specs.Mutex.State.{opening_of};
+ghost use Rattle.lock_core.specs.RwLock.State.{opening_of as rwlock_opening_of};
 
 use super::*;
 use lock_core::mutex::World;
-use lock_core::{Call, Got, Inputs, Made, Mark, What};
+use lock_core::{Call, Got, Inputs, Made, Mark, What, rwlock};
 use std::process::Abort;
 
 const INPUTS: Inputs = Inputs {
@@ -116,4 +117,38 @@ fn a_dropped_waiter_passes_its_notification_on(rt: HostRuntime) {
     }
     let next = book.world().entry(0).map(|entry| (entry.key, entry.mark));
     assert_eq!(rt; next, Some((2, Mark::Notified)));
+}
+
+/// A read-write lock's World, made again once where memory was refused.
+fn rwlock_world(rt: &(impl AllocGlobal + Abort)) -> rwlock::World
+    ensures { result ≡ rwlock_opening_of result }
+{
+    match rwlock::World::new(rt.alloc(), 2, 3) {
+        Ok(world) => world,
+        Err(_) => rwlock::World::new(rt.alloc(), 2, 3).expect(rt, "only one allocation is refused"),
+    }
+}
+
+#[test]
+fn a_book_takes_any_world(rt: HostRuntime) {
+    let mut book = Book::new(rt.alloc(), rwlock_world(&rt));
+    let moves = [
+        (begin(0, Call::TryRead), Answer::Granted(Got::Value(3))),
+        (begin(1, Call::TryRead), Answer::Granted(Got::Value(3))),
+        (begin(1, Call::Drop), Answer::GivenBack),
+        (begin(0, Call::Drop), Answer::Stepped),
+        (go(0), Answer::GivenBack),
+    ];
+    for (m, answer) in moves.iter() {
+        let given = match book.record(*m) {
+            Ok(given) => given,
+            Err(Memory) => book
+                .record(*m)
+                .expect(&rt, "only one allocation is refused"),
+        };
+        assert_eq!(rt; given, *answer, "{m:?}");
+    }
+    book.replays();
+    assert_eq!(rt; book.history().len(), 5);
+    assert_eq!(rt; book.world().readers(), 0);
 }

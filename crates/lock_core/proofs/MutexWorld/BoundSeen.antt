@@ -1,12 +1,8 @@
 -- What a poll that is carried out alone does to a free lock, as callers see it.
-use Rattle.std.proofs.Common.{◌≡◌, ℕ, zero, suc, ◌-◌, ◌<◌, ◌⊎◌, inl, inr, if◌then◌else◌, Bool, true, false, List, [], ◌∷◌, length, None, refl, sym, ap, ◌∙◌, subst, arith, ◌&&◌}
+use Rattle.std.proofs.Common.{◌≡◌, ℕ, ◌<◌, ◌⊎◌, inl, inr, true, length, None, refl, sym, ap, ◌∙◌, subst, arith}
 use Rattle.std.proofs.Math.ListN.{set}
-use Rattle.std.specs.List.{sum_by, list_all}
-use Rattle.std.proofs.lemmas.List.Sums.{sum_by-cons}
-use Rattle.std.proofs.lemmas.Bool.Decides.{nat_tests}
-use Rattle.lock_event.specs.declared.event.Entry.{Entry}
-use Rattle.lock_event.specs.Lists.{is_marked_at}
-use Rattle.lock_queue.specs.Parties.{is_party, entries_of}
+use Rattle.std.specs.List.{list_all}
+use Rattle.lock_queue.specs.Parties.{entries_of}
 use Rattle.mutex_machine.specs.declared.program.Place.{Place}
 use Rattle.mutex_machine.specs.declared.program.End.{End}
 use Rattle.mutex_machine.specs.declared.program.End.TheVariants as «end»
@@ -24,12 +20,12 @@ use Rattle.lock_world.specs.declared.standing.Rest.TheVariants as rest
 use Rattle.lock_world.specs.declared.standing.Stage.{Stage}
 use Rattle.lock_world.specs.declared.standing.Stage.TheVariants.{Outside, Inside, Forgotten}
 use Rattle.lock_world.specs.Standings.{outside, is_outside_stage}
-use Rattle.mutex_machine.specs.Roles.{bit, holds, counted, listed}
+use Rattle.mutex_machine.specs.Roles.{bit, holds, listed}
 use Rattle.mutex_machine.specs.Courses.{is_waiting}
 use Rattle.mutex_machine.specs.Machine.{place_at}
 use Rattle.mutex_machine.specs.Acts.{IsMutex, IsStarved, starved}
 use Rattle.lock_core.specs.Mutex.Plans.{answer_of, stage_at, goes_with}
-use Rattle.mutex_machine.specs.Solo.{IsCalled, Took, StandsBack, GaveWay, unstarved}
+use Rattle.mutex_machine.specs.Solo.{IsCalled, Took, StandsBack, GaveWay}
 use Rattle.lock_core.specs.Mutex.Table.{Table, IsTable}
 use Rattle.lock_world.specs.Rosters.{how_many}
 use Rattle.lock_core.specs.Mutex.State.{World, is_starved}
@@ -37,8 +33,11 @@ use Rattle.lock_core.specs.Mutex.Laws.{is_at_rest}
 use Rattle.mutex_machine.specs.State.{is_counted}
 use Rattle.lock_core.specs.Mutex.View.{stands_as, opened, view_of}
 use Rattle.lock_core.specs.Mutex.TableCalls.{WholeCall}
-use Rattle.lock_core.specs.Mutex.Bound.{IsSolo, unstarved_in, Takes, GivesWay, SoloPoll}
+use Rattle.lock_core.specs.Mutex.Bound.{IsSolo, Takes, GivesWay, SoloPoll}
 use Rattle.mutex_machine.proofs.SoloPolls.{solo_polls}
+use Rattle.mutex_machine.proofs.Parts.{gave_way}
+use Rattle.lock_world.proofs.Bounds.{marked_listed}
+use Rattle.lock_world.proofs.Rests.{still_outside}
 use Rattle.lock_core.proofs.MutexWorld.BoundRuns.{Ended, polls_alone}
 use Rattle.lock_core.proofs.MutexWorld.Sound.{rest_seen}
 use Rattle.lock_core.proofs.MutexWorld.Tables.{for_pending}
@@ -54,36 +53,9 @@ pending_stage v (Outside r) x h = ap Outside (rest_eq r rest.Pending h)
 pending_stage v (Inside w) x h = absurd (cc)
 pending_stage v Forgotten x h = absurd (cc)
 
-marked_listed : (p : ℕ) (l : List (Entry ℕ)) → is_marked_at (is_party p) l ≡ true → 0 < entries_of p l
-marked_listed p [] h = absurd (cc)
-marked_listed p (e ∷ es) h = grind (arith, nat_tests, marked_listed p es)
-
-some_listed : (p : ℕ) (l : List (Entry ℕ)) → 0 < entries_of p l → 0 < length l
-some_listed p [] h = absurd (omega arith)
-some_listed p (e ∷ es) h = omega arith
-
 -- a pending party with an entry waits
 waits_listed : (x : Place) → goes_with (Outside rest.Pending) x ≡ true → 0 < listed x → is_waiting x ≡ true
 waits_listed x g = for_pending (λ x. 0 < listed x → is_waiting x ≡ true) (record { out = λ h. absurd (omega arith); ask = λ h. refl; starved = λ h. refl }) x g
-
-split : (a b : Bool) → a && b ≡ true → (a ≡ true) × (b ≡ true)
-split true b h = (refl, h)
-split false b h = absurd (cc)
-
-both : (a b : Bool) → a ≡ true → b ≡ true → a && b ≡ true
-both a b ha hb = rw (ha, hb) refl
-
--- one more party outside leaves all outside
-still_outside : (ss : List Stage) (p : ℕ) (s : Stage) → is_outside_stage s ≡ true → list_all is_outside_stage ss ≡ true → list_all is_outside_stage (set ss p s) ≡ true
-still_outside [] p s h all = refl
-still_outside (x ∷ xs) zero s h all = both (is_outside_stage s) (list_all is_outside_stage xs) h (split (is_outside_stage x) (list_all is_outside_stage xs) all).1
-still_outside (x ∷ xs) (suc p) s h all =
-    let two = split (is_outside_stage x) (list_all is_outside_stage xs) all in
-    both (is_outside_stage x) (list_all is_outside_stage (set xs p s)) two.0 (still_outside xs p s h two.1)
-
-apart : (b : Bool) → (if b then 0 else 1) ≡ 1 - bit b
-apart true = refl
-apart false = refl
 
 module _ (n : ℕ) where
   abbrev shown : Table → World
@@ -91,15 +63,6 @@ module _ (n : ℕ) where
 
   starved_seen : (t : Table) (p : ℕ) → is_starved (shown t).state p ≡ is_counted (place_at t.lock.places p)
   starved_seen t p = sees.starved_at t.lock.places p
-
-  -- the entries of parties that aren't starved are as many
-  unstarved_seen : (t : Table) (es : List (Entry ℕ)) → unstarved_in (shown t).state es ≡ sum_by (λ e. unstarved t.lock e.key) es
-  unstarved_seen t [] = refl
-  unstarved_seen t (e ∷ es) =
-      let x : Place = place_at t.lock.places e.key in
-      let here : (if is_starved (shown t).state e.key then 0 else 1) ≡ 1 - counted x =
-      ap (λ b. if b then 0 else 1) (starved_seen t e.key) ∙ (apart (is_counted x) ∙ ap (λ c. 1 - c) (sees.counted_bit x)) in
-      omega (arith, here, sum_by-cons (λ e. unstarved t.lock e.key) e es, unstarved_seen t es)
 
   module _ (t u : Table) (p : ℕ) (a : Answer) where
     takes_seen : (e : End) → Took p e u.lock → Ended t p a u e → Takes (shown t) p a (shown u)
@@ -116,14 +79,9 @@ module _ (n : ℕ) where
 
     gives_seen : (e : End) → IsTable t.lock t.stages → 0 < entries_of p t.lock.entries → starved t.lock < t.lock.limit → GaveWay p t.lock e u.lock → StandsBack p t.lock e u.lock → Ended t p a u e → GivesWay (shown t) p a (shown u)
     gives_seen «end».Pending tf there below g back k = record {
-      was_unstarved = starved_seen t p ∙ ap is_counted g.unstarved_here;
-      some_starved = rw view.how_many-seen g.starved_there;
       free = sees.none_held 0 u.lock.places g.free;
       pending = k.answer;
-      starved = starved_seen u p ∙ ap is_counted back.0;
-      as_long = back.1;
-      marked = g.notified (omega (arith, back.1, some_listed p t.lock.entries there));
-      fewer = omega (arith, unstarved_seen t t.lock.entries, unstarved_seen u u.lock.entries, g.fewer);
+      gave_way = gave_way p t.lock u.lock g there;
       rests = rests_seen tf k.fits k.stages;
     }
     gives_seen («end».Refused refusal.Starved) tf there below g back k = absurd (omega (arith, back.2))

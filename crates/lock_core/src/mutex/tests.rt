@@ -8,6 +8,22 @@ const INPUTS: Inputs = Inputs {
     made: Made::Pending,
 };
 
+// A World, or where memory for it was refused, what a second try makes. So each test also passes where
+// one allocation fails, whichever it is.
+fn of_parties(alloc: Global, parties: u32, value: u64) -> Result<World, Refusal> {
+    if let Ok(world) = World::new(alloc, parties, value) {
+        return Ok(world);
+    }
+    World::new(alloc, parties, value)
+}
+
+fn limited(alloc: Global, parties: u32, value: u64, starved: u32) -> Result<World, Refusal> {
+    if let Ok(world) = World::with_limits(alloc, parties, value, starved) {
+        return Ok(world);
+    }
+    World::with_limits(alloc, parties, value, starved)
+}
+
 fn begin(world: &mut World, party: u32, call: Call) -> Answer {
     world.step(&Move {
         party,
@@ -28,7 +44,7 @@ fn told(world: &World, index: usize) -> Option<(u32, Mark)> {
 
 #[test]
 fn a_release_wakes_the_next(rt: HostRuntime) -> Result<(), Fail> {
-    let mut world = World::new(rt.alloc(), 2, 0)?;
+    let mut world = of_parties(rt.alloc(), 2, 0)?;
     assert_eq!(rt;
         begin(&mut world, 0, Call::Lock),
         Answer::Ready(Got::Value(0))
@@ -61,7 +77,7 @@ fn a_release_wakes_the_next(rt: HostRuntime) -> Result<(), Fail> {
 
 #[test]
 fn a_move_that_is_not_possible_changes_nothing(rt: HostRuntime) -> Result<(), Fail> {
-    let mut world = World::new(rt.alloc(), 2, 7)?;
+    let mut world = of_parties(rt.alloc(), 2, 7)?;
     assert_eq!(rt;
         begin(&mut world, 0, Call::TryLock),
         Answer::Granted(Got::Value(7))
@@ -98,7 +114,7 @@ fn too_many_starved_parties_are_refused(rt: HostRuntime) -> Result<(), Fail> {
         starving: true,
         ..INPUTS
     };
-    let mut world = World::with_limits(rt.alloc(), 4, 0, 1)?;
+    let mut world = limited(rt.alloc(), 4, 0, 1)?;
     let ready = Answer::Ready(Got::Value(0));
     let granted = Answer::Granted(Got::Value(0));
     assert_eq!(rt; world.poll_whole(0, Call::Lock, INPUTS), ready);
@@ -119,7 +135,7 @@ fn too_many_starved_parties_are_refused(rt: HostRuntime) -> Result<(), Fail> {
 
 #[test]
 fn a_value_put_at_rest_forgets_the_holder(rt: HostRuntime) -> Result<(), Fail> {
-    let mut world = World::new(rt.alloc(), 2, 0)?;
+    let mut world = of_parties(rt.alloc(), 2, 0)?;
     assert_eq!(rt;
         begin(&mut world, 0, Call::TryLock),
         Answer::Granted(Got::Value(0))
@@ -147,7 +163,7 @@ fn a_solo_poll_gives_way_to_a_starved_party_which_takes_the_lock(
         starving: true,
         made: Made::Pending,
     };
-    let mut world = World::with_limits(rt.alloc(), 3, 4, 3)?;
+    let mut world = limited(rt.alloc(), 3, 4, 3)?;
     assert_eq!(rt;
         world.poll_whole(0, Call::Lock, INPUTS),
         Answer::Ready(Got::Value(4))

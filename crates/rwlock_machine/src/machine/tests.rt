@@ -3,6 +3,15 @@ use crate::program::{End, Purpose, Wanted};
 use lock_event::Mark;
 use lock_world::Refusal;
 
+// A lock, or where memory for it was refused, what a second try makes. So each test also passes where
+// one allocation fails, whichever it is.
+fn of_parties(alloc: Global, parties: u32, readers: u32) -> Result<RwLock, AllocError> {
+    if let Ok(lock) = RwLock::new(alloc, parties, 10, readers) {
+        return Ok(lock);
+    }
+    RwLock::new(alloc, parties, 10, readers)
+}
+
 /// The call, carried out to its end by its party alone; None where it may not begin, or takes more than
 /// 32 steps.
 fn whole(lock: &mut RwLock, party: u32, call: RwCall, memory: bool) -> Option<End> {
@@ -33,7 +42,7 @@ fn standing(lock: &RwLock, party: u32) -> Option<Place> {
 
 #[test]
 fn a_new_lock_is_free(rt: HostRuntime) -> Result<(), AllocError> {
-    let lock = RwLock::new(rt.alloc(), 2, 10, 10)?;
+    let lock = of_parties(rt.alloc(), 2, 10)?;
     assert_eq!(rt; lock.parties(), 2);
     assert_eq!(rt; standing(&lock, 1), Some(Place::Out));
     assert!(rt; !lock.is_writer_marked());
@@ -48,7 +57,7 @@ fn a_new_lock_is_free(rt: HostRuntime) -> Result<(), AllocError> {
 
 #[test]
 fn readers_wait_for_a_writer_and_it_for_them(rt: HostRuntime) -> Result<(), AllocError> {
-    let mut lock = RwLock::new(rt.alloc(), 3, 10, 10)?;
+    let mut lock = of_parties(rt.alloc(), 3, 10)?;
     assert_eq!(rt; whole(&mut lock, 0, RwCall::Read, true), Some(End::Got));
     assert_eq!(rt; lock.readers(), 1);
     assert_eq!(rt;
@@ -86,7 +95,7 @@ fn readers_wait_for_a_writer_and_it_for_them(rt: HostRuntime) -> Result<(), Allo
 
 #[test]
 fn a_reader_goes_on_after_to_upgradable(rt: HostRuntime) -> Result<(), AllocError> {
-    let mut lock = RwLock::new(rt.alloc(), 2, 10, 10)?;
+    let mut lock = of_parties(rt.alloc(), 2, 10)?;
     assert_eq!(rt; whole(&mut lock, 0, RwCall::Write, true), Some(End::Got));
     assert_eq!(rt; whole(&mut lock, 1, RwCall::Read, true), Some(End::Pending));
     assert_eq!(rt;
@@ -101,7 +110,7 @@ fn a_reader_goes_on_after_to_upgradable(rt: HostRuntime) -> Result<(), AllocErro
 
 #[test]
 fn a_dropped_waiting_write_unlocks(rt: HostRuntime) -> Result<(), AllocError> {
-    let mut lock = RwLock::new(rt.alloc(), 4, 10, 10)?;
+    let mut lock = of_parties(rt.alloc(), 4, 10)?;
     assert_eq!(rt; whole(&mut lock, 0, RwCall::Read, true), Some(End::Got));
     assert_eq!(rt;
         whole(&mut lock, 1, RwCall::Write, true),
@@ -127,7 +136,7 @@ fn a_dropped_waiting_write_unlocks(rt: HostRuntime) -> Result<(), AllocError> {
 
 #[test]
 fn a_dropped_upgrade_unlocks(rt: HostRuntime) -> Result<(), AllocError> {
-    let mut lock = RwLock::new(rt.alloc(), 2, 10, 10)?;
+    let mut lock = of_parties(rt.alloc(), 2, 10)?;
     assert_eq!(rt;
         whole(&mut lock, 0, RwCall::UpgradableRead, true),
         Some(End::Got)
@@ -146,7 +155,7 @@ fn a_dropped_upgrade_unlocks(rt: HostRuntime) -> Result<(), AllocError> {
 
 #[test]
 fn try_upgrade_wants_to_be_alone(rt: HostRuntime) -> Result<(), AllocError> {
-    let mut lock = RwLock::new(rt.alloc(), 2, 10, 10)?;
+    let mut lock = of_parties(rt.alloc(), 2, 10)?;
     assert_eq!(rt;
         whole(&mut lock, 0, RwCall::UpgradableRead, true),
         Some(End::Got)
@@ -169,7 +178,7 @@ fn try_upgrade_wants_to_be_alone(rt: HostRuntime) -> Result<(), AllocError> {
 
 #[test]
 fn a_writer_waits_for_the_turn(rt: HostRuntime) -> Result<(), AllocError> {
-    let mut lock = RwLock::new(rt.alloc(), 3, 10, 10)?;
+    let mut lock = of_parties(rt.alloc(), 3, 10)?;
     assert_eq!(rt; whole(&mut lock, 0, RwCall::Write, true), Some(End::Got));
     assert_eq!(rt; whole(&mut lock, 1, RwCall::Read, true), Some(End::Pending));
     assert_eq!(rt;
@@ -200,7 +209,7 @@ fn a_writer_waits_for_the_turn(rt: HostRuntime) -> Result<(), AllocError> {
 
 #[test]
 fn a_refused_upgrade_keeps_its_right(rt: HostRuntime) -> Result<(), AllocError> {
-    let mut lock = RwLock::new(rt.alloc(), 2, 10, 2)?;
+    let mut lock = of_parties(rt.alloc(), 2, 2)?;
     let memory = Some(End::Refused(Refusal::Memory));
     assert_eq!(rt;
         whole(&mut lock, 0, RwCall::UpgradableRead, true),
@@ -224,7 +233,7 @@ fn a_refused_upgrade_keeps_its_right(rt: HostRuntime) -> Result<(), AllocError> 
 
 #[test]
 fn refused_futures_are_as_they_were_made(rt: HostRuntime) -> Result<(), AllocError> {
-    let mut lock = RwLock::new(rt.alloc(), 3, 10, 1)?;
+    let mut lock = of_parties(rt.alloc(), 3, 1)?;
     let memory = Some(End::Refused(Refusal::Memory));
     let readers = Some(End::Refused(Refusal::Readers));
     assert_eq!(rt; whole(&mut lock, 0, RwCall::Read, true), Some(End::Got));

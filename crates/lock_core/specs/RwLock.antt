@@ -1,0 +1,13 @@
+pub mod State
+pub mod Changes
+pub mod Legal
+pub mod Laws
+pub mod Plans
+pub mod Table
+pub mod View
+pub mod Runs
+pub mod Whole
+pub mod Openings
+pub mod Lending
+pub mod TableCalls
+pub mod Bound

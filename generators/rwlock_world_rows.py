@@ -1,0 +1,623 @@
+#!/usr/bin/env python3
+"""Writes the case tables of a read-write lock's World: crates/lock_core/proofs/RwLockWorld/Paths.antt,
+where each action leads, and Rows.antt beside it, what each action on the word or on a list changes and
+decides.
+
+Run it at the top of the repository after a change of the program of the read-write lock. Each row is
+one place with one finding of its action.
+"""
+
+PLACES = ('Out, Made, Reading, Upgradable, Writing, EnterRead, JoinNoWriter, LookNoWriter, AskNoWriter, PassOn, LeaveNoWriter, '
+          'RefuseLeave, RefuseNotify, CancelRead, TryRead, EnterTurn, WaitTurn, TakeTurn, TryTurn, CancelTurn, CancellingTurn, '
+          'ReleaseTurn, ReleasingTurn, Add, TryUpgrade, Upgrade, Mark, TryWrite, JoinNoReaders, LookNoReaders, AskNoReaders, '
+          'AwaitNoReaders, LookUnlisted, LeaveNoReaders, DropRead, DropReadNotify, DropUpgradable, DropUpgradableNotify, DropWrite, '
+          'CancelAwait, Unmark, UnmarkNotify, Down, DownNotify, DowngradeNotify')
+
+PATHS_HEAD = f'''-- Where each action leads, place by place. Written by generators/rwlock_world_rows.py.
+use Rattle.std.proofs.Common.{{◌≡◌, ◌&&◌, Bool, true, false, Option, Some, None, refl}}
+use Rattle.lock_world.specs.declared.refusal.Refusal.{{Refusal}}
+use Rattle.lock_world.specs.declared.refusal.Refusal.TheVariants as refusal
+use Rattle.mutex_machine.specs.declared.program.Place.{{Place as TurnPlace}}
+use Rattle.mutex_machine.specs.declared.program.Next.TheVariants as turn_next
+use Rattle.mutex_machine.specs.declared.program.End.TheVariants as turn_end
+use Rattle.rwlock_machine.specs.declared.program.Purpose.TheVariants as purpose
+use Rattle.rwlock_machine.specs.declared.program.Ending.TheVariants as ending
+use Rattle.rwlock_machine.specs.declared.program.End.{{End}}
+use Rattle.rwlock_machine.specs.declared.program.End.TheVariants.{{Got, Pending, Waiting, NotFree, GivenBack, Refused}}
+use Rattle.rwlock_machine.specs.declared.program.Next.{{Next}}
+use Rattle.rwlock_machine.specs.declared.program.Next.TheVariants as next
+use Rattle.rwlock_machine.specs.declared.program.Found.{{Found}}
+use Rattle.rwlock_machine.specs.declared.program.Found.TheVariants.{{Done, Writer, Full, NoneLeft, SomeLeft, NoMemory, Yes, No, Turn}}
+use Rattle.rwlock_machine.specs.declared.program.Found.TheVariants as found
+use Rattle.rwlock_machine.specs.declared.program.Place.{{Place}}
+use Rattle.rwlock_machine.specs.declared.program.Place.TheVariants.{{{PLACES}}}
+use Rattle.rwlock_machine.specs.Program.{{action_of, next_of}}
+use Rattle.rwlock_machine.specs.Machine.{{RwLock}}
+use Rattle.rwlock_machine.specs.Acts.{{Finds}}
+use Rattle.rwlock_machine.proofs.Leads.{{Led}}
+use Rattle.lock_core.specs.declared.rwlock.table.Sought.{{Sought}}
+use Rattle.lock_core.specs.RwLock.Plans.{{Course, polls, tries, drops, downgrades, upgrades, tries_upgrade, strays, course_of, is_inside, sought_at, agrees, is_out, is_future, is_guard}}
+
+-- the refusals of a read-write lock's futures
+abbrev pub is_ours : Refusal → Bool
+is_ours refusal.Memory = true
+is_ours refusal.Starved = true
+is_ours refusal.Readers = true
+is_ours _ = false
+
+-- how a program of this course ends, and where its party stands then
+abbrev pub ends_in : Course → End → Place → Bool
+ends_in polls Got q = is_guard q
+ends_in polls Pending q = is_future q
+ends_in polls (Refused r) q = is_future q && is_ours r
+ends_in tries Got q = is_guard q
+ends_in tries NotFree q = is_out q
+ends_in drops GivenBack q = is_out q
+ends_in downgrades GivenBack q = is_guard q
+ends_in upgrades Waiting q = is_future q
+ends_in tries_upgrade Got q = is_guard q
+ends_in tries_upgrade NotFree q = is_guard q
+ends_in _ _ q = false
+
+-- a program goes on as it is, or ends so
+abbrev pub Keeps : Course → Next → Type 0
+Keeps c (next.Do a q) = (course_of q ≡ c) × (is_inside q ≡ true)
+Keeps c (next.End e q) = ends_in c e q ≡ true
+
+-- where a party stands whose try was in vain
+abbrev pub InVain : Course → Place → Type 0
+InVain tries_upgrade q = q ≡ Upgradable
+InVain _ q = q ≡ Out
+
+-- what is sought goes with the new place
+abbrev pub Seeks : Place → Next → Type 0
+Seeks x (next.Do a q) = (s : Option Sought) → agrees (sought_at x) s ≡ true → agrees (sought_at q) s ≡ true
+Seeks x (next.End NotFree q) = InVain (course_of x) q
+Seeks x (next.End _ q) = (s : Option Sought) → agrees (sought_at x) s ≡ true → agrees (sought_at q) s ≡ true
+
+pub record Path (x : Place) (f : Found) : Type 0 where
+  pub keeps : Keeps (course_of x) (next_of x f)
+  pub seeks : Seeks x (next_of x f)
+
+module _ (memory : Bool) (l : RwLock) (to : TurnPlace) where
+  pub path : (x : Place) (f : Found) → Finds memory (action_of x) f l → Led x f to → (course_of x ≡ strays → ⊥) → Path x f
+'''
+
+DO = '(Turn (turn_next.Do a q))'
+GOT = '(Turn (turn_next.End turn_end.Got))'
+PENDING = '(Turn (turn_next.End turn_end.Pending))'
+NOT_FREE = '(Turn (turn_next.End turn_end.NotFree))'
+BACK = '(Turn (turn_next.End turn_end.GivenBack))'
+MEMORY = '(Turn (turn_next.End (turn_end.Refused refusal.Memory)))'
+STARVED = '(Turn (turn_next.End (turn_end.Refused refusal.Starved)))'
+
+paths = []
+H = 'λ s h. h'
+ANY = 'λ s h. refl'
+
+
+# The rows whose programs go on; in the others the call ends.
+GOES_ON = set('''
+(EnterRead true) Writer|(EnterRead false) Writer|(EnterRead true) Full|(JoinNoWriter true) Done|(JoinNoWriter false) Done|(JoinNoWriter true) NoMemory
+(LookNoWriter told) Done|(LookNoWriter told) Writer|(LookNoWriter told) Full|AskNoWriter Yes|PassOn Done|(RefuseLeave true) Done
+(Add true) Full|(Add false) Full|Mark SomeLeft|TryWrite NotFree|(JoinNoReaders true) Done|(JoinNoReaders false) Done|(JoinNoReaders false) NoMemory
+(LookNoReaders u) NoneLeft|(LookNoReaders u) SomeLeft|(AskNoReaders u) Yes|(AwaitNoReaders u) NoneLeft|(AwaitNoReaders u) SomeLeft|(LookUnlisted u) SomeLeft
+DropRead NoneLeft|DropUpgradable NoneLeft|DropUpgradable SomeLeft|DropUpgradableNotify Done|DropWrite Done|CancelAwait Done
+(Unmark true) Done|(Unmark false) Done|(UnmarkNotify true) Done|(UnmarkNotify false) Done|(Down true) Done|(Down false) Done
+'''.strip().replace('\n', '|').split('|'))
+
+
+def goes_on(place, found):
+    if found == DO:
+        return True
+    if found == GOT:
+        return True
+    if found == BACK and place == '(ReleaseTurn ending.NotifyReaders)' or found == BACK and place == '(ReleasingTurn ending.NotifyReaders)':
+        return True
+    return f'{place} {found}' in GOES_ON
+
+
+def path(place, found, seeks=H):
+    keeps = '(refl, refl)' if goes_on(place, found) else 'refl'
+    if found == 'NotFree':
+        found = 'found.NotFree'
+    paths.append(f'  path {place} {found} e l n = record {{ keeps = {keeps}; seeks = {seeks} }}')
+
+
+def no_other(place):
+    paths.append(f'  path {place} _ e l n = absurd e')
+
+
+def word(place, *founds, **seeks):
+    for f in founds:
+        path(place, f, seeks.get(f, H))
+    no_other(place)
+
+
+def stray(place):
+    paths.append(f'  path {place} _ e l n = absurd (n refl)')
+
+
+word('Out', 'Done')
+stray('(Made w)')
+for p in ('Reading', 'Upgradable', 'Writing'):
+    word(p, 'Done')
+for told in ('true', 'false'):
+    word(f'(EnterRead {told})', 'Done', 'Writer', 'Full')
+for told in ('true', 'false'):
+    word(f'(JoinNoWriter {told})', 'Done', 'NoMemory')
+word('(LookNoWriter told)', 'Done', 'Writer', 'Full')
+word('AskNoWriter', 'Yes', 'No')
+word('PassOn', 'Done')
+word('LeaveNoWriter', 'Done')
+for told in ('true', 'false'):
+    word(f'(RefuseLeave {told})', 'Done')
+word('(RefuseNotify refusal.Memory)', 'Done')
+word('(RefuseNotify refusal.Readers)', 'Done')
+stray('(RefuseNotify _)')
+word('CancelRead', 'Done')
+word('TryRead', 'Done', 'Writer', 'Full', Writer='refl', Full='refl')
+
+
+def turn(place, *founds):
+    for f in founds:
+        path(place, f, 'refl' if f == NOT_FREE else H)
+    paths.append(f'  path {place} (Turn _) e l n = absurd l')
+    no_other(place)
+
+
+for name in ('EnterTurn', 'WaitTurn', 'TakeTurn'):
+    for p in ('purpose.UpgradableRead', 'purpose.Write'):
+        turn(f'({name} {p})', DO, GOT, PENDING, MEMORY, STARVED)
+for p in ('purpose.UpgradableRead', 'purpose.Write'):
+    turn(f'(TryTurn {p})', GOT, NOT_FREE)
+turn('CancelTurn', DO, BACK)
+turn('CancellingTurn', DO, BACK)
+ENDINGS = ('GivenBack', 'NotFree', 'RefuseReaders', 'RefuseMemory', 'Reading', 'NotifyReaders')
+for e in ENDINGS:
+    place = f'(ReleaseTurn ending.{e})'
+    path(place, DO)
+    path(place, BACK, 'refl' if e == 'NotFree' else H)
+    paths.append(f'  path {place} (Turn _) e l n = absurd l')
+    no_other(place)
+for e in ENDINGS:
+    place = f'(ReleasingTurn ending.{e})'
+    path(place, BACK, 'refl' if e == 'NotFree' else H)
+    paths.append(f'  path {place} (Turn _) e l n = absurd l')
+    no_other(place)
+word('(Add true)', 'Done', 'Full', Full=ANY)
+word('(Add false)', 'Done', 'Full')
+word('TryUpgrade', 'Done', 'NotFree', NotFree='refl')
+word('Upgrade', 'Done')
+word('Mark', 'NoneLeft', 'SomeLeft')
+word('TryWrite', 'Done', 'NotFree', NotFree=ANY)
+for u in ('true', 'false'):
+    word(f'(JoinNoReaders {u})', 'Done', 'NoMemory')
+word('(LookNoReaders u)', 'NoneLeft', 'SomeLeft')
+word('(AskNoReaders u)', 'Yes', 'No')
+word('(AwaitNoReaders u)', 'NoneLeft', 'SomeLeft')
+word('(LookUnlisted u)', 'NoneLeft', 'SomeLeft')
+word('LeaveNoReaders', 'Done')
+word('DropRead', 'NoneLeft', 'SomeLeft')
+word('DropReadNotify', 'Done')
+word('DropUpgradable', 'NoneLeft', 'SomeLeft')
+word('DropUpgradableNotify', 'Done')
+word('DropWrite', 'Done')
+word('CancelAwait', 'Done')
+for r in ('true', 'false'):
+    word(f'(Unmark {r})', 'Done')
+for r in ('true', 'false'):
+    word(f'(UnmarkNotify {r})', 'Done')
+for k in ('true', 'false'):
+    word(f'(Down {k})', 'Done')
+word('DownNotify', 'Done')
+word('DowngradeNotify', 'Done')
+
+with open('crates/lock_core/proofs/RwLockWorld/Paths.antt', 'w', encoding='utf-8') as out:
+    out.write(PATHS_HEAD + '\n'.join(paths) + '\n')
+
+
+ROWS_HEAD = f'''-- What each action on the word or on a list changes and decides, place by place. Written by generators/rwlock_world_rows.py.
+use Rattle.std.proofs.Common.{{◌≡◌, ℕ, ◌+◌, ◌<◌, ◌≤◌, ◌==◌, ◌⊎◌, inl, inr, if◌then◌else◌, Bool, true, false, List, Option, Some, None, refl, sym, ◌∙◌}}
+use Rattle.lock_event.specs.declared.event.Entry.{{Entry}}
+use Rattle.lock_event.specs.Lists.{{is_marked_at, without}}
+use Rattle.lock_queue.specs.Parties.{{is_party}}
+use Rattle.lock_world.specs.declared.moves.Answer.{{Answer}}
+use Rattle.lock_world.specs.declared.moves.Answer.TheVariants as answer
+use Rattle.lock_world.specs.declared.moves.Got.TheVariants.{{Value}}
+use Rattle.lock_world.specs.declared.refusal.Refusal.{{Refusal}}
+use Rattle.lock_world.specs.declared.refusal.Refusal.TheVariants as refusal
+use Rattle.lock_world.specs.Refusals.{{number_of}}
+use Rattle.lock_world.specs.Standings.{{refused}}
+use Rattle.lock_world.specs.Steps.{{Deed, nothing, changes, does, joins, asks, leaves, notifies}}
+use Rattle.mutex_machine.specs.declared.program.Place.{{Place as TurnPlace}}
+use Rattle.mutex_machine.specs.Courses.{{is_out as is_out_there, is_holding}}
+use Rattle.rwlock_machine.specs.declared.program.Action.{{Action}}
+use Rattle.rwlock_machine.specs.declared.program.Action.TheVariants as act
+use Rattle.rwlock_machine.specs.declared.program.End.{{End}}
+use Rattle.rwlock_machine.specs.declared.program.End.TheVariants.{{Got, Pending, Waiting, NotFree, GivenBack, Refused}}
+use Rattle.rwlock_machine.specs.declared.program.Next.{{Next}}
+use Rattle.rwlock_machine.specs.declared.program.Next.TheVariants as next
+use Rattle.rwlock_machine.specs.declared.program.Found.{{Found}}
+use Rattle.rwlock_machine.specs.declared.program.Found.TheVariants.{{Done, Writer, Full, NoneLeft, SomeLeft, NoMemory, Yes, No, Turn}}
+use Rattle.rwlock_machine.specs.declared.program.Found.TheVariants as found
+use Rattle.mutex_machine.specs.declared.program.Next.TheVariants as turn_next
+use Rattle.mutex_machine.specs.declared.program.End.TheVariants as turn_end
+use Rattle.rwlock_machine.specs.declared.program.Purpose.TheVariants as purpose
+use Rattle.rwlock_machine.specs.declared.program.Ending.TheVariants as ending
+use Rattle.rwlock_machine.specs.declared.program.Place.{{Place}}
+use Rattle.rwlock_machine.specs.declared.program.Place.TheVariants.{{{PLACES}}}
+use Rattle.rwlock_machine.specs.Program.{{action_of, next_of, place_after}}
+use Rattle.rwlock_machine.specs.Roles.{{has_turn, in_no_writer, in_no_readers, fits_turn}}
+use Rattle.rwlock_machine.specs.Parties.{{OnNoWriter, OnNoReaders}}
+use Rattle.rwlock_machine.specs.Machine.{{RwLock}}
+use Rattle.rwlock_machine.specs.Acts.{{Finds, readers, marked}}
+use Rattle.rwlock_machine.proofs.Leads.{{Led, steps_in_turn}}
+use Rattle.lock_core.specs.RwLock.Changes.{{Change, ListName, takes_turn, leaves_turn, starves, recovers, begins_to_read, stops_reading, becomes_upgradable, stops_upgradable, begins_to_wait, begins_to_write, upgrades, upgrades_at_once, unmarks, downgrades, downgrades_to_upgradable, puts, for_the_turn, for_no_readers, for_no_writer, turn_after, starved_after, value_after, turn_list_after, no_readers_after, no_writer_after, gives_back}}
+use Rattle.lock_core.specs.RwLock.State as state
+use Rattle.lock_core.specs.RwLock.Plans.{{Course, tries, tries_upgrade, strays, course_of}}
+use Rattle.lock_core.specs.RwLock.View.{{Share, passing, upgrading, waiting, writing, turn_as, share_of, is_reading, is_upgrade, verdict}}
+
+-- what an action changes that found this
+abbrev pub deed_of : Action → Found → Deed Change ListName
+deed_of act.Read Done = changes begins_to_read
+deed_of act.Add Done = changes becomes_upgradable
+deed_of act.Off _ = changes stops_reading
+deed_of act.Load NoneLeft = changes begins_to_write
+deed_of act.Mark NoneLeft = changes begins_to_write
+deed_of act.Mark _ = changes begins_to_wait
+deed_of act.TryWrite Done = changes begins_to_write
+deed_of act.TryUpgrade Done = changes upgrades_at_once
+deed_of act.Upgrade _ = changes upgrades
+deed_of act.Down _ = changes downgrades
+deed_of act.Unmark _ = changes unmarks
+deed_of act.JoinNoWriter Done = does for_no_writer joins
+deed_of act.AskNoWriter Yes = does for_no_writer asks
+deed_of act.LeaveNoWriter _ = does for_no_writer leaves
+deed_of act.NotifyNoWriter _ = does for_no_writer (notifies 1)
+deed_of act.JoinNoReaders Done = does for_no_readers joins
+deed_of act.AskNoReaders Yes = does for_no_readers asks
+deed_of act.LeaveNoReaders _ = does for_no_readers leaves
+deed_of act.NotifyNoReaders _ = does for_no_readers (notifies 1)
+deed_of _ _ = nothing
+
+-- and which right the place is for
+abbrev pub deed_at : Place → Found → Deed Change ListName
+deed_at DropUpgradable f = changes stops_upgradable
+deed_at (Down true) f = changes downgrades_to_upgradable
+deed_at x f = deed_of (action_of x) f
+
+-- the answer of a call on this course
+abbrev pub got_at : Course → ℕ → Answer
+got_at tries v = answer.Granted (Value v)
+got_at tries_upgrade v = answer.Granted (Value v)
+got_at c v = answer.Ready (Value v)
+
+abbrev pub answer_at : Course → ℕ → Next → Answer
+answer_at c v (next.Do a q) = answer.Stepped
+answer_at c v (next.End Got q) = got_at c v
+answer_at c v (next.End Pending q) = answer.Pending
+answer_at c v (next.End Waiting q) = answer.Waiting
+answer_at c v (next.End NotFree q) = answer.None
+answer_at c v (next.End GivenBack q) = answer.GivenBack
+answer_at c v (next.End (Refused r) q) = refused r
+
+abbrev pub verdict_then : ℕ → Course → TurnPlace → Next → Option Answer
+verdict_then v c t (next.Do a q) = verdict v q t
+verdict_then v c t (next.End e q) = Some (answer_at c v (next.End e q))
+
+abbrev pub is_after_ready : Answer → Bool
+is_after_ready (answer.Refused n) = n == number_of refusal.Finished
+is_after_ready _ = false
+
+-- how a deed turns whether its party reads
+abbrev pub Reads : Deed Change ListName → Bool → Bool → Type 0
+Reads (changes begins_to_read) b c = c ≡ true
+Reads (changes becomes_upgradable) b c = c ≡ true
+Reads (changes downgrades) b c = c ≡ true
+Reads (changes downgrades_to_upgradable) b c = c ≡ true
+Reads (changes stops_reading) b c = c ≡ false
+Reads (changes stops_upgradable) b c = c ≡ false
+Reads (changes upgrades) b c = c ≡ false
+Reads (changes upgrades_at_once) b c = c ≡ false
+Reads _ b c = c ≡ b
+
+-- how it turns for what its party has the turn
+abbrev pub Shares : Deed Change ListName → Place → Place → Type 0
+Shares d x q = ((has_turn x ≡ 1) × ((p : ℕ) → turn_after p d (turn_as p (share_of x)) ≡ turn_as p (share_of q))) ⊎ (((p : ℕ) (t : state.Turn) → turn_after p d t ≡ t) × (share_of q ≡ share_of x))
+
+-- what a deed found
+abbrev pub Finding : Deed Change ListName → RwLock → Place → Type 0
+Finding (changes begins_to_read) l x = (marked l ≡ 0) × (readers l < l.limit)
+Finding (changes stops_reading) l x = is_reading x ≡ true
+Finding (changes becomes_upgradable) l x = (has_turn x ≡ 1) × (share_of x ≡ passing) × (readers l < l.limit)
+Finding (changes stops_upgradable) l x = (has_turn x ≡ 1) × (share_of x ≡ upgrading)
+Finding (changes begins_to_wait) l x = (has_turn x ≡ 1) × (share_of x ≡ passing) × (0 < readers l)
+Finding (changes begins_to_write) l x = (has_turn x ≡ 1) × ((share_of x ≡ passing) ⊎ (share_of x ≡ waiting)) × (readers l ≡ 0)
+Finding (changes upgrades) l x = (has_turn x ≡ 1) × (share_of x ≡ upgrading)
+Finding (changes upgrades_at_once) l x = (has_turn x ≡ 1) × (share_of x ≡ upgrading) × (readers l ≡ 1)
+Finding (changes unmarks) l x = (has_turn x ≡ 1) × ((share_of x ≡ waiting) ⊎ (share_of x ≡ writing))
+Finding (changes downgrades) l x = (has_turn x ≡ 1) × (share_of x ≡ writing)
+Finding (changes downgrades_to_upgradable) l x = (has_turn x ≡ 1) × (share_of x ≡ writing)
+Finding (changes _) l x = ⊥
+Finding _ l x = Unit {{0}}
+
+-- a party has the right that it sought here
+abbrev pub is_got : Place → Bool
+is_got Reading = true
+is_got Upgradable = true
+is_got Writing = true
+is_got LeaveNoWriter = true
+is_got LeaveNoReaders = true
+is_got _ = false
+
+abbrev pub is_made : Place → Bool
+is_made (Made w) = true
+is_made _ = false
+
+-- where a party asks in vain
+abbrev pub WaitsAt : Place → Found → Type 0
+WaitsAt AskNoWriter f = f ≡ No
+WaitsAt (AskNoReaders u) f = f ≡ No
+WaitsAt _ f = ⊥
+
+-- why a step refuses its call
+abbrev pub Refuses : Bool → RwLock → Place → Found → Refusal → Type 0
+Refuses memory l x f refusal.Memory = (memory ≡ false) × (in_no_writer x + in_no_readers x ≡ 0) × (deed_at x f ≡ nothing) × ((t : TurnPlace) → fits_turn x t ≡ true → (is_out_there t ≡ true) ⊎ (is_holding t ≡ true))
+Refuses memory l x f refusal.Readers = l.limit ≤ readers l
+Refuses memory l x f _ = ⊥
+
+-- why a step decides its call on an answer
+abbrev pub Reason : Bool → RwLock → ℕ → Place → Found → Answer → Type 0
+Reason memory l v x f answer.Pending = WaitsAt x f
+Reason memory l v x f (answer.Ready got) = (got ≡ Value v) × (is_got (place_after (next_of x f)) ≡ true)
+Reason memory l v x f (answer.Granted got) = (got ≡ Value v) × (is_got (place_after (next_of x f)) ≡ true)
+Reason memory l v x f (answer.Refused n) = (r : Refusal) × (n ≡ number_of r) × Refuses memory l x f r
+Reason memory l v x f _ = Unit {{0}}
+
+abbrev pub Judged : Bool → RwLock → ℕ → Place → Found → Option Answer → Option Answer → Type 0
+Judged memory l v x f (Some b) o = (o ≡ Some b) × (gives_back (deed_at x f) ≡ true)
+Judged memory l v x f None None = Unit {{0}}
+Judged memory l v x f None (Some b) = Reason memory l v x f b
+
+-- an upgrade's future stays one while its call is undecided or pending
+abbrev pub KeepsUpgrade : ℕ → Place → Next → Type 0
+KeepsUpgrade v x (next.Do a q) = (t : TurnPlace) → verdict v q t ≡ None → is_upgrade q ≡ is_upgrade x
+KeepsUpgrade v x (next.End Waiting q) = is_upgrade q ≡ true
+KeepsUpgrade v x (next.End Pending q) = is_upgrade q ≡ is_upgrade x
+KeepsUpgrade v x (next.End (Refused r) q) = is_upgrade q ≡ is_upgrade x
+KeepsUpgrade v x (next.End _ q) = Unit {{0}}
+
+-- where a party stands after a refusal
+abbrev pub RefusedAt : Place → Next → Type 0
+RefusedAt x (next.End (Refused r) q) = ((is_made q ≡ true) × (is_upgrade x ≡ false)) ⊎ ((q ≡ LookUnlisted true) × (is_upgrade x ≡ true))
+RefusedAt x _ = Unit {{0}}
+
+pub record Row (memory : Bool) (l : RwLock) (v : ℕ) (x : Place) (f : Found) : Type 0 where
+  pub reading : Reads (deed_at x f) (is_reading x) (is_reading (place_after (next_of x f)))
+  pub sharing : Shares (deed_at x f) x (place_after (next_of x f))
+  pub starving : (p : ℕ) (s : List Bool) → starved_after p (deed_at x f) s ≡ s
+  pub valued : (u : ℕ) → value_after (deed_at x f) u ≡ u
+  pub unturned : (p : ℕ) (a : List (Entry ℕ)) → turn_list_after p (deed_at x f) a ≡ a
+  pub no_writer : (p : ℕ) (a b : List (Entry ℕ)) → OnNoWriter p (action_of x) f a b → b ≡ no_writer_after p (deed_at x f) a
+  pub no_readers : (p : ℕ) (a b : List (Entry ℕ)) → OnNoReaders p (action_of x) f a b → b ≡ no_readers_after p (deed_at x f) a
+  pub finding : Finding (deed_at x f) l x
+  pub judged : (t u : TurnPlace) → Judged memory l v x f (verdict v x t) (verdict_then v (course_of x) u (next_of x f))
+  pub over : is_after_ready (answer_at (course_of x) v (next_of x f)) ≡ false
+  pub upgrade : KeepsUpgrade v x (next_of x f)
+  pub refused : RefusedAt x (next_of x f)
+
+asked_yes : (b : Bool) (l m : List (Entry ℕ)) → b ≡ true → (if b then m else l) ≡ m
+asked_yes true l m h = refl
+asked_yes false l m h = absurd (cc)
+
+asks_so : (p : ℕ) (l m : List (Entry ℕ)) → (is_marked_at (is_party p) l ≡ true) × (m ≡ without (is_party p) l) → m ≡ (if is_marked_at (is_party p) l then without (is_party p) l else l)
+asks_so p l m o = o.1 ∙ sym (asked_yes (is_marked_at (is_party p) l) l (without (is_party p) l) o.0)
+
+module _ (memory : Bool) (l : RwLock) (v : ℕ) where
+  pub row : (x : Place) (f : Found) → Finds memory (action_of x) f l → (course_of x ≡ strays → ⊥) → steps_in_turn x ≡ false → Row memory l v x f
+'''
+
+rows = []
+KEPT = '(refl, refl)'
+GOT_IT = '(refl, refl)'
+UNDECIDED = 'tt'
+WAITS = 'refl'
+FREE = 'tt'
+STAYS = 'inr ((λ p t. refl), refl)'
+MOVES = 'inl (refl, λ p. refl)'
+
+
+def memory(side):
+    return f'(refusal.Memory, refl, (e, refl, refl, λ t h. {side} h))'
+
+
+def full(e):
+    return f'(refusal.Readers, refl, {e})'
+
+
+def row(place, found, judged, sharing=STAYS, finding='tt', upgrade='tt', refused='tt', no_writer='λ p a b o. o', no_readers='λ p a b o. o'):
+    if found == 'NotFree':
+        found = 'found.NotFree'
+    rows.append(f'  row {place} {found} e n t = record {{ reading = refl; sharing = {sharing}; starving = λ p s. refl; valued = λ u. refl; unturned = λ p a. refl; no_writer = {no_writer}; no_readers = {no_readers}; '
+                f'finding = {finding}; judged = λ t u. {judged}; over = refl; upgrade = {upgrade}; refused = {refused} }}')
+
+
+def rest(place):
+    rows.append(f'  row {place} _ e n t = absurd e')
+
+
+def astray(place):
+    rows.append(f'  row {place} _ e n t = absurd (n refl)')
+
+
+GOES = 'λ t h. refl'
+NEVER = 'λ t h. absurd (cc)'
+MADE = 'inl (refl, refl)'
+ASKED = 'λ p a b o. asks_so p a b o'
+ASKED_IN_VAIN = 'λ p a b o. o.1'
+
+row('Out', 'Done', KEPT)
+rest('Out')
+astray('(Made w)')
+for p in ('Reading', 'Upgradable', 'Writing'):
+    row(p, 'Done', GOT_IT)
+    rest(p)
+for told in ('true', 'false'):
+    row(f'(EnterRead {told})', 'Done', GOT_IT, finding='e')
+    row(f'(EnterRead {told})', 'Writer', UNDECIDED, upgrade=GOES)
+    if told == 'true':
+        row(f'(EnterRead {told})', 'Full', full('e.1'), upgrade=GOES)
+    else:
+        row(f'(EnterRead {told})', 'Full', full('e.1'), upgrade='refl', refused=MADE)
+    rest(f'(EnterRead {told})')
+for told in ('true', 'false'):
+    row(f'(JoinNoWriter {told})', 'Done', UNDECIDED, upgrade=GOES)
+    if told == 'true':
+        row(f'(JoinNoWriter {told})', 'NoMemory', memory('inl'), upgrade=GOES)
+    else:
+        row(f'(JoinNoWriter {told})', 'NoMemory', memory('inl'), upgrade='refl', refused=MADE)
+    rest(f'(JoinNoWriter {told})')
+row('(LookNoWriter told)', 'Done', GOT_IT, finding='e', upgrade=GOES)
+row('(LookNoWriter told)', 'Writer', UNDECIDED, upgrade=GOES)
+row('(LookNoWriter told)', 'Full', full('e.1'), upgrade=GOES)
+rest('(LookNoWriter told)')
+row('AskNoWriter', 'Yes', UNDECIDED, upgrade=GOES, no_writer=ASKED)
+row('AskNoWriter', 'No', WAITS, upgrade='refl', no_writer=ASKED_IN_VAIN)
+rest('AskNoWriter')
+row('PassOn', 'Done', UNDECIDED, upgrade=GOES)
+rest('PassOn')
+row('LeaveNoWriter', 'Done', KEPT)
+rest('LeaveNoWriter')
+row('(RefuseLeave true)', 'Done', KEPT, upgrade=GOES)
+rest('(RefuseLeave true)')
+row('(RefuseLeave false)', 'Done', KEPT, upgrade='refl', refused=MADE)
+rest('(RefuseLeave false)')
+for r in ('Memory', 'Readers'):
+    row(f'(RefuseNotify refusal.{r})', 'Done', KEPT, upgrade='refl', refused=MADE)
+    rest(f'(RefuseNotify refusal.{r})')
+astray('(RefuseNotify _)')
+row('CancelRead', 'Done', KEPT)
+rest('CancelRead')
+row('TryRead', 'Done', GOT_IT, finding='e')
+row('TryRead', 'Writer', FREE)
+row('TryRead', 'Full', FREE)
+rest('TryRead')
+for place in ('(EnterTurn p)', '(WaitTurn p)', '(TakeTurn p)', '(TryTurn p)', 'CancelTurn', 'CancellingTurn', '(ReleaseTurn e)', '(ReleasingTurn e)'):
+    rows.append(f'  row {place.replace(" e)", " k)")} f e n t = absurd (cc)')
+for b in ('true', 'false'):
+    row(f'(Add {b})', 'Done', GOT_IT, sharing=MOVES, finding='(refl, refl, e)')
+    row(f'(Add {b})', 'Full', FREE if b == 'true' else full('e'), upgrade=GOES)
+    rest(f'(Add {b})')
+row('TryUpgrade', 'Done', GOT_IT, sharing=MOVES, finding='(refl, refl, e.1)')
+row('TryUpgrade', 'NotFree', FREE)
+rest('TryUpgrade')
+row('Upgrade', 'Done', FREE, sharing=MOVES, finding='(refl, refl)', upgrade='refl')
+rest('Upgrade')
+row('Mark', 'NoneLeft', GOT_IT, sharing=MOVES, finding='(refl, inl refl, e)')
+row('Mark', 'SomeLeft', UNDECIDED, sharing=MOVES, finding='(refl, refl, e)', upgrade=GOES)
+rest('Mark')
+row('TryWrite', 'Done', GOT_IT, sharing=MOVES, finding='(refl, inl refl, e.1)')
+row('TryWrite', 'NotFree', FREE, upgrade=GOES)
+rest('TryWrite')
+for u in ('true', 'false'):
+    row(f'(JoinNoReaders {u})', 'Done', UNDECIDED, upgrade=GOES)
+    if u == 'true':
+        row(f'(JoinNoReaders {u})', 'NoMemory', memory('inr'), upgrade='refl', refused='inr (refl, refl)')
+    else:
+        row(f'(JoinNoReaders {u})', 'NoMemory', memory('inr'), upgrade=GOES)
+    rest(f'(JoinNoReaders {u})')
+WRITES = dict(sharing=MOVES, finding='(refl, inr refl, e)')
+row('(LookNoReaders u)', 'NoneLeft', GOT_IT, upgrade=NEVER, **WRITES)
+row('(LookNoReaders u)', 'SomeLeft', UNDECIDED, upgrade=GOES)
+rest('(LookNoReaders u)')
+row('(AskNoReaders u)', 'Yes', UNDECIDED, upgrade=GOES, no_readers=ASKED)
+row('(AskNoReaders u)', 'No', WAITS, upgrade='refl', no_readers=ASKED_IN_VAIN)
+rest('(AskNoReaders u)')
+row('(AwaitNoReaders u)', 'NoneLeft', GOT_IT, upgrade=NEVER, **WRITES)
+row('(AwaitNoReaders u)', 'SomeLeft', UNDECIDED, upgrade=GOES)
+rest('(AwaitNoReaders u)')
+row('(LookUnlisted u)', 'NoneLeft', GOT_IT, **WRITES)
+row('(LookUnlisted u)', 'SomeLeft', UNDECIDED, upgrade=GOES)
+rest('(LookUnlisted u)')
+row('LeaveNoReaders', 'Done', KEPT)
+rest('LeaveNoReaders')
+row('DropRead', 'NoneLeft', KEPT, finding='refl', upgrade=GOES)
+row('DropRead', 'SomeLeft', KEPT, finding='refl')
+rest('DropRead')
+row('DropReadNotify', 'Done', KEPT)
+rest('DropReadNotify')
+for f in ('NoneLeft', 'SomeLeft'):
+    row('DropUpgradable', f, KEPT, sharing=MOVES, finding='(refl, refl)', upgrade=GOES)
+rest('DropUpgradable')
+row('DropUpgradableNotify', 'Done', KEPT, upgrade=GOES)
+rest('DropUpgradableNotify')
+row('DropWrite', 'Done', KEPT, sharing=MOVES, finding='(refl, inr refl)', upgrade=GOES)
+rest('DropWrite')
+row('CancelAwait', 'Done', KEPT, upgrade=GOES)
+rest('CancelAwait')
+for r in ('true', 'false'):
+    row(f'(Unmark {r})', 'Done', KEPT, sharing=MOVES, finding='(refl, inl refl)', upgrade=GOES)
+    rest(f'(Unmark {r})')
+for r in ('true', 'false'):
+    row(f'(UnmarkNotify {r})', 'Done', KEPT, upgrade=GOES)
+    rest(f'(UnmarkNotify {r})')
+for k in ('true', 'false'):
+    row(f'(Down {k})', 'Done', FREE, sharing=MOVES, finding='(refl, refl)', upgrade=GOES)
+    rest(f'(Down {k})')
+row('DownNotify', 'Done', KEPT)
+rest('DownNotify')
+row('DowngradeNotify', 'Done', KEPT)
+rest('DowngradeNotify')
+
+TURN_ROWS = '''
+-- ---- actions on the turn
+
+pub record TurnRow (v : ℕ) (x : Place) (f : Found) : Type 0 where
+  pub reading : is_reading (place_after (next_of x f)) ≡ is_reading x
+  pub sharing : share_of (place_after (next_of x f)) ≡ passing
+  pub over : is_after_ready (answer_at (course_of x) v (next_of x f)) ≡ false
+  pub upgrade : KeepsUpgrade v x (next_of x f)
+  pub refused : RefusedAt x (next_of x f)
+
+pub turn_row : (v : ℕ) (u : TurnPlace) (x : Place) (f : Found) → steps_in_turn x ≡ true → Led x f u → TurnRow v x f
+'''
+
+turn_rows = []
+
+
+def turn_row(place, found):
+    upgrade, refused = 'tt', 'tt'
+    if goes_on(place, found):
+        upgrade = GOES
+    elif found == PENDING:
+        upgrade = 'refl'
+    elif found in (MEMORY, STARVED) or found == BACK and 'Refuse' in place:
+        upgrade, refused = 'refl', MADE
+    turn_rows.append(f'turn_row v u {place} {found} t e = record {{ reading = refl; sharing = refl; over = refl; upgrade = {upgrade}; refused = {refused} }}')
+
+
+def turn_rest(place):
+    turn_rows.append(f'turn_row v u {place} (Turn _) t e = absurd e')
+    turn_rows.append(f'turn_row v u {place} _ t e = absurd e')
+
+
+for name in ('EnterTurn', 'WaitTurn', 'TakeTurn', 'TryTurn'):
+    for q in ('purpose.UpgradableRead', 'purpose.Write'):
+        for f in ((GOT, NOT_FREE) if name == 'TryTurn' else (DO, GOT, PENDING, MEMORY, STARVED)):
+            turn_row(f'({name} {q})', f)
+        turn_rest(f'({name} {q})')
+for place in ('CancelTurn', 'CancellingTurn'):
+    turn_row(place, DO)
+    turn_row(place, BACK)
+    turn_rest(place)
+for k in ENDINGS:
+    turn_row(f'(ReleaseTurn ending.{k})', DO)
+    turn_row(f'(ReleaseTurn ending.{k})', BACK)
+    turn_rest(f'(ReleaseTurn ending.{k})')
+    turn_row(f'(ReleasingTurn ending.{k})', BACK)
+    turn_rest(f'(ReleasingTurn ending.{k})')
+turn_rows.append('turn_row v u _ f t e = absurd (cc)')
+
+with open('crates/lock_core/proofs/RwLockWorld/Rows.antt', 'w', encoding='utf-8') as out:
+    out.write(ROWS_HEAD + '\n'.join(rows) + '\n' + TURN_ROWS + '\n'.join(turn_rows) + '\n')
