@@ -7,15 +7,15 @@ use Rattle.std.proofs.lemmas.List.{take_all, drop_all, append-nil}
 use Rattle.std.proofs.lemmas.List.Sums.{fails_before_first}
 use Rattle.std.proofs.lemmas.List.Splits.{slice_split_none, slice_split_first}
 use Rattle.std.proofs.lemmas.Bool.{eqb-true, ltb-true, ltb-false}
-use Rattle.lockrun.specs.declared.world.World.{World}
-use Rattle.lockrun.specs.declared.command.Command.{Command}
-use Rattle.lockrun.specs.declared.command.Command.TheVariants.{New}
-use Rattle.lockrun.specs.declared.command.Model.{Model}
-use Rattle.lockrun.specs.Commands.{name_of, verb_of, Asks}
-use Rattle.lockrun.specs.Lines.{lines_of, words_of, is_byte, IsPrintable, IsTrimmed}
-use Rattle.lockrun.specs.Openings.{world_of}
+use Rattle.lock_play.specs.declared.world.World.{World}
+use Rattle.lock_script.specs.declared.command.Command.{Command}
+use Rattle.lock_script.specs.declared.command.Command.TheVariants.{New}
+use Rattle.lock_script.specs.declared.command.Model.{Model}
+use Rattle.lock_script.specs.Commands.{name_of, verb_of, Asks}
+use Rattle.lock_script.specs.Lines.{lines_of, words_of, is_byte, IsPrintable, IsTrimmed}
+use Rattle.lock_play.specs.Openings.{world_of}
 use Rattle.lockrun.specs.Plays.{Leads, Plays, PlaysLine, IsPlayed}
-use Rattle.lockrun.proofs.Texts.{Appends-more}
+use Rattle.lock_play.proofs.Texts.{Appends-more}
 
 -- of nothing
 pub Appends-nothing : (a : Option (List ℕ)) → Appends a a []

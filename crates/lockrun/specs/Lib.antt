@@ -1,10 +1,3 @@
 pub mod Faults
-pub mod Lines
 pub mod Scripts
-pub mod Commands
-pub mod Answers
-pub mod Openings
-pub mod Requests
-pub mod Mutex
-pub mod Worlds
 pub mod Plays

@@ -1,13 +1,13 @@
 -- What a script prints: each line's answer in turn, on the World that the lines before it led to.
 use Rattle.std.specs.Prelude.{◌≡◌, ◌⊎◌, ℕ, List, [], ◌∷◌, ◌++◌, Option, Some, None, codes}
 use Rattle.std.specs.Io.KnownBytes.{Appends}
-use Rattle.lockrun.specs.declared.command.Command.{Command}
-use Rattle.lockrun.specs.declared.command.Command.TheVariants.{New, On}
-use Rattle.lockrun.specs.declared.world.World.{World}
-use Rattle.lockrun.specs.Lines.{lines_of, IsSkipped}
-use Rattle.lockrun.specs.Openings.{world_of}
+use Rattle.lock_script.specs.declared.command.Command.{Command}
+use Rattle.lock_script.specs.declared.command.Command.TheVariants.{New, On}
+use Rattle.lock_play.specs.declared.world.World.{World}
+use Rattle.lock_script.specs.Lines.{lines_of, IsSkipped}
+use Rattle.lock_play.specs.Openings.{world_of}
 use Rattle.lockrun.specs.Scripts.{IsCommand}
-use Rattle.lockrun.specs.Worlds.{CarriesOut}
+use Rattle.lock_play.specs.Worlds.{CarriesOut}
 
 -- a command leads from the World that stands, if one does, to another, and is answered by this text; where none stands only a new one can be asked for
 abbrev pub Leads : Command → Option World → Option World → List ℕ → Type 0

@@ -2,9 +2,9 @@
 use Rattle.std.specs.Prelude.{ℕ, ◌+◌, ◌≤◌, ◌⊎◌, Option, List, [], ◌∷◌, length, All, codes}
 use Rattle.std.specs.Io.KnownBytes.{Consumes, IsAtEnd}
 use Rattle.lockrun.specs.declared.run.TheConstants.{LIMIT}
-use Rattle.lockrun.specs.declared.command.Command.{Command}
-use Rattle.lockrun.specs.Commands.{Asks}
-use Rattle.lockrun.specs.Lines.{lines_of, words_of, IsSkipped, IsPrintable, IsTrimmed}
+use Rattle.lock_script.specs.declared.command.Command.{Command}
+use Rattle.lock_script.specs.Commands.{Asks}
+use Rattle.lock_script.specs.Lines.{lines_of, words_of, IsSkipped, IsPrintable, IsTrimmed}
 
 -- the arguments that ask for a script: the one word `script`
 abbrev pub asked : List (List ℕ)

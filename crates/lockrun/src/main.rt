@@ -1,13 +1,8 @@
 //! Carries out a script of moves on the Worlds of the locks, and prints each answer.
 #![tactic(auto)]
 
-mod answer;
-mod command;
 mod fault;
-mod line;
-mod played;
 mod run;
-mod world;
 
 use fault::Fault;
 use std::env;

@@ -1,16 +1,31 @@
 //! The stored rows: each script with its answers, as they stand in scripts/.
 
 /// Each script, and what the program prints for it.
-pub const ROWS: [(&str, &str); 9] = [
+pub const ROWS: [(&str, &str); 20] = [
     // count-comes-off-before-the-entry
     (
         "mutex 4 0\ndo 0 lock\ndo 1 lock\ndo 0 drop\ndo 2 trylock\ndo 1 poll starving\nshow\ndo 2 drop\nbegin 1 drop\ndo 3 lock\ngo 1\nshow\n",
         "ok\nready 0\npending\ngiven back\ngranted 0\npending\nmutex locked=1 starved=1 value=0 list=[1w]\ngiven back\nstepped\nready 0\ngiven back\nmutex locked=1 starved=0 value=0 list=[]\n",
     ),
+    // downgrade-to-upgradable-wakes-readers
+    (
+        "rwlock 2 1\ndo 0 write\ndo 1 read\ndo 0 toupgradable\nshow\ndo 1 poll\n",
+        "ok\nready 1\npending\ngiven back\nrwlock turn=1 starved=0 writer=0 readers=1 value=1 turnlist=[] noreaders=[] nowriter=[1n]\nready 1\n",
+    ),
+    // dropped-upgrade-frees-all
+    (
+        "rwlock 2 0\ndo 0 upread\ndo 0 upgrade\ndo 0 drop\ndo 1 trywrite\n",
+        "ok\nready 0\nwaiting\ngiven back\ngranted 0\n",
+    ),
     // dropped-waiter-passes-on
     (
         "mutex 3 0\ndo 0 lock\ndo 1 lock\ndo 2 lock\ndo 0 drop\nshow\ndo 1 drop\nshow\ndo 2 poll\n",
         "ok\nready 0\npending\npending\ngiven back\nmutex locked=0 starved=0 value=0 list=[1n 2w]\ngiven back\nmutex locked=0 starved=0 value=0 list=[2n]\nready 0\n",
+    ),
+    // dropped-writer-frees-readers
+    (
+        "rwlock 4 0\ndo 0 read\ndo 1 write\ndo 2 tryread\ndo 1 drop\ndo 2 tryread\ndo 3 tryupread\nshow\n",
+        "ok\nready 0\npending\nnone\ngiven back\ngranted 0\ngranted 0\nrwlock turn=1 starved=0 writer=0 readers=3 value=0 turnlist=[] noreaders=[] nowriter=[]\n",
     ),
     // first-run
     (
@@ -22,6 +37,21 @@ pub const ROWS: [(&str, &str); 9] = [
         "mutex 3 0\ndo 0 lock\ndo 1 lock\ndo 2 lock\ndo 0 drop\ndo 2 poll\ndo 2 drop\ndo 2 trylock\n",
         "ok\nready 0\npending\npending\ngiven back\npending\ngiven back\ngranted 0\n",
     ),
+    // last-reader-wakes-the-writer
+    (
+        "rwlock 2 0\ndo 0 read\ndo 1 write\ndo 0 drop\nshow\ndo 1 poll\n",
+        "ok\nready 0\npending\ngiven back\nrwlock turn=1 starved=0 writer=1 readers=0 value=0 turnlist=[] noreaders=[1n] nowriter=[]\nready 0\n",
+    ),
+    // readers-after-a-writer
+    (
+        "rwlock 4 5\ndo 0 write\ndo 1 read\ndo 2 read\ndo 0 drop\ndo 1 poll\nshow\n",
+        "ok\nready 5\npending\npending\ngiven back\nready 5\nrwlock turn=0 starved=0 writer=0 readers=1 value=5 turnlist=[] noreaders=[] nowriter=[2n]\n",
+    ),
+    // readers-limit
+    (
+        "rwlock 3 0 10 1\ndo 0 tryread\ndo 1 tryread\ndo 2 read\n",
+        "ok\ngranted 0\nnone\nrefused 3\n",
+    ),
     // refused-memory-then-repeated
     (
         "mutex 2 7\ndo 0 lock\ndo 1 lock nomem\nshow\ndo 1 poll\ndo 0 drop\ndo 1 poll\ndo 1 poll\n",
@@ -31,6 +61,11 @@ pub const ROWS: [(&str, &str); 9] = [
     (
         "mutex 4 0\ndo 0 lock\ndo 1 lock\ndo 0 drop\ndo 2 trylock\ndo 1 poll starving nomem\ndo 2 drop\ndo 3 trylock\n",
         "ok\nready 0\npending\ngiven back\ngranted 0\nrefused 1\ngiven back\ngranted 0\n",
+    ),
+    // release-of-write-wakes-both-lists
+    (
+        "rwlock 3 0\ndo 0 write\ndo 1 read\ndo 2 write\ndo 0 drop\nshow\n",
+        "ok\nready 0\npending\npending\ngiven back\nrwlock turn=0 starved=0 writer=0 readers=0 value=0 turnlist=[2n] noreaders=[] nowriter=[1n]\n",
     ),
     // release-wakes-the-next
     (
@@ -46,5 +81,25 @@ pub const ROWS: [(&str, &str); 9] = [
     (
         "mutex 4 0 1\ndo 0 lock\ndo 1 lock\ndo 0 drop\ndo 2 trylock\ndo 1 poll starving\ndo 3 lock\nshow\n",
         "ok\nready 0\npending\ngiven back\ngranted 0\npending\nrefused 2\nmutex locked=1 starved=1 value=0 list=[1w]\n",
+    ),
+    // try-upgrade-when-alone
+    (
+        "rwlock 2 1\ndo 0 upread\ndo 1 read\ndo 0 tryupgrade\ndo 1 drop\ndo 0 tryupgrade\n",
+        "ok\nready 1\nready 1\nnone\ngiven back\ngranted 1\n",
+    ),
+    // upgradable-past-the-readers-limit
+    (
+        "rwlock 3 0 10 1\ndo 0 read\ndo 1 upread\nshow\ndo 0 drop\ndo 1 poll\n",
+        "ok\nready 0\nrefused 3\nrwlock turn=0 starved=0 writer=0 readers=1 value=0 turnlist=[] noreaders=[] nowriter=[]\ngiven back\nready 0\n",
+    ),
+    // upgrade-refused-memory
+    (
+        "rwlock 3 0\ndo 0 upread\ndo 1 read\ndo 0 upgrade\ndo 0 poll nomem\nshow\ndo 0 poll\ndo 1 drop\ndo 0 poll\n",
+        "ok\nready 0\nready 0\nwaiting\nrefused 1\nrwlock turn=1 starved=0 writer=1 readers=1 value=0 turnlist=[] noreaders=[] nowriter=[]\npending\ngiven back\nready 0\n",
+    ),
+    // write-refused-memory
+    (
+        "rwlock 2 0\ndo 0 read\ndo 1 write nomem\nshow\ndo 1 poll\n",
+        "ok\nready 0\nrefused 1\nrwlock turn=0 starved=0 writer=0 readers=1 value=0 turnlist=[] noreaders=[] nowriter=[]\npending\n",
     ),
 ];

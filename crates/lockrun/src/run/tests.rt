@@ -150,6 +150,21 @@ fn changes_the_value_at_rest(rt: HostRuntime) -> Result<(), Fail> {
             "mutex 2 3\ndo 0 lock\nbegin 1 lock\ngetmut 9\ntake\nshow\ngo 1\ngo 1\ngo 1\ngetmut 9\n",
             "ok\nready 3\nstepped\nnot possible\nnot possible\nmutex locked=1 starved=0 value=3 list=[]\nstepped\nstepped\npending\nok\n",
         ),
+        // A writer is forgotten, and its right stays.
+        (
+            "rwlock 2 0\ndo 0 write\ngetmut 9\nshow\ndo 0 drop\ndo 1 tryread\ntake\n",
+            "ok\nready 0\nok\nrwlock turn=1 starved=0 writer=1 readers=0 value=9 turnlist=[] noreaders=[] nowriter=[]\nnot possible\nnone\nnot possible\n",
+        ),
+        // A reader is forgotten, and another one finds the value.
+        (
+            "rwlock 2 0\ndo 0 read\ngetmut 9\ndo 0 drop\ndo 1 tryread\n",
+            "ok\nready 0\nok\nnot possible\ngranted 9\n",
+        ),
+        // A party is inside a call of a read-write lock.
+        (
+            "rwlock 2 3\ndo 0 write\nbegin 1 read\ngetmut 9\ntake\n",
+            "ok\nready 3\nstepped\nnot possible\nnot possible\n",
+        ),
     ] {
         expect(&rt, script.as_bytes(), answers, "", 0)?;
     }
@@ -233,6 +248,66 @@ fn answers_each_good_line(rt: HostRuntime) -> Result<(), Fail> {
 }
 
 #[test]
+fn answers_each_good_line_of_a_read_write_lock(rt: HostRuntime) -> Result<(), Fail> {
+    let fresh =
+        "ok\nrwlock turn=0 starved=0 writer=0 readers=0 value=0 turnlist=[] noreaders=[] nowriter=[]\n";
+    for (script, answers) in [
+        ("rwlock 1 0\nshow\n", fresh),
+        ("rwlock  64 0 0\nshow\n", fresh),
+        ("rwlock 64 0 0 0\nshow\n", fresh),
+        // A number past the greatest means that one.
+        (
+            "rwlock 1 0 1073741824 18446744073709551615\nshow\ndo 0 tryread\n",
+            "ok\nrwlock turn=0 starved=0 writer=0 readers=0 value=0 turnlist=[] noreaders=[] nowriter=[]\ngranted 0\n",
+        ),
+        // The second limit is that of readers, and the first isn't.
+        (
+            "rwlock 2 0 0 1\ndo 0 tryread\ndo 1 tryread\n",
+            "ok\ngranted 0\nnone\n",
+        ),
+        ("rwlock 1 0 1 0\ndo 0 tryread\n", "ok\nnone\n"),
+        (
+            "rwlock 2 0 0\ndo 0 tryread\ndo 1 tryread\n",
+            "ok\ngranted 0\ngranted 0\n",
+        ),
+        // It takes the place of a mutex, and a mutex its own.
+        (
+            "mutex 1 7\nrwlock 1 0\nshow\nmutex 1 8\nshow\n",
+            "ok\nok\nrwlock turn=0 starved=0 writer=0 readers=0 value=0 turnlist=[] noreaders=[] nowriter=[]\nok\nmutex locked=0 starved=0 value=8 list=[]\n",
+        ),
+        // Each call.
+        (
+            "rwlock 1 3\ndo 0 write\ndo 0 put 4\ndo 0 toupgradable\ndo 0 tryupgrade\ndo 0 downgrade\ndo 0 poll\ndo 0 drop\n",
+            "ok\nready 3\ngranted 4\ngiven back\ngranted 4\ngiven back\nrefused 6\ngiven back\n",
+        ),
+        (
+            "rwlock 3 1\ndo 0 upread\ndo 1 read\ndo 2 tryread\ndo 1 downgrade\ndo 2 put 5\ndo 0 upgrade\nshow\n",
+            "ok\nready 1\nready 1\ngranted 1\nnot possible\nnot possible\nwaiting\nrwlock turn=1 starved=0 writer=1 readers=2 value=1 turnlist=[] noreaders=[] nowriter=[]\n",
+        ),
+        (
+            "rwlock 2 0\nbegin 0 trywrite\nshow\ndo 0 downgrade\ndo 1 tryupread\ndo 1 downgrade\nshow\n",
+            "ok\nstepped\nrwlock turn=1 starved=0 writer=0 readers=0 value=0 turnlist=[] noreaders=[] nowriter=[]\nnot possible\nnone\nnot possible\nrwlock turn=1 starved=0 writer=0 readers=0 value=0 turnlist=[] noreaders=[] nowriter=[]\n",
+        ),
+        // The calls of one lock are not possible on the other.
+        (
+            "rwlock 1 0\ndo 0 lock\ndo 0 trylock\n",
+            "ok\nnot possible\nnot possible\n",
+        ),
+        (
+            "mutex 1 0\ndo 0 read\ndo 0 upread\ndo 0 write\ndo 0 tryread\ndo 0 tryupread\ndo 0 trywrite\nbegin 0 read nomem\n",
+            "ok\nnot possible\nnot possible\nnot possible\nnot possible\nnot possible\nnot possible\nnot possible\n",
+        ),
+        (
+            "mutex 1 0\ndo 0 trylock\ndo 0 upgrade\ndo 0 tryupgrade\ndo 0 downgrade\ndo 0 toupgradable\n",
+            "ok\ngranted 0\nnot possible\nnot possible\nnot possible\nnot possible\n",
+        ),
+    ] {
+        expect(&rt, script.as_bytes(), answers, "", 0)?;
+    }
+    Ok(())
+}
+
+#[test]
 fn stops_at_a_bad_line(rt: HostRuntime) -> Result<(), Fail> {
     for line in [
         // Spaces at an end.
@@ -248,12 +323,14 @@ fn stops_at_a_bad_line(rt: HostRuntime) -> Result<(), Fail> {
         "Do 0 lock",
         "getMut 1",
         "takes",
-        "rwlock 1 0",
+        "Rwlock 1 0",
         "semaphore 1 1",
         "cell 1",
         "barrier 1 1",
         "begin 0 Lock",
-        "begin 0 read",
+        "begin 0 Read",
+        "do 0 downgrade_to_upgradable",
+        "do 0 upgradable",
         "do 0 foo",
         "do 0 acquire",
         "do 0 set 5",
@@ -261,6 +338,10 @@ fn stops_at_a_bad_line(rt: HostRuntime) -> Result<(), Fail> {
         "mutex",
         "mutex 1",
         "mutex 1 0 0 0",
+        "rwlock",
+        "rwlock 1",
+        "rwlock 1 0 0 0 0",
+        "rwlock 1 0 nomem",
         "begin",
         "begin 0",
         "begin 0 put",
@@ -278,6 +359,8 @@ fn stops_at_a_bad_line(rt: HostRuntime) -> Result<(), Fail> {
         "do 0 put nomem",
         "do 0 lock 5",
         "do 0 trylock lock",
+        "do 0 read 5",
+        "do 0 upgrade write",
         "getmut",
         "getmut 1 2",
         "getmut 1 nomem",
@@ -294,6 +377,11 @@ fn stops_at_a_bad_line(rt: HostRuntime) -> Result<(), Fail> {
         "go 18446744073709551616",
         "mutex 1 0 x",
         "mutex 1 0 18446744073709551616",
+        "rwlock 1 x",
+        "rwlock 1 0 x",
+        "rwlock 1 0 0 x",
+        "rwlock 1 0 18446744073709551616",
+        "rwlock 1 0 0 18446744073709551616",
         "do 18446744073709551616 lock",
         "getmut x",
         "getmut 18446744073709551616",
@@ -301,6 +389,8 @@ fn stops_at_a_bad_line(rt: HostRuntime) -> Result<(), Fail> {
         "mutex 0 0",
         "mutex 65 0",
         "mutex 4294967297 0",
+        "rwlock 0 0",
+        "rwlock 65 0 1 1",
         // Inputs given twice, and what is no input.
         "go 0 nomem nomem",
         "go 0 starving nomem starving",

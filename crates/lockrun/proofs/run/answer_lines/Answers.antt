@@ -1,4 +1,4 @@
-use Rattle.lockrun.proofs.Lines.{lines-more}
+use Rattle.lock_script.proofs.Lines.{lines-more}
 use Rattle.lockrun.proofs.Plays.{played_none, played_more, played_all}
 use Rattle.lockrun.proofs.Scripts.{lines-none}
 use Rattle.lockrun.specs.Scripts.{IsLine}

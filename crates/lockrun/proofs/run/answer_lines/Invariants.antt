@@ -1,6 +1,6 @@
 use Rattle.std.proofs.Common.{length}
 use Rattle.std.specs.Prelude.{All}
-use Rattle.lockrun.specs.Lines.{lines_of}
+use Rattle.lock_script.specs.Lines.{lines_of}
 use Rattle.lockrun.specs.Scripts.{IsLine}
 use Rattle.lockrun.proofs.Plays.{HasPlayed}
 use Rattle.lockrun.proofs.run.answer_lines.Given as goal

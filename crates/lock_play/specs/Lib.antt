@@ -1,0 +1,6 @@
+pub mod Answers
+pub mod Openings
+pub mod Requests
+pub mod Mutex
+pub mod RwLock
+pub mod Worlds

@@ -1,0 +1,24 @@
+-- What a script asks of a mutex beyond its moves.
+use Rattle.std.specs.Prelude.{ℕ, List, ◌++◌, codes, decimal, is_some, if◌then◌else◌}
+use Rattle.lock_world.specs.Rosters.{how_many}
+use Rattle.lock_core.specs.Mutex.State.{World}
+use Rattle.lock_core.specs.Mutex.Laws.{is_at_rest}
+use Rattle.lock_core.specs.Mutex.Lending.{world_with}
+use Rattle.lock_play.specs.declared.played.Reply.{Reply}
+use Rattle.lock_play.specs.declared.played.Reply.TheVariants.{Done, NotPossible}
+use Rattle.lock_play.specs.Answers.{list_text}
+
+-- a value is put exactly where nobody is inside a call
+abbrev pub put_gives : World → ℕ → Reply × World
+put_gives w v = if is_at_rest w then (Done, world_with w v) else (NotPossible, w)
+
+-- no value of a mutex can be taken while the mutex stays
+abbrev pub take_gives : World → Reply × World
+take_gives w = (NotPossible, w)
+
+-- the state
+abbrev pub text_of : World → List ℕ
+text_of w = codes "mutex locked=" ++ decimal (if is_some w.state.holder then 1 else 0)
+    ++ codes " starved=" ++ decimal (how_many w.state.starved)
+    ++ codes " value=" ++ decimal w.state.value
+    ++ codes " list=" ++ list_text w.entries

@@ -1,0 +1,19 @@
+-- What the World that stands in a run does, of whichever lock it is.
+use Rattle.std.specs.Prelude.{◌≡◌, ℕ, List}
+use Rattle.lock_core.specs.Mutex.State as mutex
+use Rattle.lock_core.specs.Mutex.Legal as mutex_legal
+use Rattle.lock_core.specs.Mutex.Whole as mutex_whole
+use Rattle.lock_core.specs.RwLock.State as rwlock
+use Rattle.lock_core.specs.RwLock.Legal as rwlock_legal
+use Rattle.lock_core.specs.RwLock.Whole as rwlock_whole
+use Rattle.lock_script.specs.declared.command.Request.{Request}
+use Rattle.lock_play.specs.declared.world.World.{World}
+use Rattle.lock_play.specs.declared.world.World.TheVariants.{Mutex, RwLock}
+use Rattle.lock_play.specs.Mutex as mutex_played
+use Rattle.lock_play.specs.RwLock as rwlock_played
+use Rattle.lock_play.specs.Requests.{Does}
+
+-- what is asked for leads to a World of the same lock, and is answered by this text
+abbrev pub CarriesOut : Request → World → World → List ℕ → Type 0
+CarriesOut request (Mutex old) new text = (v : mutex.World) × (new ≡ Mutex v) × Does mutex_legal.Legal mutex_whole.IsWholeCall mutex_played.put_gives mutex_played.take_gives mutex_played.text_of request old v text
+CarriesOut request (RwLock old) new text = (v : rwlock.World) × (new ≡ RwLock v) × Does rwlock_legal.Legal rwlock_whole.IsWholeCall rwlock_played.put_gives rwlock_played.take_gives rwlock_played.text_of request old v text

@@ -1,0 +1,109 @@
+//! The text of answers and states.
+
+#[cfg(test)]
+mod tests;
+
+ghost use Rattle.std.specs.Prelude.{◌≡◌, ◌++◌, ℕ, List, codes, decimal, length, slice_get, OnOk};
+ghost use Rattle.std.specs.Io.KnownBytes.{Appends};
+ghost use Rattle.lock_play.specs.Answers.{answer_text, entry_text, got_text, list_text, reply_text, Prints};
+
+use crate::played::Reply;
+use lock_core::{Answer, Got};
+use lock_event::{Entry, Mark};
+use std::io;
+use std::io::Write;
+
+/// Writes the answer of a move, as one line.
+pub fn write_answer<O: Write>(answer: Answer, output: &mut O) -> io::Result<()>
+    ensures { Prints (O.contents output.old) (O.contents output.new) result (answer_text answer) }
+{
+    match answer {
+        Answer::Stepped => writeln!(output, "stepped"),
+        Answer::Pending => writeln!(output, "pending"),
+        Answer::Ready(got) => write_got("ready", got, output),
+        Answer::Granted(got) => write_got("granted", got, output),
+        Answer::None => writeln!(output, "none"),
+        Answer::GivenBack => writeln!(output, "given back"),
+        Answer::Waiting => writeln!(output, "waiting"),
+        Answer::Refused(number) => write_refused(number, output),
+        Answer::NotPossible => writeln!(output, "not possible"),
+    }
+}
+
+/// Writes that a call or a new World was refused for the reason of this number, as one line.
+pub fn write_refused<O: Write>(number: u8, output: &mut O) -> io::Result<()>
+    ensures { Prints (O.contents output.old) (O.contents output.new) result (codes "refused " ++ decimal number) }
+{
+    writeln!(output, "refused {number}")
+}
+
+/// Writes the reply to what was asked from outside every call, as one line. A new World is told of as
+/// [`Reply::Done`].
+pub fn write_reply<O: Write>(reply: Reply, output: &mut O) -> io::Result<()>
+    ensures { Prints (O.contents output.old) (O.contents output.new) result (reply_text reply) }
+{
+    match reply {
+        Reply::Done => writeln!(output, "ok"),
+        Reply::Nothing => writeln!(output, "none"),
+        Reply::Value(value) => writeln!(output, "{value}"),
+        Reply::NotPossible => writeln!(output, "not possible"),
+    }
+}
+
+/// Writes how a call succeeded and what it got, as one line.
+fn write_got<O: Write>(how: &str, got: Got, output: &mut O) -> io::Result<()>
+    ensures { Prints (O.contents output.old) (O.contents output.new) result (how.now ++ got_text got) }
+{
+    match got {
+        Got::Plain => writeln!(output, "{how}"),
+        Got::Value(value) => writeln!(output, "{how} {value}"),
+        Got::Leader(true) => writeln!(output, "{how} leader"),
+        Got::Leader(false) => writeln!(output, "{how} follower"),
+        Got::Taken(value) => writeln!(output, "{how} taken {value}"),
+        Got::Failed => writeln!(output, "{how} failed"),
+    }
+}
+
+/// A list of waiting parties, to be shown.
+pub trait Listed {
+    ghost use Rattle.lock_event.specs.declared.event.Entry.{Entry};
+
+    /// Its entries, the front first.
+    ghost entries: { Self → List (Entry ℕ) };
+
+    /// How many entries it has.
+    fn waiting(&self) -> usize
+        ensures { result ≡ length (entries self.now) };
+
+    /// The entry at this place, counted from the front. None past the last.
+    fn entry(&self, index: usize) -> Option<Entry<u32>>
+        ensures { result ≡ slice_get (entries self.now) index };
+}
+
+/// Writes a list of waiting parties.
+pub fn write_list<L: Listed, O: Write>(list: &L, output: &mut O) -> io::Result<()>
+    ensures { OnOk result (Appends (O.contents output.old) (O.contents output.new) (list_text (L.entries list.now))) }
+{
+    write!(output, "[")?;
+    for index in 0..list.waiting() {
+        let Some(entry) = list.entry(index) else {
+            break;
+        };
+        let gap = if index == 0 { "" } else { " " };
+        write_entry(gap, &entry, output)?;
+    }
+    write!(output, "]")
+}
+
+/// Writes an entry of a list, the party and its mark, after what sets it apart from the one before it.
+fn write_entry<O: Write>(gap: &str, entry: &Entry<u32>, output: &mut O) -> io::Result<()>
+    ensures { OnOk result (Appends (O.contents output.old) (O.contents output.new) (gap.now ++ entry_text entry.now)) }
+{
+    let party = entry.key;
+    let letter = match entry.mark {
+        Mark::Waiting => 'w',
+        Mark::Notified => 'n',
+        Mark::Additional => 'a',
+    };
+    write!(output, "{gap}{party}{letter}")
+}

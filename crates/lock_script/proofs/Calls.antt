@@ -1,0 +1,43 @@
+-- The words of a call.
+use Rattle.std.proofs.Common.{◌≡◌, ℕ, List, ◌∷◌, sym, subst, ◌∙◌}
+use Rattle.std.specs.Prelude.{Option, Some, codes}
+use Rattle.lock_world.specs.declared.moves.Call.{Call}
+use Rattle.lock_world.specs.declared.moves.Call.TheVariants as call
+use Rattle.lock_script.specs.Commands.{BeginsWithCall, IsWordOf}
+
+-- what is answered to a word that takes no number is answered to it and the words after it
+plain : (words after others : List (List ℕ)) (word : List ℕ) (r : Option Call) (c : Call) → words ≡ word ∷ after → ((d : Call) → IsWordOf word d → r ≡ Some d) → (w : List ℕ) × (words ≡ w ∷ others) × IsWordOf w c → (r ≡ Some c) × (after ≡ others)
+plain words after others word r c e named (w, a, h) =
+    let both : word ∷ after ≡ w ∷ others = sym e ∙ a in
+    let same : w ≡ word = cc in
+    let rest : after ≡ others = cc in
+    (named c (subst (λ x. IsWordOf x c) same h), rest)
+
+-- and where the word is not `put` that is so of each call
+pub asked_call : (words after others : List (List ℕ)) (word : List ℕ) (r : Option Call) → words ≡ word ∷ after → ¬ (word ≡ codes "put") → ((d : Call) → IsWordOf word d → r ≡ Some d) → (c : Call) → BeginsWithCall words c others → (r ≡ Some c) × (after ≡ others)
+asked_call words after others word r e n named (call.Put v) (w, a, h) =
+    let both : word ∷ after ≡ codes "put" ∷ w ∷ others = sym e ∙ a in
+    let same : word ≡ codes "put" = cc in
+    absurd (n same)
+asked_call words after others word r e n named call.Lock h = plain words after others word r _ e named h
+asked_call words after others word r e n named call.TryLock h = plain words after others word r _ e named h
+asked_call words after others word r e n named call.Read h = plain words after others word r _ e named h
+asked_call words after others word r e n named call.UpgradableRead h = plain words after others word r _ e named h
+asked_call words after others word r e n named call.Write h = plain words after others word r _ e named h
+asked_call words after others word r e n named call.TryRead h = plain words after others word r _ e named h
+asked_call words after others word r e n named call.TryUpgradableRead h = plain words after others word r _ e named h
+asked_call words after others word r e n named call.TryWrite h = plain words after others word r _ e named h
+asked_call words after others word r e n named call.Upgrade h = plain words after others word r _ e named h
+asked_call words after others word r e n named call.TryUpgrade h = plain words after others word r _ e named h
+asked_call words after others word r e n named call.Downgrade h = plain words after others word r _ e named h
+asked_call words after others word r e n named call.DowngradeToUpgradable h = plain words after others word r _ e named h
+asked_call words after others word r e n named call.Acquire h = plain words after others word r _ e named h
+asked_call words after others word r e n named call.TryAcquire h = plain words after others word r _ e named h
+asked_call words after others word r e n named call.Forget h = plain words after others word r _ e named h
+asked_call words after others word r e n named call.Initialize h = plain words after others word r _ e named h
+asked_call words after others word r e n named call.Wait h = plain words after others word r _ e named h
+asked_call words after others word r e n named call.Poll h = plain words after others word r _ e named h
+asked_call words after others word r e n named call.Drop h = plain words after others word r _ e named h
+asked_call words after others word r e n named (call.AddPermits v) h = plain words after others word r _ e named h
+asked_call words after others word r e n named (call.Set v) h = plain words after others word r _ e named h
+asked_call words after others word r e n named (call.TrySet v) h = plain words after others word r _ e named h

@@ -1,0 +1,4 @@
+pub mod Calls
+pub mod Inputs
+pub mod Lines
+pub mod Numbers

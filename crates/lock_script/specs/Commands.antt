@@ -1,0 +1,148 @@
+-- What a line's words ask for.
+use Rattle.std.specs.Prelude.{◌≡◌, ℕ, ◌≤◌, Bool, if◌then◌else◌, not, ◌&&◌, List, [], ◌∷◌, ◌++◌, codes, bytes_eq, count_by, filter, Option, None, Some}
+use Rattle.lock_world.specs.declared.moves.Call.{Call}
+use Rattle.lock_world.specs.declared.moves.Call.TheVariants as call
+use Rattle.lock_world.specs.declared.moves.Inputs.{Inputs}
+use Rattle.lock_world.specs.declared.moves.Made.{Made}
+use Rattle.lock_world.specs.declared.moves.Made.TheVariants as made
+use Rattle.lock_world.specs.declared.moves.What.TheVariants.{Begin, Go}
+use Rattle.lock_script.specs.declared.command.Verb.{Verb}
+use Rattle.lock_script.specs.declared.command.Verb.TheVariants as verb
+use Rattle.lock_script.specs.declared.command.Command.{Command}
+use Rattle.lock_script.specs.declared.command.Command.TheVariants.{New, On}
+use Rattle.lock_script.specs.declared.command.Model.TheVariants.{Mutex, RwLock}
+use Rattle.lock_script.specs.declared.command.Request.TheVariants.{Step, Whole, Put, Take, Show}
+use Rattle.lock_script.specs.Lines.{Writes}
+
+-- the first word of each command
+abbrev pub name_of : Verb → List ℕ
+name_of verb.Mutex = codes "mutex"
+name_of verb.RwLock = codes "rwlock"
+name_of verb.Begin = codes "begin"
+name_of verb.Go = codes "go"
+name_of verb.Do = codes "do"
+name_of verb.GetMut = codes "getmut"
+name_of verb.Take = codes "take"
+name_of verb.Show = codes "show"
+
+-- the words write this limit: one number, or no word where none is given
+abbrev pub WritesLimit : List (List ℕ) → Option ℕ → Type 0
+WritesLimit words None = words ≡ []
+WritesLimit words (Some n) = (word : List ℕ) × (words ≡ word ∷ []) × Writes word n
+
+-- the words write these two limits: no word is there, or the first limit's number, and after it none or the second one's
+abbrev pub WritesLimits : List (List ℕ) → Option ℕ → Option ℕ → Type 0
+WritesLimits words None second = (words ≡ []) × (second ≡ None)
+WritesLimits words (Some n) second = (word : List ℕ) × (others : List (List ℕ)) × (words ≡ word ∷ others) × Writes word n × WritesLimit others second
+
+-- the numbers of a mutex: of parties, from 1 to 64, the value, and how many parties may be starved
+pub record AreMutexNumbers (words : List (List ℕ)) (parties value : ℕ) (starved : Option ℕ) : Type 0 where
+  pub first : List ℕ
+  pub second : List ℕ
+  pub others : List (List ℕ)
+  pub are : words ≡ first ∷ second ∷ others
+  pub counts : Writes first parties
+  pub values : Writes second value
+  pub limits : WritesLimit others starved
+  pub least : 1 ≤ parties
+  pub most : parties ≤ 64
+
+-- the numbers of a read-write lock: of parties, from 1 to 64, the value, how many parties may be starved for the turn, and how many may read
+pub record AreRwLockNumbers (words : List (List ℕ)) (parties value : ℕ) (starved readers : Option ℕ) : Type 0 where
+  pub first : List ℕ
+  pub second : List ℕ
+  pub others : List (List ℕ)
+  pub are : words ≡ first ∷ second ∷ others
+  pub counts : Writes first parties
+  pub values : Writes second value
+  pub limits : WritesLimits others starved readers
+  pub least : 1 ≤ parties
+  pub most : parties ≤ 64
+
+-- the word of a call that takes no number
+abbrev pub IsWordOf : List ℕ → Call → Type 0
+IsWordOf word call.Lock = word ≡ codes "lock"
+IsWordOf word call.TryLock = word ≡ codes "trylock"
+IsWordOf word call.Read = word ≡ codes "read"
+IsWordOf word call.UpgradableRead = word ≡ codes "upread"
+IsWordOf word call.Write = word ≡ codes "write"
+IsWordOf word call.TryRead = word ≡ codes "tryread"
+IsWordOf word call.TryUpgradableRead = word ≡ codes "tryupread"
+IsWordOf word call.TryWrite = word ≡ codes "trywrite"
+IsWordOf word call.Upgrade = word ≡ codes "upgrade"
+IsWordOf word call.TryUpgrade = word ≡ codes "tryupgrade"
+IsWordOf word call.Downgrade = word ≡ codes "downgrade"
+IsWordOf word call.DowngradeToUpgradable = word ≡ codes "toupgradable"
+IsWordOf word call.Poll = word ≡ codes "poll"
+IsWordOf word call.Drop = word ≡ codes "drop"
+IsWordOf word _ = ⊥
+
+-- the words begin with those of this call, and the others follow
+abbrev pub BeginsWithCall : List (List ℕ) → Call → List (List ℕ) → Type 0
+BeginsWithCall words (call.Put v) others = (word : List ℕ) × (words ≡ codes "put" ∷ word ∷ others) × Writes word v
+BeginsWithCall words c others = (word : List ℕ) × (words ≡ word ∷ others) × IsWordOf word c
+
+-- the word says what the maker gives: `made=` with a number, or `made=fail`
+abbrev pub WritesMade : List ℕ → Made → Type 0
+WritesMade word made.Pending = ⊥
+WritesMade word (made.Value v) = (digits : List ℕ) × (word ≡ codes "made=" ++ digits) × Writes digits v
+WritesMade word made.Fail = word ≡ codes "made=fail"
+
+-- the words say what the maker gives: one does, or none where it is pending
+abbrev pub GivesMade : List (List ℕ) → Made → Type 0
+GivesMade words made.Pending = words ≡ []
+GivesMade words m = (word : List ℕ) × (words ≡ word ∷ []) × WritesMade word m
+
+-- neither `nomem` nor `starving`
+abbrev pub is_of_maker : List ℕ → Bool
+is_of_maker word = not (bytes_eq word (codes "nomem")) && not (bytes_eq word (codes "starving"))
+
+-- the words give these inputs, in any order: `nomem` stands there once if memory is refused and else not, `starving` once if the party is starving and else not, and all others say what the maker gives
+pub record WritesInputs (words : List (List ℕ)) (inputs : Inputs) : Type 0 where
+  pub memory : count_by (λ word. bytes_eq word (codes "nomem")) words ≡ (if inputs.memory then 0 else 1)
+  pub starving : count_by (λ word. bytes_eq word (codes "starving")) words ≡ (if inputs.starving then 1 else 0)
+  pub made : GivesMade (filter is_of_maker words) inputs.made
+
+-- the words after `begin` or `do`: a party's number, its call, and the inputs
+pub record AreOfCall (words : List (List ℕ)) (party : ℕ) (call : Call) (inputs : Inputs) : Type 0 where
+  pub first : List ℕ
+  pub after : List (List ℕ)
+  pub others : List (List ℕ)
+  pub are : words ≡ first ∷ after
+  pub numbers : Writes first party
+  pub calls : BeginsWithCall after call others
+  pub gives : WritesInputs others inputs
+
+-- the words after `go`: a party's number and the inputs
+pub record AreOfGo (words : List (List ℕ)) (party : ℕ) (inputs : Inputs) : Type 0 where
+  pub first : List ℕ
+  pub others : List (List ℕ)
+  pub are : words ≡ first ∷ others
+  pub numbers : Writes first party
+  pub gives : WritesInputs others inputs
+
+-- what a command begins with
+abbrev pub verb_of : Command → Verb
+verb_of (New (Mutex parties value starved)) = verb.Mutex
+verb_of (New (RwLock parties value starved readers)) = verb.RwLock
+verb_of (On (Step party (Begin call inputs))) = verb.Begin
+verb_of (On (Step party (Go inputs))) = verb.Go
+verb_of (On (Whole party call inputs)) = verb.Do
+verb_of (On (Put value)) = verb.GetMut
+verb_of (On Take) = verb.Take
+verb_of (On Show) = verb.Show
+
+-- the words after the first one write what the command takes
+abbrev pub Details : List (List ℕ) → Command → Type 0
+Details words (New (Mutex parties value starved)) = AreMutexNumbers words parties value starved
+Details words (New (RwLock parties value starved readers)) = AreRwLockNumbers words parties value starved readers
+Details words (On (Step party (Begin call inputs))) = AreOfCall words party call inputs
+Details words (On (Step party (Go inputs))) = AreOfGo words party inputs
+Details words (On (Whole party call inputs)) = AreOfCall words party call inputs
+Details words (On (Put value)) = (word : List ℕ) × (words ≡ word ∷ []) × Writes word value
+Details words (On Take) = words ≡ []
+Details words (On Show) = words ≡ []
+
+-- the words of a line ask for this command: the first is its name, and the others write what it takes
+abbrev pub Asks : List (List ℕ) → Command → Type 0
+Asks words c = (others : List (List ℕ)) × (words ≡ name_of (verb_of c) ∷ others) × Details others c

@@ -1,0 +1,397 @@
+//! What a line of a script asks for.
+
+ghost use Rattle.std.specs.Prelude.{◌≡◌, ◌≢◌, ◌↔◌, ◌≤◌, ◌++◌, ℕ, List, [], ◌∷◌, Option, Some, codes, IsSome, OnSome, IfSome, IfNone, IsTrue};
+ghost use Rattle.lock_world.specs.declared.moves.Call.{Call};
+ghost use Rattle.lock_world.specs.declared.moves.Inputs.{Inputs};
+ghost use Rattle.lock_world.specs.declared.moves.Made.{Made};
+ghost use Rattle.lock_script.specs.Commands.{name_of, verb_of, AreOfCall, Asks, BeginsWithCall, Details, IsWordOf};
+ghost use Rattle.lock_script.specs.Commands.{is_of_maker, WritesInputs, WritesLimit, WritesLimits, WritesMade};
+ghost use Rattle.lock_script.specs.declared.command.Command.{Command};
+ghost use Rattle.lock_script.specs.declared.command.Verb.{Verb};
+ghost use Rattle.lock_script.specs.Lines.{words_of, IsPrintable, IsTrimmed, IsNumber, Writes};
+
+use crate::line::{self, Words};
+use lock_world::{Call, Inputs, Made, What};
+
+/// What a line asks for.
+#[derive(Clone, Copy, Debug, PartialEq, Eq)]
+pub enum Command {
+    /// A new World takes the place of any old one.
+    New(Model),
+    /// Something is asked of the World that stands.
+    On(Request),
+}
+
+/// A World to be made.
+#[derive(Clone, Copy, Debug, PartialEq, Eq)]
+pub enum Model {
+    /// A mutex over this value, with so many parties, of which at most so many may be starved at a time:
+    /// as many as a mutex allows, where no number is given.
+    Mutex {
+        parties: u32,
+        value: u64,
+        starved: Option<u64>,
+    },
+    /// A read-write lock over this value, with so many parties, of which at most so many may be starved for
+    /// the turn at a time, and at most so many may read: as many as a read-write lock allows, where no
+    /// number is given.
+    RwLock {
+        parties: u32,
+        value: u64,
+        starved: Option<u64>,
+        readers: Option<u64>,
+    },
+}
+
+/// What is asked of a World.
+#[derive(Clone, Copy, Debug, PartialEq, Eq)]
+pub enum Request {
+    /// One move of this party, whose number may be past any table.
+    Step {
+        party: u64,
+        what: What,
+    },
+    /// A whole call of this party, to its end.
+    Whole {
+        party: u64,
+        call: Call,
+        inputs: Inputs,
+    },
+    /// This value is left from outside every call.
+    Put(u64),
+    /// The value is taken out from outside every call.
+    Take,
+    /// The state is shown.
+    Show,
+}
+
+/// The greatest number of parties that a line may ask for.
+pub const PARTIES: u64 = 64;
+
+/// The command of a line that is neither empty nor a comment. A line that is no command is none: one with
+/// a byte that isn't printable or with a space at an end, an unknown word, a missing or spare number, a
+/// number of more than 64 bits, an input given twice.
+pub fn parse(text: &[u8]) -> Option<Command>
+    ensures line { OnSome result (IsPrintable text.now × IsTrimmed text.now) }
+    ensures words { IfSome result (Asks (words_of text.now)) }
+    ensures asked { (c : Command) → IsPrintable text.now → IsTrimmed text.now → Asks (words_of text.now) c
+        → result ≡ Some c }
+{
+    if line::is_printable(text) && line::is_trimmed(text) {
+        whole(&mut Words::new(text))
+    } else {
+        None
+    }
+}
+
+/// What a command begins with.
+#[derive(Clone, Copy, Debug, PartialEq, Eq)]
+enum Verb {
+    Mutex,
+    RwLock,
+    Begin,
+    Go,
+    Do,
+    GetMut,
+    Take,
+    Show,
+}
+
+/// The verb that a word names.
+fn named(word: &[u8]) -> Option<Verb>
+    ensures is { IfSome result (λ v. word.now ≡ name_of v) }
+    ensures asked { (v : Verb) → word.now ≡ name_of v → result ≡ Some v }
+{
+    match word {
+        b"mutex" => Some(Verb::Mutex),
+        b"rwlock" => Some(Verb::RwLock),
+        b"begin" => Some(Verb::Begin),
+        b"go" => Some(Verb::Go),
+        b"do" => Some(Verb::Do),
+        b"getmut" => Some(Verb::GetMut),
+        b"take" => Some(Verb::Take),
+        b"show" => Some(Verb::Show),
+        _ => None,
+    }
+}
+
+/// The command that these words ask for, all of them.
+fn whole(words: &mut Words<'_>) -> Option<Command>
+    ensures words { IfSome result (Asks words.old) }
+    ensures asked { (c : Command) → Asks words.old c → result ≡ Some c }
+{
+    match named(words.next()?)? {
+        Verb::Mutex => mutex(words),
+        Verb::RwLock => rwlock(words),
+        Verb::Begin => begin(words),
+        Verb::Go => go(words),
+        Verb::Do => poll_whole(words),
+        Verb::GetMut => put(words),
+        Verb::Take => alone(words, Command::On(Request::Take)),
+        Verb::Show => alone(words, Command::On(Request::Show)),
+    }
+}
+
+/// A mutex, by the words after its name.
+fn mutex(words: &mut Words<'_>) -> Option<Command>
+    ensures words { IfSome result (λ c. (verb_of c ≡ Verb.Mutex) × Details words.old c) }
+    ensures asked { (c : Command) → verb_of c ≡ Verb.Mutex → Details words.old c → result ≡ Some c }
+{
+    let parties = parties(words)?;
+    let value = number(words)?;
+    let starved = limit(words)?;
+    Some(Command::New(Model::Mutex {
+        parties,
+        value,
+        starved,
+    }))
+}
+
+/// A read-write lock, by the words after its name.
+fn rwlock(words: &mut Words<'_>) -> Option<Command>
+    ensures words { IfSome result (λ c. (verb_of c ≡ Verb.RwLock) × Details words.old c) }
+    ensures asked { (c : Command) → verb_of c ≡ Verb.RwLock → Details words.old c → result ≡ Some c }
+{
+    let parties = parties(words)?;
+    let value = number(words)?;
+    let (starved, readers) = limits(words)?;
+    Some(Command::New(Model::RwLock {
+        parties,
+        value,
+        starved,
+        readers,
+    }))
+}
+
+/// The two limits that the words left write, all of them: none where no word is left, and the first alone
+/// where one is.
+fn limits(words: &mut Words<'_>) -> Option<(Option<u64>, Option<u64>)>
+    ensures words { IfSome result (λ l. WritesLimits words.old l.0 l.1) }
+    ensures asked { (first second : Option ℕ) → WritesLimits words.old first second
+        → result ≡ Some (first, second) }
+{
+    match words.next() {
+        None => Some((None, None)),
+        Some(word) => {
+            let first = line::number(word)?;
+            let second = limit(words)?;
+            Some((Some(first), second))
+        }
+    }
+}
+
+/// The limit that the words left write, all of them: none where no word is left.
+fn limit(words: &mut Words<'_>) -> Option<Option<u64>>
+    ensures words { IfSome result (WritesLimit words.old) }
+    ensures asked { (l : Option ℕ) → WritesLimit words.old l → result ≡ Some l }
+{
+    match words.next() {
+        None => Some(None),
+        Some(word) => {
+            let limit = line::number(word)?;
+            end(words)?;
+            Some(Some(limit))
+        }
+    }
+}
+
+/// A call that begins, by the words after `begin`.
+fn begin(words: &mut Words<'_>) -> Option<Command>
+    ensures words { IfSome result (λ c. (verb_of c ≡ Verb.Begin) × Details words.old c) }
+    ensures asked { (c : Command) → verb_of c ≡ Verb.Begin → Details words.old c → result ≡ Some c }
+{
+    let (party, call, inputs) = called(words)?;
+    let what = What::Begin(call, inputs);
+    Some(Command::On(Request::Step { party, what }))
+}
+
+/// A whole call, by the words after `do`.
+fn poll_whole(words: &mut Words<'_>) -> Option<Command>
+    ensures words { IfSome result (λ c. (verb_of c ≡ Verb.Do) × Details words.old c) }
+    ensures asked { (c : Command) → verb_of c ≡ Verb.Do → Details words.old c → result ≡ Some c }
+{
+    let (party, call, inputs) = called(words)?;
+    Some(Command::On(Request::Whole {
+        party,
+        call,
+        inputs,
+    }))
+}
+
+/// The party, the call and the inputs that the words left write, all of them.
+fn called(words: &mut Words<'_>) -> Option<(u64, Call, Inputs)>
+    ensures words { IfSome result (λ r. AreOfCall words.old r.0 r.1 r.2) }
+    ensures asked { (party : ℕ) (call : Call) (inputs : Inputs) → AreOfCall words.old party call inputs
+        → result ≡ Some (party, call, inputs) }
+{
+    let party = number(words)?;
+    let call = call(words)?;
+    let inputs = inputs(words)?;
+    Some((party, call, inputs))
+}
+
+/// A call that goes on, by the words after `go`.
+fn go(words: &mut Words<'_>) -> Option<Command>
+    ensures words { IfSome result (λ c. (verb_of c ≡ Verb.Go) × Details words.old c) }
+    ensures asked { (c : Command) → verb_of c ≡ Verb.Go → Details words.old c → result ≡ Some c }
+{
+    let party = number(words)?;
+    let inputs = inputs(words)?;
+    let what = What::Go(inputs);
+    Some(Command::On(Request::Step { party, what }))
+}
+
+/// A value to be put, by the words after `getmut`.
+fn put(words: &mut Words<'_>) -> Option<Command>
+    ensures words { IfSome result (λ c. (verb_of c ≡ Verb.GetMut) × Details words.old c) }
+    ensures asked { (c : Command) → verb_of c ≡ Verb.GetMut → Details words.old c → result ≡ Some c }
+{
+    let value = number(words)?;
+    end(words)?;
+    Some(Command::On(Request::Put(value)))
+}
+
+/// This command, where no word is left.
+fn alone(words: &mut Words<'_>, command: Command) -> Option<Command>
+    ensures words { IfSome result (λ c. (c ≡ command) × (words.old ≡ [])) }
+    ensures asked { words.old ≡ [] → result ≡ Some command }
+{
+    end(words)?;
+    Some(command)
+}
+
+/// Nothing, where no word is left.
+fn end(words: &mut Words<'_>) -> Option<()>
+    ensures { IsSome result ↔ (words.old ≡ []) }
+{
+    match words.next() {
+        Some(_) => None,
+        None => Some(()),
+    }
+}
+
+/// The number that the next word writes.
+fn number(words: &mut Words<'_>) -> Option<u64>
+    ensures taken { IfSome result (λ n. (word : List ℕ) × (words.old ≡ word ∷ words.new) × Writes word n) }
+    ensures none { (word : List ℕ) (rest : List (List ℕ)) → words.old ≡ word ∷ rest → IsNumber word → IsSome result }
+{
+    line::number(words.next()?)
+}
+
+/// The number of parties, from 1 to [`PARTIES`], that the next word writes.
+fn parties(words: &mut Words<'_>) -> Option<u32>
+    ensures taken { IfSome result (λ n. (word : List ℕ) × (words.old ≡ word ∷ words.new) × Writes word n
+        × (1 ≤ n) × (n ≤ 64)) }
+    ensures none { (word : List ℕ) (rest : List (List ℕ)) (n : ℕ) → words.old ≡ word ∷ rest → Writes word n
+        → 1 ≤ n → n ≤ 64 → IsSome result }
+{
+    match number(words)? {
+        0 => None,
+        count if count <= PARTIES => Some(count as u32),
+        _ => None,
+    }
+}
+
+/// The call that the next word names, with the number that it takes.
+fn call(words: &mut Words<'_>) -> Option<Call>
+    ensures words { IfSome result (λ c. BeginsWithCall words.old c words.new) }
+    ensures asked { (c : Call) (others : List (List ℕ)) → BeginsWithCall words.old c others
+        → (result ≡ Some c) × (words.new ≡ others) }
+{
+    let word = words.next()?;
+    if word == b"put".as_slice() {
+        return Some(Call::Put(number(words)?));
+    }
+    plain_call(word)
+}
+
+/// The call that a word names, if it takes no number.
+fn plain_call(word: &[u8]) -> Option<Call>
+    ensures word { IfSome result (IsWordOf word.now) }
+    ensures asked { (c : Call) → IsWordOf word.now c → result ≡ Some c }
+{
+    // Each word is compared as a whole: the prover has much more to do with patterns of bytes.
+    match word {
+        w if w == b"lock".as_slice() => Some(Call::Lock),
+        w if w == b"trylock".as_slice() => Some(Call::TryLock),
+        w if w == b"read".as_slice() => Some(Call::Read),
+        w if w == b"upread".as_slice() => Some(Call::UpgradableRead),
+        w if w == b"write".as_slice() => Some(Call::Write),
+        w if w == b"tryread".as_slice() => Some(Call::TryRead),
+        w if w == b"tryupread".as_slice() => Some(Call::TryUpgradableRead),
+        w if w == b"trywrite".as_slice() => Some(Call::TryWrite),
+        w if w == b"upgrade".as_slice() => Some(Call::Upgrade),
+        w if w == b"tryupgrade".as_slice() => Some(Call::TryUpgrade),
+        w if w == b"downgrade".as_slice() => Some(Call::Downgrade),
+        w if w == b"toupgradable".as_slice() => Some(Call::DowngradeToUpgradable),
+        w if w == b"poll".as_slice() => Some(Call::Poll),
+        w if w == b"drop".as_slice() => Some(Call::Drop),
+        _ => None,
+    }
+}
+
+/// The inputs that all further words give, each at most once, in any order. What is not given is the
+/// plain case: memory is found, the party isn't starving, the maker is pending.
+fn inputs(words: &mut Words<'_>) -> Option<Inputs>
+    ensures words { IfSome result (WritesInputs words.old) }
+    ensures asked { (inputs : Inputs) → WritesInputs words.old inputs → result ≡ Some inputs }
+{
+    let mut inputs = Inputs {
+        memory: true,
+        starving: false,
+        made: Made::Pending,
+    };
+    for word in words {
+        inputs = with_word(inputs, word)?;
+    }
+    Some(inputs)
+}
+
+/// The inputs that some words give together with this one, after those. None where the word gives none,
+/// or gives again what those gave.
+fn with_word(mut inputs: Inputs, word: &[u8]) -> Option<Inputs>
+    ensures words { (passed : List (List ℕ)) → WritesInputs passed inputs
+        → IfSome result (WritesInputs (passed ++ word.now ∷ [])) }
+    ensures none { (passed rest : List (List ℕ)) → WritesInputs passed inputs
+        → IfNone result ((i : Inputs) → ¬ WritesInputs (passed ++ word.now ∷ rest) i) }
+{
+    match topic_of(word) {
+        Topic::Memory if inputs.memory => inputs.memory = false,
+        Topic::Starving if !inputs.starving => inputs.starving = true,
+        Topic::Maker if inputs.made == Made::Pending => inputs.made = made(word)?,
+        _ => return None,
+    }
+    Some(inputs)
+}
+
+/// What an input's word may tell of.
+#[derive(Clone, Copy, Debug, PartialEq, Eq)]
+enum Topic {
+    Memory,
+    Starving,
+    Maker,
+}
+
+/// What this word tells of, if it gives an input.
+fn topic_of(word: &[u8]) -> Topic
+    ensures memory { result ≡ Topic.Memory → word.now ≡ codes "nomem" }
+    ensures starving { result ≡ Topic.Starving → word.now ≡ codes "starving" }
+    ensures maker { result ≡ Topic.Maker → IsTrue (is_of_maker word.now) }
+{
+    match word {
+        b"nomem" => Topic::Memory,
+        b"starving" => Topic::Starving,
+        _ => Topic::Maker,
+    }
+}
+
+/// What a word of the form `made=V` or `made=fail` gives.
+fn made(word: &[u8]) -> Option<Made>
+    ensures words { IfSome result (WritesMade word.now) }
+    ensures asked { (m : Made) → WritesMade word.now m → result ≡ Some m }
+{
+    match word.strip_prefix(b"made=")? {
+        b"fail" => Some(Made::Fail),
+        value => Some(Made::Value(line::number(value)?)),
+    }
+}
