@@ -120,7 +120,7 @@ module _ (memory : Bool) (l : Lock) (v : ℕ) where
 '''
 
 MACHINE_HEAD = """-- Each action of a party, place by place: what it changes, and what it decides. Written by generators/mutex_rows.py.
-use Rattle.std.proofs.Common.{◌≡◌, ℕ, ◌<◌, ◌⊎◌, inl, inr, Bool, true, false, Option, Some, None, refl}
+use Rattle.std.proofs.Common.{◌≡◌, ◌<◌, ◌⊎◌, inl, inr, Bool, true, false, Option, Some, None, refl}
 use Rattle.lock_world.specs.declared.refusal.Refusal.TheVariants.{Memory, Starved}
 use Rattle.lock_world.specs.Steps.{Deed, nothing, changes, does, joins, asks, leaves, notifies}
 use Rattle.mutex_machine.specs.declared.program.Place.{Place}

@@ -14,7 +14,7 @@ PLACES = ('Out, Made, Reading, Upgradable, Writing, EnterRead, JoinNoWriter, Loo
           'CancelAwait, Unmark, UnmarkNotify, Down, DownNotify, DowngradeNotify')
 
 PATHS_HEAD = f'''-- Where each action leads, place by place. Written by generators/rwlock_world_rows.py.
-use Rattle.std.proofs.Common.{{◌≡◌, ◌&&◌, Bool, true, false, Option, Some, None, refl}}
+use Rattle.std.proofs.Common.{{◌≡◌, ◌&&◌, Bool, true, false, Option, refl}}
 use Rattle.lock_world.specs.declared.refusal.Refusal.{{Refusal}}
 use Rattle.lock_world.specs.declared.refusal.Refusal.TheVariants as refusal
 use Rattle.mutex_machine.specs.declared.program.Place.{{Place as TurnPlace}}
@@ -234,7 +234,6 @@ use Rattle.mutex_machine.specs.declared.program.Place.{{Place as TurnPlace}}
 use Rattle.mutex_machine.specs.Courses.{{is_out as is_out_there, is_holding}}
 use Rattle.rwlock_machine.specs.declared.program.Action.{{Action}}
 use Rattle.rwlock_machine.specs.declared.program.Action.TheVariants as act
-use Rattle.rwlock_machine.specs.declared.program.End.{{End}}
 use Rattle.rwlock_machine.specs.declared.program.End.TheVariants.{{Got, Pending, Waiting, NotFree, GivenBack, Refused}}
 use Rattle.rwlock_machine.specs.declared.program.Next.{{Next}}
 use Rattle.rwlock_machine.specs.declared.program.Next.TheVariants as next
@@ -253,10 +252,10 @@ use Rattle.rwlock_machine.specs.Parties.{{OnNoWriter, OnNoReaders}}
 use Rattle.rwlock_machine.specs.Machine.{{RwLock}}
 use Rattle.rwlock_machine.specs.Acts.{{Finds, readers, marked}}
 use Rattle.rwlock_machine.proofs.Leads.{{Led, steps_in_turn}}
-use Rattle.lock_core.specs.RwLock.Changes.{{Change, ListName, takes_turn, leaves_turn, starves, recovers, begins_to_read, stops_reading, becomes_upgradable, stops_upgradable, begins_to_wait, begins_to_write, upgrades, upgrades_at_once, unmarks, downgrades, downgrades_to_upgradable, puts, for_the_turn, for_no_readers, for_no_writer, turn_after, starved_after, value_after, turn_list_after, no_readers_after, no_writer_after, gives_back}}
+use Rattle.lock_core.specs.RwLock.Changes.{{Change, ListName, begins_to_read, stops_reading, becomes_upgradable, stops_upgradable, begins_to_wait, begins_to_write, upgrades, upgrades_at_once, unmarks, downgrades, downgrades_to_upgradable, for_no_readers, for_no_writer, turn_after, starved_after, value_after, turn_list_after, no_readers_after, no_writer_after, gives_back}}
 use Rattle.lock_core.specs.RwLock.State as state
 use Rattle.lock_core.specs.RwLock.Plans.{{Course, tries, tries_upgrade, strays, course_of}}
-use Rattle.lock_core.specs.RwLock.View.{{Share, passing, upgrading, waiting, writing, turn_as, share_of, is_reading, is_upgrade, verdict}}
+use Rattle.lock_core.specs.RwLock.View.{{passing, upgrading, waiting, writing, turn_as, share_of, is_reading, is_upgrade, verdict}}
 
 -- what an action changes that found this
 abbrev pub deed_of : Action → Found → Deed Change ListName

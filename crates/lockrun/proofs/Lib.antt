@@ -2,3 +2,4 @@ pub mod Asked
 pub mod Reading
 pub mod Scripts
 pub mod Plays
+pub mod Faults

@@ -36,7 +36,8 @@ answered line command old new before after (Ok v) a p t (text, leads, appended) 
 )
 answered line command old new before after (Err e) a p t h = tt
 
-none_after : (text : List ℕ) → length text ≤ position_or_len (is_byte 10) text → (before_first (is_byte 10) text ≡ text) × (after_first (is_byte 10) text ≡ []) × (lines_of text ≡ text ∷ [])
+-- where no line feed is left, the text is one line
+pub none_after : (text : List ℕ) → length text ≤ position_or_len (is_byte 10) text → (before_first (is_byte 10) text ≡ text) × (after_first (is_byte 10) text ≡ []) × (lines_of text ≡ text ∷ [])
 none_after text far = (
   take_all _ text far,
   drop_all _ text (omega arith),

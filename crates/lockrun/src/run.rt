@@ -5,13 +5,15 @@ mod rows;
 #[cfg(test)]
 mod tests;
 
-ghost use Rattle.std.specs.Prelude.{◌≡◌, ◌≢◌, ◌⊎◌, ◌+◌, ◌<◌, ◌≤◌, ◌↔◌, ◌++◌, ℕ, List, [], ◌∷◌, All, codes, length, map, vec_len, string_bytes, Some, Ok, Err, IsOk, IsErr, IsTrue, IfOk, OnOk, OnErr, IfSome};
+ghost use Rattle.std.specs.Prelude.{◌≡◌, ◌≢◌, ◌⊎◌, ◌+◌, ◌<◌, ◌≤◌, ◌↔◌, ◌++◌, ℕ, List, [], ◌∷◌, All, codes, length, map, vec_len, string_bytes, Some, None, Ok, Err, IsOk, IsErr, IsTrue, IfOk, IfErr, OnOk, OnErr, IfSome};
 ghost use Rattle.std.specs.Io.{StartsWith, appended_bytes};
 ghost use Rattle.std.specs.Io.KnownBytes.{Appends, Consumes, IsAtEnd, Keeps};
 ghost use Rattle.lock_play.specs.Openings.{world_of};
 ghost use Rattle.lockrun.specs.Plays.{IsPlayed, Leads, PlaysLine};
-ghost use Rattle.lockrun.specs.Scripts.{asked, IsLine, IsScript, IsStartOfScript};
+ghost use Rattle.lockrun.specs.Scripts.{asked, HasBadLine, IsAtFault, IsLine, IsScript, IsStartOfScript, NeedsWorld};
 ghost use Rattle.lock_script.specs.Lines.{lines_of};
+ghost use Rattle.lock_script.specs.declared.command.Command.TheVariants.{On};
+ghost use Rattle.lock_script.specs.declared.command.Request.{Request};
 ghost use Rattle.lockrun.specs.Faults.{status_of};
 
 use crate::fault::Fault;
@@ -31,7 +33,14 @@ pub const LIMIT: usize = 1_048_576;
 /// How many bytes one read asks for.
 const CHUNK: usize = 16_384;
 
-/// Carries out the program on these arguments, the words after its name.
+/// Carries out the program on these arguments, the words after its name: with the one word `script` it
+/// answers the lines of the input.
+///
+/// The status is 0 where the whole script was answered (clauses `script` and `played`); 1 where the input
+/// is at fault, longer than [`LIMIT`] or with a line that is bad where it stands (`fault`), and then the
+/// lines before that one are answered, and none of a script that is too long (`long`); 2 for other
+/// arguments (`usage`, `asked`); and 3 where reading or writing failed or memory was refused. Each status
+/// but 0 is told of in one line of the error output.
 pub fn run<I: Read, O: Write, E: Write>(
     alloc: Global,
     words: &[String],
@@ -48,6 +57,7 @@ pub fn run<I: Read, O: Write, E: Write>(
         → IfSome (I.remaining input.old) IsScript }
     ensures played { map string_bytes words.now ≡ asked → result ≡ 0
         → IfSome (I.remaining input.old) (λ text. IsPlayed text (O.contents output.old) (O.contents output.new)) }
+    ensures fault { result ≡ 1 → IfSome (I.remaining input.old) IsAtFault }
     ensures long { map string_bytes words.now ≡ asked
         → IfSome (I.remaining input.old) (λ text. LIMIT < length text → ((result ≡ 1) ⊎ (result ≡ 3))
         × Keeps (O.contents output.old) (O.contents output.new)) }
@@ -89,6 +99,8 @@ fn script<I: Read, O: Write>(alloc: Global, input: &mut I, output: &mut O) -> Re
         (λ text. IsPlayed text (O.contents output.old) (O.contents output.new))) }
     ensures long { IfSome (I.remaining input.old) (λ text. LIMIT < length text
         → IsErr result × Keeps (O.contents output.old) (O.contents output.new)) }
+    ensures fault { IfErr result
+        (λ fault. status_of fault ≡ 1 → IfSome (I.remaining input.old) IsAtFault) }
     ensures asked { result ≢ Err Fault.Usage }
 {
     let text = read_script(alloc, input)?;
@@ -114,7 +126,7 @@ enum Reader {
 /// The input's bytes, up to one byte more than a script may have.
 fn read_script<I: Read>(alloc: Global, input: &mut I) -> Result<Vec<u8>, Fault>
     ensures start { IfOk result (λ text. IsStartOfScript (I.remaining input.old) (I.remaining input.new) text.items) }
-    ensures asked { result ≢ Err Fault.Usage }
+    ensures system { IfErr result (λ fault. status_of fault ≡ 3) }
 {
     let mut text = Vec::new(alloc);
     let mut chunk = [0; CHUNK];
@@ -139,7 +151,7 @@ fn read_more<I: Read>(input: &mut I, buffer: &mut [u8], text: &mut Vec<u8>) -> R
     ensures moved { OnOk result (Consumes (I.remaining input.old) (I.remaining input.new)
         (appended_bytes text.old.items text.new.items)) }
     ensures end { result ≡ Ok Reader.IsAtEnd → 0 < length buffer.old → IsAtEnd (I.remaining input.new) }
-    ensures asked { result ≢ Err Fault.Usage }
+    ensures system { IfErr result (λ fault. status_of fault ≡ 3) }
 {
     match input.read(buffer) {
         Ok(0) => Ok(Reader::IsAtEnd),
@@ -158,6 +170,7 @@ fn read_more<I: Read>(input: &mut I, buffer: &mut [u8], text: &mut Vec<u8>) -> R
 fn answer_lines<O: Write>(alloc: Global, text: &[u8], output: &mut O) -> Result<(), Fault>
     ensures lines { OnOk result (All IsLine (lines_of text.now)) }
     ensures played { OnOk result (IsPlayed text.now (O.contents output.old) (O.contents output.new)) }
+    ensures fault { IfErr result (λ fault. status_of fault ≡ 1 → HasBadLine text.now) }
     ensures asked { result ≢ Err Fault.Usage }
 {
     let mut world = None;
@@ -183,6 +196,8 @@ fn answer_line<O: Write>(
     ensures line { OnOk result (IsLine line.now) }
     ensures played { OnOk result ((bytes : List ℕ) × PlaysLine line.now world.old world.new bytes
         × Appends (O.contents output.old) (O.contents output.new) bytes) }
+    ensures fault { IfErr result (λ fault. status_of fault ≡ 1
+        → (¬ IsLine line.now) ⊎ (NeedsWorld line.now × (world.old ≡ None))) }
     ensures asked { result ≢ Err Fault.Usage }
 {
     if line::is_skipped(line) {
@@ -205,6 +220,8 @@ fn answer_command<O: Write>(
 ) -> Result<(), Fault>
     ensures leads { OnOk result ((text : List ℕ) × Leads command world.old world.new text
         × Appends (O.contents output.old) (O.contents output.new) (text ++ 10 ∷ [])) }
+    ensures fault { IfErr result (λ fault. status_of fault ≡ 1
+        → (request : Request) × (command ≡ On request) × (world.old ≡ None)) }
     ensures asked { result ≢ Err Fault.Usage }
 {
     match command {
@@ -225,7 +242,7 @@ fn make<O: Write>(
 ) -> Result<(), Fault>
     ensures made { OnOk result (world.new ≡ Some (world_of model)) }
     ensures prints { OnOk result (Appends (O.contents output.old) (O.contents output.new) (codes "ok\n")) }
-    ensures asked { result ≢ Err Fault.Usage }
+    ensures system { IfErr result (λ fault. status_of fault ≡ 3) }
 {
     match World::new(alloc, model) {
         Ok(made) => {
@@ -241,7 +258,6 @@ fn make<O: Write>(
 fn written(outcome: io::Result<()>) -> Result<(), Fault>
     ensures ok { OnOk outcome (IsOk result) }
     ensures err { OnErr outcome (result ≡ Err Fault.Write) }
-    ensures asked { result ≢ Err Fault.Usage }
 {
     outcome.map_err(|_| Fault::Write)
 }

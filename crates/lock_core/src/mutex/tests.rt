@@ -1,5 +1,6 @@
 use super::*;
 use crate::{Got, Made, Mark, What};
+use std::process::Abort;
 use std::test::Fail;
 
 const INPUTS: Inputs = Inputs {
@@ -7,6 +8,13 @@ const INPUTS: Inputs = Inputs {
     starving: false,
     made: Made::Pending,
 };
+
+const STARVING: Inputs = Inputs {
+    starving: true,
+    ..INPUTS
+};
+
+const GO: What = What::Go(INPUTS);
 
 // A World, or where memory for it was refused, what a second try makes. So each test also passes where
 // one allocation fails, whichever it is.
@@ -24,18 +32,40 @@ fn limited(alloc: Global, parties: u32, value: u64, starved: u32) -> Result<Worl
     World::with_limits(alloc, parties, value, starved)
 }
 
-fn begin(world: &mut World, party: u32, call: Call) -> Answer {
-    world.step(&Move {
-        party,
-        what: What::Begin(call, INPUTS),
-    })
+fn ready(value: u64) -> Answer {
+    Answer::Ready(Got::Value(value))
 }
 
-fn go(world: &mut World, party: u32) -> Answer {
-    world.step(&Move {
-        party,
-        what: What::Go(INPUTS),
-    })
+fn granted(value: u64) -> Answer {
+    Answer::Granted(Got::Value(value))
+}
+
+fn begin(call: Call) -> What {
+    What::Begin(call, INPUTS)
+}
+
+/// Each move in turn is answered so.
+fn expect_steps(rt: &impl Abort, world: &mut World, steps: &[(u32, What, Answer)]) {
+    for (party, what, answer) in steps {
+        let m = Move {
+            party: *party,
+            what: *what,
+        };
+        assert_eq!(rt; world.step(&m), *answer, "{m:?}");
+    }
+}
+
+/// Each call in turn, carried out whole by its party with these inputs, is answered so.
+fn expect(rt: &impl Abort, world: &mut World, inputs: Inputs, calls: &[(u32, Call, Answer)]) {
+    for (party, call, answer) in calls {
+        let given = world.poll_whole(*party, *call, inputs);
+        assert_eq!(rt; given, *answer, "{call:?} of {party}");
+    }
+}
+
+/// Whether the lock is held, how many are starved, and how many wait.
+fn state_of(world: &World) -> (bool, u32, usize) {
+    (world.is_locked(), world.starved(), world.waiting())
 }
 
 fn told(world: &World, index: usize) -> Option<(u32, Mark)> {
@@ -45,30 +75,28 @@ fn told(world: &World, index: usize) -> Option<(u32, Mark)> {
 #[test]
 fn a_release_wakes_the_next(rt: HostRuntime) -> Result<(), Fail> {
     let mut world = of_parties(rt.alloc(), 2, 0)?;
-    assert_eq!(rt;
-        begin(&mut world, 0, Call::Lock),
-        Answer::Ready(Got::Value(0))
-    );
-    assert_eq!(rt; begin(&mut world, 1, Call::Lock), Answer::Stepped);
-    assert_eq!(rt; go(&mut world, 1), Answer::Stepped);
-    assert_eq!(rt; go(&mut world, 1), Answer::Stepped);
-    assert_eq!(rt; go(&mut world, 1), Answer::Pending);
-    assert_eq!(rt; world.waiting(), 1);
+    let steps = [
+        (0, begin(Call::Lock), ready(0)),
+        (1, begin(Call::Lock), Answer::Stepped),
+        (1, GO, Answer::Stepped),
+        (1, GO, Answer::Stepped),
+        (1, GO, Answer::Pending),
+        (0, begin(Call::Put(5)), granted(5)),
+    ];
+    expect_steps(&rt, &mut world, &steps);
+    assert_eq!(rt; state_of(&world), (true, 0, 1));
     assert_eq!(rt; told(&world, 0), Some((1, Mark::Waiting)));
-    assert_eq!(rt;
-        begin(&mut world, 0, Call::Put(5)),
-        Answer::Granted(Got::Value(5))
-    );
-    assert!(rt; world.is_locked());
-    assert_eq!(rt; begin(&mut world, 0, Call::Drop), Answer::Stepped);
-    assert_eq!(rt; go(&mut world, 0), Answer::GivenBack);
-    assert!(rt; !world.is_locked());
+    let steps = [
+        (0, begin(Call::Drop), Answer::Stepped),
+        (0, GO, Answer::GivenBack),
+    ];
+    expect_steps(&rt, &mut world, &steps);
+    assert_eq!(rt; state_of(&world), (false, 0, 1));
     assert_eq!(rt; told(&world, 0), Some((1, Mark::Notified)));
     assert_eq!(rt; told(&world, 1), None);
-    assert_eq!(rt; begin(&mut world, 1, Call::Poll), Answer::Stepped);
-    assert_eq!(rt; go(&mut world, 1), Answer::Ready(Got::Value(5)));
-    assert_eq!(rt; world.waiting(), 0);
-    assert_eq!(rt; world.starved(), 0);
+    let steps = [(1, begin(Call::Poll), Answer::Stepped), (1, GO, ready(5))];
+    expect_steps(&rt, &mut world, &steps);
+    assert_eq!(rt; state_of(&world), (true, 0, 0));
     assert_eq!(rt; world.value(), 5);
     world.laws();
     assert_eq!(rt; world.into_inner(), 5);
@@ -78,78 +106,75 @@ fn a_release_wakes_the_next(rt: HostRuntime) -> Result<(), Fail> {
 #[test]
 fn a_move_that_is_not_possible_changes_nothing(rt: HostRuntime) -> Result<(), Fail> {
     let mut world = of_parties(rt.alloc(), 2, 7)?;
-    assert_eq!(rt;
-        begin(&mut world, 0, Call::TryLock),
-        Answer::Granted(Got::Value(7))
-    );
-    let moves = [
-        (2, What::Begin(Call::Lock, INPUTS)),
-        (u32::MAX, What::Go(INPUTS)),
-        (0, What::Go(INPUTS)),
-        (0, What::Begin(Call::Lock, INPUTS)),
-        (1, What::Begin(Call::Poll, INPUTS)),
-        (1, What::Begin(Call::Drop, INPUTS)),
-        (1, What::Begin(Call::Put(9), INPUTS)),
-        (1, What::Begin(Call::Read, INPUTS)),
-        (1, What::Begin(Call::Wait, INPUTS)),
-        (1, What::Begin(Call::AddPermits(1), INPUTS)),
+    let steps = [
+        (0, begin(Call::TryLock), granted(7)),
+        (2, begin(Call::Lock), Answer::NotPossible),
+        (u32::MAX, GO, Answer::NotPossible),
+        (0, GO, Answer::NotPossible),
+        (0, begin(Call::Lock), Answer::NotPossible),
+        (1, begin(Call::Poll), Answer::NotPossible),
+        (1, begin(Call::Drop), Answer::NotPossible),
+        (1, begin(Call::Put(9)), Answer::NotPossible),
+        (1, begin(Call::Read), Answer::NotPossible),
+        (1, begin(Call::Wait), Answer::NotPossible),
+        (1, begin(Call::AddPermits(1)), Answer::NotPossible),
     ];
-    for (party, what) in moves {
-        assert_eq!(rt;
-            world.step(&Move { party, what }),
-            Answer::NotPossible,
-            "{party}: {what:?}"
-        );
-    }
-    assert!(rt; world.is_locked());
+    expect_steps(&rt, &mut world, &steps);
+    assert_eq!(rt; state_of(&world), (true, 0, 0));
     assert_eq!(rt; world.value(), 7);
-    assert_eq!(rt; begin(&mut world, 1, Call::TryLock), Answer::None);
-    assert_eq!(rt; begin(&mut world, 0, Call::Poll), Answer::Refused(6));
+    let calls = [
+        (1, Call::TryLock, Answer::None),
+        (0, Call::Poll, Answer::Refused(6)),
+    ];
+    expect(&rt, &mut world, INPUTS, &calls);
     Ok(())
 }
 
 #[test]
 fn too_many_starved_parties_are_refused(rt: HostRuntime) -> Result<(), Fail> {
-    let starving = Inputs {
-        starving: true,
-        ..INPUTS
-    };
     let mut world = limited(rt.alloc(), 4, 0, 1)?;
-    let ready = Answer::Ready(Got::Value(0));
-    let granted = Answer::Granted(Got::Value(0));
-    assert_eq!(rt; world.poll_whole(0, Call::Lock, INPUTS), ready);
-    assert_eq!(rt; world.poll_whole(1, Call::Lock, INPUTS), Answer::Pending);
-    assert_eq!(rt; world.poll_whole(0, Call::Drop, INPUTS), Answer::GivenBack);
-    assert_eq!(rt; world.poll_whole(2, Call::TryLock, INPUTS), granted);
-    assert_eq!(rt; world.poll_whole(1, Call::Poll, starving), Answer::Pending);
-    assert_eq!(rt; world.poll_whole(3, Call::Lock, INPUTS), Answer::Refused(2));
-    assert!(rt; world.is_locked());
-    assert_eq!(rt; world.starved(), 1);
+    let calls = [
+        (0, Call::Lock, ready(0)),
+        (1, Call::Lock, Answer::Pending),
+        (0, Call::Drop, Answer::GivenBack),
+        (2, Call::TryLock, granted(0)),
+    ];
+    expect(&rt, &mut world, INPUTS, &calls);
+    let starves = [(1, Call::Poll, Answer::Pending)];
+    expect(&rt, &mut world, STARVING, &starves);
+    let calls = [
+        (3, Call::Lock, Answer::Refused(2)),
+        (9, Call::Lock, Answer::NotPossible),
+    ];
+    expect(&rt, &mut world, INPUTS, &calls);
+    assert_eq!(rt; state_of(&world), (true, 1, 1));
     assert_eq!(rt; told(&world, 0), Some((1, Mark::Waiting)));
-    assert_eq!(rt;
-        world.poll_whole(9, Call::Lock, INPUTS),
-        Answer::NotPossible
-    );
     Ok(())
 }
 
 #[test]
 fn a_value_put_at_rest_forgets_the_holder(rt: HostRuntime) -> Result<(), Fail> {
     let mut world = of_parties(rt.alloc(), 2, 0)?;
-    assert_eq!(rt;
-        begin(&mut world, 0, Call::TryLock),
-        Answer::Granted(Got::Value(0))
-    );
-    assert_eq!(rt; begin(&mut world, 1, Call::Lock), Answer::Stepped);
+    let steps = [
+        (0, begin(Call::TryLock), granted(0)),
+        (1, begin(Call::Lock), Answer::Stepped),
+    ];
+    expect_steps(&rt, &mut world, &steps);
     assert!(rt; Answer::Stepped.is_stepped() && !world.at_rest());
-    assert_eq!(rt; go(&mut world, 1), Answer::Stepped);
-    assert_eq!(rt; go(&mut world, 1), Answer::Stepped);
-    assert_eq!(rt; go(&mut world, 1), Answer::Pending);
+    let steps = [
+        (1, GO, Answer::Stepped),
+        (1, GO, Answer::Stepped),
+        (1, GO, Answer::Pending),
+    ];
+    expect_steps(&rt, &mut world, &steps);
     assert!(rt; world.at_rest());
     *world.get_mut() = 9;
     assert_eq!(rt; world.value(), 9);
-    assert_eq!(rt; begin(&mut world, 0, Call::Drop), Answer::NotPossible);
-    assert_eq!(rt; begin(&mut world, 1, Call::Poll), Answer::NotPossible);
+    let steps = [
+        (0, begin(Call::Drop), Answer::NotPossible),
+        (1, begin(Call::Poll), Answer::NotPossible),
+    ];
+    expect_steps(&rt, &mut world, &steps);
     assert!(rt; world.is_locked());
     Ok(())
 }
@@ -158,38 +183,30 @@ fn a_value_put_at_rest_forgets_the_holder(rt: HostRuntime) -> Result<(), Fail> {
 fn a_solo_poll_gives_way_to_a_starved_party_which_takes_the_lock(
     rt: HostRuntime,
 ) -> Result<(), Fail> {
-    let late = Inputs {
-        memory: true,
-        starving: true,
-        made: Made::Pending,
-    };
     let mut world = limited(rt.alloc(), 3, 4, 3)?;
-    assert_eq!(rt;
-        world.poll_whole(0, Call::Lock, INPUTS),
-        Answer::Ready(Got::Value(4))
+    let calls = [
+        (0, Call::Lock, ready(4)),
+        (1, Call::Lock, Answer::Pending),
+        (2, Call::Lock, Answer::Pending),
+        (0, Call::Drop, Answer::GivenBack),
+        (0, Call::TryLock, granted(4)),
+    ];
+    expect(&rt, &mut world, INPUTS, &calls);
+    let starves = [(1, Call::Poll, Answer::Pending)];
+    expect(&rt, &mut world, STARVING, &starves);
+    assert_eq!(rt; state_of(&world), (true, 1, 2));
+    expect(
+        &rt,
+        &mut world,
+        INPUTS,
+        &[(0, Call::Drop, Answer::GivenBack)],
     );
-    assert_eq!(rt; world.poll_whole(1, Call::Lock, INPUTS), Answer::Pending);
-    assert_eq!(rt; world.poll_whole(2, Call::Lock, INPUTS), Answer::Pending);
-    assert_eq!(rt; world.poll_whole(0, Call::Drop, INPUTS), Answer::GivenBack);
-    assert_eq!(rt;
-        world.poll_whole(0, Call::TryLock, INPUTS),
-        Answer::Granted(Got::Value(4))
-    );
-    assert_eq!(rt; world.poll_whole(1, Call::Poll, late), Answer::Pending);
-    assert_eq!(rt; world.starved(), 1);
-    assert_eq!(rt; world.poll_whole(0, Call::Drop, INPUTS), Answer::GivenBack);
     assert_eq!(rt; told(&world, 0), Some((2, Mark::Notified)));
     world.solo_polls();
-    assert_eq!(rt; world.poll_whole(2, Call::Poll, INPUTS), Answer::Pending);
-    assert!(rt; !world.is_locked());
-    assert_eq!(rt; world.starved(), 2);
-    assert_eq!(rt; world.waiting(), 2);
+    expect(&rt, &mut world, INPUTS, &[(2, Call::Poll, Answer::Pending)]);
+    assert_eq!(rt; state_of(&world), (false, 2, 2));
     assert_eq!(rt; told(&world, 0), Some((1, Mark::Notified)));
-    assert_eq!(rt;
-        world.poll_whole(1, Call::Poll, INPUTS),
-        Answer::Ready(Got::Value(4))
-    );
-    assert!(rt; world.is_locked());
-    assert_eq!(rt; world.starved(), 1);
+    expect(&rt, &mut world, INPUTS, &[(1, Call::Poll, ready(4))]);
+    assert_eq!(rt; state_of(&world), (true, 1, 1));
     Ok(())
 }

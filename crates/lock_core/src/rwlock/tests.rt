@@ -1,5 +1,6 @@
 use super::*;
-use crate::{Call, Got, Inputs, Made, Mark, What};
+use crate::{Got, Made, Mark, What};
+use std::process::Abort;
 use std::test::Fail;
 
 const INPUTS: Inputs = Inputs {
@@ -13,6 +14,11 @@ const WITHOUT_MEMORY: Inputs = Inputs {
     ..INPUTS
 };
 
+const STARVING: Inputs = Inputs {
+    starving: true,
+    ..INPUTS
+};
+
 // A World, or where memory for it was refused, what a second try makes. So each test also passes where
 // one allocation fails, whichever it is.
 fn of_parties(alloc: Global, parties: u32, value: u64) -> Result<World, Refusal> {
@@ -22,28 +28,15 @@ fn of_parties(alloc: Global, parties: u32, value: u64) -> Result<World, Refusal>
     World::new(alloc, parties, value)
 }
 
-fn limited(
-    alloc: Global,
-    parties: u32,
-    value: u64,
-    starved: u32,
-    readers: u32,
-) -> Result<World, Refusal> {
-    if let Ok(world) = World::with_limits(alloc, parties, value, starved, readers) {
+fn limited(alloc: Global, parties: u32, starved: u32, readers: u32) -> Result<World, Refusal> {
+    if let Ok(world) = World::with_limits(alloc, parties, 4, starved, readers) {
         return Ok(world);
     }
-    World::with_limits(alloc, parties, value, starved, readers)
+    World::with_limits(alloc, parties, 4, starved, readers)
 }
 
-fn whole(world: &mut World, party: u32, call: Call) -> Answer {
-    world.poll_whole(party, call, INPUTS)
-}
-
-fn begin(world: &mut World, party: u32, call: Call) -> Answer {
-    world.step(&Move {
-        party,
-        what: What::Begin(call, INPUTS),
-    })
+fn moved(party: u32, what: What) -> Move {
+    Move { party, what }
 }
 
 fn ready(value: u64) -> Answer {
@@ -54,29 +47,51 @@ fn granted(value: u64) -> Answer {
     Answer::Granted(Got::Value(value))
 }
 
+/// Each call in turn, carried out whole by its party with these inputs, is answered so.
+fn expect(rt: &impl Abort, world: &mut World, inputs: Inputs, calls: &[(u32, Call, Answer)]) {
+    for (party, call, answer) in calls {
+        let given = world.poll_whole(*party, *call, inputs);
+        assert_eq!(rt; given, *answer, "{call:?} of {party}");
+    }
+}
+
+/// Whether the turn is held, how many are starved for it, whether a writer's bit is set, and how many read.
+fn state_of(world: &World) -> (bool, u32, bool, u32) {
+    (
+        world.is_turn_held(),
+        world.starved(),
+        world.is_writer_marked(),
+        world.readers(),
+    )
+}
+
+/// How many wait for the turn, until no reader is left, and until no writer is.
+fn waiting_in(world: &World) -> (usize, usize, usize) {
+    (
+        world.turn_waiting(),
+        world.no_readers_waiting(),
+        world.no_writer_waiting(),
+    )
+}
+
+fn told(entry: Option<Entry<u32>>) -> Option<(u32, Mark)> {
+    entry.map(|entry| (entry.key, entry.mark))
+}
+
 #[test]
 fn a_writer_that_becomes_upgradable_lets_readers_in(rt: HostRuntime) -> Result<(), Fail> {
     let mut world = of_parties(rt.alloc(), 2, 1)?;
-    assert_eq!(rt; whole(&mut world, 0, Call::Write), ready(1));
-    assert!(rt; world.is_turn_held() && world.is_writer_marked());
-    assert_eq!(rt; whole(&mut world, 1, Call::Read), Answer::Pending);
-    assert_eq!(rt; world.no_writer_waiting(), 1);
-    assert_eq!(rt; whole(&mut world, 0, Call::Put(9)), granted(9));
-    assert_eq!(rt;
-        whole(&mut world, 0, Call::DowngradeToUpgradable),
-        Answer::GivenBack
-    );
-    assert!(rt; world.is_turn_held() && !world.is_writer_marked());
-    assert_eq!(rt; world.readers(), 1);
-    assert_eq!(rt;
-        world
-            .no_writer_entry(0)
-            .map(|entry| (entry.key, entry.mark)),
-        Some((1, Mark::Notified))
-    );
-    assert_eq!(rt; whole(&mut world, 1, Call::Poll), ready(9));
-    assert_eq!(rt; world.readers(), 2);
-    assert_eq!(rt; world.value(), 9);
+    let calls = [
+        (0, Call::Write, ready(1)),
+        (1, Call::Read, Answer::Pending),
+        (0, Call::Put(9), granted(9)),
+        (0, Call::DowngradeToUpgradable, Answer::GivenBack),
+    ];
+    expect(&rt, &mut world, INPUTS, &calls);
+    assert_eq!(rt; state_of(&world), (true, 0, false, 1));
+    assert_eq!(rt; told(world.no_writer_entry(0)), Some((1, Mark::Notified)));
+    expect(&rt, &mut world, INPUTS, &[(1, Call::Poll, ready(9))]);
+    assert_eq!(rt; state_of(&world), (true, 0, false, 2));
     world.laws();
     assert_eq!(rt; world.into_inner(), 9);
     Ok(())
@@ -85,140 +100,118 @@ fn a_writer_that_becomes_upgradable_lets_readers_in(rt: HostRuntime) -> Result<(
 #[test]
 fn a_writer_waits_for_readers_and_gives_all_back(rt: HostRuntime) -> Result<(), Fail> {
     let mut world = of_parties(rt.alloc(), 4, 0)?;
-    assert_eq!(rt; whole(&mut world, 0, Call::Read), ready(0));
-    assert_eq!(rt; whole(&mut world, 1, Call::Write), Answer::Pending);
-    assert_eq!(rt; world.no_readers_waiting(), 1);
-    assert_eq!(rt;
-        world
-            .no_readers_entry(0)
-            .map(|entry| (entry.key, entry.mark)),
-        Some((1, Mark::Waiting))
-    );
+    let calls = [
+        (0, Call::Read, ready(0)),
+        (1, Call::Write, Answer::Pending),
+        (2, Call::TryRead, Answer::None),
+    ];
+    expect(&rt, &mut world, INPUTS, &calls);
+    assert_eq!(rt; waiting_in(&world), (0, 1, 0));
+    assert_eq!(rt; told(world.no_readers_entry(0)), Some((1, Mark::Waiting)));
     assert!(rt; world.no_readers_entry(1).is_none());
-    assert_eq!(rt; whole(&mut world, 2, Call::TryRead), Answer::None);
-    assert_eq!(rt; whole(&mut world, 1, Call::Drop), Answer::GivenBack);
-    assert_eq!(rt; whole(&mut world, 2, Call::TryRead), granted(0));
-    assert_eq!(rt; whole(&mut world, 3, Call::TryUpgradableRead), granted(0));
-    assert!(rt; world.is_turn_held() && !world.is_writer_marked());
-    assert_eq!(rt; world.readers(), 3);
+    let calls = [
+        (1, Call::Drop, Answer::GivenBack),
+        (2, Call::TryRead, granted(0)),
+        (3, Call::TryUpgradableRead, granted(0)),
+    ];
+    expect(&rt, &mut world, INPUTS, &calls);
+    assert_eq!(rt; state_of(&world), (true, 0, false, 3));
     Ok(())
 }
 
 #[test]
 fn a_release_of_the_writer_wakes_both_lists(rt: HostRuntime) -> Result<(), Fail> {
     let mut world = of_parties(rt.alloc(), 3, 0)?;
-    assert_eq!(rt; whole(&mut world, 0, Call::Write), ready(0));
-    assert_eq!(rt; whole(&mut world, 1, Call::Read), Answer::Pending);
-    assert_eq!(rt; whole(&mut world, 2, Call::Write), Answer::Pending);
-    assert_eq!(rt; world.turn_waiting(), 1);
-    assert_eq!(rt; whole(&mut world, 0, Call::Drop), Answer::GivenBack);
-    assert!(rt; !world.is_turn_held() && !world.is_writer_marked());
-    assert_eq!(rt;
-        world.turn_entry(0).map(|entry| (entry.key, entry.mark)),
-        Some((2, Mark::Notified))
-    );
-    assert_eq!(rt;
-        world
-            .no_writer_entry(0)
-            .map(|entry| (entry.key, entry.mark)),
-        Some((1, Mark::Notified))
-    );
-    assert_eq!(rt; world.starved(), 0);
+    let calls = [
+        (0, Call::Write, ready(0)),
+        (1, Call::Read, Answer::Pending),
+        (2, Call::Write, Answer::Pending),
+        (0, Call::Drop, Answer::GivenBack),
+    ];
+    expect(&rt, &mut world, INPUTS, &calls);
+    assert_eq!(rt; state_of(&world), (false, 0, false, 0));
+    assert_eq!(rt; waiting_in(&world), (1, 0, 1));
+    assert_eq!(rt; told(world.turn_entry(0)), Some((2, Mark::Notified)));
+    assert_eq!(rt; told(world.no_writer_entry(0)), Some((1, Mark::Notified)));
     Ok(())
 }
 
 #[test]
 fn a_reader_past_the_limit_is_refused(rt: HostRuntime) -> Result<(), Fail> {
-    let mut world = limited(rt.alloc(), 3, 0, 10, 1)?;
-    assert_eq!(rt; whole(&mut world, 0, Call::TryRead), granted(0));
-    assert_eq!(rt; whole(&mut world, 1, Call::TryRead), Answer::None);
-    assert_eq!(rt; whole(&mut world, 2, Call::Read), Answer::Refused(3));
-    assert_eq!(rt; whole(&mut world, 9, Call::Read), Answer::NotPossible);
-    assert_eq!(rt; whole(&mut world, 0, Call::Upgrade), Answer::NotPossible);
-    assert_eq!(rt; whole(&mut world, 0, Call::Poll), Answer::Refused(6));
+    let mut world = limited(rt.alloc(), 3, 10, 1)?;
+    let calls = [
+        (0, Call::TryRead, granted(4)),
+        (1, Call::TryRead, Answer::None),
+        (2, Call::Read, Answer::Refused(3)),
+        (9, Call::Read, Answer::NotPossible),
+        (0, Call::Upgrade, Answer::NotPossible),
+        (0, Call::Poll, Answer::Refused(6)),
+    ];
+    expect(&rt, &mut world, INPUTS, &calls);
     Ok(())
 }
 
 #[test]
 fn an_upgrade_without_memory_keeps_its_turn(rt: HostRuntime) -> Result<(), Fail> {
     let mut world = of_parties(rt.alloc(), 2, 5)?;
-    assert_eq!(rt; whole(&mut world, 0, Call::UpgradableRead), ready(5));
-    assert_eq!(rt; whole(&mut world, 1, Call::Read), ready(5));
-    assert_eq!(rt; whole(&mut world, 0, Call::TryUpgrade), Answer::None);
-    assert_eq!(rt; whole(&mut world, 0, Call::Upgrade), Answer::Waiting);
-    assert_eq!(rt;
-        world.poll_whole(0, Call::Poll, WITHOUT_MEMORY),
-        Answer::Refused(1)
-    );
-    assert!(rt; world.is_turn_held() && world.is_writer_marked());
-    assert_eq!(rt; whole(&mut world, 1, Call::Drop), Answer::GivenBack);
-    assert_eq!(rt; whole(&mut world, 0, Call::Poll), ready(5));
+    let calls = [
+        (0, Call::UpgradableRead, ready(5)),
+        (1, Call::Read, ready(5)),
+        (0, Call::TryUpgrade, Answer::None),
+        (0, Call::Upgrade, Answer::Waiting),
+    ];
+    expect(&rt, &mut world, INPUTS, &calls);
+    let refused = [(0, Call::Poll, Answer::Refused(1))];
+    expect(&rt, &mut world, WITHOUT_MEMORY, &refused);
+    assert_eq!(rt; state_of(&world), (true, 0, true, 1));
+    let calls = [
+        (1, Call::Drop, Answer::GivenBack),
+        (0, Call::Poll, ready(5)),
+    ];
+    expect(&rt, &mut world, INPUTS, &calls);
     Ok(())
 }
 
 #[test]
 fn a_value_put_at_rest_forgets_the_reader(rt: HostRuntime) -> Result<(), Fail> {
     let mut world = of_parties(rt.alloc(), 3, 0)?;
-    assert_eq!(rt; whole(&mut world, 0, Call::Read), ready(0));
-    assert_eq!(rt; whole(&mut world, 1, Call::Write), Answer::Pending);
-    assert_eq!(rt; begin(&mut world, 2, Call::Write), Answer::Stepped);
+    let calls = [(0, Call::Read, ready(0)), (1, Call::Write, Answer::Pending)];
+    expect(&rt, &mut world, INPUTS, &calls);
+    let begins = moved(2, What::Begin(Call::Write, INPUTS));
+    assert_eq!(rt; world.step(&begins), Answer::Stepped);
     assert!(rt; !world.at_rest());
-    assert_eq!(rt;
-        world.step(&Move {
-            party: 2,
-            what: What::Go(INPUTS)
-        }),
-        Answer::Stepped
-    );
-    assert_eq!(rt;
-        world.step(&Move {
-            party: 2,
-            what: What::Go(INPUTS)
-        }),
-        Answer::Stepped
-    );
-    assert_eq!(rt;
-        world.step(&Move {
-            party: 2,
-            what: What::Go(INPUTS)
-        }),
-        Answer::Pending
-    );
+    let goes = moved(2, What::Go(INPUTS));
+    for answer in [Answer::Stepped, Answer::Stepped, Answer::Pending] {
+        assert_eq!(rt; world.step(&goes), answer);
+    }
     assert!(rt; world.at_rest());
     *world.get_mut() = 7;
     assert_eq!(rt; world.value(), 7);
-    assert_eq!(rt; whole(&mut world, 0, Call::Drop), Answer::NotPossible);
-    assert_eq!(rt; whole(&mut world, 1, Call::Poll), Answer::NotPossible);
+    let calls = [
+        (0, Call::Drop, Answer::NotPossible),
+        (1, Call::Poll, Answer::NotPossible),
+    ];
+    expect(&rt, &mut world, INPUTS, &calls);
     Ok(())
 }
 
 #[test]
 fn a_run_answers_each_move(rt: HostRuntime) -> Result<(), Fail> {
     let moves = [
-        Move {
-            party: 0,
-            what: What::Begin(Call::TryRead, INPUTS),
-        },
-        Move {
-            party: 1,
-            what: What::Begin(Call::TryRead, INPUTS),
-        },
-        Move {
-            party: 0,
-            what: What::Begin(Call::Drop, INPUTS),
-        },
-        Move {
-            party: 1,
-            what: What::Begin(Call::Drop, INPUTS),
-        },
-        Move {
-            party: 1,
-            what: What::Go(INPUTS),
-        },
-        Move {
-            party: 2,
-            what: What::Go(INPUTS),
-        },
+        moved(0, What::Begin(Call::TryRead, INPUTS)),
+        moved(1, What::Begin(Call::TryRead, INPUTS)),
+        moved(0, What::Begin(Call::Drop, INPUTS)),
+        moved(1, What::Begin(Call::Drop, INPUTS)),
+        moved(1, What::Go(INPUTS)),
+        moved(2, What::Go(INPUTS)),
+    ];
+    let expected = [
+        granted(4),
+        granted(4),
+        Answer::GivenBack,
+        Answer::Stepped,
+        Answer::GivenBack,
+        Answer::NotPossible,
     ];
     let mut world = of_parties(rt.alloc(), 2, 4)?;
     let answers = match world.run(rt.alloc(), &moves) {
@@ -228,14 +221,6 @@ fn a_run_answers_each_move(rt: HostRuntime) -> Result<(), Fail> {
             world.run(rt.alloc(), &moves)?
         }
     };
-    let expected = [
-        granted(4),
-        granted(4),
-        Answer::GivenBack,
-        Answer::Stepped,
-        Answer::GivenBack,
-        Answer::NotPossible,
-    ];
     assert_eq!(rt; answers.as_slice(), expected.as_slice());
     Ok(())
 }
@@ -244,38 +229,40 @@ fn a_run_answers_each_move(rt: HostRuntime) -> Result<(), Fail> {
 fn a_solo_poll_for_the_turn_gives_way_to_a_starved_party_which_takes_it(
     rt: HostRuntime,
 ) -> Result<(), Fail> {
-    let late = Inputs {
-        memory: true,
-        starving: true,
-        made: Made::Pending,
-    };
-    let mut world = limited(rt.alloc(), 4, 4, 4, 4)?;
-    assert_eq!(rt; whole(&mut world, 0, Call::UpgradableRead), ready(4));
-    assert_eq!(rt; whole(&mut world, 1, Call::Write), Answer::Pending);
-    assert_eq!(rt; whole(&mut world, 2, Call::UpgradableRead), Answer::Pending);
-    assert_eq!(rt; whole(&mut world, 3, Call::Read), ready(4));
-    assert_eq!(rt; whole(&mut world, 0, Call::Drop), Answer::GivenBack);
-    assert_eq!(rt; whole(&mut world, 0, Call::TryUpgradableRead), granted(4));
-    assert_eq!(rt; world.poll_whole(1, Call::Poll, late), Answer::Pending);
-    assert_eq!(rt; world.starved(), 1);
-    assert_eq!(rt; whole(&mut world, 0, Call::Drop), Answer::GivenBack);
+    let mut world = limited(rt.alloc(), 4, 4, 4)?;
+    let calls = [
+        (0, Call::UpgradableRead, ready(4)),
+        (1, Call::Write, Answer::Pending),
+        (2, Call::UpgradableRead, Answer::Pending),
+        (3, Call::Read, ready(4)),
+        (0, Call::Drop, Answer::GivenBack),
+        (0, Call::TryUpgradableRead, granted(4)),
+    ];
+    expect(&rt, &mut world, INPUTS, &calls);
+    let starves = [(1, Call::Poll, Answer::Pending)];
+    expect(&rt, &mut world, STARVING, &starves);
+    assert_eq!(rt; state_of(&world), (true, 1, false, 2));
+    expect(
+        &rt,
+        &mut world,
+        INPUTS,
+        &[(0, Call::Drop, Answer::GivenBack)],
+    );
     world.solo_polls();
-    assert_eq!(rt; whole(&mut world, 2, Call::Poll), Answer::Pending);
-    assert!(rt; !world.is_turn_held());
-    assert_eq!(rt; world.starved(), 2);
-    assert_eq!(rt; world.turn_waiting(), 2);
-    assert_eq!(rt; whole(&mut world, 1, Call::Poll), Answer::Pending);
-    assert!(rt; world.is_turn_held() && world.is_writer_marked());
-    assert_eq!(rt; world.starved(), 1);
-    assert_eq!(rt; whole(&mut world, 3, Call::Drop), Answer::GivenBack);
-    world.solo_polls();
-    assert_eq!(rt; whole(&mut world, 1, Call::Poll), ready(4));
-    assert_eq!(rt; whole(&mut world, 3, Call::Read), Answer::Pending);
-    assert_eq!(rt; whole(&mut world, 1, Call::Drop), Answer::GivenBack);
-    world.solo_polls();
-    assert_eq!(rt; whole(&mut world, 3, Call::Poll), ready(4));
-    assert_eq!(rt; whole(&mut world, 2, Call::Poll), ready(4));
-    assert_eq!(rt; world.starved(), 0);
-    assert_eq!(rt; world.readers(), 2);
+    expect(&rt, &mut world, INPUTS, &[(2, Call::Poll, Answer::Pending)]);
+    assert_eq!(rt; state_of(&world), (false, 2, false, 1));
+    assert_eq!(rt; waiting_in(&world), (2, 0, 0));
+    expect(&rt, &mut world, INPUTS, &[(1, Call::Poll, Answer::Pending)]);
+    assert_eq!(rt; state_of(&world), (true, 1, true, 1));
+    let calls = [
+        (3, Call::Drop, Answer::GivenBack),
+        (1, Call::Poll, ready(4)),
+        (3, Call::Read, Answer::Pending),
+        (1, Call::Drop, Answer::GivenBack),
+        (3, Call::Poll, ready(4)),
+        (2, Call::Poll, ready(4)),
+    ];
+    expect(&rt, &mut world, INPUTS, &calls);
+    assert_eq!(rt; state_of(&world), (true, 0, false, 2));
     Ok(())
 }

@@ -2,6 +2,7 @@ use super::*;
 use crate::program::{End, Purpose, Wanted};
 use lock_event::Mark;
 use lock_world::Refusal;
+use std::process::Abort;
 
 // A lock, or where memory for it was refused, what a second try makes. So each test also passes where
 // one allocation fails, whichever it is.
@@ -40,16 +41,34 @@ fn standing(lock: &RwLock, party: u32) -> Option<Place> {
     }
 }
 
+/// Each call in turn, carried out whole by its party, ends so.
+fn expect(rt: &impl Abort, lock: &mut RwLock, memory: bool, calls: &[(u32, RwCall, End)]) {
+    for (party, call, end) in calls {
+        let ended = whole(lock, *party, *call, memory);
+        assert_eq!(rt; ended, Some(*end), "{call:?} of {party}");
+    }
+}
+
+/// Whether the turn is held and the writer's bit is set, and how many read.
+fn state_of(lock: &RwLock) -> (bool, bool, u32) {
+    (
+        lock.turn().is_held(),
+        lock.is_writer_marked(),
+        lock.readers(),
+    )
+}
+
+fn told(entry: Option<Entry<u32>>) -> Option<(u32, Mark)> {
+    entry.map(|entry| (entry.key, entry.mark))
+}
+
 #[test]
 fn a_new_lock_is_free(rt: HostRuntime) -> Result<(), AllocError> {
     let lock = of_parties(rt.alloc(), 2, 10)?;
     assert_eq!(rt; lock.parties(), 2);
     assert_eq!(rt; standing(&lock, 1), Some(Place::Out));
-    assert!(rt; !lock.is_writer_marked());
-    assert!(rt; !lock.turn().is_held());
-    assert_eq!(rt; lock.readers(), 0);
-    assert_eq!(rt; lock.no_writer_len(), 0);
-    assert_eq!(rt; lock.no_readers_len(), 0);
+    assert_eq!(rt; state_of(&lock), (false, false, 0));
+    assert_eq!(rt; (lock.no_writer_len(), lock.no_readers_len()), (0, 0));
     lock.laws();
     lock.solo_polls();
     Ok(())
@@ -58,52 +77,39 @@ fn a_new_lock_is_free(rt: HostRuntime) -> Result<(), AllocError> {
 #[test]
 fn readers_wait_for_a_writer_and_it_for_them(rt: HostRuntime) -> Result<(), AllocError> {
     let mut lock = of_parties(rt.alloc(), 3, 10)?;
-    assert_eq!(rt; whole(&mut lock, 0, RwCall::Read, true), Some(End::Got));
-    assert_eq!(rt; lock.readers(), 1);
-    assert_eq!(rt;
-        whole(&mut lock, 1, RwCall::Write, true),
-        Some(End::Pending)
-    );
-    assert!(rt; lock.is_writer_marked());
-    assert!(rt; lock.turn().is_held());
-    assert_eq!(rt; lock.no_readers_len(), 1);
-    assert_eq!(rt; whole(&mut lock, 2, RwCall::Read, true), Some(End::Pending));
-    assert_eq!(rt; lock.no_writer_len(), 1);
-    assert_eq!(rt;
-        lock.no_writer_entry(0).map(|entry| (entry.key, entry.mark)),
-        Some((2, Mark::Waiting))
-    );
-    assert_eq!(rt;
-        whole(&mut lock, 0, RwCall::Drop, true),
-        Some(End::GivenBack)
-    );
-    assert_eq!(rt;
-        lock.no_readers_entry(0)
-            .map(|entry| (entry.key, entry.mark)),
-        Some((1, Mark::Notified))
-    );
+    let calls = [
+        (0, RwCall::Read, End::Got),
+        (1, RwCall::Write, End::Pending),
+        (2, RwCall::Read, End::Pending),
+    ];
+    expect(&rt, &mut lock, true, &calls);
+    assert_eq!(rt; state_of(&lock), (true, true, 1));
+    assert_eq!(rt; (lock.no_writer_len(), lock.no_readers_len()), (1, 1));
+    assert_eq!(rt; told(lock.no_writer_entry(0)), Some((2, Mark::Waiting)));
+    expect(&rt, &mut lock, true, &[(0, RwCall::Drop, End::GivenBack)]);
+    assert_eq!(rt; told(lock.no_readers_entry(0)), Some((1, Mark::Notified)));
     assert!(rt; lock.no_readers_entry(1).is_none());
-    assert_eq!(rt; whole(&mut lock, 1, RwCall::Poll, true), Some(End::Got));
+    expect(&rt, &mut lock, true, &[(1, RwCall::Poll, End::Got)]);
     assert_eq!(rt; standing(&lock, 1), Some(Place::Writing));
-    assert_eq!(rt;
-        whole(&mut lock, 1, RwCall::Drop, true),
-        Some(End::GivenBack)
-    );
-    assert_eq!(rt; whole(&mut lock, 2, RwCall::Poll, true), Some(End::Got));
+    let calls = [
+        (1, RwCall::Drop, End::GivenBack),
+        (2, RwCall::Poll, End::Got),
+    ];
+    expect(&rt, &mut lock, true, &calls);
     Ok(())
 }
 
 #[test]
 fn a_reader_goes_on_after_to_upgradable(rt: HostRuntime) -> Result<(), AllocError> {
     let mut lock = of_parties(rt.alloc(), 2, 10)?;
-    assert_eq!(rt; whole(&mut lock, 0, RwCall::Write, true), Some(End::Got));
-    assert_eq!(rt; whole(&mut lock, 1, RwCall::Read, true), Some(End::Pending));
-    assert_eq!(rt;
-        whole(&mut lock, 0, RwCall::ToUpgradable, true),
-        Some(End::GivenBack)
-    );
+    let calls = [
+        (0, RwCall::Write, End::Got),
+        (1, RwCall::Read, End::Pending),
+        (0, RwCall::ToUpgradable, End::GivenBack),
+        (1, RwCall::Poll, End::Got),
+    ];
+    expect(&rt, &mut lock, true, &calls);
     assert_eq!(rt; standing(&lock, 0), Some(Place::Upgradable));
-    assert_eq!(rt; whole(&mut lock, 1, RwCall::Poll, true), Some(End::Got));
     assert_eq!(rt; lock.readers(), 2);
     Ok(())
 }
@@ -111,25 +117,19 @@ fn a_reader_goes_on_after_to_upgradable(rt: HostRuntime) -> Result<(), AllocErro
 #[test]
 fn a_dropped_waiting_write_unlocks(rt: HostRuntime) -> Result<(), AllocError> {
     let mut lock = of_parties(rt.alloc(), 4, 10)?;
-    assert_eq!(rt; whole(&mut lock, 0, RwCall::Read, true), Some(End::Got));
-    assert_eq!(rt;
-        whole(&mut lock, 1, RwCall::Write, true),
-        Some(End::Pending)
-    );
-    assert_eq!(rt;
-        whole(&mut lock, 2, RwCall::TryRead, true),
-        Some(End::NotFree)
-    );
-    assert_eq!(rt;
-        whole(&mut lock, 1, RwCall::Drop, true),
-        Some(End::GivenBack)
-    );
+    let calls = [
+        (0, RwCall::Read, End::Got),
+        (1, RwCall::Write, End::Pending),
+        (2, RwCall::TryRead, End::NotFree),
+        (1, RwCall::Drop, End::GivenBack),
+    ];
+    expect(&rt, &mut lock, true, &calls);
     assert!(rt; !lock.is_writer_marked());
-    assert_eq!(rt; whole(&mut lock, 2, RwCall::TryRead, true), Some(End::Got));
-    assert_eq!(rt;
-        whole(&mut lock, 3, RwCall::TryUpgradableRead, true),
-        Some(End::Got)
-    );
+    let calls = [
+        (2, RwCall::TryRead, End::Got),
+        (3, RwCall::TryUpgradableRead, End::Got),
+    ];
+    expect(&rt, &mut lock, true, &calls);
     assert_eq!(rt; standing(&lock, 3), Some(Place::Upgradable));
     Ok(())
 }
@@ -137,120 +137,99 @@ fn a_dropped_waiting_write_unlocks(rt: HostRuntime) -> Result<(), AllocError> {
 #[test]
 fn a_dropped_upgrade_unlocks(rt: HostRuntime) -> Result<(), AllocError> {
     let mut lock = of_parties(rt.alloc(), 2, 10)?;
-    assert_eq!(rt;
-        whole(&mut lock, 0, RwCall::UpgradableRead, true),
-        Some(End::Got)
-    );
-    assert_eq!(rt;
-        whole(&mut lock, 0, RwCall::Upgrade, true),
-        Some(End::Waiting)
-    );
-    assert_eq!(rt;
-        whole(&mut lock, 0, RwCall::Drop, true),
-        Some(End::GivenBack)
-    );
-    assert_eq!(rt; whole(&mut lock, 1, RwCall::TryWrite, true), Some(End::Got));
+    let calls = [
+        (0, RwCall::UpgradableRead, End::Got),
+        (0, RwCall::Upgrade, End::Waiting),
+        (0, RwCall::Drop, End::GivenBack),
+        (1, RwCall::TryWrite, End::Got),
+    ];
+    expect(&rt, &mut lock, true, &calls);
     Ok(())
 }
 
 #[test]
 fn try_upgrade_wants_to_be_alone(rt: HostRuntime) -> Result<(), AllocError> {
     let mut lock = of_parties(rt.alloc(), 2, 10)?;
-    assert_eq!(rt;
-        whole(&mut lock, 0, RwCall::UpgradableRead, true),
-        Some(End::Got)
-    );
-    assert_eq!(rt; whole(&mut lock, 1, RwCall::Read, true), Some(End::Got));
-    assert_eq!(rt;
-        whole(&mut lock, 0, RwCall::TryUpgrade, true),
-        Some(End::NotFree)
-    );
-    assert_eq!(rt;
-        whole(&mut lock, 1, RwCall::Drop, true),
-        Some(End::GivenBack)
-    );
-    assert_eq!(rt;
-        whole(&mut lock, 0, RwCall::TryUpgrade, true),
-        Some(End::Got)
-    );
+    let calls = [
+        (0, RwCall::UpgradableRead, End::Got),
+        (1, RwCall::Read, End::Got),
+        (0, RwCall::TryUpgrade, End::NotFree),
+        (1, RwCall::Drop, End::GivenBack),
+        (0, RwCall::TryUpgrade, End::Got),
+    ];
+    expect(&rt, &mut lock, true, &calls);
     Ok(())
 }
 
 #[test]
 fn a_writer_waits_for_the_turn(rt: HostRuntime) -> Result<(), AllocError> {
     let mut lock = of_parties(rt.alloc(), 3, 10)?;
-    assert_eq!(rt; whole(&mut lock, 0, RwCall::Write, true), Some(End::Got));
-    assert_eq!(rt; whole(&mut lock, 1, RwCall::Read, true), Some(End::Pending));
-    assert_eq!(rt;
-        whole(&mut lock, 2, RwCall::Write, true),
-        Some(End::Pending)
-    );
+    let calls = [
+        (0, RwCall::Write, End::Got),
+        (1, RwCall::Read, End::Pending),
+        (2, RwCall::Write, End::Pending),
+    ];
+    expect(&rt, &mut lock, true, &calls);
     let waits = Place::WaitTurn {
         purpose: Purpose::Write,
     };
     assert_eq!(rt; standing(&lock, 2), Some(waits));
-    assert_eq!(rt;
-        whole(&mut lock, 0, RwCall::Downgrade, true),
-        Some(End::GivenBack)
-    );
-    assert_eq!(rt; whole(&mut lock, 1, RwCall::Poll, true), Some(End::Got));
-    assert_eq!(rt; whole(&mut lock, 2, RwCall::Poll, true), Some(End::Pending));
-    assert_eq!(rt;
-        whole(&mut lock, 0, RwCall::Drop, true),
-        Some(End::GivenBack)
-    );
-    assert_eq!(rt;
-        whole(&mut lock, 1, RwCall::Drop, true),
-        Some(End::GivenBack)
-    );
-    assert_eq!(rt; whole(&mut lock, 2, RwCall::Poll, true), Some(End::Got));
+    let calls = [
+        (0, RwCall::Downgrade, End::GivenBack),
+        (1, RwCall::Poll, End::Got),
+        (2, RwCall::Poll, End::Pending),
+        (0, RwCall::Drop, End::GivenBack),
+        (1, RwCall::Drop, End::GivenBack),
+        (2, RwCall::Poll, End::Got),
+    ];
+    expect(&rt, &mut lock, true, &calls);
     Ok(())
 }
 
 #[test]
 fn a_refused_upgrade_keeps_its_right(rt: HostRuntime) -> Result<(), AllocError> {
     let mut lock = of_parties(rt.alloc(), 2, 2)?;
-    let memory = Some(End::Refused(Refusal::Memory));
-    assert_eq!(rt;
-        whole(&mut lock, 0, RwCall::UpgradableRead, true),
-        Some(End::Got)
-    );
-    assert_eq!(rt; whole(&mut lock, 1, RwCall::Read, true), Some(End::Got));
-    assert_eq!(rt;
-        whole(&mut lock, 0, RwCall::Upgrade, true),
-        Some(End::Waiting)
-    );
-    assert_eq!(rt; whole(&mut lock, 0, RwCall::Poll, false), memory);
-    assert!(rt; lock.is_writer_marked());
-    assert!(rt; lock.turn().is_held());
-    assert_eq!(rt;
-        whole(&mut lock, 1, RwCall::Drop, true),
-        Some(End::GivenBack)
-    );
-    assert_eq!(rt; whole(&mut lock, 0, RwCall::Poll, false), Some(End::Got));
+    let calls = [
+        (0, RwCall::UpgradableRead, End::Got),
+        (1, RwCall::Read, End::Got),
+        (0, RwCall::Upgrade, End::Waiting),
+    ];
+    expect(&rt, &mut lock, true, &calls);
+    let refused = [(0, RwCall::Poll, End::Refused(Refusal::Memory))];
+    expect(&rt, &mut lock, false, &refused);
+    assert_eq!(rt; state_of(&lock), (true, true, 1));
+    let calls = [
+        (1, RwCall::Drop, End::GivenBack),
+        (0, RwCall::Poll, End::Got),
+    ];
+    expect(&rt, &mut lock, false, &calls);
     Ok(())
 }
 
 #[test]
 fn refused_futures_are_as_they_were_made(rt: HostRuntime) -> Result<(), AllocError> {
     let mut lock = of_parties(rt.alloc(), 3, 1)?;
-    let memory = Some(End::Refused(Refusal::Memory));
-    let readers = Some(End::Refused(Refusal::Readers));
-    assert_eq!(rt; whole(&mut lock, 0, RwCall::Read, true), Some(End::Got));
-    assert_eq!(rt; whole(&mut lock, 1, RwCall::Read, true), readers);
-    assert_eq!(rt;
-        whole(&mut lock, 1, RwCall::Drop, true),
-        Some(End::GivenBack)
-    );
+    let readers = End::Refused(Refusal::Readers);
+    let calls = [
+        (0, RwCall::Read, End::Got),
+        (1, RwCall::Read, readers),
+        (1, RwCall::Drop, End::GivenBack),
+    ];
+    expect(&rt, &mut lock, true, &calls);
     assert_eq!(rt; standing(&lock, 1), Some(Place::Out));
-    assert_eq!(rt; whole(&mut lock, 1, RwCall::UpgradableRead, true), readers);
-    assert!(rt; !lock.turn().is_held());
-    assert_eq!(rt; whole(&mut lock, 2, RwCall::Write, false), memory);
+    expect(
+        &rt,
+        &mut lock,
+        true,
+        &[(1, RwCall::UpgradableRead, readers)],
+    );
+    let refused = [(2, RwCall::Write, End::Refused(Refusal::Memory))];
+    expect(&rt, &mut lock, false, &refused);
     let made = Place::Made {
         wanted: Wanted::Write,
     };
     assert_eq!(rt; standing(&lock, 2), Some(made));
-    assert!(rt; !lock.is_writer_marked());
-    assert_eq!(rt; whole(&mut lock, 2, RwCall::Poll, true), Some(End::Pending));
+    assert_eq!(rt; state_of(&lock), (false, false, 1));
+    expect(&rt, &mut lock, true, &[(2, RwCall::Poll, End::Pending)]);
     Ok(())
 }

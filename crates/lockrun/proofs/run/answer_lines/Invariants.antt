@@ -2,14 +2,16 @@ use Rattle.std.proofs.Common.{length}
 use Rattle.std.specs.Prelude.{All}
 use Rattle.lock_script.specs.Lines.{lines_of}
 use Rattle.lockrun.specs.Scripts.{IsLine}
+use Rattle.lockrun.proofs.Faults.{HasCome}
 use Rattle.lockrun.proofs.Plays.{HasPlayed}
 use Rattle.lockrun.proofs.run.answer_lines.Given as goal
 
--- the lines so far were good, so all are if those left are; and they were played
+-- the lines so far were good, so all are if those left are; they were played; and where no World stands, none of them asked for one
 abbrev pub invariant-loop-rest : goal.invariant-loop-rest
 invariant-loop-rest g l = record {
   good : All IsLine (lines_of l.rest) → All IsLine (lines_of l.text);
   played : HasPlayed l.text l.rest l.world (g.O.Write.contents l.fn.output) (g.O.Write.contents l.output);
+  come : HasCome l.text l.rest l.world;
 }
 
 abbrev pub decreases-loop-rest : goal.decreases-loop-rest
