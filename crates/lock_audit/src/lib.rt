@@ -3,5 +3,7 @@
 #![tactic(auto)]
 
 mod book;
+#[cfg(test)]
+mod worlds;
 
 pub use book::Book;

@@ -341,6 +341,3 @@ impl AnyWorld for World {
         World::at_rest(self)
     }
 }
-
-#[cfg(test)]
-mod tests;

@@ -66,21 +66,20 @@ fn plan_with_guard(sought: Option<Sought>, call: Call) -> Option<Plan>
     ensures { result ≡ with_guard sought call }
 {
     let was = Rest::Holding;
-    match (sought, call) {
-        (Some(Sought::Upgradable), Call::Upgrade) => {
-            Some(start(RwCall::Upgrade, Kind::Upgrade, was))
-        }
-        (Some(Sought::Upgradable), Call::TryUpgrade) => {
-            Some(start(RwCall::TryUpgrade, Kind::TryUpgrade, was))
-        }
-        (Some(Sought::Upgradable), Call::Downgrade) | (Some(Sought::Write), Call::Downgrade) => {
-            Some(start(RwCall::Downgrade, Kind::Downgrade, was))
-        }
-        (Some(Sought::Write), Call::DowngradeToUpgradable) => {
-            Some(start(RwCall::ToUpgradable, Kind::Downgrade, was))
-        }
-        (Some(Sought::Write), Call::Put(value)) => Some(Plan::Put(value)),
-        _ => None,
+    match sought {
+        Some(Sought::Upgradable) => match call {
+            Call::Upgrade => Some(start(RwCall::Upgrade, Kind::Upgrade, was)),
+            Call::TryUpgrade => Some(start(RwCall::TryUpgrade, Kind::TryUpgrade, was)),
+            Call::Downgrade => Some(start(RwCall::Downgrade, Kind::Downgrade, was)),
+            _ => None,
+        },
+        Some(Sought::Write) => match call {
+            Call::Downgrade => Some(start(RwCall::Downgrade, Kind::Downgrade, was)),
+            Call::DowngradeToUpgradable => Some(start(RwCall::ToUpgradable, Kind::Downgrade, was)),
+            Call::Put(value) => Some(Plan::Put(value)),
+            _ => None,
+        },
+        Some(Sought::Read) | None => None,
     }
 }
 

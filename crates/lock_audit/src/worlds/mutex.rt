@@ -1,5 +1,8 @@
-use super::*;
-use crate::{Got, Made, Mark, What};
+//! A mutex's World through its public calls.
+
+use lock_core::mutex::World;
+use lock_core::{Answer, Call, Got, Inputs, Made, Mark, Move, Refusal, What};
+use std::alloc::Global;
 use std::process::Abort;
 use std::test::Fail;
 

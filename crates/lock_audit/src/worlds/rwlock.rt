@@ -1,5 +1,8 @@
-use super::*;
-use crate::{Got, Made, Mark, What};
+//! A read-write lock's World through its public calls.
+
+use lock_core::rwlock::World;
+use lock_core::{Answer, Call, Entry, Got, Inputs, Made, Mark, Memory, Move, Refusal, What};
+use std::alloc::Global;
 use std::process::Abort;
 use std::test::Fail;
 
