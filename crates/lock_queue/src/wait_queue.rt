@@ -155,6 +155,3 @@ fn party(slot: &Slot<u32>) -> u32
 {
     slot.waker.unwrap_or(0)
 }
-
-#[cfg(test)]
-mod tests;

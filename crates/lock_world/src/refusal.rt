@@ -43,6 +43,3 @@ impl Refusal {
         }
     }
 }
-
-#[cfg(test)]
-mod tests;

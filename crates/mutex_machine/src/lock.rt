@@ -233,6 +233,3 @@ fn after(from: Place, next: Next) -> Place
         Next::End(_) => Place::Out,
     }
 }
-
-#[cfg(test)]
-mod tests;

@@ -330,6 +330,3 @@ fn after_look_alone(found: Found) -> Next
         _ => go_to(Place::PassOnListed),
     }
 }
-
-#[cfg(test)]
-mod tests;

@@ -316,6 +316,3 @@ fn after(next: Next) -> Place
         Next::Do(_, place) | Next::End(_, place) => place,
     }
 }
-
-#[cfg(test)]
-mod tests;

@@ -640,6 +640,3 @@ fn after_giving_back(place: Place, found: Found) -> Next
         _ => Next::End(End::GivenBack, Place::Out),
     }
 }
-
-#[cfg(test)]
-mod tests;

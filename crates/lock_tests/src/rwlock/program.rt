@@ -1,7 +1,11 @@
 //! The programs against the table that they were taken from: each place, its action, and what follows
 //! each finding that the action can make.
 
-use super::*;
+use lock_world::Refusal;
+use mutex_machine::program::{End as TurnEnd, LockCall, Next as TurnNext};
+use rwlock_machine::program::{
+    Action, End, Ending, Found, Next, Place, Purpose, RwCall, Wanted, action_at, decide, start,
+};
 use std::process::Abort;
 
 const TURN_STEP: Found = Found::Turn(TurnNext::Do(

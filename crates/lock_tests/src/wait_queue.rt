@@ -1,8 +1,9 @@
 ghost use Rattle.std.specs.Prelude.{◌≡◌, ℕ, [], IfOk};
 ghost use Rattle.lock_queue.specs.Queues.{queue};
 
-use super::*;
 use lock_event::Mark::{self, Additional, Notified, Waiting};
+use lock_queue::WaitQueue;
+use std::alloc::{AllocError, Global};
 use std::process::Abort;
 use std::test::Fail;
 

@@ -1,7 +1,10 @@
-use super::*;
-use crate::program::{End, Purpose, Wanted};
-use lock_event::Mark;
+//! A read-write lock's machine through its public calls.
+
+use lock_event::{Entry, Mark};
 use lock_world::Refusal;
+use rwlock_machine::RwLock;
+use rwlock_machine::program::{End, Next, Place, Purpose, RwCall, Wanted, start};
+use std::alloc::{AllocError, Global};
 use std::process::Abort;
 
 // A lock, or where memory for it was refused, what a second try makes. So each test also passes where

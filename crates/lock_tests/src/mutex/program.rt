@@ -1,7 +1,8 @@
 //! The programs against their table in docs/PROGRAMS.md: each place, its action, and what follows each
 //! finding that the action can make.
 
-use super::*;
+use lock_world::Refusal;
+use mutex_machine::program::{Action, End, Found, LockCall, Next, Place, action_at, decide, start};
 
 const HELD: Found = Found::Held { starving: false };
 

@@ -1,4 +1,6 @@
-use super::*;
+//! The refusals, as what stands outside a World reads them.
+
+use lock_world::Refusal;
 use std::test::Fail;
 
 #[test]

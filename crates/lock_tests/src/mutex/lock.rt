@@ -1,4 +1,8 @@
-use super::*;
+//! A mutex's machine alone.
+
+use mutex_machine::Lock;
+use mutex_machine::program::{End, LockCall, Next, Place};
+use std::alloc::AllocError;
 
 #[test]
 fn the_machine_alone_hands_its_lock_on(rt: HostRuntime) -> Result<(), AllocError> {

@@ -1,0 +1,13 @@
+//! Tests of the queue, of the refusals and of the machines, through their public calls. They stand in one
+//! crate above all of these, so that none is proved a second time with its own tests. There is nothing
+//! else here, and no crate stands on it.
+#![tactic(auto)]
+
+#[cfg(test)]
+mod mutex;
+#[cfg(test)]
+mod refusal;
+#[cfg(test)]
+mod rwlock;
+#[cfg(test)]
+mod wait_queue;

@@ -1,0 +1,4 @@
+//! A mutex's machine: its programs and its lock.
+
+mod lock;
+mod program;
