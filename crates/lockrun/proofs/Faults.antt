@@ -1,11 +1,10 @@
 -- A text that is at fault: which of its lines is bad where it stands, and why.
 use Rattle.std.proofs.Common.{◌≡◌, ℕ, suc, ◌+◌, ◌<◌, ◌≤◌, Bool, true, false, ltb, List, [], ◌∷◌, ◌++◌, length, get_or, take, refl, sym, subst, ◌∙◌, ap, arith, append_assoc, false-eqb, inl, inr}
-use Rattle.std.specs.Prelude.{◌==◌, ◌⊎◌, Option, Some, None, Result, Ok, Err, IfErr, IfSome, All}
-use Rattle.std.specs.Io.KnownBytes.{Appends}
+use Rattle.std.specs.Prelude.{◌==◌, Option, Some, None, Result, Ok, Err, IfErr, IfSome}
+use Rattle.std.specs.Io.KnownBytes.{Appends, Keeps}
 use Rattle.std.specs.List.{before_first, after_first, position_or_len}
 use Rattle.std.proofs.lemmas.Bool.{ltb-true, ltb-false}
 use Rattle.std.proofs.lemmas.List.{append-nil}
-use Rattle.std.proofs.lemmas.List.Elements.{All-nil, All-push}
 use Rattle.std.proofs.lemmas.Result.{IfErr-at_err}
 use Rattle.std.proofs.lemmas.List.Splits.{slice_split_first}
 use Rattle.lock_play.specs.declared.world.World.{World}
@@ -21,9 +20,10 @@ use Rattle.lock_script.proofs.Lines.{words-first}
 use Rattle.lockrun.specs.declared.fault.Fault.{Fault}
 use Rattle.lockrun.specs.declared.run.TheConstants.{LIMIT}
 use Rattle.lockrun.specs.Faults.{status_of}
-use Rattle.lockrun.specs.Plays.{Leads, PlaysLine}
-use Rattle.lockrun.specs.Scripts.{IsLine, IsBadAfter, MakesWorld, NeedsWorld, HasBadLine, IsAtFault, IsStartOfScript}
-use Rattle.lockrun.proofs.Plays.{none_after}
+use Rattle.lockrun.specs.Plays.{Plays, PlaysLine, IsBad, StopsAtBadLine, IsAtFault}
+use Rattle.lockrun.specs.Scripts.{IsLine, IsStartOfScript}
+use Rattle.lock_play.proofs.Texts.{Appends-more}
+use Rattle.lockrun.proofs.Plays.{Appends-nothing, none_after}
 
 -- no command's name begins with 35, the first byte of a comment
 no_comment : (command : Command) (rest : List ℕ) → name_of (verb_of command) ≡ 35 ∷ rest → ⊥
@@ -62,31 +62,40 @@ no_line line parsed s none asked (inr command) =
     cc
 
 -- where a line's command was refused because no World stands, the line asks something of one
-pub needs_world : {A : Type 0} (line : List ℕ) (command : Command) (world : Option World) (r : Result A Fault) → Asks (words_of line) command → IsPrintable line → IsTrimmed line → IfErr r (λ fault. status_of fault ≡ 1 → (request : Request) × (command ≡ On request) × (world ≡ None)) → IfErr r (λ fault. status_of fault ≡ 1 → (¬ IsLine line) ⊎ (NeedsWorld line × (world ≡ None)))
-needs_world line command world (Ok v) asks printable trimmed h = tt
-needs_world line command world (Err fault) asks printable trimmed h = λ one.
-    let needs = h one in
-    inr (record { asked = record { command = command; asks = asks; printable = printable; trimmed = trimmed }; request = needs.0; on = needs.1 }, needs.2)
+pub needs_world : {A : Type 0} (line : List ℕ) (command : Command) (world : Option World) (old new : Option (List ℕ)) (r : Result A Fault) → Asks (words_of line) command → IsPrintable line → IsTrimmed line → IfErr r (λ fault. status_of fault ≡ 1 → ((request : Request) × (command ≡ On request) × (world ≡ None)) × Keeps old new) → IfErr r (λ fault. status_of fault ≡ 1 → IsBad line world × Keeps old new)
+needs_world line command world old new (Ok v) asks printable trimmed h = tt
+needs_world line command world old new (Err fault) asks printable trimmed h = λ one.
+    let (needs, keeps) = h one in
+    (inr (record { asked = record { command = command; asks = asks; printable = printable; trimmed = trimmed }; request = needs.0; on = needs.1 }, needs.2), keeps)
 
--- no command leads to where no World stands
-none_led : (command : Command) (old : Option World) (text : List ℕ) → Leads command old None text → ⊥
-none_led (New model) old text (made, t) = cc
-none_led (On request) None text leads = leads
-none_led (On request) (Some world) text (v, is, does) = cc
+-- nothing is lost, and nothing comes
+pub Keeps-same : (a : Option (List ℕ)) → Keeps a a
+Keeps-same None = tt
+Keeps-same (Some xs) = refl
 
--- where no World stands after a line, none stood before it, and the line asks for none
-none_before : (line : List ℕ) (old : Option World) (bytes : List ℕ) → PlaysLine line old None bytes → (old ≡ None) × (¬ MakesWorld line)
-none_before line old bytes (inl over) = (sym over.kept, λ makes. skipped_asks line makes.asked.command over.skipped makes.asked.asks)
-none_before line old bytes (inr answer) = absurd (none_led answer.asked.command old answer.text answer.leads)
+-- what was appended is what the writer still has
+Appends-kept : (a b c : Option (List ℕ)) (bs : List ℕ) → Appends a b bs → Keeps b c → Appends a c bs
+Appends-kept None b c bs h k = tt
+Appends-kept (Some xs) None c bs h k = absurd h
+Appends-kept (Some xs) (Some ys) None bs h k = absurd k
+Appends-kept (Some xs) (Some ys) (Some zs) bs h k = k ∙ h
 
--- the lines before the rest, whose lines follow them unless it is empty; where no World stands now, none of them asked for one
-pub record HasCome (text rest : List ℕ) (world : Option World) : Type 0 where
+-- one line more is played
+plays_push : (lines : List (List ℕ)) (line : List ℕ) (old mid new : Option World) (bytes more : List ℕ) → Plays lines old mid bytes → PlaysLine line mid new more → Plays (lines ++ line ∷ []) old new (bytes ++ more)
+plays_push [] line old mid new bytes more (kept, none) played = (new, more, [], subst (λ w. PlaysLine line w new more) kept played, (refl, refl), ap (λ bs. bs ++ more) none ∙ sym (append-nil more))
+plays_push (first ∷ lines) line old mid new bytes more (next, one, others, plays, rest, e) played =
+    (next, one, others ++ more, plays, plays_push lines line next mid new others more rest played, ap (λ bs. bs ++ more) e ∙ append_assoc one others more)
+
+-- the lines before the rest, whose lines follow them unless it is empty; they were played, and led to the World that stands now
+pub record HasCome (text rest : List ℕ) (world : Option World) (old now : Option (List ℕ)) : Type 0 where
   pub before : List (List ℕ)
   pub stands : 0 < length rest → lines_of text ≡ before ++ lines_of rest
-  pub none : world ≡ None → All (λ earlier. ¬ MakesWorld earlier) before
+  pub bytes : List ℕ
+  pub plays : Plays before None world bytes
+  pub printed : Appends old now bytes
 
-pub come_none : (text : List ℕ) (world : Option World) → HasCome text text world
-come_none text world = record { before = []; stands = λ some. refl; none = λ e. All-nil (λ earlier. ¬ MakesWorld earlier) }
+pub come_none : (text : List ℕ) (now : Option (List ℕ)) → HasCome text text None now now
+come_none text now = record { before = []; stands = λ some. refl; bytes = []; plays = (refl, refl); printed = Appends-nothing now }
 
 -- a text's lines are the one before its first line feed and, where something stands after that, the lines of it
 first_line : (rest : List ℕ) (b : Bool) → ltb (position_or_len (is_byte 10) rest) (length rest) ≡ b → (others : List (List ℕ)) × (lines_of rest ≡ before_first (is_byte 10) rest ∷ others) × (0 < length (after_first (is_byte 10) rest) → others ≡ lines_of (after_first (is_byte 10) rest))
@@ -96,36 +105,54 @@ first_line rest false e =
     ([], far.2 ∙ ap (λ line. line ∷ []) (sym far.0), λ some. absurd (omega (arith, some, ap length far.1)))
 
 -- the first line of the rest was answered, and stands before what is left now
-pub come_more : (text rest line after : List ℕ) (world mid : Option World) (old new : Option (List ℕ)) → HasCome text rest world → false ≡ (length rest == 0) → line ≡ before_first (is_byte 10) rest → after ≡ after_first (is_byte 10) rest → (bytes : List ℕ) × PlaysLine line world mid bytes × Appends old new bytes → HasCome text after mid
-come_more text rest line after world mid old new h some l a (bytes, played, appended) = record {
+pub come_more : (text rest line after : List ℕ) (world mid : Option World) (old now new : Option (List ℕ)) → HasCome text rest world old now → false ≡ (length rest == 0) → line ≡ before_first (is_byte 10) rest → after ≡ after_first (is_byte 10) rest → (bytes : List ℕ) × PlaysLine line world mid bytes × Appends now new bytes → HasCome text after mid old new
+come_more text rest line after world mid old now new h some l a (bytes, played, appended) = record {
   before = h.before ++ line ∷ [];
   stands = λ more.
       let first = first_line rest _ refl in
       let others : first.0 ≡ lines_of after = first.2 (omega (arith, more, ap length a)) ∙ ap lines_of (sym a) in
       let lines : lines_of rest ≡ line ∷ lines_of after = first.1 ∙ ap (λ x. x ∷ first.0) (sym l) ∙ ap (λ x. line ∷ x) others in
       h.stands (omega (arith, false-eqb _ 0 some)) ∙ ap (λ x. h.before ++ x) lines ∙ sym (append_assoc h.before (line ∷ []) (lines_of after));
-  none = λ e.
-      let was = none_before line world bytes (subst (λ w. PlaysLine line world w bytes) e played) in
-      All-push (λ earlier. ¬ MakesWorld earlier) h.before line (h.none was.0) was.1;
+  bytes = h.bytes ++ bytes;
+  plays = plays_push h.before line None world mid h.bytes bytes h.plays played;
+  printed = Appends-more old now new h.bytes bytes (h.bytes ++ bytes) h.printed appended refl;
 }
 
--- the first line of the rest is bad, and so is the text
-pub come_bad : (text rest line : List ℕ) (world : Option World) → HasCome text rest world → false ≡ (length rest == 0) → line ≡ before_first (is_byte 10) rest → (¬ IsLine line) ⊎ (NeedsWorld line × (world ≡ None)) → HasBadLine text
-come_bad text rest line world h some l bad =
+-- the first line of the rest is bad, and the script stops there
+pub come_bad : (text rest line : List ℕ) (world : Option World) (old now new : Option (List ℕ)) → HasCome text rest world old now → false ≡ (length rest == 0) → line ≡ before_first (is_byte 10) rest → IsBad line world × Keeps now new → StopsAtBadLine text old new
+come_bad text rest line world old now new h some l (bad, keeps) =
     let first = first_line rest _ refl in
     record {
       before = h.before;
       line = line;
       after = first.0;
       stands = h.stands (omega (arith, false-eqb _ 0 some)) ∙ ap (λ x. h.before ++ x) (first.1 ∙ ap (λ x. x ∷ first.0) (sym l));
-      bad = elim bad as (λ b. IsBadAfter h.before line) [ inl none ↦ inl none | inr (needs, e) ↦ inr (needs, h.none e) ];
+      last = world;
+      bytes = h.bytes;
+      plays = h.plays;
+      bad = bad;
+      printed = Appends-kept old now new h.bytes h.printed keeps;
     }
 
+-- the writer keeps what it got while it is flushed
+flushed : (text : List ℕ) (old now new : Option (List ℕ)) → StopsAtBadLine text old now → Keeps now new → StopsAtBadLine text old new
+flushed text old now new s keeps = record {
+  before = s.before;
+  line = s.line;
+  after = s.after;
+  stands = s.stands;
+  last = s.last;
+  bytes = s.bytes;
+  plays = s.plays;
+  bad = s.bad;
+  printed = Appends-kept old now new s.bytes s.printed keeps;
+}
+
 -- what was read is the whole input, unless it is too long, so the bad line is one of the input's
-pub whole_bad : {A : Type 0} (old new : Option (List ℕ)) (text : List ℕ) (r ended : Result A Fault) → IsStartOfScript old new text → length text ≤ LIMIT → IfErr r (λ fault. status_of fault ≡ 1 → HasBadLine text) → ended ≡ r → IfErr ended (λ fault. status_of fault ≡ 1 → IfSome old IsAtFault)
-whole_bad old new text r (Ok v) start short bad e = tt
-whole_bad None new text r (Err fault) start short bad e = λ one. tt
-whole_bad (Some xs) None text r (Err fault) start short bad e = absurd start.taken
-whole_bad (Some xs) (Some ys) text r (Err fault) start short bad e = λ one.
+pub whole_bad : {A : Type 0} (input left old now new : Option (List ℕ)) (text : List ℕ) (r ended : Result A Fault) → IsStartOfScript input left text → length text ≤ LIMIT → IfErr r (λ fault. status_of fault ≡ 1 → StopsAtBadLine text old now) → Keeps now new → ended ≡ r → IfErr ended (λ fault. status_of fault ≡ 1 → IfSome input (λ whole. IsAtFault whole old new))
+whole_bad input left old now new text r (Ok v) start short bad keeps e = tt
+whole_bad None left old now new text r (Err fault) start short bad keeps e = λ one. tt
+whole_bad (Some xs) None old now new text r (Err fault) start short bad keeps e = absurd start.taken
+whole_bad (Some xs) (Some ys) old now new text r (Err fault) start short bad keeps e = λ one.
     let all : xs ≡ text = start.taken ∙ ap (λ rest. text ++ rest) (start.whole short) ∙ append-nil text in
-    inr (subst HasBadLine (sym all) (IfErr-at_err (λ f. status_of f ≡ 1 → HasBadLine text) (sym e) bad one))
+    inr (flushed xs old now new (subst (λ t. StopsAtBadLine t old now) (sym all) (IfErr-at_err (λ f. status_of f ≡ 1 → StopsAtBadLine text old now) (sym e) bad one)) keeps)

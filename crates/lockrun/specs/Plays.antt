@@ -1,12 +1,13 @@
 -- What a script prints: each line's answer in turn, on the World that the lines before it led to.
-use Rattle.std.specs.Prelude.{◌≡◌, ◌⊎◌, ℕ, List, [], ◌∷◌, ◌++◌, Option, Some, None, codes}
-use Rattle.std.specs.Io.KnownBytes.{Appends}
+use Rattle.std.specs.Prelude.{◌≡◌, ◌⊎◌, ℕ, ◌<◌, List, [], ◌∷◌, ◌++◌, length, Option, Some, None, codes}
+use Rattle.std.specs.Io.KnownBytes.{Appends, Keeps}
 use Rattle.lock_script.specs.declared.command.Command.{Command}
 use Rattle.lock_script.specs.declared.command.Command.TheVariants.{New, On}
 use Rattle.lock_play.specs.declared.world.World.{World}
 use Rattle.lock_script.specs.Lines.{lines_of, IsSkipped}
 use Rattle.lock_play.specs.Openings.{world_of}
-use Rattle.lockrun.specs.Scripts.{IsCommand}
+use Rattle.lockrun.specs.declared.run.TheConstants.{LIMIT}
+use Rattle.lockrun.specs.Scripts.{IsCommand, IsLine, NeedsWorld}
 use Rattle.lock_play.specs.Worlds.{CarriesOut}
 
 -- a command leads from the World that stands, if one does, to another, and is answered by this text; where none stands only a new one can be asked for
@@ -44,3 +45,23 @@ pub record IsPlayed (text : List ℕ) (old new : Option (List ℕ)) : Type 0 whe
   pub bytes : List ℕ
   pub plays : Plays (lines_of text) None last bytes
   pub printed : Appends old new bytes
+
+-- a line is bad where this World stands, or none: it is none that a script may have, or it asks something of a World though none stands
+abbrev pub IsBad : List ℕ → Option World → Type 0
+IsBad line world = (¬ IsLine line) ⊎ (NeedsWorld line × (world ≡ None))
+
+-- one of the script's lines is bad where it stands, and the writer got what those before it print
+pub record StopsAtBadLine (text : List ℕ) (old new : Option (List ℕ)) : Type 0 where
+  pub before : List (List ℕ)
+  pub line : List ℕ
+  pub after : List (List ℕ)
+  pub stands : lines_of text ≡ before ++ line ∷ after
+  pub last : Option World
+  pub bytes : List ℕ
+  pub plays : Plays before None last bytes
+  pub bad : IsBad line last
+  pub printed : Appends old new bytes
+
+-- a text is at fault: it is longer than a script may be, and nothing is printed, or one of its lines is bad where it stands
+abbrev pub IsAtFault : List ℕ → Option (List ℕ) → Option (List ℕ) → Type 0
+IsAtFault text old new = ((LIMIT < length text) × Keeps old new) ⊎ StopsAtBadLine text old new

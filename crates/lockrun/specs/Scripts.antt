@@ -1,10 +1,9 @@
 -- What the program is asked for, and what a script is.
-use Rattle.std.specs.Prelude.{ℕ, ◌≡◌, ◌+◌, ◌<◌, ◌≤◌, ◌⊎◌, Option, List, [], ◌∷◌, ◌++◌, length, All, codes}
+use Rattle.std.specs.Prelude.{ℕ, ◌≡◌, ◌+◌, ◌≤◌, ◌⊎◌, Option, List, [], ◌∷◌, length, All, codes}
 use Rattle.std.specs.Io.KnownBytes.{Consumes, IsAtEnd}
 use Rattle.lockrun.specs.declared.run.TheConstants.{LIMIT}
 use Rattle.lock_script.specs.declared.command.Command.{Command}
-use Rattle.lock_script.specs.declared.command.Command.TheVariants.{New, On}
-use Rattle.lock_script.specs.declared.command.Model.{Model}
+use Rattle.lock_script.specs.declared.command.Command.TheVariants.{On}
 use Rattle.lock_script.specs.declared.command.Request.{Request}
 use Rattle.lock_script.specs.Commands.{Asks}
 use Rattle.lock_script.specs.Lines.{lines_of, words_of, IsSkipped, IsPrintable, IsTrimmed}
@@ -29,33 +28,11 @@ pub record IsScript (text : List ℕ) : Type 0 where
   pub short : length text ≤ LIMIT
   pub lines : All IsLine (lines_of text)
 
--- a line that asks for a new World
-pub record MakesWorld (line : List ℕ) : Type 0 where
-  pub asked : IsCommand line
-  pub model : Model
-  pub new : asked.command ≡ New model
-
 -- a line that asks something of the World that stands
 pub record NeedsWorld (line : List ℕ) : Type 0 where
   pub asked : IsCommand line
   pub request : Request
   pub on : asked.command ≡ On request
-
--- a line is bad where it stands, after these lines: it is none that a script may have, or it asks something of a World though none of them asks for a new one
-abbrev pub IsBadAfter : List (List ℕ) → List ℕ → Type 0
-IsBadAfter before line = (¬ IsLine line) ⊎ (NeedsWorld line × All (λ earlier. ¬ MakesWorld earlier) before)
-
--- one of the text's lines is bad where it stands, after those before it
-pub record HasBadLine (text : List ℕ) : Type 0 where
-  pub before : List (List ℕ)
-  pub line : List ℕ
-  pub after : List (List ℕ)
-  pub stands : lines_of text ≡ before ++ line ∷ after
-  pub bad : IsBadAfter before line
-
--- a text is at fault: it is longer than a script may be, or one of its lines is bad where it stands
-abbrev pub IsAtFault : List ℕ → Type 0
-IsAtFault text = (LIMIT < length text) ⊎ HasBadLine text
 
 -- what was read is what the input lost, and is the whole input unless it is longer than a script
 pub record IsStartOfScript (old new : Option (List ℕ)) (text : List ℕ) : Type 0 where

@@ -9,8 +9,8 @@ ghost use Rattle.std.specs.Prelude.{◌≡◌, ◌≢◌, ◌⊎◌, ◌+◌, �
 ghost use Rattle.std.specs.Io.{StartsWith, appended_bytes};
 ghost use Rattle.std.specs.Io.KnownBytes.{Appends, Consumes, IsAtEnd, Keeps};
 ghost use Rattle.lock_play.specs.Openings.{world_of};
-ghost use Rattle.lockrun.specs.Plays.{IsPlayed, Leads, PlaysLine};
-ghost use Rattle.lockrun.specs.Scripts.{asked, HasBadLine, IsAtFault, IsLine, IsScript, IsStartOfScript, NeedsWorld};
+ghost use Rattle.lockrun.specs.Plays.{IsAtFault, IsBad, IsPlayed, Leads, PlaysLine, StopsAtBadLine};
+ghost use Rattle.lockrun.specs.Scripts.{asked, IsLine, IsScript, IsStartOfScript};
 ghost use Rattle.lock_script.specs.Lines.{lines_of};
 ghost use Rattle.lock_script.specs.declared.command.Command.TheVariants.{On};
 ghost use Rattle.lock_script.specs.declared.command.Request.{Request};
@@ -57,7 +57,8 @@ pub fn run<I: Read, O: Write, E: Write>(
         → IfSome (I.remaining input.old) IsScript }
     ensures played { map string_bytes words.now ≡ asked → result ≡ 0
         → IfSome (I.remaining input.old) (λ text. IsPlayed text (O.contents output.old) (O.contents output.new)) }
-    ensures fault { result ≡ 1 → IfSome (I.remaining input.old) IsAtFault }
+    ensures fault { result ≡ 1 → IfSome (I.remaining input.old)
+        (λ text. IsAtFault text (O.contents output.old) (O.contents output.new)) }
     ensures long { map string_bytes words.now ≡ asked
         → IfSome (I.remaining input.old) (λ text. LIMIT < length text → ((result ≡ 1) ⊎ (result ≡ 3))
         × Keeps (O.contents output.old) (O.contents output.new)) }
@@ -99,8 +100,8 @@ fn script<I: Read, O: Write>(alloc: Global, input: &mut I, output: &mut O) -> Re
         (λ text. IsPlayed text (O.contents output.old) (O.contents output.new))) }
     ensures long { IfSome (I.remaining input.old) (λ text. LIMIT < length text
         → IsErr result × Keeps (O.contents output.old) (O.contents output.new)) }
-    ensures fault { IfErr result
-        (λ fault. status_of fault ≡ 1 → IfSome (I.remaining input.old) IsAtFault) }
+    ensures fault { IfErr result (λ fault. status_of fault ≡ 1 → IfSome (I.remaining input.old)
+        (λ text. IsAtFault text (O.contents output.old) (O.contents output.new))) }
     ensures asked { result ≢ Err Fault.Usage }
 {
     let text = read_script(alloc, input)?;
@@ -170,7 +171,8 @@ fn read_more<I: Read>(input: &mut I, buffer: &mut [u8], text: &mut Vec<u8>) -> R
 fn answer_lines<O: Write>(alloc: Global, text: &[u8], output: &mut O) -> Result<(), Fault>
     ensures lines { OnOk result (All IsLine (lines_of text.now)) }
     ensures played { OnOk result (IsPlayed text.now (O.contents output.old) (O.contents output.new)) }
-    ensures fault { IfErr result (λ fault. status_of fault ≡ 1 → HasBadLine text.now) }
+    ensures fault { IfErr result (λ fault. status_of fault ≡ 1
+        → StopsAtBadLine text.now (O.contents output.old) (O.contents output.new)) }
     ensures asked { result ≢ Err Fault.Usage }
 {
     let mut world = None;
@@ -197,7 +199,7 @@ fn answer_line<O: Write>(
     ensures played { OnOk result ((bytes : List ℕ) × PlaysLine line.now world.old world.new bytes
         × Appends (O.contents output.old) (O.contents output.new) bytes) }
     ensures fault { IfErr result (λ fault. status_of fault ≡ 1
-        → (¬ IsLine line.now) ⊎ (NeedsWorld line.now × (world.old ≡ None))) }
+        → IsBad line.now world.old × Keeps (O.contents output.old) (O.contents output.new)) }
     ensures asked { result ≢ Err Fault.Usage }
 {
     if line::is_skipped(line) {
@@ -221,7 +223,8 @@ fn answer_command<O: Write>(
     ensures leads { OnOk result ((text : List ℕ) × Leads command world.old world.new text
         × Appends (O.contents output.old) (O.contents output.new) (text ++ 10 ∷ [])) }
     ensures fault { IfErr result (λ fault. status_of fault ≡ 1
-        → (request : Request) × (command ≡ On request) × (world.old ≡ None)) }
+        → ((request : Request) × (command ≡ On request) × (world.old ≡ None))
+        × Keeps (O.contents output.old) (O.contents output.new)) }
     ensures asked { result ≢ Err Fault.Usage }
 {
     match command {

@@ -14,7 +14,7 @@ loop-rest-preserved g c = record {
   good = λ others.
       c.loop-rest.invariant.good (lines-more IsLine c.loop-rest.rest.now c.cut.result.0.now c.cut.result.1.now c.cut.ensures.piece c.cut.ensures.after c.in_ok-answer_line.ensures.line others);
   played = played_more _ _ _ _ _ _ _ _ _ c.loop-rest.invariant.played c.cut.ensures.piece c.cut.ensures.after c.in_ok-answer_line.ensures.played;
-  come = come_more _ _ _ _ _ _ _ _ c.loop-rest.invariant.come c.loop-rest-test.ensures c.cut.ensures.piece c.cut.ensures.after c.in_ok-answer_line.ensures.played;
+  come = come_more _ _ _ _ _ _ _ _ _ c.loop-rest.invariant.come c.loop-rest-test.ensures c.cut.ensures.piece c.cut.ensures.after c.in_ok-answer_line.ensures.played;
 }
 
 pub returns-clause-lines : goal.returns-clause-lines
@@ -26,4 +26,4 @@ returns-clause-played g c = played_all _ _ _ _ _ c.loop-rest.invariant.played c.
 pub returns-in_err-answer_line-clause-fault : goal.returns-in_err-answer_line-clause-fault
 returns-in_err-answer_line-clause-fault g c =
     let same : c.from_residual.result ≡ Err c.in_err-answer_line.field-0.0 = search rules in
-    rw same (λ one. come_bad _ c.loop-rest.rest.now _ _ c.loop-rest.invariant.come c.loop-rest-test.ensures c.cut.ensures.piece (c.in_err-answer_line.ensures.fault one))
+    rw same (λ one. come_bad _ c.loop-rest.rest.now _ _ _ _ _ c.loop-rest.invariant.come c.loop-rest-test.ensures c.cut.ensures.piece (c.in_err-answer_line.ensures.fault one))

@@ -6,12 +6,12 @@ use Rattle.lockrun.proofs.Faults.{HasCome}
 use Rattle.lockrun.proofs.Plays.{HasPlayed}
 use Rattle.lockrun.proofs.run.answer_lines.Given as goal
 
--- the lines so far were good, so all are if those left are; they were played; and where no World stands, none of them asked for one
+-- the lines so far were good, so all are if those left are; they were played; and so were they one by one
 abbrev pub invariant-loop-rest : goal.invariant-loop-rest
 invariant-loop-rest g l = record {
   good : All IsLine (lines_of l.rest) → All IsLine (lines_of l.text);
   played : HasPlayed l.text l.rest l.world (g.O.Write.contents l.fn.output) (g.O.Write.contents l.output);
-  come : HasCome l.text l.rest l.world;
+  come : HasCome l.text l.rest l.world (g.O.Write.contents l.fn.output) (g.O.Write.contents l.output);
 }
 
 abbrev pub decreases-loop-rest : goal.decreases-loop-rest
