@@ -1,6 +1,6 @@
 #!/usr/bin/env python3
 """Writes the case tables of a mutex's steps: crates/mutex_machine/proofs/Rows.antt, of the machine,
-and crates/lock_core/proofs/MutexWorld/Rows.antt, of its World with its answers.
+and crates/mutex_world/proofs/Rows.antt, of its World with its answers.
 
 Run it at the top of the repository after a change of the mutex's program. Each row is one place
 with one finding of its action: what the step changes, and what it decides.
@@ -29,9 +29,9 @@ use Rattle.mutex_machine.specs.Program.{action_of, next_of}
 use Rattle.mutex_machine.specs.Roles.{counted, listed}
 use Rattle.mutex_machine.specs.Machine.{Lock}
 use Rattle.mutex_machine.specs.Acts.{Finds, holders, starved}
-use Rattle.lock_core.specs.Mutex.Legal.{Change, ListName, takes, releases, starves, recovers, puts, for_the_lock, gives_back}
+use Rattle.mutex_world.specs.Legal.{Change, ListName, takes, releases, starves, recovers, puts, for_the_lock, gives_back}
 use Rattle.mutex_machine.specs.State.{is_holder, is_counted}
-use Rattle.lock_core.specs.Mutex.View.{verdict}
+use Rattle.mutex_world.specs.View.{verdict}
 use Rattle.mutex_machine.proofs.Kept.{after}
 
 -- what an action changes that found this
@@ -309,7 +309,7 @@ one('RefuseNotifyMemory', 'Notify', KEPT)
 one('RefuseNotifyStarved', 'Notify', KEPT)
 one('ReleaseNotify', 'Notify', KEPT)
 
-with open('crates/lock_core/proofs/MutexWorld/Rows.antt', 'w', encoding='utf-8') as out:
+with open('crates/mutex_world/proofs/Rows.antt', 'w', encoding='utf-8') as out:
     out.write(HEAD + '\n'.join(rows) + '\n')
 
 with open('crates/mutex_machine/proofs/Rows.antt', 'w', encoding='utf-8') as out:

@@ -1,5 +1,5 @@
 #!/usr/bin/env python3
-"""Writes the case tables of a read-write lock's World: crates/lock_core/proofs/RwLockWorld/Paths.antt,
+"""Writes the case tables of a read-write lock's World: crates/rwlock_world/proofs/Paths.antt,
 where each action leads, and Rows.antt beside it, what each action on the word or on a list changes and
 decides.
 
@@ -35,8 +35,8 @@ use Rattle.rwlock_machine.specs.Program.{{action_of, next_of}}
 use Rattle.rwlock_machine.specs.Machine.{{RwLock}}
 use Rattle.rwlock_machine.specs.Acts.{{Finds}}
 use Rattle.rwlock_machine.proofs.Leads.{{Led}}
-use Rattle.lock_core.specs.declared.rwlock.table.Sought.{{Sought}}
-use Rattle.lock_core.specs.RwLock.Plans.{{Course, polls, tries, drops, downgrades, upgrades, tries_upgrade, strays, course_of, is_inside, sought_at, agrees, is_out, is_future, is_guard}}
+use Rattle.rwlock_world.specs.declared.world.table.Sought.{{Sought}}
+use Rattle.rwlock_world.specs.Plans.{{Course, polls, tries, drops, downgrades, upgrades, tries_upgrade, strays, course_of, is_inside, sought_at, agrees, is_out, is_future, is_guard}}
 
 -- the refusals of a read-write lock's futures
 abbrev pub is_ours : Refusal → Bool
@@ -213,7 +213,7 @@ for k in ('true', 'false'):
 word('DownNotify', 'Done')
 word('DowngradeNotify', 'Done')
 
-with open('crates/lock_core/proofs/RwLockWorld/Paths.antt', 'w', encoding='utf-8') as out:
+with open('crates/rwlock_world/proofs/Paths.antt', 'w', encoding='utf-8') as out:
     out.write(PATHS_HEAD + '\n'.join(paths) + '\n')
 
 
@@ -252,10 +252,10 @@ use Rattle.rwlock_machine.specs.Parties.{{OnNoWriter, OnNoReaders}}
 use Rattle.rwlock_machine.specs.Machine.{{RwLock}}
 use Rattle.rwlock_machine.specs.Acts.{{Finds, readers, marked}}
 use Rattle.rwlock_machine.proofs.Leads.{{Led, steps_in_turn}}
-use Rattle.lock_core.specs.RwLock.Changes.{{Change, ListName, begins_to_read, stops_reading, becomes_upgradable, stops_upgradable, begins_to_wait, begins_to_write, upgrades, upgrades_at_once, unmarks, downgrades, downgrades_to_upgradable, for_no_readers, for_no_writer, turn_after, starved_after, value_after, turn_list_after, no_readers_after, no_writer_after, gives_back}}
-use Rattle.lock_core.specs.RwLock.State as state
-use Rattle.lock_core.specs.RwLock.Plans.{{Course, tries, tries_upgrade, strays, course_of}}
-use Rattle.lock_core.specs.RwLock.View.{{passing, upgrading, waiting, writing, turn_as, share_of, is_reading, is_upgrade, verdict}}
+use Rattle.rwlock_world.specs.Changes.{{Change, ListName, begins_to_read, stops_reading, becomes_upgradable, stops_upgradable, begins_to_wait, begins_to_write, upgrades, upgrades_at_once, unmarks, downgrades, downgrades_to_upgradable, for_no_readers, for_no_writer, turn_after, starved_after, value_after, turn_list_after, no_readers_after, no_writer_after, gives_back}}
+use Rattle.rwlock_world.specs.State as state
+use Rattle.rwlock_world.specs.Plans.{{Course, tries, tries_upgrade, strays, course_of}}
+use Rattle.rwlock_world.specs.View.{{passing, upgrading, waiting, writing, turn_as, share_of, is_reading, is_upgrade, verdict}}
 
 -- what an action changes that found this
 abbrev pub deed_of : Action → Found → Deed Change ListName
@@ -618,5 +618,5 @@ for k in ENDINGS:
     turn_rest(f'(ReleasingTurn ending.{k})')
 turn_rows.append('turn_row v u _ f t e = absurd (cc)')
 
-with open('crates/lock_core/proofs/RwLockWorld/Rows.antt', 'w', encoding='utf-8') as out:
+with open('crates/rwlock_world/proofs/Rows.antt', 'w', encoding='utf-8') as out:
     out.write(ROWS_HEAD + '\n'.join(rows) + '\n' + TURN_ROWS + '\n'.join(turn_rows) + '\n')

@@ -1,6 +1,6 @@
 //! A World with the history of its moves.
 
-ghost use Rattle.std.specs.Prelude.{◌≡◌, ◌<◌, ◌≤◌, [], ◌∷◌, ◌++◌, IfOk, OnErr, vec_len, vec_capacity};
+ghost use Rattle.std.specs.Prelude.{◌≡◌, ◌<◌, ◌≤◌, [], ◌∷◌, ◌++◌, IfOk, OnErr};
 
 use lock_core::{Answer, AnyWorld, Memory, Move};
 use std::alloc::Global;
@@ -53,7 +53,7 @@ impl<W: AnyWorld> Book<W> {
             return Err(Memory);
         }
         let answer = self.world.step(&m);
-        push_within(&mut self.history, m, answer);
+        self.history.push_reserved((m, answer));
         Ok(answer)
     }
 
@@ -76,17 +76,6 @@ impl<W: AnyWorld> Book<W> {
         ensures { Replays W.legal (W.opening self.now.world) self.now.history self.now.world }
     {
         let _ = &self.world;
-    }
-}
-
-/// Adds a move with its answer, for which there is room.
-fn push_within(history: &mut Vec<(Move, Answer)>, m: Move, answer: Answer)
-    requires { vec_len history.old < vec_capacity history.old }
-    ensures { history.new.items ≡ history.old.items ++ (m, answer) ∷ [] }
-{
-    match history.push((m, answer)) {
-        Ok(()) => {}
-        Err(_) => unreachable!(),
     }
 }
 

@@ -1,12 +1,18 @@
 //! The cores of the locks: Worlds whose every call is a program of places, one action a step.
 //!
-//! Each primitive has a module of its own. What all of them share comes from `lock_world`, and is
-//! handed on here.
+//! Each primitive's World has a crate of its own and is handed on here as a module. What all of them
+//! share comes from `lock_world`, and is handed on too.
 #![tactic(auto)]
 
-mod answers;
-pub mod mutex;
-pub mod rwlock;
+/// A mutex, from the crate `mutex_world`.
+pub mod mutex {
+    pub use mutex_world::{MOST_STARVED, World};
+}
+
+/// A read-write lock with upgradable reads, from the crate `rwlock_world`.
+pub mod rwlock {
+    pub use rwlock_world::{MOST_READERS, MOST_STARVED_FOR_THE_TURN, World};
+}
 
 pub use lock_event::{Entry, Mark, Memory};
 pub use lock_world::{Answer, AnyWorld, Call, Got, Inputs, Made, Move, Refusal, What};

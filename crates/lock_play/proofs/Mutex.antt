@@ -2,7 +2,7 @@
 use Rattle.std.proofs.Common.{◌≡◌, ℕ, List, ◌++◌, append_assoc}
 use Rattle.std.specs.Prelude.{codes, decimal, is_some, if◌then◌else◌}
 use Rattle.lock_world.specs.Rosters.{how_many}
-use Rattle.lock_core.specs.Mutex.State.{World}
+use Rattle.mutex_world.specs.State.{World}
 use Rattle.lock_play.specs.Answers.{list_text}
 use Rattle.lock_play.specs.Mutex.{text_of}
 

@@ -3,7 +3,7 @@ use Rattle.std.proofs.Common.{◌≡◌, ℕ, List, ◌++◌, append_assoc, ap, 
 use Rattle.std.specs.Prelude.{codes, decimal, if◌then◌else◌}
 use Rattle.lock_event.specs.declared.event.Entry.{Entry}
 use Rattle.lock_world.specs.Rosters.{how_many}
-use Rattle.lock_core.specs.RwLock.State.{World, how_many_read, is_nobody, is_marked}
+use Rattle.rwlock_world.specs.State.{World, how_many_read, is_nobody, is_marked}
 use Rattle.lock_play.specs.declared.played.rwlock.Which.{Which}
 use Rattle.lock_play.specs.Answers.{list_text}
 use Rattle.lock_play.specs.RwLock.{list_of, text_of}

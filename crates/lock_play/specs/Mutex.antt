@@ -1,9 +1,9 @@
 -- What a script asks of a mutex beyond its moves.
 use Rattle.std.specs.Prelude.{ℕ, List, ◌++◌, codes, decimal, is_some, if◌then◌else◌}
 use Rattle.lock_world.specs.Rosters.{how_many}
-use Rattle.lock_core.specs.Mutex.State.{World}
-use Rattle.lock_core.specs.Mutex.Laws.{is_at_rest}
-use Rattle.lock_core.specs.Mutex.Lending.{world_with}
+use Rattle.mutex_world.specs.State.{World}
+use Rattle.mutex_world.specs.Laws.{is_at_rest}
+use Rattle.mutex_world.specs.Lending.{world_with}
 use Rattle.lock_play.specs.declared.played.Reply.{Reply}
 use Rattle.lock_play.specs.declared.played.Reply.TheVariants.{Done, NotPossible}
 use Rattle.lock_play.specs.Answers.{list_text}

@@ -1,9 +1,9 @@
 -- The World that a line makes.
 use Rattle.std.specs.Prelude.{ℕ, min, Option, Some, None}
-use Rattle.lock_core.specs.declared.mutex.TheConstants.{MOST_STARVED}
-use Rattle.lock_core.specs.declared.rwlock.TheConstants.{MOST_STARVED_FOR_THE_TURN, MOST_READERS}
-use Rattle.lock_core.specs.Mutex.State as mutex
-use Rattle.lock_core.specs.RwLock.State as rwlock
+use Rattle.mutex_world.specs.declared.world.TheConstants.{MOST_STARVED}
+use Rattle.rwlock_world.specs.declared.world.TheConstants.{MOST_STARVED_FOR_THE_TURN, MOST_READERS}
+use Rattle.mutex_world.specs.State as mutex
+use Rattle.rwlock_world.specs.State as rwlock
 use Rattle.lock_script.specs.declared.command.Model.{Model}
 use Rattle.lock_script.specs.declared.command.Model.TheVariants as model
 use Rattle.lock_play.specs.declared.world.World.{World}

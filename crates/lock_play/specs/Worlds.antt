@@ -1,11 +1,11 @@
 -- What the World that stands in a run does, of whichever lock it is.
 use Rattle.std.specs.Prelude.{◌≡◌, ℕ, List}
-use Rattle.lock_core.specs.Mutex.State as mutex
-use Rattle.lock_core.specs.Mutex.Legal as mutex_legal
-use Rattle.lock_core.specs.Mutex.Whole as mutex_whole
-use Rattle.lock_core.specs.RwLock.State as rwlock
-use Rattle.lock_core.specs.RwLock.Legal as rwlock_legal
-use Rattle.lock_core.specs.RwLock.Whole as rwlock_whole
+use Rattle.mutex_world.specs.State as mutex
+use Rattle.mutex_world.specs.Legal as mutex_legal
+use Rattle.mutex_world.specs.Whole as mutex_whole
+use Rattle.rwlock_world.specs.State as rwlock
+use Rattle.rwlock_world.specs.Legal as rwlock_legal
+use Rattle.rwlock_world.specs.Whole as rwlock_whole
 use Rattle.lock_script.specs.declared.command.Request.{Request}
 use Rattle.lock_play.specs.declared.world.World.{World}
 use Rattle.lock_play.specs.declared.world.World.TheVariants.{Mutex, RwLock}

@@ -1,6 +1,6 @@
 ghost use Rattle.std.specs.Prelude.{◌≡◌};
-ghost use Rattle.lock_core.specs.Mutex.State.{opening_of};
-ghost use Rattle.lock_core.specs.RwLock.State.{opening_of as rwlock_opening_of};
+ghost use Rattle.mutex_world.specs.State.{opening_of};
+ghost use Rattle.rwlock_world.specs.State.{opening_of as rwlock_opening_of};
 
 use super::*;
 use lock_core::mutex::World;

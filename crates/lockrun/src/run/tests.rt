@@ -98,6 +98,17 @@ fn arguments(rt: &impl AllocGlobal, words: &[&str]) -> Result<Vec<String>, Alloc
     Ok(all)
 }
 
+/// Runs the program, and hides from the prover what it promises: no test rests on that.
+fn status_of<A: AllocGlobal>(
+    rt: &A,
+    words: &[String],
+    source: &mut Source<'_>,
+    answers: &mut Sink,
+    faults: &mut Sink,
+) -> u8 {
+    run(rt.alloc(), words, source, answers, faults)
+}
+
 /// Runs this script from and into memory, and wants this output, error output and status.
 fn expect<R: AllocGlobal + Abort>(
     rt: &R,
@@ -111,13 +122,7 @@ fn expect<R: AllocGlobal + Abort>(
     let mut source = Source::new(script);
     let mut answers = Sink::new(rt);
     let mut faults = Sink::new(rt);
-    let ended = run(
-        rt.alloc(),
-        words.as_slice(),
-        &mut source,
-        &mut answers,
-        &mut faults,
-    );
+    let ended = status_of(rt, words.as_slice(), &mut source, &mut answers, &mut faults);
     assert_eq!(rt; text_of(&answers), output, "output of {shown:?}");
     assert_eq!(rt; text_of(&faults), errors, "errors of {shown:?}");
     assert_eq!(rt; ended, status, "status of {shown:?}");
@@ -307,120 +312,123 @@ fn answers_each_good_line_of_a_read_write_lock(rt: HostRuntime) -> Result<(), Fa
     Ok(())
 }
 
+/// Lines that are bad though a World stands.
+const BAD_LINES: [&str; 103] = [
+    // Spaces at an end.
+    " ",
+    "  ",
+    " show",
+    "show ",
+    " # note",
+    // Unknown words.
+    "foo",
+    "Show",
+    "shows",
+    "Do 0 lock",
+    "getMut 1",
+    "takes",
+    "Rwlock 1 0",
+    "semaphore 1 1",
+    "cell 1",
+    "barrier 1 1",
+    "begin 0 Lock",
+    "begin 0 Read",
+    "do 0 downgrade_to_upgradable",
+    "do 0 upgradable",
+    "do 0 foo",
+    "do 0 acquire",
+    "do 0 set 5",
+    // Missing and spare numbers and words.
+    "mutex",
+    "mutex 1",
+    "mutex 1 0 0 0",
+    "rwlock",
+    "rwlock 1",
+    "rwlock 1 0 0 0 0",
+    "rwlock 1 0 nomem",
+    "begin",
+    "begin 0",
+    "begin 0 put",
+    "begin 0 put 5 6",
+    "begin 0 lock 5",
+    "begin lock",
+    "go",
+    "go 0 0",
+    "go 0 lock",
+    "show 0",
+    "do",
+    "do 0",
+    "do lock",
+    "do 0 put",
+    "do 0 put nomem",
+    "do 0 lock 5",
+    "do 0 trylock lock",
+    "do 0 read 5",
+    "do 0 upgrade write",
+    "getmut",
+    "getmut 1 2",
+    "getmut 1 nomem",
+    "take 0",
+    "take nomem",
+    // Words that are no numbers.
+    "mutex 1 x",
+    "mutex 1 +0",
+    "mutex 1 -0",
+    "mutex 1 0x1",
+    "mutex 1 18446744073709551616",
+    "mutex 1 000000000000000000000",
+    "mutex 1 99999999999999999999",
+    "go 18446744073709551616",
+    "mutex 1 0 x",
+    "mutex 1 0 18446744073709551616",
+    "rwlock 1 x",
+    "rwlock 1 0 x",
+    "rwlock 1 0 0 x",
+    "rwlock 1 0 18446744073709551616",
+    "rwlock 1 0 0 18446744073709551616",
+    "do 18446744073709551616 lock",
+    "getmut x",
+    "getmut 18446744073709551616",
+    // Numbers of parties out of their range.
+    "mutex 0 0",
+    "mutex 65 0",
+    "mutex 4294967297 0",
+    "rwlock 0 0",
+    "rwlock 65 0 1 1",
+    // Inputs given twice, and what is no input.
+    "go 0 nomem nomem",
+    "go 0 starving nomem starving",
+    "go 0 made=1 made=1",
+    "go 0 made=fail made=1",
+    "go 0 made=1 nomem made=fail",
+    "go 0 made",
+    "go 0 made=",
+    "go 0 made=x",
+    "go 0 made= 1",
+    "go 0 made=18446744073709551616",
+    "go 0 memory",
+    "do 0 lock nomem nomem",
+    "do 0 lock starving starving",
+    "do 0 lock made=fail made=fail",
+    // Bytes that aren't printable ASCII.
+    "show\t",
+    "sh\tow",
+    "show\r",
+    "sh\u{0}ow",
+    "show\u{7f}",
+    "sh\u{e9}ow",
+    "mutex 1\t0",
+    "\u{0}",
+    "#\t",
+    "# a note\r",
+    "#\u{7f}",
+    "# \u{e9}",
+    "#\u{1f}",
+];
+
 #[test]
 fn stops_at_a_bad_line(rt: HostRuntime) -> Result<(), Fail> {
-    for line in [
-        // Spaces at an end.
-        " ",
-        "  ",
-        " show",
-        "show ",
-        " # note",
-        // Unknown words.
-        "foo",
-        "Show",
-        "shows",
-        "Do 0 lock",
-        "getMut 1",
-        "takes",
-        "Rwlock 1 0",
-        "semaphore 1 1",
-        "cell 1",
-        "barrier 1 1",
-        "begin 0 Lock",
-        "begin 0 Read",
-        "do 0 downgrade_to_upgradable",
-        "do 0 upgradable",
-        "do 0 foo",
-        "do 0 acquire",
-        "do 0 set 5",
-        // Missing and spare numbers and words.
-        "mutex",
-        "mutex 1",
-        "mutex 1 0 0 0",
-        "rwlock",
-        "rwlock 1",
-        "rwlock 1 0 0 0 0",
-        "rwlock 1 0 nomem",
-        "begin",
-        "begin 0",
-        "begin 0 put",
-        "begin 0 put 5 6",
-        "begin 0 lock 5",
-        "begin lock",
-        "go",
-        "go 0 0",
-        "go 0 lock",
-        "show 0",
-        "do",
-        "do 0",
-        "do lock",
-        "do 0 put",
-        "do 0 put nomem",
-        "do 0 lock 5",
-        "do 0 trylock lock",
-        "do 0 read 5",
-        "do 0 upgrade write",
-        "getmut",
-        "getmut 1 2",
-        "getmut 1 nomem",
-        "take 0",
-        "take nomem",
-        // Words that are no numbers.
-        "mutex 1 x",
-        "mutex 1 +0",
-        "mutex 1 -0",
-        "mutex 1 0x1",
-        "mutex 1 18446744073709551616",
-        "mutex 1 000000000000000000000",
-        "mutex 1 99999999999999999999",
-        "go 18446744073709551616",
-        "mutex 1 0 x",
-        "mutex 1 0 18446744073709551616",
-        "rwlock 1 x",
-        "rwlock 1 0 x",
-        "rwlock 1 0 0 x",
-        "rwlock 1 0 18446744073709551616",
-        "rwlock 1 0 0 18446744073709551616",
-        "do 18446744073709551616 lock",
-        "getmut x",
-        "getmut 18446744073709551616",
-        // Numbers of parties out of their range.
-        "mutex 0 0",
-        "mutex 65 0",
-        "mutex 4294967297 0",
-        "rwlock 0 0",
-        "rwlock 65 0 1 1",
-        // Inputs given twice, and what is no input.
-        "go 0 nomem nomem",
-        "go 0 starving nomem starving",
-        "go 0 made=1 made=1",
-        "go 0 made=fail made=1",
-        "go 0 made=1 nomem made=fail",
-        "go 0 made",
-        "go 0 made=",
-        "go 0 made=x",
-        "go 0 made= 1",
-        "go 0 made=18446744073709551616",
-        "go 0 memory",
-        "do 0 lock nomem nomem",
-        "do 0 lock starving starving",
-        "do 0 lock made=fail made=fail",
-        // Bytes that aren't printable ASCII.
-        "show\t",
-        "sh\tow",
-        "show\r",
-        "sh\u{0}ow",
-        "show\u{7f}",
-        "sh\u{e9}ow",
-        "mutex 1\t0",
-        "\u{0}",
-        "#\t",
-        "# a note\r",
-        "#\u{7f}",
-        "# \u{e9}",
-        "#\u{1f}",
-    ] {
+    for line in BAD_LINES {
         let script = format!(in rt.alloc(); "mutex 1 0\n{line}\nshow\n")?;
         expect(&rt, script.as_bytes(), "ok\n", "lockrun: line 2: bad\n", 1)?;
     }
@@ -488,8 +496,8 @@ fn wants_the_one_argument(rt: HostRuntime) -> Result<(), Fail> {
         let mut answers = Sink::new(&rt);
         answers.flushes = false;
         let mut faults = Sink::new(&rt);
-        let ended = run(
-            rt.alloc(),
+        let ended = status_of(
+            &rt,
             words.as_slice(),
             &mut source,
             &mut answers,
@@ -523,8 +531,8 @@ fn bounds_the_length(rt: HostRuntime) -> Result<(), Fail> {
         }
         let mut answers = Sink::new(&rt);
         let mut faults = Sink::new(&rt);
-        let ended = run(
-            rt.alloc(),
+        let ended = status_of(
+            &rt,
             words.as_slice(),
             &mut source,
             &mut answers,
@@ -553,8 +561,8 @@ fn tells_of_reads_that_fail(rt: HostRuntime) -> Result<(), Fail> {
         source.failure = Some(kind);
         let mut answers = Sink::new(&rt);
         let mut faults = Sink::new(&rt);
-        let ended = run(
-            rt.alloc(),
+        let ended = status_of(
+            &rt,
             words.as_slice(),
             &mut source,
             &mut answers,
@@ -585,8 +593,8 @@ fn tells_of_writes_that_fail(rt: HostRuntime) -> Result<(), Fail> {
         answers.room = room;
         answers.flushes = flushes;
         let mut faults = Sink::new(&rt);
-        let ended = run(
-            rt.alloc(),
+        let ended = status_of(
+            &rt,
             words.as_slice(),
             &mut source,
             &mut answers,
@@ -613,8 +621,8 @@ fn keeps_the_status_where_errors_cannot_be_written(rt: HostRuntime) -> Result<()
         let mut faults = Sink::new(&rt);
         faults.room = 0;
         faults.flushes = false;
-        let ended = run(
-            rt.alloc(),
+        let ended = status_of(
+            &rt,
             words.as_slice(),
             &mut source,
             &mut answers,

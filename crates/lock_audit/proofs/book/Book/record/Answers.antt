@@ -6,5 +6,5 @@ use Rattle.lock_audit.proofs.book.Book.record.Goals as goal
 pub invariant_of-self-2 : goal.invariant_of-self-2
 invariant_of-self-2 g c =
     let keeps = g.met.W.AnyWorld.keeps_opening c.self.inside.world c.args.m c.step-answer.result c.step-answer.new.self c.step-answer.ensures in
-    rw (c.push_within.ensures, c.reserve.ensures.items)
+    rw (c.push_reserved.ensures.items, c.reserve.ensures.items)
     (replays_from g.W.AnyWorld.legal _ _ _ _ (sym keeps) (replays_more g.W.AnyWorld.legal _ _ c.self.inside.world c.args.m c.step-answer.result c.step-answer.new.self c.self.invariant c.step-answer.ensures))

@@ -1,2 +1,0 @@
-pub mod MutexWorld
-pub mod RwLockWorld

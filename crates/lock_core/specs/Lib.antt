@@ -1,2 +1,0 @@
-pub mod Mutex
-pub mod RwLock

@@ -1,0 +1,47 @@
+-- How often a free lock may be passed over: whole polls of notified parties, one after the other, each carried out while the others stand still.
+use Rattle.std.specs.Prelude.{◌≡◌, ◌≢◌, ℕ, ◌<◌, ◌⊎◌, true, Some, None}
+use Rattle.lock_world.specs.declared.moves.Answer.{Answer}
+use Rattle.lock_world.specs.declared.moves.Answer.TheVariants as answer
+use Rattle.lock_world.specs.declared.moves.Call.TheVariants as call
+use Rattle.lock_world.specs.declared.moves.Got.TheVariants.{Value}
+use Rattle.lock_world.specs.declared.moves.Inputs.{Inputs}
+use Rattle.lock_world.specs.Rosters.{how_many}
+use Rattle.lock_world.specs.Bounds as bounds
+use Rattle.mutex_world.specs.State.{World, standing_of, is_starved}
+use Rattle.mutex_world.specs.Laws.{is_at_rest}
+use Rattle.mutex_world.specs.Whole.{IsWholeCall}
+
+-- A solo poll is of a pending party whose entry is marked, and it finds memory.
+abbrev pub IsSolo : World → ℕ → Inputs → Type 0
+IsSolo w p inputs = bounds.IsSolo (standing_of w p) w.entries p inputs
+
+-- The poll took the lock: it answers Ready with the value as it was, and its party is the holder.
+pub record Takes (w : World) (p : ℕ) (a : Answer) (v : World) : Type 0 where
+  pub ready : a ≡ answer.Ready (Value v.state.value)
+  pub kept : v.state.value ≡ w.state.value
+  pub holder : v.state.holder ≡ Some p
+
+-- The poll left the lock free and gave way to a starved party: it is pending again, with one entry less in the list of a party that isn't starved. A World at rest stays at rest.
+pub record GivesWay (w : World) (p : ℕ) (a : Answer) (v : World) : Type 0 where
+  pub free : v.state.holder ≡ None
+  pub pending : a ≡ answer.Pending
+  pub gave_way : bounds.GaveWay p w.state.starved w.entries v.state.starved v.entries
+  pub rests : is_at_rest w ≡ true → is_at_rest v ≡ true
+
+-- What a solo poll does to a free lock: it takes it or gives way, unless the limit of starved parties is met; and whatever the limit, it takes it if its party is starved, or if nobody is.
+pub record SoloPoll (w : World) (p : ℕ) (a : Answer) (v : World) : Type 0 where
+  pub takes_or_gives_way : how_many w.state.starved < w.limit → Takes w p a v ⊎ GivesWay w p a v
+  pub takes : (is_starved w.state p ≡ true) ⊎ (how_many w.state.starved ≡ 0) → Takes w p a v
+
+-- A whole solo poll that doesn't take the lock, while fewer parties are starved than may be; `free` is what each solo poll of a free lock does.
+pub record PassesOver (w : World) (p : ℕ) (inputs : Inputs) (a : Answer) (v : World) : Type 0 where
+  pub solo : IsSolo w p inputs
+  pub limit : how_many w.state.starved < w.limit
+  pub whole : IsWholeCall w p call.Poll inputs a v
+  pub free : w.state.holder ≡ None → SoloPoll w p a v
+  pub not_taken : v.state.holder ≢ Some p
+
+-- What holds at rest where somebody waits for a free lock: some entry is marked, of a party that is pending, or was when it was forgotten; and fewer solo polls in turn pass the lock over than the list has entries, so that among as many one takes it.
+pub record IsBounded (w : World) : Type 0 where
+  pub some_marked : bounds.SomeMarked (standing_of w) w.entries
+  pub one_takes : bounds.OneTakes PassesOver (λ v. v.entries) w

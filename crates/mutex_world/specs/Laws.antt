@@ -1,0 +1,55 @@
+-- What always holds of a mutex's World, between any two moves.
+use Rattle.std.specs.Prelude.{◌≡◌, ℕ, ◌<◌, ◌≤◌, ◌⊎◌, Bool, true, false, length, Option, Some, None}
+use Rattle.std.specs.List.{list_all}
+use Rattle.lock_event.specs.Lists.{marked_count, IsMarkedFirst}
+use Rattle.lock_queue.specs.Parties.{entries_of}
+use Rattle.lock_world.specs.declared.moves.Answer.{Answer}
+use Rattle.lock_world.specs.declared.standing.Kind.{Kind}
+use Rattle.lock_world.specs.declared.standing.Kind.TheVariants as kind
+use Rattle.lock_world.specs.declared.standing.Rest.{Rest}
+use Rattle.lock_world.specs.declared.standing.Rest.TheVariants.{Idle, Pending, Holding}
+use Rattle.lock_world.specs.declared.standing.Within.{Within}
+use Rattle.lock_world.specs.Standings.{outside, inside, forgotten, is_outside}
+use Rattle.lock_world.specs.Rights.{Right, hold, excludes}
+use Rattle.lock_world.specs.Rosters.{how_many}
+use Rattle.mutex_world.specs.State.{World, standing_of, is_starved}
+use Rattle.mutex_world.specs.Legal.{HasItsOwn}
+
+-- The rights in the state: a mutex knows one, that of its holder.
+abbrev pub HasRight : World → ℕ → Right → Type 0
+HasRight w p hold = w.state.holder ≡ Some p
+HasRight w p _ = ⊥
+
+-- The calls of a mutex that may take more than one step: a poll of an idle or pending party, and a drop of a pending party or of the holder.
+abbrev pub is_long_call : Kind → Rest → Bool
+is_long_call kind.FirstPoll Idle = true
+is_long_call kind.LaterPoll Pending = true
+is_long_call kind.Drop Pending = true
+is_long_call kind.Drop Holding = true
+is_long_call _ _ = false
+
+pub record IsSound (w : World) : Type 0 where
+  -- Two parties never have rights that exclude each other.
+  pub exclusion : (p q : ℕ) (r s : Right) → HasRight w p r → HasRight w q s → excludes r s ≡ true → p ≡ q
+  -- Each party has what its standing says.
+  pub each : (p : ℕ) → HasItsOwn w p (standing_of w p)
+  pub few_starved : how_many w.state.starved ≤ w.limit
+  -- A party that is inside a call is in a poll or in a drop, which it could begin.
+  pub inside_calls : (p : ℕ) (u : Within) (decided : Option Answer) → standing_of w p ≡ inside u decided → is_long_call u.kind u.was ≡ true
+  -- No party stands in the list twice, and the marked entries stand before the waiting ones.
+  pub once : (p : ℕ) → entries_of p w.entries ≤ 1
+  pub in_order : IsMarkedFirst w.entries
+
+-- Nobody is inside a call.
+abbrev pub is_at_rest : World → Bool
+is_at_rest w = list_all is_outside w.standings
+
+-- The lock is free, and some party waits for it in the list.
+abbrev pub IsFreeAndWanted : World → Type 0
+IsFreeAndWanted w = (w.state.holder ≡ None) × (0 < length w.entries)
+
+-- At rest no notification is lost: if the lock is free and wanted then some entry is marked; each entry belongs to a party that is pending, or was when it was forgotten; and each starved party has an entry.
+pub record IsAwake (w : World) : Type 0 where
+  pub marked : IsFreeAndWanted w → 0 < marked_count w.entries
+  pub pending : (p : ℕ) → 0 < entries_of p w.entries → (standing_of w p ≡ outside Pending) ⊎ (standing_of w p ≡ forgotten)
+  pub starved : (p : ℕ) → is_starved w.state p ≡ true → 0 < entries_of p w.entries

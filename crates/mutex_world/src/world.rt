@@ -1,0 +1,271 @@
+//! The mutex's World: a mutex over a number, in which each party has its standing. It stands on the
+//! machine of `mutex_machine`.
+//!
+//! The Rust crate's `Mutex` lends a value of any type and runs in threads. Here the value is a number,
+//! a guard is a party that holds the lock, and one step is one call, so that contracts can speak of
+//! every interleaving: specs/State says what is seen, specs/Legal what a step may do.
+
+mod table;
+
+ghost use Rattle.std.specs.Prelude.{◌≡◌, Bool, ◌<◌, ◌≤◌, ℕ, true, [], ◌∷◌, ◌++◌, None, IfOk, IfErr, OnErr, length, min, slice_get, is_some, vec_len, vec_capacity};
+ghost use Rattle.lock_world.specs.Rosters.{how_many};
+ghost use Rattle.mutex_world.specs.State.{new_world};
+ghost use Rattle.mutex_world.specs.Legal.{Legal, AnswersAtOnce};
+ghost use Rattle.mutex_world.specs.Laws.{IsSound, IsAwake, IsFreeAndWanted, is_at_rest};
+ghost use Rattle.mutex_world.specs.Runs.{Runs, rights_of};
+ghost use Rattle.mutex_world.specs.Whole.{IsWholeCall};
+ghost use Rattle.mutex_world.specs.Bound.{IsSolo, SoloPoll, IsBounded};
+
+use lock_event::{Entry, Memory};
+use lock_world::{Answer, AnyWorld, Call, Inputs, Move, Refusal};
+use std::alloc::Global;
+use std::marker::Model;
+use table::Table;
+
+/// The greatest number of starved parties of a mutex. The Rust crate aborts where this project refuses.
+pub const MOST_STARVED: u32 = 1_073_741_823;
+
+/// A mutex over a number, its parties, and their calls.
+#[derive(Drop)]
+pub struct World {
+    table: Table,
+    opening_value: u64,
+}
+
+impl Model for World {
+    ghost use Rattle.mutex_world.specs.State.{World};
+    ghost use Rattle.mutex_world.specs.View.{opened, view_of};
+
+    ghost Value = { World };
+
+    ghost view = { λ w. opened w.opening_value (view_of w.table) };
+}
+
+ghost use Rattle.std.specs.Borrow.{sem};
+ghost use Rattle.mutex_world.specs.Lending.{LendsValue};
+
+impl World {
+    /// A World of so many idle parties, numbered from 0, over a free lock with this value. As many
+    /// parties may be starved as [`MOST_STARVED`] says. Refused for memory alone, and then nothing is
+    /// kept; afterwards no step needs memory. The clause `opening` says what is made.
+    pub fn new(alloc: Global, parties: u32, value: u64) -> Result<World, Refusal>
+        ensures opening { IfOk result (λ w. w ≡ new_world parties MOST_STARVED value) }
+        ensures refused { IfErr result (λ r. r ≡ Refusal.Memory) }
+    {
+        World::with_limits(alloc, parties, value, MOST_STARVED)
+    }
+
+    /// A World as [`World::new`] makes it, in which at most so many parties may be starved at a time. A
+    /// number above [`MOST_STARVED`] means that one.
+    pub fn with_limits(
+        alloc: Global,
+        parties: u32,
+        value: u64,
+        starved: u32,
+    ) -> Result<World, Refusal>
+        ensures opening { IfOk result (λ w. w ≡ new_world parties (min starved MOST_STARVED) value) }
+        ensures refused { IfErr result (λ r. r ≡ Refusal.Memory) }
+    {
+        match Table::new(alloc, parties, value, starved.min(MOST_STARVED)) {
+            Ok(table) => Ok(World {
+                table,
+                opening_value: value,
+            }),
+            Err(_) => Err(Refusal::Memory),
+        }
+    }
+
+    /// One move: a party begins a call with its first action, or carries out the next action of the call
+    /// that it is in.
+    ///
+    /// The answer is `Stepped` where the call goes on, and else the call's result. A move that the party
+    /// can't make, a party past the table and a call of another World are answered `NotPossible` and
+    /// change nothing. It takes no memory: `Refused(1)` comes where the move's input says so. The clause
+    /// `legal` says all that a step may do, and `at_once` what a try and a first poll answer.
+    ///
+    /// The Rust crate's `lock` carries out a whole poll in one call, and never refuses.
+    pub fn step(&mut self, m: &Move) -> Answer
+        ensures legal { Legal self.old m.now result self.new }
+        ensures at_once { AnswersAtOnce self.old m.now result self.new }
+    {
+        self.table.laws();
+        let answer = self.table.step(m);
+        self.table.laws();
+        answer
+    }
+
+    /// Steps through a list of moves, and answers each. Refused, for memory for the answers alone, the
+    /// World is unchanged.
+    ///
+    /// The clause `runs` says that the answers are those of a chain of legal steps, after each of which
+    /// the rights that the answers tell of are the state's, rights that exclude each other don't
+    /// coexist, and, where nobody is inside a call, no notification is lost.
+    pub fn run(&mut self, alloc: Global, moves: &[Move]) -> Result<Vec<Answer>, Memory>
+        ensures runs { IfOk result (λ answers. Runs (rights_of self.old) self.old moves.now answers.items self.new) }
+        ensures refused { OnErr result (self.new ≡ self.old) }
+    {
+        let Ok(mut answers) = Vec::with_capacity(alloc, moves.len()) else {
+            return Err(Memory);
+        };
+        for m in moves {
+            self.laws();
+            let answer = self.step(m);
+            self.laws();
+            answers.push_reserved(answer);
+        }
+        Ok(answers)
+    }
+
+    /// Begins a call of a party and goes on with it, with the same inputs, to its end. It works for every
+    /// call, not for polls alone, and from every World, whatever the other parties are about.
+    ///
+    /// The answer is the call's result, never `Stepped`; `NotPossible` changes nothing. The clause `whole`
+    /// says that this is a run, of at most 12 steps for a poll, 2 for a drop and 1 for any other call, after
+    /// which the party is outside the call.
+    ///
+    /// The clause `solo` speaks of a poll whose party is pending with a marked entry and finds memory,
+    /// while nobody holds the lock. It takes the lock, or, if its party isn't starved and another is,
+    /// waits on as a starved one with the notification handed on. Where the limit of starved parties is
+    /// met it may instead be refused.
+    pub fn poll_whole(&mut self, party: u32, call: Call, inputs: Inputs) -> Answer
+        ensures whole { IsWholeCall self.old party call inputs result self.new }
+        ensures solo { call ≡ Call.Poll → IsSolo self.old party inputs → self.old.state.holder ≡ None → SoloPoll self.old party result self.new }
+    {
+        self.table.laws();
+        self.table.poll_whole(party, call, inputs)
+    }
+
+    /// Whether nobody is inside a call.
+    pub fn at_rest(&self) -> bool
+        ensures { result ≡ is_at_rest self.now }
+    {
+        self.table.laws();
+        self.table.at_rest()
+    }
+
+    /// What always holds of a World, between any two moves: nobody has the lock beside its holder, each
+    /// party has what its standing says, and at rest no notification is lost. It does nothing.
+    pub fn laws(&self)
+        ensures sound { IsSound self.now }
+        ensures awake { is_at_rest self.now ≡ true → IsAwake self.now }
+    {
+        self.table.laws();
+    }
+
+    /// How often a lock that is free, at rest, may be passed over while parties wait for it: among as many
+    /// solo polls in turn as the list has entries one takes the lock. It does nothing.
+    ///
+    /// A solo poll is a [`World::poll_whole`] of a pending party whose entry is marked and that finds
+    /// memory. In none of them may as many parties be starved already as the limit allows. The clause
+    /// `bounded` also says that some entry is marked, so that there is a party to poll, unless it was
+    /// forgotten.
+    pub fn solo_polls(&self)
+        ensures bounded { is_at_rest self.now ≡ true → IsFreeAndWanted self.now → IsBounded self.now }
+    {
+        self.laws();
+    }
+
+    /// Whether the lock is held, as its word says. The Rust crate shows it in its debug text alone.
+    pub fn is_locked(&self) -> bool
+        ensures { result ≡ is_some self.now.state.holder }
+    {
+        self.table.laws();
+        self.table.lock().is_held()
+    }
+
+    /// How many parties are starved, as the word says.
+    pub fn starved(&self) -> u32
+        ensures { result ≡ how_many self.now.state.starved }
+    {
+        self.table.lock().starved()
+    }
+
+    /// How many entries the list of waiting parties has.
+    pub fn waiting(&self) -> usize
+        ensures { result ≡ length self.now.entries }
+    {
+        self.table.lock().waiting()
+    }
+
+    /// The entry at this place of the list, counted from the front: its key is the party, and its
+    /// mark says what the party has been told. None past the last.
+    pub fn entry(&self, index: usize) -> Option<Entry<u32>>
+        ensures { result ≡ slice_get self.now.entries index }
+    {
+        self.table.lock().entry(index)
+    }
+
+    /// The value that the last put left, or that the World was made with.
+    pub fn value(&self) -> u64
+        ensures { result ≡ self.now.state.value }
+    {
+        self.table.value()
+    }
+
+    /// Lends the value, of a World at rest. Whoever was pending or held the lock is forgotten: from then on
+    /// its moves are not possible, and its entry stays in the list. A later holder finds what was left
+    /// behind the reference.
+    ///
+    /// The Rust crate's `get_mut` asks for the only reference to the mutex, so that no guard or future
+    /// can be left.
+    pub fn get_mut(&mut self) -> &mut u64
+        requires { is_at_rest self.old ≡ true }
+        ensures* lends { sem 𝓛 (LendsValue self.entry result) }
+        ensures value { result.now ≡ self.old.state.value }
+    {
+        self.table.laws();
+        self.table.value_mut()
+    }
+
+    /// The value, and the World is gone. Whoever held the lock or waited for it is forgotten.
+    pub fn into_inner(self) -> u64
+        ensures { result ≡ self.state.value }
+    {
+        Table::value(&self.table)
+    }
+}
+
+impl AnyWorld for World {
+    ghost use Rattle.mutex_world.specs.Legal as mutex;
+    ghost use Rattle.mutex_world.specs.State as state;
+    ghost use Rattle.mutex_world.specs.Laws as laws;
+    ghost use Rattle.mutex_world.specs.Runs.{HoldsWell, rights_of, rights_after};
+    ghost use Rattle.mutex_world.specs.Whole.{most_steps_of};
+    ghost use Rattle.mutex_world.specs.Openings.{opening_kept};
+
+    ghost legal = { mutex.Legal };
+
+    ghost opening = { state.opening_of };
+
+    ghost standing_of = { state.standing_of };
+
+    ghost is_at_rest = { laws.is_at_rest };
+
+    ghost Known = { ℕ → Bool };
+
+    ghost known_of = { rights_of };
+
+    ghost learn = { rights_after };
+
+    ghost is_well = { HoldsWell };
+
+    ghost most_steps = { most_steps_of };
+
+    ghost keeps_opening = { opening_kept };
+
+    fn step(&mut self, m: &Move) -> Answer {
+        World::step(self, m)
+    }
+
+    fn run(&mut self, alloc: Global, moves: &[Move]) -> Result<Vec<Answer>, Memory> {
+        World::run(self, alloc, moves)
+    }
+
+    fn poll_whole(&mut self, party: u32, call: Call, inputs: Inputs) -> Answer {
+        World::poll_whole(self, party, call, inputs)
+    }
+
+    fn at_rest(&self) -> bool {
+        World::at_rest(self)
+    }
+}

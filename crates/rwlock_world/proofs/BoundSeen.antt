@@ -1,0 +1,211 @@
+-- What a poll that is carried out alone does to a lock that is free for it, as callers see it.
+use Rattle.std.proofs.Common.{◌≡◌, ℕ, ◌<◌, ◌⊎◌, inl, inr, true, false, length, map, refl, sym, ap, ◌∙◌, subst, arith}
+use Rattle.std.proofs.Math.ListN.{set}
+use Rattle.std.proofs.lemmas.List.{set-get_or}
+use Rattle.std.specs.List.{list_all}
+use Rattle.lock_queue.specs.Parties.{entries_of}
+use Rattle.lock_world.specs.declared.moves.Answer.{Answer}
+use Rattle.lock_world.specs.declared.moves.Answer.TheVariants as answer
+use Rattle.lock_world.specs.declared.moves.Call.{Call}
+use Rattle.lock_world.specs.declared.moves.Call.TheVariants as call
+use Rattle.lock_world.specs.declared.moves.Got.TheVariants.{Value}
+use Rattle.lock_world.specs.declared.moves.Inputs.{Inputs}
+use Rattle.lock_world.specs.declared.refusal.Refusal.TheVariants as refusal
+use Rattle.lock_world.specs.declared.standing.Kind.TheVariants as kind
+use Rattle.lock_world.specs.declared.standing.Rest.{Rest}
+use Rattle.lock_world.specs.declared.standing.Rest.TheVariants as rest
+use Rattle.lock_world.specs.declared.standing.Stage.{Stage}
+use Rattle.lock_world.specs.declared.standing.Stage.TheVariants.{Outside, Inside, Forgotten}
+use Rattle.lock_world.specs.Rosters.{how_many}
+use Rattle.lock_world.specs.Standings.{outside, is_outside_stage}
+use Rattle.lock_world.proofs.Bounds.{marked_listed}
+use Rattle.lock_world.proofs.Rests.{still_outside}
+use Rattle.mutex_machine.specs.declared.program.Place.{Place as TurnPlace}
+use Rattle.mutex_machine.specs.Machine.{place_at as turn_at}
+use Rattle.mutex_machine.specs.Roles.{bit, listed}
+use Rattle.mutex_machine.specs.Acts.{IsStarved, holders, starved}
+use Rattle.mutex_machine.specs.State.{holder_of}
+use Rattle.mutex_machine.proofs.Callers.{out_unlisted, holding_unlisted}
+use Rattle.mutex_machine.proofs.Parts.{gave_way}
+use Rattle.mutex_machine.proofs.Seen as sees
+use Rattle.rwlock_machine.specs.declared.program.End.{End}
+use Rattle.rwlock_machine.specs.declared.program.End.TheVariants as «end»
+use Rattle.rwlock_machine.specs.declared.program.Next.TheVariants as next
+use Rattle.rwlock_machine.specs.declared.program.Place.{Place}
+use Rattle.rwlock_machine.specs.declared.program.Place.TheVariants as place
+use Rattle.rwlock_machine.specs.Roles.{has_turn, in_no_writer, in_no_readers, fits_turn}
+use Rattle.rwlock_machine.specs.Machine.{place_at}
+use Rattle.rwlock_machine.specs.Acts.{IsRwLock, readers}
+use Rattle.rwlock_machine.specs.Solo.{PollsAlone, waits_to_read, waits_to_write, waits_for_turn, IsCalledToTurn, Took, TookTurn, StandsBack, GaveTurnWay, SoloPolls}
+use Rattle.rwlock_machine.proofs.Solo.{writer_at, solo_polls}
+use Rattle.rwlock_world.specs.Plans.{answer_of, stage_at, is_future, goes_with}
+use Rattle.rwlock_world.specs.Table.{Table, IsTable}
+use Rattle.rwlock_world.specs.TableCalls.{WholeCall}
+use Rattle.rwlock_world.specs.State.{nobody, is_upgradable, waits_to_write as waits, writes, World, standing_of, is_starved, how_many_read, is_marked}
+use Rattle.rwlock_world.specs.Laws.{is_at_rest}
+use Rattle.rwlock_world.specs.View.{upgrading, waiting, writing, turn_as, share_of, turn_by, is_reading, stands_as, opened, view_of}
+use Rattle.rwlock_world.specs.Bound.{IsSoloForTurn, IsSoloToRead, IsSoloToWrite, TakesTurn, GivesTurnWay, SoloPollForTurn, TakesToRead, TakesToWrite}
+use Rattle.rwlock_world.proofs.Begun.{at_future}
+use Rattle.rwlock_world.proofs.BoundRuns.{Ended, polls_alone}
+use Rattle.rwlock_world.proofs.Sound.{rest_seen, nobody_holds, bit_seen}
+use Rattle.rwlock_world.proofs.Owns as owns
+use Rattle.rwlock_world.proofs.Views as view
+
+-- ---- where a pending party stands that is listed
+
+rest_eq : (r s : Rest) → outside r ≡ outside s → r ≡ s
+rest_eq r s h = cc
+
+pending_stage : (v : ℕ) (s : Stage) (x : Place) (t : TurnPlace) → stands_as v s x t ≡ outside rest.Pending → s ≡ Outside rest.Pending
+pending_stage v (Outside r) x t h = ap Outside (rest_eq r rest.Pending h)
+pending_stage v (Inside w) x t h = absurd (cc)
+pending_stage v Forgotten x t h = absurd (cc)
+
+in_turn_list : (t : TurnPlace) (x : Place) → is_future x ≡ true → fits_turn x t ≡ true → 0 < listed t → waits_for_turn x ≡ true
+in_turn_list t = at_future (λ x. fits_turn x t ≡ true → 0 < listed t → waits_for_turn x ≡ true) (record {
+  made = λ w fits there. absurd (omega (arith, there, out_unlisted t fits));
+  no_writer = λ fits there. absurd (omega (arith, there, out_unlisted t fits));
+  turn = λ q fits there. refl;
+  no_readers = λ upgrade fits there. absurd (omega (arith, there, holding_unlisted t fits));
+  upgrade = λ fits there. absurd (omega (arith, there, holding_unlisted t fits));
+})
+
+in_no_writer_list : (x : Place) → is_future x ≡ true → 0 < in_no_writer x → waits_to_read x ≡ true
+in_no_writer_list = at_future (λ x. 0 < in_no_writer x → waits_to_read x ≡ true) (record {
+  made = λ w there. absurd (omega (arith, there));
+  no_writer = λ there. refl;
+  turn = λ q there. absurd (omega (arith, there));
+  no_readers = λ upgrade there. absurd (omega (arith, there));
+  upgrade = λ there. absurd (omega (arith, there));
+})
+
+in_no_readers_list : (x : Place) → is_future x ≡ true → 0 < in_no_readers x → waits_to_write x ≡ true
+in_no_readers_list = at_future (λ x. 0 < in_no_readers x → waits_to_write x ≡ true) (record {
+  made = λ w there. absurd (omega (arith, there));
+  no_writer = λ there. absurd (omega (arith, there));
+  turn = λ q there. absurd (omega (arith, there));
+  no_readers = λ upgrade there. refl;
+  upgrade = λ there. absurd (omega (arith, there));
+})
+
+module _ (n : ℕ) where
+  abbrev shown : Table → World
+  shown t = opened n (view_of t)
+
+  module _ (t u : Table) (p : ℕ) (a : Answer) where
+    ready_seen : (e : End) → e ≡ «end».Got → Ended t p a u e → a ≡ answer.Ready (Value (shown u).state.value)
+    ready_seen e is k = k.answer ∙ (ap (λ x. answer_of kind.LaterPoll t.value (next.End x k.to)) is ∙ ap (λ v. answer.Ready (Value v)) (sym k.value))
+
+    -- who has the turn then
+    turn_seen : (e : End) (x : Place) → Ended t p a u e → place_at u.lock.places p ≡ x → has_turn x ≡ 1 → (shown u).state.turn ≡ turn_as p (share_of x)
+    turn_seen e x k here has = owns.turn_at_place u.lock u.stages u.sought u.value k.laws k.fits p x here has
+
+    takes_turn_seen : (e : End) → TookTurn p e u.lock → Ended t p a u e → TakesTurn (shown t) p a (shown u)
+    takes_turn_seen «end».Got (inl here) k =
+        let turn : (shown u).state.turn ≡ is_upgradable p = turn_seen «end».Got place.Upgradable k here refl in
+        record { has_turn = owns.has_as (shown u).state.turn p upgrading turn; kept = k.value; answered = inl (ready_seen «end».Got refl k, inl turn) }
+    takes_turn_seen «end».Got (inr here) k =
+        let turn : (shown u).state.turn ≡ writes p = turn_seen «end».Got place.Writing k here refl in
+        record { has_turn = owns.has_as (shown u).state.turn p writing turn; kept = k.value; answered = inl (ready_seen «end».Got refl k, inr turn) }
+    takes_turn_seen «end».Pending here k =
+        let at = writer_at (place_at u.lock.places p) here in
+        let turn : (shown u).state.turn ≡ waits p = turn_seen «end».Pending (place.AwaitNoReaders at.0) k at.1 refl in
+        record { has_turn = owns.has_as (shown u).state.turn p waiting turn; kept = k.value; answered = inr (k.answer, turn) }
+    takes_turn_seen _ here k = absurd here
+
+    rests_seen : IsTable t.lock t.stages t.sought → IsTable u.lock u.stages u.sought → u.stages ≡ set t.stages p (Outside rest.Pending) → is_at_rest (shown t) ≡ true → is_at_rest (shown u) ≡ true
+    rests_seen tf uf is resting =
+        let before : list_all is_outside_stage t.stages ≡ true = sym (rest_seen t.value t.stages t.lock.places t.lock.turn.places tf.as_many) ∙ resting in
+        rest_seen u.value u.stages u.lock.places u.lock.turn.places uf.as_many ∙ (ap (list_all is_outside_stage) is ∙ still_outside t.stages p (Outside rest.Pending) refl before)
+
+    gives_way_seen : (e : End) → IsTable t.lock t.stages t.sought → 0 < entries_of p t.lock.turn.entries → starved t.lock.turn < t.lock.turn.limit → GaveTurnWay p t.lock e u.lock → StandsBack p t.lock e u.lock → Ended t p a u e → GivesTurnWay (shown t) p a (shown u)
+    gives_way_seen «end».Pending tf there below g back k = record {
+      free = ap (λ h. turn_by h u.lock.places) (sees.none_held 0 u.lock.turn.places back.0.free);
+      pending = k.answer;
+      gave_way = gave_way p t.lock.turn u.lock.turn back.0 there;
+      readers = ap (map is_reading) (g.places ∙ (ap (set t.lock.places p) back.1 ∙ set-get_or t.lock.places p place.Out));
+      rests = rests_seen tf k.fits k.stages;
+    }
+    gives_way_seen («end».Refused refusal.Starved) tf there below g back k = absurd (omega (arith, back.0.stands_back.2, below))
+    gives_way_seen _ tf there below g back k = absurd back
+
+    reads_seen : (e : End) → Took p place.Reading e u.lock → Ended t p a u e → TakesToRead (shown t) p a (shown u)
+    reads_seen e took k = record {
+      ready = ready_seen e took.0 k;
+      kept = k.value;
+      reads = owns.reads_as u.lock u.stages u.sought u.value k.laws k.fits p ∙ ap is_reading took.1;
+    }
+
+    writes_seen : (e : End) → Took p place.Writing e u.lock → Ended t p a u e → TakesToWrite (shown t) p a (shown u)
+    writes_seen e took k = record {
+      ready = ready_seen e took.0 k;
+      kept = k.value;
+      writes = turn_seen e place.Writing k took.1 refl;
+    }
+
+  module _ (t : Table) (p : ℕ) (i : Inputs) (laws : IsRwLock t.lock) (tf : IsTable t.lock t.stages t.sought) (pending : standing_of (shown t) p ≡ outside rest.Pending) (memory : i.memory ≡ true) where
+    -- the party stands pending in the table
+    at_stage : (p < length t.stages) × (stage_at t.stages p ≡ Outside rest.Pending)
+    at_stage =
+        let here : Place = place_at t.lock.places p in
+        let there : TurnPlace = turn_at t.lock.turn.places p in
+        let stood : standing_of (shown t) p ≡ stands_as t.value (stage_at t.stages p) here there = owns.stood t.lock t.stages t.sought t.value laws tf p in
+        elim (view.in_or_past t.stages p) as (λ _. (p < length t.stages) × (stage_at t.stages p ≡ Outside rest.Pending)) [
+          | inl known ↦ (known, pending_stage t.value (stage_at t.stages p) here there (sym stood ∙ pending))
+          | inr past ↦ (let never : stands_as t.value Forgotten here there ≡ outside rest.Pending = rw past at (sym stood ∙ pending) in absurd (cc))
+        ]
+
+    future : is_future (place_at t.lock.places p) ≡ true
+    future = ap (λ s. goes_with s (place_at t.lock.places p)) (sym at_stage.1) ∙ tf.fits p at_stage.0
+
+    law : SoloPolls t.lock
+    law = solo_polls t.lock laws
+
+    module _ (u : Table) (a : Answer) (whole : WholeCall t p call.Poll i a u) where
+      polls : (e : End) × PollsAlone p e u.lock t.lock × Ended t p a u e
+      polls = polls_alone p i memory t u a at_stage.0 at_stage.1 whole
+
+      reading_polled : IsSoloToRead (shown t) p i → is_marked (shown t).state.turn ≡ false → how_many_read (shown t) < t.lock.limit → TakesToRead (shown t) p a (shown u)
+      reading_polled solo free below =
+          let there : 0 < in_no_writer (place_at t.lock.places p) = omega (arith, laws.owners_no_writer p, marked_listed p t.lock.no_writer solo.marked) in
+          let few : readers t.lock < t.lock.limit = rw view.how_many-read at below in
+          reads_seen t u p a polls.0 (law.reads (bit_seen t.lock t.stages t.sought t.value laws tf free) few p polls.0 u.lock (in_no_writer_list (place_at t.lock.places p) future there, solo.marked) polls.1) polls.2
+
+      writing_polled : 0 < entries_of p t.lock.no_readers → how_many_read (shown t) ≡ 0 → TakesToWrite (shown t) p a (shown u)
+      writing_polled some free =
+          let there : 0 < in_no_readers (place_at t.lock.places p) = omega (arith, laws.owners_no_readers p, some) in
+          let none : readers t.lock ≡ 0 = sym (view.how_many-read t.lock.places) ∙ free in
+          writes_seen t u p a polls.0 (law.writes none p polls.0 u.lock (in_no_readers_list (place_at t.lock.places p) future there) polls.1) polls.2
+
+      either_seen : 0 < entries_of p t.lock.turn.entries → starved t.lock.turn < t.lock.turn.limit → TookTurn p polls.0 u.lock ⊎ GaveTurnWay p t.lock polls.0 u.lock → TakesTurn (shown t) p a (shown u) ⊎ GivesTurnWay (shown t) p a (shown u)
+      either_seen some below (inl took) = inl (takes_turn_seen t u p a polls.0 took polls.2)
+      either_seen some below (inr gave) = inr (gives_way_seen t u p a polls.0 tf some below gave gave.stands_back polls.2)
+
+      why_seen : (is_starved (shown t) p ≡ true) ⊎ (how_many (shown t).state.starved ≡ 0) → IsStarved t.lock.turn p ⊎ (starved t.lock.turn ≡ 0)
+      why_seen (inl starving) = inl (sym (sees.counted_bit (turn_at t.lock.turn.places p)) ∙ ap bit (sym (sees.starved_at t.lock.turn.places p) ∙ starving))
+      why_seen (inr none) = inr (sym (view.how_many-starved t.lock.turn.places) ∙ none)
+
+      turn_polled : IsSoloForTurn (shown t) p i → (shown t).state.turn ≡ nobody → how_many_read (shown t) < t.lock.limit → SoloPollForTurn (shown t) p a (shown u)
+      turn_polled solo free below =
+          let some : 0 < entries_of p t.lock.turn.entries = marked_listed p t.lock.turn.entries solo.marked in
+          let there : 0 < listed (turn_at t.lock.turn.places p) = omega (arith, laws.turn.owners p, some) in
+          let called : IsCalledToTurn t.lock p = (in_turn_list (turn_at t.lock.turn.places p) (place_at t.lock.places p) future (laws.in_turn p) there, solo.marked) in
+          let few : readers t.lock < t.lock.limit = rw view.how_many-read at below in
+          let nobody_there : holders t.lock.turn ≡ 0 = sees.none_holds 0 t.lock.turn.places (nobody_holds (holder_of t.lock.turn) t.lock.places free) in
+          record {
+            takes_or_gives_way = λ under. either_seen some (rw view.how_many-starved at under) (law.takes_turn_or_gives_way nobody_there few p polls.0 u.lock called polls.1);
+            takes = λ why. takes_turn_seen t u p a polls.0 (law.takes_turn nobody_there few p polls.0 u.lock called (why_seen why) polls.1) polls.2;
+          }
+
+  module _ (t u : Table) (p : ℕ) (c : Call) (i : Inputs) (a : Answer) (laws : IsRwLock t.lock) (tf : IsTable t.lock t.stages t.sought) (whole : WholeCall t p c i a u) (is : c ≡ call.Poll) where
+    polled : WholeCall t p call.Poll i a u
+    polled = let W : Call → Type 0 = λ x. WholeCall t p x i a u in subst W is whole
+
+    pub solo_for_turn : IsSoloForTurn (shown t) p i → (shown t).state.turn ≡ nobody → how_many_read (shown t) < (shown t).readers_limit → SoloPollForTurn (shown t) p a (shown u)
+    solo_for_turn solo free below = turn_polled t p i laws tf solo.pending solo.memory u a polled solo free below
+
+    pub solo_to_read : IsSoloToRead (shown t) p i → is_marked (shown t).state.turn ≡ false → how_many_read (shown t) < (shown t).readers_limit → TakesToRead (shown t) p a (shown u)
+    solo_to_read solo free below = reading_polled t p i laws tf solo.pending solo.memory u a polled solo free below
+
+    pub solo_to_write : IsSoloToWrite (shown t) p i → how_many_read (shown t) ≡ 0 → TakesToWrite (shown t) p a (shown u)
+    solo_to_write solo free = writing_polled t p i laws tf solo.pending solo.memory u a polled solo.listed free

@@ -1,0 +1,227 @@
+-- What each party has, by how it stands.
+use Rattle.std.proofs.Common.{◌≡◌, ◌≢◌, ℕ, ◌≤◌, ◌⊎◌, inl, inr, Bool, true, false, List, Option, Some, None, refl, arith, ap, sym, subst, ◌∙◌}
+use Rattle.lock_world.specs.declared.moves.Answer.{Answer}
+use Rattle.lock_world.specs.declared.standing.Rest.TheVariants as rest
+use Rattle.lock_world.specs.declared.standing.Stage.{Stage}
+use Rattle.lock_world.specs.declared.standing.Stage.TheVariants.{Outside, Inside, Forgotten}
+use Rattle.lock_world.specs.Rights.{Right, read, upgradable, write}
+use Rattle.lock_world.specs.Standings.{inside}
+use Rattle.mutex_machine.specs.declared.program.Place.{Place as TurnPlace}
+use Rattle.mutex_machine.specs.Courses.{is_out, is_holding}
+use Rattle.mutex_machine.specs.Roles.{holds, listed}
+use Rattle.mutex_machine.specs.Machine.{place_at as turn_at}
+use Rattle.mutex_machine.specs.State.{is_holder, is_counted, holder_of}
+use Rattle.mutex_machine.proofs.Callers.{out_unlisted, holding_unlisted}
+use Rattle.mutex_machine.proofs.Parts.{out_free, out_unstarved, holding_unstarved, waiting_free}
+use Rattle.mutex_machine.proofs.Seen as sees
+use Rattle.rwlock_machine.specs.declared.program.Place.{Place}
+use Rattle.rwlock_machine.specs.declared.program.Place.TheVariants as place
+use Rattle.rwlock_machine.specs.Roles.{has_turn, in_no_writer, in_no_readers, fits_turn}
+use Rattle.rwlock_machine.specs.Machine.{RwLock, place_at}
+use Rattle.rwlock_machine.specs.Acts.{IsRwLock}
+use Rattle.rwlock_world.specs.declared.world.table.Sought.{Sought}
+use Rattle.rwlock_world.specs.declared.world.table.Sought.TheVariants as sought
+use Rattle.rwlock_world.specs.State as state
+use Rattle.rwlock_world.specs.State.{Turn, nobody, passes, is_upgradable, waits_to_write, writes, World, standing_of, sought_by, is_upgrader, HasTurn, IsClear, entries_in}
+use Rattle.rwlock_world.specs.Legal.{HasSought, HasNothing, HasItsOwn}
+use Rattle.rwlock_world.specs.Plans.{stage_at, seeking, sought_at, same_sought, agrees, is_inside, goes_with}
+use Rattle.rwlock_world.specs.Plans as plans
+use Rattle.rwlock_world.specs.Table.{IsTable}
+use Rattle.rwlock_world.specs.View.{Share, passing, upgrading, waiting, writing, turn_as, share_of, turn_by, is_reading, is_upgrade, right_of, verdict, stands_as, seen}
+use Rattle.rwlock_world.proofs.Begun.{at_out, at_future, at_guard}
+use Rattle.rwlock_world.proofs.Views as view
+
+-- ---- the turn
+
+share_has : (q p : ℕ) (s : Share) → HasTurn (turn_as q s) p → q ≡ p
+share_has q p passing h = h
+share_has q p upgrading h = h
+share_has q p waiting h = h
+share_has q p writing h = h
+
+holder_has : (h : Option ℕ) (xs : List Place) (p : ℕ) → HasTurn (turn_by h xs) p → h ≡ Some p
+holder_has None xs p k = absurd k
+holder_has (Some q) xs p k = ap Some (share_has q p (share_of (place_at xs q)) k)
+
+-- a party that is seen to have the turn for something
+pub has_as : (t : Turn) (p : ℕ) (s : Share) → t ≡ turn_as p s → HasTurn t p
+has_as t p passing e = rw e refl
+has_as t p upgrading e = rw e refl
+has_as t p waiting e = rw e refl
+has_as t p writing e = rw e refl
+
+holds_one : (b : Bool) (n : ℕ) → Rattle.mutex_machine.specs.Roles.bit b ≡ n → 1 ≤ n → n ≡ 1
+holds_one true n e h = sym e
+holds_one false n e h = absurd (omega (arith, e, h))
+
+same_is : (o p : Option Sought) → same_sought o p ≡ true → p ≡ o
+same_is None None h = refl
+same_is None (Some s) h = absurd (cc)
+same_is (Some sought.Read) None h = absurd (cc)
+same_is (Some sought.Upgradable) None h = absurd (cc)
+same_is (Some sought.Write) None h = absurd (cc)
+same_is (Some sought.Read) (Some sought.Read) h = refl
+same_is (Some sought.Upgradable) (Some sought.Upgradable) h = refl
+same_is (Some sought.Write) (Some sought.Write) h = refl
+same_is (Some sought.Read) (Some _) h = absurd (cc)
+same_is (Some sought.Upgradable) (Some _) h = absurd (cc)
+same_is (Some sought.Write) (Some _) h = absurd (cc)
+
+apart_up : (t : Turn) (p : ℕ) (s : Share) → t ≡ turn_as p s → (s ≡ upgrading → ⊥) → t ≢ is_upgradable p
+apart_up t p passing e n h = cc
+apart_up t p upgrading e n h = n refl
+apart_up t p waiting e n h = cc
+apart_up t p writing e n h = cc
+
+apart_write : (t : Turn) (p : ℕ) (s : Share) → t ≡ turn_as p s → (s ≡ writing → ⊥) → t ≢ writes p
+apart_write t p passing e n h = cc
+apart_write t p upgrading e n h = cc
+apart_write t p waiting e n h = cc
+apart_write t p writing e n h = n refl
+
+-- an undecided party doesn't read, and has the turn for no right
+pub record IsUndecided (x : Place) : Type 0 where
+  pub reads : is_reading x ≡ false
+  pub share : (share_of x ≡ upgrading → ⊥) × (share_of x ≡ writing → ⊥)
+
+module _ (l : RwLock) (ss : List Stage) (os : List (Option Sought)) (v : ℕ) (laws : IsRwLock l) (fits : IsTable l ss os) where
+  abbrev w : World
+  w = seen l ss os v
+
+  pub stood : (q : ℕ) → standing_of w q ≡ stands_as v (stage_at ss q) (place_at l.places q) (turn_at l.turn.places q)
+  stood q = view.standings_at v ss l.places l.turn.places fits.as_many q
+
+  pub reads_as : (q : ℕ) → state.reads w q ≡ is_reading (place_at l.places q)
+  reads_as q = view.reads_at l.places q
+
+  pub upgrades_as : (q : ℕ) → is_upgrader w q ≡ is_upgrade (place_at l.places q)
+  upgrades_as q = view.upgrades_at l.places q
+
+  pub seeks_as : (q : ℕ) → sought_by w q ≡ right_of (seeking os q)
+  seeks_as q = view.seeks_at os q
+
+  -- who has the turn where it stands has it
+  pub holder_is : (q : ℕ) → has_turn (place_at l.places q) ≡ 1 → holder_of l.turn ≡ Some q
+  holder_is q h =
+      let some : 1 ≤ holds (turn_at l.turn.places q) = omega (arith, laws.held q, h) in
+      sees.holds_it l.turn.places q laws.turn.one_holder (holds_one (is_holder (turn_at l.turn.places q)) (holds (turn_at l.turn.places q)) (sees.holds_bit (turn_at l.turn.places q)) some)
+
+  pub turn_is : (q : ℕ) → has_turn (place_at l.places q) ≡ 1 → w.state.turn ≡ turn_as q (share_of (place_at l.places q))
+  turn_is q h = ap (λ o. turn_by o l.places) (holder_is q h)
+
+  pub no_turn : (q : ℕ) → holds (turn_at l.turn.places q) ≡ 0 → HasTurn w.state.turn q → ⊥
+  no_turn q none h = let one = sees.is_held_by l.turn.places q (holder_has (holder_of l.turn) l.places q h) in absurd (omega arith)
+
+  pub clear_at : (q : ℕ) (x : Place) → place_at l.places q ≡ x → in_no_writer x ≡ 0 → in_no_readers x ≡ 0 → listed (turn_at l.turn.places q) ≡ 0 → is_counted (turn_at l.turn.places q) ≡ false → IsClear w q
+  clear_at q x e nw nr li co = (
+    omega (arith, laws.owners_no_writer q, laws.owners_no_readers q, laws.turn.owners q, li, ap in_no_writer e, ap in_no_readers e, nw, nr),
+    sees.starved_at l.turn.places q ∙ co,
+  )
+
+  fit_at : (q : ℕ) (x : Place) → place_at l.places q ≡ x → fits_turn x (turn_at l.turn.places q) ≡ true
+  fit_at q x e = let P : Place → Type 0 = λ x. fits_turn x (turn_at l.turn.places q) ≡ true in subst P e (laws.in_turn q)
+
+  reads_at : (q : ℕ) (x : Place) → place_at l.places q ≡ x → state.reads w q ≡ is_reading x
+  reads_at q x e = reads_as q ∙ ap is_reading e
+
+  pub turn_at_place : (q : ℕ) (x : Place) → place_at l.places q ≡ x → has_turn x ≡ 1 → w.state.turn ≡ turn_as q (share_of x)
+  turn_at_place q x e h = turn_is q (ap has_turn e ∙ h) ∙ ap (λ y. turn_as q (share_of y)) e
+
+  -- a party at a place that goes with one out of the turn
+  pub out_clear : (q : ℕ) (x : Place) → place_at l.places q ≡ x → in_no_writer x ≡ 0 → in_no_readers x ≡ 0 → is_out (turn_at l.turn.places q) ≡ true → IsClear w q
+  out_clear q x e nw nr o = clear_at q x e nw nr (out_unlisted (turn_at l.turn.places q) o) (out_unstarved (turn_at l.turn.places q) o)
+
+  pub holding_clear : (q : ℕ) (x : Place) → place_at l.places q ≡ x → in_no_writer x ≡ 0 → in_no_readers x ≡ 0 → is_holding (turn_at l.turn.places q) ≡ true → IsClear w q
+  holding_clear q x e nw nr o = clear_at q x e nw nr (holding_unlisted (turn_at l.turn.places q) o) (holding_unstarved (turn_at l.turn.places q) o)
+
+  pub seeks_just : (q : ℕ) (s : Option Sought) (r : Right) → right_of s ≡ Some r → same_sought s (seeking os q) ≡ true → sought_by w q ≡ Some r
+  seeks_just q s r e h = seeks_as q ∙ (ap right_of (same_is s (seeking os q) h) ∙ e)
+
+  -- ---- a party has just the right that its guard is for
+
+  pub reading : (q : ℕ) (x : Place) → place_at l.places q ≡ x → is_reading x ≡ true → is_out (turn_at l.turn.places q) ≡ true → agrees (sought_at x) (seeking os q) ≡ true → sought_at x ≡ Some (Some sought.Read) → HasSought w q
+  reading q x e r o a s = let P : Option (Option Sought) → Type 0 = λ k. agrees k (seeking os q) ≡ true in
+      (read, seeks_just q (Some sought.Read) read refl (subst P s a), (reads_at q x e ∙ r, no_turn q (out_free (turn_at l.turn.places q) o)))
+
+  pub upgradable_has : (q : ℕ) (x : Place) → place_at l.places q ≡ x → is_reading x ≡ true → has_turn x ≡ 1 → share_of x ≡ upgrading → agrees (sought_at x) (seeking os q) ≡ true → sought_at x ≡ Some (Some sought.Upgradable) → HasSought w q
+  upgradable_has q x e r h u a s = let P : Option (Option Sought) → Type 0 = λ k. agrees k (seeking os q) ≡ true in
+      (upgradable, seeks_just q (Some sought.Upgradable) upgradable refl (subst P s a), (reads_at q x e ∙ r, turn_at_place q x e h ∙ ap (turn_as q) u))
+
+  pub writing_has : (q : ℕ) (x : Place) → place_at l.places q ≡ x → is_reading x ≡ false → has_turn x ≡ 1 → share_of x ≡ writing → agrees (sought_at x) (seeking os q) ≡ true → sought_at x ≡ Some (Some sought.Write) → HasSought w q
+  writing_has q x e r h u a s = let P : Option (Option Sought) → Type 0 = λ k. agrees k (seeking os q) ≡ true in
+      (write, seeks_just q (Some sought.Write) write refl (subst P s a), (reads_at q x e ∙ r, turn_at_place q x e h ∙ ap (turn_as q) u))
+
+  guard_has : (q : ℕ) (x : Place) → plans.is_guard x ≡ true → place_at l.places q ≡ x → agrees (sought_at x) (seeking os q) ≡ true → IsClear w q × HasSought w q
+  guard_has q = at_guard (λ x. place_at l.places q ≡ x → agrees (sought_at x) (seeking os q) ≡ true → IsClear w q × HasSought w q) (record {
+    reading = λ e a. let o = fit_at q place.Reading e in (out_clear q place.Reading e refl refl o, reading q place.Reading e refl o a refl);
+    upgradable = λ e a. let o = fit_at q place.Upgradable e in (holding_clear q place.Upgradable e refl refl o, upgradable_has q place.Upgradable e refl refl refl a refl);
+    writing = λ e a. let o = fit_at q place.Writing e in (holding_clear q place.Writing e refl refl o, writing_has q place.Writing e refl refl refl a refl);
+  })
+
+  abbrev IsFuture : ℕ → Type 0
+  IsFuture q = (state.reads w q ≡ false) × ((w.state.turn ≡ waits_to_write q) ⊎ ((HasTurn w.state.turn q → ⊥) × (is_upgrader w q ≡ false)))
+
+  future_has : (q : ℕ) (x : Place) → plans.is_future x ≡ true → place_at l.places q ≡ x → IsFuture q
+  future_has q = at_future (λ x. place_at l.places q ≡ x → IsFuture q) (record {
+    made = λ m e. (reads_at q (place.Made m) e, inr (no_turn q (out_free (turn_at l.turn.places q) (fit_at q (place.Made m) e)), upgrades_as q ∙ ap is_upgrade e));
+    no_writer = λ e. (reads_at q place.AskNoWriter e, inr (no_turn q (out_free (turn_at l.turn.places q) (fit_at q place.AskNoWriter e)), upgrades_as q ∙ ap is_upgrade e));
+    turn = λ p e. (reads_at q (place.WaitTurn p) e, inr (no_turn q (waiting_free (turn_at l.turn.places q) (fit_at q (place.WaitTurn p) e)), upgrades_as q ∙ ap is_upgrade e));
+    no_readers = λ u e. (reads_at q (place.AwaitNoReaders u) e, inl (turn_at_place q (place.AwaitNoReaders u) e refl));
+    upgrade = λ e. (reads_at q (place.LookUnlisted true) e, inl (turn_at_place q (place.LookUnlisted true) e refl));
+  })
+
+  out_has : (q : ℕ) (x : Place) → plans.is_out x ≡ true → place_at l.places q ≡ x → IsClear w q × HasNothing w q
+  out_has q = at_out (λ x. place_at l.places q ≡ x → IsClear w q × HasNothing w q) (λ e.
+      let o = fit_at q place.Out e in (out_clear q place.Out e refl refl o, (reads_at q place.Out e, no_turn q (out_free (turn_at l.turn.places q) o))))
+
+  -- ---- an undecided party has no right
+
+  -- who isn't at a place with a share of its own passes, if it has the turn
+  turn_only : (q : ℕ) → HasTurn w.state.turn q → w.state.turn ≡ turn_as q (share_of (place_at l.places q))
+  turn_only q h = ap (λ o. turn_by o l.places) (holder_has (holder_of l.turn) l.places q h)
+
+  undecided_has : (q : ℕ) (x : Place) → place_at l.places q ≡ x → IsUndecided x → (state.reads w q ≡ false) × (w.state.turn ≢ is_upgradable q) × (w.state.turn ≢ writes q)
+  undecided_has q x e u = (
+    reads_at q x e ∙ u.reads,
+    (λ h. apart_up w.state.turn q (share_of (place_at l.places q)) (turn_only q (has_as w.state.turn q upgrading h)) (λ k. u.share.0 (ap share_of (sym e) ∙ k)) h),
+    (λ h. apart_write w.state.turn q (share_of (place_at l.places q)) (turn_only q (has_as w.state.turn q writing h)) (λ k. u.share.1 (ap share_of (sym e) ∙ k)) h),
+  )
+
+  pub undecided : (x : Place) (t : TurnPlace) → is_inside x ≡ true → verdict v x t ≡ None → IsUndecided x
+  undecided place.LeaveNoWriter t i n = absurd (cc)
+  undecided place.LeaveNoReaders t i n = absurd (cc)
+  undecided (place.ReleaseTurn e) t i n = absurd (cc)
+  undecided (place.ReleasingTurn e) t i n = absurd (cc)
+  undecided place.DropRead t i n = absurd (cc)
+  undecided place.DropUpgradable t i n = absurd (cc)
+  undecided place.DropWrite t i n = absurd (cc)
+  undecided place.DownNotify t i n = absurd (cc)
+  undecided place.DowngradeNotify t i n = absurd (cc)
+  undecided place.Reading t i n = absurd (cc)
+  undecided place.Upgradable t i n = absurd (cc)
+  undecided place.Writing t i n = absurd (cc)
+  undecided place.Upgrade t i n = absurd (cc)
+  undecided place.TryUpgrade t i n = absurd (cc)
+  undecided (place.Down keeps) t i n = absurd (cc)
+  undecided _ t i n = record { reads = refl; share = ((λ e. cc), (λ e. cc)) }
+
+  first : (a b : Bool) → Rattle.std.specs.Prelude.◌&&◌ a b ≡ true → a ≡ true
+  first true b h = refl
+  first false b h = absurd (cc)
+
+  has : (q : ℕ) (s : Stage) (x : Place) → place_at l.places q ≡ x → goes_with s x ≡ true → agrees (sought_at x) (seeking os q) ≡ true → HasItsOwn w q (stands_as v s x (turn_at l.turn.places q))
+  has q (Outside rest.Idle) x at g a = out_has q x g at
+  has q (Outside rest.Pending) x at g a = future_has q x g at
+  has q (Outside rest.Holding) x at g a = guard_has q x g at a
+  has q (Outside rest.Finished) x at g a = absurd (cc)
+  has q (Inside u) x at g a = inside_has (verdict v x (turn_at l.turn.places q)) refl where
+    inside_has : (o : Option Answer) → verdict v x (turn_at l.turn.places q) ≡ o → HasItsOwn w q (inside u o)
+    inside_has None e = undecided_has q x at (undecided x (turn_at l.turn.places q) (first (is_inside x) (plans.is_on_course u.kind u.was (plans.course_of x)) g) e)
+    inside_has (Some b) e = tt
+  has q Forgotten x at g a = tt
+
+  pub each : (q : ℕ) → HasItsOwn w q (standing_of w q)
+  each q = elim (view.in_or_past ss q) as (λ _. HasItsOwn w q (standing_of w q)) [
+    | inl known ↦ rw (stood q) (has q (stage_at ss q) (place_at l.places q) refl (fits.fits q known) (fits.seeks q known))
+    | inr past ↦ rw (stood q, past) tt
+  ]

@@ -1,0 +1,284 @@
+-- Where each action leads, place by place. Written by generators/rwlock_world_rows.py.
+use Rattle.std.proofs.Common.{◌≡◌, ◌&&◌, Bool, true, false, Option, refl}
+use Rattle.lock_world.specs.declared.refusal.Refusal.{Refusal}
+use Rattle.lock_world.specs.declared.refusal.Refusal.TheVariants as refusal
+use Rattle.mutex_machine.specs.declared.program.Place.{Place as TurnPlace}
+use Rattle.mutex_machine.specs.declared.program.Next.TheVariants as turn_next
+use Rattle.mutex_machine.specs.declared.program.End.TheVariants as turn_end
+use Rattle.rwlock_machine.specs.declared.program.Purpose.TheVariants as purpose
+use Rattle.rwlock_machine.specs.declared.program.Ending.TheVariants as ending
+use Rattle.rwlock_machine.specs.declared.program.End.{End}
+use Rattle.rwlock_machine.specs.declared.program.End.TheVariants.{Got, Pending, Waiting, NotFree, GivenBack, Refused}
+use Rattle.rwlock_machine.specs.declared.program.Next.{Next}
+use Rattle.rwlock_machine.specs.declared.program.Next.TheVariants as next
+use Rattle.rwlock_machine.specs.declared.program.Found.{Found}
+use Rattle.rwlock_machine.specs.declared.program.Found.TheVariants.{Done, Writer, Full, NoneLeft, SomeLeft, NoMemory, Yes, No, Turn}
+use Rattle.rwlock_machine.specs.declared.program.Found.TheVariants as found
+use Rattle.rwlock_machine.specs.declared.program.Place.{Place}
+use Rattle.rwlock_machine.specs.declared.program.Place.TheVariants.{Out, Made, Reading, Upgradable, Writing, EnterRead, JoinNoWriter, LookNoWriter, AskNoWriter, PassOn, LeaveNoWriter, RefuseLeave, RefuseNotify, CancelRead, TryRead, EnterTurn, WaitTurn, TakeTurn, TryTurn, CancelTurn, CancellingTurn, ReleaseTurn, ReleasingTurn, Add, TryUpgrade, Upgrade, Mark, TryWrite, JoinNoReaders, LookNoReaders, AskNoReaders, AwaitNoReaders, LookUnlisted, LeaveNoReaders, DropRead, DropReadNotify, DropUpgradable, DropUpgradableNotify, DropWrite, CancelAwait, Unmark, UnmarkNotify, Down, DownNotify, DowngradeNotify}
+use Rattle.rwlock_machine.specs.Program.{action_of, next_of}
+use Rattle.rwlock_machine.specs.Machine.{RwLock}
+use Rattle.rwlock_machine.specs.Acts.{Finds}
+use Rattle.rwlock_machine.proofs.Leads.{Led}
+use Rattle.rwlock_world.specs.declared.world.table.Sought.{Sought}
+use Rattle.rwlock_world.specs.Plans.{Course, polls, tries, drops, downgrades, upgrades, tries_upgrade, strays, course_of, is_inside, sought_at, agrees, is_out, is_future, is_guard}
+
+-- the refusals of a read-write lock's futures
+abbrev pub is_ours : Refusal → Bool
+is_ours refusal.Memory = true
+is_ours refusal.Starved = true
+is_ours refusal.Readers = true
+is_ours _ = false
+
+-- how a program of this course ends, and where its party stands then
+abbrev pub ends_in : Course → End → Place → Bool
+ends_in polls Got q = is_guard q
+ends_in polls Pending q = is_future q
+ends_in polls (Refused r) q = is_future q && is_ours r
+ends_in tries Got q = is_guard q
+ends_in tries NotFree q = is_out q
+ends_in drops GivenBack q = is_out q
+ends_in downgrades GivenBack q = is_guard q
+ends_in upgrades Waiting q = is_future q
+ends_in tries_upgrade Got q = is_guard q
+ends_in tries_upgrade NotFree q = is_guard q
+ends_in _ _ q = false
+
+-- a program goes on as it is, or ends so
+abbrev pub Keeps : Course → Next → Type 0
+Keeps c (next.Do a q) = (course_of q ≡ c) × (is_inside q ≡ true)
+Keeps c (next.End e q) = ends_in c e q ≡ true
+
+-- where a party stands whose try was in vain
+abbrev pub InVain : Course → Place → Type 0
+InVain tries_upgrade q = q ≡ Upgradable
+InVain _ q = q ≡ Out
+
+-- what is sought goes with the new place
+abbrev pub Seeks : Place → Next → Type 0
+Seeks x (next.Do a q) = (s : Option Sought) → agrees (sought_at x) s ≡ true → agrees (sought_at q) s ≡ true
+Seeks x (next.End NotFree q) = InVain (course_of x) q
+Seeks x (next.End _ q) = (s : Option Sought) → agrees (sought_at x) s ≡ true → agrees (sought_at q) s ≡ true
+
+pub record Path (x : Place) (f : Found) : Type 0 where
+  pub keeps : Keeps (course_of x) (next_of x f)
+  pub seeks : Seeks x (next_of x f)
+
+module _ (memory : Bool) (l : RwLock) (to : TurnPlace) where
+  pub path : (x : Place) (f : Found) → Finds memory (action_of x) f l → Led x f to → (course_of x ≡ strays → ⊥) → Path x f
+  path Out Done e l n = record { keeps = refl; seeks = λ s h. h }
+  path Out _ e l n = absurd e
+  path (Made w) _ e l n = absurd (n refl)
+  path Reading Done e l n = record { keeps = refl; seeks = λ s h. h }
+  path Reading _ e l n = absurd e
+  path Upgradable Done e l n = record { keeps = refl; seeks = λ s h. h }
+  path Upgradable _ e l n = absurd e
+  path Writing Done e l n = record { keeps = refl; seeks = λ s h. h }
+  path Writing _ e l n = absurd e
+  path (EnterRead true) Done e l n = record { keeps = refl; seeks = λ s h. h }
+  path (EnterRead true) Writer e l n = record { keeps = (refl, refl); seeks = λ s h. h }
+  path (EnterRead true) Full e l n = record { keeps = (refl, refl); seeks = λ s h. h }
+  path (EnterRead true) _ e l n = absurd e
+  path (EnterRead false) Done e l n = record { keeps = refl; seeks = λ s h. h }
+  path (EnterRead false) Writer e l n = record { keeps = (refl, refl); seeks = λ s h. h }
+  path (EnterRead false) Full e l n = record { keeps = refl; seeks = λ s h. h }
+  path (EnterRead false) _ e l n = absurd e
+  path (JoinNoWriter true) Done e l n = record { keeps = (refl, refl); seeks = λ s h. h }
+  path (JoinNoWriter true) NoMemory e l n = record { keeps = (refl, refl); seeks = λ s h. h }
+  path (JoinNoWriter true) _ e l n = absurd e
+  path (JoinNoWriter false) Done e l n = record { keeps = (refl, refl); seeks = λ s h. h }
+  path (JoinNoWriter false) NoMemory e l n = record { keeps = refl; seeks = λ s h. h }
+  path (JoinNoWriter false) _ e l n = absurd e
+  path (LookNoWriter told) Done e l n = record { keeps = (refl, refl); seeks = λ s h. h }
+  path (LookNoWriter told) Writer e l n = record { keeps = (refl, refl); seeks = λ s h. h }
+  path (LookNoWriter told) Full e l n = record { keeps = (refl, refl); seeks = λ s h. h }
+  path (LookNoWriter told) _ e l n = absurd e
+  path AskNoWriter Yes e l n = record { keeps = (refl, refl); seeks = λ s h. h }
+  path AskNoWriter No e l n = record { keeps = refl; seeks = λ s h. h }
+  path AskNoWriter _ e l n = absurd e
+  path PassOn Done e l n = record { keeps = (refl, refl); seeks = λ s h. h }
+  path PassOn _ e l n = absurd e
+  path LeaveNoWriter Done e l n = record { keeps = refl; seeks = λ s h. h }
+  path LeaveNoWriter _ e l n = absurd e
+  path (RefuseLeave true) Done e l n = record { keeps = (refl, refl); seeks = λ s h. h }
+  path (RefuseLeave true) _ e l n = absurd e
+  path (RefuseLeave false) Done e l n = record { keeps = refl; seeks = λ s h. h }
+  path (RefuseLeave false) _ e l n = absurd e
+  path (RefuseNotify refusal.Memory) Done e l n = record { keeps = refl; seeks = λ s h. h }
+  path (RefuseNotify refusal.Memory) _ e l n = absurd e
+  path (RefuseNotify refusal.Readers) Done e l n = record { keeps = refl; seeks = λ s h. h }
+  path (RefuseNotify refusal.Readers) _ e l n = absurd e
+  path (RefuseNotify _) _ e l n = absurd (n refl)
+  path CancelRead Done e l n = record { keeps = refl; seeks = λ s h. h }
+  path CancelRead _ e l n = absurd e
+  path TryRead Done e l n = record { keeps = refl; seeks = λ s h. h }
+  path TryRead Writer e l n = record { keeps = refl; seeks = refl }
+  path TryRead Full e l n = record { keeps = refl; seeks = refl }
+  path TryRead _ e l n = absurd e
+  path (EnterTurn purpose.UpgradableRead) (Turn (turn_next.Do a q)) e l n = record { keeps = (refl, refl); seeks = λ s h. h }
+  path (EnterTurn purpose.UpgradableRead) (Turn (turn_next.End turn_end.Got)) e l n = record { keeps = (refl, refl); seeks = λ s h. h }
+  path (EnterTurn purpose.UpgradableRead) (Turn (turn_next.End turn_end.Pending)) e l n = record { keeps = refl; seeks = λ s h. h }
+  path (EnterTurn purpose.UpgradableRead) (Turn (turn_next.End (turn_end.Refused refusal.Memory))) e l n = record { keeps = refl; seeks = λ s h. h }
+  path (EnterTurn purpose.UpgradableRead) (Turn (turn_next.End (turn_end.Refused refusal.Starved))) e l n = record { keeps = refl; seeks = λ s h. h }
+  path (EnterTurn purpose.UpgradableRead) (Turn _) e l n = absurd l
+  path (EnterTurn purpose.UpgradableRead) _ e l n = absurd e
+  path (EnterTurn purpose.Write) (Turn (turn_next.Do a q)) e l n = record { keeps = (refl, refl); seeks = λ s h. h }
+  path (EnterTurn purpose.Write) (Turn (turn_next.End turn_end.Got)) e l n = record { keeps = (refl, refl); seeks = λ s h. h }
+  path (EnterTurn purpose.Write) (Turn (turn_next.End turn_end.Pending)) e l n = record { keeps = refl; seeks = λ s h. h }
+  path (EnterTurn purpose.Write) (Turn (turn_next.End (turn_end.Refused refusal.Memory))) e l n = record { keeps = refl; seeks = λ s h. h }
+  path (EnterTurn purpose.Write) (Turn (turn_next.End (turn_end.Refused refusal.Starved))) e l n = record { keeps = refl; seeks = λ s h. h }
+  path (EnterTurn purpose.Write) (Turn _) e l n = absurd l
+  path (EnterTurn purpose.Write) _ e l n = absurd e
+  path (WaitTurn purpose.UpgradableRead) (Turn (turn_next.Do a q)) e l n = record { keeps = (refl, refl); seeks = λ s h. h }
+  path (WaitTurn purpose.UpgradableRead) (Turn (turn_next.End turn_end.Got)) e l n = record { keeps = (refl, refl); seeks = λ s h. h }
+  path (WaitTurn purpose.UpgradableRead) (Turn (turn_next.End turn_end.Pending)) e l n = record { keeps = refl; seeks = λ s h. h }
+  path (WaitTurn purpose.UpgradableRead) (Turn (turn_next.End (turn_end.Refused refusal.Memory))) e l n = record { keeps = refl; seeks = λ s h. h }
+  path (WaitTurn purpose.UpgradableRead) (Turn (turn_next.End (turn_end.Refused refusal.Starved))) e l n = record { keeps = refl; seeks = λ s h. h }
+  path (WaitTurn purpose.UpgradableRead) (Turn _) e l n = absurd l
+  path (WaitTurn purpose.UpgradableRead) _ e l n = absurd e
+  path (WaitTurn purpose.Write) (Turn (turn_next.Do a q)) e l n = record { keeps = (refl, refl); seeks = λ s h. h }
+  path (WaitTurn purpose.Write) (Turn (turn_next.End turn_end.Got)) e l n = record { keeps = (refl, refl); seeks = λ s h. h }
+  path (WaitTurn purpose.Write) (Turn (turn_next.End turn_end.Pending)) e l n = record { keeps = refl; seeks = λ s h. h }
+  path (WaitTurn purpose.Write) (Turn (turn_next.End (turn_end.Refused refusal.Memory))) e l n = record { keeps = refl; seeks = λ s h. h }
+  path (WaitTurn purpose.Write) (Turn (turn_next.End (turn_end.Refused refusal.Starved))) e l n = record { keeps = refl; seeks = λ s h. h }
+  path (WaitTurn purpose.Write) (Turn _) e l n = absurd l
+  path (WaitTurn purpose.Write) _ e l n = absurd e
+  path (TakeTurn purpose.UpgradableRead) (Turn (turn_next.Do a q)) e l n = record { keeps = (refl, refl); seeks = λ s h. h }
+  path (TakeTurn purpose.UpgradableRead) (Turn (turn_next.End turn_end.Got)) e l n = record { keeps = (refl, refl); seeks = λ s h. h }
+  path (TakeTurn purpose.UpgradableRead) (Turn (turn_next.End turn_end.Pending)) e l n = record { keeps = refl; seeks = λ s h. h }
+  path (TakeTurn purpose.UpgradableRead) (Turn (turn_next.End (turn_end.Refused refusal.Memory))) e l n = record { keeps = refl; seeks = λ s h. h }
+  path (TakeTurn purpose.UpgradableRead) (Turn (turn_next.End (turn_end.Refused refusal.Starved))) e l n = record { keeps = refl; seeks = λ s h. h }
+  path (TakeTurn purpose.UpgradableRead) (Turn _) e l n = absurd l
+  path (TakeTurn purpose.UpgradableRead) _ e l n = absurd e
+  path (TakeTurn purpose.Write) (Turn (turn_next.Do a q)) e l n = record { keeps = (refl, refl); seeks = λ s h. h }
+  path (TakeTurn purpose.Write) (Turn (turn_next.End turn_end.Got)) e l n = record { keeps = (refl, refl); seeks = λ s h. h }
+  path (TakeTurn purpose.Write) (Turn (turn_next.End turn_end.Pending)) e l n = record { keeps = refl; seeks = λ s h. h }
+  path (TakeTurn purpose.Write) (Turn (turn_next.End (turn_end.Refused refusal.Memory))) e l n = record { keeps = refl; seeks = λ s h. h }
+  path (TakeTurn purpose.Write) (Turn (turn_next.End (turn_end.Refused refusal.Starved))) e l n = record { keeps = refl; seeks = λ s h. h }
+  path (TakeTurn purpose.Write) (Turn _) e l n = absurd l
+  path (TakeTurn purpose.Write) _ e l n = absurd e
+  path (TryTurn purpose.UpgradableRead) (Turn (turn_next.End turn_end.Got)) e l n = record { keeps = (refl, refl); seeks = λ s h. h }
+  path (TryTurn purpose.UpgradableRead) (Turn (turn_next.End turn_end.NotFree)) e l n = record { keeps = refl; seeks = refl }
+  path (TryTurn purpose.UpgradableRead) (Turn _) e l n = absurd l
+  path (TryTurn purpose.UpgradableRead) _ e l n = absurd e
+  path (TryTurn purpose.Write) (Turn (turn_next.End turn_end.Got)) e l n = record { keeps = (refl, refl); seeks = λ s h. h }
+  path (TryTurn purpose.Write) (Turn (turn_next.End turn_end.NotFree)) e l n = record { keeps = refl; seeks = refl }
+  path (TryTurn purpose.Write) (Turn _) e l n = absurd l
+  path (TryTurn purpose.Write) _ e l n = absurd e
+  path CancelTurn (Turn (turn_next.Do a q)) e l n = record { keeps = (refl, refl); seeks = λ s h. h }
+  path CancelTurn (Turn (turn_next.End turn_end.GivenBack)) e l n = record { keeps = refl; seeks = λ s h. h }
+  path CancelTurn (Turn _) e l n = absurd l
+  path CancelTurn _ e l n = absurd e
+  path CancellingTurn (Turn (turn_next.Do a q)) e l n = record { keeps = (refl, refl); seeks = λ s h. h }
+  path CancellingTurn (Turn (turn_next.End turn_end.GivenBack)) e l n = record { keeps = refl; seeks = λ s h. h }
+  path CancellingTurn (Turn _) e l n = absurd l
+  path CancellingTurn _ e l n = absurd e
+  path (ReleaseTurn ending.GivenBack) (Turn (turn_next.Do a q)) e l n = record { keeps = (refl, refl); seeks = λ s h. h }
+  path (ReleaseTurn ending.GivenBack) (Turn (turn_next.End turn_end.GivenBack)) e l n = record { keeps = refl; seeks = λ s h. h }
+  path (ReleaseTurn ending.GivenBack) (Turn _) e l n = absurd l
+  path (ReleaseTurn ending.GivenBack) _ e l n = absurd e
+  path (ReleaseTurn ending.NotFree) (Turn (turn_next.Do a q)) e l n = record { keeps = (refl, refl); seeks = λ s h. h }
+  path (ReleaseTurn ending.NotFree) (Turn (turn_next.End turn_end.GivenBack)) e l n = record { keeps = refl; seeks = refl }
+  path (ReleaseTurn ending.NotFree) (Turn _) e l n = absurd l
+  path (ReleaseTurn ending.NotFree) _ e l n = absurd e
+  path (ReleaseTurn ending.RefuseReaders) (Turn (turn_next.Do a q)) e l n = record { keeps = (refl, refl); seeks = λ s h. h }
+  path (ReleaseTurn ending.RefuseReaders) (Turn (turn_next.End turn_end.GivenBack)) e l n = record { keeps = refl; seeks = λ s h. h }
+  path (ReleaseTurn ending.RefuseReaders) (Turn _) e l n = absurd l
+  path (ReleaseTurn ending.RefuseReaders) _ e l n = absurd e
+  path (ReleaseTurn ending.RefuseMemory) (Turn (turn_next.Do a q)) e l n = record { keeps = (refl, refl); seeks = λ s h. h }
+  path (ReleaseTurn ending.RefuseMemory) (Turn (turn_next.End turn_end.GivenBack)) e l n = record { keeps = refl; seeks = λ s h. h }
+  path (ReleaseTurn ending.RefuseMemory) (Turn _) e l n = absurd l
+  path (ReleaseTurn ending.RefuseMemory) _ e l n = absurd e
+  path (ReleaseTurn ending.Reading) (Turn (turn_next.Do a q)) e l n = record { keeps = (refl, refl); seeks = λ s h. h }
+  path (ReleaseTurn ending.Reading) (Turn (turn_next.End turn_end.GivenBack)) e l n = record { keeps = refl; seeks = λ s h. h }
+  path (ReleaseTurn ending.Reading) (Turn _) e l n = absurd l
+  path (ReleaseTurn ending.Reading) _ e l n = absurd e
+  path (ReleaseTurn ending.NotifyReaders) (Turn (turn_next.Do a q)) e l n = record { keeps = (refl, refl); seeks = λ s h. h }
+  path (ReleaseTurn ending.NotifyReaders) (Turn (turn_next.End turn_end.GivenBack)) e l n = record { keeps = (refl, refl); seeks = λ s h. h }
+  path (ReleaseTurn ending.NotifyReaders) (Turn _) e l n = absurd l
+  path (ReleaseTurn ending.NotifyReaders) _ e l n = absurd e
+  path (ReleasingTurn ending.GivenBack) (Turn (turn_next.End turn_end.GivenBack)) e l n = record { keeps = refl; seeks = λ s h. h }
+  path (ReleasingTurn ending.GivenBack) (Turn _) e l n = absurd l
+  path (ReleasingTurn ending.GivenBack) _ e l n = absurd e
+  path (ReleasingTurn ending.NotFree) (Turn (turn_next.End turn_end.GivenBack)) e l n = record { keeps = refl; seeks = refl }
+  path (ReleasingTurn ending.NotFree) (Turn _) e l n = absurd l
+  path (ReleasingTurn ending.NotFree) _ e l n = absurd e
+  path (ReleasingTurn ending.RefuseReaders) (Turn (turn_next.End turn_end.GivenBack)) e l n = record { keeps = refl; seeks = λ s h. h }
+  path (ReleasingTurn ending.RefuseReaders) (Turn _) e l n = absurd l
+  path (ReleasingTurn ending.RefuseReaders) _ e l n = absurd e
+  path (ReleasingTurn ending.RefuseMemory) (Turn (turn_next.End turn_end.GivenBack)) e l n = record { keeps = refl; seeks = λ s h. h }
+  path (ReleasingTurn ending.RefuseMemory) (Turn _) e l n = absurd l
+  path (ReleasingTurn ending.RefuseMemory) _ e l n = absurd e
+  path (ReleasingTurn ending.Reading) (Turn (turn_next.End turn_end.GivenBack)) e l n = record { keeps = refl; seeks = λ s h. h }
+  path (ReleasingTurn ending.Reading) (Turn _) e l n = absurd l
+  path (ReleasingTurn ending.Reading) _ e l n = absurd e
+  path (ReleasingTurn ending.NotifyReaders) (Turn (turn_next.End turn_end.GivenBack)) e l n = record { keeps = (refl, refl); seeks = λ s h. h }
+  path (ReleasingTurn ending.NotifyReaders) (Turn _) e l n = absurd l
+  path (ReleasingTurn ending.NotifyReaders) _ e l n = absurd e
+  path (Add true) Done e l n = record { keeps = refl; seeks = λ s h. h }
+  path (Add true) Full e l n = record { keeps = (refl, refl); seeks = λ s h. refl }
+  path (Add true) _ e l n = absurd e
+  path (Add false) Done e l n = record { keeps = refl; seeks = λ s h. h }
+  path (Add false) Full e l n = record { keeps = (refl, refl); seeks = λ s h. h }
+  path (Add false) _ e l n = absurd e
+  path TryUpgrade Done e l n = record { keeps = refl; seeks = λ s h. h }
+  path TryUpgrade found.NotFree e l n = record { keeps = refl; seeks = refl }
+  path TryUpgrade _ e l n = absurd e
+  path Upgrade Done e l n = record { keeps = refl; seeks = λ s h. h }
+  path Upgrade _ e l n = absurd e
+  path Mark NoneLeft e l n = record { keeps = refl; seeks = λ s h. h }
+  path Mark SomeLeft e l n = record { keeps = (refl, refl); seeks = λ s h. h }
+  path Mark _ e l n = absurd e
+  path TryWrite Done e l n = record { keeps = refl; seeks = λ s h. h }
+  path TryWrite found.NotFree e l n = record { keeps = (refl, refl); seeks = λ s h. refl }
+  path TryWrite _ e l n = absurd e
+  path (JoinNoReaders true) Done e l n = record { keeps = (refl, refl); seeks = λ s h. h }
+  path (JoinNoReaders true) NoMemory e l n = record { keeps = refl; seeks = λ s h. h }
+  path (JoinNoReaders true) _ e l n = absurd e
+  path (JoinNoReaders false) Done e l n = record { keeps = (refl, refl); seeks = λ s h. h }
+  path (JoinNoReaders false) NoMemory e l n = record { keeps = (refl, refl); seeks = λ s h. h }
+  path (JoinNoReaders false) _ e l n = absurd e
+  path (LookNoReaders u) NoneLeft e l n = record { keeps = (refl, refl); seeks = λ s h. h }
+  path (LookNoReaders u) SomeLeft e l n = record { keeps = (refl, refl); seeks = λ s h. h }
+  path (LookNoReaders u) _ e l n = absurd e
+  path (AskNoReaders u) Yes e l n = record { keeps = (refl, refl); seeks = λ s h. h }
+  path (AskNoReaders u) No e l n = record { keeps = refl; seeks = λ s h. h }
+  path (AskNoReaders u) _ e l n = absurd e
+  path (AwaitNoReaders u) NoneLeft e l n = record { keeps = (refl, refl); seeks = λ s h. h }
+  path (AwaitNoReaders u) SomeLeft e l n = record { keeps = (refl, refl); seeks = λ s h. h }
+  path (AwaitNoReaders u) _ e l n = absurd e
+  path (LookUnlisted u) NoneLeft e l n = record { keeps = refl; seeks = λ s h. h }
+  path (LookUnlisted u) SomeLeft e l n = record { keeps = (refl, refl); seeks = λ s h. h }
+  path (LookUnlisted u) _ e l n = absurd e
+  path LeaveNoReaders Done e l n = record { keeps = refl; seeks = λ s h. h }
+  path LeaveNoReaders _ e l n = absurd e
+  path DropRead NoneLeft e l n = record { keeps = (refl, refl); seeks = λ s h. h }
+  path DropRead SomeLeft e l n = record { keeps = refl; seeks = λ s h. h }
+  path DropRead _ e l n = absurd e
+  path DropReadNotify Done e l n = record { keeps = refl; seeks = λ s h. h }
+  path DropReadNotify _ e l n = absurd e
+  path DropUpgradable NoneLeft e l n = record { keeps = (refl, refl); seeks = λ s h. h }
+  path DropUpgradable SomeLeft e l n = record { keeps = (refl, refl); seeks = λ s h. h }
+  path DropUpgradable _ e l n = absurd e
+  path DropUpgradableNotify Done e l n = record { keeps = (refl, refl); seeks = λ s h. h }
+  path DropUpgradableNotify _ e l n = absurd e
+  path DropWrite Done e l n = record { keeps = (refl, refl); seeks = λ s h. h }
+  path DropWrite _ e l n = absurd e
+  path CancelAwait Done e l n = record { keeps = (refl, refl); seeks = λ s h. h }
+  path CancelAwait _ e l n = absurd e
+  path (Unmark true) Done e l n = record { keeps = (refl, refl); seeks = λ s h. h }
+  path (Unmark true) _ e l n = absurd e
+  path (Unmark false) Done e l n = record { keeps = (refl, refl); seeks = λ s h. h }
+  path (Unmark false) _ e l n = absurd e
+  path (UnmarkNotify true) Done e l n = record { keeps = (refl, refl); seeks = λ s h. h }
+  path (UnmarkNotify true) _ e l n = absurd e
+  path (UnmarkNotify false) Done e l n = record { keeps = (refl, refl); seeks = λ s h. h }
+  path (UnmarkNotify false) _ e l n = absurd e
+  path (Down true) Done e l n = record { keeps = (refl, refl); seeks = λ s h. h }
+  path (Down true) _ e l n = absurd e
+  path (Down false) Done e l n = record { keeps = (refl, refl); seeks = λ s h. h }
+  path (Down false) _ e l n = absurd e
+  path DownNotify Done e l n = record { keeps = refl; seeks = λ s h. h }
+  path DownNotify _ e l n = absurd e
+  path DowngradeNotify Done e l n = record { keeps = refl; seeks = λ s h. h }
+  path DowngradeNotify _ e l n = absurd e

@@ -1,0 +1,283 @@
+-- What one action on the turn does and decides, as callers see it.
+use Rattle.std.proofs.Common.{◌≡◌, ℕ, ◌==◌, inl, inr, Bool, true, List, map, Option, Some, None, refl, arith, ap, sym, ◌∙◌, subst}
+use Rattle.std.proofs.Math.Seq.{map-set_same}
+use Rattle.lock_event.specs.declared.event.Mark.TheVariants.{Waiting}
+use Rattle.lock_world.specs.declared.moves.Answer.{Answer}
+use Rattle.lock_world.specs.declared.moves.Answer.TheVariants as answer
+use Rattle.lock_world.specs.declared.moves.Move.{Move}
+use Rattle.lock_world.specs.declared.refusal.Refusal.{Refusal}
+use Rattle.lock_world.specs.declared.refusal.Refusal.TheVariants as refusal
+use Rattle.lock_world.specs.declared.standing.Stage.{Stage}
+use Rattle.lock_world.specs.Standings.{inputs_of, refused}
+use Rattle.lock_world.specs.Steps.{Deed}
+use Rattle.mutex_machine.specs.declared.program.Place.{Place as TurnPlace}
+use Rattle.mutex_machine.specs.declared.program.LockCall.{LockCall}
+use Rattle.mutex_machine.specs.declared.program.LockCall.TheVariants as turn_call
+use Rattle.mutex_machine.specs.declared.program.Next.{Next as TurnNext}
+use Rattle.mutex_machine.specs.declared.program.Next.TheVariants as turn_next
+use Rattle.mutex_machine.specs.declared.program.End.{End as TurnEnd}
+use Rattle.mutex_machine.specs.declared.program.End.TheVariants as turn_end
+use Rattle.mutex_machine.specs.Courses.{is_out, Takes, Tries, Releases, Cancels}
+use Rattle.mutex_machine.specs.Roles.{holds}
+use Rattle.mutex_machine.specs.Machine.{place_at as turn_at}
+use Rattle.mutex_machine.specs.State.{holder_of}
+use Rattle.mutex_machine.specs.Legal.{decision, decided_by, decided_then, IsReason}
+use Rattle.mutex_machine.proofs.Parts.{out_free, releasing_free, releasing_decided, cancelling_decided, IsPolls, taking_decided}
+use Rattle.mutex_machine.proofs.Callers.{holding_holds}
+use Rattle.mutex_machine.proofs.Seen as sees
+use Rattle.rwlock_machine.specs.declared.program.Found.{Found}
+use Rattle.rwlock_machine.specs.declared.program.Found.TheVariants.{Turn}
+use Rattle.rwlock_machine.specs.declared.program.Ending.TheVariants as ending
+use Rattle.rwlock_machine.specs.declared.program.Purpose.{Purpose}
+use Rattle.rwlock_machine.specs.declared.program.Purpose.TheVariants as purpose
+use Rattle.rwlock_machine.specs.declared.program.Place.{Place}
+use Rattle.rwlock_machine.specs.declared.program.Place.TheVariants as place
+use Rattle.rwlock_machine.specs.Program.{action_of, next_of, place_after, after_lock, after_turn}
+use Rattle.rwlock_machine.specs.Roles.{in_no_writer, in_no_readers, fits_turn}
+use Rattle.rwlock_machine.specs.Turns.{OnTurn, TurnBegins, TurnGoesOn}
+use Rattle.rwlock_machine.specs.Machine.{RwLock}
+use Rattle.rwlock_machine.specs.Acts.{IsRwLock}
+use Rattle.rwlock_machine.proofs.Leads.{Led, Ends, steps_in_turn}
+use Rattle.rwlock_world.specs.declared.world.table.Sought.{Sought}
+use Rattle.rwlock_world.specs.Changes.{Change, ListName}
+use Rattle.rwlock_world.specs.State.{World, told_in}
+use Rattle.rwlock_world.specs.Legal.{IsCause}
+use Rattle.rwlock_world.specs.Plans.{course_of, course_until, polls, tries, drops}
+use Rattle.rwlock_world.specs.View.{is_reading, verdict, verdict_until, refused_by, seen}
+use Rattle.rwlock_world.proofs.Rows.{verdict_then, TurnRow, turn_row}
+use Rattle.rwlock_world.proofs.Facts.{WaitsIn, JudgedAs, Facts, Known}
+use Rattle.rwlock_world.proofs.TurnSteps.{TurnDid, TurnMoved, moved, left}
+use Rattle.rwlock_world.proofs.Views as view
+
+-- ---- what a step of a poll decides there decides the call, but that the turn was got
+
+abbrev pub poll_says : Option TurnEnd → Option Answer
+poll_says (Some turn_end.Pending) = Some answer.Pending
+poll_says (Some (turn_end.Refused r)) = Some (refused r)
+poll_says _ = None
+
+says_refused : (o : Option TurnEnd) → IsPolls o → refused_by o ≡ poll_says o
+says_refused o (inl e) = rw e refl
+says_refused o (inr (inl e)) = rw e refl
+says_refused o (inr (inr h)) = rw h.1 refl
+
+never_pending : (o : Option TurnEnd) → IsPolls o → o ≡ Some turn_end.Pending → ⊥
+never_pending o (inl e) h = absurd (cc)
+never_pending o (inr (inl e)) h = absurd (cc)
+never_pending o (inr (inr r)) h = let e = r.1 in absurd (cc)
+
+now_polled : (v : ℕ) (u : TurnPlace) (pr : Purpose) (tn : TurnNext) → Takes tn u → verdict_then v polls u (after_lock pr (Turn tn)) ≡ poll_says (decided_then tn u)
+now_polled v u pr (turn_next.Do a q) h = says_refused (decision u) (taking_decided u h)
+now_polled v u purpose.UpgradableRead (turn_next.End turn_end.Got) h = refl
+now_polled v u purpose.Write (turn_next.End turn_end.Got) h = refl
+now_polled v u pr (turn_next.End turn_end.Pending) h = refl
+now_polled v u pr (turn_next.End (turn_end.Refused refusal.Memory)) h = refl
+now_polled v u pr (turn_next.End (turn_end.Refused refusal.Starved)) h = refl
+now_polled v u pr (turn_next.End _) h = absurd h
+
+now_cancelled : (v : ℕ) (u : TurnPlace) (tn : TurnNext) → Cancels tn u → (verdict_then v drops u (after_turn place.CancelTurn (Turn tn)) ≡ Some answer.GivenBack) × (verdict_then v drops u (after_turn place.CancellingTurn (Turn tn)) ≡ Some answer.GivenBack)
+now_cancelled v u (turn_next.Do a q) h = (refl, refl)
+now_cancelled v u (turn_next.End turn_end.GivenBack) h = (refl, refl)
+now_cancelled v u (turn_next.End _) h = absurd h
+
+now_given_back : (v : ℕ) (u : TurnPlace) (e : _) → (verdict_then v (course_until e) u (after_turn (place.ReleaseTurn e) (Turn (turn_next.End turn_end.GivenBack))) ≡ Some (verdict_until e)) × (verdict_then v (course_until e) u (after_turn (place.ReleasingTurn e) (Turn (turn_next.End turn_end.GivenBack))) ≡ Some (verdict_until e))
+now_given_back v u ending.GivenBack = (refl, refl)
+now_given_back v u ending.NotFree = (refl, refl)
+now_given_back v u ending.RefuseReaders = (refl, refl)
+now_given_back v u ending.RefuseMemory = (refl, refl)
+now_given_back v u ending.Reading = (refl, refl)
+now_given_back v u ending.NotifyReaders = (refl, refl)
+
+now_released : (v : ℕ) (u : TurnPlace) (e : _) (tn : TurnNext) → Releases tn u → verdict_then v (course_until e) u (after_turn (place.ReleaseTurn e) (Turn tn)) ≡ Some (verdict_until e)
+now_released v u e (turn_next.Do a q) h = refl
+now_released v u e (turn_next.End turn_end.GivenBack) h = (now_given_back v u e).0
+now_released v u e (turn_next.End _) h = absurd h
+
+now_releasing : (v : ℕ) (u : TurnPlace) (e : _) (tn : TurnNext) → Ends tn u → verdict_then v (course_until e) u (after_turn (place.ReleasingTurn e) (Turn tn)) ≡ Some (verdict_until e)
+now_releasing v u e (turn_next.End turn_end.GivenBack) h = (now_given_back v u e).1
+now_releasing v u e (turn_next.End _) h = absurd h
+now_releasing v u e (turn_next.Do a q) h = absurd h
+
+released_free : (u : TurnPlace) (tn : TurnNext) → Releases tn u → holds u ≡ 0
+released_free u (turn_next.Do a q) h = releasing_free u h
+released_free u (turn_next.End turn_end.GivenBack) h = out_free u (ap is_out h)
+released_free u (turn_next.End _) h = absurd h
+
+module _ (m : Move) (l k : RwLock) (ss : List Stage) (os : List (Option Sought)) (ts : List Stage) (ps : List (Option Sought)) (v : ℕ) (afterwards : IsRwLock k) where
+  abbrev p : ℕ
+  p = m.party
+
+  abbrev t : TurnPlace
+  t = turn_at l.turn.places p
+
+  abbrev u : TurnPlace
+  u = turn_at k.turn.places p
+
+  abbrev memory : Bool
+  memory = (inputs_of m.what).memory
+
+  abbrev starving : Bool
+  starving = (inputs_of m.what).starving
+
+  abbrev old : World
+  old = seen l ss os v
+
+  abbrev new : World
+  new = seen k ts ps v
+
+  abbrev Judges : Place → Deed Change ListName → Option Answer → Option Answer → Type 0
+  Judges to d was now = JudgedAs m old k new v to d was now
+
+  facts : (x : Place) (f : Found) (c : Known m l k ss os x f) → TurnRow v x f → (decided : Option TurnEnd) (n : TurnNext) (did : TurnDid memory p decided n l.turn k.turn) (mv : TurnMoved p l k old did.legal.deed) → k.no_writer ≡ l.no_writer → k.no_readers ≡ l.no_readers
+      → Judges (place_after (next_of x f)) mv.deed (verdict v x t) (verdict_then v (course_of x) u (next_of x f)) → Facts m l k ss os ts ps v x (next_of x f)
+  facts x f c row decided n did mv nw nr judged = record {
+    deed = mv.deed;
+    readers = ap (map is_reading) c.places ∙ (map-set_same is_reading l.places p (place_after (next_of x f)) place.Out (row.reading ∙ ap (λ (n : ℕ). n == 1) c.same.reading) ∙ sym (mv.readers (map is_reading l.places)));
+    turn = mv.turn;
+    starved = mv.starved;
+    valued = mv.valued v;
+    allowed = mv.allowed;
+    turn_list = mv.turn_list;
+    no_readers = nr ∙ sym (mv.no_readers l.no_readers);
+    no_writer = nw ∙ sym (mv.no_writer l.no_writer);
+    starved_limit = did.legal.limit;
+    others = did.legal.others;
+    judged = judged;
+    over = row.over;
+    upgrade = row.upgrade;
+    refused = row.refused;
+  }
+
+  -- a refusal in the turn has its cause
+  cause : (x : Place) (f : Found) (c : Known m l k ss os x f) → in_no_writer x ≡ 0 → in_no_readers x ≡ 0 → k.no_writer ≡ l.no_writer → k.no_readers ≡ l.no_readers → (r : Refusal) → IsReason memory p l.turn k.turn (turn_end.Refused r) → IsCause old m new r
+  cause x f c ew er nw nr refusal.Memory h = (h.0, omega (arith, h.1, c.laws.owners_no_writer p, c.laws.owners_no_readers p, c.same.standing_w, c.same.standing_r, ew, er), h.2, nr, nw)
+  cause x f c ew er nw nr refusal.Starved h = view.how_many-starved l.turn.places ∙ h
+  cause x f c ew er nw nr refusal.Readers h = absurd h
+  cause x f c ew er nw nr refusal.Permits h = absurd h
+  cause x f c ew er nw nr refusal.Generations h = absurd h
+  cause x f c ew er nw nr refusal.Finished h = absurd h
+
+  waits_then : (pr : Purpose) (tn : TurnNext) → Takes tn u → decided_then tn u ≡ Some turn_end.Pending → told_in k.turn.entries p ≡ Some Waiting → WaitsIn k p (place_after (after_lock pr (Turn tn)))
+  waits_then pr (turn_next.Do a q) h e w = absurd (never_pending (decision u) (taking_decided u h) e)
+  waits_then pr (turn_next.End turn_end.Pending) h e w = w
+  waits_then pr (turn_next.End turn_end.Got) h e w = absurd (cc)
+  waits_then pr (turn_next.End turn_end.NotFree) h e w = absurd h
+  waits_then pr (turn_next.End turn_end.GivenBack) h e w = absurd h
+  waits_then pr (turn_next.End (turn_end.Refused r)) h e w = absurd (cc)
+
+  -- a poll that wasn't decided there
+  undecided : (to : Place) (d : Deed Change ListName) (o : Option TurnEnd) → ((e : TurnEnd) → o ≡ Some e → IsReason memory p l.turn k.turn e) → ((r : Refusal) → IsReason memory p l.turn k.turn (turn_end.Refused r) → IsCause old m new r)
+      → (o ≡ Some turn_end.Pending → told_in k.turn.entries p ≡ Some Waiting → WaitsIn k p to) → Judges to d None (poll_says o)
+  undecided to d None why causes waits = tt
+  undecided to d (Some turn_end.Got) why causes waits = tt
+  undecided to d (Some turn_end.NotFree) why causes waits = tt
+  undecided to d (Some turn_end.GivenBack) why causes waits = tt
+  undecided to d (Some turn_end.Pending) why causes waits = waits refl (why turn_end.Pending refl)
+  undecided to d (Some (turn_end.Refused r)) why causes waits = (r, refl, causes r (why (turn_end.Refused r) refl))
+
+  polled : (pr : Purpose) (tn : TurnNext) (decided : Option TurnEnd) (did : TurnDid memory p decided tn l.turn k.turn) (mv : TurnMoved p l k old did.legal.deed) → IsPolls decided → Takes tn u → ((r : Refusal) → IsReason memory p l.turn k.turn (turn_end.Refused r) → IsCause old m new r)
+      → Judges (place_after (after_lock pr (Turn tn))) mv.deed (refused_by decided) (verdict_then v polls u (after_lock pr (Turn tn)))
+  polled pr tn decided did mv dec takes causes =
+      let to : Place = place_after (after_lock pr (Turn tn)) in
+      let P : Option Answer → Type 0 = λ o. Judges to mv.deed (refused_by decided) o in
+      subst P (sym (now_polled v u pr tn takes)) (by_decided dec) where
+        by_decided : IsPolls decided → Judges (place_after (after_lock pr (Turn tn))) mv.deed (refused_by decided) (poll_says (decided_then tn u))
+        by_decided (inl e) =
+            let Q : Option TurnEnd → Type 0 = λ o. Judges (place_after (after_lock pr (Turn tn))) mv.deed (refused_by o) (poll_says (decided_then tn u)) in
+            subst Q (sym e) (undecided (place_after (after_lock pr (Turn tn))) mv.deed (decided_then tn u) (λ b y. did.legal.reason b e y) causes (waits_then pr tn takes))
+        by_decided (inr (inl e)) =
+            let kept = did.legal.kept turn_end.Got e in
+            rw (e, kept.0) tt
+        by_decided (inr (inr h)) =
+            let kept = did.legal.kept (turn_end.Refused h.0) h.1 in
+            rw (h.1, kept.0) (refl, mv.parting kept.1)
+
+  tried : (pr : Purpose) (tn : TurnNext) (d : Deed Change ListName) → Tries tn u → Judges (place_after (after_turn (place.TryTurn pr) (Turn tn))) d None (verdict_then v tries u (after_turn (place.TryTurn pr) (Turn tn)))
+  tried purpose.UpgradableRead (turn_next.End turn_end.Got) d h = tt
+  tried purpose.Write (turn_next.End turn_end.Got) d h = tt
+  tried pr (turn_next.End turn_end.NotFree) d h = tt
+  tried pr (turn_next.End _) d h = absurd h
+  tried pr (turn_next.Do a q) d h = absurd h
+
+  begun : (c : LockCall) (n : TurnNext) → TurnBegins memory p c n l.turn k.turn → TurnDid memory p (decided_by c) n l.turn k.turn
+  begun c n b = record { legal = b.legal; fair = b.fair }
+
+  gone_on : (n : TurnNext) → TurnGoesOn memory starving p n l.turn k.turn → TurnDid memory p (decision t) n l.turn k.turn
+  gone_on n b = record { legal = b.legal; fair = b.fair }
+
+  pub on_turn : (x : Place) (f : Found) → Known m l k ss os x f → steps_in_turn x ≡ true → OnTurn memory starving p (action_of x) f l.turn k.turn → Led x f u → fits_turn x t ≡ true → Facts m l k ss os ts ps v x (next_of x f)
+  on_turn (place.EnterTurn pr) (Turn tn) c s o e fit =
+      let row = turn_row v u (place.EnterTurn pr) (Turn tn) s e in
+      let did = begun turn_call.Lock tn o in
+      let mv = moved m l k ss os ts ps v (place.EnterTurn pr) (Turn tn) c afterwards row.sharing None tn did refl in
+      facts (place.EnterTurn pr) (Turn tn) c row None tn did mv c.no_writer c.no_readers (polled pr tn None did mv (inl refl) e (cause (place.EnterTurn pr) (Turn tn) c refl refl c.no_writer c.no_readers))
+  on_turn (place.EnterTurn pr) _ c s o e fit = absurd o
+  on_turn (place.WaitTurn pr) (Turn tn) c s o e fit =
+      let row = turn_row v u (place.WaitTurn pr) (Turn tn) s e in
+      let did = begun turn_call.Poll tn o in
+      let mv = moved m l k ss os ts ps v (place.WaitTurn pr) (Turn tn) c afterwards row.sharing None tn did refl in
+      facts (place.WaitTurn pr) (Turn tn) c row None tn did mv c.no_writer c.no_readers (polled pr tn None did mv (inl refl) e (cause (place.WaitTurn pr) (Turn tn) c refl refl c.no_writer c.no_readers))
+  on_turn (place.WaitTurn pr) _ c s o e fit = absurd o
+  on_turn (place.TakeTurn pr) (Turn tn) c s o e fit =
+      let row = turn_row v u (place.TakeTurn pr) (Turn tn) s e in
+      let did = gone_on tn o in
+      let mv = moved m l k ss os ts ps v (place.TakeTurn pr) (Turn tn) c afterwards row.sharing (decision t) tn did refl in
+      facts (place.TakeTurn pr) (Turn tn) c row (decision t) tn did mv c.no_writer c.no_readers (polled pr tn (decision t) did mv (taking_decided t fit) e (cause (place.TakeTurn pr) (Turn tn) c refl refl c.no_writer c.no_readers))
+  on_turn (place.TakeTurn pr) _ c s o e fit = absurd o
+  on_turn (place.TryTurn pr) (Turn tn) c s o e fit =
+      let row = turn_row v u (place.TryTurn pr) (Turn tn) s e in
+      let did = begun turn_call.Try tn o in
+      let mv = moved m l k ss os ts ps v (place.TryTurn pr) (Turn tn) c afterwards row.sharing None tn did refl in
+      facts (place.TryTurn pr) (Turn tn) c row None tn did mv c.no_writer c.no_readers (tried pr tn mv.deed e)
+  on_turn (place.TryTurn pr) _ c s o e fit = absurd o
+  on_turn place.CancelTurn (Turn tn) c s o e fit =
+      let row = turn_row v u place.CancelTurn (Turn tn) s e in
+      let did = begun turn_call.Cancel tn o in
+      let mv = moved m l k ss os ts ps v place.CancelTurn (Turn tn) c afterwards row.sharing (Some turn_end.GivenBack) tn did refl in
+      facts place.CancelTurn (Turn tn) c row (Some turn_end.GivenBack) tn did mv c.no_writer c.no_readers ((now_cancelled v u tn e).0, mv.parting (did.legal.kept turn_end.GivenBack refl).1)
+  on_turn place.CancelTurn _ c s o e fit = absurd o
+  on_turn place.CancellingTurn (Turn tn) c s o e fit =
+      let row = turn_row v u place.CancellingTurn (Turn tn) s e in
+      let did = gone_on tn o in
+      let mv = moved m l k ss os ts ps v place.CancellingTurn (Turn tn) c afterwards row.sharing (decision t) tn did refl in
+      facts place.CancellingTurn (Turn tn) c row (decision t) tn did mv c.no_writer c.no_readers ((now_cancelled v u tn e).1, mv.parting (did.legal.kept turn_end.GivenBack (cancelling_decided t fit)).1)
+  on_turn place.CancellingTurn _ c s o e fit = absurd o
+  on_turn (place.ReleaseTurn ending.Reading) (Turn tn) c s o e fit =
+      let row = turn_row v u (place.ReleaseTurn ending.Reading) (Turn tn) s e in
+      let did = begun turn_call.Release tn o in
+      let held : holder_of l.turn ≡ Some p = sees.holds_it l.turn.places p c.laws.turn.one_holder (holding_holds t fit) in
+      let mv = left m l k ss os ts ps v (place.ReleaseTurn ending.Reading) (Turn tn) c afterwards row.sharing (Some turn_end.GivenBack) tn did refl held (released_free u tn e) in
+      facts (place.ReleaseTurn ending.Reading) (Turn tn) c row (Some turn_end.GivenBack) tn did mv c.no_writer c.no_readers (now_released v u ending.Reading tn e, mv.parting (did.legal.kept turn_end.GivenBack refl).1)
+  on_turn (place.ReleaseTurn ending.GivenBack) (Turn tn) c s o e fit =
+      let row = turn_row v u (place.ReleaseTurn ending.GivenBack) (Turn tn) s e in
+      let did = begun turn_call.Release tn o in
+      let mv = moved m l k ss os ts ps v (place.ReleaseTurn ending.GivenBack) (Turn tn) c afterwards row.sharing (Some turn_end.GivenBack) tn did refl in
+      facts (place.ReleaseTurn ending.GivenBack) (Turn tn) c row (Some turn_end.GivenBack) tn did mv c.no_writer c.no_readers (now_released v u ending.GivenBack tn e, mv.parting (did.legal.kept turn_end.GivenBack refl).1)
+  on_turn (place.ReleaseTurn ending.NotFree) (Turn tn) c s o e fit =
+      let row = turn_row v u (place.ReleaseTurn ending.NotFree) (Turn tn) s e in
+      let did = begun turn_call.Release tn o in
+      let mv = moved m l k ss os ts ps v (place.ReleaseTurn ending.NotFree) (Turn tn) c afterwards row.sharing (Some turn_end.GivenBack) tn did refl in
+      facts (place.ReleaseTurn ending.NotFree) (Turn tn) c row (Some turn_end.GivenBack) tn did mv c.no_writer c.no_readers (now_released v u ending.NotFree tn e, mv.parting (did.legal.kept turn_end.GivenBack refl).1)
+  on_turn (place.ReleaseTurn ending.RefuseReaders) (Turn tn) c s o e fit =
+      let row = turn_row v u (place.ReleaseTurn ending.RefuseReaders) (Turn tn) s e in
+      let did = begun turn_call.Release tn o in
+      let mv = moved m l k ss os ts ps v (place.ReleaseTurn ending.RefuseReaders) (Turn tn) c afterwards row.sharing (Some turn_end.GivenBack) tn did refl in
+      facts (place.ReleaseTurn ending.RefuseReaders) (Turn tn) c row (Some turn_end.GivenBack) tn did mv c.no_writer c.no_readers (now_released v u ending.RefuseReaders tn e, mv.parting (did.legal.kept turn_end.GivenBack refl).1)
+  on_turn (place.ReleaseTurn ending.RefuseMemory) (Turn tn) c s o e fit =
+      let row = turn_row v u (place.ReleaseTurn ending.RefuseMemory) (Turn tn) s e in
+      let did = begun turn_call.Release tn o in
+      let mv = moved m l k ss os ts ps v (place.ReleaseTurn ending.RefuseMemory) (Turn tn) c afterwards row.sharing (Some turn_end.GivenBack) tn did refl in
+      facts (place.ReleaseTurn ending.RefuseMemory) (Turn tn) c row (Some turn_end.GivenBack) tn did mv c.no_writer c.no_readers (now_released v u ending.RefuseMemory tn e, mv.parting (did.legal.kept turn_end.GivenBack refl).1)
+  on_turn (place.ReleaseTurn ending.NotifyReaders) (Turn tn) c s o e fit =
+      let row = turn_row v u (place.ReleaseTurn ending.NotifyReaders) (Turn tn) s e in
+      let did = begun turn_call.Release tn o in
+      let mv = moved m l k ss os ts ps v (place.ReleaseTurn ending.NotifyReaders) (Turn tn) c afterwards row.sharing (Some turn_end.GivenBack) tn did refl in
+      facts (place.ReleaseTurn ending.NotifyReaders) (Turn tn) c row (Some turn_end.GivenBack) tn did mv c.no_writer c.no_readers (now_released v u ending.NotifyReaders tn e, mv.parting (did.legal.kept turn_end.GivenBack refl).1)
+  on_turn (place.ReleaseTurn q) _ c s o e fit = absurd o
+  on_turn (place.ReleasingTurn q) (Turn tn) c s o e fit =
+      let row = turn_row v u (place.ReleasingTurn q) (Turn tn) s e in
+      let did = gone_on tn o in
+      let mv = moved m l k ss os ts ps v (place.ReleasingTurn q) (Turn tn) c afterwards row.sharing (decision t) tn did refl in
+      facts (place.ReleasingTurn q) (Turn tn) c row (decision t) tn did mv c.no_writer c.no_readers (now_releasing v u q tn e, mv.parting (did.legal.kept turn_end.GivenBack (releasing_decided t fit)).1)
+  on_turn (place.ReleasingTurn q) _ c s o e fit = absurd o
+  on_turn _ f c s o e fit = absurd (cc)

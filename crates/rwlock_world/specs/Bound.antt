@@ -1,0 +1,108 @@
+-- How often what is free may be passed over: whole polls of notified parties, one after the other, each carried out while the others stand still.
+use Rattle.std.specs.Prelude.{◌≡◌, ◌≢◌, ℕ, ◌<◌, ◌⊎◌, true, false, List}
+use Rattle.lock_event.specs.declared.event.Entry.{Entry}
+use Rattle.lock_queue.specs.Parties.{entries_of}
+use Rattle.lock_world.specs.declared.moves.Answer.{Answer}
+use Rattle.lock_world.specs.declared.moves.Answer.TheVariants as answer
+use Rattle.lock_world.specs.declared.moves.Call.TheVariants as call
+use Rattle.lock_world.specs.declared.moves.Got.TheVariants.{Value}
+use Rattle.lock_world.specs.declared.moves.Inputs.{Inputs}
+use Rattle.lock_world.specs.declared.standing.Rest.TheVariants.{Pending}
+use Rattle.lock_world.specs.Rosters.{how_many}
+use Rattle.lock_world.specs.Standings.{outside}
+use Rattle.lock_world.specs.Bounds as bounds
+use Rattle.rwlock_world.specs.State.{nobody, is_upgradable, waits_to_write, writes, World, standing_of, reads, is_starved, how_many_read, is_marked, HasTurn}
+use Rattle.rwlock_world.specs.Laws.{is_at_rest}
+use Rattle.rwlock_world.specs.Whole.{IsWholeCall}
+
+-- ---- Solo polls
+
+-- A solo poll for the turn, or to read, is of a pending party whose entry in that list is marked, and it finds memory.
+abbrev pub IsSoloForTurn : World → ℕ → Inputs → Type 0
+IsSoloForTurn w p inputs = bounds.IsSolo (standing_of w p) w.turn_list p inputs
+
+abbrev pub IsSoloToRead : World → ℕ → Inputs → Type 0
+IsSoloToRead w p inputs = bounds.IsSolo (standing_of w p) w.no_writer p inputs
+
+-- A solo poll to write is of a pending party that has an entry among those that wait until no reader is left, marked or not: it looks for readers first.
+pub record IsSoloToWrite (w : World) (p : ℕ) (inputs : Inputs) : Type 0 where
+  pub pending : standing_of w p ≡ outside Pending
+  pub listed : 0 < entries_of p w.no_readers
+  pub memory : inputs.memory ≡ true
+
+-- ---- What they do
+
+-- The poll took the turn: it is ready, and its party is upgradable or writes; or it is pending, and its party waits to write.
+pub record TakesTurn (w : World) (p : ℕ) (a : Answer) (v : World) : Type 0 where
+  pub has_turn : HasTurn v.state.turn p
+  pub kept : v.state.value ≡ w.state.value
+  pub answered : ((a ≡ answer.Ready (Value v.state.value)) × ((v.state.turn ≡ is_upgradable p) ⊎ (v.state.turn ≡ writes p))) ⊎ ((a ≡ answer.Pending) × (v.state.turn ≡ waits_to_write p))
+
+-- The poll left the turn to nobody and gave way to a starved party: it is pending again, with one entry less in the list of a party that isn't starved. Whoever read reads, and a World at rest stays at rest.
+pub record GivesTurnWay (w : World) (p : ℕ) (a : Answer) (v : World) : Type 0 where
+  pub free : v.state.turn ≡ nobody
+  pub pending : a ≡ answer.Pending
+  pub gave_way : bounds.GaveWay p w.state.starved w.turn_list v.state.starved v.turn_list
+  pub readers : v.state.readers ≡ w.state.readers
+  pub rests : is_at_rest w ≡ true → is_at_rest v ≡ true
+
+-- What a solo poll does to a free turn, while readers are below their limit: it takes it or gives way, unless the limit of starved parties is met; and whatever that limit, it takes it if its party is starved, or if nobody is.
+pub record SoloPollForTurn (w : World) (p : ℕ) (a : Answer) (v : World) : Type 0 where
+  pub takes_or_gives_way : how_many w.state.starved < w.starved_limit → TakesTurn w p a v ⊎ GivesTurnWay w p a v
+  pub takes : (is_starved w p ≡ true) ⊎ (how_many w.state.starved ≡ 0) → TakesTurn w p a v
+
+-- The poll is ready with the value as it was, and its party reads.
+pub record TakesToRead (w : World) (p : ℕ) (a : Answer) (v : World) : Type 0 where
+  pub ready : a ≡ answer.Ready (Value v.state.value)
+  pub kept : v.state.value ≡ w.state.value
+  pub reads : reads v p ≡ true
+
+-- The poll is ready with the value as it was, and its party writes.
+pub record TakesToWrite (w : World) (p : ℕ) (a : Answer) (v : World) : Type 0 where
+  pub ready : a ≡ answer.Ready (Value v.state.value)
+  pub kept : v.state.value ≡ w.state.value
+  pub writes : v.state.turn ≡ writes p
+
+-- ---- Polls that pass over what is free
+
+-- A whole solo poll that doesn't take the turn, while neither limit is met; `free` is what each solo poll of a free turn does.
+pub record PassesTurnOver (w : World) (p : ℕ) (inputs : Inputs) (a : Answer) (v : World) : Type 0 where
+  pub solo : IsSoloForTurn w p inputs
+  pub starved_limit : how_many w.state.starved < w.starved_limit
+  pub readers_limit : how_many_read w < w.readers_limit
+  pub whole : IsWholeCall w p call.Poll inputs a v
+  pub free : w.state.turn ≡ nobody → how_many_read w < w.readers_limit → SoloPollForTurn w p a v
+  pub not_taken : HasTurn v.state.turn p → ⊥
+
+-- A whole solo poll after which its party doesn't read, while readers are below their limit.
+pub record PassesReadingOver (w : World) (p : ℕ) (inputs : Inputs) (a : Answer) (v : World) : Type 0 where
+  pub solo : IsSoloToRead w p inputs
+  pub readers_limit : how_many_read w < w.readers_limit
+  pub whole : IsWholeCall w p call.Poll inputs a v
+  pub free : is_marked w.state.turn ≡ false → how_many_read w < w.readers_limit → TakesToRead w p a v
+  pub not_taken : reads v p ≡ false
+
+-- A whole solo poll after which its party doesn't write.
+pub record PassesWritingOver (w : World) (p : ℕ) (inputs : Inputs) (a : Answer) (v : World) : Type 0 where
+  pub solo : IsSoloToWrite w p inputs
+  pub whole : IsWholeCall w p call.Poll inputs a v
+  pub free : how_many_read w ≡ 0 → TakesToWrite w p a v
+  pub not_taken : v.state.turn ≢ writes p
+
+-- ---- What holds at rest
+
+-- Where somebody waits for a free turn, some entry is marked, of a party that is pending, or was when it was forgotten; and fewer solo polls in turn pass the turn over than the list has entries, so that among as many one takes it.
+pub record IsTurnBounded (w : World) : Type 0 where
+  pub some_marked : bounds.SomeMarked (standing_of w) w.turn_list
+  pub one_takes : bounds.OneTakes PassesTurnOver (λ v. v.turn_list) w
+
+-- Where somebody waits in another list for what is free, some entry there is marked, too; and no solo poll passes it over.
+pub record IsTakenAtOnce (PassesOver : World → ℕ → Inputs → Answer → World → Type 0) (list : List (Entry ℕ)) (w : World) : Type 0 where
+  pub some_marked : bounds.SomeMarked (standing_of w) list
+  pub none_passes : (p : ℕ) (inputs : Inputs) (a : Answer) (v : World) → PassesOver w p inputs a v → ⊥
+
+abbrev pub IsReadingBounded : World → Type 0
+IsReadingBounded w = IsTakenAtOnce PassesReadingOver w.no_writer w
+
+abbrev pub IsWritingBounded : World → Type 0
+IsWritingBounded w = IsTakenAtOnce PassesWritingOver w.no_readers w

@@ -1,0 +1,220 @@
+-- What one move may do to a read-write lock, and how it may be answered.
+use Rattle.std.specs.Prelude.{◌≡◌, ◌≢◌, ℕ, ◌<◌, ◌≤◌, ◌==◌, ◌&&◌, ◌||◌, ◌↔◌, ◌⊎◌, if◌then◌else◌, not, nat_lt, Bool, true, false, List, length, Option, Some, None, slice_set}
+use Rattle.lock_event.specs.declared.event.Entry.{Entry}
+use Rattle.lock_event.specs.declared.event.Mark.TheVariants.{Waiting}
+use Rattle.lock_world.specs.declared.moves.Answer.{Answer}
+use Rattle.lock_world.specs.declared.moves.Answer.TheVariants as answer
+use Rattle.lock_world.specs.declared.moves.Call.{Call}
+use Rattle.lock_world.specs.declared.moves.Call.TheVariants as call
+use Rattle.lock_world.specs.declared.moves.Got.TheVariants.{Value}
+use Rattle.lock_world.specs.declared.moves.Move.{Move}
+use Rattle.lock_world.specs.declared.moves.What.{What}
+use Rattle.lock_world.specs.declared.moves.What.TheVariants.{Begin}
+use Rattle.lock_world.specs.declared.refusal.Refusal.{Refusal}
+use Rattle.lock_world.specs.declared.refusal.Refusal.TheVariants as refusal
+use Rattle.lock_world.specs.declared.standing.Kind.TheVariants as kind
+use Rattle.lock_world.specs.declared.standing.Rest.TheVariants.{Idle, Pending, Holding, Finished}
+use Rattle.lock_world.specs.declared.standing.Within.{Within}
+use Rattle.lock_world.specs.Accounts.{sought_after}
+use Rattle.lock_world.specs.Frame as frame
+use Rattle.lock_world.specs.Frame.{is_drop, is_refusal, put_in}
+use Rattle.lock_world.specs.Rights.{Right, read, upgradable, write}
+use Rattle.lock_world.specs.Rosters.{how_many}
+use Rattle.lock_world.specs.Standings.{Standing, outside, inside, inputs_of, is_possible, is_decided}
+use Rattle.lock_world.specs.Steps.{Deed}
+use Rattle.rwlock_world.specs.State.{Turn, passes, is_upgradable, waits_to_write, writes, World, standing_of, sought_by, reads, how_many_read, is_marked, is_turn_free, HasTurn, entries_in, told_in, is_upgrader, IsClear}
+use Rattle.rwlock_world.specs.Changes.{Change, ListName, state_after, turn_list_after, no_readers_after, no_writer_after, IsAllowed, gives_back}
+
+-- The calls of a read-write lock, by the right that the party's guard is for: a guard's own calls are known of that guard alone.
+abbrev pub knows : Option Right → Call → Bool
+knows s call.Read = true
+knows s call.UpgradableRead = true
+knows s call.Write = true
+knows s call.TryRead = true
+knows s call.TryUpgradableRead = true
+knows s call.TryWrite = true
+knows s call.Poll = true
+knows s call.Drop = true
+knows (Some upgradable) call.Upgrade = true
+knows (Some upgradable) call.TryUpgrade = true
+knows (Some upgradable) call.Downgrade = true
+knows (Some write) call.Downgrade = true
+knows (Some write) call.DowngradeToUpgradable = true
+knows (Some write) (call.Put v) = true
+knows s _ = false
+
+abbrev pub knows_of : World → ℕ → Call → Bool
+knows_of w p = knows (sought_by w p)
+
+-- The call that a move belongs to, where its party may make it.
+abbrev pub call_of : World → Move → Option Within
+call_of = frame.call_of standing_of knows_of
+
+-- The step from old to new decides its party's call on this answer.
+abbrev pub DecidesOn : World → Move → Answer → World → Answer → Type 0
+DecidesOn = frame.DecidesOn standing_of
+
+-- ---- Which moves are possible
+
+abbrev pub IsPossible : World → Move → Answer → World → Type 0
+IsPossible = frame.IsPossible standing_of knows_of
+
+-- ---- What changes
+
+-- A move changes one thing of the state where it may, or does one list function, never both, and moves no other party.
+pub record ChangesOneThing (old : World) (m : Move) (a : Answer) (new : World) : Type 0 where
+  pub deed : Deed Change ListName
+  pub state : new.state ≡ state_after m.party deed old.state
+  pub allowed : IsAllowed m.party deed old
+  pub turn_list : new.turn_list ≡ turn_list_after m.party deed old.turn_list
+  pub no_readers : new.no_readers ≡ no_readers_after m.party deed old.no_readers
+  pub no_writer : new.no_writer ≡ no_writer_after m.party deed old.no_writer
+  pub starved_limit : new.starved_limit ≡ old.starved_limit
+  pub readers_limit : new.readers_limit ≡ old.readers_limit
+  pub opening_value : new.opening_value ≡ old.opening_value
+  pub sought : new.sought ≡ slice_set old.sought m.party (sought_after (sought_by old m.party) m.what a)
+  pub others : (q : ℕ) → q ≢ m.party → standing_of new q ≡ standing_of old q
+  pub parties : length new.standings ≡ length old.standings
+  pub parting : is_decided (standing_of old m.party) || is_drop m.what ≡ true → gives_back deed ≡ true
+
+-- ---- What parties have
+
+-- Just this right, and no other: a reader hasn't the turn, an upgradable party has it and reads, a writer has it and doesn't.
+abbrev pub HasJust : World → ℕ → Right → Type 0
+HasJust w p read = (reads w p ≡ true) × (HasTurn w.state.turn p → ⊥)
+HasJust w p upgradable = (reads w p ≡ true) × (w.state.turn ≡ is_upgradable p)
+HasJust w p write = (reads w p ≡ false) × (w.state.turn ≡ writes p)
+HasJust w p _ = ⊥
+
+-- The party has just the right that its call, future or guard is for.
+abbrev pub HasSought : World → ℕ → Type 0
+HasSought w p = (r : Right) × (sought_by w p ≡ Some r) × HasJust w p r
+
+abbrev pub HasNothing : World → ℕ → Type 0
+HasNothing w p = (reads w p ≡ false) × (HasTurn w.state.turn p → ⊥)
+
+-- Outside every call a guard has just its right, a future has nothing but that it may wait to write, and only a future is in a list or starved; and until its call is decided a party has no right.
+abbrev pub HasItsOwn : World → ℕ → Standing → Type 0
+HasItsOwn w p (outside Idle) = IsClear w p × HasNothing w p
+HasItsOwn w p (outside Finished) = IsClear w p × HasNothing w p
+HasItsOwn w p (outside Holding) = IsClear w p × HasSought w p
+HasItsOwn w p (outside Pending) = (reads w p ≡ false) × ((w.state.turn ≡ waits_to_write p) ⊎ ((HasTurn w.state.turn p → ⊥) × (is_upgrader w p ≡ false)))
+HasItsOwn w p (inside within None) = (reads w p ≡ false) × (w.state.turn ≢ is_upgradable p) × (w.state.turn ≢ writes p)
+HasItsOwn w p _ = Unit {0}
+
+-- Each party has what its standing says; and after a refusal its future is as when it was made, in no list, not starved and without the turn, but that of an upgrade, which goes on waiting to write.
+pub record LeavesClear (old : World) (m : Move) (a : Answer) (new : World) : Type 0 where
+  pub each : (p : ℕ) → HasItsOwn new p (standing_of new p)
+  pub refused : is_refusal a ≡ true → IsClear new m.party
+  pub gives_up_turn : is_refusal a ≡ true → is_upgrader old m.party ≡ false → HasTurn new.state.turn m.party → ⊥
+  pub keeps_turn : is_refusal a ≡ true → is_upgrader old m.party ≡ true → new.state.turn ≡ waits_to_write m.party
+
+-- ---- What an answer says, where its call is decided
+
+-- Ready and Granted carry the value, and their party has just the right that its call is for.
+pub record Carries (old : World) (m : Move) (a : Answer) (new : World) : Type 0 where
+  pub ready : (got : _) → DecidesOn old m a new (answer.Ready got) → (got ≡ Value new.state.value) × HasSought new m.party
+  pub granted : (got : _) → DecidesOn old m a new (answer.Granted got) → (got ≡ Value new.state.value) × HasSought new m.party
+
+-- The list in which a party waits for what it wants next: a read's until no writer is; an upgradable read's for the turn; a write's for the turn, and with it until no reader is left.
+abbrev pub list_for : Option Right → Turn → ℕ → World → List (Entry ℕ)
+list_for (Some read) t p w = w.no_writer
+list_for (Some write) (waits_to_write q) p w = if q == p then w.no_readers else w.turn_list
+list_for s t p w = w.turn_list
+
+-- Pending: the party stands waiting in the list of what it wants next.
+abbrev pub Waits : World → Move → Answer → World → Type 0
+Waits old m a new = DecidesOn old m a new answer.Pending → told_in (list_for (sought_by new m.party) new.state.turn m.party new) m.party ≡ Some Waiting
+
+-- Why a call may be refused: a join found no memory, for the move's input said so; there are as many starved parties, or readers, as there may be; or the future had been ready before.
+abbrev pub IsCause : World → Move → World → Refusal → Type 0
+IsCause old m new refusal.Memory = ((inputs_of m.what).memory ≡ false) × (entries_in old m.party ≡ 0) × (new.turn_list ≡ old.turn_list) × (new.no_readers ≡ old.no_readers) × (new.no_writer ≡ old.no_writer)
+IsCause old m new refusal.Starved = how_many old.state.starved ≡ old.starved_limit
+IsCause old m new refusal.Readers = old.readers_limit ≤ how_many_read old
+IsCause old m new refusal.Finished = new ≡ old
+IsCause old m new _ = ⊥
+
+abbrev pub IsRefusedForCause : World → Move → Answer → World → Type 0
+IsRefusedForCause = frame.IsRefusedForCause standing_of IsCause
+
+-- ---- The value
+
+-- A put of the writer is granted and leaves its value; nothing else changes the value.
+pub record IsValueKept (old : World) (m : Move) (a : Answer) (new : World) : Type 0 where
+  pub put : (v : ℕ) → put_in m.what ≡ Some v → is_possible a ≡ true → (a ≡ answer.Granted (Value v)) × (new.state.value ≡ v)
+  pub kept : (put_in m.what ≡ None) ⊎ (a ≡ answer.NotPossible) → new.state.value ≡ old.state.value
+
+-- ---- How a call ends
+
+abbrev pub EndsProperly : World → Move → Answer → World → Type 0
+EndsProperly = frame.EndsProperly standing_of knows_of Holding
+
+-- ---- Upgrades
+
+-- A future is an upgrade's from the answer Waiting on, as long as its calls aren't decided.
+pub record KeepsUpgrades (old : World) (m : Move) (a : Answer) (new : World) : Type 0 where
+  pub begins : a ≡ answer.Waiting → is_upgrader new m.party ≡ true
+  pub pending : a ≢ answer.Waiting → standing_of new m.party ≡ outside Pending → is_upgrader new m.party ≡ is_upgrader old m.party
+  pub undecided : (within : Within) → standing_of new m.party ≡ inside within None → is_upgrader new m.party ≡ is_upgrader old m.party
+  pub others : (q : ℕ) → q ≢ m.party → is_upgrader new q ≡ is_upgrader old q
+
+-- ---- The legal step
+
+-- From the old World the move may be answered so, and lead to the new World.
+pub record Legal (old : World) (m : Move) (a : Answer) (new : World) : Type 0 where
+  pub possible : IsPossible old m a new
+  pub one_change : ChangesOneThing old m a new
+  pub carries : Carries old m a new
+  pub waits : Waits old m a new
+  pub refused_for_cause : IsRefusedForCause old m a new
+  pub leaves_clear : LeavesClear old m a new
+  pub value_kept : IsValueKept old m a new
+  pub ends_properly : EndsProperly old m a new
+  pub keeps_upgrades : KeepsUpgrades old m a new
+
+-- ---- Immediate answers
+
+-- A reader may enter: nobody waits to write or writes, and there are fewer readers than there may be.
+abbrev pub may_read : World → Bool
+may_read w = not (is_marked w.state.turn) && nat_lt (how_many_read w) w.readers_limit
+
+abbrev pub granted_if : Bool → World → Answer
+granted_if b w = if b then answer.Granted (Value w.state.value) else answer.None
+
+-- A try that first takes the turn: an upgradable read's, or a write's.
+abbrev pub is_try_for_turn : What → Bool
+is_try_for_turn (Begin call.TryUpgradableRead inputs) = true
+is_try_for_turn (Begin call.TryWrite inputs) = true
+is_try_for_turn _ = false
+
+-- A party in such a try that has just taken the turn for this right.
+abbrev pub IsTryWithTurn : World → Move → Right → Type 0
+IsTryWithTurn w m r = (within : Within) × (standing_of w m.party ≡ inside within None) × (within.kind ≡ kind.Try) × (w.state.turn ≡ passes m.party) × (sought_by w m.party ≡ Some r)
+
+-- A first poll, or one after a refusal that left the future as when it was made, of a future for this right; n is the number of the party's entries.
+abbrev pub is_first_poll : Right → Standing → Option Right → What → ℕ → Bool
+is_first_poll read (outside Idle) s (Begin call.Read inputs) n = true
+is_first_poll read (outside Finished) s (Begin call.Read inputs) n = true
+is_first_poll read (outside Pending) (Some read) (Begin call.Poll inputs) n = n == 0
+is_first_poll upgradable (outside Idle) s (Begin call.UpgradableRead inputs) n = true
+is_first_poll upgradable (outside Finished) s (Begin call.UpgradableRead inputs) n = true
+is_first_poll upgradable (outside Pending) (Some upgradable) (Begin call.Poll inputs) n = n == 0
+is_first_poll write (outside Idle) s (Begin call.Write inputs) n = true
+is_first_poll write (outside Finished) s (Begin call.Write inputs) n = true
+is_first_poll write (outside Pending) (Some write) (Begin call.Poll inputs) n = n == 0
+is_first_poll r s _ what n = false
+
+abbrev pub is_first : World → Move → Right → Bool
+is_first w m r = is_first_poll r (standing_of w m.party) (sought_by w m.party) m.what (entries_in w m.party)
+
+-- The tries are granted exactly where the right is free. One that needs the turn takes it first, exactly where nobody has it and nobody is starved for it, and is granted at its next step exactly where readers are below their limit, or no reader is left. The first step of a first poll takes on the same condition as that of its try.
+pub record AnswersAtOnce (old : World) (m : Move) (a : Answer) (new : World) : Type 0 where
+  pub try_read : (inputs : _) → m.what ≡ Begin call.TryRead inputs → is_possible a ≡ true → a ≡ granted_if (may_read old) old
+  pub try_upgrade : (inputs : _) → m.what ≡ Begin call.TryUpgrade inputs → is_possible a ≡ true → a ≡ granted_if (how_many_read old == 1) old
+  pub try_turn : is_try_for_turn m.what ≡ true → is_possible a ≡ true
+      → (a ≡ (if is_turn_free old.state then answer.Stepped else answer.None)) × ((new.state.turn ≡ passes m.party) ↔ (is_turn_free old.state ≡ true))
+  pub try_upgradable : IsTryWithTurn old m upgradable → is_possible a ≡ true → (a ≡ answer.Granted (Value old.state.value)) ↔ (how_many_read old < old.readers_limit)
+  pub try_write : IsTryWithTurn old m write → is_possible a ≡ true → (a ≡ answer.Granted (Value old.state.value)) ↔ (how_many_read old ≡ 0)
+  pub first_read : is_first old m read ≡ true → (reads new m.party ≡ true) ↔ (may_read old ≡ true)
+  pub first_upgradable : is_first old m upgradable ≡ true → (new.state.turn ≡ passes m.party) ↔ (is_turn_free old.state ≡ true)
+  pub first_write : is_first old m write ≡ true → is_upgrader old m.party ≡ false → (new.state.turn ≡ passes m.party) ↔ (is_turn_free old.state ≡ true)

@@ -1,0 +1,162 @@
+-- How callers see what stands behind a read-write lock's World.
+use Rattle.std.specs.Prelude.{ℕ, ◌==◌, Bool, true, false, List, [], ◌∷◌, map, Option, Some, None}
+use Rattle.lock_world.specs.declared.refusal.Refusal.TheVariants.{Memory, Readers}
+use Rattle.lock_world.specs.declared.moves.Answer.{Answer}
+use Rattle.lock_world.specs.declared.moves.Answer.TheVariants as answer
+use Rattle.lock_world.specs.declared.moves.Got.TheVariants.{Value}
+use Rattle.lock_world.specs.declared.standing.Stage.{Stage}
+use Rattle.lock_world.specs.declared.standing.Stage.TheVariants.{Outside, Inside, Forgotten}
+use Rattle.lock_world.specs.Rights.{Right, read, upgradable, write}
+use Rattle.lock_world.specs.Standings.{Standing, outside, inside, forgotten, refused}
+use Rattle.mutex_machine.specs.declared.program.Place.{Place as TurnPlace}
+use Rattle.mutex_machine.specs.declared.program.End.{End as TurnEnd}
+use Rattle.mutex_machine.specs.declared.program.End.TheVariants as turn_end
+use Rattle.mutex_machine.specs.Legal.{decision}
+use Rattle.mutex_machine.specs.Machine.{place_at as turn_at}
+use Rattle.mutex_machine.specs.State.{holder_of, starved_of}
+use Rattle.rwlock_machine.specs.declared.program.Ending.{Ending}
+use Rattle.rwlock_machine.specs.declared.program.Ending.TheVariants as ending
+use Rattle.rwlock_machine.specs.declared.program.Place.{Place}
+use Rattle.rwlock_machine.specs.declared.program.Place.TheVariants as place
+use Rattle.rwlock_machine.specs.Roles as roles
+use Rattle.rwlock_machine.specs.Machine.{RwLock, place_at}
+use Rattle.rwlock_world.specs.declared.world.table.Sought.{Sought}
+use Rattle.rwlock_world.specs.declared.world.table.Sought.TheVariants as sought
+use Rattle.rwlock_world.specs.Table.{Table}
+use Rattle.rwlock_world.specs.State.{Turn, nobody, passes, is_upgradable, waits_to_write, writes, World}
+
+-- ---- The state
+
+-- for what a party has the turn
+pub data Share : Type 0 where
+  passing : Share
+  upgrading : Share
+  waiting : Share
+  writing : Share
+
+abbrev pub turn_as : ℕ → Share → Turn
+turn_as p passing = passes p
+turn_as p upgrading = is_upgradable p
+turn_as p waiting = waits_to_write p
+turn_as p writing = writes p
+
+-- for what a party has the turn that stands here, if it has it
+abbrev pub share_of : Place → Share
+share_of place.Upgradable = upgrading
+share_of place.TryUpgrade = upgrading
+share_of place.Upgrade = upgrading
+share_of place.DropUpgradable = upgrading
+share_of (place.ReleaseTurn ending.Reading) = upgrading
+share_of place.DownNotify = upgrading
+share_of (place.JoinNoReaders upgrade) = waiting
+share_of (place.LookNoReaders upgrade) = waiting
+share_of (place.AskNoReaders upgrade) = waiting
+share_of (place.AwaitNoReaders upgrade) = waiting
+share_of (place.LookUnlisted upgrade) = waiting
+share_of place.CancelAwait = waiting
+share_of (place.Unmark refused) = waiting
+share_of place.Writing = writing
+share_of place.LeaveNoReaders = writing
+share_of place.DropWrite = writing
+share_of (place.Down keeps) = writing
+share_of _ = passing
+
+abbrev pub turn_by : Option ℕ → List Place → Turn
+turn_by None ps = nobody
+turn_by (Some p) ps = turn_as p (share_of (place_at ps p))
+
+abbrev pub is_reading : Place → Bool
+is_reading x = roles.reads x == 1
+
+-- a party stands here whose future is an upgrade's
+abbrev pub is_upgrade : Place → Bool
+is_upgrade (place.JoinNoReaders upgrade) = upgrade
+is_upgrade (place.LookNoReaders upgrade) = upgrade
+is_upgrade (place.AskNoReaders upgrade) = upgrade
+is_upgrade (place.AwaitNoReaders upgrade) = upgrade
+is_upgrade (place.LookUnlisted upgrade) = upgrade
+is_upgrade _ = false
+
+abbrev pub right_of : Option Sought → Option Right
+right_of None = None
+right_of (Some sought.Read) = Some read
+right_of (Some sought.Upgradable) = Some upgradable
+right_of (Some sought.Write) = Some write
+
+-- ---- The standings
+
+-- a refusal that is decided in the turn's program decides the call; that the turn was got there doesn't
+abbrev pub refused_by : Option TurnEnd → Option Answer
+refused_by (Some (turn_end.Refused r)) = Some (refused r)
+refused_by _ = None
+
+abbrev pub verdict_until : Ending → Answer
+verdict_until ending.GivenBack = answer.GivenBack
+verdict_until ending.NotFree = answer.None
+verdict_until ending.RefuseReaders = refused Readers
+verdict_until ending.RefuseMemory = refused Memory
+verdict_until ending.Reading = answer.GivenBack
+verdict_until ending.NotifyReaders = answer.GivenBack
+
+-- the answer that a call will give whose party stands here, and so in the turn, over this value, if it is decided
+abbrev pub verdict : ℕ → Place → TurnPlace → Option Answer
+verdict v place.LeaveNoWriter t = Some (answer.Ready (Value v))
+verdict v place.LeaveNoReaders t = Some (answer.Ready (Value v))
+verdict v (place.RefuseLeave told) t = Some (refused Readers)
+verdict v (place.RefuseNotify r) t = Some (refused r)
+verdict v (place.TakeTurn p) t = refused_by (decision t)
+verdict v (place.ReleaseTurn e) t = Some (verdict_until e)
+verdict v (place.ReleasingTurn e) t = Some (verdict_until e)
+verdict v (place.Unmark true) t = Some (refused Memory)
+verdict v (place.UnmarkNotify true) t = Some (refused Memory)
+verdict v place.Out t = Some answer.GivenBack
+verdict v place.CancelRead t = Some answer.GivenBack
+verdict v place.CancelTurn t = Some answer.GivenBack
+verdict v place.CancellingTurn t = Some answer.GivenBack
+verdict v place.DropRead t = Some answer.GivenBack
+verdict v place.DropReadNotify t = Some answer.GivenBack
+verdict v place.DropUpgradable t = Some answer.GivenBack
+verdict v place.DropUpgradableNotify t = Some answer.GivenBack
+verdict v place.DropWrite t = Some answer.GivenBack
+verdict v place.CancelAwait t = Some answer.GivenBack
+verdict v (place.Unmark false) t = Some answer.GivenBack
+verdict v (place.UnmarkNotify false) t = Some answer.GivenBack
+verdict v place.DownNotify t = Some answer.GivenBack
+verdict v place.DowngradeNotify t = Some answer.GivenBack
+verdict v _ t = None
+
+abbrev pub stands_as : ℕ → Stage → Place → TurnPlace → Standing
+stands_as v (Outside r) x t = outside r
+stands_as v (Inside w) x t = inside w (verdict v x t)
+stands_as v Forgotten x t = forgotten
+
+abbrev pub rest : List TurnPlace → List TurnPlace
+rest [] = []
+rest (t ∷ ts) = ts
+
+abbrev pub standings : ℕ → List Stage → List Place → List TurnPlace → List Standing
+standings v [] xs ts = []
+standings v (s ∷ ss) [] ts = []
+standings v (s ∷ ss) (x ∷ xs) ts = stands_as v s x (turn_at ts 0) ∷ standings v ss xs (rest ts)
+
+abbrev pub seen : RwLock → List Stage → List (Option Sought) → ℕ → World
+seen l ss os v = record {
+  state = record { readers = map is_reading l.places; turn = turn_by (holder_of l.turn) l.places; starved = starved_of l.turn; value = v };
+  turn_list = l.turn.entries;
+  no_readers = l.no_readers;
+  no_writer = l.no_writer;
+  standings = standings v ss l.places l.turn.places;
+  sought = map right_of os;
+  upgraders = map is_upgrade l.places;
+  starved_limit = l.turn.limit;
+  readers_limit = l.limit;
+  opening_value = 0;
+}
+
+-- a World that was made with this value
+abbrev pub opened : ℕ → World → World
+opened n w = record w { opening_value = n }
+
+-- a table as it is seen, but for the value that its World was made with
+abbrev pub view_of : Table → World
+view_of t = seen t.lock t.stages t.sought t.value

@@ -1,0 +1,26 @@
+-- How many steps a whole call of a read-write lock takes.
+use Rattle.std.specs.Prelude.{ℕ}
+use Rattle.lock_world.specs.declared.moves.Answer.{Answer}
+use Rattle.lock_world.specs.declared.moves.Call.{Call}
+use Rattle.lock_world.specs.declared.moves.Call.TheVariants as call
+use Rattle.lock_world.specs.declared.moves.Inputs.{Inputs}
+use Rattle.lock_world.specs.Whole as whole
+use Rattle.rwlock_world.specs.State.{World, standing_of}
+use Rattle.rwlock_world.specs.Runs.{RunsOn}
+
+-- The greatest number of steps that a call of a read-write lock takes if its party moves alone.
+abbrev pub most_steps_of : Call → ℕ
+most_steps_of call.Read = 4
+most_steps_of call.UpgradableRead = 15
+most_steps_of call.Write = 18
+most_steps_of call.TryUpgradableRead = 4
+most_steps_of call.TryWrite = 4
+most_steps_of call.Poll = 18
+most_steps_of call.Drop = 5
+most_steps_of call.Downgrade = 4
+most_steps_of call.DowngradeToUpgradable = 2
+most_steps_of _ = 1
+
+-- The call is begun and carried out to its end, whose answer this is.
+abbrev pub IsWholeCall : World → ℕ → Call → Inputs → Answer → World → Type 0
+IsWholeCall = whole.IsWholeCall RunsOn standing_of most_steps_of

@@ -1,0 +1,342 @@
+//! The read-write lock's World: a read-write lock with upgradable reads over a number, in which each
+//! party has its standing. It stands on the machine of `rwlock_machine`.
+//!
+//! The Rust crate's `RwLock` lends a value of any type and runs in threads. Here the value is a number,
+//! a guard is a party that has a right, and one step is one call, so that contracts can speak of every
+//! interleaving: specs/State says what is seen, specs/Legal what a step may do.
+
+mod table;
+
+ghost use Rattle.std.specs.Prelude.{◌≡◌, ◌<◌, ℕ, true, false, not, IfOk, IfErr, OnErr, length, min, slice_get};
+ghost use Rattle.rwlock_world.specs.State.{new_world, how_many_read, is_nobody, is_marked, nobody};
+ghost use Rattle.lock_world.specs.Rosters.{how_many};
+ghost use Rattle.rwlock_world.specs.Legal.{Legal, AnswersAtOnce};
+ghost use Rattle.rwlock_world.specs.Laws.{IsSound, IsAwake, IsTurnWanted, IsReadingWanted, IsWritingWanted, is_at_rest};
+ghost use Rattle.rwlock_world.specs.Runs.{Runs, accounts_of};
+ghost use Rattle.rwlock_world.specs.Whole.{IsWholeCall};
+ghost use Rattle.rwlock_world.specs.Bound.{IsSoloForTurn, IsSoloToRead, IsSoloToWrite, SoloPollForTurn, TakesToRead, TakesToWrite, IsTurnBounded, IsReadingBounded, IsWritingBounded};
+
+use lock_event::{Entry, Memory};
+use lock_world::{Answer, AnyWorld, Call, Inputs, Move, Refusal};
+use std::alloc::Global;
+use std::marker::Model;
+use table::Table;
+
+/// The greatest number of parties that may be starved for the turn. The Rust crate aborts where this
+/// project refuses.
+pub const MOST_STARVED_FOR_THE_TURN: u32 = 1_073_741_823;
+
+/// The greatest number of readers. The Rust crate aborts where this project refuses.
+pub const MOST_READERS: u32 = 1_073_741_823;
+
+/// A read-write lock over a number, its parties, and their calls.
+#[derive(Drop)]
+pub struct World {
+    table: Table,
+    opening_value: u64,
+}
+
+impl Model for World {
+    ghost use Rattle.rwlock_world.specs.State.{World};
+    ghost use Rattle.rwlock_world.specs.View.{opened, view_of};
+
+    ghost Value = { World };
+
+    ghost view = { λ w. opened w.opening_value (view_of w.table) };
+}
+
+ghost use Rattle.std.specs.Borrow.{sem};
+ghost use Rattle.rwlock_world.specs.Lending.{LendsValue};
+
+impl World {
+    /// A World of so many idle parties, numbered from 0, over a free lock with this value. As many
+    /// parties may be starved for the turn as [`MOST_STARVED_FOR_THE_TURN`] says, and as many may read
+    /// as [`MOST_READERS`] says. Refused for memory alone, and then nothing is kept; afterwards no step
+    /// needs memory. The clause `opening` says what is made.
+    pub fn new(alloc: Global, parties: u32, value: u64) -> Result<World, Refusal>
+        ensures opening { IfOk result (λ w. w ≡ new_world parties MOST_STARVED_FOR_THE_TURN MOST_READERS value) }
+        ensures refused { IfErr result (λ r. r ≡ Refusal.Memory) }
+    {
+        World::with_limits(
+            alloc,
+            parties,
+            value,
+            MOST_STARVED_FOR_THE_TURN,
+            MOST_READERS,
+        )
+    }
+
+    /// A World as [`World::new`] makes it, in which at most so many parties may be starved for the turn
+    /// at a time, and at most so many may read. Greater numbers than [`MOST_STARVED_FOR_THE_TURN`] and
+    /// [`MOST_READERS`] mean these.
+    pub fn with_limits(
+        alloc: Global,
+        parties: u32,
+        value: u64,
+        starved: u32,
+        readers: u32,
+    ) -> Result<World, Refusal>
+        ensures opening { IfOk result (λ w. w ≡ new_world parties (min starved MOST_STARVED_FOR_THE_TURN) (min readers MOST_READERS) value) }
+        ensures refused { IfErr result (λ r. r ≡ Refusal.Memory) }
+    {
+        let starved = starved.min(MOST_STARVED_FOR_THE_TURN);
+        let readers = readers.min(MOST_READERS);
+        match Table::new(alloc, parties, value, starved, readers) {
+            Ok(table) => Ok(World {
+                table,
+                opening_value: value,
+            }),
+            Err(_) => Err(Refusal::Memory),
+        }
+    }
+
+    /// One move: a party begins a call with its first action, or carries out the next action of the call
+    /// that it is in.
+    ///
+    /// The answer is `Stepped` where the call goes on, and else the call's result. A move that the party
+    /// can't make, a party past the table and a call of another World are answered `NotPossible` and
+    /// change nothing. It takes no memory: `Refused(1)` comes where the move's input says so. The clause
+    /// `legal` says all that a step may do, and `at_once` what a try and a first poll answer.
+    ///
+    /// The Rust crate carries out a whole poll in one call, and never refuses.
+    pub fn step(&mut self, m: &Move) -> Answer
+        ensures legal { Legal self.old m.now result self.new }
+        ensures at_once { AnswersAtOnce self.old m.now result self.new }
+    {
+        self.table.laws();
+        let answer = self.table.step(m);
+        self.table.laws();
+        answer
+    }
+
+    /// Steps through a list of moves, and answers each. Refused, for memory for the answers alone, the
+    /// World is unchanged.
+    ///
+    /// The clause `runs` says that the answers are those of a chain of legal steps, after each of which
+    /// the rights that the answers tell of are the state's, rights that exclude each other don't
+    /// coexist, and, where nobody is inside a call, no notification is lost.
+    pub fn run(&mut self, alloc: Global, moves: &[Move]) -> Result<Vec<Answer>, Memory>
+        ensures runs { IfOk result (λ answers. Runs (accounts_of self.old) self.old moves.now answers.items self.new) }
+        ensures refused { OnErr result (self.new ≡ self.old) }
+    {
+        let Ok(mut answers) = Vec::with_capacity(alloc, moves.len()) else {
+            return Err(Memory);
+        };
+        for m in moves {
+            self.laws();
+            let answer = self.step(m);
+            self.laws();
+            answers.push_reserved(answer);
+        }
+        Ok(answers)
+    }
+
+    /// Begins a call of a party and goes on with it, with the same inputs, to its end. It works for every
+    /// call, not for polls alone, and from every World, whatever the other parties are about.
+    ///
+    /// The answer is the call's result, never `Stepped`; `NotPossible` changes nothing. The clause `whole`
+    /// says that this is a run, after which the party is outside the call. It has at most 4 steps for the
+    /// first poll of a read, 15 for that of an upgradable read, 18 for that of a write and for a later
+    /// poll, 5 for a drop, 4 for a try for an upgradable read or a write and for a downgrade, 2 for a
+    /// downgrade to upgradable, and 1 for any other call.
+    ///
+    /// Three clauses speak of a poll whose party is pending in a list and finds memory. `solo_turn`: its
+    /// entry in the turn's list is marked, nobody has the turn, and readers are below their limit. It takes
+    /// the turn, and is ready or, as a write beside readers, pending; or, if its party isn't starved and
+    /// another is, it waits on as a starved one with the notification handed on. Where the limit of starved
+    /// parties is met it may instead be refused. `solo_read`: its entry among those that wait until no
+    /// writer is left is marked, nobody waits to write or writes, and readers are below their limit. It
+    /// reads. `solo_write`: it waits until no reader is left, and none is. It writes.
+    pub fn poll_whole(&mut self, party: u32, call: Call, inputs: Inputs) -> Answer
+        ensures whole { IsWholeCall self.old party call inputs result self.new }
+        ensures solo_turn { call ≡ Call.Poll → IsSoloForTurn self.old party inputs → self.old.state.turn ≡ nobody → how_many_read self.old < self.old.readers_limit → SoloPollForTurn self.old party result self.new }
+        ensures solo_read { call ≡ Call.Poll → IsSoloToRead self.old party inputs → is_marked self.old.state.turn ≡ false → how_many_read self.old < self.old.readers_limit → TakesToRead self.old party result self.new }
+        ensures solo_write { call ≡ Call.Poll → IsSoloToWrite self.old party inputs → how_many_read self.old ≡ 0 → TakesToWrite self.old party result self.new }
+    {
+        self.table.laws();
+        self.table.poll_whole(party, call, inputs)
+    }
+
+    /// Whether nobody is inside a call.
+    pub fn at_rest(&self) -> bool
+        ensures { result ≡ is_at_rest self.now }
+    {
+        self.table.laws();
+        self.table.at_rest()
+    }
+
+    /// What always holds of a World, between any two moves: rights that exclude each other don't coexist,
+    /// each party has what its standing says, and at rest no notification is lost. It does nothing.
+    pub fn laws(&self)
+        ensures sound { IsSound self.now }
+        ensures awake { is_at_rest self.now ≡ true → IsAwake self.now }
+    {
+        self.table.laws();
+    }
+
+    /// How often what is free, at rest, may be passed over while parties wait for it, list by list. It does
+    /// nothing.
+    ///
+    /// A solo poll is a [`World::poll_whole`] of a pending party that finds memory; its entry is marked, or
+    /// it waits until no reader is left. The clause `turn` says that among as many solo polls in turn as the
+    /// turn's list has entries one takes the turn: in none of them may as many parties be starved already,
+    /// or read, as the limits allow. `reading` says that no solo poll passes reading over where nobody waits
+    /// to write or writes, below the readers' limit, and `writing` that none passes writing over where no
+    /// reader is left. Each also says that some entry of its list is marked, so that there is a party to
+    /// poll, unless it was forgotten.
+    pub fn solo_polls(&self)
+        ensures turn { is_at_rest self.now ≡ true → IsTurnWanted self.now → IsTurnBounded self.now }
+        ensures reading { is_at_rest self.now ≡ true → IsReadingWanted self.now → IsReadingBounded self.now }
+        ensures writing { is_at_rest self.now ≡ true → IsWritingWanted self.now → IsWritingBounded self.now }
+    {
+        self.laws();
+    }
+
+    /// Whether a party has the turn, as its word says. The Rust crate shows it in its debug text alone.
+    pub fn is_turn_held(&self) -> bool
+        ensures { not result ≡ is_nobody self.now.state.turn }
+    {
+        self.table.laws();
+        self.table.lock().turn().is_held()
+    }
+
+    /// How many parties are starved for the turn, as its word says.
+    pub fn starved(&self) -> u32
+        ensures { result ≡ how_many self.now.state.starved }
+    {
+        self.table.lock().turn().starved()
+    }
+
+    /// Whether a party waits to write or writes, as the lock's word says.
+    pub fn is_writer_marked(&self) -> bool
+        ensures { result ≡ is_marked self.now.state.turn }
+    {
+        self.table.laws();
+        self.table.lock().is_writer_marked()
+    }
+
+    /// How many parties read, as the lock's word says.
+    pub fn readers(&self) -> u32
+        ensures { result ≡ how_many_read self.now }
+    {
+        self.table.lock().readers()
+    }
+
+    /// How many entries the list has of those that wait for the turn.
+    pub fn turn_waiting(&self) -> usize
+        ensures { result ≡ length self.now.turn_list }
+    {
+        self.table.lock().turn().waiting()
+    }
+
+    /// The entry at this place of that list, counted from the front: its key is the party, and its mark
+    /// says what the party has been told. None past the last.
+    pub fn turn_entry(&self, index: usize) -> Option<Entry<u32>>
+        ensures { result ≡ slice_get self.now.turn_list index }
+    {
+        self.table.lock().turn().entry(index)
+    }
+
+    /// How many entries the list has of those that wait until no reader is left.
+    pub fn no_readers_waiting(&self) -> usize
+        ensures { result ≡ length self.now.no_readers }
+    {
+        self.table.lock().no_readers_len()
+    }
+
+    /// The entry at this place of that list, as [`World::turn_entry`] gives one.
+    pub fn no_readers_entry(&self, index: usize) -> Option<Entry<u32>>
+        ensures { result ≡ slice_get self.now.no_readers index }
+    {
+        self.table.lock().no_readers_entry(index)
+    }
+
+    /// How many entries the list has of those that wait until no writer is left.
+    pub fn no_writer_waiting(&self) -> usize
+        ensures { result ≡ length self.now.no_writer }
+    {
+        self.table.lock().no_writer_len()
+    }
+
+    /// The entry at this place of that list, as [`World::turn_entry`] gives one.
+    pub fn no_writer_entry(&self, index: usize) -> Option<Entry<u32>>
+        ensures { result ≡ slice_get self.now.no_writer index }
+    {
+        self.table.lock().no_writer_entry(index)
+    }
+
+    /// The value that the last put left, or that the World was made with.
+    pub fn value(&self) -> u64
+        ensures { result ≡ self.now.state.value }
+    {
+        self.table.value()
+    }
+
+    /// Lends the value, of a World at rest. Whoever was pending or had a guard is forgotten: from then on
+    /// its moves are not possible, and its entry stays in its list. A later writer or reader finds what
+    /// was left behind the reference.
+    ///
+    /// The Rust crate's `get_mut` asks for the only reference to the lock, so that no guard or future can
+    /// be left.
+    pub fn get_mut(&mut self) -> &mut u64
+        requires { is_at_rest self.old ≡ true }
+        ensures* lends { sem 𝓛 (LendsValue self.entry result) }
+        ensures value { result.now ≡ self.old.state.value }
+    {
+        self.table.laws();
+        self.table.value_mut()
+    }
+
+    /// The value, and the World is gone. Whoever had a guard or waited for one is forgotten.
+    pub fn into_inner(self) -> u64
+        ensures { result ≡ self.state.value }
+    {
+        Table::value(&self.table)
+    }
+}
+
+impl AnyWorld for World {
+    ghost use Rattle.lock_world.specs.Accounts.{Account, accounts_after};
+    ghost use Rattle.rwlock_world.specs.Legal as rwlock;
+    ghost use Rattle.rwlock_world.specs.State as state;
+    ghost use Rattle.rwlock_world.specs.Laws as laws;
+    ghost use Rattle.rwlock_world.specs.Runs.{HoldsWell, accounts_of};
+    ghost use Rattle.rwlock_world.specs.Whole.{most_steps_of};
+    ghost use Rattle.rwlock_world.specs.Openings.{opening_kept};
+
+    ghost legal = { rwlock.Legal };
+
+    ghost opening = { state.opening_of };
+
+    ghost standing_of = { state.standing_of };
+
+    ghost is_at_rest = { laws.is_at_rest };
+
+    ghost Known = { ℕ → Account };
+
+    ghost known_of = { accounts_of };
+
+    ghost learn = { accounts_after };
+
+    ghost is_well = { HoldsWell };
+
+    ghost most_steps = { most_steps_of };
+
+    ghost keeps_opening = { opening_kept };
+
+    fn step(&mut self, m: &Move) -> Answer {
+        World::step(self, m)
+    }
+
+    fn run(&mut self, alloc: Global, moves: &[Move]) -> Result<Vec<Answer>, Memory> {
+        World::run(self, alloc, moves)
+    }
+
+    fn poll_whole(&mut self, party: u32, call: Call, inputs: Inputs) -> Answer {
+        World::poll_whole(self, party, call, inputs)
+    }
+
+    fn at_rest(&self) -> bool {
+        World::at_rest(self)
+    }
+}
