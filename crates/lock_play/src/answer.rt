@@ -1,8 +1,5 @@
 //! The text of answers and states.
 
-#[cfg(test)]
-mod tests;
-
 ghost use Rattle.std.specs.Prelude.{◌≡◌, ◌++◌, ℕ, List, codes, decimal, length, slice_get, OnOk};
 ghost use Rattle.std.specs.Io.KnownBytes.{Appends};
 ghost use Rattle.lock_play.specs.Answers.{answer_text, entry_text, got_text, list_text, reply_text, Prints};
@@ -95,8 +92,10 @@ pub fn write_list<L: Listed, O: Write>(list: &L, output: &mut O) -> io::Result<(
     write!(output, "]")
 }
 
-/// Writes an entry of a list, the party and its mark, after what sets it apart from the one before it.
-fn write_entry<O: Write>(gap: &str, entry: &Entry<u32>, output: &mut O) -> io::Result<()>
+/// Writes an entry of a list, the party and its mark, after what sets it apart from the one before it. The
+/// mark is a letter: `w` of one that waits, `n` of one that was notified, `a` of one that was notified
+/// additionally.
+pub fn write_entry<O: Write>(gap: &str, entry: &Entry<u32>, output: &mut O) -> io::Result<()>
     ensures { OnOk result (Appends (O.contents output.old) (O.contents output.new) (gap.now ++ entry_text entry.now)) }
 {
     let party = entry.key;

@@ -1,6 +1,6 @@
-//! Tests of the queue, of the refusals and of the machines, through their public calls. They stand in one
-//! crate above all of these, so that none is proved a second time with its own tests. There is nothing
-//! else here, and no crate stands on it.
+//! Tests of the queue, of the refusals, of the machines and of the texts of answers, through their public
+//! calls. They stand in one crate above all of these, so that none is proved a second time with its own
+//! tests. There is nothing else here, and no crate stands on it.
 #![tactic(auto)]
 
 #[cfg(test)]
@@ -9,5 +9,7 @@ mod mutex;
 mod refusal;
 #[cfg(test)]
 mod rwlock;
+#[cfg(test)]
+mod texts;
 #[cfg(test)]
 mod wait_queue;

@@ -1,7 +1,9 @@
-use super::{write_answer, write_entry, write_reply};
-use crate::played::Reply;
+//! The texts of answers, replies and entries.
+
 use lock_core::{Answer, Got};
 use lock_event::{Entry, Mark};
+use lock_play::answer::{write_answer, write_entry, write_reply};
+use lock_play::played::Reply;
 use std::test::Fail;
 
 #[test]
