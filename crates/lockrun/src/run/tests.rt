@@ -98,15 +98,28 @@ fn arguments(rt: &impl AllocGlobal, words: &[&str]) -> Result<Vec<String>, Alloc
     Ok(all)
 }
 
-/// Runs the program, and hides from the prover what it promises: no test rests on that.
-fn status_of<A: AllocGlobal>(
-    rt: &A,
+/// What a run prints, and its status.
+#[derive(Clone, Copy, Debug)]
+struct Wanted<'a> {
+    output: &'a str,
+    errors: &'a str,
+    status: u8,
+}
+
+/// Runs the program from and into memory, and wants this of it. `shown` names the case.
+fn expect_of<R: AllocGlobal + Abort>(
+    rt: &R,
     words: &[String],
     source: &mut Source<'_>,
     answers: &mut Sink,
     faults: &mut Sink,
-) -> u8 {
-    run(rt.alloc(), words, source, answers, faults)
+    wanted: Wanted<'_>,
+    shown: &str,
+) {
+    let ended = run(rt.alloc(), words, source, answers, faults);
+    assert_eq!(rt; text_of(answers), wanted.output, "output of {shown:?}");
+    assert_eq!(rt; text_of(faults), wanted.errors, "errors of {shown:?}");
+    assert_eq!(rt; ended, wanted.status, "status of {shown:?}");
 }
 
 /// Runs this script from and into memory, and wants this output, error output and status.
@@ -119,13 +132,20 @@ fn expect<R: AllocGlobal + Abort>(
 ) -> Result<(), Fail> {
     let shown = str::from_utf8(script).unwrap_or("bytes that are no text");
     let words = arguments(rt, &["script"])?;
-    let mut source = Source::new(script);
-    let mut answers = Sink::new(rt);
-    let mut faults = Sink::new(rt);
-    let ended = status_of(rt, words.as_slice(), &mut source, &mut answers, &mut faults);
-    assert_eq!(rt; text_of(&answers), output, "output of {shown:?}");
-    assert_eq!(rt; text_of(&faults), errors, "errors of {shown:?}");
-    assert_eq!(rt; ended, status, "status of {shown:?}");
+    let wanted = Wanted {
+        output,
+        errors,
+        status,
+    };
+    expect_of(
+        rt,
+        words.as_slice(),
+        &mut Source::new(script),
+        &mut Sink::new(rt),
+        &mut Sink::new(rt),
+        wanted,
+        shown,
+    );
     Ok(())
 }
 
@@ -313,139 +333,146 @@ fn answers_each_good_line_of_a_read_write_lock(rt: HostRuntime) -> Result<(), Fa
 }
 
 /// Lines that are bad though a World stands.
-const BAD_LINES: [&str; 103] = [
+const BAD_LINES: [&[u8]; 103] = [
     // Spaces at an end.
-    " ",
-    "  ",
-    " show",
-    "show ",
-    " # note",
+    b" ",
+    b"  ",
+    b" show",
+    b"show ",
+    b" # note",
     // Unknown words.
-    "foo",
-    "Show",
-    "shows",
-    "Do 0 lock",
-    "getMut 1",
-    "takes",
-    "Rwlock 1 0",
-    "semaphore 1 1",
-    "cell 1",
-    "barrier 1 1",
-    "begin 0 Lock",
-    "begin 0 Read",
-    "do 0 downgrade_to_upgradable",
-    "do 0 upgradable",
-    "do 0 foo",
-    "do 0 acquire",
-    "do 0 set 5",
+    b"foo",
+    b"Show",
+    b"shows",
+    b"Do 0 lock",
+    b"getMut 1",
+    b"takes",
+    b"Rwlock 1 0",
+    b"semaphore 1 1",
+    b"cell 1",
+    b"barrier 1 1",
+    b"begin 0 Lock",
+    b"begin 0 Read",
+    b"do 0 downgrade_to_upgradable",
+    b"do 0 upgradable",
+    b"do 0 foo",
+    b"do 0 acquire",
+    b"do 0 set 5",
     // Missing and spare numbers and words.
-    "mutex",
-    "mutex 1",
-    "mutex 1 0 0 0",
-    "rwlock",
-    "rwlock 1",
-    "rwlock 1 0 0 0 0",
-    "rwlock 1 0 nomem",
-    "begin",
-    "begin 0",
-    "begin 0 put",
-    "begin 0 put 5 6",
-    "begin 0 lock 5",
-    "begin lock",
-    "go",
-    "go 0 0",
-    "go 0 lock",
-    "show 0",
-    "do",
-    "do 0",
-    "do lock",
-    "do 0 put",
-    "do 0 put nomem",
-    "do 0 lock 5",
-    "do 0 trylock lock",
-    "do 0 read 5",
-    "do 0 upgrade write",
-    "getmut",
-    "getmut 1 2",
-    "getmut 1 nomem",
-    "take 0",
-    "take nomem",
+    b"mutex",
+    b"mutex 1",
+    b"mutex 1 0 0 0",
+    b"rwlock",
+    b"rwlock 1",
+    b"rwlock 1 0 0 0 0",
+    b"rwlock 1 0 nomem",
+    b"begin",
+    b"begin 0",
+    b"begin 0 put",
+    b"begin 0 put 5 6",
+    b"begin 0 lock 5",
+    b"begin lock",
+    b"go",
+    b"go 0 0",
+    b"go 0 lock",
+    b"show 0",
+    b"do",
+    b"do 0",
+    b"do lock",
+    b"do 0 put",
+    b"do 0 put nomem",
+    b"do 0 lock 5",
+    b"do 0 trylock lock",
+    b"do 0 read 5",
+    b"do 0 upgrade write",
+    b"getmut",
+    b"getmut 1 2",
+    b"getmut 1 nomem",
+    b"take 0",
+    b"take nomem",
     // Words that are no numbers.
-    "mutex 1 x",
-    "mutex 1 +0",
-    "mutex 1 -0",
-    "mutex 1 0x1",
-    "mutex 1 18446744073709551616",
-    "mutex 1 000000000000000000000",
-    "mutex 1 99999999999999999999",
-    "go 18446744073709551616",
-    "mutex 1 0 x",
-    "mutex 1 0 18446744073709551616",
-    "rwlock 1 x",
-    "rwlock 1 0 x",
-    "rwlock 1 0 0 x",
-    "rwlock 1 0 18446744073709551616",
-    "rwlock 1 0 0 18446744073709551616",
-    "do 18446744073709551616 lock",
-    "getmut x",
-    "getmut 18446744073709551616",
+    b"mutex 1 x",
+    b"mutex 1 +0",
+    b"mutex 1 -0",
+    b"mutex 1 0x1",
+    b"mutex 1 18446744073709551616",
+    b"mutex 1 000000000000000000000",
+    b"mutex 1 99999999999999999999",
+    b"go 18446744073709551616",
+    b"mutex 1 0 x",
+    b"mutex 1 0 18446744073709551616",
+    b"rwlock 1 x",
+    b"rwlock 1 0 x",
+    b"rwlock 1 0 0 x",
+    b"rwlock 1 0 18446744073709551616",
+    b"rwlock 1 0 0 18446744073709551616",
+    b"do 18446744073709551616 lock",
+    b"getmut x",
+    b"getmut 18446744073709551616",
     // Numbers of parties out of their range.
-    "mutex 0 0",
-    "mutex 65 0",
-    "mutex 4294967297 0",
-    "rwlock 0 0",
-    "rwlock 65 0 1 1",
+    b"mutex 0 0",
+    b"mutex 65 0",
+    b"mutex 4294967297 0",
+    b"rwlock 0 0",
+    b"rwlock 65 0 1 1",
     // Inputs given twice, and what is no input.
-    "go 0 nomem nomem",
-    "go 0 starving nomem starving",
-    "go 0 made=1 made=1",
-    "go 0 made=fail made=1",
-    "go 0 made=1 nomem made=fail",
-    "go 0 made",
-    "go 0 made=",
-    "go 0 made=x",
-    "go 0 made= 1",
-    "go 0 made=18446744073709551616",
-    "go 0 memory",
-    "do 0 lock nomem nomem",
-    "do 0 lock starving starving",
-    "do 0 lock made=fail made=fail",
+    b"go 0 nomem nomem",
+    b"go 0 starving nomem starving",
+    b"go 0 made=1 made=1",
+    b"go 0 made=fail made=1",
+    b"go 0 made=1 nomem made=fail",
+    b"go 0 made",
+    b"go 0 made=",
+    b"go 0 made=x",
+    b"go 0 made= 1",
+    b"go 0 made=18446744073709551616",
+    b"go 0 memory",
+    b"do 0 lock nomem nomem",
+    b"do 0 lock starving starving",
+    b"do 0 lock made=fail made=fail",
     // Bytes that aren't printable ASCII.
-    "show\t",
-    "sh\tow",
-    "show\r",
-    "sh\u{0}ow",
-    "show\u{7f}",
-    "sh\u{e9}ow",
-    "mutex 1\t0",
-    "\u{0}",
-    "#\t",
-    "# a note\r",
-    "#\u{7f}",
-    "# \u{e9}",
-    "#\u{1f}",
+    b"show\t",
+    b"sh\tow",
+    b"show\r",
+    b"sh\x00ow",
+    b"show\x7f",
+    b"sh\xc3\xa9ow",
+    b"mutex 1\t0",
+    b"\x00",
+    b"#\t",
+    b"# a note\r",
+    b"#\x7f",
+    b"# \xc3\xa9",
+    b"#\x1f",
 ];
+
+/// A script with this line between two good ones.
+fn second_of_three(rt: &impl AllocGlobal, line: &[u8]) -> Result<Vec<u8>, AllocError> {
+    let mut script = Vec::new(rt.alloc());
+    for part in [b"mutex 1 0\n".as_slice(), line, b"\nshow\n".as_slice()] {
+        script.extend_from_slice(part)?;
+    }
+    Ok(script)
+}
 
 #[test]
 fn stops_at_a_bad_line(rt: HostRuntime) -> Result<(), Fail> {
     for line in BAD_LINES {
-        let script = format!(in rt.alloc(); "mutex 1 0\n{line}\nshow\n")?;
-        expect(&rt, script.as_bytes(), "ok\n", "lockrun: line 2: bad\n", 1)?;
+        let script = second_of_three(&rt, line)?;
+        expect(&rt, script.as_slice(), "ok\n", "lockrun: line 2: bad\n", 1)?;
     }
-    expect(
-        &rt,
-        b"mutex 1 0\n# \x80\nshow\n",
-        "ok\n",
-        "lockrun: line 2: bad\n",
-        1,
-    )?;
-    expect(
-        &rt,
-        b"mutex 1 0\n\xffshow",
-        "ok\n",
-        "lockrun: line 2: bad\n",
-        1,
-    )
+    Ok(())
+}
+
+#[test]
+fn stops_at_a_line_that_is_no_text(rt: HostRuntime) -> Result<(), Fail> {
+    for script in [
+        b"mutex 1 0\n# \x80\nshow\n".as_slice(),
+        b"mutex 1 0\n\xffshow".as_slice(),
+    ] {
+        expect(&rt, script, "ok\n", "lockrun: line 2: bad\n", 1)?;
+    }
+    Ok(())
 }
 
 #[test]
@@ -480,33 +507,36 @@ fn counts_lines_and_wants_a_world_first(rt: HostRuntime) -> Result<(), Fail> {
 
 #[test]
 fn wants_the_one_argument(rt: HostRuntime) -> Result<(), Fail> {
-    let usage = "usage: lockrun script | lockrun threads K\n";
-    let wrong: [&[&str]; 7] = [
-        &[],
-        &[""],
-        &["Script"],
-        &["script "],
-        &["script", "x"],
-        &["threads", "4"],
-        &["x", "script"],
+    let usage = Wanted {
+        output: "",
+        errors: "usage: lockrun script | lockrun threads K\n",
+        status: 2,
+    };
+    let wrong: [(&[&str], &str); 7] = [
+        (&[], "no word"),
+        (&[""], "an empty word"),
+        (&["Script"], "Script"),
+        (&["script "], "script and a space"),
+        (&["script", "x"], "script x"),
+        (&["threads", "4"], "threads 4"),
+        (&["x", "script"], "x script"),
     ];
-    for words in wrong {
+    for (words, shown) in wrong {
         let words = arguments(&rt, words)?;
         let mut source = Source::new(b"mutex 1 0\n");
         let mut answers = Sink::new(&rt);
         answers.flushes = false;
         let mut faults = Sink::new(&rt);
-        let ended = status_of(
+        expect_of(
             &rt,
             words.as_slice(),
             &mut source,
             &mut answers,
             &mut faults,
+            usage,
+            shown,
         );
-        assert_eq!(rt; ended, 2, "status of {words:?}");
-        assert_eq!(rt; answers.kept.len(), 0, "output of {words:?}");
-        assert_eq!(rt; text_of(&faults), usage, "errors of {words:?}");
-        assert_eq!(rt; source.given, 0, "what {words:?} read");
+        assert_eq!(rt; source.given, 0, "what {shown:?} read");
     }
     Ok(())
 }
@@ -514,11 +544,20 @@ fn wants_the_one_argument(rt: HostRuntime) -> Result<(), Fail> {
 #[test]
 fn bounds_the_length(rt: HostRuntime) -> Result<(), Fail> {
     let words = arguments(&rt, &["script"])?;
-    let long = "lockrun: script too long\n";
-    for (more, output, errors, status, given) in [
-        (0, "ok\n", "", 0, LIMIT),
-        (1, "", long, 1, LIMIT + 1),
-        (70_000, "", long, 1, LIMIT + 1),
+    let played = Wanted {
+        output: "ok\n",
+        errors: "",
+        status: 0,
+    };
+    let too_long = Wanted {
+        output: "",
+        errors: "lockrun: script too long\n",
+        status: 1,
+    };
+    for (more, wanted, given, shown) in [
+        (0, played, LIMIT, "as long as may be"),
+        (1, too_long, LIMIT + 1, "1 byte more"),
+        (70_000, too_long, LIMIT + 1, "70,000 bytes more"),
     ] {
         let mut text = vec![in rt.alloc(); b'#'; LIMIT + more]?;
         for (place, byte) in text.iter_mut().zip(b"mutex 1 0\n") {
@@ -529,19 +568,16 @@ fn bounds_the_length(rt: HostRuntime) -> Result<(), Fail> {
         if more > 0 {
             source.failure = Some(ErrorKind::BrokenPipe);
         }
-        let mut answers = Sink::new(&rt);
-        let mut faults = Sink::new(&rt);
-        let ended = status_of(
+        expect_of(
             &rt,
             words.as_slice(),
             &mut source,
-            &mut answers,
-            &mut faults,
+            &mut Sink::new(&rt),
+            &mut Sink::new(&rt),
+            wanted,
+            shown,
         );
-        assert_eq!(rt; text_of(&answers), output, "output at {more} more");
-        assert_eq!(rt; text_of(&faults), errors, "errors at {more} more");
-        assert_eq!(rt; ended, status, "status at {more} more");
-        assert_eq!(rt; source.given, given, "bytes read at {more} more");
+        assert_eq!(rt; source.given, given, "bytes read of {shown:?}");
     }
     Ok(())
 }
@@ -549,28 +585,34 @@ fn bounds_the_length(rt: HostRuntime) -> Result<(), Fail> {
 #[test]
 fn tells_of_reads_that_fail(rt: HostRuntime) -> Result<(), Fail> {
     let words = arguments(&rt, &["script"])?;
-    let failed = "lockrun: read failed\n";
-    for (text, kind, output, errors, status) in [
-        ("", ErrorKind::BrokenPipe, "", failed, 3),
-        ("mutex 1 0\nsh", ErrorKind::BrokenPipe, "", failed, 3),
-        ("foo\n", ErrorKind::OutOfMemory, "", failed, 3),
-        // A read that was interrupted is made again.
-        ("mutex 1 0\n", ErrorKind::Interrupted, "ok\n", "", 0),
+    let failed = Wanted {
+        output: "",
+        errors: "lockrun: read failed\n",
+        status: 3,
+    };
+    // A read that was interrupted is made again.
+    let played = Wanted {
+        output: "ok\n",
+        errors: "",
+        status: 0,
+    };
+    for (text, kind, wanted) in [
+        ("", ErrorKind::BrokenPipe, failed),
+        ("mutex 1 0\nsh", ErrorKind::BrokenPipe, failed),
+        ("foo\n", ErrorKind::OutOfMemory, failed),
+        ("mutex 1 0\n", ErrorKind::Interrupted, played),
     ] {
         let mut source = Source::new(text.as_bytes());
         source.failure = Some(kind);
-        let mut answers = Sink::new(&rt);
-        let mut faults = Sink::new(&rt);
-        let ended = status_of(
+        expect_of(
             &rt,
             words.as_slice(),
             &mut source,
-            &mut answers,
-            &mut faults,
+            &mut Sink::new(&rt),
+            &mut Sink::new(&rt),
+            wanted,
+            text,
         );
-        assert_eq!(rt; text_of(&answers), output, "output of {text:?}, {kind:?}");
-        assert_eq!(rt; text_of(&faults), errors, "errors of {text:?}, {kind:?}");
-        assert_eq!(rt; ended, status, "status of {text:?}, {kind:?}");
     }
     Ok(())
 }
@@ -578,31 +620,32 @@ fn tells_of_reads_that_fail(rt: HostRuntime) -> Result<(), Fail> {
 #[test]
 fn tells_of_writes_that_fail(rt: HostRuntime) -> Result<(), Fail> {
     let words = arguments(&rt, &["script"])?;
-    let failed = "lockrun: write failed\n";
     let all = usize::MAX;
-    for (text, room, flushes, output, errors) in [
-        ("mutex 1 0\nshow\n", 0, true, "", failed),
-        ("mutex 1 0\nbegin 0 lock\nshow\n", 5, true, "ok\nre", failed),
-        ("mutex 1 0\nfoo\n", 2, true, "ok", failed),
-        ("mutex 1 0\n", all, false, "ok\n", failed),
+    for (text, room, flushes, output) in [
+        ("mutex 1 0\nshow\n", 0, true, ""),
+        ("mutex 1 0\nbegin 0 lock\nshow\n", 5, true, "ok\nre"),
+        ("mutex 1 0\nfoo\n", 2, true, "ok"),
+        ("mutex 1 0\n", all, false, "ok\n"),
         // What comes before a bad line is flushed before that line is told of.
-        ("mutex 1 0\nfoo\n", all, false, "ok\n", failed),
+        ("mutex 1 0\nfoo\n", all, false, "ok\n"),
     ] {
-        let mut source = Source::new(text.as_bytes());
         let mut answers = Sink::new(&rt);
         answers.room = room;
         answers.flushes = flushes;
-        let mut faults = Sink::new(&rt);
-        let ended = status_of(
+        let wanted = Wanted {
+            output,
+            errors: "lockrun: write failed\n",
+            status: 3,
+        };
+        expect_of(
             &rt,
             words.as_slice(),
-            &mut source,
+            &mut Source::new(text.as_bytes()),
             &mut answers,
-            &mut faults,
+            &mut Sink::new(&rt),
+            wanted,
+            text,
         );
-        assert_eq!(rt; text_of(&answers), output, "output of {text:?}, {room}");
-        assert_eq!(rt; text_of(&faults), errors, "errors of {text:?}, {room}");
-        assert_eq!(rt; ended, 3, "status of {text:?}, {room}");
     }
     Ok(())
 }
@@ -616,21 +659,23 @@ fn keeps_the_status_where_errors_cannot_be_written(rt: HostRuntime) -> Result<()
         (&script, "mutex 1 0\nfoo\n", "ok\n", 1),
         (&script, "mutex 1 0\n", "ok\n", 0),
     ] {
-        let mut source = Source::new(text.as_bytes());
-        let mut answers = Sink::new(&rt);
         let mut faults = Sink::new(&rt);
         faults.room = 0;
         faults.flushes = false;
-        let ended = status_of(
+        let wanted = Wanted {
+            output,
+            errors: "",
+            status,
+        };
+        expect_of(
             &rt,
             words.as_slice(),
-            &mut source,
-            &mut answers,
+            &mut Source::new(text.as_bytes()),
+            &mut Sink::new(&rt),
             &mut faults,
+            wanted,
+            text,
         );
-        assert_eq!(rt; ended, status, "status of {text:?}");
-        assert_eq!(rt; text_of(&answers), output, "output of {text:?}");
-        assert_eq!(rt; faults.kept.len(), 0, "errors of {text:?}");
     }
     Ok(())
 }
