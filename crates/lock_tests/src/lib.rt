@@ -8,6 +8,8 @@ mod mutex;
 #[cfg(test)]
 mod refusal;
 #[cfg(test)]
+mod room;
+#[cfg(test)]
 mod rwlock;
 #[cfg(test)]
 mod texts;

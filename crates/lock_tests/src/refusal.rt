@@ -1,6 +1,8 @@
 //! The refusals, as what stands outside a World reads them.
 
+use crate::room;
 use lock_world::Refusal;
+use std::io::Write;
 use std::test::Fail;
 
 #[test]
@@ -15,8 +17,9 @@ fn refusals_have_their_numbers_and_texts(rt: HostRuntime) -> Result<(), Fail> {
     ];
     for (refusal, number, text) in refusals {
         assert_eq!(rt; refusal.number(), number);
-        let shown = format!(in rt.alloc(); "{refusal}")?;
-        assert_eq!(rt; shown.as_str(), text);
+        let mut shown = room::for_text(rt.alloc())?;
+        write!(shown, "{refusal}")?;
+        assert_eq!(rt; shown.as_slice(), text.as_bytes());
     }
     Ok(())
 }

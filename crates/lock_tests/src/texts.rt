@@ -1,5 +1,6 @@
 //! The texts of answers, replies and entries.
 
+use crate::room;
 use lock_core::{Answer, Got};
 use lock_event::{Entry, Mark};
 use lock_play::answer::{write_answer, write_entry, write_reply};
@@ -28,7 +29,7 @@ fn writes_each_answer(rt: HostRuntime) -> Result<(), Fail> {
         (Answer::Refused(6), "refused 6\n"),
         (Answer::NotPossible, "not possible\n"),
     ] {
-        let mut output = Vec::new(rt.alloc());
+        let mut output = room::for_text(rt.alloc())?;
         write_answer(answer, &mut output)?;
         assert_eq!(rt; output.as_slice(), text.as_bytes(), "{answer:?}");
     }
@@ -44,7 +45,7 @@ fn writes_each_reply(rt: HostRuntime) -> Result<(), Fail> {
         (Reply::Value(u64::MAX), "18446744073709551615\n"),
         (Reply::NotPossible, "not possible\n"),
     ] {
-        let mut output = Vec::new(rt.alloc());
+        let mut output = room::for_text(rt.alloc())?;
         write_reply(reply, &mut output)?;
         assert_eq!(rt; output.as_slice(), text.as_bytes(), "{reply:?}");
     }
@@ -53,7 +54,7 @@ fn writes_each_reply(rt: HostRuntime) -> Result<(), Fail> {
 
 #[test]
 fn writes_each_mark(rt: HostRuntime) -> Result<(), Fail> {
-    let mut output = Vec::new(rt.alloc());
+    let mut output = room::for_text(rt.alloc())?;
     for (gap, key, mark) in [
         ("", 10, Mark::Additional),
         (" ", 1, Mark::Notified),

@@ -75,6 +75,14 @@ fn told(world: &World, index: usize) -> Option<(u32, Mark)> {
     world.entry(index).map(|entry| (entry.key, entry.mark))
 }
 
+fn assert_state(rt: &impl Abort, world: &World, wanted: (bool, u32, usize)) {
+    assert_eq!(rt; state_of(world), wanted);
+}
+
+fn assert_told(rt: &impl Abort, world: &World, index: usize, wanted: Option<(u32, Mark)>) {
+    assert_eq!(rt; told(world, index), wanted);
+}
+
 #[test]
 fn a_release_wakes_the_next(rt: HostRuntime) -> Result<(), Fail> {
     let mut world = of_parties(rt.alloc(), 2, 0)?;
@@ -87,19 +95,19 @@ fn a_release_wakes_the_next(rt: HostRuntime) -> Result<(), Fail> {
         (0, begin(Call::Put(5)), granted(5)),
     ];
     expect_steps(&rt, &mut world, &steps);
-    assert_eq!(rt; state_of(&world), (true, 0, 1));
-    assert_eq!(rt; told(&world, 0), Some((1, Mark::Waiting)));
+    assert_state(&rt, &world, (true, 0, 1));
+    assert_told(&rt, &world, 0, Some((1, Mark::Waiting)));
     let steps = [
         (0, begin(Call::Drop), Answer::Stepped),
         (0, GO, Answer::GivenBack),
     ];
     expect_steps(&rt, &mut world, &steps);
-    assert_eq!(rt; state_of(&world), (false, 0, 1));
-    assert_eq!(rt; told(&world, 0), Some((1, Mark::Notified)));
-    assert_eq!(rt; told(&world, 1), None);
+    assert_state(&rt, &world, (false, 0, 1));
+    assert_told(&rt, &world, 0, Some((1, Mark::Notified)));
+    assert_told(&rt, &world, 1, None);
     let steps = [(1, begin(Call::Poll), Answer::Stepped), (1, GO, ready(5))];
     expect_steps(&rt, &mut world, &steps);
-    assert_eq!(rt; state_of(&world), (true, 0, 0));
+    assert_state(&rt, &world, (true, 0, 0));
     assert_eq!(rt; world.value(), 5);
     world.laws();
     assert_eq!(rt; world.into_inner(), 5);
@@ -123,7 +131,7 @@ fn a_move_that_is_not_possible_changes_nothing(rt: HostRuntime) -> Result<(), Fa
         (1, begin(Call::AddPermits(1)), Answer::NotPossible),
     ];
     expect_steps(&rt, &mut world, &steps);
-    assert_eq!(rt; state_of(&world), (true, 0, 0));
+    assert_state(&rt, &world, (true, 0, 0));
     assert_eq!(rt; world.value(), 7);
     let calls = [
         (1, Call::TryLock, Answer::None),
@@ -150,8 +158,8 @@ fn too_many_starved_parties_are_refused(rt: HostRuntime) -> Result<(), Fail> {
         (9, Call::Lock, Answer::NotPossible),
     ];
     expect(&rt, &mut world, INPUTS, &calls);
-    assert_eq!(rt; state_of(&world), (true, 1, 1));
-    assert_eq!(rt; told(&world, 0), Some((1, Mark::Waiting)));
+    assert_state(&rt, &world, (true, 1, 1));
+    assert_told(&rt, &world, 0, Some((1, Mark::Waiting)));
     Ok(())
 }
 
@@ -197,19 +205,19 @@ fn a_solo_poll_gives_way_to_a_starved_party_which_takes_the_lock(
     expect(&rt, &mut world, INPUTS, &calls);
     let starves = [(1, Call::Poll, Answer::Pending)];
     expect(&rt, &mut world, STARVING, &starves);
-    assert_eq!(rt; state_of(&world), (true, 1, 2));
+    assert_state(&rt, &world, (true, 1, 2));
     expect(
         &rt,
         &mut world,
         INPUTS,
         &[(0, Call::Drop, Answer::GivenBack)],
     );
-    assert_eq!(rt; told(&world, 0), Some((2, Mark::Notified)));
+    assert_told(&rt, &world, 0, Some((2, Mark::Notified)));
     world.solo_polls();
     expect(&rt, &mut world, INPUTS, &[(2, Call::Poll, Answer::Pending)]);
-    assert_eq!(rt; state_of(&world), (false, 2, 2));
-    assert_eq!(rt; told(&world, 0), Some((1, Mark::Notified)));
+    assert_state(&rt, &world, (false, 2, 2));
+    assert_told(&rt, &world, 0, Some((1, Mark::Notified)));
     expect(&rt, &mut world, INPUTS, &[(1, Call::Poll, ready(4))]);
-    assert_eq!(rt; state_of(&world), (true, 1, 1));
+    assert_state(&rt, &world, (true, 1, 1));
     Ok(())
 }

@@ -81,6 +81,18 @@ fn told(entry: Option<Entry<u32>>) -> Option<(u32, Mark)> {
     entry.map(|entry| (entry.key, entry.mark))
 }
 
+fn assert_state(rt: &impl Abort, world: &World, wanted: (bool, u32, bool, u32)) {
+    assert_eq!(rt; state_of(world), wanted);
+}
+
+fn assert_waiting(rt: &impl Abort, world: &World, wanted: (usize, usize, usize)) {
+    assert_eq!(rt; waiting_in(world), wanted);
+}
+
+fn assert_told(rt: &impl Abort, entry: Option<Entry<u32>>, wanted: Option<(u32, Mark)>) {
+    assert_eq!(rt; told(entry), wanted);
+}
+
 #[test]
 fn a_writer_that_becomes_upgradable_lets_readers_in(rt: HostRuntime) -> Result<(), Fail> {
     let mut world = of_parties(rt.alloc(), 2, 1)?;
@@ -91,10 +103,10 @@ fn a_writer_that_becomes_upgradable_lets_readers_in(rt: HostRuntime) -> Result<(
         (0, Call::DowngradeToUpgradable, Answer::GivenBack),
     ];
     expect(&rt, &mut world, INPUTS, &calls);
-    assert_eq!(rt; state_of(&world), (true, 0, false, 1));
-    assert_eq!(rt; told(world.no_writer_entry(0)), Some((1, Mark::Notified)));
+    assert_state(&rt, &world, (true, 0, false, 1));
+    assert_told(&rt, world.no_writer_entry(0), Some((1, Mark::Notified)));
     expect(&rt, &mut world, INPUTS, &[(1, Call::Poll, ready(9))]);
-    assert_eq!(rt; state_of(&world), (true, 0, false, 2));
+    assert_state(&rt, &world, (true, 0, false, 2));
     world.laws();
     assert_eq!(rt; world.into_inner(), 9);
     Ok(())
@@ -109,8 +121,8 @@ fn a_writer_waits_for_readers_and_gives_all_back(rt: HostRuntime) -> Result<(), 
         (2, Call::TryRead, Answer::None),
     ];
     expect(&rt, &mut world, INPUTS, &calls);
-    assert_eq!(rt; waiting_in(&world), (0, 1, 0));
-    assert_eq!(rt; told(world.no_readers_entry(0)), Some((1, Mark::Waiting)));
+    assert_waiting(&rt, &world, (0, 1, 0));
+    assert_told(&rt, world.no_readers_entry(0), Some((1, Mark::Waiting)));
     assert!(rt; world.no_readers_entry(1).is_none());
     let calls = [
         (1, Call::Drop, Answer::GivenBack),
@@ -118,7 +130,7 @@ fn a_writer_waits_for_readers_and_gives_all_back(rt: HostRuntime) -> Result<(), 
         (3, Call::TryUpgradableRead, granted(0)),
     ];
     expect(&rt, &mut world, INPUTS, &calls);
-    assert_eq!(rt; state_of(&world), (true, 0, false, 3));
+    assert_state(&rt, &world, (true, 0, false, 3));
     Ok(())
 }
 
@@ -132,10 +144,10 @@ fn a_release_of_the_writer_wakes_both_lists(rt: HostRuntime) -> Result<(), Fail>
         (0, Call::Drop, Answer::GivenBack),
     ];
     expect(&rt, &mut world, INPUTS, &calls);
-    assert_eq!(rt; state_of(&world), (false, 0, false, 0));
-    assert_eq!(rt; waiting_in(&world), (1, 0, 1));
-    assert_eq!(rt; told(world.turn_entry(0)), Some((2, Mark::Notified)));
-    assert_eq!(rt; told(world.no_writer_entry(0)), Some((1, Mark::Notified)));
+    assert_state(&rt, &world, (false, 0, false, 0));
+    assert_waiting(&rt, &world, (1, 0, 1));
+    assert_told(&rt, world.turn_entry(0), Some((2, Mark::Notified)));
+    assert_told(&rt, world.no_writer_entry(0), Some((1, Mark::Notified)));
     Ok(())
 }
 
@@ -166,7 +178,7 @@ fn an_upgrade_without_memory_keeps_its_turn(rt: HostRuntime) -> Result<(), Fail>
     expect(&rt, &mut world, INPUTS, &calls);
     let refused = [(0, Call::Poll, Answer::Refused(1))];
     expect(&rt, &mut world, WITHOUT_MEMORY, &refused);
-    assert_eq!(rt; state_of(&world), (true, 0, true, 1));
+    assert_state(&rt, &world, (true, 0, true, 1));
     let calls = [
         (1, Call::Drop, Answer::GivenBack),
         (0, Call::Poll, ready(5)),
@@ -244,7 +256,7 @@ fn a_solo_poll_for_the_turn_gives_way_to_a_starved_party_which_takes_it(
     expect(&rt, &mut world, INPUTS, &calls);
     let starves = [(1, Call::Poll, Answer::Pending)];
     expect(&rt, &mut world, STARVING, &starves);
-    assert_eq!(rt; state_of(&world), (true, 1, false, 2));
+    assert_state(&rt, &world, (true, 1, false, 2));
     expect(
         &rt,
         &mut world,
@@ -253,10 +265,10 @@ fn a_solo_poll_for_the_turn_gives_way_to_a_starved_party_which_takes_it(
     );
     world.solo_polls();
     expect(&rt, &mut world, INPUTS, &[(2, Call::Poll, Answer::Pending)]);
-    assert_eq!(rt; state_of(&world), (false, 2, false, 1));
-    assert_eq!(rt; waiting_in(&world), (2, 0, 0));
+    assert_state(&rt, &world, (false, 2, false, 1));
+    assert_waiting(&rt, &world, (2, 0, 0));
     expect(&rt, &mut world, INPUTS, &[(1, Call::Poll, Answer::Pending)]);
-    assert_eq!(rt; state_of(&world), (true, 1, true, 1));
+    assert_state(&rt, &world, (true, 1, true, 1));
     let calls = [
         (3, Call::Drop, Answer::GivenBack),
         (1, Call::Poll, ready(4)),
@@ -266,6 +278,6 @@ fn a_solo_poll_for_the_turn_gives_way_to_a_starved_party_which_takes_it(
         (2, Call::Poll, ready(4)),
     ];
     expect(&rt, &mut world, INPUTS, &calls);
-    assert_eq!(rt; state_of(&world), (true, 0, false, 2));
+    assert_state(&rt, &world, (true, 0, false, 2));
     Ok(())
 }

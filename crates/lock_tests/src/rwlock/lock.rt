@@ -65,13 +65,30 @@ fn told(entry: Option<Entry<u32>>) -> Option<(u32, Mark)> {
     entry.map(|entry| (entry.key, entry.mark))
 }
 
+fn assert_state(rt: &impl Abort, lock: &RwLock, wanted: (bool, bool, u32)) {
+    assert_eq!(rt; state_of(lock), wanted);
+}
+
+fn assert_standing(rt: &impl Abort, lock: &RwLock, party: u32, wanted: Option<Place>) {
+    assert_eq!(rt; standing(lock, party), wanted);
+}
+
+/// How many wait until no writer is, and until no reader is left.
+fn assert_waiting(rt: &impl Abort, lock: &RwLock, wanted: (usize, usize)) {
+    assert_eq!(rt; (lock.no_writer_len(), lock.no_readers_len()), wanted);
+}
+
+fn assert_told(rt: &impl Abort, entry: Option<Entry<u32>>, wanted: Option<(u32, Mark)>) {
+    assert_eq!(rt; told(entry), wanted);
+}
+
 #[test]
 fn a_new_lock_is_free(rt: HostRuntime) -> Result<(), AllocError> {
     let lock = of_parties(rt.alloc(), 2, 10)?;
     assert_eq!(rt; lock.parties(), 2);
-    assert_eq!(rt; standing(&lock, 1), Some(Place::Out));
-    assert_eq!(rt; state_of(&lock), (false, false, 0));
-    assert_eq!(rt; (lock.no_writer_len(), lock.no_readers_len()), (0, 0));
+    assert_standing(&rt, &lock, 1, Some(Place::Out));
+    assert_state(&rt, &lock, (false, false, 0));
+    assert_waiting(&rt, &lock, (0, 0));
     lock.laws();
     lock.solo_polls();
     Ok(())
@@ -86,14 +103,14 @@ fn readers_wait_for_a_writer_and_it_for_them(rt: HostRuntime) -> Result<(), Allo
         (2, RwCall::Read, End::Pending),
     ];
     expect(&rt, &mut lock, true, &calls);
-    assert_eq!(rt; state_of(&lock), (true, true, 1));
-    assert_eq!(rt; (lock.no_writer_len(), lock.no_readers_len()), (1, 1));
-    assert_eq!(rt; told(lock.no_writer_entry(0)), Some((2, Mark::Waiting)));
+    assert_state(&rt, &lock, (true, true, 1));
+    assert_waiting(&rt, &lock, (1, 1));
+    assert_told(&rt, lock.no_writer_entry(0), Some((2, Mark::Waiting)));
     expect(&rt, &mut lock, true, &[(0, RwCall::Drop, End::GivenBack)]);
-    assert_eq!(rt; told(lock.no_readers_entry(0)), Some((1, Mark::Notified)));
+    assert_told(&rt, lock.no_readers_entry(0), Some((1, Mark::Notified)));
     assert!(rt; lock.no_readers_entry(1).is_none());
     expect(&rt, &mut lock, true, &[(1, RwCall::Poll, End::Got)]);
-    assert_eq!(rt; standing(&lock, 1), Some(Place::Writing));
+    assert_standing(&rt, &lock, 1, Some(Place::Writing));
     let calls = [
         (1, RwCall::Drop, End::GivenBack),
         (2, RwCall::Poll, End::Got),
@@ -112,7 +129,7 @@ fn a_reader_goes_on_after_to_upgradable(rt: HostRuntime) -> Result<(), AllocErro
         (1, RwCall::Poll, End::Got),
     ];
     expect(&rt, &mut lock, true, &calls);
-    assert_eq!(rt; standing(&lock, 0), Some(Place::Upgradable));
+    assert_standing(&rt, &lock, 0, Some(Place::Upgradable));
     assert_eq!(rt; lock.readers(), 2);
     Ok(())
 }
@@ -133,7 +150,7 @@ fn a_dropped_waiting_write_unlocks(rt: HostRuntime) -> Result<(), AllocError> {
         (3, RwCall::TryUpgradableRead, End::Got),
     ];
     expect(&rt, &mut lock, true, &calls);
-    assert_eq!(rt; standing(&lock, 3), Some(Place::Upgradable));
+    assert_standing(&rt, &lock, 3, Some(Place::Upgradable));
     Ok(())
 }
 
@@ -176,7 +193,7 @@ fn a_writer_waits_for_the_turn(rt: HostRuntime) -> Result<(), AllocError> {
     let waits = Place::WaitTurn {
         purpose: Purpose::Write,
     };
-    assert_eq!(rt; standing(&lock, 2), Some(waits));
+    assert_standing(&rt, &lock, 2, Some(waits));
     let calls = [
         (0, RwCall::Downgrade, End::GivenBack),
         (1, RwCall::Poll, End::Got),
@@ -200,7 +217,7 @@ fn a_refused_upgrade_keeps_its_right(rt: HostRuntime) -> Result<(), AllocError> 
     expect(&rt, &mut lock, true, &calls);
     let refused = [(0, RwCall::Poll, End::Refused(Refusal::Memory))];
     expect(&rt, &mut lock, false, &refused);
-    assert_eq!(rt; state_of(&lock), (true, true, 1));
+    assert_state(&rt, &lock, (true, true, 1));
     let calls = [
         (1, RwCall::Drop, End::GivenBack),
         (0, RwCall::Poll, End::Got),
@@ -219,7 +236,7 @@ fn refused_futures_are_as_they_were_made(rt: HostRuntime) -> Result<(), AllocErr
         (1, RwCall::Drop, End::GivenBack),
     ];
     expect(&rt, &mut lock, true, &calls);
-    assert_eq!(rt; standing(&lock, 1), Some(Place::Out));
+    assert_standing(&rt, &lock, 1, Some(Place::Out));
     expect(
         &rt,
         &mut lock,
@@ -231,8 +248,8 @@ fn refused_futures_are_as_they_were_made(rt: HostRuntime) -> Result<(), AllocErr
     let made = Place::Made {
         wanted: Wanted::Write,
     };
-    assert_eq!(rt; standing(&lock, 2), Some(made));
-    assert_eq!(rt; state_of(&lock), (false, false, 1));
+    assert_standing(&rt, &lock, 2, Some(made));
+    assert_state(&rt, &lock, (false, false, 1));
     expect(&rt, &mut lock, true, &[(2, RwCall::Poll, End::Pending)]);
     Ok(())
 }
