@@ -135,7 +135,7 @@ impl<W: Drop> Event<W> {
     {
         if let Some(back) = self.entries.last() {
             let number = back.key.id.number.wrapping_add(1);
-            if !self.has(EntryId { number }) {
+            if !self.contains(EntryId { number }) {
                 return EntryId { number };
             }
         }
@@ -148,15 +148,15 @@ impl<W: Drop> Event<W> {
         ensures smallest { IsTakenBelow result.number self.now.entries }
     {
         for number in 0..self.len() {
-            if !self.has(EntryId { number }) {
+            if !self.contains(EntryId { number }) {
                 return EntryId { number };
             }
         }
         EntryId { number: self.len() }
     }
 
-    /// Whether an entry has this id.
-    fn has(&self, id: EntryId) -> bool
+    /// Whether an entry has this id, so that the calls that name an entry can be made with it.
+    pub fn contains(&self, id: EntryId) -> bool
         ensures { result ≡ is_listed (has_id id) self.now.entries }
     {
         self.entries.iter().any(|e| e.key.id.number == id.number)
@@ -380,6 +380,3 @@ fn pass_on<K: Drop>(entries: &mut Vec<Entry<K>>, mark: Mark)
         Mark::Additional => mark_waiting(entries, Mark::Additional, 1),
     }
 }
-
-#[cfg(test)]
-mod tests;

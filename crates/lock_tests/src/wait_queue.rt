@@ -29,7 +29,7 @@ fn of_parties(alloc: Global, parties: u32) -> Result<WaitQueue, AllocError>
 }
 
 #[test]
-fn parties_join_ask_and_take_their_notifications(rt: HostRuntime) -> Result<(), Fail> {
+fn parties_join_at_the_back_and_wait(rt: HostRuntime) -> Result<(), Fail> {
     let mut list = of_parties(rt.alloc(), 3)?;
     assert!(rt; list.is_empty());
     list.join(2);
@@ -37,6 +37,15 @@ fn parties_join_ask_and_take_their_notifications(rt: HostRuntime) -> Result<(), 
     assert!(rt; !list.is_empty());
     assert!(rt; !list.ask(2));
     assert_entries(&rt, &list, &[(2, Waiting), (0, Waiting)]);
+    list.laws();
+    Ok(())
+}
+
+#[test]
+fn a_notified_party_takes_its_notification_and_may_join_again(rt: HostRuntime) -> Result<(), Fail> {
+    let mut list = of_parties(rt.alloc(), 3)?;
+    list.join(2);
+    list.join(0);
     list.notify(1);
     assert_entries(&rt, &list, &[(2, Notified), (0, Waiting)]);
     assert!(rt; !list.ask(0));
@@ -44,7 +53,6 @@ fn parties_join_ask_and_take_their_notifications(rt: HostRuntime) -> Result<(), 
     assert_entries(&rt, &list, &[(0, Waiting)]);
     list.join(2);
     assert_entries(&rt, &list, &[(0, Waiting), (2, Waiting)]);
-    list.laws();
     Ok(())
 }
 

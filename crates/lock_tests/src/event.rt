@@ -1,5 +1,7 @@
-use super::*;
-use Mark::{Additional, Notified, Waiting};
+//! The event list, through its public calls.
+
+use lock_event::Mark::{self, Additional, Notified, Waiting};
+use lock_event::{EntryId, Event, Memory};
 use std::process::Abort;
 use std::test::Fail;
 
@@ -16,12 +18,12 @@ fn join(rt: &impl Abort, list: &mut Event<u32>) -> Result<EntryId, Fail> {
 }
 
 fn poll(rt: &impl Abort, list: &mut Event<u32>, id: EntryId, waker: u32) -> bool {
-    assert!(rt; list.has(id));
+    assert!(rt; list.contains(id));
     list.poll_entry(id, waker)
 }
 
 fn leave(rt: &impl Abort, list: &mut Event<u32>, id: EntryId) {
-    assert!(rt; list.has(id));
+    assert!(rt; list.contains(id));
     list.leave(id);
 }
 
@@ -42,7 +44,7 @@ fn entries_join_at_the_back_and_wait(rt: HostRuntime) -> Result<(), Fail> {
     let second = join(&rt, &mut list)?;
     assert!(rt; !list.is_empty());
     assert_marks(&rt, &list, &[Waiting, Waiting]);
-    assert!(rt; list.has(first));
+    assert!(rt; list.contains(first));
     assert!(rt; !list.is_notified(first));
     assert_eq!(rt; list.len(), 2);
     assert_eq!(rt; list.entry(0).key.id, first);
@@ -60,7 +62,7 @@ fn notify_counts_those_already_marked(rt: HostRuntime) -> Result<(), Fail> {
     }
     list.notify(1);
     assert_marks(&rt, &list, &[Notified, Waiting, Waiting, Waiting]);
-    assert!(rt; list.has(first));
+    assert!(rt; list.contains(first));
     assert!(rt; list.is_notified(first));
     list.notify(1);
     assert_marks(&rt, &list, &[Notified, Waiting, Waiting, Waiting]);
