@@ -15,15 +15,15 @@ pub fn write_answer<O: Write>(answer: Answer, output: &mut O) -> io::Result<()>
     ensures { Prints (O.contents output.old) (O.contents output.new) result (answer_text answer) }
 {
     match answer {
-        Answer::Stepped => writeln!(output, "stepped"),
-        Answer::Pending => writeln!(output, "pending"),
+        Answer::Stepped => write_line("stepped", output),
+        Answer::Pending => write_line("pending", output),
         Answer::Ready(got) => write_got("ready", got, output),
         Answer::Granted(got) => write_got("granted", got, output),
-        Answer::None => writeln!(output, "none"),
-        Answer::GivenBack => writeln!(output, "given back"),
-        Answer::Waiting => writeln!(output, "waiting"),
+        Answer::None => write_line("none", output),
+        Answer::GivenBack => write_line("given back", output),
+        Answer::Waiting => write_line("waiting", output),
         Answer::Refused(number) => write_refused(number, output),
-        Answer::NotPossible => writeln!(output, "not possible"),
+        Answer::NotPossible => write_line("not possible", output),
     }
 }
 
@@ -40,11 +40,18 @@ pub fn write_reply<O: Write>(reply: Reply, output: &mut O) -> io::Result<()>
     ensures { Prints (O.contents output.old) (O.contents output.new) result (reply_text reply) }
 {
     match reply {
-        Reply::Done => writeln!(output, "ok"),
-        Reply::Nothing => writeln!(output, "none"),
+        Reply::Done => write_line("ok", output),
+        Reply::Nothing => write_line("none", output),
         Reply::Value(value) => writeln!(output, "{value}"),
-        Reply::NotPossible => writeln!(output, "not possible"),
+        Reply::NotPossible => write_line("not possible", output),
     }
+}
+
+/// Writes this text as one line.
+fn write_line<O: Write>(text: &str, output: &mut O) -> io::Result<()>
+    ensures { Prints (O.contents output.old) (O.contents output.new) result text.now }
+{
+    writeln!(output, "{text}")
 }
 
 /// Writes how a call succeeded and what it got, as one line.
@@ -52,7 +59,7 @@ fn write_got<O: Write>(how: &str, got: Got, output: &mut O) -> io::Result<()>
     ensures { Prints (O.contents output.old) (O.contents output.new) result (how.now ++ got_text got) }
 {
     match got {
-        Got::Plain => writeln!(output, "{how}"),
+        Got::Plain => write_line(how, output),
         Got::Value(value) => writeln!(output, "{how} {value}"),
         Got::Leader(true) => writeln!(output, "{how} leader"),
         Got::Leader(false) => writeln!(output, "{how} follower"),

@@ -85,7 +85,7 @@ pub fn parse(text: &[u8]) -> Option<Command>
 }
 
 /// What a command begins with.
-#[derive(Clone, Copy, Debug, PartialEq, Eq)]
+#[derive(Clone, Copy)]
 enum Verb {
     Mutex,
     RwLock,
@@ -103,16 +103,24 @@ fn named(word: &[u8]) -> Option<Verb>
     ensures asked { (v : Verb) → word.now ≡ name_of v → result ≡ Some v }
 {
     match word {
-        b"mutex" => Some(Verb::Mutex),
-        b"rwlock" => Some(Verb::RwLock),
-        b"begin" => Some(Verb::Begin),
-        b"go" => Some(Verb::Go),
-        b"do" => Some(Verb::Do),
-        b"getmut" => Some(Verb::GetMut),
-        b"take" => Some(Verb::Take),
-        b"show" => Some(Verb::Show),
+        _ if is(word, b"mutex") => Some(Verb::Mutex),
+        _ if is(word, b"rwlock") => Some(Verb::RwLock),
+        _ if is(word, b"begin") => Some(Verb::Begin),
+        _ if is(word, b"go") => Some(Verb::Go),
+        _ if is(word, b"do") => Some(Verb::Do),
+        _ if is(word, b"getmut") => Some(Verb::GetMut),
+        _ if is(word, b"take") => Some(Verb::Take),
+        _ if is(word, b"show") => Some(Verb::Show),
         _ => None,
     }
+}
+
+/// Whether a word is this one, compared as a whole. The prover has much more to do with patterns of bytes,
+/// and with a comparison of slices written out in each arm.
+fn is(word: &[u8], name: &[u8]) -> bool
+    ensures { IsTrue result ↔ (word.now ≡ name.now) }
+{
+    word == name
 }
 
 /// The command that these words ask for, all of them.
@@ -299,7 +307,7 @@ fn call(words: &mut Words<'_>) -> Option<Call>
         → (result ≡ Some c) × (words.new ≡ others) }
 {
     let word = words.next()?;
-    if word == b"put".as_slice() {
+    if is(word, b"put") {
         return Some(Call::Put(number(words)?));
     }
     plain_call(word)
@@ -310,22 +318,21 @@ fn plain_call(word: &[u8]) -> Option<Call>
     ensures word { IfSome result (IsWordOf word.now) }
     ensures asked { (c : Call) → IsWordOf word.now c → result ≡ Some c }
 {
-    // Each word is compared as a whole: the prover has much more to do with patterns of bytes.
     match word {
-        w if w == b"lock".as_slice() => Some(Call::Lock),
-        w if w == b"trylock".as_slice() => Some(Call::TryLock),
-        w if w == b"read".as_slice() => Some(Call::Read),
-        w if w == b"upread".as_slice() => Some(Call::UpgradableRead),
-        w if w == b"write".as_slice() => Some(Call::Write),
-        w if w == b"tryread".as_slice() => Some(Call::TryRead),
-        w if w == b"tryupread".as_slice() => Some(Call::TryUpgradableRead),
-        w if w == b"trywrite".as_slice() => Some(Call::TryWrite),
-        w if w == b"upgrade".as_slice() => Some(Call::Upgrade),
-        w if w == b"tryupgrade".as_slice() => Some(Call::TryUpgrade),
-        w if w == b"downgrade".as_slice() => Some(Call::Downgrade),
-        w if w == b"toupgradable".as_slice() => Some(Call::DowngradeToUpgradable),
-        w if w == b"poll".as_slice() => Some(Call::Poll),
-        w if w == b"drop".as_slice() => Some(Call::Drop),
+        _ if is(word, b"lock") => Some(Call::Lock),
+        _ if is(word, b"trylock") => Some(Call::TryLock),
+        _ if is(word, b"read") => Some(Call::Read),
+        _ if is(word, b"upread") => Some(Call::UpgradableRead),
+        _ if is(word, b"write") => Some(Call::Write),
+        _ if is(word, b"tryread") => Some(Call::TryRead),
+        _ if is(word, b"tryupread") => Some(Call::TryUpgradableRead),
+        _ if is(word, b"trywrite") => Some(Call::TryWrite),
+        _ if is(word, b"upgrade") => Some(Call::Upgrade),
+        _ if is(word, b"tryupgrade") => Some(Call::TryUpgrade),
+        _ if is(word, b"downgrade") => Some(Call::Downgrade),
+        _ if is(word, b"toupgradable") => Some(Call::DowngradeToUpgradable),
+        _ if is(word, b"poll") => Some(Call::Poll),
+        _ if is(word, b"drop") => Some(Call::Drop),
         _ => None,
     }
 }
@@ -365,7 +372,7 @@ fn with_word(mut inputs: Inputs, word: &[u8]) -> Option<Inputs>
 }
 
 /// What an input's word may tell of.
-#[derive(Clone, Copy, Debug, PartialEq, Eq)]
+#[derive(Clone, Copy)]
 enum Topic {
     Memory,
     Starving,
@@ -379,8 +386,8 @@ fn topic_of(word: &[u8]) -> Topic
     ensures maker { result ≡ Topic.Maker → IsTrue (is_of_maker word.now) }
 {
     match word {
-        b"nomem" => Topic::Memory,
-        b"starving" => Topic::Starving,
+        _ if is(word, b"nomem") => Topic::Memory,
+        _ if is(word, b"starving") => Topic::Starving,
         _ => Topic::Maker,
     }
 }
@@ -391,7 +398,7 @@ fn made(word: &[u8]) -> Option<Made>
     ensures asked { (m : Made) → WritesMade word.now m → result ≡ Some m }
 {
     match word.strip_prefix(b"made=")? {
-        b"fail" => Some(Made::Fail),
+        value if is(value, b"fail") => Some(Made::Fail),
         value => Some(Made::Value(line::number(value)?)),
     }
 }

@@ -53,7 +53,7 @@ impl Played for World {
 }
 
 /// Which list of a read-write lock.
-#[derive(Clone, Copy, Debug, PartialEq, Eq)]
+#[derive(Clone, Copy)]
 enum Which {
     /// Those that wait for the turn.
     Turn,
