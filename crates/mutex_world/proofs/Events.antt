@@ -22,7 +22,7 @@ use Rattle.lock_world.specs.declared.standing.Rest.TheVariants as rest
 use Rattle.lock_world.specs.declared.standing.Stage.{Stage}
 use Rattle.lock_world.specs.declared.standing.Stage.TheVariants.{Outside, Inside, Forgotten}
 use Rattle.lock_world.specs.declared.standing.Within.{Within}
-use Rattle.lock_world.specs.Standings.{Standing, outside, inside, forgotten, call_in, refused, StandsAfter, is_decided, decision}
+use Rattle.lock_world.specs.Standings.{Standing, outside, inside, forgotten, call_in, refused, StandsAfter, is_decided, decision, is_possible}
 use Rattle.lock_world.specs.Steps.{nothing, changes}
 use Rattle.mutex_machine.specs.Program.{start_of, next_of, place_after}
 use Rattle.mutex_machine.specs.Machine.{place_at}
@@ -36,6 +36,7 @@ use Rattle.mutex_machine.specs.Roles.{bit, holds}
 use Rattle.mutex_machine.specs.State.{is_holder}
 use Rattle.mutex_world.specs.View.{verdict, stands_as, view_of}
 use Rattle.mutex_machine.proofs.Courses.{begins, goes}
+use Rattle.lock_world.proofs.Clashes.{false_true, true_false, some_none, none_some, outside_inside, is_refused, is_granted}
 use Rattle.mutex_world.proofs.Begun.{for_finished, for_put}
 use Rattle.mutex_world.proofs.Turns.{Turn, starting, going, begun_stands, going_stands, not_called}
 use Rattle.mutex_world.proofs.Tables.{going_within}
@@ -120,7 +121,7 @@ finished_is s what e = for_finished (λ s what. (i : Inputs) × (s ≡ Outside r
 refused_only : (n : ℕ) (b : Answer) → Some (answer.Refused n) ≡ Some b → (P : Answer → Type 0) → P (answer.Refused n) → P b
 refused_only n b e P k = subst P (some_eq e) k
 
-refused_number : (n k : ℕ) → Some (answer.Refused n) ≡ Some (answer.Refused k) → n ≡ k
+refused_number : (n k : ℕ) → answer.Refused n ≡ answer.Refused k → n ≡ k
 refused_number n k e = cc
 
 polled_again : (t : Table) (p : ℕ) (i : Inputs) → Laws t → stage_at t.stages p ≡ Outside rest.Holding → IsGood (view_of t) (record { party = p; what = Begin call.Poll i }) (refused refusal.Finished) (view_of t)
@@ -129,31 +130,32 @@ polled_again t p i k at =
     let called : call_in knows (standing_of (view_of t) p) (Begin call.Poll i) ≡ Some (within kind.LaterPoll rest.Holding) = rw is refl in
     let over : is_poll_after_ready (standing_of (view_of t) p) (Begin call.Poll i) ≡ true = rw is refl in
     let not_first : is_first_poll (standing_of (view_of t) p) (Begin call.Poll i) (entries_of p t.lock.entries) ≡ false = rw is refl in
-    let only : (b : Answer) → decision (refused refusal.Finished) (standing_of (view_of t) p) ≡ Some b → Some (refused refusal.Finished) ≡ Some b = λ b d. sym (ap (decision (refused refusal.Finished)) is) ∙ d in
+    let only : (b : Answer) → decision (refused refusal.Finished) (standing_of (view_of t) p) ≡ Some b → refused refusal.Finished ≡ b = λ b d. some_eq (sym (ap (decision (refused refusal.Finished)) is) ∙ d) in
+    let unlike : (b : Answer) → decision (refused refusal.Finished) (standing_of (view_of t) p) ≡ Some b → is_refused b ≡ false → ⊥ = λ b d h. true_false (ap is_refused (only b d) ∙ h) in
     record {
       legal = record {
-        possible = record { exactly = ((λ e. absurd (cc)), (λ e. absurd (cc))); unchanged = λ e. refl };
+        possible = record { exactly = ((λ e. absurd (true_false (ap is_possible e))), (λ e. absurd (some_none (sym called ∙ e)))); unchanged = λ e. refl };
         one_change = record { deed = nothing; state = refl; entries = refl; limit = refl; opening_value = refl; others = λ q apart. refl; parties = refl; parting = λ h. refl };
         taken_fairly = λ q is was. absurd (was is);
         others_keep = record { lock = λ q apart. ((λ h. h), (λ h. h)); starved = λ q apart. refl; limit = λ was is. absurd (cc) };
         carries = record {
-          ready = λ got d. absurd (cc (only (answer.Ready got) d.1));
-          granted = λ got d. absurd (cc (only (answer.Granted got) d.1));
+          ready = λ got d. absurd (unlike (answer.Ready got) d.1 refl);
+          granted = λ got d. absurd (unlike (answer.Granted got) d.1 refl);
         };
-        waits = λ d. absurd (cc (only answer.Pending d.1));
+        waits = λ d. absurd (unlike answer.Pending d.1 refl);
         refused_for_cause = record {
           cause = λ n d. (refusal.Finished, sym (refused_number _ n (only (answer.Refused n) d.1)), refl);
           after_ready = ((λ e. over), (λ e. refl));
         };
-        leaves_clear = record { each = each t k; refused = λ h. absurd (cc) };
-        value_kept = record { put = λ v e h. absurd (cc); kept = λ h. refl };
+        leaves_clear = record { each = each t k; refused = λ h. absurd (false_true h) };
+        value_kept = record { put = λ v e h. absurd (none_some e); kept = λ h. refl };
         ends_properly = record {
           stands = λ u e. let P : Within → Type 0 = λ u. StandsAfter rest.Holding u (refused refusal.Finished) (standing_of (view_of t) p) in
               subst P (some_eq (sym called ∙ e)) (refl, is);
-          as_decided = λ u b e h. absurd (cc);
+          as_decided = λ u b e h. absurd (outside_inside (sym is ∙ e));
         };
       };
-      at_once = record { at_once = λ e h. absurd (cc); first_poll = λ e. absurd (cc) };
+      at_once = record { at_once = λ e h. absurd (cc); first_poll = λ e. absurd (false_true (sym not_first ∙ e)) };
     }
 
 -- ---- a value is put
@@ -164,7 +166,7 @@ put_is s what n e = for_put (λ s what n. (i : Inputs) × (s ≡ Outside rest.Ho
 put_eq : (n v : ℕ) → Some n ≡ Some v → n ≡ v
 put_eq n v e = cc
 
-granted_eq : (n : ℕ) (got : _) → Some (answer.Granted (Value n)) ≡ Some (answer.Granted got) → got ≡ Value n
+granted_eq : (n : ℕ) (got : _) → answer.Granted (Value n) ≡ answer.Granted got → got ≡ Value n
 granted_eq n got e = cc
 
 same_party : (p q : ℕ) → Some p ≡ Some q → q ≡ p
@@ -198,10 +200,11 @@ module _ (t : Table) (n : ℕ) (p : ℕ) (i : Inputs) where
       let not_first : is_first_poll (standing_of (view_of t) p) (Begin (call.Put n) i) (entries_of p t.lock.entries) ≡ false = rw is refl in
       let out : (q : ℕ) → q ≢ p → holds (place_at t.lock.places q) ≡ 0 =
       λ q apart. sym (sees.holds_bit (place_at t.lock.places q)) ∙ no_bit (is_holder (place_at t.lock.places q)) (λ one. apart (same_party p q (sym own.1 ∙ sees.holds_it t.lock.places q k.mutex.one_holder (sym (sees.holds_bit (place_at t.lock.places q)) ∙ one)))) in
-      let only : (b : Answer) → decision (answer.Granted (Value n)) (standing_of (view_of left) p) ≡ Some b → Some (answer.Granted (Value n)) ≡ Some b = λ b d. sym (ap (decision (answer.Granted (Value n))) now) ∙ d in
+      let only : (b : Answer) → decision (answer.Granted (Value n)) (standing_of (view_of left) p) ≡ Some b → answer.Granted (Value n) ≡ b = λ b d. some_eq (sym (ap (decision (answer.Granted (Value n))) now) ∙ d) in
+      let unlike : (b : Answer) → decision (answer.Granted (Value n)) (standing_of (view_of left) p) ≡ Some b → is_granted b ≡ false → ⊥ = λ b d h. true_false (ap is_granted (only b d) ∙ h) in
       record {
         legal = record {
-          possible = record { exactly = ((λ e. absurd (cc)), (λ e. absurd (cc))); unchanged = λ e. absurd (cc) };
+          possible = record { exactly = ((λ e. absurd (true_false (ap is_possible e))), (λ e. absurd (some_none (sym called ∙ e)))); unchanged = λ e. absurd (true_false (ap is_possible e)) };
           one_change = record {
             deed = changes (puts n);
             state = refl;
@@ -210,31 +213,31 @@ module _ (t : Table) (n : ℕ) (p : ℕ) (i : Inputs) where
             opening_value = refl;
             others = λ q apart. stood left q k2 ∙ (unvalued t.value n (stage_at t.stages q) (place_at t.lock.places q) (view.verdict_same n t.value (place_at t.lock.places q) (out q apart)) ∙ sym (stood t q k));
             parties = view.length-standings n t.stages t.lock.places k.fits.as_many ∙ sym (view.length-standings t.value t.stages t.lock.places k.fits.as_many);
-            parting = λ h. let no : is_decided (outside rest.Holding) || is_drop (Begin (call.Put n) i) ≡ true = rw is at h in absurd (cc);
+            parting = λ h. let no : is_decided (outside rest.Holding) || is_drop (Begin (call.Put n) i) ≡ true = rw is at h in absurd (false_true no);
           };
           taken_fairly = λ q is was. absurd (was is);
           others_keep = record { lock = λ q apart. ((λ h. h), (λ h. h)); starved = λ q apart. refl; limit = λ was is. absurd (cc) };
           carries = record {
-            ready = λ got d. absurd (cc (only (answer.Ready got) d.1));
+            ready = λ got d. absurd (unlike (answer.Ready got) d.1 refl);
             granted = λ got d. (granted_eq n got (only (answer.Granted got) d.1), own.1);
           };
-          waits = λ d. absurd (cc (only answer.Pending d.1));
+          waits = λ d. absurd (unlike answer.Pending d.1 refl);
           refused_for_cause = record {
-            cause = λ c d. absurd (cc (only (answer.Refused c) d.1));
-            after_ready = ((λ e. absurd (cc)), (λ e. absurd (cc)));
+            cause = λ c d. absurd (unlike (answer.Refused c) d.1 refl);
+            after_ready = ((λ e. absurd (true_false (ap is_granted e))), (λ e. absurd (false_true (sym not_over ∙ e))));
           };
-          leaves_clear = record { each = each left k2; refused = λ h. absurd (cc) };
+          leaves_clear = record { each = each left k2; refused = λ h. absurd (false_true h) };
           value_kept = record {
             put = λ v e h. let same : n ≡ v = put_eq n v e in (ap (λ x. answer.Granted (Value x)) same, same);
-            kept = λ h. elim h as (λ _. n ≡ t.value) [ inl e ↦ absurd (cc) | inr e ↦ absurd (cc) ];
+            kept = λ h. elim h as (λ _. n ≡ t.value) [ inl e ↦ absurd (some_none e) | inr e ↦ absurd (true_false (ap is_possible e)) ];
           };
           ends_properly = record {
             stands = λ u e. let P : Within → Type 0 = λ u. StandsAfter rest.Holding u (answer.Granted (Value n)) (standing_of (view_of left) p) in
                 subst P (some_eq (sym called ∙ e)) (refl, now);
-            as_decided = λ u b e h. absurd (cc);
+            as_decided = λ u b e h. absurd (outside_inside (sym is ∙ e));
           };
         };
-        at_once = record { at_once = λ e h. absurd (cc); first_poll = λ e. absurd (cc) };
+        at_once = record { at_once = λ e h. absurd (cc); first_poll = λ e. absurd (false_true (sym not_first ∙ e)) };
       }
 
 -- ---- a step of a call

@@ -24,12 +24,13 @@ use Rattle.rwlock_world.specs.declared.world.table.Plan.TheVariants as plan
 use Rattle.rwlock_world.specs.declared.world.table.Sought.{Sought}
 use Rattle.rwlock_world.specs.declared.world.table.Sought.TheVariants as sought
 use Rattle.rwlock_world.specs.Plans.{begins_by, with_guard, plan_of, within, sought_at, agrees, is_out, is_future, is_guard, goes_with}
+use Rattle.lock_world.proofs.Clashes.{false_true, none_some}
 
 -- ---- the places of parties that are outside every call
 
 pub at_out : (Q : Place → Type 0) → Q place.Out → (x : Place) → is_out x ≡ true → Q x
 at_out Q k place.Out h = k
-at_out Q k _ h = absurd (cc)
+at_out Q k _ h = absurd (false_true h)
 
 pub record AtFuture (Q : Place → Type 0) : Type 0 where
   pub made : (w : Wanted) → Q (place.Made w)
@@ -44,7 +45,7 @@ at_future Q k place.AskNoWriter h = k.no_writer
 at_future Q k (place.WaitTurn p) h = k.turn p
 at_future Q k (place.AwaitNoReaders u) h = k.no_readers u
 at_future Q k (place.LookUnlisted true) h = k.upgrade
-at_future Q k _ h = absurd (cc)
+at_future Q k _ h = absurd (false_true h)
 
 pub record AtGuard (Q : Place → Type 0) : Type 0 where
   pub reading : Q place.Reading
@@ -55,7 +56,7 @@ pub at_guard : (Q : Place → Type 0) → AtGuard Q → (x : Place) → is_guard
 at_guard Q k place.Reading h = k.reading
 at_guard Q k place.Upgradable h = k.upgradable
 at_guard Q k place.Writing h = k.writing
-at_guard Q k _ h = absurd (cc)
+at_guard Q k _ h = absurd (false_true h)
 
 -- ---- the calls
 
@@ -131,32 +132,32 @@ module _ (P : Stage → Option Sought → What → Place → RwCall → Within �
   -- a call on a guard, by what the guard is for
   by_guard : (o : Option Sought) (c : Call) (i : Inputs) (x : Place) (d : RwCall) (w : Within) → with_guard o c ≡ Some (plan.Start d w) → is_guard x ≡ true → Case (Outside Holding) o (Begin c i) d w x
   by_guard (Some sought.Upgradable) call.Upgrade i x d w e = at_guard (Case (Outside Holding) (Some sought.Upgradable) (Begin call.Upgrade i) d w) (record {
-    reading = λ a. absurd (cc);
+    reading = λ a. absurd (false_true a);
     upgradable = λ a. moved _ _ _ _ _ _ _ _ e (place.Upgrade, refl, k.upgrade i);
-    writing = λ a. absurd (cc);
+    writing = λ a. absurd (false_true a);
   }) x
   by_guard (Some sought.Upgradable) call.TryUpgrade i x d w e = at_guard (Case (Outside Holding) (Some sought.Upgradable) (Begin call.TryUpgrade i) d w) (record {
-    reading = λ a. absurd (cc);
+    reading = λ a. absurd (false_true a);
     upgradable = λ a. moved _ _ _ _ _ _ _ _ e (place.TryUpgrade, refl, k.try_upgrade i);
-    writing = λ a. absurd (cc);
+    writing = λ a. absurd (false_true a);
   }) x
   by_guard (Some sought.Upgradable) call.Downgrade i x d w e = at_guard (Case (Outside Holding) (Some sought.Upgradable) (Begin call.Downgrade i) d w) (record {
-    reading = λ a. absurd (cc);
+    reading = λ a. absurd (false_true a);
     upgradable = λ a. moved _ _ _ _ _ _ _ _ e (place.ReleaseTurn ending.Reading, refl, k.downgrade_upgradable i);
-    writing = λ a. absurd (cc);
+    writing = λ a. absurd (false_true a);
   }) x
   by_guard (Some sought.Write) call.Downgrade i x d w e = at_guard (Case (Outside Holding) (Some sought.Write) (Begin call.Downgrade i) d w) (record {
-    reading = λ a. absurd (cc);
-    upgradable = λ a. absurd (cc);
+    reading = λ a. absurd (false_true a);
+    upgradable = λ a. absurd (false_true a);
     writing = λ a. moved _ _ _ _ _ _ _ _ e (place.Down false, refl, k.downgrade_writer i);
   }) x
   by_guard (Some sought.Write) call.DowngradeToUpgradable i x d w e = at_guard (Case (Outside Holding) (Some sought.Write) (Begin call.DowngradeToUpgradable i) d w) (record {
-    reading = λ a. absurd (cc);
-    upgradable = λ a. absurd (cc);
+    reading = λ a. absurd (false_true a);
+    upgradable = λ a. absurd (false_true a);
     writing = λ a. moved _ _ _ _ _ _ _ _ e (place.Down true, refl, k.to_upgradable i);
   }) x
   by_guard (Some sought.Write) (call.Put v) i x d w e = absurd (cc)
-  by_guard _ _ i x d w e = absurd (cc)
+  by_guard _ _ i x d w e = absurd (none_some e)
 
   from_rest : (r : Rest) (o : Option Sought) (c : Call) (i : Inputs) (x : Place) (d : RwCall) (w : Within) → begins_by r o c ≡ Some (plan.Start d w) → goes_with (Outside r) x ≡ true → Case (Outside r) o (Begin c i) d w x
   from_rest Idle o call.Read i x d w e g = at_out (Case (Outside Idle) o (Begin call.Read i) d w) (λ a. moved _ _ _ _ _ _ _ _ e (place.EnterRead false, refl, k.read o i)) x g
@@ -165,14 +166,14 @@ module _ (P : Stage → Option Sought → What → Place → RwCall → Within �
   from_rest Idle o call.TryRead i x d w e g = at_out (Case (Outside Idle) o (Begin call.TryRead i) d w) (λ a. moved _ _ _ _ _ _ _ _ e (place.TryRead, refl, k.try_read o i)) x g
   from_rest Idle o call.TryUpgradableRead i x d w e g = at_out (Case (Outside Idle) o (Begin call.TryUpgradableRead i) d w) (λ a. moved _ _ _ _ _ _ _ _ e (place.TryTurn purpose.UpgradableRead, refl, k.try_upgradable o i)) x g
   from_rest Idle o call.TryWrite i x d w e g = at_out (Case (Outside Idle) o (Begin call.TryWrite i) d w) (λ a. moved _ _ _ _ _ _ _ _ e (place.TryTurn purpose.Write, refl, k.try_write o i)) x g
-  from_rest Idle o _ i x d w e g = absurd (cc)
+  from_rest Idle o _ i x d w e g = absurd (none_some e)
   from_rest Pending o call.Poll i x d w e g = λ a. moved _ _ _ _ _ _ _ _ e (polled o i x g a)
   from_rest Pending o call.Drop i x d w e g = λ a. moved _ _ _ _ _ _ _ _ e (dropped o i x g)
-  from_rest Pending o _ i x d w e g = absurd (cc)
+  from_rest Pending o _ i x d w e g = absurd (none_some e)
   from_rest Holding o call.Drop i x d w e g = λ a. moved _ _ _ _ _ _ _ _ e (given_back o i x g)
   from_rest Holding o call.Poll i x d w e g = absurd (cc)
   from_rest Holding o c i x d w e g = by_guard o c i x d w e g
-  from_rest Finished o _ i x d w e g = absurd (cc)
+  from_rest Finished o _ i x d w e g = absurd (none_some e)
 
   pub for_begun : (s : Stage) (o : Option Sought) (what : What) (x : Place) (d : RwCall) (w : Within) → plan_of s o what ≡ Some (plan.Start d w) → goes_with s x ≡ true → agrees (sought_at x) o ≡ true → Begins s o what x d w
   for_begun (Outside r) o (Begin c i) x d w e g a = from_rest r o c i x d w e g a

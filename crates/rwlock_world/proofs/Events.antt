@@ -20,7 +20,7 @@ use Rattle.lock_world.specs.declared.standing.Stage.TheVariants.{Outside, Inside
 use Rattle.lock_world.specs.declared.standing.Within.{Within}
 use Rattle.lock_world.specs.Frame.{is_drop, is_poll_after_ready}
 use Rattle.lock_world.specs.Rights.{Right, write}
-use Rattle.lock_world.specs.Standings.{Standing, outside, inside, forgotten, inputs_of, call_in, refused, StandsAfter, is_decided, decision}
+use Rattle.lock_world.specs.Standings.{Standing, outside, inside, forgotten, inputs_of, call_in, is_possible, refused, StandsAfter, is_decided, decision}
 use Rattle.lock_world.specs.Steps.{nothing, changes}
 use Rattle.mutex_machine.specs.declared.program.Place.{Place as TurnPlace}
 use Rattle.mutex_machine.specs.Machine.{place_at as turn_at}
@@ -42,6 +42,7 @@ use Rattle.rwlock_world.specs.Legal.{knows, call_of, HasItsOwn, HasSought, HasJu
 use Rattle.rwlock_world.specs.Plans.{begins_by, with_guard, plan_of, answer_of, stage_after, begins_to_seek, goes_on_seeking, stage_at, seeking, sought_at, agrees, is_guard, course_of, is_on_course, within}
 use Rattle.rwlock_world.specs.Table.{Table, IsTable, Steps, Does, IsStep, plan_in}
 use Rattle.rwlock_world.specs.View.{right_of, verdict, stands_as, view_of}
+use Rattle.lock_world.proofs.Clashes.{false_true, true_false, some_none, none_some, outside_inside, is_refused, is_granted}
 use Rattle.rwlock_world.proofs.Begun.{at_guard}
 use Rattle.rwlock_world.proofs.Stages.{starts, going_on_course, strays_not}
 use Rattle.rwlock_world.proofs.Tables.{walks}
@@ -184,7 +185,7 @@ put_is (Inside v) o (Begin c i) n e = absurd (cc)
 put_is (Inside v) o (Go i) n e = absurd (cc)
 put_is Forgotten o _ n e = absurd (cc)
 
-refused_number : (n k : ℕ) → Some (answer.Refused n) ≡ Some (answer.Refused k) → n ≡ k
+refused_number : (n k : ℕ) → answer.Refused n ≡ answer.Refused k → n ≡ k
 refused_number n k e = cc
 
 polled_again : (t : Table) (p : ℕ) (i : Inputs) → Laws t → stage_at t.stages p ≡ Outside rest.Holding → Legal (view_of t) (record { party = p; what = Begin call.Poll i }) (refused refusal.Finished) (view_of t)
@@ -192,32 +193,33 @@ polled_again t p i k at =
     let is : standing_of (view_of t) p ≡ outside rest.Holding = stood t p k ∙ ap (λ s. stands_as t.value s (place_at t.lock.places p) (turn_at t.lock.turn.places p)) at in
     let called : call_in (knows (sought_by (view_of t) p)) (standing_of (view_of t) p) (Begin call.Poll i) ≡ Some (within kind.LaterPoll rest.Holding) = rw is refl in
     let over : is_poll_after_ready (standing_of (view_of t) p) (Begin call.Poll i) ≡ true = rw is refl in
-    let only : (b : Answer) → decision (refused refusal.Finished) (standing_of (view_of t) p) ≡ Some b → Some (refused refusal.Finished) ≡ Some b = λ b d. sym (ap (decision (refused refusal.Finished)) is) ∙ d in
+    let only : (b : Answer) → decision (refused refusal.Finished) (standing_of (view_of t) p) ≡ Some b → refused refusal.Finished ≡ b = λ b d. some_eq (sym (ap (decision (refused refusal.Finished)) is) ∙ d) in
+    let unlike : (b : Answer) → decision (refused refusal.Finished) (standing_of (view_of t) p) ≡ Some b → is_refused b ≡ false → ⊥ = λ b d h. true_false (ap is_refused (only b d) ∙ h) in
     record {
-      possible = record { exactly = ((λ e. absurd (cc)), (λ e. absurd (cc))); unchanged = λ e. refl };
+      possible = record { exactly = ((λ e. absurd (true_false (ap is_possible e))), (λ e. absurd (some_none (sym called ∙ e)))); unchanged = λ e. refl };
       one_change = record { deed = nothing; state = refl; allowed = tt; turn_list = refl; no_readers = refl; no_writer = refl; starved_limit = refl; readers_limit = refl; opening_value = refl; sought = set_back (view_of t).sought p; others = λ q apart. refl; parties = refl; parting = λ h. refl };
       carries = record {
-        ready = λ got d. absurd (cc (only (answer.Ready got) d.1));
-        granted = λ got d. absurd (cc (only (answer.Granted got) d.1));
+        ready = λ got d. absurd (unlike (answer.Ready got) d.1 refl);
+        granted = λ got d. absurd (unlike (answer.Granted got) d.1 refl);
       };
-      waits = λ d. absurd (cc (only answer.Pending d.1));
+      waits = λ d. absurd (unlike answer.Pending d.1 refl);
       refused_for_cause = record {
         cause = λ n d. (refusal.Finished, sym (refused_number _ n (only (answer.Refused n) d.1)), refl);
         after_ready = ((λ e. over), (λ e. refl));
       };
-      leaves_clear = record { each = each t k; refused = λ h. absurd (cc); gives_up_turn = λ h e. absurd (cc); keeps_turn = λ h e. absurd (cc) };
-      value_kept = record { put = λ v e h. absurd (cc); kept = λ h. refl };
+      leaves_clear = record { each = each t k; refused = λ h. absurd (false_true h); gives_up_turn = λ h e. absurd (false_true h); keeps_turn = λ h e. absurd (false_true h) };
+      value_kept = record { put = λ v e h. absurd (none_some e); kept = λ h. refl };
       ends_properly = record {
         stands = λ u e. let P : Within → Type 0 = λ u. StandsAfter rest.Holding u (refused refusal.Finished) (standing_of (view_of t) p) in
             subst P (some_eq (sym called ∙ e)) (refl, is);
-        as_decided = λ u b e h. absurd (cc);
+        as_decided = λ u b e h. absurd (outside_inside (sym is ∙ e));
       };
-      keeps_upgrades = record { begins = λ e. absurd (cc); pending = λ e h. refl; undecided = λ w h. refl; others = λ q apart. refl };
+      keeps_upgrades = record { begins = λ e. absurd (true_false (ap is_refused e)); pending = λ e h. refl; undecided = λ w h. refl; others = λ q apart. refl };
     }
 
 -- ---- a value is put
 
-granted_eq : (n : ℕ) (got : _) → Some (answer.Granted (Value n)) ≡ Some (answer.Granted got) → got ≡ Value n
+granted_eq : (n : ℕ) (got : _) → answer.Granted (Value n) ≡ answer.Granted got → got ≡ Value n
 granted_eq n got e = cc
 
 writes_only : (w : World) (p : ℕ) → HasSought w p → sought_by w p ≡ Some write → HasJust w p write
@@ -278,9 +280,10 @@ module _ (t : Table) (n : ℕ) (p : ℕ) (i : Inputs) where
       λ q apart. verdict_same n t.value (place_at t.lock.places q) (turn_at t.lock.turn.places q)
       (k.lock.writes_apart p q (ap Rattle.rwlock_machine.specs.Roles.writes writing))
       (let two = k.lock.turns_apart p q (λ e. apart (sym e)) in omega (arith, two, ap has_turn writing)) in
-      let only : (b : Answer) → decision (answer.Granted (Value n)) (standing_of (view_of left) p) ≡ Some b → Some (answer.Granted (Value n)) ≡ Some b = λ b d. sym (ap (decision (answer.Granted (Value n))) now) ∙ d in
+      let only : (b : Answer) → decision (answer.Granted (Value n)) (standing_of (view_of left) p) ≡ Some b → answer.Granted (Value n) ≡ b = λ b d. some_eq (sym (ap (decision (answer.Granted (Value n))) now) ∙ d) in
+      let unlike : (b : Answer) → decision (answer.Granted (Value n)) (standing_of (view_of left) p) ≡ Some b → is_granted b ≡ false → ⊥ = λ b d h. true_false (ap is_granted (only b d) ∙ h) in
       record {
-        possible = record { exactly = ((λ e. absurd (cc)), (λ e. absurd (cc))); unchanged = λ e. absurd (cc) };
+        possible = record { exactly = ((λ e. absurd (true_false (ap is_possible e))), (λ e. absurd (some_none (sym called ∙ e)))); unchanged = λ e. absurd (true_false (ap is_possible e)) };
         one_change = record {
           deed = changes (puts n);
           state = refl;
@@ -294,28 +297,28 @@ module _ (t : Table) (n : ℕ) (p : ℕ) (i : Inputs) where
           sought = set_back (view_of t).sought p;
           others = λ q apart. stood left q k2 ∙ (unvalued t.value n (stage_at t.stages q) (place_at t.lock.places q) (turn_at t.lock.turn.places q) (apart_from q apart) ∙ sym (stood t q k));
           parties = view.length-standings n t.stages t.lock.places t.lock.turn.places k.fits.as_many ∙ sym (view.length-standings t.value t.stages t.lock.places t.lock.turn.places k.fits.as_many);
-          parting = λ h. let no : is_decided (outside rest.Holding) || is_drop (Begin (call.Put n) i) ≡ true = rw is at h in absurd (cc);
+          parting = λ h. let no : is_decided (outside rest.Holding) || is_drop (Begin (call.Put n) i) ≡ true = rw is at h in absurd (false_true no);
         };
         carries = record {
-          ready = λ got d. absurd (cc (only (answer.Ready got) d.1));
+          ready = λ got d. absurd (unlike (answer.Ready got) d.1 refl);
           granted = λ got d. (granted_eq n got (only (answer.Granted got) d.1), own_now.1);
         };
-        waits = λ d. absurd (cc (only answer.Pending d.1));
+        waits = λ d. absurd (unlike answer.Pending d.1 refl);
         refused_for_cause = record {
-          cause = λ c d. absurd (cc (only (answer.Refused c) d.1));
-          after_ready = ((λ e. absurd (cc)), (λ e. absurd (cc)));
+          cause = λ c d. absurd (unlike (answer.Refused c) d.1 refl);
+          after_ready = ((λ e. absurd (true_false (ap is_granted e))), (λ e. absurd (false_true (sym not_over ∙ e))));
         };
-        leaves_clear = record { each = each left k2; refused = λ h. absurd (cc); gives_up_turn = λ h e. absurd (cc); keeps_turn = λ h e. absurd (cc) };
+        leaves_clear = record { each = each left k2; refused = λ h. absurd (false_true h); gives_up_turn = λ h e. absurd (false_true h); keeps_turn = λ h e. absurd (false_true h) };
         value_kept = record {
           put = λ v e h. let same : n ≡ v = some_eq e in (ap (λ x. answer.Granted (Value x)) same, same);
-          kept = λ h. elim h as (λ _. n ≡ t.value) [ inl e ↦ absurd (cc) | inr e ↦ absurd (cc) ];
+          kept = λ h. elim h as (λ _. n ≡ t.value) [ inl e ↦ absurd (some_none e) | inr e ↦ absurd (true_false (ap is_possible e)) ];
         };
         ends_properly = record {
           stands = λ u e. let P : Within → Type 0 = λ u. StandsAfter rest.Holding u (answer.Granted (Value n)) (standing_of (view_of left) p) in
               subst P (some_eq (sym called ∙ e)) (refl, now);
-          as_decided = λ u b e h. absurd (cc);
+          as_decided = λ u b e h. absurd (outside_inside (sym is ∙ e));
         };
-        keeps_upgrades = record { begins = λ e. absurd (cc); pending = λ e h. refl; undecided = λ w h. refl; others = λ q apart. refl };
+        keeps_upgrades = record { begins = λ e. absurd (true_false (ap is_granted e)); pending = λ e h. refl; undecided = λ w h. refl; others = λ q apart. refl };
       }
 
 -- ---- a step of a call

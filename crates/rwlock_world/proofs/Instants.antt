@@ -57,6 +57,7 @@ use Rattle.rwlock_world.proofs.Rows.{answer_at, turn_row}
 use Rattle.rwlock_world.proofs.Stages.{starts, going_on_course, on_course}
 use Rattle.rwlock_world.proofs.Calls.{beginning, going}
 use Rattle.rwlock_world.proofs.Sound.{none_marked, nobody_holds, bit_seen}
+use Rattle.lock_world.proofs.Clashes.{false_true, some_none}
 use Rattle.rwlock_world.proofs.Events.{Laws, known_move}
 use Rattle.rwlock_world.proofs.AtOnce.{waits_for_turn, is_try_turn, Lists, Firsts, unlike, firsts, try_reads, first_reads, try_upgrades, try_adds, try_writes, turn_tries, turn_enters}
 use Rattle.rwlock_world.proofs.Endings as ends
@@ -457,24 +458,57 @@ still_at_once t m a after k h =
 
 -- ---- a move that isn't possible
 
+abbrev IsPoll : What → Type 0
+IsPoll what = (i : Inputs) × (what ≡ Begin call.Poll i)
+
+unpolled : (o : Option Sought) (what : What) → plan_of (Outside rest.Pending) o what ≡ None → IsPoll what → ⊥
+unpolled o what e p = some_none (sym (ap (plan_of (Outside rest.Pending) o) p.1) ∙ e)
+
+idle_read : (o : Option Sought) (what : What) (n : ℕ) → plan_of (Outside rest.Idle) o what ≡ None → is_first_poll read (outside rest.Idle) (right_of o) what n ≡ true → ⊥
+idle_read o (Begin call.Read i) n e h = some_none e
+idle_read o _ n e h = false_true h
+
+idle_upgradable : (o : Option Sought) (what : What) (n : ℕ) → plan_of (Outside rest.Idle) o what ≡ None → is_first_poll upgradable (outside rest.Idle) (right_of o) what n ≡ true → ⊥
+idle_upgradable o (Begin call.UpgradableRead i) n e h = some_none e
+idle_upgradable o _ n e h = false_true h
+
+idle_write : (o : Option Sought) (what : What) (n : ℕ) → plan_of (Outside rest.Idle) o what ≡ None → is_first_poll write (outside rest.Idle) (right_of o) what n ≡ true → ⊥
+idle_write o (Begin call.Write i) n e h = some_none e
+idle_write o _ n e h = false_true h
+
+polls_read : (s : Option Right) (what : What) (n : ℕ) → is_first_poll read (outside rest.Pending) s what n ≡ true → IsPoll what
+polls_read (Some read) (Begin call.Poll i) n h = (i, refl)
+polls_read (Some read) _ n h = absurd (false_true h)
+polls_read _ what n h = absurd (false_true h)
+
+polls_upgradable : (s : Option Right) (what : What) (n : ℕ) → is_first_poll upgradable (outside rest.Pending) s what n ≡ true → IsPoll what
+polls_upgradable (Some upgradable) (Begin call.Poll i) n h = (i, refl)
+polls_upgradable (Some upgradable) _ n h = absurd (false_true h)
+polls_upgradable _ what n h = absurd (false_true h)
+
+polls_write : (s : Option Right) (what : What) (n : ℕ) → is_first_poll write (outside rest.Pending) s what n ≡ true → IsPoll what
+polls_write (Some write) (Begin call.Poll i) n h = (i, refl)
+polls_write (Some write) _ n h = absurd (false_true h)
+polls_write _ what n h = absurd (false_true h)
+
 module _ (v : ℕ) (x : Place) (t : TurnPlace) where
-  idle_read : (s : Stage) (o : Option Sought) (what : What) (n : ℕ) → (s ≡ Outside rest.Finished → ⊥) → plan_of s o what ≡ None → is_first_poll read (stands_as v s x t) (right_of o) what n ≡ true → ⊥
-  idle_read (Outside rest.Idle) o (Begin call.Read i) n f e h = cc
-  idle_read (Outside rest.Finished) o (Begin call.Read i) n f e h = f refl
-  idle_read (Outside rest.Pending) (Some sought.Read) (Begin call.Poll i) n f e h = cc
-  idle_read _ _ _ n f e h = cc
+  never_reads : (s : Stage) (o : Option Sought) (what : What) (n : ℕ) → (s ≡ Outside rest.Finished → ⊥) → plan_of s o what ≡ None → is_first_poll read (stands_as v s x t) (right_of o) what n ≡ true → ⊥
+  never_reads (Outside rest.Idle) o what n f e h = idle_read o what n e h
+  never_reads (Outside rest.Pending) o what n f e h = unpolled o what e (polls_read (right_of o) what n h)
+  never_reads (Outside rest.Finished) o what n f e h = f refl
+  never_reads _ o what n f e h = false_true h
 
-  idle_upgradable : (s : Stage) (o : Option Sought) (what : What) (n : ℕ) → (s ≡ Outside rest.Finished → ⊥) → plan_of s o what ≡ None → is_first_poll upgradable (stands_as v s x t) (right_of o) what n ≡ true → ⊥
-  idle_upgradable (Outside rest.Idle) o (Begin call.UpgradableRead i) n f e h = cc
-  idle_upgradable (Outside rest.Finished) o (Begin call.UpgradableRead i) n f e h = f refl
-  idle_upgradable (Outside rest.Pending) (Some sought.Upgradable) (Begin call.Poll i) n f e h = cc
-  idle_upgradable _ _ _ n f e h = cc
+  never_reads_upgradable : (s : Stage) (o : Option Sought) (what : What) (n : ℕ) → (s ≡ Outside rest.Finished → ⊥) → plan_of s o what ≡ None → is_first_poll upgradable (stands_as v s x t) (right_of o) what n ≡ true → ⊥
+  never_reads_upgradable (Outside rest.Idle) o what n f e h = idle_upgradable o what n e h
+  never_reads_upgradable (Outside rest.Pending) o what n f e h = unpolled o what e (polls_upgradable (right_of o) what n h)
+  never_reads_upgradable (Outside rest.Finished) o what n f e h = f refl
+  never_reads_upgradable _ o what n f e h = false_true h
 
-  idle_write : (s : Stage) (o : Option Sought) (what : What) (n : ℕ) → (s ≡ Outside rest.Finished → ⊥) → plan_of s o what ≡ None → is_first_poll write (stands_as v s x t) (right_of o) what n ≡ true → ⊥
-  idle_write (Outside rest.Idle) o (Begin call.Write i) n f e h = cc
-  idle_write (Outside rest.Finished) o (Begin call.Write i) n f e h = f refl
-  idle_write (Outside rest.Pending) (Some sought.Write) (Begin call.Poll i) n f e h = cc
-  idle_write _ _ _ n f e h = cc
+  never_writes : (s : Stage) (o : Option Sought) (what : What) (n : ℕ) → (s ≡ Outside rest.Finished → ⊥) → plan_of s o what ≡ None → is_first_poll write (stands_as v s x t) (right_of o) what n ≡ true → ⊥
+  never_writes (Outside rest.Idle) o what n f e h = idle_write o what n e h
+  never_writes (Outside rest.Pending) o what n f e h = unpolled o what e (polls_write (right_of o) what n h)
+  never_writes (Outside rest.Finished) o what n f e h = f refl
+  never_writes _ o what n f e h = false_true h
 
 never_finished : (s : Stage) (x : Place) → goes_with s x ≡ true → s ≡ Outside rest.Finished → ⊥
 never_finished s x g e = let no : goes_with (Outside rest.Finished) x ≡ true = sym (ap (λ s. goes_with s x) e) ∙ g in absurd (cc)
@@ -504,9 +538,9 @@ impossible_at_once t m k none =
       try_turn = λ e h. absurd (cc);
       try_upgradable = λ e h. absurd (cc);
       try_write = λ e h. absurd (cc);
-      first_read = λ e. absurd (idle_read t.value x y s o m.what n unfinished unplanned (sym (first_as t m read k) ∙ e));
-      first_upgradable = λ e. absurd (idle_upgradable t.value x y s o m.what n unfinished unplanned (sym (first_as t m upgradable k) ∙ e));
-      first_write = λ e z. absurd (idle_write t.value x y s o m.what n unfinished unplanned (sym (first_as t m write k) ∙ e));
+      first_read = λ e. absurd (never_reads t.value x y s o m.what n unfinished unplanned (sym (first_as t m read k) ∙ e));
+      first_upgradable = λ e. absurd (never_reads_upgradable t.value x y s o m.what n unfinished unplanned (sym (first_as t m upgradable k) ∙ e));
+      first_write = λ e z. absurd (never_writes t.value x y s o m.what n unfinished unplanned (sym (first_as t m write k) ∙ e));
     }
 
 -- ---- any move

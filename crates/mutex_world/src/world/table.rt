@@ -15,7 +15,7 @@ use std::alloc::{AllocError, Global};
 use std::marker::Model;
 
 /// What a possible move does.
-#[derive(Clone, Copy, Debug, PartialEq, Eq)]
+#[derive(Clone, Copy)]
 pub(crate) enum Plan {
     Start(LockCall, Within),
     Go(Within),
@@ -134,9 +134,8 @@ impl Table {
     ) -> Result<Table, AllocError>
         ensures { IfOk result (λ t. t ≡ new_table parties limit value) }
     {
+        let stages = Vec::from_elem(alloc, Stage::Outside(Rest::Idle), parties as usize)?;
         let lock = Lock::new(alloc, parties, limit)?;
-        let mut stages = Vec::new(alloc);
-        stages.resize(parties as usize, Stage::Outside(Rest::Idle))?;
         Ok(Table {
             lock,
             stages,

@@ -1,7 +1,9 @@
 //! What stands behind a read-write lock's World: the lock, the stage of each party, the right that its
 //! call, future or guard is for, and the value.
 
-ghost use Rattle.std.specs.Prelude.{◌≡◌, ℕ, ◌<◌, true, length, map, IfOk};
+ghost use Rattle.std.specs.Prelude.{◌≡◌, ℕ, ◌<◌, true, length, map, replicate, None, IfOk};
+ghost use Rattle.lock_world.specs.declared.standing.Rest.TheVariants.{Idle};
+ghost use Rattle.lock_world.specs.declared.standing.Stage.TheVariants.{Outside};
 ghost use Rattle.rwlock_machine.specs.Acts.{IsRwLock};
 ghost use Rattle.rwlock_world.specs.Plans.{plan_of, begins_by, with_guard, answer_of, stage_after, begins_to_seek, goes_on_seeking};
 ghost use Rattle.rwlock_world.specs.Table.{IsStep, IsTable, new_table};
@@ -16,7 +18,7 @@ use std::alloc::{AllocError, Global};
 use std::marker::Model;
 
 /// The right that a party's call, future or guard is for.
-#[derive(Clone, Copy, Debug, PartialEq, Eq)]
+#[derive(Clone, Copy)]
 pub(crate) enum Sought {
     Read,
     Upgradable,
@@ -24,7 +26,7 @@ pub(crate) enum Sought {
 }
 
 /// What a possible move does.
-#[derive(Clone, Copy, Debug, PartialEq, Eq)]
+#[derive(Clone, Copy)]
 pub(crate) enum Plan {
     Start(RwCall, Within),
     Go(Within),
@@ -167,6 +169,15 @@ fn sought_then(sought: Option<Sought>, next: Next) -> Option<Sought>
     }
 }
 
+/// The stage of each of so many idle parties, and what it seeks.
+fn idle_rows(alloc: Global, parties: usize) -> Result<(Vec<Stage>, Vec<Option<Sought>>), AllocError>
+    ensures { IfOk result (λ rows. (rows.0.items ≡ replicate parties (Outside Idle)) × (rows.1.items ≡ replicate parties None)) }
+{
+    let stages = Vec::from_elem(alloc, Stage::Outside(Rest::Idle), parties)?;
+    let sought = Vec::from_elem(alloc, None, parties)?;
+    Ok((stages, sought))
+}
+
 /// Whoever is pending or has a guard is forgotten.
 fn forget_all(stages: &mut Vec<Stage>)
     ensures { stages.new.items ≡ map forgets stages.old.items }
@@ -210,11 +221,8 @@ impl Table {
     ) -> Result<Table, AllocError>
         ensures { IfOk result (λ t. t ≡ new_table parties starved readers value) }
     {
+        let (stages, sought) = idle_rows(alloc, parties as usize)?;
         let lock = RwLock::new(alloc, parties, starved, readers)?;
-        let mut stages = Vec::new(alloc);
-        stages.resize(parties as usize, Stage::Outside(Rest::Idle))?;
-        let mut sought = Vec::new(alloc);
-        sought.resize(parties as usize, None)?;
         Ok(Table {
             lock,
             stages,

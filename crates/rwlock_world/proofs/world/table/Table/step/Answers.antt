@@ -17,7 +17,7 @@ begin-next-requires-clause-can c =
     let inside_too : p < length c.self.inside.sought.items = omega (arith, c.self.invariant.as_many_seek) in
     let stage = stage_read c.self.inside.stages.items p c.index.result.now inside c.index.ensures in
     let seeks = sought_read c.self.inside.sought.items p c.index-sought.result.now inside_too c.index-sought.ensures in
-    let plans : plan_of (stage_at c.self.inside.stages.items p) (seeking c.self.inside.sought.items p) c.args.m.now.what ≡ Some (plan.Start c.in-Some-Start.call c.in-Some-Start.within) = rw (stage, seeks) (cc (c.plan_for.ensures, c.in-Some-Start.is)) in
+    let plans : plan_of (stage_at c.self.inside.stages.items p) (seeking c.self.inside.sought.items p) c.args.m.now.what ≡ Some (plan.Start c.in-Some-Start.call c.in-Some-Start.within) = rw (stage, seeks) (sym c.plan_for.ensures ∙ c.in-Some-Start.is ∙ ap Some c.in-Some-Start.field-0-is) in
     can_begin (stage_at c.self.inside.stages.items p) (seeking c.self.inside.sought.items p) c.args.m.now.what (place_at c.self.inside.lock.places p) c.in-Some-Start.call c.in-Some-Start.within plans (c.self.invariant.fits p inside) (c.self.invariant.seeks p inside)
 
 pub invariant_of-self-in-Some-Start : goal.invariant_of-self-in-Some-Start
@@ -27,7 +27,7 @@ invariant_of-self-in-Some-Start c =
     let inside_too : p < length c.self.inside.sought.items = omega (arith, c.self.invariant.as_many_seek) in
     let stage = stage_read c.self.inside.stages.items p c.index.result.now inside c.index.ensures in
     let seeks = sought_read c.self.inside.sought.items p c.index-sought.result.now inside_too c.index-sought.ensures in
-    let plans : plan_of (stage_at c.self.inside.stages.items p) (seeking c.self.inside.sought.items p) c.args.m.now.what ≡ Some (plan.Start c.in-Some-Start.call c.in-Some-Start.within) = rw (stage, seeks) (cc (c.plan_for.ensures, c.in-Some-Start.is)) in
+    let plans : plan_of (stage_at c.self.inside.stages.items p) (seeking c.self.inside.sought.items p) c.args.m.now.what ≡ Some (plan.Start c.in-Some-Start.call c.in-Some-Start.within) = rw (stage, seeks) (sym c.plan_for.ensures ∙ c.in-Some-Start.is ∙ ap Some c.in-Some-Start.field-0-is) in
     let kept = begun_kept c.self.inside.lock c.begin-next.new.self c.self.inside.stages.items c.self.inside.sought.items p _ _ c.args.m.now.what c.in-Some-Start.within c.begin-next.result c.in-Some-Start.call c.self.invariant c.laws.ensures inside plans c.begin-next.ensures.acts in
     rw (c.stage_then.ensures, c.sought_from.ensures, ← seeks) kept
 
@@ -38,7 +38,7 @@ invariant_of-self-in-Some-Go c =
     let inside_too : p < length c.self.inside.sought.items = omega (arith, c.self.invariant.as_many_seek) in
     let stage = stage_read c.self.inside.stages.items p c.index.result.now inside c.index.ensures in
     let seeks = sought_read c.self.inside.sought.items p c.index-sought.result.now inside_too c.index-sought.ensures in
-    let plans : plan_of (stage_at c.self.inside.stages.items p) (seeking c.self.inside.sought.items p) c.args.m.now.what ≡ Some (plan.Go c.in-Some-Go.within) = rw (stage, seeks) (cc (c.plan_for.ensures, c.in-Some-Go.is)) in
+    let plans : plan_of (stage_at c.self.inside.stages.items p) (seeking c.self.inside.sought.items p) c.args.m.now.what ≡ Some (plan.Go c.in-Some-Go.within) = rw (stage, seeks) (sym c.plan_for.ensures ∙ c.in-Some-Go.is ∙ ap Some c.in-Some-Go.field-0-is) in
     let kept = gone_on_kept c.self.inside.lock c.go-next.new.self c.self.inside.stages.items c.self.inside.sought.items p _ _ c.args.m.now.what c.in-Some-Go.within c.go-next.result c.self.invariant c.laws.ensures inside plans c.go-next.ensures.acts in
     rw (c.stage_then-in-Some-Go.ensures, c.sought_then.ensures, ← seeks) kept
 
@@ -50,7 +50,7 @@ returns-in-Some-Start c =
     let inside_too : p < length c.self.inside.sought.items = omega (arith, c.self.invariant.as_many_seek) in
     let stage = stage_read c.self.inside.stages.items p c.index.result.now inside c.index.ensures in
     let seeks = sought_read c.self.inside.sought.items p c.index-sought.result.now inside_too c.index-sought.ensures in
-    let plans : plan_of (stage_at c.self.inside.stages.items p) (seeking c.self.inside.sought.items p) c.args.m.now.what ≡ Some (plan.Start c.in-Some-Start.call c.in-Some-Start.within) = rw (stage, seeks) (cc (c.plan_for.ensures, c.in-Some-Start.is)) in
+    let plans : plan_of (stage_at c.self.inside.stages.items p) (seeking c.self.inside.sought.items p) c.args.m.now.what ≡ Some (plan.Start c.in-Some-Start.call c.in-Some-Start.within) = rw (stage, seeks) (sym c.plan_for.ensures ∙ c.in-Some-Start.is ∙ ap Some c.in-Some-Start.field-0-is) in
     let does : plan_in t c.args.m.now ≡ Some (plan.Start c.in-Some-Start.call c.in-Some-Start.within) = planned t c.args.m.now _ inside plans in
     rw (← c.self.view_is, does)
     (steps_from (start_of c.in-Some-Start.call (place_at c.self.inside.lock.places p)) c.in-Some-Start.within (begins_to_seek c.in-Some-Start.call (seeking c.self.inside.sought.items p)) c.args.m.now _ _ _ c.begin-next.result
@@ -68,7 +68,7 @@ returns-in-Some-Go c =
     let inside_too : p < length c.self.inside.sought.items = omega (arith, c.self.invariant.as_many_seek) in
     let stage = stage_read c.self.inside.stages.items p c.index.result.now inside c.index.ensures in
     let seeks = sought_read c.self.inside.sought.items p c.index-sought.result.now inside_too c.index-sought.ensures in
-    let plans : plan_of (stage_at c.self.inside.stages.items p) (seeking c.self.inside.sought.items p) c.args.m.now.what ≡ Some (plan.Go c.in-Some-Go.within) = rw (stage, seeks) (cc (c.plan_for.ensures, c.in-Some-Go.is)) in
+    let plans : plan_of (stage_at c.self.inside.stages.items p) (seeking c.self.inside.sought.items p) c.args.m.now.what ≡ Some (plan.Go c.in-Some-Go.within) = rw (stage, seeks) (sym c.plan_for.ensures ∙ c.in-Some-Go.is ∙ ap Some c.in-Some-Go.field-0-is) in
     let does : plan_in t c.args.m.now ≡ Some (plan.Go c.in-Some-Go.within) = planned t c.args.m.now _ inside plans in
     rw (← c.self.view_is, does)
     (record {
