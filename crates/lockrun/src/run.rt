@@ -118,7 +118,7 @@ fn script<I: Read, O: Write>(alloc: Global, input: &mut I, output: &mut O) -> Re
 }
 
 /// Whether a reader has more to give.
-#[derive(Clone, Copy, Debug, PartialEq, Eq)]
+#[derive(Clone, Copy)]
 enum Reader {
     MayHaveMore,
     IsAtEnd,

@@ -7,7 +7,7 @@ ghost use Rattle.mutex_machine.specs.Effects.{OnWord, new_word};
 use crate::program::Found;
 
 /// The word of a mutex: whether it is held, how many parties are starved, and how many may be.
-#[derive(Clone, Copy, Debug, PartialEq, Eq)]
+#[derive(Clone, Copy)]
 pub struct Word {
     pub held: bool,
     pub starved: u32,

@@ -8,7 +8,7 @@ use crate::program::Found;
 
 /// The word of a read-write lock: the bit of the writer that writes or waits to, how many readers there
 /// are, and how many there may be.
-#[derive(Clone, Copy, Debug, PartialEq, Eq)]
+#[derive(Clone, Copy)]
 pub struct Word {
     pub writer: bool,
     pub readers: u32,
