@@ -155,7 +155,8 @@ impl<W: Drop> Event<W> {
         EntryId { number: self.len() }
     }
 
-    /// Whether an entry has this id, so that the calls that name an entry can be made with it.
+    /// Whether an entry has this id, so that the calls that name an entry can be made with it. The id of
+    /// an entry that has left may have come again, and then it is another entry's.
     pub fn contains(&self, id: EntryId) -> bool
         ensures { result ≡ is_listed (has_id id) self.now.entries }
     {

@@ -1,10 +1,8 @@
-//! Tests of the event list, of the queue, of the refusals, of the machines and of the texts of answers,
-//! through their public calls. They stand in one crate above all of these, so that none is proved a second
-//! time with its own tests. There is nothing else here, and no crate stands on it.
+//! Tests of the refusals, of the machines and of the texts of answers, through their public calls. They
+//! stand in one crate above all of these, so that none is proved a second time with its own tests. There is
+//! nothing else here, and no crate stands on it.
 #![tactic(auto)]
 
-#[cfg(test)]
-mod event;
 #[cfg(test)]
 mod mutex;
 #[cfg(test)]
@@ -15,5 +13,3 @@ mod room;
 mod rwlock;
 #[cfg(test)]
 mod texts;
-#[cfg(test)]
-mod wait_queue;

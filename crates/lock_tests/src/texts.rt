@@ -5,7 +5,22 @@ use lock_core::{Answer, Got};
 use lock_event::{Entry, Mark};
 use lock_play::answer::{write_answer, write_entry, write_reply};
 use lock_play::played::Reply;
+use std::process::Abort;
 use std::test::Fail;
+
+fn assert_answer<R: AllocGlobal + Abort>(rt: &R, answer: Answer, text: &str) -> Result<(), Fail> {
+    let mut output = room::for_text(rt.alloc())?;
+    write_answer(answer, &mut output)?;
+    assert_eq!(rt; output.as_slice(), text.as_bytes(), "{answer:?}");
+    Ok(())
+}
+
+fn assert_reply<R: AllocGlobal + Abort>(rt: &R, reply: Reply, text: &str) -> Result<(), Fail> {
+    let mut output = room::for_text(rt.alloc())?;
+    write_reply(reply, &mut output)?;
+    assert_eq!(rt; output.as_slice(), text.as_bytes(), "{reply:?}");
+    Ok(())
+}
 
 #[test]
 fn writes_each_answer(rt: HostRuntime) -> Result<(), Fail> {
@@ -29,9 +44,7 @@ fn writes_each_answer(rt: HostRuntime) -> Result<(), Fail> {
         (Answer::Refused(6), "refused 6\n"),
         (Answer::NotPossible, "not possible\n"),
     ] {
-        let mut output = room::for_text(rt.alloc())?;
-        write_answer(answer, &mut output)?;
-        assert_eq!(rt; output.as_slice(), text.as_bytes(), "{answer:?}");
+        assert_answer(&rt, answer, text)?;
     }
     Ok(())
 }
@@ -45,9 +58,7 @@ fn writes_each_reply(rt: HostRuntime) -> Result<(), Fail> {
         (Reply::Value(u64::MAX), "18446744073709551615\n"),
         (Reply::NotPossible, "not possible\n"),
     ] {
-        let mut output = room::for_text(rt.alloc())?;
-        write_reply(reply, &mut output)?;
-        assert_eq!(rt; output.as_slice(), text.as_bytes(), "{reply:?}");
+        assert_reply(&rt, reply, text)?;
     }
     Ok(())
 }

@@ -3,6 +3,13 @@
 use mutex_machine::Lock;
 use mutex_machine::program::{End, LockCall, Next, Place};
 use std::alloc::AllocError;
+use std::process::Abort;
+
+/// Whether the lock is held, and how many are starved and wait.
+fn assert_state(rt: &impl Abort, lock: &Lock, wanted: (bool, u32, usize)) {
+    assert_eq!(rt; (lock.is_held(), lock.starved(), lock.waiting()), wanted);
+    assert!(rt; lock.entry(wanted.2).is_none());
+}
 
 #[test]
 fn the_machine_alone_hands_its_lock_on(rt: HostRuntime) -> Result<(), AllocError> {
@@ -11,6 +18,7 @@ fn the_machine_alone_hands_its_lock_on(rt: HostRuntime) -> Result<(), AllocError
         Ok(lock) => lock,
         Err(_) => Lock::new(rt.alloc(), 2, 1)?,
     };
+    assert_state(&rt, &lock, (false, 0, 0));
     assert_eq!(rt; lock.place(0), Place::Out);
     // The machine's calls are asked for in the order that their places allow.
     if matches!(lock.place(0), Place::Out) {
@@ -19,10 +27,7 @@ fn the_machine_alone_hands_its_lock_on(rt: HostRuntime) -> Result<(), AllocError
             Next::End(End::Got)
         );
     }
-    assert!(rt; lock.is_held());
-    assert_eq!(rt; lock.starved(), 0);
-    assert_eq!(rt; lock.waiting(), 0);
-    assert!(rt; lock.entry(0).is_none());
+    assert_state(&rt, &lock, (true, 0, 0));
     lock.laws();
     Ok(())
 }

@@ -17,9 +17,20 @@ fn join(rt: &impl Abort, list: &mut Event<u32>) -> Result<EntryId, Fail> {
     Ok(list.listen()?)
 }
 
-fn poll(rt: &impl Abort, list: &mut Event<u32>, id: EntryId, waker: u32) -> bool {
+// This entry, which stands in the list, has been notified, or not.
+fn assert_notified(rt: &impl Abort, list: &Event<u32>, id: EntryId, wanted: bool) {
     assert!(rt; list.contains(id));
-    list.poll_entry(id, waker)
+    assert_eq!(rt; list.is_notified(id), wanted);
+}
+
+// A poll with this waker takes the entry's notification, or not.
+fn assert_poll(rt: &impl Abort, list: &mut Event<u32>, id: EntryId, waker: u32, wanted: bool) {
+    assert!(rt; list.contains(id));
+    assert_eq!(rt; list.poll_entry(id, waker), wanted);
+}
+
+fn assert_next_waker(rt: &impl Abort, list: &mut Event<u32>, wanted: Option<u32>) {
+    assert_eq!(rt; list.next_waker(), wanted);
 }
 
 fn leave(rt: &impl Abort, list: &mut Event<u32>, id: EntryId) {
@@ -30,26 +41,45 @@ fn leave(rt: &impl Abort, list: &mut Event<u32>, id: EntryId) {
 // The list has exactly these marks, from front to back.
 fn assert_marks(rt: &impl Abort, list: &Event<u32>, marks: &[Mark]) {
     assert_eq!(rt; list.len(), marks.len());
+    assert_eq!(rt; list.is_empty(), marks.is_empty());
     for (i, mark) in marks.iter().enumerate() {
         assert!(rt; i < list.len());
         assert_eq!(rt; list.entry(i).mark, *mark, "at {i}");
     }
 }
 
+fn assert_id(rt: &impl Abort, list: &Event<u32>, index: usize, wanted: EntryId) {
+    assert!(rt; index < list.len());
+    assert_eq!(rt; list.entry(index).key.id, wanted, "at {index}");
+}
+
+fn assert_waker(rt: &impl Abort, list: &Event<u32>, index: usize, wanted: Option<u32>) {
+    assert!(rt; index < list.len());
+    assert_eq!(rt; list.entry(index).key.waker, wanted, "at {index}");
+}
+
+fn assert_ids_differ(rt: &impl Abort, list: &Event<u32>) {
+    for i in 0..list.len() {
+        for j in 0..i {
+            assert!(rt;
+                list.entry(i).key.id != list.entry(j).key.id,
+                "at {j} and {i}"
+            );
+        }
+    }
+}
+
 #[test]
 fn entries_join_at_the_back_and_wait(rt: HostRuntime) -> Result<(), Fail> {
     let mut list = Event::new(rt.alloc());
-    assert!(rt; list.is_empty());
+    assert_marks(&rt, &list, &[]);
     let first = join(&rt, &mut list)?;
     let second = join(&rt, &mut list)?;
-    assert!(rt; !list.is_empty());
     assert_marks(&rt, &list, &[Waiting, Waiting]);
-    assert!(rt; list.contains(first));
-    assert!(rt; !list.is_notified(first));
-    assert_eq!(rt; list.len(), 2);
-    assert_eq!(rt; list.entry(0).key.id, first);
-    assert_eq!(rt; list.entry(1).key.id, second);
-    assert_eq!(rt; list.entry(1).key.waker, None);
+    assert_notified(&rt, &list, first, false);
+    assert_id(&rt, &list, 0, first);
+    assert_id(&rt, &list, 1, second);
+    assert_waker(&rt, &list, 1, None);
     Ok(())
 }
 
@@ -62,8 +92,7 @@ fn notify_counts_those_already_marked(rt: HostRuntime) -> Result<(), Fail> {
     }
     list.notify(1);
     assert_marks(&rt, &list, &[Notified, Waiting, Waiting, Waiting]);
-    assert!(rt; list.contains(first));
-    assert!(rt; list.is_notified(first));
+    assert_notified(&rt, &list, first, true);
     list.notify(1);
     assert_marks(&rt, &list, &[Notified, Waiting, Waiting, Waiting]);
     list.notify_additional(1);
@@ -130,8 +159,7 @@ fn a_leaving_entry_passes_on_a_notification_of_its_kind(rt: HostRuntime) -> Resu
     join(&rt, &mut list)?;
     leave(&rt, &mut list, b);
     assert_marks(&rt, &list, &[Additional, Waiting]);
-    assert_eq!(rt; list.len(), 2);
-    assert_eq!(rt; list.entry(0).key.id, d);
+    assert_id(&rt, &list, 0, d);
     Ok(())
 }
 
@@ -139,16 +167,16 @@ fn a_leaving_entry_passes_on_a_notification_of_its_kind(rt: HostRuntime) -> Resu
 fn an_entry_keeps_the_newest_waker_until_it_is_notified(rt: HostRuntime) -> Result<(), Fail> {
     let mut list = Event::new(rt.alloc());
     let id = join(&rt, &mut list)?;
-    assert!(rt; !poll(&rt, &mut list, id, 5));
-    assert!(rt; !poll(&rt, &mut list, id, 7));
-    assert_eq!(rt; list.next_waker(), None);
+    assert_poll(&rt, &mut list, id, 5, false);
+    assert_poll(&rt, &mut list, id, 7, false);
+    assert_next_waker(&rt, &mut list, None);
     list.notify(1);
-    assert_eq!(rt; list.next_waker(), Some(7));
-    assert_eq!(rt; list.next_waker(), None);
+    assert_next_waker(&rt, &mut list, Some(7));
+    assert_next_waker(&rt, &mut list, None);
     assert_marks(&rt, &list, &[Notified]);
-    assert!(rt; poll(&rt, &mut list, id, 9));
-    assert!(rt; list.is_empty());
-    assert_eq!(rt; list.next_waker(), None);
+    assert_poll(&rt, &mut list, id, 9, true);
+    assert_marks(&rt, &list, &[]);
+    assert_next_waker(&rt, &mut list, None);
     Ok(())
 }
 
@@ -158,7 +186,7 @@ fn next_waker_takes_those_of_notified_entries_from_the_front(rt: HostRuntime) ->
     for waker in [Some(1), None, Some(3), Some(4), Some(5)] {
         let id = join(&rt, &mut list)?;
         if let Some(waker) = waker {
-            assert!(rt; !poll(&rt, &mut list, id, waker));
+            assert_poll(&rt, &mut list, id, waker, false);
         }
     }
     list.notify(3);
@@ -166,12 +194,11 @@ fn next_waker_takes_those_of_notified_entries_from_the_front(rt: HostRuntime) ->
     let marks = [Notified, Notified, Notified, Additional, Waiting];
     assert_marks(&rt, &list, &marks);
     for waker in [1, 3, 4] {
-        assert_eq!(rt; list.next_waker(), Some(waker));
+        assert_next_waker(&rt, &mut list, Some(waker));
         assert_marks(&rt, &list, &marks);
     }
-    assert_eq!(rt; list.next_waker(), None);
-    assert_eq!(rt; list.len(), 5);
-    assert_eq!(rt; list.entry(4).key.waker, Some(5));
+    assert_next_waker(&rt, &mut list, None);
+    assert_waker(&rt, &list, 4, Some(5));
     Ok(())
 }
 
@@ -187,15 +214,8 @@ fn ids_are_distinct(rt: HostRuntime) -> Result<(), Fail> {
     join(&rt, &mut list)?;
     leave(&rt, &mut list, back);
     join(&rt, &mut list)?;
-    assert_eq!(rt; list.len(), 5);
-    for i in 0..list.len() {
-        for j in 0..i {
-            assert!(rt;
-                list.entry(i).key.id != list.entry(j).key.id,
-                "at {j} and {i}"
-            );
-        }
-    }
+    assert_marks(&rt, &list, &[Waiting, Waiting, Waiting, Waiting, Waiting]);
+    assert_ids_differ(&rt, &list);
     Ok(())
 }
 
