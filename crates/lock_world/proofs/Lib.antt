@@ -1,3 +1,3 @@
 pub mod Bounds
-pub mod Clashes
+pub mod Equations
 pub mod Rests

@@ -7,6 +7,7 @@ use Rattle.std.proofs.lemmas.Bool.Decides.{nat_tests}
 use Rattle.lock_event.specs.declared.event.Entry.{Entry}
 use Rattle.lock_event.specs.Lists.{is_marked_at, joined}
 use Rattle.lock_queue.specs.Parties.{is_party, entries_of}
+use Rattle.lock_world.proofs.Equations.{some_eq}
 use Rattle.mutex_machine.specs.declared.program.Place.{Place}
 use Rattle.mutex_machine.specs.declared.program.Place.TheVariants.{Out, Holding, Enter, Try, Clear, CancelUncount, CancelLeave, Join, Look, Ask, Retry, PassOn, Count, JoinStarved, LookAlone, PassOnListed, AskStarved, Seize, Uncount, Leave, RefuseUncount, RefuseLeave, RefuseNotifyMemory, RefuseNotifyStarved, ReleaseNotify}
 use Rattle.mutex_machine.specs.declared.program.LockCall.{LockCall}
@@ -142,9 +143,6 @@ at_most (Count false told) m u = omega arith
 at_most (Uncount true) m u = omega arith
 at_most (Uncount false) m u = omega arith
 at_most _ m u = omega arith
-
-some_eq : {A : Type 0} {x y : A} → Some x ≡ Some y → x ≡ y
-some_eq e = cc
 
 -- no call begins where it has more steps left than it may take
 pub within : (c : LockCall) (at from : Place) (m u : Bool) → start_of c at ≡ Some from → left from m u ≤ most_steps c

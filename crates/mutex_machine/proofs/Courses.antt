@@ -1,5 +1,6 @@
 -- Where each action leads, told by courses.
 use Rattle.std.proofs.Common.{◌≡◌, ℕ, ◌<◌, Bool, true, false, Some, length, refl, sym, ap, ◌∙◌, get_or-set_same}
+use Rattle.lock_world.proofs.Equations.{some_eq}
 use Rattle.mutex_machine.specs.declared.program.Place.{Place}
 use Rattle.mutex_machine.specs.declared.program.Place.TheVariants.{Out, Holding, Enter, CancelUncount, CancelLeave, Join, Look, Ask, Retry, PassOn, Count, JoinStarved, LookAlone, PassOnListed, AskStarved, Seize, Uncount, Leave, RefuseUncount, RefuseLeave, RefuseNotifyMemory, RefuseNotifyStarved, ReleaseNotify}
 use Rattle.mutex_machine.specs.declared.program.Found.{Found}
@@ -14,9 +15,6 @@ use Rattle.mutex_machine.specs.Program.{action_of, next_of, place_after, start_o
 use Rattle.mutex_machine.specs.Courses.{is_taking, is_releasing, is_cancelling, Takes, Cancels, Begins, GoesOn, HeedsClock}
 use Rattle.mutex_machine.specs.Machine.{Lock, place_at}
 use Rattle.mutex_machine.specs.Acts.{Acts}
-
-some_eq : {A : Type 0} {x y : A} → Some x ≡ Some y → x ≡ y
-some_eq e = cc
 
 abbrev polls : Place → Bool
 polls Enter = true

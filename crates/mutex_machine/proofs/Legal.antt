@@ -13,6 +13,7 @@ use Rattle.lock_queue.specs.Parties.{is_party, entries_of}
 use Rattle.lock_queue.proofs.Told.{waits_at}
 use Rattle.lock_world.specs.declared.refusal.Refusal.TheVariants as refusal
 use Rattle.lock_world.specs.Steps.{Deed, nothing, changes, does}
+use Rattle.lock_world.proofs.Equations.{some_eq}
 use Rattle.mutex_machine.specs.declared.program.Place.{Place}
 use Rattle.mutex_machine.specs.declared.program.Place.TheVariants.{Out, Holding, Enter, Try, Ask, AskStarved}
 use Rattle.mutex_machine.specs.declared.program.LockCall.{LockCall}
@@ -81,9 +82,6 @@ asked p a f l m o ea ef = let P : Action → Found → Type 0 = λ b g. OnPartie
 keep : (memory : Bool) (l : Lock) (from : Place) (f : Found) (w o : Option End) (e : End) → Judged memory l from f w o → w ≡ Some e → (o ≡ Some e) × (gives_back (deed_of (action_of from) f) ≡ true)
 keep memory l from f (Some c) o e j is = (j.0 ∙ is, j.1)
 keep memory l from f None o e j is = absurd (cc)
-
-some_eq : {A : Type 0} {x y : A} → Some x ≡ Some y → x ≡ y
-some_eq e = cc
 
 judge : (memory : Bool) (l : Lock) (from : Place) (f : Found) (w o : Option End) (e : End) → Judged memory l from f w o → w ≡ None → o ≡ Some e → Reason memory l from f e
 judge memory l from f (Some c) o e j none is = absurd (cc)

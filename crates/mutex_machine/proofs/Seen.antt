@@ -4,6 +4,7 @@ use Rattle.std.specs.Prelude.{is_some}
 use Rattle.std.proofs.Math.ListN.{set}
 use Rattle.std.specs.List.{sum_by}
 use Rattle.std.proofs.lemmas.List.Sums.{sum_by-cons}
+use Rattle.lock_world.proofs.Equations.{some_eq}
 use Rattle.mutex_machine.specs.declared.program.Place.{Place}
 use Rattle.mutex_machine.specs.declared.program.Place.TheVariants.{Out, Holding, Enter, Try, Clear, CancelUncount, CancelLeave, Join, Look, Ask, Retry, PassOn, Count, JoinStarved, LookAlone, PassOnListed, AskStarved, Seize, Uncount, Leave, RefuseUncount, RefuseLeave, RefuseNotifyMemory, RefuseNotifyStarved, ReleaseNotify}
 use Rattle.mutex_machine.specs.Roles.{bit, holds, counted}
@@ -118,9 +119,6 @@ none_holds n (x ∷ xs) h =
     let r = nobody (is_holder x) n xs h in
     let out : holds x ≡ 0 = sym (holds_bit x) ∙ ap bit r.0 in
     omega (arith, sum_by-cons holds x xs, none_holds (n + 1) xs r.1)
-
-some_eq : {A : Type 0} {x y : A} → Some x ≡ Some y → x ≡ y
-some_eq e = cc
 
 pick : (b : Bool) (n : ℕ) (x : Place) (xs : List Place) (k : ℕ) → is_holder x ≡ b → (if b then Some n else holder_from (n + 1) xs) ≡ Some k
     → (holder_from (n + 1) xs ≡ Some k → (p : ℕ) × (k ≡ (n + 1) + p) × (holds (place_at xs p) ≡ 1))

@@ -1,14 +1,12 @@
 -- A call begins with the roles that its party has.
 use Rattle.std.proofs.Common.{◌≡◌, Some, refl}
+use Rattle.lock_world.proofs.Equations.{some_eq}
 use Rattle.mutex_machine.specs.declared.program.Place.{Place}
 use Rattle.mutex_machine.specs.declared.program.Place.TheVariants.{Out, Holding, Ask, AskStarved}
 use Rattle.mutex_machine.specs.declared.program.LockCall.{LockCall}
 use Rattle.mutex_machine.specs.declared.program.LockCall.TheVariants as call
 use Rattle.mutex_machine.specs.Program.{start_of}
 use Rattle.mutex_machine.specs.Machine.{SameRoles}
-
-some_eq : {A : Type 0} {x y : A} → Some x ≡ Some y → x ≡ y
-some_eq e = cc
 
 pub start_same : (c : LockCall) (at from : Place) → start_of c at ≡ Some from → SameRoles from at
 start_same call.Lock Out from e = rw (← some_eq e) (record { holding = refl; starving = refl; standing = refl; waiting = refl; owing = refl })

@@ -2,6 +2,7 @@
 use Rattle.std.proofs.Common.{◌≡◌, ◌≢◌, ℕ, ◌<◌, ◌||◌, if◌then◌else◌, inl, inr, Bool, true, false, List, length, nat_lt, Option, Some, None, IsSomeAnd, refl, arith, ap, sym, ◌∙◌, subst}
 use Rattle.std.proofs.Math.ListN.{set}
 use Rattle.std.proofs.lemmas.Bool.Decides.{nat_tests}
+use Rattle.std.proofs.lemmas.Bool.{false≢true, true≢false}
 use Rattle.lock_event.specs.declared.event.Entry.{Entry}
 use Rattle.lock_queue.specs.Parties.{entries_of}
 use Rattle.lock_world.specs.declared.refusal.Refusal.TheVariants as refusal
@@ -31,12 +32,12 @@ use Rattle.mutex_world.specs.Plans.{plan_of, answer_of, stage_after, stage_at, g
 use Rattle.mutex_world.specs.Table.{Table, IsTable, Steps, Does, IsStep, plan_in}
 use Rattle.mutex_world.specs.State.{World, standing_of}
 use Rattle.lock_world.specs.Frame.{is_drop, is_poll_after_ready}
+use Rattle.lock_world.proofs.Equations.{some_eq, none_some, some_none, outside_inside, is_refused, is_granted}
 use Rattle.mutex_world.specs.Legal.{knows, puts, call_of, is_first_poll, HasItsOwn, Legal, AnswersAtOnce}
 use Rattle.mutex_machine.specs.Roles.{bit, holds}
 use Rattle.mutex_machine.specs.State.{is_holder}
 use Rattle.mutex_world.specs.View.{verdict, stands_as, view_of}
 use Rattle.mutex_machine.proofs.Courses.{begins, goes}
-use Rattle.lock_world.proofs.Clashes.{false_true, true_false, some_none, none_some, outside_inside, is_refused, is_granted}
 use Rattle.mutex_world.proofs.Begun.{for_finished, for_put}
 use Rattle.mutex_world.proofs.Turns.{Turn, starting, going, begun_stands, going_stands, not_called}
 use Rattle.mutex_world.proofs.Tables.{going_within}
@@ -61,9 +62,6 @@ stood t p k = owns.stood t.lock t.stages t.value k.mutex k.fits p
 
 each : (t : Table) → Laws t → (p : ℕ) → HasItsOwn (view_of t) p (standing_of (view_of t) p)
 each t k p = owns.each t.lock t.stages t.value k.mutex k.fits p
-
-some_eq : {A : Type 0} {x y : A} → Some x ≡ Some y → x ≡ y
-some_eq e = cc
 
 -- ---- moves that change nothing
 
@@ -131,10 +129,10 @@ polled_again t p i k at =
     let over : is_poll_after_ready (standing_of (view_of t) p) (Begin call.Poll i) ≡ true = rw is refl in
     let not_first : is_first_poll (standing_of (view_of t) p) (Begin call.Poll i) (entries_of p t.lock.entries) ≡ false = rw is refl in
     let only : (b : Answer) → decision (refused refusal.Finished) (standing_of (view_of t) p) ≡ Some b → refused refusal.Finished ≡ b = λ b d. some_eq (sym (ap (decision (refused refusal.Finished)) is) ∙ d) in
-    let unlike : (b : Answer) → decision (refused refusal.Finished) (standing_of (view_of t) p) ≡ Some b → is_refused b ≡ false → ⊥ = λ b d h. true_false (ap is_refused (only b d) ∙ h) in
+    let unlike : (b : Answer) → decision (refused refusal.Finished) (standing_of (view_of t) p) ≡ Some b → is_refused b ≡ false → ⊥ = λ b d h. true≢false (ap is_refused (only b d) ∙ h) in
     record {
       legal = record {
-        possible = record { exactly = ((λ e. absurd (true_false (ap is_possible e))), (λ e. absurd (some_none (sym called ∙ e)))); unchanged = λ e. refl };
+        possible = record { exactly = ((λ e. absurd (true≢false (ap is_possible e))), (λ e. absurd (some_none (sym called ∙ e)))); unchanged = λ e. refl };
         one_change = record { deed = nothing; state = refl; entries = refl; limit = refl; opening_value = refl; others = λ q apart. refl; parties = refl; parting = λ h. refl };
         taken_fairly = λ q is was. absurd (was is);
         others_keep = record { lock = λ q apart. ((λ h. h), (λ h. h)); starved = λ q apart. refl; limit = λ was is. absurd (cc) };
@@ -147,7 +145,7 @@ polled_again t p i k at =
           cause = λ n d. (refusal.Finished, sym (refused_number _ n (only (answer.Refused n) d.1)), refl);
           after_ready = ((λ e. over), (λ e. refl));
         };
-        leaves_clear = record { each = each t k; refused = λ h. absurd (false_true h) };
+        leaves_clear = record { each = each t k; refused = λ h. absurd (false≢true h) };
         value_kept = record { put = λ v e h. absurd (none_some e); kept = λ h. refl };
         ends_properly = record {
           stands = λ u e. let P : Within → Type 0 = λ u. StandsAfter rest.Holding u (refused refusal.Finished) (standing_of (view_of t) p) in
@@ -155,7 +153,7 @@ polled_again t p i k at =
           as_decided = λ u b e h. absurd (outside_inside (sym is ∙ e));
         };
       };
-      at_once = record { at_once = λ e h. absurd (cc); first_poll = λ e. absurd (false_true (sym not_first ∙ e)) };
+      at_once = record { at_once = λ e h. absurd (cc); first_poll = λ e. absurd (false≢true (sym not_first ∙ e)) };
     }
 
 -- ---- a value is put
@@ -201,10 +199,10 @@ module _ (t : Table) (n : ℕ) (p : ℕ) (i : Inputs) where
       let out : (q : ℕ) → q ≢ p → holds (place_at t.lock.places q) ≡ 0 =
       λ q apart. sym (sees.holds_bit (place_at t.lock.places q)) ∙ no_bit (is_holder (place_at t.lock.places q)) (λ one. apart (same_party p q (sym own.1 ∙ sees.holds_it t.lock.places q k.mutex.one_holder (sym (sees.holds_bit (place_at t.lock.places q)) ∙ one)))) in
       let only : (b : Answer) → decision (answer.Granted (Value n)) (standing_of (view_of left) p) ≡ Some b → answer.Granted (Value n) ≡ b = λ b d. some_eq (sym (ap (decision (answer.Granted (Value n))) now) ∙ d) in
-      let unlike : (b : Answer) → decision (answer.Granted (Value n)) (standing_of (view_of left) p) ≡ Some b → is_granted b ≡ false → ⊥ = λ b d h. true_false (ap is_granted (only b d) ∙ h) in
+      let unlike : (b : Answer) → decision (answer.Granted (Value n)) (standing_of (view_of left) p) ≡ Some b → is_granted b ≡ false → ⊥ = λ b d h. true≢false (ap is_granted (only b d) ∙ h) in
       record {
         legal = record {
-          possible = record { exactly = ((λ e. absurd (true_false (ap is_possible e))), (λ e. absurd (some_none (sym called ∙ e)))); unchanged = λ e. absurd (true_false (ap is_possible e)) };
+          possible = record { exactly = ((λ e. absurd (true≢false (ap is_possible e))), (λ e. absurd (some_none (sym called ∙ e)))); unchanged = λ e. absurd (true≢false (ap is_possible e)) };
           one_change = record {
             deed = changes (puts n);
             state = refl;
@@ -213,7 +211,7 @@ module _ (t : Table) (n : ℕ) (p : ℕ) (i : Inputs) where
             opening_value = refl;
             others = λ q apart. stood left q k2 ∙ (unvalued t.value n (stage_at t.stages q) (place_at t.lock.places q) (view.verdict_same n t.value (place_at t.lock.places q) (out q apart)) ∙ sym (stood t q k));
             parties = view.length-standings n t.stages t.lock.places k.fits.as_many ∙ sym (view.length-standings t.value t.stages t.lock.places k.fits.as_many);
-            parting = λ h. let no : is_decided (outside rest.Holding) || is_drop (Begin (call.Put n) i) ≡ true = rw is at h in absurd (false_true no);
+            parting = λ h. let no : is_decided (outside rest.Holding) || is_drop (Begin (call.Put n) i) ≡ true = rw is at h in absurd (false≢true no);
           };
           taken_fairly = λ q is was. absurd (was is);
           others_keep = record { lock = λ q apart. ((λ h. h), (λ h. h)); starved = λ q apart. refl; limit = λ was is. absurd (cc) };
@@ -224,12 +222,12 @@ module _ (t : Table) (n : ℕ) (p : ℕ) (i : Inputs) where
           waits = λ d. absurd (unlike answer.Pending d.1 refl);
           refused_for_cause = record {
             cause = λ c d. absurd (unlike (answer.Refused c) d.1 refl);
-            after_ready = ((λ e. absurd (true_false (ap is_granted e))), (λ e. absurd (false_true (sym not_over ∙ e))));
+            after_ready = ((λ e. absurd (true≢false (ap is_granted e))), (λ e. absurd (false≢true (sym not_over ∙ e))));
           };
-          leaves_clear = record { each = each left k2; refused = λ h. absurd (false_true h) };
+          leaves_clear = record { each = each left k2; refused = λ h. absurd (false≢true h) };
           value_kept = record {
             put = λ v e h. let same : n ≡ v = put_eq n v e in (ap (λ x. answer.Granted (Value x)) same, same);
-            kept = λ h. elim h as (λ _. n ≡ t.value) [ inl e ↦ absurd (some_none e) | inr e ↦ absurd (true_false (ap is_possible e)) ];
+            kept = λ h. elim h as (λ _. n ≡ t.value) [ inl e ↦ absurd (some_none e) | inr e ↦ absurd (true≢false (ap is_possible e)) ];
           };
           ends_properly = record {
             stands = λ u e. let P : Within → Type 0 = λ u. StandsAfter rest.Holding u (answer.Granted (Value n)) (standing_of (view_of left) p) in
@@ -237,7 +235,7 @@ module _ (t : Table) (n : ℕ) (p : ℕ) (i : Inputs) where
             as_decided = λ u b e h. absurd (outside_inside (sym is ∙ e));
           };
         };
-        at_once = record { at_once = λ e h. absurd (cc); first_poll = λ e. absurd (false_true (sym not_first ∙ e)) };
+        at_once = record { at_once = λ e h. absurd (cc); first_poll = λ e. absurd (false≢true (sym not_first ∙ e)) };
       }
 
 -- ---- a step of a call

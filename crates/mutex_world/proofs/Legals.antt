@@ -42,6 +42,7 @@ use Rattle.mutex_world.specs.Table.{IsTable}
 use Rattle.lock_world.specs.Rosters.{how_many}
 use Rattle.mutex_world.specs.State.{State, World, standing_of, is_starved, is_free, mark_of}
 use Rattle.lock_world.specs.Frame.{is_drop}
+use Rattle.lock_world.proofs.Equations.{some_eq}
 use Rattle.mutex_world.specs.Legal.{Change, ListName, takes, releases, starves, recovers, puts, state_after, entries_after, gives_back, is_first_poll, call_of, DecidesOn, IsPossible, ChangesOneThing, IsTakenFairly, OthersKeepTheirs, Carries, Waits, IsCause, IsRefusedForCause, LeavesClear, IsValueKept, EndsProperly, Legal, AnswersAtOnce}
 use Rattle.mutex_machine.specs.State.{is_holder, is_counted}
 use Rattle.mutex_world.specs.View.{verdict, stands_as, seen}
@@ -52,9 +53,6 @@ use Rattle.mutex_machine.proofs.Seen as sees
 use Rattle.mutex_world.proofs.Views as view
 use Rattle.mutex_world.proofs.Answers as answers
 use Rattle.mutex_world.proofs.Owns as owns
-
-some_eq : {A : Type 0} {x y : A} → Some x ≡ Some y → x ≡ y
-some_eq e = cc
 
 -- a step keeps what was decided
 keep : (memory : Bool) (l : Lock) (v : ℕ) (from : Place) (f : Found) (w o : Option Answer) (b : Answer) → Judged memory l v from f w o → w ≡ Some b → (o ≡ Some b) × (gives_back (deed_of (action_of from) f) ≡ true)

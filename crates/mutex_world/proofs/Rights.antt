@@ -21,6 +21,7 @@ use Rattle.lock_world.specs.declared.standing.Within.{Within}
 use Rattle.lock_world.specs.Standings.{is_outside, Standing, outside, inside, forgotten, call_in, may_end, is_possible, refused, leaves_as_it_was, StandsAfter}
 use Rattle.mutex_world.specs.State.{World, standing_of, is_free}
 use Rattle.lock_world.specs.Frame.{is_drop, is_poll_after_ready, put_in}
+use Rattle.lock_world.proofs.Equations.{some_eq}
 use Rattle.mutex_world.specs.Legal.{knows, is_try, call_of, HasItsOwn, Legal, AnswersAtOnce}
 use Rattle.mutex_world.specs.Laws.{IsSound, IsAwake, is_long_call, is_at_rest}
 use Rattle.mutex_world.specs.Runs.{right_after, rights_after, is_holder_of, has_by, rights_of, rights_by, HasItsRights, HoldsWell, Runs}
@@ -38,9 +39,6 @@ same_bool : (b c : Bool) → (b ≡ true → c ≡ true) → (c ≡ true → b �
 same_bool true c to back = sym (to refl)
 same_bool false true to back = absurd (cc (back refl))
 same_bool false false to back = refl
-
-some_eq : {A : Type 0} {x y : A} → Some x ≡ Some y → x ≡ y
-some_eq e = cc
 
 holder_means : (h : Option ℕ) (p : ℕ) → is_holder_of h p ≡ true → h ≡ Some p
 holder_means None p e = absurd (cc)

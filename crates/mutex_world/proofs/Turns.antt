@@ -31,6 +31,7 @@ use Rattle.mutex_world.specs.Plans.{plan_of, begins_by, answer_of, stage_after, 
 use Rattle.mutex_machine.specs.Roles.{listed}
 use Rattle.mutex_world.specs.View.{verdict, stands_as}
 use Rattle.lock_world.specs.Frame.{is_drop, is_poll_after_ready, put_in}
+use Rattle.lock_world.proofs.Equations.{some_eq}
 use Rattle.mutex_world.specs.Legal.{knows, is_try, is_first_poll}
 use Rattle.mutex_machine.proofs.Starts.{start_same}
 use Rattle.mutex_world.proofs.Begun.{for_start, for_go}
@@ -53,9 +54,6 @@ pub record Turn (v : ℕ) (s : Standing) (what : What) (x from : Place) (w : Wit
   pub not_over : is_poll_after_ready s what ≡ false
   pub first : is_first_poll s what n ≡ true → n ≡ listed x → from ≡ Enter
   pub tries : is_try what ≡ true → from ≡ Try
-
-some_eq : {A : Type 0} {x y : A} → Some x ≡ Some y → x ≡ y
-some_eq e = cc
 
 moved : (v : ℕ) (s : Standing) (what : What) (x a b : Place) (w : Within) (n : ℕ) → Some a ≡ Some b → Turn v s what x a w n → Turn v s what x b w n
 moved v s what x a b w n e t = subst (λ (y : Place). Turn v s what x y w n) (some_eq e) t

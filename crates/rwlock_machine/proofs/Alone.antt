@@ -2,6 +2,7 @@
 use Rattle.std.proofs.Common.{◌≡◌, ℕ, ◌<◌, ◌≤◌, Bool, true, false, Some, length, refl, sym, ap, arith, ◌∙◌, get_or-set_same}
 use Rattle.lock_event.specs.Lists.{is_marked_at}
 use Rattle.lock_queue.specs.Parties.{is_party, entries_of}
+use Rattle.lock_world.proofs.Equations.{some_eq, none_some}
 use Rattle.mutex_machine.specs.Ranks.{steps_left as turn_steps_left}
 use Rattle.rwlock_machine.specs.declared.program.Wanted.TheVariants as wanted
 use Rattle.rwlock_machine.specs.declared.program.Purpose.TheVariants as purpose
@@ -44,23 +45,20 @@ module _ (memory starving : Bool) (p : ℕ) (from : Place) (next : Next) (old ne
       rw (seen_then next new p lands, a.next_is)
       (falls (is_marked_at (is_party p) old.no_writer) (is_marked_at (is_party p) old.no_readers) (is_marked_at (is_party p) new.no_writer) (is_marked_at (is_party p) new.no_readers) (turn_steps_left old.turn p) (turn_steps_left new.turn p) from a.found lower)
 
-some_eq : {A : Type 0} {x y : A} → Some x ≡ Some y → x ≡ y
-some_eq e = cc
-
 -- no call begins where it has more steps left than it may take
 within : (c : RwCall) (at from : Place) (here there : Bool) (turn : ℕ) → start_of c at ≡ Some from → left from here there turn ≤ most_steps c
 within call.Read Out from here there turn e = rw (← some_eq e) (omega arith)
-within call.Read _ from here there turn e = absurd (cc)
+within call.Read _ from here there turn e = absurd (none_some e)
 within call.UpgradableRead Out from here there turn e = rw (← some_eq e) (omega arith)
-within call.UpgradableRead _ from here there turn e = absurd (cc)
+within call.UpgradableRead _ from here there turn e = absurd (none_some e)
 within call.Write Out from here there turn e = rw (← some_eq e) (omega arith)
-within call.Write _ from here there turn e = absurd (cc)
+within call.Write _ from here there turn e = absurd (none_some e)
 within call.TryRead Out from here there turn e = rw (← some_eq e) (omega arith)
-within call.TryRead _ from here there turn e = absurd (cc)
+within call.TryRead _ from here there turn e = absurd (none_some e)
 within call.TryUpgradableRead Out from here there turn e = rw (← some_eq e) (omega arith)
-within call.TryUpgradableRead _ from here there turn e = absurd (cc)
+within call.TryUpgradableRead _ from here there turn e = absurd (none_some e)
 within call.TryWrite Out from here there turn e = rw (← some_eq e) (omega arith)
-within call.TryWrite _ from here there turn e = absurd (cc)
+within call.TryWrite _ from here there turn e = absurd (none_some e)
 within call.Poll (Made wanted.Read) from here there turn e = rw (← some_eq e) (omega arith)
 within call.Poll (Made wanted.UpgradableRead) from here there turn e = rw (← some_eq e) (omega arith)
 within call.Poll (Made wanted.Write) from here there turn e = rw (← some_eq e) (omega arith)
@@ -70,7 +68,7 @@ within call.Poll (WaitTurn purpose.Write) from here there turn e = rw (← some_
 within call.Poll (AwaitNoReaders true) from here there turn e = rw (← some_eq e) (grind arith)
 within call.Poll (AwaitNoReaders false) from here there turn e = rw (← some_eq e) (grind arith)
 within call.Poll (LookUnlisted true) from here there turn e = rw (← some_eq e) (omega arith)
-within call.Poll _ from here there turn e = absurd (cc)
+within call.Poll _ from here there turn e = absurd (none_some e)
 within call.Drop (Made w) from here there turn e = rw (← some_eq e) (omega arith)
 within call.Drop AskNoWriter from here there turn e = rw (← some_eq e) (omega arith)
 within call.Drop (WaitTurn p) from here there turn e = rw (← some_eq e) (omega arith)
@@ -79,16 +77,16 @@ within call.Drop (LookUnlisted true) from here there turn e = rw (← some_eq e)
 within call.Drop Reading from here there turn e = rw (← some_eq e) (omega arith)
 within call.Drop Upgradable from here there turn e = rw (← some_eq e) (omega arith)
 within call.Drop Writing from here there turn e = rw (← some_eq e) (omega arith)
-within call.Drop _ from here there turn e = absurd (cc)
+within call.Drop _ from here there turn e = absurd (none_some e)
 within call.Upgrade Upgradable from here there turn e = rw (← some_eq e) (omega arith)
-within call.Upgrade _ from here there turn e = absurd (cc)
+within call.Upgrade _ from here there turn e = absurd (none_some e)
 within call.TryUpgrade Upgradable from here there turn e = rw (← some_eq e) (omega arith)
-within call.TryUpgrade _ from here there turn e = absurd (cc)
+within call.TryUpgrade _ from here there turn e = absurd (none_some e)
 within call.Downgrade Upgradable from here there turn e = rw (← some_eq e) (omega arith)
 within call.Downgrade Writing from here there turn e = rw (← some_eq e) (omega arith)
-within call.Downgrade _ from here there turn e = absurd (cc)
+within call.Downgrade _ from here there turn e = absurd (none_some e)
 within call.ToUpgradable Writing from here there turn e = rw (← some_eq e) (omega arith)
-within call.ToUpgradable _ from here there turn e = absurd (cc)
+within call.ToUpgradable _ from here there turn e = absurd (none_some e)
 
 -- a call that has begun has fewer steps left than it may take
 pub begun_within : (c : RwCall) (at from : Place) (v : RwLock) (p k : ℕ) → start_of c at ≡ Some from → k < left_from from v p → k < most_steps c

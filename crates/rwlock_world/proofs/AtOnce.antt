@@ -1,6 +1,7 @@
 -- Tries and first polls are answered at once.
 use Rattle.std.proofs.Common.{◌≡◌, ℕ, ◌<◌, ◌==◌, ◌↔◌, if◌then◌else◌, Bool, true, false, Option, Some, None, refl, arith, ap}
 use Rattle.std.proofs.lemmas.Bool.Decides.{nat_tests}
+use Rattle.std.proofs.lemmas.Bool.{false≢true}
 use Rattle.lock_world.specs.declared.moves.Answer.TheVariants as answer
 use Rattle.lock_world.specs.declared.moves.Call.TheVariants as call
 use Rattle.lock_world.specs.declared.moves.Got.TheVariants.{Value}
@@ -44,7 +45,6 @@ use Rattle.rwlock_world.specs.declared.world.table.Sought.TheVariants as sought
 use Rattle.rwlock_world.specs.Legal.{is_first_poll, is_try_for_turn}
 use Rattle.rwlock_world.specs.Plans.{plan_of, sought_at, same_sought, agrees, tries, tries_upgrade, goes_with}
 use Rattle.rwlock_world.specs.View.{is_reading, is_upgrade, right_of, stands_as}
-use Rattle.lock_world.proofs.Clashes.{false_true}
 use Rattle.rwlock_world.proofs.Begun.{for_begun}
 use Rattle.rwlock_world.proofs.Rows.{answer_at}
 
@@ -105,7 +105,7 @@ poll_case : (from : Place) (o : Option Sought) (i : Inputs) (n : ℕ) (up : Bool
 poll_case from o i n up f g h = record {
   try_read = λ y e. absurd (cc);
   try_upgrade = λ y e. absurd (cc);
-  try_turn = λ e. absurd (false_true e);
+  try_turn = λ e. absurd (false≢true e);
   first_read = λ e. let b = seeks_read o i n e in f b.0 b.1;
   first_upgradable = λ e. let b = seeks_upgradable o i n e in g b.0 b.1;
   first_write = λ e z. let b = seeks_write o i n e in h b.0 b.1 z;
@@ -133,7 +133,7 @@ drop_case : (from : Place) (o : Option Sought) (i : Inputs) (n : ℕ) (up : Bool
 drop_case from o i n up = record {
   try_read = λ y e. absurd (cc);
   try_upgrade = λ y e. absurd (cc);
-  try_turn = λ e. absurd (false_true e);
+  try_turn = λ e. absurd (false≢true e);
   first_read = λ e. absurd (drop_first_read o i n e);
   first_upgradable = λ e. absurd (drop_first_upgradable o i n e);
   first_write = λ e z. absurd (drop_first_write o i n e);
@@ -144,12 +144,12 @@ FirstCase v t s o what x c w from = (n : ℕ) (up : Bool) → Lists n up x → F
 
 pub firsts : (v : ℕ) (t : TurnPlace) (s : Stage) (o : Option Sought) (what : What) (x : Place) (c : RwCall) (w : Within) → plan_of s o what ≡ Some (plan.Start c w) → goes_with s x ≡ true → agrees (sought_at x) o ≡ true → (from : Place) × (start_of c x ≡ Some from) × FirstCase v t s o what x c w from
 firsts v t = for_begun (FirstCase v t) (record {
-  read = λ o i n up h. record { try_read = λ y e. absurd (cc); try_upgrade = λ y e. absurd (cc); try_turn = λ e. absurd (false_true e); first_read = λ e. refl; first_upgradable = λ e. absurd (false_true e); first_write = λ e z. absurd (false_true e) };
-  upgradable = λ o i n up h. record { try_read = λ y e. absurd (cc); try_upgrade = λ y e. absurd (cc); try_turn = λ e. absurd (false_true e); first_read = λ e. absurd (false_true e); first_upgradable = λ e. refl; first_write = λ e z. absurd (false_true e) };
-  write = λ o i n up h. record { try_read = λ y e. absurd (cc); try_upgrade = λ y e. absurd (cc); try_turn = λ e. absurd (false_true e); first_read = λ e. absurd (false_true e); first_upgradable = λ e. absurd (false_true e); first_write = λ e z. refl };
-  try_read = λ o i n up h. record { try_read = λ y e. refl; try_upgrade = λ y e. absurd (cc); try_turn = λ e. absurd (false_true e); first_read = λ e. absurd (false_true e); first_upgradable = λ e. absurd (false_true e); first_write = λ e z. absurd (false_true e) };
-  try_upgradable = λ o i n up h. record { try_read = λ y e. absurd (cc); try_upgrade = λ y e. absurd (cc); try_turn = λ e. refl; first_read = λ e. absurd (false_true e); first_upgradable = λ e. absurd (false_true e); first_write = λ e z. absurd (false_true e) };
-  try_write = λ o i n up h. record { try_read = λ y e. absurd (cc); try_upgrade = λ y e. absurd (cc); try_turn = λ e. refl; first_read = λ e. absurd (false_true e); first_upgradable = λ e. absurd (false_true e); first_write = λ e z. absurd (false_true e) };
+  read = λ o i n up h. record { try_read = λ y e. absurd (cc); try_upgrade = λ y e. absurd (cc); try_turn = λ e. absurd (false≢true e); first_read = λ e. refl; first_upgradable = λ e. absurd (false≢true e); first_write = λ e z. absurd (false≢true e) };
+  upgradable = λ o i n up h. record { try_read = λ y e. absurd (cc); try_upgrade = λ y e. absurd (cc); try_turn = λ e. absurd (false≢true e); first_read = λ e. absurd (false≢true e); first_upgradable = λ e. refl; first_write = λ e z. absurd (false≢true e) };
+  write = λ o i n up h. record { try_read = λ y e. absurd (cc); try_upgrade = λ y e. absurd (cc); try_turn = λ e. absurd (false≢true e); first_read = λ e. absurd (false≢true e); first_upgradable = λ e. absurd (false≢true e); first_write = λ e z. refl };
+  try_read = λ o i n up h. record { try_read = λ y e. refl; try_upgrade = λ y e. absurd (cc); try_turn = λ e. absurd (false≢true e); first_read = λ e. absurd (false≢true e); first_upgradable = λ e. absurd (false≢true e); first_write = λ e z. absurd (false≢true e) };
+  try_upgradable = λ o i n up h. record { try_read = λ y e. absurd (cc); try_upgrade = λ y e. absurd (cc); try_turn = λ e. refl; first_read = λ e. absurd (false≢true e); first_upgradable = λ e. absurd (false≢true e); first_write = λ e z. absurd (false≢true e) };
+  try_write = λ o i n up h. record { try_read = λ y e. absurd (cc); try_upgrade = λ y e. absurd (cc); try_turn = λ e. refl; first_read = λ e. absurd (false≢true e); first_upgradable = λ e. absurd (false≢true e); first_write = λ e z. absurd (false≢true e) };
   poll_made = λ w o i a n up h. made w o i n up a;
   poll_no_writer = λ o i a n up h. poll_case place.AskNoWriter o i n up (λ e z. absurd (not_one (h.no_writer z))) (λ e z. absurd (not_one (h.no_writer z))) (λ e z y. absurd (not_one (h.no_writer z)));
   poll_turn = λ q o i a n up h. poll_case (place.WaitTurn q) o i n up (λ e z. absurd (cc (h.turn z))) (λ e z. absurd (cc (h.turn z))) (λ e z y. absurd (cc (h.turn z)));
@@ -160,14 +160,14 @@ firsts v t = for_begun (FirstCase v t) (record {
   drop_turn = λ q o i n up h. drop_case place.CancelTurn o i n up;
   drop_no_readers = λ b o i n up h. drop_case place.CancelAwait o i n up;
   drop_upgrade = λ o i n up h. drop_case (place.Unmark false) o i n up;
-  drop_reader = λ o i n up h. record { try_read = λ y e. absurd (cc); try_upgrade = λ y e. absurd (cc); try_turn = λ e. absurd (false_true e); first_read = λ e. absurd (false_true e); first_upgradable = λ e. absurd (false_true e); first_write = λ e z. absurd (false_true e) };
-  drop_upgradable = λ o i n up h. record { try_read = λ y e. absurd (cc); try_upgrade = λ y e. absurd (cc); try_turn = λ e. absurd (false_true e); first_read = λ e. absurd (false_true e); first_upgradable = λ e. absurd (false_true e); first_write = λ e z. absurd (false_true e) };
-  drop_writer = λ o i n up h. record { try_read = λ y e. absurd (cc); try_upgrade = λ y e. absurd (cc); try_turn = λ e. absurd (false_true e); first_read = λ e. absurd (false_true e); first_upgradable = λ e. absurd (false_true e); first_write = λ e z. absurd (false_true e) };
-  upgrade = λ i n up h. record { try_read = λ y e. absurd (cc); try_upgrade = λ y e. absurd (cc); try_turn = λ e. absurd (false_true e); first_read = λ e. absurd (false_true e); first_upgradable = λ e. absurd (false_true e); first_write = λ e z. absurd (false_true e) };
-  downgrade_upgradable = λ i n up h. record { try_read = λ y e. absurd (cc); try_upgrade = λ y e. absurd (cc); try_turn = λ e. absurd (false_true e); first_read = λ e. absurd (false_true e); first_upgradable = λ e. absurd (false_true e); first_write = λ e z. absurd (false_true e) };
-  downgrade_writer = λ i n up h. record { try_read = λ y e. absurd (cc); try_upgrade = λ y e. absurd (cc); try_turn = λ e. absurd (false_true e); first_read = λ e. absurd (false_true e); first_upgradable = λ e. absurd (false_true e); first_write = λ e z. absurd (false_true e) };
-  to_upgradable = λ i n up h. record { try_read = λ y e. absurd (cc); try_upgrade = λ y e. absurd (cc); try_turn = λ e. absurd (false_true e); first_read = λ e. absurd (false_true e); first_upgradable = λ e. absurd (false_true e); first_write = λ e z. absurd (false_true e) };
-  try_upgrade = λ i n up h. record { try_read = λ y e. absurd (cc); try_upgrade = λ y e. refl; try_turn = λ e. absurd (false_true e); first_read = λ e. absurd (false_true e); first_upgradable = λ e. absurd (false_true e); first_write = λ e z. absurd (false_true e) };
+  drop_reader = λ o i n up h. record { try_read = λ y e. absurd (cc); try_upgrade = λ y e. absurd (cc); try_turn = λ e. absurd (false≢true e); first_read = λ e. absurd (false≢true e); first_upgradable = λ e. absurd (false≢true e); first_write = λ e z. absurd (false≢true e) };
+  drop_upgradable = λ o i n up h. record { try_read = λ y e. absurd (cc); try_upgrade = λ y e. absurd (cc); try_turn = λ e. absurd (false≢true e); first_read = λ e. absurd (false≢true e); first_upgradable = λ e. absurd (false≢true e); first_write = λ e z. absurd (false≢true e) };
+  drop_writer = λ o i n up h. record { try_read = λ y e. absurd (cc); try_upgrade = λ y e. absurd (cc); try_turn = λ e. absurd (false≢true e); first_read = λ e. absurd (false≢true e); first_upgradable = λ e. absurd (false≢true e); first_write = λ e z. absurd (false≢true e) };
+  upgrade = λ i n up h. record { try_read = λ y e. absurd (cc); try_upgrade = λ y e. absurd (cc); try_turn = λ e. absurd (false≢true e); first_read = λ e. absurd (false≢true e); first_upgradable = λ e. absurd (false≢true e); first_write = λ e z. absurd (false≢true e) };
+  downgrade_upgradable = λ i n up h. record { try_read = λ y e. absurd (cc); try_upgrade = λ y e. absurd (cc); try_turn = λ e. absurd (false≢true e); first_read = λ e. absurd (false≢true e); first_upgradable = λ e. absurd (false≢true e); first_write = λ e z. absurd (false≢true e) };
+  downgrade_writer = λ i n up h. record { try_read = λ y e. absurd (cc); try_upgrade = λ y e. absurd (cc); try_turn = λ e. absurd (false≢true e); first_read = λ e. absurd (false≢true e); first_upgradable = λ e. absurd (false≢true e); first_write = λ e z. absurd (false≢true e) };
+  to_upgradable = λ i n up h. record { try_read = λ y e. absurd (cc); try_upgrade = λ y e. absurd (cc); try_turn = λ e. absurd (false≢true e); first_read = λ e. absurd (false≢true e); first_upgradable = λ e. absurd (false≢true e); first_write = λ e z. absurd (false≢true e) };
+  try_upgrade = λ i n up h. record { try_read = λ y e. absurd (cc); try_upgrade = λ y e. refl; try_turn = λ e. absurd (false≢true e); first_read = λ e. absurd (false≢true e); first_upgradable = λ e. absurd (false≢true e); first_write = λ e z. absurd (false≢true e) };
 }) where
   made : (w : _) (o : Option Sought) (i : Inputs) (n : ℕ) (up : Bool) → agrees (sought_at (place.Made w)) o ≡ true → Firsts (outside rest.Pending) (right_of o) (Begin call.Poll i) n up (first_poll w)
   made wanted.Read o i n up a = poll_case (place.EnterRead false) o i n up (λ e z. refl) (λ e z. absurd (unlike (Some sought.Read) o (Some sought.Upgradable) a e refl)) (λ e z y. absurd (unlike (Some sought.Read) o (Some sought.Write) a e refl))

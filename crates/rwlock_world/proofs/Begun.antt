@@ -1,5 +1,6 @@
 -- Where each call begins: one case for each call and each place at which a party may begin it.
 use Rattle.std.proofs.Common.{◌≡◌, Bool, true, false, Option, Some, refl, subst}
+use Rattle.std.proofs.lemmas.Bool.{false≢true}
 use Rattle.lock_world.specs.declared.moves.Call.{Call}
 use Rattle.lock_world.specs.declared.moves.Call.TheVariants as call
 use Rattle.lock_world.specs.declared.moves.Inputs.{Inputs}
@@ -11,6 +12,7 @@ use Rattle.lock_world.specs.declared.standing.Rest.TheVariants.{Idle, Pending, H
 use Rattle.lock_world.specs.declared.standing.Stage.{Stage}
 use Rattle.lock_world.specs.declared.standing.Stage.TheVariants.{Outside, Inside, Forgotten}
 use Rattle.lock_world.specs.declared.standing.Within.{Within}
+use Rattle.lock_world.proofs.Equations.{none_some}
 use Rattle.rwlock_machine.specs.declared.program.Wanted.{Wanted}
 use Rattle.rwlock_machine.specs.declared.program.Purpose.{Purpose}
 use Rattle.rwlock_machine.specs.declared.program.Purpose.TheVariants as purpose
@@ -24,13 +26,12 @@ use Rattle.rwlock_world.specs.declared.world.table.Plan.TheVariants as plan
 use Rattle.rwlock_world.specs.declared.world.table.Sought.{Sought}
 use Rattle.rwlock_world.specs.declared.world.table.Sought.TheVariants as sought
 use Rattle.rwlock_world.specs.Plans.{begins_by, with_guard, plan_of, within, sought_at, agrees, is_out, is_future, is_guard, goes_with}
-use Rattle.lock_world.proofs.Clashes.{false_true, none_some}
 
 -- ---- the places of parties that are outside every call
 
 pub at_out : (Q : Place → Type 0) → Q place.Out → (x : Place) → is_out x ≡ true → Q x
 at_out Q k place.Out h = k
-at_out Q k _ h = absurd (false_true h)
+at_out Q k _ h = absurd (false≢true h)
 
 pub record AtFuture (Q : Place → Type 0) : Type 0 where
   pub made : (w : Wanted) → Q (place.Made w)
@@ -45,7 +46,7 @@ at_future Q k place.AskNoWriter h = k.no_writer
 at_future Q k (place.WaitTurn p) h = k.turn p
 at_future Q k (place.AwaitNoReaders u) h = k.no_readers u
 at_future Q k (place.LookUnlisted true) h = k.upgrade
-at_future Q k _ h = absurd (false_true h)
+at_future Q k _ h = absurd (false≢true h)
 
 pub record AtGuard (Q : Place → Type 0) : Type 0 where
   pub reading : Q place.Reading
@@ -56,7 +57,7 @@ pub at_guard : (Q : Place → Type 0) → AtGuard Q → (x : Place) → is_guard
 at_guard Q k place.Reading h = k.reading
 at_guard Q k place.Upgradable h = k.upgradable
 at_guard Q k place.Writing h = k.writing
-at_guard Q k _ h = absurd (false_true h)
+at_guard Q k _ h = absurd (false≢true h)
 
 -- ---- the calls
 
@@ -132,28 +133,28 @@ module _ (P : Stage → Option Sought → What → Place → RwCall → Within �
   -- a call on a guard, by what the guard is for
   by_guard : (o : Option Sought) (c : Call) (i : Inputs) (x : Place) (d : RwCall) (w : Within) → with_guard o c ≡ Some (plan.Start d w) → is_guard x ≡ true → Case (Outside Holding) o (Begin c i) d w x
   by_guard (Some sought.Upgradable) call.Upgrade i x d w e = at_guard (Case (Outside Holding) (Some sought.Upgradable) (Begin call.Upgrade i) d w) (record {
-    reading = λ a. absurd (false_true a);
+    reading = λ a. absurd (false≢true a);
     upgradable = λ a. moved _ _ _ _ _ _ _ _ e (place.Upgrade, refl, k.upgrade i);
-    writing = λ a. absurd (false_true a);
+    writing = λ a. absurd (false≢true a);
   }) x
   by_guard (Some sought.Upgradable) call.TryUpgrade i x d w e = at_guard (Case (Outside Holding) (Some sought.Upgradable) (Begin call.TryUpgrade i) d w) (record {
-    reading = λ a. absurd (false_true a);
+    reading = λ a. absurd (false≢true a);
     upgradable = λ a. moved _ _ _ _ _ _ _ _ e (place.TryUpgrade, refl, k.try_upgrade i);
-    writing = λ a. absurd (false_true a);
+    writing = λ a. absurd (false≢true a);
   }) x
   by_guard (Some sought.Upgradable) call.Downgrade i x d w e = at_guard (Case (Outside Holding) (Some sought.Upgradable) (Begin call.Downgrade i) d w) (record {
-    reading = λ a. absurd (false_true a);
+    reading = λ a. absurd (false≢true a);
     upgradable = λ a. moved _ _ _ _ _ _ _ _ e (place.ReleaseTurn ending.Reading, refl, k.downgrade_upgradable i);
-    writing = λ a. absurd (false_true a);
+    writing = λ a. absurd (false≢true a);
   }) x
   by_guard (Some sought.Write) call.Downgrade i x d w e = at_guard (Case (Outside Holding) (Some sought.Write) (Begin call.Downgrade i) d w) (record {
-    reading = λ a. absurd (false_true a);
-    upgradable = λ a. absurd (false_true a);
+    reading = λ a. absurd (false≢true a);
+    upgradable = λ a. absurd (false≢true a);
     writing = λ a. moved _ _ _ _ _ _ _ _ e (place.Down false, refl, k.downgrade_writer i);
   }) x
   by_guard (Some sought.Write) call.DowngradeToUpgradable i x d w e = at_guard (Case (Outside Holding) (Some sought.Write) (Begin call.DowngradeToUpgradable i) d w) (record {
-    reading = λ a. absurd (false_true a);
-    upgradable = λ a. absurd (false_true a);
+    reading = λ a. absurd (false≢true a);
+    upgradable = λ a. absurd (false≢true a);
     writing = λ a. moved _ _ _ _ _ _ _ _ e (place.Down true, refl, k.to_upgradable i);
   }) x
   by_guard (Some sought.Write) (call.Put v) i x d w e = absurd (cc)

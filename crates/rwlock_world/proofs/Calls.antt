@@ -18,6 +18,7 @@ use Rattle.lock_world.specs.Accounts.{sought_after}
 use Rattle.lock_world.specs.Frame.{is_drop, is_poll_after_ready, put_in}
 use Rattle.lock_world.specs.Rights.{Right}
 use Rattle.lock_world.specs.Standings.{Standing, outside, inside, call_in, is_decided}
+use Rattle.lock_world.proofs.Equations.{some_eq}
 use Rattle.mutex_machine.specs.declared.program.Place.{Place as TurnPlace}
 use Rattle.rwlock_machine.specs.declared.program.Wanted.TheVariants as wanted
 use Rattle.rwlock_machine.specs.declared.program.Purpose.TheVariants as purpose
@@ -178,9 +179,6 @@ pub record Moves (v : ℕ) (s : Standing) (o : Option Sought) (what : What) (x f
   pub not_over : is_poll_after_ready s what ≡ false
   pub upgrade : is_drop what ≡ false → is_upgrade from ≡ is_upgrade x
   pub sought : (n : Next) → sought_after (right_of o) what (answer_of w.kind v n) ≡ right_of (seeks n)
-
-some_eq : {A : Type 0} {x y : A} → Some x ≡ Some y → x ≡ y
-some_eq e = cc
 
 same_at : (x : Place) → SameRoles x x
 same_at x = record { reading = refl; marking = refl; turning = refl; writing = refl; standing_w = refl; waiting_w = refl; owing_w = refl; standing_r = refl; waiting_r = refl; owing_r = refl; in_turn = refl }

@@ -2,6 +2,7 @@
 use Rattle.std.proofs.Common.{◌≡◌, ◌≢◌, ℕ, zero, suc, ◌<◌, ◌||◌, ◌⊎◌, if◌then◌else◌, inl, inr, Bool, true, false, List, [], ◌∷◌, length, nat_lt, Option, Some, None, IsSomeAnd, refl, arith, ap, sym, ◌∙◌, subst, get_or}
 use Rattle.std.proofs.Math.ListN.{set}
 use Rattle.std.proofs.lemmas.Bool.Decides.{nat_tests}
+use Rattle.std.proofs.lemmas.Bool.{false≢true, true≢false}
 use Rattle.lock_world.specs.declared.moves.Answer.{Answer}
 use Rattle.lock_world.specs.declared.moves.Answer.TheVariants as answer
 use Rattle.lock_world.specs.declared.moves.Call.{Call}
@@ -22,6 +23,7 @@ use Rattle.lock_world.specs.Frame.{is_drop, is_poll_after_ready}
 use Rattle.lock_world.specs.Rights.{Right, write}
 use Rattle.lock_world.specs.Standings.{Standing, outside, inside, forgotten, inputs_of, call_in, is_possible, refused, StandsAfter, is_decided, decision}
 use Rattle.lock_world.specs.Steps.{nothing, changes}
+use Rattle.lock_world.proofs.Equations.{some_eq, none_some, some_none, outside_inside, is_refused, is_granted}
 use Rattle.mutex_machine.specs.declared.program.Place.{Place as TurnPlace}
 use Rattle.mutex_machine.specs.Machine.{place_at as turn_at}
 use Rattle.rwlock_machine.specs.declared.program.Next.{Next}
@@ -42,7 +44,6 @@ use Rattle.rwlock_world.specs.Legal.{knows, call_of, HasItsOwn, HasSought, HasJu
 use Rattle.rwlock_world.specs.Plans.{begins_by, with_guard, plan_of, answer_of, stage_after, begins_to_seek, goes_on_seeking, stage_at, seeking, sought_at, agrees, is_guard, course_of, is_on_course, within}
 use Rattle.rwlock_world.specs.Table.{Table, IsTable, Steps, Does, IsStep, plan_in}
 use Rattle.rwlock_world.specs.View.{right_of, verdict, stands_as, view_of}
-use Rattle.lock_world.proofs.Clashes.{false_true, true_false, some_none, none_some, outside_inside, is_refused, is_granted}
 use Rattle.rwlock_world.proofs.Begun.{at_guard}
 use Rattle.rwlock_world.proofs.Stages.{starts, going_on_course, strays_not}
 use Rattle.rwlock_world.proofs.Tables.{walks}
@@ -58,9 +59,6 @@ use Rattle.rwlock_world.proofs.Views as view
 pub record Laws (t : Table) : Type 0 where
   pub lock : IsRwLock t.lock
   pub fits : IsTable t.lock t.stages t.sought
-
-some_eq : {A : Type 0} {x y : A} → Some x ≡ Some y → x ≡ y
-some_eq e = cc
 
 -- the party's standing
 stood : (t : Table) (p : ℕ) → Laws t → standing_of (view_of t) p ≡ stands_as t.value (stage_at t.stages p) (place_at t.lock.places p) (turn_at t.lock.turn.places p)
@@ -194,9 +192,9 @@ polled_again t p i k at =
     let called : call_in (knows (sought_by (view_of t) p)) (standing_of (view_of t) p) (Begin call.Poll i) ≡ Some (within kind.LaterPoll rest.Holding) = rw is refl in
     let over : is_poll_after_ready (standing_of (view_of t) p) (Begin call.Poll i) ≡ true = rw is refl in
     let only : (b : Answer) → decision (refused refusal.Finished) (standing_of (view_of t) p) ≡ Some b → refused refusal.Finished ≡ b = λ b d. some_eq (sym (ap (decision (refused refusal.Finished)) is) ∙ d) in
-    let unlike : (b : Answer) → decision (refused refusal.Finished) (standing_of (view_of t) p) ≡ Some b → is_refused b ≡ false → ⊥ = λ b d h. true_false (ap is_refused (only b d) ∙ h) in
+    let unlike : (b : Answer) → decision (refused refusal.Finished) (standing_of (view_of t) p) ≡ Some b → is_refused b ≡ false → ⊥ = λ b d h. true≢false (ap is_refused (only b d) ∙ h) in
     record {
-      possible = record { exactly = ((λ e. absurd (true_false (ap is_possible e))), (λ e. absurd (some_none (sym called ∙ e)))); unchanged = λ e. refl };
+      possible = record { exactly = ((λ e. absurd (true≢false (ap is_possible e))), (λ e. absurd (some_none (sym called ∙ e)))); unchanged = λ e. refl };
       one_change = record { deed = nothing; state = refl; allowed = tt; turn_list = refl; no_readers = refl; no_writer = refl; starved_limit = refl; readers_limit = refl; opening_value = refl; sought = set_back (view_of t).sought p; others = λ q apart. refl; parties = refl; parting = λ h. refl };
       carries = record {
         ready = λ got d. absurd (unlike (answer.Ready got) d.1 refl);
@@ -207,14 +205,14 @@ polled_again t p i k at =
         cause = λ n d. (refusal.Finished, sym (refused_number _ n (only (answer.Refused n) d.1)), refl);
         after_ready = ((λ e. over), (λ e. refl));
       };
-      leaves_clear = record { each = each t k; refused = λ h. absurd (false_true h); gives_up_turn = λ h e. absurd (false_true h); keeps_turn = λ h e. absurd (false_true h) };
+      leaves_clear = record { each = each t k; refused = λ h. absurd (false≢true h); gives_up_turn = λ h e. absurd (false≢true h); keeps_turn = λ h e. absurd (false≢true h) };
       value_kept = record { put = λ v e h. absurd (none_some e); kept = λ h. refl };
       ends_properly = record {
         stands = λ u e. let P : Within → Type 0 = λ u. StandsAfter rest.Holding u (refused refusal.Finished) (standing_of (view_of t) p) in
             subst P (some_eq (sym called ∙ e)) (refl, is);
         as_decided = λ u b e h. absurd (outside_inside (sym is ∙ e));
       };
-      keeps_upgrades = record { begins = λ e. absurd (true_false (ap is_refused e)); pending = λ e h. refl; undecided = λ w h. refl; others = λ q apart. refl };
+      keeps_upgrades = record { begins = λ e. absurd (true≢false (ap is_refused e)); pending = λ e h. refl; undecided = λ w h. refl; others = λ q apart. refl };
     }
 
 -- ---- a value is put
@@ -281,9 +279,9 @@ module _ (t : Table) (n : ℕ) (p : ℕ) (i : Inputs) where
       (k.lock.writes_apart p q (ap Rattle.rwlock_machine.specs.Roles.writes writing))
       (let two = k.lock.turns_apart p q (λ e. apart (sym e)) in omega (arith, two, ap has_turn writing)) in
       let only : (b : Answer) → decision (answer.Granted (Value n)) (standing_of (view_of left) p) ≡ Some b → answer.Granted (Value n) ≡ b = λ b d. some_eq (sym (ap (decision (answer.Granted (Value n))) now) ∙ d) in
-      let unlike : (b : Answer) → decision (answer.Granted (Value n)) (standing_of (view_of left) p) ≡ Some b → is_granted b ≡ false → ⊥ = λ b d h. true_false (ap is_granted (only b d) ∙ h) in
+      let unlike : (b : Answer) → decision (answer.Granted (Value n)) (standing_of (view_of left) p) ≡ Some b → is_granted b ≡ false → ⊥ = λ b d h. true≢false (ap is_granted (only b d) ∙ h) in
       record {
-        possible = record { exactly = ((λ e. absurd (true_false (ap is_possible e))), (λ e. absurd (some_none (sym called ∙ e)))); unchanged = λ e. absurd (true_false (ap is_possible e)) };
+        possible = record { exactly = ((λ e. absurd (true≢false (ap is_possible e))), (λ e. absurd (some_none (sym called ∙ e)))); unchanged = λ e. absurd (true≢false (ap is_possible e)) };
         one_change = record {
           deed = changes (puts n);
           state = refl;
@@ -297,7 +295,7 @@ module _ (t : Table) (n : ℕ) (p : ℕ) (i : Inputs) where
           sought = set_back (view_of t).sought p;
           others = λ q apart. stood left q k2 ∙ (unvalued t.value n (stage_at t.stages q) (place_at t.lock.places q) (turn_at t.lock.turn.places q) (apart_from q apart) ∙ sym (stood t q k));
           parties = view.length-standings n t.stages t.lock.places t.lock.turn.places k.fits.as_many ∙ sym (view.length-standings t.value t.stages t.lock.places t.lock.turn.places k.fits.as_many);
-          parting = λ h. let no : is_decided (outside rest.Holding) || is_drop (Begin (call.Put n) i) ≡ true = rw is at h in absurd (false_true no);
+          parting = λ h. let no : is_decided (outside rest.Holding) || is_drop (Begin (call.Put n) i) ≡ true = rw is at h in absurd (false≢true no);
         };
         carries = record {
           ready = λ got d. absurd (unlike (answer.Ready got) d.1 refl);
@@ -306,19 +304,19 @@ module _ (t : Table) (n : ℕ) (p : ℕ) (i : Inputs) where
         waits = λ d. absurd (unlike answer.Pending d.1 refl);
         refused_for_cause = record {
           cause = λ c d. absurd (unlike (answer.Refused c) d.1 refl);
-          after_ready = ((λ e. absurd (true_false (ap is_granted e))), (λ e. absurd (false_true (sym not_over ∙ e))));
+          after_ready = ((λ e. absurd (true≢false (ap is_granted e))), (λ e. absurd (false≢true (sym not_over ∙ e))));
         };
-        leaves_clear = record { each = each left k2; refused = λ h. absurd (false_true h); gives_up_turn = λ h e. absurd (false_true h); keeps_turn = λ h e. absurd (false_true h) };
+        leaves_clear = record { each = each left k2; refused = λ h. absurd (false≢true h); gives_up_turn = λ h e. absurd (false≢true h); keeps_turn = λ h e. absurd (false≢true h) };
         value_kept = record {
           put = λ v e h. let same : n ≡ v = some_eq e in (ap (λ x. answer.Granted (Value x)) same, same);
-          kept = λ h. elim h as (λ _. n ≡ t.value) [ inl e ↦ absurd (some_none e) | inr e ↦ absurd (true_false (ap is_possible e)) ];
+          kept = λ h. elim h as (λ _. n ≡ t.value) [ inl e ↦ absurd (some_none e) | inr e ↦ absurd (true≢false (ap is_possible e)) ];
         };
         ends_properly = record {
           stands = λ u e. let P : Within → Type 0 = λ u. StandsAfter rest.Holding u (answer.Granted (Value n)) (standing_of (view_of left) p) in
               subst P (some_eq (sym called ∙ e)) (refl, now);
           as_decided = λ u b e h. absurd (outside_inside (sym is ∙ e));
         };
-        keeps_upgrades = record { begins = λ e. absurd (true_false (ap is_granted e)); pending = λ e h. refl; undecided = λ w h. refl; others = λ q apart. refl };
+        keeps_upgrades = record { begins = λ e. absurd (true≢false (ap is_granted e)); pending = λ e h. refl; undecided = λ w h. refl; others = λ q apart. refl };
       }
 
 -- ---- a step of a call

@@ -3,6 +3,7 @@ use Rattle.std.proofs.Common.{◌≡◌, ℕ, ◌<◌, ◌==◌, ◌&&◌, ◌�
 use Rattle.std.specs.Prelude.{not}
 use Rattle.std.proofs.Math.ListN.{set}
 use Rattle.std.proofs.lemmas.Bool.Decides.{nat_tests}
+use Rattle.std.proofs.lemmas.Bool.{false≢true}
 use Rattle.lock_world.specs.declared.moves.Answer.{Answer}
 use Rattle.lock_world.specs.declared.moves.Answer.TheVariants as answer
 use Rattle.lock_world.specs.declared.moves.Call.{Call}
@@ -22,6 +23,7 @@ use Rattle.lock_world.specs.declared.standing.Within.{Within}
 use Rattle.lock_world.specs.Rights.{Right, read, upgradable, write}
 use Rattle.lock_world.specs.Rosters.{how_many}
 use Rattle.lock_world.specs.Standings.{Standing, outside, inside, inputs_of}
+use Rattle.lock_world.proofs.Equations.{some_eq, some_none}
 use Rattle.mutex_machine.specs.declared.program.Place.{Place as TurnPlace}
 use Rattle.mutex_machine.specs.Machine.{place_at as turn_at}
 use Rattle.mutex_machine.specs.Roles.{listed}
@@ -57,15 +59,11 @@ use Rattle.rwlock_world.proofs.Rows.{answer_at, turn_row}
 use Rattle.rwlock_world.proofs.Stages.{starts, going_on_course, on_course}
 use Rattle.rwlock_world.proofs.Calls.{beginning, going}
 use Rattle.rwlock_world.proofs.Sound.{none_marked, nobody_holds, bit_seen}
-use Rattle.lock_world.proofs.Clashes.{false_true, some_none}
 use Rattle.rwlock_world.proofs.Events.{Laws, known_move}
 use Rattle.rwlock_world.proofs.AtOnce.{waits_for_turn, is_try_turn, Lists, Firsts, unlike, firsts, try_reads, first_reads, try_upgrades, try_adds, try_writes, turn_tries, turn_enters}
 use Rattle.rwlock_world.proofs.Endings as ends
 use Rattle.rwlock_world.proofs.Owns as owns
 use Rattle.rwlock_world.proofs.Views as view
-
-some_eq : {A : Type 0} {x y : A} → Some x ≡ Some y → x ≡ y
-some_eq e = cc
 
 -- ---- tests
 
@@ -466,49 +464,49 @@ unpolled o what e p = some_none (sym (ap (plan_of (Outside rest.Pending) o) p.1)
 
 idle_read : (o : Option Sought) (what : What) (n : ℕ) → plan_of (Outside rest.Idle) o what ≡ None → is_first_poll read (outside rest.Idle) (right_of o) what n ≡ true → ⊥
 idle_read o (Begin call.Read i) n e h = some_none e
-idle_read o _ n e h = false_true h
+idle_read o _ n e h = false≢true h
 
 idle_upgradable : (o : Option Sought) (what : What) (n : ℕ) → plan_of (Outside rest.Idle) o what ≡ None → is_first_poll upgradable (outside rest.Idle) (right_of o) what n ≡ true → ⊥
 idle_upgradable o (Begin call.UpgradableRead i) n e h = some_none e
-idle_upgradable o _ n e h = false_true h
+idle_upgradable o _ n e h = false≢true h
 
 idle_write : (o : Option Sought) (what : What) (n : ℕ) → plan_of (Outside rest.Idle) o what ≡ None → is_first_poll write (outside rest.Idle) (right_of o) what n ≡ true → ⊥
 idle_write o (Begin call.Write i) n e h = some_none e
-idle_write o _ n e h = false_true h
+idle_write o _ n e h = false≢true h
 
 polls_read : (s : Option Right) (what : What) (n : ℕ) → is_first_poll read (outside rest.Pending) s what n ≡ true → IsPoll what
 polls_read (Some read) (Begin call.Poll i) n h = (i, refl)
-polls_read (Some read) _ n h = absurd (false_true h)
-polls_read _ what n h = absurd (false_true h)
+polls_read (Some read) _ n h = absurd (false≢true h)
+polls_read _ what n h = absurd (false≢true h)
 
 polls_upgradable : (s : Option Right) (what : What) (n : ℕ) → is_first_poll upgradable (outside rest.Pending) s what n ≡ true → IsPoll what
 polls_upgradable (Some upgradable) (Begin call.Poll i) n h = (i, refl)
-polls_upgradable (Some upgradable) _ n h = absurd (false_true h)
-polls_upgradable _ what n h = absurd (false_true h)
+polls_upgradable (Some upgradable) _ n h = absurd (false≢true h)
+polls_upgradable _ what n h = absurd (false≢true h)
 
 polls_write : (s : Option Right) (what : What) (n : ℕ) → is_first_poll write (outside rest.Pending) s what n ≡ true → IsPoll what
 polls_write (Some write) (Begin call.Poll i) n h = (i, refl)
-polls_write (Some write) _ n h = absurd (false_true h)
-polls_write _ what n h = absurd (false_true h)
+polls_write (Some write) _ n h = absurd (false≢true h)
+polls_write _ what n h = absurd (false≢true h)
 
 module _ (v : ℕ) (x : Place) (t : TurnPlace) where
   never_reads : (s : Stage) (o : Option Sought) (what : What) (n : ℕ) → (s ≡ Outside rest.Finished → ⊥) → plan_of s o what ≡ None → is_first_poll read (stands_as v s x t) (right_of o) what n ≡ true → ⊥
   never_reads (Outside rest.Idle) o what n f e h = idle_read o what n e h
   never_reads (Outside rest.Pending) o what n f e h = unpolled o what e (polls_read (right_of o) what n h)
   never_reads (Outside rest.Finished) o what n f e h = f refl
-  never_reads _ o what n f e h = false_true h
+  never_reads _ o what n f e h = false≢true h
 
   never_reads_upgradable : (s : Stage) (o : Option Sought) (what : What) (n : ℕ) → (s ≡ Outside rest.Finished → ⊥) → plan_of s o what ≡ None → is_first_poll upgradable (stands_as v s x t) (right_of o) what n ≡ true → ⊥
   never_reads_upgradable (Outside rest.Idle) o what n f e h = idle_upgradable o what n e h
   never_reads_upgradable (Outside rest.Pending) o what n f e h = unpolled o what e (polls_upgradable (right_of o) what n h)
   never_reads_upgradable (Outside rest.Finished) o what n f e h = f refl
-  never_reads_upgradable _ o what n f e h = false_true h
+  never_reads_upgradable _ o what n f e h = false≢true h
 
   never_writes : (s : Stage) (o : Option Sought) (what : What) (n : ℕ) → (s ≡ Outside rest.Finished → ⊥) → plan_of s o what ≡ None → is_first_poll write (stands_as v s x t) (right_of o) what n ≡ true → ⊥
   never_writes (Outside rest.Idle) o what n f e h = idle_write o what n e h
   never_writes (Outside rest.Pending) o what n f e h = unpolled o what e (polls_write (right_of o) what n h)
   never_writes (Outside rest.Finished) o what n f e h = f refl
-  never_writes _ o what n f e h = false_true h
+  never_writes _ o what n f e h = false≢true h
 
 never_finished : (s : Stage) (x : Place) → goes_with s x ≡ true → s ≡ Outside rest.Finished → ⊥
 never_finished s x g e = let no : goes_with (Outside rest.Finished) x ≡ true = sym (ap (λ s. goes_with s x) e) ∙ g in absurd (cc)

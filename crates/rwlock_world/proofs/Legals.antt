@@ -3,6 +3,7 @@ use Rattle.std.proofs.Common.{◌≡◌, ◌≢◌, ℕ, ◌<◌, ◌⊎◌, ◌
 use Rattle.std.proofs.Math.ListN.{set}
 use Rattle.std.proofs.lemmas.Bool.Decides.{nat_tests}
 use Rattle.std.proofs.lemmas.List.{map-set}
+use Rattle.std.proofs.lemmas.Bool.{false≢true}
 use Rattle.lock_event.specs.declared.event.Mark.TheVariants as mark
 use Rattle.lock_world.specs.declared.moves.Answer.{Answer}
 use Rattle.lock_world.specs.declared.moves.Answer.TheVariants as answer
@@ -19,6 +20,7 @@ use Rattle.lock_world.specs.Refusals.{number_of}
 use Rattle.lock_world.specs.Rights.{Right, read, upgradable, write}
 use Rattle.lock_world.specs.Standings.{Standing, inside, StandsAfter, is_decided, is_possible, decision}
 use Rattle.lock_world.specs.Steps.{Deed}
+use Rattle.lock_world.proofs.Equations.{some_eq, some_none}
 use Rattle.mutex_machine.specs.declared.program.Place.{Place as TurnPlace}
 use Rattle.mutex_machine.specs.Machine.{place_at as turn_at}
 use Rattle.mutex_machine.proofs.Parts.{out_free, waiting_free}
@@ -39,7 +41,6 @@ use Rattle.rwlock_world.specs.Legal.{call_of, DecidesOn, IsPossible, ChangesOneT
 use Rattle.rwlock_world.specs.Plans.{answer_of, stage_after, stage_at, seeking, sought_at, agrees, course_of, is_on_course}
 use Rattle.rwlock_world.specs.Table.{IsTable}
 use Rattle.rwlock_world.specs.View.{is_upgrade, right_of, verdict, stands_as, seen}
-use Rattle.lock_world.proofs.Clashes.{false_true, some_none}
 use Rattle.rwlock_world.proofs.Paths.{Keeps}
 use Rattle.rwlock_world.proofs.Rows.{answer_at, verdict_then, is_after_ready, is_got, is_made}
 use Rattle.rwlock_world.proofs.Facts.{WaitsIn, ReasonAs, JudgedAs, Facts}
@@ -47,9 +48,6 @@ use Rattle.rwlock_world.proofs.Calls.{Moves}
 use Rattle.rwlock_world.proofs.Endings as ends
 use Rattle.rwlock_world.proofs.Owns as owns
 use Rattle.rwlock_world.proofs.Views as view
-
-some_eq : {A : Type 0} {x y : A} → Some x ≡ Some y → x ≡ y
-some_eq e = cc
 
 -- a step keeps what was decided
 keep : (m : Move) (old : World) (k : RwLock) (new : World) (v : ℕ) (to : Place) (d : Deed Change ListName) (was now : Option Answer) (b : Answer) → JudgedAs m old k new v to d was now → was ≡ Some b → (now ≡ Some b) × (gives_back d ≡ true)
@@ -184,7 +182,7 @@ module _ (m : Move) (l k : RwLock) (ss : List Stage) (os : List (Option Sought))
     call = rw (stood, sought_was) c.moves.call
 
     never : said ≡ answer.NotPossible → ⊥
-    never e = false_true (sym (ap is_possible e) ∙ always)
+    never e = false≢true (sym (ap is_possible e) ∙ always)
 
     possible : IsPossible old m said new
     possible = record { exactly = ((λ e. absurd (never e)), (λ e. absurd (some_none (sym call ∙ e)))); unchanged = λ e. absurd (never e) }
@@ -246,7 +244,7 @@ module _ (m : Move) (l k : RwLock) (ss : List Stage) (os : List (Option Sought))
     got_has place.Upgradable e h = owns.upgradable_has k ts ps v c.new_laws c.new_fits p place.Upgradable (lands ∙ e) refl refl refl (seeks_there place.Upgradable e) refl
     got_has place.Writing e h = owns.writing_has k ts ps v c.new_laws c.new_fits p place.Writing (lands ∙ e) refl refl refl (seeks_there place.Writing e) refl
     got_has place.LeaveNoReaders e h = owns.writing_has k ts ps v c.new_laws c.new_fits p place.LeaveNoReaders (lands ∙ e) refl refl refl (seeks_there place.LeaveNoReaders e) refl
-    got_has _ e h = absurd (false_true h)
+    got_has _ e h = absurd (false≢true h)
 
     carries : Carries old m said new
     carries = record {
@@ -275,8 +273,8 @@ module _ (m : Move) (l k : RwLock) (ss : List Stage) (os : List (Option Sought))
     refused_for_cause = record {
       cause = λ r y. elim (reason (answer.Refused r) y) as (λ _. (q : Refusal) × (r ≡ number_of q) × IsCause old m new q) [ inl e ↦ absurd (cc) | inr z ↦ z ];
       after_ready = (
-        (λ e. let never : is_after_ready (answer_at (course_of x) v n) ≡ true = ap is_after_ready (sym answer_is ∙ e) in absurd (false_true (sym c.facts.over ∙ never))),
-        (λ e. let never = rw stood at e in absurd (false_true (sym c.moves.not_over ∙ never))),
+        (λ e. let never : is_after_ready (answer_at (course_of x) v n) ≡ true = ap is_after_ready (sym answer_is ∙ e) in absurd (false≢true (sym c.facts.over ∙ never))),
+        (λ e. let never = rw stood at e in absurd (false≢true (sym c.moves.not_over ∙ never))),
       );
     }
 
@@ -302,7 +300,7 @@ module _ (m : Move) (l k : RwLock) (ss : List Stage) (os : List (Option Sought))
 
     made_clear : (y : Place) → to ≡ y → is_made y ≡ true → IsClear new p × (HasTurn new.state.turn p → ⊥)
     made_clear (place.Made q) e h = let o = fits_there (place.Made q) e in (owns.out_clear k ts ps v c.new_laws c.new_fits p (place.Made q) (lands ∙ e) refl refl o, owns.no_turn k ts ps v c.new_laws c.new_fits p (out_free u o))
-    made_clear _ e h = absurd (false_true h)
+    made_clear _ e h = absurd (false≢true h)
 
     upgrade_clear : to ≡ place.LookUnlisted true → IsClear new p × (new.state.turn ≡ state.waits_to_write p)
     upgrade_clear e = (owns.holding_clear k ts ps v c.new_laws c.new_fits p (place.LookUnlisted true) (lands ∙ e) refl refl (fits_there (place.LookUnlisted true) e), owns.turn_at_place k ts ps v c.new_laws c.new_fits p (place.LookUnlisted true) (lands ∙ e) refl)
@@ -311,8 +309,8 @@ module _ (m : Move) (l k : RwLock) (ss : List Stage) (os : List (Option Sought))
     leaves_clear = record {
       each = owns.each k ts ps v c.new_laws c.new_fits;
       refused = λ h. elim (refused_at h) as (λ _. IsClear new p) [ inl y ↦ (made_clear to refl y.0).0 | inr y ↦ (upgrade_clear y.0).0 ];
-      gives_up_turn = λ h e. elim (refused_at h) as (λ _. HasTurn new.state.turn p → ⊥) [ inl y ↦ (made_clear to refl y.0).1 | inr y ↦ absurd (false_true (sym e ∙ upgrade_was (not_drop h) ∙ y.1)) ];
-      keeps_turn = λ h e. elim (refused_at h) as (λ _. new.state.turn ≡ state.waits_to_write p) [ inl y ↦ absurd (false_true (sym y.1 ∙ sym (upgrade_was (not_drop h)) ∙ e)) | inr y ↦ (upgrade_clear y.0).1 ];
+      gives_up_turn = λ h e. elim (refused_at h) as (λ _. HasTurn new.state.turn p → ⊥) [ inl y ↦ (made_clear to refl y.0).1 | inr y ↦ absurd (false≢true (sym e ∙ upgrade_was (not_drop h) ∙ y.1)) ];
+      keeps_turn = λ h e. elim (refused_at h) as (λ _. new.state.turn ≡ state.waits_to_write p) [ inl y ↦ absurd (false≢true (sym y.1 ∙ sym (upgrade_was (not_drop h)) ∙ e)) | inr y ↦ (upgrade_clear y.0).1 ];
     }
 
     value_kept : IsValueKept old m said new

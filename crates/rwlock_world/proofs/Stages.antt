@@ -111,9 +111,6 @@ stage_fits w x (next.End e q) h k = ends_with w.kind w.was (course_of x) h e q k
 
 -- ---- a call begins where the program can, on its course
 
-some_eq : {A : Type 0} {x y : A} → Some x ≡ Some y → x ≡ y
-some_eq e = cc
-
 -- what a call is for
 abbrev pub aim_of : RwCall → Option Sought → Option Sought
 aim_of rw_call.Read s = Some sought.Read

@@ -66,9 +66,6 @@ walks memory starving p x n l m w a fits on =
     let P : Next → Type 0 = λ n. Walks x n in
     subst P (sym a.next_is) (record { keeps = it.keeps; seeks = it.seeks })
 
-some_eq : {A : Type 0} {x y : A} → Some x ≡ Some y → x ≡ y
-some_eq e = cc
-
 -- the place at which a call begins, and what the code learns of its action
 pub began : {P : Place → Type 0} (o : Option Place) → IsSomeAnd o P → (from : Place) × (o ≡ Some from) × P from
 began None h = absurd h
