@@ -60,52 +60,62 @@ fn world(rt: &(impl AllocGlobal + Abort)) -> World
 }
 
 /// Records a move, once more where memory was refused; then nothing had changed.
-fn record(rt: &impl Abort, book: &mut Book<World>, m: Move) -> Answer {
+fn record<W: AnyWorld>(rt: &impl Abort, book: &mut Book<W>, m: Move) -> Answer {
     let recorded = book.history().len();
-    let locked = book.world().is_locked();
+    let at_rest = book.world().at_rest();
     match book.record(m) {
         Ok(answer) => answer,
         Err(Memory) => {
             assert_eq!(rt; book.history().len(), recorded);
-            assert_eq!(rt; book.world().is_locked(), locked);
+            assert_eq!(rt; book.world().at_rest(), at_rest);
             book.record(m).expect(rt, "only one allocation is refused")
         }
     }
 }
 
+/// Records these moves in turn. Each is answered as it stands beside it, and the book's history is they.
+fn expect_record<W: AnyWorld>(rt: &impl Abort, book: &mut Book<W>, rows: &[(Move, Answer)]) {
+    assert_eq!(rt; book.history().len(), 0);
+    for (m, answer) in rows {
+        assert_eq!(rt; record(rt, book, *m), *answer, "{m:?}");
+    }
+    book.replays();
+    assert_eq!(rt; book.history(), rows);
+}
+
+/// Whether the lock is held, and how many wait.
+fn assert_world(rt: &impl Abort, world: &World, wanted: (bool, usize)) {
+    assert_eq!(rt; (world.is_locked(), world.waiting()), wanted);
+}
+
 #[test]
 fn a_book_records_each_move_with_its_answer(rt: HostRuntime) {
     let mut book = Book::new(rt.alloc(), world(&rt));
-    assert_eq!(rt; book.history().len(), 0);
-    for (m, answer) in dropped_waiter() {
-        assert_eq!(rt; record(&rt, &mut book, m), answer, "{m:?}");
-    }
-    book.replays();
-    assert_eq!(rt; book.history().len(), 14);
-    for ((m, answer), (recorded, given)) in dropped_waiter().iter().zip(book.history()) {
-        assert_eq!(rt; m, recorded);
-        assert_eq!(rt; answer, given);
-    }
-    assert!(rt; book.world().is_locked());
-    assert_eq!(rt; book.world().waiting(), 0);
+    expect_record(&rt, &mut book, &dropped_waiter());
+    assert_world(&rt, book.world(), (true, 0));
+}
+
+/// Runs these moves, once more where memory was refused; then nothing had changed. Each is answered as it
+/// stands beside it.
+fn expect_run(rt: &(impl AllocGlobal + Abort), world: &mut World, rows: &[(Move, Answer); 14]) {
+    let moves = rows.map(|(m, _)| m);
+    let answers = match world.run(rt.alloc(), &moves) {
+        Ok(answers) => answers,
+        Err(Memory) => {
+            assert_world(rt, world, (false, 0));
+            let again = world.run(rt.alloc(), &moves);
+            again.expect(rt, "only one allocation is refused")
+        }
+    };
+    let wanted = rows.map(|(_, answer)| answer);
+    assert_eq!(rt; answers.as_slice(), wanted.as_slice());
 }
 
 #[test]
 fn a_run_gives_the_same_answers(rt: HostRuntime) {
-    let moves = dropped_waiter().map(|(m, _)| m);
     let mut world = world(&rt);
-    let answers = match world.run(rt.alloc(), &moves) {
-        Ok(answers) => answers,
-        Err(Memory) => {
-            assert!(rt; !world.is_locked());
-            let again = world.run(rt.alloc(), &moves);
-            again.expect(&rt, "only one allocation is refused")
-        }
-    };
-    assert_eq!(rt; answers.len(), 14);
-    for ((m, answer), given) in dropped_waiter().iter().zip(answers.iter()) {
-        assert_eq!(rt; answer, given, "{m:?}");
-    }
+    expect_run(&rt, &mut world, &dropped_waiter());
+    assert_world(&rt, &world, (true, 0));
     assert!(rt; world.at_rest());
 }
 
@@ -132,23 +142,13 @@ fn rwlock_world(rt: &(impl AllocGlobal + Abort)) -> rwlock::World
 #[test]
 fn a_book_takes_any_world(rt: HostRuntime) {
     let mut book = Book::new(rt.alloc(), rwlock_world(&rt));
-    let moves = [
+    let rows = [
         (begin(0, Call::TryRead), Answer::Granted(Got::Value(3))),
         (begin(1, Call::TryRead), Answer::Granted(Got::Value(3))),
         (begin(1, Call::Drop), Answer::GivenBack),
         (begin(0, Call::Drop), Answer::Stepped),
         (go(0), Answer::GivenBack),
     ];
-    for (m, answer) in moves.iter() {
-        let given = match book.record(*m) {
-            Ok(given) => given,
-            Err(Memory) => book
-                .record(*m)
-                .expect(&rt, "only one allocation is refused"),
-        };
-        assert_eq!(rt; given, *answer, "{m:?}");
-    }
-    book.replays();
-    assert_eq!(rt; book.history().len(), 5);
+    expect_record(&rt, &mut book, &rows);
     assert_eq!(rt; book.world().readers(), 0);
 }

@@ -50,6 +50,32 @@ fn granted(value: u64) -> Answer {
     Answer::Granted(Got::Value(value))
 }
 
+/// Each move in turn is answered so.
+fn expect_steps(rt: &impl Abort, world: &mut World, steps: &[(Move, Answer)]) {
+    for (m, answer) in steps {
+        assert_eq!(rt; world.step(m), *answer, "{m:?}");
+    }
+}
+
+/// Each move of a run is answered so. A run that is refused has to leave the World as it was, and is made
+/// once more.
+fn expect_run(
+    rt: &(impl AllocGlobal + Abort),
+    world: &mut World,
+    moves: &[Move],
+    wanted: &[Answer],
+) -> Result<(), Fail> {
+    let answers = match world.run(rt.alloc(), moves) {
+        Ok(answers) => answers,
+        Err(Memory) => {
+            assert_eq!(rt; world.readers(), 0);
+            world.run(rt.alloc(), moves)?
+        }
+    };
+    assert_eq!(rt; answers.as_slice(), wanted);
+    Ok(())
+}
+
 /// Each call in turn, carried out whole by its party with these inputs, is answered so.
 fn expect(rt: &impl Abort, world: &mut World, inputs: Inputs, calls: &[(u32, Call, Answer)]) {
     for (party, call, answer) in calls {
@@ -193,12 +219,11 @@ fn a_value_put_at_rest_forgets_the_reader(rt: HostRuntime) -> Result<(), Fail> {
     let calls = [(0, Call::Read, ready(0)), (1, Call::Write, Answer::Pending)];
     expect(&rt, &mut world, INPUTS, &calls);
     let begins = moved(2, What::Begin(Call::Write, INPUTS));
-    assert_eq!(rt; world.step(&begins), Answer::Stepped);
+    expect_steps(&rt, &mut world, &[(begins, Answer::Stepped)]);
     assert!(rt; !world.at_rest());
     let goes = moved(2, What::Go(INPUTS));
-    for answer in [Answer::Stepped, Answer::Stepped, Answer::Pending] {
-        assert_eq!(rt; world.step(&goes), answer);
-    }
+    let steps = [Answer::Stepped, Answer::Stepped, Answer::Pending];
+    expect_steps(&rt, &mut world, &steps.map(|answer| (goes, answer)));
     assert!(rt; world.at_rest());
     *world.get_mut() = 7;
     assert_eq!(rt; world.value(), 7);
@@ -229,15 +254,7 @@ fn a_run_answers_each_move(rt: HostRuntime) -> Result<(), Fail> {
         Answer::NotPossible,
     ];
     let mut world = of_parties(rt.alloc(), 2, 4)?;
-    let answers = match world.run(rt.alloc(), &moves) {
-        Ok(answers) => answers,
-        Err(Memory) => {
-            assert_eq!(rt; world.readers(), 0);
-            world.run(rt.alloc(), &moves)?
-        }
-    };
-    assert_eq!(rt; answers.as_slice(), expected.as_slice());
-    Ok(())
+    expect_run(&rt, &mut world, &moves, &expected)
 }
 
 #[test]

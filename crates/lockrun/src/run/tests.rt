@@ -446,20 +446,19 @@ const BAD_LINES: [&[u8]; 103] = [
     b"#\x1f",
 ];
 
-/// A script with this line between two good ones.
-fn second_of_three(rt: &impl AllocGlobal, line: &[u8]) -> Result<Vec<u8>, AllocError> {
+/// Runs a script with this line between two good ones, which stops at it.
+fn expect_bad<R: AllocGlobal + Abort>(rt: &R, line: &[u8]) -> Result<(), Fail> {
     let mut script = Vec::new(rt.alloc());
     for part in [b"mutex 1 0\n".as_slice(), line, b"\nshow\n".as_slice()] {
         script.extend_from_slice(part)?;
     }
-    Ok(script)
+    expect(rt, script.as_slice(), "ok\n", "lockrun: line 2: bad\n", 1)
 }
 
 #[test]
 fn stops_at_a_bad_line(rt: HostRuntime) -> Result<(), Fail> {
     for line in BAD_LINES {
-        let script = second_of_three(&rt, line)?;
-        expect(&rt, script.as_slice(), "ok\n", "lockrun: line 2: bad\n", 1)?;
+        expect_bad(&rt, line)?;
     }
     Ok(())
 }
