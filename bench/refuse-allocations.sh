@@ -1,51 +1,63 @@
 #!/bin/sh
-# Refuses each allocation of `lockrun script` in turn, and checks what each run prints: the whole output and
-# status 0, or a beginning of it in whole lines, `lockrun: no memory` and status 3. It stops after the first
-# run that asks for fewer allocations than were counted, so that nothing was refused in it.
+# Refuses each allocation of `lockrun script` in turn, in all scripts of a folder at a time, and checks what
+# each run prints: the script's answers and status 0, or a beginning of them in whole lines,
+# `lockrun: no memory` and status 3. It stops once no script asks for so many allocations, or, with status 1,
+# at the first run that does otherwise.
 #
-# Run it at the top of the repository, with `rt` on the PATH: bench/refuse-allocations.sh [SCRIPT].
-# SCRIPT is the stored run's input if left out.
+# Run it at the top of the repository, with `rt` on the PATH: bench/refuse-allocations.sh [FOLDER].
+# FOLDER, with files NAME.script and NAME.answers, is scripts if left out, which takes some five minutes.
 set -eu
 
-crate=crates/lockrun
-script=${1:-$crate/stdin}
-script=$(cd "$(dirname "$script")" && pwd)/$(basename "$script")
+scripts=$(cd "${1:-scripts}" && pwd)
 work=$(mktemp -d)
 trap 'rm -rf "$work"' EXIT
-cd "$crate"
-
-# What the program wrote to its error output stands among the lines of `rt try`, which go there too.
-status_of() {
-    sed -n 's/.*run=ended status=\([0-9]*\).*/\1/p' "$1" | tail -n 1
-}
-
-rt try -- script <"$script" >"$work/whole" 2>"$work/log" || true
-if [ "$(status_of "$work/log")" != 0 ]; then
-    echo "with ample memory the status is $(status_of "$work/log")" >&2
-    exit 1
-fi
+mkdir "$work/cases"
+for script in "$scripts"/*.script; do
+    cp "$script" "$work/cases/$(basename "$script" .script)"
+done
+total=$(ls "$work/cases" | wc -l)
+cd crates/lockrun
 
 count=0
-while :; do
+fail() {
+    echo "allocation $count: $1" >&2
+    exit 1
+}
+
+# Runs all scripts with one allocation refused, and puts what each prints into a file of its own.
+run_all() {
+    rm -rf "$work/printed"
+    mkdir "$work/printed"
+    rt try --cases "$work/cases" --fail-alloc "$count" -- script >"$work/output" 2>"$work/log" || true
+    awk -v folder="$work/printed" '
+        /^== / { file = folder "/" $2; printf "" >file; next }
+        { print >file }
+    ' "$work/output"
+}
+
+# Whether the second file begins with the first.
+begins() {
+    head -c "$(wc -c <"$1")" "$2" | cmp -s - "$1"
+}
+
+refused=1
+while [ "$refused" -gt 0 ]; do
     count=$((count + 1))
-    rt try --fail-alloc "$count" -- script <"$script" >"$work/part" 2>"$work/log" || true
-    status=$(status_of "$work/log")
-    if [ "$status" = 0 ]; then
-        cmp -s "$work/whole" "$work/part" || { echo "allocation $count: other output" >&2; exit 1; }
-        break
-    fi
-    if [ "$status" != 3 ] || ! grep -q 'lockrun: no memory' "$work/log"; then
-        echo "allocation $count: status $status" >&2
-        cat "$work/log" >&2
-        exit 1
-    fi
-    # A beginning in whole lines: it is empty or ends in a line feed, and the whole output begins with it.
-    size=$(wc -c <"$work/part")
-    head -c "$size" "$work/whole" | cmp -s - "$work/part" || { echo "allocation $count: no beginning" >&2; exit 1; }
-    if [ "$size" -gt 0 ] && [ "$(tail -c 1 "$work/part" | od -An -tx1 | tr -d ' ')" != 0a ]; then
-        echo "allocation $count: a line that is not whole" >&2
-        exit 1
-    fi
-    echo "allocation $count refused: $size bytes of output, status 3"
+    refused=0
+    run_all
+    for answers in "$scripts"/*.answers; do
+        name=$(basename "$answers" .answers)
+        status=$(sed -n "s/^case=$name run=ended status=\([0-9]*\) .*/\1/p" "$work/log")
+        case $status in
+        0) cmp -s "$answers" "$work/printed/$name" || fail "$name: other answers" ;;
+        3)
+            begins "$work/printed/$name" "$answers" || fail "$name: no beginning of its answers"
+            refused=$((refused + 1))
+            ;;
+        *) fail "$name: ${status:+status }${status:-not run}" ;;
+        esac
+    done
+    told=$(grep -c '^lockrun: no memory$' "$work/log") || true
+    [ "$told" = "$refused" ] || fail "$refused scripts refused, and $told told of it"
+    echo "allocation $count: refused in $refused of $total scripts"
 done
-echo "allocation $count is not asked for: the whole output, status 0"
