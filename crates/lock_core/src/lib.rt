@@ -15,4 +15,5 @@ pub mod rwlock {
 }
 
 pub use lock_event::{Entry, Mark, Memory};
-pub use lock_world::{Answer, AnyWorld, Call, Got, Inputs, Made, Move, Refusal, What};
+pub use lock_frame::AnyWorld;
+pub use lock_world::{Answer, Call, Got, Inputs, Made, Move, Refusal, What};

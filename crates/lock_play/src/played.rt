@@ -10,8 +10,9 @@ ghost use Rattle.lock_play.specs.Answers.{Prints};
 ghost use Rattle.lock_play.specs.Requests.{Does};
 
 use crate::answer;
+use lock_frame::AnyWorld;
 use lock_script::command::Request;
-use lock_world::{Answer, AnyWorld, Call, Inputs, Move, What};
+use lock_world::{Answer, Call, Inputs, Move, What};
 use std::io;
 use std::io::Write;
 

@@ -25,12 +25,14 @@ use Rattle.lock_world.specs.declared.standing.Within.{Within}
 use Rattle.lock_world.specs.Standings.{inputs_of}
 use Rattle.mutex_machine.specs.Program.{start_of}
 use Rattle.mutex_machine.specs.Machine.{place_at}
-use Rattle.mutex_machine.specs.Acts.{Acts, IsMutex}
+use Rattle.mutex_machine.specs.Acts.{Acts}
 use Rattle.mutex_world.specs.Plans.{answer_of, stage_after, stage_at, within}
 use Rattle.mutex_machine.specs.Solo.{GoesOnAlone, last, step, PollsAlone, at_once, begun, BeginsPoll}
-use Rattle.mutex_world.specs.Table.{Table, IsTable, Steps, Does, IsStep}
+use Rattle.mutex_world.specs.Table.{Table, Steps, Does, IsStep}
 use Rattle.lock_world.specs.Whole.{going_on, moves_of, answers_of}
-use Rattle.mutex_world.specs.TableCalls.{TableRuns, WholeCall}
+use Rattle.mutex_world.specs.State.{World}
+use Rattle.mutex_world.specs.Steps.{Stands, Steps as Moved}
+use Rattle.mutex_world.specs.Runs.{Runs, rights_after}
 use Rattle.mutex_world.proofs.Tables.{planned}
 
 -- a later poll
@@ -50,13 +52,13 @@ ends : (v : ℕ) (n : Next) → answer_of kind.LaterPoll v n ≢ answer.Stepped 
 ends v (next.Do a to) h = absurd (h refl)
 ends v (next.End e) h = (e, refl)
 
--- how a poll left the table that ended so
-pub record Ended (t : Table) (p : ℕ) (a : Answer) (u : Table) (e : End) : Type 0 where
-  pub answer : a ≡ answer_of kind.LaterPoll t.value (next.End e)
-  pub stages : u.stages ≡ set t.stages p (stage_after later (next.End e))
-  pub value : u.value ≡ t.value
-  pub mutex : IsMutex u.lock
-  pub fits : IsTable u.lock u.stages
+-- how a poll left the World that ended so
+pub record Ended (w : World) (p : ℕ) (a : Answer) (v : World) (e : End) : Type 0 where
+  pub answer : a ≡ answer_of kind.LaterPoll w.behind.value (next.End e)
+  pub stages : v.behind.stages ≡ set w.behind.stages p (stage_after later (next.End e))
+  pub value : v.behind.value ≡ w.behind.value
+  pub stands : Stands v
+  pub opening_value : v.opening_value ≡ w.opening_value
 
 -- a step that goes on
 record Onward (t : Table) (p : ℕ) (from : Place) (u : Table) : Type 0 where
@@ -75,20 +77,20 @@ starts P o from e h = let Q : Option Place → Type 0 = λ x. IsSomeAnd x P in s
 
 module _ (p : ℕ) (i : Inputs) (memory : i.memory ≡ true) where
   -- the step that ends a poll
-  ends_so : (what : What) (t u : Table) (from : Place) (a : Answer) → (inputs_of what).memory ≡ true → a ≢ answer.Stepped → IsMutex u.lock → IsTable u.lock u.stages → Steps later from (record { party = p; what = what }) t a u
-      → (e : End) × Acts true p from (next.End e) t.lock u.lock × Ended t p a u e
-  ends_so what t u from a found not_stepped um uf s =
-      let n = ends t.value s.next (λ h. not_stepped (s.answer ∙ h)) in
-      let M : Bool → Type 0 = λ b. Acts b p from (next.End n.0) t.lock u.lock in
-      let N : Next → Type 0 = λ x. Acts (inputs_of what).memory p from x t.lock u.lock in (
+  ends_so : (what : What) (w v : World) (from : Place) (a : Answer) → (inputs_of what).memory ≡ true → a ≢ answer.Stepped → Moved w (record { party = p; what = what }) a v → Steps later from (record { party = p; what = what }) w.behind a v.behind
+      → (e : End) × Acts true p from (next.End e) w.behind.lock v.behind.lock × Ended w p a v e
+  ends_so what w v from a found not_stepped did s =
+      let n = ends w.behind.value s.next (λ h. not_stepped (s.answer ∙ h)) in
+      let M : Bool → Type 0 = λ b. Acts b p from (next.End n.0) w.behind.lock v.behind.lock in
+      let N : Next → Type 0 = λ x. Acts (inputs_of what).memory p from x w.behind.lock v.behind.lock in (
         n.0,
         subst M found (subst N n.1 s.acts),
         record {
-          answer = s.answer ∙ ap (answer_of kind.LaterPoll t.value) n.1;
-          stages = s.stages ∙ ap (λ x. set t.stages p (stage_after later x)) n.1;
+          answer = s.answer ∙ ap (answer_of kind.LaterPoll w.behind.value) n.1;
+          stages = s.stages ∙ ap (λ x. set w.behind.stages p (stage_after later x)) n.1;
           value = s.value;
-          mutex = um;
-          fits = uf;
+          stands = did.did.stands;
+          opening_value = did.legal.one_change.opening_value;
         },
       )
 
@@ -105,14 +107,14 @@ module _ (p : ℕ) (i : Inputs) (memory : i.memory ≡ true) where
         value = s.value;
       }
 
-  -- what ended from a table that a step left ended from the one before
-  ended_before : (t mid u : Table) (a : Answer) (e : End) (s : Stage) → mid.stages ≡ set t.stages p s → mid.value ≡ t.value → Ended mid p a u e → Ended t p a u e
-  ended_before t mid u a e s stages value k = record {
-    answer = k.answer ∙ ap (λ v. answer_of kind.LaterPoll v (next.End e)) value;
-    stages = k.stages ∙ (ap (λ ss. set ss p (stage_after later (next.End e))) stages ∙ set-set t.stages p s (stage_after later (next.End e)));
+  -- what ended from a World that a step left ended from the one before
+  ended_before : (w mid v : World) (a : Answer) (e : End) (s : Stage) → mid.behind.stages ≡ set w.behind.stages p s → mid.behind.value ≡ w.behind.value → mid.opening_value ≡ w.opening_value → Ended mid p a v e → Ended w p a v e
+  ended_before w mid v a e s stages value opening k = record {
+    answer = k.answer ∙ ap (λ n. answer_of kind.LaterPoll n (next.End e)) value;
+    stages = k.stages ∙ (ap (λ ss. set ss p (stage_after later (next.End e))) stages ∙ set-set w.behind.stages p s (stage_after later (next.End e)));
     value = k.value ∙ value;
-    mutex = k.mutex;
-    fits = k.fits;
+    stands = k.stands;
+    opening_value = k.opening_value ∙ opening;
   }
 
   still_inside : (t mid : Table) → p < length t.stages → mid.stages ≡ set t.stages p (Inside later) → (p < length mid.stages) × (stage_at mid.stages p ≡ Inside later)
@@ -125,18 +127,21 @@ module _ (p : ℕ) (i : Inputs) (memory : i.memory ≡ true) where
       subst D (planned t (going_on p i) (Inside later) (Some (plan.Go later)) known inside refl) did
 
   -- a poll that has begun goes on alone
-  goes_on : (k : ℕ) (t u : Table) (a : Answer) → a ≢ answer.Stepped → p < length t.stages → stage_at t.stages p ≡ Inside later
-      → TableRuns t (going_on p i ∷ replicate k (going_on p i)) (replicate k answer.Stepped ++ a ∷ []) u → (e : End) × GoesOnAlone p e u.lock t.lock × Ended t p a u e
-  goes_on zero t u a not_stepped known inside runs =
-      let so = ends_so (Go i) t runs.0 (place_at t.lock.places p) a memory not_stepped runs.2 runs.3 (going t runs.0 a known inside runs.1) in
-      let P : Table → Type 0 = λ x. (e : End) × GoesOnAlone p e x.lock t.lock × Ended t p a x e in
-      subst P (sym runs.4) (so.0, last t.lock so.1, so.2)
-  goes_on (suc k) t u a not_stepped known inside runs =
-      let mid : Table = runs.0 in
-      let on = goes_so (Go i) t mid (place_at t.lock.places p) memory (going t mid answer.Stepped known inside runs.1) in
-      let there = still_inside t mid known on.stages in
-      let more = goes_on k mid u a not_stepped there.0 there.1 runs.4 in
-      (more.0, step t.lock mid.lock on.action on.to on.acts more.1, ended_before t mid u a more.0 (Inside later) on.stages on.value more.2)
+  goes_on : (had : ℕ → Bool) (k : ℕ) (w v : World) (a : Answer) → a ≢ answer.Stepped → p < length w.behind.stages → stage_at w.behind.stages p ≡ Inside later
+      → Runs had w (going_on p i ∷ replicate k (going_on p i)) (replicate k answer.Stepped ++ a ∷ []) v → (e : End) × GoesOnAlone p e v.behind.lock w.behind.lock × Ended w p a v e
+  goes_on had zero w v a not_stepped known inside runs =
+      let t = w.behind in
+      let mid : World = runs.0 in
+      let so = ends_so (Go i) w mid (place_at t.lock.places p) a memory not_stepped runs.1 (going t mid.behind a known inside runs.1.did.step) in
+      let P : World → Type 0 = λ x. (e : End) × GoesOnAlone p e x.behind.lock t.lock × Ended w p a x e in
+      subst P (sym runs.3) (so.0, last t.lock so.1, so.2)
+  goes_on had (suc k) w v a not_stepped known inside runs =
+      let t = w.behind in
+      let mid : World = runs.0 in
+      let on = goes_so (Go i) t mid.behind (place_at t.lock.places p) memory (going t mid.behind answer.Stepped known inside runs.1.did.step) in
+      let there = still_inside t mid.behind known on.stages in
+      let more = goes_on (rights_after had (going_on p i) answer.Stepped) k mid v a not_stepped there.0 there.1 runs.3 in
+      (more.0, step t.lock mid.behind.lock on.action on.to on.acts more.1, ended_before w mid v a more.0 (Inside later) on.stages on.value runs.1.legal.one_change.opening_value more.2)
 
   abbrev first_move : Move
   first_move = record { party = p; what = Begin call.Poll i }
@@ -146,22 +151,22 @@ module _ (p : ℕ) (i : Inputs) (memory : i.memory ≡ true) where
       let D : Option Plan → Type 0 = λ o. Does o first_move t a u in
       subst D (planned t first_move (Outside rest.Pending) (Some (plan.Start lock_call.Poll later)) known pending refl) did
 
-  by_length : (k : ℕ) (t u : Table) (a : Answer) → a ≢ answer.Stepped → p < length t.stages → stage_at t.stages p ≡ Outside rest.Pending
-      → TableRuns t (moves_of p call.Poll i k) (answers_of k a) u → (e : End) × PollsAlone p e u.lock t.lock × Ended t p a u e
-  by_length zero t u a not_stepped known pending runs =
-      let s = started (start_of lock_call.Poll (place_at t.lock.places p)) (beginning t runs.0 a known pending runs.1) in
-      let so = ends_so (Begin call.Poll i) t runs.0 s.0 a memory not_stepped runs.2 runs.3 s.2 in
-      let begins : BeginsPoll p (next.End so.0) t.lock runs.0.lock = starts (λ from. Acts true p from (next.End so.0) t.lock runs.0.lock) (start_of lock_call.Poll (place_at t.lock.places p)) s.0 s.1 so.1 in
-      let P : Table → Type 0 = λ x. (e : End) × PollsAlone p e x.lock t.lock × Ended t p a x e in
-      subst P (sym runs.4) (so.0, at_once t.lock begins, so.2)
-  by_length (suc k) t u a not_stepped known pending runs =
-      let mid : Table = runs.0 in
-      let s = started (start_of lock_call.Poll (place_at t.lock.places p)) (beginning t mid answer.Stepped known pending runs.1) in
-      let on = goes_so (Begin call.Poll i) t mid s.0 memory s.2 in
-      let begins : BeginsPoll p (next.Do on.action on.to) t.lock mid.lock = starts (λ from. Acts true p from (next.Do on.action on.to) t.lock mid.lock) (start_of lock_call.Poll (place_at t.lock.places p)) s.0 s.1 on.acts in
-      let there = still_inside t mid known on.stages in
-      let more = goes_on k mid u a not_stepped there.0 there.1 runs.4 in
-      (more.0, begun t.lock mid.lock on.action on.to begins more.1, ended_before t mid u a more.0 (Inside later) on.stages on.value more.2)
-
-  pub polls_alone : (t u : Table) (a : Answer) → p < length t.stages → stage_at t.stages p ≡ Outside rest.Pending → WholeCall t p call.Poll i a u → (e : End) × PollsAlone p e u.lock t.lock × Ended t p a u e
-  polls_alone t u a known pending k = by_length k.more t u a k.ended known pending k.runs
+  pub polls_alone : (had : ℕ → Bool) (k : ℕ) (w v : World) (a : Answer) → a ≢ answer.Stepped → p < length w.behind.stages → stage_at w.behind.stages p ≡ Outside rest.Pending
+      → Runs had w (moves_of p call.Poll i k) (answers_of k a) v → (e : End) × PollsAlone p e v.behind.lock w.behind.lock × Ended w p a v e
+  polls_alone had zero w v a not_stepped known pending runs =
+      let t = w.behind in
+      let mid : World = runs.0 in
+      let s = started (start_of lock_call.Poll (place_at t.lock.places p)) (beginning t mid.behind a known pending runs.1.did.step) in
+      let so = ends_so (Begin call.Poll i) w mid s.0 a memory not_stepped runs.1 s.2 in
+      let begins : BeginsPoll p (next.End so.0) t.lock mid.behind.lock = starts (λ from. Acts true p from (next.End so.0) t.lock mid.behind.lock) (start_of lock_call.Poll (place_at t.lock.places p)) s.0 s.1 so.1 in
+      let P : World → Type 0 = λ x. (e : End) × PollsAlone p e x.behind.lock t.lock × Ended w p a x e in
+      subst P (sym runs.3) (so.0, at_once t.lock begins, so.2)
+  polls_alone had (suc k) w v a not_stepped known pending runs =
+      let t = w.behind in
+      let mid : World = runs.0 in
+      let s = started (start_of lock_call.Poll (place_at t.lock.places p)) (beginning t mid.behind answer.Stepped known pending runs.1.did.step) in
+      let on = goes_so (Begin call.Poll i) t mid.behind s.0 memory s.2 in
+      let begins : BeginsPoll p (next.Do on.action on.to) t.lock mid.behind.lock = starts (λ from. Acts true p from (next.Do on.action on.to) t.lock mid.behind.lock) (start_of lock_call.Poll (place_at t.lock.places p)) s.0 s.1 on.acts in
+      let there = still_inside t mid.behind known on.stages in
+      let more = goes_on (rights_after had first_move answer.Stepped) k mid v a not_stepped there.0 there.1 runs.3 in
+      (more.0, begun t.lock mid.behind.lock on.action on.to begins more.1, ended_before w mid v a more.0 (Inside later) on.stages on.value runs.1.legal.one_change.opening_value more.2)

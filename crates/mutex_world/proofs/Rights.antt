@@ -1,5 +1,5 @@
 -- After each step the rights by the answers are the state's.
-use Rattle.std.proofs.Common.{◌≡◌, ◌≢◌, ℕ, ◌==◌, ◌++◌, ◌⊎◌, ◌↔◌, if◌then◌else◌, inl, inr, Bool, true, false, List, [], ◌∷◌, Option, Some, None, refl, arith, ap, sym, ◌∙◌, subst}
+use Rattle.std.proofs.Common.{◌≡◌, ◌≢◌, ℕ, ◌==◌, ◌⊎◌, ◌↔◌, if◌then◌else◌, inl, inr, Bool, true, false, Option, Some, None, refl, arith, ap, sym, ◌∙◌, subst}
 use Rattle.std.proofs.Math.Decide.{ℕ_discrete}
 use Rattle.std.proofs.lemmas.Bool.Decides.{nat_tests}
 use Rattle.lock_world.specs.declared.refusal.Refusal.TheVariants as refusal
@@ -24,7 +24,7 @@ use Rattle.lock_world.specs.Frame.{is_drop, is_poll_after_ready, put_in}
 use Rattle.lock_world.proofs.Equations.{some_eq}
 use Rattle.mutex_world.specs.Legal.{knows, is_try, call_of, HasItsOwn, Legal, AnswersAtOnce}
 use Rattle.mutex_world.specs.Laws.{IsSound, IsAwake, is_long_call, is_at_rest}
-use Rattle.mutex_world.specs.Runs.{right_after, rights_after, is_holder_of, has_by, rights_of, rights_by, HasItsRights, HoldsWell, Runs}
+use Rattle.mutex_world.specs.Runs.{right_after, rights_after, is_holder_of, has_by, rights_of, HasItsRights, HoldsWell}
 
 is_same : (p q : ℕ) → (p == q) ≡ true → p ≡ q
 is_same p q e = grind (arith, nat_tests)
@@ -257,17 +257,3 @@ holds_well had w m a v known sound legal now then_sound then_awake =
   where
     same_after : (b : Bool) (x y : Bool) → x ≡ y → (if b then right_after x m.what a else x) ≡ (if b then right_after y m.what a else y)
     same_after b x y e = ap (λ z. if b then right_after z m.what a else z) e
-
--- a run goes on by one step
-pub runs_more : (had : ℕ → Bool) (w : World) (ms : List Move) (answers : List Answer) (v : World) (m : Move) (a : Answer) (u : World) → Runs had w ms answers v → Legal v m a u → HoldsWell (rights_after (rights_by had ms answers) m a) u → Runs had w (ms ++ m ∷ []) (answers ++ a ∷ []) u
-runs_more had w [] [] v m a u runs step well = let P : World → Type 0 = λ x. Legal x m a u in (u, subst P runs step, well, refl)
-runs_more had w [] (b ∷ more) v m a u runs step well = absurd runs
-runs_more had w (n ∷ ms) [] v m a u runs step well = absurd runs
-runs_more had w (n ∷ ms) (b ∷ more) v m a u runs step well = (runs.0, runs.1, runs.2, runs_more (rights_after had n b) runs.0 ms more v m a u runs.3 step well)
-
--- the rights after one more move
-pub rights_more : (had : ℕ → Bool) (w : World) (ms : List Move) (answers : List Answer) (v : World) (m : Move) (a : Answer) → Runs had w ms answers v → rights_by had (ms ++ m ∷ []) (answers ++ a ∷ []) ≡ rights_after (rights_by had ms answers) m a
-rights_more had w [] [] v m a runs = refl
-rights_more had w [] (b ∷ more) v m a runs = absurd runs
-rights_more had w (n ∷ ms) [] v m a runs = absurd runs
-rights_more had w (n ∷ ms) (b ∷ more) v m a runs = rights_more (rights_after had n b) runs.0 ms more v m a runs.3

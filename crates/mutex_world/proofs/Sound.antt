@@ -22,7 +22,7 @@ use Rattle.mutex_world.specs.Table.{Table, IsTable}
 use Rattle.mutex_world.specs.State.{World}
 use Rattle.mutex_world.specs.Laws.{HasRight, IsSound, is_long_call, is_at_rest, IsAwake}
 use Rattle.mutex_world.specs.Lending.{is_forgotten_then, world_with}
-use Rattle.mutex_world.specs.TableCalls.{table_with}
+use Rattle.mutex_world.specs.Table.{table_with}
 use Rattle.mutex_machine.specs.State.{is_counted}
 use Rattle.mutex_world.specs.View.{verdict, stands_as, standings, view_of}
 use Rattle.mutex_machine.proofs.CanDo.{once}

@@ -2,6 +2,7 @@
 use Rattle.std.specs.Prelude.{◌≡◌, ◌≢◌, ℕ, ◌<◌, ◌⊎◌, true, Some, None}
 use Rattle.lock_world.specs.declared.moves.Answer.{Answer}
 use Rattle.lock_world.specs.declared.moves.Answer.TheVariants as answer
+use Rattle.lock_world.specs.declared.moves.Call.{Call}
 use Rattle.lock_world.specs.declared.moves.Call.TheVariants as call
 use Rattle.lock_world.specs.declared.moves.Got.TheVariants.{Value}
 use Rattle.lock_world.specs.declared.moves.Inputs.{Inputs}
@@ -33,12 +34,15 @@ pub record SoloPoll (w : World) (p : ℕ) (a : Answer) (v : World) : Type 0 wher
   pub takes_or_gives_way : how_many w.state.starved < w.limit → Takes w p a v ⊎ GivesWay w p a v
   pub takes : (is_starved w.state p ≡ true) ⊎ (how_many w.state.starved ≡ 0) → Takes w p a v
 
--- A whole solo poll that doesn't take the lock, while fewer parties are starved than may be; `free` is what each solo poll of a free lock does.
+-- What a whole call promises: a solo poll of a free lock takes it or gives way.
+abbrev pub Promises : World → ℕ → Call → Inputs → Answer → World → Type 0
+Promises w p c inputs a v = c ≡ call.Poll → IsSolo w p inputs → w.state.holder ≡ None → SoloPoll w p a v
+
+-- A whole solo poll that doesn't take the lock, while fewer parties are starved than may be.
 pub record PassesOver (w : World) (p : ℕ) (inputs : Inputs) (a : Answer) (v : World) : Type 0 where
   pub solo : IsSolo w p inputs
   pub limit : how_many w.state.starved < w.limit
   pub whole : IsWholeCall w p call.Poll inputs a v
-  pub free : w.state.holder ≡ None → SoloPoll w p a v
   pub not_taken : v.state.holder ≢ Some p
 
 -- What holds at rest where somebody waits for a free lock: some entry is marked, of a party that is pending, or was when it was forgotten; and fewer solo polls in turn pass the lock over than the list has entries, so that among as many one takes it.

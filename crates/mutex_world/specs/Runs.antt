@@ -1,5 +1,5 @@
 -- Whole runs of a mutex's World, and the rights that the answers alone tell of.
-use Rattle.std.specs.Prelude.{◌≡◌, ℕ, ◌==◌, ◌↔◌, if◌then◌else◌, Bool, true, false, List, [], ◌∷◌, Option, Some, None}
+use Rattle.std.specs.Prelude.{◌≡◌, ℕ, ◌==◌, ◌↔◌, if◌then◌else◌, Bool, true, false, List, Option, Some, None}
 use Rattle.lock_world.specs.declared.moves.Answer.{Answer}
 use Rattle.lock_world.specs.declared.moves.Answer.TheVariants as answer
 use Rattle.lock_world.specs.declared.moves.Move.{Move}
@@ -9,7 +9,7 @@ use Rattle.lock_world.specs.Standings.{Standing, outside, forgotten, is_outside}
 use Rattle.lock_world.specs.Runs as runs
 use Rattle.mutex_world.specs.State.{World, standing_of}
 use Rattle.lock_world.specs.Frame.{is_drop}
-use Rattle.mutex_world.specs.Legal.{Legal}
+use Rattle.mutex_world.specs.Steps.{Steps}
 use Rattle.mutex_world.specs.Laws.{IsSound, IsAwake, is_at_rest}
 
 -- Whether a party has the lock by its answers alone, after a move of its own: Ready and Granted give it the lock, and the first event of a drop takes it away.
@@ -22,12 +22,6 @@ right_after had what _ = if is_drop what then false else had
 -- Who has the lock by the answers alone, after one more move.
 abbrev pub rights_after : (ℕ → Bool) → Move → Answer → ℕ → Bool
 rights_after had m a p = if m.party == p then right_after (had p) m.what a else had p
-
--- Who has the lock by the answers alone, after these moves with these answers.
-abbrev pub rights_by : (ℕ → Bool) → List Move → List Answer → ℕ → Bool
-rights_by had [] answers = had
-rights_by had (m ∷ ms) [] = had
-rights_by had (m ∷ ms) (a ∷ more) = rights_by (rights_after had m a) ms more
 
 abbrev pub is_holder_of : Option ℕ → ℕ → Bool
 is_holder_of None p = false
@@ -56,7 +50,11 @@ pub record HoldsWell (had : ℕ → Bool) (w : World) : Type 0 where
 
 -- A chain of legal steps, one answer a move, after each of which all is well; `had` tells the rights by the answers so far.
 abbrev pub Runs : (ℕ → Bool) → World → List Move → List Answer → World → Type 0
-Runs = runs.Runs Legal rights_after HoldsWell
+Runs = runs.Runs Steps rights_after HoldsWell
+
+-- What is known tells each party's right.
+abbrev pub TellsRights : (ℕ → Bool) → World → Type 0
+TellsRights had w = (p : ℕ) → had p ≡ rights_of w p
 
 -- A run in which the rights are known as the World has them where it begins.
 abbrev pub RunsOn : World → List Move → List Answer → World → Type 0

@@ -1,5 +1,5 @@
 -- What stands behind a mutex's World, and what one move does to it.
-use Rattle.std.specs.Prelude.{◌≡◌, ℕ, ◌<◌, true, List, length, Option, Some, None, IsSomeAnd, slice_set, replicate, nat_lt, if◌then◌else◌}
+use Rattle.std.specs.Prelude.{◌≡◌, ℕ, ◌<◌, true, List, length, Option, Some, None, IsSomeAnd, slice_set, map, replicate, nat_lt, if◌then◌else◌}
 use Rattle.lock_world.specs.declared.refusal.Refusal.TheVariants.{Finished}
 use Rattle.mutex_machine.specs.declared.program.Next.{Next}
 use Rattle.mutex_machine.specs.declared.program.Place.{Place}
@@ -13,7 +13,7 @@ use Rattle.lock_world.specs.declared.standing.Rest.TheVariants.{Idle}
 use Rattle.lock_world.specs.declared.standing.Stage.{Stage}
 use Rattle.lock_world.specs.declared.standing.Stage.TheVariants.{Outside}
 use Rattle.lock_world.specs.declared.standing.Within.{Within}
-use Rattle.lock_world.specs.Standings.{inputs_of, refused}
+use Rattle.lock_world.specs.Standings.{inputs_of, refused, forgets}
 use Rattle.mutex_machine.specs.Program.{start_of}
 use Rattle.mutex_machine.specs.Machine.{Lock, place_at, new_lock}
 use Rattle.mutex_machine.specs.Acts.{Acts}
@@ -56,3 +56,7 @@ pub record IsTable (lock : Lock) (stages : List Stage) : Type 0 where
 -- as it is made, with every party idle
 abbrev pub new_table : ℕ → ℕ → ℕ → Table
 new_table parties limit value = record { lock = new_lock parties limit; stages = replicate parties (Outside Idle); value = value }
+
+-- The table once a value was put: whoever was pending or held the lock is forgotten.
+abbrev pub table_with : Table → ℕ → Table
+table_with t v = record { lock = t.lock; stages = map forgets t.stages; value = v }

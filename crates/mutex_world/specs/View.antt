@@ -46,6 +46,7 @@ seen l ss v = record {
   standings = standings v ss l.places;
   limit = l.limit;
   opening_value = 0;
+  behind = record { lock = l; stages = ss; value = v };
 }
 
 -- a World that was made with this value

@@ -10,14 +10,13 @@ mod table;
 ghost use Rattle.std.specs.Prelude.{◌≡◌, Bool, ◌<◌, ◌≤◌, ℕ, true, [], ◌∷◌, ◌++◌, None, IfOk, IfErr, OnErr, length, min, slice_get, is_some, vec_len, vec_capacity};
 ghost use Rattle.lock_world.specs.Rosters.{how_many};
 ghost use Rattle.mutex_world.specs.State.{new_world};
-ghost use Rattle.mutex_world.specs.Legal.{Legal, AnswersAtOnce};
+ghost use Rattle.mutex_world.specs.Steps.{Steps};
 ghost use Rattle.mutex_world.specs.Laws.{IsSound, IsAwake, IsFreeAndWanted, is_at_rest};
-ghost use Rattle.mutex_world.specs.Runs.{Runs, rights_of};
-ghost use Rattle.mutex_world.specs.Whole.{IsWholeCall};
-ghost use Rattle.mutex_world.specs.Bound.{IsSolo, SoloPoll, IsBounded};
+ghost use Rattle.mutex_world.specs.Bound.{IsBounded};
 
-use lock_event::{Entry, Memory};
-use lock_world::{Answer, AnyWorld, Call, Inputs, Move, Refusal};
+use lock_event::Entry;
+use lock_frame::AnyWorld;
+use lock_world::{Answer, Move, Refusal};
 use std::alloc::Global;
 use std::marker::Model;
 use table::Table;
@@ -85,54 +84,12 @@ impl World {
     ///
     /// The Rust crate's `lock` carries out a whole poll in one call, and never refuses.
     pub fn step(&mut self, m: &Move) -> Answer
-        ensures legal { Legal self.old m.now result self.new }
-        ensures at_once { AnswersAtOnce self.old m.now result self.new }
+        ensures { Steps self.old m.now result self.new }
     {
         self.table.laws();
         let answer = self.table.step(m);
         self.table.laws();
         answer
-    }
-
-    /// Steps through a list of moves, and answers each. Refused, for memory for the answers alone, the
-    /// World is unchanged.
-    ///
-    /// The clause `runs` says that the answers are those of a chain of legal steps, after each of which
-    /// the rights that the answers tell of are the state's, rights that exclude each other don't
-    /// coexist, and, where nobody is inside a call, no notification is lost.
-    pub fn run(&mut self, alloc: Global, moves: &[Move]) -> Result<Vec<Answer>, Memory>
-        ensures runs { IfOk result (λ answers. Runs (rights_of self.old) self.old moves.now answers.items self.new) }
-        ensures refused { OnErr result (self.new ≡ self.old) }
-    {
-        let Ok(mut answers) = Vec::with_capacity(alloc, moves.len()) else {
-            return Err(Memory);
-        };
-        for m in moves {
-            self.laws();
-            let answer = self.step(m);
-            self.laws();
-            answers.push_reserved(answer);
-        }
-        Ok(answers)
-    }
-
-    /// Begins a call of a party and goes on with it, with the same inputs, to its end. It works for every
-    /// call, not for polls alone, and from every World, whatever the other parties are about.
-    ///
-    /// The answer is the call's result, never `Stepped`; `NotPossible` changes nothing. The clause `whole`
-    /// says that this is a run, of at most 12 steps for a poll, 2 for a drop and 1 for any other call, after
-    /// which the party is outside the call.
-    ///
-    /// The clause `solo` speaks of a poll whose party is pending with a marked entry and finds memory,
-    /// while nobody holds the lock. It takes the lock, or, if its party isn't starved and another is,
-    /// waits on as a starved one with the notification handed on. Where the limit of starved parties is
-    /// met it may instead be refused.
-    pub fn poll_whole(&mut self, party: u32, call: Call, inputs: Inputs) -> Answer
-        ensures whole { IsWholeCall self.old party call inputs result self.new }
-        ensures solo { call ≡ Call.Poll → IsSolo self.old party inputs → self.old.state.holder ≡ None → SoloPoll self.old party result self.new }
-    {
-        self.table.laws();
-        self.table.poll_whole(party, call, inputs)
     }
 
     /// Whether nobody is inside a call.
@@ -155,7 +112,7 @@ impl World {
     /// How often a lock that is free, at rest, may be passed over while parties wait for it: among as many
     /// solo polls in turn as the list has entries one takes the lock. It does nothing.
     ///
-    /// A solo poll is a [`World::poll_whole`] of a pending party whose entry is marked and that finds
+    /// A solo poll is a [`AnyWorld::poll_whole`] of a pending party whose entry is marked and that finds
     /// memory. In none of them may as many parties be starved already as the limit allows. The clause
     /// `bounded` also says that some entry is marked, so that there is a party to poll, unless it was
     /// forgotten.
@@ -226,14 +183,15 @@ impl World {
 }
 
 impl AnyWorld for World {
-    ghost use Rattle.mutex_world.specs.Legal as mutex;
+    ghost use Rattle.mutex_world.specs.Steps as steps;
     ghost use Rattle.mutex_world.specs.State as state;
     ghost use Rattle.mutex_world.specs.Laws as laws;
-    ghost use Rattle.mutex_world.specs.Runs.{HoldsWell, rights_of, rights_after};
-    ghost use Rattle.mutex_world.specs.Whole.{most_steps_of};
+    ghost use Rattle.mutex_world.specs.Runs.{HoldsWell, TellsRights, rights_of, rights_after};
+    ghost use Rattle.mutex_world.specs.Whole.{most_steps_of, steps_left_of};
+    ghost use Rattle.mutex_world.specs.Bound.{Promises};
     ghost use Rattle.mutex_world.specs.Openings.{opening_kept};
 
-    ghost legal = { mutex.Legal };
+    ghost legal = { steps.Steps };
 
     ghost opening = { state.opening_of };
 
@@ -247,23 +205,23 @@ impl AnyWorld for World {
 
     ghost learn = { rights_after };
 
+    ghost tells = { TellsRights };
+
     ghost is_well = { HoldsWell };
 
     ghost most_steps = { most_steps_of };
 
-    ghost keeps_opening = { opening_kept };
+    ghost steps_left = { steps_left_of };
+
+    ghost promises = { Promises };
+
+    ghost keeps_opening = { λ w m a v s. opening_kept w m a v s.legal };
 
     fn step(&mut self, m: &Move) -> Answer {
         World::step(self, m)
     }
 
-    fn run(&mut self, alloc: Global, moves: &[Move]) -> Result<Vec<Answer>, Memory> {
-        World::run(self, alloc, moves)
-    }
-
-    fn poll_whole(&mut self, party: u32, call: Call, inputs: Inputs) -> Answer {
-        World::poll_whole(self, party, call, inputs)
-    }
+    fn step_laws(&self) {}
 
     fn at_rest(&self) -> bool {
         World::at_rest(self)

@@ -25,13 +25,16 @@ use Rattle.lock_world.specs.declared.standing.Within.{Within}
 use Rattle.lock_world.specs.Standings.{inputs_of}
 use Rattle.rwlock_machine.specs.Program.{start_of}
 use Rattle.rwlock_machine.specs.Machine.{place_at}
-use Rattle.rwlock_machine.specs.Acts.{Acts, IsRwLock}
+use Rattle.rwlock_machine.specs.Acts.{Acts}
 use Rattle.rwlock_world.specs.declared.world.table.Sought.{Sought}
 use Rattle.rwlock_world.specs.Plans.{answer_of, stage_after, begins_to_seek, goes_on_seeking, plan_of, stage_at, seeking, within}
 use Rattle.rwlock_machine.specs.Solo.{GoesOnAlone, last, step, PollsAlone, at_once, begun, BeginsPoll}
-use Rattle.rwlock_world.specs.Table.{Table, IsTable, Steps, Does, IsStep}
+use Rattle.rwlock_world.specs.Table.{Table, Steps, Does, IsStep}
 use Rattle.lock_world.specs.Whole.{going_on, moves_of, answers_of}
-use Rattle.rwlock_world.specs.TableCalls.{TableRuns, WholeCall}
+use Rattle.lock_world.specs.Accounts.{Account, accounts_after}
+use Rattle.rwlock_world.specs.State.{World}
+use Rattle.rwlock_world.specs.Steps.{Stands, Steps as Moved}
+use Rattle.rwlock_world.specs.Runs.{Runs}
 use Rattle.rwlock_world.proofs.Tables.{planned, began}
 
 -- a later poll
@@ -52,14 +55,14 @@ ends : (v : ℕ) (n : Next) → answer_of kind.LaterPoll v n ≢ answer.Stepped 
 ends v (next.Do a to) h = absurd (h refl)
 ends v (next.End e to) h = (e, to, refl)
 
--- how a poll left the table that ended so
-pub record Ended (t : Table) (p : ℕ) (a : Answer) (u : Table) (e : End) : Type 0 where
+-- how a poll left the World that ended so
+pub record Ended (w : World) (p : ℕ) (a : Answer) (v : World) (e : End) : Type 0 where
   pub to : Place
-  pub answer : a ≡ answer_of kind.LaterPoll t.value (next.End e to)
-  pub stages : u.stages ≡ set t.stages p (stage_after later (next.End e to))
-  pub value : u.value ≡ t.value
-  pub laws : IsRwLock u.lock
-  pub fits : IsTable u.lock u.stages u.sought
+  pub answer : a ≡ answer_of kind.LaterPoll w.behind.value (next.End e to)
+  pub stages : v.behind.stages ≡ set w.behind.stages p (stage_after later (next.End e to))
+  pub value : v.behind.value ≡ w.behind.value
+  pub stands : Stands v
+  pub opening_value : v.opening_value ≡ w.opening_value
 
 -- a step that goes on
 record Onward (starving : Bool) (t : Table) (p : ℕ) (from : Place) (u : Table) : Type 0 where
@@ -74,9 +77,11 @@ starts P o from e h = let Q : Option Place → Type 0 = λ x. IsSomeAnd x P in s
 
 module _ (p : ℕ) (i : Inputs) (memory : i.memory ≡ true) where
   -- the step that ends a poll
-  ends_so : (t u : Table) (from : Place) (seeks : Next → Option Sought) (what : What) (a : Answer) → inputs_of what ≡ i → a ≢ answer.Stepped → IsRwLock u.lock → IsTable u.lock u.stages u.sought → Steps later from seeks (record { party = p; what = what }) t a u
-      → (e : End) × (to : Place) × Acts true i.starving p from (next.End e to) t.lock u.lock × Ended t p a u e
-  ends_so t u from seeks what a are not_stepped laws fits s =
+  ends_so : (w v : World) (from : Place) (seeks : Next → Option Sought) (what : What) (a : Answer) → inputs_of what ≡ i → a ≢ answer.Stepped → Moved w (record { party = p; what = what }) a v → Steps later from seeks (record { party = p; what = what }) w.behind a v.behind
+      → (e : End) × (to : Place) × Acts true i.starving p from (next.End e to) w.behind.lock v.behind.lock × Ended w p a v e
+  ends_so w v from seeks what a are not_stepped did s =
+      let t = w.behind in
+      let u = v.behind in
       let n = ends t.value s.next (λ h. not_stepped (s.answer ∙ h)) in
       let A : Inputs → Type 0 = λ j. Acts j.memory j.starving p from (next.End n.0 n.1) t.lock u.lock in
       let M : Bool → Type 0 = λ b. Acts b i.starving p from (next.End n.0 n.1) t.lock u.lock in
@@ -89,8 +94,8 @@ module _ (p : ℕ) (i : Inputs) (memory : i.memory ≡ true) where
           answer = s.answer ∙ ap (answer_of kind.LaterPoll t.value) n.2;
           stages = s.stages ∙ ap (λ x. set t.stages p (stage_after later x)) n.2;
           value = s.value;
-          laws = laws;
-          fits = fits;
+          stands = did.did.stands;
+          opening_value = did.legal.one_change.opening_value;
         },
       )
 
@@ -108,15 +113,15 @@ module _ (p : ℕ) (i : Inputs) (memory : i.memory ≡ true) where
         value = s.value;
       }
 
-  -- what ended from a table that a step left ended from the one before
-  ended_before : (t mid u : Table) (a : Answer) (e : End) (s : Stage) → mid.stages ≡ set t.stages p s → mid.value ≡ t.value → Ended mid p a u e → Ended t p a u e
-  ended_before t mid u a e s stages value k = record {
+  -- what ended from a World that a step left ended from the one before
+  ended_before : (w mid v : World) (a : Answer) (e : End) (s : Stage) → mid.behind.stages ≡ set w.behind.stages p s → mid.behind.value ≡ w.behind.value → mid.opening_value ≡ w.opening_value → Ended mid p a v e → Ended w p a v e
+  ended_before w mid v a e s stages value opening k = record {
     to = k.to;
-    answer = k.answer ∙ ap (λ v. answer_of kind.LaterPoll v (next.End e k.to)) value;
-    stages = k.stages ∙ (ap (λ ss. set ss p (stage_after later (next.End e k.to))) stages ∙ set-set t.stages p s (stage_after later (next.End e k.to)));
+    answer = k.answer ∙ ap (λ n. answer_of kind.LaterPoll n (next.End e k.to)) value;
+    stages = k.stages ∙ (ap (λ ss. set ss p (stage_after later (next.End e k.to))) stages ∙ set-set w.behind.stages p s (stage_after later (next.End e k.to)));
     value = k.value ∙ value;
-    laws = k.laws;
-    fits = k.fits;
+    stands = k.stands;
+    opening_value = k.opening_value ∙ opening;
   }
 
   still_inside : (t mid : Table) → p < length t.stages → mid.stages ≡ set t.stages p (Inside later) → (p < length mid.stages) × (stage_at mid.stages p ≡ Inside later)
@@ -132,18 +137,21 @@ module _ (p : ℕ) (i : Inputs) (memory : i.memory ≡ true) where
       subst D (planned t (going_on p i) (Some (plan.Go later)) known (ap (λ s. plan_of s (seeking t.sought p) (Go i)) inside)) did
 
   -- a poll that has begun goes on alone
-  goes_on : (k : ℕ) (t u : Table) (a : Answer) → a ≢ answer.Stepped → p < length t.stages → stage_at t.stages p ≡ Inside later
-      → TableRuns t (going_on p i ∷ replicate k (going_on p i)) (replicate k answer.Stepped ++ a ∷ []) u → (e : End) × GoesOnAlone p e u.lock t.lock × Ended t p a u e
-  goes_on zero t u a not_stepped known inside runs =
-      let so = ends_so t runs.0 (place_at t.lock.places p) (on_seeking t) (Go i) a refl not_stepped runs.2 runs.3 (going t runs.0 a known inside runs.1) in
-      let P : Table → Type 0 = λ x. (e : End) × GoesOnAlone p e x.lock t.lock × Ended t p a x e in
-      subst P (sym runs.4) (so.0, last t.lock i.starving so.1 so.2, so.3)
-  goes_on (suc k) t u a not_stepped known inside runs =
-      let mid : Table = runs.0 in
-      let on = goes_so t mid (place_at t.lock.places p) (on_seeking t) (Go i) refl (going t mid answer.Stepped known inside runs.1) in
-      let there = still_inside t mid known on.stages in
-      let more = goes_on k mid u a not_stepped there.0 there.1 runs.4 in
-      (more.0, step t.lock mid.lock i.starving on.action on.to on.acts more.1, ended_before t mid u a more.0 (Inside later) on.stages on.value more.2)
+  goes_on : (known : ℕ → Account) (k : ℕ) (w v : World) (a : Answer) → a ≢ answer.Stepped → p < length w.behind.stages → stage_at w.behind.stages p ≡ Inside later
+      → Runs known w (going_on p i ∷ replicate k (going_on p i)) (replicate k answer.Stepped ++ a ∷ []) v → (e : End) × GoesOnAlone p e v.behind.lock w.behind.lock × Ended w p a v e
+  goes_on known zero w v a not_stepped here inside runs =
+      let t = w.behind in
+      let mid : World = runs.0 in
+      let so = ends_so w mid (place_at t.lock.places p) (on_seeking t) (Go i) a refl not_stepped runs.1 (going t mid.behind a here inside runs.1.did.step) in
+      let P : World → Type 0 = λ x. (e : End) × GoesOnAlone p e x.behind.lock t.lock × Ended w p a x e in
+      subst P (sym runs.3) (so.0, last t.lock i.starving so.1 so.2, so.3)
+  goes_on known (suc k) w v a not_stepped here inside runs =
+      let t = w.behind in
+      let mid : World = runs.0 in
+      let on = goes_so t mid.behind (place_at t.lock.places p) (on_seeking t) (Go i) refl (going t mid.behind answer.Stepped here inside runs.1.did.step) in
+      let there = still_inside t mid.behind here on.stages in
+      let more = goes_on (accounts_after known (going_on p i) answer.Stepped) k mid v a not_stepped there.0 there.1 runs.3 in
+      (more.0, step t.lock mid.behind.lock i.starving on.action on.to on.acts more.1, ended_before w mid v a more.0 (Inside later) on.stages on.value runs.1.legal.one_change.opening_value more.2)
 
   abbrev first_move : Move
   first_move = record { party = p; what = Begin call.Poll i }
@@ -156,22 +164,22 @@ module _ (p : ℕ) (i : Inputs) (memory : i.memory ≡ true) where
       let D : Option Plan → Type 0 = λ o. Does o first_move t a u in
       subst D (planned t first_move (Some (plan.Start rw_call.Poll later)) known (ap (λ s. plan_of s (seeking t.sought p) (Begin call.Poll i)) pending)) did
 
-  by_length : (k : ℕ) (t u : Table) (a : Answer) → a ≢ answer.Stepped → p < length t.stages → stage_at t.stages p ≡ Outside rest.Pending
-      → TableRuns t (moves_of p call.Poll i k) (answers_of k a) u → (e : End) × PollsAlone p e u.lock t.lock × Ended t p a u e
-  by_length zero t u a not_stepped known pending runs =
-      let s = began (start_of rw_call.Poll (place_at t.lock.places p)) (beginning t runs.0 a known pending runs.1) in
-      let so = ends_so t runs.0 s.0 (at_first t) (Begin call.Poll i) a refl not_stepped runs.2 runs.3 s.2 in
-      let begins : BeginsPoll i.starving p (next.End so.0 so.1) t.lock runs.0.lock = starts (λ from. Acts true i.starving p from (next.End so.0 so.1) t.lock runs.0.lock) (start_of rw_call.Poll (place_at t.lock.places p)) s.0 s.1 so.2 in
-      let P : Table → Type 0 = λ x. (e : End) × PollsAlone p e x.lock t.lock × Ended t p a x e in
-      subst P (sym runs.4) (so.0, at_once t.lock i.starving so.1 begins, so.3)
-  by_length (suc k) t u a not_stepped known pending runs =
-      let mid : Table = runs.0 in
-      let s = began (start_of rw_call.Poll (place_at t.lock.places p)) (beginning t mid answer.Stepped known pending runs.1) in
-      let on = goes_so t mid s.0 (at_first t) (Begin call.Poll i) refl s.2 in
-      let begins : BeginsPoll i.starving p (next.Do on.action on.to) t.lock mid.lock = starts (λ from. Acts true i.starving p from (next.Do on.action on.to) t.lock mid.lock) (start_of rw_call.Poll (place_at t.lock.places p)) s.0 s.1 on.acts in
-      let there = still_inside t mid known on.stages in
-      let more = goes_on k mid u a not_stepped there.0 there.1 runs.4 in
-      (more.0, begun t.lock mid.lock i.starving on.action on.to begins more.1, ended_before t mid u a more.0 (Inside later) on.stages on.value more.2)
-
-  pub polls_alone : (t u : Table) (a : Answer) → p < length t.stages → stage_at t.stages p ≡ Outside rest.Pending → WholeCall t p call.Poll i a u → (e : End) × PollsAlone p e u.lock t.lock × Ended t p a u e
-  polls_alone t u a known pending k = by_length k.more t u a k.ended known pending k.runs
+  pub polls_alone : (known : ℕ → Account) (k : ℕ) (w v : World) (a : Answer) → a ≢ answer.Stepped → p < length w.behind.stages → stage_at w.behind.stages p ≡ Outside rest.Pending
+      → Runs known w (moves_of p call.Poll i k) (answers_of k a) v → (e : End) × PollsAlone p e v.behind.lock w.behind.lock × Ended w p a v e
+  polls_alone known zero w v a not_stepped here pending runs =
+      let t = w.behind in
+      let mid : World = runs.0 in
+      let s = began (start_of rw_call.Poll (place_at t.lock.places p)) (beginning t mid.behind a here pending runs.1.did.step) in
+      let so = ends_so w mid s.0 (at_first t) (Begin call.Poll i) a refl not_stepped runs.1 s.2 in
+      let begins : BeginsPoll i.starving p (next.End so.0 so.1) t.lock mid.behind.lock = starts (λ from. Acts true i.starving p from (next.End so.0 so.1) t.lock mid.behind.lock) (start_of rw_call.Poll (place_at t.lock.places p)) s.0 s.1 so.2 in
+      let P : World → Type 0 = λ x. (e : End) × PollsAlone p e x.behind.lock t.lock × Ended w p a x e in
+      subst P (sym runs.3) (so.0, at_once t.lock i.starving so.1 begins, so.3)
+  polls_alone known (suc k) w v a not_stepped here pending runs =
+      let t = w.behind in
+      let mid : World = runs.0 in
+      let s = began (start_of rw_call.Poll (place_at t.lock.places p)) (beginning t mid.behind answer.Stepped here pending runs.1.did.step) in
+      let on = goes_so t mid.behind s.0 (at_first t) (Begin call.Poll i) refl s.2 in
+      let begins : BeginsPoll i.starving p (next.Do on.action on.to) t.lock mid.behind.lock = starts (λ from. Acts true i.starving p from (next.Do on.action on.to) t.lock mid.behind.lock) (start_of rw_call.Poll (place_at t.lock.places p)) s.0 s.1 on.acts in
+      let there = still_inside t mid.behind here on.stages in
+      let more = goes_on (accounts_after known first_move answer.Stepped) k mid v a not_stepped there.0 there.1 runs.3 in
+      (more.0, begun t.lock mid.behind.lock i.starving on.action on.to begins more.1, ended_before w mid v a more.0 (Inside later) on.stages on.value runs.1.legal.one_change.opening_value more.2)

@@ -25,4 +25,6 @@ pub mod Rights
 pub mod Whole
 pub mod BoundRuns
 pub mod BoundSeen
+mod Stepping
+pub mod WorldLaws
 pub mod Bound

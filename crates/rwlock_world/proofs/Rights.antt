@@ -1,5 +1,5 @@
--- After each step the rights by the answers are the state's, and runs.
-use Rattle.std.proofs.Common.{◌≡◌, ◌≢◌, ℕ, ◌<◌, ◌==◌, ◌++◌, if◌then◌else◌, Bool, true, false, List, [], ◌∷◌, Option, Some, None, is_some, zero, suc, length, refl, arith, ap, sym, ◌∙◌, subst, get_or}
+-- After each step the rights by the answers are the state's.
+use Rattle.std.proofs.Common.{◌≡◌, ◌≢◌, ℕ, ◌<◌, ◌==◌, if◌then◌else◌, Bool, true, false, List, [], ◌∷◌, Option, Some, None, is_some, zero, suc, length, refl, arith, ap, sym, ◌∙◌, subst, get_or}
 use Rattle.std.proofs.Math.Decide.{ℕ_discrete}
 use Rattle.std.proofs.lemmas.List.{get_or-set_same}
 use Rattle.lock_world.specs.declared.moves.Answer.{Answer}
@@ -20,7 +20,7 @@ use Rattle.lock_world.specs.Standings.{Standing, outside, inside, forgotten, cal
 use Rattle.rwlock_world.specs.State.{World, standing_of, sought_by}
 use Rattle.rwlock_world.specs.Legal.{knows, call_of, HasItsOwn, Legal}
 use Rattle.rwlock_world.specs.Laws.{IsSound, IsAwake, is_at_rest}
-use Rattle.rwlock_world.specs.Runs.{right_in, account_by, accounts_of, accounts_by, HasJustItsRights, HasItsRights, HoldsWell, Runs}
+use Rattle.rwlock_world.specs.Runs.{right_in, account_by, accounts_of, HasJustItsRights, HasItsRights, HoldsWell}
 use Rattle.rwlock_world.proofs.RightsHeld.{same_test, state_rights, holds_by}
 use Rattle.rwlock_world.proofs.RightsMoved.{has_standing, account, Beginning, begun, from_outside, from_inside}
 use Rattle.rwlock_world.proofs.RightsOthers.{other_test, others}
@@ -124,8 +124,6 @@ module _ (w : World) (m : Move) (a : Answer) (v : World) (sound : IsSound w) (le
     | no apart ↦ rw (other_test m.party p apart) (sym (others w m a v legal p apart))
   ]
 
--- ---- runs
-
 moved_rights : (known found : ℕ → Account) (w : World) → ((p : ℕ) → known p ≡ found p) → HasItsRights found w → HasItsRights known w
 moved_rights known found w same rights p out = let P : Account → Type 0 = λ k. HasJustItsRights k w p in subst P (sym (same p)) (rights p out)
 
@@ -148,17 +146,3 @@ holds_well known w m a v same sound legal then_sound then_awake =
   where
     same_after : (b : Bool) (x y : Account) → x ≡ y → (if b then account_after x m.what a else x) ≡ (if b then account_after y m.what a else y)
     same_after b x y e = ap (λ z. if b then account_after z m.what a else z) e
-
--- a run goes on by one step
-pub runs_more : (known : ℕ → Account) (w : World) (ms : List Move) (answers : List Answer) (v : World) (m : Move) (a : Answer) (u : World) → Runs known w ms answers v → Legal v m a u → HoldsWell (accounts_after (accounts_by known ms answers) m a) u → Runs known w (ms ++ m ∷ []) (answers ++ a ∷ []) u
-runs_more known w [] [] v m a u runs step well = let P : World → Type 0 = λ x. Legal x m a u in (u, subst P runs step, well, refl)
-runs_more known w [] (b ∷ more) v m a u runs step well = absurd runs
-runs_more known w (n ∷ ms) [] v m a u runs step well = absurd runs
-runs_more known w (n ∷ ms) (b ∷ more) v m a u runs step well = (runs.0, runs.1, runs.2, runs_more (accounts_after known n b) runs.0 ms more v m a u runs.3 step well)
-
--- what is known after one more move
-pub accounts_more : (known : ℕ → Account) (w : World) (ms : List Move) (answers : List Answer) (v : World) (m : Move) (a : Answer) → Runs known w ms answers v → accounts_by known (ms ++ m ∷ []) (answers ++ a ∷ []) ≡ accounts_after (accounts_by known ms answers) m a
-accounts_more known w [] [] v m a runs = refl
-accounts_more known w [] (b ∷ more) v m a runs = absurd runs
-accounts_more known w (n ∷ ms) [] v m a runs = absurd runs
-accounts_more known w (n ∷ ms) (b ∷ more) v m a runs = accounts_more (accounts_after known n b) runs.0 ms more v m a runs.3

@@ -31,7 +31,7 @@ use Rattle.rwlock_world.specs.State.{Turn, nobody, passes, is_upgradable, waits_
 use Rattle.rwlock_world.specs.Legal.{HasItsOwn}
 use Rattle.rwlock_world.specs.Laws.{HasRight, IsSound, is_at_rest, IsAwake}
 use Rattle.rwlock_world.specs.Lending.{is_forgotten_then, world_with}
-use Rattle.rwlock_world.specs.TableCalls.{table_with}
+use Rattle.rwlock_world.specs.Table.{table_with}
 use Rattle.rwlock_world.specs.View.{Share, passing, upgrading, waiting, writing, turn_as, share_of, turn_by, is_reading, stands_as, rest as others, standings, view_of}
 use Rattle.rwlock_world.proofs.Begun.{at_out, at_future, at_guard}
 use Rattle.rwlock_world.proofs.Views as view

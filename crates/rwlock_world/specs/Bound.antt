@@ -4,6 +4,7 @@ use Rattle.lock_event.specs.declared.event.Entry.{Entry}
 use Rattle.lock_queue.specs.Parties.{entries_of}
 use Rattle.lock_world.specs.declared.moves.Answer.{Answer}
 use Rattle.lock_world.specs.declared.moves.Answer.TheVariants as answer
+use Rattle.lock_world.specs.declared.moves.Call.{Call}
 use Rattle.lock_world.specs.declared.moves.Call.TheVariants as call
 use Rattle.lock_world.specs.declared.moves.Got.TheVariants.{Value}
 use Rattle.lock_world.specs.declared.moves.Inputs.{Inputs}
@@ -63,15 +64,20 @@ pub record TakesToWrite (w : World) (p : ℕ) (a : Answer) (v : World) : Type 0 
   pub kept : v.state.value ≡ w.state.value
   pub writes : v.state.turn ≡ writes p
 
+-- What a whole call promises: a solo poll of a free turn takes it or gives way; one to read or to write, where that is free, takes it.
+pub record Promises (w : World) (p : ℕ) (c : Call) (inputs : Inputs) (a : Answer) (v : World) : Type 0 where
+  pub turn : c ≡ call.Poll → IsSoloForTurn w p inputs → w.state.turn ≡ nobody → how_many_read w < w.readers_limit → SoloPollForTurn w p a v
+  pub reading : c ≡ call.Poll → IsSoloToRead w p inputs → is_marked w.state.turn ≡ false → how_many_read w < w.readers_limit → TakesToRead w p a v
+  pub writing : c ≡ call.Poll → IsSoloToWrite w p inputs → how_many_read w ≡ 0 → TakesToWrite w p a v
+
 -- ---- Polls that pass over what is free
 
--- A whole solo poll that doesn't take the turn, while neither limit is met; `free` is what each solo poll of a free turn does.
+-- A whole solo poll that doesn't take the turn, while neither limit is met.
 pub record PassesTurnOver (w : World) (p : ℕ) (inputs : Inputs) (a : Answer) (v : World) : Type 0 where
   pub solo : IsSoloForTurn w p inputs
   pub starved_limit : how_many w.state.starved < w.starved_limit
   pub readers_limit : how_many_read w < w.readers_limit
   pub whole : IsWholeCall w p call.Poll inputs a v
-  pub free : w.state.turn ≡ nobody → how_many_read w < w.readers_limit → SoloPollForTurn w p a v
   pub not_taken : HasTurn v.state.turn p → ⊥
 
 -- A whole solo poll after which its party doesn't read, while readers are below their limit.
@@ -79,14 +85,12 @@ pub record PassesReadingOver (w : World) (p : ℕ) (inputs : Inputs) (a : Answer
   pub solo : IsSoloToRead w p inputs
   pub readers_limit : how_many_read w < w.readers_limit
   pub whole : IsWholeCall w p call.Poll inputs a v
-  pub free : is_marked w.state.turn ≡ false → how_many_read w < w.readers_limit → TakesToRead w p a v
   pub not_taken : reads v p ≡ false
 
 -- A whole solo poll after which its party doesn't write.
 pub record PassesWritingOver (w : World) (p : ℕ) (inputs : Inputs) (a : Answer) (v : World) : Type 0 where
   pub solo : IsSoloToWrite w p inputs
   pub whole : IsWholeCall w p call.Poll inputs a v
-  pub free : how_many_read w ≡ 0 → TakesToWrite w p a v
   pub not_taken : v.state.turn ≢ writes p
 
 -- ---- What holds at rest

@@ -11,3 +11,4 @@ pub mod Openings
 pub mod Lending
 pub mod TableCalls
 pub mod Bound
+pub mod Steps

@@ -8,7 +8,7 @@ use Rattle.lock_world.specs.Rights.{Right, read, upgradable, write, excludes}
 use Rattle.lock_world.specs.Runs as runs
 use Rattle.lock_world.specs.Standings.{Standing, outside, forgotten, is_outside}
 use Rattle.rwlock_world.specs.State.{Turn, is_upgradable, writes, World, standing_of, sought_by, reads}
-use Rattle.rwlock_world.specs.Legal.{Legal}
+use Rattle.rwlock_world.specs.Steps.{Steps}
 use Rattle.rwlock_world.specs.Laws.{HasRight, IsSound, IsAwake, is_at_rest}
 
 -- ---- Where a run begins
@@ -32,12 +32,6 @@ account_by s seeks right = record { seeks = seeks; has = false }
 abbrev pub accounts_of : World → ℕ → Account
 accounts_of w p = account_by (standing_of w p) (sought_by w p) (right_in w p)
 
--- What is known after these moves with these answers.
-abbrev pub accounts_by : (ℕ → Account) → List Move → List Answer → ℕ → Account
-accounts_by known [] answers = known
-accounts_by known (m ∷ ms) [] = known
-accounts_by known (m ∷ ms) (a ∷ more) = accounts_by (accounts_after known m a) ms more
-
 -- ---- What holds after each step
 
 -- The party has in the state exactly its rights by the answers; upgradable has read with it. So its answers tell of no right but these three.
@@ -60,7 +54,11 @@ pub record HoldsWell (known : ℕ → Account) (w : World) : Type 0 where
 
 -- A chain of legal steps, one answer a move, after each of which all is well; `known` tells the rights by the answers so far.
 abbrev pub Runs : (ℕ → Account) → World → List Move → List Answer → World → Type 0
-Runs = runs.Runs Legal accounts_after HoldsWell
+Runs = runs.Runs Steps accounts_after HoldsWell
+
+-- What is known tells each party's right.
+abbrev pub TellsRights : (ℕ → Account) → World → Type 0
+TellsRights known w = (p : ℕ) → known p ≡ accounts_of w p
 
 -- A run in which the rights are known as the World has them where it begins.
 abbrev pub RunsOn : World → List Move → List Answer → World → Type 0

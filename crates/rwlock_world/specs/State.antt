@@ -8,6 +8,7 @@ use Rattle.lock_world.specs.declared.standing.Rest.TheVariants.{Idle}
 use Rattle.lock_world.specs.Rights.{Right}
 use Rattle.lock_world.specs.Rosters.{how_many, is_on}
 use Rattle.lock_world.specs.Standings.{Standing, outside, forgotten}
+use Rattle.rwlock_world.specs.Table.{Table, new_table}
 
 -- The turn: nobody has it, or one party that takes or leaves it, is upgradable, waits to write, or writes.
 pub data Turn : Type 0 where
@@ -24,7 +25,7 @@ pub record State : Type 0 where
   pub starved : List Bool
   pub value : ℕ
 
--- The state, the lists of those that wait for the turn, until no reader is left, and until no writer is, each entry with its mark; how each party stands, the right that its call, future or guard is for, and whether its future is an upgrade's; how many parties may be starved and how many may read; and the value that the World was made with.
+-- The state, the lists of those that wait for the turn, until no reader is left, and until no writer is, each entry with its mark; how each party stands, the right that its call, future or guard is for, and whether its future is an upgrade's; how many parties may be starved and how many may read; and the value that the World was made with. What stands behind the World is named by no clause but that of its own step.
 pub record World : Type 0 where
   pub state : State
   pub turn_list : List (Entry ℕ)
@@ -36,6 +37,7 @@ pub record World : Type 0 where
   pub starved_limit : ℕ
   pub readers_limit : ℕ
   pub opening_value : ℕ
+  pub behind : Table
 
 -- A party past the table stands as one that is forgotten, and seeks nothing.
 abbrev pub standing_of : World → ℕ → Standing
@@ -103,6 +105,7 @@ new_world parties starved readers value = record {
   starved_limit = starved;
   readers_limit = readers;
   opening_value = value;
+  behind = new_table parties starved readers value;
 }
 
 -- The World as it was made, by the numbers that it keeps: how many parties, the limits, and the value.

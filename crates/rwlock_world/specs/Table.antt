@@ -1,5 +1,5 @@
 -- What stands behind a read-write lock's World, and what one move does to it.
-use Rattle.std.specs.Prelude.{◌≡◌, ℕ, ◌<◌, true, List, length, Option, Some, None, IsSomeAnd, slice_set, replicate, nat_lt, if◌then◌else◌}
+use Rattle.std.specs.Prelude.{◌≡◌, ℕ, ◌<◌, true, List, length, Option, Some, None, IsSomeAnd, slice_set, map, replicate, nat_lt, if◌then◌else◌}
 use Rattle.lock_world.specs.declared.refusal.Refusal.TheVariants.{Finished}
 use Rattle.lock_world.specs.declared.moves.Answer.{Answer}
 use Rattle.lock_world.specs.declared.moves.Answer.TheVariants.{NotPossible, Granted}
@@ -9,7 +9,7 @@ use Rattle.lock_world.specs.declared.standing.Rest.TheVariants.{Idle}
 use Rattle.lock_world.specs.declared.standing.Stage.{Stage}
 use Rattle.lock_world.specs.declared.standing.Stage.TheVariants.{Outside}
 use Rattle.lock_world.specs.declared.standing.Within.{Within}
-use Rattle.lock_world.specs.Standings.{inputs_of, refused}
+use Rattle.lock_world.specs.Standings.{inputs_of, refused, forgets}
 use Rattle.rwlock_machine.specs.declared.program.Next.{Next}
 use Rattle.rwlock_machine.specs.declared.program.Place.{Place}
 use Rattle.rwlock_machine.specs.Program.{start_of}
@@ -61,3 +61,7 @@ pub record IsTable (lock : RwLock) (stages : List Stage) (sought : List (Option 
 -- as it is made, with every party idle
 abbrev pub new_table : ℕ → ℕ → ℕ → ℕ → Table
 new_table parties starved readers value = record { lock = new_rwlock parties starved readers; stages = replicate parties (Outside Idle); sought = replicate parties None; value = value }
+
+-- The table once a value was put: whoever was pending or had a guard is forgotten.
+abbrev pub table_with : Table → ℕ → Table
+table_with t v = record { lock = t.lock; stages = map forgets t.stages; sought = t.sought; value = v }

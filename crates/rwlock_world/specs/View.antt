@@ -151,6 +151,7 @@ seen l ss os v = record {
   starved_limit = l.turn.limit;
   readers_limit = l.limit;
   opening_value = 0;
+  behind = record { lock = l; stages = ss; sought = os; value = v };
 }
 
 -- a World that was made with this value

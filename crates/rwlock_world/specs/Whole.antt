@@ -5,6 +5,7 @@ use Rattle.lock_world.specs.declared.moves.Call.{Call}
 use Rattle.lock_world.specs.declared.moves.Call.TheVariants as call
 use Rattle.lock_world.specs.declared.moves.Inputs.{Inputs}
 use Rattle.lock_world.specs.Whole as whole
+use Rattle.rwlock_machine.specs.Ranks.{steps_left}
 use Rattle.rwlock_world.specs.State.{World, standing_of}
 use Rattle.rwlock_world.specs.Runs.{RunsOn}
 
@@ -24,3 +25,7 @@ most_steps_of _ = 1
 -- The call is begun and carried out to its end, whose answer this is.
 abbrev pub IsWholeCall : World → ℕ → Call → Inputs → Answer → World → Type 0
 IsWholeCall = whole.IsWholeCall RunsOn standing_of most_steps_of
+
+-- How many steps are left at most of the call that a party is in.
+abbrev pub steps_left_of : World → ℕ → ℕ
+steps_left_of w p = steps_left w.behind.lock p

@@ -10,14 +10,13 @@ mod table;
 ghost use Rattle.std.specs.Prelude.{◌≡◌, ◌<◌, ℕ, true, false, not, IfOk, IfErr, OnErr, length, min, slice_get};
 ghost use Rattle.rwlock_world.specs.State.{new_world, how_many_read, is_nobody, is_marked, nobody};
 ghost use Rattle.lock_world.specs.Rosters.{how_many};
-ghost use Rattle.rwlock_world.specs.Legal.{Legal, AnswersAtOnce};
+ghost use Rattle.rwlock_world.specs.Steps.{Steps};
 ghost use Rattle.rwlock_world.specs.Laws.{IsSound, IsAwake, IsTurnWanted, IsReadingWanted, IsWritingWanted, is_at_rest};
-ghost use Rattle.rwlock_world.specs.Runs.{Runs, accounts_of};
-ghost use Rattle.rwlock_world.specs.Whole.{IsWholeCall};
-ghost use Rattle.rwlock_world.specs.Bound.{IsSoloForTurn, IsSoloToRead, IsSoloToWrite, SoloPollForTurn, TakesToRead, TakesToWrite, IsTurnBounded, IsReadingBounded, IsWritingBounded};
+ghost use Rattle.rwlock_world.specs.Bound.{IsTurnBounded, IsReadingBounded, IsWritingBounded};
 
-use lock_event::{Entry, Memory};
-use lock_world::{Answer, AnyWorld, Call, Inputs, Move, Refusal};
+use lock_event::Entry;
+use lock_frame::AnyWorld;
+use lock_world::{Answer, Move, Refusal};
 use std::alloc::Global;
 use std::marker::Model;
 use table::Table;
@@ -100,61 +99,12 @@ impl World {
     ///
     /// The Rust crate carries out a whole poll in one call, and never refuses.
     pub fn step(&mut self, m: &Move) -> Answer
-        ensures legal { Legal self.old m.now result self.new }
-        ensures at_once { AnswersAtOnce self.old m.now result self.new }
+        ensures { Steps self.old m.now result self.new }
     {
         self.table.laws();
         let answer = self.table.step(m);
         self.table.laws();
         answer
-    }
-
-    /// Steps through a list of moves, and answers each. Refused, for memory for the answers alone, the
-    /// World is unchanged.
-    ///
-    /// The clause `runs` says that the answers are those of a chain of legal steps, after each of which
-    /// the rights that the answers tell of are the state's, rights that exclude each other don't
-    /// coexist, and, where nobody is inside a call, no notification is lost.
-    pub fn run(&mut self, alloc: Global, moves: &[Move]) -> Result<Vec<Answer>, Memory>
-        ensures runs { IfOk result (λ answers. Runs (accounts_of self.old) self.old moves.now answers.items self.new) }
-        ensures refused { OnErr result (self.new ≡ self.old) }
-    {
-        let Ok(mut answers) = Vec::with_capacity(alloc, moves.len()) else {
-            return Err(Memory);
-        };
-        for m in moves {
-            self.laws();
-            let answer = self.step(m);
-            self.laws();
-            answers.push_reserved(answer);
-        }
-        Ok(answers)
-    }
-
-    /// Begins a call of a party and goes on with it, with the same inputs, to its end. It works for every
-    /// call, not for polls alone, and from every World, whatever the other parties are about.
-    ///
-    /// The answer is the call's result, never `Stepped`; `NotPossible` changes nothing. The clause `whole`
-    /// says that this is a run, after which the party is outside the call. It has at most 4 steps for the
-    /// first poll of a read, 15 for that of an upgradable read, 18 for that of a write and for a later
-    /// poll, 5 for a drop, 4 for a try for an upgradable read or a write and for a downgrade, 2 for a
-    /// downgrade to upgradable, and 1 for any other call.
-    ///
-    /// Three clauses speak of a poll whose party is pending in a list and finds memory. `solo_turn`: its
-    /// entry in the turn's list is marked, nobody has the turn, and readers are below their limit. It takes
-    /// the turn, and is ready or, as a write beside readers, pending; or, if its party isn't starved and
-    /// another is, it waits on as a starved one with the notification handed on. Where the limit of starved
-    /// parties is met it may instead be refused. `solo_read`: its entry among those that wait until no
-    /// writer is left is marked, nobody waits to write or writes, and readers are below their limit. It
-    /// reads. `solo_write`: it waits until no reader is left, and none is. It writes.
-    pub fn poll_whole(&mut self, party: u32, call: Call, inputs: Inputs) -> Answer
-        ensures whole { IsWholeCall self.old party call inputs result self.new }
-        ensures solo_turn { call ≡ Call.Poll → IsSoloForTurn self.old party inputs → self.old.state.turn ≡ nobody → how_many_read self.old < self.old.readers_limit → SoloPollForTurn self.old party result self.new }
-        ensures solo_read { call ≡ Call.Poll → IsSoloToRead self.old party inputs → is_marked self.old.state.turn ≡ false → how_many_read self.old < self.old.readers_limit → TakesToRead self.old party result self.new }
-        ensures solo_write { call ≡ Call.Poll → IsSoloToWrite self.old party inputs → how_many_read self.old ≡ 0 → TakesToWrite self.old party result self.new }
-    {
-        self.table.laws();
-        self.table.poll_whole(party, call, inputs)
     }
 
     /// Whether nobody is inside a call.
@@ -177,7 +127,7 @@ impl World {
     /// How often what is free, at rest, may be passed over while parties wait for it, list by list. It does
     /// nothing.
     ///
-    /// A solo poll is a [`World::poll_whole`] of a pending party that finds memory; its entry is marked, or
+    /// A solo poll is a [`AnyWorld::poll_whole`] of a pending party that finds memory; its entry is marked, or
     /// it waits until no reader is left. The clause `turn` says that among as many solo polls in turn as the
     /// turn's list has entries one takes the turn: in none of them may as many parties be starved already,
     /// or read, as the limits allow. `reading` says that no solo poll passes reading over where nobody waits
@@ -297,14 +247,15 @@ impl World {
 
 impl AnyWorld for World {
     ghost use Rattle.lock_world.specs.Accounts.{Account, accounts_after};
-    ghost use Rattle.rwlock_world.specs.Legal as rwlock;
+    ghost use Rattle.rwlock_world.specs.Steps as steps;
     ghost use Rattle.rwlock_world.specs.State as state;
     ghost use Rattle.rwlock_world.specs.Laws as laws;
-    ghost use Rattle.rwlock_world.specs.Runs.{HoldsWell, accounts_of};
-    ghost use Rattle.rwlock_world.specs.Whole.{most_steps_of};
+    ghost use Rattle.rwlock_world.specs.Runs.{HoldsWell, TellsRights, accounts_of};
+    ghost use Rattle.rwlock_world.specs.Whole.{most_steps_of, steps_left_of};
+    ghost use Rattle.rwlock_world.specs.Bound.{Promises};
     ghost use Rattle.rwlock_world.specs.Openings.{opening_kept};
 
-    ghost legal = { rwlock.Legal };
+    ghost legal = { steps.Steps };
 
     ghost opening = { state.opening_of };
 
@@ -318,23 +269,23 @@ impl AnyWorld for World {
 
     ghost learn = { accounts_after };
 
+    ghost tells = { TellsRights };
+
     ghost is_well = { HoldsWell };
 
     ghost most_steps = { most_steps_of };
 
-    ghost keeps_opening = { opening_kept };
+    ghost steps_left = { steps_left_of };
+
+    ghost promises = { Promises };
+
+    ghost keeps_opening = { λ w m a v s. opening_kept w m a v s.legal };
 
     fn step(&mut self, m: &Move) -> Answer {
         World::step(self, m)
     }
 
-    fn run(&mut self, alloc: Global, moves: &[Move]) -> Result<Vec<Answer>, Memory> {
-        World::run(self, alloc, moves)
-    }
-
-    fn poll_whole(&mut self, party: u32, call: Call, inputs: Inputs) -> Answer {
-        World::poll_whole(self, party, call, inputs)
-    }
+    fn step_laws(&self) {}
 
     fn at_rest(&self) -> bool {
         World::at_rest(self)

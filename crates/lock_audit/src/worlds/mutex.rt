@@ -1,7 +1,7 @@
 //! A mutex's World through its public calls.
 
 use lock_core::mutex::World;
-use lock_core::{Answer, Call, Got, Inputs, Made, Mark, Move, Refusal, What};
+use lock_core::{Answer, AnyWorld, Call, Got, Inputs, Made, Mark, Move, Refusal, What};
 use std::alloc::Global;
 use std::process::Abort;
 use std::test::Fail;

@@ -122,7 +122,7 @@ impl Model for Table {
 }
 
 ghost use Rattle.std.specs.Borrow.{sem};
-ghost use Rattle.mutex_world.specs.TableCalls.{LendsTableValue, WholeCall};
+ghost use Rattle.mutex_world.specs.TableCalls.{LendsTableValue};
 
 impl Table {
     /// So many idle parties, over a free lock with this value.
@@ -212,25 +212,5 @@ impl Table {
                 answer_to(within.kind, self.value, next)
             }
         }
-    }
-
-    /// Begins a call and goes on with it, with the same inputs, to its end.
-    pub(crate) fn poll_whole(&mut self, party: u32, call: Call, inputs: Inputs) -> Answer
-        ensures { WholeCall self.old party call inputs result self.new }
-    {
-        self.laws();
-        let mut answer = self.step(&Move {
-            party,
-            what: What::Begin(call, inputs),
-        });
-        self.laws();
-        while answer.is_stepped() {
-            answer = self.step(&Move {
-                party,
-                what: What::Go(inputs),
-            });
-            self.laws();
-        }
-        answer
     }
 }

@@ -11,7 +11,7 @@ ghost use Rattle.lock_world.specs.Standings.{is_outside_stage, forgets};
 ghost use Rattle.std.specs.List.{list_all};
 
 use lock_world::standing::{Kind, Rest, Stage, Within};
-use lock_world::{Answer, Call, Got, Inputs, Move, Refusal, What};
+use lock_world::{Answer, Call, Got, Move, Refusal, What};
 use rwlock_machine::RwLock;
 use rwlock_machine::program::{End, Next, RwCall};
 use std::alloc::{AllocError, Global};
@@ -207,7 +207,7 @@ impl Model for Table {
 }
 
 ghost use Rattle.std.specs.Borrow.{sem};
-ghost use Rattle.rwlock_world.specs.TableCalls.{LendsTableValue, WholeCall};
+ghost use Rattle.rwlock_world.specs.TableCalls.{LendsTableValue};
 
 impl Table {
     /// So many idle parties, over a free lock with this value; at most `starved` of them may be starved
@@ -304,25 +304,5 @@ impl Table {
                 answer_to(within.kind, self.value, next)
             }
         }
-    }
-
-    /// Begins a call and goes on with it, with the same inputs, to its end.
-    pub(crate) fn poll_whole(&mut self, party: u32, call: Call, inputs: Inputs) -> Answer
-        ensures { WholeCall self.old party call inputs result self.new }
-    {
-        self.laws();
-        let mut answer = self.step(&Move {
-            party,
-            what: What::Begin(call, inputs),
-        });
-        self.laws();
-        while answer.is_stepped() {
-            answer = self.step(&Move {
-                party,
-                what: What::Go(inputs),
-            });
-            self.laws();
-        }
-        answer
     }
 }

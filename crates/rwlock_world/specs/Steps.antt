@@ -1,0 +1,27 @@
+-- One step of a read-write lock's World: what its callers see, and what its table did behind it.
+use Rattle.std.specs.Prelude.{◌≡◌}
+use Rattle.lock_world.specs.declared.moves.Answer.{Answer}
+use Rattle.lock_world.specs.declared.moves.Move.{Move}
+use Rattle.rwlock_machine.specs.Acts.{IsRwLock}
+use Rattle.rwlock_world.specs.State.{World}
+use Rattle.rwlock_world.specs.Table.{IsStep, IsTable}
+use Rattle.rwlock_world.specs.View.{opened, view_of}
+use Rattle.rwlock_world.specs.Legal.{Legal, AnswersAtOnce}
+
+-- the World is seen as what stands behind it
+pub record Stands (w : World) : Type 0 where
+  pub seen : w ≡ opened w.opening_value (view_of w.behind)
+  pub lock : IsRwLock w.behind.lock
+  pub fits : IsTable w.behind.lock w.behind.stages w.behind.sought
+
+-- what the table did
+pub record Did (old : World) (m : Move) (a : Answer) (new : World) : Type 0 where
+  pub stood : Stands old
+  pub step : IsStep old.behind m a new.behind
+  pub stands : Stands new
+
+-- From the old World the move may be answered so, and lead to the new World: a legal step, whose immediate answers are right, and which its table did.
+pub record Steps (old : World) (m : Move) (a : Answer) (new : World) : Type 0 where
+  pub legal : Legal old m a new
+  pub at_once : AnswersAtOnce old m a new
+  pub did : Did old m a new
