@@ -29,7 +29,7 @@ use Rattle.mutex_machine.specs.Program.{action_of, next_of}
 use Rattle.mutex_machine.specs.Roles.{counted, listed}
 use Rattle.mutex_machine.specs.Machine.{Lock}
 use Rattle.mutex_machine.specs.Acts.{Finds, holders, starved}
-use Rattle.mutex_world.specs.Legal.{Change, ListName, takes, releases, starves, recovers, puts, for_the_lock, gives_back}
+use Rattle.mutex_world.specs.Legal.{Change, ListName, takes, releases, starves, recovers, puts, for_the_lock, gives_back, gives_up}
 use Rattle.mutex_machine.specs.State.{is_holder, is_counted}
 use Rattle.mutex_world.specs.View.{verdict}
 use Rattle.mutex_machine.proofs.Kept.{after}
@@ -47,6 +47,12 @@ deed_of act.Ask Yes = does for_the_lock asks
 deed_of act.Leave Done = does for_the_lock leaves
 deed_of act.Notify Done = does for_the_lock (notifies 1)
 deed_of _ _ = nothing
+
+-- a party joins the list here
+abbrev pub is_joining : Place → Bool
+is_joining (Join told) = true
+is_joining JoinStarved = true
+is_joining _ = false
 
 abbrev pub is_at_try : Place → Bool
 is_at_try Try = true
@@ -90,7 +96,7 @@ verdict_then v trying (next.End e) = Some (answer_by trying v (next.End e))
 
 -- why a step refuses its call
 abbrev pub Refuses : Bool → Lock → Place → Found → Refusal → Type 0
-Refuses memory l from f refusal.Memory = (memory ≡ false) × (listed from ≡ 0) × (deed_of (action_of from) f ≡ nothing)
+Refuses memory l from f refusal.Memory = (memory ≡ false) × (listed from ≡ 0) × (deed_of (action_of from) f ≡ nothing) × (is_joining from ≡ true)
 Refuses memory l from f refusal.Starved = starved l ≡ l.limit
 Refuses memory l from f _ = ⊥
 
@@ -108,11 +114,22 @@ Judged memory l v from f (Some b) o = (o ≡ Some b) × (gives_back (deed_of (ac
 Judged memory l v from f None None = Unit {0}
 Judged memory l v from f None (Some b) = Reason memory l v from f b
 
+-- whether a join found memory, and that a party gives nothing up until its call is decided
+abbrev pub Room : Bool → Deed Change ListName → Type 0
+Room memory (does list joins) = memory ≡ true
+Room memory _ = Unit {0}
+
+abbrev pub HoldsOn : Option Answer → Deed Change ListName → Type 0
+HoldsOn None d = gives_up d ≡ false
+HoldsOn (Some b) d = Unit {0}
+
 pub record Row (memory : Bool) (l : Lock) (v : ℕ) (from : Place) (f : Found) : Type 0 where
   pub holds : Holds (deed_of (action_of from) f) (is_holder from) (is_holder (after from f))
   pub starves : Starves (deed_of (action_of from) f) (is_counted from) (is_counted (after from f))
   pub finding : Finding (deed_of (action_of from) f) l from
   pub judged : Judged memory l v from f (verdict v from) (verdict_then v (is_at_try from) (next_of from f))
+  pub room : Room memory (deed_of (action_of from) f)
+  pub holds_on : HoldsOn (verdict v from) (deed_of (action_of from) f)
   pub over : is_after_ready (answer_by (is_at_try from) v (next_of from f)) ≡ false
 
 module _ (memory : Bool) (l : Lock) (v : ℕ) where
@@ -138,7 +155,7 @@ use Rattle.mutex_machine.specs.Roles.{counted, listed}
 use Rattle.mutex_machine.specs.Machine.{Lock}
 use Rattle.mutex_machine.specs.Acts.{Finds, holders, starved}
 use Rattle.mutex_machine.specs.State.{is_holder, is_counted}
-use Rattle.mutex_machine.specs.Legal.{Change, ListName, takes, releases, starves, recovers, for_the_lock, gives_back, decision}
+use Rattle.mutex_machine.specs.Legal.{Change, ListName, takes, releases, starves, recovers, for_the_lock, gives_back, gives_up, decision}
 use Rattle.mutex_machine.proofs.Kept.{after}
 
 -- what an action changes that found this
@@ -191,11 +208,22 @@ Judged memory l from f (Some e) o = (o ≡ Some e) × (gives_back (deed_of (acti
 Judged memory l from f None None = Unit {0}
 Judged memory l from f None (Some e) = Reason memory l from f e
 
+-- whether a join found memory, and that a party gives nothing up until its call is decided
+abbrev pub Room : Bool → Deed Change ListName → Type 0
+Room memory (does list joins) = memory ≡ true
+Room memory _ = Unit {0}
+
+abbrev pub HoldsOn : Option End → Deed Change ListName → Type 0
+HoldsOn None d = gives_up d ≡ false
+HoldsOn (Some e) d = Unit {0}
+
 pub record Row (memory : Bool) (l : Lock) (from : Place) (f : Found) : Type 0 where
   pub holds : Holds (deed_of (action_of from) f) (is_holder from) (is_holder (after from f))
   pub starves : Starves (deed_of (action_of from) f) (is_counted from) (is_counted (after from f))
   pub finding : Finding (deed_of (action_of from) f) l from
   pub judged : Judged memory l from f (decision from) (decision_by (next_of from f))
+  pub room : Room memory (deed_of (action_of from) f)
+  pub holds_on : HoldsOn (decision from) (deed_of (action_of from) f)
 
 module _ (memory : Bool) (l : Lock) where
   pub row : (from : Place) (f : Found) → Finds memory (action_of from) f l → Row memory l from f
@@ -212,7 +240,7 @@ WORLD_SAYS = {
     TAKEN: BOTH,
     NOT_FREE: 'tt',
     WAITING: '(refl, refl, refl)',
-    NO_MEMORY: '(refusal.Memory, refl, (e, refl, refl))',
+    NO_MEMORY: '(refusal.Memory, refl, (e, refl, refl, refl))',
     AT_LIMIT: '(refusal.Starved, refl, e)',
 }
 MACHINE_SAYS = {
@@ -236,11 +264,13 @@ def row(place, action, found, judged):
         finding = {'Take': '(e.0, inl e.1)', 'TakeAlone': '(e.0, inr refl)', 'Set': '(e, inr refl)'}[action]
     if counts:
         finding = 'e'
+    room = 'e' if action == 'Join' and found == 'Done' else 'tt'
+    holds_on = 'tt' if judged == KEPT else 'refl'
     said = MACHINE_SAYS[judged]
     if judged == NOT_FREE:
         said = 'inr e' if found == 'SomeStarved' else 'inl e.0'
-    rows.append(f'  row {place} {found} e = record {{ holds = {holds}; starves = {starves}; finding = {finding}; judged = {WORLD_SAYS[judged]}; over = refl }}')
-    machine_rows.append(f'  row {place} {found} e = record {{ holds = {holds}; starves = {starves}; finding = {finding}; judged = {said} }}')
+    rows.append(f'  row {place} {found} e = record {{ holds = {holds}; starves = {starves}; finding = {finding}; judged = {WORLD_SAYS[judged]}; room = {room}; holds_on = {holds_on}; over = refl }}')
+    machine_rows.append(f'  row {place} {found} e = record {{ holds = {holds}; starves = {starves}; finding = {finding}; judged = {said}; room = {room}; holds_on = {holds_on} }}')
 
 
 def rest(place):

@@ -157,6 +157,10 @@ abbrev pub is_decided : Standing → Bool
 is_decided (inside w (Some a)) = true
 is_decided _ = false
 
+-- Inside a call that isn't decided.
+abbrev pub IsUndecided : Standing → Type 0
+IsUndecided s = (within : Within) × (s ≡ inside within None)
+
 -- The answer on which a call is decided whose party was answered so and now stands so.
 abbrev pub decision : Answer → Standing → Option Answer
 decision a (inside w decided) = decided

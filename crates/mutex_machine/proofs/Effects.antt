@@ -55,7 +55,7 @@ module _ (v w : Word) (s t : Queue) where
   numbers p memory act.Uncount _ e l k = absurd e
   numbers p memory act.Clear Done e l k = let h = held_is false v.starved e.1 in (ap bit e.0, h.0, h.1, h.2, list_kept l)
   numbers p memory act.Clear _ e l k = absurd e
-  numbers p memory act.Join Done e l k = (word_kept e, ap (λ q. length q.entries) l ∙ length-joined s.entries p, ap (λ q. marked_count q.entries) l ∙ marked_count-joined s.entries p)
+  numbers p memory act.Join Done e l k = (word_kept e, ap (λ q. length q.entries) l.1 ∙ length-joined s.entries p, ap (λ q. marked_count q.entries) l.1 ∙ marked_count-joined s.entries p)
   numbers p memory act.Join NoMemory e l k = (word_kept e, list_kept l.1)
   numbers p memory act.Join _ e l k = absurd e
   numbers p memory act.Ask Yes e l k =

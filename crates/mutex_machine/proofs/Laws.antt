@@ -82,7 +82,7 @@ module _ (w : Word) (places : List Place) (list : Queue) where
   finds p memory act.Uncount _ v s t k e l = absurd e
   finds p memory act.Clear Done v s t k e l = k.sound.held ∙ ap bit e.0
   finds p memory act.Clear _ v s t k e l = absurd e
-  finds p memory act.Join Done v s t k e l = tt
+  finds p memory act.Join Done v s t k e l = l.0
   finds p memory act.Join NoMemory v s t k e l = l.0
   finds p memory act.Join _ v s t k e l = absurd e
   finds p memory act.Ask Yes v s t k e l = tt

@@ -12,7 +12,7 @@ use Rattle.lock_event.specs.Lists.{mark_at, is_marked_at, without}
 use Rattle.lock_queue.specs.Parties.{is_party, entries_of}
 use Rattle.lock_queue.proofs.Told.{waits_at}
 use Rattle.lock_world.specs.declared.refusal.Refusal.TheVariants as refusal
-use Rattle.lock_world.specs.Steps.{Deed, nothing, changes, does}
+use Rattle.lock_world.specs.Steps.{Deed, nothing, changes, does, joins}
 use Rattle.lock_world.proofs.Equations.{some_eq}
 use Rattle.mutex_machine.specs.declared.program.Place.{Place}
 use Rattle.mutex_machine.specs.declared.program.Place.TheVariants.{Out, Holding, Enter, Try, Ask, AskStarved}
@@ -32,9 +32,9 @@ use Rattle.mutex_machine.specs.Parties.{OnParties}
 use Rattle.mutex_machine.specs.Machine.{Lock, SameRoles, place_at}
 use Rattle.mutex_machine.specs.Acts.{Acts, Finds, holders, starved}
 use Rattle.mutex_machine.specs.State.{is_holder, is_counted, holder_of, starved_of}
-use Rattle.mutex_machine.specs.Legal.{Change, ListName, takes, releases, starves, recovers, holder_after, starved_after, entries_after, gives_back, decision, decided_by, decided_then, IsReason, IsAllowed, IsLegal, is_fresh}
+use Rattle.mutex_machine.specs.Legal.{Change, ListName, takes, releases, starves, recovers, holder_after, starved_after, entries_after, gives_back, gives_up, decision, decided_by, decided_then, IsReason, IsAllowed, IsLegal, is_fresh}
 use Rattle.mutex_machine.proofs.Kept.{after}
-use Rattle.mutex_machine.proofs.Rows.{Row, row, deed_of, decision_by, Holds, Starves, Finding, Reason, Judged}
+use Rattle.mutex_machine.proofs.Rows.{Row, row, deed_of, decision_by, Holds, Starves, Finding, Room, HoldsOn, Reason, Judged}
 use Rattle.mutex_machine.proofs.Seen as sees
 
 asked_yes : (b : Bool) (l m : List (Entry ℕ)) → b ≡ true → (if b then m else l) ≡ m
@@ -87,6 +87,14 @@ judge : (memory : Bool) (l : Lock) (from : Place) (f : Found) (w o : Option End)
 judge memory l from f (Some c) o e j none is = absurd (cc)
 judge memory l from f None None e j none is = absurd (cc)
 judge memory l from f None (Some c) e j none is = let P : End → Type 0 = λ a. Reason memory l from f a in subst P (some_eq is) j
+
+-- a join found memory, and until its call is decided a party gives nothing up
+found_room : (memory : Bool) (d : Deed Change ListName) (list : ListName) → Room memory d → d ≡ does list joins → memory ≡ true
+found_room memory d list r e = let P : Deed Change ListName → Type 0 = Room memory in subst P e r
+
+held_on : (o : Option End) (d : Deed Change ListName) → HoldsOn o d → o ≡ None → gives_up d ≡ false
+held_on None d h e = h
+held_on (Some c) d h e = absurd (cc)
 
 -- an end is decided by what comes next, wherever it leads
 then_same : (from : Place) (f : Found) → decided_then (next_of from f) (after from f) ≡ decision_by (next_of from f)
@@ -195,7 +203,7 @@ module _ (memory : Bool) (p : ℕ) (from : Place) (f : Found) (l : Lock) (es : L
     reason_is Pending y = waits_there y.0 y.1 y.2
     reason_is NotFree y = y
     reason_is GivenBack y = tt
-    reason_is (Refused refusal.Memory) y = (y.0, stands_listed ∙ y.1, list_so ∙ ap (λ (d : Deed Change ListName). entries_after p d l.entries) y.2)
+    reason_is (Refused refusal.Memory) y = (y.0, stands_listed ∙ y.1, list_so ∙ ap (λ (d : Deed Change ListName). entries_after p d l.entries) y.2, holder_is deed r.holds ∙ ap (λ (d : Deed Change ListName). holder_after p d (holder_of l)) y.2, starved_is deed r.starves ∙ ap (λ (d : Deed Change ListName). starved_after p d (starved_of l)) y.2)
     reason_is (Refused refusal.Starved) y = y
     reason_is (Refused _) y = absurd y
 
@@ -209,10 +217,12 @@ module _ (memory : Bool) (p : ℕ) (from : Place) (f : Found) (l : Lock) (es : L
       holder = holder_is deed r.holds;
       starved = starved_is deed r.starves;
       entries = list_so;
+      found_memory = λ list e. found_room memory deed list r.room e;
       limit = refl;
       parties = length-set l.places p to;
       others = λ q apart. get_or-set_other l.places p q to Out apart;
       kept = λ e is. let j = keep memory l from f (decision from) (decision_by (next_of from f)) e r.judged is in (decided ∙ j.0, j.1);
+      holds_on = λ none. held_on (decision from) deed r.holds_on none;
       reason = λ e none is. reason_is e (judge memory l from f (decision from) (decision_by (next_of from f)) e r.judged none (sym decided ∙ is));
     }
 

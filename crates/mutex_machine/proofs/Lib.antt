@@ -17,3 +17,4 @@ pub mod Seen
 pub mod Rows
 pub mod Legal
 pub mod Parts
+pub mod Promised

@@ -26,7 +26,7 @@ module _ (s t : Queue) where
   on_parties p memory act.Count f l = ap (λ s. s.entries) l
   on_parties p memory act.Uncount f l = ap (λ s. s.entries) l
   on_parties p memory act.Clear f l = ap (λ s. s.entries) l
-  on_parties p memory act.Join Done l = ap (λ s. s.entries) l
+  on_parties p memory act.Join Done l = ap (λ s. s.entries) l.1
   on_parties p memory act.Join NoMemory l = ap (λ s. s.entries) l.1
   on_parties p memory act.Join _ l = absurd l
   on_parties p memory act.Ask Yes l = (l.0, ap (λ s. s.entries) l.1)
@@ -45,7 +45,7 @@ module _ (s t : Queue) where
   parties_kept p memory act.Count f l = ap (λ s. s.parties) l
   parties_kept p memory act.Uncount f l = ap (λ s. s.parties) l
   parties_kept p memory act.Clear f l = ap (λ s. s.parties) l
-  parties_kept p memory act.Join Done l = ap (λ s. s.parties) l
+  parties_kept p memory act.Join Done l = ap (λ s. s.parties) l.1
   parties_kept p memory act.Join NoMemory l = ap (λ s. s.parties) l.1
   parties_kept p memory act.Join _ l = absurd l
   parties_kept p memory act.Ask Yes l = ap (λ s. s.parties) l.1

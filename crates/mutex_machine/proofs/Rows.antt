@@ -17,7 +17,7 @@ use Rattle.mutex_machine.specs.Roles.{counted, listed}
 use Rattle.mutex_machine.specs.Machine.{Lock}
 use Rattle.mutex_machine.specs.Acts.{Finds, holders, starved}
 use Rattle.mutex_machine.specs.State.{is_holder, is_counted}
-use Rattle.mutex_machine.specs.Legal.{Change, ListName, takes, releases, starves, recovers, for_the_lock, gives_back, decision}
+use Rattle.mutex_machine.specs.Legal.{Change, ListName, takes, releases, starves, recovers, for_the_lock, gives_back, gives_up, decision}
 use Rattle.mutex_machine.proofs.Kept.{after}
 
 -- what an action changes that found this
@@ -70,94 +70,105 @@ Judged memory l from f (Some e) o = (o ≡ Some e) × (gives_back (deed_of (acti
 Judged memory l from f None None = Unit {0}
 Judged memory l from f None (Some e) = Reason memory l from f e
 
+-- whether a join found memory, and that a party gives nothing up until its call is decided
+abbrev pub Room : Bool → Deed Change ListName → Type 0
+Room memory (does list joins) = memory ≡ true
+Room memory _ = Unit {0}
+
+abbrev pub HoldsOn : Option End → Deed Change ListName → Type 0
+HoldsOn None d = gives_up d ≡ false
+HoldsOn (Some e) d = Unit {0}
+
 pub record Row (memory : Bool) (l : Lock) (from : Place) (f : Found) : Type 0 where
   pub holds : Holds (deed_of (action_of from) f) (is_holder from) (is_holder (after from f))
   pub starves : Starves (deed_of (action_of from) f) (is_counted from) (is_counted (after from f))
   pub finding : Finding (deed_of (action_of from) f) l from
   pub judged : Judged memory l from f (decision from) (decision_by (next_of from f))
+  pub room : Room memory (deed_of (action_of from) f)
+  pub holds_on : HoldsOn (decision from) (deed_of (action_of from) f)
 
 module _ (memory : Bool) (l : Lock) where
   pub row : (from : Place) (f : Found) → Finds memory (action_of from) f l → Row memory l from f
-  row Out Done e = record { holds = refl; starves = refl; finding = tt; judged = (refl, refl) }
+  row Out Done e = record { holds = refl; starves = refl; finding = tt; judged = (refl, refl); room = tt; holds_on = tt }
   row Out _ e = absurd e
-  row Holding Done e = record { holds = refl; starves = refl; finding = tt; judged = refl }
+  row Holding Done e = record { holds = refl; starves = refl; finding = tt; judged = refl; room = tt; holds_on = refl }
   row Holding _ e = absurd e
-  row Enter Free e = record { holds = (refl, refl); starves = refl; finding = (e.0, inl e.1); judged = refl }
-  row Enter (Held true) e = record { holds = refl; starves = refl; finding = tt; judged = tt }
-  row Enter (Held false) e = record { holds = refl; starves = refl; finding = tt; judged = tt }
-  row Enter SomeStarved e = record { holds = refl; starves = refl; finding = tt; judged = tt }
+  row Enter Free e = record { holds = (refl, refl); starves = refl; finding = (e.0, inl e.1); judged = refl; room = tt; holds_on = refl }
+  row Enter (Held true) e = record { holds = refl; starves = refl; finding = tt; judged = tt; room = tt; holds_on = refl }
+  row Enter (Held false) e = record { holds = refl; starves = refl; finding = tt; judged = tt; room = tt; holds_on = refl }
+  row Enter SomeStarved e = record { holds = refl; starves = refl; finding = tt; judged = tt; room = tt; holds_on = refl }
   row Enter _ e = absurd e
-  row Try Free e = record { holds = (refl, refl); starves = refl; finding = (e.0, inl e.1); judged = refl }
-  row Try (Held true) e = record { holds = refl; starves = refl; finding = tt; judged = inl e.0 }
-  row Try (Held false) e = record { holds = refl; starves = refl; finding = tt; judged = inl e.0 }
-  row Try SomeStarved e = record { holds = refl; starves = refl; finding = tt; judged = inr e }
+  row Try Free e = record { holds = (refl, refl); starves = refl; finding = (e.0, inl e.1); judged = refl; room = tt; holds_on = refl }
+  row Try (Held true) e = record { holds = refl; starves = refl; finding = tt; judged = inl e.0; room = tt; holds_on = refl }
+  row Try (Held false) e = record { holds = refl; starves = refl; finding = tt; judged = inl e.0; room = tt; holds_on = refl }
+  row Try SomeStarved e = record { holds = refl; starves = refl; finding = tt; judged = inr e; room = tt; holds_on = refl }
   row Try _ e = absurd e
-  row Clear Done e = record { holds = (refl, refl); starves = refl; finding = tt; judged = (refl, refl) }
+  row Clear Done e = record { holds = (refl, refl); starves = refl; finding = tt; judged = (refl, refl); room = tt; holds_on = tt }
   row Clear _ e = absurd e
-  row CancelUncount Done e = record { holds = refl; starves = (refl, refl); finding = tt; judged = (refl, refl) }
+  row CancelUncount Done e = record { holds = refl; starves = (refl, refl); finding = tt; judged = (refl, refl); room = tt; holds_on = tt }
   row CancelUncount _ e = absurd e
-  row CancelLeave Done e = record { holds = refl; starves = refl; finding = tt; judged = (refl, refl) }
+  row CancelLeave Done e = record { holds = refl; starves = refl; finding = tt; judged = (refl, refl); room = tt; holds_on = tt }
   row CancelLeave _ e = absurd e
-  row (Join true) Done e = record { holds = refl; starves = refl; finding = tt; judged = tt }
-  row (Join true) NoMemory e = record { holds = refl; starves = refl; finding = tt; judged = (e, refl, refl) }
+  row (Join true) Done e = record { holds = refl; starves = refl; finding = tt; judged = tt; room = e; holds_on = refl }
+  row (Join true) NoMemory e = record { holds = refl; starves = refl; finding = tt; judged = (e, refl, refl); room = tt; holds_on = refl }
   row (Join true) _ e = absurd e
-  row (Join false) Done e = record { holds = refl; starves = refl; finding = tt; judged = tt }
-  row (Join false) NoMemory e = record { holds = refl; starves = refl; finding = tt; judged = (e, refl, refl) }
+  row (Join false) Done e = record { holds = refl; starves = refl; finding = tt; judged = tt; room = e; holds_on = refl }
+  row (Join false) NoMemory e = record { holds = refl; starves = refl; finding = tt; judged = (e, refl, refl); room = tt; holds_on = refl }
   row (Join false) _ e = absurd e
-  row (Look told) Free e = record { holds = (refl, refl); starves = refl; finding = (e.0, inl e.1); judged = refl }
-  row (Look told) (Held true) e = record { holds = refl; starves = refl; finding = tt; judged = tt }
-  row (Look told) (Held false) e = record { holds = refl; starves = refl; finding = tt; judged = tt }
-  row (Look told) SomeStarved e = record { holds = refl; starves = refl; finding = tt; judged = tt }
+  row (Look told) Free e = record { holds = (refl, refl); starves = refl; finding = (e.0, inl e.1); judged = refl; room = tt; holds_on = refl }
+  row (Look told) (Held true) e = record { holds = refl; starves = refl; finding = tt; judged = tt; room = tt; holds_on = refl }
+  row (Look told) (Held false) e = record { holds = refl; starves = refl; finding = tt; judged = tt; room = tt; holds_on = refl }
+  row (Look told) SomeStarved e = record { holds = refl; starves = refl; finding = tt; judged = tt; room = tt; holds_on = refl }
   row (Look told) _ e = absurd e
-  row Ask Yes e = record { holds = refl; starves = refl; finding = tt; judged = tt }
-  row Ask No e = record { holds = refl; starves = refl; finding = tt; judged = (refl, refl, refl) }
+  row Ask Yes e = record { holds = refl; starves = refl; finding = tt; judged = tt; room = tt; holds_on = refl }
+  row Ask No e = record { holds = refl; starves = refl; finding = tt; judged = (refl, refl, refl); room = tt; holds_on = refl }
   row Ask _ e = absurd e
-  row Retry Free e = record { holds = (refl, refl); starves = refl; finding = (e.0, inl e.1); judged = refl }
-  row Retry (Held true) e = record { holds = refl; starves = refl; finding = tt; judged = tt }
-  row Retry (Held false) e = record { holds = refl; starves = refl; finding = tt; judged = tt }
-  row Retry SomeStarved e = record { holds = refl; starves = refl; finding = tt; judged = tt }
+  row Retry Free e = record { holds = (refl, refl); starves = refl; finding = (e.0, inl e.1); judged = refl; room = tt; holds_on = refl }
+  row Retry (Held true) e = record { holds = refl; starves = refl; finding = tt; judged = tt; room = tt; holds_on = refl }
+  row Retry (Held false) e = record { holds = refl; starves = refl; finding = tt; judged = tt; room = tt; holds_on = refl }
+  row Retry SomeStarved e = record { holds = refl; starves = refl; finding = tt; judged = tt; room = tt; holds_on = refl }
   row Retry _ e = absurd e
-  row PassOn Done e = record { holds = refl; starves = refl; finding = tt; judged = tt }
+  row PassOn Done e = record { holds = refl; starves = refl; finding = tt; judged = tt; room = tt; holds_on = refl }
   row PassOn _ e = absurd e
-  row (Count true told) Done e = record { holds = refl; starves = (refl, refl); finding = e; judged = tt }
-  row (Count true told) AtLimit e = record { holds = refl; starves = refl; finding = tt; judged = e }
+  row (Count true told) Done e = record { holds = refl; starves = (refl, refl); finding = e; judged = tt; room = tt; holds_on = refl }
+  row (Count true told) AtLimit e = record { holds = refl; starves = refl; finding = tt; judged = e; room = tt; holds_on = refl }
   row (Count true told) _ e = absurd e
-  row (Count false true) Done e = record { holds = refl; starves = (refl, refl); finding = e; judged = tt }
-  row (Count false true) AtLimit e = record { holds = refl; starves = refl; finding = tt; judged = e }
+  row (Count false true) Done e = record { holds = refl; starves = (refl, refl); finding = e; judged = tt; room = tt; holds_on = refl }
+  row (Count false true) AtLimit e = record { holds = refl; starves = refl; finding = tt; judged = e; room = tt; holds_on = refl }
   row (Count false true) _ e = absurd e
-  row (Count false false) Done e = record { holds = refl; starves = (refl, refl); finding = e; judged = tt }
-  row (Count false false) AtLimit e = record { holds = refl; starves = refl; finding = tt; judged = e }
+  row (Count false false) Done e = record { holds = refl; starves = (refl, refl); finding = e; judged = tt; room = tt; holds_on = refl }
+  row (Count false false) AtLimit e = record { holds = refl; starves = refl; finding = tt; judged = e; room = tt; holds_on = refl }
   row (Count false false) _ e = absurd e
-  row JoinStarved Done e = record { holds = refl; starves = refl; finding = tt; judged = tt }
-  row JoinStarved NoMemory e = record { holds = refl; starves = refl; finding = tt; judged = (e, refl, refl) }
+  row JoinStarved Done e = record { holds = refl; starves = refl; finding = tt; judged = tt; room = e; holds_on = refl }
+  row JoinStarved NoMemory e = record { holds = refl; starves = refl; finding = tt; judged = (e, refl, refl); room = tt; holds_on = refl }
   row JoinStarved _ e = absurd e
-  row LookAlone Free e = record { holds = (refl, refl); starves = refl; finding = (e.0, inr refl); judged = refl }
-  row LookAlone (Held b) e = record { holds = refl; starves = refl; finding = tt; judged = tt }
-  row LookAlone SomeStarved e = record { holds = refl; starves = refl; finding = tt; judged = tt }
+  row LookAlone Free e = record { holds = (refl, refl); starves = refl; finding = (e.0, inr refl); judged = refl; room = tt; holds_on = refl }
+  row LookAlone (Held b) e = record { holds = refl; starves = refl; finding = tt; judged = tt; room = tt; holds_on = refl }
+  row LookAlone SomeStarved e = record { holds = refl; starves = refl; finding = tt; judged = tt; room = tt; holds_on = refl }
   row LookAlone _ e = absurd e
-  row PassOnListed Done e = record { holds = refl; starves = refl; finding = tt; judged = tt }
+  row PassOnListed Done e = record { holds = refl; starves = refl; finding = tt; judged = tt; room = tt; holds_on = refl }
   row PassOnListed _ e = absurd e
-  row AskStarved Yes e = record { holds = refl; starves = refl; finding = tt; judged = tt }
-  row AskStarved No e = record { holds = refl; starves = refl; finding = tt; judged = (refl, refl, refl) }
+  row AskStarved Yes e = record { holds = refl; starves = refl; finding = tt; judged = tt; room = tt; holds_on = refl }
+  row AskStarved No e = record { holds = refl; starves = refl; finding = tt; judged = (refl, refl, refl); room = tt; holds_on = refl }
   row AskStarved _ e = absurd e
-  row Seize Free e = record { holds = (refl, refl); starves = refl; finding = (e, inr refl); judged = refl }
-  row Seize (Held b) e = record { holds = refl; starves = refl; finding = tt; judged = tt }
+  row Seize Free e = record { holds = (refl, refl); starves = refl; finding = (e, inr refl); judged = refl; room = tt; holds_on = refl }
+  row Seize (Held b) e = record { holds = refl; starves = refl; finding = tt; judged = tt; room = tt; holds_on = refl }
   row Seize _ e = absurd e
-  row (Uncount true) Done e = record { holds = refl; starves = (refl, refl); finding = tt; judged = (refl, refl) }
+  row (Uncount true) Done e = record { holds = refl; starves = (refl, refl); finding = tt; judged = (refl, refl); room = tt; holds_on = tt }
   row (Uncount true) _ e = absurd e
-  row (Uncount false) Done e = record { holds = refl; starves = (refl, refl); finding = tt; judged = (refl, refl) }
+  row (Uncount false) Done e = record { holds = refl; starves = (refl, refl); finding = tt; judged = (refl, refl); room = tt; holds_on = tt }
   row (Uncount false) _ e = absurd e
-  row Leave Done e = record { holds = refl; starves = refl; finding = tt; judged = (refl, refl) }
+  row Leave Done e = record { holds = refl; starves = refl; finding = tt; judged = (refl, refl); room = tt; holds_on = tt }
   row Leave _ e = absurd e
-  row RefuseUncount Done e = record { holds = refl; starves = (refl, refl); finding = tt; judged = (refl, refl) }
+  row RefuseUncount Done e = record { holds = refl; starves = (refl, refl); finding = tt; judged = (refl, refl); room = tt; holds_on = tt }
   row RefuseUncount _ e = absurd e
-  row (RefuseLeave true) Done e = record { holds = refl; starves = refl; finding = tt; judged = (refl, refl) }
+  row (RefuseLeave true) Done e = record { holds = refl; starves = refl; finding = tt; judged = (refl, refl); room = tt; holds_on = tt }
   row (RefuseLeave true) _ e = absurd e
-  row (RefuseLeave false) Done e = record { holds = refl; starves = refl; finding = tt; judged = (refl, refl) }
+  row (RefuseLeave false) Done e = record { holds = refl; starves = refl; finding = tt; judged = (refl, refl); room = tt; holds_on = tt }
   row (RefuseLeave false) _ e = absurd e
-  row RefuseNotifyMemory Done e = record { holds = refl; starves = refl; finding = tt; judged = (refl, refl) }
+  row RefuseNotifyMemory Done e = record { holds = refl; starves = refl; finding = tt; judged = (refl, refl); room = tt; holds_on = tt }
   row RefuseNotifyMemory _ e = absurd e
-  row RefuseNotifyStarved Done e = record { holds = refl; starves = refl; finding = tt; judged = (refl, refl) }
+  row RefuseNotifyStarved Done e = record { holds = refl; starves = refl; finding = tt; judged = (refl, refl); room = tt; holds_on = tt }
   row RefuseNotifyStarved _ e = absurd e
-  row ReleaseNotify Done e = record { holds = refl; starves = refl; finding = tt; judged = (refl, refl) }
+  row ReleaseNotify Done e = record { holds = refl; starves = refl; finding = tt; judged = (refl, refl); room = tt; holds_on = tt }
   row ReleaseNotify _ e = absurd e

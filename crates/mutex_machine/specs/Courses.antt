@@ -55,6 +55,33 @@ is_cancelling CancelUncount = true
 is_cancelling CancelLeave = true
 is_cancelling _ = false
 
+-- it is about to be counted as starved
+abbrev pub is_counting : Place → Bool
+is_counting PassOn = true
+is_counting (Count listed told) = true
+is_counting _ = false
+
+-- it took a notification in this poll, and still owes the list what comes of it unless it gets the lock or waits again
+abbrev pub is_told : Place → Bool
+is_told Retry = true
+is_told PassOn = true
+is_told (Count listed true) = true
+is_told (Join true) = true
+is_told (Look true) = true
+is_told Ask = true
+is_told JoinStarved = true
+is_told LookAlone = true
+is_told PassOnListed = true
+is_told AskStarved = true
+is_told Seize = true
+is_told (Uncount listed) = true
+is_told Leave = true
+is_told RefuseUncount = true
+is_told (RefuseLeave true) = true
+is_told RefuseNotifyMemory = true
+is_told RefuseNotifyStarved = true
+is_told _ = false
+
 -- a poll goes on, or ends so
 abbrev pub Takes : Next → Place → Type 0
 Takes (next.Do action p) to = is_taking to ≡ true

@@ -5,7 +5,7 @@ use Rattle.lock_event.specs.declared.event.Mark.TheVariants.{Waiting}
 use Rattle.lock_event.specs.Lists.{mark_at}
 use Rattle.lock_queue.specs.Parties.{is_party, entries_of}
 use Rattle.lock_world.specs.declared.refusal.Refusal.TheVariants.{Memory, Starved}
-use Rattle.lock_world.specs.Steps.{Deed, nothing, changes, does, list_after, is_parting}
+use Rattle.lock_world.specs.Steps.{Deed, nothing, changes, does, joins, leaves, list_after, is_parting}
 use Rattle.mutex_machine.specs.declared.program.Place.{Place}
 use Rattle.mutex_machine.specs.declared.program.Place.TheVariants as place
 use Rattle.mutex_machine.specs.declared.program.LockCall.{LockCall}
@@ -52,6 +52,13 @@ gives_back (changes recovers) = true
 gives_back (changes _) = false
 gives_back (does list f) = is_parting f
 
+-- What gives something up: the lock, the starved count, or a place in the list without asking there.
+abbrev pub gives_up : Deed Change ListName → Bool
+gives_up (changes releases) = true
+gives_up (changes recovers) = true
+gives_up (does list leaves) = true
+gives_up _ = false
+
 -- The end on which the call of a party at this place is decided.
 abbrev pub decision : Place → Option End
 decision place.Leave = Some Got
@@ -78,13 +85,13 @@ abbrev pub decided_then : Next → Place → Option End
 decided_then (next.Do action q) to = decision to
 decided_then (next.End e) to = Some e
 
--- Why a call may be decided on this end: the party has the lock; it stands waiting in the list; the lock was held or somebody starved; its join found no memory; or as many parties were starved as may be.
+-- Why a call may be decided on this end: the party has the lock; it stands waiting in the list; the lock was held or somebody starved; its join found no memory, and changed nothing; or as many parties were starved as may be.
 abbrev pub IsReason : Bool → ℕ → Lock → Lock → End → Type 0
 IsReason memory p old new Got = holder_of new ≡ Some p
 IsReason memory p old new Pending = mark_at (is_party p) new.entries ≡ Some Waiting
 IsReason memory p old new NotFree = (holders old ≡ 1) ⊎ (0 < starved old)
 IsReason memory p old new GivenBack = Unit {0}
-IsReason memory p old new (Refused Memory) = (memory ≡ false) × (entries_of p old.entries ≡ 0) × (new.entries ≡ old.entries)
+IsReason memory p old new (Refused Memory) = (memory ≡ false) × (entries_of p old.entries ≡ 0) × (new.entries ≡ old.entries) × (holder_of new ≡ holder_of old) × (starved_of new ≡ starved_of old)
 IsReason memory p old new (Refused Starved) = starved old ≡ old.limit
 IsReason memory p old new (Refused _) = ⊥
 
@@ -96,17 +103,19 @@ IsAllowed p (changes starves) l = (counted (place_at l.places p) ≡ 0) × (star
 IsAllowed p (changes recovers) l = IsStarved l p
 IsAllowed p _ l = Unit {0}
 
--- An action changes one thing of the mutex where it may, or does one list function, never both, and moves no other party. A call that was decided only gives back, and keeps its decision; one that is decided now has its reason.
+-- An action changes one thing of the mutex where it may, or does one list function, never both, and moves no other party. A join has found memory. A call that was decided only gives back, and keeps its decision; one that wasn't gives nothing up; and one that is decided now has its reason.
 pub record IsLegal (memory : Bool) (p : ℕ) (decided : Option End) (onward : Next) (old new : Lock) : Type 0 where
   pub deed : Deed Change ListName
   pub allowed : IsAllowed p deed old
   pub holder : holder_of new ≡ holder_after p deed (holder_of old)
   pub starved : starved_of new ≡ starved_after p deed (starved_of old)
   pub entries : new.entries ≡ entries_after p deed old.entries
+  pub found_memory : (list : ListName) → deed ≡ does list joins → memory ≡ true
   pub limit : new.limit ≡ old.limit
   pub parties : length new.places ≡ length old.places
   pub others : (q : ℕ) → q ≢ p → place_at new.places q ≡ place_at old.places q
   pub kept : (e : End) → decided ≡ Some e → (decided_then onward (place_at new.places p) ≡ Some e) × (gives_back deed ≡ true)
+  pub holds_on : decided ≡ None → gives_up deed ≡ false
   pub reason : (e : End) → decided ≡ None → decided_then onward (place_at new.places p) ≡ Some e → IsReason memory p old new e
 
 -- A call whose first action takes a free lock: a first poll, a try, and a poll of a party that stands in no list, as it does after a refusal.

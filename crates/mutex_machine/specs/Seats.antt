@@ -11,7 +11,7 @@ use Rattle.mutex_machine.specs.declared.program.Found.TheVariants.{Done, NoMemor
 
 -- actions on the list; one on the word leaves the list alone
 abbrev pub OnList : ℕ → Bool → Action → Found → Queue → Queue → Type 0
-OnList p memory act.Join Done l m = m ≡ queue l.parties (joined l.entries p)
+OnList p memory act.Join Done l m = (memory ≡ true) × (m ≡ queue l.parties (joined l.entries p))
 OnList p memory act.Join NoMemory l m = (memory ≡ false) × (m ≡ l)
 OnList p memory act.Join _ l m = ⊥
 OnList p memory act.Ask Yes l m = (is_marked_at (is_party p) l.entries ≡ true) × (m ≡ queue l.parties (without (is_party p) l.entries))

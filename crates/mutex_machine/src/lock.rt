@@ -120,6 +120,7 @@ impl Lock {
         ensures at_once { TakesAtOnce call party self.old self.new }
         ensures fair { TakenFairly self.old self.new }
         ensures bounded { left_after result self.new party < most_steps call }
+        ensures clock { IsSomeAnd (start_of call (place_at self.old.places party)) (λ from. HeedsClock starving from result) }
     {
         self.laws();
         match start(call, self.place(party)) {

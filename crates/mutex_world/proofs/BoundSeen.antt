@@ -49,13 +49,13 @@ use Rattle.mutex_world.proofs.Owns as owns
 rest_eq : (r s : Rest) → outside r ≡ outside s → r ≡ s
 rest_eq r s h = cc
 
-pending_stage : (v : ℕ) (s : Stage) (x : Place) → stands_as v s x ≡ outside rest.Pending → s ≡ Outside rest.Pending
+pub pending_stage : (v : ℕ) (s : Stage) (x : Place) → stands_as v s x ≡ outside rest.Pending → s ≡ Outside rest.Pending
 pending_stage v (Outside r) x h = ap Outside (rest_eq r rest.Pending h)
 pending_stage v (Inside w) x h = absurd (cc)
 pending_stage v Forgotten x h = absurd (cc)
 
 -- a pending party with an entry waits
-waits_listed : (x : Place) → goes_with (Outside rest.Pending) x ≡ true → 0 < listed x → is_waiting x ≡ true
+pub waits_listed : (x : Place) → goes_with (Outside rest.Pending) x ≡ true → 0 < listed x → is_waiting x ≡ true
 waits_listed x g = for_pending (λ x. 0 < listed x → is_waiting x ≡ true) (record { out = λ h. absurd (omega arith); ask = λ h. refl; starved = λ h. refl }) x g
 
 module _ (n : ℕ) where

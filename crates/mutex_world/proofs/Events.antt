@@ -63,6 +63,9 @@ stood t p k = owns.stood t.lock t.stages t.value k.mutex k.fits p
 each : (t : Table) → Laws t → (p : ℕ) → HasItsOwn (view_of t) p (standing_of (view_of t) p)
 each t k p = owns.each t.lock t.stages t.value k.mutex k.fits p
 
+not_pending : (t : Table) (p : ℕ) → Laws t → (u : Within) → standing_of (view_of t) p ≢ inside u (Some answer.Pending)
+not_pending t p k u e = owns.not_pending t.lock t.stages t.value k.mutex k.fits p u e
+
 -- ---- moves that change nothing
 
 -- a move that isn't possible decides nothing
@@ -90,14 +93,14 @@ impossible : (t : Table) (m : Move) → Laws t → call_of (view_of t) m ≡ Non
 impossible t m k none = record {
   legal = record {
     possible = record { exactly = ((λ e. none), (λ e. refl)); unchanged = λ e. refl };
-    one_change = record { deed = nothing; state = refl; entries = refl; limit = refl; opening_value = refl; others = λ q apart. refl; parties = refl; parting = λ h. refl };
+    one_change = record { deed = nothing; state = refl; entries = refl; limit = refl; opening_value = refl; others = λ q apart. refl; parties = refl; found_memory = λ list e. absurd (cc); parting = λ h. refl; giving_up = λ g. absurd (cc) };
     taken_fairly = λ q is was. absurd (was is);
     others_keep = record { lock = λ q apart. ((λ h. h), (λ h. h)); starved = λ q apart. refl; limit = λ was is. absurd (cc) };
     carries = record {
       ready = λ got d. absurd (cc (decides_nothing (standing_of (view_of t) m.party) (answer.Ready got) d.0 d.1));
       granted = λ got d. absurd (cc (decides_nothing (standing_of (view_of t) m.party) (answer.Granted got) d.0 d.1));
     };
-    waits = λ d. absurd (cc (decides_nothing (standing_of (view_of t) m.party) answer.Pending d.0 d.1));
+    waits = record { waiting = λ e. absurd (cc); not_before = not_pending t m.party k };
     refused_for_cause = record {
       cause = λ n d. absurd (cc (decides_nothing (standing_of (view_of t) m.party) (answer.Refused n) d.0 d.1));
       after_ready = ((λ e. absurd (cc)), (λ e. absurd (cc (tries_possible (standing_of (view_of t) m.party) m.what none))));
@@ -108,6 +111,7 @@ impossible t m k none = record {
   };
   at_once = record {
     at_once = λ e h. absurd (cc);
+    ready = λ e. absurd (cc (first_possible (standing_of (view_of t) m.party) m.what (entries_of m.party t.lock.entries) none));
     first_poll = λ e. absurd (cc (first_possible (standing_of (view_of t) m.party) m.what (entries_of m.party t.lock.entries) none));
   };
 }
@@ -133,14 +137,14 @@ polled_again t p i k at =
     record {
       legal = record {
         possible = record { exactly = ((λ e. absurd (true≢false (ap is_possible e))), (λ e. absurd (some_none (sym called ∙ e)))); unchanged = λ e. refl };
-        one_change = record { deed = nothing; state = refl; entries = refl; limit = refl; opening_value = refl; others = λ q apart. refl; parties = refl; parting = λ h. refl };
+        one_change = record { deed = nothing; state = refl; entries = refl; limit = refl; opening_value = refl; others = λ q apart. refl; parties = refl; found_memory = λ list e. absurd (cc); parting = λ h. refl; giving_up = λ g. absurd (cc) };
         taken_fairly = λ q is was. absurd (was is);
         others_keep = record { lock = λ q apart. ((λ h. h), (λ h. h)); starved = λ q apart. refl; limit = λ was is. absurd (cc) };
         carries = record {
           ready = λ got d. absurd (unlike (answer.Ready got) d.1 refl);
           granted = λ got d. absurd (unlike (answer.Granted got) d.1 refl);
         };
-        waits = λ d. absurd (unlike answer.Pending d.1 refl);
+        waits = record { waiting = λ e. absurd (cc); not_before = not_pending t p k };
         refused_for_cause = record {
           cause = λ n d. (refusal.Finished, sym (refused_number _ n (only (answer.Refused n) d.1)), refl);
           after_ready = ((λ e. over), (λ e. refl));
@@ -153,7 +157,7 @@ polled_again t p i k at =
           as_decided = λ u b e h. absurd (outside_inside (sym is ∙ e));
         };
       };
-      at_once = record { at_once = λ e h. absurd (cc); first_poll = λ e. absurd (false≢true (sym not_first ∙ e)) };
+      at_once = record { at_once = λ e h. absurd (cc); ready = λ e. absurd (false≢true (sym not_first ∙ e)); first_poll = λ e. absurd (false≢true (sym not_first ∙ e)) };
     }
 
 -- ---- a value is put
@@ -211,6 +215,8 @@ module _ (t : Table) (n : ℕ) (p : ℕ) (i : Inputs) where
             opening_value = refl;
             others = λ q apart. stood left q k2 ∙ (unvalued t.value n (stage_at t.stages q) (place_at t.lock.places q) (view.verdict_same n t.value (place_at t.lock.places q) (out q apart)) ∙ sym (stood t q k));
             parties = view.length-standings n t.stages t.lock.places k.fits.as_many ∙ sym (view.length-standings t.value t.stages t.lock.places k.fits.as_many);
+            found_memory = λ list e. absurd (cc);
+            giving_up = λ g. absurd (cc);
             parting = λ h. let no : is_decided (outside rest.Holding) || is_drop (Begin (call.Put n) i) ≡ true = rw is at h in absurd (false≢true no);
           };
           taken_fairly = λ q is was. absurd (was is);
@@ -219,7 +225,7 @@ module _ (t : Table) (n : ℕ) (p : ℕ) (i : Inputs) where
             ready = λ got d. absurd (unlike (answer.Ready got) d.1 refl);
             granted = λ got d. (granted_eq n got (only (answer.Granted got) d.1), own.1);
           };
-          waits = λ d. absurd (unlike answer.Pending d.1 refl);
+          waits = record { waiting = λ e. absurd (cc); not_before = not_pending left p k2 };
           refused_for_cause = record {
             cause = λ c d. absurd (unlike (answer.Refused c) d.1 refl);
             after_ready = ((λ e. absurd (true≢false (ap is_granted e))), (λ e. absurd (false≢true (sym not_over ∙ e))));
@@ -235,7 +241,7 @@ module _ (t : Table) (n : ℕ) (p : ℕ) (i : Inputs) where
             as_decided = λ u b e h. absurd (outside_inside (sym is ∙ e));
           };
         };
-        at_once = record { at_once = λ e h. absurd (cc); first_poll = λ e. absurd (false≢true (sym not_first ∙ e)) };
+        at_once = record { at_once = λ e h. absurd (cc); ready = λ e. absurd (false≢true (sym not_first ∙ e)); first_poll = λ e. absurd (false≢true (sym not_first ∙ e)) };
       }
 
 -- ---- a step of a call

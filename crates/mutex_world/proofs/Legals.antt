@@ -21,6 +21,7 @@ use Rattle.mutex_machine.specs.declared.program.Action.{Action}
 use Rattle.mutex_machine.specs.declared.program.Found.{Found}
 use Rattle.mutex_machine.specs.declared.program.Found.TheVariants.{Free, Held, SomeStarved, No}
 use Rattle.mutex_machine.specs.declared.program.Next.{Next}
+use Rattle.mutex_machine.specs.declared.program.Next.TheVariants as next
 use Rattle.lock_world.specs.declared.moves.Answer.{Answer}
 use Rattle.lock_world.specs.declared.moves.Answer.TheVariants as answer
 use Rattle.lock_world.specs.declared.moves.Got.TheVariants.{Value}
@@ -30,8 +31,8 @@ use Rattle.lock_world.specs.declared.standing.Stage.{Stage}
 use Rattle.lock_world.specs.declared.standing.Stage.TheVariants.{Forgotten}
 use Rattle.lock_world.specs.declared.standing.Within.{Within}
 use Rattle.lock_world.specs.Refusals.{number_of}
-use Rattle.lock_world.specs.Standings.{Standing, inside, inputs_of, StandsAfter, is_decided, decision}
-use Rattle.lock_world.specs.Steps.{Deed, nothing, changes, does}
+use Rattle.lock_world.specs.Standings.{Standing, inside, inputs_of, StandsAfter, is_decided, IsUndecided, decision}
+use Rattle.lock_world.specs.Steps.{Deed, nothing, changes, does, joins}
 use Rattle.mutex_machine.specs.Program.{action_of, next_of}
 use Rattle.mutex_machine.specs.Roles.{bit, holds, counted, listed}
 use Rattle.mutex_machine.specs.Parties.{OnParties}
@@ -43,11 +44,11 @@ use Rattle.lock_world.specs.Rosters.{how_many}
 use Rattle.mutex_world.specs.State.{State, World, standing_of, is_starved, is_free, mark_of}
 use Rattle.lock_world.specs.Frame.{is_drop}
 use Rattle.lock_world.proofs.Equations.{some_eq}
-use Rattle.mutex_world.specs.Legal.{Change, ListName, takes, releases, starves, recovers, puts, state_after, entries_after, gives_back, is_first_poll, call_of, DecidesOn, IsPossible, ChangesOneThing, IsTakenFairly, OthersKeepTheirs, Carries, Waits, IsCause, IsRefusedForCause, LeavesClear, IsValueKept, EndsProperly, Legal, AnswersAtOnce}
+use Rattle.mutex_world.specs.Legal.{Change, ListName, takes, releases, starves, recovers, puts, state_after, entries_after, gives_back, gives_up, is_first_poll, call_of, DecidesOn, IsPossible, ChangesOneThing, IsTakenFairly, OthersKeepTheirs, Carries, Waits, IsCause, IsRefusedForCause, LeavesClear, IsValueKept, EndsProperly, Legal, AnswersAtOnce}
 use Rattle.mutex_machine.specs.State.{is_holder, is_counted}
 use Rattle.mutex_world.specs.View.{verdict, stands_as, seen}
 use Rattle.mutex_machine.proofs.Kept.{after}
-use Rattle.mutex_world.proofs.Rows.{Row, row, deed_of, is_at_try, answer_by, is_after_ready, Holds, Starves, Finding, Refuses, Reason, Judged, verdict_then}
+use Rattle.mutex_world.proofs.Rows.{Row, row, deed_of, is_at_try, answer_by, is_after_ready, Holds, Starves, Finding, Room, HoldsOn, Refuses, Reason, Judged, verdict_then}
 use Rattle.mutex_world.proofs.Turns.{Turn}
 use Rattle.mutex_machine.proofs.Seen as sees
 use Rattle.mutex_world.proofs.Views as view
@@ -65,6 +66,20 @@ judge memory l v from f (Some c) o b j e = inl (sym j.0 ∙ e)
 judge memory l v from f None None b j e = absurd (cc)
 judge memory l v from f None (Some c) b j e = let P : Answer → Type 0 = λ a. Reason memory l v from f a in inr (subst P (some_eq e) j)
 
+-- a join found memory
+found_room : (memory : Bool) (d : Deed Change ListName) (list : ListName) → Room memory d → d ≡ does list joins → memory ≡ true
+found_room memory d list r e = let P : Deed Change ListName → Type 0 = Room memory in subst P e r
+
+-- whoever gives something up was decided
+given_up : (o : Option Answer) (d : Deed Change ListName) → HoldsOn o d → gives_up d ≡ true → (b : Answer) × (o ≡ Some b)
+given_up (Some b) d h g = (b, refl)
+given_up None d h g = absurd (cc)
+
+-- what is answered Pending was decided then
+pending_now : (trying : Bool) (v : ℕ) (n : Next) → answer_by trying v n ≡ answer.Pending → verdict_then v trying n ≡ Some answer.Pending
+pending_now trying v (next.Do a q) e = absurd (cc)
+pending_now trying v (next.End e) h = ap Some h
+
 -- a first step takes a free lock, and no other
 abbrev Goes : Lock → Place → Found → Type 0
 Goes l q f = (holders l ≡ 0 → starved l ≡ 0 → holds (after q f) ≡ 1) × (holds (after q f) ≡ 1 → (holders l ≡ 0) × (starved l ≡ 0))
@@ -77,6 +92,22 @@ enters memory l _ e = absurd e
 
 at_enter : (memory : Bool) (l : Lock) (from : Place) (f : Found) → from ≡ Enter → Finds memory (action_of from) f l → Goes l from f
 at_enter memory l from f e = let P : Place → Type 0 = λ q. Finds memory (action_of q) f l → Goes l q f in subst P (sym e) (enters memory l f)
+
+-- and is ready then
+ready_now : (memory : Bool) (l : Lock) (v : ℕ) (f : Found) → Finds memory act.Take f l → (free : Bool) → ((holders l ≡ 0) → (starved l ≡ 0) → free ≡ true) → (free ≡ true → (holders l ≡ 0) × (starved l ≡ 0))
+    → answer_by false v (next_of Enter f) ≡ (if free then answer.Ready (Value v) else answer.Stepped)
+ready_now memory l v Free e free is means = rw (is e.0 e.1) refl
+ready_now memory l v (Held b) e true is means = let m = means refl in absurd (omega (arith, e.0, m.0))
+ready_now memory l v (Held b) e false is means = refl
+ready_now memory l v SomeStarved e true is means = let m = means refl in absurd (omega (arith, m.1))
+ready_now memory l v SomeStarved e false is means = refl
+ready_now memory l v _ e free is means = absurd e
+
+at_enter_ready : (memory : Bool) (l : Lock) (v : ℕ) (from : Place) (f : Found) → from ≡ Enter → Finds memory (action_of from) f l → (free : Bool) → ((holders l ≡ 0) → (starved l ≡ 0) → free ≡ true) → (free ≡ true → (holders l ≡ 0) × (starved l ≡ 0))
+    → answer_by (is_at_try from) v (next_of from f) ≡ (if free then answer.Ready (Value v) else answer.Stepped)
+at_enter_ready memory l v from f e finds free is means =
+    let P : Place → Type 0 = λ q. Finds memory (action_of q) f l → answer_by (is_at_try q) v (next_of q f) ≡ (if free then answer.Ready (Value v) else answer.Stepped) in
+    subst P (sym e) (λ finds. ready_now memory l v f finds free is means) finds
 
 free_test : (h : Option ℕ) (n : ℕ) → h ≡ None → n ≡ 0 → is_none h && (n == 0) ≡ true
 free_test None n h e = rw e refl
@@ -272,6 +303,23 @@ module _ (m : Move) (l : Lock) (es : List (Entry ℕ)) (ss : List Stage) (v : �
       | inr d ↦ (keep memory l v from f (verdict v from) (verdict_then v (is_at_try from) onward) answer.GivenBack r.judged (k.turn.drop_is d)).1
     ]
 
+    or_inl : (a b : Bool) → a ≡ true → a || b ≡ true
+    or_inl true b h = refl
+    or_inl false b h = absurd (cc)
+
+    or_inr : (a b : Bool) → b ≡ true → a || b ≡ true
+    or_inr true b h = refl
+    or_inr false b h = h
+
+    giving_up : gives_up deed ≡ true → is_decided (standing_of old m.party) || is_drop m.what ≡ true
+    giving_up g =
+        let was = given_up (verdict v from) deed r.holds_on g in
+        by_standing (is_decided (standing_of old m.party)) refl was.0 was.1
+      where
+        by_standing : (d : Bool) → is_decided (standing_of old m.party) ≡ d → (b : Answer) → verdict v from ≡ Some b → d || is_drop m.what ≡ true
+        by_standing true e b is = refl
+        by_standing false e b is = k.turn.only_drops (rw stood at e) b is
+
     one_change : ChangesOneThing old m new
     one_change = record {
       deed = deed;
@@ -281,7 +329,9 @@ module _ (m : Move) (l : Lock) (es : List (Entry ℕ)) (ss : List Stage) (v : �
       opening_value = refl;
       others = others;
       parties = view.length-standings v stages new_lock.places k.new_fits.as_many ∙ (length-set ss m.party (stage_after w onward) ∙ sym (view.length-standings v ss l.places k.old_fits.as_many));
+      found_memory = λ list e. found_room memory deed list r.room e;
       parting = parting;
+      giving_up = giving_up;
     }
 
     was_free : Finding deed l from → deed ≡ changes takes → (holders l ≡ 0) × ((starved l ≡ 0) ⊎ (counted from ≡ 1))
@@ -346,13 +396,24 @@ module _ (m : Move) (l : Lock) (es : List (Entry ℕ)) (ss : List Stage) (v : �
         let o = asked m.party (action_of from) f l.entries es k.list a g in
         rw o.1 (waits_at m.party l.entries (stands_listed ∙ one) o.0)
 
-    waits : Waits old m said new
-    waits d = elim (reason answer.Pending d) as (λ _. mark_of new m.party ≡ Some Waiting) [ inl e ↦ absurd (cc) | inr y ↦ waits_there y.0 y.1 y.2 ]
+    waits : Waits m said new
+    waits = record {
+      waiting = λ e.
+          let now : verdict_then v (is_at_try from) onward ≡ Some answer.Pending = pending_now (is_at_try from) v onward (sym answer_is ∙ e) in
+          elim (judge memory l v from f (verdict v from) (verdict_then v (is_at_try from) onward) answer.Pending r.judged now) as (λ _. mark_of new m.party ≡ Some Waiting) [
+            | inl was ↦ absurd (owns.pending_undecided v from was)
+            | inr y ↦ waits_there y.0 y.1 y.2
+          ];
+      not_before = λ u e. owns.not_pending new_lock stages v k.new_laws k.new_fits m.party u e;
+    }
+
+    was_inside : IsUndecided (stands_as v (stage_at ss m.party) here) → IsUndecided (standing_of old m.party)
+    was_inside u = (u.0, stood ∙ u.1)
 
     cause : (c : Refusal) → Refuses memory l from f c → IsCause old m new c
     cause refusal.Memory y =
         let list = answers.list_is memory l m.party (action_of from) f l.entries es k.finds k.list in
-        (y.0, stands_listed ∙ y.1, list ∙ ap (λ (d : Deed Change ListName). entries_after m.party d l.entries) y.2)
+        (y.0, was_inside (k.turn.joining y.3), stands_listed ∙ y.1, list ∙ ap (λ (d : Deed Change ListName). entries_after m.party d l.entries) y.2, state_is deed r.holds r.starves r.finding ∙ ap (λ (d : Deed Change ListName). state_after m.party d old.state) y.2)
     cause refusal.Starved y = view.how_many-seen l.places ∙ y
     cause refusal.Finished y = absurd y
     cause _ y = absurd y
@@ -414,6 +475,9 @@ module _ (m : Move) (l : Lock) (es : List (Entry ℕ)) (ss : List Stage) (v : �
     pub step_at_once : AnswersAtOnce old m said new
     step_at_once = record {
       at_once = λ t h. answer_is ∙ at_try memory l v from f (k.turn.tries t) k.finds (is_free old.state) free_is free_says;
+      ready = λ first.
+          let now : is_first_poll (stands_as v (stage_at ss m.party) here) m.what (entries_of m.party l.entries) ≡ true = rw stood at first in
+          answer_is ∙ at_enter_ready memory l v from f (k.turn.first now (k.old_laws.owners m.party)) k.finds (is_free old.state) free_is free_says;
       first_poll = λ first.
           let now : is_first_poll (stands_as v (stage_at ss m.party) here) m.what (entries_of m.party l.entries) ≡ true = rw stood at first in
           let goes = at_enter memory l from f (k.turn.first now (k.old_laws.owners m.party)) k.finds in (

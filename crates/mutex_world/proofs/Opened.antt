@@ -19,11 +19,11 @@ module _ (n : ℕ) where
   pub legal_opened : (old : World) (m : Move) (a : Answer) (new : World) → Legal old m a new → Legal (opened n old) m a (opened n new)
   legal_opened old m a new l = record {
     possible = record { exactly = l.possible.exactly; unchanged = λ e. ap (opened n) (l.possible.unchanged e) };
-    one_change = record { deed = l.one_change.deed; state = l.one_change.state; entries = l.one_change.entries; limit = l.one_change.limit; opening_value = refl; others = l.one_change.others; parties = l.one_change.parties; parting = l.one_change.parting };
+    one_change = record { deed = l.one_change.deed; state = l.one_change.state; entries = l.one_change.entries; limit = l.one_change.limit; opening_value = refl; others = l.one_change.others; parties = l.one_change.parties; found_memory = l.one_change.found_memory; parting = l.one_change.parting; giving_up = l.one_change.giving_up };
     taken_fairly = l.taken_fairly;
     others_keep = record { lock = l.others_keep.lock; starved = l.others_keep.starved; limit = l.others_keep.limit };
     carries = record { ready = l.carries.ready; granted = l.carries.granted };
-    waits = l.waits;
+    waits = record { waiting = l.waits.waiting; not_before = l.waits.not_before };
     refused_for_cause = record { cause = λ k d. let c = l.refused_for_cause.cause k d in (c.0, c.1, cause_opened old m new c.0 c.2); after_ready = l.refused_for_cause.after_ready };
     leaves_clear = record { each = l.leaves_clear.each; refused = l.leaves_clear.refused };
     value_kept = record { put = l.value_kept.put; kept = l.value_kept.kept };
@@ -31,7 +31,7 @@ module _ (n : ℕ) where
   }
 
   pub at_once_opened : (old : World) (m : Move) (a : Answer) (new : World) → AnswersAtOnce old m a new → AnswersAtOnce (opened n old) m a (opened n new)
-  at_once_opened old m a new l = record { at_once = l.at_once; first_poll = l.first_poll }
+  at_once_opened old m a new l = record { at_once = l.at_once; ready = l.ready; first_poll = l.first_poll }
 
   pub sound_opened : (w : World) → IsSound w → IsSound (opened n w)
   sound_opened w s = record { exclusion = s.exclusion; each = s.each; few_starved = s.few_starved; inside_calls = s.inside_calls; once = s.once; in_order = s.in_order }

@@ -1,8 +1,9 @@
 -- What each party has, by how it stands.
-use Rattle.std.proofs.Common.{◌≡◌, ◌≢◌, ℕ, ◌<◌, ◌⊎◌, inl, inr, true, false, List, length, Option, Some, None, refl, arith, ap, ◌∙◌, suc, zero, [], ◌∷◌}
+use Rattle.std.proofs.Common.{◌≡◌, ◌≢◌, ℕ, ◌<◌, ◌⊎◌, inl, inr, true, false, List, length, Option, Some, None, refl, arith, ap, sym, ◌∙◌, suc, zero, [], ◌∷◌}
 use Rattle.mutex_machine.specs.declared.program.Place.{Place}
 use Rattle.mutex_machine.specs.declared.program.Place.TheVariants as place
 use Rattle.lock_world.specs.declared.moves.Answer.{Answer}
+use Rattle.lock_world.specs.declared.moves.Answer.TheVariants as answer
 use Rattle.lock_world.specs.declared.standing.Rest.TheVariants as rest
 use Rattle.lock_world.specs.declared.standing.Stage.{Stage}
 use Rattle.lock_world.specs.declared.standing.Stage.TheVariants.{Outside, Inside, Forgotten}
@@ -44,6 +45,24 @@ undecided_free v w x g =
     let P : Within → Place → Type 0 = λ w x. verdict v x ≡ None → holds x ≡ 0 in
     for_within P (record { first = taking_free v; later = taking_free v; release = releasing_free v; cancel = cancelling_free v }) w x g
 
+-- no call is decided on Pending before it is answered so
+pub pending_undecided : (v : ℕ) (x : Place) → verdict v x ≡ Some answer.Pending → ⊥
+pending_undecided v place.Leave h = absurd (cc)
+pending_undecided v (place.Uncount listed) h = absurd (cc)
+pending_undecided v place.RefuseUncount h = absurd (cc)
+pending_undecided v (place.RefuseLeave told) h = absurd (cc)
+pending_undecided v place.RefuseNotifyMemory h = absurd (cc)
+pending_undecided v place.RefuseNotifyStarved h = absurd (cc)
+pending_undecided v place.Clear h = absurd (cc)
+pending_undecided v place.ReleaseNotify h = absurd (cc)
+pending_undecided v place.CancelUncount h = absurd (cc)
+pending_undecided v place.CancelLeave h = absurd (cc)
+pending_undecided v place.Out h = absurd (cc)
+pending_undecided v _ h = absurd (cc)
+
+decided_as : (w u : Within) (o p : Option Answer) → inside w o ≡ inside u p → o ≡ p
+decided_as w u o p e = cc
+
 pub in_or_past : (ss : List Stage) (q : ℕ) → (q < length ss) ⊎ (stage_at ss q ≡ Forgotten)
 in_or_past [] q = inr refl
 in_or_past (s ∷ ss) zero = inl (omega arith)
@@ -52,6 +71,15 @@ in_or_past (s ∷ ss) (suc q) = elim (in_or_past ss q) as (λ _. (suc q < length
 module _ (l : Lock) (ss : List Stage) (v : ℕ) (laws : IsMutex l) (fits : IsTable l ss) where
   pub stood : (q : ℕ) → standing_of (seen l ss v) q ≡ stands_as v (stage_at ss q) (place_at l.places q)
   stood q = view.standings_at v ss l.places fits.as_many q
+
+  stands_pending : (s : Stage) (x : Place) (u : Within) → stands_as v s x ≢ inside u (Some answer.Pending)
+  stands_pending (Outside r) x u e = absurd (cc)
+  stands_pending (Inside w) x u e = pending_undecided v x (decided_as w u (verdict v x) (Some answer.Pending) e)
+  stands_pending Forgotten x u e = absurd (cc)
+
+  -- nobody's call is decided on Pending
+  pub not_pending : (q : ℕ) (u : Within) → standing_of (seen l ss v) q ≢ inside u (Some answer.Pending)
+  not_pending q u e = stands_pending (stage_at ss q) (place_at l.places q) u (sym (stood q) ∙ e)
 
   pub clear_at : (q : ℕ) → listed (place_at l.places q) ≡ 0 → is_counted (place_at l.places q) ≡ false → IsClear (seen l ss v) q
   clear_at q li co = (laws.owners q ∙ li, sees.starved_at l.places q ∙ co)

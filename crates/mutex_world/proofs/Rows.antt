@@ -21,7 +21,7 @@ use Rattle.mutex_machine.specs.Program.{action_of, next_of}
 use Rattle.mutex_machine.specs.Roles.{counted, listed}
 use Rattle.mutex_machine.specs.Machine.{Lock}
 use Rattle.mutex_machine.specs.Acts.{Finds, holders, starved}
-use Rattle.mutex_world.specs.Legal.{Change, ListName, takes, releases, starves, recovers, puts, for_the_lock, gives_back}
+use Rattle.mutex_world.specs.Legal.{Change, ListName, takes, releases, starves, recovers, puts, for_the_lock, gives_back, gives_up}
 use Rattle.mutex_machine.specs.State.{is_holder, is_counted}
 use Rattle.mutex_world.specs.View.{verdict}
 use Rattle.mutex_machine.proofs.Kept.{after}
@@ -39,6 +39,12 @@ deed_of act.Ask Yes = does for_the_lock asks
 deed_of act.Leave Done = does for_the_lock leaves
 deed_of act.Notify Done = does for_the_lock (notifies 1)
 deed_of _ _ = nothing
+
+-- a party joins the list here
+abbrev pub is_joining : Place → Bool
+is_joining (Join told) = true
+is_joining JoinStarved = true
+is_joining _ = false
 
 abbrev pub is_at_try : Place → Bool
 is_at_try Try = true
@@ -82,7 +88,7 @@ verdict_then v trying (next.End e) = Some (answer_by trying v (next.End e))
 
 -- why a step refuses its call
 abbrev pub Refuses : Bool → Lock → Place → Found → Refusal → Type 0
-Refuses memory l from f refusal.Memory = (memory ≡ false) × (listed from ≡ 0) × (deed_of (action_of from) f ≡ nothing)
+Refuses memory l from f refusal.Memory = (memory ≡ false) × (listed from ≡ 0) × (deed_of (action_of from) f ≡ nothing) × (is_joining from ≡ true)
 Refuses memory l from f refusal.Starved = starved l ≡ l.limit
 Refuses memory l from f _ = ⊥
 
@@ -100,95 +106,106 @@ Judged memory l v from f (Some b) o = (o ≡ Some b) × (gives_back (deed_of (ac
 Judged memory l v from f None None = Unit {0}
 Judged memory l v from f None (Some b) = Reason memory l v from f b
 
+-- whether a join found memory, and that a party gives nothing up until its call is decided
+abbrev pub Room : Bool → Deed Change ListName → Type 0
+Room memory (does list joins) = memory ≡ true
+Room memory _ = Unit {0}
+
+abbrev pub HoldsOn : Option Answer → Deed Change ListName → Type 0
+HoldsOn None d = gives_up d ≡ false
+HoldsOn (Some b) d = Unit {0}
+
 pub record Row (memory : Bool) (l : Lock) (v : ℕ) (from : Place) (f : Found) : Type 0 where
   pub holds : Holds (deed_of (action_of from) f) (is_holder from) (is_holder (after from f))
   pub starves : Starves (deed_of (action_of from) f) (is_counted from) (is_counted (after from f))
   pub finding : Finding (deed_of (action_of from) f) l from
   pub judged : Judged memory l v from f (verdict v from) (verdict_then v (is_at_try from) (next_of from f))
+  pub room : Room memory (deed_of (action_of from) f)
+  pub holds_on : HoldsOn (verdict v from) (deed_of (action_of from) f)
   pub over : is_after_ready (answer_by (is_at_try from) v (next_of from f)) ≡ false
 
 module _ (memory : Bool) (l : Lock) (v : ℕ) where
   pub row : (from : Place) (f : Found) → Finds memory (action_of from) f l → Row memory l v from f
-  row Out Done e = record { holds = refl; starves = refl; finding = tt; judged = (refl, refl); over = refl }
+  row Out Done e = record { holds = refl; starves = refl; finding = tt; judged = (refl, refl); room = tt; holds_on = tt; over = refl }
   row Out _ e = absurd e
-  row Holding Done e = record { holds = refl; starves = refl; finding = tt; judged = (refl, refl); over = refl }
+  row Holding Done e = record { holds = refl; starves = refl; finding = tt; judged = (refl, refl); room = tt; holds_on = refl; over = refl }
   row Holding _ e = absurd e
-  row Enter Free e = record { holds = (refl, refl); starves = refl; finding = (e.0, inl e.1); judged = (refl, refl); over = refl }
-  row Enter (Held true) e = record { holds = refl; starves = refl; finding = tt; judged = tt; over = refl }
-  row Enter (Held false) e = record { holds = refl; starves = refl; finding = tt; judged = tt; over = refl }
-  row Enter SomeStarved e = record { holds = refl; starves = refl; finding = tt; judged = tt; over = refl }
+  row Enter Free e = record { holds = (refl, refl); starves = refl; finding = (e.0, inl e.1); judged = (refl, refl); room = tt; holds_on = refl; over = refl }
+  row Enter (Held true) e = record { holds = refl; starves = refl; finding = tt; judged = tt; room = tt; holds_on = refl; over = refl }
+  row Enter (Held false) e = record { holds = refl; starves = refl; finding = tt; judged = tt; room = tt; holds_on = refl; over = refl }
+  row Enter SomeStarved e = record { holds = refl; starves = refl; finding = tt; judged = tt; room = tt; holds_on = refl; over = refl }
   row Enter _ e = absurd e
-  row Try Free e = record { holds = (refl, refl); starves = refl; finding = (e.0, inl e.1); judged = (refl, refl); over = refl }
-  row Try (Held true) e = record { holds = refl; starves = refl; finding = tt; judged = tt; over = refl }
-  row Try (Held false) e = record { holds = refl; starves = refl; finding = tt; judged = tt; over = refl }
-  row Try SomeStarved e = record { holds = refl; starves = refl; finding = tt; judged = tt; over = refl }
+  row Try Free e = record { holds = (refl, refl); starves = refl; finding = (e.0, inl e.1); judged = (refl, refl); room = tt; holds_on = refl; over = refl }
+  row Try (Held true) e = record { holds = refl; starves = refl; finding = tt; judged = tt; room = tt; holds_on = refl; over = refl }
+  row Try (Held false) e = record { holds = refl; starves = refl; finding = tt; judged = tt; room = tt; holds_on = refl; over = refl }
+  row Try SomeStarved e = record { holds = refl; starves = refl; finding = tt; judged = tt; room = tt; holds_on = refl; over = refl }
   row Try _ e = absurd e
-  row Clear Done e = record { holds = (refl, refl); starves = refl; finding = tt; judged = (refl, refl); over = refl }
+  row Clear Done e = record { holds = (refl, refl); starves = refl; finding = tt; judged = (refl, refl); room = tt; holds_on = tt; over = refl }
   row Clear _ e = absurd e
-  row CancelUncount Done e = record { holds = refl; starves = (refl, refl); finding = tt; judged = (refl, refl); over = refl }
+  row CancelUncount Done e = record { holds = refl; starves = (refl, refl); finding = tt; judged = (refl, refl); room = tt; holds_on = tt; over = refl }
   row CancelUncount _ e = absurd e
-  row CancelLeave Done e = record { holds = refl; starves = refl; finding = tt; judged = (refl, refl); over = refl }
+  row CancelLeave Done e = record { holds = refl; starves = refl; finding = tt; judged = (refl, refl); room = tt; holds_on = tt; over = refl }
   row CancelLeave _ e = absurd e
-  row (Join true) Done e = record { holds = refl; starves = refl; finding = tt; judged = tt; over = refl }
-  row (Join true) NoMemory e = record { holds = refl; starves = refl; finding = tt; judged = (refusal.Memory, refl, (e, refl, refl)); over = refl }
+  row (Join true) Done e = record { holds = refl; starves = refl; finding = tt; judged = tt; room = e; holds_on = refl; over = refl }
+  row (Join true) NoMemory e = record { holds = refl; starves = refl; finding = tt; judged = (refusal.Memory, refl, (e, refl, refl, refl)); room = tt; holds_on = refl; over = refl }
   row (Join true) _ e = absurd e
-  row (Join false) Done e = record { holds = refl; starves = refl; finding = tt; judged = tt; over = refl }
-  row (Join false) NoMemory e = record { holds = refl; starves = refl; finding = tt; judged = (refusal.Memory, refl, (e, refl, refl)); over = refl }
+  row (Join false) Done e = record { holds = refl; starves = refl; finding = tt; judged = tt; room = e; holds_on = refl; over = refl }
+  row (Join false) NoMemory e = record { holds = refl; starves = refl; finding = tt; judged = (refusal.Memory, refl, (e, refl, refl, refl)); room = tt; holds_on = refl; over = refl }
   row (Join false) _ e = absurd e
-  row (Look told) Free e = record { holds = (refl, refl); starves = refl; finding = (e.0, inl e.1); judged = (refl, refl); over = refl }
-  row (Look told) (Held true) e = record { holds = refl; starves = refl; finding = tt; judged = tt; over = refl }
-  row (Look told) (Held false) e = record { holds = refl; starves = refl; finding = tt; judged = tt; over = refl }
-  row (Look told) SomeStarved e = record { holds = refl; starves = refl; finding = tt; judged = tt; over = refl }
+  row (Look told) Free e = record { holds = (refl, refl); starves = refl; finding = (e.0, inl e.1); judged = (refl, refl); room = tt; holds_on = refl; over = refl }
+  row (Look told) (Held true) e = record { holds = refl; starves = refl; finding = tt; judged = tt; room = tt; holds_on = refl; over = refl }
+  row (Look told) (Held false) e = record { holds = refl; starves = refl; finding = tt; judged = tt; room = tt; holds_on = refl; over = refl }
+  row (Look told) SomeStarved e = record { holds = refl; starves = refl; finding = tt; judged = tt; room = tt; holds_on = refl; over = refl }
   row (Look told) _ e = absurd e
-  row Ask Yes e = record { holds = refl; starves = refl; finding = tt; judged = tt; over = refl }
-  row Ask No e = record { holds = refl; starves = refl; finding = tt; judged = (refl, refl, refl); over = refl }
+  row Ask Yes e = record { holds = refl; starves = refl; finding = tt; judged = tt; room = tt; holds_on = refl; over = refl }
+  row Ask No e = record { holds = refl; starves = refl; finding = tt; judged = (refl, refl, refl); room = tt; holds_on = refl; over = refl }
   row Ask _ e = absurd e
-  row Retry Free e = record { holds = (refl, refl); starves = refl; finding = (e.0, inl e.1); judged = (refl, refl); over = refl }
-  row Retry (Held true) e = record { holds = refl; starves = refl; finding = tt; judged = tt; over = refl }
-  row Retry (Held false) e = record { holds = refl; starves = refl; finding = tt; judged = tt; over = refl }
-  row Retry SomeStarved e = record { holds = refl; starves = refl; finding = tt; judged = tt; over = refl }
+  row Retry Free e = record { holds = (refl, refl); starves = refl; finding = (e.0, inl e.1); judged = (refl, refl); room = tt; holds_on = refl; over = refl }
+  row Retry (Held true) e = record { holds = refl; starves = refl; finding = tt; judged = tt; room = tt; holds_on = refl; over = refl }
+  row Retry (Held false) e = record { holds = refl; starves = refl; finding = tt; judged = tt; room = tt; holds_on = refl; over = refl }
+  row Retry SomeStarved e = record { holds = refl; starves = refl; finding = tt; judged = tt; room = tt; holds_on = refl; over = refl }
   row Retry _ e = absurd e
-  row PassOn Done e = record { holds = refl; starves = refl; finding = tt; judged = tt; over = refl }
+  row PassOn Done e = record { holds = refl; starves = refl; finding = tt; judged = tt; room = tt; holds_on = refl; over = refl }
   row PassOn _ e = absurd e
-  row (Count true told) Done e = record { holds = refl; starves = (refl, refl); finding = e; judged = tt; over = refl }
-  row (Count true told) AtLimit e = record { holds = refl; starves = refl; finding = tt; judged = (refusal.Starved, refl, e); over = refl }
+  row (Count true told) Done e = record { holds = refl; starves = (refl, refl); finding = e; judged = tt; room = tt; holds_on = refl; over = refl }
+  row (Count true told) AtLimit e = record { holds = refl; starves = refl; finding = tt; judged = (refusal.Starved, refl, e); room = tt; holds_on = refl; over = refl }
   row (Count true told) _ e = absurd e
-  row (Count false true) Done e = record { holds = refl; starves = (refl, refl); finding = e; judged = tt; over = refl }
-  row (Count false true) AtLimit e = record { holds = refl; starves = refl; finding = tt; judged = (refusal.Starved, refl, e); over = refl }
+  row (Count false true) Done e = record { holds = refl; starves = (refl, refl); finding = e; judged = tt; room = tt; holds_on = refl; over = refl }
+  row (Count false true) AtLimit e = record { holds = refl; starves = refl; finding = tt; judged = (refusal.Starved, refl, e); room = tt; holds_on = refl; over = refl }
   row (Count false true) _ e = absurd e
-  row (Count false false) Done e = record { holds = refl; starves = (refl, refl); finding = e; judged = tt; over = refl }
-  row (Count false false) AtLimit e = record { holds = refl; starves = refl; finding = tt; judged = (refusal.Starved, refl, e); over = refl }
+  row (Count false false) Done e = record { holds = refl; starves = (refl, refl); finding = e; judged = tt; room = tt; holds_on = refl; over = refl }
+  row (Count false false) AtLimit e = record { holds = refl; starves = refl; finding = tt; judged = (refusal.Starved, refl, e); room = tt; holds_on = refl; over = refl }
   row (Count false false) _ e = absurd e
-  row JoinStarved Done e = record { holds = refl; starves = refl; finding = tt; judged = tt; over = refl }
-  row JoinStarved NoMemory e = record { holds = refl; starves = refl; finding = tt; judged = (refusal.Memory, refl, (e, refl, refl)); over = refl }
+  row JoinStarved Done e = record { holds = refl; starves = refl; finding = tt; judged = tt; room = e; holds_on = refl; over = refl }
+  row JoinStarved NoMemory e = record { holds = refl; starves = refl; finding = tt; judged = (refusal.Memory, refl, (e, refl, refl, refl)); room = tt; holds_on = refl; over = refl }
   row JoinStarved _ e = absurd e
-  row LookAlone Free e = record { holds = (refl, refl); starves = refl; finding = (e.0, inr refl); judged = (refl, refl); over = refl }
-  row LookAlone (Held b) e = record { holds = refl; starves = refl; finding = tt; judged = tt; over = refl }
-  row LookAlone SomeStarved e = record { holds = refl; starves = refl; finding = tt; judged = tt; over = refl }
+  row LookAlone Free e = record { holds = (refl, refl); starves = refl; finding = (e.0, inr refl); judged = (refl, refl); room = tt; holds_on = refl; over = refl }
+  row LookAlone (Held b) e = record { holds = refl; starves = refl; finding = tt; judged = tt; room = tt; holds_on = refl; over = refl }
+  row LookAlone SomeStarved e = record { holds = refl; starves = refl; finding = tt; judged = tt; room = tt; holds_on = refl; over = refl }
   row LookAlone _ e = absurd e
-  row PassOnListed Done e = record { holds = refl; starves = refl; finding = tt; judged = tt; over = refl }
+  row PassOnListed Done e = record { holds = refl; starves = refl; finding = tt; judged = tt; room = tt; holds_on = refl; over = refl }
   row PassOnListed _ e = absurd e
-  row AskStarved Yes e = record { holds = refl; starves = refl; finding = tt; judged = tt; over = refl }
-  row AskStarved No e = record { holds = refl; starves = refl; finding = tt; judged = (refl, refl, refl); over = refl }
+  row AskStarved Yes e = record { holds = refl; starves = refl; finding = tt; judged = tt; room = tt; holds_on = refl; over = refl }
+  row AskStarved No e = record { holds = refl; starves = refl; finding = tt; judged = (refl, refl, refl); room = tt; holds_on = refl; over = refl }
   row AskStarved _ e = absurd e
-  row Seize Free e = record { holds = (refl, refl); starves = refl; finding = (e, inr refl); judged = (refl, refl); over = refl }
-  row Seize (Held b) e = record { holds = refl; starves = refl; finding = tt; judged = tt; over = refl }
+  row Seize Free e = record { holds = (refl, refl); starves = refl; finding = (e, inr refl); judged = (refl, refl); room = tt; holds_on = refl; over = refl }
+  row Seize (Held b) e = record { holds = refl; starves = refl; finding = tt; judged = tt; room = tt; holds_on = refl; over = refl }
   row Seize _ e = absurd e
-  row (Uncount true) Done e = record { holds = refl; starves = (refl, refl); finding = tt; judged = (refl, refl); over = refl }
+  row (Uncount true) Done e = record { holds = refl; starves = (refl, refl); finding = tt; judged = (refl, refl); room = tt; holds_on = tt; over = refl }
   row (Uncount true) _ e = absurd e
-  row (Uncount false) Done e = record { holds = refl; starves = (refl, refl); finding = tt; judged = (refl, refl); over = refl }
+  row (Uncount false) Done e = record { holds = refl; starves = (refl, refl); finding = tt; judged = (refl, refl); room = tt; holds_on = tt; over = refl }
   row (Uncount false) _ e = absurd e
-  row Leave Done e = record { holds = refl; starves = refl; finding = tt; judged = (refl, refl); over = refl }
+  row Leave Done e = record { holds = refl; starves = refl; finding = tt; judged = (refl, refl); room = tt; holds_on = tt; over = refl }
   row Leave _ e = absurd e
-  row RefuseUncount Done e = record { holds = refl; starves = (refl, refl); finding = tt; judged = (refl, refl); over = refl }
+  row RefuseUncount Done e = record { holds = refl; starves = (refl, refl); finding = tt; judged = (refl, refl); room = tt; holds_on = tt; over = refl }
   row RefuseUncount _ e = absurd e
-  row (RefuseLeave true) Done e = record { holds = refl; starves = refl; finding = tt; judged = (refl, refl); over = refl }
+  row (RefuseLeave true) Done e = record { holds = refl; starves = refl; finding = tt; judged = (refl, refl); room = tt; holds_on = tt; over = refl }
   row (RefuseLeave true) _ e = absurd e
-  row (RefuseLeave false) Done e = record { holds = refl; starves = refl; finding = tt; judged = (refl, refl); over = refl }
+  row (RefuseLeave false) Done e = record { holds = refl; starves = refl; finding = tt; judged = (refl, refl); room = tt; holds_on = tt; over = refl }
   row (RefuseLeave false) _ e = absurd e
-  row RefuseNotifyMemory Done e = record { holds = refl; starves = refl; finding = tt; judged = (refl, refl); over = refl }
+  row RefuseNotifyMemory Done e = record { holds = refl; starves = refl; finding = tt; judged = (refl, refl); room = tt; holds_on = tt; over = refl }
   row RefuseNotifyMemory _ e = absurd e
-  row RefuseNotifyStarved Done e = record { holds = refl; starves = refl; finding = tt; judged = (refl, refl); over = refl }
+  row RefuseNotifyStarved Done e = record { holds = refl; starves = refl; finding = tt; judged = (refl, refl); room = tt; holds_on = tt; over = refl }
   row RefuseNotifyStarved _ e = absurd e
-  row ReleaseNotify Done e = record { holds = refl; starves = refl; finding = tt; judged = (refl, refl); over = refl }
+  row ReleaseNotify Done e = record { holds = refl; starves = refl; finding = tt; judged = (refl, refl); room = tt; holds_on = tt; over = refl }
   row ReleaseNotify _ e = absurd e

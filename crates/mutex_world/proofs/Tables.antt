@@ -25,7 +25,7 @@ use Rattle.lock_world.specs.declared.standing.Stage.TheVariants.{Outside, Inside
 use Rattle.lock_world.specs.declared.standing.Within.{Within}
 use Rattle.lock_world.specs.Standings.{inputs_of}
 use Rattle.mutex_machine.specs.Program.{start_of}
-use Rattle.mutex_machine.specs.Courses.{is_taking, is_waiting, is_releasing, is_cancelling, Takes, Tries, Releases, Cancels, Begins, GoesOn}
+use Rattle.mutex_machine.specs.Courses.{is_taking, is_waiting, is_releasing, is_cancelling, Takes, Tries, Releases, Cancels, Begins, GoesOn, HeedsClock}
 use Rattle.mutex_machine.specs.Machine.{Lock, place_at}
 use Rattle.mutex_machine.specs.Acts.{Acts}
 use Rattle.mutex_world.specs.Plans.{plan_of, answer_of, stage_after, stage_at, goes_with, is_within, within}
@@ -178,9 +178,9 @@ pub began : {P : Place → Type 0} (o : Option Place) → IsSomeAnd o P → (fro
 began None h = absurd h
 began (Some from) h = (from, h)
 
-pub steps_from : (o : Option Place) (w : Within) (m : Move) (t u : Table) (a : Answer) (n : Next) → IsSomeAnd o (λ from. Acts (inputs_of m.what).memory m.party from n t.lock u.lock) → a ≡ answer_of w.kind t.value n → u.stages ≡ set t.stages m.party (stage_after w n) → u.value ≡ t.value → IsSomeAnd o (λ from. Steps w from m t a u)
-steps_from None w m t u a n acts answer stages value = absurd acts
-steps_from (Some from) w m t u a n acts answer stages value = record { next = n; acts = acts; answer = answer; stages = stages; value = value }
+pub steps_from : (o : Option Place) (w : Within) (m : Move) (t u : Table) (a : Answer) (n : Next) → IsSomeAnd o (λ from. Acts (inputs_of m.what).memory m.party from n t.lock u.lock) → IsSomeAnd o (λ from. HeedsClock (inputs_of m.what).starving from n) → a ≡ answer_of w.kind t.value n → u.stages ≡ set t.stages m.party (stage_after w n) → u.value ≡ t.value → IsSomeAnd o (λ from. Steps w from m t a u)
+steps_from None w m t u a n acts clock answer stages value = absurd acts
+steps_from (Some from) w m t u a n acts clock answer stages value = record { next = n; acts = acts; clock = clock; answer = answer; stages = stages; value = value }
 
 any_default : {A : Type 0} (xs : List A) (i : ℕ) (d e : A) → i < length xs → get_or xs i d ≡ get_or xs i e
 any_default [] i d e h = absurd (omega arith)

@@ -1,9 +1,9 @@
 -- Where a move's step begins, and what its party's standing says of it.
-use Rattle.std.proofs.Common.{◌≡◌, ℕ, ◌==◌, Bool, true, false, Option, Some, None, refl, arith, subst}
+use Rattle.std.proofs.Common.{◌≡◌, ℕ, ◌==◌, Bool, true, false, Option, Some, None, refl, ap, arith, subst}
 use Rattle.std.proofs.lemmas.Bool.Decides.{nat_tests}
 use Rattle.lock_world.specs.declared.refusal.Refusal.TheVariants as refusal
 use Rattle.mutex_machine.specs.declared.program.Place.{Place}
-use Rattle.mutex_machine.specs.declared.program.Place.TheVariants.{Out, Holding, Enter, Try, Clear, CancelUncount, CancelLeave, Ask, AskStarved}
+use Rattle.mutex_machine.specs.declared.program.Place.TheVariants.{Out, Holding, Enter, Try, Clear, CancelUncount, CancelLeave, Join, JoinStarved, Ask, AskStarved}
 use Rattle.mutex_machine.specs.declared.program.LockCall.{LockCall}
 use Rattle.mutex_machine.specs.declared.program.LockCall.TheVariants as lock_call
 use Rattle.mutex_machine.specs.declared.program.Next.{Next}
@@ -23,7 +23,7 @@ use Rattle.lock_world.specs.declared.standing.Rest.TheVariants as rest
 use Rattle.lock_world.specs.declared.standing.Stage.{Stage}
 use Rattle.lock_world.specs.declared.standing.Stage.TheVariants.{Outside, Inside, Forgotten}
 use Rattle.lock_world.specs.declared.standing.Within.{Within}
-use Rattle.lock_world.specs.Standings.{Standing, outside, inside, call_in, is_decided, StandsAfter}
+use Rattle.lock_world.specs.Standings.{Standing, outside, inside, call_in, is_decided, IsUndecided, StandsAfter}
 use Rattle.mutex_machine.specs.Program.{start_of}
 use Rattle.mutex_machine.specs.Courses.{is_taking, is_releasing, is_cancelling, Takes, Tries, Releases, Cancels, Begins, GoesOn}
 use Rattle.mutex_machine.specs.Machine.{SameRoles}
@@ -35,7 +35,7 @@ use Rattle.lock_world.proofs.Equations.{some_eq}
 use Rattle.mutex_world.specs.Legal.{knows, is_try, is_first_poll}
 use Rattle.mutex_machine.proofs.Starts.{start_same}
 use Rattle.mutex_world.proofs.Begun.{for_start, for_go}
-use Rattle.mutex_world.proofs.Rows.{is_at_try}
+use Rattle.mutex_world.proofs.Rows.{is_at_try, is_joining}
 use Rattle.mutex_world.proofs.Tables.{for_pending, for_idle, for_holding, for_within}
 
 abbrev pub is_try_kind : Kind → Bool
@@ -49,6 +49,8 @@ pub record Turn (v : ℕ) (s : Standing) (what : What) (x from : Place) (w : Wit
   pub trying : is_try_kind w.kind ≡ is_at_try from
   pub decided : (u : Within) (b : Answer) → s ≡ inside u (Some b) → verdict v from ≡ Some b
   pub drops : is_decided s ≡ false → (b : Answer) → verdict v from ≡ Some b → answer.GivenBack ≡ b
+  pub only_drops : is_decided s ≡ false → (b : Answer) → verdict v from ≡ Some b → is_drop what ≡ true
+  pub joining : is_joining from ≡ true → IsUndecided s
   pub drop_is : is_drop what ≡ true → verdict v from ≡ Some answer.GivenBack
   pub no_put : put_in what ≡ None
   pub not_over : is_poll_after_ready s what ≡ false
@@ -73,30 +75,35 @@ starting v s what x from c w n g p b =
     for_start P (record {
       lock = λ i.
           let Q : Place → Type 0 = λ x. start_of lock_call.Lock x ≡ Some from → Turn v (outside rest.Idle) (Begin call.Lock i) x from (within kind.FirstPoll rest.Idle) n in
-          for_idle Q (λ e. moved _ _ _ _ _ _ _ _ e (record { call = refl; same = start_same lock_call.Lock Out Enter refl; trying = refl; decided = λ u b d. absurd (cc); drops = λ u b d. absurd (cc); drop_is = λ d. absurd (cc); no_put = refl; not_over = refl; first = λ o k. refl; tries = λ d. absurd (cc) })) x;
+          for_idle Q (λ e. moved _ _ _ _ _ _ _ _ e (record { call = refl; same = start_same lock_call.Lock Out Enter refl; trying = refl; decided = λ u b d. absurd (cc); drops = λ u b d. absurd (cc); only_drops = λ u b d. absurd (cc); joining = λ j. absurd (cc); drop_is = λ d. absurd (cc); no_put = refl; not_over = refl; first = λ o k. refl; tries = λ d. absurd (cc) })) x;
       try = λ i.
           let Q : Place → Type 0 = λ x. start_of lock_call.Try x ≡ Some from → Turn v (outside rest.Idle) (Begin call.TryLock i) x from (within kind.Try rest.Idle) n in
-          for_idle Q (λ e. moved _ _ _ _ _ _ _ _ e (record { call = refl; same = start_same lock_call.Try Out Try refl; trying = refl; decided = λ u b d. absurd (cc); drops = λ u b d. absurd (cc); drop_is = λ d. absurd (cc); no_put = refl; not_over = refl; first = λ o k. absurd (cc); tries = λ d. refl })) x;
+          for_idle Q (λ e. moved _ _ _ _ _ _ _ _ e (record { call = refl; same = start_same lock_call.Try Out Try refl; trying = refl; decided = λ u b d. absurd (cc); drops = λ u b d. absurd (cc); only_drops = λ u b d. absurd (cc); joining = λ j. absurd (cc); drop_is = λ d. absurd (cc); no_put = refl; not_over = refl; first = λ o k. absurd (cc); tries = λ d. refl })) x;
       poll = λ i.
           let Q : Place → Type 0 = λ x. start_of lock_call.Poll x ≡ Some from → Turn v (outside rest.Pending) (Begin call.Poll i) x from (within kind.LaterPoll rest.Pending) n in
           for_pending Q (record {
-            out = λ e. moved _ _ _ _ _ _ _ _ e (record { call = refl; same = start_same lock_call.Poll Out Enter refl; trying = refl; decided = λ u b d. absurd (cc); drops = λ u b d. absurd (cc); drop_is = λ d. absurd (cc); no_put = refl; not_over = refl; first = λ o k. refl; tries = λ d. absurd (cc) });
-            ask = λ e. moved _ _ _ _ _ _ _ _ e (record { call = refl; same = same_at Ask; trying = refl; decided = λ u b d. absurd (cc); drops = λ u b d. absurd (cc); drop_is = λ d. absurd (cc); no_put = refl; not_over = refl; first = λ o k. absurd (not_none n o k); tries = λ d. absurd (cc) });
-            starved = λ e. moved _ _ _ _ _ _ _ _ e (record { call = refl; same = same_at AskStarved; trying = refl; decided = λ u b d. absurd (cc); drops = λ u b d. absurd (cc); drop_is = λ d. absurd (cc); no_put = refl; not_over = refl; first = λ o k. absurd (not_none n o k); tries = λ d. absurd (cc) });
+            out = λ e. moved _ _ _ _ _ _ _ _ e (record { call = refl; same = start_same lock_call.Poll Out Enter refl; trying = refl; decided = λ u b d. absurd (cc); drops = λ u b d. absurd (cc); only_drops = λ u b d. absurd (cc); joining = λ j. absurd (cc); drop_is = λ d. absurd (cc); no_put = refl; not_over = refl; first = λ o k. refl; tries = λ d. absurd (cc) });
+            ask = λ e. moved _ _ _ _ _ _ _ _ e (record { call = refl; same = same_at Ask; trying = refl; decided = λ u b d. absurd (cc); drops = λ u b d. absurd (cc); only_drops = λ u b d. absurd (cc); joining = λ j. absurd (cc); drop_is = λ d. absurd (cc); no_put = refl; not_over = refl; first = λ o k. absurd (not_none n o k); tries = λ d. absurd (cc) });
+            starved = λ e. moved _ _ _ _ _ _ _ _ e (record { call = refl; same = same_at AskStarved; trying = refl; decided = λ u b d. absurd (cc); drops = λ u b d. absurd (cc); only_drops = λ u b d. absurd (cc); joining = λ j. absurd (cc); drop_is = λ d. absurd (cc); no_put = refl; not_over = refl; first = λ o k. absurd (not_none n o k); tries = λ d. absurd (cc) });
           }) x;
       cancel = λ i.
           let Q : Place → Type 0 = λ x. start_of lock_call.Cancel x ≡ Some from → Turn v (outside rest.Pending) (Begin call.Drop i) x from (within kind.Drop rest.Pending) n in
           for_pending Q (record {
-            out = λ e. moved _ _ _ _ _ _ _ _ e (record { call = refl; same = same_at Out; trying = refl; decided = λ u b d. absurd (cc); drops = λ u b d. some_eq d; drop_is = λ d. refl; no_put = refl; not_over = refl; first = λ o k. absurd (cc); tries = λ d. absurd (cc) });
-            ask = λ e. moved _ _ _ _ _ _ _ _ e (record { call = refl; same = start_same lock_call.Cancel Ask CancelLeave refl; trying = refl; decided = λ u b d. absurd (cc); drops = λ u b d. some_eq d; drop_is = λ d. refl; no_put = refl; not_over = refl; first = λ o k. absurd (cc); tries = λ d. absurd (cc) });
-            starved = λ e. moved _ _ _ _ _ _ _ _ e (record { call = refl; same = start_same lock_call.Cancel AskStarved CancelUncount refl; trying = refl; decided = λ u b d. absurd (cc); drops = λ u b d. some_eq d; drop_is = λ d. refl; no_put = refl; not_over = refl; first = λ o k. absurd (cc); tries = λ d. absurd (cc) });
+            out = λ e. moved _ _ _ _ _ _ _ _ e (record { call = refl; same = same_at Out; trying = refl; decided = λ u b d. absurd (cc); drops = λ u b d. some_eq d; only_drops = λ u b d. refl; joining = λ j. absurd (cc); drop_is = λ d. refl; no_put = refl; not_over = refl; first = λ o k. absurd (cc); tries = λ d. absurd (cc) });
+            ask = λ e. moved _ _ _ _ _ _ _ _ e (record { call = refl; same = start_same lock_call.Cancel Ask CancelLeave refl; trying = refl; decided = λ u b d. absurd (cc); drops = λ u b d. some_eq d; only_drops = λ u b d. refl; joining = λ j. absurd (cc); drop_is = λ d. refl; no_put = refl; not_over = refl; first = λ o k. absurd (cc); tries = λ d. absurd (cc) });
+            starved = λ e. moved _ _ _ _ _ _ _ _ e (record { call = refl; same = start_same lock_call.Cancel AskStarved CancelUncount refl; trying = refl; decided = λ u b d. absurd (cc); drops = λ u b d. some_eq d; only_drops = λ u b d. refl; joining = λ j. absurd (cc); drop_is = λ d. refl; no_put = refl; not_over = refl; first = λ o k. absurd (cc); tries = λ d. absurd (cc) });
           }) x;
       release = λ i.
           let Q : Place → Type 0 = λ x. start_of lock_call.Release x ≡ Some from → Turn v (outside rest.Holding) (Begin call.Drop i) x from (within kind.Drop rest.Holding) n in
-          for_holding Q (λ e. moved _ _ _ _ _ _ _ _ e (record { call = refl; same = start_same lock_call.Release Holding Clear refl; trying = refl; decided = λ u b d. absurd (cc); drops = λ u b d. some_eq d; drop_is = λ d. refl; no_put = refl; not_over = refl; first = λ o k. absurd (cc); tries = λ d. absurd (cc) })) x;
+          for_holding Q (λ e. moved _ _ _ _ _ _ _ _ e (record { call = refl; same = start_same lock_call.Release Holding Clear refl; trying = refl; decided = λ u b d. absurd (cc); drops = λ u b d. some_eq d; only_drops = λ u b d. refl; joining = λ j. absurd (cc); drop_is = λ d. refl; no_put = refl; not_over = refl; first = λ o k. absurd (cc); tries = λ d. absurd (cc) })) x;
     }) s what c w p g b
 
 -- ---- a call goes on
+
+joins_undecided : (v : ℕ) (x : Place) → is_joining x ≡ true → verdict v x ≡ None
+joins_undecided v (Join told) h = refl
+joins_undecided v JoinStarved h = refl
+joins_undecided v _ h = absurd (cc)
 
 taking_not_try : (x : Place) → is_taking x ≡ true → false ≡ is_at_try x
 taking_not_try Try h = absurd (cc)
@@ -128,6 +135,8 @@ going v s what x w n g p =
       trying = for_within T (record { first = taking_not_try; later = taking_not_try; release = releasing_not_try; cancel = cancelling_not_try }) w x h;
       decided = λ u b e. inside_eq w u (verdict v x) (Some b) e;
       drops = λ u b some. let none = undecided w (verdict v x) u in absurd (cc);
+      only_drops = λ u b some. let none = undecided w (verdict v x) u in absurd (cc);
+      joining = λ j. (w, ap (inside w) (joins_undecided v x j));
       drop_is = λ d. absurd (cc);
       no_put = refl;
       not_over = refl;

@@ -83,13 +83,13 @@ abbrev goes_on : What → Type 0
 goes_on (Begin c i) = ⊥
 goes_on (Go i) = Unit {0}
 
-never_begun : (s : Stage) (i : Inputs) (lc : LockCall) (w : Within) → plan_of s (Go i) ≡ Some (plan.Start lc w) → ⊥
+pub never_begun : (s : Stage) (i : Inputs) (lc : LockCall) (w : Within) → plan_of s (Go i) ≡ Some (plan.Start lc w) → ⊥
 never_begun s i lc w e = for_start (λ s what lc w. bound_of what lc) (record { lock = λ i. refl; try = λ i. refl; poll = λ i. refl; cancel = λ i. refl; release = λ i. refl }) s (Go i) lc w e
 
-never_going : (s : Stage) (c : Call) (i : Inputs) (w : Within) → plan_of s (Begin c i) ≡ Some (plan.Go w) → ⊥
+pub never_going : (s : Stage) (c : Call) (i : Inputs) (w : Within) → plan_of s (Begin c i) ≡ Some (plan.Go w) → ⊥
 never_going s c i w e = for_go (λ s what w. goes_on what) (λ i w. tt) s (Begin c i) w e
 
-begun : {P : Place → Type 0} (o : Option Place) → IsSomeAnd o P → (from : Place) × (o ≡ Some from) × P from
+pub begun : {P : Place → Type 0} (o : Option Place) → IsSomeAnd o P → (from : Place) × (o ≡ Some from) × P from
 begun None h = absurd h
 begun (Some from) h = (from, refl, h)
 

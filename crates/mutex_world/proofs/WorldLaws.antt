@@ -23,7 +23,7 @@ use Rattle.mutex_world.proofs.Opened.{sound_opened, awake_opened}
 use Rattle.mutex_world.proofs.Sound.{sound, awake}
 use Rattle.mutex_world.proofs.Rights.{holds_well}
 use Rattle.mutex_world.proofs.Whole as whole
-use Rattle.mutex_world.proofs.BoundSeen.{poll_seen}
+use Rattle.mutex_world.proofs.Promises.{keeps_promises}
 
 sound_now : (w : World) → Stands w → IsSound w
 sound_now w s = subst IsSound (sym s.seen) (sound_opened w.opening_value (view_of w.behind) (sound w.behind s.mutex s.fits))
@@ -54,5 +54,4 @@ stood_first had w m ms [] v runs = absurd runs
 stood_first had w m ms (a ∷ more) v runs = runs.1.did.stood
 
 pub keeps_promise : (had : ℕ → Bool) (w : World) (p : ℕ) (c : Call) (i : Inputs) (n : ℕ) (a : Answer) (v : World) → Runs had w (moves_of p c i n) (answers_of n a) v → a ≢ answer.Stepped → Promises w p c i a v
-keeps_promise had w p c i n a v runs ended is solo free =
-    poll_seen had w p i n a v (stood_first had w (beginning p c i) _ (answers_of n a) v runs) (subst (λ x. Runs had w (moves_of p x i n) (answers_of n a) v) is runs) ended solo free
+keeps_promise had w p c i n a v runs ended = keeps_promises had w p c i n a v (stood_first had w (beginning p c i) _ (answers_of n a) v runs) runs ended

@@ -1,5 +1,7 @@
 -- How often a free lock may be passed over: whole polls of notified parties, one after the other, each carried out while the others stand still.
-use Rattle.std.specs.Prelude.{◌≡◌, ◌≢◌, ℕ, ◌<◌, ◌⊎◌, true, Some, None}
+use Rattle.std.specs.Prelude.{◌≡◌, ◌≢◌, ℕ, ◌<◌, ◌⊎◌, true, false, length, Some, None}
+use Rattle.lock_event.specs.Lists.{marked_count}
+use Rattle.lock_queue.specs.Parties.{entries_of}
 use Rattle.lock_world.specs.declared.moves.Answer.{Answer}
 use Rattle.lock_world.specs.declared.moves.Answer.TheVariants as answer
 use Rattle.lock_world.specs.declared.moves.Call.{Call}
@@ -7,8 +9,13 @@ use Rattle.lock_world.specs.declared.moves.Call.TheVariants as call
 use Rattle.lock_world.specs.declared.moves.Got.TheVariants.{Value}
 use Rattle.lock_world.specs.declared.moves.Inputs.{Inputs}
 use Rattle.lock_world.specs.Rosters.{how_many}
+use Rattle.lock_world.specs.declared.moves.What.TheVariants.{Begin}
+use Rattle.lock_world.specs.declared.standing.Rest.TheVariants.{Pending}
+use Rattle.lock_world.specs.Standings.{outside}
+use Rattle.lock_world.specs.Frame.{is_refusal}
 use Rattle.lock_world.specs.Bounds as bounds
-use Rattle.mutex_world.specs.State.{World, standing_of, is_starved}
+use Rattle.mutex_world.specs.State.{World, standing_of, is_starved, is_free}
+use Rattle.mutex_world.specs.Legal.{is_first_poll}
 use Rattle.mutex_world.specs.Laws.{is_at_rest}
 use Rattle.mutex_world.specs.Whole.{IsWholeCall}
 
@@ -34,9 +41,16 @@ pub record SoloPoll (w : World) (p : ℕ) (a : Answer) (v : World) : Type 0 wher
   pub takes_or_gives_way : how_many w.state.starved < w.limit → Takes w p a v ⊎ GivesWay w p a v
   pub takes : (is_starved w.state p ≡ true) ⊎ (how_many w.state.starved ≡ 0) → Takes w p a v
 
--- What a whole call promises: a solo poll of a free lock takes it or gives way.
-abbrev pub Promises : World → ℕ → Call → Inputs → Answer → World → Type 0
-Promises w p c inputs a v = c ≡ call.Poll → IsSolo w p inputs → w.state.holder ≡ None → SoloPoll w p a v
+-- What a whole call promises beside its end.
+pub record Promises (w : World) (p : ℕ) (c : Call) (inputs : Inputs) (a : Answer) (v : World) : Type 0 where
+  -- A first poll of a free lock where nobody is starved is ready.
+  pub first : is_first_poll (standing_of w p) (Begin c inputs) (entries_of p w.entries) ≡ true → is_free w.state ≡ true → a ≡ answer.Ready (Value w.state.value)
+  -- A solo poll of a free lock takes it or gives way.
+  pub solo : c ≡ call.Poll → IsSolo w p inputs → w.state.holder ≡ None → SoloPoll w p a v
+  -- Where nobody is starved, a party isn't starved at the end that hasn't waited for too long.
+  pub unstarved : inputs.starving ≡ false → how_many w.state.starved ≡ 0 → is_starved v.state p ≡ false
+  -- A refused poll of a party that stood in the list hands on what it was told: some entry is marked, if there is any.
+  pub hands_on : c ≡ call.Poll → standing_of w p ≡ outside Pending → 0 < entries_of p w.entries → is_refusal a ≡ true → 0 < length v.entries → 0 < marked_count v.entries
 
 -- A whole solo poll that doesn't take the lock, while fewer parties are starved than may be.
 pub record PassesOver (w : World) (p : ℕ) (inputs : Inputs) (a : Answer) (v : World) : Type 0 where

@@ -15,10 +15,10 @@ use Rattle.lock_world.specs.declared.refusal.Refusal.{Refusal}
 use Rattle.lock_world.specs.declared.refusal.Refusal.TheVariants as refusal
 use Rattle.lock_world.specs.declared.standing.Rest.TheVariants.{Idle, Pending, Holding, Finished}
 use Rattle.lock_world.specs.declared.standing.Within.{Within}
-use Rattle.lock_world.specs.Standings.{Standing, outside, inside, inputs_of, is_possible, is_decided}
+use Rattle.lock_world.specs.Standings.{Standing, outside, inside, inputs_of, is_possible, is_decided, IsUndecided}
 use Rattle.lock_world.specs.Frame as frame
 use Rattle.lock_world.specs.Frame.{is_drop, is_refusal, put_in}
-use Rattle.lock_world.specs.Steps.{Deed, nothing, changes, does, list_after, is_parting}
+use Rattle.lock_world.specs.Steps.{Deed, nothing, changes, does, joins, leaves, list_after, is_parting}
 use Rattle.lock_world.specs.Rosters.{how_many}
 use Rattle.mutex_world.specs.State.{State, World, standing_of, is_starved, is_free, mark_of, IsClear}
 
@@ -78,7 +78,14 @@ gives_back (changes recovers) = true
 gives_back (changes _) = false
 gives_back (does list f) = is_parting f
 
--- A move changes one thing of the state or does one list function, never both, and moves no other party.
+-- What gives something up: the lock, the starved count, or a place in the list without asking there.
+abbrev pub gives_up : Deed Change ListName → Bool
+gives_up (changes releases) = true
+gives_up (changes recovers) = true
+gives_up (does list leaves) = true
+gives_up _ = false
+
+-- A move changes one thing of the state or does one list function, never both, and moves no other party. A join has found memory; a party whose call is decided only gives back, and no other gives anything up.
 pub record ChangesOneThing (old : World) (m : Move) (new : World) : Type 0 where
   pub deed : Deed Change ListName
   pub state : new.state ≡ state_after m.party deed old.state
@@ -87,7 +94,9 @@ pub record ChangesOneThing (old : World) (m : Move) (new : World) : Type 0 where
   pub opening_value : new.opening_value ≡ old.opening_value
   pub others : (q : ℕ) → q ≢ m.party → standing_of new q ≡ standing_of old q
   pub parties : length new.standings ≡ length old.standings
+  pub found_memory : (list : ListName) → deed ≡ does list joins → (inputs_of m.what).memory ≡ true
   pub parting : is_decided (standing_of old m.party) || is_drop m.what ≡ true → gives_back deed ≡ true
+  pub giving_up : gives_up deed ≡ true → is_decided (standing_of old m.party) || is_drop m.what ≡ true
 
 -- ---- Who may have the lock
 
@@ -109,13 +118,14 @@ pub record Carries (old : World) (m : Move) (a : Answer) (new : World) : Type 0 
   pub ready : (got : _) → DecidesOn old m a new (answer.Ready got) → (got ≡ Value new.state.value) × (new.state.holder ≡ Some m.party)
   pub granted : (got : _) → DecidesOn old m a new (answer.Granted got) → (got ≡ Value new.state.value) × (new.state.holder ≡ Some m.party)
 
--- Pending: the party stands waiting in the list.
-abbrev pub Waits : World → Move → Answer → World → Type 0
-Waits old m a new = DecidesOn old m a new answer.Pending → mark_of new m.party ≡ Some Waiting
+-- Pending: the party stands waiting in the list. No call is decided on Pending before that answer.
+pub record Waits (m : Move) (a : Answer) (new : World) : Type 0 where
+  pub waiting : a ≡ answer.Pending → mark_of new m.party ≡ Some Waiting
+  pub not_before : (within : Within) → standing_of new m.party ≢ inside within (Some answer.Pending)
 
--- Why a call of a mutex may be refused: a join found no memory, for the move's input said so; there are as many starved parties as there may be; or the future had been ready before.
+-- Why a call of a mutex may be refused: a join found no memory, for the move's input said so, of a party in a call that wasn't decided, and nothing else happened; there are as many starved parties as there may be; or the future had been ready before.
 abbrev pub IsCause : World → Move → World → Refusal → Type 0
-IsCause old m new refusal.Memory = ((inputs_of m.what).memory ≡ false) × (entries_of m.party old.entries ≡ 0) × (new.entries ≡ old.entries)
+IsCause old m new refusal.Memory = ((inputs_of m.what).memory ≡ false) × IsUndecided (standing_of old m.party) × (entries_of m.party old.entries ≡ 0) × (new.entries ≡ old.entries) × (new.state ≡ old.state)
 IsCause old m new refusal.Starved = how_many old.state.starved ≡ old.limit
 IsCause old m new refusal.Finished = new ≡ old
 IsCause old m new _ = ⊥
@@ -160,7 +170,7 @@ pub record Legal (old : World) (m : Move) (a : Answer) (new : World) : Type 0 wh
   pub taken_fairly : IsTakenFairly old new
   pub others_keep : OthersKeepTheirs old m new
   pub carries : Carries old m a new
-  pub waits : Waits old m a new
+  pub waits : Waits m a new
   pub refused_for_cause : IsRefusedForCause old m a new
   pub leaves_clear : LeavesClear m a new
   pub value_kept : IsValueKept old m a new
@@ -179,8 +189,9 @@ is_first_poll (outside Finished) (Begin call.Lock inputs) n = true
 is_first_poll (outside Pending) (Begin call.Poll inputs) n = n == 0
 is_first_poll s _ n = false
 
--- A possible try is granted exactly where the lock is free, and else answers None; the first step of a first poll takes the lock exactly where it is free.
+-- A possible try is granted exactly where the lock is free, and else answers None; the first step of a first poll takes the lock exactly where it is free, and is ready then.
 pub record AnswersAtOnce (old : World) (m : Move) (a : Answer) (new : World) : Type 0 where
   pub at_once : is_try m.what ≡ true → is_possible a ≡ true → a ≡ (if is_free old.state then answer.Granted (Value old.state.value) else answer.None)
+  pub ready : is_first_poll (standing_of old m.party) m.what (entries_of m.party old.entries) ≡ true → a ≡ (if is_free old.state then answer.Ready (Value old.state.value) else answer.Stepped)
   pub first_poll : is_first_poll (standing_of old m.party) m.what (entries_of m.party old.entries) ≡ true
       → (new.state.holder ≡ Some m.party) ↔ (is_free old.state ≡ true)

@@ -17,6 +17,7 @@ use Rattle.lock_world.specs.Standings.{inputs_of, refused, forgets}
 use Rattle.mutex_machine.specs.Program.{start_of}
 use Rattle.mutex_machine.specs.Machine.{Lock, place_at, new_lock}
 use Rattle.mutex_machine.specs.Acts.{Acts}
+use Rattle.mutex_machine.specs.Courses.{HeedsClock}
 use Rattle.mutex_world.specs.Plans.{plan_of, answer_of, stage_after, stage_at, goes_with}
 
 -- the lock, at which stage each party is, and the value
@@ -33,6 +34,7 @@ plan_in t m = if nat_lt m.party (length t.stages) then plan_of (stage_at t.stage
 pub record Steps (within : Within) (from : Place) (m : Move) (t : Table) (a : Answer) (u : Table) : Type 0 where
   pub next : Next
   pub acts : Acts (inputs_of m.what).memory m.party from next t.lock u.lock
+  pub clock : HeedsClock (inputs_of m.what).starving from next
   pub answer : a ≡ answer_of within.kind t.value next
   pub stages : u.stages ≡ slice_set t.stages m.party (stage_after within next)
   pub value : u.value ≡ t.value

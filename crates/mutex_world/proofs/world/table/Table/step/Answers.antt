@@ -47,6 +47,7 @@ returns-in-Some-Start c =
     rw (← c.self.view_is, does)
     (steps_from (start_of c.in-Some-Start.call (place_at c.self.inside.lock.places c.args.m.now.party)) c.in-Some-Start.within c.args.m.now _ _ _ c.begin-next.result
     (rw (← c.inputs-inputs.ensures) c.begin-next.ensures.acts)
+    (rw (← c.inputs-inputs.ensures) c.begin-next.ensures.clock)
     c.answer_to.ensures
     (ap (set c.self.inside.stages.items c.args.m.now.party) c.stage_then.ensures)
     refl)
@@ -62,6 +63,7 @@ returns-in-Some-Go c =
     (record {
       next = c.go-next.result;
       acts = rw (← c.inputs-inputs-in-Some-Go.ensures) c.go-next.ensures.acts;
+      clock = rw (← c.inputs-inputs-in-Some-Go.ensures) c.go-next.ensures.clock;
       answer = c.answer_to-in-Some-Go.ensures;
       stages = ap (set c.self.inside.stages.items c.args.m.now.party) c.stage_then-in-Some-Go.ensures;
       value = refl;
