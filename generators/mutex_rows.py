@@ -155,7 +155,7 @@ use Rattle.mutex_machine.specs.Roles.{counted, listed}
 use Rattle.mutex_machine.specs.Machine.{Lock}
 use Rattle.mutex_machine.specs.Acts.{Finds, holders, starved}
 use Rattle.mutex_machine.specs.State.{is_holder, is_counted}
-use Rattle.mutex_machine.specs.Legal.{Change, ListName, takes, releases, starves, recovers, for_the_lock, gives_back, gives_up, decision}
+use Rattle.mutex_machine.specs.Legal.{Change, ListName, takes, releases, starves, recovers, for_the_lock, gives_back, gives_up, is_release, decision}
 use Rattle.mutex_machine.proofs.Kept.{after}
 
 -- what an action changes that found this
@@ -208,13 +208,14 @@ Judged memory l from f (Some e) o = (o ≡ Some e) × (gives_back (deed_of (acti
 Judged memory l from f None None = Unit {0}
 Judged memory l from f None (Some e) = Reason memory l from f e
 
--- whether a join found memory, and that a party gives nothing up until its call is decided
+-- whether a join found memory, and that a party gives nothing up until its call is decided, and keeps the lock that it got
 abbrev pub Room : Bool → Deed Change ListName → Type 0
 Room memory (does list joins) = memory ≡ true
 Room memory _ = Unit {0}
 
 abbrev pub HoldsOn : Option End → Deed Change ListName → Type 0
 HoldsOn None d = gives_up d ≡ false
+HoldsOn (Some Got) d = is_release d ≡ false
 HoldsOn (Some e) d = Unit {0}
 
 pub record Row (memory : Bool) (l : Lock) (from : Place) (f : Found) : Type 0 where
@@ -266,11 +267,12 @@ def row(place, action, found, judged):
         finding = 'e'
     room = 'e' if action == 'Join' and found == 'Done' else 'tt'
     holds_on = 'tt' if judged == KEPT else 'refl'
+    machine_holds_on = 'refl' if place in ('(Uncount true)', '(Uncount false)', 'Leave') else holds_on
     said = MACHINE_SAYS[judged]
     if judged == NOT_FREE:
         said = 'inr e' if found == 'SomeStarved' else 'inl e.0'
     rows.append(f'  row {place} {found} e = record {{ holds = {holds}; starves = {starves}; finding = {finding}; judged = {WORLD_SAYS[judged]}; room = {room}; holds_on = {holds_on}; over = refl }}')
-    machine_rows.append(f'  row {place} {found} e = record {{ holds = {holds}; starves = {starves}; finding = {finding}; judged = {said}; room = {room}; holds_on = {holds_on} }}')
+    machine_rows.append(f'  row {place} {found} e = record {{ holds = {holds}; starves = {starves}; finding = {finding}; judged = {said}; room = {room}; holds_on = {machine_holds_on} }}')
 
 
 def rest(place):

@@ -32,7 +32,7 @@ use Rattle.mutex_machine.specs.Parties.{OnParties}
 use Rattle.mutex_machine.specs.Machine.{Lock, SameRoles, place_at}
 use Rattle.mutex_machine.specs.Acts.{Acts, Finds, holders, starved}
 use Rattle.mutex_machine.specs.State.{is_holder, is_counted, holder_of, starved_of}
-use Rattle.mutex_machine.specs.Legal.{Change, ListName, takes, releases, starves, recovers, holder_after, starved_after, entries_after, gives_back, gives_up, decision, decided_by, decided_then, IsReason, IsAllowed, IsLegal, is_fresh}
+use Rattle.mutex_machine.specs.Legal.{Change, ListName, takes, releases, starves, recovers, holder_after, starved_after, entries_after, gives_back, gives_up, is_release, decision, decided_by, decided_then, IsReason, IsAllowed, IsLegal, is_fresh}
 use Rattle.mutex_machine.proofs.Kept.{after}
 use Rattle.mutex_machine.proofs.Rows.{Row, row, deed_of, decision_by, Holds, Starves, Finding, Room, HoldsOn, Reason, Judged}
 use Rattle.mutex_machine.proofs.Seen as sees
@@ -95,6 +95,14 @@ found_room memory d list r e = let P : Deed Change ListName → Type 0 = Room me
 held_on : (o : Option End) (d : Deed Change ListName) → HoldsOn o d → o ≡ None → gives_up d ≡ false
 held_on None d h e = h
 held_on (Some c) d h e = absurd (cc)
+
+kept_lock : (o : Option End) (d : Deed Change ListName) → HoldsOn o d → o ≡ Some Got → is_release d ≡ false
+kept_lock None d h e = absurd (cc)
+kept_lock (Some Got) d h e = h
+kept_lock (Some Pending) d h e = absurd (cc)
+kept_lock (Some NotFree) d h e = absurd (cc)
+kept_lock (Some GivenBack) d h e = absurd (cc)
+kept_lock (Some (Refused r)) d h e = absurd (cc)
 
 -- an end is decided by what comes next, wherever it leads
 then_same : (from : Place) (f : Found) → decided_then (next_of from f) (after from f) ≡ decision_by (next_of from f)
@@ -223,6 +231,8 @@ module _ (memory : Bool) (p : ℕ) (from : Place) (f : Found) (l : Lock) (es : L
       others = λ q apart. get_or-set_other l.places p q to Out apart;
       kept = λ e is. let j = keep memory l from f (decision from) (decision_by (next_of from f)) e r.judged is in (decided ∙ j.0, j.1);
       holds_on = λ none. held_on (decision from) deed r.holds_on none;
+      keeps_lock = λ got. kept_lock (decision from) deed r.holds_on got;
+      refused_idly = λ none is. (judge memory l from f (decision from) (decision_by (next_of from f)) (Refused refusal.Memory) r.judged none (sym decided ∙ is)).2;
       reason = λ e none is. reason_is e (judge memory l from f (decision from) (decision_by (next_of from f)) e r.judged none (sym decided ∙ is));
     }
 

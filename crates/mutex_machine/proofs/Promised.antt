@@ -26,6 +26,7 @@ use Rattle.mutex_machine.specs.Parties.{OnParties}
 use Rattle.mutex_machine.specs.Courses.{is_waiting, is_counting, is_told, HeedsClock}
 use Rattle.mutex_machine.specs.Machine.{Lock, SameRoles, place_at}
 use Rattle.mutex_machine.specs.Acts.{Acts, Finds, starved}
+use Rattle.mutex_machine.specs.Legal.{decided_then, IsUnrefused}
 use Rattle.mutex_machine.proofs.Kept.{after}
 
 -- ---- nobody is counted while nobody is starved
@@ -208,3 +209,67 @@ pub begins_told : (x from : Place) → is_waiting x ≡ true → start_of call.P
 begins_told Ask from w e = ap is_told (sym (some_place Ask from e))
 begins_told AskStarved from w e = ap is_told (sym (some_place AskStarved from e))
 begins_told _ from w e = absurd (cc)
+
+-- ---- no call is refused at its first action
+
+abbrev is_start : Place → Bool
+is_start Out = true
+is_start Enter = true
+is_start Try = true
+is_start Ask = true
+is_start AskStarved = true
+is_start Clear = true
+is_start CancelLeave = true
+is_start CancelUncount = true
+is_start _ = false
+
+begins_at : (memory : Bool) (l : Lock) (from : Place) (f : Found) (r : Refusal) → Finds memory (action_of from) f l → is_start from ≡ true → decided_then (next_of from f) (after from f) ≡ Some (Refused r) → ⊥
+begins_at memory l Out f r e s h = absurd (cc)
+begins_at memory l Enter Free r e s h = absurd (cc)
+begins_at memory l Enter (Held b) r e s h = absurd (cc)
+begins_at memory l Enter SomeStarved r e s h = absurd (cc)
+begins_at memory l Try Free r e s h = absurd (cc)
+begins_at memory l Try (Held b) r e s h = absurd (cc)
+begins_at memory l Try SomeStarved r e s h = absurd (cc)
+begins_at memory l Ask Yes r e s h = absurd (cc)
+begins_at memory l Ask No r e s h = absurd (cc)
+begins_at memory l AskStarved Yes r e s h = absurd (cc)
+begins_at memory l AskStarved No r e s h = absurd (cc)
+begins_at memory l Clear f r e s h = absurd (cc)
+begins_at memory l CancelLeave f r e s h = absurd (cc)
+begins_at memory l CancelUncount f r e s h = absurd (cc)
+begins_at memory l Holding f r e s h = absurd (cc)
+begins_at memory l (Join told) f r e s h = absurd (cc)
+begins_at memory l (Look told) f r e s h = absurd (cc)
+begins_at memory l Retry f r e s h = absurd (cc)
+begins_at memory l PassOn f r e s h = absurd (cc)
+begins_at memory l (Count listed told) f r e s h = absurd (cc)
+begins_at memory l JoinStarved f r e s h = absurd (cc)
+begins_at memory l LookAlone f r e s h = absurd (cc)
+begins_at memory l PassOnListed f r e s h = absurd (cc)
+begins_at memory l Seize f r e s h = absurd (cc)
+begins_at memory l (Uncount listed) f r e s h = absurd (cc)
+begins_at memory l Leave f r e s h = absurd (cc)
+begins_at memory l RefuseUncount f r e s h = absurd (cc)
+begins_at memory l (RefuseLeave told) f r e s h = absurd (cc)
+begins_at memory l RefuseNotifyMemory f r e s h = absurd (cc)
+begins_at memory l RefuseNotifyStarved f r e s h = absurd (cc)
+begins_at memory l ReleaseNotify f r e s h = absurd (cc)
+begins_at memory l _ _ r e s h = absurd e
+
+starts_at : (c : _) (x from : Place) → start_of c x ≡ Some from → is_start from ≡ true
+starts_at call.Lock Out from e = ap is_start (sym (some_place Enter from e))
+starts_at call.Try Out from e = ap is_start (sym (some_place Try from e))
+starts_at call.Poll Out from e = ap is_start (sym (some_place Enter from e))
+starts_at call.Poll Ask from e = ap is_start (sym (some_place Ask from e))
+starts_at call.Poll AskStarved from e = ap is_start (sym (some_place AskStarved from e))
+starts_at call.Release Holding from e = ap is_start (sym (some_place Clear from e))
+starts_at call.Cancel Out from e = ap is_start (sym (some_place Out from e))
+starts_at call.Cancel Ask from e = ap is_start (sym (some_place CancelLeave from e))
+starts_at call.Cancel AskStarved from e = ap is_start (sym (some_place CancelUncount from e))
+starts_at _ _ from e = absurd (cc)
+
+pub begins_unrefused : (memory : Bool) (p : ℕ) (c : _) (x from : Place) (n : Next) (old new : Lock) → start_of c x ≡ Some from → Acts memory p from n old new → p < length old.places → IsUnrefused n (place_at new.places p)
+begins_unrefused memory p c x from n old new e acts there r h =
+    let lands : place_at new.places p ≡ after from acts.found = ap (λ ps. place_at ps p) acts.places ∙ (get_or-set_same old.places p (place_after from n) Out there ∙ ap (place_after from) acts.next_is) in
+    begins_at memory old from acts.found r acts.finds (starts_at c x from e) (sym (ap (λ y. decided_then y (after from acts.found)) acts.next_is) ∙ (sym (ap (decided_then n) lands) ∙ h))

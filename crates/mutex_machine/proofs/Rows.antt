@@ -17,7 +17,7 @@ use Rattle.mutex_machine.specs.Roles.{counted, listed}
 use Rattle.mutex_machine.specs.Machine.{Lock}
 use Rattle.mutex_machine.specs.Acts.{Finds, holders, starved}
 use Rattle.mutex_machine.specs.State.{is_holder, is_counted}
-use Rattle.mutex_machine.specs.Legal.{Change, ListName, takes, releases, starves, recovers, for_the_lock, gives_back, gives_up, decision}
+use Rattle.mutex_machine.specs.Legal.{Change, ListName, takes, releases, starves, recovers, for_the_lock, gives_back, gives_up, is_release, decision}
 use Rattle.mutex_machine.proofs.Kept.{after}
 
 -- what an action changes that found this
@@ -70,13 +70,14 @@ Judged memory l from f (Some e) o = (o ≡ Some e) × (gives_back (deed_of (acti
 Judged memory l from f None None = Unit {0}
 Judged memory l from f None (Some e) = Reason memory l from f e
 
--- whether a join found memory, and that a party gives nothing up until its call is decided
+-- whether a join found memory, and that a party gives nothing up until its call is decided, and keeps the lock that it got
 abbrev pub Room : Bool → Deed Change ListName → Type 0
 Room memory (does list joins) = memory ≡ true
 Room memory _ = Unit {0}
 
 abbrev pub HoldsOn : Option End → Deed Change ListName → Type 0
 HoldsOn None d = gives_up d ≡ false
+HoldsOn (Some Got) d = is_release d ≡ false
 HoldsOn (Some e) d = Unit {0}
 
 pub record Row (memory : Bool) (l : Lock) (from : Place) (f : Found) : Type 0 where
@@ -154,11 +155,11 @@ module _ (memory : Bool) (l : Lock) where
   row Seize Free e = record { holds = (refl, refl); starves = refl; finding = (e, inr refl); judged = refl; room = tt; holds_on = refl }
   row Seize (Held b) e = record { holds = refl; starves = refl; finding = tt; judged = tt; room = tt; holds_on = refl }
   row Seize _ e = absurd e
-  row (Uncount true) Done e = record { holds = refl; starves = (refl, refl); finding = tt; judged = (refl, refl); room = tt; holds_on = tt }
+  row (Uncount true) Done e = record { holds = refl; starves = (refl, refl); finding = tt; judged = (refl, refl); room = tt; holds_on = refl }
   row (Uncount true) _ e = absurd e
-  row (Uncount false) Done e = record { holds = refl; starves = (refl, refl); finding = tt; judged = (refl, refl); room = tt; holds_on = tt }
+  row (Uncount false) Done e = record { holds = refl; starves = (refl, refl); finding = tt; judged = (refl, refl); room = tt; holds_on = refl }
   row (Uncount false) _ e = absurd e
-  row Leave Done e = record { holds = refl; starves = refl; finding = tt; judged = (refl, refl); room = tt; holds_on = tt }
+  row Leave Done e = record { holds = refl; starves = refl; finding = tt; judged = (refl, refl); room = tt; holds_on = refl }
   row Leave _ e = absurd e
   row RefuseUncount Done e = record { holds = refl; starves = (refl, refl); finding = tt; judged = (refl, refl); room = tt; holds_on = tt }
   row RefuseUncount _ e = absurd e

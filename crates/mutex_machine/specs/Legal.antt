@@ -4,6 +4,7 @@ use Rattle.lock_event.specs.declared.event.Entry.{Entry}
 use Rattle.lock_event.specs.declared.event.Mark.TheVariants.{Waiting}
 use Rattle.lock_event.specs.Lists.{mark_at}
 use Rattle.lock_queue.specs.Parties.{is_party, entries_of}
+use Rattle.lock_world.specs.declared.refusal.Refusal.{Refusal}
 use Rattle.lock_world.specs.declared.refusal.Refusal.TheVariants.{Memory, Starved}
 use Rattle.lock_world.specs.Steps.{Deed, nothing, changes, does, joins, leaves, list_after, is_parting}
 use Rattle.mutex_machine.specs.declared.program.Place.{Place}
@@ -59,6 +60,11 @@ gives_up (changes recovers) = true
 gives_up (does list leaves) = true
 gives_up _ = false
 
+-- The lock is given up.
+abbrev pub is_release : Deed Change ListName → Bool
+is_release (changes releases) = true
+is_release _ = false
+
 -- The end on which the call of a party at this place is decided.
 abbrev pub decision : Place → Option End
 decision place.Leave = Some Got
@@ -85,6 +91,10 @@ abbrev pub decided_then : Next → Place → Option End
 decided_then (next.Do action q) to = decision to
 decided_then (next.End e) to = Some e
 
+-- A call isn't refused at its first action.
+abbrev pub IsUnrefused : Next → Place → Type 0
+IsUnrefused onward to = (r : Refusal) → decided_then onward to ≡ Some (Refused r) → ⊥
+
 -- Why a call may be decided on this end: the party has the lock; it stands waiting in the list; the lock was held or somebody starved; its join found no memory, and changed nothing; or as many parties were starved as may be.
 abbrev pub IsReason : Bool → ℕ → Lock → Lock → End → Type 0
 IsReason memory p old new Got = holder_of new ≡ Some p
@@ -103,7 +113,7 @@ IsAllowed p (changes starves) l = (counted (place_at l.places p) ≡ 0) × (star
 IsAllowed p (changes recovers) l = IsStarved l p
 IsAllowed p _ l = Unit {0}
 
--- An action changes one thing of the mutex where it may, or does one list function, never both, and moves no other party. A join has found memory. A call that was decided only gives back, and keeps its decision; one that wasn't gives nothing up; and one that is decided now has its reason.
+-- An action changes one thing of the mutex where it may, or does one list function, never both, and moves no other party. A join has found memory. A call that was decided only gives back, and keeps its decision; who got the lock keeps it; one that wasn't decided gives nothing up; a refusal for memory does nothing else; and one that is decided now has its reason.
 pub record IsLegal (memory : Bool) (p : ℕ) (decided : Option End) (onward : Next) (old new : Lock) : Type 0 where
   pub deed : Deed Change ListName
   pub allowed : IsAllowed p deed old
@@ -116,6 +126,8 @@ pub record IsLegal (memory : Bool) (p : ℕ) (decided : Option End) (onward : Ne
   pub others : (q : ℕ) → q ≢ p → place_at new.places q ≡ place_at old.places q
   pub kept : (e : End) → decided ≡ Some e → (decided_then onward (place_at new.places p) ≡ Some e) × (gives_back deed ≡ true)
   pub holds_on : decided ≡ None → gives_up deed ≡ false
+  pub keeps_lock : decided ≡ Some Got → is_release deed ≡ false
+  pub refused_idly : decided ≡ None → decided_then onward (place_at new.places p) ≡ Some (Refused Memory) → deed ≡ nothing
   pub reason : (e : End) → decided ≡ None → decided_then onward (place_at new.places p) ≡ Some e → IsReason memory p old new e
 
 -- A call whose first action takes a free lock: a first poll, a try, and a poll of a party that stands in no list, as it does after a refusal.

@@ -39,7 +39,7 @@ ghost use Rattle.mutex_machine.specs.Effects.{OnWord};
 ghost use Rattle.mutex_machine.specs.Seats.{OnList, CanDo};
 ghost use Rattle.mutex_machine.specs.Machine.{SameRoles, place_at, new_lock};
 ghost use Rattle.mutex_machine.specs.Acts.{Acts, TakenFairly, IsMutex, Holds, holders, starved as starved_lem};
-ghost use Rattle.mutex_machine.specs.Legal.{IsLegal, TakesAtOnce, TakesFrom, decision, decided_by};
+ghost use Rattle.mutex_machine.specs.Legal.{IsLegal, IsUnrefused, TakesAtOnce, TakesFrom, decision, decided_by};
 ghost use Rattle.mutex_machine.specs.Program.{start_of};
 ghost use Rattle.mutex_machine.specs.Roles.{bit};
 ghost use Rattle.mutex_machine.specs.Courses.{Begins, GoesOn, HeedsClock};
@@ -120,6 +120,7 @@ impl Lock {
         ensures at_once { TakesAtOnce call party self.old self.new }
         ensures fair { TakenFairly self.old self.new }
         ensures bounded { left_after result self.new party < most_steps call }
+        ensures unrefused { IsUnrefused result (place_at self.new.places party) }
         ensures clock { IsSomeAnd (start_of call (place_at self.old.places party)) (λ from. HeedsClock starving from result) }
     {
         self.laws();

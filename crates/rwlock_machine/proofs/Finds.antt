@@ -10,7 +10,7 @@ use Rattle.rwlock_machine.specs.declared.program.Found.{Found}
 use Rattle.rwlock_machine.specs.declared.program.Found.TheVariants.{Done, Writer, Full, NoneLeft, SomeLeft, NotFree, NoMemory, Yes, No, Turn}
 use Rattle.rwlock_machine.specs.Roles.{bit}
 use Rattle.rwlock_machine.specs.Effects.{OnWord}
-use Rattle.rwlock_machine.specs.Parties.{OnNoWriter, OnNoReaders}
+use Rattle.rwlock_machine.specs.Parties.{FindsMemory, OnNoWriter, OnNoReaders}
 use Rattle.rwlock_machine.specs.Turns.{OnTurn}
 use Rattle.rwlock_machine.specs.Machine.{RwLock, IsMachine}
 use Rattle.rwlock_machine.specs.Acts.{Finds}
@@ -23,61 +23,61 @@ module _ (memory starving : Bool) (p : ℕ) (v w : Word) (ps : List Place) (l m 
   abbrev the_lock : RwLock
   the_lock = record { places = ps; no_writer = l.entries; no_readers = m.entries; turn = t; limit = v.limit }
 
-  pub finds : (a : Action) (f : Found) → OnWord a f v w → OnNoWriter p a f l.entries l'.entries → OnNoReaders p a f m.entries m'.entries → OnTurn memory starving p a f t u → (f ≡ NoMemory → memory ≡ false) → Finds memory a f the_lock
-  finds act.Nothing Done e el em et lacks = tt
-  finds act.Nothing _ e el em et lacks = absurd e
-  finds act.Read Done e el em et lacks = (omega (arith, i.sound.writer, ap bit e.0), omega (arith, i.sound.readers, e.1))
-  finds act.Read Writer e el em et lacks = omega (arith, i.sound.writer, ap bit e.0)
-  finds act.Read Full e el em et lacks = (omega (arith, i.sound.writer, ap bit e.0), omega (arith, i.sound.readers, e.1))
-  finds act.Read _ e el em et lacks = absurd e
-  finds act.Add Done e el em et lacks = omega (arith, i.sound.readers, e.0)
-  finds act.Add Full e el em et lacks = omega (arith, i.sound.readers, e.0)
-  finds act.Add _ e el em et lacks = absurd e
-  finds act.Off NoneLeft e el em et lacks = omega (arith, i.sound.readers, e.0)
-  finds act.Off SomeLeft e el em et lacks = omega (arith, i.sound.readers, e.0, e.1)
-  finds act.Off _ e el em et lacks = absurd e
-  finds act.Load NoneLeft e el em et lacks = omega (arith, i.sound.readers, e.0)
-  finds act.Load SomeLeft e el em et lacks = omega (arith, i.sound.readers, e.0)
-  finds act.Load _ e el em et lacks = absurd e
-  finds act.Mark NoneLeft e el em et lacks = omega (arith, i.sound.readers, e.0)
-  finds act.Mark SomeLeft e el em et lacks = omega (arith, i.sound.readers, e.0)
-  finds act.Mark _ e el em et lacks = absurd e
-  finds act.TryWrite Done e el em et lacks = (omega (arith, i.sound.writer, ap bit e.0), omega (arith, i.sound.readers, e.1))
-  finds act.TryWrite NotFree e el em et lacks = λ free. (let some : 0 < v.readers = e.0 (clear v.writer (sym i.sound.writer ∙ free)) in omega (arith, i.sound.readers))
-  finds act.TryWrite _ e el em et lacks = absurd e
-  finds act.TryUpgrade Done e el em et lacks = (omega (arith, i.sound.writer, ap bit e.0), omega (arith, i.sound.readers, e.1))
-  finds act.TryUpgrade NotFree e el em et lacks = λ free one. e.0 (clear v.writer (sym i.sound.writer ∙ free)) (sym i.sound.readers ∙ one)
-  finds act.TryUpgrade _ e el em et lacks = absurd e
-  finds act.Upgrade Done e el em et lacks = omega (arith, i.sound.readers, e.0)
-  finds act.Upgrade _ e el em et lacks = absurd e
-  finds act.Down Done e el em et lacks = tt
-  finds act.Down _ e el em et lacks = absurd e
-  finds act.Unmark Done e el em et lacks = tt
-  finds act.Unmark _ e el em et lacks = absurd e
-  finds act.JoinNoWriter Done e el em et lacks = tt
-  finds act.JoinNoWriter NoMemory e el em et lacks = lacks refl
-  finds act.JoinNoWriter _ e el em et lacks = absurd el
-  finds act.AskNoWriter Yes e el em et lacks = tt
-  finds act.AskNoWriter No e el em et lacks = tt
-  finds act.AskNoWriter _ e el em et lacks = absurd el
-  finds act.LeaveNoWriter Done e el em et lacks = tt
-  finds act.LeaveNoWriter _ e el em et lacks = absurd el
-  finds act.NotifyNoWriter Done e el em et lacks = tt
-  finds act.NotifyNoWriter _ e el em et lacks = absurd el
-  finds act.JoinNoReaders Done e el em et lacks = tt
-  finds act.JoinNoReaders NoMemory e el em et lacks = lacks refl
-  finds act.JoinNoReaders _ e el em et lacks = absurd em
-  finds act.AskNoReaders Yes e el em et lacks = tt
-  finds act.AskNoReaders No e el em et lacks = tt
-  finds act.AskNoReaders _ e el em et lacks = absurd em
-  finds act.LeaveNoReaders Done e el em et lacks = tt
-  finds act.LeaveNoReaders _ e el em et lacks = absurd em
-  finds act.NotifyNoReaders Done e el em et lacks = tt
-  finds act.NotifyNoReaders _ e el em et lacks = absurd em
-  finds (act.Begin c) (Turn n) e el em et lacks = tt
-  finds (act.Begin c) _ e el em et lacks = absurd et
-  finds act.Go (Turn n) e el em et lacks = tt
-  finds act.Go _ e el em et lacks = absurd et
+  pub finds : (a : Action) (f : Found) → OnWord a f v w → OnNoWriter p a f l.entries l'.entries → OnNoReaders p a f m.entries m'.entries → OnTurn memory starving p a f t u → FindsMemory memory a f → Finds memory a f the_lock
+  finds act.Nothing Done e el em et has = tt
+  finds act.Nothing _ e el em et has = absurd e
+  finds act.Read Done e el em et has = (omega (arith, i.sound.writer, ap bit e.0), omega (arith, i.sound.readers, e.1))
+  finds act.Read Writer e el em et has = omega (arith, i.sound.writer, ap bit e.0)
+  finds act.Read Full e el em et has = (omega (arith, i.sound.writer, ap bit e.0), omega (arith, i.sound.readers, e.1))
+  finds act.Read _ e el em et has = absurd e
+  finds act.Add Done e el em et has = omega (arith, i.sound.readers, e.0)
+  finds act.Add Full e el em et has = omega (arith, i.sound.readers, e.0)
+  finds act.Add _ e el em et has = absurd e
+  finds act.Off NoneLeft e el em et has = omega (arith, i.sound.readers, e.0)
+  finds act.Off SomeLeft e el em et has = omega (arith, i.sound.readers, e.0, e.1)
+  finds act.Off _ e el em et has = absurd e
+  finds act.Load NoneLeft e el em et has = omega (arith, i.sound.readers, e.0)
+  finds act.Load SomeLeft e el em et has = omega (arith, i.sound.readers, e.0)
+  finds act.Load _ e el em et has = absurd e
+  finds act.Mark NoneLeft e el em et has = omega (arith, i.sound.readers, e.0)
+  finds act.Mark SomeLeft e el em et has = omega (arith, i.sound.readers, e.0)
+  finds act.Mark _ e el em et has = absurd e
+  finds act.TryWrite Done e el em et has = (omega (arith, i.sound.writer, ap bit e.0), omega (arith, i.sound.readers, e.1))
+  finds act.TryWrite NotFree e el em et has = λ free. (let some : 0 < v.readers = e.0 (clear v.writer (sym i.sound.writer ∙ free)) in omega (arith, i.sound.readers))
+  finds act.TryWrite _ e el em et has = absurd e
+  finds act.TryUpgrade Done e el em et has = (omega (arith, i.sound.writer, ap bit e.0), omega (arith, i.sound.readers, e.1))
+  finds act.TryUpgrade NotFree e el em et has = λ free one. e.0 (clear v.writer (sym i.sound.writer ∙ free)) (sym i.sound.readers ∙ one)
+  finds act.TryUpgrade _ e el em et has = absurd e
+  finds act.Upgrade Done e el em et has = omega (arith, i.sound.readers, e.0)
+  finds act.Upgrade _ e el em et has = absurd e
+  finds act.Down Done e el em et has = tt
+  finds act.Down _ e el em et has = absurd e
+  finds act.Unmark Done e el em et has = tt
+  finds act.Unmark _ e el em et has = absurd e
+  finds act.JoinNoWriter Done e el em et has = has
+  finds act.JoinNoWriter NoMemory e el em et has = has
+  finds act.JoinNoWriter _ e el em et has = absurd el
+  finds act.AskNoWriter Yes e el em et has = tt
+  finds act.AskNoWriter No e el em et has = tt
+  finds act.AskNoWriter _ e el em et has = absurd el
+  finds act.LeaveNoWriter Done e el em et has = tt
+  finds act.LeaveNoWriter _ e el em et has = absurd el
+  finds act.NotifyNoWriter Done e el em et has = tt
+  finds act.NotifyNoWriter _ e el em et has = absurd el
+  finds act.JoinNoReaders Done e el em et has = has
+  finds act.JoinNoReaders NoMemory e el em et has = has
+  finds act.JoinNoReaders _ e el em et has = absurd em
+  finds act.AskNoReaders Yes e el em et has = tt
+  finds act.AskNoReaders No e el em et has = tt
+  finds act.AskNoReaders _ e el em et has = absurd em
+  finds act.LeaveNoReaders Done e el em et has = tt
+  finds act.LeaveNoReaders _ e el em et has = absurd em
+  finds act.NotifyNoReaders Done e el em et has = tt
+  finds act.NotifyNoReaders _ e el em et has = absurd em
+  finds (act.Begin c) (Turn n) e el em et has = tt
+  finds (act.Begin c) _ e el em et has = absurd et
+  finds act.Go (Turn n) e el em et has = tt
+  finds act.Go _ e el em et has = absurd et
 
 -- no action moves the limit
 pub limit_kept : (a : Action) (f : Found) (v w : Word) → OnWord a f v w → w.limit ≡ v.limit

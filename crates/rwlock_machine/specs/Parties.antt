@@ -1,5 +1,5 @@
 -- The two lists of a read-write lock as its parties see them.
-use Rattle.std.specs.Prelude.{◌≡◌, ℕ, true, false, List}
+use Rattle.std.specs.Prelude.{◌≡◌, ℕ, Bool, true, false, List}
 use Rattle.lock_event.specs.declared.event.Entry.{Entry}
 use Rattle.lock_event.specs.Lists.{joined, notified, left, without, is_marked_at}
 use Rattle.lock_queue.specs.Parties.{is_party}
@@ -26,6 +26,17 @@ Leaves p _ l m = ⊥
 abbrev pub Notifies : Found → List (Entry ℕ) → List (Entry ℕ) → Type 0
 Notifies Done l m = m ≡ notified l 1
 Notifies _ l m = ⊥
+
+-- a join finds memory exactly where there is some
+abbrev pub HasMemory : Bool → Found → Type 0
+HasMemory memory Done = memory ≡ true
+HasMemory memory NoMemory = memory ≡ false
+HasMemory memory _ = Unit {0}
+
+abbrev pub FindsMemory : Bool → Action → Found → Type 0
+FindsMemory memory act.JoinNoWriter f = HasMemory memory f
+FindsMemory memory act.JoinNoReaders f = HasMemory memory f
+FindsMemory memory _ f = Unit {0}
 
 -- the list function that an action is, for this party, on each list
 abbrev pub OnNoWriter : ℕ → Action → Found → List (Entry ℕ) → List (Entry ℕ) → Type 0

@@ -6,7 +6,7 @@ use Rattle.mutex_machine.specs.Program.{start_of}
 use Rattle.mutex_machine.specs.Machine.{Lock, place_at}
 use Rattle.mutex_machine.specs.Acts.{Acts, TakenFairly}
 use Rattle.mutex_machine.specs.Courses.{Begins, GoesOn, HeedsClock}
-use Rattle.mutex_machine.specs.Legal.{IsLegal, TakesAtOnce, decided_by, decision}
+use Rattle.mutex_machine.specs.Legal.{IsLegal, IsUnrefused, TakesAtOnce, decided_by, decision}
 use Rattle.mutex_machine.specs.Ranks.{left_after, steps_left, most_steps}
 use Rattle.rwlock_machine.specs.declared.program.Action.{Action}
 use Rattle.rwlock_machine.specs.declared.program.Action.TheVariants as act
@@ -21,6 +21,7 @@ pub record TurnBegins (memory : Bool) (p : ℕ) (c : LockCall) (n : TurnNext) (o
   pub bounded : left_after n new p < most_steps c
   pub legal : IsLegal memory p (decided_by c) n old new
   pub at_once : TakesAtOnce c p old new
+  pub unrefused : IsUnrefused n (place_at new.places p)
 
 -- a further action of a call on the turn
 pub record TurnGoesOn (memory starving : Bool) (p : ℕ) (n : TurnNext) (old new : Lock) : Type 0 where

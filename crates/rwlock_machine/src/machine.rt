@@ -10,11 +10,10 @@ ghost use Rattle.std.specs.Prelude.{◌≡◌, ◌<◌, false, length, slice_get
 ghost use Rattle.lock_queue.specs.Parties.{entries_of};
 ghost use Rattle.mutex_machine.specs.Acts.{TakenFairly};
 ghost use Rattle.rwlock_machine.specs.declared.program.Place.TheVariants as place;
-ghost use Rattle.rwlock_machine.specs.declared.program.Found.TheVariants.{NoMemory};
 ghost use Rattle.rwlock_machine.specs.Program.{start_of, place_after};
 ghost use Rattle.rwlock_machine.specs.Roles.{bit};
 ghost use Rattle.rwlock_machine.specs.Effects.{OnWord, CanDo};
-ghost use Rattle.rwlock_machine.specs.Parties.{Joins, Asks, OnNoWriter, OnNoReaders};
+ghost use Rattle.rwlock_machine.specs.Parties.{Joins, Asks, HasMemory, FindsMemory, OnNoWriter, OnNoReaders};
 ghost use Rattle.rwlock_machine.specs.Turns.{OnTurn};
 ghost use Rattle.rwlock_machine.specs.Machine.{SameRoles, place_at, new_rwlock};
 ghost use Rattle.rwlock_machine.specs.Acts.{Acts, IsRwLock, readers as readers_lem, marked};
@@ -55,7 +54,7 @@ fn join(list: &mut WaitQueue, party: u32, memory: bool) -> Found
     requires out { entries_of party list.old.entries ≡ 0 }
     ensures list { Joins party result list.old.entries list.new.entries }
     ensures parties { list.new.parties ≡ list.old.parties }
-    ensures memory { result ≡ NoMemory → memory ≡ false }
+    ensures memory { HasMemory memory result }
 {
     if memory {
         list.join(party);
@@ -97,7 +96,7 @@ fn carry_out(
     ensures parties_w { no_writer.new.parties ≡ no_writer.old.parties }
     ensures parties_r { no_readers.new.parties ≡ no_readers.old.parties }
     ensures turn { OnTurn memory starving party action result turn.old turn.new }
-    ensures memory { result ≡ NoMemory → memory ≡ false }
+    ensures memory { FindsMemory memory action result }
 {
     match action {
         Action::Nothing => Found::Done,

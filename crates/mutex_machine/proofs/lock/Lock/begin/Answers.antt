@@ -4,6 +4,7 @@ use Rattle.mutex_machine.proofs.Starts.{start_same}
 use Rattle.mutex_machine.specs.Program.{start_of}
 use Rattle.mutex_machine.proofs.Courses.{begins_so}
 use Rattle.mutex_machine.proofs.Alone.{begun_within}
+use Rattle.mutex_machine.proofs.Promised.{begins_unrefused}
 use Rattle.lock_queue.specs.Parties.{entries_of}
 use Rattle.mutex_machine.specs.declared.program.End.{End}
 use Rattle.mutex_machine.specs.Roles.{listed}
@@ -37,3 +38,8 @@ returns-clause-at_once c fresh =
     let starts : start_of c.args.call c.place.result ≡ Some c.in-Some.from = sym c.start.ensures ∙ c.in-Some.is in
     let own : entries_of c.args.party c.args.self.now.entries ≡ listed c.place.result = rw c.place.ensures (c.laws.ensures.owners c.args.party) in
     c.act.ensures.at_once (begins_fresh c.args.call c.place.result c.in-Some.from (entries_of c.args.party c.args.self.now.entries) own starts fresh)
+
+pub returns-clause-unrefused : goal.returns-clause-unrefused
+returns-clause-unrefused c =
+    let starts : start_of c.args.call c.place.result ≡ Some c.in-Some.from = sym c.start.ensures ∙ c.in-Some.is in
+    begins_unrefused c.args.memory c.args.party c.args.call c.place.result c.in-Some.from c.act.result c.args.self.now c.act.new.self starts c.act.ensures.acts c.requires.known

@@ -3,7 +3,7 @@ use Rattle.std.proofs.Common.{◌≡◌, ◌<◌, length, ap, ◌∙◌}
 use Rattle.std.proofs.Math.ListN.{set}
 use Rattle.rwlock_machine.specs.Program.{action_of, next_of, place_after}
 use Rattle.rwlock_machine.specs.Effects.{OnWord}
-use Rattle.rwlock_machine.specs.Parties.{OnNoWriter, OnNoReaders}
+use Rattle.rwlock_machine.specs.Parties.{FindsMemory, OnNoWriter, OnNoReaders}
 use Rattle.rwlock_machine.specs.Turns.{OnTurn}
 use Rattle.rwlock_machine.specs.Machine.{SameRoles, place_at}
 use Rattle.rwlock_machine.proofs.CanDo.{can_do}
@@ -41,11 +41,12 @@ returns-clause-acts c =
     let el : OnNoWriter c.args.party (action_of c.args.from) c.carry_out-found.result c.self.inside.no_writer.entries c.carry_out-found.new.no_writer.entries = rw c.action_at.ensures at c.carry_out-found.ensures.no_writer in
     let em : OnNoReaders c.args.party (action_of c.args.from) c.carry_out-found.result c.self.inside.no_readers.entries c.carry_out-found.new.no_readers.entries = rw c.action_at.ensures at c.carry_out-found.ensures.no_readers in
     let et : OnTurn c.args.memory c.args.starving c.args.party (action_of c.args.from) c.carry_out-found.result c.self.inside.turn c.carry_out-found.new.turn = rw c.action_at.ensures at c.carry_out-found.ensures.turn in
+    let ef : FindsMemory c.args.memory (action_of c.args.from) c.carry_out-found.result = rw c.action_at.ensures at c.carry_out-found.ensures.memory in
     rw (← c.self.view_is)
     (record {
       found = c.carry_out-found.result;
       finds = finds c.args.memory c.args.starving c.args.party c.self.inside.word c.carry_out-found.new.word c.self.inside.places.items c.self.inside.no_writer c.self.inside.no_readers c.carry_out-found.new.no_writer c.carry_out-found.new.no_readers c.self.inside.turn c.carry_out-found.new.turn
-          c.self.invariant (action_of c.args.from) c.carry_out-found.result ew el em et c.carry_out-found.ensures.memory;
+          c.self.invariant (action_of c.args.from) c.carry_out-found.result ew el em et ef;
       next_is = c.decide-next.ensures;
       no_writer = el;
       no_readers = em;
