@@ -218,7 +218,7 @@ with open('crates/rwlock_world/proofs/Paths.antt', 'w', encoding='utf-8') as out
 
 
 ROWS_HEAD = f'''-- What each action on the word or on a list changes and decides, place by place. Written by generators/rwlock_world_rows.py.
-use Rattle.std.proofs.Common.{{◌≡◌, ℕ, ◌+◌, ◌<◌, ◌≤◌, ◌==◌, ◌⊎◌, inl, inr, if◌then◌else◌, Bool, true, false, List, Option, Some, None, refl, sym, ◌∙◌}}
+use Rattle.std.proofs.Common.{{◌≡◌, ℕ, ◌+◌, ◌<◌, ◌≤◌, ◌==◌, ◌⊎◌, ◌||◌, not, inl, inr, if◌then◌else◌, Bool, true, false, List, Option, Some, None, refl, sym, ◌∙◌}}
 use Rattle.lock_event.specs.declared.event.Entry.{{Entry}}
 use Rattle.lock_event.specs.Lists.{{is_marked_at, without}}
 use Rattle.lock_queue.specs.Parties.{{is_party}}
@@ -252,7 +252,7 @@ use Rattle.rwlock_machine.specs.Parties.{{OnNoWriter, OnNoReaders}}
 use Rattle.rwlock_machine.specs.Machine.{{RwLock}}
 use Rattle.rwlock_machine.specs.Acts.{{Finds, readers, marked}}
 use Rattle.rwlock_machine.proofs.Leads.{{Led, steps_in_turn}}
-use Rattle.rwlock_world.specs.Changes.{{Change, ListName, begins_to_read, stops_reading, becomes_upgradable, stops_upgradable, begins_to_wait, begins_to_write, upgrades, upgrades_at_once, unmarks, downgrades, downgrades_to_upgradable, for_no_readers, for_no_writer, turn_after, starved_after, value_after, turn_list_after, no_readers_after, no_writer_after, gives_back}}
+use Rattle.rwlock_world.specs.Changes.{{Change, ListName, begins_to_read, stops_reading, becomes_upgradable, stops_upgradable, begins_to_wait, begins_to_write, upgrades, upgrades_at_once, unmarks, downgrades, downgrades_to_upgradable, for_no_readers, for_no_writer, turn_after, starved_after, value_after, turn_list_after, no_readers_after, no_writer_after, gives_back, gives_up}}
 use Rattle.rwlock_world.specs.State as state
 use Rattle.rwlock_world.specs.Plans.{{Course, tries, tries_upgrade, strays, course_of}}
 use Rattle.rwlock_world.specs.View.{{passing, upgrading, waiting, writing, turn_as, share_of, is_reading, is_upgrade, verdict}}
@@ -360,9 +360,16 @@ WaitsAt AskNoWriter f = f ≡ No
 WaitsAt (AskNoReaders u) f = f ≡ No
 WaitsAt _ f = ⊥
 
+-- where a call may be refused for want of memory
+abbrev pub lacks_memory : Place → Bool
+lacks_memory (JoinNoWriter told) = true
+lacks_memory (JoinNoReaders u) = true
+lacks_memory (TakeTurn q) = true
+lacks_memory _ = false
+
 -- why a step refuses its call
 abbrev pub Refuses : Bool → RwLock → Place → Found → Refusal → Type 0
-Refuses memory l x f refusal.Memory = (memory ≡ false) × (in_no_writer x + in_no_readers x ≡ 0) × (deed_at x f ≡ nothing) × ((t : TurnPlace) → fits_turn x t ≡ true → (is_out_there t ≡ true) ⊎ (is_holding t ≡ true))
+Refuses memory l x f refusal.Memory = (memory ≡ false) × (in_no_writer x + in_no_readers x ≡ 0) × (deed_at x f ≡ nothing) × ((t : TurnPlace) → fits_turn x t ≡ true → (is_out_there t ≡ true) ⊎ (is_holding t ≡ true)) × (lacks_memory x ≡ true)
 Refuses memory l x f refusal.Readers = l.limit ≤ readers l
 Refuses memory l x f _ = ⊥
 
@@ -378,6 +385,18 @@ abbrev pub Judged : Bool → RwLock → ℕ → Place → Found → Option Answe
 Judged memory l v x f (Some b) o = (o ≡ Some b) × (gives_back (deed_at x f) ≡ true)
 Judged memory l v x f None None = Unit {{0}}
 Judged memory l v x f None (Some b) = Reason memory l v x f b
+
+-- whether a join found memory, and that a party gives nothing up until its call is decided
+abbrev pub Room : Bool → Deed Change ListName → Type 0
+Room memory (does list joins) = memory ≡ true
+Room memory _ = Unit {{0}}
+
+abbrev pub is_judged : Option Answer → Bool
+is_judged (Some b) = true
+is_judged None = false
+
+abbrev pub keeps_what_it_has : Option Answer → Deed Change ListName → Bool
+keeps_what_it_has o d = not (gives_up d) || is_judged o
 
 -- an upgrade's future stays one while its call is undecided or pending
 abbrev pub KeepsUpgrade : ℕ → Place → Next → Type 0
@@ -402,6 +421,8 @@ pub record Row (memory : Bool) (l : RwLock) (v : ℕ) (x : Place) (f : Found) : 
   pub no_readers : (p : ℕ) (a b : List (Entry ℕ)) → OnNoReaders p (action_of x) f a b → b ≡ no_readers_after p (deed_at x f) a
   pub finding : Finding (deed_at x f) l x
   pub judged : (t u : TurnPlace) → Judged memory l v x f (verdict v x t) (verdict_then v (course_of x) u (next_of x f))
+  pub room : Room memory (deed_at x f)
+  pub holds_on : (t : TurnPlace) → keeps_what_it_has (verdict v x t) (deed_at x f) ≡ true
   pub over : is_after_ready (answer_at (course_of x) v (next_of x f)) ≡ false
   pub upgrade : KeepsUpgrade v x (next_of x f)
   pub refused : RefusedAt x (next_of x f)
@@ -428,7 +449,7 @@ MOVES = 'inl (refl, λ p. refl)'
 
 
 def memory(side):
-    return f'(refusal.Memory, refl, (e, refl, refl, λ t h. {side} h))'
+    return f'(refusal.Memory, refl, (e, refl, refl, (λ t h. {side} h), refl))'
 
 
 def full(e):
@@ -436,10 +457,11 @@ def full(e):
 
 
 def row(place, found, judged, sharing=STAYS, finding='tt', upgrade='tt', refused='tt', no_writer='λ p a b o. o', no_readers='λ p a b o. o'):
+    room = 'e' if 'Join' in place and found == 'Done' else 'tt'
     if found == 'NotFree':
         found = 'found.NotFree'
     rows.append(f'  row {place} {found} e n t = record {{ reading = refl; sharing = {sharing}; starving = λ p s. refl; valued = λ u. refl; unturned = λ p a. refl; no_writer = {no_writer}; no_readers = {no_readers}; '
-                f'finding = {finding}; judged = λ t u. {judged}; over = refl; upgrade = {upgrade}; refused = {refused} }}')
+                f'finding = {finding}; judged = λ t u. {judged}; room = {room}; holds_on = λ t. refl; over = refl; upgrade = {upgrade}; refused = {refused} }}')
 
 
 def rest(place):

@@ -13,13 +13,21 @@ use Rattle.lock_world.specs.declared.standing.Rest.{Rest}
 use Rattle.lock_world.specs.declared.standing.Rest.TheVariants.{Holding, Finished}
 use Rattle.lock_world.specs.declared.standing.Within.{Within}
 use Rattle.lock_world.specs.Refusals.{number_of}
-use Rattle.lock_world.specs.Standings.{Standing, outside, inside, call_in, is_possible, refused, leaves_as_it_was, StandsAfter, Decides, decision}
+use Rattle.lock_world.specs.Standings.{Standing, outside, inside, call_in, is_possible, refused, leaves_as_it_was, StandsAfter, Decides, IsUndecided, decision}
 
 -- ---- What a move asks for
 
 abbrev pub is_drop : What → Bool
 is_drop (Begin call.Drop inputs) = true
 is_drop _ = false
+
+-- A call on what a party has: a drop, a downgrade, a forget. From its first step on it only gives back.
+abbrev pub is_giving_back : What → Bool
+is_giving_back (Begin call.Drop inputs) = true
+is_giving_back (Begin call.Downgrade inputs) = true
+is_giving_back (Begin call.DowngradeToUpgradable inputs) = true
+is_giving_back (Begin call.Forget inputs) = true
+is_giving_back _ = false
 
 abbrev pub put_in : What → Option ℕ
 put_in (Begin (call.Put v) inputs) = Some v
@@ -51,9 +59,10 @@ pub record IsPossible {W : Type 0} (standing_of : W → ℕ → Standing) (knows
   pub exactly : (a ≡ answer.NotPossible) ↔ (call_of standing_of knows old m ≡ None)
   pub unchanged : a ≡ answer.NotPossible → new ≡ old
 
--- A refusal has its cause; and exactly a poll after ready is refused as that.
+-- A refusal has its cause; only a call that is begun and isn't decided is refused for want of memory; and exactly a poll after ready is refused as that.
 pub record IsRefusedForCause {W : Type 0} (standing_of : W → ℕ → Standing) (IsCause : W → Move → W → Refusal → Type 0) (old : W) (m : Move) (a : Answer) (new : W) : Type 0 where
   pub cause : (n : ℕ) → DecidesOn standing_of old m a new (answer.Refused n) → (r : Refusal) × (n ≡ number_of r) × IsCause old m new r
+  pub memory : DecidesOn standing_of old m a new (refused refusal.Memory) → IsUndecided (standing_of old m.party)
   pub after_ready : (a ≡ refused refusal.Finished) ↔ (is_poll_after_ready (standing_of old m.party) m.what ≡ true)
 
 -- A possible move leaves its party inside its call exactly if it is answered Stepped, and else outside, by an answer with which such a call may end; a call that is decided ends with the answer that it is decided on. `ready` is how a party of this World stands whose future has been ready.

@@ -103,6 +103,7 @@ impossible t m k none = record {
     waits = record { waiting = λ e. absurd (cc); not_before = not_pending t m.party k };
     refused_for_cause = record {
       cause = λ n d. absurd (cc (decides_nothing (standing_of (view_of t) m.party) (answer.Refused n) d.0 d.1));
+      memory = λ d. absurd (cc (decides_nothing (standing_of (view_of t) m.party) (refused refusal.Memory) d.0 d.1));
       after_ready = ((λ e. absurd (cc)), (λ e. absurd (cc (tries_possible (standing_of (view_of t) m.party) m.what none))));
     };
     leaves_clear = record { each = each t k; refused = λ h. absurd (cc) };
@@ -147,6 +148,7 @@ polled_again t p i k at =
         waits = record { waiting = λ e. absurd (cc); not_before = not_pending t p k };
         refused_for_cause = record {
           cause = λ n d. (refusal.Finished, sym (refused_number _ n (only (answer.Refused n) d.1)), refl);
+          memory = λ d. let never = only (refused refusal.Memory) d.1 in absurd (cc);
           after_ready = ((λ e. over), (λ e. refl));
         };
         leaves_clear = record { each = each t k; refused = λ h. absurd (false≢true h) };
@@ -228,6 +230,7 @@ module _ (t : Table) (n : ℕ) (p : ℕ) (i : Inputs) where
           waits = record { waiting = λ e. absurd (cc); not_before = not_pending left p k2 };
           refused_for_cause = record {
             cause = λ c d. absurd (unlike (answer.Refused c) d.1 refl);
+            memory = λ d. absurd (unlike (refused refusal.Memory) d.1 refl);
             after_ready = ((λ e. absurd (true≢false (ap is_granted e))), (λ e. absurd (false≢true (sym not_over ∙ e))));
           };
           leaves_clear = record { each = each left k2; refused = λ h. absurd (false≢true h) };

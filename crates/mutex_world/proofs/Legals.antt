@@ -31,7 +31,7 @@ use Rattle.lock_world.specs.declared.standing.Stage.{Stage}
 use Rattle.lock_world.specs.declared.standing.Stage.TheVariants.{Forgotten}
 use Rattle.lock_world.specs.declared.standing.Within.{Within}
 use Rattle.lock_world.specs.Refusals.{number_of}
-use Rattle.lock_world.specs.Standings.{Standing, inside, inputs_of, StandsAfter, is_decided, IsUndecided, decision}
+use Rattle.lock_world.specs.Standings.{Standing, inside, inputs_of, StandsAfter, is_decided, IsUndecided, decision, refused}
 use Rattle.lock_world.specs.Steps.{Deed, nothing, changes, does, joins}
 use Rattle.mutex_machine.specs.Program.{action_of, next_of}
 use Rattle.mutex_machine.specs.Roles.{bit, holds, counted, listed}
@@ -48,7 +48,7 @@ use Rattle.mutex_world.specs.Legal.{Change, ListName, takes, releases, starves, 
 use Rattle.mutex_machine.specs.State.{is_holder, is_counted}
 use Rattle.mutex_world.specs.View.{verdict, stands_as, seen}
 use Rattle.mutex_machine.proofs.Kept.{after}
-use Rattle.mutex_world.proofs.Rows.{Row, row, deed_of, is_at_try, answer_by, is_after_ready, Holds, Starves, Finding, Room, HoldsOn, Refuses, Reason, Judged, verdict_then}
+use Rattle.mutex_world.proofs.Rows.{Row, row, is_joining, deed_of, is_at_try, answer_by, is_after_ready, Holds, Starves, Finding, Room, HoldsOn, Refuses, Reason, Judged, verdict_then}
 use Rattle.mutex_world.proofs.Turns.{Turn}
 use Rattle.mutex_machine.proofs.Seen as sees
 use Rattle.mutex_world.proofs.Views as view
@@ -74,6 +74,11 @@ found_room memory d list r e = let P : Deed Change ListName → Type 0 = Room me
 given_up : (o : Option Answer) (d : Deed Change ListName) → HoldsOn o d → gives_up d ≡ true → (b : Answer) × (o ≡ Some b)
 given_up (Some b) d h g = (b, refl)
 given_up None d h g = absurd (cc)
+
+-- a refusal for memory comes from a join
+joined_there : (memory : Bool) (l : Lock) (from : Place) (f : Found) (r : Refusal) → number_of refusal.Memory ≡ number_of r → Refuses memory l from f r → is_joining from ≡ true
+joined_there memory l from f refusal.Memory e h = h.3
+joined_there memory l from f _ e h = absurd (cc)
 
 -- what is answered Pending was decided then
 pending_now : (trying : Bool) (v : ℕ) (n : Next) → answer_by trying v n ≡ answer.Pending → verdict_then v trying n ≡ Some answer.Pending
@@ -413,7 +418,7 @@ module _ (m : Move) (l : Lock) (es : List (Entry ℕ)) (ss : List Stage) (v : �
     cause : (c : Refusal) → Refuses memory l from f c → IsCause old m new c
     cause refusal.Memory y =
         let list = answers.list_is memory l m.party (action_of from) f l.entries es k.finds k.list in
-        (y.0, was_inside (k.turn.joining y.3), stands_listed ∙ y.1, list ∙ ap (λ (d : Deed Change ListName). entries_after m.party d l.entries) y.2, state_is deed r.holds r.starves r.finding ∙ ap (λ (d : Deed Change ListName). state_after m.party d old.state) y.2)
+        (y.0, stands_listed ∙ y.1, list ∙ ap (λ (d : Deed Change ListName). entries_after m.party d l.entries) y.2, state_is deed r.holds r.starves r.finding ∙ ap (λ (d : Deed Change ListName). state_after m.party d old.state) y.2)
     cause refusal.Starved y = view.how_many-seen l.places ∙ y
     cause refusal.Finished y = absurd y
     cause _ y = absurd y
@@ -421,6 +426,7 @@ module _ (m : Move) (l : Lock) (es : List (Entry ℕ)) (ss : List Stage) (v : �
     refused_for_cause : IsRefusedForCause old m said new
     refused_for_cause = record {
       cause = λ n d. elim (reason (answer.Refused n) d) as (λ _. (c : Refusal) × (n ≡ number_of c) × IsCause old m new c) [ inl e ↦ absurd (cc) | inr y ↦ (y.0, y.1, cause y.0 y.2) ];
+      memory = λ d. elim (reason (refused refusal.Memory) d) as (λ _. IsUndecided (standing_of old m.party)) [ inl e ↦ absurd (cc) | inr y ↦ was_inside (k.turn.joining (joined_there memory l from f y.0 y.1 y.2)) ];
       after_ready = (
         (λ e. let never : is_after_ready (answer_by (is_at_try from) v onward) ≡ true = ap is_after_ready (sym answer_is ∙ e) in absurd (cc (r.over))),
         (λ e. let never = rw stood at e in absurd (cc (k.turn.not_over, never))),

@@ -24,7 +24,7 @@ module _ (n : ℕ) where
     others_keep = record { lock = l.others_keep.lock; starved = l.others_keep.starved; limit = l.others_keep.limit };
     carries = record { ready = l.carries.ready; granted = l.carries.granted };
     waits = record { waiting = l.waits.waiting; not_before = l.waits.not_before };
-    refused_for_cause = record { cause = λ k d. let c = l.refused_for_cause.cause k d in (c.0, c.1, cause_opened old m new c.0 c.2); after_ready = l.refused_for_cause.after_ready };
+    refused_for_cause = record { cause = λ k d. let c = l.refused_for_cause.cause k d in (c.0, c.1, cause_opened old m new c.0 c.2); memory = l.refused_for_cause.memory; after_ready = l.refused_for_cause.after_ready };
     leaves_clear = record { each = l.leaves_clear.each; refused = l.leaves_clear.refused };
     value_kept = record { put = l.value_kept.put; kept = l.value_kept.kept };
     ends_properly = record { stands = l.ends_properly.stands; as_decided = l.ends_properly.as_decided };

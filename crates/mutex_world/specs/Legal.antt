@@ -15,7 +15,7 @@ use Rattle.lock_world.specs.declared.refusal.Refusal.{Refusal}
 use Rattle.lock_world.specs.declared.refusal.Refusal.TheVariants as refusal
 use Rattle.lock_world.specs.declared.standing.Rest.TheVariants.{Idle, Pending, Holding, Finished}
 use Rattle.lock_world.specs.declared.standing.Within.{Within}
-use Rattle.lock_world.specs.Standings.{Standing, outside, inside, inputs_of, is_possible, is_decided, IsUndecided}
+use Rattle.lock_world.specs.Standings.{Standing, outside, inside, inputs_of, is_possible, is_decided}
 use Rattle.lock_world.specs.Frame as frame
 use Rattle.lock_world.specs.Frame.{is_drop, is_refusal, put_in}
 use Rattle.lock_world.specs.Steps.{Deed, nothing, changes, does, joins, leaves, list_after, is_parting}
@@ -123,9 +123,9 @@ pub record Waits (m : Move) (a : Answer) (new : World) : Type 0 where
   pub waiting : a ≡ answer.Pending → mark_of new m.party ≡ Some Waiting
   pub not_before : (within : Within) → standing_of new m.party ≢ inside within (Some answer.Pending)
 
--- Why a call of a mutex may be refused: a join found no memory, for the move's input said so, of a party in a call that wasn't decided, and nothing else happened; there are as many starved parties as there may be; or the future had been ready before.
+-- Why a call of a mutex may be refused: a join found no memory, for the move's input said so, and nothing else happened; there are as many starved parties as there may be; or the future had been ready before.
 abbrev pub IsCause : World → Move → World → Refusal → Type 0
-IsCause old m new refusal.Memory = ((inputs_of m.what).memory ≡ false) × IsUndecided (standing_of old m.party) × (entries_of m.party old.entries ≡ 0) × (new.entries ≡ old.entries) × (new.state ≡ old.state)
+IsCause old m new refusal.Memory = ((inputs_of m.what).memory ≡ false) × (entries_of m.party old.entries ≡ 0) × (new.entries ≡ old.entries) × (new.state ≡ old.state)
 IsCause old m new refusal.Starved = how_many old.state.starved ≡ old.limit
 IsCause old m new refusal.Finished = new ≡ old
 IsCause old m new _ = ⊥

@@ -15,7 +15,7 @@ use Rattle.lock_world.specs.declared.standing.Stage.{Stage}
 use Rattle.lock_world.specs.declared.standing.Stage.TheVariants.{Outside, Inside, Forgotten}
 use Rattle.lock_world.specs.declared.standing.Within.{Within}
 use Rattle.lock_world.specs.Accounts.{sought_after}
-use Rattle.lock_world.specs.Frame.{is_drop, is_poll_after_ready, put_in}
+use Rattle.lock_world.specs.Frame.{is_drop, is_giving_back, is_poll_after_ready, put_in}
 use Rattle.lock_world.specs.Rights.{Right}
 use Rattle.lock_world.specs.Standings.{Standing, outside, inside, call_in, is_decided}
 use Rattle.lock_world.proofs.Equations.{some_eq}
@@ -40,6 +40,7 @@ use Rattle.rwlock_world.specs.Legal.{knows}
 use Rattle.rwlock_world.specs.Plans.{begins_by, plan_of, within, answer_of, begins_to_seek, goes_on_seeking, sought_at, agrees, goes_with}
 use Rattle.rwlock_world.specs.View.{share_of, is_upgrade, right_of, verdict, stands_as}
 use Rattle.rwlock_world.proofs.Begun.{for_begun, for_go}
+use Rattle.rwlock_world.proofs.Rows.{lacks_memory}
 
 -- ---- what is sought after each call
 
@@ -174,6 +175,8 @@ pub record Moves (v : ℕ) (s : Standing) (o : Option Sought) (what : What) (x f
   pub same : SameRoles from x
   pub decided : (u : Within) (b : Answer) → s ≡ inside u (Some b) → verdict v from t ≡ Some b
   pub drops : is_decided s ≡ false → (b : Answer) → verdict v from t ≡ Some b → answer.GivenBack ≡ b
+  pub gives : is_decided s ≡ false → (b : Answer) → verdict v from t ≡ Some b → is_giving_back what ≡ true
+  pub lacking : lacks_memory from ≡ true → (a : Option Answer) × (s ≡ inside w a)
   pub drop_is : is_drop what ≡ true → (verdict v from t ≡ Some answer.GivenBack) × (w.kind ≡ kind.Drop)
   pub no_put : put_in what ≡ None
   pub not_over : is_poll_after_ready s what ≡ false
@@ -189,35 +192,35 @@ module _ (v : ℕ) (t : TurnPlace) where
 
   pub beginning : (s : Stage) (o : Option Sought) (what : What) (x : Place) (c : RwCall) (w : Within) → plan_of s o what ≡ Some (plan.Start c w) → goes_with s x ≡ true → agrees (sought_at x) o ≡ true → (from : Place) × (start_of c x ≡ Some from) × Begin_so s o what x c w from
   beginning = for_begun Begin_so (record {
-    read = λ o i. record { call = refl; share = refl; same = start_same rw_call.Read place.Out (place.EnterRead false) refl; decided = λ u b d. absurd (cc); drops = λ u b d. absurd (cc); drop_is = λ d. absurd (cc); no_put = refl; not_over = refl; upgrade = λ d. refl; sought = seeks_read o i v };
-    upgradable = λ o i. record { call = refl; share = refl; same = start_same rw_call.UpgradableRead place.Out (place.EnterTurn purpose.UpgradableRead) refl; decided = λ u b d. absurd (cc); drops = λ u b d. absurd (cc); drop_is = λ d. absurd (cc); no_put = refl; not_over = refl; upgrade = λ d. refl; sought = seeks_upgradable_read o i v };
-    write = λ o i. record { call = refl; share = refl; same = start_same rw_call.Write place.Out (place.EnterTurn purpose.Write) refl; decided = λ u b d. absurd (cc); drops = λ u b d. absurd (cc); drop_is = λ d. absurd (cc); no_put = refl; not_over = refl; upgrade = λ d. refl; sought = seeks_write o i v };
-    try_read = λ o i. record { call = refl; share = refl; same = start_same rw_call.TryRead place.Out place.TryRead refl; decided = λ u b d. absurd (cc); drops = λ u b d. absurd (cc); drop_is = λ d. absurd (cc); no_put = refl; not_over = refl; upgrade = λ d. refl; sought = seeks_try_read o i v };
-    try_upgradable = λ o i. record { call = refl; share = refl; same = start_same rw_call.TryUpgradableRead place.Out (place.TryTurn purpose.UpgradableRead) refl; decided = λ u b d. absurd (cc); drops = λ u b d. absurd (cc); drop_is = λ d. absurd (cc); no_put = refl; not_over = refl; upgrade = λ d. refl; sought = seeks_try_upgradable_read o i v };
-    try_write = λ o i. record { call = refl; share = refl; same = start_same rw_call.TryWrite place.Out (place.TryTurn purpose.Write) refl; decided = λ u b d. absurd (cc); drops = λ u b d. absurd (cc); drop_is = λ d. absurd (cc); no_put = refl; not_over = refl; upgrade = λ d. refl; sought = seeks_try_write o i v };
+    read = λ o i. record { call = refl; share = refl; same = start_same rw_call.Read place.Out (place.EnterRead false) refl; decided = λ u b d. absurd (cc); drops = λ u b d. absurd (cc); gives = λ u b d. absurd (cc); lacking = λ h. absurd (cc); drop_is = λ d. absurd (cc); no_put = refl; not_over = refl; upgrade = λ d. refl; sought = seeks_read o i v };
+    upgradable = λ o i. record { call = refl; share = refl; same = start_same rw_call.UpgradableRead place.Out (place.EnterTurn purpose.UpgradableRead) refl; decided = λ u b d. absurd (cc); drops = λ u b d. absurd (cc); gives = λ u b d. absurd (cc); lacking = λ h. absurd (cc); drop_is = λ d. absurd (cc); no_put = refl; not_over = refl; upgrade = λ d. refl; sought = seeks_upgradable_read o i v };
+    write = λ o i. record { call = refl; share = refl; same = start_same rw_call.Write place.Out (place.EnterTurn purpose.Write) refl; decided = λ u b d. absurd (cc); drops = λ u b d. absurd (cc); gives = λ u b d. absurd (cc); lacking = λ h. absurd (cc); drop_is = λ d. absurd (cc); no_put = refl; not_over = refl; upgrade = λ d. refl; sought = seeks_write o i v };
+    try_read = λ o i. record { call = refl; share = refl; same = start_same rw_call.TryRead place.Out place.TryRead refl; decided = λ u b d. absurd (cc); drops = λ u b d. absurd (cc); gives = λ u b d. absurd (cc); lacking = λ h. absurd (cc); drop_is = λ d. absurd (cc); no_put = refl; not_over = refl; upgrade = λ d. refl; sought = seeks_try_read o i v };
+    try_upgradable = λ o i. record { call = refl; share = refl; same = start_same rw_call.TryUpgradableRead place.Out (place.TryTurn purpose.UpgradableRead) refl; decided = λ u b d. absurd (cc); drops = λ u b d. absurd (cc); gives = λ u b d. absurd (cc); lacking = λ h. absurd (cc); drop_is = λ d. absurd (cc); no_put = refl; not_over = refl; upgrade = λ d. refl; sought = seeks_try_upgradable_read o i v };
+    try_write = λ o i. record { call = refl; share = refl; same = start_same rw_call.TryWrite place.Out (place.TryTurn purpose.Write) refl; decided = λ u b d. absurd (cc); drops = λ u b d. absurd (cc); gives = λ u b d. absurd (cc); lacking = λ h. absurd (cc); drop_is = λ d. absurd (cc); no_put = refl; not_over = refl; upgrade = λ d. refl; sought = seeks_try_write o i v };
     poll_made = λ w o i a. made w o i;
-    poll_no_writer = λ o i a. record { call = refl; share = refl; same = same_at place.AskNoWriter; decided = λ u b d. absurd (cc); drops = λ u b d. absurd (cc); drop_is = λ d. absurd (cc); no_put = refl; not_over = refl; upgrade = λ d. refl; sought = seeks_poll o i v };
-    poll_turn = λ p o i a. record { call = refl; share = refl; same = same_at (place.WaitTurn p); decided = λ u b d. absurd (cc); drops = λ u b d. absurd (cc); drop_is = λ d. absurd (cc); no_put = refl; not_over = refl; upgrade = λ d. refl; sought = seeks_poll o i v };
-    poll_no_readers = λ u o i a. record { call = refl; share = refl; same = same_at (place.AwaitNoReaders u); decided = λ y b d. absurd (cc); drops = λ y b d. absurd (cc); drop_is = λ d. absurd (cc); no_put = refl; not_over = refl; upgrade = λ d. refl; sought = seeks_poll o i v };
-    poll_upgrade = λ o i a. record { call = refl; share = refl; same = same_at (place.LookUnlisted true); decided = λ u b d. absurd (cc); drops = λ u b d. absurd (cc); drop_is = λ d. absurd (cc); no_put = refl; not_over = refl; upgrade = λ d. refl; sought = seeks_poll o i v };
-    drop_made = λ w o i. record { call = refl; share = refl; same = start_same rw_call.Drop (place.Made w) place.Out refl; decided = λ u b d. absurd (cc); drops = λ u b d. some_eq d; drop_is = λ d. (refl, refl); no_put = refl; not_over = refl; upgrade = λ d. absurd (cc); sought = seeks_drop o i v };
-    drop_no_writer = λ o i. record { call = refl; share = refl; same = start_same rw_call.Drop place.AskNoWriter place.CancelRead refl; decided = λ u b d. absurd (cc); drops = λ u b d. some_eq d; drop_is = λ d. (refl, refl); no_put = refl; not_over = refl; upgrade = λ d. absurd (cc); sought = seeks_drop o i v };
-    drop_turn = λ p o i. record { call = refl; share = refl; same = start_same rw_call.Drop (place.WaitTurn p) place.CancelTurn refl; decided = λ u b d. absurd (cc); drops = λ u b d. some_eq d; drop_is = λ d. (refl, refl); no_put = refl; not_over = refl; upgrade = λ d. absurd (cc); sought = seeks_drop o i v };
-    drop_no_readers = λ u o i. record { call = refl; share = refl; same = start_same rw_call.Drop (place.AwaitNoReaders u) place.CancelAwait refl; decided = λ y b d. absurd (cc); drops = λ y b d. some_eq d; drop_is = λ d. (refl, refl); no_put = refl; not_over = refl; upgrade = λ d. absurd (cc); sought = seeks_drop o i v };
-    drop_upgrade = λ o i. record { call = refl; share = refl; same = start_same rw_call.Drop (place.LookUnlisted true) (place.Unmark false) refl; decided = λ u b d. absurd (cc); drops = λ u b d. some_eq d; drop_is = λ d. (refl, refl); no_put = refl; not_over = refl; upgrade = λ d. absurd (cc); sought = seeks_drop o i v };
-    drop_reader = λ o i. record { call = refl; share = refl; same = start_same rw_call.Drop place.Reading place.DropRead refl; decided = λ u b d. absurd (cc); drops = λ u b d. some_eq d; drop_is = λ d. (refl, refl); no_put = refl; not_over = refl; upgrade = λ d. absurd (cc); sought = seeks_drop o i v };
-    drop_upgradable = λ o i. record { call = refl; share = refl; same = start_same rw_call.Drop place.Upgradable place.DropUpgradable refl; decided = λ u b d. absurd (cc); drops = λ u b d. some_eq d; drop_is = λ d. (refl, refl); no_put = refl; not_over = refl; upgrade = λ d. absurd (cc); sought = seeks_drop o i v };
-    drop_writer = λ o i. record { call = refl; share = refl; same = start_same rw_call.Drop place.Writing place.DropWrite refl; decided = λ u b d. absurd (cc); drops = λ u b d. some_eq d; drop_is = λ d. (refl, refl); no_put = refl; not_over = refl; upgrade = λ d. absurd (cc); sought = seeks_drop o i v };
-    upgrade = λ i. record { call = refl; share = refl; same = start_same rw_call.Upgrade place.Upgradable place.Upgrade refl; decided = λ u b d. absurd (cc); drops = λ u b d. absurd (cc); drop_is = λ d. absurd (cc); no_put = refl; not_over = refl; upgrade = λ d. refl; sought = seeks_upgrade (Some sought.Upgradable) i v };
-    try_upgrade = λ i. record { call = refl; share = refl; same = start_same rw_call.TryUpgrade place.Upgradable place.TryUpgrade refl; decided = λ u b d. absurd (cc); drops = λ u b d. absurd (cc); drop_is = λ d. absurd (cc); no_put = refl; not_over = refl; upgrade = λ d. refl; sought = seeks_try_upgrade (Some sought.Upgradable) i v };
-    downgrade_upgradable = λ i. record { call = refl; share = refl; same = start_same rw_call.Downgrade place.Upgradable (place.ReleaseTurn ending.Reading) refl; decided = λ u b d. absurd (cc); drops = λ u b d. some_eq d; drop_is = λ d. absurd (cc); no_put = refl; not_over = refl; upgrade = λ d. refl; sought = seeks_downgrade (Some sought.Upgradable) i v };
-    downgrade_writer = λ i. record { call = refl; share = refl; same = start_same rw_call.Downgrade place.Writing (place.Down false) refl; decided = λ u b d. absurd (cc); drops = λ u b d. absurd (cc); drop_is = λ d. absurd (cc); no_put = refl; not_over = refl; upgrade = λ d. refl; sought = seeks_downgrade (Some sought.Write) i v };
-    to_upgradable = λ i. record { call = refl; share = refl; same = start_same rw_call.ToUpgradable place.Writing (place.Down true) refl; decided = λ u b d. absurd (cc); drops = λ u b d. absurd (cc); drop_is = λ d. absurd (cc); no_put = refl; not_over = refl; upgrade = λ d. refl; sought = seeks_downgrade_to_upgradable (Some sought.Write) i v };
+    poll_no_writer = λ o i a. record { call = refl; share = refl; same = same_at place.AskNoWriter; decided = λ u b d. absurd (cc); drops = λ u b d. absurd (cc); gives = λ u b d. absurd (cc); lacking = λ h. absurd (cc); drop_is = λ d. absurd (cc); no_put = refl; not_over = refl; upgrade = λ d. refl; sought = seeks_poll o i v };
+    poll_turn = λ p o i a. record { call = refl; share = refl; same = same_at (place.WaitTurn p); decided = λ u b d. absurd (cc); drops = λ u b d. absurd (cc); gives = λ u b d. absurd (cc); lacking = λ h. absurd (cc); drop_is = λ d. absurd (cc); no_put = refl; not_over = refl; upgrade = λ d. refl; sought = seeks_poll o i v };
+    poll_no_readers = λ u o i a. record { call = refl; share = refl; same = same_at (place.AwaitNoReaders u); decided = λ y b d. absurd (cc); drops = λ y b d. absurd (cc); gives = λ u b d. absurd (cc); lacking = λ h. absurd (cc); drop_is = λ d. absurd (cc); no_put = refl; not_over = refl; upgrade = λ d. refl; sought = seeks_poll o i v };
+    poll_upgrade = λ o i a. record { call = refl; share = refl; same = same_at (place.LookUnlisted true); decided = λ u b d. absurd (cc); drops = λ u b d. absurd (cc); gives = λ u b d. absurd (cc); lacking = λ h. absurd (cc); drop_is = λ d. absurd (cc); no_put = refl; not_over = refl; upgrade = λ d. refl; sought = seeks_poll o i v };
+    drop_made = λ w o i. record { call = refl; share = refl; same = start_same rw_call.Drop (place.Made w) place.Out refl; decided = λ u b d. absurd (cc); drops = λ u b d. some_eq d; gives = λ u b d. refl; lacking = λ h. absurd (cc); drop_is = λ d. (refl, refl); no_put = refl; not_over = refl; upgrade = λ d. absurd (cc); sought = seeks_drop o i v };
+    drop_no_writer = λ o i. record { call = refl; share = refl; same = start_same rw_call.Drop place.AskNoWriter place.CancelRead refl; decided = λ u b d. absurd (cc); drops = λ u b d. some_eq d; gives = λ u b d. refl; lacking = λ h. absurd (cc); drop_is = λ d. (refl, refl); no_put = refl; not_over = refl; upgrade = λ d. absurd (cc); sought = seeks_drop o i v };
+    drop_turn = λ p o i. record { call = refl; share = refl; same = start_same rw_call.Drop (place.WaitTurn p) place.CancelTurn refl; decided = λ u b d. absurd (cc); drops = λ u b d. some_eq d; gives = λ u b d. refl; lacking = λ h. absurd (cc); drop_is = λ d. (refl, refl); no_put = refl; not_over = refl; upgrade = λ d. absurd (cc); sought = seeks_drop o i v };
+    drop_no_readers = λ u o i. record { call = refl; share = refl; same = start_same rw_call.Drop (place.AwaitNoReaders u) place.CancelAwait refl; decided = λ y b d. absurd (cc); drops = λ y b d. some_eq d; gives = λ u b d. refl; lacking = λ h. absurd (cc); drop_is = λ d. (refl, refl); no_put = refl; not_over = refl; upgrade = λ d. absurd (cc); sought = seeks_drop o i v };
+    drop_upgrade = λ o i. record { call = refl; share = refl; same = start_same rw_call.Drop (place.LookUnlisted true) (place.Unmark false) refl; decided = λ u b d. absurd (cc); drops = λ u b d. some_eq d; gives = λ u b d. refl; lacking = λ h. absurd (cc); drop_is = λ d. (refl, refl); no_put = refl; not_over = refl; upgrade = λ d. absurd (cc); sought = seeks_drop o i v };
+    drop_reader = λ o i. record { call = refl; share = refl; same = start_same rw_call.Drop place.Reading place.DropRead refl; decided = λ u b d. absurd (cc); drops = λ u b d. some_eq d; gives = λ u b d. refl; lacking = λ h. absurd (cc); drop_is = λ d. (refl, refl); no_put = refl; not_over = refl; upgrade = λ d. absurd (cc); sought = seeks_drop o i v };
+    drop_upgradable = λ o i. record { call = refl; share = refl; same = start_same rw_call.Drop place.Upgradable place.DropUpgradable refl; decided = λ u b d. absurd (cc); drops = λ u b d. some_eq d; gives = λ u b d. refl; lacking = λ h. absurd (cc); drop_is = λ d. (refl, refl); no_put = refl; not_over = refl; upgrade = λ d. absurd (cc); sought = seeks_drop o i v };
+    drop_writer = λ o i. record { call = refl; share = refl; same = start_same rw_call.Drop place.Writing place.DropWrite refl; decided = λ u b d. absurd (cc); drops = λ u b d. some_eq d; gives = λ u b d. refl; lacking = λ h. absurd (cc); drop_is = λ d. (refl, refl); no_put = refl; not_over = refl; upgrade = λ d. absurd (cc); sought = seeks_drop o i v };
+    upgrade = λ i. record { call = refl; share = refl; same = start_same rw_call.Upgrade place.Upgradable place.Upgrade refl; decided = λ u b d. absurd (cc); drops = λ u b d. absurd (cc); gives = λ u b d. absurd (cc); lacking = λ h. absurd (cc); drop_is = λ d. absurd (cc); no_put = refl; not_over = refl; upgrade = λ d. refl; sought = seeks_upgrade (Some sought.Upgradable) i v };
+    try_upgrade = λ i. record { call = refl; share = refl; same = start_same rw_call.TryUpgrade place.Upgradable place.TryUpgrade refl; decided = λ u b d. absurd (cc); drops = λ u b d. absurd (cc); gives = λ u b d. absurd (cc); lacking = λ h. absurd (cc); drop_is = λ d. absurd (cc); no_put = refl; not_over = refl; upgrade = λ d. refl; sought = seeks_try_upgrade (Some sought.Upgradable) i v };
+    downgrade_upgradable = λ i. record { call = refl; share = refl; same = start_same rw_call.Downgrade place.Upgradable (place.ReleaseTurn ending.Reading) refl; decided = λ u b d. absurd (cc); drops = λ u b d. some_eq d; gives = λ u b d. refl; lacking = λ h. absurd (cc); drop_is = λ d. absurd (cc); no_put = refl; not_over = refl; upgrade = λ d. refl; sought = seeks_downgrade (Some sought.Upgradable) i v };
+    downgrade_writer = λ i. record { call = refl; share = refl; same = start_same rw_call.Downgrade place.Writing (place.Down false) refl; decided = λ u b d. absurd (cc); drops = λ u b d. absurd (cc); gives = λ u b d. absurd (cc); lacking = λ h. absurd (cc); drop_is = λ d. absurd (cc); no_put = refl; not_over = refl; upgrade = λ d. refl; sought = seeks_downgrade (Some sought.Write) i v };
+    to_upgradable = λ i. record { call = refl; share = refl; same = start_same rw_call.ToUpgradable place.Writing (place.Down true) refl; decided = λ u b d. absurd (cc); drops = λ u b d. absurd (cc); gives = λ u b d. absurd (cc); lacking = λ h. absurd (cc); drop_is = λ d. absurd (cc); no_put = refl; not_over = refl; upgrade = λ d. refl; sought = seeks_downgrade_to_upgradable (Some sought.Write) i v };
   }) where
     made : (w : _) (o : Option Sought) (i : Inputs) → Begin_so (Outside rest.Pending) o (Begin call.Poll i) (place.Made w) rw_call.Poll (within kind.LaterPoll rest.Pending) (Rattle.rwlock_machine.specs.Program.first_poll w)
-    made wanted.Read o i = record { call = refl; share = refl; same = start_same rw_call.Poll (place.Made wanted.Read) (place.EnterRead false) refl; decided = λ u b d. absurd (cc); drops = λ u b d. absurd (cc); drop_is = λ d. absurd (cc); no_put = refl; not_over = refl; upgrade = λ d. refl; sought = seeks_poll o i v }
-    made wanted.UpgradableRead o i = record { call = refl; share = refl; same = start_same rw_call.Poll (place.Made wanted.UpgradableRead) (place.EnterTurn purpose.UpgradableRead) refl; decided = λ u b d. absurd (cc); drops = λ u b d. absurd (cc); drop_is = λ d. absurd (cc); no_put = refl; not_over = refl; upgrade = λ d. refl; sought = seeks_poll o i v }
-    made wanted.Write o i = record { call = refl; share = refl; same = start_same rw_call.Poll (place.Made wanted.Write) (place.EnterTurn purpose.Write) refl; decided = λ u b d. absurd (cc); drops = λ u b d. absurd (cc); drop_is = λ d. absurd (cc); no_put = refl; not_over = refl; upgrade = λ d. refl; sought = seeks_poll o i v }
+    made wanted.Read o i = record { call = refl; share = refl; same = start_same rw_call.Poll (place.Made wanted.Read) (place.EnterRead false) refl; decided = λ u b d. absurd (cc); drops = λ u b d. absurd (cc); gives = λ u b d. absurd (cc); lacking = λ h. absurd (cc); drop_is = λ d. absurd (cc); no_put = refl; not_over = refl; upgrade = λ d. refl; sought = seeks_poll o i v }
+    made wanted.UpgradableRead o i = record { call = refl; share = refl; same = start_same rw_call.Poll (place.Made wanted.UpgradableRead) (place.EnterTurn purpose.UpgradableRead) refl; decided = λ u b d. absurd (cc); drops = λ u b d. absurd (cc); gives = λ u b d. absurd (cc); lacking = λ h. absurd (cc); drop_is = λ d. absurd (cc); no_put = refl; not_over = refl; upgrade = λ d. refl; sought = seeks_poll o i v }
+    made wanted.Write o i = record { call = refl; share = refl; same = start_same rw_call.Poll (place.Made wanted.Write) (place.EnterTurn purpose.Write) refl; decided = λ u b d. absurd (cc); drops = λ u b d. absurd (cc); gives = λ u b d. absurd (cc); lacking = λ h. absurd (cc); drop_is = λ d. absurd (cc); no_put = refl; not_over = refl; upgrade = λ d. refl; sought = seeks_poll o i v }
 
   undecided : (w : Within) (o : Option Answer) → is_decided (inside w o) ≡ false → o ≡ None
   undecided w None h = refl
@@ -235,6 +238,8 @@ module _ (v : ℕ) (t : TurnPlace) where
         same = same_at x;
         decided = λ u b d. inside_eq w u (verdict v x t) (Some b) d;
         drops = λ u b some. let none = undecided w (verdict v x t) u in absurd (cc);
+        gives = λ u b some. let none = undecided w (verdict v x t) u in absurd (cc);
+        lacking = λ h. (verdict v x t, refl);
         drop_is = λ d. absurd (cc);
         no_put = refl;
         not_over = refl;

@@ -67,6 +67,9 @@ stood t p k = owns.stood t.lock t.stages t.sought t.value k.lock k.fits p
 each : (t : Table) → Laws t → (p : ℕ) → HasItsOwn (view_of t) p (standing_of (view_of t) p)
 each t k p = owns.each t.lock t.stages t.sought t.value k.lock k.fits p
 
+not_pending : (t : Table) (p : ℕ) → Laws t → (u : Within) → standing_of (view_of t) p ≢ inside u (Some answer.Pending)
+not_pending t p k u e = owns.not_pending t.lock t.stages t.sought t.value k.lock k.fits p u e
+
 sought_is : (t : Table) (p : ℕ) → sought_by (view_of t) p ≡ right_of (seeking t.sought p)
 sought_is t p = view.seeks_at t.sought p
 
@@ -92,14 +95,15 @@ polls_possible o _ _ e = refl
 impossible : (t : Table) (m : Move) → Laws t → call_of (view_of t) m ≡ None → Legal (view_of t) m answer.NotPossible (view_of t)
 impossible t m k none = record {
   possible = record { exactly = ((λ e. none), (λ e. refl)); unchanged = λ e. refl };
-  one_change = record { deed = nothing; state = refl; allowed = tt; turn_list = refl; no_readers = refl; no_writer = refl; starved_limit = refl; readers_limit = refl; opening_value = refl; sought = set_back (view_of t).sought m.party; others = λ q apart. refl; parties = refl; parting = λ h. refl };
+  one_change = record { deed = nothing; state = refl; allowed = tt; turn_list = refl; no_readers = refl; no_writer = refl; starved_limit = refl; readers_limit = refl; opening_value = refl; sought = set_back (view_of t).sought m.party; others = λ q apart. refl; parties = refl; found_memory = λ list e. absurd (cc); refused_idly = λ y. refl; parting = λ h. refl; giving_up = λ g. absurd (cc) };
   carries = record {
     ready = λ got d. absurd (cc (decides_nothing (standing_of (view_of t) m.party) (answer.Ready got) d.0 d.1));
     granted = λ got d. absurd (cc (decides_nothing (standing_of (view_of t) m.party) (answer.Granted got) d.0 d.1));
   };
-  waits = λ d. absurd (cc (decides_nothing (standing_of (view_of t) m.party) answer.Pending d.0 d.1));
+  waits = record { waiting = λ e. absurd (cc); not_before = not_pending t m.party k };
   refused_for_cause = record {
     cause = λ n d. absurd (cc (decides_nothing (standing_of (view_of t) m.party) (answer.Refused n) d.0 d.1));
+    memory = λ d. absurd (cc (decides_nothing (standing_of (view_of t) m.party) (refused refusal.Memory) d.0 d.1));
     after_ready = ((λ e. absurd (cc)), (λ e. absurd (cc (polls_possible (sought_by (view_of t) m.party) (standing_of (view_of t) m.party) m.what none))));
   };
   leaves_clear = record { each = each t k; refused = λ h. absurd (cc); gives_up_turn = λ h e. absurd (cc); keeps_turn = λ h e. absurd (cc) };
@@ -195,14 +199,15 @@ polled_again t p i k at =
     let unlike : (b : Answer) → decision (refused refusal.Finished) (standing_of (view_of t) p) ≡ Some b → is_refused b ≡ false → ⊥ = λ b d h. true≢false (ap is_refused (only b d) ∙ h) in
     record {
       possible = record { exactly = ((λ e. absurd (true≢false (ap is_possible e))), (λ e. absurd (some_none (sym called ∙ e)))); unchanged = λ e. refl };
-      one_change = record { deed = nothing; state = refl; allowed = tt; turn_list = refl; no_readers = refl; no_writer = refl; starved_limit = refl; readers_limit = refl; opening_value = refl; sought = set_back (view_of t).sought p; others = λ q apart. refl; parties = refl; parting = λ h. refl };
+      one_change = record { deed = nothing; state = refl; allowed = tt; turn_list = refl; no_readers = refl; no_writer = refl; starved_limit = refl; readers_limit = refl; opening_value = refl; sought = set_back (view_of t).sought p; others = λ q apart. refl; parties = refl; found_memory = λ list e. absurd (cc); refused_idly = λ y. refl; parting = λ h. refl; giving_up = λ g. absurd (cc) };
       carries = record {
         ready = λ got d. absurd (unlike (answer.Ready got) d.1 refl);
         granted = λ got d. absurd (unlike (answer.Granted got) d.1 refl);
       };
-      waits = λ d. absurd (unlike answer.Pending d.1 refl);
+      waits = record { waiting = λ e. absurd (cc); not_before = not_pending t p k };
       refused_for_cause = record {
         cause = λ n d. (refusal.Finished, sym (refused_number _ n (only (answer.Refused n) d.1)), refl);
+        memory = λ d. let never = only (refused refusal.Memory) d.1 in absurd (cc);
         after_ready = ((λ e. over), (λ e. refl));
       };
       leaves_clear = record { each = each t k; refused = λ h. absurd (false≢true h); gives_up_turn = λ h e. absurd (false≢true h); keeps_turn = λ h e. absurd (false≢true h) };
@@ -295,15 +300,19 @@ module _ (t : Table) (n : ℕ) (p : ℕ) (i : Inputs) where
           sought = set_back (view_of t).sought p;
           others = λ q apart. stood left q k2 ∙ (unvalued t.value n (stage_at t.stages q) (place_at t.lock.places q) (turn_at t.lock.turn.places q) (apart_from q apart) ∙ sym (stood t q k));
           parties = view.length-standings n t.stages t.lock.places t.lock.turn.places k.fits.as_many ∙ sym (view.length-standings t.value t.stages t.lock.places t.lock.turn.places k.fits.as_many);
+          found_memory = λ list e. absurd (cc);
+          refused_idly = λ d. absurd (unlike (refused refusal.Memory) d.1 refl);
+          giving_up = λ g. absurd (cc);
           parting = λ h. let no : is_decided (outside rest.Holding) || is_drop (Begin (call.Put n) i) ≡ true = rw is at h in absurd (false≢true no);
         };
         carries = record {
           ready = λ got d. absurd (unlike (answer.Ready got) d.1 refl);
           granted = λ got d. (granted_eq n got (only (answer.Granted got) d.1), own_now.1);
         };
-        waits = λ d. absurd (unlike answer.Pending d.1 refl);
+        waits = record { waiting = λ e. absurd (cc); not_before = not_pending left p k2 };
         refused_for_cause = record {
           cause = λ c d. absurd (unlike (answer.Refused c) d.1 refl);
+          memory = λ d. absurd (unlike (refused refusal.Memory) d.1 refl);
           after_ready = ((λ e. absurd (true≢false (ap is_granted e))), (λ e. absurd (false≢true (sym not_over ∙ e))));
         };
         leaves_clear = record { each = each left k2; refused = λ h. absurd (false≢true h); gives_up_turn = λ h e. absurd (false≢true h); keeps_turn = λ h e. absurd (false≢true h) };

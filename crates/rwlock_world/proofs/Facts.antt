@@ -40,7 +40,7 @@ use Rattle.rwlock_world.specs.Legal.{IsCause}
 use Rattle.rwlock_world.specs.Plans.{strays, course_of}
 use Rattle.rwlock_world.specs.Table.{IsTable}
 use Rattle.rwlock_world.specs.View.{Share, passing, upgrading, waiting, writing, turn_as, share_of, turn_by, is_reading, verdict, seen}
-use Rattle.rwlock_world.proofs.Rows.{deed_at, answer_at, verdict_then, is_after_ready, Reads, Shares, Finding, is_got, WaitsAt, Refuses, Reason, Judged, KeepsUpgrade, RefusedAt, Row, row}
+use Rattle.rwlock_world.proofs.Rows.{deed_at, answer_at, verdict_then, is_after_ready, Reads, Shares, Finding, is_got, WaitsAt, Refuses, Reason, Judged, Room, keeps_what_it_has, lacks_memory, KeepsUpgrade, RefusedAt, Row, row}
 use Rattle.rwlock_world.proofs.Owns as owns
 use Rattle.rwlock_world.proofs.Sound.{none_marked}
 use Rattle.rwlock_world.proofs.Views as view
@@ -52,18 +52,23 @@ WaitsIn k p (place.AwaitNoReaders u) = told_in k.no_readers p ≡ Some mark.Wait
 WaitsIn k p (place.WaitTurn q) = told_in k.turn.entries p ≡ Some mark.Waiting
 WaitsIn k p _ = ⊥
 
--- why a call is decided on an answer
-abbrev pub ReasonAs : Move → World → RwLock → World → ℕ → Place → Answer → Type 0
-ReasonAs m old k new v to answer.Pending = WaitsIn k m.party to
-ReasonAs m old k new v to (answer.Ready got) = (got ≡ Value v) × (is_got to ≡ true)
-ReasonAs m old k new v to (answer.Granted got) = (got ≡ Value v) × (is_got to ≡ true)
-ReasonAs m old k new v to (answer.Refused n) = (r : Refusal) × (n ≡ number_of r) × IsCause old m new r
-ReasonAs m old k new v to _ = Unit {0}
+-- a refusal for memory does nothing else, and comes from a join, or from within a call on the turn
+abbrev pub Idle : Place → Deed Change ListName → Refusal → Type 0
+Idle x d refusal.Memory = (d ≡ nothing) × (lacks_memory x ≡ true)
+Idle x d r = Unit {0}
 
-abbrev pub JudgedAs : Move → World → RwLock → World → ℕ → Place → Deed Change ListName → Option Answer → Option Answer → Type 0
-JudgedAs m old k new v to d (Some b) o = (o ≡ Some b) × (gives_back d ≡ true)
-JudgedAs m old k new v to d None None = Unit {0}
-JudgedAs m old k new v to d None (Some b) = ReasonAs m old k new v to b
+-- why a call is decided on an answer
+abbrev pub ReasonAs : Move → World → RwLock → World → ℕ → Place → Place → Deed Change ListName → Answer → Type 0
+ReasonAs m old k new v x to d answer.Pending = WaitsIn k m.party to
+ReasonAs m old k new v x to d (answer.Ready got) = (got ≡ Value v) × (is_got to ≡ true)
+ReasonAs m old k new v x to d (answer.Granted got) = (got ≡ Value v) × (is_got to ≡ true)
+ReasonAs m old k new v x to d (answer.Refused n) = (r : Refusal) × (n ≡ number_of r) × IsCause old m new r × Idle x d r
+ReasonAs m old k new v x to d _ = Unit {0}
+
+abbrev pub JudgedAs : Move → World → RwLock → World → ℕ → Place → Place → Deed Change ListName → Option Answer → Option Answer → Type 0
+JudgedAs m old k new v x to d (Some b) o = (o ≡ Some b) × (gives_back d ≡ true)
+JudgedAs m old k new v x to d None None = Unit {0}
+JudgedAs m old k new v x to d None (Some b) = ReasonAs m old k new v x to d b
 
 pub record Facts (m : Move) (l k : RwLock) (ss : List Stage) (os : List (Option Sought)) (ts : List Stage) (ps : List (Option Sought)) (v : ℕ) (x : Place) (n : Next) : Type 0 where
   pub deed : Deed Change ListName
@@ -77,7 +82,9 @@ pub record Facts (m : Move) (l k : RwLock) (ss : List Stage) (os : List (Option 
   pub no_writer : k.no_writer ≡ no_writer_after m.party deed l.no_writer
   pub starved_limit : k.turn.limit ≡ l.turn.limit
   pub others : (q : ℕ) → q ≢ m.party → turn_at k.turn.places q ≡ turn_at l.turn.places q
-  pub judged : JudgedAs m (seen l ss os v) k (seen k ts ps v) v (place_after n) deed (verdict v x (turn_at l.turn.places m.party)) (verdict_then v (course_of x) (turn_at k.turn.places m.party) n)
+  pub judged : JudgedAs m (seen l ss os v) k (seen k ts ps v) v x (place_after n) deed (verdict v x (turn_at l.turn.places m.party)) (verdict_then v (course_of x) (turn_at k.turn.places m.party) n)
+  pub room : Room (inputs_of m.what).memory deed
+  pub holds_on : keeps_what_it_has (verdict v x (turn_at l.turn.places m.party)) deed ≡ true
   pub over : is_after_ready (answer_at (course_of x) v n) ≡ false
   pub upgrade : KeepsUpgrade v x n
   pub refused : RefusedAt x n
@@ -211,18 +218,26 @@ module _ (m : Move) (l k : RwLock) (ss : List Stage) (os : List (Option Sought))
         subst P (sym h) (rw (or2.1) (waits_at p l.no_readers (sym er) or2.0))
     waits_here _ g ow or ew er h = absurd h
 
-    reasons : (b : Answer) → Reason memory l v x f b → ReasonAs m (seen l ss os v) k (seen k ts ps v) v to b
+    idle : (q : Refusal) → Refuses memory l x f q → Idle x (deed_at x f) q
+    idle refusal.Memory h = (h.2, h.4)
+    idle refusal.Readers h = tt
+    idle refusal.Starved h = tt
+    idle refusal.Permits h = tt
+    idle refusal.Generations h = tt
+    idle refusal.Finished h = tt
+
+    reasons : (b : Answer) → Reason memory l v x f b → ReasonAs m (seen l ss os v) k (seen k ts ps v) v x to (deed_at x f) b
     reasons answer.Pending h = waits_here x f c.no_writer c.no_readers (c.same.standing_w ∙ sym (c.laws.owners_no_writer p)) (c.same.standing_r ∙ sym (c.laws.owners_no_readers p)) h
     reasons (answer.Ready got) h = h
     reasons (answer.Granted got) h = h
-    reasons (answer.Refused n) h = (h.0, h.1, cause h.0 h.2)
+    reasons (answer.Refused n) h = (h.0, h.1, cause h.0 h.2, idle h.0 h.2)
     reasons answer.Stepped h = tt
     reasons answer.None h = tt
     reasons answer.GivenBack h = tt
     reasons answer.Waiting h = tt
     reasons answer.NotPossible h = tt
 
-    judges : (was now : Option Answer) → Judged memory l v x f was now → JudgedAs m (seen l ss os v) k (seen k ts ps v) v to (deed_at x f) was now
+    judges : (was now : Option Answer) → Judged memory l v x f was now → JudgedAs m (seen l ss os v) k (seen k ts ps v) v x to (deed_at x f) was now
     judges (Some b) o h = h
     judges None None h = tt
     judges None (Some b) h = reasons b h
@@ -241,6 +256,8 @@ module _ (m : Move) (l k : RwLock) (ss : List Stage) (os : List (Option Sought))
       starved_limit = ap (λ t. t.limit) still;
       others = λ q apart. ap (λ t. turn_at t.places q) still;
       judged = judges (verdict v x (turn_at l.turn.places p)) (verdict_then v (course_of x) (turn_at k.turn.places p) (next_of x f)) (r.judged (turn_at l.turn.places p) (turn_at k.turn.places p));
+      room = r.room;
+      holds_on = r.holds_on (turn_at l.turn.places p);
       over = r.over;
       upgrade = r.upgrade;
       refused = r.refused;

@@ -10,21 +10,23 @@ use Rattle.lock_world.specs.declared.moves.Answer.TheVariants as answer
 use Rattle.lock_world.specs.declared.moves.Got.TheVariants.{Value}
 use Rattle.lock_world.specs.declared.moves.Move.{Move}
 use Rattle.lock_world.specs.declared.refusal.Refusal.{Refusal}
+use Rattle.lock_world.specs.declared.refusal.Refusal.TheVariants as refusal
 use Rattle.lock_world.specs.declared.standing.Rest.TheVariants as rest
 use Rattle.lock_world.specs.declared.standing.Stage.{Stage}
 use Rattle.lock_world.specs.declared.standing.Stage.TheVariants.{Forgotten}
 use Rattle.lock_world.specs.declared.standing.Within.{Within}
 use Rattle.lock_world.specs.Accounts.{sought_after}
-use Rattle.lock_world.specs.Frame.{is_drop, is_refusal}
+use Rattle.lock_world.specs.Frame.{is_drop, is_giving_back, is_refusal}
 use Rattle.lock_world.specs.Refusals.{number_of}
 use Rattle.lock_world.specs.Rights.{Right, read, upgradable, write}
-use Rattle.lock_world.specs.Standings.{Standing, inside, StandsAfter, is_decided, is_possible, decision}
-use Rattle.lock_world.specs.Steps.{Deed}
+use Rattle.lock_world.specs.Standings.{Standing, inside, StandsAfter, IsUndecided, is_decided, is_possible, decision, refused}
+use Rattle.lock_world.specs.Steps.{Deed, nothing, does, joins}
 use Rattle.lock_world.proofs.Equations.{some_eq, some_none}
 use Rattle.mutex_machine.specs.declared.program.Place.{Place as TurnPlace}
 use Rattle.mutex_machine.specs.Machine.{place_at as turn_at}
 use Rattle.mutex_machine.proofs.Parts.{out_free, waiting_free}
 use Rattle.rwlock_machine.specs.declared.program.Next.{Next}
+use Rattle.rwlock_machine.specs.declared.program.Next.TheVariants as next
 use Rattle.rwlock_machine.specs.declared.program.Place.{Place}
 use Rattle.rwlock_machine.specs.declared.program.Place.TheVariants as place
 use Rattle.rwlock_machine.specs.declared.program.Purpose.TheVariants as purpose
@@ -34,31 +36,53 @@ use Rattle.rwlock_machine.specs.Machine.{RwLock, place_at}
 use Rattle.rwlock_machine.specs.Acts.{IsRwLock}
 use Rattle.rwlock_world.specs.declared.world.table.Sought.{Sought}
 use Rattle.rwlock_world.specs.declared.world.table.Sought.TheVariants as sought
-use Rattle.rwlock_world.specs.Changes.{Change, ListName, gives_back}
+use Rattle.rwlock_world.specs.Changes.{Change, ListName, gives_back, gives_up}
 use Rattle.rwlock_world.specs.State as state
 use Rattle.rwlock_world.specs.State.{State, World, standing_of, sought_by, is_upgrader, told_in, HasTurn, IsClear}
 use Rattle.rwlock_world.specs.Legal.{call_of, DecidesOn, IsPossible, ChangesOneThing, HasSought, LeavesClear, Carries, Waits, list_for, IsCause, IsRefusedForCause, IsValueKept, EndsProperly, KeepsUpgrades, Legal}
-use Rattle.rwlock_world.specs.Plans.{answer_of, stage_after, stage_at, seeking, sought_at, agrees, course_of, is_on_course}
+use Rattle.rwlock_world.specs.Plans.{Course, answer_of, stage_after, stage_at, seeking, sought_at, agrees, course_of, is_on_course}
 use Rattle.rwlock_world.specs.Table.{IsTable}
 use Rattle.rwlock_world.specs.View.{is_upgrade, right_of, verdict, stands_as, seen}
 use Rattle.rwlock_world.proofs.Paths.{Keeps}
-use Rattle.rwlock_world.proofs.Rows.{answer_at, verdict_then, is_after_ready, is_got, is_made}
-use Rattle.rwlock_world.proofs.Facts.{WaitsIn, ReasonAs, JudgedAs, Facts}
+use Rattle.rwlock_world.proofs.Rows.{Room, keeps_what_it_has, lacks_memory, answer_at, verdict_then, is_after_ready, is_got, is_made}
+use Rattle.rwlock_world.proofs.Facts.{WaitsIn, Idle, ReasonAs, JudgedAs, Facts}
 use Rattle.rwlock_world.proofs.Calls.{Moves}
 use Rattle.rwlock_world.proofs.Endings as ends
 use Rattle.rwlock_world.proofs.Owns as owns
 use Rattle.rwlock_world.proofs.Views as view
 
 -- a step keeps what was decided
-keep : (m : Move) (old : World) (k : RwLock) (new : World) (v : ℕ) (to : Place) (d : Deed Change ListName) (was now : Option Answer) (b : Answer) → JudgedAs m old k new v to d was now → was ≡ Some b → (now ≡ Some b) × (gives_back d ≡ true)
-keep m old k new v to d (Some c) now b j e = (j.0 ∙ e, j.1)
-keep m old k new v to d None now b j e = absurd (cc)
+keep : (m : Move) (old : World) (k : RwLock) (new : World) (v : ℕ) (x to : Place) (d : Deed Change ListName) (was now : Option Answer) (b : Answer) → JudgedAs m old k new v x to d was now → was ≡ Some b → (now ≡ Some b) × (gives_back d ≡ true)
+keep m old k new v x to d (Some c) now b j e = (j.0 ∙ e, j.1)
+keep m old k new v x to d None now b j e = absurd (cc)
 
 -- what a step decides was decided, or has a reason
-judge : (m : Move) (old : World) (k : RwLock) (new : World) (v : ℕ) (to : Place) (d : Deed Change ListName) (was now : Option Answer) (b : Answer) → JudgedAs m old k new v to d was now → now ≡ Some b → (was ≡ Some b) ⊎ ReasonAs m old k new v to b
-judge m old k new v to d (Some c) now b j e = inl (sym j.0 ∙ e)
-judge m old k new v to d None None b j e = absurd (cc)
-judge m old k new v to d None (Some c) b j e = let P : Answer → Type 0 = λ a. ReasonAs m old k new v to a in inr (subst P (some_eq e) j)
+judge : (m : Move) (old : World) (k : RwLock) (new : World) (v : ℕ) (x to : Place) (d : Deed Change ListName) (was now : Option Answer) (b : Answer) → JudgedAs m old k new v x to d was now → now ≡ Some b → (was ≡ Some b) ⊎ ReasonAs m old k new v x to d b
+judge m old k new v x to d (Some c) now b j e = inl (sym j.0 ∙ e)
+judge m old k new v x to d None None b j e = absurd (cc)
+judge m old k new v x to d None (Some c) b j e = let P : Answer → Type 0 = λ a. ReasonAs m old k new v x to d a in inr (subst P (some_eq e) j)
+
+-- a refusal for memory is that one
+idle_memory : (x : Place) (d : Deed Change ListName) (r : Refusal) → number_of refusal.Memory ≡ number_of r → Idle x d r → (d ≡ nothing) × (lacks_memory x ≡ true)
+idle_memory x d refusal.Memory e h = h
+idle_memory x d _ e h = absurd (cc)
+
+found_room : {memory : Bool} (d : Deed Change ListName) (list : ListName) → Room memory d → d ≡ does list joins → memory ≡ true
+found_room {memory} d list r e = let P : Deed Change ListName → Type 0 = Room memory in subst P e r
+
+-- whoever gives something up was decided
+given_up : (o : Option Answer) (d : Deed Change ListName) → keeps_what_it_has o d ≡ true → gives_up d ≡ true → (b : Answer) × (o ≡ Some b)
+given_up (Some b) d h g = (b, refl)
+given_up None d h g = absurd (cc)
+
+-- what is answered Pending was decided then
+pending_now : (v : ℕ) (c : Course) (t : TurnPlace) (n : Next) → answer_at c v n ≡ answer.Pending → verdict_then v c t n ≡ Some answer.Pending
+pending_now v c t (next.Do a q) e = absurd (cc)
+pending_now v c t (next.End y q) e = ap Some e
+
+undecided_inside : (s : Standing) (w : Within) (a : Option Answer) → s ≡ inside w a → is_decided s ≡ false → IsUndecided s
+undecided_inside s w None e h = (w, e)
+undecided_inside s w (Some b) e h = absurd (cc)
 
 or_split : (a b : Bool) → a || b ≡ true → (a ≡ true) ⊎ (b ≡ true)
 or_split true b h = inl refl
@@ -191,7 +215,7 @@ module _ (m : Move) (l k : RwLock) (ss : List Stage) (os : List (Option Sought))
     decides = ap (decision said) stands ∙ ends.decided_now w x c.course v u n
 
     keeps_to : (b : Answer) → verdict v x t ≡ Some b → (verdict_then v (course_of x) u n ≡ Some b) × (gives_back d ≡ true)
-    keeps_to b e = keep m old k new v to d (verdict v x t) (verdict_then v (course_of x) u n) b c.facts.judged e
+    keeps_to b e = keep m old k new v x to d (verdict v x t) (verdict_then v (course_of x) u n) b c.facts.judged e
 
     parting : is_decided (standing_of old p) || is_drop m.what ≡ true → gives_back d ≡ true
     parting h = elim (or_split (is_decided (standing_of old p)) (is_drop m.what) h) as (λ _. gives_back d ≡ true) [
@@ -199,8 +223,25 @@ module _ (m : Move) (l k : RwLock) (ss : List Stage) (os : List (Option Sought))
       | inr y ↦ (keeps_to answer.GivenBack (c.moves.drop_is y).0).1
     ]
 
+    giving_up : gives_up d ≡ true → is_decided (standing_of old p) || is_giving_back m.what ≡ true
+    giving_up g =
+        let was = given_up (verdict v x t) d c.facts.holds_on g in
+        by_standing (is_decided (standing_of old p)) refl was.0 was.1
+      where
+        by_standing : (b : Bool) → is_decided (standing_of old p) ≡ b → (a : Answer) → verdict v x t ≡ Some a → b || is_giving_back m.what ≡ true
+        by_standing true e a is = refl
+        by_standing false e a is = let undecided : is_decided (stands_as v (stage_at ss p) here t) ≡ false = sym (ap is_decided stood) ∙ e in c.moves.gives undecided a is
+
     made : (r : List Bool) (a : state.Turn) (s : List Bool) (n1 : ℕ) (q : List Bool) (b : state.Turn) (z : List Bool) (n2 : ℕ) → r ≡ q → a ≡ b → s ≡ z → n1 ≡ n2 → Path State (record { readers = r; turn = a; starved = s; value = n1 }) (record { readers = q; turn = b; starved = z; value = n2 })
     made r a s n1 q b z n2 e f g h = cc
+
+    reason : (b : Answer) → DecidesOn old m said new b → (answer.GivenBack ≡ b) ⊎ ReasonAs m old k new v x to d b
+    reason b y =
+        let undecided : is_decided (stands_as v (stage_at ss p) here t) ≡ false = rw stood at y.0 in
+        elim (judge m old k new v x to d (verdict v x t) (verdict_then v (course_of x) u n) b c.facts.judged (sym decides ∙ y.1)) as (λ _. (answer.GivenBack ≡ b) ⊎ ReasonAs m old k new v x to d b) [
+          | inl e ↦ inl (c.moves.drops undecided b e)
+          | inr z ↦ inr z
+        ]
 
     one_change : ChangesOneThing old m said new
     one_change = record {
@@ -216,16 +257,11 @@ module _ (m : Move) (l k : RwLock) (ss : List Stage) (os : List (Option Sought))
       sought = map-set right_of os p (seeks n) ∙ ap (set (map right_of os) p) (sym (c.moves.sought n) ∙ ap (λ o. sought_after o m.what said) (sym sought_was));
       others = others;
       parties = view.length-standings v ts k.places k.turn.places c.new_fits.as_many ∙ (length-set ss p (stage_after w n) ∙ sym (view.length-standings v ss l.places l.turn.places c.fits.as_many));
+      found_memory = λ list e. found_room d list c.facts.room e;
+      refused_idly = λ y. elim (reason (refused refusal.Memory) y) as (λ _. d ≡ nothing) [ inl e ↦ absurd (cc) | inr z ↦ (idle_memory x d z.0 z.1 z.3).0 ];
       parting = parting;
+      giving_up = giving_up;
     }
-
-    reason : (b : Answer) → DecidesOn old m said new b → (answer.GivenBack ≡ b) ⊎ ReasonAs m old k new v to b
-    reason b y =
-        let undecided : is_decided (stands_as v (stage_at ss p) here t) ≡ false = rw stood at y.0 in
-        elim (judge m old k new v to d (verdict v x t) (verdict_then v (course_of x) u n) b c.facts.judged (sym decides ∙ y.1)) as (λ _. (answer.GivenBack ≡ b) ⊎ ReasonAs m old k new v to b) [
-          | inl e ↦ inl (c.moves.drops undecided b e)
-          | inr z ↦ inr z
-        ]
 
     -- ---- what the party has then
 
@@ -266,12 +302,27 @@ module _ (m : Move) (l k : RwLock) (ss : List Stage) (os : List (Option Sought))
         rw (seeks_right (place.WaitTurn purpose.Write) (Some sought.Write) write e refl refl) (ap (λ es. told_in es p) (out_of_turn new p new.state.turn free) ∙ h)
     waits_there _ e h = absurd h
 
-    waits : Waits old m said new
-    waits y = elim (reason answer.Pending y) as (λ _. told_in (list_for (sought_by new p) new.state.turn p new) p ≡ Some mark.Waiting) [ inl e ↦ absurd (cc) | inr z ↦ waits_there to refl z ]
+    waits : Waits m said new
+    waits = record {
+      waiting = λ e.
+          elim (judge m old k new v x to d (verdict v x t) (verdict_then v (course_of x) u n) answer.Pending c.facts.judged (pending_now v (course_of x) u n (sym answer_is ∙ e))) as (λ _. told_in (list_for (sought_by new p) new.state.turn p new) p ≡ Some mark.Waiting) [
+            | inl was ↦ absurd (owns.pending_undecided v x t was)
+            | inr z ↦ waits_there to refl z
+          ];
+      not_before = λ y e. owns.not_pending k ts ps v c.new_laws c.new_fits p y e;
+    }
+
+    -- who is refused for want of memory was inside its call, and undecided
+    lacked : DecidesOn old m said new (refused refusal.Memory) → IsUndecided (standing_of old p)
+    lacked y =
+        let lacks : lacks_memory x ≡ true = elim (reason (refused refusal.Memory) y) as (λ _. lacks_memory x ≡ true) [ inl e ↦ absurd (cc) | inr z ↦ (idle_memory x d z.0 z.1 z.3).1 ] in
+        let it = c.moves.lacking lacks in
+        undecided_inside (standing_of old p) w it.0 (stood ∙ it.1) y.0
 
     refused_for_cause : IsRefusedForCause old m said new
     refused_for_cause = record {
-      cause = λ r y. elim (reason (answer.Refused r) y) as (λ _. (q : Refusal) × (r ≡ number_of q) × IsCause old m new q) [ inl e ↦ absurd (cc) | inr z ↦ z ];
+      cause = λ r y. elim (reason (answer.Refused r) y) as (λ _. (q : Refusal) × (r ≡ number_of q) × IsCause old m new q) [ inl e ↦ absurd (cc) | inr z ↦ (z.0, z.1, z.2) ];
+      memory = λ y. lacked y;
       after_ready = (
         (λ e. let never : is_after_ready (answer_at (course_of x) v n) ≡ true = ap is_after_ready (sym answer_is ∙ e) in absurd (false≢true (sym c.facts.over ∙ never))),
         (λ e. let never = rw stood at e in absurd (false≢true (sym c.moves.not_over ∙ never))),

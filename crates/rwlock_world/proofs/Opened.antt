@@ -53,10 +53,10 @@ module _ (n : ℕ) where
   pub legal_opened : (old : World) (m : Move) (a : Answer) (new : World) → Legal old m a new → Legal (opened n old) m a (opened n new)
   legal_opened old m a new l = record {
     possible = record { exactly = l.possible.exactly; unchanged = λ e. ap (opened n) (l.possible.unchanged e) };
-    one_change = record { deed = l.one_change.deed; state = l.one_change.state; allowed = allowed_opened m.party l.one_change.deed old l.one_change.allowed; turn_list = l.one_change.turn_list; no_readers = l.one_change.no_readers; no_writer = l.one_change.no_writer; starved_limit = l.one_change.starved_limit; readers_limit = l.one_change.readers_limit; opening_value = refl; sought = l.one_change.sought; others = l.one_change.others; parties = l.one_change.parties; parting = l.one_change.parting };
+    one_change = record { deed = l.one_change.deed; state = l.one_change.state; allowed = allowed_opened m.party l.one_change.deed old l.one_change.allowed; turn_list = l.one_change.turn_list; no_readers = l.one_change.no_readers; no_writer = l.one_change.no_writer; starved_limit = l.one_change.starved_limit; readers_limit = l.one_change.readers_limit; opening_value = refl; sought = l.one_change.sought; others = l.one_change.others; parties = l.one_change.parties; found_memory = l.one_change.found_memory; refused_idly = l.one_change.refused_idly; parting = l.one_change.parting; giving_up = l.one_change.giving_up };
     carries = record { ready = l.carries.ready; granted = l.carries.granted };
-    waits = λ d. rw (listed_opened (sought_by new m.party) new.state.turn m.party new) (l.waits d);
-    refused_for_cause = record { cause = λ k d. let c = l.refused_for_cause.cause k d in (c.0, c.1, cause_opened old m new c.0 c.2); after_ready = l.refused_for_cause.after_ready };
+    waits = record { waiting = λ e. rw (listed_opened (sought_by new m.party) new.state.turn m.party new) (l.waits.waiting e); not_before = l.waits.not_before };
+    refused_for_cause = record { cause = λ k d. let c = l.refused_for_cause.cause k d in (c.0, c.1, cause_opened old m new c.0 c.2); memory = l.refused_for_cause.memory; after_ready = l.refused_for_cause.after_ready };
     leaves_clear = record { each = l.leaves_clear.each; refused = l.leaves_clear.refused; gives_up_turn = l.leaves_clear.gives_up_turn; keeps_turn = l.leaves_clear.keeps_turn };
     value_kept = record { put = l.value_kept.put; kept = l.value_kept.kept };
     ends_properly = record { stands = l.ends_properly.stands; as_decided = l.ends_properly.as_decided };

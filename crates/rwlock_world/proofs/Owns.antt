@@ -1,12 +1,17 @@
 -- What each party has, by how it stands.
 use Rattle.std.proofs.Common.{◌≡◌, ◌≢◌, ℕ, ◌≤◌, ◌⊎◌, inl, inr, Bool, true, false, List, Option, Some, None, refl, arith, ap, sym, subst, ◌∙◌}
 use Rattle.lock_world.specs.declared.moves.Answer.{Answer}
+use Rattle.lock_world.specs.declared.moves.Answer.TheVariants as answer
 use Rattle.lock_world.specs.declared.standing.Rest.TheVariants as rest
 use Rattle.lock_world.specs.declared.standing.Stage.{Stage}
 use Rattle.lock_world.specs.declared.standing.Stage.TheVariants.{Outside, Inside, Forgotten}
+use Rattle.lock_world.specs.declared.standing.Within.{Within}
 use Rattle.lock_world.specs.Rights.{Right, read, upgradable, write}
 use Rattle.lock_world.specs.Standings.{inside}
+use Rattle.mutex_machine.specs.declared.program.End.{End as TurnEnd}
+use Rattle.mutex_machine.specs.declared.program.End.TheVariants as turn_end
 use Rattle.mutex_machine.specs.declared.program.Place.{Place as TurnPlace}
+use Rattle.mutex_machine.specs.Legal.{decision}
 use Rattle.mutex_machine.specs.Courses.{is_out, is_holding}
 use Rattle.mutex_machine.specs.Roles.{holds, listed}
 use Rattle.mutex_machine.specs.Machine.{place_at as turn_at}
@@ -14,6 +19,8 @@ use Rattle.mutex_machine.specs.State.{is_holder, is_counted, holder_of}
 use Rattle.mutex_machine.proofs.Callers.{out_unlisted, holding_unlisted}
 use Rattle.mutex_machine.proofs.Parts.{out_free, out_unstarved, holding_unstarved, waiting_free}
 use Rattle.mutex_machine.proofs.Seen as sees
+use Rattle.rwlock_machine.specs.declared.program.Ending.{Ending}
+use Rattle.rwlock_machine.specs.declared.program.Ending.TheVariants as ending
 use Rattle.rwlock_machine.specs.declared.program.Place.{Place}
 use Rattle.rwlock_machine.specs.declared.program.Place.TheVariants as place
 use Rattle.rwlock_machine.specs.Roles.{has_turn, in_no_writer, in_no_readers, fits_turn}
@@ -27,7 +34,7 @@ use Rattle.rwlock_world.specs.Legal.{HasSought, HasNothing, HasItsOwn}
 use Rattle.rwlock_world.specs.Plans.{stage_at, seeking, sought_at, same_sought, agrees, is_inside, goes_with}
 use Rattle.rwlock_world.specs.Plans as plans
 use Rattle.rwlock_world.specs.Table.{IsTable}
-use Rattle.rwlock_world.specs.View.{Share, passing, upgrading, waiting, writing, turn_as, share_of, turn_by, is_reading, is_upgrade, right_of, verdict, stands_as, seen}
+use Rattle.rwlock_world.specs.View.{Share, passing, upgrading, waiting, writing, turn_as, share_of, turn_by, is_reading, is_upgrade, right_of, verdict, verdict_until, refused_by, stands_as, seen}
 use Rattle.rwlock_world.proofs.Begun.{at_out, at_future, at_guard}
 use Rattle.rwlock_world.proofs.Views as view
 
@@ -84,12 +91,46 @@ pub record IsUndecided (x : Place) : Type 0 where
   pub reads : is_reading x ≡ false
   pub share : (share_of x ≡ upgrading → ⊥) × (share_of x ≡ writing → ⊥)
 
+-- no call is decided on Pending before that answer
+until_not_pending : (e : Ending) → Some (verdict_until e) ≡ Some answer.Pending → ⊥
+until_not_pending ending.GivenBack h = absurd (cc)
+until_not_pending ending.NotFree h = absurd (cc)
+until_not_pending ending.RefuseReaders h = absurd (cc)
+until_not_pending ending.RefuseMemory h = absurd (cc)
+until_not_pending ending.Reading h = absurd (cc)
+until_not_pending ending.NotifyReaders h = absurd (cc)
+
+refused_not_pending : (o : Option TurnEnd) → refused_by o ≡ Some answer.Pending → ⊥
+refused_not_pending (Some (turn_end.Refused r)) h = absurd (cc)
+refused_not_pending _ h = absurd (cc)
+
+pub pending_undecided : (v : ℕ) (x : Place) (t : TurnPlace) → verdict v x t ≡ Some answer.Pending → ⊥
+pending_undecided v (place.TakeTurn p) t h = refused_not_pending (decision t) h
+pending_undecided v (place.ReleaseTurn e) t h = until_not_pending e h
+pending_undecided v (place.ReleasingTurn e) t h = until_not_pending e h
+pending_undecided v (place.Unmark true) t h = absurd (cc)
+pending_undecided v (place.Unmark false) t h = absurd (cc)
+pending_undecided v (place.UnmarkNotify true) t h = absurd (cc)
+pending_undecided v (place.UnmarkNotify false) t h = absurd (cc)
+pending_undecided v _ t h = absurd (cc)
+
+decided_as : (w u : Within) (o p : Option Answer) → inside w o ≡ inside u p → o ≡ p
+decided_as w u o p e = cc
+
 module _ (l : RwLock) (ss : List Stage) (os : List (Option Sought)) (v : ℕ) (laws : IsRwLock l) (fits : IsTable l ss os) where
   abbrev w : World
   w = seen l ss os v
 
   pub stood : (q : ℕ) → standing_of w q ≡ stands_as v (stage_at ss q) (place_at l.places q) (turn_at l.turn.places q)
   stood q = view.standings_at v ss l.places l.turn.places fits.as_many q
+
+  stands_pending : (s : Stage) (x : Place) (t : TurnPlace) (u : Within) → stands_as v s x t ≢ inside u (Some answer.Pending)
+  stands_pending (Outside r) x t u e = absurd (cc)
+  stands_pending (Inside w) x t u e = pending_undecided v x t (decided_as w u (verdict v x t) (Some answer.Pending) e)
+  stands_pending Forgotten x t u e = absurd (cc)
+
+  pub not_pending : (q : ℕ) (u : Within) → standing_of w q ≢ inside u (Some answer.Pending)
+  not_pending q u e = stands_pending (stage_at ss q) (place_at l.places q) (turn_at l.turn.places q) u (sym (stood q) ∙ e)
 
   pub reads_as : (q : ℕ) → state.reads w q ≡ is_reading (place_at l.places q)
   reads_as q = view.reads_at l.places q

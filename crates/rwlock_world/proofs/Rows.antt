@@ -1,5 +1,5 @@
 -- What each action on the word or on a list changes and decides, place by place. Written by generators/rwlock_world_rows.py.
-use Rattle.std.proofs.Common.{◌≡◌, ℕ, ◌+◌, ◌<◌, ◌≤◌, ◌==◌, ◌⊎◌, inl, inr, if◌then◌else◌, Bool, true, false, List, Option, Some, None, refl, sym, ◌∙◌}
+use Rattle.std.proofs.Common.{◌≡◌, ℕ, ◌+◌, ◌<◌, ◌≤◌, ◌==◌, ◌⊎◌, ◌||◌, not, inl, inr, if◌then◌else◌, Bool, true, false, List, Option, Some, None, refl, sym, ◌∙◌}
 use Rattle.lock_event.specs.declared.event.Entry.{Entry}
 use Rattle.lock_event.specs.Lists.{is_marked_at, without}
 use Rattle.lock_queue.specs.Parties.{is_party}
@@ -33,7 +33,7 @@ use Rattle.rwlock_machine.specs.Parties.{OnNoWriter, OnNoReaders}
 use Rattle.rwlock_machine.specs.Machine.{RwLock}
 use Rattle.rwlock_machine.specs.Acts.{Finds, readers, marked}
 use Rattle.rwlock_machine.proofs.Leads.{Led, steps_in_turn}
-use Rattle.rwlock_world.specs.Changes.{Change, ListName, begins_to_read, stops_reading, becomes_upgradable, stops_upgradable, begins_to_wait, begins_to_write, upgrades, upgrades_at_once, unmarks, downgrades, downgrades_to_upgradable, for_no_readers, for_no_writer, turn_after, starved_after, value_after, turn_list_after, no_readers_after, no_writer_after, gives_back}
+use Rattle.rwlock_world.specs.Changes.{Change, ListName, begins_to_read, stops_reading, becomes_upgradable, stops_upgradable, begins_to_wait, begins_to_write, upgrades, upgrades_at_once, unmarks, downgrades, downgrades_to_upgradable, for_no_readers, for_no_writer, turn_after, starved_after, value_after, turn_list_after, no_readers_after, no_writer_after, gives_back, gives_up}
 use Rattle.rwlock_world.specs.State as state
 use Rattle.rwlock_world.specs.Plans.{Course, tries, tries_upgrade, strays, course_of}
 use Rattle.rwlock_world.specs.View.{passing, upgrading, waiting, writing, turn_as, share_of, is_reading, is_upgrade, verdict}
@@ -141,9 +141,16 @@ WaitsAt AskNoWriter f = f ≡ No
 WaitsAt (AskNoReaders u) f = f ≡ No
 WaitsAt _ f = ⊥
 
+-- where a call may be refused for want of memory
+abbrev pub lacks_memory : Place → Bool
+lacks_memory (JoinNoWriter told) = true
+lacks_memory (JoinNoReaders u) = true
+lacks_memory (TakeTurn q) = true
+lacks_memory _ = false
+
 -- why a step refuses its call
 abbrev pub Refuses : Bool → RwLock → Place → Found → Refusal → Type 0
-Refuses memory l x f refusal.Memory = (memory ≡ false) × (in_no_writer x + in_no_readers x ≡ 0) × (deed_at x f ≡ nothing) × ((t : TurnPlace) → fits_turn x t ≡ true → (is_out_there t ≡ true) ⊎ (is_holding t ≡ true))
+Refuses memory l x f refusal.Memory = (memory ≡ false) × (in_no_writer x + in_no_readers x ≡ 0) × (deed_at x f ≡ nothing) × ((t : TurnPlace) → fits_turn x t ≡ true → (is_out_there t ≡ true) ⊎ (is_holding t ≡ true)) × (lacks_memory x ≡ true)
 Refuses memory l x f refusal.Readers = l.limit ≤ readers l
 Refuses memory l x f _ = ⊥
 
@@ -159,6 +166,18 @@ abbrev pub Judged : Bool → RwLock → ℕ → Place → Found → Option Answe
 Judged memory l v x f (Some b) o = (o ≡ Some b) × (gives_back (deed_at x f) ≡ true)
 Judged memory l v x f None None = Unit {0}
 Judged memory l v x f None (Some b) = Reason memory l v x f b
+
+-- whether a join found memory, and that a party gives nothing up until its call is decided
+abbrev pub Room : Bool → Deed Change ListName → Type 0
+Room memory (does list joins) = memory ≡ true
+Room memory _ = Unit {0}
+
+abbrev pub is_judged : Option Answer → Bool
+is_judged (Some b) = true
+is_judged None = false
+
+abbrev pub keeps_what_it_has : Option Answer → Deed Change ListName → Bool
+keeps_what_it_has o d = not (gives_up d) || is_judged o
 
 -- an upgrade's future stays one while its call is undecided or pending
 abbrev pub KeepsUpgrade : ℕ → Place → Next → Type 0
@@ -183,6 +202,8 @@ pub record Row (memory : Bool) (l : RwLock) (v : ℕ) (x : Place) (f : Found) : 
   pub no_readers : (p : ℕ) (a b : List (Entry ℕ)) → OnNoReaders p (action_of x) f a b → b ≡ no_readers_after p (deed_at x f) a
   pub finding : Finding (deed_at x f) l x
   pub judged : (t u : TurnPlace) → Judged memory l v x f (verdict v x t) (verdict_then v (course_of x) u (next_of x f))
+  pub room : Room memory (deed_at x f)
+  pub holds_on : (t : TurnPlace) → keeps_what_it_has (verdict v x t) (deed_at x f) ≡ true
   pub over : is_after_ready (answer_at (course_of x) v (next_of x f)) ≡ false
   pub upgrade : KeepsUpgrade v x (next_of x f)
   pub refused : RefusedAt x (next_of x f)
@@ -196,54 +217,54 @@ asks_so p l m o = o.1 ∙ sym (asked_yes (is_marked_at (is_party p) l) l (withou
 
 module _ (memory : Bool) (l : RwLock) (v : ℕ) where
   pub row : (x : Place) (f : Found) → Finds memory (action_of x) f l → (course_of x ≡ strays → ⊥) → steps_in_turn x ≡ false → Row memory l v x f
-  row Out Done e n t = record { reading = refl; sharing = inr ((λ p t. refl), refl); starving = λ p s. refl; valued = λ u. refl; unturned = λ p a. refl; no_writer = λ p a b o. o; no_readers = λ p a b o. o; finding = tt; judged = λ t u. (refl, refl); over = refl; upgrade = tt; refused = tt }
+  row Out Done e n t = record { reading = refl; sharing = inr ((λ p t. refl), refl); starving = λ p s. refl; valued = λ u. refl; unturned = λ p a. refl; no_writer = λ p a b o. o; no_readers = λ p a b o. o; finding = tt; judged = λ t u. (refl, refl); room = tt; holds_on = λ t. refl; over = refl; upgrade = tt; refused = tt }
   row Out _ e n t = absurd e
   row (Made w) _ e n t = absurd (n refl)
-  row Reading Done e n t = record { reading = refl; sharing = inr ((λ p t. refl), refl); starving = λ p s. refl; valued = λ u. refl; unturned = λ p a. refl; no_writer = λ p a b o. o; no_readers = λ p a b o. o; finding = tt; judged = λ t u. (refl, refl); over = refl; upgrade = tt; refused = tt }
+  row Reading Done e n t = record { reading = refl; sharing = inr ((λ p t. refl), refl); starving = λ p s. refl; valued = λ u. refl; unturned = λ p a. refl; no_writer = λ p a b o. o; no_readers = λ p a b o. o; finding = tt; judged = λ t u. (refl, refl); room = tt; holds_on = λ t. refl; over = refl; upgrade = tt; refused = tt }
   row Reading _ e n t = absurd e
-  row Upgradable Done e n t = record { reading = refl; sharing = inr ((λ p t. refl), refl); starving = λ p s. refl; valued = λ u. refl; unturned = λ p a. refl; no_writer = λ p a b o. o; no_readers = λ p a b o. o; finding = tt; judged = λ t u. (refl, refl); over = refl; upgrade = tt; refused = tt }
+  row Upgradable Done e n t = record { reading = refl; sharing = inr ((λ p t. refl), refl); starving = λ p s. refl; valued = λ u. refl; unturned = λ p a. refl; no_writer = λ p a b o. o; no_readers = λ p a b o. o; finding = tt; judged = λ t u. (refl, refl); room = tt; holds_on = λ t. refl; over = refl; upgrade = tt; refused = tt }
   row Upgradable _ e n t = absurd e
-  row Writing Done e n t = record { reading = refl; sharing = inr ((λ p t. refl), refl); starving = λ p s. refl; valued = λ u. refl; unturned = λ p a. refl; no_writer = λ p a b o. o; no_readers = λ p a b o. o; finding = tt; judged = λ t u. (refl, refl); over = refl; upgrade = tt; refused = tt }
+  row Writing Done e n t = record { reading = refl; sharing = inr ((λ p t. refl), refl); starving = λ p s. refl; valued = λ u. refl; unturned = λ p a. refl; no_writer = λ p a b o. o; no_readers = λ p a b o. o; finding = tt; judged = λ t u. (refl, refl); room = tt; holds_on = λ t. refl; over = refl; upgrade = tt; refused = tt }
   row Writing _ e n t = absurd e
-  row (EnterRead true) Done e n t = record { reading = refl; sharing = inr ((λ p t. refl), refl); starving = λ p s. refl; valued = λ u. refl; unturned = λ p a. refl; no_writer = λ p a b o. o; no_readers = λ p a b o. o; finding = e; judged = λ t u. (refl, refl); over = refl; upgrade = tt; refused = tt }
-  row (EnterRead true) Writer e n t = record { reading = refl; sharing = inr ((λ p t. refl), refl); starving = λ p s. refl; valued = λ u. refl; unturned = λ p a. refl; no_writer = λ p a b o. o; no_readers = λ p a b o. o; finding = tt; judged = λ t u. tt; over = refl; upgrade = λ t h. refl; refused = tt }
-  row (EnterRead true) Full e n t = record { reading = refl; sharing = inr ((λ p t. refl), refl); starving = λ p s. refl; valued = λ u. refl; unturned = λ p a. refl; no_writer = λ p a b o. o; no_readers = λ p a b o. o; finding = tt; judged = λ t u. (refusal.Readers, refl, e.1); over = refl; upgrade = λ t h. refl; refused = tt }
+  row (EnterRead true) Done e n t = record { reading = refl; sharing = inr ((λ p t. refl), refl); starving = λ p s. refl; valued = λ u. refl; unturned = λ p a. refl; no_writer = λ p a b o. o; no_readers = λ p a b o. o; finding = e; judged = λ t u. (refl, refl); room = tt; holds_on = λ t. refl; over = refl; upgrade = tt; refused = tt }
+  row (EnterRead true) Writer e n t = record { reading = refl; sharing = inr ((λ p t. refl), refl); starving = λ p s. refl; valued = λ u. refl; unturned = λ p a. refl; no_writer = λ p a b o. o; no_readers = λ p a b o. o; finding = tt; judged = λ t u. tt; room = tt; holds_on = λ t. refl; over = refl; upgrade = λ t h. refl; refused = tt }
+  row (EnterRead true) Full e n t = record { reading = refl; sharing = inr ((λ p t. refl), refl); starving = λ p s. refl; valued = λ u. refl; unturned = λ p a. refl; no_writer = λ p a b o. o; no_readers = λ p a b o. o; finding = tt; judged = λ t u. (refusal.Readers, refl, e.1); room = tt; holds_on = λ t. refl; over = refl; upgrade = λ t h. refl; refused = tt }
   row (EnterRead true) _ e n t = absurd e
-  row (EnterRead false) Done e n t = record { reading = refl; sharing = inr ((λ p t. refl), refl); starving = λ p s. refl; valued = λ u. refl; unturned = λ p a. refl; no_writer = λ p a b o. o; no_readers = λ p a b o. o; finding = e; judged = λ t u. (refl, refl); over = refl; upgrade = tt; refused = tt }
-  row (EnterRead false) Writer e n t = record { reading = refl; sharing = inr ((λ p t. refl), refl); starving = λ p s. refl; valued = λ u. refl; unturned = λ p a. refl; no_writer = λ p a b o. o; no_readers = λ p a b o. o; finding = tt; judged = λ t u. tt; over = refl; upgrade = λ t h. refl; refused = tt }
-  row (EnterRead false) Full e n t = record { reading = refl; sharing = inr ((λ p t. refl), refl); starving = λ p s. refl; valued = λ u. refl; unturned = λ p a. refl; no_writer = λ p a b o. o; no_readers = λ p a b o. o; finding = tt; judged = λ t u. (refusal.Readers, refl, e.1); over = refl; upgrade = refl; refused = inl (refl, refl) }
+  row (EnterRead false) Done e n t = record { reading = refl; sharing = inr ((λ p t. refl), refl); starving = λ p s. refl; valued = λ u. refl; unturned = λ p a. refl; no_writer = λ p a b o. o; no_readers = λ p a b o. o; finding = e; judged = λ t u. (refl, refl); room = tt; holds_on = λ t. refl; over = refl; upgrade = tt; refused = tt }
+  row (EnterRead false) Writer e n t = record { reading = refl; sharing = inr ((λ p t. refl), refl); starving = λ p s. refl; valued = λ u. refl; unturned = λ p a. refl; no_writer = λ p a b o. o; no_readers = λ p a b o. o; finding = tt; judged = λ t u. tt; room = tt; holds_on = λ t. refl; over = refl; upgrade = λ t h. refl; refused = tt }
+  row (EnterRead false) Full e n t = record { reading = refl; sharing = inr ((λ p t. refl), refl); starving = λ p s. refl; valued = λ u. refl; unturned = λ p a. refl; no_writer = λ p a b o. o; no_readers = λ p a b o. o; finding = tt; judged = λ t u. (refusal.Readers, refl, e.1); room = tt; holds_on = λ t. refl; over = refl; upgrade = refl; refused = inl (refl, refl) }
   row (EnterRead false) _ e n t = absurd e
-  row (JoinNoWriter true) Done e n t = record { reading = refl; sharing = inr ((λ p t. refl), refl); starving = λ p s. refl; valued = λ u. refl; unturned = λ p a. refl; no_writer = λ p a b o. o; no_readers = λ p a b o. o; finding = tt; judged = λ t u. tt; over = refl; upgrade = λ t h. refl; refused = tt }
-  row (JoinNoWriter true) NoMemory e n t = record { reading = refl; sharing = inr ((λ p t. refl), refl); starving = λ p s. refl; valued = λ u. refl; unturned = λ p a. refl; no_writer = λ p a b o. o; no_readers = λ p a b o. o; finding = tt; judged = λ t u. (refusal.Memory, refl, (e, refl, refl, λ t h. inl h)); over = refl; upgrade = λ t h. refl; refused = tt }
+  row (JoinNoWriter true) Done e n t = record { reading = refl; sharing = inr ((λ p t. refl), refl); starving = λ p s. refl; valued = λ u. refl; unturned = λ p a. refl; no_writer = λ p a b o. o; no_readers = λ p a b o. o; finding = tt; judged = λ t u. tt; room = e; holds_on = λ t. refl; over = refl; upgrade = λ t h. refl; refused = tt }
+  row (JoinNoWriter true) NoMemory e n t = record { reading = refl; sharing = inr ((λ p t. refl), refl); starving = λ p s. refl; valued = λ u. refl; unturned = λ p a. refl; no_writer = λ p a b o. o; no_readers = λ p a b o. o; finding = tt; judged = λ t u. (refusal.Memory, refl, (e, refl, refl, (λ t h. inl h), refl)); room = tt; holds_on = λ t. refl; over = refl; upgrade = λ t h. refl; refused = tt }
   row (JoinNoWriter true) _ e n t = absurd e
-  row (JoinNoWriter false) Done e n t = record { reading = refl; sharing = inr ((λ p t. refl), refl); starving = λ p s. refl; valued = λ u. refl; unturned = λ p a. refl; no_writer = λ p a b o. o; no_readers = λ p a b o. o; finding = tt; judged = λ t u. tt; over = refl; upgrade = λ t h. refl; refused = tt }
-  row (JoinNoWriter false) NoMemory e n t = record { reading = refl; sharing = inr ((λ p t. refl), refl); starving = λ p s. refl; valued = λ u. refl; unturned = λ p a. refl; no_writer = λ p a b o. o; no_readers = λ p a b o. o; finding = tt; judged = λ t u. (refusal.Memory, refl, (e, refl, refl, λ t h. inl h)); over = refl; upgrade = refl; refused = inl (refl, refl) }
+  row (JoinNoWriter false) Done e n t = record { reading = refl; sharing = inr ((λ p t. refl), refl); starving = λ p s. refl; valued = λ u. refl; unturned = λ p a. refl; no_writer = λ p a b o. o; no_readers = λ p a b o. o; finding = tt; judged = λ t u. tt; room = e; holds_on = λ t. refl; over = refl; upgrade = λ t h. refl; refused = tt }
+  row (JoinNoWriter false) NoMemory e n t = record { reading = refl; sharing = inr ((λ p t. refl), refl); starving = λ p s. refl; valued = λ u. refl; unturned = λ p a. refl; no_writer = λ p a b o. o; no_readers = λ p a b o. o; finding = tt; judged = λ t u. (refusal.Memory, refl, (e, refl, refl, (λ t h. inl h), refl)); room = tt; holds_on = λ t. refl; over = refl; upgrade = refl; refused = inl (refl, refl) }
   row (JoinNoWriter false) _ e n t = absurd e
-  row (LookNoWriter told) Done e n t = record { reading = refl; sharing = inr ((λ p t. refl), refl); starving = λ p s. refl; valued = λ u. refl; unturned = λ p a. refl; no_writer = λ p a b o. o; no_readers = λ p a b o. o; finding = e; judged = λ t u. (refl, refl); over = refl; upgrade = λ t h. refl; refused = tt }
-  row (LookNoWriter told) Writer e n t = record { reading = refl; sharing = inr ((λ p t. refl), refl); starving = λ p s. refl; valued = λ u. refl; unturned = λ p a. refl; no_writer = λ p a b o. o; no_readers = λ p a b o. o; finding = tt; judged = λ t u. tt; over = refl; upgrade = λ t h. refl; refused = tt }
-  row (LookNoWriter told) Full e n t = record { reading = refl; sharing = inr ((λ p t. refl), refl); starving = λ p s. refl; valued = λ u. refl; unturned = λ p a. refl; no_writer = λ p a b o. o; no_readers = λ p a b o. o; finding = tt; judged = λ t u. (refusal.Readers, refl, e.1); over = refl; upgrade = λ t h. refl; refused = tt }
+  row (LookNoWriter told) Done e n t = record { reading = refl; sharing = inr ((λ p t. refl), refl); starving = λ p s. refl; valued = λ u. refl; unturned = λ p a. refl; no_writer = λ p a b o. o; no_readers = λ p a b o. o; finding = e; judged = λ t u. (refl, refl); room = tt; holds_on = λ t. refl; over = refl; upgrade = λ t h. refl; refused = tt }
+  row (LookNoWriter told) Writer e n t = record { reading = refl; sharing = inr ((λ p t. refl), refl); starving = λ p s. refl; valued = λ u. refl; unturned = λ p a. refl; no_writer = λ p a b o. o; no_readers = λ p a b o. o; finding = tt; judged = λ t u. tt; room = tt; holds_on = λ t. refl; over = refl; upgrade = λ t h. refl; refused = tt }
+  row (LookNoWriter told) Full e n t = record { reading = refl; sharing = inr ((λ p t. refl), refl); starving = λ p s. refl; valued = λ u. refl; unturned = λ p a. refl; no_writer = λ p a b o. o; no_readers = λ p a b o. o; finding = tt; judged = λ t u. (refusal.Readers, refl, e.1); room = tt; holds_on = λ t. refl; over = refl; upgrade = λ t h. refl; refused = tt }
   row (LookNoWriter told) _ e n t = absurd e
-  row AskNoWriter Yes e n t = record { reading = refl; sharing = inr ((λ p t. refl), refl); starving = λ p s. refl; valued = λ u. refl; unturned = λ p a. refl; no_writer = λ p a b o. asks_so p a b o; no_readers = λ p a b o. o; finding = tt; judged = λ t u. tt; over = refl; upgrade = λ t h. refl; refused = tt }
-  row AskNoWriter No e n t = record { reading = refl; sharing = inr ((λ p t. refl), refl); starving = λ p s. refl; valued = λ u. refl; unturned = λ p a. refl; no_writer = λ p a b o. o.1; no_readers = λ p a b o. o; finding = tt; judged = λ t u. refl; over = refl; upgrade = refl; refused = tt }
+  row AskNoWriter Yes e n t = record { reading = refl; sharing = inr ((λ p t. refl), refl); starving = λ p s. refl; valued = λ u. refl; unturned = λ p a. refl; no_writer = λ p a b o. asks_so p a b o; no_readers = λ p a b o. o; finding = tt; judged = λ t u. tt; room = tt; holds_on = λ t. refl; over = refl; upgrade = λ t h. refl; refused = tt }
+  row AskNoWriter No e n t = record { reading = refl; sharing = inr ((λ p t. refl), refl); starving = λ p s. refl; valued = λ u. refl; unturned = λ p a. refl; no_writer = λ p a b o. o.1; no_readers = λ p a b o. o; finding = tt; judged = λ t u. refl; room = tt; holds_on = λ t. refl; over = refl; upgrade = refl; refused = tt }
   row AskNoWriter _ e n t = absurd e
-  row PassOn Done e n t = record { reading = refl; sharing = inr ((λ p t. refl), refl); starving = λ p s. refl; valued = λ u. refl; unturned = λ p a. refl; no_writer = λ p a b o. o; no_readers = λ p a b o. o; finding = tt; judged = λ t u. tt; over = refl; upgrade = λ t h. refl; refused = tt }
+  row PassOn Done e n t = record { reading = refl; sharing = inr ((λ p t. refl), refl); starving = λ p s. refl; valued = λ u. refl; unturned = λ p a. refl; no_writer = λ p a b o. o; no_readers = λ p a b o. o; finding = tt; judged = λ t u. tt; room = tt; holds_on = λ t. refl; over = refl; upgrade = λ t h. refl; refused = tt }
   row PassOn _ e n t = absurd e
-  row LeaveNoWriter Done e n t = record { reading = refl; sharing = inr ((λ p t. refl), refl); starving = λ p s. refl; valued = λ u. refl; unturned = λ p a. refl; no_writer = λ p a b o. o; no_readers = λ p a b o. o; finding = tt; judged = λ t u. (refl, refl); over = refl; upgrade = tt; refused = tt }
+  row LeaveNoWriter Done e n t = record { reading = refl; sharing = inr ((λ p t. refl), refl); starving = λ p s. refl; valued = λ u. refl; unturned = λ p a. refl; no_writer = λ p a b o. o; no_readers = λ p a b o. o; finding = tt; judged = λ t u. (refl, refl); room = tt; holds_on = λ t. refl; over = refl; upgrade = tt; refused = tt }
   row LeaveNoWriter _ e n t = absurd e
-  row (RefuseLeave true) Done e n t = record { reading = refl; sharing = inr ((λ p t. refl), refl); starving = λ p s. refl; valued = λ u. refl; unturned = λ p a. refl; no_writer = λ p a b o. o; no_readers = λ p a b o. o; finding = tt; judged = λ t u. (refl, refl); over = refl; upgrade = λ t h. refl; refused = tt }
+  row (RefuseLeave true) Done e n t = record { reading = refl; sharing = inr ((λ p t. refl), refl); starving = λ p s. refl; valued = λ u. refl; unturned = λ p a. refl; no_writer = λ p a b o. o; no_readers = λ p a b o. o; finding = tt; judged = λ t u. (refl, refl); room = tt; holds_on = λ t. refl; over = refl; upgrade = λ t h. refl; refused = tt }
   row (RefuseLeave true) _ e n t = absurd e
-  row (RefuseLeave false) Done e n t = record { reading = refl; sharing = inr ((λ p t. refl), refl); starving = λ p s. refl; valued = λ u. refl; unturned = λ p a. refl; no_writer = λ p a b o. o; no_readers = λ p a b o. o; finding = tt; judged = λ t u. (refl, refl); over = refl; upgrade = refl; refused = inl (refl, refl) }
+  row (RefuseLeave false) Done e n t = record { reading = refl; sharing = inr ((λ p t. refl), refl); starving = λ p s. refl; valued = λ u. refl; unturned = λ p a. refl; no_writer = λ p a b o. o; no_readers = λ p a b o. o; finding = tt; judged = λ t u. (refl, refl); room = tt; holds_on = λ t. refl; over = refl; upgrade = refl; refused = inl (refl, refl) }
   row (RefuseLeave false) _ e n t = absurd e
-  row (RefuseNotify refusal.Memory) Done e n t = record { reading = refl; sharing = inr ((λ p t. refl), refl); starving = λ p s. refl; valued = λ u. refl; unturned = λ p a. refl; no_writer = λ p a b o. o; no_readers = λ p a b o. o; finding = tt; judged = λ t u. (refl, refl); over = refl; upgrade = refl; refused = inl (refl, refl) }
+  row (RefuseNotify refusal.Memory) Done e n t = record { reading = refl; sharing = inr ((λ p t. refl), refl); starving = λ p s. refl; valued = λ u. refl; unturned = λ p a. refl; no_writer = λ p a b o. o; no_readers = λ p a b o. o; finding = tt; judged = λ t u. (refl, refl); room = tt; holds_on = λ t. refl; over = refl; upgrade = refl; refused = inl (refl, refl) }
   row (RefuseNotify refusal.Memory) _ e n t = absurd e
-  row (RefuseNotify refusal.Readers) Done e n t = record { reading = refl; sharing = inr ((λ p t. refl), refl); starving = λ p s. refl; valued = λ u. refl; unturned = λ p a. refl; no_writer = λ p a b o. o; no_readers = λ p a b o. o; finding = tt; judged = λ t u. (refl, refl); over = refl; upgrade = refl; refused = inl (refl, refl) }
+  row (RefuseNotify refusal.Readers) Done e n t = record { reading = refl; sharing = inr ((λ p t. refl), refl); starving = λ p s. refl; valued = λ u. refl; unturned = λ p a. refl; no_writer = λ p a b o. o; no_readers = λ p a b o. o; finding = tt; judged = λ t u. (refl, refl); room = tt; holds_on = λ t. refl; over = refl; upgrade = refl; refused = inl (refl, refl) }
   row (RefuseNotify refusal.Readers) _ e n t = absurd e
   row (RefuseNotify _) _ e n t = absurd (n refl)
-  row CancelRead Done e n t = record { reading = refl; sharing = inr ((λ p t. refl), refl); starving = λ p s. refl; valued = λ u. refl; unturned = λ p a. refl; no_writer = λ p a b o. o; no_readers = λ p a b o. o; finding = tt; judged = λ t u. (refl, refl); over = refl; upgrade = tt; refused = tt }
+  row CancelRead Done e n t = record { reading = refl; sharing = inr ((λ p t. refl), refl); starving = λ p s. refl; valued = λ u. refl; unturned = λ p a. refl; no_writer = λ p a b o. o; no_readers = λ p a b o. o; finding = tt; judged = λ t u. (refl, refl); room = tt; holds_on = λ t. refl; over = refl; upgrade = tt; refused = tt }
   row CancelRead _ e n t = absurd e
-  row TryRead Done e n t = record { reading = refl; sharing = inr ((λ p t. refl), refl); starving = λ p s. refl; valued = λ u. refl; unturned = λ p a. refl; no_writer = λ p a b o. o; no_readers = λ p a b o. o; finding = e; judged = λ t u. (refl, refl); over = refl; upgrade = tt; refused = tt }
-  row TryRead Writer e n t = record { reading = refl; sharing = inr ((λ p t. refl), refl); starving = λ p s. refl; valued = λ u. refl; unturned = λ p a. refl; no_writer = λ p a b o. o; no_readers = λ p a b o. o; finding = tt; judged = λ t u. tt; over = refl; upgrade = tt; refused = tt }
-  row TryRead Full e n t = record { reading = refl; sharing = inr ((λ p t. refl), refl); starving = λ p s. refl; valued = λ u. refl; unturned = λ p a. refl; no_writer = λ p a b o. o; no_readers = λ p a b o. o; finding = tt; judged = λ t u. tt; over = refl; upgrade = tt; refused = tt }
+  row TryRead Done e n t = record { reading = refl; sharing = inr ((λ p t. refl), refl); starving = λ p s. refl; valued = λ u. refl; unturned = λ p a. refl; no_writer = λ p a b o. o; no_readers = λ p a b o. o; finding = e; judged = λ t u. (refl, refl); room = tt; holds_on = λ t. refl; over = refl; upgrade = tt; refused = tt }
+  row TryRead Writer e n t = record { reading = refl; sharing = inr ((λ p t. refl), refl); starving = λ p s. refl; valued = λ u. refl; unturned = λ p a. refl; no_writer = λ p a b o. o; no_readers = λ p a b o. o; finding = tt; judged = λ t u. tt; room = tt; holds_on = λ t. refl; over = refl; upgrade = tt; refused = tt }
+  row TryRead Full e n t = record { reading = refl; sharing = inr ((λ p t. refl), refl); starving = λ p s. refl; valued = λ u. refl; unturned = λ p a. refl; no_writer = λ p a b o. o; no_readers = λ p a b o. o; finding = tt; judged = λ t u. tt; room = tt; holds_on = λ t. refl; over = refl; upgrade = tt; refused = tt }
   row TryRead _ e n t = absurd e
   row (EnterTurn p) f e n t = absurd (cc)
   row (WaitTurn p) f e n t = absurd (cc)
@@ -253,72 +274,72 @@ module _ (memory : Bool) (l : RwLock) (v : ℕ) where
   row CancellingTurn f e n t = absurd (cc)
   row (ReleaseTurn k) f e n t = absurd (cc)
   row (ReleasingTurn k) f e n t = absurd (cc)
-  row (Add true) Done e n t = record { reading = refl; sharing = inl (refl, λ p. refl); starving = λ p s. refl; valued = λ u. refl; unturned = λ p a. refl; no_writer = λ p a b o. o; no_readers = λ p a b o. o; finding = (refl, refl, e); judged = λ t u. (refl, refl); over = refl; upgrade = tt; refused = tt }
-  row (Add true) Full e n t = record { reading = refl; sharing = inr ((λ p t. refl), refl); starving = λ p s. refl; valued = λ u. refl; unturned = λ p a. refl; no_writer = λ p a b o. o; no_readers = λ p a b o. o; finding = tt; judged = λ t u. tt; over = refl; upgrade = λ t h. refl; refused = tt }
+  row (Add true) Done e n t = record { reading = refl; sharing = inl (refl, λ p. refl); starving = λ p s. refl; valued = λ u. refl; unturned = λ p a. refl; no_writer = λ p a b o. o; no_readers = λ p a b o. o; finding = (refl, refl, e); judged = λ t u. (refl, refl); room = tt; holds_on = λ t. refl; over = refl; upgrade = tt; refused = tt }
+  row (Add true) Full e n t = record { reading = refl; sharing = inr ((λ p t. refl), refl); starving = λ p s. refl; valued = λ u. refl; unturned = λ p a. refl; no_writer = λ p a b o. o; no_readers = λ p a b o. o; finding = tt; judged = λ t u. tt; room = tt; holds_on = λ t. refl; over = refl; upgrade = λ t h. refl; refused = tt }
   row (Add true) _ e n t = absurd e
-  row (Add false) Done e n t = record { reading = refl; sharing = inl (refl, λ p. refl); starving = λ p s. refl; valued = λ u. refl; unturned = λ p a. refl; no_writer = λ p a b o. o; no_readers = λ p a b o. o; finding = (refl, refl, e); judged = λ t u. (refl, refl); over = refl; upgrade = tt; refused = tt }
-  row (Add false) Full e n t = record { reading = refl; sharing = inr ((λ p t. refl), refl); starving = λ p s. refl; valued = λ u. refl; unturned = λ p a. refl; no_writer = λ p a b o. o; no_readers = λ p a b o. o; finding = tt; judged = λ t u. (refusal.Readers, refl, e); over = refl; upgrade = λ t h. refl; refused = tt }
+  row (Add false) Done e n t = record { reading = refl; sharing = inl (refl, λ p. refl); starving = λ p s. refl; valued = λ u. refl; unturned = λ p a. refl; no_writer = λ p a b o. o; no_readers = λ p a b o. o; finding = (refl, refl, e); judged = λ t u. (refl, refl); room = tt; holds_on = λ t. refl; over = refl; upgrade = tt; refused = tt }
+  row (Add false) Full e n t = record { reading = refl; sharing = inr ((λ p t. refl), refl); starving = λ p s. refl; valued = λ u. refl; unturned = λ p a. refl; no_writer = λ p a b o. o; no_readers = λ p a b o. o; finding = tt; judged = λ t u. (refusal.Readers, refl, e); room = tt; holds_on = λ t. refl; over = refl; upgrade = λ t h. refl; refused = tt }
   row (Add false) _ e n t = absurd e
-  row TryUpgrade Done e n t = record { reading = refl; sharing = inl (refl, λ p. refl); starving = λ p s. refl; valued = λ u. refl; unturned = λ p a. refl; no_writer = λ p a b o. o; no_readers = λ p a b o. o; finding = (refl, refl, e.1); judged = λ t u. (refl, refl); over = refl; upgrade = tt; refused = tt }
-  row TryUpgrade found.NotFree e n t = record { reading = refl; sharing = inr ((λ p t. refl), refl); starving = λ p s. refl; valued = λ u. refl; unturned = λ p a. refl; no_writer = λ p a b o. o; no_readers = λ p a b o. o; finding = tt; judged = λ t u. tt; over = refl; upgrade = tt; refused = tt }
+  row TryUpgrade Done e n t = record { reading = refl; sharing = inl (refl, λ p. refl); starving = λ p s. refl; valued = λ u. refl; unturned = λ p a. refl; no_writer = λ p a b o. o; no_readers = λ p a b o. o; finding = (refl, refl, e.1); judged = λ t u. (refl, refl); room = tt; holds_on = λ t. refl; over = refl; upgrade = tt; refused = tt }
+  row TryUpgrade found.NotFree e n t = record { reading = refl; sharing = inr ((λ p t. refl), refl); starving = λ p s. refl; valued = λ u. refl; unturned = λ p a. refl; no_writer = λ p a b o. o; no_readers = λ p a b o. o; finding = tt; judged = λ t u. tt; room = tt; holds_on = λ t. refl; over = refl; upgrade = tt; refused = tt }
   row TryUpgrade _ e n t = absurd e
-  row Upgrade Done e n t = record { reading = refl; sharing = inl (refl, λ p. refl); starving = λ p s. refl; valued = λ u. refl; unturned = λ p a. refl; no_writer = λ p a b o. o; no_readers = λ p a b o. o; finding = (refl, refl); judged = λ t u. tt; over = refl; upgrade = refl; refused = tt }
+  row Upgrade Done e n t = record { reading = refl; sharing = inl (refl, λ p. refl); starving = λ p s. refl; valued = λ u. refl; unturned = λ p a. refl; no_writer = λ p a b o. o; no_readers = λ p a b o. o; finding = (refl, refl); judged = λ t u. tt; room = tt; holds_on = λ t. refl; over = refl; upgrade = refl; refused = tt }
   row Upgrade _ e n t = absurd e
-  row Mark NoneLeft e n t = record { reading = refl; sharing = inl (refl, λ p. refl); starving = λ p s. refl; valued = λ u. refl; unturned = λ p a. refl; no_writer = λ p a b o. o; no_readers = λ p a b o. o; finding = (refl, inl refl, e); judged = λ t u. (refl, refl); over = refl; upgrade = tt; refused = tt }
-  row Mark SomeLeft e n t = record { reading = refl; sharing = inl (refl, λ p. refl); starving = λ p s. refl; valued = λ u. refl; unturned = λ p a. refl; no_writer = λ p a b o. o; no_readers = λ p a b o. o; finding = (refl, refl, e); judged = λ t u. tt; over = refl; upgrade = λ t h. refl; refused = tt }
+  row Mark NoneLeft e n t = record { reading = refl; sharing = inl (refl, λ p. refl); starving = λ p s. refl; valued = λ u. refl; unturned = λ p a. refl; no_writer = λ p a b o. o; no_readers = λ p a b o. o; finding = (refl, inl refl, e); judged = λ t u. (refl, refl); room = tt; holds_on = λ t. refl; over = refl; upgrade = tt; refused = tt }
+  row Mark SomeLeft e n t = record { reading = refl; sharing = inl (refl, λ p. refl); starving = λ p s. refl; valued = λ u. refl; unturned = λ p a. refl; no_writer = λ p a b o. o; no_readers = λ p a b o. o; finding = (refl, refl, e); judged = λ t u. tt; room = tt; holds_on = λ t. refl; over = refl; upgrade = λ t h. refl; refused = tt }
   row Mark _ e n t = absurd e
-  row TryWrite Done e n t = record { reading = refl; sharing = inl (refl, λ p. refl); starving = λ p s. refl; valued = λ u. refl; unturned = λ p a. refl; no_writer = λ p a b o. o; no_readers = λ p a b o. o; finding = (refl, inl refl, e.1); judged = λ t u. (refl, refl); over = refl; upgrade = tt; refused = tt }
-  row TryWrite found.NotFree e n t = record { reading = refl; sharing = inr ((λ p t. refl), refl); starving = λ p s. refl; valued = λ u. refl; unturned = λ p a. refl; no_writer = λ p a b o. o; no_readers = λ p a b o. o; finding = tt; judged = λ t u. tt; over = refl; upgrade = λ t h. refl; refused = tt }
+  row TryWrite Done e n t = record { reading = refl; sharing = inl (refl, λ p. refl); starving = λ p s. refl; valued = λ u. refl; unturned = λ p a. refl; no_writer = λ p a b o. o; no_readers = λ p a b o. o; finding = (refl, inl refl, e.1); judged = λ t u. (refl, refl); room = tt; holds_on = λ t. refl; over = refl; upgrade = tt; refused = tt }
+  row TryWrite found.NotFree e n t = record { reading = refl; sharing = inr ((λ p t. refl), refl); starving = λ p s. refl; valued = λ u. refl; unturned = λ p a. refl; no_writer = λ p a b o. o; no_readers = λ p a b o. o; finding = tt; judged = λ t u. tt; room = tt; holds_on = λ t. refl; over = refl; upgrade = λ t h. refl; refused = tt }
   row TryWrite _ e n t = absurd e
-  row (JoinNoReaders true) Done e n t = record { reading = refl; sharing = inr ((λ p t. refl), refl); starving = λ p s. refl; valued = λ u. refl; unturned = λ p a. refl; no_writer = λ p a b o. o; no_readers = λ p a b o. o; finding = tt; judged = λ t u. tt; over = refl; upgrade = λ t h. refl; refused = tt }
-  row (JoinNoReaders true) NoMemory e n t = record { reading = refl; sharing = inr ((λ p t. refl), refl); starving = λ p s. refl; valued = λ u. refl; unturned = λ p a. refl; no_writer = λ p a b o. o; no_readers = λ p a b o. o; finding = tt; judged = λ t u. (refusal.Memory, refl, (e, refl, refl, λ t h. inr h)); over = refl; upgrade = refl; refused = inr (refl, refl) }
+  row (JoinNoReaders true) Done e n t = record { reading = refl; sharing = inr ((λ p t. refl), refl); starving = λ p s. refl; valued = λ u. refl; unturned = λ p a. refl; no_writer = λ p a b o. o; no_readers = λ p a b o. o; finding = tt; judged = λ t u. tt; room = e; holds_on = λ t. refl; over = refl; upgrade = λ t h. refl; refused = tt }
+  row (JoinNoReaders true) NoMemory e n t = record { reading = refl; sharing = inr ((λ p t. refl), refl); starving = λ p s. refl; valued = λ u. refl; unturned = λ p a. refl; no_writer = λ p a b o. o; no_readers = λ p a b o. o; finding = tt; judged = λ t u. (refusal.Memory, refl, (e, refl, refl, (λ t h. inr h), refl)); room = tt; holds_on = λ t. refl; over = refl; upgrade = refl; refused = inr (refl, refl) }
   row (JoinNoReaders true) _ e n t = absurd e
-  row (JoinNoReaders false) Done e n t = record { reading = refl; sharing = inr ((λ p t. refl), refl); starving = λ p s. refl; valued = λ u. refl; unturned = λ p a. refl; no_writer = λ p a b o. o; no_readers = λ p a b o. o; finding = tt; judged = λ t u. tt; over = refl; upgrade = λ t h. refl; refused = tt }
-  row (JoinNoReaders false) NoMemory e n t = record { reading = refl; sharing = inr ((λ p t. refl), refl); starving = λ p s. refl; valued = λ u. refl; unturned = λ p a. refl; no_writer = λ p a b o. o; no_readers = λ p a b o. o; finding = tt; judged = λ t u. (refusal.Memory, refl, (e, refl, refl, λ t h. inr h)); over = refl; upgrade = λ t h. refl; refused = tt }
+  row (JoinNoReaders false) Done e n t = record { reading = refl; sharing = inr ((λ p t. refl), refl); starving = λ p s. refl; valued = λ u. refl; unturned = λ p a. refl; no_writer = λ p a b o. o; no_readers = λ p a b o. o; finding = tt; judged = λ t u. tt; room = e; holds_on = λ t. refl; over = refl; upgrade = λ t h. refl; refused = tt }
+  row (JoinNoReaders false) NoMemory e n t = record { reading = refl; sharing = inr ((λ p t. refl), refl); starving = λ p s. refl; valued = λ u. refl; unturned = λ p a. refl; no_writer = λ p a b o. o; no_readers = λ p a b o. o; finding = tt; judged = λ t u. (refusal.Memory, refl, (e, refl, refl, (λ t h. inr h), refl)); room = tt; holds_on = λ t. refl; over = refl; upgrade = λ t h. refl; refused = tt }
   row (JoinNoReaders false) _ e n t = absurd e
-  row (LookNoReaders u) NoneLeft e n t = record { reading = refl; sharing = inl (refl, λ p. refl); starving = λ p s. refl; valued = λ u. refl; unturned = λ p a. refl; no_writer = λ p a b o. o; no_readers = λ p a b o. o; finding = (refl, inr refl, e); judged = λ t u. (refl, refl); over = refl; upgrade = λ t h. absurd (cc); refused = tt }
-  row (LookNoReaders u) SomeLeft e n t = record { reading = refl; sharing = inr ((λ p t. refl), refl); starving = λ p s. refl; valued = λ u. refl; unturned = λ p a. refl; no_writer = λ p a b o. o; no_readers = λ p a b o. o; finding = tt; judged = λ t u. tt; over = refl; upgrade = λ t h. refl; refused = tt }
+  row (LookNoReaders u) NoneLeft e n t = record { reading = refl; sharing = inl (refl, λ p. refl); starving = λ p s. refl; valued = λ u. refl; unturned = λ p a. refl; no_writer = λ p a b o. o; no_readers = λ p a b o. o; finding = (refl, inr refl, e); judged = λ t u. (refl, refl); room = tt; holds_on = λ t. refl; over = refl; upgrade = λ t h. absurd (cc); refused = tt }
+  row (LookNoReaders u) SomeLeft e n t = record { reading = refl; sharing = inr ((λ p t. refl), refl); starving = λ p s. refl; valued = λ u. refl; unturned = λ p a. refl; no_writer = λ p a b o. o; no_readers = λ p a b o. o; finding = tt; judged = λ t u. tt; room = tt; holds_on = λ t. refl; over = refl; upgrade = λ t h. refl; refused = tt }
   row (LookNoReaders u) _ e n t = absurd e
-  row (AskNoReaders u) Yes e n t = record { reading = refl; sharing = inr ((λ p t. refl), refl); starving = λ p s. refl; valued = λ u. refl; unturned = λ p a. refl; no_writer = λ p a b o. o; no_readers = λ p a b o. asks_so p a b o; finding = tt; judged = λ t u. tt; over = refl; upgrade = λ t h. refl; refused = tt }
-  row (AskNoReaders u) No e n t = record { reading = refl; sharing = inr ((λ p t. refl), refl); starving = λ p s. refl; valued = λ u. refl; unturned = λ p a. refl; no_writer = λ p a b o. o; no_readers = λ p a b o. o.1; finding = tt; judged = λ t u. refl; over = refl; upgrade = refl; refused = tt }
+  row (AskNoReaders u) Yes e n t = record { reading = refl; sharing = inr ((λ p t. refl), refl); starving = λ p s. refl; valued = λ u. refl; unturned = λ p a. refl; no_writer = λ p a b o. o; no_readers = λ p a b o. asks_so p a b o; finding = tt; judged = λ t u. tt; room = tt; holds_on = λ t. refl; over = refl; upgrade = λ t h. refl; refused = tt }
+  row (AskNoReaders u) No e n t = record { reading = refl; sharing = inr ((λ p t. refl), refl); starving = λ p s. refl; valued = λ u. refl; unturned = λ p a. refl; no_writer = λ p a b o. o; no_readers = λ p a b o. o.1; finding = tt; judged = λ t u. refl; room = tt; holds_on = λ t. refl; over = refl; upgrade = refl; refused = tt }
   row (AskNoReaders u) _ e n t = absurd e
-  row (AwaitNoReaders u) NoneLeft e n t = record { reading = refl; sharing = inl (refl, λ p. refl); starving = λ p s. refl; valued = λ u. refl; unturned = λ p a. refl; no_writer = λ p a b o. o; no_readers = λ p a b o. o; finding = (refl, inr refl, e); judged = λ t u. (refl, refl); over = refl; upgrade = λ t h. absurd (cc); refused = tt }
-  row (AwaitNoReaders u) SomeLeft e n t = record { reading = refl; sharing = inr ((λ p t. refl), refl); starving = λ p s. refl; valued = λ u. refl; unturned = λ p a. refl; no_writer = λ p a b o. o; no_readers = λ p a b o. o; finding = tt; judged = λ t u. tt; over = refl; upgrade = λ t h. refl; refused = tt }
+  row (AwaitNoReaders u) NoneLeft e n t = record { reading = refl; sharing = inl (refl, λ p. refl); starving = λ p s. refl; valued = λ u. refl; unturned = λ p a. refl; no_writer = λ p a b o. o; no_readers = λ p a b o. o; finding = (refl, inr refl, e); judged = λ t u. (refl, refl); room = tt; holds_on = λ t. refl; over = refl; upgrade = λ t h. absurd (cc); refused = tt }
+  row (AwaitNoReaders u) SomeLeft e n t = record { reading = refl; sharing = inr ((λ p t. refl), refl); starving = λ p s. refl; valued = λ u. refl; unturned = λ p a. refl; no_writer = λ p a b o. o; no_readers = λ p a b o. o; finding = tt; judged = λ t u. tt; room = tt; holds_on = λ t. refl; over = refl; upgrade = λ t h. refl; refused = tt }
   row (AwaitNoReaders u) _ e n t = absurd e
-  row (LookUnlisted u) NoneLeft e n t = record { reading = refl; sharing = inl (refl, λ p. refl); starving = λ p s. refl; valued = λ u. refl; unturned = λ p a. refl; no_writer = λ p a b o. o; no_readers = λ p a b o. o; finding = (refl, inr refl, e); judged = λ t u. (refl, refl); over = refl; upgrade = tt; refused = tt }
-  row (LookUnlisted u) SomeLeft e n t = record { reading = refl; sharing = inr ((λ p t. refl), refl); starving = λ p s. refl; valued = λ u. refl; unturned = λ p a. refl; no_writer = λ p a b o. o; no_readers = λ p a b o. o; finding = tt; judged = λ t u. tt; over = refl; upgrade = λ t h. refl; refused = tt }
+  row (LookUnlisted u) NoneLeft e n t = record { reading = refl; sharing = inl (refl, λ p. refl); starving = λ p s. refl; valued = λ u. refl; unturned = λ p a. refl; no_writer = λ p a b o. o; no_readers = λ p a b o. o; finding = (refl, inr refl, e); judged = λ t u. (refl, refl); room = tt; holds_on = λ t. refl; over = refl; upgrade = tt; refused = tt }
+  row (LookUnlisted u) SomeLeft e n t = record { reading = refl; sharing = inr ((λ p t. refl), refl); starving = λ p s. refl; valued = λ u. refl; unturned = λ p a. refl; no_writer = λ p a b o. o; no_readers = λ p a b o. o; finding = tt; judged = λ t u. tt; room = tt; holds_on = λ t. refl; over = refl; upgrade = λ t h. refl; refused = tt }
   row (LookUnlisted u) _ e n t = absurd e
-  row LeaveNoReaders Done e n t = record { reading = refl; sharing = inr ((λ p t. refl), refl); starving = λ p s. refl; valued = λ u. refl; unturned = λ p a. refl; no_writer = λ p a b o. o; no_readers = λ p a b o. o; finding = tt; judged = λ t u. (refl, refl); over = refl; upgrade = tt; refused = tt }
+  row LeaveNoReaders Done e n t = record { reading = refl; sharing = inr ((λ p t. refl), refl); starving = λ p s. refl; valued = λ u. refl; unturned = λ p a. refl; no_writer = λ p a b o. o; no_readers = λ p a b o. o; finding = tt; judged = λ t u. (refl, refl); room = tt; holds_on = λ t. refl; over = refl; upgrade = tt; refused = tt }
   row LeaveNoReaders _ e n t = absurd e
-  row DropRead NoneLeft e n t = record { reading = refl; sharing = inr ((λ p t. refl), refl); starving = λ p s. refl; valued = λ u. refl; unturned = λ p a. refl; no_writer = λ p a b o. o; no_readers = λ p a b o. o; finding = refl; judged = λ t u. (refl, refl); over = refl; upgrade = λ t h. refl; refused = tt }
-  row DropRead SomeLeft e n t = record { reading = refl; sharing = inr ((λ p t. refl), refl); starving = λ p s. refl; valued = λ u. refl; unturned = λ p a. refl; no_writer = λ p a b o. o; no_readers = λ p a b o. o; finding = refl; judged = λ t u. (refl, refl); over = refl; upgrade = tt; refused = tt }
+  row DropRead NoneLeft e n t = record { reading = refl; sharing = inr ((λ p t. refl), refl); starving = λ p s. refl; valued = λ u. refl; unturned = λ p a. refl; no_writer = λ p a b o. o; no_readers = λ p a b o. o; finding = refl; judged = λ t u. (refl, refl); room = tt; holds_on = λ t. refl; over = refl; upgrade = λ t h. refl; refused = tt }
+  row DropRead SomeLeft e n t = record { reading = refl; sharing = inr ((λ p t. refl), refl); starving = λ p s. refl; valued = λ u. refl; unturned = λ p a. refl; no_writer = λ p a b o. o; no_readers = λ p a b o. o; finding = refl; judged = λ t u. (refl, refl); room = tt; holds_on = λ t. refl; over = refl; upgrade = tt; refused = tt }
   row DropRead _ e n t = absurd e
-  row DropReadNotify Done e n t = record { reading = refl; sharing = inr ((λ p t. refl), refl); starving = λ p s. refl; valued = λ u. refl; unturned = λ p a. refl; no_writer = λ p a b o. o; no_readers = λ p a b o. o; finding = tt; judged = λ t u. (refl, refl); over = refl; upgrade = tt; refused = tt }
+  row DropReadNotify Done e n t = record { reading = refl; sharing = inr ((λ p t. refl), refl); starving = λ p s. refl; valued = λ u. refl; unturned = λ p a. refl; no_writer = λ p a b o. o; no_readers = λ p a b o. o; finding = tt; judged = λ t u. (refl, refl); room = tt; holds_on = λ t. refl; over = refl; upgrade = tt; refused = tt }
   row DropReadNotify _ e n t = absurd e
-  row DropUpgradable NoneLeft e n t = record { reading = refl; sharing = inl (refl, λ p. refl); starving = λ p s. refl; valued = λ u. refl; unturned = λ p a. refl; no_writer = λ p a b o. o; no_readers = λ p a b o. o; finding = (refl, refl); judged = λ t u. (refl, refl); over = refl; upgrade = λ t h. refl; refused = tt }
-  row DropUpgradable SomeLeft e n t = record { reading = refl; sharing = inl (refl, λ p. refl); starving = λ p s. refl; valued = λ u. refl; unturned = λ p a. refl; no_writer = λ p a b o. o; no_readers = λ p a b o. o; finding = (refl, refl); judged = λ t u. (refl, refl); over = refl; upgrade = λ t h. refl; refused = tt }
+  row DropUpgradable NoneLeft e n t = record { reading = refl; sharing = inl (refl, λ p. refl); starving = λ p s. refl; valued = λ u. refl; unturned = λ p a. refl; no_writer = λ p a b o. o; no_readers = λ p a b o. o; finding = (refl, refl); judged = λ t u. (refl, refl); room = tt; holds_on = λ t. refl; over = refl; upgrade = λ t h. refl; refused = tt }
+  row DropUpgradable SomeLeft e n t = record { reading = refl; sharing = inl (refl, λ p. refl); starving = λ p s. refl; valued = λ u. refl; unturned = λ p a. refl; no_writer = λ p a b o. o; no_readers = λ p a b o. o; finding = (refl, refl); judged = λ t u. (refl, refl); room = tt; holds_on = λ t. refl; over = refl; upgrade = λ t h. refl; refused = tt }
   row DropUpgradable _ e n t = absurd e
-  row DropUpgradableNotify Done e n t = record { reading = refl; sharing = inr ((λ p t. refl), refl); starving = λ p s. refl; valued = λ u. refl; unturned = λ p a. refl; no_writer = λ p a b o. o; no_readers = λ p a b o. o; finding = tt; judged = λ t u. (refl, refl); over = refl; upgrade = λ t h. refl; refused = tt }
+  row DropUpgradableNotify Done e n t = record { reading = refl; sharing = inr ((λ p t. refl), refl); starving = λ p s. refl; valued = λ u. refl; unturned = λ p a. refl; no_writer = λ p a b o. o; no_readers = λ p a b o. o; finding = tt; judged = λ t u. (refl, refl); room = tt; holds_on = λ t. refl; over = refl; upgrade = λ t h. refl; refused = tt }
   row DropUpgradableNotify _ e n t = absurd e
-  row DropWrite Done e n t = record { reading = refl; sharing = inl (refl, λ p. refl); starving = λ p s. refl; valued = λ u. refl; unturned = λ p a. refl; no_writer = λ p a b o. o; no_readers = λ p a b o. o; finding = (refl, inr refl); judged = λ t u. (refl, refl); over = refl; upgrade = λ t h. refl; refused = tt }
+  row DropWrite Done e n t = record { reading = refl; sharing = inl (refl, λ p. refl); starving = λ p s. refl; valued = λ u. refl; unturned = λ p a. refl; no_writer = λ p a b o. o; no_readers = λ p a b o. o; finding = (refl, inr refl); judged = λ t u. (refl, refl); room = tt; holds_on = λ t. refl; over = refl; upgrade = λ t h. refl; refused = tt }
   row DropWrite _ e n t = absurd e
-  row CancelAwait Done e n t = record { reading = refl; sharing = inr ((λ p t. refl), refl); starving = λ p s. refl; valued = λ u. refl; unturned = λ p a. refl; no_writer = λ p a b o. o; no_readers = λ p a b o. o; finding = tt; judged = λ t u. (refl, refl); over = refl; upgrade = λ t h. refl; refused = tt }
+  row CancelAwait Done e n t = record { reading = refl; sharing = inr ((λ p t. refl), refl); starving = λ p s. refl; valued = λ u. refl; unturned = λ p a. refl; no_writer = λ p a b o. o; no_readers = λ p a b o. o; finding = tt; judged = λ t u. (refl, refl); room = tt; holds_on = λ t. refl; over = refl; upgrade = λ t h. refl; refused = tt }
   row CancelAwait _ e n t = absurd e
-  row (Unmark true) Done e n t = record { reading = refl; sharing = inl (refl, λ p. refl); starving = λ p s. refl; valued = λ u. refl; unturned = λ p a. refl; no_writer = λ p a b o. o; no_readers = λ p a b o. o; finding = (refl, inl refl); judged = λ t u. (refl, refl); over = refl; upgrade = λ t h. refl; refused = tt }
+  row (Unmark true) Done e n t = record { reading = refl; sharing = inl (refl, λ p. refl); starving = λ p s. refl; valued = λ u. refl; unturned = λ p a. refl; no_writer = λ p a b o. o; no_readers = λ p a b o. o; finding = (refl, inl refl); judged = λ t u. (refl, refl); room = tt; holds_on = λ t. refl; over = refl; upgrade = λ t h. refl; refused = tt }
   row (Unmark true) _ e n t = absurd e
-  row (Unmark false) Done e n t = record { reading = refl; sharing = inl (refl, λ p. refl); starving = λ p s. refl; valued = λ u. refl; unturned = λ p a. refl; no_writer = λ p a b o. o; no_readers = λ p a b o. o; finding = (refl, inl refl); judged = λ t u. (refl, refl); over = refl; upgrade = λ t h. refl; refused = tt }
+  row (Unmark false) Done e n t = record { reading = refl; sharing = inl (refl, λ p. refl); starving = λ p s. refl; valued = λ u. refl; unturned = λ p a. refl; no_writer = λ p a b o. o; no_readers = λ p a b o. o; finding = (refl, inl refl); judged = λ t u. (refl, refl); room = tt; holds_on = λ t. refl; over = refl; upgrade = λ t h. refl; refused = tt }
   row (Unmark false) _ e n t = absurd e
-  row (UnmarkNotify true) Done e n t = record { reading = refl; sharing = inr ((λ p t. refl), refl); starving = λ p s. refl; valued = λ u. refl; unturned = λ p a. refl; no_writer = λ p a b o. o; no_readers = λ p a b o. o; finding = tt; judged = λ t u. (refl, refl); over = refl; upgrade = λ t h. refl; refused = tt }
+  row (UnmarkNotify true) Done e n t = record { reading = refl; sharing = inr ((λ p t. refl), refl); starving = λ p s. refl; valued = λ u. refl; unturned = λ p a. refl; no_writer = λ p a b o. o; no_readers = λ p a b o. o; finding = tt; judged = λ t u. (refl, refl); room = tt; holds_on = λ t. refl; over = refl; upgrade = λ t h. refl; refused = tt }
   row (UnmarkNotify true) _ e n t = absurd e
-  row (UnmarkNotify false) Done e n t = record { reading = refl; sharing = inr ((λ p t. refl), refl); starving = λ p s. refl; valued = λ u. refl; unturned = λ p a. refl; no_writer = λ p a b o. o; no_readers = λ p a b o. o; finding = tt; judged = λ t u. (refl, refl); over = refl; upgrade = λ t h. refl; refused = tt }
+  row (UnmarkNotify false) Done e n t = record { reading = refl; sharing = inr ((λ p t. refl), refl); starving = λ p s. refl; valued = λ u. refl; unturned = λ p a. refl; no_writer = λ p a b o. o; no_readers = λ p a b o. o; finding = tt; judged = λ t u. (refl, refl); room = tt; holds_on = λ t. refl; over = refl; upgrade = λ t h. refl; refused = tt }
   row (UnmarkNotify false) _ e n t = absurd e
-  row (Down true) Done e n t = record { reading = refl; sharing = inl (refl, λ p. refl); starving = λ p s. refl; valued = λ u. refl; unturned = λ p a. refl; no_writer = λ p a b o. o; no_readers = λ p a b o. o; finding = (refl, refl); judged = λ t u. tt; over = refl; upgrade = λ t h. refl; refused = tt }
+  row (Down true) Done e n t = record { reading = refl; sharing = inl (refl, λ p. refl); starving = λ p s. refl; valued = λ u. refl; unturned = λ p a. refl; no_writer = λ p a b o. o; no_readers = λ p a b o. o; finding = (refl, refl); judged = λ t u. tt; room = tt; holds_on = λ t. refl; over = refl; upgrade = λ t h. refl; refused = tt }
   row (Down true) _ e n t = absurd e
-  row (Down false) Done e n t = record { reading = refl; sharing = inl (refl, λ p. refl); starving = λ p s. refl; valued = λ u. refl; unturned = λ p a. refl; no_writer = λ p a b o. o; no_readers = λ p a b o. o; finding = (refl, refl); judged = λ t u. tt; over = refl; upgrade = λ t h. refl; refused = tt }
+  row (Down false) Done e n t = record { reading = refl; sharing = inl (refl, λ p. refl); starving = λ p s. refl; valued = λ u. refl; unturned = λ p a. refl; no_writer = λ p a b o. o; no_readers = λ p a b o. o; finding = (refl, refl); judged = λ t u. tt; room = tt; holds_on = λ t. refl; over = refl; upgrade = λ t h. refl; refused = tt }
   row (Down false) _ e n t = absurd e
-  row DownNotify Done e n t = record { reading = refl; sharing = inr ((λ p t. refl), refl); starving = λ p s. refl; valued = λ u. refl; unturned = λ p a. refl; no_writer = λ p a b o. o; no_readers = λ p a b o. o; finding = tt; judged = λ t u. (refl, refl); over = refl; upgrade = tt; refused = tt }
+  row DownNotify Done e n t = record { reading = refl; sharing = inr ((λ p t. refl), refl); starving = λ p s. refl; valued = λ u. refl; unturned = λ p a. refl; no_writer = λ p a b o. o; no_readers = λ p a b o. o; finding = tt; judged = λ t u. (refl, refl); room = tt; holds_on = λ t. refl; over = refl; upgrade = tt; refused = tt }
   row DownNotify _ e n t = absurd e
-  row DowngradeNotify Done e n t = record { reading = refl; sharing = inr ((λ p t. refl), refl); starving = λ p s. refl; valued = λ u. refl; unturned = λ p a. refl; no_writer = λ p a b o. o; no_readers = λ p a b o. o; finding = tt; judged = λ t u. (refl, refl); over = refl; upgrade = tt; refused = tt }
+  row DowngradeNotify Done e n t = record { reading = refl; sharing = inr ((λ p t. refl), refl); starving = λ p s. refl; valued = λ u. refl; unturned = λ p a. refl; no_writer = λ p a b o. o; no_readers = λ p a b o. o; finding = tt; judged = λ t u. (refl, refl); room = tt; holds_on = λ t. refl; over = refl; upgrade = tt; refused = tt }
   row DowngradeNotify _ e n t = absurd e
 
 -- ---- actions on the turn

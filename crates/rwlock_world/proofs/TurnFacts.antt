@@ -1,6 +1,7 @@
 -- What one action on the turn does and decides, as callers see it.
-use Rattle.std.proofs.Common.{◌≡◌, ℕ, ◌==◌, inl, inr, Bool, true, List, map, Option, Some, None, refl, arith, ap, sym, ◌∙◌, subst}
+use Rattle.std.proofs.Common.{◌≡◌, ℕ, ◌==◌, ◌||◌, not, inl, inr, Bool, true, false, List, map, Option, Some, None, refl, arith, ap, sym, ◌∙◌, subst}
 use Rattle.std.proofs.Math.Seq.{map-set_same}
+use Rattle.std.proofs.lemmas.Bool.{false≢true}
 use Rattle.lock_event.specs.declared.event.Mark.TheVariants.{Waiting}
 use Rattle.lock_world.specs.declared.moves.Answer.{Answer}
 use Rattle.lock_world.specs.declared.moves.Answer.TheVariants as answer
@@ -9,7 +10,7 @@ use Rattle.lock_world.specs.declared.refusal.Refusal.{Refusal}
 use Rattle.lock_world.specs.declared.refusal.Refusal.TheVariants as refusal
 use Rattle.lock_world.specs.declared.standing.Stage.{Stage}
 use Rattle.lock_world.specs.Standings.{inputs_of, refused}
-use Rattle.lock_world.specs.Steps.{Deed}
+use Rattle.lock_world.specs.Steps.{Deed, nothing, changes, does, joins}
 use Rattle.mutex_machine.specs.declared.program.Place.{Place as TurnPlace}
 use Rattle.mutex_machine.specs.declared.program.LockCall.{LockCall}
 use Rattle.mutex_machine.specs.declared.program.LockCall.TheVariants as turn_call
@@ -21,6 +22,7 @@ use Rattle.mutex_machine.specs.Courses.{is_out, Takes, Tries, Releases, Cancels}
 use Rattle.mutex_machine.specs.Roles.{holds}
 use Rattle.mutex_machine.specs.Machine.{place_at as turn_at}
 use Rattle.mutex_machine.specs.State.{holder_of}
+use Rattle.mutex_machine.specs.Legal as mutex
 use Rattle.mutex_machine.specs.Legal.{decision, decided_by, decided_then, IsReason}
 use Rattle.mutex_machine.proofs.Parts.{out_free, releasing_free, releasing_decided, cancelling_decided, IsPolls, taking_decided}
 use Rattle.mutex_machine.proofs.Callers.{holding_holds}
@@ -39,13 +41,13 @@ use Rattle.rwlock_machine.specs.Machine.{RwLock}
 use Rattle.rwlock_machine.specs.Acts.{IsRwLock}
 use Rattle.rwlock_machine.proofs.Leads.{Led, Ends, steps_in_turn}
 use Rattle.rwlock_world.specs.declared.world.table.Sought.{Sought}
-use Rattle.rwlock_world.specs.Changes.{Change, ListName}
+use Rattle.rwlock_world.specs.Changes.{Change, ListName, gives_up}
 use Rattle.rwlock_world.specs.State.{World, told_in}
 use Rattle.rwlock_world.specs.Legal.{IsCause}
 use Rattle.rwlock_world.specs.Plans.{course_of, course_until, polls, tries, drops}
 use Rattle.rwlock_world.specs.View.{is_reading, verdict, verdict_until, refused_by, seen}
-use Rattle.rwlock_world.proofs.Rows.{verdict_then, TurnRow, turn_row}
-use Rattle.rwlock_world.proofs.Facts.{WaitsIn, JudgedAs, Facts, Known}
+use Rattle.rwlock_world.proofs.Rows.{verdict_then, Room, keeps_what_it_has, TurnRow, turn_row}
+use Rattle.rwlock_world.proofs.Facts.{WaitsIn, Idle, JudgedAs, Facts, Known}
 use Rattle.rwlock_world.proofs.TurnSteps.{TurnDid, TurnMoved, moved, left}
 use Rattle.rwlock_world.proofs.Views as view
 
@@ -103,6 +105,28 @@ released_free u (turn_next.Do a q) h = releasing_free u h
 released_free u (turn_next.End turn_end.GivenBack) h = out_free u (ap is_out h)
 released_free u (turn_next.End _) h = absurd h
 
+-- what a deed gives up, and that a join found room
+room_of : (memory : Bool) (d : Deed Change ListName) → ((list : ListName) → d ≡ does list joins → memory ≡ true) → Room memory d
+room_of memory (does list joins) h = h list refl
+room_of memory _ h = tt
+
+never_given : (b c : Bool) → (b ≡ true → c ≡ true) → c ≡ false → b ≡ false
+never_given false c h e = refl
+never_given true c h e = absurd (false≢true (sym e ∙ h refl))
+
+released_given : (d : Deed mutex.Change mutex.ListName) → mutex.gives_up d ≡ false → mutex.is_release d ≡ false
+released_given (changes mutex.releases) e = absurd (cc)
+released_given _ e = refl
+
+kept_so : (o : Option Answer) (d : Deed Change ListName) → gives_up d ≡ false → keeps_what_it_has o d ≡ true
+kept_so o d e = rw e refl
+
+judged_so : (b : Answer) (d : Deed Change ListName) → keeps_what_it_has (Some b) d ≡ true
+judged_so b d = or_true (not (gives_up d)) where
+  or_true : (c : Bool) → c || true ≡ true
+  or_true true = refl
+  or_true false = refl
+
 module _ (m : Move) (l k : RwLock) (ss : List Stage) (os : List (Option Sought)) (ts : List Stage) (ps : List (Option Sought)) (v : ℕ) (afterwards : IsRwLock k) where
   abbrev p : ℕ
   p = m.party
@@ -125,12 +149,12 @@ module _ (m : Move) (l k : RwLock) (ss : List Stage) (os : List (Option Sought))
   abbrev new : World
   new = seen k ts ps v
 
-  abbrev Judges : Place → Deed Change ListName → Option Answer → Option Answer → Type 0
-  Judges to d was now = JudgedAs m old k new v to d was now
+  abbrev Judges : Place → Place → Deed Change ListName → Option Answer → Option Answer → Type 0
+  Judges x to d was now = JudgedAs m old k new v x to d was now
 
-  facts : (x : Place) (f : Found) (c : Known m l k ss os x f) → TurnRow v x f → (decided : Option TurnEnd) (n : TurnNext) (did : TurnDid memory p decided n l.turn k.turn) (mv : TurnMoved p l k old did.legal.deed) → k.no_writer ≡ l.no_writer → k.no_readers ≡ l.no_readers
-      → Judges (place_after (next_of x f)) mv.deed (verdict v x t) (verdict_then v (course_of x) u (next_of x f)) → Facts m l k ss os ts ps v x (next_of x f)
-  facts x f c row decided n did mv nw nr judged = record {
+  facts : (x : Place) (f : Found) (c : Known m l k ss os x f) → TurnRow v x f → (decided : Option TurnEnd) (n : TurnNext) (did : TurnDid memory p decided n l.turn k.turn) (mv : TurnMoved p l k old did.legal.deed) → keeps_what_it_has (verdict v x t) mv.deed ≡ true → k.no_writer ≡ l.no_writer → k.no_readers ≡ l.no_readers
+      → Judges x (place_after (next_of x f)) mv.deed (verdict v x t) (verdict_then v (course_of x) u (next_of x f)) → Facts m l k ss os ts ps v x (next_of x f)
+  facts x f c row decided n did mv kept_on nw nr judged = record {
     deed = mv.deed;
     readers = ap (map is_reading) c.places ∙ (map-set_same is_reading l.places p (place_after (next_of x f)) place.Out (row.reading ∙ ap (λ (n : ℕ). n == 1) c.same.reading) ∙ sym (mv.readers (map is_reading l.places)));
     turn = mv.turn;
@@ -143,6 +167,8 @@ module _ (m : Move) (l k : RwLock) (ss : List Stage) (os : List (Option Sought))
     starved_limit = did.legal.limit;
     others = did.legal.others;
     judged = judged;
+    room = room_of memory mv.deed (λ list e. did.legal.found_memory mutex.for_the_lock (mv.joining list e));
+    holds_on = kept_on;
     over = row.over;
     upgrade = row.upgrade;
     refused = row.refused;
@@ -166,25 +192,25 @@ module _ (m : Move) (l k : RwLock) (ss : List Stage) (os : List (Option Sought))
   waits_then pr (turn_next.End (turn_end.Refused r)) h e w = absurd (cc)
 
   -- a poll that wasn't decided there
-  undecided : (to : Place) (d : Deed Change ListName) (o : Option TurnEnd) → ((e : TurnEnd) → o ≡ Some e → IsReason memory p l.turn k.turn e) → ((r : Refusal) → IsReason memory p l.turn k.turn (turn_end.Refused r) → IsCause old m new r)
-      → (o ≡ Some turn_end.Pending → told_in k.turn.entries p ≡ Some Waiting → WaitsIn k p to) → Judges to d None (poll_says o)
-  undecided to d None why causes waits = tt
-  undecided to d (Some turn_end.Got) why causes waits = tt
-  undecided to d (Some turn_end.NotFree) why causes waits = tt
-  undecided to d (Some turn_end.GivenBack) why causes waits = tt
-  undecided to d (Some turn_end.Pending) why causes waits = waits refl (why turn_end.Pending refl)
-  undecided to d (Some (turn_end.Refused r)) why causes waits = (r, refl, causes r (why (turn_end.Refused r) refl))
+  undecided : (x to : Place) (d : Deed Change ListName) (o : Option TurnEnd) → ((e : TurnEnd) → o ≡ Some e → IsReason memory p l.turn k.turn e) → ((r : Refusal) → IsReason memory p l.turn k.turn (turn_end.Refused r) → IsCause old m new r)
+      → (o ≡ Some turn_end.Pending → told_in k.turn.entries p ≡ Some Waiting → WaitsIn k p to) → ((r : Refusal) → o ≡ Some (turn_end.Refused r) → Idle x d r) → Judges x to d None (poll_says o)
+  undecided x to d None why causes waits idle = tt
+  undecided x to d (Some turn_end.Got) why causes waits idle = tt
+  undecided x to d (Some turn_end.NotFree) why causes waits idle = tt
+  undecided x to d (Some turn_end.GivenBack) why causes waits idle = tt
+  undecided x to d (Some turn_end.Pending) why causes waits idle = waits refl (why turn_end.Pending refl)
+  undecided x to d (Some (turn_end.Refused r)) why causes waits idle = (r, refl, causes r (why (turn_end.Refused r) refl), idle r refl)
 
-  polled : (pr : Purpose) (tn : TurnNext) (decided : Option TurnEnd) (did : TurnDid memory p decided tn l.turn k.turn) (mv : TurnMoved p l k old did.legal.deed) → IsPolls decided → Takes tn u → ((r : Refusal) → IsReason memory p l.turn k.turn (turn_end.Refused r) → IsCause old m new r)
-      → Judges (place_after (after_lock pr (Turn tn))) mv.deed (refused_by decided) (verdict_then v polls u (after_lock pr (Turn tn)))
-  polled pr tn decided did mv dec takes causes =
+  polled : (x : Place) (pr : Purpose) (tn : TurnNext) (decided : Option TurnEnd) (did : TurnDid memory p decided tn l.turn k.turn) (mv : TurnMoved p l k old did.legal.deed) → IsPolls decided → Takes tn u → ((r : Refusal) → IsReason memory p l.turn k.turn (turn_end.Refused r) → IsCause old m new r) → ((r : Refusal) → decided ≡ None → decided_then tn u ≡ Some (turn_end.Refused r) → Idle x mv.deed r)
+      → Judges x (place_after (after_lock pr (Turn tn))) mv.deed (refused_by decided) (verdict_then v polls u (after_lock pr (Turn tn)))
+  polled x pr tn decided did mv dec takes causes idle =
       let to : Place = place_after (after_lock pr (Turn tn)) in
-      let P : Option Answer → Type 0 = λ o. Judges to mv.deed (refused_by decided) o in
+      let P : Option Answer → Type 0 = λ o. Judges x to mv.deed (refused_by decided) o in
       subst P (sym (now_polled v u pr tn takes)) (by_decided dec) where
-        by_decided : IsPolls decided → Judges (place_after (after_lock pr (Turn tn))) mv.deed (refused_by decided) (poll_says (decided_then tn u))
+        by_decided : IsPolls decided → Judges x (place_after (after_lock pr (Turn tn))) mv.deed (refused_by decided) (poll_says (decided_then tn u))
         by_decided (inl e) =
-            let Q : Option TurnEnd → Type 0 = λ o. Judges (place_after (after_lock pr (Turn tn))) mv.deed (refused_by o) (poll_says (decided_then tn u)) in
-            subst Q (sym e) (undecided (place_after (after_lock pr (Turn tn))) mv.deed (decided_then tn u) (λ b y. did.legal.reason b e y) causes (waits_then pr tn takes))
+            let Q : Option TurnEnd → Type 0 = λ o. Judges x (place_after (after_lock pr (Turn tn))) mv.deed (refused_by o) (poll_says (decided_then tn u)) in
+            subst Q (sym e) (undecided x (place_after (after_lock pr (Turn tn))) mv.deed (decided_then tn u) (λ b y. did.legal.reason b e y) causes (waits_then pr tn takes) (λ r y. idle r e y))
         by_decided (inr (inl e)) =
             let kept = did.legal.kept turn_end.Got e in
             rw (e, kept.0) tt
@@ -192,12 +218,23 @@ module _ (m : Move) (l k : RwLock) (ss : List Stage) (os : List (Option Sought))
             let kept = did.legal.kept (turn_end.Refused h.0) h.1 in
             rw (h.1, kept.0) (refl, mv.parting kept.1)
 
-  tried : (pr : Purpose) (tn : TurnNext) (d : Deed Change ListName) → Tries tn u → Judges (place_after (after_turn (place.TryTurn pr) (Turn tn))) d None (verdict_then v tries u (after_turn (place.TryTurn pr) (Turn tn)))
+  tried : (pr : Purpose) (tn : TurnNext) (d : Deed Change ListName) → Tries tn u → Judges (place.TryTurn pr) (place_after (after_turn (place.TryTurn pr) (Turn tn))) d None (verdict_then v tries u (after_turn (place.TryTurn pr) (Turn tn)))
   tried purpose.UpgradableRead (turn_next.End turn_end.Got) d h = tt
   tried purpose.Write (turn_next.End turn_end.Got) d h = tt
   tried pr (turn_next.End turn_end.NotFree) d h = tt
   tried pr (turn_next.End _) d h = absurd h
   tried pr (turn_next.Do a q) d h = absurd h
+
+  -- whoever isn't decided there, or has the turn, keeps what it has
+  on_hold : (decided : Option TurnEnd) (n : TurnNext) (did : TurnDid memory p decided n l.turn k.turn) (mv : TurnMoved p l k old did.legal.deed) → IsPolls decided → keeps_what_it_has (refused_by decided) mv.deed ≡ true
+  on_hold decided n did mv (inl e) = kept_so (refused_by decided) mv.deed (never_given (gives_up mv.deed) (mutex.is_release did.legal.deed) mv.giving_up (released_given did.legal.deed (did.legal.holds_on e)))
+  on_hold decided n did mv (inr (inl e)) = kept_so (refused_by decided) mv.deed (never_given (gives_up mv.deed) (mutex.is_release did.legal.deed) mv.giving_up (did.legal.keeps_lock e))
+  on_hold decided n did mv (inr (inr h)) = let P : Option TurnEnd → Type 0 = λ o. keeps_what_it_has (refused_by o) mv.deed ≡ true in subst P (sym h.1) (judged_so (refused h.0) mv.deed)
+
+  -- a refusal for memory on the way does nothing else
+  idle_there : (pr : Purpose) (n : TurnNext) (did : TurnDid memory p (decision t) n l.turn k.turn) (mv : TurnMoved p l k old did.legal.deed) (r : Refusal) → decision t ≡ None → decided_then n u ≡ Some (turn_end.Refused r) → Idle (place.TakeTurn pr) mv.deed r
+  idle_there pr n did mv refusal.Memory e h = (mv.idle (did.legal.refused_idly e h), refl)
+  idle_there pr n did mv _ e h = tt
 
   begun : (c : LockCall) (n : TurnNext) → TurnBegins memory p c n l.turn k.turn → TurnDid memory p (decided_by c) n l.turn k.turn
   begun c n b = record { legal = b.legal; fair = b.fair }
@@ -210,74 +247,74 @@ module _ (m : Move) (l k : RwLock) (ss : List Stage) (os : List (Option Sought))
       let row = turn_row v u (place.EnterTurn pr) (Turn tn) s e in
       let did = begun turn_call.Lock tn o in
       let mv = moved m l k ss os ts ps v (place.EnterTurn pr) (Turn tn) c afterwards row.sharing None tn did refl in
-      facts (place.EnterTurn pr) (Turn tn) c row None tn did mv c.no_writer c.no_readers (polled pr tn None did mv (inl refl) e (cause (place.EnterTurn pr) (Turn tn) c refl refl c.no_writer c.no_readers))
+      facts (place.EnterTurn pr) (Turn tn) c row None tn did mv (on_hold None tn did mv (inl refl)) c.no_writer c.no_readers (polled (place.EnterTurn pr) pr tn None did mv (inl refl) e (cause (place.EnterTurn pr) (Turn tn) c refl refl c.no_writer c.no_readers) (λ r n y. absurd (o.unrefused r y)))
   on_turn (place.EnterTurn pr) _ c s o e fit = absurd o
   on_turn (place.WaitTurn pr) (Turn tn) c s o e fit =
       let row = turn_row v u (place.WaitTurn pr) (Turn tn) s e in
       let did = begun turn_call.Poll tn o in
       let mv = moved m l k ss os ts ps v (place.WaitTurn pr) (Turn tn) c afterwards row.sharing None tn did refl in
-      facts (place.WaitTurn pr) (Turn tn) c row None tn did mv c.no_writer c.no_readers (polled pr tn None did mv (inl refl) e (cause (place.WaitTurn pr) (Turn tn) c refl refl c.no_writer c.no_readers))
+      facts (place.WaitTurn pr) (Turn tn) c row None tn did mv (on_hold None tn did mv (inl refl)) c.no_writer c.no_readers (polled (place.WaitTurn pr) pr tn None did mv (inl refl) e (cause (place.WaitTurn pr) (Turn tn) c refl refl c.no_writer c.no_readers) (λ r n y. absurd (o.unrefused r y)))
   on_turn (place.WaitTurn pr) _ c s o e fit = absurd o
   on_turn (place.TakeTurn pr) (Turn tn) c s o e fit =
       let row = turn_row v u (place.TakeTurn pr) (Turn tn) s e in
       let did = gone_on tn o in
       let mv = moved m l k ss os ts ps v (place.TakeTurn pr) (Turn tn) c afterwards row.sharing (decision t) tn did refl in
-      facts (place.TakeTurn pr) (Turn tn) c row (decision t) tn did mv c.no_writer c.no_readers (polled pr tn (decision t) did mv (taking_decided t fit) e (cause (place.TakeTurn pr) (Turn tn) c refl refl c.no_writer c.no_readers))
+      facts (place.TakeTurn pr) (Turn tn) c row (decision t) tn did mv (on_hold (decision t) tn did mv (taking_decided t fit)) c.no_writer c.no_readers (polled (place.TakeTurn pr) pr tn (decision t) did mv (taking_decided t fit) e (cause (place.TakeTurn pr) (Turn tn) c refl refl c.no_writer c.no_readers) (idle_there pr tn did mv))
   on_turn (place.TakeTurn pr) _ c s o e fit = absurd o
   on_turn (place.TryTurn pr) (Turn tn) c s o e fit =
       let row = turn_row v u (place.TryTurn pr) (Turn tn) s e in
       let did = begun turn_call.Try tn o in
       let mv = moved m l k ss os ts ps v (place.TryTurn pr) (Turn tn) c afterwards row.sharing None tn did refl in
-      facts (place.TryTurn pr) (Turn tn) c row None tn did mv c.no_writer c.no_readers (tried pr tn mv.deed e)
+      facts (place.TryTurn pr) (Turn tn) c row None tn did mv (on_hold None tn did mv (inl refl)) c.no_writer c.no_readers (tried pr tn mv.deed e)
   on_turn (place.TryTurn pr) _ c s o e fit = absurd o
   on_turn place.CancelTurn (Turn tn) c s o e fit =
       let row = turn_row v u place.CancelTurn (Turn tn) s e in
       let did = begun turn_call.Cancel tn o in
       let mv = moved m l k ss os ts ps v place.CancelTurn (Turn tn) c afterwards row.sharing (Some turn_end.GivenBack) tn did refl in
-      facts place.CancelTurn (Turn tn) c row (Some turn_end.GivenBack) tn did mv c.no_writer c.no_readers ((now_cancelled v u tn e).0, mv.parting (did.legal.kept turn_end.GivenBack refl).1)
+      facts place.CancelTurn (Turn tn) c row (Some turn_end.GivenBack) tn did mv (judged_so answer.GivenBack mv.deed) c.no_writer c.no_readers ((now_cancelled v u tn e).0, mv.parting (did.legal.kept turn_end.GivenBack refl).1)
   on_turn place.CancelTurn _ c s o e fit = absurd o
   on_turn place.CancellingTurn (Turn tn) c s o e fit =
       let row = turn_row v u place.CancellingTurn (Turn tn) s e in
       let did = gone_on tn o in
       let mv = moved m l k ss os ts ps v place.CancellingTurn (Turn tn) c afterwards row.sharing (decision t) tn did refl in
-      facts place.CancellingTurn (Turn tn) c row (decision t) tn did mv c.no_writer c.no_readers ((now_cancelled v u tn e).1, mv.parting (did.legal.kept turn_end.GivenBack (cancelling_decided t fit)).1)
+      facts place.CancellingTurn (Turn tn) c row (decision t) tn did mv (judged_so answer.GivenBack mv.deed) c.no_writer c.no_readers ((now_cancelled v u tn e).1, mv.parting (did.legal.kept turn_end.GivenBack (cancelling_decided t fit)).1)
   on_turn place.CancellingTurn _ c s o e fit = absurd o
   on_turn (place.ReleaseTurn ending.Reading) (Turn tn) c s o e fit =
       let row = turn_row v u (place.ReleaseTurn ending.Reading) (Turn tn) s e in
       let did = begun turn_call.Release tn o in
       let held : holder_of l.turn ≡ Some p = sees.holds_it l.turn.places p c.laws.turn.one_holder (holding_holds t fit) in
       let mv = left m l k ss os ts ps v (place.ReleaseTurn ending.Reading) (Turn tn) c afterwards row.sharing (Some turn_end.GivenBack) tn did refl held (released_free u tn e) in
-      facts (place.ReleaseTurn ending.Reading) (Turn tn) c row (Some turn_end.GivenBack) tn did mv c.no_writer c.no_readers (now_released v u ending.Reading tn e, mv.parting (did.legal.kept turn_end.GivenBack refl).1)
+      facts (place.ReleaseTurn ending.Reading) (Turn tn) c row (Some turn_end.GivenBack) tn did mv (judged_so (verdict_until ending.Reading) mv.deed) c.no_writer c.no_readers (now_released v u ending.Reading tn e, mv.parting (did.legal.kept turn_end.GivenBack refl).1)
   on_turn (place.ReleaseTurn ending.GivenBack) (Turn tn) c s o e fit =
       let row = turn_row v u (place.ReleaseTurn ending.GivenBack) (Turn tn) s e in
       let did = begun turn_call.Release tn o in
       let mv = moved m l k ss os ts ps v (place.ReleaseTurn ending.GivenBack) (Turn tn) c afterwards row.sharing (Some turn_end.GivenBack) tn did refl in
-      facts (place.ReleaseTurn ending.GivenBack) (Turn tn) c row (Some turn_end.GivenBack) tn did mv c.no_writer c.no_readers (now_released v u ending.GivenBack tn e, mv.parting (did.legal.kept turn_end.GivenBack refl).1)
+      facts (place.ReleaseTurn ending.GivenBack) (Turn tn) c row (Some turn_end.GivenBack) tn did mv (judged_so (verdict_until ending.GivenBack) mv.deed) c.no_writer c.no_readers (now_released v u ending.GivenBack tn e, mv.parting (did.legal.kept turn_end.GivenBack refl).1)
   on_turn (place.ReleaseTurn ending.NotFree) (Turn tn) c s o e fit =
       let row = turn_row v u (place.ReleaseTurn ending.NotFree) (Turn tn) s e in
       let did = begun turn_call.Release tn o in
       let mv = moved m l k ss os ts ps v (place.ReleaseTurn ending.NotFree) (Turn tn) c afterwards row.sharing (Some turn_end.GivenBack) tn did refl in
-      facts (place.ReleaseTurn ending.NotFree) (Turn tn) c row (Some turn_end.GivenBack) tn did mv c.no_writer c.no_readers (now_released v u ending.NotFree tn e, mv.parting (did.legal.kept turn_end.GivenBack refl).1)
+      facts (place.ReleaseTurn ending.NotFree) (Turn tn) c row (Some turn_end.GivenBack) tn did mv (judged_so (verdict_until ending.NotFree) mv.deed) c.no_writer c.no_readers (now_released v u ending.NotFree tn e, mv.parting (did.legal.kept turn_end.GivenBack refl).1)
   on_turn (place.ReleaseTurn ending.RefuseReaders) (Turn tn) c s o e fit =
       let row = turn_row v u (place.ReleaseTurn ending.RefuseReaders) (Turn tn) s e in
       let did = begun turn_call.Release tn o in
       let mv = moved m l k ss os ts ps v (place.ReleaseTurn ending.RefuseReaders) (Turn tn) c afterwards row.sharing (Some turn_end.GivenBack) tn did refl in
-      facts (place.ReleaseTurn ending.RefuseReaders) (Turn tn) c row (Some turn_end.GivenBack) tn did mv c.no_writer c.no_readers (now_released v u ending.RefuseReaders tn e, mv.parting (did.legal.kept turn_end.GivenBack refl).1)
+      facts (place.ReleaseTurn ending.RefuseReaders) (Turn tn) c row (Some turn_end.GivenBack) tn did mv (judged_so (verdict_until ending.RefuseReaders) mv.deed) c.no_writer c.no_readers (now_released v u ending.RefuseReaders tn e, mv.parting (did.legal.kept turn_end.GivenBack refl).1)
   on_turn (place.ReleaseTurn ending.RefuseMemory) (Turn tn) c s o e fit =
       let row = turn_row v u (place.ReleaseTurn ending.RefuseMemory) (Turn tn) s e in
       let did = begun turn_call.Release tn o in
       let mv = moved m l k ss os ts ps v (place.ReleaseTurn ending.RefuseMemory) (Turn tn) c afterwards row.sharing (Some turn_end.GivenBack) tn did refl in
-      facts (place.ReleaseTurn ending.RefuseMemory) (Turn tn) c row (Some turn_end.GivenBack) tn did mv c.no_writer c.no_readers (now_released v u ending.RefuseMemory tn e, mv.parting (did.legal.kept turn_end.GivenBack refl).1)
+      facts (place.ReleaseTurn ending.RefuseMemory) (Turn tn) c row (Some turn_end.GivenBack) tn did mv (judged_so (verdict_until ending.RefuseMemory) mv.deed) c.no_writer c.no_readers (now_released v u ending.RefuseMemory tn e, mv.parting (did.legal.kept turn_end.GivenBack refl).1)
   on_turn (place.ReleaseTurn ending.NotifyReaders) (Turn tn) c s o e fit =
       let row = turn_row v u (place.ReleaseTurn ending.NotifyReaders) (Turn tn) s e in
       let did = begun turn_call.Release tn o in
       let mv = moved m l k ss os ts ps v (place.ReleaseTurn ending.NotifyReaders) (Turn tn) c afterwards row.sharing (Some turn_end.GivenBack) tn did refl in
-      facts (place.ReleaseTurn ending.NotifyReaders) (Turn tn) c row (Some turn_end.GivenBack) tn did mv c.no_writer c.no_readers (now_released v u ending.NotifyReaders tn e, mv.parting (did.legal.kept turn_end.GivenBack refl).1)
+      facts (place.ReleaseTurn ending.NotifyReaders) (Turn tn) c row (Some turn_end.GivenBack) tn did mv (judged_so (verdict_until ending.NotifyReaders) mv.deed) c.no_writer c.no_readers (now_released v u ending.NotifyReaders tn e, mv.parting (did.legal.kept turn_end.GivenBack refl).1)
   on_turn (place.ReleaseTurn q) _ c s o e fit = absurd o
   on_turn (place.ReleasingTurn q) (Turn tn) c s o e fit =
       let row = turn_row v u (place.ReleasingTurn q) (Turn tn) s e in
       let did = gone_on tn o in
       let mv = moved m l k ss os ts ps v (place.ReleasingTurn q) (Turn tn) c afterwards row.sharing (decision t) tn did refl in
-      facts (place.ReleasingTurn q) (Turn tn) c row (decision t) tn did mv c.no_writer c.no_readers (now_releasing v u q tn e, mv.parting (did.legal.kept turn_end.GivenBack (releasing_decided t fit)).1)
+      facts (place.ReleasingTurn q) (Turn tn) c row (decision t) tn did mv (judged_so (verdict_until q) mv.deed) c.no_writer c.no_readers (now_releasing v u q tn e, mv.parting (did.legal.kept turn_end.GivenBack (releasing_decided t fit)).1)
   on_turn (place.ReleasingTurn q) _ c s o e fit = absurd o
   on_turn _ f c s o e fit = absurd (cc)

@@ -2,7 +2,7 @@
 use Rattle.std.specs.Prelude.{◌≡◌, ℕ, ◌<◌, ◌⊎◌, Bool, true, false, List, slice_set}
 use Rattle.lock_event.specs.declared.event.Entry.{Entry}
 use Rattle.lock_world.specs.Rosters.{how_many}
-use Rattle.lock_world.specs.Steps.{Deed, nothing, changes, does, list_after, is_parting}
+use Rattle.lock_world.specs.Steps.{Deed, nothing, changes, does, leaves, list_after, is_parting}
 use Rattle.rwlock_world.specs.State.{Turn, nobody, passes, is_upgradable, waits_to_write, writes, State, World, reads, is_starved, is_marked, how_many_read}
 
 -- The changes of the state, each the moving party's own.
@@ -121,3 +121,13 @@ gives_back (changes stops_upgradable) = true
 gives_back (changes unmarks) = true
 gives_back (changes _) = false
 gives_back (does list f) = is_parting f
+
+-- What gives something up: the turn, a right, the writer's bit, or a place in a list of readers or of the writer without asking there.
+abbrev pub gives_up : Deed Change ListName → Bool
+gives_up (changes leaves_turn) = true
+gives_up (changes stops_reading) = true
+gives_up (changes stops_upgradable) = true
+gives_up (changes unmarks) = true
+gives_up (does for_no_readers leaves) = true
+gives_up (does for_no_writer leaves) = true
+gives_up _ = false

@@ -17,13 +17,13 @@ use Rattle.lock_world.specs.declared.standing.Rest.TheVariants.{Idle, Pending, H
 use Rattle.lock_world.specs.declared.standing.Within.{Within}
 use Rattle.lock_world.specs.Accounts.{sought_after}
 use Rattle.lock_world.specs.Frame as frame
-use Rattle.lock_world.specs.Frame.{is_drop, is_refusal, put_in}
+use Rattle.lock_world.specs.Frame.{is_drop, is_giving_back, is_refusal, put_in}
 use Rattle.lock_world.specs.Rights.{Right, read, upgradable, write}
 use Rattle.lock_world.specs.Rosters.{how_many}
-use Rattle.lock_world.specs.Standings.{Standing, outside, inside, inputs_of, is_possible, is_decided}
-use Rattle.lock_world.specs.Steps.{Deed}
+use Rattle.lock_world.specs.Standings.{Standing, outside, inside, inputs_of, is_possible, is_decided, refused}
+use Rattle.lock_world.specs.Steps.{Deed, nothing, does, joins}
 use Rattle.rwlock_world.specs.State.{Turn, passes, is_upgradable, waits_to_write, writes, World, standing_of, sought_by, reads, how_many_read, is_marked, is_turn_free, HasTurn, entries_in, told_in, is_upgrader, IsClear}
-use Rattle.rwlock_world.specs.Changes.{Change, ListName, state_after, turn_list_after, no_readers_after, no_writer_after, IsAllowed, gives_back}
+use Rattle.rwlock_world.specs.Changes.{Change, ListName, state_after, turn_list_after, no_readers_after, no_writer_after, IsAllowed, gives_back, gives_up}
 
 -- The calls of a read-write lock, by the right that the party's guard is for: a guard's own calls are known of that guard alone.
 abbrev pub knows : Option Right → Call → Bool
@@ -61,7 +61,7 @@ IsPossible = frame.IsPossible standing_of knows_of
 
 -- ---- What changes
 
--- A move changes one thing of the state where it may, or does one list function, never both, and moves no other party.
+-- A move changes one thing of the state where it may, or does one list function, never both, and moves no other party. A join has found memory, and what is refused for want of it does nothing else. A party whose call is decided only gives back, and none gives anything up before, but in a call that is for that.
 pub record ChangesOneThing (old : World) (m : Move) (a : Answer) (new : World) : Type 0 where
   pub deed : Deed Change ListName
   pub state : new.state ≡ state_after m.party deed old.state
@@ -75,7 +75,10 @@ pub record ChangesOneThing (old : World) (m : Move) (a : Answer) (new : World) :
   pub sought : new.sought ≡ slice_set old.sought m.party (sought_after (sought_by old m.party) m.what a)
   pub others : (q : ℕ) → q ≢ m.party → standing_of new q ≡ standing_of old q
   pub parties : length new.standings ≡ length old.standings
+  pub found_memory : (list : ListName) → deed ≡ does list joins → (inputs_of m.what).memory ≡ true
+  pub refused_idly : DecidesOn old m a new (refused refusal.Memory) → deed ≡ nothing
   pub parting : is_decided (standing_of old m.party) || is_drop m.what ≡ true → gives_back deed ≡ true
+  pub giving_up : gives_up deed ≡ true → is_decided (standing_of old m.party) || is_giving_back m.what ≡ true
 
 -- ---- What parties have
 
@@ -122,9 +125,10 @@ list_for (Some read) t p w = w.no_writer
 list_for (Some write) (waits_to_write q) p w = if q == p then w.no_readers else w.turn_list
 list_for s t p w = w.turn_list
 
--- Pending: the party stands waiting in the list of what it wants next.
-abbrev pub Waits : World → Move → Answer → World → Type 0
-Waits old m a new = DecidesOn old m a new answer.Pending → told_in (list_for (sought_by new m.party) new.state.turn m.party new) m.party ≡ Some Waiting
+-- Pending: the party stands waiting in the list of what it wants next. No call is decided on Pending before that answer.
+pub record Waits (m : Move) (a : Answer) (new : World) : Type 0 where
+  pub waiting : a ≡ answer.Pending → told_in (list_for (sought_by new m.party) new.state.turn m.party new) m.party ≡ Some Waiting
+  pub not_before : (within : Within) → standing_of new m.party ≢ inside within (Some answer.Pending)
 
 -- Why a call may be refused: a join found no memory, for the move's input said so; there are as many starved parties, or readers, as there may be; or the future had been ready before.
 abbrev pub IsCause : World → Move → World → Refusal → Type 0
@@ -165,7 +169,7 @@ pub record Legal (old : World) (m : Move) (a : Answer) (new : World) : Type 0 wh
   pub possible : IsPossible old m a new
   pub one_change : ChangesOneThing old m a new
   pub carries : Carries old m a new
-  pub waits : Waits old m a new
+  pub waits : Waits m a new
   pub refused_for_cause : IsRefusedForCause old m a new
   pub leaves_clear : LeavesClear old m a new
   pub value_kept : IsValueKept old m a new
