@@ -2,6 +2,10 @@
 use Rattle.std.proofs.Common.{◌≡◌, ◌≢◌, ℕ, ◌≤◌, ◌⊎◌, inl, inr, Bool, true, false, List, Option, Some, None, refl, arith, ap, sym, subst, ◌∙◌}
 use Rattle.lock_world.specs.declared.moves.Answer.{Answer}
 use Rattle.lock_world.specs.declared.moves.Answer.TheVariants as answer
+use Rattle.lock_world.specs.declared.refusal.Refusal.TheVariants as refusal
+use Rattle.lock_world.specs.declared.standing.Kind.{Kind}
+use Rattle.lock_world.specs.declared.standing.Kind.TheVariants as kind
+use Rattle.lock_world.specs.declared.standing.Rest.{Rest}
 use Rattle.lock_world.specs.declared.standing.Rest.TheVariants as rest
 use Rattle.lock_world.specs.declared.standing.Stage.{Stage}
 use Rattle.lock_world.specs.declared.standing.Stage.TheVariants.{Outside, Inside, Forgotten}
@@ -31,7 +35,7 @@ use Rattle.rwlock_world.specs.declared.world.table.Sought.TheVariants as sought
 use Rattle.rwlock_world.specs.State as state
 use Rattle.rwlock_world.specs.State.{Turn, nobody, passes, is_upgradable, waits_to_write, writes, World, standing_of, sought_by, is_upgrader, HasTurn, IsClear, entries_in}
 use Rattle.rwlock_world.specs.Legal.{HasSought, HasNothing, HasItsOwn}
-use Rattle.rwlock_world.specs.Plans.{stage_at, seeking, sought_at, same_sought, agrees, is_inside, goes_with}
+use Rattle.rwlock_world.specs.Plans.{Course, downgrades, course_of, course_until, is_on_course, stage_at, seeking, sought_at, same_sought, agrees, is_inside, goes_with}
 use Rattle.rwlock_world.specs.Plans as plans
 use Rattle.rwlock_world.specs.Table.{IsTable}
 use Rattle.rwlock_world.specs.View.{Share, passing, upgrading, waiting, writing, turn_as, share_of, turn_by, is_reading, is_upgrade, right_of, verdict, verdict_until, refused_by, stands_as, seen}
@@ -86,10 +90,54 @@ apart_write t p upgrading e n h = cc
 apart_write t p waiting e n h = cc
 apart_write t p writing e n h = n refl
 
--- an undecided party doesn't read, and has the turn for no right
+waits_as : (t : Turn) (p : ℕ) (s : Share) → t ≡ turn_as p s → t ≡ waits_to_write p → s ≡ waiting
+waits_as t p passing e h = absurd (cc)
+waits_as t p upgrading e h = absurd (cc)
+waits_as t p waiting e h = refl
+waits_as t p writing e h = absurd (cc)
+
+-- a guard that is downgraded reads
+downgraded_until : (e : Ending) → course_until e ≡ downgrades → is_reading (place.ReleaseTurn e) ≡ true
+downgraded_until ending.Reading c = refl
+downgraded_until ending.GivenBack c = absurd (cc)
+downgraded_until ending.NotFree c = absurd (cc)
+downgraded_until ending.RefuseReaders c = absurd (cc)
+downgraded_until ending.RefuseMemory c = absurd (cc)
+downgraded_until ending.NotifyReaders c = refl
+
+downgraded_reads : (x : Place) → is_inside x ≡ true → course_of x ≡ downgrades → is_reading x ≡ true
+downgraded_reads (place.ReleaseTurn e) i c = downgraded_until e c
+downgraded_reads (place.ReleasingTurn e) i c = downgraded_until e c
+downgraded_reads (place.Down keeps) i c = absurd (cc)
+downgraded_reads place.DownNotify i c = refl
+downgraded_reads place.DowngradeNotify i c = refl
+downgraded_reads (place.RefuseNotify refusal.Memory) i c = absurd (cc)
+downgraded_reads (place.RefuseNotify refusal.Readers) i c = absurd (cc)
+downgraded_reads (place.RefuseNotify _) i c = absurd (cc)
+downgraded_reads (place.Add true) i c = absurd (cc)
+downgraded_reads (place.Add false) i c = absurd (cc)
+downgraded_reads (place.Unmark true) i c = absurd (cc)
+downgraded_reads (place.Unmark false) i c = absurd (cc)
+downgraded_reads (place.UnmarkNotify true) i c = absurd (cc)
+downgraded_reads (place.UnmarkNotify false) i c = absurd (cc)
+downgraded_reads _ i c = absurd (cc)
+
+downgrade_course : (k : Kind) (r : Rest) (c : Course) → is_on_course k r c ≡ true → k ≡ kind.Downgrade → c ≡ downgrades
+downgrade_course kind.FirstPoll r c h e = absurd (cc)
+downgrade_course kind.LaterPoll r c h e = absurd (cc)
+downgrade_course kind.Try r c h e = absurd (cc)
+downgrade_course kind.Drop r c h e = absurd (cc)
+downgrade_course kind.Upgrade r c h e = absurd (cc)
+downgrade_course kind.TryUpgrade r c h e = absurd (cc)
+downgrade_course kind.Downgrade rest.Holding downgrades h e = refl
+downgrade_course kind.Downgrade _ _ h e = absurd (cc)
+downgrade_course _ _ _ h e = absurd (cc)
+
+-- an undecided party doesn't read, has the turn for no right, and waits to write only if it seeks to
 pub record IsUndecided (x : Place) : Type 0 where
   pub reads : is_reading x ≡ false
   pub share : (share_of x ≡ upgrading → ⊥) × (share_of x ≡ writing → ⊥)
+  pub seeks : share_of x ≡ waiting → sought_at x ≡ Some (Some sought.Write)
 
 -- no call is decided on Pending before that answer
 until_not_pending : (e : Ending) → Some (verdict_until e) ≡ Some answer.Pending → ⊥
@@ -192,28 +240,28 @@ module _ (l : RwLock) (ss : List Stage) (os : List (Option Sought)) (v : ℕ) (l
   writing_has q x e r h u a s = let P : Option (Option Sought) → Type 0 = λ k. agrees k (seeking os q) ≡ true in
       (write, seeks_just q (Some sought.Write) write refl (subst P s a), (reads_at q x e ∙ r, turn_at_place q x e h ∙ ap (turn_as q) u))
 
-  guard_has : (q : ℕ) (x : Place) → plans.is_guard x ≡ true → place_at l.places q ≡ x → agrees (sought_at x) (seeking os q) ≡ true → IsClear w q × HasSought w q
-  guard_has q = at_guard (λ x. place_at l.places q ≡ x → agrees (sought_at x) (seeking os q) ≡ true → IsClear w q × HasSought w q) (record {
-    reading = λ e a. let o = fit_at q place.Reading e in (out_clear q place.Reading e refl refl o, reading q place.Reading e refl o a refl);
-    upgradable = λ e a. let o = fit_at q place.Upgradable e in (holding_clear q place.Upgradable e refl refl o, upgradable_has q place.Upgradable e refl refl refl a refl);
-    writing = λ e a. let o = fit_at q place.Writing e in (holding_clear q place.Writing e refl refl o, writing_has q place.Writing e refl refl refl a refl);
+  guard_has : (q : ℕ) (x : Place) → plans.is_guard x ≡ true → place_at l.places q ≡ x → agrees (sought_at x) (seeking os q) ≡ true → IsClear w q × HasSought w q × (is_upgrader w q ≡ false)
+  guard_has q = at_guard (λ x. place_at l.places q ≡ x → agrees (sought_at x) (seeking os q) ≡ true → IsClear w q × HasSought w q × (is_upgrader w q ≡ false)) (record {
+    reading = λ e a. let o = fit_at q place.Reading e in (out_clear q place.Reading e refl refl o, reading q place.Reading e refl o a refl, upgrades_as q ∙ ap is_upgrade e);
+    upgradable = λ e a. let o = fit_at q place.Upgradable e in (holding_clear q place.Upgradable e refl refl o, upgradable_has q place.Upgradable e refl refl refl a refl, upgrades_as q ∙ ap is_upgrade e);
+    writing = λ e a. let o = fit_at q place.Writing e in (holding_clear q place.Writing e refl refl o, writing_has q place.Writing e refl refl refl a refl, upgrades_as q ∙ ap is_upgrade e);
   })
 
   abbrev IsFuture : ℕ → Type 0
-  IsFuture q = (state.reads w q ≡ false) × ((w.state.turn ≡ waits_to_write q) ⊎ ((HasTurn w.state.turn q → ⊥) × (is_upgrader w q ≡ false)))
+  IsFuture q = (state.reads w q ≡ false) × (((w.state.turn ≡ waits_to_write q) × (sought_by w q ≡ Some write)) ⊎ ((HasTurn w.state.turn q → ⊥) × (is_upgrader w q ≡ false)))
 
-  future_has : (q : ℕ) (x : Place) → plans.is_future x ≡ true → place_at l.places q ≡ x → IsFuture q
-  future_has q = at_future (λ x. place_at l.places q ≡ x → IsFuture q) (record {
-    made = λ m e. (reads_at q (place.Made m) e, inr (no_turn q (out_free (turn_at l.turn.places q) (fit_at q (place.Made m) e)), upgrades_as q ∙ ap is_upgrade e));
-    no_writer = λ e. (reads_at q place.AskNoWriter e, inr (no_turn q (out_free (turn_at l.turn.places q) (fit_at q place.AskNoWriter e)), upgrades_as q ∙ ap is_upgrade e));
-    turn = λ p e. (reads_at q (place.WaitTurn p) e, inr (no_turn q (waiting_free (turn_at l.turn.places q) (fit_at q (place.WaitTurn p) e)), upgrades_as q ∙ ap is_upgrade e));
-    no_readers = λ u e. (reads_at q (place.AwaitNoReaders u) e, inl (turn_at_place q (place.AwaitNoReaders u) e refl));
-    upgrade = λ e. (reads_at q (place.LookUnlisted true) e, inl (turn_at_place q (place.LookUnlisted true) e refl));
+  future_has : (q : ℕ) (x : Place) → plans.is_future x ≡ true → place_at l.places q ≡ x → agrees (sought_at x) (seeking os q) ≡ true → IsFuture q
+  future_has q = at_future (λ x. place_at l.places q ≡ x → agrees (sought_at x) (seeking os q) ≡ true → IsFuture q) (record {
+    made = λ m e a. (reads_at q (place.Made m) e, inr (no_turn q (out_free (turn_at l.turn.places q) (fit_at q (place.Made m) e)), upgrades_as q ∙ ap is_upgrade e));
+    no_writer = λ e a. (reads_at q place.AskNoWriter e, inr (no_turn q (out_free (turn_at l.turn.places q) (fit_at q place.AskNoWriter e)), upgrades_as q ∙ ap is_upgrade e));
+    turn = λ p e a. (reads_at q (place.WaitTurn p) e, inr (no_turn q (waiting_free (turn_at l.turn.places q) (fit_at q (place.WaitTurn p) e)), upgrades_as q ∙ ap is_upgrade e));
+    no_readers = λ u e a. (reads_at q (place.AwaitNoReaders u) e, inl (turn_at_place q (place.AwaitNoReaders u) e refl, seeks_just q (Some sought.Write) write refl a));
+    upgrade = λ e a. (reads_at q (place.LookUnlisted true) e, inl (turn_at_place q (place.LookUnlisted true) e refl, seeks_just q (Some sought.Write) write refl a));
   })
 
-  out_has : (q : ℕ) (x : Place) → plans.is_out x ≡ true → place_at l.places q ≡ x → IsClear w q × HasNothing w q
-  out_has q = at_out (λ x. place_at l.places q ≡ x → IsClear w q × HasNothing w q) (λ e.
-      let o = fit_at q place.Out e in (out_clear q place.Out e refl refl o, (reads_at q place.Out e, no_turn q (out_free (turn_at l.turn.places q) o))))
+  out_has : (q : ℕ) (x : Place) → plans.is_out x ≡ true → place_at l.places q ≡ x → IsClear w q × HasNothing w q × (is_upgrader w q ≡ false)
+  out_has q = at_out (λ x. place_at l.places q ≡ x → IsClear w q × HasNothing w q × (is_upgrader w q ≡ false)) (λ e.
+      let o = fit_at q place.Out e in (out_clear q place.Out e refl refl o, (reads_at q place.Out e, no_turn q (out_free (turn_at l.turn.places q) o)), upgrades_as q ∙ ap is_upgrade e))
 
   -- ---- an undecided party has no right
 
@@ -221,11 +269,15 @@ module _ (l : RwLock) (ss : List Stage) (os : List (Option Sought)) (v : ℕ) (l
   turn_only : (q : ℕ) → HasTurn w.state.turn q → w.state.turn ≡ turn_as q (share_of (place_at l.places q))
   turn_only q h = ap (λ o. turn_by o l.places) (holder_has (holder_of l.turn) l.places q h)
 
-  undecided_has : (q : ℕ) (x : Place) → place_at l.places q ≡ x → IsUndecided x → (state.reads w q ≡ false) × (w.state.turn ≢ is_upgradable q) × (w.state.turn ≢ writes q)
-  undecided_has q x e u = (
+  undecided_has : (q : ℕ) (x : Place) → place_at l.places q ≡ x → IsUndecided x → agrees (sought_at x) (seeking os q) ≡ true → (state.reads w q ≡ false) × (w.state.turn ≢ is_upgradable q) × (w.state.turn ≢ writes q) × (w.state.turn ≡ waits_to_write q → sought_by w q ≡ Some write)
+  undecided_has q x e u a = (
     reads_at q x e ∙ u.reads,
     (λ h. apart_up w.state.turn q (share_of (place_at l.places q)) (turn_only q (has_as w.state.turn q upgrading h)) (λ k. u.share.0 (ap share_of (sym e) ∙ k)) h),
     (λ h. apart_write w.state.turn q (share_of (place_at l.places q)) (turn_only q (has_as w.state.turn q writing h)) (λ k. u.share.1 (ap share_of (sym e) ∙ k)) h),
+    (λ h.
+      let here = waits_as w.state.turn q (share_of (place_at l.places q)) (turn_only q (has_as w.state.turn q waiting h)) h in
+      let P : Option (Option Sought) → Type 0 = λ o. agrees o (seeking os q) ≡ true in
+      seeks_just q (Some sought.Write) write refl (subst P (u.seeks (ap share_of (sym e) ∙ here)) a)),
   )
 
   pub undecided : (x : Place) (t : TurnPlace) → is_inside x ≡ true → verdict v x t ≡ None → IsUndecided x
@@ -244,7 +296,19 @@ module _ (l : RwLock) (ss : List Stage) (os : List (Option Sought)) (v : ℕ) (l
   undecided place.Upgrade t i n = absurd (cc)
   undecided place.TryUpgrade t i n = absurd (cc)
   undecided (place.Down keeps) t i n = absurd (cc)
-  undecided _ t i n = record { reads = refl; share = ((λ e. cc), (λ e. cc)) }
+  undecided (place.JoinNoReaders u) t i n = record { reads = refl; share = ((λ e. cc), (λ e. cc)); seeks = λ e. refl }
+  undecided (place.LookNoReaders u) t i n = record { reads = refl; share = ((λ e. cc), (λ e. cc)); seeks = λ e. refl }
+  undecided (place.AskNoReaders u) t i n = record { reads = refl; share = ((λ e. cc), (λ e. cc)); seeks = λ e. refl }
+  undecided (place.AwaitNoReaders u) t i n = record { reads = refl; share = ((λ e. cc), (λ e. cc)); seeks = λ e. refl }
+  undecided (place.LookUnlisted u) t i n = record { reads = refl; share = ((λ e. cc), (λ e. cc)); seeks = λ e. refl }
+  undecided place.CancelAwait t i n = absurd (cc)
+  undecided (place.Unmark true) t i n = absurd (cc)
+  undecided (place.Unmark false) t i n = absurd (cc)
+  undecided _ t i n = record { reads = refl; share = ((λ e. cc), (λ e. cc)); seeks = λ e. absurd (cc) }
+
+  second : (a b : Bool) → Rattle.std.specs.Prelude.◌&&◌ a b ≡ true → b ≡ true
+  second true b h = h
+  second false b h = absurd (cc)
 
   first : (a b : Bool) → Rattle.std.specs.Prelude.◌&&◌ a b ≡ true → a ≡ true
   first true b h = refl
@@ -252,13 +316,16 @@ module _ (l : RwLock) (ss : List Stage) (os : List (Option Sought)) (v : ℕ) (l
 
   has : (q : ℕ) (s : Stage) (x : Place) → place_at l.places q ≡ x → goes_with s x ≡ true → agrees (sought_at x) (seeking os q) ≡ true → HasItsOwn w q (stands_as v s x (turn_at l.turn.places q))
   has q (Outside rest.Idle) x at g a = out_has q x g at
-  has q (Outside rest.Pending) x at g a = future_has q x g at
+  has q (Outside rest.Pending) x at g a = future_has q x g at a
   has q (Outside rest.Holding) x at g a = guard_has q x g at a
   has q (Outside rest.Finished) x at g a = absurd (cc)
   has q (Inside u) x at g a = inside_has (verdict v x (turn_at l.turn.places q)) refl where
+    here : is_inside x ≡ true
+    here = first (is_inside x) (is_on_course u.kind u.was (course_of x)) g
+
     inside_has : (o : Option Answer) → verdict v x (turn_at l.turn.places q) ≡ o → HasItsOwn w q (inside u o)
-    inside_has None e = undecided_has q x at (undecided x (turn_at l.turn.places q) (first (is_inside x) (plans.is_on_course u.kind u.was (plans.course_of x)) g) e)
-    inside_has (Some b) e = tt
+    inside_has None e = undecided_has q x at (undecided x (turn_at l.turn.places q) here e) a
+    inside_has (Some b) e = λ d. reads_at q x at ∙ downgraded_reads x here (downgrade_course u.kind u.was (course_of x) (second (is_inside x) (is_on_course u.kind u.was (course_of x)) g) d)
   has q Forgotten x at g a = tt
 
   pub each : (q : ℕ) → HasItsOwn w q (standing_of w q)

@@ -126,7 +126,7 @@ told_of w sound p = by_standing (standing_of w p) (sound.each p) where
   by_standing (outside rest.Finished) own = ((λ out. told_none _ refl own.1.0 (λ e. own.1.1 (has_turn w.state.turn (is_upgradable p) p e refl)) (λ e. own.1.1 (has_turn w.state.turn (writes p) p e refl))), (λ r h. refl))
   by_standing (outside rest.Pending) own = (
     (λ out. elim own.1 [
-      | inl e ↦ told_none _ refl own.0 (λ h. absurd (cc (sym h ∙ e))) (λ h. absurd (cc (sym h ∙ e)))
+      | inl w ↦ (let e = w.0 in told_none _ refl own.0 (λ h. absurd (cc (sym h ∙ e))) (λ h. absurd (cc (sym h ∙ e))))
       | inr n ↦ told_none _ refl own.0 (λ e. n.0 (has_turn w.state.turn (is_upgradable p) p e refl)) (λ e. n.0 (has_turn w.state.turn (writes p) p e refl))
     ]),
     (λ r h. refl),

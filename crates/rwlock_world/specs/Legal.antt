@@ -20,7 +20,7 @@ use Rattle.lock_world.specs.Frame as frame
 use Rattle.lock_world.specs.Frame.{is_drop, is_giving_back, is_refusal, put_in}
 use Rattle.lock_world.specs.Rights.{Right, read, upgradable, write}
 use Rattle.lock_world.specs.Rosters.{how_many}
-use Rattle.lock_world.specs.Standings.{Standing, outside, inside, inputs_of, is_possible, is_decided, refused}
+use Rattle.lock_world.specs.Standings.{Standing, outside, inside, forgotten, inputs_of, is_possible, is_decided, refused}
 use Rattle.lock_world.specs.Steps.{Deed, nothing, does, joins}
 use Rattle.rwlock_world.specs.State.{Turn, passes, is_upgradable, waits_to_write, writes, World, standing_of, sought_by, reads, how_many_read, is_marked, is_turn_free, HasTurn, entries_in, told_in, is_upgrader, IsClear}
 use Rattle.rwlock_world.specs.Changes.{Change, ListName, state_after, turn_list_after, no_readers_after, no_writer_after, IsAllowed, gives_back, gives_up}
@@ -96,14 +96,15 @@ HasSought w p = (r : Right) × (sought_by w p ≡ Some r) × HasJust w p r
 abbrev pub HasNothing : World → ℕ → Type 0
 HasNothing w p = (reads w p ≡ false) × (HasTurn w.state.turn p → ⊥)
 
--- Outside every call a guard has just its right, a future has nothing but that it may wait to write, and only a future is in a list or starved; and until its call is decided a party has no right.
+-- Outside every call a guard has just its right, a future has nothing but that it may wait to write if it seeks to, and only a future is in a list, starved, or an upgrade's. Until its call is decided a party has no right, and it waits to write only if it seeks to; and a guard that is downgraded reads.
 abbrev pub HasItsOwn : World → ℕ → Standing → Type 0
-HasItsOwn w p (outside Idle) = IsClear w p × HasNothing w p
-HasItsOwn w p (outside Finished) = IsClear w p × HasNothing w p
-HasItsOwn w p (outside Holding) = IsClear w p × HasSought w p
-HasItsOwn w p (outside Pending) = (reads w p ≡ false) × ((w.state.turn ≡ waits_to_write p) ⊎ ((HasTurn w.state.turn p → ⊥) × (is_upgrader w p ≡ false)))
-HasItsOwn w p (inside within None) = (reads w p ≡ false) × (w.state.turn ≢ is_upgradable p) × (w.state.turn ≢ writes p)
-HasItsOwn w p _ = Unit {0}
+HasItsOwn w p (outside Idle) = IsClear w p × HasNothing w p × (is_upgrader w p ≡ false)
+HasItsOwn w p (outside Finished) = IsClear w p × HasNothing w p × (is_upgrader w p ≡ false)
+HasItsOwn w p (outside Holding) = IsClear w p × HasSought w p × (is_upgrader w p ≡ false)
+HasItsOwn w p (outside Pending) = (reads w p ≡ false) × (((w.state.turn ≡ waits_to_write p) × (sought_by w p ≡ Some write)) ⊎ ((HasTurn w.state.turn p → ⊥) × (is_upgrader w p ≡ false)))
+HasItsOwn w p (inside within None) = (reads w p ≡ false) × (w.state.turn ≢ is_upgradable p) × (w.state.turn ≢ writes p) × (w.state.turn ≡ waits_to_write p → sought_by w p ≡ Some write)
+HasItsOwn w p (inside within (Some a)) = within.kind ≡ kind.Downgrade → reads w p ≡ true
+HasItsOwn w p forgotten = Unit {0}
 
 -- Each party has what its standing says; and after a refusal its future is as when it was made, in no list, not starved and without the turn, but that of an upgrade, which goes on waiting to write.
 pub record LeavesClear (old : World) (m : Move) (a : Answer) (new : World) : Type 0 where
