@@ -43,10 +43,10 @@ use Rattle.rwlock_world.specs.declared.world.table.Plan.TheVariants as plan
 use Rattle.rwlock_world.specs.declared.world.table.Sought.{Sought}
 use Rattle.rwlock_world.specs.declared.world.table.Sought.TheVariants as sought
 use Rattle.rwlock_world.specs.Legal.{is_first_poll, is_try_for_turn}
-use Rattle.rwlock_world.specs.Plans.{plan_of, sought_at, same_sought, agrees, tries, tries_upgrade, goes_with}
+use Rattle.rwlock_world.specs.Plans.{plan_of, sought_at, same_sought, agrees, polls, tries, tries_upgrade, goes_with}
 use Rattle.rwlock_world.specs.View.{is_reading, is_upgrade, right_of, stands_as}
 use Rattle.rwlock_world.proofs.Begun.{for_begun}
-use Rattle.rwlock_world.proofs.Rows.{answer_at}
+use Rattle.rwlock_world.proofs.Rows.{answer_at, verdict_then}
 
 -- ---- where tries and first polls begin
 
@@ -203,6 +203,27 @@ pub try_adds : (memory : Bool) (l : RwLock) (v : ℕ) (f : Found) → Finds memo
 try_adds memory l v found.Done e = ((λ h. e), (λ h. refl))
 try_adds memory l v found.Full e = ((λ h. absurd (cc)), (λ h. absurd (omega (arith, h, e))))
 try_adds memory l v _ e = absurd e
+
+-- a try with the turn is decided then; b is whether it is granted
+pub added : (memory : Bool) (l : RwLock) (v : ℕ) (u : TurnPlace) (f : Found) → Finds memory act.Add f l → (b : Bool) → (readers l < l.limit → b ≡ true) → (b ≡ true → readers l < l.limit)
+    → verdict_then v tries u (next_of (place.Add true) f) ≡ Some (if b then answer.Granted (Value v) else answer.None)
+added memory l v u found.Done e b is means = rw (is e) refl
+added memory l v u found.Full e true is means = absurd (omega (arith, means refl, e))
+added memory l v u found.Full e false is means = refl
+added memory l v u _ e b is means = absurd e
+
+pub try_written : (memory : Bool) (l : RwLock) (v : ℕ) (u : TurnPlace) (f : Found) → marked l ≡ 0 → Finds memory act.TryWrite f l → (b : Bool) → (readers l ≡ 0 → b ≡ true) → (b ≡ true → readers l ≡ 0)
+    → verdict_then v tries u (next_of place.TryWrite f) ≡ Some (if b then answer.Granted (Value v) else answer.None)
+try_written memory l v u found.Done free e b is means = rw (is e.1) refl
+try_written memory l v u found.NotFree free e true is means = let none = means refl in absurd (omega (arith, none, e free))
+try_written memory l v u found.NotFree free e false is means = refl
+try_written memory l v u _ free e b is means = absurd e
+
+pub first_readies : (memory : Bool) (l : RwLock) (v : ℕ) (f : Found) → Finds memory act.Read f l → marked l ≡ 0 → readers l < l.limit → answer_at polls v (next_of (place.EnterRead false) f) ≡ answer.Ready (Value v)
+first_readies memory l v found.Done e a b = refl
+first_readies memory l v found.Writer e a b = absurd (omega (arith, a, e))
+first_readies memory l v found.Full e a b = absurd (omega (arith, b, e.1))
+first_readies memory l v _ e a b = absurd e
 
 -- the turn's party finds no mark
 pub try_writes : (memory : Bool) (l : RwLock) (v : ℕ) (f : Found) → marked l ≡ 0 → Finds memory act.TryWrite f l → (answer_at tries v (next_of place.TryWrite f) ≡ answer.Granted (Value v)) ↔ (readers l ≡ 0)

@@ -22,7 +22,7 @@ use Rattle.lock_world.specs.declared.standing.Stage.TheVariants.{Outside, Inside
 use Rattle.lock_world.specs.declared.standing.Within.{Within}
 use Rattle.lock_world.specs.Rights.{Right, read, upgradable, write}
 use Rattle.lock_world.specs.Rosters.{how_many}
-use Rattle.lock_world.specs.Standings.{Standing, outside, inside, inputs_of}
+use Rattle.lock_world.specs.Standings.{Standing, outside, inside, inputs_of, decision}
 use Rattle.lock_world.proofs.Equations.{some_eq, some_none}
 use Rattle.mutex_machine.specs.declared.program.Place.{Place as TurnPlace}
 use Rattle.mutex_machine.specs.Machine.{place_at as turn_at}
@@ -51,16 +51,16 @@ use Rattle.rwlock_world.specs.declared.world.table.Sought.TheVariants as sought
 use Rattle.rwlock_world.specs.State as state
 use Rattle.rwlock_world.specs.State.{Turn, World, standing_of, sought_by, is_upgrader, how_many_read, is_marked, is_nobody, is_turn_free, entries_in}
 use Rattle.rwlock_world.specs.Legal.{may_read, granted_if, is_try_for_turn, IsTryWithTurn, is_first_poll, is_first, AnswersAtOnce}
-use Rattle.rwlock_world.specs.Plans.{begins_by, with_guard, plan_of, answer_of, begins_to_seek, goes_on_seeking, stage_at, seeking, sought_at, agrees, Course, tries, course_of, is_on_course, is_inside, goes_with}
+use Rattle.rwlock_world.specs.Plans.{begins_by, with_guard, plan_of, answer_of, stage_after, begins_to_seek, goes_on_seeking, stage_at, seeking, sought_at, agrees, Course, tries, course_of, is_on_course, is_inside, goes_with}
 use Rattle.rwlock_world.specs.Table.{Table, IsTable, Steps, Does, IsStep, plan_in}
 use Rattle.rwlock_world.specs.View.{Share, passing, upgrading, waiting, writing, turn_as, share_of, turn_by, is_reading, right_of, verdict, stands_as, opened, view_of}
 use Rattle.rwlock_world.proofs.Begun.{for_go}
-use Rattle.rwlock_world.proofs.Rows.{answer_at, turn_row}
+use Rattle.rwlock_world.proofs.Rows.{answer_at, verdict_then, turn_row}
 use Rattle.rwlock_world.proofs.Stages.{starts, going_on_course, on_course}
 use Rattle.rwlock_world.proofs.Calls.{beginning, going}
 use Rattle.rwlock_world.proofs.Sound.{none_marked, nobody_holds, bit_seen}
 use Rattle.rwlock_world.proofs.Events.{Laws, known_move}
-use Rattle.rwlock_world.proofs.AtOnce.{waits_for_turn, is_try_turn, Lists, Firsts, unlike, firsts, try_reads, first_reads, try_upgrades, try_adds, try_writes, turn_tries, turn_enters}
+use Rattle.rwlock_world.proofs.AtOnce.{waits_for_turn, is_try_turn, Lists, Firsts, unlike, firsts, try_reads, first_reads, first_readies, try_upgrades, try_adds, added, try_writes, try_written, turn_tries, turn_enters}
 use Rattle.rwlock_world.proofs.Endings as ends
 use Rattle.rwlock_world.proofs.Owns as owns
 use Rattle.rwlock_world.proofs.Views as view
@@ -80,6 +80,18 @@ one_test n e = rw e refl
 
 one_means : (n : ℕ) → (n == 1) ≡ true → n ≡ 1
 one_means n h = grind (arith, nat_tests)
+
+none_test : (n : ℕ) → n ≡ 0 → (n == 0) ≡ true
+none_test n e = rw e refl
+
+none_means : (n : ℕ) → (n == 0) ≡ true → n ≡ 0
+none_means n h = grind (arith, nat_tests)
+
+below_test : (n k : ℕ) → n < k → nat_lt n k ≡ true
+below_test n k h = grind (arith, nat_tests)
+
+below_means : (n k : ℕ) → nat_lt n k ≡ true → n < k
+below_means n k h = grind (arith, nat_tests)
 
 free_test : (t : Turn) (n : ℕ) → t ≡ state.nobody → n ≡ 0 → is_nobody t && (n == 0) ≡ true
 free_test t n e d = rw (e, d) refl
@@ -116,6 +128,7 @@ pub record Acted (t u : Table) (m : Move) (a : Answer) (from : Place) : Type 0 w
   pub places : u.lock.places ≡ set t.lock.places m.party (place_after (next_of from found))
   pub same : SameRoles from (place_at t.lock.places m.party)
   pub answer : a ≡ answer_at (course_of from) t.value (next_of from found)
+  pub decides : decision a (standing_of (view_of u) m.party) ≡ verdict_then t.value (course_of from) (turn_at u.lock.turn.places m.party) (next_of from found)
 
 module _ (t u : Table) (m : Move) (a : Answer) where
   abbrev p : ℕ
@@ -196,6 +209,21 @@ module _ (t u : Table) (m : Move) (a : Answer) where
         (λ h. let b = enters_says y.laws h in now ∙ r.1 b.0 b.1),
       )
 
+  at_enter_ready : Acted t u m a (place.EnterRead false) → may_read old ≡ true → a ≡ answer.Ready (Value old.state.value)
+  at_enter_ready y h = let b = enters_says y.laws h in y.answer ∙ first_readies memory t.lock t.value y.found y.finds b.0 b.1
+
+  at_added : Acted t u m a (place.Add true) → decision a (standing_of new p) ≡ Some (granted_if (nat_lt (how_many_read old) old.readers_limit) old)
+  at_added y =
+      y.decides ∙ added memory t.lock t.value (turn_at u.lock.turn.places p) y.found y.finds (nat_lt (how_many_read old) t.lock.limit)
+      (λ h. below_test (how_many_read old) t.lock.limit (omega (arith, reading, h)))
+      (λ h. omega (arith, reading, below_means (how_many_read old) t.lock.limit h))
+
+  at_try_written : Acted t u m a place.TryWrite → decision a (standing_of new p) ≡ Some (granted_if (how_many_read old == 0) old)
+  at_try_written y =
+      y.decides ∙ try_written memory t.lock t.value (turn_at u.lock.turn.places p) y.found (unmarked place.TryWrite y refl) y.finds (how_many_read old == 0)
+      (λ h. none_test (how_many_read old) (reading ∙ h))
+      (λ h. sym reading ∙ none_means (how_many_read old) h)
+
   at_add : Acted t u m a (place.Add true) → (a ≡ answer.Granted (Value old.state.value)) ↔ (how_many_read old < old.readers_limit)
   at_add y =
       let r = try_adds memory t.lock t.value y.found y.finds in (
@@ -233,8 +261,11 @@ acted_at_once t u m a from y b =
       try_upgrade = λ i e h. at_try_upgrade t u m a (subst P (b.try_upgrade i e) y);
       try_turn = λ e h. tries_turn t u m a from (b.try_turn e) y;
       try_upgradable = λ e h. at_add t u m a (subst P (b.try_upgradable e) y);
+      try_upgradable_decided = λ e h. at_added t u m a (subst P (b.try_upgradable e) y);
       try_write = λ e h. at_try_write t u m a (subst P (b.try_write e) y);
+      try_write_decided = λ e h. at_try_written t u m a (subst P (b.try_write e) y);
       first_read = λ e. at_enter_read t u m a (subst P (b.first_read e) y);
+      first_read_ready = λ e. at_enter_ready t u m a (subst P (b.first_read e) y);
       first_upgradable = λ e. at_enter_turn t u m a purpose.UpgradableRead (subst P (b.first_upgradable e) y);
       first_write = λ e n. at_enter_turn t u m a purpose.Write (subst P (b.first_write e n) y);
     }
@@ -356,9 +387,17 @@ begins_go t m w k known planned =
 
 -- ---- a step of a call
 
-stepping : (t u : Table) (m : Move) (a : Answer) (w : Within) (from : Place) (seeks : Next → Option Sought) → Laws t → m.party < length t.stages → Steps w from seeks m t a u
+stepping : (t u : Table) (m : Move) (a : Answer) (w : Within) (from : Place) (seeks : Next → Option Sought) → Laws t → Laws u → m.party < length t.stages → Steps w from seeks m t a u
     → is_on_course w.kind w.was (course_of from) ≡ true → SameRoles from (place_at t.lock.places m.party) → Begins (view_of t) m from → AnswersAtOnce (view_of t) m a (view_of u)
-stepping t u m a w from seeks k known s course same begins =
+stepping t u m a w from seeks k ku known s course same begins =
+    let there : m.party < length t.lock.places = omega (arith, k.fits.as_many, known) in
+    let lands : place_at u.lock.places m.party ≡ place_after s.next = ap (λ xs. place_at xs m.party) s.acts.places ∙ get_or-set_same t.lock.places m.party (place_after s.next) place.Out there in
+    let stages : stage_at u.stages m.party ≡ stage_after w s.next = ap (λ ss. stage_at ss m.party) s.stages ∙ get_or-set_same t.stages m.party (stage_after w s.next) Forgotten known in
+    let y : TurnPlace = turn_at u.lock.turn.places m.party in
+    let stands : standing_of (view_of u) m.party ≡ stands_as t.value (stage_after w s.next) (place_after s.next) y =
+    stood u m.party ku ∙ (ap (λ n. stands_as n (stage_at u.stages m.party) (place_at u.lock.places m.party) y) s.value ∙ (ap (λ g. stands_as t.value g (place_at u.lock.places m.party) y) stages ∙ ap (λ z. stands_as t.value (stage_after w s.next) z y) lands)) in
+    let decided : decision a (standing_of (view_of u) m.party) ≡ verdict_then t.value (course_of from) y s.next =
+    ap (λ b. decision b (standing_of (view_of u) m.party)) s.answer ∙ (ap (decision (answer_of w.kind t.value s.next)) stands ∙ ends.decided_now w from course t.value y s.next) in
     let l = t.lock in
     let fit : fits_turn from (turn_at l.turn.places m.party) ≡ true = rw same.in_turn (k.lock.in_turn m.party) in
     acted_at_once t u m a from (record {
@@ -371,6 +410,7 @@ stepping t u m a w from seeks k known s course same begins =
       places = s.acts.places ∙ ap (λ y. set l.places m.party (place_after y)) s.acts.next_is;
       same = same;
       answer = s.answer ∙ (ap (answer_of w.kind t.value) s.acts.next_is ∙ ends.answer_is w from course t.value (next_of from s.acts.found));
+      decides = decided ∙ ap (verdict_then t.value (course_of from) y) s.acts.next_is;
     }) begins
 
 -- ---- a poll after ready, and a put
@@ -449,6 +489,9 @@ still_at_once t m a after k h =
       try_turn = λ e b. absurd (apart_from_tries m.what it.1 e);
       try_upgradable = λ e b. absurd (outside_apart s rest.Holding e.0 None is e.1);
       try_write = λ e b. absurd (outside_apart s rest.Holding e.0 None is e.1);
+      try_upgradable_decided = λ e b. absurd (outside_apart s rest.Holding e.0 None is e.1);
+      try_write_decided = λ e b. absurd (outside_apart s rest.Holding e.0 None is e.1);
+      first_read_ready = λ e b. absurd (never_first read s (outside rest.Holding) o m.what n is refl e);
       first_read = λ e. absurd (never_first read s (outside rest.Holding) o m.what n is refl e);
       first_upgradable = λ e. absurd (never_first upgradable s (outside rest.Holding) o m.what n is refl e);
       first_write = λ e z. absurd (never_first write s (outside rest.Holding) o m.what n is refl e);
@@ -536,6 +579,9 @@ impossible_at_once t m k none =
       try_turn = λ e h. absurd (cc);
       try_upgradable = λ e h. absurd (cc);
       try_write = λ e h. absurd (cc);
+      try_upgradable_decided = λ e h. absurd (cc);
+      try_write_decided = λ e h. absurd (cc);
+      first_read_ready = λ e b. absurd (never_reads t.value x y s o m.what n unfinished unplanned (sym (first_as t m read k) ∙ e));
       first_read = λ e. absurd (never_reads t.value x y s o m.what n unfinished unplanned (sym (first_as t m read k) ∙ e));
       first_upgradable = λ e. absurd (never_reads_upgradable t.value x y s o m.what n unfinished unplanned (sym (first_as t m upgradable k) ∙ e));
       first_write = λ e z. absurd (never_writes t.value x y s o m.what n unfinished unplanned (sym (first_as t m write k) ∙ e));
@@ -550,15 +596,15 @@ begun (Some from) h = (from, refl, h)
 start_goes : (c : _) (w u : Within) → plan.Start c w ≡ plan.Go u → ⊥
 start_goes c w u e = cc
 
-any_at_once : (t u : Table) (m : Move) (a : Answer) (o : Option Plan) → plan_in t m ≡ o → Does o m t a u → Laws t → AnswersAtOnce (view_of t) m a (view_of u)
-any_at_once t u m a None e d k = rw (d.0, d.1) (impossible_at_once t m k e)
-any_at_once t u m a (Some plan.Finished) e d k =
+any_at_once : (t u : Table) (m : Move) (a : Answer) (o : Option Plan) → plan_in t m ≡ o → Does o m t a u → Laws t → Laws u → AnswersAtOnce (view_of t) m a (view_of u)
+any_at_once t u m a None e d k ku = rw (d.0, d.1) (impossible_at_once t m k e)
+any_at_once t u m a (Some plan.Finished) e d k ku =
     let p = known_move m.party t.stages plan.Finished (plan_of (stage_at t.stages m.party) (seeking t.sought m.party) m.what) (nat_lt m.party (length t.stages)) refl e in
     still_at_once t m a (view_of u) k (ap is_still p.1)
-any_at_once t u m a (Some (plan.Put n)) e d k =
+any_at_once t u m a (Some (plan.Put n)) e d k ku =
     let p = known_move m.party t.stages (plan.Put n) (plan_of (stage_at t.stages m.party) (seeking t.sought m.party) m.what) (nat_lt m.party (length t.stages)) refl e in
     still_at_once t m a (view_of u) k (ap is_still p.1)
-any_at_once t u m a (Some (plan.Start c w)) e d k =
+any_at_once t u m a (Some (plan.Start c w)) e d k ku =
     let p = known_move m.party t.stages (plan.Start c w) (plan_of (stage_at t.stages m.party) (seeking t.sought m.party) m.what) (nat_lt m.party (length t.stages)) refl e in
     let s : Stage = stage_at t.stages m.party in
     let o : Option Sought = seeking t.sought m.party in
@@ -574,19 +620,19 @@ any_at_once t u m a (Some (plan.Start c w)) e d k =
     let course = subst C (some_eq (sym st.1 ∙ b.1)) st.2.course in
     let same = subst S (some_eq (sym mv.1 ∙ b.1)) mv.2.same in
     let first = subst F (some_eq (sym fs.1 ∙ b.1)) (fs.2 (entries_in (view_of t) m.party) (is_upgrader (view_of t) m.party) (lists t m.party k)) in
-    stepping t u m a w b.0 (begins_to_seek c o) k p.0 b.2 course same (begins_start t m (plan.Start c w) b.0 k p.1 (start_goes c w) first)
-any_at_once t u m a (Some (plan.Go w)) e d k =
+    stepping t u m a w b.0 (begins_to_seek c o) k ku p.0 b.2 course same (begins_start t m (plan.Start c w) b.0 k p.1 (start_goes c w) first)
+any_at_once t u m a (Some (plan.Go w)) e d k ku =
     let p = known_move m.party t.stages (plan.Go w) (plan_of (stage_at t.stages m.party) (seeking t.sought m.party) m.what) (nat_lt m.party (length t.stages)) refl e in
     let s : Stage = stage_at t.stages m.party in
     let o : Option Sought = seeking t.sought m.party in
     let x : Place = place_at t.lock.places m.party in
     let on = going_on_course s o m.what w x p.1 (k.fits.fits m.party p.0) in
     let moves = going t.value (turn_at t.lock.turn.places m.party) s o m.what x w p.1 in
-    stepping t u m a w x (goes_on_seeking o) k p.0 d on.1 moves.same (begins_go t m w k p.0 p.1)
+    stepping t u m a w x (goes_on_seeking o) k ku p.0 d on.1 moves.same (begins_go t m w k p.0 p.1)
 
 pub event_at_once : (t u : Table) (m : Move) (a : Answer) → IsStep t m a u → IsRwLock t.lock → IsTable t.lock t.stages t.sought → IsRwLock u.lock → IsTable u.lock u.stages u.sought → AnswersAtOnce (view_of t) m a (view_of u)
-event_at_once t u m a step tm tf um uf = any_at_once t u m a (plan_in t m) refl step (record { lock = tm; fits = tf })
+event_at_once t u m a step tm tf um uf = any_at_once t u m a (plan_in t m) refl step (record { lock = tm; fits = tf }) (record { lock = um; fits = uf })
 
 -- whatever value the World was made with
 pub at_once_opened : (n : ℕ) (before : World) (m : Move) (a : Answer) (after : World) → AnswersAtOnce before m a after → AnswersAtOnce (opened n before) m a (opened n after)
-at_once_opened n before m a after l = record { try_read = l.try_read; try_upgrade = l.try_upgrade; try_turn = l.try_turn; try_upgradable = l.try_upgradable; try_write = l.try_write; first_read = l.first_read; first_upgradable = l.first_upgradable; first_write = l.first_write }
+at_once_opened n before m a after l = record { try_read = l.try_read; try_upgrade = l.try_upgrade; try_turn = l.try_turn; try_upgradable = l.try_upgradable; try_upgradable_decided = l.try_upgradable_decided; try_write = l.try_write; try_write_decided = l.try_write_decided; first_read = l.first_read; first_read_ready = l.first_read_ready; first_upgradable = l.first_upgradable; first_write = l.first_write }

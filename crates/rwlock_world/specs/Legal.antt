@@ -20,7 +20,7 @@ use Rattle.lock_world.specs.Frame as frame
 use Rattle.lock_world.specs.Frame.{is_drop, is_giving_back, is_refusal, put_in}
 use Rattle.lock_world.specs.Rights.{Right, read, upgradable, write}
 use Rattle.lock_world.specs.Rosters.{how_many}
-use Rattle.lock_world.specs.Standings.{Standing, outside, inside, forgotten, inputs_of, is_possible, is_decided, refused}
+use Rattle.lock_world.specs.Standings.{Standing, outside, inside, forgotten, inputs_of, is_possible, is_decided, decision, refused}
 use Rattle.lock_world.specs.Steps.{Deed, nothing, does, joins}
 use Rattle.rwlock_world.specs.State.{Turn, passes, is_upgradable, waits_to_write, writes, World, standing_of, sought_by, reads, how_many_read, is_marked, is_turn_free, HasTurn, entries_in, told_in, is_upgrader, IsClear}
 use Rattle.rwlock_world.specs.Changes.{Change, ListName, state_after, turn_list_after, no_readers_after, no_writer_after, IsAllowed, gives_back, gives_up}
@@ -212,14 +212,17 @@ is_first_poll r s _ what n = false
 abbrev pub is_first : World → Move → Right → Bool
 is_first w m r = is_first_poll r (standing_of w m.party) (sought_by w m.party) m.what (entries_in w m.party)
 
--- The tries are granted exactly where the right is free. One that needs the turn takes it first, exactly where nobody has it and nobody is starved for it, and is granted at its next step exactly where readers are below their limit, or no reader is left. The first step of a first poll takes on the same condition as that of its try.
+-- The tries are granted exactly where the right is free. One that needs the turn takes it first, exactly where nobody has it and nobody is starved for it, and is decided at its next step: granted exactly where readers are below their limit, or no reader is left. The first step of a first poll takes on the same condition as that of its try, and a read is then ready.
 pub record AnswersAtOnce (old : World) (m : Move) (a : Answer) (new : World) : Type 0 where
   pub try_read : (inputs : _) → m.what ≡ Begin call.TryRead inputs → is_possible a ≡ true → a ≡ granted_if (may_read old) old
   pub try_upgrade : (inputs : _) → m.what ≡ Begin call.TryUpgrade inputs → is_possible a ≡ true → a ≡ granted_if (how_many_read old == 1) old
   pub try_turn : is_try_for_turn m.what ≡ true → is_possible a ≡ true
       → (a ≡ (if is_turn_free old.state then answer.Stepped else answer.None)) × ((new.state.turn ≡ passes m.party) ↔ (is_turn_free old.state ≡ true))
   pub try_upgradable : IsTryWithTurn old m upgradable → is_possible a ≡ true → (a ≡ answer.Granted (Value old.state.value)) ↔ (how_many_read old < old.readers_limit)
+  pub try_upgradable_decided : IsTryWithTurn old m upgradable → is_possible a ≡ true → decision a (standing_of new m.party) ≡ Some (granted_if (nat_lt (how_many_read old) old.readers_limit) old)
   pub try_write : IsTryWithTurn old m write → is_possible a ≡ true → (a ≡ answer.Granted (Value old.state.value)) ↔ (how_many_read old ≡ 0)
+  pub try_write_decided : IsTryWithTurn old m write → is_possible a ≡ true → decision a (standing_of new m.party) ≡ Some (granted_if (how_many_read old == 0) old)
   pub first_read : is_first old m read ≡ true → (reads new m.party ≡ true) ↔ (may_read old ≡ true)
+  pub first_read_ready : is_first old m read ≡ true → may_read old ≡ true → a ≡ answer.Ready (Value old.state.value)
   pub first_upgradable : is_first old m upgradable ≡ true → (new.state.turn ≡ passes m.party) ↔ (is_turn_free old.state ≡ true)
   pub first_write : is_first old m write ≡ true → is_upgrader old m.party ≡ false → (new.state.turn ≡ passes m.party) ↔ (is_turn_free old.state ≡ true)
