@@ -254,8 +254,10 @@ use Rattle.rwlock_machine.specs.Acts.{{Finds, readers, marked}}
 use Rattle.rwlock_machine.proofs.Leads.{{Led, steps_in_turn}}
 use Rattle.rwlock_world.specs.Changes.{{Change, ListName, begins_to_read, stops_reading, becomes_upgradable, stops_upgradable, begins_to_wait, begins_to_write, upgrades, upgrades_at_once, unmarks, downgrades, downgrades_to_upgradable, for_no_readers, for_no_writer, turn_after, starved_after, value_after, turn_list_after, no_readers_after, no_writer_after, gives_back, gives_up}}
 use Rattle.rwlock_world.specs.State as state
-use Rattle.rwlock_world.specs.Plans.{{Course, tries, tries_upgrade, strays, course_of}}
-use Rattle.rwlock_world.specs.View.{{passing, upgrading, waiting, writing, turn_as, share_of, is_reading, is_upgrade, verdict}}
+use Rattle.rwlock_world.specs.declared.world.table.Sought.{{Sought}}
+use Rattle.rwlock_world.specs.Legal.{{may_meet}}
+use Rattle.rwlock_world.specs.Plans.{{Course, tries, tries_upgrade, strays, course_of, sought_at}}
+use Rattle.rwlock_world.specs.View.{{passing, upgrading, waiting, writing, turn_as, share_of, is_reading, is_upgrade, right_of, verdict}}
 
 -- what an action changes that found this
 abbrev pub deed_of : Action → Found → Deed Change ListName
@@ -360,6 +362,11 @@ WaitsAt AskNoWriter f = f ≡ No
 WaitsAt (AskNoReaders u) f = f ≡ No
 WaitsAt _ f = ⊥
 
+-- what is sought where a party stands may meet this limit
+abbrev pub meets : Option (Option Sought) → Refusal → Bool
+meets (Some s) r = may_meet (right_of s) r
+meets None r = false
+
 -- where a call may be refused for want of memory
 abbrev pub lacks_memory : Place → Bool
 lacks_memory (JoinNoWriter told) = true
@@ -370,7 +377,7 @@ lacks_memory _ = false
 -- why a step refuses its call
 abbrev pub Refuses : Bool → RwLock → Place → Found → Refusal → Type 0
 Refuses memory l x f refusal.Memory = (memory ≡ false) × (in_no_writer x + in_no_readers x ≡ 0) × (deed_at x f ≡ nothing) × ((t : TurnPlace) → fits_turn x t ≡ true → (is_out_there t ≡ true) ⊎ (is_holding t ≡ true)) × (lacks_memory x ≡ true)
-Refuses memory l x f refusal.Readers = l.limit ≤ readers l
+Refuses memory l x f refusal.Readers = (l.limit ≤ readers l) × (meets (sought_at (place_after (next_of x f))) refusal.Readers ≡ true)
 Refuses memory l x f _ = ⊥
 
 -- why a step decides its call on an answer
@@ -453,7 +460,7 @@ def memory(side):
 
 
 def full(e):
-    return f'(refusal.Readers, refl, {e})'
+    return f'(refusal.Readers, refl, ({e}, refl))'
 
 
 def row(place, found, judged, sharing=STAYS, finding='tt', upgrade='tt', refused='tt', no_writer='λ p a b o. o', no_readers='λ p a b o. o'):

@@ -1,5 +1,5 @@
 -- What one action does, as callers see it: its deed, that the deed is allowed, and why the call is decided. Here for the actions on the word and on the two lists.
-use Rattle.std.proofs.Common.{◌≡◌, ◌≢◌, ℕ, ◌+◌, ◌<◌, ◌==◌, ◌⊎◌, inl, inr, Bool, true, false, List, map, length, Option, Some, None, refl, arith, ap, sym, ◌∙◌, subst, get_or-set_same, get_or-set_other}
+use Rattle.std.proofs.Common.{◌≡◌, ◌≢◌, ℕ, ◌+◌, ◌<◌, ◌≤◌, ◌==◌, ◌⊎◌, inl, inr, Bool, true, false, List, map, length, Option, Some, None, refl, arith, ap, sym, ◌∙◌, subst, get_or-set_same, get_or-set_other}
 use Rattle.std.proofs.Math.ListN.{set}
 use Rattle.std.proofs.Math.Decide.{ℕ_discrete}
 use Rattle.std.proofs.Math.Seq.{map-set_same}
@@ -15,6 +15,7 @@ use Rattle.lock_world.specs.declared.refusal.Refusal.{Refusal}
 use Rattle.lock_world.specs.declared.refusal.Refusal.TheVariants as refusal
 use Rattle.lock_world.specs.declared.standing.Stage.{Stage}
 use Rattle.lock_world.specs.Refusals.{number_of}
+use Rattle.lock_world.specs.Rosters.{how_many}
 use Rattle.lock_world.specs.Standings.{inputs_of}
 use Rattle.lock_world.specs.Steps.{Deed, nothing, changes, does}
 use Rattle.mutex_machine.specs.Courses.{is_out as is_out_there, is_holding}
@@ -35,12 +36,12 @@ use Rattle.rwlock_machine.specs.Acts.{IsRwLock, Finds}
 use Rattle.rwlock_machine.proofs.Leads.{steps_in_turn}
 use Rattle.rwlock_world.specs.declared.world.table.Sought.{Sought}
 use Rattle.rwlock_world.specs.Changes.{Change, ListName, takes_turn, leaves_turn, starves, recovers, begins_to_read, stops_reading, becomes_upgradable, stops_upgradable, begins_to_wait, begins_to_write, upgrades, upgrades_at_once, unmarks, downgrades, downgrades_to_upgradable, puts, turn_after, readers_after, starved_after, value_after, turn_list_after, no_readers_after, no_writer_after, IsAllowed, gives_back}
-use Rattle.rwlock_world.specs.State.{World, told_in, entries_in}
+use Rattle.rwlock_world.specs.State.{World, told_in, entries_in, how_many_read}
 use Rattle.rwlock_world.specs.Legal.{IsCause}
-use Rattle.rwlock_world.specs.Plans.{strays, course_of}
+use Rattle.rwlock_world.specs.Plans.{strays, course_of, sought_at}
 use Rattle.rwlock_world.specs.Table.{IsTable}
 use Rattle.rwlock_world.specs.View.{Share, passing, upgrading, waiting, writing, turn_as, share_of, turn_by, is_reading, verdict, seen}
-use Rattle.rwlock_world.proofs.Rows.{deed_at, answer_at, verdict_then, is_after_ready, Reads, Shares, Finding, is_got, WaitsAt, Refuses, Reason, Judged, Room, keeps_what_it_has, lacks_memory, KeepsUpgrade, RefusedAt, Row, row}
+use Rattle.rwlock_world.proofs.Rows.{deed_at, answer_at, verdict_then, is_after_ready, Reads, Shares, Finding, is_got, WaitsAt, Refuses, Reason, Judged, Room, keeps_what_it_has, lacks_memory, meets, KeepsUpgrade, RefusedAt, Row, row}
 use Rattle.rwlock_world.proofs.Owns as owns
 use Rattle.rwlock_world.proofs.Sound.{none_marked}
 use Rattle.rwlock_world.proofs.Views as view
@@ -52,17 +53,26 @@ WaitsIn k p (place.AwaitNoReaders u) = told_in k.no_readers p ≡ Some mark.Wait
 WaitsIn k p (place.WaitTurn q) = told_in k.turn.entries p ≡ Some mark.Waiting
 WaitsIn k p _ = ⊥
 
--- a refusal for memory does nothing else, and comes from a join, or from within a call on the turn
-abbrev pub Idle : Place → Deed Change ListName → Refusal → Type 0
-Idle x d refusal.Memory = (d ≡ nothing) × (lacks_memory x ≡ true)
-Idle x d r = Unit {0}
+-- why a call is refused, but that it seeks what there is a limit for
+abbrev pub CauseAs : Move → World → World → Refusal → Type 0
+CauseAs m old new refusal.Memory = IsCause old m new refusal.Memory
+CauseAs m old new refusal.Starved = how_many old.state.starved ≡ old.starved_limit
+CauseAs m old new refusal.Readers = old.readers_limit ≤ how_many_read old
+CauseAs m old new _ = ⊥
+
+-- a refusal for memory does nothing else, and comes from a join, or from within a call on the turn; and whoever meets a limit stands where it may
+abbrev pub Fitting : Place → Place → Deed Change ListName → Refusal → Type 0
+Fitting x to d refusal.Memory = (d ≡ nothing) × (lacks_memory x ≡ true)
+Fitting x to d refusal.Readers = meets (sought_at to) refusal.Readers ≡ true
+Fitting x to d refusal.Starved = meets (sought_at to) refusal.Starved ≡ true
+Fitting x to d _ = Unit {0}
 
 -- why a call is decided on an answer
 abbrev pub ReasonAs : Move → World → RwLock → World → ℕ → Place → Place → Deed Change ListName → Answer → Type 0
 ReasonAs m old k new v x to d answer.Pending = WaitsIn k m.party to
 ReasonAs m old k new v x to d (answer.Ready got) = (got ≡ Value v) × (is_got to ≡ true)
 ReasonAs m old k new v x to d (answer.Granted got) = (got ≡ Value v) × (is_got to ≡ true)
-ReasonAs m old k new v x to d (answer.Refused n) = (r : Refusal) × (n ≡ number_of r) × IsCause old m new r × Idle x d r
+ReasonAs m old k new v x to d (answer.Refused n) = (r : Refusal) × (n ≡ number_of r) × CauseAs m old new r × Fitting x to d r
 ReasonAs m old k new v x to d _ = Unit {0}
 
 abbrev pub JudgedAs : Move → World → RwLock → World → ℕ → Place → Place → Deed Change ListName → Option Answer → Option Answer → Type 0
@@ -193,7 +203,7 @@ module _ (m : Move) (l k : RwLock) (ss : List Stage) (os : List (Option Sought))
     fit : fits_turn x (turn_at l.turn.places p) ≡ true
     fit = rw c.same.in_turn (c.laws.in_turn p)
 
-    cause : (q : Refusal) → Refuses memory l x f q → IsCause (seen l ss os v) m (seen k ts ps v) q
+    cause : (q : Refusal) → Refuses memory l x f q → CauseAs m (seen l ss os v) (seen k ts ps v) q
     cause refusal.Memory h = (
       h.0,
       unlisted h.1 (h.3 (turn_at l.turn.places p) fit),
@@ -201,7 +211,7 @@ module _ (m : Move) (l k : RwLock) (ss : List Stage) (os : List (Option Sought))
       r.no_readers p l.no_readers k.no_readers c.no_readers ∙ ap (λ (d : Deed Change ListName). no_readers_after p d l.no_readers) h.2,
       r.no_writer p l.no_writer k.no_writer c.no_writer ∙ ap (λ (d : Deed Change ListName). no_writer_after p d l.no_writer) h.2,
     )
-    cause refusal.Readers h = omega (arith, view.how_many-read l.places, h)
+    cause refusal.Readers h = omega (arith, view.how_many-read l.places, h.0)
     cause refusal.Starved h = absurd h
     cause refusal.Permits h = absurd h
     cause refusal.Generations h = absurd h
@@ -218,19 +228,19 @@ module _ (m : Move) (l k : RwLock) (ss : List Stage) (os : List (Option Sought))
         subst P (sym h) (rw (or2.1) (waits_at p l.no_readers (sym er) or2.0))
     waits_here _ g ow or ew er h = absurd h
 
-    idle : (q : Refusal) → Refuses memory l x f q → Idle x (deed_at x f) q
-    idle refusal.Memory h = (h.2, h.4)
-    idle refusal.Readers h = tt
-    idle refusal.Starved h = tt
-    idle refusal.Permits h = tt
-    idle refusal.Generations h = tt
-    idle refusal.Finished h = tt
+    fitting : (q : Refusal) → Refuses memory l x f q → Fitting x to (deed_at x f) q
+    fitting refusal.Memory h = (h.2, h.4)
+    fitting refusal.Readers h = h.1
+    fitting refusal.Starved h = absurd h
+    fitting refusal.Permits h = tt
+    fitting refusal.Generations h = tt
+    fitting refusal.Finished h = tt
 
     reasons : (b : Answer) → Reason memory l v x f b → ReasonAs m (seen l ss os v) k (seen k ts ps v) v x to (deed_at x f) b
     reasons answer.Pending h = waits_here x f c.no_writer c.no_readers (c.same.standing_w ∙ sym (c.laws.owners_no_writer p)) (c.same.standing_r ∙ sym (c.laws.owners_no_readers p)) h
     reasons (answer.Ready got) h = h
     reasons (answer.Granted got) h = h
-    reasons (answer.Refused n) h = (h.0, h.1, cause h.0 h.2, idle h.0 h.2)
+    reasons (answer.Refused n) h = (h.0, h.1, cause h.0 h.2, fitting h.0 h.2)
     reasons answer.Stepped h = tt
     reasons answer.None h = tt
     reasons answer.GivenBack h = tt

@@ -39,13 +39,13 @@ use Rattle.rwlock_world.specs.declared.world.table.Sought.TheVariants as sought
 use Rattle.rwlock_world.specs.Changes.{Change, ListName, gives_back, gives_up}
 use Rattle.rwlock_world.specs.State as state
 use Rattle.rwlock_world.specs.State.{State, World, standing_of, sought_by, is_upgrader, told_in, HasTurn, IsClear}
-use Rattle.rwlock_world.specs.Legal.{call_of, DecidesOn, IsPossible, ChangesOneThing, HasSought, LeavesClear, Carries, Waits, list_for, IsCause, IsRefusedForCause, IsValueKept, EndsProperly, KeepsUpgrades, Legal}
+use Rattle.rwlock_world.specs.Legal.{call_of, DecidesOn, IsPossible, ChangesOneThing, HasSought, LeavesClear, Carries, Waits, list_for, may_meet, IsCause, IsRefusedForCause, IsValueKept, EndsProperly, KeepsUpgrades, Legal}
 use Rattle.rwlock_world.specs.Plans.{Course, answer_of, stage_after, stage_at, seeking, sought_at, agrees, course_of, is_on_course}
 use Rattle.rwlock_world.specs.Table.{IsTable}
 use Rattle.rwlock_world.specs.View.{is_upgrade, right_of, verdict, stands_as, seen}
 use Rattle.rwlock_world.proofs.Paths.{Keeps}
-use Rattle.rwlock_world.proofs.Rows.{Room, keeps_what_it_has, lacks_memory, answer_at, verdict_then, is_after_ready, is_got, is_made}
-use Rattle.rwlock_world.proofs.Facts.{WaitsIn, Idle, ReasonAs, JudgedAs, Facts}
+use Rattle.rwlock_world.proofs.Rows.{Room, keeps_what_it_has, lacks_memory, meets, answer_at, verdict_then, is_after_ready, is_got, is_made}
+use Rattle.rwlock_world.proofs.Facts.{WaitsIn, CauseAs, Fitting, ReasonAs, JudgedAs, Facts}
 use Rattle.rwlock_world.proofs.Calls.{Moves}
 use Rattle.rwlock_world.proofs.Endings as ends
 use Rattle.rwlock_world.proofs.Owns as owns
@@ -63,9 +63,13 @@ judge m old k new v x to d None None b j e = absurd (cc)
 judge m old k new v x to d None (Some c) b j e = let P : Answer → Type 0 = λ a. ReasonAs m old k new v x to d a in inr (subst P (some_eq e) j)
 
 -- a refusal for memory is that one
-idle_memory : (x : Place) (d : Deed Change ListName) (r : Refusal) → number_of refusal.Memory ≡ number_of r → Idle x d r → (d ≡ nothing) × (lacks_memory x ≡ true)
-idle_memory x d refusal.Memory e h = h
-idle_memory x d _ e h = absurd (cc)
+idle_memory : (x to : Place) (d : Deed Change ListName) (r : Refusal) → number_of refusal.Memory ≡ number_of r → Fitting x to d r → (d ≡ nothing) × (lacks_memory x ≡ true)
+idle_memory x to d refusal.Memory e h = h
+idle_memory x to d _ e h = absurd (cc)
+
+meets_so : (o : Option (Option Sought)) (s : Option Sought) (r : Refusal) → agrees o s ≡ true → meets o r ≡ true → may_meet (right_of s) r ≡ true
+meets_so None s r a h = absurd (cc)
+meets_so (Some o) s r a h = rw (owns.same_is o s a) h
 
 found_room : {memory : Bool} (d : Deed Change ListName) (list : ListName) → Room memory d → d ≡ does list joins → memory ≡ true
 found_room {memory} d list r e = let P : Deed Change ListName → Type 0 = Room memory in subst P e r
@@ -258,7 +262,7 @@ module _ (m : Move) (l k : RwLock) (ss : List Stage) (os : List (Option Sought))
       others = others;
       parties = view.length-standings v ts k.places k.turn.places c.new_fits.as_many ∙ (length-set ss p (stage_after w n) ∙ sym (view.length-standings v ss l.places l.turn.places c.fits.as_many));
       found_memory = λ list e. found_room d list c.facts.room e;
-      refused_idly = λ y. elim (reason (refused refusal.Memory) y) as (λ _. d ≡ nothing) [ inl e ↦ absurd (cc) | inr z ↦ (idle_memory x d z.0 z.1 z.3).0 ];
+      refused_idly = λ y. elim (reason (refused refusal.Memory) y) as (λ _. d ≡ nothing) [ inl e ↦ absurd (cc) | inr z ↦ (idle_memory x to d z.0 z.1 z.3).0 ];
       parting = parting;
       giving_up = giving_up;
     }
@@ -312,16 +316,26 @@ module _ (m : Move) (l k : RwLock) (ss : List Stage) (os : List (Option Sought))
       not_before = λ y e. owns.not_pending k ts ps v c.new_laws c.new_fits p y e;
     }
 
+    -- whoever meets a limit seeks what there is a limit for
+    met : (r : Refusal) → meets (sought_at to) r ≡ true → may_meet (sought_by new p) r ≡ true
+    met r h = rw (owns.seeks_as k ts ps v c.new_laws c.new_fits p) (meets_so (sought_at to) (seeking ps p) r (seeks_there to refl) h)
+
+    cause : (r : Refusal) → CauseAs m old new r → Fitting x to d r → IsCause old m new r
+    cause refusal.Memory h f = h
+    cause refusal.Starved h f = (h, met refusal.Starved f)
+    cause refusal.Readers h f = (h, met refusal.Readers f)
+    cause _ h f = absurd h
+
     -- who is refused for want of memory was inside its call, and undecided
     lacked : DecidesOn old m said new (refused refusal.Memory) → IsUndecided (standing_of old p)
     lacked y =
-        let lacks : lacks_memory x ≡ true = elim (reason (refused refusal.Memory) y) as (λ _. lacks_memory x ≡ true) [ inl e ↦ absurd (cc) | inr z ↦ (idle_memory x d z.0 z.1 z.3).1 ] in
+        let lacks : lacks_memory x ≡ true = elim (reason (refused refusal.Memory) y) as (λ _. lacks_memory x ≡ true) [ inl e ↦ absurd (cc) | inr z ↦ (idle_memory x to d z.0 z.1 z.3).1 ] in
         let it = c.moves.lacking lacks in
         undecided_inside (standing_of old p) w it.0 (stood ∙ it.1) y.0
 
     refused_for_cause : IsRefusedForCause old m said new
     refused_for_cause = record {
-      cause = λ r y. elim (reason (answer.Refused r) y) as (λ _. (q : Refusal) × (r ≡ number_of q) × IsCause old m new q) [ inl e ↦ absurd (cc) | inr z ↦ (z.0, z.1, z.2) ];
+      cause = λ r y. elim (reason (answer.Refused r) y) as (λ _. (q : Refusal) × (r ≡ number_of q) × IsCause old m new q) [ inl e ↦ absurd (cc) | inr z ↦ (z.0, z.1, cause z.0 z.2 z.3) ];
       memory = λ y. lacked y;
       after_ready = (
         (λ e. let never : is_after_ready (answer_at (course_of x) v n) ≡ true = ap is_after_ready (sym answer_is ∙ e) in absurd (false≢true (sym c.facts.over ∙ never))),

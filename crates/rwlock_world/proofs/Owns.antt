@@ -65,7 +65,7 @@ holds_one : (b : Bool) (n : ℕ) → Rattle.mutex_machine.specs.Roles.bit b ≡ 
 holds_one true n e h = sym e
 holds_one false n e h = absurd (omega (arith, e, h))
 
-same_is : (o p : Option Sought) → same_sought o p ≡ true → p ≡ o
+pub same_is : (o p : Option Sought) → same_sought o p ≡ true → p ≡ o
 same_is None None h = refl
 same_is None (Some s) h = absurd (cc)
 same_is (Some sought.Read) None h = absurd (cc)

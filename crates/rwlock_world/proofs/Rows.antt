@@ -35,8 +35,10 @@ use Rattle.rwlock_machine.specs.Acts.{Finds, readers, marked}
 use Rattle.rwlock_machine.proofs.Leads.{Led, steps_in_turn}
 use Rattle.rwlock_world.specs.Changes.{Change, ListName, begins_to_read, stops_reading, becomes_upgradable, stops_upgradable, begins_to_wait, begins_to_write, upgrades, upgrades_at_once, unmarks, downgrades, downgrades_to_upgradable, for_no_readers, for_no_writer, turn_after, starved_after, value_after, turn_list_after, no_readers_after, no_writer_after, gives_back, gives_up}
 use Rattle.rwlock_world.specs.State as state
-use Rattle.rwlock_world.specs.Plans.{Course, tries, tries_upgrade, strays, course_of}
-use Rattle.rwlock_world.specs.View.{passing, upgrading, waiting, writing, turn_as, share_of, is_reading, is_upgrade, verdict}
+use Rattle.rwlock_world.specs.declared.world.table.Sought.{Sought}
+use Rattle.rwlock_world.specs.Legal.{may_meet}
+use Rattle.rwlock_world.specs.Plans.{Course, tries, tries_upgrade, strays, course_of, sought_at}
+use Rattle.rwlock_world.specs.View.{passing, upgrading, waiting, writing, turn_as, share_of, is_reading, is_upgrade, right_of, verdict}
 
 -- what an action changes that found this
 abbrev pub deed_of : Action → Found → Deed Change ListName
@@ -141,6 +143,11 @@ WaitsAt AskNoWriter f = f ≡ No
 WaitsAt (AskNoReaders u) f = f ≡ No
 WaitsAt _ f = ⊥
 
+-- what is sought where a party stands may meet this limit
+abbrev pub meets : Option (Option Sought) → Refusal → Bool
+meets (Some s) r = may_meet (right_of s) r
+meets None r = false
+
 -- where a call may be refused for want of memory
 abbrev pub lacks_memory : Place → Bool
 lacks_memory (JoinNoWriter told) = true
@@ -151,7 +158,7 @@ lacks_memory _ = false
 -- why a step refuses its call
 abbrev pub Refuses : Bool → RwLock → Place → Found → Refusal → Type 0
 Refuses memory l x f refusal.Memory = (memory ≡ false) × (in_no_writer x + in_no_readers x ≡ 0) × (deed_at x f ≡ nothing) × ((t : TurnPlace) → fits_turn x t ≡ true → (is_out_there t ≡ true) ⊎ (is_holding t ≡ true)) × (lacks_memory x ≡ true)
-Refuses memory l x f refusal.Readers = l.limit ≤ readers l
+Refuses memory l x f refusal.Readers = (l.limit ≤ readers l) × (meets (sought_at (place_after (next_of x f))) refusal.Readers ≡ true)
 Refuses memory l x f _ = ⊥
 
 -- why a step decides its call on an answer
@@ -228,11 +235,11 @@ module _ (memory : Bool) (l : RwLock) (v : ℕ) where
   row Writing _ e n t = absurd e
   row (EnterRead true) Done e n t = record { reading = refl; sharing = inr ((λ p t. refl), refl); starving = λ p s. refl; valued = λ u. refl; unturned = λ p a. refl; no_writer = λ p a b o. o; no_readers = λ p a b o. o; finding = e; judged = λ t u. (refl, refl); room = tt; holds_on = λ t. refl; over = refl; upgrade = tt; refused = tt }
   row (EnterRead true) Writer e n t = record { reading = refl; sharing = inr ((λ p t. refl), refl); starving = λ p s. refl; valued = λ u. refl; unturned = λ p a. refl; no_writer = λ p a b o. o; no_readers = λ p a b o. o; finding = tt; judged = λ t u. tt; room = tt; holds_on = λ t. refl; over = refl; upgrade = λ t h. refl; refused = tt }
-  row (EnterRead true) Full e n t = record { reading = refl; sharing = inr ((λ p t. refl), refl); starving = λ p s. refl; valued = λ u. refl; unturned = λ p a. refl; no_writer = λ p a b o. o; no_readers = λ p a b o. o; finding = tt; judged = λ t u. (refusal.Readers, refl, e.1); room = tt; holds_on = λ t. refl; over = refl; upgrade = λ t h. refl; refused = tt }
+  row (EnterRead true) Full e n t = record { reading = refl; sharing = inr ((λ p t. refl), refl); starving = λ p s. refl; valued = λ u. refl; unturned = λ p a. refl; no_writer = λ p a b o. o; no_readers = λ p a b o. o; finding = tt; judged = λ t u. (refusal.Readers, refl, (e.1, refl)); room = tt; holds_on = λ t. refl; over = refl; upgrade = λ t h. refl; refused = tt }
   row (EnterRead true) _ e n t = absurd e
   row (EnterRead false) Done e n t = record { reading = refl; sharing = inr ((λ p t. refl), refl); starving = λ p s. refl; valued = λ u. refl; unturned = λ p a. refl; no_writer = λ p a b o. o; no_readers = λ p a b o. o; finding = e; judged = λ t u. (refl, refl); room = tt; holds_on = λ t. refl; over = refl; upgrade = tt; refused = tt }
   row (EnterRead false) Writer e n t = record { reading = refl; sharing = inr ((λ p t. refl), refl); starving = λ p s. refl; valued = λ u. refl; unturned = λ p a. refl; no_writer = λ p a b o. o; no_readers = λ p a b o. o; finding = tt; judged = λ t u. tt; room = tt; holds_on = λ t. refl; over = refl; upgrade = λ t h. refl; refused = tt }
-  row (EnterRead false) Full e n t = record { reading = refl; sharing = inr ((λ p t. refl), refl); starving = λ p s. refl; valued = λ u. refl; unturned = λ p a. refl; no_writer = λ p a b o. o; no_readers = λ p a b o. o; finding = tt; judged = λ t u. (refusal.Readers, refl, e.1); room = tt; holds_on = λ t. refl; over = refl; upgrade = refl; refused = inl (refl, refl) }
+  row (EnterRead false) Full e n t = record { reading = refl; sharing = inr ((λ p t. refl), refl); starving = λ p s. refl; valued = λ u. refl; unturned = λ p a. refl; no_writer = λ p a b o. o; no_readers = λ p a b o. o; finding = tt; judged = λ t u. (refusal.Readers, refl, (e.1, refl)); room = tt; holds_on = λ t. refl; over = refl; upgrade = refl; refused = inl (refl, refl) }
   row (EnterRead false) _ e n t = absurd e
   row (JoinNoWriter true) Done e n t = record { reading = refl; sharing = inr ((λ p t. refl), refl); starving = λ p s. refl; valued = λ u. refl; unturned = λ p a. refl; no_writer = λ p a b o. o; no_readers = λ p a b o. o; finding = tt; judged = λ t u. tt; room = e; holds_on = λ t. refl; over = refl; upgrade = λ t h. refl; refused = tt }
   row (JoinNoWriter true) NoMemory e n t = record { reading = refl; sharing = inr ((λ p t. refl), refl); starving = λ p s. refl; valued = λ u. refl; unturned = λ p a. refl; no_writer = λ p a b o. o; no_readers = λ p a b o. o; finding = tt; judged = λ t u. (refusal.Memory, refl, (e, refl, refl, (λ t h. inl h), refl)); room = tt; holds_on = λ t. refl; over = refl; upgrade = λ t h. refl; refused = tt }
@@ -242,7 +249,7 @@ module _ (memory : Bool) (l : RwLock) (v : ℕ) where
   row (JoinNoWriter false) _ e n t = absurd e
   row (LookNoWriter told) Done e n t = record { reading = refl; sharing = inr ((λ p t. refl), refl); starving = λ p s. refl; valued = λ u. refl; unturned = λ p a. refl; no_writer = λ p a b o. o; no_readers = λ p a b o. o; finding = e; judged = λ t u. (refl, refl); room = tt; holds_on = λ t. refl; over = refl; upgrade = λ t h. refl; refused = tt }
   row (LookNoWriter told) Writer e n t = record { reading = refl; sharing = inr ((λ p t. refl), refl); starving = λ p s. refl; valued = λ u. refl; unturned = λ p a. refl; no_writer = λ p a b o. o; no_readers = λ p a b o. o; finding = tt; judged = λ t u. tt; room = tt; holds_on = λ t. refl; over = refl; upgrade = λ t h. refl; refused = tt }
-  row (LookNoWriter told) Full e n t = record { reading = refl; sharing = inr ((λ p t. refl), refl); starving = λ p s. refl; valued = λ u. refl; unturned = λ p a. refl; no_writer = λ p a b o. o; no_readers = λ p a b o. o; finding = tt; judged = λ t u. (refusal.Readers, refl, e.1); room = tt; holds_on = λ t. refl; over = refl; upgrade = λ t h. refl; refused = tt }
+  row (LookNoWriter told) Full e n t = record { reading = refl; sharing = inr ((λ p t. refl), refl); starving = λ p s. refl; valued = λ u. refl; unturned = λ p a. refl; no_writer = λ p a b o. o; no_readers = λ p a b o. o; finding = tt; judged = λ t u. (refusal.Readers, refl, (e.1, refl)); room = tt; holds_on = λ t. refl; over = refl; upgrade = λ t h. refl; refused = tt }
   row (LookNoWriter told) _ e n t = absurd e
   row AskNoWriter Yes e n t = record { reading = refl; sharing = inr ((λ p t. refl), refl); starving = λ p s. refl; valued = λ u. refl; unturned = λ p a. refl; no_writer = λ p a b o. asks_so p a b o; no_readers = λ p a b o. o; finding = tt; judged = λ t u. tt; room = tt; holds_on = λ t. refl; over = refl; upgrade = λ t h. refl; refused = tt }
   row AskNoWriter No e n t = record { reading = refl; sharing = inr ((λ p t. refl), refl); starving = λ p s. refl; valued = λ u. refl; unturned = λ p a. refl; no_writer = λ p a b o. o.1; no_readers = λ p a b o. o; finding = tt; judged = λ t u. refl; room = tt; holds_on = λ t. refl; over = refl; upgrade = refl; refused = tt }
@@ -278,7 +285,7 @@ module _ (memory : Bool) (l : RwLock) (v : ℕ) where
   row (Add true) Full e n t = record { reading = refl; sharing = inr ((λ p t. refl), refl); starving = λ p s. refl; valued = λ u. refl; unturned = λ p a. refl; no_writer = λ p a b o. o; no_readers = λ p a b o. o; finding = tt; judged = λ t u. tt; room = tt; holds_on = λ t. refl; over = refl; upgrade = λ t h. refl; refused = tt }
   row (Add true) _ e n t = absurd e
   row (Add false) Done e n t = record { reading = refl; sharing = inl (refl, λ p. refl); starving = λ p s. refl; valued = λ u. refl; unturned = λ p a. refl; no_writer = λ p a b o. o; no_readers = λ p a b o. o; finding = (refl, refl, e); judged = λ t u. (refl, refl); room = tt; holds_on = λ t. refl; over = refl; upgrade = tt; refused = tt }
-  row (Add false) Full e n t = record { reading = refl; sharing = inr ((λ p t. refl), refl); starving = λ p s. refl; valued = λ u. refl; unturned = λ p a. refl; no_writer = λ p a b o. o; no_readers = λ p a b o. o; finding = tt; judged = λ t u. (refusal.Readers, refl, e); room = tt; holds_on = λ t. refl; over = refl; upgrade = λ t h. refl; refused = tt }
+  row (Add false) Full e n t = record { reading = refl; sharing = inr ((λ p t. refl), refl); starving = λ p s. refl; valued = λ u. refl; unturned = λ p a. refl; no_writer = λ p a b o. o; no_readers = λ p a b o. o; finding = tt; judged = λ t u. (refusal.Readers, refl, (e, refl)); room = tt; holds_on = λ t. refl; over = refl; upgrade = λ t h. refl; refused = tt }
   row (Add false) _ e n t = absurd e
   row TryUpgrade Done e n t = record { reading = refl; sharing = inl (refl, λ p. refl); starving = λ p s. refl; valued = λ u. refl; unturned = λ p a. refl; no_writer = λ p a b o. o; no_readers = λ p a b o. o; finding = (refl, refl, e.1); judged = λ t u. (refl, refl); room = tt; holds_on = λ t. refl; over = refl; upgrade = tt; refused = tt }
   row TryUpgrade found.NotFree e n t = record { reading = refl; sharing = inr ((λ p t. refl), refl); starving = λ p s. refl; valued = λ u. refl; unturned = λ p a. refl; no_writer = λ p a b o. o; no_readers = λ p a b o. o; finding = tt; judged = λ t u. tt; room = tt; holds_on = λ t. refl; over = refl; upgrade = tt; refused = tt }

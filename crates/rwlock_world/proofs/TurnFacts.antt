@@ -43,11 +43,10 @@ use Rattle.rwlock_machine.proofs.Leads.{Led, Ends, steps_in_turn}
 use Rattle.rwlock_world.specs.declared.world.table.Sought.{Sought}
 use Rattle.rwlock_world.specs.Changes.{Change, ListName, gives_up}
 use Rattle.rwlock_world.specs.State.{World, told_in}
-use Rattle.rwlock_world.specs.Legal.{IsCause}
-use Rattle.rwlock_world.specs.Plans.{course_of, course_until, polls, tries, drops}
+use Rattle.rwlock_world.specs.Plans.{sought_at, course_of, course_until, polls, tries, drops}
 use Rattle.rwlock_world.specs.View.{is_reading, verdict, verdict_until, refused_by, seen}
-use Rattle.rwlock_world.proofs.Rows.{verdict_then, Room, keeps_what_it_has, TurnRow, turn_row}
-use Rattle.rwlock_world.proofs.Facts.{WaitsIn, Idle, JudgedAs, Facts, Known}
+use Rattle.rwlock_world.proofs.Rows.{verdict_then, meets, Room, keeps_what_it_has, TurnRow, turn_row}
+use Rattle.rwlock_world.proofs.Facts.{WaitsIn, CauseAs, Fitting, JudgedAs, Facts, Known}
 use Rattle.rwlock_world.proofs.TurnSteps.{TurnDid, TurnMoved, moved, left}
 use Rattle.rwlock_world.proofs.Views as view
 
@@ -104,6 +103,20 @@ released_free : (u : TurnPlace) (tn : TurnNext) → Releases tn u → holds u �
 released_free u (turn_next.Do a q) h = releasing_free u h
 released_free u (turn_next.End turn_end.GivenBack) h = out_free u (ap is_out h)
 released_free u (turn_next.End _) h = absurd h
+
+-- whoever is refused on its way to the turn seeks what needs it
+meets_turn : (pr : Purpose) (u : TurnPlace) (tn : TurnNext) → Takes tn u → (r : Refusal) → decided_then tn u ≡ Some (turn_end.Refused r) → meets (sought_at (place_after (after_lock pr (Turn tn)))) refusal.Starved ≡ true
+meets_turn purpose.UpgradableRead u (turn_next.Do a q) h r e = refl
+meets_turn purpose.Write u (turn_next.Do a q) h r e = refl
+meets_turn purpose.UpgradableRead u (turn_next.End turn_end.Got) h r e = absurd (cc)
+meets_turn purpose.Write u (turn_next.End turn_end.Got) h r e = absurd (cc)
+meets_turn purpose.UpgradableRead u (turn_next.End turn_end.Pending) h r e = absurd (cc)
+meets_turn purpose.Write u (turn_next.End turn_end.Pending) h r e = absurd (cc)
+meets_turn purpose.UpgradableRead u (turn_next.End (turn_end.Refused refusal.Memory)) h r e = refl
+meets_turn purpose.Write u (turn_next.End (turn_end.Refused refusal.Memory)) h r e = refl
+meets_turn purpose.UpgradableRead u (turn_next.End (turn_end.Refused refusal.Starved)) h r e = refl
+meets_turn purpose.Write u (turn_next.End (turn_end.Refused refusal.Starved)) h r e = refl
+meets_turn pr u (turn_next.End _) h r e = absurd h
 
 -- what a deed gives up, and that a join found room
 room_of : (memory : Bool) (d : Deed Change ListName) → ((list : ListName) → d ≡ does list joins → memory ≡ true) → Room memory d
@@ -175,7 +188,7 @@ module _ (m : Move) (l k : RwLock) (ss : List Stage) (os : List (Option Sought))
   }
 
   -- a refusal in the turn has its cause
-  cause : (x : Place) (f : Found) (c : Known m l k ss os x f) → in_no_writer x ≡ 0 → in_no_readers x ≡ 0 → k.no_writer ≡ l.no_writer → k.no_readers ≡ l.no_readers → (r : Refusal) → IsReason memory p l.turn k.turn (turn_end.Refused r) → IsCause old m new r
+  cause : (x : Place) (f : Found) (c : Known m l k ss os x f) → in_no_writer x ≡ 0 → in_no_readers x ≡ 0 → k.no_writer ≡ l.no_writer → k.no_readers ≡ l.no_readers → (r : Refusal) → IsReason memory p l.turn k.turn (turn_end.Refused r) → CauseAs m old new r
   cause x f c ew er nw nr refusal.Memory h = (h.0, omega (arith, h.1, c.laws.owners_no_writer p, c.laws.owners_no_readers p, c.same.standing_w, c.same.standing_r, ew, er), h.2, nr, nw)
   cause x f c ew er nw nr refusal.Starved h = view.how_many-starved l.turn.places ∙ h
   cause x f c ew er nw nr refusal.Readers h = absurd h
@@ -192,8 +205,8 @@ module _ (m : Move) (l k : RwLock) (ss : List Stage) (os : List (Option Sought))
   waits_then pr (turn_next.End (turn_end.Refused r)) h e w = absurd (cc)
 
   -- a poll that wasn't decided there
-  undecided : (x to : Place) (d : Deed Change ListName) (o : Option TurnEnd) → ((e : TurnEnd) → o ≡ Some e → IsReason memory p l.turn k.turn e) → ((r : Refusal) → IsReason memory p l.turn k.turn (turn_end.Refused r) → IsCause old m new r)
-      → (o ≡ Some turn_end.Pending → told_in k.turn.entries p ≡ Some Waiting → WaitsIn k p to) → ((r : Refusal) → o ≡ Some (turn_end.Refused r) → Idle x d r) → Judges x to d None (poll_says o)
+  undecided : (x to : Place) (d : Deed Change ListName) (o : Option TurnEnd) → ((e : TurnEnd) → o ≡ Some e → IsReason memory p l.turn k.turn e) → ((r : Refusal) → IsReason memory p l.turn k.turn (turn_end.Refused r) → CauseAs m old new r)
+      → (o ≡ Some turn_end.Pending → told_in k.turn.entries p ≡ Some Waiting → WaitsIn k p to) → ((r : Refusal) → o ≡ Some (turn_end.Refused r) → Fitting x to d r) → Judges x to d None (poll_says o)
   undecided x to d None why causes waits idle = tt
   undecided x to d (Some turn_end.Got) why causes waits idle = tt
   undecided x to d (Some turn_end.NotFree) why causes waits idle = tt
@@ -201,7 +214,7 @@ module _ (m : Move) (l k : RwLock) (ss : List Stage) (os : List (Option Sought))
   undecided x to d (Some turn_end.Pending) why causes waits idle = waits refl (why turn_end.Pending refl)
   undecided x to d (Some (turn_end.Refused r)) why causes waits idle = (r, refl, causes r (why (turn_end.Refused r) refl), idle r refl)
 
-  polled : (x : Place) (pr : Purpose) (tn : TurnNext) (decided : Option TurnEnd) (did : TurnDid memory p decided tn l.turn k.turn) (mv : TurnMoved p l k old did.legal.deed) → IsPolls decided → Takes tn u → ((r : Refusal) → IsReason memory p l.turn k.turn (turn_end.Refused r) → IsCause old m new r) → ((r : Refusal) → decided ≡ None → decided_then tn u ≡ Some (turn_end.Refused r) → Idle x mv.deed r)
+  polled : (x : Place) (pr : Purpose) (tn : TurnNext) (decided : Option TurnEnd) (did : TurnDid memory p decided tn l.turn k.turn) (mv : TurnMoved p l k old did.legal.deed) → IsPolls decided → Takes tn u → ((r : Refusal) → IsReason memory p l.turn k.turn (turn_end.Refused r) → CauseAs m old new r) → ((r : Refusal) → decided ≡ None → decided_then tn u ≡ Some (turn_end.Refused r) → Fitting x (place_after (after_lock pr (Turn tn))) mv.deed r)
       → Judges x (place_after (after_lock pr (Turn tn))) mv.deed (refused_by decided) (verdict_then v polls u (after_lock pr (Turn tn)))
   polled x pr tn decided did mv dec takes causes idle =
       let to : Place = place_after (after_lock pr (Turn tn)) in
@@ -232,9 +245,11 @@ module _ (m : Move) (l k : RwLock) (ss : List Stage) (os : List (Option Sought))
   on_hold decided n did mv (inr (inr h)) = let P : Option TurnEnd → Type 0 = λ o. keeps_what_it_has (refused_by o) mv.deed ≡ true in subst P (sym h.1) (judged_so (refused h.0) mv.deed)
 
   -- a refusal for memory on the way does nothing else
-  idle_there : (pr : Purpose) (n : TurnNext) (did : TurnDid memory p (decision t) n l.turn k.turn) (mv : TurnMoved p l k old did.legal.deed) (r : Refusal) → decision t ≡ None → decided_then n u ≡ Some (turn_end.Refused r) → Idle (place.TakeTurn pr) mv.deed r
-  idle_there pr n did mv refusal.Memory e h = (mv.idle (did.legal.refused_idly e h), refl)
-  idle_there pr n did mv _ e h = tt
+  idle_there : (pr : Purpose) (n : TurnNext) (did : TurnDid memory p (decision t) n l.turn k.turn) (mv : TurnMoved p l k old did.legal.deed) (r : Refusal) → decision t ≡ None → decided_then n u ≡ Some (turn_end.Refused r) → Takes n u → Fitting (place.TakeTurn pr) (place_after (after_lock pr (Turn n))) mv.deed r
+  idle_there pr n did mv refusal.Memory e h takes = (mv.idle (did.legal.refused_idly e h), refl)
+  idle_there pr n did mv refusal.Starved e h takes = meets_turn pr u n takes refusal.Starved h
+  idle_there pr n did mv refusal.Readers e h takes = absurd (did.legal.reason (turn_end.Refused refusal.Readers) e h)
+  idle_there pr n did mv _ e h takes = tt
 
   begun : (c : LockCall) (n : TurnNext) → TurnBegins memory p c n l.turn k.turn → TurnDid memory p (decided_by c) n l.turn k.turn
   begun c n b = record { legal = b.legal; fair = b.fair }
@@ -259,7 +274,7 @@ module _ (m : Move) (l k : RwLock) (ss : List Stage) (os : List (Option Sought))
       let row = turn_row v u (place.TakeTurn pr) (Turn tn) s e in
       let did = gone_on tn o in
       let mv = moved m l k ss os ts ps v (place.TakeTurn pr) (Turn tn) c afterwards row.sharing (decision t) tn did refl in
-      facts (place.TakeTurn pr) (Turn tn) c row (decision t) tn did mv (on_hold (decision t) tn did mv (taking_decided t fit)) c.no_writer c.no_readers (polled (place.TakeTurn pr) pr tn (decision t) did mv (taking_decided t fit) e (cause (place.TakeTurn pr) (Turn tn) c refl refl c.no_writer c.no_readers) (idle_there pr tn did mv))
+      facts (place.TakeTurn pr) (Turn tn) c row (decision t) tn did mv (on_hold (decision t) tn did mv (taking_decided t fit)) c.no_writer c.no_readers (polled (place.TakeTurn pr) pr tn (decision t) did mv (taking_decided t fit) e (cause (place.TakeTurn pr) (Turn tn) c refl refl c.no_writer c.no_readers) (λ r n y. idle_there pr tn did mv r n y e))
   on_turn (place.TakeTurn pr) _ c s o e fit = absurd o
   on_turn (place.TryTurn pr) (Turn tn) c s o e fit =
       let row = turn_row v u (place.TryTurn pr) (Turn tn) s e in

@@ -131,11 +131,19 @@ pub record Waits (m : Move) (a : Answer) (new : World) : Type 0 where
   pub waiting : a ≡ answer.Pending → told_in (list_for (sought_by new m.party) new.state.turn m.party new) m.party ≡ Some Waiting
   pub not_before : (within : Within) → standing_of new m.party ≢ inside within (Some answer.Pending)
 
--- Why a call may be refused: a join found no memory, for the move's input said so; there are as many starved parties, or readers, as there may be; or the future had been ready before.
+-- Which limit a call may meet, by what it seeks: a read or an upgradable read that of the readers, an upgradable read or a write that of the starved.
+abbrev pub may_meet : Option Right → Refusal → Bool
+may_meet (Some read) refusal.Readers = true
+may_meet (Some upgradable) refusal.Readers = true
+may_meet (Some upgradable) refusal.Starved = true
+may_meet (Some write) refusal.Starved = true
+may_meet s r = false
+
+-- Why a call may be refused: a join found no memory, for the move's input said so; it seeks what there is a limit for, and there are as many starved parties, or readers, as there may be; or the future had been ready before.
 abbrev pub IsCause : World → Move → World → Refusal → Type 0
 IsCause old m new refusal.Memory = ((inputs_of m.what).memory ≡ false) × (entries_in old m.party ≡ 0) × (new.turn_list ≡ old.turn_list) × (new.no_readers ≡ old.no_readers) × (new.no_writer ≡ old.no_writer)
-IsCause old m new refusal.Starved = how_many old.state.starved ≡ old.starved_limit
-IsCause old m new refusal.Readers = old.readers_limit ≤ how_many_read old
+IsCause old m new refusal.Starved = (how_many old.state.starved ≡ old.starved_limit) × (may_meet (sought_by new m.party) refusal.Starved ≡ true)
+IsCause old m new refusal.Readers = (old.readers_limit ≤ how_many_read old) × (may_meet (sought_by new m.party) refusal.Readers ≡ true)
 IsCause old m new refusal.Finished = new ≡ old
 IsCause old m new _ = ⊥
 
