@@ -1,0 +1,3 @@
+pub mod Never
+pub mod Mutex
+pub mod ReadWrite

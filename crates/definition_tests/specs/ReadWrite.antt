@@ -1,0 +1,134 @@
+-- Runs of a read-write lock that no user would accept. Each record is one wrong run: what its step would be, if it were legal.
+use Rattle.std.specs.Prelude.{◌≡◌, ◌≢◌, ℕ, Bool, true, false, Option, Some, None}
+use Rattle.lock_world.specs.declared.moves.Answer.{Answer}
+use Rattle.lock_world.specs.declared.moves.Answer.TheVariants as answer
+use Rattle.lock_world.specs.declared.moves.Call.TheVariants as call
+use Rattle.lock_world.specs.declared.moves.Inputs.{Inputs}
+use Rattle.lock_world.specs.declared.moves.Move.{Move}
+use Rattle.lock_world.specs.declared.moves.What.TheVariants.{Begin, Go}
+use Rattle.lock_world.specs.declared.refusal.Refusal.TheVariants.{Memory, Readers, Starved}
+use Rattle.lock_world.specs.declared.standing.Kind.TheVariants.{Downgrade}
+use Rattle.lock_world.specs.declared.standing.Rest.{Rest}
+use Rattle.lock_world.specs.declared.standing.Rest.TheVariants.{Pending, Holding}
+use Rattle.lock_world.specs.declared.standing.Within.{Within}
+use Rattle.lock_world.specs.Rights.{read, write}
+use Rattle.lock_world.specs.Standings.{outside, inside, decision, is_possible, refused}
+use Rattle.rwlock_world.specs.Legal.{DecidesOn, list_for, may_read, is_first, IsTryWithTurn, Legal, AnswersAtOnce}
+use Rattle.rwlock_world.specs.State.{nobody, passes, waits_to_write, World, standing_of, sought_by, reads, told_in, is_upgrader}
+
+-- A move of a party, and what it leads to.
+pub record Step : Type 0 where
+  pub old : World
+  pub move : Move
+  pub answer : Answer
+  pub new : World
+
+abbrev pub IsLegal : Step → Type 0
+IsLegal s = Legal s.old s.move s.answer s.new
+
+abbrev pub IsAtOnce : Step → Type 0
+IsAtOnce s = AnswersAtOnce s.old s.move s.answer s.new
+
+-- A try to read is answered None though it may read.
+pub record TriesInVain : Type 0 where
+  pub step : Step
+  pub inputs : Inputs
+  pub tries : step.move.what ≡ Begin call.TryRead inputs
+  pub free : may_read step.old ≡ true
+  pub none : step.answer ≡ answer.None
+  pub legal : IsAtOnce step
+
+-- A first poll of a read that may begin is pending.
+pub record ReadsUnready : Type 0 where
+  pub step : Step
+  pub first : is_first step.old step.move read ≡ true
+  pub free : may_read step.old ≡ true
+  pub pending : step.answer ≡ answer.Pending
+  pub legal : IsAtOnce step
+
+-- A party is answered Pending and doesn't stand in the list of what it wants: nobody will ever wake it.
+pub record WaitsUnlisted : Type 0 where
+  pub step : Step
+  pub pending : step.answer ≡ answer.Pending
+  pub unlisted : told_in (list_for (sought_by step.new step.move.party) step.new.state.turn step.move.party step.new) step.move.party ≡ None
+  pub legal : IsLegal step
+
+-- A party's call is decided on Pending while it goes on, so that it may leave its list before it ends.
+pub record PendsTooEarly : Type 0 where
+  pub step : Step
+  pub within : Within
+  pub decided : standing_of step.new step.move.party ≡ inside within (Some answer.Pending)
+  pub legal : IsLegal step
+
+-- A call is refused for memory at its first step, which is no join.
+pub record RefusedAtFirst : Type 0 where
+  pub step : Step
+  pub rest : Rest
+  pub begins : standing_of step.old step.move.party ≡ outside rest
+  pub refused : DecidesOn step.old step.move step.answer step.new (refused Memory)
+  pub legal : IsLegal step
+
+-- A step changes who has the turn, and decides that its call is refused for memory.
+pub record RefusedHavingMoved : Type 0 where
+  pub step : Step
+  pub moved : step.new.state.turn ≢ step.old.state.turn
+  pub refused : DecidesOn step.old step.move step.answer step.new (refused Memory)
+  pub legal : IsLegal step
+
+-- A pending read holds the writer's bit and the turn.
+pub record ReadsWithTheBit : Type 0 where
+  pub step : Step
+  pub pending : standing_of step.new step.move.party ≡ outside Pending
+  pub seeks : sought_by step.new step.move.party ≡ Some read
+  pub waits : step.new.state.turn ≡ waits_to_write step.move.party
+  pub legal : IsLegal step
+
+-- A party takes the turn, and leaves it in a call that isn't decided.
+pub record LetsGoUndecided : Type 0 where
+  pub step : Step
+  pub within : Within
+  pub inputs : Inputs
+  pub undecided : standing_of step.old step.move.party ≡ inside within None
+  pub goes : step.move.what ≡ Go inputs
+  pub had : step.old.state.turn ≡ passes step.move.party
+  pub left : step.new.state.turn ≡ nobody
+  pub legal : IsLegal step
+
+-- A downgrade frees the lock and takes it again as a reader, so that another writer comes between.
+pub record DowngradesThroughNothing : Type 0 where
+  pub step : Step
+  pub within : Within
+  pub to_come : Answer
+  pub downgrades : standing_of step.new step.move.party ≡ inside within (Some to_come)
+  pub kind : within.kind ≡ Downgrade
+  pub reads_not : reads step.new step.move.party ≡ false
+  pub legal : IsLegal step
+
+-- A guard is told to be an upgrade's, so that a later refusal would leave its party the turn.
+pub record WriterIsUpgrade : Type 0 where
+  pub step : Step
+  pub holds : standing_of step.new step.move.party ≡ outside Holding
+  pub upgrade : is_upgrader step.new step.move.party ≡ true
+  pub legal : IsLegal step
+
+-- A try to write that has the turn and finds a reader goes on, to be granted later.
+pub record TriesOn : Type 0 where
+  pub step : Step
+  pub tries : IsTryWithTurn step.old step.move write
+  pub goes : is_possible step.answer ≡ true
+  pub undecided : decision step.answer (standing_of step.new step.move.party) ≡ None
+  pub legal : IsAtOnce step
+
+-- A write is refused because readers are at their limit.
+pub record WriteMeetsReaders : Type 0 where
+  pub step : Step
+  pub seeks : sought_by step.new step.move.party ≡ Some write
+  pub refused : DecidesOn step.old step.move step.answer step.new (refused Readers)
+  pub legal : IsLegal step
+
+-- A read is refused because the starved are at theirs.
+pub record ReadMeetsStarved : Type 0 where
+  pub step : Step
+  pub seeks : sought_by step.new step.move.party ≡ Some read
+  pub refused : DecidesOn step.old step.move step.answer step.new (refused Starved)
+  pub legal : IsLegal step
