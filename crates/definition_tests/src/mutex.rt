@@ -5,16 +5,15 @@ ghost use Rattle.definition_tests.specs.Mutex.{TriesInVain, PollsUnready, WaitsU
 
 /// Each clause says of one wrong run that it isn't legal.
 fn wrong_runs()
-    ensures tries_in_vain { Never(TriesInVain) }
-    ensures polls_unready { Never(PollsUnready) }
-    ensures waits_unlisted { Never(WaitsUnlisted) }
-    ensures waits_unmarked { Never(WaitsUnmarked) }
-    ensures pends_too_early { Never(PendsTooEarly) }
-    ensures refused_at_first { Never(RefusedAtFirst) }
-    ensures refused_having_taken { Never(RefusedHavingTaken) }
-    ensures lets_go_undecided { Never(LetsGoUndecided) }
-    ensures passes_over_in_vain { Never(PassesOverInVain) }
-    ensures starves_unasked { Never(StarvesUnasked) }
-    ensures keeps_its_told { Never(KeepsItsTold) }
-{
-}
+    ensures tries_in_vain { Never (TriesInVain) }
+    ensures polls_unready { Never (PollsUnready) }
+    ensures waits_unlisted { Never (WaitsUnlisted) }
+    ensures waits_unmarked { Never (WaitsUnmarked) }
+    ensures pends_too_early { Never (PendsTooEarly) }
+    ensures refused_at_first { Never (RefusedAtFirst) }
+    ensures refused_having_taken { Never (RefusedHavingTaken) }
+    ensures lets_go_undecided { Never (LetsGoUndecided) }
+    ensures passes_over_in_vain { Never (PassesOverInVain) }
+    ensures starves_unasked { Never (StarvesUnasked) }
+    ensures keeps_its_told { Never (KeepsItsTold) }
+{}

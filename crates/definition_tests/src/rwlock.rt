@@ -5,18 +5,17 @@ ghost use Rattle.definition_tests.specs.ReadWrite.{TriesInVain, ReadsUnready, Wa
 
 /// Each clause says of one wrong run that it isn't legal.
 fn wrong_runs()
-    ensures tries_in_vain { Never(TriesInVain) }
-    ensures reads_unready { Never(ReadsUnready) }
-    ensures waits_unlisted { Never(WaitsUnlisted) }
-    ensures pends_too_early { Never(PendsTooEarly) }
-    ensures refused_at_first { Never(RefusedAtFirst) }
-    ensures refused_having_moved { Never(RefusedHavingMoved) }
-    ensures reads_with_the_bit { Never(ReadsWithTheBit) }
-    ensures lets_go_undecided { Never(LetsGoUndecided) }
-    ensures downgrades_through_nothing { Never(DowngradesThroughNothing) }
-    ensures writer_is_upgrade { Never(WriterIsUpgrade) }
-    ensures tries_on { Never(TriesOn) }
-    ensures write_meets_readers { Never(WriteMeetsReaders) }
-    ensures read_meets_starved { Never(ReadMeetsStarved) }
-{
-}
+    ensures tries_in_vain { Never (TriesInVain) }
+    ensures reads_unready { Never (ReadsUnready) }
+    ensures waits_unlisted { Never (WaitsUnlisted) }
+    ensures pends_too_early { Never (PendsTooEarly) }
+    ensures refused_at_first { Never (RefusedAtFirst) }
+    ensures refused_having_moved { Never (RefusedHavingMoved) }
+    ensures reads_with_the_bit { Never (ReadsWithTheBit) }
+    ensures lets_go_undecided { Never (LetsGoUndecided) }
+    ensures downgrades_through_nothing { Never (DowngradesThroughNothing) }
+    ensures writer_is_upgrade { Never (WriterIsUpgrade) }
+    ensures tries_on { Never (TriesOn) }
+    ensures write_meets_readers { Never (WriteMeetsReaders) }
+    ensures read_meets_starved { Never (ReadMeetsStarved) }
+{}

@@ -1,5 +1,5 @@
 -- What a whole call promises beside its end, and beside what a solo poll does: by what each of its steps does to the machine.
-use Rattle.std.proofs.Common.{◌≡◌, ◌≢◌, ℕ, ◌<◌, ◌⊎◌, inl, inr, Bool, true, false, zero, suc, List, [], ◌∷◌, length, nat_lt, Option, Some, None, IsSomeAnd, refl, arith, ap, sym, ◌∙◌, subst}
+use Rattle.std.proofs.Common.{◌≡◌, ◌≢◌, ℕ, ◌<◌, ◌⊎◌, inl, inr, Bool, true, false, zero, suc, List, [], ◌∷◌, length, nat_lt, Option, Some, None, refl, arith, ap, sym, ◌∙◌, subst}
 use Rattle.std.specs.List.{sum_by}
 use Rattle.std.proofs.lemmas.List.Sums.{sum_by-cons}
 use Rattle.lock_event.specs.declared.event.Entry.{Entry}
@@ -14,7 +14,6 @@ use Rattle.lock_world.specs.declared.moves.Inputs.{Inputs}
 use Rattle.lock_world.specs.declared.moves.Move.{Move}
 use Rattle.lock_world.specs.declared.moves.What.{What}
 use Rattle.lock_world.specs.declared.moves.What.TheVariants.{Begin, Go}
-use Rattle.lock_world.specs.declared.refusal.Refusal.TheVariants as refusal
 use Rattle.lock_world.specs.declared.standing.Kind.{Kind}
 use Rattle.lock_world.specs.declared.standing.Kind.TheVariants as kind
 use Rattle.lock_world.specs.declared.standing.Rest.TheVariants as rest
@@ -49,7 +48,7 @@ use Rattle.mutex_world.specs.Plans.{plan_of, answer_of, stage_at, goes_with, wit
 use Rattle.mutex_world.specs.Runs.{Runs, HoldsWell, rights_after}
 use Rattle.mutex_world.specs.State.{World, standing_of, is_starved, is_free}
 use Rattle.mutex_world.specs.Steps.{Stands, Steps as Moved}
-use Rattle.mutex_world.specs.Table.{Table, Steps, Does, IsStep, plan_in}
+use Rattle.mutex_world.specs.Table.{Table, Steps, Does, plan_in}
 use Rattle.mutex_world.proofs.BoundSeen.{pending_stage, waits_listed, poll_seen}
 use Rattle.mutex_world.proofs.Events.{known_move}
 use Rattle.mutex_world.proofs.Owns as owns

@@ -275,9 +275,9 @@ module _ (l : RwLock) (ss : List Stage) (os : List (Option Sought)) (v : ℕ) (l
     (λ h. apart_up w.state.turn q (share_of (place_at l.places q)) (turn_only q (has_as w.state.turn q upgrading h)) (λ k. u.share.0 (ap share_of (sym e) ∙ k)) h),
     (λ h. apart_write w.state.turn q (share_of (place_at l.places q)) (turn_only q (has_as w.state.turn q writing h)) (λ k. u.share.1 (ap share_of (sym e) ∙ k)) h),
     (λ h.
-      let here = waits_as w.state.turn q (share_of (place_at l.places q)) (turn_only q (has_as w.state.turn q waiting h)) h in
-      let P : Option (Option Sought) → Type 0 = λ o. agrees o (seeking os q) ≡ true in
-      seeks_just q (Some sought.Write) write refl (subst P (u.seeks (ap share_of (sym e) ∙ here)) a)),
+        let here = waits_as w.state.turn q (share_of (place_at l.places q)) (turn_only q (has_as w.state.turn q waiting h)) h in
+        let P : Option (Option Sought) → Type 0 = λ o. agrees o (seeking os q) ≡ true in
+        seeks_just q (Some sought.Write) write refl (subst P (u.seeks (ap share_of (sym e) ∙ here)) a)),
   )
 
   pub undecided : (x : Place) (t : TurnPlace) → is_inside x ≡ true → verdict v x t ≡ None → IsUndecided x

@@ -10,7 +10,7 @@ use Rattle.lock_world.specs.declared.refusal.Refusal.{Refusal}
 use Rattle.lock_world.specs.declared.refusal.Refusal.TheVariants as refusal
 use Rattle.lock_world.specs.declared.standing.Stage.{Stage}
 use Rattle.lock_world.specs.Standings.{inputs_of, refused}
-use Rattle.lock_world.specs.Steps.{Deed, nothing, changes, does, joins}
+use Rattle.lock_world.specs.Steps.{Deed, changes, does, joins}
 use Rattle.mutex_machine.specs.declared.program.Place.{Place as TurnPlace}
 use Rattle.mutex_machine.specs.declared.program.LockCall.{LockCall}
 use Rattle.mutex_machine.specs.declared.program.LockCall.TheVariants as turn_call

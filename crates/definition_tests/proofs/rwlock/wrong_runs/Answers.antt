@@ -1,11 +1,11 @@
 -- No wrong run of a read-write lock is legal.
-use Rattle.std.proofs.Common.{◌≡◌, ◌≢◌, ℕ, ◌||◌, if◌then◌else◌, Bool, true, false, Option, Some, None, refl, ap, sym, ◌∙◌, subst, inl, inr}
+use Rattle.std.proofs.Common.{◌≡◌, ℕ, ◌||◌, true, false, Option, Some, None, refl, ap, sym, ◌∙◌, subst, inl, inr}
 use Rattle.std.proofs.lemmas.Bool.{false≢true, true≢false}
 use Rattle.lock_world.specs.declared.moves.Answer.{Answer}
 use Rattle.lock_world.specs.declared.moves.Answer.TheVariants as answer
 use Rattle.lock_world.specs.declared.moves.Move.{Move}
 use Rattle.lock_world.specs.declared.moves.What.{What}
-use Rattle.lock_world.specs.declared.moves.What.TheVariants.{Begin, Go}
+use Rattle.lock_world.specs.declared.moves.What.TheVariants.{Go}
 use Rattle.lock_world.specs.declared.refusal.Refusal.{Refusal}
 use Rattle.lock_world.specs.declared.refusal.Refusal.TheVariants as refusal
 use Rattle.lock_world.specs.declared.standing.Rest.TheVariants.{Pending, Holding}
@@ -15,11 +15,10 @@ use Rattle.lock_world.specs.Refusals.{number_of}
 use Rattle.lock_world.specs.Rights.{Right, read, write}
 use Rattle.lock_world.specs.Standings.{Standing, outside, inside, is_decided, is_possible}
 use Rattle.lock_world.specs.Steps.{Deed, nothing, changes, does}
-use Rattle.lock_world.proofs.Equations.{some_none, none_some, outside_inside}
+use Rattle.lock_world.proofs.Equations.{none_some, outside_inside}
 use Rattle.rwlock_world.specs.Changes.{Change, ListName, takes_turn, leaves_turn, starves, recovers, begins_to_read, stops_reading, becomes_upgradable, stops_upgradable, begins_to_wait, begins_to_write, upgrades, upgrades_at_once, unmarks, downgrades, downgrades_to_upgradable, puts, turn_after, gives_up}
 use Rattle.rwlock_world.specs.Legal.{may_meet, HasItsOwn, IsCause}
-use Rattle.rwlock_world.specs.State.{Turn, nobody, passes, waits_to_write, HasTurn, State, World, standing_of, sought_by, reads, is_upgrader}
-use Rattle.definition_tests.specs.ReadWrite.{TriesInVain, ReadsUnready, WaitsUnlisted, PendsTooEarly, RefusedAtFirst, RefusedHavingMoved, ReadsWithTheBit, LetsGoUndecided, DowngradesThroughNothing, WriterIsUpgrade, TriesOn, WriteMeetsReaders, ReadMeetsStarved}
+use Rattle.rwlock_world.specs.State.{Turn, nobody, passes, waits_to_write, HasTurn, State, World, standing_of, sought_by}
 use Rattle.definition_tests.proofs.rwlock.wrong_runs.Goals as goal
 
 none_possible : (a : Answer) → a ≡ answer.None → is_possible a ≡ true
