@@ -1,1 +1,3 @@
 pub mod Histories
+pub mod Numbers
+pub mod Ledgers

@@ -1,6 +1,6 @@
 //! A World with the history of its moves.
 
-ghost use Rattle.std.specs.Prelude.{◌≡◌, ◌<◌, ◌≤◌, [], ◌∷◌, ◌++◌, IfOk, OnErr};
+ghost use Rattle.std.specs.Prelude.{◌≡◌, ◌+◌, ◌<◌, ◌≤◌, [], ◌∷◌, ◌++◌, length, IsOk, IfOk, OnOk, OnErr};
 
 use lock_core::{Answer, AnyWorld, Memory, Move};
 use std::alloc::Global;
@@ -18,11 +18,12 @@ pub struct Book<W: AnyWorld> {
 }
 
 impl<W: AnyWorld> Model for Book<W> {
+    ghost use Rattle.std.specs.Prelude.{vec_capacity};
     ghost use Rattle.lock_audit.specs.Histories.{Pages, Replays};
 
     ghost Value = { Pages W };
 
-    ghost view = { λ b. record { world = b.world; history = b.history.items } };
+    ghost view = { λ b. record { world = b.world; history = b.history.items; room = vec_capacity b.history } };
 
     ghost invariant = { λ b. Replays W.legal (W.opening b.world) b.history.items b.world };
 }
@@ -30,11 +31,13 @@ impl<W: AnyWorld> Model for Book<W> {
 ghost use Rattle.lock_audit.specs.Histories.{Replays};
 
 impl<W: AnyWorld> Book<W> {
-    /// A book of a World as its constructor left it, with no history.
+    /// A book of a World as its constructor left it, with no history. It takes no memory yet: it has room
+    /// for no move (`room`).
     pub fn new(alloc: Global, world: W) -> Book<W>
         requires { world ≡ W.opening world }
         ensures world { result.world ≡ world }
         ensures history { result.history ≡ [] }
+        ensures room { result.room ≡ 0 }
     {
         Book {
             world,
@@ -42,12 +45,34 @@ impl<W: AnyWorld> Book<W> {
         }
     }
 
-    /// Makes a move and records it with its answer. Refused, for memory for the record alone, nothing is
-    /// recorded and nothing stepped, and the same move can be made again.
+    /// Makes room for `n` moves more than are recorded now (`room`): while the history is shorter than
+    /// that, [`Book::record`] isn't refused.
+    ///
+    /// [`Memory`] comes only where that room was missing (`succeeds`) and memory was refused. The book then
+    /// is as it was (`refused`). World and history stay in any case (`world`, `history`), and room never
+    /// shrinks (`kept`).
+    pub fn reserve(&mut self, n: usize) -> Result<(), Memory>
+        ensures world { self.new.world ≡ self.old.world }
+        ensures history { self.new.history ≡ self.old.history }
+        ensures room { OnOk result (length self.old.history + n ≤ self.new.room) }
+        ensures kept { self.old.room ≤ self.new.room }
+        ensures succeeds { length self.old.history + n ≤ self.old.room → IsOk result }
+        ensures refused { OnErr result (self.new ≡ self.old) }
+    {
+        self.history.reserve(n).map_err(|_| Memory)
+    }
+
+    /// Makes a move and records it with its answer (`recorded`, `legal`).
+    ///
+    /// [`Memory`] comes only where the history is as long as its room (`succeeds`) and memory for it was
+    /// refused. Then nothing is recorded and nothing stepped (`refused`), and the same move can be made
+    /// again. Room never shrinks (`room`).
     pub fn record(&mut self, m: Move) -> Result<Answer, Memory>
         ensures recorded { IfOk result (λ a. self.new.history ≡ self.old.history ++ (m, a) ∷ []) }
         ensures legal { IfOk result (λ a. W.legal self.old.world m a self.new.world) }
         ensures refused { OnErr result (self.new ≡ self.old) }
+        ensures succeeds { length self.old.history < self.old.room → IsOk result }
+        ensures room { self.old.room ≤ self.new.room }
     {
         if self.history.reserve(1).is_err() {
             return Err(Memory);

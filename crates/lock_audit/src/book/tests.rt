@@ -1,63 +1,11 @@
 ghost use Rattle.std.specs.Prelude.{◌≡◌};
-ghost use Rattle.mutex_world.specs.State.{opening_of};
 ghost use Rattle.rwlock_world.specs.State.{opening_of as rwlock_opening_of};
 
 use super::*;
+use crate::rows::{INPUTS, STARVING, begin, dropped_waiter, go, world};
 use lock_core::mutex::World;
-use lock_core::{Call, Got, Inputs, Made, Mark, What, rwlock};
+use lock_core::{Call, Got, Inputs, Mark, What, rwlock};
 use std::process::Abort;
-
-const INPUTS: Inputs = Inputs {
-    memory: true,
-    starving: false,
-    made: Made::Pending,
-};
-
-fn begin(party: u32, call: Call) -> Move {
-    Move {
-        party,
-        what: What::Begin(call, INPUTS),
-    }
-}
-
-fn go(party: u32) -> Move {
-    Move {
-        party,
-        what: What::Go(INPUTS),
-    }
-}
-
-const ZERO: Got = Got::Value(0);
-
-/// Two parties wait for a lock. It is released, the first one is dropped, and the second one takes it.
-fn dropped_waiter() -> [(Move, Answer); 14] {
-    [
-        (begin(0, Call::Lock), Answer::Ready(ZERO)),
-        (begin(1, Call::Lock), Answer::Stepped),
-        (go(1), Answer::Stepped),
-        (go(1), Answer::Stepped),
-        (go(1), Answer::Pending),
-        (begin(2, Call::Lock), Answer::Stepped),
-        (go(2), Answer::Stepped),
-        (go(2), Answer::Stepped),
-        (go(2), Answer::Pending),
-        (begin(0, Call::Drop), Answer::Stepped),
-        (go(0), Answer::GivenBack),
-        (begin(1, Call::Drop), Answer::GivenBack),
-        (begin(2, Call::Poll), Answer::Stepped),
-        (go(2), Answer::Ready(ZERO)),
-    ]
-}
-
-/// A World, made again once where memory was refused.
-fn world(rt: &(impl AllocGlobal + Abort)) -> World
-    ensures { result ≡ opening_of result }
-{
-    match World::new(rt.alloc(), 3, 0) {
-        Ok(world) => world,
-        Err(_) => World::new(rt.alloc(), 3, 0).expect(rt, "only one allocation is refused"),
-    }
-}
 
 /// Records a move, once more where memory was refused; then nothing had changed.
 fn record<W: AnyWorld>(rt: &impl Abort, book: &mut Book<W>, m: Move) -> Answer {
@@ -112,6 +60,19 @@ fn expect_run(rt: &(impl AllocGlobal + Abort), world: &mut World, rows: &[(Move,
 }
 
 #[test]
+fn no_record_is_refused_within_the_room_that_was_reserved(rt: HostRuntime) {
+    let mut book = Book::new(rt.alloc(), world(&rt));
+    if book.reserve(14).is_err() {
+        book.reserve(14)
+            .expect(&rt, "only one allocation is refused");
+    }
+    for (m, answer) in dropped_waiter() {
+        assert_eq!(rt; book.record(m), Ok(answer), "{m:?}");
+    }
+    assert_eq!(rt; book.history(), dropped_waiter().as_slice());
+}
+
+#[test]
 fn a_run_gives_the_same_answers(rt: HostRuntime) {
     let mut world = world(&rt);
     expect_run(&rt, &mut world, &dropped_waiter());
@@ -151,4 +112,79 @@ fn a_book_takes_any_world(rt: HostRuntime) {
     ];
     expect_record(&rt, &mut book, &rows);
     assert_eq!(rt; book.world().readers(), 0);
+}
+
+/// Two parties wait for a free lock, the second one notified and the first one starved by a try that came
+/// between. Of as many polls of a notified party as the list has entries, the second one takes the lock.
+const SOLO_POLLS: [(u32, Call, Inputs, Answer); 9] = [
+    (0, Call::Lock, INPUTS, Answer::Ready(Got::Value(7))),
+    (1, Call::Lock, INPUTS, Answer::Pending),
+    (2, Call::Lock, INPUTS, Answer::Pending),
+    (0, Call::Drop, INPUTS, Answer::GivenBack),
+    (0, Call::TryLock, INPUTS, Answer::Granted(Got::Value(7))),
+    (1, Call::Poll, STARVING, Answer::Pending),
+    (0, Call::Drop, INPUTS, Answer::GivenBack),
+    (2, Call::Poll, INPUTS, Answer::Pending),
+    (1, Call::Poll, INPUTS, Answer::Ready(Got::Value(7))),
+];
+
+/// Records a whole call, step by step, and gives its last answer.
+fn record_whole(
+    rt: &impl Abort,
+    book: &mut Book<World>,
+    party: u32,
+    call: Call,
+    inputs: Inputs,
+) -> Answer {
+    let mut what = What::Begin(call, inputs);
+    for _ in 0..32 {
+        match record(rt, book, Move { party, what }) {
+            Answer::Stepped => what = What::Go(inputs),
+            answer => return answer,
+        }
+    }
+    Answer::Stepped
+}
+
+/// The moves of a history.
+fn moves_of(rt: &(impl AllocGlobal + Abort), history: &[(Move, Answer)]) -> Vec<Move> {
+    let mut moves = Vec::new(rt.alloc());
+    if moves.reserve(history.len()).is_err() {
+        moves
+            .reserve(history.len())
+            .expect(rt, "only one allocation is refused");
+    }
+    for (m, _) in history {
+        moves.push(*m).expect(rt, "there is room");
+    }
+    moves
+}
+
+/// A World is run through the moves of a history, once more where memory was refused, and answers as it did.
+fn expect_same_run(rt: &(impl AllocGlobal + Abort), world: &mut World, history: &[(Move, Answer)]) {
+    let moves = moves_of(rt, history);
+    let answers = match world.run(rt.alloc(), moves.as_slice()) {
+        Ok(answers) => answers,
+        Err(Memory) => {
+            let again = world.run(rt.alloc(), moves.as_slice());
+            again.expect(rt, "only one allocation is refused")
+        }
+    };
+    assert_eq!(rt; answers.len(), history.len());
+    for ((m, recorded), answer) in history.iter().zip(answers.iter()) {
+        assert_eq!(rt; *answer, *recorded, "{m:?}");
+    }
+}
+
+#[test]
+fn a_try_and_solo_polls_are_recorded_and_run(rt: HostRuntime) {
+    let mut book = Book::new(rt.alloc(), world(&rt));
+    for (party, call, inputs, answer) in SOLO_POLLS {
+        let given = record_whole(&rt, &mut book, party, call, inputs);
+        assert_eq!(rt; given, answer, "{call:?} of {party}");
+    }
+    assert_world(&rt, book.world(), (true, 1));
+    let mut run = world(&rt);
+    expect_same_run(&rt, &mut run, book.history());
+    assert_world(&rt, &run, (true, 1));
 }

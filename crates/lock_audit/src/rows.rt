@@ -1,0 +1,66 @@
+//! Moves with their answers, and the World that they are made on, for the tests of both books.
+
+ghost use Rattle.std.specs.Prelude.{◌≡◌};
+ghost use Rattle.mutex_world.specs.State.{opening_of};
+
+use lock_core::mutex::World;
+use lock_core::{Answer, Call, Got, Inputs, Made, Move, What};
+use std::process::Abort;
+
+pub const INPUTS: Inputs = Inputs {
+    memory: true,
+    starving: false,
+    made: Made::Pending,
+};
+
+pub const STARVING: Inputs = Inputs {
+    starving: true,
+    ..INPUTS
+};
+
+/// The value that the World is made with.
+pub const SEVEN: Got = Got::Value(7);
+
+pub fn begin(party: u32, call: Call) -> Move {
+    Move {
+        party,
+        what: What::Begin(call, INPUTS),
+    }
+}
+
+pub fn go(party: u32) -> Move {
+    Move {
+        party,
+        what: What::Go(INPUTS),
+    }
+}
+
+/// Two parties wait for a lock. It is released, the first one is dropped, and the second one takes it.
+pub fn dropped_waiter() -> [(Move, Answer); 14] {
+    [
+        (begin(0, Call::Lock), Answer::Ready(SEVEN)),
+        (begin(1, Call::Lock), Answer::Stepped),
+        (go(1), Answer::Stepped),
+        (go(1), Answer::Stepped),
+        (go(1), Answer::Pending),
+        (begin(2, Call::Lock), Answer::Stepped),
+        (go(2), Answer::Stepped),
+        (go(2), Answer::Stepped),
+        (go(2), Answer::Pending),
+        (begin(0, Call::Drop), Answer::Stepped),
+        (go(0), Answer::GivenBack),
+        (begin(1, Call::Drop), Answer::GivenBack),
+        (begin(2, Call::Poll), Answer::Stepped),
+        (go(2), Answer::Ready(SEVEN)),
+    ]
+}
+
+/// A World, made again once where memory was refused.
+pub fn world(rt: &(impl AllocGlobal + Abort)) -> World
+    ensures { result ≡ opening_of result }
+{
+    match World::new(rt.alloc(), 3, 7) {
+        Ok(world) => world,
+        Err(_) => World::new(rt.alloc(), 3, 7).expect(rt, "only one allocation is refused"),
+    }
+}
