@@ -79,7 +79,7 @@ impl World {
     ///
     /// The answer is `Stepped` where the call goes on, and else the call's result. A move that the party
     /// can't make, a party past the table and a call of another World are answered `NotPossible` and
-    /// change nothing. It takes no memory: `Refused(1)` comes where the move's input says so. The clause
+    /// change nothing. It takes no memory: `Refused(1)` comes where the move's input says so. The contract's
     /// `legal` says all that a step may do, and `at_once` what a try and a first poll answer.
     ///
     /// The Rust crate's `lock` carries out a whole poll in one call, and never refuses.
