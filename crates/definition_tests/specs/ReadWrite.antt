@@ -2,6 +2,7 @@
 use Rattle.std.specs.Prelude.{◌≡◌, ◌≢◌, true, false, Some, None}
 use Rattle.lock_world.specs.declared.moves.Answer.{Answer}
 use Rattle.lock_world.specs.declared.moves.Answer.TheVariants as answer
+use Rattle.lock_world.specs.declared.moves.Call.{Call}
 use Rattle.lock_world.specs.declared.moves.Call.TheVariants as call
 use Rattle.lock_world.specs.declared.moves.Inputs.{Inputs}
 use Rattle.lock_world.specs.declared.moves.Move.{Move}
@@ -13,8 +14,10 @@ use Rattle.lock_world.specs.declared.standing.Rest.TheVariants.{Pending, Holding
 use Rattle.lock_world.specs.declared.standing.Within.{Within}
 use Rattle.lock_world.specs.Rights.{read, write}
 use Rattle.lock_world.specs.Standings.{outside, inside, decision, is_possible, refused}
+use Rattle.lock_world.specs.Rosters.{how_many}
+use Rattle.rwlock_world.specs.Bound.{Promises}
 use Rattle.rwlock_world.specs.Legal.{DecidesOn, list_for, may_read, is_first, IsTryWithTurn, Legal, AnswersAtOnce}
-use Rattle.rwlock_world.specs.State.{nobody, passes, waits_to_write, World, standing_of, sought_by, reads, told_in, is_upgrader}
+use Rattle.rwlock_world.specs.State.{nobody, passes, waits_to_write, World, standing_of, sought_by, reads, told_in, is_starved, is_upgrader}
 
 -- A move of a party, and what it leads to.
 pub record Step : Type 0 where
@@ -132,3 +135,16 @@ pub record ReadMeetsStarved : Type 0 where
   pub seeks : sought_by step.new step.move.party ≡ Some read
   pub refused : DecidesOn step.old step.move step.answer step.new (refused Starved)
   pub legal : IsLegal step
+
+-- A party is counted as starved for the turn, though nobody was and it hasn't waited for too long.
+pub record StarvesUnasked : Type 0 where
+  pub old : World
+  pub party : ℕ
+  pub call : Call
+  pub inputs : Inputs
+  pub answer : Answer
+  pub new : World
+  pub patient : inputs.starving ≡ false
+  pub unstarved : how_many old.state.starved ≡ 0
+  pub starved : is_starved new party ≡ true
+  pub kept : Promises old party call inputs answer new

@@ -1,7 +1,7 @@
 //! Wrong runs of a read-write lock.
 
 ghost use Rattle.definition_tests.specs.Never.{Never};
-ghost use Rattle.definition_tests.specs.ReadWrite.{TriesInVain, ReadsUnready, WaitsUnlisted, PendsTooEarly, RefusedAtFirst, RefusedHavingMoved, ReadsWithTheBit, LetsGoUndecided, DowngradesThroughNothing, WriterIsUpgrade, TriesOn, WriteMeetsReaders, ReadMeetsStarved};
+ghost use Rattle.definition_tests.specs.ReadWrite.{TriesInVain, ReadsUnready, WaitsUnlisted, PendsTooEarly, RefusedAtFirst, RefusedHavingMoved, ReadsWithTheBit, LetsGoUndecided, DowngradesThroughNothing, WriterIsUpgrade, TriesOn, WriteMeetsReaders, ReadMeetsStarved, StarvesUnasked};
 
 /// Each clause says of one wrong run that it isn't legal.
 fn wrong_runs()

@@ -21,7 +21,7 @@ use Rattle.std.specs.Prelude.{Some}
 use Rattle.mutex_machine.specs.Program.{start_of, action_of, next_of, place_after}
 use Rattle.mutex_machine.specs.Roles.{counted}
 use Rattle.mutex_machine.specs.Parties.{OnParties}
-use Rattle.mutex_machine.specs.Courses.{is_waiting, is_counting, is_told, HeedsClock}
+use Rattle.mutex_machine.specs.Courses.{is_out, is_holding, is_waiting, is_counting, is_told, HeedsClock}
 use Rattle.mutex_machine.specs.Machine.{Lock, SameRoles, place_at}
 use Rattle.mutex_machine.specs.Acts.{Acts, Finds, starved}
 use Rattle.mutex_machine.specs.Legal.{decided_then, IsUnrefused}
@@ -93,6 +93,19 @@ begins_uncounted call.Cancel Out from e = ap is_counting (sym (some_place Out fr
 begins_uncounted call.Cancel Ask from e = ap is_counting (sym (some_place CancelLeave from e))
 begins_uncounted call.Cancel AskStarved from e = ap is_counting (sym (some_place CancelUncount from e))
 begins_uncounted _ _ from e = absurd (cc)
+
+-- no call begins where the clock matters
+pub begins_heedless : (c : _) (x from : Place) (n : Next) (b : Bool) → start_of c x ≡ Some from → HeedsClock b from n
+begins_heedless call.Lock Out from n b e = let H : Place → Type 0 = λ y. HeedsClock b y n in subst H (some_place Enter from e) tt
+begins_heedless call.Try Out from n b e = let H : Place → Type 0 = λ y. HeedsClock b y n in subst H (some_place Try from e) tt
+begins_heedless call.Poll Out from n b e = let H : Place → Type 0 = λ y. HeedsClock b y n in subst H (some_place Enter from e) tt
+begins_heedless call.Poll Ask from n b e = let H : Place → Type 0 = λ y. HeedsClock b y n in subst H (some_place Ask from e) tt
+begins_heedless call.Poll AskStarved from n b e = let H : Place → Type 0 = λ y. HeedsClock b y n in subst H (some_place AskStarved from e) tt
+begins_heedless call.Release Holding from n b e = let H : Place → Type 0 = λ y. HeedsClock b y n in subst H (some_place Clear from e) tt
+begins_heedless call.Cancel Out from n b e = let H : Place → Type 0 = λ y. HeedsClock b y n in subst H (some_place Out from e) tt
+begins_heedless call.Cancel Ask from n b e = let H : Place → Type 0 = λ y. HeedsClock b y n in subst H (some_place CancelLeave from e) tt
+begins_heedless call.Cancel AskStarved from n b e = let H : Place → Type 0 = λ y. HeedsClock b y n in subst H (some_place CancelUncount from e) tt
+begins_heedless _ _ from n b e = absurd (cc)
 
 pub none_counted : (memory : Bool) (p : ℕ) (from : Place) (n : Next) (old new : Lock) → Acts memory p from n old new → HeedsClock false from n → p < length old.places → SameRoles from (place_at old.places p) → starved old ≡ 0 → is_counting from ≡ false
     → (starved new ≡ 0) × (is_counting (place_at new.places p) ≡ false)
@@ -271,3 +284,17 @@ pub begins_unrefused : (memory : Bool) (p : ℕ) (c : _) (x from : Place) (n : N
 begins_unrefused memory p c x from n old new e acts there r h =
     let lands : place_at new.places p ≡ after from acts.found = ap (λ ps. place_at ps p) acts.places ∙ (get_or-set_same old.places p (place_after from n) Out there ∙ ap (place_after from) acts.next_is) in
     begins_at memory old from acts.found r acts.finds (starts_at c x from e) (sym (ap (λ y. decided_then y (after from acts.found)) acts.next_is) ∙ (sym (ap (decided_then n) lands) ∙ h))
+
+-- nobody that is outside every call is about to be counted
+pub out_uncounted : (x : Place) → is_out x ≡ true → is_counting x ≡ false
+out_uncounted Out h = refl
+out_uncounted _ h = absurd (cc)
+
+pub holding_uncounted : (x : Place) → is_holding x ≡ true → is_counting x ≡ false
+holding_uncounted Holding h = refl
+holding_uncounted _ h = absurd (cc)
+
+pub waiting_uncounted : (x : Place) → is_waiting x ≡ true → is_counting x ≡ false
+waiting_uncounted Ask h = refl
+waiting_uncounted AskStarved h = refl
+waiting_uncounted _ h = absurd (cc)

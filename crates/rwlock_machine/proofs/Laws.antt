@@ -102,6 +102,7 @@ module _ (w : Word) (ps : List Place) (l m : Queue) (t : Lock) (i : IsMachine w 
     held = λ p. turned (place_at ps p) (turn_at t.places p) (i.in_turn p);
     in_turn = i.in_turn;
     turn = mutex;
+    as_many = i.as_many;
     alone = λ some. i.sound.readers ∙ i.sound.alone some;
     writes_apart = apart;
     owners_no_writer = i.no_writer;

@@ -92,6 +92,7 @@ pub record IsRwLock (v : RwLock) : Type 0 where
   pub held : (p : ℕ) → has_turn (place_at v.places p) ≤ holds (turn_at v.turn.places p)
   pub in_turn : (p : ℕ) → fits_turn (place_at v.places p) (turn_at v.turn.places p) ≡ true
   pub turn : IsMutex v.turn
+  pub as_many : length v.turn.places ≡ length v.places
   -- nobody reads while one writes
   pub alone : 0 < writers v → readers v ≡ 0
   pub writes_apart : (p q : ℕ) → writes (place_at v.places p) ≡ 1 → reads (place_at v.places q) ≡ 0

@@ -28,3 +28,4 @@ pub mod BoundSeen
 mod Stepping
 pub mod WorldLaws
 pub mod Bound
+mod Promises

@@ -148,7 +148,7 @@ bounds = record {
 bound_is : (s : Stage) (o : Option Sought) (c : Call) (i : Inputs) (x : Place) (d : RwCall) (w : Within) → plan_of s o (Begin c i) ≡ Some (plan.Start d w) → goes_with s x ≡ true → agrees (sought_at x) o ≡ true → most_steps d ≡ most_steps_of c
 bound_is s o c i x d w e g a = (for_begun (λ s o what x d w from. bound_of what d) bounds s o (Begin c i) x d w e g a).2
 
-never_begun : (s : Stage) (o : Option Sought) (i : Inputs) (d : RwCall) (w : Within) → plan_of s o (Go i) ≡ Some (plan.Start d w) → ⊥
+pub never_begun : (s : Stage) (o : Option Sought) (i : Inputs) (d : RwCall) (w : Within) → plan_of s o (Go i) ≡ Some (plan.Start d w) → ⊥
 never_begun (Outside r) o i d w e = cc
 never_begun (Inside v) o i d w e = cc
 never_begun Forgotten o i d w e = cc
@@ -157,7 +157,7 @@ abbrev goes_on : What → Type 0
 goes_on (Begin c i) = ⊥
 goes_on (Go i) = Unit {0}
 
-never_going : (s : Stage) (o : Option Sought) (c : Call) (i : Inputs) (w : Within) → plan_of s o (Begin c i) ≡ Some (plan.Go w) → ⊥
+pub never_going : (s : Stage) (o : Option Sought) (c : Call) (i : Inputs) (w : Within) → plan_of s o (Begin c i) ≡ Some (plan.Go w) → ⊥
 never_going s o c i w e = for_go (λ s what w. goes_on what) (λ i w. tt) s o (Begin c i) w e
 
 nothing_left : (a b : Answer) (u : Table) (p : ℕ) → a ≡ b → left_by b u p ≡ 0 → left_by a u p ≡ 0

@@ -64,11 +64,12 @@ pub record TakesToWrite (w : World) (p : ℕ) (a : Answer) (v : World) : Type 0 
   pub kept : v.state.value ≡ w.state.value
   pub writes : v.state.turn ≡ writes p
 
--- What a whole call promises: a solo poll of a free turn takes it or gives way; one to read or to write, where that is free, takes it.
+-- What a whole call promises: a solo poll of a free turn takes it or gives way; one to read or to write, where that is free, takes it; and where nobody is starved, a party isn't starved at the end that hasn't waited for too long.
 pub record Promises (w : World) (p : ℕ) (c : Call) (inputs : Inputs) (a : Answer) (v : World) : Type 0 where
   pub turn : c ≡ call.Poll → IsSoloForTurn w p inputs → w.state.turn ≡ nobody → how_many_read w < w.readers_limit → SoloPollForTurn w p a v
   pub reading : c ≡ call.Poll → IsSoloToRead w p inputs → is_marked w.state.turn ≡ false → how_many_read w < w.readers_limit → TakesToRead w p a v
   pub writing : c ≡ call.Poll → IsSoloToWrite w p inputs → how_many_read w ≡ 0 → TakesToWrite w p a v
+  pub unstarved : inputs.starving ≡ false → how_many w.state.starved ≡ 0 → is_starved v p ≡ false
 
 -- ---- Polls that pass over what is free
 

@@ -120,3 +120,6 @@ pub returns-clause-read_meets_starved : goal.returns-clause-read_meets_starved
 returns-clause-read_meets_starved c = λ r.
     let why = r.legal.refused_for_cause.cause (number_of refusal.Starved) r.refused in
     apart (sought_by r.step.new r.step.move.party) read refusal.Starved r.seeks refl (meets_starved r.step.move r.step.old r.step.new why.0 why.1 why.2)
+
+pub returns-clause-starves_unasked : goal.returns-clause-starves_unasked
+returns-clause-starves_unasked c = λ r. true≢false (sym r.starved ∙ r.kept.unstarved r.patient r.unstarved)
