@@ -1,5 +1,5 @@
 -- Runs of a read-write lock that no user would accept. Each record is one wrong run: what its step would be, if it were legal.
-use Rattle.std.specs.Prelude.{◌≡◌, ◌≢◌, true, false, Some, None}
+use Rattle.std.specs.Prelude.{◌≡◌, ◌≢◌, ℕ, true, false, Some, None}
 use Rattle.lock_world.specs.declared.moves.Answer.{Answer}
 use Rattle.lock_world.specs.declared.moves.Answer.TheVariants as answer
 use Rattle.lock_world.specs.declared.moves.Call.{Call}

@@ -18,4 +18,5 @@ fn wrong_runs()
     ensures tries_on { Never (TriesOn) }
     ensures write_meets_readers { Never (WriteMeetsReaders) }
     ensures read_meets_starved { Never (ReadMeetsStarved) }
+    ensures starves_unasked { Never (StarvesUnasked) }
 {}
