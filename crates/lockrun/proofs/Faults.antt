@@ -21,7 +21,7 @@ use Rattle.lockrun.specs.declared.fault.Fault.{Fault}
 use Rattle.lockrun.specs.declared.fault.Fault.TheVariants.{Usage, Read, TooLong, BadLine, Write, Memory, Thread}
 use Rattle.lockrun.specs.declared.run.TheConstants.{LIMIT}
 use Rattle.lockrun.specs.Faults.{status_of}
-use Rattle.lockrun.specs.Plays.{Plays, PlaysLine, IsBad, StopsAtBadLine, StopsShort, IsAtFault, Tells, TellsOfLine}
+use Rattle.lockrun.specs.Plays.{Plays, PlaysLine, IsBad, StopsAtBadLine, IsAtFault, Tells, TellsOfLine}
 use Rattle.lockrun.specs.Scripts.{IsLine, IsStartOfScript}
 use Rattle.lock_play.proofs.Texts.{Appends-more}
 use Rattle.lockrun.proofs.Plays.{Appends-nothing, none_after}

@@ -42,7 +42,7 @@ const CHUNK: usize = 16_384;
 /// is at fault, longer than [`LIMIT`] or with a line that is bad where it stands (`fault`), and then the
 /// lines before that one are answered, and none of a script that is too long (`long`); 2 for other
 /// arguments (`usage`, `asked`); and 3 where reading or writing failed or memory was refused. Each status
-/// but 0 is told of in one line of the error output.
+/// but 0 is told of in one line of the error output, and with status 0 it gets nothing (`quiet`).
 pub fn run<I: Read, O: Write, E: Write>(
     alloc: Global,
     words: &[String],
@@ -59,6 +59,7 @@ pub fn run<I: Read, O: Write, E: Write>(
         → IfSome (I.remaining input.old) IsScript }
     ensures played { map string_bytes words.now ≡ asked → result ≡ 0
         → IfSome (I.remaining input.old) (λ text. IsPlayed text (O.contents output.old) (O.contents output.new)) }
+    ensures quiet { result ≡ 0 → Keeps (E.contents errors.old) (E.contents errors.new) }
     ensures fault { result ≡ 1 → IfSome (I.remaining input.old)
         (λ text. IsAtFault text (O.contents output.old) (O.contents output.new)) }
     ensures long { map string_bytes words.now ≡ asked

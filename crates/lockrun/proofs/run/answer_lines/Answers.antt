@@ -1,5 +1,4 @@
-use Rattle.std.proofs.Common.{◌≡◌, ◌+◌, ◌<◌, Err, arith, ap, false-eqb, length, length-drop, rules}
-use Rattle.std.specs.List.{position_or_len}
+use Rattle.std.proofs.Common.{◌≡◌, ◌<◌, Err, arith, false-eqb, length, rules}
 use Rattle.lock_script.specs.Lines.{is_byte}
 use Rattle.lock_script.proofs.Lines.{lines-more}
 use Rattle.lockrun.proofs.Faults.{come_none, come_more, come_fault, after_shorter}
