@@ -2,15 +2,29 @@
 use Rattle.std.specs.Prelude.{ℕ, ◌≡◌, ◌+◌, ◌≤◌, ◌⊎◌, Option, List, [], ◌∷◌, length, All, codes}
 use Rattle.std.specs.Io.KnownBytes.{Consumes, IsAtEnd}
 use Rattle.lockrun.specs.declared.run.TheConstants.{LIMIT}
+use Rattle.lockrun.specs.declared.task.Task.{Task}
+use Rattle.lockrun.specs.declared.task.Task.TheVariants.{Script, Threads}
 use Rattle.lock_script.specs.declared.command.Command.{Command}
 use Rattle.lock_script.specs.declared.command.Command.TheVariants.{On}
 use Rattle.lock_script.specs.declared.command.Request.{Request}
 use Rattle.lock_script.specs.Commands.{Asks}
-use Rattle.lock_script.specs.Lines.{lines_of, words_of, IsSkipped, IsPrintable, IsTrimmed}
+use Rattle.lock_script.specs.Lines.{lines_of, words_of, IsSkipped, IsPrintable, IsTrimmed, Writes}
 
 -- the arguments that ask for a script: the one word `script`
 abbrev pub asked : List (List ℕ)
 asked = codes "script" ∷ []
+
+-- a number of workers: 1 to 4 decimal digits, from 1 to 1000
+pub record IsWorkers (word : List ℕ) (count : ℕ) : Type 0 where
+  pub written : Writes word count
+  pub few : length word ≤ 4
+  pub from : 1 ≤ count
+  pub to : count ≤ 1000
+
+-- what the arguments ask for: a script, or so many workers by the word `threads` and their number
+abbrev pub AsksFor : List (List ℕ) → Task → Type 0
+AsksFor words Script = words ≡ asked
+AsksFor words (Threads count) = (word : List ℕ) × (words ≡ codes "threads" ∷ word ∷ []) × IsWorkers word count
 
 -- a line that asks for a command: its words do, it is printable ASCII, and no space stands at an end
 pub record IsCommand (line : List ℕ) : Type 0 where

@@ -1,31 +1,28 @@
 //! Why a run ends early.
 
-ghost use Rattle.std.specs.Prelude.{◌≡◌};
-ghost use Rattle.lockrun.specs.Faults.{status_of};
+ghost use Rattle.std.specs.Prelude.{◌≡◌, Some};
+ghost use Rattle.lockrun.specs.Faults.{status_of, text_of};
 
-use thiserror::Error;
+use std::fmt;
+use std::fmt::{Display, Formatter};
 
 /// Why a run ends early. Its text is what the error output gets, without the line feed.
-#[derive(Clone, Copy, Debug, PartialEq, Eq, Error)]
+#[derive(Clone, Copy, Debug, PartialEq, Eq)]
 pub enum Fault {
     /// The arguments are not those of the program.
-    #[error("usage: lockrun script | lockrun threads K")]
     Usage,
     /// The input could not be read.
-    #[error("lockrun: read failed")]
     Read,
     /// The input has more bytes than a script may have.
-    #[error("lockrun: script too long")]
     TooLong,
     /// The line of this number, from 1, is none that a script may have at that place.
-    #[error("lockrun: line {0}: bad")]
     BadLine(u64),
     /// The output could not be written.
-    #[error("lockrun: write failed")]
     Write,
     /// Memory was refused.
-    #[error("lockrun: no memory")]
     Memory,
+    /// The system started no thread.
+    Thread,
 }
 
 impl Fault {
@@ -36,7 +33,23 @@ impl Fault {
         match self {
             Fault::TooLong | Fault::BadLine(_) => 1,
             Fault::Usage => 2,
-            Fault::Read | Fault::Write | Fault::Memory => 3,
+            Fault::Read | Fault::Write | Fault::Memory | Fault::Thread => 3,
+        }
+    }
+}
+
+impl Display for Fault {
+    ghost output = { λ fault. Some (text_of fault) };
+
+    fn fmt<W: fmt::Write>(&self, f: &mut Formatter<W>) -> fmt::Result {
+        match self {
+            Fault::Usage => write!(f, "usage: lockrun script | lockrun threads K"),
+            Fault::Read => write!(f, "lockrun: read failed"),
+            Fault::TooLong => write!(f, "lockrun: script too long"),
+            Fault::BadLine(number) => write!(f, "lockrun: line {number}: bad"),
+            Fault::Write => write!(f, "lockrun: write failed"),
+            Fault::Memory => write!(f, "lockrun: no memory"),
+            Fault::Thread => write!(f, "lockrun: thread failed"),
         }
     }
 }

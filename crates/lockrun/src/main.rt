@@ -1,8 +1,12 @@
 //! Carries out a script of moves on the Worlds of the locks, and prints each answer.
 #![tactic(auto)]
 
+ghost use Rattle.std.specs.Prelude.{◌≡◌, ◌⊎◌, IfErr};
+
 mod fault;
 mod run;
+mod task;
+mod threads;
 
 use fault::Fault;
 use std::env;
@@ -11,7 +15,9 @@ use std::process::ExitCode;
 use std::rt::Env;
 
 /// The arguments after the program's name.
-fn arguments<R: Env + AllocGlobal>(rt: &R) -> Result<Vec<String>, Fault> {
+fn arguments<R: Env + AllocGlobal>(rt: &R) -> Result<Vec<String>, Fault>
+    ensures { IfErr result (λ fault. (fault ≡ Fault.Usage) ⊎ (fault ≡ Fault.Memory)) }
+{
     let mut words = Vec::new(rt.alloc());
     match env::args(rt) {
         Ok(all) => {

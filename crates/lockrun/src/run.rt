@@ -9,14 +9,16 @@ ghost use Rattle.std.specs.Prelude.{◌≡◌, ◌≢◌, ◌⊎◌, ◌+◌, �
 ghost use Rattle.std.specs.Io.{StartsWith, appended_bytes};
 ghost use Rattle.std.specs.Io.KnownBytes.{Appends, Consumes, IsAtEnd, Keeps};
 ghost use Rattle.lock_play.specs.Openings.{world_of};
-ghost use Rattle.lockrun.specs.Plays.{IsAtFault, IsBad, IsPlayed, Leads, PlaysLine, StopsAtBadLine};
+ghost use Rattle.lockrun.specs.Plays.{IsAtFault, IsBad, IsPlayed, Leads, PlaysLine, Tells, TellsOfLine};
 ghost use Rattle.lockrun.specs.Scripts.{asked, IsLine, IsScript, IsStartOfScript};
 ghost use Rattle.lock_script.specs.Lines.{lines_of};
 ghost use Rattle.lock_script.specs.declared.command.Command.TheVariants.{On};
 ghost use Rattle.lock_script.specs.declared.command.Request.{Request};
-ghost use Rattle.lockrun.specs.Faults.{status_of};
+ghost use Rattle.lockrun.specs.Faults.{status_of, text_of};
+ghost use Rattle.lock_play.specs.Answers.{Prints};
 
 use crate::fault::Fault;
+use crate::task::{self, Task};
 use lock_play::answer;
 use lock_play::played::Reply;
 use lock_play::world::World;
@@ -40,7 +42,7 @@ const CHUNK: usize = 16_384;
 /// is at fault, longer than [`LIMIT`] or with a line that is bad where it stands (`fault`), and then the
 /// lines before that one are answered, and none of a script that is too long (`long`); 2 for other
 /// arguments (`usage`, `asked`); and 3 where reading or writing failed or memory was refused. Each status
-/// but 0 is told of in one line of the error output.
+/// but 0 is told of in one line of the error output, and with status 0 it gets nothing (`quiet`).
 pub fn run<I: Read, O: Write, E: Write>(
     alloc: Global,
     words: &[String],
@@ -57,28 +59,21 @@ pub fn run<I: Read, O: Write, E: Write>(
         → IfSome (I.remaining input.old) IsScript }
     ensures played { map string_bytes words.now ≡ asked → result ≡ 0
         → IfSome (I.remaining input.old) (λ text. IsPlayed text (O.contents output.old) (O.contents output.new)) }
+    ensures quiet { result ≡ 0 → Keeps (E.contents errors.old) (E.contents errors.new) }
     ensures fault { result ≡ 1 → IfSome (I.remaining input.old)
         (λ text. IsAtFault text (O.contents output.old) (O.contents output.new)) }
     ensures long { map string_bytes words.now ≡ asked
         → IfSome (I.remaining input.old) (λ text. LIMIT < length text → ((result ≡ 1) ⊎ (result ≡ 3))
         × Keeps (O.contents output.old) (O.contents output.new)) }
 {
-    if !is_asked(words) {
-        return report(Fault::Usage, errors);
-    }
-    match script(alloc, input, output) {
-        Ok(()) => 0,
-        Err(fault) => report(fault, errors),
-    }
-}
-
-/// Whether the arguments are the one word that asks for a script.
-fn is_asked(words: &[String]) -> bool
-    ensures { IsTrue result ↔ (map string_bytes words.now ≡ asked) }
-{
-    match words {
-        [word] => word.as_str() == "script",
-        _ => false,
+    match task::parse(words) {
+        Some(Task::Script) => match script(alloc, input, output) {
+            Ok(()) => 0,
+            Err(fault) => report(fault, errors),
+        },
+        // Until the public mutex stands, there is nothing for threads to do.
+        Some(Task::Threads(_)) => report(Fault::Usage, errors),
+        None => report(Fault::Usage, errors),
     }
 }
 
@@ -87,21 +82,28 @@ fn is_asked(words: &[String]) -> bool
 pub fn report<E: Write>(fault: Fault, errors: &mut E) -> u8
     ensures { result ≡ status_of fault }
 {
-    let _ = writeln!(errors, "{fault}");
+    let _ = tell(fault, errors);
     let _ = errors.flush();
     fault.status()
 }
 
+/// Writes the fault as one line.
+fn tell<E: Write>(fault: Fault, errors: &mut E) -> io::Result<()>
+    ensures { Prints (E.contents errors.old) (E.contents errors.new) result (text_of fault) }
+{
+    writeln!(errors, "{fault}")
+}
+
 /// Reads a whole script and answers its lines. The answers before a bad line, or before memory is
-/// refused, are flushed.
+/// refused, are flushed, and the fault has the bad line's number (`fault`).
 fn script<I: Read, O: Write>(alloc: Global, input: &mut I, output: &mut O) -> Result<(), Fault>
     ensures script { OnOk result (IfSome (I.remaining input.old) IsScript) }
     ensures played { OnOk result (IfSome (I.remaining input.old)
         (λ text. IsPlayed text (O.contents output.old) (O.contents output.new))) }
     ensures long { IfSome (I.remaining input.old) (λ text. LIMIT < length text
         → IsErr result × Keeps (O.contents output.old) (O.contents output.new)) }
-    ensures fault { IfErr result (λ fault. status_of fault ≡ 1 → IfSome (I.remaining input.old)
-        (λ text. IsAtFault text (O.contents output.old) (O.contents output.new))) }
+    ensures fault { IfErr result (λ fault. IfSome (I.remaining input.old)
+        (λ text. Tells fault text (O.contents output.old) (O.contents output.new))) }
     ensures asked { result ≢ Err Fault.Usage }
 {
     let text = read_script(alloc, input)?;
@@ -127,7 +129,7 @@ enum Reader {
 /// The input's bytes, up to one byte more than a script may have.
 fn read_script<I: Read>(alloc: Global, input: &mut I) -> Result<Vec<u8>, Fault>
     ensures start { IfOk result (λ text. IsStartOfScript (I.remaining input.old) (I.remaining input.new) text.items) }
-    ensures system { IfErr result (λ fault. status_of fault ≡ 3) }
+    ensures system { IfErr result (λ fault. (fault ≡ Fault.Read) ⊎ (fault ≡ Fault.Memory)) }
 {
     let mut text = Vec::new(alloc);
     let mut chunk = [0; CHUNK];
@@ -145,14 +147,16 @@ fn read_script<I: Read>(alloc: Global, input: &mut I) -> Result<Vec<u8>, Fault>
     Err(Fault::Read)
 }
 
-/// One read, of at most as many bytes as the buffer has, which go to the end of the text.
+/// One read, of at most as many bytes as the buffer has, which go to the end of the text. A read that failed
+/// took nothing (`failed`).
 fn read_more<I: Read>(input: &mut I, buffer: &mut [u8], text: &mut Vec<u8>) -> Result<Reader, Fault>
     ensures starts { StartsWith text.new.items text.old.items }
     ensures most { OnOk result (vec_len text.new ≤ vec_len text.old + length buffer.old) }
     ensures moved { OnOk result (Consumes (I.remaining input.old) (I.remaining input.new)
         (appended_bytes text.old.items text.new.items)) }
     ensures end { result ≡ Ok Reader.IsAtEnd → 0 < length buffer.old → IsAtEnd (I.remaining input.new) }
-    ensures system { IfErr result (λ fault. status_of fault ≡ 3) }
+    ensures failed { result ≡ Err Fault.Read → Keeps (I.remaining input.old) (I.remaining input.new) }
+    ensures system { IfErr result (λ fault. (fault ≡ Fault.Read) ⊎ (fault ≡ Fault.Memory)) }
 {
     match input.read(buffer) {
         Ok(0) => Ok(Reader::IsAtEnd),
@@ -169,10 +173,10 @@ fn read_more<I: Read>(input: &mut I, buffer: &mut [u8], text: &mut Vec<u8>) -> R
 
 /// Answers each line of a script in turn, up to the first fault.
 fn answer_lines<O: Write>(alloc: Global, text: &[u8], output: &mut O) -> Result<(), Fault>
+    requires { length text.now ≤ LIMIT }
     ensures lines { OnOk result (All IsLine (lines_of text.now)) }
     ensures played { OnOk result (IsPlayed text.now (O.contents output.old) (O.contents output.new)) }
-    ensures fault { IfErr result (λ fault. status_of fault ≡ 1
-        → StopsAtBadLine text.now (O.contents output.old) (O.contents output.new)) }
+    ensures fault { IfErr result (λ fault. Tells fault text.now (O.contents output.old) (O.contents output.new)) }
     ensures asked { result ≢ Err Fault.Usage }
 {
     let mut world = None;
@@ -180,7 +184,7 @@ fn answer_lines<O: Write>(alloc: Global, text: &[u8], output: &mut O) -> Result<
     let mut rest = text;
     while !rest.is_empty() {
         let (line, after) = line::cut(rest, b'\n');
-        number = number.saturating_add(1);
+        number += 1;
         answer_line(alloc, number, line, &mut world, output)?;
         rest = after;
     }
@@ -198,8 +202,8 @@ fn answer_line<O: Write>(
     ensures line { OnOk result (IsLine line.now) }
     ensures played { OnOk result ((bytes : List ℕ) × PlaysLine line.now world.old world.new bytes
         × Appends (O.contents output.old) (O.contents output.new) bytes) }
-    ensures fault { IfErr result (λ fault. status_of fault ≡ 1
-        → IsBad line.now world.old × Keeps (O.contents output.old) (O.contents output.new)) }
+    ensures fault { IfErr result (λ fault. TellsOfLine (λ n. (n ≡ number) × IsBad line.now world.old) fault
+        (O.contents output.old) (O.contents output.new)) }
     ensures asked { result ≢ Err Fault.Usage }
 {
     if line::is_skipped(line) {
@@ -222,9 +226,9 @@ fn answer_command<O: Write>(
 ) -> Result<(), Fault>
     ensures leads { OnOk result ((text : List ℕ) × Leads command world.old world.new text
         × Appends (O.contents output.old) (O.contents output.new) (text ++ 10 ∷ [])) }
-    ensures fault { IfErr result (λ fault. status_of fault ≡ 1
-        → ((request : Request) × (command ≡ On request) × (world.old ≡ None))
-        × Keeps (O.contents output.old) (O.contents output.new)) }
+    ensures fault { IfErr result (λ fault.
+        TellsOfLine (λ n. (n ≡ number) × ((request : Request) × (command ≡ On request) × (world.old ≡ None))) fault
+        (O.contents output.old) (O.contents output.new)) }
     ensures asked { result ≢ Err Fault.Usage }
 {
     match command {
@@ -245,7 +249,7 @@ fn make<O: Write>(
 ) -> Result<(), Fault>
     ensures made { OnOk result (world.new ≡ Some (world_of model)) }
     ensures prints { OnOk result (Appends (O.contents output.old) (O.contents output.new) (codes "ok\n")) }
-    ensures system { IfErr result (λ fault. status_of fault ≡ 3) }
+    ensures system { IfErr result (λ fault. TellsOfLine (λ n. ⊥) fault (O.contents output.old) (O.contents output.new)) }
 {
     match World::new(alloc, model) {
         Ok(made) => {

@@ -1,7 +1,7 @@
 //! The stored rows: each script with its answers, as they stand in scripts/.
 
 /// Each script, and what the program prints for it.
-pub const ROWS: [(&str, &str); 20] = [
+pub const ROWS: [(&str, &str); 26] = [
     // count-comes-off-before-the-entry
     (
         "mutex 4 0\ndo 0 lock\ndo 1 lock\ndo 0 drop\ndo 2 trylock\ndo 1 poll starving\nshow\ndo 2 drop\nbegin 1 drop\ndo 3 lock\ngo 1\nshow\n",
@@ -41,6 +41,16 @@ pub const ROWS: [(&str, &str); 20] = [
     (
         "rwlock 2 0\ndo 0 read\ndo 1 write\ndo 0 drop\nshow\ndo 1 poll\n",
         "ok\nready 0\npending\ngiven back\nrwlock turn=1 starved=0 writer=1 readers=0 value=0 turnlist=[] noreaders=[1n] nowriter=[]\nready 0\n",
+    ),
+    // lock-without-memory-behind-a-waiter
+    (
+        "mutex 3 0\ndo 0 lock\ndo 1 lock\ndo 2 lock nomem\nshow\n",
+        "ok\nready 0\npending\nrefused 1\nmutex locked=1 starved=0 value=0 list=[1w]\n",
+    ),
+    // read-without-memory-behind-a-waiter
+    (
+        "rwlock 3 0\ndo 0 write\ndo 1 read\ndo 2 read nomem\nshow\n",
+        "ok\nready 0\npending\nrefused 1\nrwlock turn=1 starved=0 writer=1 readers=0 value=0 turnlist=[] noreaders=[] nowriter=[1w]\n",
     ),
     // readers-after-a-writer
     (
@@ -82,10 +92,25 @@ pub const ROWS: [(&str, &str); 20] = [
         "mutex 4 0 1\ndo 0 lock\ndo 1 lock\ndo 0 drop\ndo 2 trylock\ndo 1 poll starving\ndo 3 lock\nshow\n",
         "ok\nready 0\npending\ngiven back\ngranted 0\npending\nrefused 2\nmutex locked=1 starved=1 value=0 list=[1w]\n",
     ),
+    // told-and-at-the-limit-hands-on
+    (
+        "mutex 5 0 1\ndo 0 lock\ndo 1 lock\ndo 2 lock\ndo 3 lock\ndo 0 drop\ndo 4 trylock\nbegin 1 poll\ngo 1\ndo 4 drop\ndo 4 trylock\ndo 2 poll starving\ngo 1\ngo 1\ngo 1\ngo 1\ngo 1\nshow\n",
+        "ok\nready 0\npending\npending\npending\ngiven back\ngranted 0\nstepped\nstepped\ngiven back\ngranted 0\npending\nstepped\nstepped\nstepped\nstepped\nrefused 2\nmutex locked=1 starved=1 value=0 list=[3n 2w]\n",
+    ),
+    // told-and-without-memory-hands-on
+    (
+        "mutex 4 0\ndo 0 lock\ndo 1 lock\ndo 2 lock\ndo 0 drop\ndo 3 trylock\ndo 1 poll nomem\nshow\n",
+        "ok\nready 0\npending\npending\ngiven back\ngranted 0\nrefused 1\nmutex locked=1 starved=0 value=0 list=[2n]\n",
+    ),
     // try-upgrade-when-alone
     (
         "rwlock 2 1\ndo 0 upread\ndo 1 read\ndo 0 tryupgrade\ndo 1 drop\ndo 0 tryupgrade\n",
         "ok\nready 1\nready 1\nnone\ngiven back\ngranted 1\n",
+    ),
+    // unstarving-poll-counts-nobody
+    (
+        "mutex 3 0\ndo 0 lock\ndo 1 lock\ndo 0 drop\ndo 2 trylock\ndo 1 poll\nshow\ndo 2 drop\ndo 0 trylock\n",
+        "ok\nready 0\npending\ngiven back\ngranted 0\npending\nmutex locked=1 starved=0 value=0 list=[1w]\ngiven back\ngranted 0\n",
     ),
     // upgradable-past-the-readers-limit
     (
@@ -101,5 +126,10 @@ pub const ROWS: [(&str, &str); 20] = [
     (
         "rwlock 2 0\ndo 0 read\ndo 1 write nomem\nshow\ndo 1 poll\n",
         "ok\nready 0\nrefused 1\nrwlock turn=0 starved=0 writer=0 readers=1 value=0 turnlist=[] noreaders=[] nowriter=[]\npending\n",
+    ),
+    // write-without-memory-at-a-held-turn
+    (
+        "rwlock 3 0\ndo 0 write\ndo 1 write nomem\nshow\n",
+        "ok\nready 0\nrefused 1\nrwlock turn=1 starved=0 writer=1 readers=0 value=0 turnlist=[] noreaders=[] nowriter=[]\n",
     ),
 ];

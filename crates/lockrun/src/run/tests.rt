@@ -30,8 +30,9 @@ impl Read for Source<'_> {
             return match self.failure {
                 None => Ok(0),
                 Some(kind) => {
-                    // A reader that was interrupted goes on at the next read.
-                    if kind == ErrorKind::Interrupted {
+                    // A reader that was interrupted goes on at the next read, and so might one that would
+                    // have blocked.
+                    if matches!(kind, ErrorKind::Interrupted | ErrorKind::WouldBlock) {
                         self.failure = None;
                     }
                     Err(io::Error::from(kind))
@@ -511,13 +512,16 @@ fn wants_the_one_argument(rt: HostRuntime) -> Result<(), Fail> {
         errors: "usage: lockrun script | lockrun threads K\n",
         status: 2,
     };
-    let wrong: [(&[&str], &str); 7] = [
+    let wrong: [(&[&str], &str); 10] = [
         (&[], "no word"),
         (&[""], "an empty word"),
         (&["Script"], "Script"),
         (&["script "], "script and a space"),
         (&["script", "x"], "script x"),
+        (&["threads"], "threads"),
         (&["threads", "4"], "threads 4"),
+        (&["threads", "0"], "threads 0"),
+        (&["threads", "1001"], "threads 1001"),
         (&["x", "script"], "x script"),
     ];
     for (words, shown) in wrong {
@@ -599,6 +603,8 @@ fn tells_of_reads_that_fail(rt: HostRuntime) -> Result<(), Fail> {
         ("", ErrorKind::BrokenPipe, failed),
         ("mutex 1 0\nsh", ErrorKind::BrokenPipe, failed),
         ("foo\n", ErrorKind::OutOfMemory, failed),
+        ("mutex 1 0\n", ErrorKind::WouldBlock, failed),
+        ("mutex 1 0\n", ErrorKind::TimedOut, failed),
         ("mutex 1 0\n", ErrorKind::Interrupted, played),
     ] {
         let mut source = Source::new(text.as_bytes());

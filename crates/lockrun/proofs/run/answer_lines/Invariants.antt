@@ -1,17 +1,20 @@
-use Rattle.std.proofs.Common.{length}
+use Rattle.std.proofs.Common.{◌+◌, ◌≤◌, length}
 use Rattle.std.specs.Prelude.{All}
 use Rattle.lock_script.specs.Lines.{lines_of}
+use Rattle.lockrun.specs.declared.run.TheConstants.{LIMIT}
 use Rattle.lockrun.specs.Scripts.{IsLine}
 use Rattle.lockrun.proofs.Faults.{HasCome}
 use Rattle.lockrun.proofs.Plays.{HasPlayed}
 use Rattle.lockrun.proofs.run.answer_lines.Given as goal
 
--- the lines so far were good, so all are if those left are; they were played; and so were they one by one
+-- the lines so far were good, so all are if those left are; they were played; and so were they one by one, each of at least one byte
 abbrev pub invariant-loop-rest : goal.invariant-loop-rest
 invariant-loop-rest g l = record {
   good : All IsLine (lines_of l.rest) → All IsLine (lines_of l.text);
   played : HasPlayed l.text l.rest l.world (g.O.Write.contents l.fn.output) (g.O.Write.contents l.output);
-  come : HasCome l.text l.rest l.world (g.O.Write.contents l.fn.output) (g.O.Write.contents l.output);
+  few : l.number + length l.rest ≤ length l.text;
+  short : length l.text ≤ LIMIT;
+  come : HasCome l.number l.text l.rest l.world (g.O.Write.contents l.fn.output) (g.O.Write.contents l.output);
 }
 
 abbrev pub decreases-loop-rest : goal.decreases-loop-rest
