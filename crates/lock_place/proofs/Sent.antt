@@ -1,0 +1,31 @@
+-- What a room and its rights own goes to another thread where the value does.
+use base.Fraction.{full_share}
+use base.Shift.{Keyless}
+use denote.RattleType.{RattleType}
+use denote.RawPtr.{Ptr}
+use denote.Param.Send.{IsSend, IsSync, part_keyless}
+use Rattle.lock_place.specs.Held.{RoomId, held, room_owns, hold_owns, seen_owns, age}
+use Rattle.lock_place.specs.Spared.{waits, spare_owns}
+use Rattle.std.specs.Prelude.{ℕ, Option, Some, None}
+use mathlib.Core.Bool.{Bool, true, false}
+use mathlib.Core.List.{◌∷◌}
+
+held_keyless : (R : RattleType) → IsSend R → (z : RoomId) → Keyless (held R z)
+held_keyless R s z = λ x. (part_keyless R s full_share x _ _, tt)
+
+pub room_keyless : (R : RattleType) → IsSend R → (p : Ptr) (z : RoomId) → Keyless (room_owns R p z)
+room_keyless R s p z = (tt, ((λ _. tt), held_keyless R s z))
+
+pub hold_keyless : (R : RattleType) → IsSend R → (z : RoomId) (x : R.Denot) → Keyless (hold_owns R z x)
+hold_keyless R s z x = (tt, held_keyless R s z)
+
+pub seen_keyless : (R : RattleType) → IsSend R → IsSync R → (z : RoomId) (x : R.Denot) → Keyless (seen_owns R z x)
+seen_keyless R s y z x = (tt, λ c. (tt, (y.shared x z.block z.offset (c ∷ age z), held_keyless R s z)))
+
+waits_keyless : (R : RattleType) → IsSend R → (z : RoomId) (d : ℕ) (x : R.Denot) (y : Bool) → Keyless (waits R z d x y)
+waits_keyless R s z d x true = hold_keyless R s z x
+waits_keyless R s z d x false = (tt, tt)
+
+pub spare_keyless : (R : RattleType) → IsSend R → (z : RoomId) (d : ℕ) (v : Option R.Denot) → Keyless (spare_owns R z d v)
+spare_keyless R s z d None = tt
+spare_keyless R s z d (Some x) = waits_keyless R s z d x

@@ -1,0 +1,14 @@
+-- A `&` to a `Seen` shares the value while the room's age lasts. Assumes `Logic`.
+use denote.RattleType.{RattleType}
+use denote.Param.Laws.{Laws}
+use denote.Param.Shared.{copy_shared}
+use denote.Struct.Laws.{field_copy}
+use denote.Struct.Lending.{of_Lends}
+use Rattle.core.specs.contracts.marker.PhantomData as P
+use Rattle.lock_place.specs.contracts.room.Seen as C
+use Rattle.lock_place.proofs.room.Seen.TheLaw.Statement.{statement}
+use Rattle.lock_place.proofs.Ages.{seen_laws, lends_seen}
+
+pub shares : (T : RattleType) (L : Laws T) → statement T L
+shares T L = of_Lends (C.struct T) (C.the_codes T.Denot T.coded (P.the_row T).coded) (C.the_heap T) (C.the_lent T) (λ d p. seen_laws T L.shr_laws d.room_id d.value) (copy_shared (P.the_field T) (field_copy (P.the_type T) tt), tt)
+    (λ M 𝓤 𝓛 d p. lends_seen 𝓛 T d.room_id d.value L.shr_laws (C.the_row T).lives)
