@@ -1,0 +1,185 @@
+-- Each step on a mutex's table keeps its rule.
+use Rattle.std.proofs.Common.{◌≡◌, ◌≢◌, ℕ, zero, suc, ◌+◌, ◌-◌, ◌/◌, ◌%◌, ◌^◌, ◌<◌, true, false, eqb, List, [], ◌∷◌, ◌++◌, get_or, set, sym, refl, ap, ◌∙◌, subst, arith, ⊎_elim, eq-eqb, ne_eqb, bit_or}
+use mathlib.Core.Logic.{dite}
+use mathlib.Core.Option.{none, some, some-injective, some-ne-none}
+use native.Mathlib.Decide.{ℕ_discrete}
+use lib.ListN.{get_elem?}
+use prog.Atomic.{either}
+use Rattle.atomic_table.specs.Table.{State, Me, step, keeps, takes, gives, stepped, put_back, opening, Allows, Enters}
+use Rattle.atomic_table.proofs.Lists.{set_here, at_set, at_snoc}
+use Rattle.lock_place.specs.Held.{RoomId}
+use Rattle.lock_words.specs.declared.seat.View.{View}
+use Rattle.lock_words.specs.declared.rested.Rested.{Rested}
+use Rattle.lock_words.specs.Right.{IsRight}
+use Rattle.lock_words.specs.Rule.{is_holder, is_starved, Ruled}
+use Rattle.lock_words.specs.Steps.{first_view, with_holds, without_holds, with_count, without_count, Got, Kept, Took, WasSet, Counts, Uncounts, Clears}
+use Rattle.lock_words.specs.Word.{number, IsWord}
+use Rattle.lock_words.proofs.Word as word
+
+abbrev most : ℕ
+most = 1073741823
+
+module _ (T : Type 0) (room : RoomId) (deed : ℕ) where
+  abbrev St : Type 0
+  St = State (Rested T) View
+
+  abbrev M : Type 0
+  M = Me (Rested T) View
+
+  abbrev R : St → Type 0
+  R = Ruled room deed
+
+  abbrev Keyed : View → Type 0
+  Keyed v = (v.room ≡ room) × (v.deed ≡ deed)
+
+  abbrev AllKeyed : List View → Type 0
+  AllKeyed vs = (i : ℕ) (v : View) → get_elem? vs i ≡ some v → Keyed v
+
+  keyed_set : (vs : List View) (id : ℕ) (w : View) → AllKeyed vs → Keyed w → AllKeyed (set vs id w)
+  keyed_set vs id w all good j v e = ⊎_elim (λ here. subst Keyed here.1 good) (λ else. all j v else.1) (at_set vs id j w v e)
+
+  keyed_snoc : (vs : List View) (w : View) → AllKeyed vs → Keyed w → AllKeyed (vs ++ w ∷ [])
+  keyed_snoc vs w all good j v e = ⊎_elim (λ old. all j v old) (λ same. subst Keyed same good) (at_snoc vs w v j e)
+
+  of_seat : (me : M) → Keyed me.0 → (y : Rested T) → IsRight room deed y → IsRight me.0.room me.0.deed y
+  of_seat me key y good = subst (λ (d : ℕ). IsRight me.0.room d y) (sym key.1) (subst (λ (z : RoomId). IsRight z deed y) (sym key.0) good)
+
+  of_lock : (me : M) → Keyed me.0 → (y : Rested T) → IsRight me.0.room me.0.deed y → IsRight room deed y
+  of_lock me key y good = subst (λ (d : ℕ). IsRight room d y) key.1 (subst (λ (z : RoomId). IsRight z me.0.deed y) key.0 good)
+
+  pub opens : (y : Rested T) → IsRight room deed y → R (opening (0 ∷ 0 ∷ []) (y ∷ []) (first_view room deed))
+  opens y good = ((omega arith, omega arith, omega arith, refl), (λ _. (y, refl, good)), only)
+    where
+      only : AllKeyed (first_view room deed ∷ [])
+      only zero v e = subst Keyed (some-injective (first_view room deed) v e) (refl, refl)
+      only (suc i) v e = absurd (some-ne-none v (sym e))
+
+  module _ (s : St) (id : ℕ) (me : M) (r : R s) (at : get_elem? s.views id ≡ some me.0) where
+    abbrev x : ℕ
+    x = get_or s.words 0 0
+
+    key : Keyed me.0
+    key = r.2 id me.0 at
+
+    -- what stays where no right moves
+    unmoved : (n i : ℕ) (w : View) → IsWord is_holder is_starved most 0 (set s.words i n) (set s.views id w) → (number is_holder (set s.views id w) ≡ number is_holder s.views) → Keyed w → R (stepped s i n id me.1 w keeps)
+    unmoved n i w good same keyed = (good, (λ none. r.1 (sym same ∙ none)), keyed_set s.views id w r.2 keyed)
+
+    same_holders : (w : View) → w.holds ≡ me.0.holds → number is_holder (set s.views id w) ≡ number is_holder s.views
+    same_holders w e = let c = word.number-set is_holder s.views id me.0 w at in let h = ap Rattle.lock_words.specs.Word.weight e in omega arith
+
+    pub still : R (stepped s 0 x id me.1 me.0 keeps)
+    still = unmoved x 0 me.0 (word.stays is_holder is_starved most 0 s.words s.views id me.0 me.0 r.0 at refl refl) (same_holders me.0 refl) key
+
+    abbrev home : x % 2 ≡ 0 → (y : Rested T) × (get_elem? s.homes 0 ≡ some (some y)) × IsRight room deed y
+    home even = r.1 (word.nobody is_holder is_starved most 0 s.words s.views id me.0 me.0 r.0 at even)
+
+    got_home : (even : x % 2 ≡ 0) → R (stepped s 0 (x + 1) id me.1 (with_holds me.0 (x / 2)) (takes 0 (home even).0))
+    got_home even = let w : View = with_holds me.0 (x / 2) in let after = word.gets is_holder is_starved most 0 s.words s.views id me.0 w r.0 at even refl refl in
+        (after.0, (λ none. absurd (omega (arith, after.1, none))), keyed_set s.views id w r.2 key)
+
+    got_told : (even : x % 2 ≡ 0) → Got (x / 2) me (with_holds me.0 (x / 2), (0, (home even).0) ∷ me.1)
+    got_told even = (refl, ((home even).0, refl, of_seat me key (home even).0 (home even).2))
+
+  -- from a free lock's word the seat gets the lock
+  pub taken : (slots id old new : ℕ) (me : M) → old % 2 ≡ 0 → new ≡ old + 1 → Allows R slots id me 0 (λ x. either (eqb x old) new x) (Took (step slots 0 old new none) me)
+  taken slots id old new me even one s r _ at _ = let x : ℕ = get_or s.words 0 0 in dite (ℕ_discrete x old)
+      (λ hit. let is_even : x % 2 ≡ 0 = ap (λ n. n % 2) hit ∙ even in let y : Rested T = (home s id me r at is_even).0 in let w : View = with_holds me.0 (x / 2) in
+      let up : x + 1 ≡ either (eqb x old) new x = subst (λ b. x + 1 ≡ either b new x) (sym (eq-eqb x old hit)) (ap (λ n. n + 1) hit ∙ sym one) in (
+        w,
+        takes 0 y,
+        (home s id me r at is_even).1,
+        subst (λ n. R (stepped s 0 n id me.1 w (takes 0 y))) up (got_home s id me r at is_even),
+        ((λ _. got_told s id me r at is_even), λ not. absurd (not hit)),
+      ))
+      (λ miss. (
+        me.0,
+        keeps,
+        tt,
+        subst (λ b. R (stepped s 0 (either b new x) id me.1 me.0 keeps)) (sym (ne_eqb x old miss)) (still s id me r at),
+        ((λ hit. absurd (miss hit)), λ _. refl),
+      ))
+
+  -- the lowest bit is set: from a free lock's word the seat gets the lock
+  pub set_held : (slots id : ℕ) (me : M) → Allows R slots id me 0 (λ x. bit_or x 1) (WasSet (step slots 0 1 0 none) me)
+  set_held slots id me s r _ at _ = let x : ℕ = get_or s.words 0 0 in let low = word.or_one x in dite (ℕ_discrete (x % 2) 0)
+      (λ even. let y : Rested T = (home s id me r at even).0 in let w : View = with_holds me.0 (x / 2) in let up : x + 1 ≡ bit_or x 1 = omega arith in (
+        w,
+        takes 0 y,
+        (home s id me r at even).1,
+        subst (λ n. R (stepped s 0 n id me.1 w (takes 0 y))) up (got_home s id me r at even),
+        ((λ _. got_told s id me r at even), λ not. absurd (not even)),
+      ))
+      (λ odd. let same : x ≡ bit_or x 1 = omega arith in (
+        me.0,
+        keeps,
+        tt,
+        subst (λ n. R (stepped s 0 n id me.1 me.0 keeps)) same (still s id me r at),
+        ((λ even. absurd (odd even)), λ _. refl),
+      ))
+
+  -- below the limit the seat is counted
+  pub counted : (slots id old new : ℕ) (me : M) → old / 2 < most → new ≡ old + 2 → me.0.starved ≡ false → Allows R slots id me 0 (λ x. either (eqb x old) new x) (Counts (step slots 0 old new none) me)
+  counted slots id old new me below two not s r _ at _ = let x : ℕ = get_or s.words 0 0 in let w : View = with_count me.0 in dite (ℕ_discrete x old)
+      (λ hit. let few : x / 2 < most = subst (λ n. n / 2 < most) (sym hit) below in
+      let up : x + 2 ≡ either (eqb x old) new x = subst (λ b. x + 2 ≡ either b new x) (sym (eq-eqb x old hit)) (ap (λ n. n + 2) hit ∙ sym two) in (
+        w,
+        keeps,
+        tt,
+        subst (λ n. R (stepped s 0 n id me.1 w keeps)) up (unmoved s id me r at (x + 2) 0 w (word.counts is_holder is_starved most 0 s.words s.views id me.0 w r.0 at few refl not refl) (same_holders s id me r at w refl) (key s id me r at)),
+        ((λ _. refl), λ miss. absurd (miss hit)),
+      ))
+      (λ miss. (
+        me.0,
+        keeps,
+        tt,
+        subst (λ b. R (stepped s 0 (either b new x) id me.1 me.0 keeps)) (sym (ne_eqb x old miss)) (still s id me r at),
+        ((λ hit. absurd (miss hit)), λ _. refl),
+      ))
+
+  -- the seat's count goes off
+  pub uncounted : (slots id : ℕ) (me : M) → me.0.starved ≡ true → Allows R slots id me 0 (λ x. (x + (2 ^ 64 - 2)) % 2 ^ 64) (Uncounts (step slots 0 2 0 none) me)
+  uncounted slots id me is s r _ at small = let x : ℕ = get_or s.words 0 0 in let w : View = without_count me.0 in (
+    w,
+    keeps,
+    tt,
+    unmoved s id me r at ((x + (2 ^ 64 - 2)) % 2 ^ 64) 0 w (word.uncounts is_holder is_starved most 0 s.words s.views id me.0 w r.0 at small refl is refl) (same_holders s id me r at w refl) (key s id me r at),
+    refl,
+  )
+
+  -- the right goes home, and the lock is free
+  pub cleared : (slots id : ℕ) (y : Rested T) (me : M) → me.0.holds ≡ true → me.1 ≡ (0, y) ∷ [] → IsRight me.0.room me.0.deed y → 0 < slots
+      → Allows R slots id me 0 (λ x. (x + (2 ^ 64 - 1)) % 2 ^ 64) (Clears (step slots 0 1 0 none) me)
+  cleared slots id y me is has good some_slot s r len at small = let w : View = without_holds me.0 in let k = key s id me r at in (
+    w,
+    gives,
+    tt,
+    (
+      word.clears is_holder is_starved most 0 s.words s.views id me.0 w r.0 at small is refl refl,
+      (λ _. (y, subst (λ c. get_elem? (put_back s.homes c) 0 ≡ some (some y)) (sym has) (set_here s.homes 0 (some y) (subst (λ (z : ℕ). 0 < z) (sym len) some_slot)), of_lock me k y good)),
+      keyed_set s.views id w r.2 k,
+    ),
+    refl,
+  )
+
+  -- the other word changes
+  pub stored : (slots id j n : ℕ) (me : M) → 0 ≢ j → Allows R slots id me j (λ _. n) (λ _. Kept (step slots j n 0 none) me n)
+  stored slots id j n me else s r _ at _ = (
+    me.0,
+    keeps,
+    tt,
+    unmoved s id me r at n j me.0 (word.beside is_holder is_starved most 0 s.words s.views id me.0 me.0 r.0 at j n else refl refl) (same_holders s id me r at me.0 refl) (key s id me r at),
+    refl,
+  )
+
+  -- a new seat has no right
+  pub sits : (slots i : ℕ) → Enters R slots i (λ n w. Kept {T = T} (step slots i 0 0 none) (first_view room deed, []) n (w, []))
+  sits slots i s r _ _ = let w : View = first_view room deed in (
+    w,
+    (
+      word.comes is_holder is_starved most 0 s.words s.views w r.0 refl refl,
+      (λ none. r.1 (sym (word.number-snoc is_holder s.views w refl) ∙ none)),
+      keyed_snoc s.views w r.2 (refl, refl),
+    ),
+    refl,
+  )

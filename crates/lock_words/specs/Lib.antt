@@ -1,0 +1,8 @@
+pub mod Lock
+pub mod Right
+pub mod Rule
+pub mod Seats
+pub mod Steps
+pub mod Tries
+pub mod Turns
+pub mod Word

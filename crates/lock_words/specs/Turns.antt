@@ -1,0 +1,9 @@
+-- A fact of a poll that is pending.
+use Rattle.std.specs.Prelude.{⊤}
+use Rattle.lock_words.specs.declared.turn.Turn.{Turn}
+use Rattle.lock_words.specs.declared.turn.Turn.TheVariants.{Ready, Pending, Refused}
+
+abbrev pub OnPending : {G : Type 0} → Turn G → Type 0 → Type 0
+OnPending (Ready got) fact = ⊤
+OnPending (Refused refusal) fact = ⊤
+OnPending Pending fact = fact

@@ -1,0 +1,45 @@
+//! What the tries find.
+
+use lock_place::Hold;
+
+/// What [`take`](crate::Words::take) found.
+#[derive(Drop)]
+pub enum Taking<T> {
+    /// The lock was free and nobody was starved. The seat holds it now.
+    Got(Hold<T>),
+    /// The lock was held, and nobody was starved.
+    Held,
+    /// Somebody was starved, whether the lock was held or not.
+    Starved,
+}
+
+/// What [`take_alone`](crate::Words::take_alone) found.
+#[derive(Drop)]
+pub enum TakingAlone<T> {
+    /// The lock was free and one waiter was starved. The seat holds it now.
+    Got(Hold<T>),
+    /// The lock was held.
+    Held,
+    /// The lock was free, and the number of the starved was not one.
+    FreeWithOthers,
+}
+
+/// What [`set`](crate::Words::set) found.
+#[derive(Drop)]
+pub enum Setting<T> {
+    /// The lock was free. The seat holds it now.
+    Got(Hold<T>),
+    /// The lock was held.
+    WasSet,
+}
+
+/// What [`count`](crate::Words::count) found.
+#[derive(Clone, Copy, Debug, PartialEq, Eq)]
+pub enum Counting {
+    /// The seat is counted as starved now.
+    Counted,
+    /// As many are starved as may be.
+    AtLimit,
+    /// The word changed meanwhile: try again.
+    Changed,
+}

@@ -1,0 +1,44 @@
+//! A lock's future as a `Future`.
+
+ghost use Rattle.std.specs.Prelude.{◌≡◌, ℕ, ⊤};
+ghost use Rattle.futures.specs.Task.{Covers, Keeps};
+ghost use Rattle.lock_words.specs.Turns.{OnPending};
+
+use crate::turn::Turn;
+use futures::Future;
+use futures::task::{Context, Poll};
+use lock_world::Refusal;
+
+/// A named future of a lock, polled for a [`Turn`].
+pub trait Polled: Drop {
+    /// What the future is for.
+    type Got;
+
+    /// What a poll needs of the future.
+    ghost can_poll: { Self → Type 0 } = { λ _. ⊤ };
+
+    /// One poll. Pending, it has registered with a source that covers the task.
+    fn poll_turn(&mut self, cx: &mut Context<'_>) -> Turn<Self::Got>
+        requires { can_poll self.old }
+        ensures again { can_poll self.new }
+        ensures registered { OnPending result (Covers cx.new (λ _. ⊥)) }
+        ensures kept { Keeps cx.old cx.new };
+}
+
+/// Makes a named future a [`Future`], of what it is for or a refusal.
+#[derive(Debug, Drop)]
+pub struct Settled<F>(pub F);
+
+impl<F: Polled> Future for Settled<F> {
+    type Output = Result<F::Got, Refusal>;
+
+    ghost can_poll = { λ s. F.can_poll s.0 };
+
+    fn poll(&mut self, cx: &mut Context<'_>) -> Poll<Result<F::Got, Refusal>> {
+        match self.0.poll_turn(cx) {
+            Turn::Pending => Poll::Pending,
+            Turn::Ready(got) => Poll::Ready(Ok(got)),
+            Turn::Refused(refusal) => Poll::Ready(Err(refusal)),
+        }
+    }
+}

@@ -1,0 +1,328 @@
+//! The words of a mutex, the right to its value and the value, and the tries on the words.
+//!
+//! What always holds between any two steps stands in specs/Rule.antt: one seat at most holds the lock, the
+//! word counts the starved seats, and while nobody holds the lock the right to the value is at home. What a
+//! step tells the seat that makes it stands in specs/Steps.antt.
+
+ghost use Rattle.std.specs.Prelude.{◌≡◌, ℕ, ◌<◌, ◌≤◌, true, false, [], ◌∷◌, IfSome, IsSome};
+ghost use Rattle.lock_words.specs.Lock.{fresh, holding, cleared, counted, uncounted};
+ghost use Rattle.lock_words.specs.Tries.{Holds, OnTaking, OnAlone, OnSetting, OnCounting};
+ghost use Rattle.lock_words.specs.Right.{IsRight};
+ghost use Rattle.lock_words.specs.Seats.{HasSlots};
+ghost use Rattle.lock_words.specs.Steps.{without_holds};
+ghost use Rattle.lock_words.specs.declared.rested.Rested.{Rested};
+
+use crate::found::{Counting, Setting, Taking, TakingAlone};
+use crate::rested::Rested;
+use crate::rule::{Clear, Count, Keep, MutexRule, Set, Take, Uncount};
+use crate::seat::{Seat, View};
+use atomic_table::{Seat as TableSeat, Shared, Table};
+use lock_place::{Hold, Place, Room, Spare};
+use std::alloc::{AllocError, Global};
+use std::marker::Model;
+
+/// The greatest number of seats that are counted as starved at once. [`Words::count`] meets it by name.
+pub const STARVED_LIMIT: u64 = 1_073_741_823;
+
+// The mutex's word is 1 while the lock is held, and 2 more for each starved waiter.
+const WORD: usize = 0;
+
+const FREE: u64 = 0;
+
+const HELD: u64 = 1;
+
+const STARVED: u64 = 2;
+
+// The second word is 1 while the waiting list has entries.
+const WAITING: usize = 1;
+
+// Where the right rests.
+const SLOT: usize = 0;
+
+type Ruled<T> = Shared<Rested<T>, View, Spare<T>, MutexRule>;
+
+/// A mutex without its waiting list: its words, the right to its value, and the value.
+///
+/// In clauses it is which lock it is (`lock`) and where its value lies now (`room`). Each call by a shared
+/// reference is a single try on one word and asks no waiting. Whoever wants to wait stands in a list that
+/// a layer above keeps.
+#[derive(Drop)]
+pub struct Words<T> {
+    table: Table<Rested<T>, View, Spare<T>, MutexRule, Global>,
+    place: Place<T, Global>,
+    spare: Spare<T>,
+    // A forgotten seat left the lock held, and the value has been lent past it. The lock stays held then,
+    // and the right that the seat had is worth nothing.
+    is_left: bool,
+}
+
+impl<T> Model for Words<T> {
+    ghost use Rattle.lock_words.specs.Lock.{Lock, lock_coded};
+
+    ghost Value = { Lock };
+
+    ghost coded = { lock_coded };
+
+    ghost use Rattle.std.specs.Prelude.{◌≡◌, false, IsSome};
+
+    ghost view = { λ w. record { lock = record { table = w.table.shared.table_id; room = w.table.shared.key.room_id; deed = w.table.shared.key.deed }; room = w.place.room.room_id } };
+
+    ghost invariant = { λ w. (w.table.shared.table_id.words ≡ 2) × (w.table.shared.table_id.slots ≡ 1) × (w.spare.room_id ≡ w.place.room.room_id) × (w.is_left ≡ false → (w.table.shared.key.room_id ≡ w.place.room.room_id) × (w.table.shared.key.deed ≡ w.spare.deed) × IsSome w.spare.value) };
+}
+
+impl<T> Words<T> {
+    /// A free lock over a value, with nobody starved and nobody waiting. Refused for memory, the value is
+    /// dropped.
+    pub fn new(alloc: Global, value: T) -> Result<Words<T>, AllocError>
+    where
+        T: Drop,
+    {
+        let Ok((place, hold)) = Place::new(alloc, value) else {
+            return Err(AllocError);
+        };
+        let (mut spare, ticket) = Spare::new(&place.room);
+        spare.lend(hold, &place);
+        let mut slots = Vec::new(alloc);
+        slots.push(Rested::Spared(ticket))?;
+        let Ok((table, _first)) = Table::new(alloc, &[FREE, 0], slots, &spare) else {
+            return Err(AllocError);
+        };
+        Ok(Words {
+            table,
+            place,
+            spare,
+            is_left: false,
+        })
+    }
+
+    /// The value, whatever became of the seats and the rights: a lock that a forgotten seat holds gives it
+    /// too. It waits for nobody and takes no memory.
+    pub fn into_inner(self) -> T {
+        let Words {
+            table,
+            place,
+            spare,
+            is_left: _,
+        } = self;
+        drop(table);
+        drop(spare);
+        place.into_inner()
+    }
+
+    /// A new seat, which neither holds the lock nor is counted as starved. It costs one load and takes no
+    /// memory.
+    pub fn sit(&self) -> Seat<T>
+        ensures { result ≡ fresh self.now.lock }
+    {
+        Seat {
+            inner: self.table.shared.load_new_seat::<Keep>(WORD).1,
+        }
+    }
+
+    /// Whether the lock was held at some moment of the call. It needs no seat.
+    pub fn is_locked(&self) -> bool {
+        self.table.shared.peek(WORD) % STARVED == HELD
+    }
+
+    /// Where the value lies. [`Hold::get`] and [`Hold::get_mut`] lend it to whoever has its right.
+    pub fn room(&self) -> &Room<T>
+        ensures { result.now.room_id ≡ self.now.room }
+    {
+        &self.place.room
+    }
+
+    /// Says whether the waiting list has entries. Only whoever has the list's lock may call it, so that
+    /// what it says is so while that lock is held; that is the layer's above to keep.
+    pub fn set_waiting(&self, seat: &mut Seat<T>, is_waiting: bool)
+        requires { seat.old.lock ≡ self.now.lock }
+        ensures { seat.new ≡ seat.old }
+    {
+        self.table
+            .shared
+            .store::<Keep>(&mut seat.inner, WAITING, u64::from(is_waiting));
+    }
+
+    /// Whether the waiting list had entries at some moment of the call. A release that finds none need not
+    /// ask for the list's lock: whoever joins says so first, and then looks at the lock again.
+    pub fn is_waiting(&self) -> bool {
+        self.table.shared.peek(WAITING) != 0
+    }
+
+    /// Takes the lock if it is free and nobody is starved: one try, which is no exchange where the lock
+    /// isn't free to take.
+    ///
+    /// By the contract a seat that got the lock found nobody starved (`passed` is 0) and holds it with the
+    /// right to its value, and any other seat is as it was. Which of the two other answers comes is tested.
+    pub fn take(&self, seat: &mut Seat<T>) -> Taking<T>
+        requires lock { seat.old.lock ≡ self.now.lock }
+        requires idle { seat.old.holds ≡ false }
+        ensures { OnTaking result (λ hold. (seat.new ≡ holding seat.old 0) × Holds self.now seat.new hold) (seat.new ≡ seat.old) }
+    {
+        let shared = &self.table.shared;
+        let mut found = shared.peek(WORD);
+        if found == FREE && !self.is_left {
+            found = shared.compare_exchange::<Take>(&mut seat.inner, WORD, FREE, HELD);
+            if found == FREE {
+                return Taking::Got(take_right(shared, &self.spare, &mut seat.inner));
+            }
+        }
+        if found < STARVED {
+            Taking::Held
+        } else {
+            Taking::Starved
+        }
+    }
+
+    /// Takes the lock if it is free and one waiter alone is starved, who is mostly the caller: one try.
+    ///
+    /// By the contract a seat that got the lock found one starved (`passed` is 1) and holds it with the
+    /// right to its value, and any other seat is as it was.
+    pub fn take_alone(&self, seat: &mut Seat<T>) -> TakingAlone<T>
+        requires lock { seat.old.lock ≡ self.now.lock }
+        requires idle { seat.old.holds ≡ false }
+        ensures { OnAlone result (λ hold. (seat.new ≡ holding seat.old 1) × Holds self.now seat.new hold) (seat.new ≡ seat.old) }
+    {
+        let shared = &self.table.shared;
+        let mut found = shared.peek(WORD);
+        if found == STARVED && !self.is_left {
+            found = shared.compare_exchange::<Take>(&mut seat.inner, WORD, STARVED, STARVED + HELD);
+            if found == STARVED {
+                return TakingAlone::Got(take_right(shared, &self.spare, &mut seat.inner));
+            }
+        }
+        if found % STARVED == HELD {
+            TakingAlone::Held
+        } else {
+            TakingAlone::FreeWithOthers
+        }
+    }
+
+    /// Makes the lock held, and takes it if it was free, whoever is starved: one step, which changes nothing
+    /// where the lock was held.
+    pub fn set(&self, seat: &mut Seat<T>) -> Setting<T>
+        requires lock { seat.old.lock ≡ self.now.lock }
+        requires idle { seat.old.holds ≡ false }
+        ensures { OnSetting result (λ hold. (seat.new ≡ holding seat.old seat.new.passed) × Holds self.now seat.new hold) (seat.new ≡ seat.old) }
+    {
+        let shared = &self.table.shared;
+        if self.is_left {
+            return Setting::WasSet;
+        }
+        if shared.fetch_or::<Set>(&mut seat.inner, WORD, HELD) % STARVED == HELD {
+            return Setting::WasSet;
+        }
+        Setting::Got(take_right(shared, &self.spare, &mut seat.inner))
+    }
+
+    /// Counts the seat as starved: one try, which says by name where [`STARVED_LIMIT`] seats are counted
+    /// already and where the word changed meanwhile. In both cases nothing changes.
+    ///
+    /// By the table's rule no count passes the limit.
+    pub fn count(&self, seat: &mut Seat<T>) -> Counting
+        requires lock { seat.old.lock ≡ self.now.lock }
+        requires one { seat.old.starved ≡ false }
+        ensures { OnCounting result (seat.new ≡ counted seat.old) (seat.new ≡ seat.old) }
+    {
+        let shared = &self.table.shared;
+        let found = shared.peek(WORD);
+        if found / STARVED >= STARVED_LIMIT {
+            return Counting::AtLimit;
+        }
+        let more = found + STARVED;
+        if shared.compare_exchange::<Count>(&mut seat.inner, WORD, found, more) == found {
+            Counting::Counted
+        } else {
+            Counting::Changed
+        }
+    }
+
+    /// Takes the seat's count off: one step.
+    pub fn uncount(&self, seat: &mut Seat<T>)
+        requires lock { seat.old.lock ≡ self.now.lock }
+        requires starved { seat.old.starved ≡ true }
+        ensures { seat.new ≡ uncounted seat.old }
+    {
+        self.table
+            .shared
+            .fetch_sub::<Uncount>(&mut seat.inner, WORD, STARVED);
+    }
+
+    /// Gives the lock back, and its right with it: one step.
+    pub fn clear(&self, seat: &mut Seat<T>, hold: Hold<T>)
+        requires { Holds self.now seat.old hold }
+        ensures { seat.new ≡ cleared seat.old }
+    {
+        let right = Rested::Present(hold.park());
+        give_back(&self.table.shared, &mut seat.inner, right);
+    }
+
+    /// The value, whatever became of the seats and the rights. It waits for nobody and takes no memory.
+    ///
+    /// A free lock is free afterwards. A lock that a forgotten seat left held stays held for good, as in the
+    /// Rust crate, and only this call and [`Words::into_inner`] reach its value.
+    pub fn get_mut(&mut self) -> &mut T {
+        let mut regained = None;
+        if !self.is_left {
+            let table = &self.table;
+            regained = regain(&table.shared, &mut self.spare, &mut self.place);
+        }
+        let hold = match regained {
+            Some(hold) => hold,
+            None => {
+                self.is_left = true;
+                let hold = self.place.renew();
+                self.spare = Spare::new(&self.place.room).0;
+                hold
+            }
+        };
+        let place = &self.place;
+        self.spare.lend(hold, place)
+    }
+}
+
+// Takes the right out of the slot, which has come to the seat with the lock.
+fn take_right<T>(
+    shared: &Ruled<T>,
+    spare: &Spare<T>,
+    inner: &mut TableSeat<Rested<T>, View>,
+) -> Hold<T>
+    requires table { inner.old.table_id ≡ shared.now.table_id }
+    requires right { (right : Rested T) × (inner.old.me.1 ≡ (0, right) ∷ []) × IsRight spare.now.room_id spare.now.deed right }
+    requires spare { IsSome spare.now.value }
+    ensures hold { result.room_id ≡ spare.now.room_id }
+    ensures seat { (inner.new.table_id ≡ inner.old.table_id) × (inner.new.me.0 ≡ inner.old.me.0) × HasSlots true inner.new.me.1 }
+{
+    shared.exchange(inner, SLOT, Rested::Away).into_hold(spare)
+}
+
+// Lays the right into the slot, and gives the lock back with it.
+fn give_back<T>(shared: &Ruled<T>, inner: &mut TableSeat<Rested<T>, View>, right: Rested<T>)
+    requires table { (inner.old.table_id ≡ shared.now.table_id) × (shared.now.table_id.words ≡ 2) × (shared.now.table_id.slots ≡ 1) }
+    requires right { IsRight inner.old.me.0.room inner.old.me.0.deed right }
+    requires holds { (inner.old.me.0.holds ≡ true) × HasSlots true inner.old.me.1 }
+    ensures { (inner.new.table_id ≡ inner.old.table_id) × (inner.new.me ≡ (without_holds inner.old.me.0, [])) }
+{
+    drop(shared.exchange(inner, SLOT, right));
+    shared.fetch_sub::<Clear>(inner, WORD, HELD);
+}
+
+// Takes the right of a free lock, whoever is starved, and leaves a ticket of the spare in its stead.
+fn regain<T>(
+    shared: &Ruled<T>,
+    spare: &mut Spare<T>,
+    place: &mut Place<T, Global>,
+) -> Option<Hold<T>>
+    requires size { (shared.now.table_id.words ≡ 2) × (shared.now.table_id.slots ≡ 1) }
+    requires key { (shared.now.key.room_id ≡ place.old.room.room_id) × (shared.now.key.deed ≡ spare.old.deed) × (spare.old.room_id ≡ place.old.room.room_id) × IsSome spare.old.value }
+    ensures same { (place.new.room.room_id ≡ place.old.room.room_id) × (spare.new.room_id ≡ spare.old.room_id) × (spare.new.deed ≡ spare.old.deed) }
+    ensures hold { IfSome result (λ hold. hold.room_id ≡ place.old.room.room_id) }
+{
+    let mut inner = shared.load_new_seat::<Keep>(WORD).1;
+    if shared.fetch_or::<Set>(&mut inner, WORD, HELD) % STARVED == HELD {
+        return None;
+    }
+    let hold = take_right(shared, spare, &mut inner);
+    let (hold, ticket) = spare.reissue(hold, place);
+    give_back(shared, &mut inner, Rested::Spared(ticket));
+    Some(hold)
+}
