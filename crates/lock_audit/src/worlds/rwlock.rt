@@ -1,7 +1,9 @@
 //! A read-write lock's World through its public calls.
 
 use lock_core::rwlock::World;
-use lock_core::{Answer, AnyWorld, Call, Entry, Got, Inputs, Made, Mark, Memory, Move, Refusal, What};
+use lock_core::{
+    Answer, AnyWorld, Call, Entry, Got, Inputs, Made, Mark, Memory, Move, Refusal, What,
+};
 use std::alloc::Global;
 use std::process::Abort;
 use std::test::Fail;
