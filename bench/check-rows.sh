@@ -8,7 +8,7 @@
 set -eu
 
 program=${1:-crates/lockrun/out/lockrun}
-rows=crates/lockrun/src/run/rows.rt
+rows=crates/lock_runner/src/program/rows.rt
 work=$(mktemp -d)
 trap 'rm -rf "$work"' EXIT
 

@@ -3,12 +3,7 @@
 
 ghost use Rattle.std.specs.Prelude.{◌≡◌, ◌⊎◌, IfErr};
 
-mod fault;
-mod run;
-mod task;
-mod threads;
-
-use fault::Fault;
+use lock_runner::Fault;
 use std::env;
 use std::io::{BufWriter, ErrorKind};
 use std::process::ExitCode;
@@ -38,7 +33,7 @@ fn arguments<R: Env + AllocGlobal>(rt: &R) -> Result<Vec<String>, Fault>
 fn status(rt: &HostRuntime) -> Result<u8, Fault> {
     let words = arguments(rt)?;
     let mut output = BufWriter::new(rt.alloc(), rt.stdout()).map_err(|_| Fault::Memory)?;
-    Ok(run::run(
+    Ok(lock_runner::run(
         rt.alloc(),
         words.as_slice(),
         &mut rt.stdin(),
@@ -50,6 +45,6 @@ fn status(rt: &HostRuntime) -> Result<u8, Fault> {
 fn main(rt: HostRuntime) -> ExitCode {
     ExitCode::from(match status(&rt) {
         Ok(status) => status,
-        Err(fault) => run::report(fault, &mut rt.stderr()),
+        Err(fault) => lock_runner::report(fault, &mut rt.stderr()),
     })
 }

@@ -1,0 +1,14 @@
+-- What the arguments ask for.
+use Rattle.std.proofs.Common.{◌≡◌, ℕ, List, [], ◌∷◌, length, sym, ◌∙◌, ap, arith, refl}
+use Rattle.std.specs.Prelude.{Option, Some, None, IfSome, IfNone, codes}
+use Rattle.lock_runner.specs.declared.task.Task.{Task}
+use Rattle.lock_runner.specs.declared.task.Task.TheVariants.{Script, Threads}
+use Rattle.lock_runner.specs.Scripts.{asked, AsksFor}
+
+-- where they are the one word `script`, they ask for a script
+pub only_script : (words : List (List ℕ)) (r : Option Task) → IfSome r (AsksFor words) → IfNone r ((task : Task) → ¬ AsksFor words task) → words ≡ asked → r ≡ Some Script
+only_script words None asks none e = absurd (none Script e)
+only_script words (Some Script) asks none e = refl
+only_script words (Some (Threads count)) (word, two, rest) none e =
+    let clash : codes "threads" ∷ word ∷ [] ≡ codes "script" ∷ [] = sym two ∙ e in
+    absurd (omega (arith, ap length clash))

@@ -1,0 +1,59 @@
+//! What the arguments ask for.
+
+ghost use Rattle.std.specs.Prelude.{◌≡◌, ◌↔◌, ℕ, codes, length, map, string_bytes, None, IfSome, IfNone, IsTrue};
+ghost use Rattle.lock_runner.specs.Scripts.{asked, AsksFor, IsWorkers};
+ghost use Rattle.lock_runner.specs.declared.task.Task.{Task};
+
+use lock_script::line;
+
+/// What the arguments ask for.
+#[derive(Clone, Copy, Debug, PartialEq, Eq)]
+pub enum Task {
+    /// To carry out the script of the input.
+    Script,
+    /// To let so many workers, from 1 to 1000, each add one under one lock.
+    Threads(u32),
+}
+
+/// The greatest number of workers.
+pub const WORKERS: u64 = 1000;
+
+/// What the words after the program's name ask for: `script` alone, or `threads` and a number of workers, of
+/// 1 to 4 digits and from 1 to 1000. Any other words ask for nothing.
+pub fn parse(words: &[String]) -> Option<Task>
+    ensures asks { IfSome result (AsksFor (map string_bytes words.now)) }
+    ensures none { IfNone result ((task : Task) → ¬ AsksFor (map string_bytes words.now) task) }
+{
+    match words {
+        [word] if is_word(word, "script") => Some(Task::Script),
+        [word, count] if is_word(word, "threads") => match workers(count.as_str().as_bytes()) {
+            Some(count) => Some(Task::Threads(count)),
+            None => None,
+        },
+        _ => None,
+    }
+}
+
+/// Whether an argument is this word.
+fn is_word(argument: &String, word: &str) -> bool
+    ensures { IsTrue result ↔ (string_bytes argument.now ≡ word.now) }
+{
+    argument.as_str() == word
+}
+
+/// The number of workers that a word writes.
+fn workers(word: &[u8]) -> Option<u32>
+    ensures some { IfSome result (IsWorkers word.now) }
+    ensures none { IfNone result ((count : ℕ) → ¬ IsWorkers word.now count) }
+{
+    if word.len() > 4 {
+        return None;
+    }
+    match line::number(word) {
+        Some(count) if 1 <= count && count <= WORKERS => Some(count as u32),
+        _ => None,
+    }
+}
+
+#[cfg(test)]
+mod tests;

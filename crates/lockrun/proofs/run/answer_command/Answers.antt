@@ -1,5 +1,0 @@
-use Rattle.lockrun.proofs.Plays.{leads_new}
-use Rattle.lockrun.proofs.run.answer_command.Goals as goal
-
-pub returns-in-New-clause-leads : goal.returns-in-New-clause-leads
-returns-in-New-clause-leads g c = leads_new _ _ _ _ _ _ _ c.in-New.is c.make.ensures.made c.make.ensures.prints

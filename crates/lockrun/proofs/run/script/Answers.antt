@@ -1,7 +1,0 @@
-use Rattle.std.proofs.Common.{arith, rules}
-use Rattle.lockrun.proofs.Faults.{whole_fault}
-use Rattle.lockrun.proofs.run.script.Goals as goal
-
-pub returns-clause-fault : goal.returns-clause-fault
-returns-clause-fault g c =
-    whole_fault _ _ _ _ _ _ c.answer_lines.result _ c.in_ok-text.ensures.start (omega arith) (rw c.as_slice.ensures.value at c.answer_lines.ensures.fault) c.flush.ensures.bytes (search rules)

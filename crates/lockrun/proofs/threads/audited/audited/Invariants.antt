@@ -1,5 +1,0 @@
-use Rattle.lockrun.proofs.threads.audited.audited.Given as goal
-
--- the ledgers are those of the blanks
-abbrev pub ghosts-book_of : goal.ghosts-book_of
-ghosts-book_of g a = record { names = a.blanks }
