@@ -221,3 +221,18 @@ fn a_solo_poll_gives_way_to_a_starved_party_which_takes_the_lock(
     assert_state(&rt, &world, (true, 1, 1));
     Ok(())
 }
+
+#[test]
+fn a_run_goes_on_after_the_answers_of_another(rt: HostRuntime) -> Result<(), Fail> {
+    let mut world = of_parties(rt.alloc(), 2, 3)?;
+    let mut answers = Vec::new(rt.alloc());
+    // Where the first growth is refused, the second one is not.
+    answers.reserve(2).or_else(|_| answers.reserve(2))?;
+    for (party, call) in [(0, Call::TryLock), (1, Call::TryLock)] {
+        let what = begin(call);
+        let ran = world.run_into(&[Move { party, what }], &mut answers);
+        assert!(rt; ran.is_ok());
+    }
+    assert_eq!(rt; answers.as_slice(), [granted(3), Answer::None].as_slice());
+    Ok(())
+}
