@@ -8,6 +8,10 @@
 set -eu
 
 program=${1:-crates/lockrun/out/lockrun}
+if [ ! -x "$program" ]; then
+    echo "there is no program $program: run 'rt run' in crates/lockrun first" >&2
+    exit 2
+fi
 rows=crates/lock_runner/src/program/rows.rt
 work=$(mktemp -d)
 trap 'rm -rf "$work"' EXIT

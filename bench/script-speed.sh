@@ -7,6 +7,10 @@
 set -eu
 
 program=${1:-crates/lockrun/out/lockrun}
+if [ ! -x "$program" ]; then
+    echo "there is no program $program: run 'rt run' in crates/lockrun first" >&2
+    exit 2
+fi
 work=$(mktemp -d)
 trap 'rm -rf "$work"' EXIT
 
