@@ -1,11 +1,13 @@
 -- What the World that stands in a run does, of whichever lock it is.
 use Rattle.std.specs.Prelude.{◌≡◌, ℕ, List}
 use Rattle.mutex_world.specs.State as mutex
-use Rattle.mutex_world.specs.Legal as mutex_legal
+use Rattle.mutex_world.specs.Steps as mutex_steps
 use Rattle.mutex_world.specs.Whole as mutex_whole
+use Rattle.mutex_world.specs.Bound as mutex_bound
 use Rattle.rwlock_world.specs.State as rwlock
-use Rattle.rwlock_world.specs.Legal as rwlock_legal
+use Rattle.rwlock_world.specs.Steps as rwlock_steps
 use Rattle.rwlock_world.specs.Whole as rwlock_whole
+use Rattle.rwlock_world.specs.Bound as rwlock_bound
 use Rattle.lock_script.specs.declared.command.Request.{Request}
 use Rattle.lock_play.specs.declared.world.World.{World}
 use Rattle.lock_play.specs.declared.world.World.TheVariants.{Mutex, RwLock}
@@ -15,5 +17,5 @@ use Rattle.lock_play.specs.Requests.{Does}
 
 -- what is asked for leads to a World of the same lock, and is answered by this text
 abbrev pub CarriesOut : Request → World → World → List ℕ → Type 0
-CarriesOut request (Mutex old) new text = (v : mutex.World) × (new ≡ Mutex v) × Does mutex_legal.Legal mutex_whole.IsWholeCall mutex_played.put_gives mutex_played.take_gives mutex_played.text_of request old v text
-CarriesOut request (RwLock old) new text = (v : rwlock.World) × (new ≡ RwLock v) × Does rwlock_legal.Legal rwlock_whole.IsWholeCall rwlock_played.put_gives rwlock_played.take_gives rwlock_played.text_of request old v text
+CarriesOut request (Mutex old) new text = (v : mutex.World) × (new ≡ Mutex v) × Does mutex_steps.Steps mutex_whole.IsWholeCall mutex_bound.Promises mutex_played.put_gives mutex_played.take_gives mutex_played.text_of request old v text
+CarriesOut request (RwLock old) new text = (v : rwlock.World) × (new ≡ RwLock v) × Does rwlock_steps.Steps rwlock_whole.IsWholeCall rwlock_bound.Promises rwlock_played.put_gives rwlock_played.take_gives rwlock_played.text_of request old v text

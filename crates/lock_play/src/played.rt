@@ -69,7 +69,7 @@ pub fn carry_out<W: Played, O: Write>(
 ) -> io::Result<()>
     ensures { (text : List ℕ)
         × Does W.legal (IsWholeCall (λ w. Runs W.legal W.learn W.is_well (W.known_of w) w) W.standing_of W.most_steps)
-        W.put_gives W.take_gives W.text_of request world.old world.new text
+        W.promises W.put_gives W.take_gives W.text_of request world.old world.new text
         × Prints (O.contents output.old) (O.contents output.new) result text }
 {
     match request {
@@ -101,6 +101,7 @@ fn poll_whole<W: Played>(world: &mut W, party: u64, call: Call, inputs: Inputs) 
     ensures whole { party < 2 ^ 32
         → IsWholeCall (λ w. Runs W.legal W.learn W.is_well (W.known_of w) w) W.standing_of W.most_steps
         world.old party call inputs result world.new }
+    ensures promised { party < 2 ^ 32 → W.promises world.old party call inputs result world.new }
     ensures past { 2 ^ 32 ≤ party → (result ≡ Answer.NotPossible) × (world.new ≡ world.old) }
 {
     match u32::try_from(party) {
