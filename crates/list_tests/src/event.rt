@@ -1,7 +1,7 @@
 //! The event list, through its public calls.
 
 use lock_event::Mark::{self, Additional, Notified, Waiting};
-use lock_event::{EntryId, Event, Memory};
+use lock_event::{Asked, EntryId, Event, Memory};
 use std::process::Abort;
 use std::test::Fail;
 
@@ -234,5 +234,80 @@ fn reserve_makes_room_or_leaves_the_list_as_it_was(rt: HostRuntime) -> Result<()
         assert!(rt; list.listen().is_ok());
     }
     assert_eq!(rt; list.len(), 21);
+    Ok(())
+}
+
+#[test]
+fn an_asking_entry_leaves_with_its_notification_or_keeps_the_new_waker(
+    rt: HostRuntime,
+) -> Result<(), Fail> {
+    let mut list = Event::new(rt.alloc());
+    let first = join(&rt, &mut list)?;
+    let second = join(&rt, &mut list)?;
+    assert_eq!(rt; list.ask(first, Some(1)), Asked::Waiting { kept: None });
+    assert_eq!(rt; list.ask(second, Some(2)), Asked::Waiting { kept: None });
+    assert_eq!(rt; list.ask(first, None), Asked::Waiting { kept: Some(1) });
+    assert_eq!(rt; list.ask(first, Some(3)), Asked::Waiting { kept: None });
+    assert_marks(&rt, &list, &[Waiting, Waiting]);
+    assert_waker(&rt, &list, 0, Some(3));
+    assert_waker(&rt, &list, 1, Some(2));
+    list.notify(1);
+    assert_next_waker(&rt, &mut list, Some(3));
+    assert_eq!(rt;
+        list.ask(first, Some(4)),
+        Asked::Notified {
+            kept: None,
+            unused: Some(4),
+        }
+    );
+    assert_marks(&rt, &list, &[Waiting]);
+    assert_id(&rt, &list, 0, second);
+    list.notify_additional(1);
+    assert_eq!(rt;
+        list.ask(second, Some(5)),
+        Asked::Notified {
+            kept: Some(2),
+            unused: Some(5),
+        }
+    );
+    assert_marks(&rt, &list, &[]);
+    Ok(())
+}
+
+#[test]
+fn an_entry_that_is_withdrawn_passes_its_notification_on(rt: HostRuntime) -> Result<(), Fail> {
+    let mut list = Event::new(rt.alloc());
+    let first = join(&rt, &mut list)?;
+    let second = join(&rt, &mut list)?;
+    let third = join(&rt, &mut list)?;
+    assert_eq!(rt; list.ask(first, Some(1)), Asked::Waiting { kept: None });
+    assert_eq!(rt; list.ask(second, Some(2)), Asked::Waiting { kept: None });
+    list.notify(1);
+    assert_eq!(rt; list.withdraw(first), Some(1));
+    assert_marks(&rt, &list, &[Notified, Waiting]);
+    assert_next_waker(&rt, &mut list, Some(2));
+    assert_eq!(rt; list.withdraw(second), None);
+    assert_marks(&rt, &list, &[Notified]);
+    assert_id(&rt, &list, 0, third);
+    assert_eq!(rt; list.withdraw(third), None);
+    assert_marks(&rt, &list, &[]);
+    Ok(())
+}
+
+#[test]
+fn an_id_that_stands_in_no_list_is_asked_and_withdrawn_in_vain(
+    rt: HostRuntime,
+) -> Result<(), Fail> {
+    let mut list = Event::new(rt.alloc());
+    let first = join(&rt, &mut list)?;
+    let second = join(&rt, &mut list)?;
+    leave(&rt, &mut list, second);
+    assert_eq!(rt;
+        list.ask(second, Some(1)),
+        Asked::Unlisted { unused: Some(1) }
+    );
+    assert_eq!(rt; list.withdraw(second), None);
+    assert_marks(&rt, &list, &[Waiting]);
+    assert_id(&rt, &list, 0, first);
     Ok(())
 }

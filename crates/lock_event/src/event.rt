@@ -3,9 +3,10 @@
 ghost use Rattle.std.specs.Prelude.{◌≡◌, ℕ, ◌+◌, ◌<◌, ◌≤◌, ◌↔◌, List, [], length, Bool, true, false, IsTrue, IfOk, OnOk, OnErr, IsOk, IsNone, Some, None, slice_get, vec_capacity, vec_len, count_by, remove, slice_set};
 ghost use Rattle.std.specs.List.{All, position};
 ghost use Rattle.lock_event.specs.Lists.{joined, notified, notified_additionally, with_key, is_marked_at, left, passed_on, without, IsMarkedFirst, IsListed, IsAt, is_listed, is_marked, mark_waiting as mark_waiting_lem};
-ghost use Rattle.lock_event.specs.Slots.{has_id, slot_of, is_due, first_waker, without_waker, IsTakenBelow, TakesWaker};
+ghost use Rattle.lock_event.specs.Slots.{has_id, slot_of, waker_at, is_due, first_waker, without_waker, IsTakenBelow, TakesWaker, HasAsked};
 
 use std::alloc::Global;
+use std::mem;
 
 /// The memory that a call asked for was refused.
 #[derive(Clone, Copy, Debug, PartialEq, Eq)]
@@ -47,6 +48,29 @@ pub struct Slot<W> {
     /// What is kept to wake it with: the newest one handed to [`Event::poll_entry`], until
     /// [`Event::next_waker`] takes it.
     pub waker: Option<W>,
+}
+
+/// What became of an entry that asked for its notification by [`Event::ask`]. It hands out what is no
+/// longer kept, so that a caller who holds a lock round the list can drop it later.
+#[derive(Debug, Drop, PartialEq, Eq)]
+pub enum Asked<W> {
+    /// The entry had been notified, by either kind of notification, and has left the list with it.
+    Notified {
+        /// What it still kept to be woken with.
+        kept: Option<W>,
+        /// What was handed in.
+        unused: Option<W>,
+    },
+    /// The entry waits, and keeps what was handed in.
+    Waiting {
+        /// What it kept before.
+        kept: Option<W>,
+    },
+    /// No entry has this id.
+    Unlisted {
+        /// What was handed in.
+        unused: Option<W>,
+    },
 }
 
 /// A list of entries in order of joining, each waiting, notified, or notified additionally.
@@ -252,6 +276,35 @@ impl<W: Drop> Event<W> {
         marked
     }
 
+    /// Asks for the notification of the entry that has this id, if one has. It is [`Event::poll_entry`]
+    /// for a caller to whom the list was out of sight: any id is fine, and no waker is dropped here
+    /// (`asked`).
+    ///
+    /// If the entry has been notified, of either kind, it leaves the list with its notification. If not, it
+    /// keeps `waker` to be woken with, or nothing if that is `None`, and what it kept before is handed out.
+    pub fn ask(&mut self, id: EntryId, waker: Option<W>) -> Asked<W>
+        ensures asked { HasAsked id waker self.old.entries result self.new.entries }
+        ensures room { self.new.room ≡ self.old.room }
+    {
+        if !self.contains(id) {
+            return Asked::Unlisted { unused: waker };
+        }
+        let at = self.find(id);
+        let mark = self.entries[at].mark;
+        if mark.is_marked() {
+            let entry = hand_out(&mut self.entries, at);
+            return Asked::Notified {
+                kept: entry.key.waker,
+                unused: waker,
+            };
+        }
+        let key = Slot { id, waker };
+        let entry = exchange(&mut self.entries, at, Entry { key, mark });
+        Asked::Waiting {
+            kept: entry.key.waker,
+        }
+    }
+
     /// Takes out the waker of the first notified entry that still holds one, of either kind. All
     /// else stays: the entries' order, ids and marks, and the other wakers (`entries`). It is `None`
     /// exactly where no notified entry holds a waker (`none`), and then nothing changes (`unchanged`).
@@ -289,6 +342,23 @@ impl<W: Drop> Event<W> {
         let mark = self.entries[at].mark;
         take_out(&mut self.entries, at);
         pass_on(&mut self.entries, mark);
+    }
+
+    /// The entry that has this id, if one has, leaves the list without asking. It is [`Event::leave`] for a
+    /// caller to whom the list was out of sight: any id is fine, a notification that the entry had goes on
+    /// (`entries`), and what the entry kept to be woken with is handed out (`waker`).
+    pub fn withdraw(&mut self, id: EntryId) -> Option<W>
+        ensures entries { self.new.entries ≡ left (has_id id) self.old.entries }
+        ensures waker { result ≡ waker_at id self.old.entries }
+        ensures room { self.new.room ≡ self.old.room }
+    {
+        if !self.contains(id) {
+            return None;
+        }
+        let at = self.find(id);
+        let entry = hand_out(&mut self.entries, at);
+        pass_on(&mut self.entries, entry.mark);
+        entry.key.waker
     }
 }
 
@@ -334,6 +404,26 @@ fn take_out<K: Drop>(entries: &mut Vec<Entry<K>>, at: usize)
     ensures room { vec_capacity entries.new ≡ vec_capacity entries.old }
 {
     entries.remove(at);
+}
+
+/// Takes out the entry at this place, and hands it over.
+fn hand_out<K>(entries: &mut Vec<Entry<K>>, at: usize) -> Entry<K>
+    requires { at < vec_len entries.old }
+    ensures entry { slice_get entries.old.items at ≡ Some result }
+    ensures items { entries.new.items ≡ remove entries.old.items at }
+    ensures room { vec_capacity entries.new ≡ vec_capacity entries.old }
+{
+    entries.remove(at)
+}
+
+/// Replaces the entry at this place, and hands over the old one.
+fn exchange<K>(entries: &mut Vec<Entry<K>>, at: usize, entry: Entry<K>) -> Entry<K>
+    requires { at < vec_len entries.old }
+    ensures entry { slice_get entries.old.items at ≡ Some result }
+    ensures items { entries.new.items ≡ slice_set entries.old.items at entry }
+    ensures room { vec_capacity entries.new ≡ vec_capacity entries.old }
+{
+    mem::replace(&mut entries[at], entry)
 }
 
 /// Replaces the entry at this place.

@@ -47,7 +47,7 @@ module _ (T : Type 0) (room : RoomId) (deed : ℕ) where
   of_lock : (me : M) → Keyed me.0 → (y : Rested T) → IsRight me.0.room me.0.deed y → IsRight room deed y
   of_lock me key y good = subst (λ (d : ℕ). IsRight room d y) key.1 (subst (λ (z : RoomId). IsRight z me.0.deed y) key.0 good)
 
-  pub opens : (y : Rested T) → IsRight room deed y → R (opening (0 ∷ 0 ∷ []) (y ∷ []) (first_view room deed))
+  pub opens : (y : Rested T) → IsRight room deed y → R (opening (0 ∷ []) (y ∷ []) (first_view room deed))
   opens y good = ((omega arith, omega arith, omega arith, refl), (λ _. (y, refl, good)), only)
     where
       only : AllKeyed (first_view room deed ∷ [])
@@ -159,16 +159,6 @@ module _ (T : Type 0) (room : RoomId) (deed : ℕ) where
       (λ _. (y, subst (λ c. get_elem? (put_back s.homes c) 0 ≡ some (some y)) (sym has) (set_here s.homes 0 (some y) (subst (λ (z : ℕ). 0 < z) (sym len) some_slot)), of_lock me k y good)),
       keyed_set s.views id w r.2 k,
     ),
-    refl,
-  )
-
-  -- the other word changes
-  pub stored : (slots id j n : ℕ) (me : M) → 0 ≢ j → Allows R slots id me j (λ _. n) (λ _. Kept (step slots j n 0 none) me n)
-  stored slots id j n me else s r _ at _ = (
-    me.0,
-    keeps,
-    tt,
-    unmoved s id me r at n j me.0 (word.beside is_holder is_starved most 0 s.words s.views id me.0 me.0 r.0 at j n else refl refl) (same_holders s id me r at me.0 refl) (key s id me r at),
     refl,
   )
 

@@ -33,9 +33,6 @@ const HELD: u64 = 1;
 
 const STARVED: u64 = 2;
 
-// The second word is 1 while the waiting list has entries.
-const WAITING: usize = 1;
-
 // Where the right rests.
 const SLOT: usize = 0;
 
@@ -67,11 +64,11 @@ impl<T> Model for Words<T> {
 
     ghost view = { λ w. record { lock = record { table = w.table.shared.table_id; room = w.table.shared.key.room_id; deed = w.table.shared.key.deed }; room = w.place.room.room_id } };
 
-    ghost invariant = { λ w. (w.table.shared.table_id.words ≡ 2) × (w.table.shared.table_id.slots ≡ 1) × (w.spare.room_id ≡ w.place.room.room_id) × (w.is_left ≡ false → (w.table.shared.key.room_id ≡ w.place.room.room_id) × (w.table.shared.key.deed ≡ w.spare.deed) × IsSome w.spare.value) };
+    ghost invariant = { λ w. (w.table.shared.table_id.words ≡ 1) × (w.table.shared.table_id.slots ≡ 1) × (w.spare.room_id ≡ w.place.room.room_id) × (w.is_left ≡ false → (w.table.shared.key.room_id ≡ w.place.room.room_id) × (w.table.shared.key.deed ≡ w.spare.deed) × IsSome w.spare.value) };
 }
 
 impl<T> Words<T> {
-    /// A free lock over a value, with nobody starved and nobody waiting. Refused for memory, the value is
+    /// A free lock over a value, with nobody starved. Refused for memory, the value is
     /// dropped.
     pub fn new(alloc: Global, value: T) -> Result<Words<T>, AllocError>
     where
@@ -84,7 +81,7 @@ impl<T> Words<T> {
         spare.lend(hold, &place);
         let mut slots = Vec::new(alloc);
         slots.push(Rested::Spared(ticket))?;
-        let Ok((table, _first)) = Table::new(alloc, &[FREE, 0], slots, &spare) else {
+        let Ok((table, _first)) = Table::new(alloc, &[FREE], slots, &spare) else {
             return Err(AllocError);
         };
         Ok(Words {
@@ -129,23 +126,6 @@ impl<T> Words<T> {
         ensures { result.now.room_id ≡ self.now.room }
     {
         &self.place.room
-    }
-
-    /// Says whether the waiting list has entries. Only whoever has the list's lock may call it, so that
-    /// what it says is so while that lock is held; that is the layer's above to keep.
-    pub fn set_waiting(&self, seat: &mut Seat<T>, is_waiting: bool)
-        requires { seat.old.lock ≡ self.now.lock }
-        ensures { seat.new ≡ seat.old }
-    {
-        self.table
-            .shared
-            .store::<Keep>(&mut seat.inner, WAITING, u64::from(is_waiting));
-    }
-
-    /// Whether the waiting list had entries at some moment of the call. A release that finds none need not
-    /// ask for the list's lock: whoever joins says so first, and then looks at the lock again.
-    pub fn is_waiting(&self) -> bool {
-        self.table.shared.peek(WAITING) != 0
     }
 
     /// Takes the lock if it is free and nobody is starved: one try, which is no exchange where the lock
@@ -297,7 +277,7 @@ fn take_right<T>(
 
 // Lays the right into the slot, and gives the lock back with it.
 fn give_back<T>(shared: &Ruled<T>, inner: &mut TableSeat<Rested<T>, View>, right: Rested<T>)
-    requires table { (inner.old.table_id ≡ shared.now.table_id) × (shared.now.table_id.words ≡ 2) × (shared.now.table_id.slots ≡ 1) }
+    requires table { (inner.old.table_id ≡ shared.now.table_id) × (shared.now.table_id.words ≡ 1) × (shared.now.table_id.slots ≡ 1) }
     requires right { IsRight inner.old.me.0.room inner.old.me.0.deed right }
     requires holds { (inner.old.me.0.holds ≡ true) × HasSlots true inner.old.me.1 }
     ensures { (inner.new.table_id ≡ inner.old.table_id) × (inner.new.me ≡ (without_holds inner.old.me.0, [])) }
@@ -312,7 +292,7 @@ fn regain<T>(
     spare: &mut Spare<T>,
     place: &mut Place<T, Global>,
 ) -> Option<Hold<T>>
-    requires size { (shared.now.table_id.words ≡ 2) × (shared.now.table_id.slots ≡ 1) }
+    requires size { (shared.now.table_id.words ≡ 1) × (shared.now.table_id.slots ≡ 1) }
     requires key { (shared.now.key.room_id ≡ place.old.room.room_id) × (shared.now.key.deed ≡ spare.old.deed) × (spare.old.room_id ≡ place.old.room.room_id) × IsSome spare.old.value }
     ensures same { (place.new.room.room_id ≡ place.old.room.room_id) × (spare.new.room_id ≡ spare.old.room_id) × (spare.new.deed ≡ spare.old.deed) }
     ensures hold { IfSome result (λ hold. hold.room_id ≡ place.old.room.room_id) }

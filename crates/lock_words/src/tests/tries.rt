@@ -93,22 +93,6 @@ fn a_count_that_is_taken_off_lets_newcomers_in(rt: HostRuntime) -> Result<(), Fa
 }
 
 #[test]
-fn the_second_word_says_whether_somebody_waits(rt: HostRuntime) -> Result<(), Fail> {
-    let Ok(words) = Words::new(rt.alloc(), 7u64) else {
-        return Ok(());
-    };
-    let mut seat = words.sit();
-    assert!(rt; !words.is_waiting());
-    words.set_waiting(&mut seat, true);
-    assert!(rt; words.is_waiting() && !words.is_locked());
-    assert_eq!(rt; by_take(&words, &mut seat), Found::Got);
-    assert!(rt; words.is_waiting());
-    words.set_waiting(&mut seat, false);
-    assert!(rt; !words.is_waiting());
-    Ok(())
-}
-
-#[test]
 fn two_threads_count_and_take(rt: HostRuntime) -> Result<(), Fail> {
     let Ok(words) = Words::new(rt.alloc(), 0u64) else {
         return Ok(());

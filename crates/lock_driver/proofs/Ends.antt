@@ -1,0 +1,169 @@
+-- Where a call on a mutex leaves its party that ended.
+use Rattle.std.specs.Bool.{⊤}
+use Rattle.std.proofs.Common.{◌≡◌, true, false, Option, Some, None, refl, ap, subst}
+use Rattle.lock_driver.specs.Parties.{EndsAt, end_of, end_after, next_place}
+use Rattle.mutex_machine.specs.declared.program.End.{End}
+use Rattle.mutex_machine.specs.declared.program.Found.{Found}
+use Rattle.mutex_machine.specs.declared.program.Found.TheVariants.{Done, Free, Held, SomeStarved, AtLimit, NoMemory, Yes, No}
+use Rattle.mutex_machine.specs.declared.program.Next.{Next}
+use Rattle.mutex_machine.specs.declared.program.Next.TheVariants as next
+use Rattle.mutex_machine.specs.declared.program.Place.{Place}
+use Rattle.mutex_machine.specs.declared.program.Place.TheVariants.{Out, Holding, Enter, Try, Clear, CancelUncount, CancelLeave, Join, Look, Ask, Retry, PassOn, Count, JoinStarved, LookAlone, PassOnListed, AskStarved, Seize, Uncount, Leave, RefuseUncount, RefuseLeave, RefuseNotifyMemory, RefuseNotifyStarved, ReleaseNotify}
+use Rattle.mutex_machine.specs.Program.{next_of, rest_at, place_after}
+
+-- where the call ends here, its party is where such an end leaves it
+abbrev OnEnd : Next → Place → Type 0
+OnEnd (next.Do action q) p = ⊤
+OnEnd (next.End e) p = EndsAt e (rest_at p e)
+
+on_end : (p : Place) (f : Found) → OnEnd (next_of p f) p
+on_end Out f = refl
+on_end Holding f = refl
+on_end (Uncount true) f = tt
+on_end (Uncount false) f = refl
+on_end Leave f = refl
+on_end RefuseUncount f = tt
+on_end (RefuseLeave true) f = tt
+on_end (RefuseLeave false) f = refl
+on_end RefuseNotifyMemory f = refl
+on_end RefuseNotifyStarved f = refl
+on_end ReleaseNotify f = refl
+on_end Clear f = tt
+on_end CancelUncount f = tt
+on_end CancelLeave f = refl
+on_end PassOn f = tt
+on_end PassOnListed f = tt
+on_end Enter Done = tt
+on_end Enter Free = refl
+on_end Enter (Held s) = tt
+on_end Enter SomeStarved = tt
+on_end Enter AtLimit = tt
+on_end Enter NoMemory = tt
+on_end Enter Yes = tt
+on_end Enter No = tt
+on_end Try Done = refl
+on_end Try Free = refl
+on_end Try (Held s) = refl
+on_end Try SomeStarved = refl
+on_end Try AtLimit = refl
+on_end Try NoMemory = refl
+on_end Try Yes = refl
+on_end Try No = refl
+on_end (Join true) Done = tt
+on_end (Join true) Free = tt
+on_end (Join true) (Held s) = tt
+on_end (Join true) SomeStarved = tt
+on_end (Join true) AtLimit = tt
+on_end (Join true) NoMemory = tt
+on_end (Join true) Yes = tt
+on_end (Join true) No = tt
+on_end (Join false) Done = tt
+on_end (Join false) Free = refl
+on_end (Join false) (Held s) = refl
+on_end (Join false) SomeStarved = refl
+on_end (Join false) AtLimit = refl
+on_end (Join false) NoMemory = refl
+on_end (Join false) Yes = refl
+on_end (Join false) No = refl
+on_end (Look told) Done = tt
+on_end (Look told) Free = tt
+on_end (Look told) (Held s) = tt
+on_end (Look told) SomeStarved = tt
+on_end (Look told) AtLimit = tt
+on_end (Look told) NoMemory = tt
+on_end (Look told) Yes = tt
+on_end (Look told) No = tt
+on_end Ask Done = tt
+on_end Ask Free = tt
+on_end Ask (Held s) = tt
+on_end Ask SomeStarved = tt
+on_end Ask AtLimit = tt
+on_end Ask NoMemory = tt
+on_end Ask Yes = tt
+on_end Ask No = tt
+on_end Retry Done = tt
+on_end Retry Free = refl
+on_end Retry (Held true) = tt
+on_end Retry (Held false) = tt
+on_end Retry SomeStarved = tt
+on_end Retry AtLimit = tt
+on_end Retry NoMemory = tt
+on_end Retry Yes = tt
+on_end Retry No = tt
+on_end (Count true true) Done = tt
+on_end (Count true true) Free = tt
+on_end (Count true true) (Held s) = tt
+on_end (Count true true) SomeStarved = tt
+on_end (Count true true) AtLimit = tt
+on_end (Count true true) NoMemory = tt
+on_end (Count true true) Yes = tt
+on_end (Count true true) No = tt
+on_end (Count true false) Done = tt
+on_end (Count true false) Free = tt
+on_end (Count true false) (Held s) = tt
+on_end (Count true false) SomeStarved = tt
+on_end (Count true false) AtLimit = tt
+on_end (Count true false) NoMemory = tt
+on_end (Count true false) Yes = tt
+on_end (Count true false) No = tt
+on_end (Count false true) Done = tt
+on_end (Count false true) Free = tt
+on_end (Count false true) (Held s) = tt
+on_end (Count false true) SomeStarved = tt
+on_end (Count false true) AtLimit = tt
+on_end (Count false true) NoMemory = tt
+on_end (Count false true) Yes = tt
+on_end (Count false true) No = tt
+on_end (Count false false) Done = tt
+on_end (Count false false) Free = tt
+on_end (Count false false) (Held s) = tt
+on_end (Count false false) SomeStarved = tt
+on_end (Count false false) AtLimit = refl
+on_end (Count false false) NoMemory = tt
+on_end (Count false false) Yes = tt
+on_end (Count false false) No = tt
+on_end JoinStarved Done = tt
+on_end JoinStarved Free = tt
+on_end JoinStarved (Held s) = tt
+on_end JoinStarved SomeStarved = tt
+on_end JoinStarved AtLimit = tt
+on_end JoinStarved NoMemory = tt
+on_end JoinStarved Yes = tt
+on_end JoinStarved No = tt
+on_end LookAlone Done = tt
+on_end LookAlone Free = tt
+on_end LookAlone (Held s) = tt
+on_end LookAlone SomeStarved = tt
+on_end LookAlone AtLimit = tt
+on_end LookAlone NoMemory = tt
+on_end LookAlone Yes = tt
+on_end LookAlone No = tt
+on_end AskStarved Done = tt
+on_end AskStarved Free = tt
+on_end AskStarved (Held s) = tt
+on_end AskStarved SomeStarved = tt
+on_end AskStarved AtLimit = tt
+on_end AskStarved NoMemory = tt
+on_end AskStarved Yes = tt
+on_end AskStarved No = tt
+on_end Seize Done = tt
+on_end Seize Free = tt
+on_end Seize (Held s) = tt
+on_end Seize SomeStarved = tt
+on_end Seize AtLimit = tt
+on_end Seize NoMemory = tt
+on_end Seize Yes = tt
+on_end Seize No = tt
+
+at_end : (n : Next) (p : Place) (e : End) → OnEnd n p → end_of n ≡ Some e → EndsAt e (place_after p n)
+at_end (next.Do action q) p e on is = absurd (cc)
+at_end (next.End d) p e on is = subst (λ x. EndsAt x (rest_at p d)) (some_injective d e is) on
+  where
+    out : End → Option End → End
+    out x None = x
+    out x (Some y) = y
+    some_injective : (x y : End) → Some x ≡ Some y → x ≡ y
+    some_injective x y same = ap (out x) same
+
+pub ends_at : (p : Place) (f : Found) (e : End) → end_after p f ≡ Some e → EndsAt e (next_place p f)
+ends_at p f e is = at_end (next_of p f) p e (on_end p f) is

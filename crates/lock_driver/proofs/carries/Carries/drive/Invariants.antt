@@ -1,0 +1,4 @@
+use Rattle.lock_driver.proofs.carries.Carries.drive.Given as goal
+
+abbrev pub invariant-loop : goal.invariant-loop
+invariant-loop g l = g.Self.Carries.stands l.shared l.self l.place

@@ -1,0 +1,118 @@
+-- What a party of a mutex has at a place of its call, and what an action does to that.
+use Rattle.std.specs.Prelude.{◌≡◌, Bool, true, false, ◌==◌, is_some, Option, Some, None, ⊤}
+use Rattle.lock_driver.specs.declared.mutex_party.MutexParty.{MutexParty}
+use Rattle.lock_event.specs.declared.event.EntryId.{EntryId}
+use Rattle.lock_place.specs.declared.room.Hold.{Hold}
+use Rattle.lock_words.specs.Lock.{Lock, Seated}
+use Rattle.lock_words.specs.Tries.{Holds}
+use Rattle.mutex_machine.specs.declared.program.Action.{Action}
+use Rattle.mutex_machine.specs.declared.program.Action.TheVariants as act
+use Rattle.mutex_machine.specs.declared.program.End.{End}
+use Rattle.mutex_machine.specs.declared.program.End.TheVariants as ending
+use Rattle.mutex_machine.specs.declared.program.Found.{Found}
+use Rattle.mutex_machine.specs.declared.program.Found.TheVariants.{Done, Free, Held, SomeStarved, AtLimit, NoMemory, Yes, No}
+use Rattle.mutex_machine.specs.declared.program.Next.{Next}
+use Rattle.mutex_machine.specs.declared.program.Next.TheVariants as next
+use Rattle.mutex_machine.specs.declared.program.Place.{Place}
+use Rattle.mutex_machine.specs.declared.program.Place.TheVariants.{Out, Holding, Ask, AskStarved}
+use Rattle.mutex_machine.specs.Program.{next_of, place_after}
+use Rattle.mutex_machine.specs.Roles.{listed}
+use Rattle.mutex_machine.specs.State.{is_holder, is_counted}
+
+-- what a party has: the right to the value, a count as starved, an entry in the list
+pub record Having : Type 0 where
+  pub right : Bool
+  pub count : Bool
+  pub entry : Bool
+
+abbrev pub having : Bool → Bool → Bool → Having
+having right count entry = record { right = right; count = count; entry = entry }
+
+-- what a party has at this place
+abbrev pub having_at : Place → Having
+having_at p = having (is_holder p) (is_counted p) (listed p == 1)
+
+-- what an action that found this leaves
+abbrev pub after : Action → Found → Having → Having
+after act.Take Free h = having true h.count h.entry
+after act.TakeAlone Free h = having true h.count h.entry
+after act.Set Free h = having true h.count h.entry
+after act.Count Done h = having h.right true h.entry
+after act.Uncount Done h = having h.right false h.entry
+after act.Clear Done h = having false h.count h.entry
+after act.Join Done h = having h.right h.count true
+after act.Ask Yes h = having h.right h.count false
+after act.Leave Done h = having h.right h.count false
+after _ _ h = h
+
+-- what an action may find
+abbrev pub CanFind : Action → Found → Type 0
+CanFind act.Nothing Done = ⊤
+CanFind act.Take Free = ⊤
+CanFind act.Take (Held starving) = ⊤
+CanFind act.Take SomeStarved = ⊤
+CanFind act.TakeAlone Free = ⊤
+CanFind act.TakeAlone (Held starving) = ⊤
+CanFind act.TakeAlone SomeStarved = ⊤
+CanFind act.Set Free = ⊤
+CanFind act.Set (Held starving) = ⊤
+CanFind act.Count Done = ⊤
+CanFind act.Count AtLimit = ⊤
+CanFind act.Uncount Done = ⊤
+CanFind act.Clear Done = ⊤
+CanFind act.Join Done = ⊤
+CanFind act.Join NoMemory = ⊤
+CanFind act.Ask Yes = ⊤
+CanFind act.Ask No = ⊤
+CanFind act.Leave Done = ⊤
+CanFind act.Notify Done = ⊤
+CanFind _ _ = ⊥
+
+-- what an action needs
+abbrev pub CanDo : Action → Having → Type 0
+CanDo act.Take h = h.right ≡ false
+CanDo act.TakeAlone h = h.right ≡ false
+CanDo act.Set h = h.right ≡ false
+CanDo act.Count h = h.count ≡ false
+CanDo act.Uncount h = h.count ≡ true
+CanDo act.Clear h = h.right ≡ true
+CanDo act.Join h = h.entry ≡ false
+CanDo act.Ask h = h.entry ≡ true
+CanDo act.Leave h = h.entry ≡ true
+CanDo _ h = ⊤
+
+-- What a party has by its seat and its entry.
+abbrev pub having_of : Seated → Option EntryId → Having
+having_of seat entry = having seat.holds seat.starved (is_some entry)
+
+-- The seat is the lock's, and the party has the right to the lock's value exactly where the seat holds the lock.
+abbrev pub IsSeated : {T : Type 0} → Lock → Seated → Option (Hold T) → Type 0
+IsSeated w seat (Some hold) = Holds w seat hold
+IsSeated w seat None = (seat.lock ≡ w.lock) × (seat.holds ≡ false)
+
+-- The party has what it has at this place.
+abbrev pub Stands : {T : Type 0} → Lock → MutexParty T → Place → Type 0
+Stands w q p = IsSeated w q.seat q.hold × (having_of q.seat q.entry ≡ having_at p)
+
+-- the place after one where this was found, and how the call has ended by that
+abbrev pub next_place : Place → Found → Place
+next_place p f = place_after p (next_of p f)
+
+abbrev pub end_of : Next → Option End
+end_of (next.Do action p) = None
+end_of (next.End e) = Some e
+
+abbrev pub end_after : Place → Found → Option End
+end_after p f = end_of (next_of p f)
+
+-- where a call on a mutex leaves its party that ended so: the party holds the lock, or may be polled, or is out
+abbrev pub CanPoll : Place → Type 0
+CanPoll Out = ⊤
+CanPoll Ask = ⊤
+CanPoll AskStarved = ⊤
+CanPoll _ = ⊥
+
+abbrev pub EndsAt : End → Place → Type 0
+EndsAt ending.Got p = p ≡ Holding
+EndsAt ending.Pending p = CanPoll p
+EndsAt _ p = p ≡ Out

@@ -1,0 +1,138 @@
+//! The waiting list of a lock that threads share.
+
+ghost use Rattle.std.specs.Prelude.{◌≡◌, ℕ};
+ghost use Rattle.futures.specs.Task.{Covers, Keeps};
+
+use futures::task::{Context, Poll, Source, Waker};
+use lock_event::{Asked, EntryId, Event, Memory};
+use std::alloc::Global;
+use std::sync::atomic::{AtomicBool, Ordering};
+use std::sync::{Mutex, Wait};
+
+/// The waiting list of a lock that threads share: an event list under a short lock of its own, with the source
+/// that waiting tasks register with.
+///
+/// Each call takes that lock for one function of the list and lets it go again, so a caller's id may have left
+/// meanwhile; each call is fine with any id. Wakers are called and dropped when the lock has been let go. A
+/// waker of the kit's `futures` that is dropped wakes its task, so [`WaitingList::ask`] hands the old one out,
+/// to be registered into, and none is replaced in vain.
+///
+/// No contract sees through the list's lock: what the calls do to the list is what the functions of [`Event`]
+/// say, and tested.
+#[derive(Drop)]
+pub struct WaitingList {
+    source: Source,
+    // Written under the list's lock alone.
+    is_listed: AtomicBool,
+    entries: Mutex<Event<Waker>>,
+}
+
+impl WaitingList {
+    /// The empty list. It takes no memory.
+    pub fn new(alloc: Global) -> WaitingList {
+        WaitingList {
+            source: Source::new(),
+            is_listed: AtomicBool::new(false),
+            entries: Mutex::new(Event::new(alloc)),
+        }
+    }
+
+    /// Whether the list had entries at some moment of the call. It waits for nobody.
+    ///
+    /// Whoever joins says so before the list's lock is let go. So if a party joins and then looks at its lock
+    /// again, and another gives the lock back and then asks here, one of the two finds the other.
+    pub fn is_listed(&self) -> bool {
+        self.is_listed.load(Ordering::SeqCst)
+    }
+
+    /// Leaves the task's waker in `waker`, and registers with the list's source. A waker of the same task that
+    /// is there already stays.
+    pub fn register(&self, cx: &mut Context<'_>, waker: &mut Option<Waker>)
+        ensures registered { Covers cx.new (λ s. s ≡ self.now.source.id) }
+        ensures kept { Keeps cx.old cx.new }
+    {
+        let _: Poll<()> = cx.register(&self.source, waker);
+    }
+
+    /// A new waiting entry joins at the back, with no waker. [`Memory`] comes only where memory was refused,
+    /// and the list then is as it was.
+    pub fn join<R: Wait>(&self, rt: &R) -> Result<EntryId, Memory> {
+        let mut entries = self.entries.lock(rt);
+        let joined = entries.listen();
+        if joined.is_ok() {
+            self.is_listed.store(true, Ordering::SeqCst);
+        }
+        joined
+    }
+
+    /// Asks for the notification of this entry, by [`Event::ask`]. If it has one it leaves the list with it, and
+    /// the answer is true. If not, it keeps the waker in hand to be woken with, and what it kept before is in
+    /// hand instead. An entry that isn't there any more counts as notified, so that nobody waits for it.
+    pub fn ask<R: Wait>(&self, rt: &R, id: EntryId, waker: &mut Option<Waker>) -> bool {
+        let asked = {
+            let mut entries = self.entries.lock(rt);
+            let asked = entries.ask(id, waker.take());
+            if entries.is_empty() {
+                self.is_listed.store(false, Ordering::SeqCst);
+            }
+            asked
+        };
+        match asked {
+            Asked::Waiting { kept } => {
+                *waker = kept;
+                false
+            }
+            Asked::Notified { kept, unused } => {
+                *waker = unused.or(kept);
+                true
+            }
+            Asked::Unlisted { unused } => {
+                *waker = unused;
+                true
+            }
+        }
+    }
+
+    /// This entry leaves the list without asking. A notification that it had goes on to the next, whose waker
+    /// is called. Its own waker is dropped, by which the kit wakes its task once more.
+    pub fn leave<R: Wait>(&self, rt: &R, id: EntryId) {
+        let (kept, due) = {
+            let mut entries = self.entries.lock(rt);
+            let kept = entries.withdraw(id);
+            if entries.is_empty() {
+                self.is_listed.store(false, Ordering::SeqCst);
+            }
+            (kept, entries.next_waker())
+        };
+        drop(kept);
+        wake(due);
+    }
+
+    /// Notifies waiting entries from the front on until `n` are marked or none waits, and calls their wakers,
+    /// each once. A list without entries isn't asked for its lock.
+    pub fn notify<R: Wait>(&self, rt: &R, n: usize) {
+        if !self.is_listed() {
+            return;
+        }
+        let mut due = {
+            let mut entries = self.entries.lock(rt);
+            entries.notify(n);
+            entries.next_waker()
+        };
+        // At most n wakers have become due.
+        for _ in 1..n {
+            let Some(waker) = due else {
+                return;
+            };
+            waker.wake();
+            due = self.entries.lock(rt).next_waker();
+        }
+        wake(due);
+    }
+}
+
+fn wake(due: Option<Waker>) {
+    if let Some(waker) = due {
+        waker.wake();
+    }
+}
