@@ -1,0 +1,24 @@
+//! Locks for tasks: a task that finds its lock taken waits as a pending future, and holds up no thread.
+//!
+//! [`Mutex`] guards a value for one task at a time. It is made with a runtime, which it keeps, and its guards and
+//! futures reach the runtime through it. A future is polled for a [`Turn`]; [`Settled`] makes it a `Future` of the
+//! kit's `futures`, and the blocking forms wait in the calling thread.
+//!
+//! Each lock carries out a program, a table of single actions, and the theorems about all interleavings are proved
+//! of the same table: [`lock_core`] has the Worlds in which parties move by it, and [`lock_audit`] a book of one.
+#![tactic(auto)]
+
+mod guard;
+mod lock;
+mod mutex;
+mod waiting;
+
+/// The futures of the locks.
+pub mod lock_futures {
+    pub use crate::lock::{Lock, LockArc};
+}
+
+pub use guard::{MutexGuard, MutexGuardArc};
+pub use lock_words::{Polled, Settled, Turn};
+pub use lock_world::Refusal;
+pub use mutex::Mutex;

@@ -1,0 +1,215 @@
+//! The futures of a mutex.
+
+ghost use Rattle.std.specs.Prelude.{◌≡◌, ℕ, Some, false};
+ghost use Rattle.std.specs.Arc.{arc_value};
+ghost use Rattle.futures.specs.Task.{Covers, Keeps};
+ghost use Rattle.lock_words.specs.Turns.{OnPending};
+ghost use Rattle.async_lock.specs.Outcomes.{Waits};
+
+use crate::guard::{MutexGuard, MutexGuardArc};
+use crate::mutex::Mutex;
+use crate::waiting::{Outcome, Waiting};
+use futures::task::Context;
+use lock_words::{Polled, Turn};
+use lock_world::Refusal;
+use std::marker::Model;
+use std::sync::{Arc, Wait};
+use std::time::Clock;
+use std::{fmt, mem};
+
+/// A future of a mutex's lock. Dropped, it gives back what it has: its entry in the list, a notification that it was
+/// given, and its count as starved.
+///
+/// In clauses it is the source at which it waits, the mutex's own.
+pub struct Lock<'a, T, R: Wait> {
+    mutex: &'a Mutex<T, R>,
+    // `None` once it was ready.
+    waiting: Option<Waiting<T>>,
+}
+
+impl<'a, T, R: Wait> Model for Lock<'a, T, R> {
+    ghost Value = { ℕ };
+
+    ghost view = { λ l. l.mutex.now.raw.list.source.id };
+
+    ghost invariant = { λ l. (q : _) → l.waiting ≡ Some q → Waits l.mutex.now.raw.words q };
+}
+
+impl<'a, T, R: Wait> Lock<'a, T, R> {
+    pub(crate) fn new(mutex: &'a Mutex<T, R>, waiting: Waiting<T>) -> Lock<'a, T, R>
+        requires { Waits mutex.now.raw.words waiting }
+    {
+        Lock {
+            mutex,
+            waiting: Some(waiting),
+        }
+    }
+}
+
+impl<'a, T, R: Wait + Clock> Lock<'a, T, R> {
+    /// One poll: ready with the guard, or pending.
+    ///
+    /// Pending, it has registered with the mutex's source (`registered`), and it keeps what the context had
+    /// registered before (`kept`).
+    pub fn poll(&mut self, cx: &mut Context<'_>) -> Turn<MutexGuard<'a, T, R>>
+        ensures registered { OnPending result (Covers cx.new (λ s. s ≡ self.old)) }
+        ensures kept { Keeps cx.old cx.new }
+    {
+        let mutex = self.mutex;
+        let Some(waiting) = self.waiting.take() else {
+            return Turn::Refused(Refusal::Finished);
+        };
+        match mutex.poll_waiting(cx, waiting) {
+            Outcome::Got(seat, hold) => Turn::Ready(MutexGuard::new(mutex, seat, hold)),
+            Outcome::Waits(waiting) => {
+                self.waiting = Some(waiting);
+                Turn::Pending
+            }
+            Outcome::Refused(refusal, waiting) => {
+                self.waiting = Some(waiting);
+                Turn::Refused(refusal)
+            }
+        }
+    }
+}
+
+impl<'a, T, R: Wait + Clock> Polled for Lock<'a, T, R> {
+    type Got = MutexGuard<'a, T, R>;
+
+    fn poll_turn(&mut self, cx: &mut Context<'_>) -> Turn<MutexGuard<'a, T, R>> {
+        self.poll(cx)
+    }
+}
+
+impl<T, R: Wait> Drop for Lock<'_, T, R> {
+    fn drop(self) {
+        let Self { mutex, waiting } = self;
+        if let Some(waiting) = waiting {
+            mutex.cancel(waiting);
+        }
+    }
+}
+
+impl<T, R: Wait> fmt::Debug for Lock<'_, T, R> {
+    fn fmt<W: fmt::Write>(&self, f: &mut fmt::Formatter<W>) -> fmt::Result {
+        f.debug_struct("Lock").finish_non_exhaustive()
+    }
+}
+
+/// A future of a mutex's lock that owns its share of the mutex, and borrows nothing. Otherwise it is as [`Lock`].
+pub struct LockArc<T, R: Wait> {
+    stage: Stage<T, R>,
+}
+
+/// How far an owned future is.
+#[derive(Drop)]
+pub enum Stage<T, R> {
+    /// No share of the mutex could be had.
+    Unowned,
+    /// It hasn't been ready.
+    Waits(Owned<T, R>),
+    /// It was ready, and its share went to the guard.
+    Finished,
+}
+
+/// A party that waits, with its share of the mutex.
+#[derive(Drop)]
+pub struct Owned<T, R> {
+    mutex: Arc<Mutex<T, R>>,
+    waiting: Waiting<T>,
+}
+
+impl<T, R> Model for Owned<T, R> {
+    ghost Value = { ℕ };
+
+    ghost view = { λ o. (arc_value o.mutex).raw.list.source.id };
+
+    ghost invariant = { λ o. Waits (arc_value o.mutex).raw.words o.waiting };
+}
+
+impl<T, R> Owned<T, R> {
+    fn new(mutex: Arc<Mutex<T, R>>, waiting: Waiting<T>) -> Owned<T, R>
+        requires { Waits (arc_value mutex).raw.words waiting }
+        ensures { result ≡ (arc_value mutex).raw.list.source.id }
+    {
+        Owned { mutex, waiting }
+    }
+}
+
+impl<T, R: Wait> LockArc<T, R> {
+    pub(crate) fn new(mutex: Arc<Mutex<T, R>>, waiting: Waiting<T>) -> LockArc<T, R>
+        requires { Waits (arc_value mutex).raw.words waiting }
+    {
+        LockArc {
+            stage: Stage::Waits(Owned::new(mutex, waiting)),
+        }
+    }
+
+    pub(crate) fn unowned() -> LockArc<T, R> {
+        LockArc {
+            stage: Stage::Unowned,
+        }
+    }
+}
+
+impl<T: Drop, R: Wait + Clock + Drop> LockArc<T, R> {
+    ghost use Rattle.async_lock.specs.Sources.{WaitsAt};
+
+    /// One poll, as [`Lock::poll`]. Ready, the guard gets the future's share of the mutex.
+    pub fn poll(&mut self, cx: &mut Context<'_>) -> Turn<MutexGuardArc<T, R>>
+        ensures registered { OnPending result (Covers cx.new (WaitsAt self.old.stage)) }
+        ensures kept { Keeps cx.old cx.new }
+    {
+        match mem::replace(&mut self.stage, Stage::Finished) {
+            Stage::Finished => Turn::Refused(Refusal::Finished),
+            Stage::Unowned => {
+                self.stage = Stage::Unowned;
+                Turn::Refused(Refusal::Memory)
+            }
+            Stage::Waits(owned) => {
+                let Owned { mutex, waiting } = owned;
+                match mutex.poll_waiting(cx, waiting) {
+                    Outcome::Got(seat, hold) => {
+                        Turn::Ready(MutexGuardArc::new(mutex, seat, hold))
+                    }
+                    Outcome::Waits(waiting) => {
+                        self.stage = Stage::Waits(Owned::new(mutex, waiting));
+                        Turn::Pending
+                    }
+                    Outcome::Refused(refusal, waiting) => {
+                        self.stage = Stage::Waits(Owned::new(mutex, waiting));
+                        Turn::Refused(refusal)
+                    }
+                }
+            }
+        }
+    }
+}
+
+impl<T: Drop, R: Wait + Clock + Drop> Polled for LockArc<T, R> {
+    type Got = MutexGuardArc<T, R>;
+
+    fn poll_turn(&mut self, cx: &mut Context<'_>) -> Turn<MutexGuardArc<T, R>> {
+        self.poll(cx)
+    }
+}
+
+impl<T: Drop, R: Wait + Drop> Drop for LockArc<T, R> {
+    fn drop(self) {
+        let Self { stage } = self;
+        match stage {
+            Stage::Unowned | Stage::Finished => (),
+            Stage::Waits(owned) => {
+                let Owned { mutex, waiting } = owned;
+                mutex.cancel(waiting);
+                drop(mutex);
+            }
+        }
+    }
+}
+
+impl<T, R: Wait> fmt::Debug for LockArc<T, R> {
+    fn fmt<W: fmt::Write>(&self, f: &mut fmt::Formatter<W>) -> fmt::Result {
+        f.debug_struct("LockArc").finish_non_exhaustive()
+    }
+}

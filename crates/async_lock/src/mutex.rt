@@ -1,0 +1,284 @@
+//! The mutex.
+
+ghost use Rattle.std.specs.Prelude.{◌≡◌, ℕ, IfSome, false};
+ghost use Rattle.futures.specs.Task.{Covers, Keeps};
+ghost use Rattle.lock_words.specs.Tries.{Holds};
+ghost use Rattle.async_lock.specs.Outcomes.{OnOutcome, OnWaits, Waits};
+ghost use Rattle.lock_driver.specs.Parties.{Stands};
+ghost use Rattle.mutex_machine.specs.declared.program.Place.TheVariants as at;
+
+use crate::guard::{MutexGuard, MutexGuardArc};
+use crate::lock::{Lock, LockArc};
+use crate::waiting::{Outcome, Waiting};
+use futures::executor::block_on;
+use futures::task::Context;
+use lock_driver::{MutexParty, RawMutex, WaitingList};
+use lock_words::{Hold, Seat, Settled, Taking, Words};
+use lock_world::Refusal;
+use mutex_machine::program::{End, LockCall, Place};
+use std::alloc::AllocGlobal;
+use std::fmt;
+use std::random::RandomSource;
+use std::sync::{Arc, Wait};
+use std::time::{Clock, Duration, Instant};
+
+/// How long a waiter is overtaken by newcomers before it counts as starved, in microseconds.
+const PATIENCE: u64 = 500;
+
+/// A value that one task at a time reads and writes.
+///
+/// `R` is the runtime that the mutex was made with and keeps.
+#[derive(Drop)]
+pub struct Mutex<T, R> {
+    pub(crate) raw: RawMutex<T>,
+    pub(crate) rt: R,
+}
+
+impl<T: Drop, R: AllocGlobal + Drop> Mutex<T, R> {
+    /// A free mutex over a value. It is [`Refusal::Memory`] where memory was refused; the value is dropped then.
+    pub fn new(rt: R, value: T) -> Result<Mutex<T, R>, Refusal> {
+        let alloc = rt.alloc();
+        let Ok(words) = Words::new(alloc, value) else {
+            return Err(Refusal::Memory);
+        };
+        let list = WaitingList::new(alloc);
+        Ok(Mutex {
+            raw: RawMutex { words, list },
+            rt,
+        })
+    }
+}
+
+impl<T, R> Mutex<T, R> {
+    /// The value, also of a mutex that a forgotten guard left held. It waits for nobody and takes no memory.
+    pub fn into_inner(self) -> T
+    where
+        R: Drop,
+    {
+        let Mutex { raw, rt } = self;
+        drop(rt);
+        let RawMutex { words, list } = raw;
+        drop(list);
+        words.into_inner()
+    }
+
+    /// The value, also of a mutex that a forgotten guard left held, which stays held. It waits for nobody and takes
+    /// no memory.
+    pub fn get_mut(&mut self) -> &mut T {
+        self.raw.words.get_mut()
+    }
+
+    // One try.
+    fn take(&self) -> Option<(Seat<T>, Hold<T>)>
+        ensures { IfSome result (λ r. Holds self.now.raw.words r.0 r.1 × (r.0.starved ≡ false)) }
+    {
+        let mut seat = self.raw.words.sit();
+        match self.raw.words.take(&mut seat) {
+            Taking::Got(hold) => Some((seat, hold)),
+            Taking::Held | Taking::Starved => None,
+        }
+    }
+
+    // A party that waits to be polled for the first time.
+    fn first(&self) -> Waiting<T>
+        ensures { Waits self.now.raw.words result }
+    {
+        Waiting {
+            party: self.raw.party(),
+            place: Place::Out,
+            since: None,
+        }
+    }
+}
+
+impl<T, R: Wait> Mutex<T, R> {
+    /// Takes the lock at once, if it is free and nobody is starved.
+    pub fn try_lock(&self) -> Option<MutexGuard<'_, T, R>> {
+        let (seat, hold) = self.take()?;
+        Some(MutexGuard::new(self, seat, hold))
+    }
+
+    /// A future of the lock, which does nothing until it is polled.
+    pub fn lock(&self) -> Lock<'_, T, R> {
+        Lock::new(self, self.first())
+    }
+
+    // Gives the lock back.
+    pub(crate) fn release(&self, seat: Seat<T>, hold: Hold<T>)
+        requires { Holds self.now.raw.words seat hold × (seat.starved ≡ false) }
+    {
+        let mut party = self.raw.holder(seat, hold);
+        let _ = self
+            .raw
+            .call(&self.rt, &mut party, LockCall::Release, Place::Holding);
+    }
+
+    // Gives back what a future has that is dropped.
+    pub(crate) fn cancel(&self, waiting: Waiting<T>)
+        requires { Waits self.now.raw.words waiting }
+    {
+        let Waiting {
+            mut party,
+            place,
+            since: _,
+        } = waiting;
+        let _ = self.raw.call(&self.rt, &mut party, LockCall::Cancel, place);
+    }
+}
+
+impl<T: Drop, R: Wait + Drop> Mutex<T, R> {
+    /// As [`Mutex::try_lock`], for a guard that owns its share of the mutex. It is `None` too where that share
+    /// can't be had.
+    pub fn try_lock_arc(this: &Arc<Mutex<T, R>>) -> Option<MutexGuardArc<T, R>> {
+        let mutex = Arc::try_clone(this).ok()?;
+        let (seat, hold) = mutex.take()?;
+        Some(MutexGuardArc::new(mutex, seat, hold))
+    }
+
+    /// As [`Mutex::lock`], for a future that owns its share of the mutex and gives it to its guard. Where that share
+    /// can't be had, its polls are refused as [`Refusal::Memory`].
+    pub fn lock_arc(this: &Arc<Mutex<T, R>>) -> LockArc<T, R> {
+        match Arc::try_clone(this) {
+            Ok(mutex) => {
+                let waiting = mutex.first();
+                LockArc::new(mutex, waiting)
+            }
+            Err(_) => LockArc::unowned(),
+        }
+    }
+}
+
+impl<T, R: Wait + Clock> Mutex<T, R> {
+    // One poll.
+    pub(crate) fn poll_waiting(&self, cx: &mut Context<'_>, waiting: Waiting<T>) -> Outcome<T>
+        requires { Waits self.now.raw.words waiting }
+        ensures outcome { OnOutcome self.now.raw.words result }
+        ensures registered { OnWaits result (Covers cx.new (λ s. s ≡ self.now.raw.list.source.id)) }
+        ensures kept { Keeps cx.old cx.new }
+    {
+        let Waiting {
+            mut party,
+            place,
+            since,
+        } = waiting;
+        party.is_starving = has_waited_long(&self.rt, &since);
+        let poll = LockCall::Poll;
+        let (end, place) = self.raw.call(&self.rt, &mut party, poll, place);
+        match end {
+            End::Got => {
+                let (seat, hold) = won(&self.raw.words, party);
+                Outcome::Got(seat, hold)
+            }
+            End::Refused(refusal) => Outcome::Refused(refusal, anew(&self.raw.words, party)),
+            // The waker that the entry kept is in hand. It is registered into, and the entry asks again with it.
+            End::Pending | End::NotFree | End::GivenBack => {
+                self.raw.list.register(cx, &mut party.waker);
+                let (end, place) = self.raw.call(&self.rt, &mut party, poll, place);
+                match end {
+                    End::Got => {
+                        let (seat, hold) = won(&self.raw.words, party);
+                        Outcome::Got(seat, hold)
+                    }
+                    End::Refused(refusal) => Outcome::Refused(
+                        refusal,
+                        anew(&self.raw.words, party),
+                    ),
+                    End::Pending | End::NotFree | End::GivenBack => {
+                        let since = since.or_else(|| Instant::now(&self.rt).ok());
+                        Outcome::Waits(Waiting {
+                            party,
+                            place,
+                            since,
+                        })
+                    }
+                }
+            }
+        }
+    }
+}
+
+impl<T: Drop, R: Wait + Clock + RandomSource + AllocGlobal> Mutex<T, R> {
+    /// Takes the lock, and holds the calling thread up until it is had. Any error of `block_on` is
+    /// [`Refusal::Memory`].
+    pub fn lock_blocking(&self) -> Result<MutexGuard<'_, T, R>, Refusal> {
+        if let Some(guard) = self.try_lock() {
+            return Ok(guard);
+        }
+        match block_on(&self.rt, Settled(self.lock())) {
+            Ok(settled) => settled,
+            Err(_) => Err(Refusal::Memory),
+        }
+    }
+}
+
+impl<T: Drop, R: Wait + Clock + RandomSource + AllocGlobal + Drop> Mutex<T, R> {
+    /// As [`Mutex::lock_blocking`], for a guard that owns its share of the mutex.
+    pub fn lock_arc_blocking(this: &Arc<Mutex<T, R>>) -> Result<MutexGuardArc<T, R>, Refusal> {
+        if let Some(guard) = Mutex::try_lock_arc(this) {
+            return Ok(guard);
+        }
+        match block_on(&this.rt, Settled(Mutex::lock_arc(this))) {
+            Ok(settled) => settled,
+            Err(_) => Err(Refusal::Memory),
+        }
+    }
+}
+
+impl<T: fmt::Debug, R: Wait> fmt::Debug for Mutex<T, R> {
+    fn fmt<W: fmt::Write>(&self, f: &mut fmt::Formatter<W>) -> fmt::Result {
+        match self.try_lock() {
+            Some(guard) => f.debug_struct("Mutex").field("data", &*guard).finish(),
+            None => f.debug_struct("Mutex").field("data", &Locked).finish(),
+        }
+    }
+}
+
+// What stands for the value of a mutex that is held.
+struct Locked;
+
+impl fmt::Debug for Locked {
+    fn fmt<W: fmt::Write>(&self, f: &mut fmt::Formatter<W>) -> fmt::Result {
+        f.write_str("<locked>")
+    }
+}
+
+// More than 500 microseconds since then. A clock that can't be read says no.
+fn has_waited_long<R: Clock>(rt: &R, since: &Option<Instant>) -> bool {
+    match since {
+        Some(since) => match since.elapsed(rt) {
+            Ok(waited) => waited > Duration::from_micros(PATIENCE),
+            Err(_) => false,
+        },
+        None => false,
+    }
+}
+
+// What a party that got the lock has.
+fn won<T>(words: &Words<T>, party: MutexParty<T>) -> (Seat<T>, Hold<T>)
+    requires { Stands words.now party at.Holding }
+    ensures { Holds words.now result.0 result.1 × (result.0.starved ≡ false) }
+{
+    let MutexParty {
+        seat,
+        hold,
+        entry: _,
+        waker: _,
+        is_starving: _,
+    } = party;
+    match hold {
+        Some(hold) => (seat, hold),
+        None => unreachable!(),
+    }
+}
+
+// What a refused poll leaves: a future as when it was made.
+fn anew<T>(words: &Words<T>, party: MutexParty<T>) -> Waiting<T>
+    requires { Stands words.now party at.Out }
+    ensures { Waits words.now result }
+{
+    Waiting {
+        party,
+        place: Place::Out,
+        since: None,
+    }
+}
