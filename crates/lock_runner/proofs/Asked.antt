@@ -12,3 +12,9 @@ only_script words (Some Script) asks none e = refl
 only_script words (Some (Threads count)) (word, two, rest) none e =
     let clash : codes "threads" ∷ word ∷ [] ≡ codes "script" ∷ [] = sym two ∙ e in
     absurd (omega (arith, ap length clash))
+
+-- no words ask for a script and for threads
+pub not_both : (words : List (List ℕ)) (count : ℕ) → words ≡ asked → AsksFor words (Threads count) → ⊥
+not_both words count e (word, two, rest) =
+    let clash : codes "threads" ∷ word ∷ [] ≡ codes "script" ∷ [] = sym two ∙ e in
+    omega (arith, ap length clash)

@@ -1,5 +1,5 @@
 -- What a script prints: each line's answer in turn, on the World that the lines before it led to.
-use Rattle.std.specs.Prelude.{◌≡◌, ◌⊎◌, ℕ, ◌+◌, ◌<◌, List, [], ◌∷◌, ◌++◌, length, Option, Some, None, codes}
+use Rattle.std.specs.Prelude.{◌≡◌, ◌⊎◌, ℕ, ◌+◌, ◌<◌, List, [], ◌∷◌, ◌++◌, length, Option, Some, None, codes, decimal}
 use Rattle.std.specs.Io.KnownBytes.{Appends, Keeps}
 use Rattle.lock_script.specs.declared.command.Command.{Command}
 use Rattle.lock_script.specs.declared.command.Command.TheVariants.{New, On}
@@ -98,3 +98,7 @@ TellsOfLine IsBadLine TooLong old new = ⊥
 TellsOfLine IsBadLine Read old new = ⊥
 TellsOfLine IsBadLine Usage old new = ⊥
 TellsOfLine IsBadLine Thread old new = ⊥
+
+-- the writer got a number as one line
+abbrev pub PrintsNumber : Option (List ℕ) → Option (List ℕ) → Type 0
+PrintsNumber old new = (n : ℕ) × Appends old new (decimal n ++ 10 ∷ [])

@@ -9,8 +9,9 @@ ghost use Rattle.std.specs.Prelude.{◌≡◌, ◌≢◌, ◌⊎◌, ◌+◌, �
 ghost use Rattle.std.specs.Io.{StartsWith, appended_bytes};
 ghost use Rattle.std.specs.Io.KnownBytes.{Appends, Consumes, IsAtEnd, Keeps};
 ghost use Rattle.lock_play.specs.Openings.{world_of};
-ghost use Rattle.lock_runner.specs.Plays.{IsAtFault, IsBad, IsPlayed, Leads, PlaysLine, Tells, TellsOfLine};
-ghost use Rattle.lock_runner.specs.Scripts.{asked, IsLine, IsScript, IsStartOfScript};
+ghost use Rattle.lock_runner.specs.Plays.{IsAtFault, IsBad, IsPlayed, Leads, PlaysLine, PrintsNumber, Tells, TellsOfLine};
+ghost use Rattle.lock_runner.specs.Scripts.{asked, AsksFor, IsLine, IsScript, IsStartOfScript};
+ghost use Rattle.lock_runner.specs.declared.task.Task.{Task as TaskOf};
 ghost use Rattle.lock_script.specs.Lines.{lines_of};
 ghost use Rattle.lock_script.specs.declared.command.Command.TheVariants.{On};
 ghost use Rattle.lock_script.specs.declared.command.Request.{Request};
@@ -24,10 +25,15 @@ use lock_play::played::Reply;
 use lock_play::world::World;
 use lock_script::command::{self, Command, Model};
 use lock_script::line;
+use lock_workers::{Gate, Stopped, public};
 use lock_world::Refusal;
 use std::alloc::Global;
 use std::io;
 use std::io::{ErrorKind, Read, Write};
+use std::random::RandomSource;
+use std::sync::Wait;
+use std::thread::Threads;
+use std::time::Clock;
 
 /// The greatest number of bytes that a script may have.
 pub const LIMIT: usize = 1_048_576;
@@ -36,29 +42,37 @@ pub const LIMIT: usize = 1_048_576;
 const CHUNK: usize = 16_384;
 
 /// Carries out the program on these arguments, the words after its name: with the one word `script` it
-/// answers the lines of the input.
+/// answers the lines of the input, and with `threads` and a number it lets so many threads each add one under
+/// one mutex, and prints the value that they leave.
 ///
-/// The status is 0 where the whole script was answered (clauses `script` and `played`); 1 where the input
-/// is at fault, longer than [`LIMIT`] or with a line that is bad where it stands (`fault`), and then the
-/// lines before that one are answered, and none of a script that is too long (`long`); 2 for other
-/// arguments (`usage`, `asked`); and 3 where reading or writing failed or memory was refused. Each status
-/// but 0 is told of in one line of the error output, and with status 0 it gets nothing (`quiet`).
-pub fn run<I: Read, O: Write, E: Write>(
+/// The status is 0 where the whole script was answered (clauses `script` and `played`), or where the threads'
+/// number was printed (`threads`); 1 where the input is at fault, longer than [`LIMIT`] or with a line that is
+/// bad where it stands (`fault`), and then the lines before that one are answered, and none of a script that is
+/// too long (`long`); 2 for other arguments (`usage`, `asked`); and 3 where reading or writing failed, memory
+/// was refused, or a thread wasn't started. Each status but 0 is told of in one line of the error output, and
+/// with status 0 it gets nothing (`quiet`).
+pub fn run<R, I: Read, O: Write, E: Write>(
+    rt: &R,
     alloc: Global,
     words: &[String],
     input: &mut I,
     output: &mut O,
     errors: &mut E,
 ) -> u8
+where
+    R: Threads + Wait + Clock + RandomSource + AllocGlobal + Sync + Copy + Drop,
     ensures status { result ≤ 3 }
-    ensures usage { map string_bytes words.now ≢ asked → (result ≡ 2)
+    ensures usage { ((task : TaskOf) → ¬ AsksFor (map string_bytes words.now) task) → (result ≡ 2)
         × Keeps (O.contents output.old) (O.contents output.new)
         × Keeps (I.remaining input.old) (I.remaining input.new) }
-    ensures asked { map string_bytes words.now ≡ asked → result ≢ 2 }
+    ensures asked { (task : TaskOf) → AsksFor (map string_bytes words.now) task → result ≢ 2 }
     ensures script { map string_bytes words.now ≡ asked → result ≡ 0
         → IfSome (I.remaining input.old) IsScript }
     ensures played { map string_bytes words.now ≡ asked → result ≡ 0
         → IfSome (I.remaining input.old) (λ text. IsPlayed text (O.contents output.old) (O.contents output.new)) }
+    ensures threads { (count : ℕ) → AsksFor (map string_bytes words.now) (Task.Threads count)
+        → Keeps (I.remaining input.old) (I.remaining input.new)
+        × (result ≡ 0 → PrintsNumber (O.contents output.old) (O.contents output.new)) }
     ensures quiet { result ≡ 0 → Keeps (E.contents errors.old) (E.contents errors.new) }
     ensures fault { result ≡ 1 → IfSome (I.remaining input.old)
         (λ text. IsAtFault text (O.contents output.old) (O.contents output.new)) }
@@ -71,9 +85,41 @@ pub fn run<I: Read, O: Write, E: Write>(
             Ok(()) => 0,
             Err(fault) => report(fault, errors),
         },
-        // Until the public mutex stands, there is nothing for threads to do.
-        Some(Task::Threads(_)) => report(Fault::Usage, errors),
+        Some(Task::Threads(workers)) => match threads(rt, alloc, workers, output) {
+            Ok(()) => 0,
+            Err(fault) => report(fault, errors),
+        },
         None => report(Fault::Usage, errors),
+    }
+}
+
+/// What each worker passes that need not wait.
+#[derive(Drop)]
+struct Open;
+
+impl Gate for Open {
+    fn pass(&self, _worker: u32) {}
+}
+
+/// Lets so many threads each add one under one mutex, and prints the value that they leave.
+fn threads<R, O: Write>(rt: &R, alloc: Global, workers: u32, output: &mut O) -> Result<(), Fault>
+where
+    R: Threads + Wait + Clock + RandomSource + AllocGlobal + Sync + Copy + Drop,
+    ensures printed { OnOk result (PrintsNumber (O.contents output.old) (O.contents output.new)) }
+    ensures system { IfErr result (λ fault. status_of fault ≡ 3) }
+{
+    let left = public(rt, alloc, workers, &Open).map_err(stopped)?;
+    written(writeln!(output, "{left}"))?;
+    written(output.flush())
+}
+
+/// Why workers stopped, as a fault. No worker over a mutex is given an answer.
+fn stopped(why: Stopped) -> Fault
+    ensures { status_of result ≡ 3 }
+{
+    match why {
+        Stopped::Memory => Fault::Memory,
+        Stopped::Thread | Stopped::Answer(_) => Fault::Thread,
     }
 }
 

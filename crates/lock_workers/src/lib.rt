@@ -5,10 +5,12 @@ ghost use Rattle.std.specs.Prelude.{◌≡◌, IfOk, vec_len};
 ghost use Rattle.std.specs.Thread.{IsSend};
 
 mod add_one;
+mod one_mutex;
 #[cfg(test)]
 mod tests;
 
 pub use add_one::audited;
+pub use one_mutex::public;
 use lock_world::Answer;
 use std::alloc::Global;
 use std::sync::Wait;

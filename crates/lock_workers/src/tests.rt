@@ -1,4 +1,4 @@
-use crate::{Gate, Stopped, audited};
+use crate::{Gate, Stopped, audited, public};
 use lock_audit::Book;
 use lock_core::mutex::World;
 use lock_core::{Answer, Got, Move, What};
@@ -166,5 +166,25 @@ fn one_worker_and_none(rt: HostRuntime) -> Result<(), Fail> {
     let (book, gate) = counted(&rt, 0)?;
     assert_eq!(rt; (book.world().value(), book.history().len()), (0, 0));
     assert_eq!(rt; gate.passed.load(Ordering::SeqCst), 0);
+    Ok(())
+}
+
+#[test]
+fn a_hundred_workers_add_up_under_one_mutex(rt: HostRuntime) -> Result<(), Fail> {
+    let gate = Counting::new();
+    assert_eq!(rt; public(&rt, rt.alloc(), 100, &gate)?, 100);
+    assert_eq!(rt; gate.passed.load(Ordering::SeqCst), 100);
+    assert_eq!(rt; gate.numbers.load(Ordering::SeqCst), 4950);
+    Ok(())
+}
+
+#[test]
+fn workers_under_one_mutex_stand_beside_one_another(rt: HostRuntime) -> Result<(), Fail> {
+    let gate = Meeting {
+        came: AtomicU64::new(0),
+        met: AtomicU64::new(0),
+    };
+    assert_eq!(rt; public(&rt, rt.alloc(), 2, &gate)?, 2);
+    assert_eq!(rt; gate.met.load(Ordering::SeqCst), 1);
     Ok(())
 }

@@ -34,6 +34,7 @@ fn status(rt: &HostRuntime) -> Result<u8, Fault> {
     let words = arguments(rt)?;
     let mut output = BufWriter::new(rt.alloc(), rt.stdout()).map_err(|_| Fault::Memory)?;
     Ok(lock_runner::run(
+        rt,
         rt.alloc(),
         words.as_slice(),
         &mut rt.stdin(),

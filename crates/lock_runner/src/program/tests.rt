@@ -4,7 +4,11 @@ use std::alloc::AllocError;
 use std::io;
 use std::io::{ErrorKind, Read, Write};
 use std::process::Abort;
+use std::random::RandomSource;
+use std::sync::Wait;
 use std::test::Fail;
+use std::thread::Threads;
+use std::time::Clock;
 
 /// Gives its text, and once that is given fails in this way, or ends.
 #[derive(Drop)]
@@ -86,6 +90,17 @@ impl Write for Sink {
     }
 }
 
+/// What a run needs of its runtime.
+trait Runs:
+    Threads + Wait + Clock + RandomSource + AllocGlobal + Abort + Sync + Copy + Drop
+{
+}
+
+impl<R> Runs for R where
+    R: Threads + Wait + Clock + RandomSource + AllocGlobal + Abort + Sync + Copy + Drop
+{
+}
+
 /// What was kept, as text.
 fn text_of(sink: &Sink) -> &str {
     str::from_utf8(sink.kept.as_slice()).unwrap_or("bytes that are no text")
@@ -108,7 +123,7 @@ struct Wanted<'a> {
 }
 
 /// Runs the program from and into memory, and wants this of it. `shown` names the case.
-fn expect_of<R: AllocGlobal + Abort>(
+fn expect_of<R: Runs>(
     rt: &R,
     words: &[String],
     source: &mut Source<'_>,
@@ -117,14 +132,14 @@ fn expect_of<R: AllocGlobal + Abort>(
     wanted: Wanted<'_>,
     shown: &str,
 ) {
-    let ended = run(rt.alloc(), words, source, answers, faults);
+    let ended = run(rt, rt.alloc(), words, source, answers, faults);
     assert_eq!(rt; text_of(answers), wanted.output, "output of {shown:?}");
     assert_eq!(rt; text_of(faults), wanted.errors, "errors of {shown:?}");
     assert_eq!(rt; ended, wanted.status, "status of {shown:?}");
 }
 
 /// Runs this script from and into memory, and wants this output, error output and status.
-fn expect<R: AllocGlobal + Abort>(
+fn expect<R: Runs>(
     rt: &R,
     script: &[u8],
     output: &str,
@@ -448,7 +463,7 @@ const BAD_LINES: [&[u8]; 103] = [
 ];
 
 /// Runs a script with this line between two good ones, which stops at it.
-fn expect_bad<R: AllocGlobal + Abort>(rt: &R, line: &[u8]) -> Result<(), Fail> {
+fn expect_bad<R: Runs>(rt: &R, line: &[u8]) -> Result<(), Fail> {
     let mut script = Vec::new(rt.alloc());
     for part in [b"mutex 1 0\n".as_slice(), line, b"\nshow\n".as_slice()] {
         script.extend_from_slice(part)?;
@@ -519,7 +534,7 @@ fn wants_the_one_argument(rt: HostRuntime) -> Result<(), Fail> {
         (&["script "], "script and a space"),
         (&["script", "x"], "script x"),
         (&["threads"], "threads"),
-        (&["threads", "4"], "threads 4"),
+        (&["threads", "4", "4"], "threads 4 4"),
         (&["threads", "0"], "threads 0"),
         (&["threads", "1001"], "threads 1001"),
         (&["x", "script"], "x script"),
@@ -541,6 +556,52 @@ fn wants_the_one_argument(rt: HostRuntime) -> Result<(), Fail> {
         );
         assert_eq!(rt; source.given, 0, "what {shown:?} read");
     }
+    Ok(())
+}
+
+#[test]
+fn lets_threads_add_up(rt: HostRuntime) -> Result<(), Fail> {
+    for (count, output) in [("1", "1\n"), ("4", "4\n"), ("0100", "100\n")] {
+        let words = arguments(&rt, &["threads", count])?;
+        let mut source = Source::new(b"mutex 1 0\n");
+        let wanted = Wanted {
+            output,
+            errors: "",
+            status: 0,
+        };
+        expect_of(
+            &rt,
+            words.as_slice(),
+            &mut source,
+            &mut Sink::new(&rt),
+            &mut Sink::new(&rt),
+            wanted,
+            count,
+        );
+        assert_eq!(rt; source.given, 0, "what threads {count} read");
+    }
+    Ok(())
+}
+
+#[test]
+fn tells_that_a_number_was_not_written(rt: HostRuntime) -> Result<(), Fail> {
+    let words = arguments(&rt, &["threads", "2"])?;
+    let failed = Wanted {
+        output: "",
+        errors: "lockrun: write failed\n",
+        status: 3,
+    };
+    let mut answers = Sink::new(&rt);
+    answers.room = 0;
+    expect_of(
+        &rt,
+        words.as_slice(),
+        &mut Source::new(b""),
+        &mut answers,
+        &mut Sink::new(&rt),
+        failed,
+        "threads 2, no room",
+    );
     Ok(())
 }
 

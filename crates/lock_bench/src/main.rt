@@ -1,0 +1,83 @@
+//! Times the public mutex beside std's lock, and prints median nanoseconds. It asserts nothing.
+#![tactic(auto)]
+
+mod rows;
+mod timing;
+
+use async_lock::Mutex;
+use futures::test::MockTask;
+use rows::{HandOver, HeldTry, LockPair, PendingPoll, StdPair, TryArcPair, TryPair};
+use std::alloc::AllocGlobal;
+use std::process::ExitCode;
+use std::random::RandomSource;
+use std::rt::Env;
+use std::sync::{Arc, Wait};
+use std::time::Clock;
+use std::{env, io};
+use timing::{Row, median};
+
+/// How often a run does what is timed, where it takes some ten nanoseconds, and where it takes more.
+const OFTEN: u64 = 500_000;
+const SELDOM: u64 = 20_000;
+
+fn print<R: Print + Clock, W: Row>(rt: &R, name: &str, row: &W, times: u64) -> io::Result<()> {
+    let tenths = median(rt, row, times)?;
+    println!(rt; "{name}: {}.{} ns", tenths / 10, tenths % 10)
+}
+
+/// The rows, or none where memory is refused.
+fn print_all<R: Wait + Clock + Print + AllocGlobal + RandomSource + Copy + Drop>(rt: R) -> io::Result<()> {
+    let alloc = rt.alloc();
+    let std_mutex = std::sync::Mutex::new(0_u64);
+    let Ok(mutex) = Mutex::new(rt, 0_u64) else {
+        return Ok(());
+    };
+    let Ok(owned) = Arc::new(alloc, mutex) else {
+        return Ok(());
+    };
+    let mutex = &*owned;
+    let task = &MockTask::new(&rt)?;
+    let std_pair = StdPair {
+        rt: &rt,
+        mutex: &std_mutex,
+    };
+    print(&rt, "std lock and unlock", &std_pair, OFTEN)?;
+    print(&rt, "try_lock and drop", &TryPair { mutex }, OFTEN)?;
+    print(&rt, "try_lock, held", &HeldTry { mutex }, OFTEN)?;
+    print(&rt, "try_lock_arc and drop", &TryArcPair { mutex: &owned }, OFTEN)?;
+    print(&rt, "lock ready and drop", &LockPair { mutex, task }, OFTEN)?;
+    print(&rt, "poll to pending and drop", &PendingPoll { mutex, task }, SELDOM)?;
+    for waiting in [1, 10, 1000] {
+        let row = HandOver {
+            mutex,
+            task,
+            alloc,
+            waiting,
+        };
+        println!(rt; "{waiting} waiting:")?;
+        print(&rt, "hand-over", &row, SELDOM)?;
+    }
+    Ok(())
+}
+
+/// Whether the arguments are the one word `run`.
+fn is_asked<R: Env + AllocGlobal>(rt: &R) -> bool {
+    match env::args(rt) {
+        Ok(mut all) => {
+            let _ = all.next();
+            matches!(all.next(), Some(word) if word.as_str() == "run") && all.next().is_none()
+        }
+        Err(_) => false,
+    }
+}
+
+fn main(rt: HostRuntime) -> ExitCode {
+    if !is_asked(&rt) {
+        let _ = eprintln!(rt; "usage: lock_bench run");
+        return ExitCode::from(2);
+    }
+    match print_all(rt) {
+        Ok(()) => ExitCode::SUCCESS,
+        Err(_) => ExitCode::FAILURE,
+    }
+}

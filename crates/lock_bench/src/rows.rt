@@ -1,0 +1,173 @@
+//! What is timed: each row a loop over one use of a lock.
+
+use crate::timing::Row;
+use async_lock::lock_futures::Lock;
+use async_lock::{Mutex, MutexGuard, Turn};
+use futures::task::Context;
+use futures::test::MockTask;
+use std::alloc::Global;
+use std::hint::black_box;
+use std::sync::{Arc, Wait};
+use std::time::Clock;
+
+/// Lock and unlock of std's mutex.
+#[derive(Drop)]
+pub struct StdPair<'a, R> {
+    pub rt: &'a R,
+    pub mutex: &'a std::sync::Mutex<u64>,
+}
+
+impl<R: Wait> Row for StdPair<'_, R> {
+    fn go(&self, times: u64) {
+        for _ in 0..times {
+            let mut guard = black_box(self.mutex).lock(self.rt);
+            *guard = guard.wrapping_add(1);
+        }
+    }
+}
+
+/// `try_lock` of a free mutex, and the guard's drop.
+#[derive(Drop)]
+pub struct TryPair<'a, R: Wait> {
+    pub mutex: &'a Mutex<u64, R>,
+}
+
+impl<R: Wait> Row for TryPair<'_, R> {
+    fn go(&self, times: u64) {
+        for _ in 0..times {
+            if let Some(mut guard) = black_box(self.mutex).try_lock() {
+                *guard = guard.wrapping_add(1);
+            }
+        }
+    }
+}
+
+/// `try_lock` of a mutex that is held.
+#[derive(Drop)]
+pub struct HeldTry<'a, R: Wait> {
+    pub mutex: &'a Mutex<u64, R>,
+}
+
+impl<R: Wait> Row for HeldTry<'_, R> {
+    fn go(&self, times: u64) {
+        let held = self.mutex.try_lock();
+        for _ in 0..times {
+            black_box(black_box(self.mutex).try_lock().is_none());
+        }
+        drop(held);
+    }
+}
+
+/// `try_lock_arc` of a free mutex, and the guard's drop.
+#[derive(Drop)]
+pub struct TryArcPair<'a, R: Wait> {
+    pub mutex: &'a Arc<Mutex<u64, R>>,
+}
+
+impl<R: Wait + Drop> Row for TryArcPair<'_, R> {
+    fn go(&self, times: u64) {
+        for _ in 0..times {
+            if let Some(mut guard) = Mutex::try_lock_arc(black_box(self.mutex)) {
+                *guard = guard.wrapping_add(1);
+            }
+        }
+    }
+}
+
+/// A `lock` that is ready at its first poll, and the guard's drop.
+#[derive(Drop)]
+pub struct LockPair<'a, R: Wait> {
+    pub mutex: &'a Mutex<u64, R>,
+    pub task: &'a MockTask,
+}
+
+impl<R: Wait + Clock> Row for LockPair<'_, R> {
+    fn go(&self, times: u64) {
+        let mutex = self.mutex;
+        self.task.enter(|cx| {
+            for _ in 0..times {
+                if let Turn::Ready(mut guard) = black_box(mutex).lock().poll(cx) {
+                    *guard = guard.wrapping_add(1);
+                }
+            }
+        });
+    }
+}
+
+/// A poll of a new future to pending, and the future's drop.
+#[derive(Drop)]
+pub struct PendingPoll<'a, R: Wait> {
+    pub mutex: &'a Mutex<u64, R>,
+    pub task: &'a MockTask,
+}
+
+impl<R: Wait + Clock> Row for PendingPoll<'_, R> {
+    fn go(&self, times: u64) {
+        let mutex = self.mutex;
+        let held = mutex.try_lock();
+        self.task.enter(|cx| {
+            for _ in 0..times {
+                black_box(mutex).lock().poll(cx);
+            }
+        });
+        drop(held);
+    }
+}
+
+/// Hand-over with so many futures waiting: the guard is dropped, the first future in the list gets the lock, and a new
+/// one joins in its place.
+#[derive(Drop)]
+pub struct HandOver<'a, R: Wait> {
+    pub mutex: &'a Mutex<u64, R>,
+    pub task: &'a MockTask,
+    pub alloc: Global,
+    pub waiting: u64,
+}
+
+impl<R: Wait + Clock> Row for HandOver<'_, R> {
+    fn go(&self, times: u64) {
+        let Some(held) = self.mutex.try_lock() else {
+            return;
+        };
+        let mutex = self.mutex;
+        let mut futures = Vec::new(self.alloc);
+        let waiting = self.waiting;
+        self.task.enter(|cx| {
+            for _ in 0..waiting {
+                if futures.push(joined(mutex, cx)).is_err() {
+                    return;
+                }
+            }
+            hand_over(mutex, held, &mut futures, times, cx);
+        });
+    }
+}
+
+fn joined<'a, R: Wait + Clock>(mutex: &'a Mutex<u64, R>, cx: &mut Context<'_>) -> Lock<'a, u64, R> {
+    let mut future = mutex.lock();
+    black_box(matches!(future.poll(cx), Turn::Pending));
+    future
+}
+
+fn hand_over<'a, R: Wait + Clock>(
+    mutex: &'a Mutex<u64, R>,
+    held: MutexGuard<'a, u64, R>,
+    futures: &mut Vec<Lock<'a, u64, R>>,
+    times: u64,
+    cx: &mut Context<'_>,
+) {
+    let mut held = held;
+    let mut at = 0;
+    for _ in 0..times {
+        drop(held);
+        let Some(future) = futures.get_mut(at) else {
+            return;
+        };
+        let Turn::Ready(guard) = future.poll(cx) else {
+            return;
+        };
+        held = guard;
+        *future = joined(mutex, cx);
+        at = if at + 1 < futures.len() { at + 1 } else { 0 };
+    }
+}

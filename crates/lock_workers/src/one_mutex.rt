@@ -1,0 +1,51 @@
+//! Workers that each add one to the value of one mutex.
+
+use crate::{Gate, Stopped, Work, in_threads};
+use async_lock::Mutex;
+use std::alloc::Global;
+use std::random::RandomSource;
+use std::sync::Wait;
+use std::thread::Threads;
+use std::time::Clock;
+
+/// Takes the lock, adds one to its value, and releases it.
+#[derive(Drop)]
+struct AddOne<'x, R: Wait> {
+    mutex: &'x Mutex<u64, R>,
+}
+
+impl<R: Wait + Clock + RandomSource + AllocGlobal> Work<()> for AddOne<'_, R> {
+    fn work(&self, _worker: u32, _given: ()) -> Result<(), Stopped> {
+        match self.mutex.lock_blocking() {
+            Ok(mut guard) => {
+                *guard = guard.saturating_add(1);
+                Ok(())
+            }
+            Err(_) => Err(Stopped::Memory),
+        }
+    }
+}
+
+/// So many workers over one mutex of value 0: each passes the gate once, takes the lock, adds one to the value, and
+/// releases the lock. It answers the value that they leave.
+///
+/// It answers [`Stopped::Thread`] where the system starts no thread, and [`Stopped::Memory`] where memory is refused;
+/// the other workers do their part all the same, and end before it returns.
+pub fn public<G: Gate + Sync, R>(
+    rt: &R,
+    alloc: Global,
+    workers: u32,
+    gate: &G,
+) -> Result<u64, Stopped>
+where
+    R: Threads + Wait + Clock + RandomSource + AllocGlobal + Sync + Copy + Drop,
+{
+    let mutex = Mutex::new(*rt, 0_u64).map_err(|_| Stopped::Memory)?;
+    let work = AddOne { mutex: &mutex };
+    let mut given = Vec::new(alloc);
+    given
+        .resize(workers as usize, ())
+        .map_err(|_| Stopped::Memory)?;
+    in_threads(rt, alloc, &work, gate, given)?;
+    Ok(mutex.into_inner())
+}
