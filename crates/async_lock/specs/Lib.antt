@@ -1,2 +1,3 @@
+pub mod Futures
 pub mod Outcomes
 pub mod Sources

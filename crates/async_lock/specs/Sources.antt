@@ -1,9 +1,19 @@
--- The source at which an owned future waits.
-use Rattle.std.specs.Prelude.{◌≡◌, ℕ}
+-- How far an owned future is.
+use Rattle.std.specs.Prelude.{◌≡◌, ℕ, Bool, true, false}
 use Rattle.async_lock.specs.declared.lock.Stage.{Stage}
 use Rattle.async_lock.specs.declared.lock.Stage.TheVariants.{Unowned, Waits, Finished}
+use Rattle.async_lock.specs.declared.mutex.Mutex.{Mutex}
 
--- the mutex's own, as long as the future waits for it
+-- the sources at which it waits: its mutex's own
 abbrev pub WaitsAt : {T R : Type 0} → Stage T R → ℕ → Type 0
-WaitsAt (Waits source) s = s ≡ source
+WaitsAt (Waits mutex) s = s ≡ mutex.raw.list.source.id
 WaitsAt _ s = ⊥
+
+-- it waits for this mutex
+abbrev pub IsOf : {T R : Type 0} → Stage T R → Mutex T R → Type 0
+IsOf (Waits mutex) m = m ≡ mutex
+IsOf _ m = ⊥
+
+abbrev pub is_finished : {T R : Type 0} → Stage T R → Bool
+is_finished Finished = true
+is_finished _ = false

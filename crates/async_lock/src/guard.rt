@@ -22,7 +22,7 @@ pub struct MutexGuard<'a, T, R: Wait> {
     ghost uncounted: { seat.starved ≡ false },
 }
 
-/// A guard that owns its share of the mutex, and borrows nothing.
+/// A guard that owns its share of the mutex, and borrows nothing. In clauses it is the mutex that it holds.
 pub struct MutexGuardArc<T, R: Wait> {
     mutex: Arc<Mutex<T, R>>,
     seat: Seat<T>,
@@ -30,9 +30,14 @@ pub struct MutexGuardArc<T, R: Wait> {
 }
 
 impl<T, R: Wait> Model for MutexGuardArc<T, R> {
-    ghost Value = { Unit {0} };
+    ghost use Rattle.std.specs.Prelude.{◌≡◌, false};
+    ghost use Rattle.std.specs.Arc.{arc_value};
+    ghost use Rattle.lock_words.specs.Tries.{Holds};
+    ghost use Rattle.async_lock.specs.declared.mutex.Mutex.{Mutex};
 
-    ghost view = { λ g. tt };
+    ghost Value = { Mutex T R };
+
+    ghost view = { λ g. arc_value g.mutex };
 
     ghost invariant = { λ g. Holds (arc_value g.mutex).raw.words g.seat g.hold × (g.seat.starved ≡ false) };
 }
@@ -40,6 +45,7 @@ impl<T, R: Wait> Model for MutexGuardArc<T, R> {
 impl<'a, T, R: Wait> MutexGuard<'a, T, R> {
     pub(crate) fn new(mutex: &'a Mutex<T, R>, seat: Seat<T>, hold: Hold<T>) -> MutexGuard<'a, T, R>
         requires { Holds mutex.now.raw.words seat hold × (seat.starved ≡ false) }
+        ensures { result.mutex.now ≡ mutex.now }
     {
         MutexGuard { mutex, seat, hold }
     }
@@ -55,12 +61,15 @@ impl<'a, T, R: Wait> MutexGuard<'a, T, R> {
 impl<T, R: Wait> MutexGuardArc<T, R> {
     pub(crate) fn new(mutex: Arc<Mutex<T, R>>, seat: Seat<T>, hold: Hold<T>) -> MutexGuardArc<T, R>
         requires { Holds (arc_value mutex).raw.words seat hold × (seat.starved ≡ false) }
+        ensures { result ≡ arc_value mutex }
     {
         MutexGuardArc { mutex, seat, hold }
     }
 
     /// The mutex that the guard holds.
-    pub fn source(guard: &MutexGuardArc<T, R>) -> &Arc<Mutex<T, R>> {
+    pub fn source(guard: &MutexGuardArc<T, R>) -> &Arc<Mutex<T, R>>
+        ensures { arc_value result.now ≡ guard.now }
+    {
         &guard.mutex
     }
 }

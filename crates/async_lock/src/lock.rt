@@ -20,7 +20,7 @@ use std::{fmt, mem};
 /// A future of a mutex's lock. Dropped, it gives back what it has: its entry in the list, a notification that it was
 /// given, and its count as starved.
 ///
-/// In clauses it is the source at which it waits, the mutex's own.
+/// In clauses it is its mutex, and whether it was ready before (`is_over`).
 pub struct Lock<'a, T, R: Wait> {
     mutex: &'a Mutex<T, R>,
     // `None` once it was ready.
@@ -28,16 +28,23 @@ pub struct Lock<'a, T, R: Wait> {
 }
 
 impl<'a, T, R: Wait> Model for Lock<'a, T, R> {
-    ghost Value = { ℕ };
+    ghost use Rattle.std.specs.Prelude.{◌≡◌, Some};
+    ghost use Rattle.async_lock.specs.Futures.{Future, future, is_over};
+    ghost use Rattle.async_lock.specs.Outcomes.{Waits};
 
-    ghost view = { λ l. l.mutex.now.raw.list.source.id };
+    ghost Value = { Future T R };
+
+    ghost view = { λ l. future l.mutex.now (is_over l.waiting) };
 
     ghost invariant = { λ l. (q : _) → l.waiting ≡ Some q → Waits l.mutex.now.raw.words q };
 }
 
 impl<'a, T, R: Wait> Lock<'a, T, R> {
+    ghost use Rattle.async_lock.specs.Futures.{future};
+
     pub(crate) fn new(mutex: &'a Mutex<T, R>, waiting: Waiting<T>) -> Lock<'a, T, R>
         requires { Waits mutex.now.raw.words waiting }
+        ensures { result ≡ future mutex.now false }
     {
         Lock {
             mutex,
@@ -47,12 +54,20 @@ impl<'a, T, R: Wait> Lock<'a, T, R> {
 }
 
 impl<'a, T, R: Wait + Clock> Lock<'a, T, R> {
+    ghost use Rattle.async_lock.specs.Futures.{IsTurn};
+
     /// One poll: ready with the guard, or pending.
+    ///
+    /// It is refused as [`Refusal::Memory`] where memory for its entry was refused, and as [`Refusal::Starved`] where
+    /// as many waiters are starved as may be; then the future is as when it was made, and may be polled again. Once it
+    /// was ready it is refused as [`Refusal::Finished`], and nothing changes (`turn`).
     ///
     /// Pending, it has registered with the mutex's source (`registered`), and it keeps what the context had
     /// registered before (`kept`).
     pub fn poll(&mut self, cx: &mut Context<'_>) -> Turn<MutexGuard<'a, T, R>>
-        ensures registered { OnPending result (Covers cx.new (λ s. s ≡ self.old)) }
+        ensures turn { IsTurn (λ guard. guard.mutex.now ≡ self.old.mutex) self.old.is_over result self.new.is_over }
+        ensures mutex { self.new.mutex ≡ self.old.mutex }
+        ensures registered { OnPending result (Covers cx.new (λ s. s ≡ self.old.mutex.raw.list.source.id)) }
         ensures kept { Keeps cx.old cx.new }
     {
         let mutex = self.mutex;
@@ -120,9 +135,13 @@ pub struct Owned<T, R> {
 }
 
 impl<T, R> Model for Owned<T, R> {
-    ghost Value = { ℕ };
+    ghost use Rattle.std.specs.Arc.{arc_value};
+    ghost use Rattle.async_lock.specs.Outcomes.{Waits};
+    ghost use Rattle.async_lock.specs.declared.mutex.Mutex.{Mutex};
 
-    ghost view = { λ o. (arc_value o.mutex).raw.list.source.id };
+    ghost Value = { Mutex T R };
+
+    ghost view = { λ o. arc_value o.mutex };
 
     ghost invariant = { λ o. Waits (arc_value o.mutex).raw.words o.waiting };
 }
@@ -130,22 +149,27 @@ impl<T, R> Model for Owned<T, R> {
 impl<T, R> Owned<T, R> {
     fn new(mutex: Arc<Mutex<T, R>>, waiting: Waiting<T>) -> Owned<T, R>
         requires { Waits (arc_value mutex).raw.words waiting }
-        ensures { result ≡ (arc_value mutex).raw.list.source.id }
+        ensures { result ≡ arc_value mutex }
     {
         Owned { mutex, waiting }
     }
 }
 
 impl<T, R: Wait> LockArc<T, R> {
+    ghost use Rattle.async_lock.specs.Sources.{is_finished};
+
     pub(crate) fn new(mutex: Arc<Mutex<T, R>>, waiting: Waiting<T>) -> LockArc<T, R>
         requires { Waits (arc_value mutex).raw.words waiting }
+        ensures { is_finished result.stage ≡ false }
     {
         LockArc {
             stage: Stage::Waits(Owned::new(mutex, waiting)),
         }
     }
 
-    pub(crate) fn unowned() -> LockArc<T, R> {
+    pub(crate) fn unowned() -> LockArc<T, R>
+        ensures { is_finished result.stage ≡ false }
+    {
         LockArc {
             stage: Stage::Unowned,
         }
@@ -153,10 +177,12 @@ impl<T, R: Wait> LockArc<T, R> {
 }
 
 impl<T: Drop, R: Wait + Clock + Drop> LockArc<T, R> {
-    ghost use Rattle.async_lock.specs.Sources.{WaitsAt};
+    ghost use Rattle.async_lock.specs.Sources.{WaitsAt, IsOf, is_finished};
+    ghost use Rattle.async_lock.specs.Futures.{IsTurn};
 
     /// One poll, as [`Lock::poll`]. Ready, the guard gets the future's share of the mutex.
     pub fn poll(&mut self, cx: &mut Context<'_>) -> Turn<MutexGuardArc<T, R>>
+        ensures turn { IsTurn (IsOf self.old.stage) (is_finished self.old.stage) result (is_finished self.new.stage) }
         ensures registered { OnPending result (Covers cx.new (WaitsAt self.old.stage)) }
         ensures kept { Keeps cx.old cx.new }
     {

@@ -1,6 +1,7 @@
 //! The mutex.
 
 ghost use Rattle.std.specs.Prelude.{◌≡◌, ℕ, IfSome, false};
+ghost use Rattle.std.specs.Arc.{arc_value};
 ghost use Rattle.futures.specs.Task.{Covers, Keeps};
 ghost use Rattle.lock_words.specs.Tries.{Holds};
 ghost use Rattle.async_lock.specs.Outcomes.{OnOutcome, OnWaits, Waits};
@@ -92,14 +93,22 @@ impl<T, R> Mutex<T, R> {
 }
 
 impl<T, R: Wait> Mutex<T, R> {
+    ghost use Rattle.async_lock.specs.Futures.{future};
+
     /// Takes the lock at once, if it is free and nobody is starved.
-    pub fn try_lock(&self) -> Option<MutexGuard<'_, T, R>> {
+    ///
+    /// By the contract a guard that it answers is this mutex's. That a free lock is got is tested.
+    pub fn try_lock(&self) -> Option<MutexGuard<'_, T, R>>
+        ensures { IfSome result (λ guard. guard.mutex.now ≡ self.now) }
+    {
         let (seat, hold) = self.take()?;
         Some(MutexGuard::new(self, seat, hold))
     }
 
     /// A future of the lock, which does nothing until it is polled.
-    pub fn lock(&self) -> Lock<'_, T, R> {
+    pub fn lock(&self) -> Lock<'_, T, R>
+        ensures { result ≡ future self.now false }
+    {
         Lock::new(self, self.first())
     }
 
@@ -127,9 +136,13 @@ impl<T, R: Wait> Mutex<T, R> {
 }
 
 impl<T: Drop, R: Wait + Drop> Mutex<T, R> {
+    ghost use Rattle.async_lock.specs.Sources.{is_finished};
+
     /// As [`Mutex::try_lock`], for a guard that owns its share of the mutex. It is `None` too where that share
     /// can't be had.
-    pub fn try_lock_arc(this: &Arc<Mutex<T, R>>) -> Option<MutexGuardArc<T, R>> {
+    pub fn try_lock_arc(this: &Arc<Mutex<T, R>>) -> Option<MutexGuardArc<T, R>>
+        ensures { IfSome result (λ guard. guard ≡ arc_value this.now) }
+    {
         let mutex = Arc::try_clone(this).ok()?;
         let (seat, hold) = mutex.take()?;
         Some(MutexGuardArc::new(mutex, seat, hold))
@@ -137,7 +150,9 @@ impl<T: Drop, R: Wait + Drop> Mutex<T, R> {
 
     /// As [`Mutex::lock`], for a future that owns its share of the mutex and gives it to its guard. Where that share
     /// can't be had, its polls are refused as [`Refusal::Memory`].
-    pub fn lock_arc(this: &Arc<Mutex<T, R>>) -> LockArc<T, R> {
+    pub fn lock_arc(this: &Arc<Mutex<T, R>>) -> LockArc<T, R>
+        ensures { is_finished result.stage ≡ false }
+    {
         match Arc::try_clone(this) {
             Ok(mutex) => {
                 let waiting = mutex.first();

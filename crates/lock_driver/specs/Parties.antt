@@ -4,6 +4,8 @@ use Rattle.lock_driver.specs.declared.mutex_party.MutexParty.{MutexParty}
 use Rattle.lock_event.specs.declared.event.EntryId.{EntryId}
 use Rattle.lock_place.specs.declared.room.Hold.{Hold}
 use Rattle.lock_words.specs.Lock.{Lock, Seated}
+use Rattle.lock_world.specs.declared.refusal.Refusal.{Refusal}
+use Rattle.lock_world.specs.declared.refusal.Refusal.TheVariants.{Memory, Starved}
 use Rattle.lock_words.specs.Tries.{Holds}
 use Rattle.mutex_machine.specs.declared.program.Action.{Action}
 use Rattle.mutex_machine.specs.declared.program.Action.TheVariants as act
@@ -112,7 +114,15 @@ CanPoll Ask = ⊤
 CanPoll AskStarved = ⊤
 CanPoll _ = ⊥
 
+-- a poll is refused for memory, or for too many starved waiters
+abbrev pub IsGivenUp : Refusal → Type 0
+IsGivenUp Memory = ⊤
+IsGivenUp Starved = ⊤
+IsGivenUp _ = ⊥
+
 abbrev pub EndsAt : End → Place → Type 0
 EndsAt ending.Got p = p ≡ Holding
 EndsAt ending.Pending p = CanPoll p
-EndsAt _ p = p ≡ Out
+EndsAt ending.NotFree p = p ≡ Out
+EndsAt ending.GivenBack p = p ≡ Out
+EndsAt (ending.Refused refusal) p = (p ≡ Out) × IsGivenUp refusal

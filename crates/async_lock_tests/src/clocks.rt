@@ -1,0 +1,122 @@
+//! What the clock says of a waiter.
+
+use crate::polls::{is_pending, ready};
+use async_lock::{Mutex, Refusal};
+use futures::test::MockTask;
+use std::alloc::{Alloc, AllocGlobal, Global};
+use std::io;
+use std::random::RandomSource;
+use std::sync::atomic::{AtomicU64, Ordering};
+use std::sync::{Arc, Wait};
+use std::test::Fail;
+use std::time::{Clock, Duration};
+
+/// A runtime of a test's own: its clock stands where the test puts it, and past the first hour it can't be read.
+/// It has no random numbers.
+#[derive(Drop)]
+pub struct Fake<R> {
+    rt: R,
+    micros: Arc<AtomicU64>,
+}
+
+const HOUR: u64 = 3_600_000_000;
+
+impl<R> Fake<R> {
+    /// A runtime by this clock, in microseconds.
+    pub fn new(rt: R, micros: Arc<AtomicU64>) -> Fake<R> {
+        Fake { rt, micros }
+    }
+}
+
+impl<R: Wait> Wait for Fake<R> {}
+
+impl<R> Clock for Fake<R> {
+    fn monotonic(&self) -> io::Result<Duration> {
+        let micros = self.micros.load(Ordering::SeqCst);
+        if micros > HOUR {
+            return Err(io::Error::other("no clock"));
+        }
+        Ok(Duration::from_micros(micros))
+    }
+
+    fn since_1970(&self) -> io::Result<Duration> {
+        Err(io::Error::other("no clock"))
+    }
+}
+
+impl<R> RandomSource for Fake<R> {
+    fn fill_bytes(&self, _buf: &mut [u8]) -> io::Result<()> {
+        Err(io::Error::other("no random numbers"))
+    }
+}
+
+impl<R: AllocGlobal> Alloc for Fake<R> {
+    type A = Global;
+
+    fn alloc(&self) -> Global {
+        self.rt.alloc()
+    }
+}
+
+// Whether a future that is overtaken at this time, and first waited at `from`, is counted as starved.
+fn is_starved_at<R>(rt: R, from: u64, at: u64) -> Option<bool>
+where
+    R: Wait + RandomSource + AllocGlobal + Drop,
+{
+    let micros = Arc::new(rt.alloc(), AtomicU64::new(from)).ok()?;
+    let clock = Arc::try_clone(&micros).ok()?;
+    let task = MockTask::new(&rt).ok()?;
+    let mutex = Mutex::new(Fake::new(rt, clock), 1u64).ok()?;
+    let held = mutex.try_lock();
+    let mut future = mutex.lock();
+    if !is_pending(&task, &mut future) {
+        return None;
+    }
+    micros.store(at, Ordering::SeqCst);
+    drop(held);
+    let held = mutex.try_lock();
+    if held.is_none() || !is_pending(&task, &mut future) {
+        return None;
+    }
+    drop(held);
+    // The starved one alone may have it now.
+    let is_starved = mutex.try_lock().is_none();
+    if ready(&task, &mut future).is_none() || mutex.try_lock().is_none() {
+        return None;
+    }
+    Some(is_starved)
+}
+
+#[test]
+fn more_than_500_microseconds_are_long(rt: HostRuntime) -> Result<(), Fail> {
+    // `None` is a run in which memory was refused.
+    let short = is_starved_at(rt, 7, 507);
+    let long = is_starved_at(rt, 7, 508);
+    assert!(rt; short != Some(true) && long != Some(false));
+    assert!(rt; short.is_some() || long.is_some());
+    Ok(())
+}
+
+#[test]
+fn a_clock_that_cannot_be_read_says_no(rt: HostRuntime) -> Result<(), Fail> {
+    assert!(rt; is_starved_at(rt, 7, HOUR + 1) != Some(true));
+    assert!(rt; is_starved_at(rt, HOUR + 1, 1000) != Some(true));
+    Ok(())
+}
+
+#[test]
+fn an_error_of_the_runtime_is_a_refusal(rt: HostRuntime) -> Result<(), Fail> {
+    let Ok(micros) = Arc::new(rt.alloc(), AtomicU64::new(0)) else {
+        return Ok(());
+    };
+    let Ok(mutex) = Mutex::new(Fake::new(rt, micros), 1u64) else {
+        return Ok(());
+    };
+    // A free lock needs no runtime.
+    assert!(rt; mutex.lock_blocking().is_ok());
+    let held = mutex.try_lock();
+    assert!(rt; matches!(mutex.lock_blocking(), Err(Refusal::Memory)));
+    drop(held);
+    assert!(rt; mutex.try_lock().is_some());
+    Ok(())
+}
