@@ -11,6 +11,7 @@ use Rattle.mutex_machine.specs.Course.{Course, out, holding, waiting, taking, re
 use Rattle.mutex_machine.specs.Mutex.{Mutex, course_at, new_mutex, is_counted, holder_from, holder_of, starved_of}
 use Rattle.mutex_machine.specs.Alone.{GaveWay}
 use Rattle.mutex_machine.proofs.Holders as sees
+pub use Rattle.mutex_machine.proofs.SoloPolls.{first_marked}
 
 -- which calls may begin
 pub may_lock : (x : Course) → is_out x ≡ true → may_begin call.Lock x ≡ true

@@ -8,8 +8,7 @@ use Rattle.lock_event.specs.Lists.{is_marked_at}
 use Rattle.lock_queue.specs.Parties.{is_party}
 use Rattle.mutex_machine.specs.Course.{Course as TurnCourse, listed}
 use Rattle.mutex_machine.specs.Mutex.{course_at as turn_at}
-use Rattle.mutex_machine.proofs.Callers.{out_unlisted, holding_unlisted}
-use Rattle.mutex_machine.proofs.SoloPolls.{first_marked}
+use Rattle.mutex_machine.proofs.Callers.{out_unlisted, holding_unlisted, first_marked}
 use Rattle.rwlock_machine.specs.declared.program.Place.{Place}
 use Rattle.rwlock_machine.specs.declared.program.Place.TheVariants.{Out, Made, Reading, Upgradable, Writing, EnterRead, AskNoWriter, PassOn, WaitTurn, AwaitNoReaders, LookUnlisted, LeaveNoReaders}
 use Rattle.rwlock_machine.specs.declared.program.Action.TheVariants as act

@@ -34,6 +34,7 @@ use Rattle.rwlock_machine.specs.declared.program.Place.{Place}
 use Rattle.rwlock_machine.specs.declared.program.Place.TheVariants as place
 use Rattle.rwlock_machine.specs.declared.program.Purpose.{Purpose}
 use Rattle.rwlock_machine.specs.declared.program.Purpose.TheVariants as purpose
+use Rattle.rwlock_machine.specs.declared.program.RwCall.{RwCall}
 use Rattle.rwlock_machine.specs.Program.{start_of, action_of, next_of, place_after}
 use Rattle.rwlock_machine.specs.Roles.{only_turns, fits_turn}
 use Rattle.rwlock_machine.specs.Machine.{SameRoles, place_at}
@@ -108,9 +109,15 @@ passer q p upgrading e = absurd (cc)
 passer q p waiting e = absurd (cc)
 passer q p writing e = absurd (cc)
 
-passer_holds : (h : Option ℕ) (xs : List Place) (p : ℕ) → turn_by h xs ≡ state.passes p → h ≡ Some p
+pub passer_holds : (h : Option ℕ) (xs : List Place) (p : ℕ) → turn_by h xs ≡ state.passes p → h ≡ Some p
 passer_holds None xs p e = absurd (cc)
 passer_holds (Some q) xs p e = ap Some (passer q p (share_of (place_at xs q)) e)
+
+-- nobody has a free turn, and nobody is starved for it
+pub turn_is_free : (t : Table) → is_turn_free (view_of t).state ≡ true → (holders t.lock.turn ≡ 0) × (starved t.lock.turn ≡ 0)
+turn_is_free t h =
+    let b = free_means (view_of t).state.turn (how_many (view_of t).state.starved) h in
+    (sees.none_holds 0 t.lock.turn.courses (nobody_holds (holder_of t.lock.turn) t.lock.places b.0), sym (view.how_many-starved t.lock.turn.courses) ∙ b.1)
 
 -- ---- one action
 
@@ -156,7 +163,7 @@ module _ (t u : Table) (m : Move) (a : Answer) where
   free_is h s = free_test old.state.turn (how_many old.state.starved) (ap (λ o. turn_by o t.lock.places) (sees.none_held 0 t.lock.turn.courses h)) (view.how_many-starved t.lock.turn.courses ∙ s)
 
   free_says : is_turn_free old.state ≡ true → (holders t.lock.turn ≡ 0) × (starved t.lock.turn ≡ 0)
-  free_says h = let b = free_means old.state.turn (how_many old.state.starved) h in (sees.none_holds 0 t.lock.turn.courses (nobody_holds (holder_of t.lock.turn) t.lock.places b.0), sym (view.how_many-starved t.lock.turn.courses) ∙ b.1)
+  free_says h = turn_is_free t h
 
   -- where a party that acted stands then
   lands : (x : Place) (y : Acted t u m a x) → place_at u.lock.places p ≡ place_after (next_of x y.found)
@@ -593,15 +600,17 @@ begun (Some from) h = (from, refl, h)
 start_goes : (c : _) (w u : Within) → plan.Start c w ≡ plan.Go u → ⊥
 start_goes c w u e = cc
 
-any_at_once : (t u : Table) (m : Move) (a : Answer) (o : Option Plan) → plan_in t m ≡ o → Does o m t a u → Laws t → Laws u → AnswersAtOnce (view_of t) m a (view_of u)
-any_at_once t u m a None e d k ku = rw (d.0, d.1) (impossible_at_once t m k e)
-any_at_once t u m a (Some plan.Finished) e d k ku =
-    let p = known_move m.party t.stages plan.Finished (plan_of (stage_at t.stages m.party) (seeking t.sought m.party) m.what) (nat_lt m.party (length t.stages)) refl e in
-    still_at_once t m a (view_of u) k (ap is_still p.1)
-any_at_once t u m a (Some (plan.Put n)) e d k ku =
-    let p = known_move m.party t.stages (plan.Put n) (plan_of (stage_at t.stages m.party) (seeking t.sought m.party) m.what) (nat_lt m.party (length t.stages)) refl e in
-    still_at_once t m a (view_of u) k (ap is_still p.1)
-any_at_once t u m a (Some (plan.Start c w)) e d k ku =
+-- a call that has begun
+pub record Started (t u : Table) (m : Move) (a : Answer) (c : RwCall) (w : Within) : Type 0 where
+  pub from : Place
+  pub known : m.party < length t.stages
+  pub did : Steps w from (begins_to_seek c (seeking t.sought m.party)) m t a u
+  pub course : is_on_course w.kind w.was (course_of from) ≡ true
+  pub same : SameRoles from (place_at t.lock.places m.party)
+  pub begins : Begins (view_of t) m from
+
+pub started : (t u : Table) (m : Move) (a : Answer) (c : RwCall) (w : Within) → plan_in t m ≡ Some (plan.Start c w) → Does (Some (plan.Start c w)) m t a u → Laws t → Started t u m a c w
+started t u m a c w e d k =
     let p = known_move m.party t.stages (plan.Start c w) (plan_of (stage_at t.stages m.party) (seeking t.sought m.party) m.what) (nat_lt m.party (length t.stages)) refl e in
     let s : Stage = stage_at t.stages m.party in
     let o : Option Sought = seeking t.sought m.party in
@@ -614,10 +623,27 @@ any_at_once t u m a (Some (plan.Start c w)) e d k ku =
     let C : Place → Type 0 = λ z. is_on_course w.kind w.was (course_of z) ≡ true in
     let S : Place → Type 0 = λ z. SameRoles z x in
     let F : Place → Type 0 = λ z. Firsts (stands_as t.value s x y) (right_of o) m.what (entries_in (view_of t) m.party) (is_upgrader (view_of t) m.party) z in
-    let course = subst C (some_eq (sym st.1 ∙ b.1)) st.2.course in
-    let same = subst S (some_eq (sym mv.1 ∙ b.1)) mv.2.same in
     let first = subst F (some_eq (sym fs.1 ∙ b.1)) (fs.2 (entries_in (view_of t) m.party) (is_upgrader (view_of t) m.party) (lists t m.party k)) in
-    stepping t u m a w b.0 (begins_to_seek c o) k ku p.0 b.2 course same (begins_start t m (plan.Start c w) b.0 k p.1 (start_goes c w) first)
+    record {
+      from = b.0;
+      known = p.0;
+      did = b.2;
+      course = subst C (some_eq (sym st.1 ∙ b.1)) st.2.course;
+      same = subst S (some_eq (sym mv.1 ∙ b.1)) mv.2.same;
+      begins = begins_start t m (plan.Start c w) b.0 k p.1 (start_goes c w) first;
+    }
+
+any_at_once : (t u : Table) (m : Move) (a : Answer) (o : Option Plan) → plan_in t m ≡ o → Does o m t a u → Laws t → Laws u → AnswersAtOnce (view_of t) m a (view_of u)
+any_at_once t u m a None e d k ku = rw (d.0, d.1) (impossible_at_once t m k e)
+any_at_once t u m a (Some plan.Finished) e d k ku =
+    let p = known_move m.party t.stages plan.Finished (plan_of (stage_at t.stages m.party) (seeking t.sought m.party) m.what) (nat_lt m.party (length t.stages)) refl e in
+    still_at_once t m a (view_of u) k (ap is_still p.1)
+any_at_once t u m a (Some (plan.Put n)) e d k ku =
+    let p = known_move m.party t.stages (plan.Put n) (plan_of (stage_at t.stages m.party) (seeking t.sought m.party) m.what) (nat_lt m.party (length t.stages)) refl e in
+    still_at_once t m a (view_of u) k (ap is_still p.1)
+any_at_once t u m a (Some (plan.Start c w)) e d k ku =
+    let b = started t u m a c w e d k in
+    stepping t u m a w b.from (begins_to_seek c (seeking t.sought m.party)) k ku b.known b.did b.course b.same b.begins
 any_at_once t u m a (Some (plan.Go w)) e d k ku =
     let p = known_move m.party t.stages (plan.Go w) (plan_of (stage_at t.stages m.party) (seeking t.sought m.party) m.what) (nat_lt m.party (length t.stages)) refl e in
     let s : Stage = stage_at t.stages m.party in
