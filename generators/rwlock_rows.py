@@ -10,7 +10,7 @@ PROOFS = 'crates/rwlock_machine/proofs/'
 
 PLACES = '''Out, Made, Reading, Upgradable, Writing, EnterRead, JoinNoWriter, LookNoWriter, AskNoWriter, PassOn, LeaveNoWriter, RefuseLeave, RefuseNotify, CancelRead, TryRead, EnterTurn, WaitTurn, TakeTurn, TryTurn, CancelTurn, CancellingTurn, ReleaseTurn, ReleasingTurn, Add, TryUpgrade, Upgrade, Mark, TryWrite, JoinNoReaders, LookNoReaders, AskNoReaders, AwaitNoReaders, LookUnlisted, LeaveNoReaders, DropRead, DropReadNotify, DropUpgradable, DropUpgradableNotify, DropWrite, CancelAwait, Unmark, UnmarkNotify, Down, DownNotify, DowngradeNotify'''
 
-USES = '''use Rattle.mutex_machine.specs.declared.program.Next.TheVariants as turn_next
+USES = '''use Rattle.mutex_machine.specs.declared.mutex.Step.TheVariants as turn_step
 use Rattle.mutex_machine.specs.declared.program.End.TheVariants as turn_end
 use Rattle.rwlock_machine.specs.declared.program.Purpose.TheVariants as purpose
 use Rattle.rwlock_machine.specs.declared.program.Ending.TheVariants as ending
@@ -23,9 +23,9 @@ use Rattle.rwlock_machine.specs.declared.program.Found.TheVariants.{Done, Writer
 PURPOSES = ('purpose.UpgradableRead', 'purpose.Write')
 ENDINGS = ('ending.GivenBack', 'ending.NotFree', 'ending.RefuseReaders', 'ending.RefuseMemory', 'ending.Reading', 'ending.NotifyReaders')
 BOTH = ('true', 'false')
-DO = '(Turn (turn_next.Do action q))'
-GOT = '(Turn (turn_next.End turn_end.Got))'
-REFUSED = '(Turn (turn_next.End (turn_end.Refused r)))'
+DO = '(Turn turn_step.More)'
+GOT = '(Turn (turn_step.End turn_end.Got))'
+REFUSED = '(Turn (turn_step.End (turn_end.Refused r)))'
 
 # Each place, its action, and the findings on which the next place depends; '_' stands for the others.
 ROWS = [
@@ -109,18 +109,18 @@ def links():
             continue
         kind = place.strip('()').split(' ')[0]
         if kind in ('EnterTurn', 'WaitTurn', 'TakeTurn'):
-            for found, proof in ((DO, 'h'), (GOT, 'rw h refl'), ('(Turn (turn_next.End turn_end.Pending))', 'h'),
-                                 ('(Turn (turn_next.End (turn_end.Refused refusal.Memory)))', 'rw h refl'),
-                                 ('(Turn (turn_next.End (turn_end.Refused refusal.Starved)))', 'rw h refl')):
+            for found, proof in ((DO, 'h'), (GOT, 'rw h refl'), ('(Turn (turn_step.End turn_end.Pending))', 'h'),
+                                 ('(Turn (turn_step.End (turn_end.Refused refusal.Memory)))', 'rw h refl'),
+                                 ('(Turn (turn_step.End (turn_end.Refused refusal.Starved)))', 'rw h refl')):
                 lines.append(f'links {place} {found} t to h same e = {proof}')
         elif kind == 'TryTurn':
             lines.append(f'links {place} {GOT} t to h same e = rw h refl')
-            lines.append(f'links {place} (Turn (turn_next.End turn_end.NotFree)) t to h same e = rw h refl')
+            lines.append(f'links {place} (Turn (turn_step.End turn_end.NotFree)) t to h same e = rw h refl')
         elif kind == 'ReleasingTurn':
-            lines.append(f'links {place} (Turn (turn_next.End turn_end.GivenBack)) t to h same e = rw h refl')
+            lines.append(f'links {place} (Turn (turn_step.End turn_end.GivenBack)) t to h same e = rw h refl')
         else:
             lines.append(f'links {place} {DO} t to h same e = h')
-            lines.append(f'links {place} (Turn (turn_next.End turn_end.GivenBack)) t to h same e = rw h refl')
+            lines.append(f'links {place} (Turn (turn_step.End turn_end.GivenBack)) t to h same e = rw h refl')
         lines.append(f'links {place} _ t to h same e = absurd h')
     return lines
 
@@ -138,7 +138,7 @@ def falls():
         else:
             flags = ('upgrade',)
         if kind == 'ReleasingTurn':
-            findings = (DO, '(Turn (turn_next.End ended))', '_')
+            findings = (DO, '(Turn (turn_step.End ended))', '_')
         for flag in flags:
             for found in findings:
                 proof = 'grind arith' if kind in BY_MARK else 'omega arith'
@@ -162,13 +162,13 @@ pub fits : (x : Place) (f : Found) → Fits (action_of x) f x (place_after (next
 table('Links.antt', '''-- Each step leaves the party's place fitting its place in the turn. Written by generators/rwlock_rows.py.
 use Rattle.std.proofs.Common.{◌≡◌, refl, true, false}
 use Rattle.lock_world.specs.declared.refusal.Refusal.TheVariants as refusal
-use Rattle.mutex_machine.specs.declared.program.Place.{Place as TurnPlace}
+use Rattle.mutex_machine.specs.Course.{Course as TurnCourse}
 ''' + USES + '''use Rattle.rwlock_machine.specs.Program.{next_of, place_after}
 use Rattle.rwlock_machine.specs.Roles.{fits_turn}
 use Rattle.rwlock_machine.proofs.Leads.{Led, steps_in_turn}
 
 -- a step that is not in the turn leaves the party there where it was
-pub links : (x : Place) (f : Found) (t to : TurnPlace) → Led x f to → (steps_in_turn x ≡ false → to ≡ t) → fits_turn x t ≡ true → fits_turn (place_after (next_of x f)) to ≡ true
+pub links : (x : Place) (f : Found) (t to : TurnCourse) → Led x f to → (steps_in_turn x ≡ false → to ≡ t) → fits_turn x t ≡ true → fits_turn (place_after (next_of x f)) to ≡ true
 ''', links())
 
 table('Falls.antt', '''-- Each step of a party that moves alone leaves fewer steps. Written by generators/rwlock_rows.py.

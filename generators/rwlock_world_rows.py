@@ -17,8 +17,8 @@ PATHS_HEAD = f'''-- Where each action leads, place by place. Written by generato
 use Rattle.std.proofs.Common.{{◌≡◌, ◌&&◌, Bool, true, false, Option, refl}}
 use Rattle.lock_world.specs.declared.refusal.Refusal.{{Refusal}}
 use Rattle.lock_world.specs.declared.refusal.Refusal.TheVariants as refusal
-use Rattle.mutex_machine.specs.declared.program.Place.{{Place as TurnPlace}}
-use Rattle.mutex_machine.specs.declared.program.Next.TheVariants as turn_next
+use Rattle.mutex_machine.specs.Course.{{Course as TurnCourse}}
+use Rattle.mutex_machine.specs.declared.mutex.Step.TheVariants as turn_step
 use Rattle.mutex_machine.specs.declared.program.End.TheVariants as turn_end
 use Rattle.rwlock_machine.specs.declared.program.Purpose.TheVariants as purpose
 use Rattle.rwlock_machine.specs.declared.program.Ending.TheVariants as ending
@@ -79,17 +79,17 @@ pub record Path (x : Place) (f : Found) : Type 0 where
   pub keeps : Keeps (course_of x) (next_of x f)
   pub seeks : Seeks x (next_of x f)
 
-module _ (memory : Bool) (l : RwLock) (to : TurnPlace) where
+module _ (memory : Bool) (l : RwLock) (to : TurnCourse) where
   pub path : (x : Place) (f : Found) → Finds memory (action_of x) f l → Led x f to → (course_of x ≡ strays → ⊥) → Path x f
 '''
 
-DO = '(Turn (turn_next.Do a q))'
-GOT = '(Turn (turn_next.End turn_end.Got))'
-PENDING = '(Turn (turn_next.End turn_end.Pending))'
-NOT_FREE = '(Turn (turn_next.End turn_end.NotFree))'
-BACK = '(Turn (turn_next.End turn_end.GivenBack))'
-MEMORY = '(Turn (turn_next.End (turn_end.Refused refusal.Memory)))'
-STARVED = '(Turn (turn_next.End (turn_end.Refused refusal.Starved)))'
+DO = '(Turn turn_step.More)'
+GOT = '(Turn (turn_step.End turn_end.Got))'
+PENDING = '(Turn (turn_step.End turn_end.Pending))'
+NOT_FREE = '(Turn (turn_step.End turn_end.NotFree))'
+BACK = '(Turn (turn_step.End turn_end.GivenBack))'
+MEMORY = '(Turn (turn_step.End (turn_end.Refused refusal.Memory)))'
+STARVED = '(Turn (turn_step.End (turn_end.Refused refusal.Starved)))'
 
 paths = []
 H = 'λ s h. h'
@@ -230,8 +230,7 @@ use Rattle.lock_world.specs.declared.refusal.Refusal.TheVariants as refusal
 use Rattle.lock_world.specs.Refusals.{{number_of}}
 use Rattle.lock_world.specs.Standings.{{refused}}
 use Rattle.lock_world.specs.Steps.{{Deed, nothing, changes, does, joins, asks, leaves, notifies}}
-use Rattle.mutex_machine.specs.declared.program.Place.{{Place as TurnPlace}}
-use Rattle.mutex_machine.specs.Courses.{{is_out as is_out_there, is_holding}}
+use Rattle.mutex_machine.specs.Course.{{Course as TurnCourse, is_out as is_out_there, is_holding}}
 use Rattle.rwlock_machine.specs.declared.program.Action.{{Action}}
 use Rattle.rwlock_machine.specs.declared.program.Action.TheVariants as act
 use Rattle.rwlock_machine.specs.declared.program.End.TheVariants.{{Got, Pending, Waiting, NotFree, GivenBack, Refused}}
@@ -240,7 +239,7 @@ use Rattle.rwlock_machine.specs.declared.program.Next.TheVariants as next
 use Rattle.rwlock_machine.specs.declared.program.Found.{{Found}}
 use Rattle.rwlock_machine.specs.declared.program.Found.TheVariants.{{Done, Writer, Full, NoneLeft, SomeLeft, NoMemory, Yes, No, Turn}}
 use Rattle.rwlock_machine.specs.declared.program.Found.TheVariants as found
-use Rattle.mutex_machine.specs.declared.program.Next.TheVariants as turn_next
+use Rattle.mutex_machine.specs.declared.mutex.Step.TheVariants as turn_step
 use Rattle.mutex_machine.specs.declared.program.End.TheVariants as turn_end
 use Rattle.rwlock_machine.specs.declared.program.Purpose.TheVariants as purpose
 use Rattle.rwlock_machine.specs.declared.program.Ending.TheVariants as ending
@@ -303,7 +302,7 @@ answer_at c v (next.End NotFree q) = answer.None
 answer_at c v (next.End GivenBack q) = answer.GivenBack
 answer_at c v (next.End (Refused r) q) = refused r
 
-abbrev pub verdict_then : ℕ → Course → TurnPlace → Next → Option Answer
+abbrev pub verdict_then : ℕ → Course → TurnCourse → Next → Option Answer
 verdict_then v c t (next.Do a q) = verdict v q t
 verdict_then v c t (next.End e q) = Some (answer_at c v (next.End e q))
 
@@ -376,7 +375,7 @@ lacks_memory _ = false
 
 -- why a step refuses its call
 abbrev pub Refuses : Bool → RwLock → Place → Found → Refusal → Type 0
-Refuses memory l x f refusal.Memory = (memory ≡ false) × (in_no_writer x + in_no_readers x ≡ 0) × (deed_at x f ≡ nothing) × ((t : TurnPlace) → fits_turn x t ≡ true → (is_out_there t ≡ true) ⊎ (is_holding t ≡ true)) × (lacks_memory x ≡ true)
+Refuses memory l x f refusal.Memory = (memory ≡ false) × (in_no_writer x + in_no_readers x ≡ 0) × (deed_at x f ≡ nothing) × ((t : TurnCourse) → fits_turn x t ≡ true → (is_out_there t ≡ true) ⊎ (is_holding t ≡ true)) × (lacks_memory x ≡ true)
 Refuses memory l x f refusal.Readers = (l.limit ≤ readers l) × (meets (sought_at (place_after (next_of x f))) refusal.Readers ≡ true)
 Refuses memory l x f _ = ⊥
 
@@ -407,7 +406,7 @@ keeps_what_it_has o d = not (gives_up d) || is_judged o
 
 -- an upgrade's future stays one while its call is undecided or pending
 abbrev pub KeepsUpgrade : ℕ → Place → Next → Type 0
-KeepsUpgrade v x (next.Do a q) = (t : TurnPlace) → verdict v q t ≡ None → is_upgrade q ≡ is_upgrade x
+KeepsUpgrade v x (next.Do a q) = (t : TurnCourse) → verdict v q t ≡ None → is_upgrade q ≡ is_upgrade x
 KeepsUpgrade v x (next.End Waiting q) = is_upgrade q ≡ true
 KeepsUpgrade v x (next.End Pending q) = is_upgrade q ≡ is_upgrade x
 KeepsUpgrade v x (next.End (Refused r) q) = is_upgrade q ≡ is_upgrade x
@@ -427,9 +426,9 @@ pub record Row (memory : Bool) (l : RwLock) (v : ℕ) (x : Place) (f : Found) : 
   pub no_writer : (p : ℕ) (a b : List (Entry ℕ)) → OnNoWriter p (action_of x) f a b → b ≡ no_writer_after p (deed_at x f) a
   pub no_readers : (p : ℕ) (a b : List (Entry ℕ)) → OnNoReaders p (action_of x) f a b → b ≡ no_readers_after p (deed_at x f) a
   pub finding : Finding (deed_at x f) l x
-  pub judged : (t u : TurnPlace) → Judged memory l v x f (verdict v x t) (verdict_then v (course_of x) u (next_of x f))
+  pub judged : (t u : TurnCourse) → Judged memory l v x f (verdict v x t) (verdict_then v (course_of x) u (next_of x f))
   pub room : Room memory (deed_at x f)
-  pub holds_on : (t : TurnPlace) → keeps_what_it_has (verdict v x t) (deed_at x f) ≡ true
+  pub holds_on : (t : TurnCourse) → keeps_what_it_has (verdict v x t) (deed_at x f) ≡ true
   pub over : is_after_ready (answer_at (course_of x) v (next_of x f)) ≡ false
   pub upgrade : KeepsUpgrade v x (next_of x f)
   pub refused : RefusedAt x (next_of x f)
@@ -608,7 +607,7 @@ pub record TurnRow (v : ℕ) (x : Place) (f : Found) : Type 0 where
   pub upgrade : KeepsUpgrade v x (next_of x f)
   pub refused : RefusedAt x (next_of x f)
 
-pub turn_row : (v : ℕ) (u : TurnPlace) (x : Place) (f : Found) → steps_in_turn x ≡ true → Led x f u → TurnRow v x f
+pub turn_row : (v : ℕ) (u : TurnCourse) (x : Place) (f : Found) → steps_in_turn x ≡ true → Led x f u → TurnRow v x f
 '''
 
 turn_rows = []

@@ -32,7 +32,8 @@ use Rattle.mutex_machine.specs.Parties.{OnParties}
 use Rattle.mutex_machine.specs.Machine.{Lock, SameRoles, place_at}
 use Rattle.mutex_machine.specs.Acts.{Acts, Finds, holders, starved}
 use Rattle.mutex_machine.specs.State.{is_holder, is_counted, holder_of, starved_of}
-use Rattle.mutex_machine.specs.Legal.{Change, ListName, takes, releases, starves, recovers, holder_after, starved_after, entries_after, gives_back, gives_up, is_release, decision, decided_by, decided_then, IsReason, IsAllowed, IsLegal, is_fresh}
+use Rattle.mutex_machine.specs.Legal.{decision, decided_then, IsReason, IsAllowed, IsLegal}
+use Rattle.mutex_machine.specs.Deeds.{Change, ListName, takes, releases, starves, recovers, holder_after, starved_after, entries_after, gives_back, gives_up, is_release, decided_by, is_fresh}
 use Rattle.mutex_machine.proofs.Kept.{after}
 use Rattle.mutex_machine.proofs.Rows.{Row, row, deed_of, decision_by, Holds, Starves, Finding, Room, HoldsOn, Reason, Judged}
 use Rattle.mutex_machine.proofs.Seen as sees

@@ -12,9 +12,14 @@ pub mod Courses
 pub mod Alone
 pub mod Solo
 pub mod SoloPolls
-pub mod Callers
+pub mod Rosters
 pub mod Seen
+pub mod Holders
 pub mod Rows
 pub mod Legal
 pub mod Parts
 pub mod Promised
+pub mod Sights
+pub mod Callers
+pub mod Clauses
+pub mod AloneSeen

@@ -21,7 +21,7 @@ use Rattle.std.specs.Prelude.{Some}
 use Rattle.mutex_machine.specs.Program.{start_of, action_of, next_of, place_after}
 use Rattle.mutex_machine.specs.Roles.{counted}
 use Rattle.mutex_machine.specs.Parties.{OnParties}
-use Rattle.mutex_machine.specs.Courses.{is_out, is_holding, is_waiting, is_counting, is_told, HeedsClock}
+use Rattle.mutex_machine.specs.Courses.{is_waiting, is_counting, is_told, HeedsClock}
 use Rattle.mutex_machine.specs.Machine.{Lock, SameRoles, place_at}
 use Rattle.mutex_machine.specs.Acts.{Acts, Finds, starved}
 use Rattle.mutex_machine.specs.Legal.{decided_then, IsUnrefused}
@@ -284,17 +284,3 @@ pub begins_unrefused : (memory : Bool) (p : ℕ) (c : _) (x from : Place) (n : N
 begins_unrefused memory p c x from n old new e acts there r h =
     let lands : place_at new.places p ≡ after from acts.found = ap (λ ps. place_at ps p) acts.places ∙ (get_or-set_same old.places p (place_after from n) Out there ∙ ap (place_after from) acts.next_is) in
     begins_at memory old from acts.found r acts.finds (starts_at c x from e) (sym (ap (λ y. decided_then y (after from acts.found)) acts.next_is) ∙ (sym (ap (decided_then n) lands) ∙ h))
-
--- nobody that is outside every call is about to be counted
-pub out_uncounted : (x : Place) → is_out x ≡ true → is_counting x ≡ false
-out_uncounted Out h = refl
-out_uncounted _ h = absurd (cc)
-
-pub holding_uncounted : (x : Place) → is_holding x ≡ true → is_counting x ≡ false
-holding_uncounted Holding h = refl
-holding_uncounted _ h = absurd (cc)
-
-pub waiting_uncounted : (x : Place) → is_waiting x ≡ true → is_counting x ≡ false
-waiting_uncounted Ask h = refl
-waiting_uncounted AskStarved h = refl
-waiting_uncounted _ h = absurd (cc)

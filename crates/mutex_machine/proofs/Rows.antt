@@ -17,7 +17,8 @@ use Rattle.mutex_machine.specs.Roles.{counted, listed}
 use Rattle.mutex_machine.specs.Machine.{Lock}
 use Rattle.mutex_machine.specs.Acts.{Finds, holders, starved}
 use Rattle.mutex_machine.specs.State.{is_holder, is_counted}
-use Rattle.mutex_machine.specs.Legal.{Change, ListName, takes, releases, starves, recovers, for_the_lock, gives_back, gives_up, is_release, decision}
+use Rattle.mutex_machine.specs.Legal.{decision}
+use Rattle.mutex_machine.specs.Deeds.{Change, ListName, takes, releases, starves, recovers, for_the_lock, gives_back, gives_up, is_release}
 use Rattle.mutex_machine.proofs.Kept.{after}
 
 -- what an action changes that found this

@@ -1,15 +1,18 @@
 -- Who holds the lock and who is starved, party by party.
-use Rattle.std.proofs.Common.{◌≡◌, ℕ, ◌+◌, ◌≤◌, Bool, true, false, List, [], ◌∷◌, map, get_or, zero, suc, refl, arith, ap, sym, ◌∙◌, subst, Option, Some, None, if◌then◌else◌}
+use Rattle.std.proofs.Common.{◌≡◌, ℕ, ◌+◌, ◌-◌, ◌≤◌, Bool, false, List, map, get_or, refl, Some, None}
 use Rattle.std.specs.Prelude.{is_some}
 use Rattle.std.proofs.Math.ListN.{set}
 use Rattle.std.specs.List.{sum_by}
-use Rattle.std.proofs.lemmas.List.Sums.{sum_by-cons}
-use Rattle.lock_world.proofs.Equations.{some_eq}
+use Rattle.lock_event.specs.declared.event.Entry.{Entry}
+use Rattle.lock_world.specs.Bounds.{unstarved_in}
+use Rattle.lock_world.specs.Rosters.{how_many}
 use Rattle.mutex_machine.specs.declared.program.Place.{Place}
 use Rattle.mutex_machine.specs.declared.program.Place.TheVariants.{Out, Holding, Enter, Try, Clear, CancelUncount, CancelLeave, Join, Look, Ask, Retry, PassOn, Count, JoinStarved, LookAlone, PassOnListed, AskStarved, Seize, Uncount, Leave, RefuseUncount, RefuseLeave, RefuseNotifyMemory, RefuseNotifyStarved, ReleaseNotify}
 use Rattle.mutex_machine.specs.Roles.{bit, holds, counted}
 use Rattle.mutex_machine.specs.Machine.{place_at}
 use Rattle.mutex_machine.specs.State.{is_holder, is_counted, holder_from}
+use Rattle.mutex_machine.proofs.Rosters as rosters
+pub use Rattle.mutex_machine.proofs.Rosters.{is_one}
 
 pub counted_bit : (x : Place) → bit (is_counted x) ≡ counted x
 counted_bit Out = refl
@@ -65,93 +68,41 @@ holds_bit RefuseNotifyMemory = refl
 holds_bit RefuseNotifyStarved = refl
 holds_bit ReleaseNotify = refl
 
-pub is_one : (b : Bool) → bit b ≡ 1 → b ≡ true
-is_one true h = refl
-is_one false h = absurd (omega arith)
-
-pub is_zero : (b : Bool) → bit b ≡ 0 → b ≡ false
-is_zero true h = absurd (omega arith)
-is_zero false h = refl
-
 pub starved_at : (ps : List Place) (p : ℕ) → get_or (map is_counted ps) p false ≡ is_counted (place_at ps p)
-starved_at [] p = refl
-starved_at (x ∷ xs) zero = refl
-starved_at (x ∷ xs) (suc p) = starved_at xs p
+starved_at = rosters.on_at counted Out counted_bit refl
 
--- ---- the holder
+pub how_many_counted : (ps : List Place) → how_many (map is_counted ps) ≡ sum_by counted ps
+how_many_counted = rosters.how_many_on counted Out counted_bit refl
 
-nobody_here : (n : ℕ) (x : Place) (xs : List Place) → holds x ≡ 0 → holder_from n (x ∷ xs) ≡ holder_from (n + 1) xs
-nobody_here n x xs h = rw (is_zero (is_holder x) (holds_bit x ∙ h)) refl
+pub unstarved_counted : (ps : List Place) (es : List (Entry ℕ)) → unstarved_in (map is_counted ps) es ≡ sum_by (λ e. 1 - counted (place_at ps e.key)) es
+unstarved_counted = rosters.off_listed counted Out counted_bit refl
 
-held_here : (n : ℕ) (x : Place) (xs : List Place) → holds x ≡ 1 → holder_from n (x ∷ xs) ≡ Some n
-held_here n x xs h = rw (is_one (is_holder x) (holds_bit x ∙ h)) refl
-
+-- the holder: nobody, if none holds the lock
 pub none_held : (n : ℕ) (ps : List Place) → sum_by holds ps ≡ 0 → holder_from n ps ≡ None
-none_held n [] h = refl
-none_held n (x ∷ xs) h =
-    let sum = sum_by-cons holds x xs in
-    nobody_here n x xs (omega arith) ∙ none_held (n + 1) xs (omega arith)
+none_held = rosters.none_held holds Out holds_bit refl
 
-some_hold : (ps : List Place) (p : ℕ) → holds (place_at ps p) ≡ 1 → 1 ≤ sum_by holds ps
-some_hold [] p h = absurd (omega arith)
-some_hold (x ∷ xs) zero h = let sum = sum_by-cons holds x xs in omega arith
-some_hold (x ∷ xs) (suc p) h =
-    let sum = sum_by-cons holds x xs in
-    let more : 1 ≤ sum_by holds xs = some_hold xs p h in
-    omega arith
-
+-- or whoever does
 pub held_at : (n : ℕ) (ps : List Place) (p : ℕ) → holds (place_at ps p) ≡ 1 → sum_by holds ps ≤ 1 → holder_from n ps ≡ Some (n + p)
-held_at n [] p h one = absurd (omega arith)
-held_at n (x ∷ xs) zero h one = held_here n x xs h ∙ ap Some (omega arith)
-held_at n (x ∷ xs) (suc p) h one =
-    let sum = sum_by-cons holds x xs in
-    let more : 1 ≤ sum_by holds xs = some_hold xs p h in
-    nobody_here n x xs (omega arith) ∙ (held_at (n + 1) xs p h (omega arith) ∙ ap Some (omega arith))
+held_at = rosters.held_at holds Out holds_bit refl
 
 -- nobody holds a lock without holder
-nobody : (b : Bool) (n : ℕ) (xs : List Place) → (if b then Some n else holder_from (n + 1) xs) ≡ None → (b ≡ false) × (holder_from (n + 1) xs ≡ None)
-nobody true n xs h = absurd (cc)
-nobody false n xs h = (refl, h)
-
 pub none_holds : (n : ℕ) (ps : List Place) → holder_from n ps ≡ None → sum_by holds ps ≡ 0
-none_holds n [] h = refl
-none_holds n (x ∷ xs) h =
-    let r = nobody (is_holder x) n xs h in
-    let out : holds x ≡ 0 = sym (holds_bit x) ∙ ap bit r.0 in
-    omega (arith, sum_by-cons holds x xs, none_holds (n + 1) xs r.1)
-
-pick : (b : Bool) (n : ℕ) (x : Place) (xs : List Place) (k : ℕ) → is_holder x ≡ b → (if b then Some n else holder_from (n + 1) xs) ≡ Some k
-    → (holder_from (n + 1) xs ≡ Some k → (p : ℕ) × (k ≡ (n + 1) + p) × (holds (place_at xs p) ≡ 1))
-    → (p : ℕ) × (k ≡ n + p) × (holds (place_at (x ∷ xs) p) ≡ 1)
-pick true n x xs k is h more = let e : n ≡ k = some_eq h in (0, omega arith, sym (holds_bit x) ∙ ap bit is)
-pick false n x xs k is h more = let r = more h in (suc r.0, omega (arith, r.1), r.2)
+none_holds = rosters.none_holds holds Out holds_bit refl
 
 -- the holder holds the lock where it stands
 pub holder_place : (n : ℕ) (ps : List Place) (k : ℕ) → holder_from n ps ≡ Some k → (p : ℕ) × (k ≡ n + p) × (holds (place_at ps p) ≡ 1)
-holder_place n [] k h = absurd (cc)
-holder_place n (x ∷ xs) k h = pick (is_holder x) n x xs k refl h (holder_place (n + 1) xs k)
+holder_place = rosters.holder_place holds Out holds_bit refl
 
 pub same_holder : (n : ℕ) (ps : List Place) (p : ℕ) (to : Place) → is_holder to ≡ is_holder (place_at ps p) → holder_from n (set ps p to) ≡ holder_from n ps
-same_holder n [] p to h = refl
-same_holder n (x ∷ xs) zero to h = rw h refl
-same_holder n (x ∷ xs) (suc p) to h = grind (arith, same_holder (n + 1) xs p to h)
+same_holder = rosters.same_holder holds Out holds_bit refl
 
 -- a party is the holder exactly if it holds the lock where it stands
 pub is_held_by : (ps : List Place) (p : ℕ) → holder_from 0 ps ≡ Some p → holds (place_at ps p) ≡ 1
-is_held_by ps p h =
-    let found = holder_place 0 ps p h in
-    let same : found.0 ≡ p = omega (arith, found.1) in
-    let P : ℕ → Type 0 = λ j. holds (place_at ps j) ≡ 1 in
-    subst P same found.2
+is_held_by = rosters.is_held_by holds Out holds_bit refl
 
 pub holds_it : (ps : List Place) (p : ℕ) → sum_by holds ps ≤ 1 → holds (place_at ps p) ≡ 1 → holder_from 0 ps ≡ Some p
-holds_it ps p one h = held_at 0 ps p h one ∙ ap Some (omega arith)
+holds_it = rosters.holds_it holds Out holds_bit refl
 
 -- the word is held exactly if some party is seen to hold the lock
-some_seen : (o : Option ℕ) → (o ≡ None → ⊥) → true ≡ is_some o
-some_seen None h = absurd (h refl)
-some_seen (Some p) h = refl
-
 pub held_seen : (b : Bool) (ps : List Place) → bit b ≡ sum_by holds ps → b ≡ is_some (holder_from 0 ps)
-held_seen true ps h = some_seen (holder_from 0 ps) (λ none. let no = none_holds 0 ps none in absurd (omega arith))
-held_seen false ps h = sym (ap is_some (none_held 0 ps (sym h)))
+held_seen = rosters.held_seen holds Out holds_bit refl

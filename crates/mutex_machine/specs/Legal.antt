@@ -1,16 +1,14 @@
 -- What one action of a party may do to a mutex, said without its places.
-use Rattle.std.specs.Prelude.{◌≡◌, ◌≢◌, ℕ, ◌<◌, ◌==◌, ◌⊎◌, ◌↔◌, Bool, true, false, List, length, Option, Some, None, slice_set}
-use Rattle.lock_event.specs.declared.event.Entry.{Entry}
+use Rattle.std.specs.Prelude.{◌≡◌, ◌≢◌, ℕ, ◌<◌, ◌⊎◌, ◌↔◌, Bool, true, false, length, Option, Some, None}
 use Rattle.lock_event.specs.declared.event.Mark.TheVariants.{Waiting}
 use Rattle.lock_event.specs.Lists.{mark_at}
 use Rattle.lock_queue.specs.Parties.{is_party, entries_of}
 use Rattle.lock_world.specs.declared.refusal.Refusal.{Refusal}
 use Rattle.lock_world.specs.declared.refusal.Refusal.TheVariants.{Memory, Starved}
-use Rattle.lock_world.specs.Steps.{Deed, nothing, changes, does, joins, leaves, list_after, is_parting}
+use Rattle.lock_world.specs.Steps.{Deed, nothing, changes, does, joins}
 use Rattle.mutex_machine.specs.declared.program.Place.{Place}
 use Rattle.mutex_machine.specs.declared.program.Place.TheVariants as place
 use Rattle.mutex_machine.specs.declared.program.LockCall.{LockCall}
-use Rattle.mutex_machine.specs.declared.program.LockCall.TheVariants as call
 use Rattle.mutex_machine.specs.declared.program.End.{End}
 use Rattle.mutex_machine.specs.declared.program.End.TheVariants.{Got, Pending, NotFree, GivenBack, Refused}
 use Rattle.mutex_machine.specs.declared.program.Next.{Next}
@@ -19,51 +17,7 @@ use Rattle.mutex_machine.specs.Machine.{Lock, place_at}
 use Rattle.mutex_machine.specs.Acts.{holders, starved, Holds, IsStarved}
 use Rattle.mutex_machine.specs.Roles.{counted}
 use Rattle.mutex_machine.specs.State.{holder_of, starved_of}
-
--- The changes of a mutex: the party takes the lock or gives it back, is counted as starved or no more.
-pub data Change : Type 0 where
-  takes : Change
-  releases : Change
-  starves : Change
-  recovers : Change
-
--- A mutex has one list: of the parties that wait for the lock.
-pub data ListName : Type 0 where
-  for_the_lock : ListName
-
-abbrev pub holder_after : ℕ → Deed Change ListName → Option ℕ → Option ℕ
-holder_after p (changes takes) h = Some p
-holder_after p (changes releases) h = None
-holder_after p _ h = h
-
-abbrev pub starved_after : ℕ → Deed Change ListName → List Bool → List Bool
-starved_after p (changes starves) s = slice_set s p true
-starved_after p (changes recovers) s = slice_set s p false
-starved_after p _ s = s
-
-abbrev pub entries_after : ℕ → Deed Change ListName → List (Entry ℕ) → List (Entry ℕ)
-entries_after p (does for_the_lock f) l = list_after p f l
-entries_after p _ l = l
-
--- Once its call is decided, a party only gives back: the lock, its starved count, its entry, a notification.
-abbrev pub gives_back : Deed Change ListName → Bool
-gives_back nothing = true
-gives_back (changes releases) = true
-gives_back (changes recovers) = true
-gives_back (changes _) = false
-gives_back (does list f) = is_parting f
-
--- What gives something up: the lock, the starved count, or a place in the list without asking there.
-abbrev pub gives_up : Deed Change ListName → Bool
-gives_up (changes releases) = true
-gives_up (changes recovers) = true
-gives_up (does list leaves) = true
-gives_up _ = false
-
--- The lock is given up.
-abbrev pub is_release : Deed Change ListName → Bool
-is_release (changes releases) = true
-is_release _ = false
+use Rattle.mutex_machine.specs.Deeds.{Change, takes, releases, starves, recovers, ListName, holder_after, starved_after, entries_after, gives_back, gives_up, is_release, is_fresh}
 
 -- The end on which the call of a party at this place is decided.
 abbrev pub decision : Place → Option End
@@ -79,12 +33,6 @@ decision place.CancelUncount = Some GivenBack
 decision place.CancelLeave = Some GivenBack
 decision place.Out = Some GivenBack
 decision _ = None
-
--- The end on which a call is decided from its beginning.
-abbrev pub decided_by : LockCall → Option End
-decided_by call.Release = Some GivenBack
-decided_by call.Cancel = Some GivenBack
-decided_by _ = None
 
 -- The end on which a call is decided once an action has led here.
 abbrev pub decided_then : Next → Place → Option End
@@ -129,13 +77,6 @@ pub record IsLegal (memory : Bool) (p : ℕ) (decided : Option End) (onward : Ne
   pub keeps_lock : decided ≡ Some Got → is_release deed ≡ false
   pub refused_idly : decided ≡ None → decided_then onward (place_at new.places p) ≡ Some (Refused Memory) → deed ≡ nothing
   pub reason : (e : End) → decided ≡ None → decided_then onward (place_at new.places p) ≡ Some e → IsReason memory p old new e
-
--- A call whose first action takes a free lock: a first poll, a try, and a poll of a party that stands in no list, as it does after a refusal.
-abbrev pub is_fresh : LockCall → ℕ → Bool
-is_fresh call.Lock listed = true
-is_fresh call.Try listed = true
-is_fresh call.Poll listed = listed == 0
-is_fresh _ listed = false
 
 -- Such a call takes the lock at once exactly where nobody holds it and nobody is starved.
 abbrev pub TakesAtOnce : LockCall → ℕ → Lock → Lock → Type 0

@@ -1,4 +1,6 @@
 pub mod Program
+pub mod Course
+pub mod Deeds
 pub mod Roles
 pub mod Effects
 pub mod Seats
@@ -11,3 +13,8 @@ pub mod Courses
 pub mod Solo
 pub mod State
 pub mod Legal
+pub mod Behind
+pub mod Mutex
+pub mod Conduct
+pub mod Seen
+pub mod Alone

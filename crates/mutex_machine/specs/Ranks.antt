@@ -4,8 +4,7 @@ use Rattle.lock_event.specs.Lists.{is_marked_at}
 use Rattle.lock_queue.specs.Parties.{is_party}
 use Rattle.mutex_machine.specs.declared.program.Place.{Place}
 use Rattle.mutex_machine.specs.declared.program.Place.TheVariants.{Enter, Clear, CancelUncount, Join, Look, Ask, Retry, PassOn, Count, JoinStarved, LookAlone, PassOnListed, AskStarved, Seize, Uncount, RefuseUncount, RefuseLeave}
-use Rattle.mutex_machine.specs.declared.program.LockCall.{LockCall}
-use Rattle.mutex_machine.specs.declared.program.LockCall.TheVariants as call
+pub use Rattle.mutex_machine.specs.Deeds.{most_steps}
 use Rattle.mutex_machine.specs.declared.program.Next.{Next}
 use Rattle.mutex_machine.specs.declared.program.Next.TheVariants as next
 use Rattle.mutex_machine.specs.Machine.{Lock, place_at}
@@ -49,11 +48,3 @@ steps_left l p = left (place_at l.places p) (is_own_marked l p) (is_open l)
 abbrev pub left_after : Next → Lock → ℕ → ℕ
 left_after (next.Do action q) l p = steps_left l p
 left_after (next.End e) l p = 0
-
--- No call takes more steps than this, its first one counted, if only its party moves.
-abbrev pub most_steps : LockCall → ℕ
-most_steps call.Lock = 12
-most_steps call.Poll = 12
-most_steps call.Try = 1
-most_steps call.Release = 2
-most_steps call.Cancel = 2

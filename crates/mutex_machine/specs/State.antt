@@ -10,10 +10,14 @@ is_holder x = holds x == 1
 abbrev pub is_counted : Place → Bool
 is_counted x = counted x == 1
 
+-- the first of which this is so, counted from n
+abbrev pub first_from : {A : Type 0} → (A → Bool) → ℕ → List A → Option ℕ
+first_from test n [] = None
+first_from test n (x ∷ xs) = if test x then Some n else first_from test (n + 1) xs
+
 -- the first party that holds the lock, counted from n
 abbrev pub holder_from : ℕ → List Place → Option ℕ
-holder_from n [] = None
-holder_from n (x ∷ xs) = if is_holder x then Some n else holder_from (n + 1) xs
+holder_from n ps = first_from is_holder n ps
 
 -- The party that holds the lock, if any; and for each party whether it is starved.
 abbrev pub holder_of : Lock → Option ℕ

@@ -3,7 +3,7 @@ use Rattle.std.proofs.Common.{◌≡◌, ℕ, ◌<◌, ◌≤◌, Bool, true, fa
 use Rattle.lock_event.specs.Lists.{is_marked_at}
 use Rattle.lock_queue.specs.Parties.{is_party, entries_of}
 use Rattle.lock_world.proofs.Equations.{some_eq, none_some}
-use Rattle.mutex_machine.specs.Ranks.{steps_left as turn_steps_left}
+use Rattle.mutex_machine.specs.Mutex.{steps_left as turn_steps_left}
 use Rattle.rwlock_machine.specs.declared.program.Wanted.TheVariants as wanted
 use Rattle.rwlock_machine.specs.declared.program.Purpose.TheVariants as purpose
 use Rattle.rwlock_machine.specs.declared.program.Place.{Place}

@@ -4,7 +4,7 @@ use Rattle.std.specs.List.{sum_by}
 use Rattle.std.proofs.lemmas.List.Sums.{get_or-le-sum_by}
 use Rattle.lock_queue.specs.Parties.{entries_of}
 use Rattle.lock_queue.specs.Queues.{Queue}
-use Rattle.mutex_machine.specs.Machine.{Lock, place_at as turn_at}
+use Rattle.mutex_machine.specs.Mutex.{Mutex, course_at as turn_at}
 use Rattle.mutex_machine.proofs.Callers.{may_lock, may_try, may_poll, may_cancel, may_release}
 use Rattle.rwlock_machine.specs.declared.word.Word.{Word}
 use Rattle.rwlock_machine.specs.declared.program.Place.{Place}
@@ -14,8 +14,8 @@ use Rattle.rwlock_machine.specs.Roles.{reads, writes, in_no_writer, in_no_reader
 use Rattle.rwlock_machine.specs.Effects.{CanDo}
 use Rattle.rwlock_machine.specs.Machine.{IsMachine, SameRoles, place_at}
 
-module _ (p : ℕ) (w : Word) (ps : List Place) (l m : Queue) (t : Lock) (i : IsMachine w ps l m t) (known : p < length ps) where
-  here : p < length t.places
+module _ (p : ℕ) (w : Word) (ps : List Place) (l m : Queue) (t : Mutex) (i : IsMachine w ps l m t) (known : p < length ps) where
+  here : p < length t.courses
   here = rw i.as_many known
 
   in_w : p < l.parties
@@ -25,8 +25,8 @@ module _ (p : ℕ) (w : Word) (ps : List Place) (l m : Queue) (t : Lock) (i : Is
   in_r = rw i.as_many_r known
 
   module _ (x : Place) (same : SameRoles x (place_at ps p)) where
-    turn : fits_turn x (turn_at t.places p) ≡ true
-    turn = ap (λ h. h (turn_at t.places p)) same.in_turn ∙ i.in_turn p
+    turn : fits_turn x (turn_at t.courses p) ≡ true
+    turn = ap (λ h. h (turn_at t.courses p)) same.in_turn ∙ i.in_turn p
 
     reader : reads x ≡ 1 → 0 < w.readers
     reader e = let one : reads (get_or ps p Out) ≤ sum_by reads ps = get_or-le-sum_by reads ps p Out known in omega (arith, i.sound.readers, same.reading)
@@ -60,11 +60,11 @@ module _ (p : ℕ) (w : Word) (ps : List Place) (l m : Queue) (t : Lock) (i : Is
   can_do (AskNoReaders upgrade) same = (in_r, stands_r (AskNoReaders upgrade) same refl)
   can_do LeaveNoReaders same = (in_r, stands_r LeaveNoReaders same refl)
   can_do CancelAwait same = (in_r, stands_r CancelAwait same refl)
-  can_do (EnterTurn q) same = (here, may_lock (turn_at t.places p) (turn (EnterTurn q) same))
-  can_do (WaitTurn q) same = (here, may_poll (turn_at t.places p) (turn (WaitTurn q) same))
-  can_do (TryTurn q) same = (here, may_try (turn_at t.places p) (turn (TryTurn q) same))
-  can_do CancelTurn same = (here, may_cancel (turn_at t.places p) (turn CancelTurn same))
-  can_do (ReleaseTurn e) same = (here, may_release (turn_at t.places p) (turn (ReleaseTurn e) same))
+  can_do (EnterTurn q) same = (here, may_lock (turn_at t.courses p) (turn (EnterTurn q) same))
+  can_do (WaitTurn q) same = (here, may_poll (turn_at t.courses p) (turn (WaitTurn q) same))
+  can_do (TryTurn q) same = (here, may_try (turn_at t.courses p) (turn (TryTurn q) same))
+  can_do CancelTurn same = (here, may_cancel (turn_at t.courses p) (turn CancelTurn same))
+  can_do (ReleaseTurn e) same = (here, may_release (turn_at t.courses p) (turn (ReleaseTurn e) same))
   can_do (TakeTurn q) same = here
   can_do CancellingTurn same = here
   can_do (ReleasingTurn e) same = here

@@ -1,7 +1,7 @@
 -- What an action found, said of the parties.
 use Rattle.std.proofs.Common.{◌≡◌, ℕ, ◌<◌, Bool, true, false, List, refl, ap, sym, arith, ◌∙◌}
 use Rattle.lock_queue.specs.Queues.{Queue}
-use Rattle.mutex_machine.specs.Machine.{Lock}
+use Rattle.mutex_machine.specs.Mutex.{Mutex}
 use Rattle.rwlock_machine.specs.declared.word.Word.{Word}
 use Rattle.rwlock_machine.specs.declared.program.Place.{Place}
 use Rattle.rwlock_machine.specs.declared.program.Action.{Action}
@@ -19,7 +19,7 @@ clear : (b : Bool) → bit b ≡ 0 → b ≡ false
 clear false h = refl
 clear true h = absurd (omega arith)
 
-module _ (memory starving : Bool) (p : ℕ) (v w : Word) (ps : List Place) (l m l' m' : Queue) (t u : Lock) (i : IsMachine v ps l m t) where
+module _ (memory starving : Bool) (p : ℕ) (v w : Word) (ps : List Place) (l m l' m' : Queue) (t u : Mutex) (i : IsMachine v ps l m t) where
   abbrev the_lock : RwLock
   the_lock = record { places = ps; no_writer = l.entries; no_readers = m.entries; turn = t; limit = v.limit }
 

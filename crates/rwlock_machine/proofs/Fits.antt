@@ -1,6 +1,6 @@
 -- Each step of a program fits its action. Written by generators/rwlock_rows.py.
 use Rattle.std.proofs.Common.{refl, true, false}
-use Rattle.mutex_machine.specs.declared.program.Next.TheVariants as turn_next
+use Rattle.mutex_machine.specs.declared.mutex.Step.TheVariants as turn_step
 use Rattle.mutex_machine.specs.declared.program.End.TheVariants as turn_end
 use Rattle.rwlock_machine.specs.declared.program.Purpose.TheVariants as purpose
 use Rattle.rwlock_machine.specs.declared.program.Ending.TheVariants as ending
@@ -41,49 +41,49 @@ fits CancelRead _ = record { reading = refl; marking = refl; standing_w = refl; 
 fits TryRead Done = record { reading = refl; marking = refl; standing_w = refl; standing_r = refl; set_by_turn = refl; cleared_by_own = refl; left_by_listed_w = refl; left_by_listed_r = refl; alone = tt; owed_w = refl; owed_r = tt }
 fits TryRead Writer = record { reading = refl; marking = refl; standing_w = refl; standing_r = refl; set_by_turn = refl; cleared_by_own = refl; left_by_listed_w = refl; left_by_listed_r = refl; alone = refl; owed_w = tt; owed_r = refl }
 fits TryRead _ = record { reading = refl; marking = refl; standing_w = refl; standing_r = refl; set_by_turn = refl; cleared_by_own = refl; left_by_listed_w = refl; left_by_listed_r = refl; alone = refl; owed_w = refl; owed_r = refl }
-fits (EnterTurn purpose.UpgradableRead) (Turn (turn_next.Do action q)) = record { reading = refl; marking = refl; standing_w = refl; standing_r = refl; set_by_turn = refl; cleared_by_own = refl; left_by_listed_w = refl; left_by_listed_r = refl; alone = refl; owed_w = refl; owed_r = refl }
-fits (EnterTurn purpose.UpgradableRead) (Turn (turn_next.End turn_end.Got)) = record { reading = refl; marking = refl; standing_w = refl; standing_r = refl; set_by_turn = refl; cleared_by_own = refl; left_by_listed_w = refl; left_by_listed_r = refl; alone = refl; owed_w = refl; owed_r = refl }
-fits (EnterTurn purpose.UpgradableRead) (Turn (turn_next.End (turn_end.Refused r))) = record { reading = refl; marking = refl; standing_w = refl; standing_r = refl; set_by_turn = refl; cleared_by_own = refl; left_by_listed_w = refl; left_by_listed_r = refl; alone = refl; owed_w = refl; owed_r = refl }
+fits (EnterTurn purpose.UpgradableRead) (Turn turn_step.More) = record { reading = refl; marking = refl; standing_w = refl; standing_r = refl; set_by_turn = refl; cleared_by_own = refl; left_by_listed_w = refl; left_by_listed_r = refl; alone = refl; owed_w = refl; owed_r = refl }
+fits (EnterTurn purpose.UpgradableRead) (Turn (turn_step.End turn_end.Got)) = record { reading = refl; marking = refl; standing_w = refl; standing_r = refl; set_by_turn = refl; cleared_by_own = refl; left_by_listed_w = refl; left_by_listed_r = refl; alone = refl; owed_w = refl; owed_r = refl }
+fits (EnterTurn purpose.UpgradableRead) (Turn (turn_step.End (turn_end.Refused r))) = record { reading = refl; marking = refl; standing_w = refl; standing_r = refl; set_by_turn = refl; cleared_by_own = refl; left_by_listed_w = refl; left_by_listed_r = refl; alone = refl; owed_w = refl; owed_r = refl }
 fits (EnterTurn purpose.UpgradableRead) _ = record { reading = refl; marking = refl; standing_w = refl; standing_r = refl; set_by_turn = refl; cleared_by_own = refl; left_by_listed_w = refl; left_by_listed_r = refl; alone = refl; owed_w = refl; owed_r = refl }
-fits (WaitTurn purpose.UpgradableRead) (Turn (turn_next.Do action q)) = record { reading = refl; marking = refl; standing_w = refl; standing_r = refl; set_by_turn = refl; cleared_by_own = refl; left_by_listed_w = refl; left_by_listed_r = refl; alone = refl; owed_w = refl; owed_r = refl }
-fits (WaitTurn purpose.UpgradableRead) (Turn (turn_next.End turn_end.Got)) = record { reading = refl; marking = refl; standing_w = refl; standing_r = refl; set_by_turn = refl; cleared_by_own = refl; left_by_listed_w = refl; left_by_listed_r = refl; alone = refl; owed_w = refl; owed_r = refl }
-fits (WaitTurn purpose.UpgradableRead) (Turn (turn_next.End (turn_end.Refused r))) = record { reading = refl; marking = refl; standing_w = refl; standing_r = refl; set_by_turn = refl; cleared_by_own = refl; left_by_listed_w = refl; left_by_listed_r = refl; alone = refl; owed_w = refl; owed_r = refl }
+fits (WaitTurn purpose.UpgradableRead) (Turn turn_step.More) = record { reading = refl; marking = refl; standing_w = refl; standing_r = refl; set_by_turn = refl; cleared_by_own = refl; left_by_listed_w = refl; left_by_listed_r = refl; alone = refl; owed_w = refl; owed_r = refl }
+fits (WaitTurn purpose.UpgradableRead) (Turn (turn_step.End turn_end.Got)) = record { reading = refl; marking = refl; standing_w = refl; standing_r = refl; set_by_turn = refl; cleared_by_own = refl; left_by_listed_w = refl; left_by_listed_r = refl; alone = refl; owed_w = refl; owed_r = refl }
+fits (WaitTurn purpose.UpgradableRead) (Turn (turn_step.End (turn_end.Refused r))) = record { reading = refl; marking = refl; standing_w = refl; standing_r = refl; set_by_turn = refl; cleared_by_own = refl; left_by_listed_w = refl; left_by_listed_r = refl; alone = refl; owed_w = refl; owed_r = refl }
 fits (WaitTurn purpose.UpgradableRead) _ = record { reading = refl; marking = refl; standing_w = refl; standing_r = refl; set_by_turn = refl; cleared_by_own = refl; left_by_listed_w = refl; left_by_listed_r = refl; alone = refl; owed_w = refl; owed_r = refl }
-fits (TakeTurn purpose.UpgradableRead) (Turn (turn_next.Do action q)) = record { reading = refl; marking = refl; standing_w = refl; standing_r = refl; set_by_turn = refl; cleared_by_own = refl; left_by_listed_w = refl; left_by_listed_r = refl; alone = refl; owed_w = refl; owed_r = refl }
-fits (TakeTurn purpose.UpgradableRead) (Turn (turn_next.End turn_end.Got)) = record { reading = refl; marking = refl; standing_w = refl; standing_r = refl; set_by_turn = refl; cleared_by_own = refl; left_by_listed_w = refl; left_by_listed_r = refl; alone = refl; owed_w = refl; owed_r = refl }
-fits (TakeTurn purpose.UpgradableRead) (Turn (turn_next.End (turn_end.Refused r))) = record { reading = refl; marking = refl; standing_w = refl; standing_r = refl; set_by_turn = refl; cleared_by_own = refl; left_by_listed_w = refl; left_by_listed_r = refl; alone = refl; owed_w = refl; owed_r = refl }
+fits (TakeTurn purpose.UpgradableRead) (Turn turn_step.More) = record { reading = refl; marking = refl; standing_w = refl; standing_r = refl; set_by_turn = refl; cleared_by_own = refl; left_by_listed_w = refl; left_by_listed_r = refl; alone = refl; owed_w = refl; owed_r = refl }
+fits (TakeTurn purpose.UpgradableRead) (Turn (turn_step.End turn_end.Got)) = record { reading = refl; marking = refl; standing_w = refl; standing_r = refl; set_by_turn = refl; cleared_by_own = refl; left_by_listed_w = refl; left_by_listed_r = refl; alone = refl; owed_w = refl; owed_r = refl }
+fits (TakeTurn purpose.UpgradableRead) (Turn (turn_step.End (turn_end.Refused r))) = record { reading = refl; marking = refl; standing_w = refl; standing_r = refl; set_by_turn = refl; cleared_by_own = refl; left_by_listed_w = refl; left_by_listed_r = refl; alone = refl; owed_w = refl; owed_r = refl }
 fits (TakeTurn purpose.UpgradableRead) _ = record { reading = refl; marking = refl; standing_w = refl; standing_r = refl; set_by_turn = refl; cleared_by_own = refl; left_by_listed_w = refl; left_by_listed_r = refl; alone = refl; owed_w = refl; owed_r = refl }
-fits (EnterTurn purpose.Write) (Turn (turn_next.Do action q)) = record { reading = refl; marking = refl; standing_w = refl; standing_r = refl; set_by_turn = refl; cleared_by_own = refl; left_by_listed_w = refl; left_by_listed_r = refl; alone = refl; owed_w = refl; owed_r = refl }
-fits (EnterTurn purpose.Write) (Turn (turn_next.End turn_end.Got)) = record { reading = refl; marking = refl; standing_w = refl; standing_r = refl; set_by_turn = refl; cleared_by_own = refl; left_by_listed_w = refl; left_by_listed_r = refl; alone = refl; owed_w = refl; owed_r = refl }
-fits (EnterTurn purpose.Write) (Turn (turn_next.End (turn_end.Refused r))) = record { reading = refl; marking = refl; standing_w = refl; standing_r = refl; set_by_turn = refl; cleared_by_own = refl; left_by_listed_w = refl; left_by_listed_r = refl; alone = refl; owed_w = refl; owed_r = refl }
+fits (EnterTurn purpose.Write) (Turn turn_step.More) = record { reading = refl; marking = refl; standing_w = refl; standing_r = refl; set_by_turn = refl; cleared_by_own = refl; left_by_listed_w = refl; left_by_listed_r = refl; alone = refl; owed_w = refl; owed_r = refl }
+fits (EnterTurn purpose.Write) (Turn (turn_step.End turn_end.Got)) = record { reading = refl; marking = refl; standing_w = refl; standing_r = refl; set_by_turn = refl; cleared_by_own = refl; left_by_listed_w = refl; left_by_listed_r = refl; alone = refl; owed_w = refl; owed_r = refl }
+fits (EnterTurn purpose.Write) (Turn (turn_step.End (turn_end.Refused r))) = record { reading = refl; marking = refl; standing_w = refl; standing_r = refl; set_by_turn = refl; cleared_by_own = refl; left_by_listed_w = refl; left_by_listed_r = refl; alone = refl; owed_w = refl; owed_r = refl }
 fits (EnterTurn purpose.Write) _ = record { reading = refl; marking = refl; standing_w = refl; standing_r = refl; set_by_turn = refl; cleared_by_own = refl; left_by_listed_w = refl; left_by_listed_r = refl; alone = refl; owed_w = refl; owed_r = refl }
-fits (WaitTurn purpose.Write) (Turn (turn_next.Do action q)) = record { reading = refl; marking = refl; standing_w = refl; standing_r = refl; set_by_turn = refl; cleared_by_own = refl; left_by_listed_w = refl; left_by_listed_r = refl; alone = refl; owed_w = refl; owed_r = refl }
-fits (WaitTurn purpose.Write) (Turn (turn_next.End turn_end.Got)) = record { reading = refl; marking = refl; standing_w = refl; standing_r = refl; set_by_turn = refl; cleared_by_own = refl; left_by_listed_w = refl; left_by_listed_r = refl; alone = refl; owed_w = refl; owed_r = refl }
-fits (WaitTurn purpose.Write) (Turn (turn_next.End (turn_end.Refused r))) = record { reading = refl; marking = refl; standing_w = refl; standing_r = refl; set_by_turn = refl; cleared_by_own = refl; left_by_listed_w = refl; left_by_listed_r = refl; alone = refl; owed_w = refl; owed_r = refl }
+fits (WaitTurn purpose.Write) (Turn turn_step.More) = record { reading = refl; marking = refl; standing_w = refl; standing_r = refl; set_by_turn = refl; cleared_by_own = refl; left_by_listed_w = refl; left_by_listed_r = refl; alone = refl; owed_w = refl; owed_r = refl }
+fits (WaitTurn purpose.Write) (Turn (turn_step.End turn_end.Got)) = record { reading = refl; marking = refl; standing_w = refl; standing_r = refl; set_by_turn = refl; cleared_by_own = refl; left_by_listed_w = refl; left_by_listed_r = refl; alone = refl; owed_w = refl; owed_r = refl }
+fits (WaitTurn purpose.Write) (Turn (turn_step.End (turn_end.Refused r))) = record { reading = refl; marking = refl; standing_w = refl; standing_r = refl; set_by_turn = refl; cleared_by_own = refl; left_by_listed_w = refl; left_by_listed_r = refl; alone = refl; owed_w = refl; owed_r = refl }
 fits (WaitTurn purpose.Write) _ = record { reading = refl; marking = refl; standing_w = refl; standing_r = refl; set_by_turn = refl; cleared_by_own = refl; left_by_listed_w = refl; left_by_listed_r = refl; alone = refl; owed_w = refl; owed_r = refl }
-fits (TakeTurn purpose.Write) (Turn (turn_next.Do action q)) = record { reading = refl; marking = refl; standing_w = refl; standing_r = refl; set_by_turn = refl; cleared_by_own = refl; left_by_listed_w = refl; left_by_listed_r = refl; alone = refl; owed_w = refl; owed_r = refl }
-fits (TakeTurn purpose.Write) (Turn (turn_next.End turn_end.Got)) = record { reading = refl; marking = refl; standing_w = refl; standing_r = refl; set_by_turn = refl; cleared_by_own = refl; left_by_listed_w = refl; left_by_listed_r = refl; alone = refl; owed_w = refl; owed_r = refl }
-fits (TakeTurn purpose.Write) (Turn (turn_next.End (turn_end.Refused r))) = record { reading = refl; marking = refl; standing_w = refl; standing_r = refl; set_by_turn = refl; cleared_by_own = refl; left_by_listed_w = refl; left_by_listed_r = refl; alone = refl; owed_w = refl; owed_r = refl }
+fits (TakeTurn purpose.Write) (Turn turn_step.More) = record { reading = refl; marking = refl; standing_w = refl; standing_r = refl; set_by_turn = refl; cleared_by_own = refl; left_by_listed_w = refl; left_by_listed_r = refl; alone = refl; owed_w = refl; owed_r = refl }
+fits (TakeTurn purpose.Write) (Turn (turn_step.End turn_end.Got)) = record { reading = refl; marking = refl; standing_w = refl; standing_r = refl; set_by_turn = refl; cleared_by_own = refl; left_by_listed_w = refl; left_by_listed_r = refl; alone = refl; owed_w = refl; owed_r = refl }
+fits (TakeTurn purpose.Write) (Turn (turn_step.End (turn_end.Refused r))) = record { reading = refl; marking = refl; standing_w = refl; standing_r = refl; set_by_turn = refl; cleared_by_own = refl; left_by_listed_w = refl; left_by_listed_r = refl; alone = refl; owed_w = refl; owed_r = refl }
 fits (TakeTurn purpose.Write) _ = record { reading = refl; marking = refl; standing_w = refl; standing_r = refl; set_by_turn = refl; cleared_by_own = refl; left_by_listed_w = refl; left_by_listed_r = refl; alone = refl; owed_w = refl; owed_r = refl }
-fits (TryTurn purpose.UpgradableRead) (Turn (turn_next.End turn_end.Got)) = record { reading = refl; marking = refl; standing_w = refl; standing_r = refl; set_by_turn = refl; cleared_by_own = refl; left_by_listed_w = refl; left_by_listed_r = refl; alone = refl; owed_w = refl; owed_r = refl }
+fits (TryTurn purpose.UpgradableRead) (Turn (turn_step.End turn_end.Got)) = record { reading = refl; marking = refl; standing_w = refl; standing_r = refl; set_by_turn = refl; cleared_by_own = refl; left_by_listed_w = refl; left_by_listed_r = refl; alone = refl; owed_w = refl; owed_r = refl }
 fits (TryTurn purpose.UpgradableRead) _ = record { reading = refl; marking = refl; standing_w = refl; standing_r = refl; set_by_turn = refl; cleared_by_own = refl; left_by_listed_w = refl; left_by_listed_r = refl; alone = refl; owed_w = refl; owed_r = refl }
-fits (TryTurn purpose.Write) (Turn (turn_next.End turn_end.Got)) = record { reading = refl; marking = refl; standing_w = refl; standing_r = refl; set_by_turn = refl; cleared_by_own = refl; left_by_listed_w = refl; left_by_listed_r = refl; alone = refl; owed_w = refl; owed_r = refl }
+fits (TryTurn purpose.Write) (Turn (turn_step.End turn_end.Got)) = record { reading = refl; marking = refl; standing_w = refl; standing_r = refl; set_by_turn = refl; cleared_by_own = refl; left_by_listed_w = refl; left_by_listed_r = refl; alone = refl; owed_w = refl; owed_r = refl }
 fits (TryTurn purpose.Write) _ = record { reading = refl; marking = refl; standing_w = refl; standing_r = refl; set_by_turn = refl; cleared_by_own = refl; left_by_listed_w = refl; left_by_listed_r = refl; alone = refl; owed_w = refl; owed_r = refl }
-fits CancelTurn (Turn (turn_next.Do action q)) = record { reading = refl; marking = refl; standing_w = refl; standing_r = refl; set_by_turn = refl; cleared_by_own = refl; left_by_listed_w = refl; left_by_listed_r = refl; alone = refl; owed_w = refl; owed_r = refl }
+fits CancelTurn (Turn turn_step.More) = record { reading = refl; marking = refl; standing_w = refl; standing_r = refl; set_by_turn = refl; cleared_by_own = refl; left_by_listed_w = refl; left_by_listed_r = refl; alone = refl; owed_w = refl; owed_r = refl }
 fits CancelTurn _ = record { reading = refl; marking = refl; standing_w = refl; standing_r = refl; set_by_turn = refl; cleared_by_own = refl; left_by_listed_w = refl; left_by_listed_r = refl; alone = refl; owed_w = refl; owed_r = refl }
-fits CancellingTurn (Turn (turn_next.Do action q)) = record { reading = refl; marking = refl; standing_w = refl; standing_r = refl; set_by_turn = refl; cleared_by_own = refl; left_by_listed_w = refl; left_by_listed_r = refl; alone = refl; owed_w = refl; owed_r = refl }
+fits CancellingTurn (Turn turn_step.More) = record { reading = refl; marking = refl; standing_w = refl; standing_r = refl; set_by_turn = refl; cleared_by_own = refl; left_by_listed_w = refl; left_by_listed_r = refl; alone = refl; owed_w = refl; owed_r = refl }
 fits CancellingTurn _ = record { reading = refl; marking = refl; standing_w = refl; standing_r = refl; set_by_turn = refl; cleared_by_own = refl; left_by_listed_w = refl; left_by_listed_r = refl; alone = refl; owed_w = refl; owed_r = refl }
-fits (ReleaseTurn ending.GivenBack) (Turn (turn_next.Do action q)) = record { reading = refl; marking = refl; standing_w = refl; standing_r = refl; set_by_turn = refl; cleared_by_own = refl; left_by_listed_w = refl; left_by_listed_r = refl; alone = refl; owed_w = refl; owed_r = refl }
+fits (ReleaseTurn ending.GivenBack) (Turn turn_step.More) = record { reading = refl; marking = refl; standing_w = refl; standing_r = refl; set_by_turn = refl; cleared_by_own = refl; left_by_listed_w = refl; left_by_listed_r = refl; alone = refl; owed_w = refl; owed_r = refl }
 fits (ReleaseTurn ending.GivenBack) _ = record { reading = refl; marking = refl; standing_w = refl; standing_r = refl; set_by_turn = refl; cleared_by_own = refl; left_by_listed_w = refl; left_by_listed_r = refl; alone = refl; owed_w = refl; owed_r = refl }
-fits (ReleaseTurn ending.NotFree) (Turn (turn_next.Do action q)) = record { reading = refl; marking = refl; standing_w = refl; standing_r = refl; set_by_turn = refl; cleared_by_own = refl; left_by_listed_w = refl; left_by_listed_r = refl; alone = refl; owed_w = refl; owed_r = refl }
+fits (ReleaseTurn ending.NotFree) (Turn turn_step.More) = record { reading = refl; marking = refl; standing_w = refl; standing_r = refl; set_by_turn = refl; cleared_by_own = refl; left_by_listed_w = refl; left_by_listed_r = refl; alone = refl; owed_w = refl; owed_r = refl }
 fits (ReleaseTurn ending.NotFree) _ = record { reading = refl; marking = refl; standing_w = refl; standing_r = refl; set_by_turn = refl; cleared_by_own = refl; left_by_listed_w = refl; left_by_listed_r = refl; alone = refl; owed_w = refl; owed_r = refl }
-fits (ReleaseTurn ending.RefuseReaders) (Turn (turn_next.Do action q)) = record { reading = refl; marking = refl; standing_w = refl; standing_r = refl; set_by_turn = refl; cleared_by_own = refl; left_by_listed_w = refl; left_by_listed_r = refl; alone = refl; owed_w = refl; owed_r = refl }
+fits (ReleaseTurn ending.RefuseReaders) (Turn turn_step.More) = record { reading = refl; marking = refl; standing_w = refl; standing_r = refl; set_by_turn = refl; cleared_by_own = refl; left_by_listed_w = refl; left_by_listed_r = refl; alone = refl; owed_w = refl; owed_r = refl }
 fits (ReleaseTurn ending.RefuseReaders) _ = record { reading = refl; marking = refl; standing_w = refl; standing_r = refl; set_by_turn = refl; cleared_by_own = refl; left_by_listed_w = refl; left_by_listed_r = refl; alone = refl; owed_w = refl; owed_r = refl }
-fits (ReleaseTurn ending.RefuseMemory) (Turn (turn_next.Do action q)) = record { reading = refl; marking = refl; standing_w = refl; standing_r = refl; set_by_turn = refl; cleared_by_own = refl; left_by_listed_w = refl; left_by_listed_r = refl; alone = refl; owed_w = refl; owed_r = refl }
+fits (ReleaseTurn ending.RefuseMemory) (Turn turn_step.More) = record { reading = refl; marking = refl; standing_w = refl; standing_r = refl; set_by_turn = refl; cleared_by_own = refl; left_by_listed_w = refl; left_by_listed_r = refl; alone = refl; owed_w = refl; owed_r = refl }
 fits (ReleaseTurn ending.RefuseMemory) _ = record { reading = refl; marking = refl; standing_w = refl; standing_r = refl; set_by_turn = refl; cleared_by_own = refl; left_by_listed_w = refl; left_by_listed_r = refl; alone = refl; owed_w = refl; owed_r = refl }
-fits (ReleaseTurn ending.Reading) (Turn (turn_next.Do action q)) = record { reading = refl; marking = refl; standing_w = refl; standing_r = refl; set_by_turn = refl; cleared_by_own = refl; left_by_listed_w = refl; left_by_listed_r = refl; alone = refl; owed_w = refl; owed_r = refl }
+fits (ReleaseTurn ending.Reading) (Turn turn_step.More) = record { reading = refl; marking = refl; standing_w = refl; standing_r = refl; set_by_turn = refl; cleared_by_own = refl; left_by_listed_w = refl; left_by_listed_r = refl; alone = refl; owed_w = refl; owed_r = refl }
 fits (ReleaseTurn ending.Reading) _ = record { reading = refl; marking = refl; standing_w = refl; standing_r = refl; set_by_turn = refl; cleared_by_own = refl; left_by_listed_w = refl; left_by_listed_r = refl; alone = refl; owed_w = refl; owed_r = refl }
-fits (ReleaseTurn ending.NotifyReaders) (Turn (turn_next.Do action q)) = record { reading = refl; marking = refl; standing_w = refl; standing_r = refl; set_by_turn = refl; cleared_by_own = refl; left_by_listed_w = refl; left_by_listed_r = refl; alone = refl; owed_w = refl; owed_r = refl }
+fits (ReleaseTurn ending.NotifyReaders) (Turn turn_step.More) = record { reading = refl; marking = refl; standing_w = refl; standing_r = refl; set_by_turn = refl; cleared_by_own = refl; left_by_listed_w = refl; left_by_listed_r = refl; alone = refl; owed_w = refl; owed_r = refl }
 fits (ReleaseTurn ending.NotifyReaders) _ = record { reading = refl; marking = refl; standing_w = refl; standing_r = refl; set_by_turn = refl; cleared_by_own = refl; left_by_listed_w = refl; left_by_listed_r = refl; alone = refl; owed_w = refl; owed_r = refl }
 fits (ReleasingTurn ending.GivenBack) _ = record { reading = refl; marking = refl; standing_w = refl; standing_r = refl; set_by_turn = refl; cleared_by_own = refl; left_by_listed_w = refl; left_by_listed_r = refl; alone = refl; owed_w = refl; owed_r = refl }
 fits (ReleasingTurn ending.NotFree) _ = record { reading = refl; marking = refl; standing_w = refl; standing_r = refl; set_by_turn = refl; cleared_by_own = refl; left_by_listed_w = refl; left_by_listed_r = refl; alone = refl; owed_w = refl; owed_r = refl }

@@ -5,10 +5,8 @@ use Rattle.lock_event.specs.Lists.{marked_count, IsMarkedFirst}
 use Rattle.lock_queue.specs.Queues.{Queue}
 use Rattle.lock_queue.specs.Debts.{Rests, AllRest}
 use Rattle.lock_queue.proofs.Debts.{paid_at_rest}
-use Rattle.mutex_machine.specs.declared.program.Place.{Place as TurnPlace}
-use Rattle.mutex_machine.specs.Roles.{listed, is_resting as rests_in_turn}
-use Rattle.mutex_machine.specs.Machine.{Lock, place_at as turn_at}
-use Rattle.mutex_machine.specs.Acts.{IsMutex, IsAtRest as IsTurnAtRest}
+use Rattle.mutex_machine.specs.Course.{Course as TurnCourse, listed, is_resting as rests_in_turn}
+use Rattle.mutex_machine.specs.Mutex.{Mutex, course_at as turn_at, IsMutex, IsAtRest as IsTurnAtRest}
 use Rattle.mutex_machine.proofs.Callers.{out_rests, holding_rests, waiting_rests, out_unlisted, holding_unlisted, listed_once}
 use Rattle.rwlock_machine.specs.declared.word.Word.{Word}
 use Rattle.rwlock_machine.specs.declared.program.Place.{Place}
@@ -45,7 +43,7 @@ rests_r (LookUnlisted upgrade) h = (refl, refl)
 rests_r _ h = absurd (cc)
 
 -- and it rests in the turn
-rests_t : (x : Place) (t : TurnPlace) → is_resting x ≡ true → fits_turn x t ≡ true → rests_in_turn t ≡ true
+rests_t : (x : Place) (t : TurnCourse) → is_resting x ≡ true → fits_turn x t ≡ true → rests_in_turn t ≡ true
 rests_t Out t h e = out_rests t e
 rests_t (Made w) t h e = out_rests t e
 rests_t Reading t h e = out_rests t e
@@ -65,13 +63,13 @@ all_r : (ps : List Place) → ((p : ℕ) → is_resting (place_at ps p) ≡ true
 all_r [] h = tt
 all_r (x ∷ xs) h = (rests_r x (h 0), all_r xs (λ p. h (suc p)))
 
-all_t : (ps : List Place) (ts : List TurnPlace) → length ts ≡ length ps → ((p : ℕ) → fits_turn (place_at ps p) (turn_at ts p) ≡ true) → ((p : ℕ) → is_resting (place_at ps p) ≡ true) → IsTurnAtRest ts
+all_t : (ps : List Place) (ts : List TurnCourse) → length ts ≡ length ps → ((p : ℕ) → fits_turn (place_at ps p) (turn_at ts p) ≡ true) → ((p : ℕ) → is_resting (place_at ps p) ≡ true) → IsTurnAtRest ts
 all_t ps [] e link rest = tt
 all_t [] (t ∷ ts) e link rest = absurd (omega arith)
 all_t (x ∷ xs) (t ∷ ts) e link rest = (rests_t x t (rest 0) (link 0), all_t xs ts (omega arith) (λ p. link (suc p)) (λ p. rest (suc p)))
 
 -- a party stands in one list at most
-one_list : (x : Place) (t : TurnPlace) → fits_turn x t ≡ true → in_no_writer x + in_no_readers x + listed t ≤ 1
+one_list : (x : Place) (t : TurnCourse) → fits_turn x t ≡ true → in_no_writer x + in_no_readers x + listed t ≤ 1
 one_list (LookNoWriter told) t h = omega (arith, out_unlisted t h)
 one_list AskNoWriter t h = omega (arith, out_unlisted t h)
 one_list LeaveNoWriter t h = omega (arith, out_unlisted t h)
@@ -84,7 +82,7 @@ one_list LeaveNoReaders t h = omega (arith, holding_unlisted t h)
 one_list CancelAwait t h = omega (arith, holding_unlisted t h)
 one_list _ t h = omega (arith, listed_once t)
 
-module _ (w : Word) (ps : List Place) (l m : Queue) (t : Lock) (i : IsMachine w ps l m t) (mutex : IsMutex t) where
+module _ (w : Word) (ps : List Place) (l m : Queue) (t : Mutex) (i : IsMachine w ps l m t) (mutex : IsMutex t) where
   abbrev the_lock : RwLock
   the_lock = record { places = ps; no_writer = l.entries; no_readers = m.entries; turn = t; limit = w.limit }
 
@@ -99,7 +97,7 @@ module _ (w : Word) (ps : List Place) (l m : Queue) (t : Lock) (i : IsMachine w 
   is_rwlock order_w order_r = record {
     one_turn = one_turn w ps l m t i mutex;
     turns_apart = λ p q other. omega (arith, one_turn w ps l m t i mutex, shares only_turns refl ps p q other, shares marks refl ps p q other);
-    held = λ p. turned (place_at ps p) (turn_at t.places p) (i.in_turn p);
+    held = λ p. turned (place_at ps p) (turn_at t.courses p) (i.in_turn p);
     in_turn = i.in_turn;
     turn = mutex;
     as_many = i.as_many;
@@ -107,10 +105,10 @@ module _ (w : Word) (ps : List Place) (l m : Queue) (t : Lock) (i : IsMachine w 
     writes_apart = apart;
     owners_no_writer = i.no_writer;
     owners_no_readers = i.no_readers;
-    one_entry = λ p. omega (arith, i.no_writer p, i.no_readers p, mutex.owners p, one_list (place_at ps p) (turn_at t.places p) (i.in_turn p));
+    one_entry = λ p. omega (arith, i.no_writer p, i.no_readers p, mutex.owners p, one_list (place_at ps p) (turn_at t.courses p) (i.in_turn p));
     in_order_no_writer = order_w;
     in_order_no_readers = order_r;
     wakes_no_writer = λ rest free some. paid_at_rest for_no_writer (bit w.writer ≡ 0) ps (length l.entries) (marked_count l.entries) (all_w ps rest) i.sound.no_writer.in_list i.sound.no_writer.owed (omega (arith, i.sound.writer)) some;
     wakes_no_readers = λ rest free some. paid_at_rest for_no_readers (w.readers ≡ 0) ps (length m.entries) (marked_count m.entries) (all_r ps rest) i.sound.no_readers.in_list i.sound.no_readers.owed (omega (arith, i.sound.readers)) some;
-    wakes_turn = λ rest free some. mutex.wakes (all_t ps t.places i.as_many i.in_turn rest) free some;
+    wakes_turn = λ rest free some. mutex.wakes (all_t ps t.courses i.as_many i.in_turn rest) free some;
   }

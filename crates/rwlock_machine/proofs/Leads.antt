@@ -1,14 +1,10 @@
 -- Where a step in the turn leads its party there.
-use Rattle.std.proofs.Common.{◌≡◌, ◌≢◌, ℕ, Bool, true, false, length, Option, Some, None, IsSomeAnd, refl, ap, arith}
-use Rattle.mutex_machine.specs.declared.program.Place.{Place as TurnPlace}
-use Rattle.mutex_machine.specs.declared.program.Next.{Next as TurnNext}
-use Rattle.mutex_machine.specs.declared.program.Next.TheVariants as turn_next
+use Rattle.std.proofs.Common.{◌≡◌, ◌≢◌, ℕ, Bool, true, false, length, refl, ap, arith}
+use Rattle.mutex_machine.specs.Course.{Course as TurnCourse, Takes, Tries, Releases, Cancels, is_out}
+use Rattle.mutex_machine.specs.declared.mutex.Step.{Step as TurnStep}
+use Rattle.mutex_machine.specs.declared.mutex.Step.TheVariants as turn_step
 use Rattle.mutex_machine.specs.declared.program.End.TheVariants as turn_end
-use Rattle.mutex_machine.specs.Courses.{Takes, Tries, Releases, Cancels, is_out}
-use Rattle.mutex_machine.specs.Program.{start_of}
-use Rattle.mutex_machine.specs.Machine.{Lock, place_at as turn_at}
-use Rattle.mutex_machine.specs.Acts.{Acts, TakenFairly}
-use Rattle.mutex_machine.proofs.Callers.{others_stay, as_many}
+use Rattle.mutex_machine.specs.Mutex.{Mutex, course_at as turn_at, TakenFairly}
 use Rattle.rwlock_machine.specs.declared.program.Place.{Place}
 use Rattle.rwlock_machine.specs.declared.program.Place.TheVariants.{EnterTurn, WaitTurn, TakeTurn, TryTurn, CancelTurn, CancellingTurn, ReleaseTurn, ReleasingTurn}
 use Rattle.rwlock_machine.specs.declared.program.Action.{Action}
@@ -32,12 +28,12 @@ steps_in_turn (ReleasingTurn e) = true
 steps_in_turn _ = false
 
 -- a release ends with its second action
-abbrev pub Ends : TurnNext → TurnPlace → Type 0
-Ends (turn_next.End turn_end.GivenBack) to = is_out to ≡ true
+abbrev pub Ends : TurnStep → TurnCourse → Type 0
+Ends (turn_step.End turn_end.GivenBack) to = is_out to ≡ true
 Ends _ to = ⊥
 
 -- what a step at this place finds in the turn, and where it leads there
-abbrev pub Led : Place → Found → TurnPlace → Type 0
+abbrev pub Led : Place → Found → TurnCourse → Type 0
 Led (EnterTurn p) (Turn n) to = Takes n to
 Led (EnterTurn p) _ to = ⊥
 Led (WaitTurn p) (Turn n) to = Takes n to
@@ -56,26 +52,21 @@ Led (ReleasingTurn e) (Turn n) to = Ends n to
 Led (ReleasingTurn e) _ to = ⊥
 Led _ f to = Unit {0}
 
--- the place at which the turn's call began
-began : {P : TurnPlace → Type 0} (o : Option TurnPlace) → IsSomeAnd o P → (from : TurnPlace) × P from
-began None h = absurd h
-began (Some from) h = (from, h)
-
-module _ (memory starving : Bool) (p : ℕ) (t u : Lock) where
+module _ (memory starving : Bool) (p : ℕ) (t u : Mutex) where
   -- a step moves none but its party in the turn
-  pub turn_others : (a : Action) (f : Found) → OnTurn memory starving p a f t u → (j : ℕ) → j ≢ p → turn_at u.places j ≡ turn_at t.places j
-  turn_others (act.Begin c) (Turn n) e j apart = let b = began {P = λ from. Acts memory p from n t u} (start_of c (turn_at t.places p)) e.acts in others_stay memory p b.0 n t u b.1 j apart
+  pub turn_others : (a : Action) (f : Found) → OnTurn memory starving p a f t u → (j : ℕ) → j ≢ p → turn_at u.courses j ≡ turn_at t.courses j
+  turn_others (act.Begin c) (Turn n) e j apart = e.legal.others j apart
   turn_others (act.Begin c) _ e j apart = absurd e
-  turn_others act.Go (Turn n) e j apart = others_stay memory p (turn_at t.places p) n t u e.acts j apart
+  turn_others act.Go (Turn n) e j apart = e.legal.others j apart
   turn_others act.Go _ e j apart = absurd e
-  turn_others _ f e j apart = ap (λ t. turn_at t.places j) e
+  turn_others _ f e j apart = ap (λ t. turn_at t.courses j) e
 
-  pub turn_length : (a : Action) (f : Found) → OnTurn memory starving p a f t u → length u.places ≡ length t.places
-  turn_length (act.Begin c) (Turn n) e = let b = began {P = λ from. Acts memory p from n t u} (start_of c (turn_at t.places p)) e.acts in as_many memory p b.0 n t u b.1
+  pub turn_length : (a : Action) (f : Found) → OnTurn memory starving p a f t u → length u.courses ≡ length t.courses
+  turn_length (act.Begin c) (Turn n) e = e.legal.parties
   turn_length (act.Begin c) _ e = absurd e
-  turn_length act.Go (Turn n) e = as_many memory p (turn_at t.places p) n t u e.acts
+  turn_length act.Go (Turn n) e = e.legal.parties
   turn_length act.Go _ e = absurd e
-  turn_length _ f e = ap (λ t. length t.places) e
+  turn_length _ f e = ap (λ t. length t.courses) e
 
   -- whoever has taken the turn took it fairly
   pub turn_fair : (a : Action) (f : Found) → OnTurn memory starving p a f t u → TakenFairly t u
@@ -86,7 +77,7 @@ module _ (memory starving : Bool) (p : ℕ) (t u : Lock) where
   turn_fair _ f e = rw e (λ q out holds. absurd (omega (arith, out, holds)))
 
   -- a step that is not in the turn leaves its party there where it was
-  pub turn_stays : (x : Place) (f : Found) → OnTurn memory starving p (action_of x) f t u → steps_in_turn x ≡ false → turn_at u.places p ≡ turn_at t.places p
+  pub turn_stays : (x : Place) (f : Found) → OnTurn memory starving p (action_of x) f t u → steps_in_turn x ≡ false → turn_at u.courses p ≡ turn_at t.courses p
   turn_stays (EnterTurn q) f e h = absurd (cc)
   turn_stays (WaitTurn q) f e h = absurd (cc)
   turn_stays (TakeTurn q) f e h = absurd (cc)
@@ -95,12 +86,12 @@ module _ (memory starving : Bool) (p : ℕ) (t u : Lock) where
   turn_stays CancellingTurn f e h = absurd (cc)
   turn_stays (ReleaseTurn q) f e h = absurd (cc)
   turn_stays (ReleasingTurn q) f e h = absurd (cc)
-  turn_stays _ f e h = ap (λ t. turn_at t.places p) e
+  turn_stays _ f e h = ap (λ t. turn_at t.courses p) e
 
-  ended : (n : TurnNext) → n ≡ turn_next.End turn_end.GivenBack → is_out (turn_at u.places p) ≡ true → Ends n (turn_at u.places p)
+  ended : (n : TurnStep) → n ≡ turn_step.End turn_end.GivenBack → is_out (turn_at u.courses p) ≡ true → Ends n (turn_at u.courses p)
   ended n e o = rw e o
 
-  pub led : (x : Place) (f : Found) → OnTurn memory starving p (action_of x) f t u → fits_turn x (turn_at t.places p) ≡ true → Led x f (turn_at u.places p)
+  pub led : (x : Place) (f : Found) → OnTurn memory starving p (action_of x) f t u → fits_turn x (turn_at t.courses p) ≡ true → Led x f (turn_at u.courses p)
   led (EnterTurn q) (Turn n) e link = e.leads
   led (EnterTurn q) _ e link = absurd e
   led (WaitTurn q) (Turn n) e link = e.leads

@@ -1,8 +1,8 @@
 -- Each step leaves the party's place fitting its place in the turn. Written by generators/rwlock_rows.py.
 use Rattle.std.proofs.Common.{◌≡◌, refl, true, false}
 use Rattle.lock_world.specs.declared.refusal.Refusal.TheVariants as refusal
-use Rattle.mutex_machine.specs.declared.program.Place.{Place as TurnPlace}
-use Rattle.mutex_machine.specs.declared.program.Next.TheVariants as turn_next
+use Rattle.mutex_machine.specs.Course.{Course as TurnCourse}
+use Rattle.mutex_machine.specs.declared.mutex.Step.TheVariants as turn_step
 use Rattle.mutex_machine.specs.declared.program.End.TheVariants as turn_end
 use Rattle.rwlock_machine.specs.declared.program.Purpose.TheVariants as purpose
 use Rattle.rwlock_machine.specs.declared.program.Ending.TheVariants as ending
@@ -15,7 +15,7 @@ use Rattle.rwlock_machine.specs.Roles.{fits_turn}
 use Rattle.rwlock_machine.proofs.Leads.{Led, steps_in_turn}
 
 -- a step that is not in the turn leaves the party there where it was
-pub links : (x : Place) (f : Found) (t to : TurnPlace) → Led x f to → (steps_in_turn x ≡ false → to ≡ t) → fits_turn x t ≡ true → fits_turn (place_after (next_of x f)) to ≡ true
+pub links : (x : Place) (f : Found) (t to : TurnCourse) → Led x f to → (steps_in_turn x ≡ false → to ≡ t) → fits_turn x t ≡ true → fits_turn (place_after (next_of x f)) to ≡ true
 links Out _ t to h same e = rw (same refl) e
 links (Made w) _ t to h same e = rw (same refl) e
 links Reading _ t to h same e = rw (same refl) e
@@ -45,83 +45,83 @@ links CancelRead _ t to h same e = rw (same refl) e
 links TryRead Done t to h same e = rw (same refl) e
 links TryRead Writer t to h same e = rw (same refl) e
 links TryRead _ t to h same e = rw (same refl) e
-links (EnterTurn purpose.UpgradableRead) (Turn (turn_next.Do action q)) t to h same e = h
-links (EnterTurn purpose.UpgradableRead) (Turn (turn_next.End turn_end.Got)) t to h same e = rw h refl
-links (EnterTurn purpose.UpgradableRead) (Turn (turn_next.End turn_end.Pending)) t to h same e = h
-links (EnterTurn purpose.UpgradableRead) (Turn (turn_next.End (turn_end.Refused refusal.Memory))) t to h same e = rw h refl
-links (EnterTurn purpose.UpgradableRead) (Turn (turn_next.End (turn_end.Refused refusal.Starved))) t to h same e = rw h refl
+links (EnterTurn purpose.UpgradableRead) (Turn turn_step.More) t to h same e = h
+links (EnterTurn purpose.UpgradableRead) (Turn (turn_step.End turn_end.Got)) t to h same e = rw h refl
+links (EnterTurn purpose.UpgradableRead) (Turn (turn_step.End turn_end.Pending)) t to h same e = h
+links (EnterTurn purpose.UpgradableRead) (Turn (turn_step.End (turn_end.Refused refusal.Memory))) t to h same e = rw h refl
+links (EnterTurn purpose.UpgradableRead) (Turn (turn_step.End (turn_end.Refused refusal.Starved))) t to h same e = rw h refl
 links (EnterTurn purpose.UpgradableRead) _ t to h same e = absurd h
-links (WaitTurn purpose.UpgradableRead) (Turn (turn_next.Do action q)) t to h same e = h
-links (WaitTurn purpose.UpgradableRead) (Turn (turn_next.End turn_end.Got)) t to h same e = rw h refl
-links (WaitTurn purpose.UpgradableRead) (Turn (turn_next.End turn_end.Pending)) t to h same e = h
-links (WaitTurn purpose.UpgradableRead) (Turn (turn_next.End (turn_end.Refused refusal.Memory))) t to h same e = rw h refl
-links (WaitTurn purpose.UpgradableRead) (Turn (turn_next.End (turn_end.Refused refusal.Starved))) t to h same e = rw h refl
+links (WaitTurn purpose.UpgradableRead) (Turn turn_step.More) t to h same e = h
+links (WaitTurn purpose.UpgradableRead) (Turn (turn_step.End turn_end.Got)) t to h same e = rw h refl
+links (WaitTurn purpose.UpgradableRead) (Turn (turn_step.End turn_end.Pending)) t to h same e = h
+links (WaitTurn purpose.UpgradableRead) (Turn (turn_step.End (turn_end.Refused refusal.Memory))) t to h same e = rw h refl
+links (WaitTurn purpose.UpgradableRead) (Turn (turn_step.End (turn_end.Refused refusal.Starved))) t to h same e = rw h refl
 links (WaitTurn purpose.UpgradableRead) _ t to h same e = absurd h
-links (TakeTurn purpose.UpgradableRead) (Turn (turn_next.Do action q)) t to h same e = h
-links (TakeTurn purpose.UpgradableRead) (Turn (turn_next.End turn_end.Got)) t to h same e = rw h refl
-links (TakeTurn purpose.UpgradableRead) (Turn (turn_next.End turn_end.Pending)) t to h same e = h
-links (TakeTurn purpose.UpgradableRead) (Turn (turn_next.End (turn_end.Refused refusal.Memory))) t to h same e = rw h refl
-links (TakeTurn purpose.UpgradableRead) (Turn (turn_next.End (turn_end.Refused refusal.Starved))) t to h same e = rw h refl
+links (TakeTurn purpose.UpgradableRead) (Turn turn_step.More) t to h same e = h
+links (TakeTurn purpose.UpgradableRead) (Turn (turn_step.End turn_end.Got)) t to h same e = rw h refl
+links (TakeTurn purpose.UpgradableRead) (Turn (turn_step.End turn_end.Pending)) t to h same e = h
+links (TakeTurn purpose.UpgradableRead) (Turn (turn_step.End (turn_end.Refused refusal.Memory))) t to h same e = rw h refl
+links (TakeTurn purpose.UpgradableRead) (Turn (turn_step.End (turn_end.Refused refusal.Starved))) t to h same e = rw h refl
 links (TakeTurn purpose.UpgradableRead) _ t to h same e = absurd h
-links (EnterTurn purpose.Write) (Turn (turn_next.Do action q)) t to h same e = h
-links (EnterTurn purpose.Write) (Turn (turn_next.End turn_end.Got)) t to h same e = rw h refl
-links (EnterTurn purpose.Write) (Turn (turn_next.End turn_end.Pending)) t to h same e = h
-links (EnterTurn purpose.Write) (Turn (turn_next.End (turn_end.Refused refusal.Memory))) t to h same e = rw h refl
-links (EnterTurn purpose.Write) (Turn (turn_next.End (turn_end.Refused refusal.Starved))) t to h same e = rw h refl
+links (EnterTurn purpose.Write) (Turn turn_step.More) t to h same e = h
+links (EnterTurn purpose.Write) (Turn (turn_step.End turn_end.Got)) t to h same e = rw h refl
+links (EnterTurn purpose.Write) (Turn (turn_step.End turn_end.Pending)) t to h same e = h
+links (EnterTurn purpose.Write) (Turn (turn_step.End (turn_end.Refused refusal.Memory))) t to h same e = rw h refl
+links (EnterTurn purpose.Write) (Turn (turn_step.End (turn_end.Refused refusal.Starved))) t to h same e = rw h refl
 links (EnterTurn purpose.Write) _ t to h same e = absurd h
-links (WaitTurn purpose.Write) (Turn (turn_next.Do action q)) t to h same e = h
-links (WaitTurn purpose.Write) (Turn (turn_next.End turn_end.Got)) t to h same e = rw h refl
-links (WaitTurn purpose.Write) (Turn (turn_next.End turn_end.Pending)) t to h same e = h
-links (WaitTurn purpose.Write) (Turn (turn_next.End (turn_end.Refused refusal.Memory))) t to h same e = rw h refl
-links (WaitTurn purpose.Write) (Turn (turn_next.End (turn_end.Refused refusal.Starved))) t to h same e = rw h refl
+links (WaitTurn purpose.Write) (Turn turn_step.More) t to h same e = h
+links (WaitTurn purpose.Write) (Turn (turn_step.End turn_end.Got)) t to h same e = rw h refl
+links (WaitTurn purpose.Write) (Turn (turn_step.End turn_end.Pending)) t to h same e = h
+links (WaitTurn purpose.Write) (Turn (turn_step.End (turn_end.Refused refusal.Memory))) t to h same e = rw h refl
+links (WaitTurn purpose.Write) (Turn (turn_step.End (turn_end.Refused refusal.Starved))) t to h same e = rw h refl
 links (WaitTurn purpose.Write) _ t to h same e = absurd h
-links (TakeTurn purpose.Write) (Turn (turn_next.Do action q)) t to h same e = h
-links (TakeTurn purpose.Write) (Turn (turn_next.End turn_end.Got)) t to h same e = rw h refl
-links (TakeTurn purpose.Write) (Turn (turn_next.End turn_end.Pending)) t to h same e = h
-links (TakeTurn purpose.Write) (Turn (turn_next.End (turn_end.Refused refusal.Memory))) t to h same e = rw h refl
-links (TakeTurn purpose.Write) (Turn (turn_next.End (turn_end.Refused refusal.Starved))) t to h same e = rw h refl
+links (TakeTurn purpose.Write) (Turn turn_step.More) t to h same e = h
+links (TakeTurn purpose.Write) (Turn (turn_step.End turn_end.Got)) t to h same e = rw h refl
+links (TakeTurn purpose.Write) (Turn (turn_step.End turn_end.Pending)) t to h same e = h
+links (TakeTurn purpose.Write) (Turn (turn_step.End (turn_end.Refused refusal.Memory))) t to h same e = rw h refl
+links (TakeTurn purpose.Write) (Turn (turn_step.End (turn_end.Refused refusal.Starved))) t to h same e = rw h refl
 links (TakeTurn purpose.Write) _ t to h same e = absurd h
-links (TryTurn purpose.UpgradableRead) (Turn (turn_next.End turn_end.Got)) t to h same e = rw h refl
-links (TryTurn purpose.UpgradableRead) (Turn (turn_next.End turn_end.NotFree)) t to h same e = rw h refl
+links (TryTurn purpose.UpgradableRead) (Turn (turn_step.End turn_end.Got)) t to h same e = rw h refl
+links (TryTurn purpose.UpgradableRead) (Turn (turn_step.End turn_end.NotFree)) t to h same e = rw h refl
 links (TryTurn purpose.UpgradableRead) _ t to h same e = absurd h
-links (TryTurn purpose.Write) (Turn (turn_next.End turn_end.Got)) t to h same e = rw h refl
-links (TryTurn purpose.Write) (Turn (turn_next.End turn_end.NotFree)) t to h same e = rw h refl
+links (TryTurn purpose.Write) (Turn (turn_step.End turn_end.Got)) t to h same e = rw h refl
+links (TryTurn purpose.Write) (Turn (turn_step.End turn_end.NotFree)) t to h same e = rw h refl
 links (TryTurn purpose.Write) _ t to h same e = absurd h
-links CancelTurn (Turn (turn_next.Do action q)) t to h same e = h
-links CancelTurn (Turn (turn_next.End turn_end.GivenBack)) t to h same e = rw h refl
+links CancelTurn (Turn turn_step.More) t to h same e = h
+links CancelTurn (Turn (turn_step.End turn_end.GivenBack)) t to h same e = rw h refl
 links CancelTurn _ t to h same e = absurd h
-links CancellingTurn (Turn (turn_next.Do action q)) t to h same e = h
-links CancellingTurn (Turn (turn_next.End turn_end.GivenBack)) t to h same e = rw h refl
+links CancellingTurn (Turn turn_step.More) t to h same e = h
+links CancellingTurn (Turn (turn_step.End turn_end.GivenBack)) t to h same e = rw h refl
 links CancellingTurn _ t to h same e = absurd h
-links (ReleaseTurn ending.GivenBack) (Turn (turn_next.Do action q)) t to h same e = h
-links (ReleaseTurn ending.GivenBack) (Turn (turn_next.End turn_end.GivenBack)) t to h same e = rw h refl
+links (ReleaseTurn ending.GivenBack) (Turn turn_step.More) t to h same e = h
+links (ReleaseTurn ending.GivenBack) (Turn (turn_step.End turn_end.GivenBack)) t to h same e = rw h refl
 links (ReleaseTurn ending.GivenBack) _ t to h same e = absurd h
-links (ReleaseTurn ending.NotFree) (Turn (turn_next.Do action q)) t to h same e = h
-links (ReleaseTurn ending.NotFree) (Turn (turn_next.End turn_end.GivenBack)) t to h same e = rw h refl
+links (ReleaseTurn ending.NotFree) (Turn turn_step.More) t to h same e = h
+links (ReleaseTurn ending.NotFree) (Turn (turn_step.End turn_end.GivenBack)) t to h same e = rw h refl
 links (ReleaseTurn ending.NotFree) _ t to h same e = absurd h
-links (ReleaseTurn ending.RefuseReaders) (Turn (turn_next.Do action q)) t to h same e = h
-links (ReleaseTurn ending.RefuseReaders) (Turn (turn_next.End turn_end.GivenBack)) t to h same e = rw h refl
+links (ReleaseTurn ending.RefuseReaders) (Turn turn_step.More) t to h same e = h
+links (ReleaseTurn ending.RefuseReaders) (Turn (turn_step.End turn_end.GivenBack)) t to h same e = rw h refl
 links (ReleaseTurn ending.RefuseReaders) _ t to h same e = absurd h
-links (ReleaseTurn ending.RefuseMemory) (Turn (turn_next.Do action q)) t to h same e = h
-links (ReleaseTurn ending.RefuseMemory) (Turn (turn_next.End turn_end.GivenBack)) t to h same e = rw h refl
+links (ReleaseTurn ending.RefuseMemory) (Turn turn_step.More) t to h same e = h
+links (ReleaseTurn ending.RefuseMemory) (Turn (turn_step.End turn_end.GivenBack)) t to h same e = rw h refl
 links (ReleaseTurn ending.RefuseMemory) _ t to h same e = absurd h
-links (ReleaseTurn ending.Reading) (Turn (turn_next.Do action q)) t to h same e = h
-links (ReleaseTurn ending.Reading) (Turn (turn_next.End turn_end.GivenBack)) t to h same e = rw h refl
+links (ReleaseTurn ending.Reading) (Turn turn_step.More) t to h same e = h
+links (ReleaseTurn ending.Reading) (Turn (turn_step.End turn_end.GivenBack)) t to h same e = rw h refl
 links (ReleaseTurn ending.Reading) _ t to h same e = absurd h
-links (ReleaseTurn ending.NotifyReaders) (Turn (turn_next.Do action q)) t to h same e = h
-links (ReleaseTurn ending.NotifyReaders) (Turn (turn_next.End turn_end.GivenBack)) t to h same e = rw h refl
+links (ReleaseTurn ending.NotifyReaders) (Turn turn_step.More) t to h same e = h
+links (ReleaseTurn ending.NotifyReaders) (Turn (turn_step.End turn_end.GivenBack)) t to h same e = rw h refl
 links (ReleaseTurn ending.NotifyReaders) _ t to h same e = absurd h
-links (ReleasingTurn ending.GivenBack) (Turn (turn_next.End turn_end.GivenBack)) t to h same e = rw h refl
+links (ReleasingTurn ending.GivenBack) (Turn (turn_step.End turn_end.GivenBack)) t to h same e = rw h refl
 links (ReleasingTurn ending.GivenBack) _ t to h same e = absurd h
-links (ReleasingTurn ending.NotFree) (Turn (turn_next.End turn_end.GivenBack)) t to h same e = rw h refl
+links (ReleasingTurn ending.NotFree) (Turn (turn_step.End turn_end.GivenBack)) t to h same e = rw h refl
 links (ReleasingTurn ending.NotFree) _ t to h same e = absurd h
-links (ReleasingTurn ending.RefuseReaders) (Turn (turn_next.End turn_end.GivenBack)) t to h same e = rw h refl
+links (ReleasingTurn ending.RefuseReaders) (Turn (turn_step.End turn_end.GivenBack)) t to h same e = rw h refl
 links (ReleasingTurn ending.RefuseReaders) _ t to h same e = absurd h
-links (ReleasingTurn ending.RefuseMemory) (Turn (turn_next.End turn_end.GivenBack)) t to h same e = rw h refl
+links (ReleasingTurn ending.RefuseMemory) (Turn (turn_step.End turn_end.GivenBack)) t to h same e = rw h refl
 links (ReleasingTurn ending.RefuseMemory) _ t to h same e = absurd h
-links (ReleasingTurn ending.Reading) (Turn (turn_next.End turn_end.GivenBack)) t to h same e = rw h refl
+links (ReleasingTurn ending.Reading) (Turn (turn_step.End turn_end.GivenBack)) t to h same e = rw h refl
 links (ReleasingTurn ending.Reading) _ t to h same e = absurd h
-links (ReleasingTurn ending.NotifyReaders) (Turn (turn_next.End turn_end.GivenBack)) t to h same e = rw h refl
+links (ReleasingTurn ending.NotifyReaders) (Turn (turn_step.End turn_end.GivenBack)) t to h same e = rw h refl
 links (ReleasingTurn ending.NotifyReaders) _ t to h same e = absurd h
 links (Add true) Done t to h same e = rw (same refl) e
 links (Add true) _ t to h same e = rw (same refl) e

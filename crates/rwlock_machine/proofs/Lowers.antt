@@ -4,10 +4,10 @@ use Rattle.std.proofs.lemmas.Bool.Decides.{nat_tests}
 use Rattle.lock_event.specs.declared.event.Entry.{Entry}
 use Rattle.lock_event.specs.Lists.{is_marked_at, joined}
 use Rattle.lock_queue.specs.Parties.{is_party, entries_of}
-use Rattle.mutex_machine.specs.declared.program.Next.{Next as TurnNext}
-use Rattle.mutex_machine.specs.declared.program.Next.TheVariants as turn_next
-use Rattle.mutex_machine.specs.Machine.{Lock}
-use Rattle.mutex_machine.specs.Ranks.{left_after as turn_left_after, steps_left as turn_steps_left, most_steps as most_turn_steps}
+use Rattle.mutex_machine.specs.declared.mutex.Step.{Step as TurnStep}
+use Rattle.mutex_machine.specs.declared.mutex.Step.TheVariants as turn_step
+use Rattle.mutex_machine.specs.Mutex.{Mutex, left_after as turn_left_after, steps_left as turn_steps_left}
+use Rattle.mutex_machine.specs.Deeds.{most_steps as most_turn_steps}
 use Rattle.rwlock_machine.specs.declared.program.Action.{Action}
 use Rattle.rwlock_machine.specs.declared.program.Action.TheVariants as act
 use Rattle.rwlock_machine.specs.declared.program.Found.{Found}
@@ -23,9 +23,9 @@ abbrev pub then_left : Next → Bool → Bool → ℕ → ℕ
 then_left (next.Do action q) here there turn = left q here there turn
 then_left (next.End e q) here there turn = 0
 
-abbrev pub turn_left : TurnNext → ℕ → ℕ
-turn_left (turn_next.Do action q) turn = turn
-turn_left (turn_next.End e) turn = 0
+abbrev pub turn_left : TurnStep → ℕ → ℕ
+turn_left turn_step.More turn = turn
+turn_left (turn_step.End e) turn = 0
 
 module _ (here there : Bool) (turn : ℕ) (here' there' : Bool) (turn' : ℕ) where
   abbrev pub Lowers : Action → Found → Type 0
@@ -46,11 +46,11 @@ unmarked : (p : ℕ) (l : List (Entry ℕ)) → entries_of p l ≡ 0 → is_mark
 unmarked p [] out = grind (arith, nat_tests)
 unmarked p (e ∷ es) out = grind (arith, nat_tests, unmarked p es)
 
-turn_left_is : (n : TurnNext) (l : Lock) (p k : ℕ) → turn_left_after n l p < k → turn_left n (turn_steps_left l p) < k
-turn_left_is (turn_next.Do action q) l p k h = h
-turn_left_is (turn_next.End e) l p k h = h
+turn_left_is : (n : TurnStep) (l : Mutex) (p k : ℕ) → turn_left_after n l p < k → turn_left n (turn_steps_left l p) < k
+turn_left_is turn_step.More l p k h = h
+turn_left_is (turn_step.End e) l p k h = h
 
-module _ (memory starving : Bool) (p : ℕ) (l m l' m' : List (Entry ℕ)) (t u : Lock) where
+module _ (memory starving : Bool) (p : ℕ) (l m l' m' : List (Entry ℕ)) (t u : Mutex) where
   pub lowers : (a : Action) (f : Found) → OnNoWriter p a f l l' → OnNoReaders p a f m m' → OnTurn memory starving p a f t u
       → (a ≡ act.JoinNoWriter → entries_of p l ≡ 0) → (a ≡ act.JoinNoReaders → entries_of p m ≡ 0)
       → Lowers (is_marked_at (is_party p) l) (is_marked_at (is_party p) m) (turn_steps_left t p) (is_marked_at (is_party p) l') (is_marked_at (is_party p) m') (turn_steps_left u p) a f

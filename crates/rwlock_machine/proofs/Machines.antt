@@ -6,8 +6,7 @@ use Rattle.std.specs.List.{sum_by}
 use Rattle.std.proofs.lemmas.List.Sums.{sum_by-set, get_or-le-sum_by}
 use Rattle.lock_queue.specs.Parties.{entries_of}
 use Rattle.lock_queue.specs.Queues.{Queue}
-use Rattle.mutex_machine.specs.Machine.{Lock, place_at as turn_at}
-use Rattle.mutex_machine.specs.Acts.{IsMutex}
+use Rattle.mutex_machine.specs.Mutex.{Mutex, course_at as turn_at, IsMutex}
 use Rattle.rwlock_machine.specs.declared.word.Word.{Word}
 use Rattle.rwlock_machine.specs.declared.program.Place.{Place}
 use Rattle.rwlock_machine.specs.declared.program.Place.TheVariants.{Out}
@@ -52,16 +51,16 @@ module _ (ps : List Place) (p : ℕ) (x y : Place) where
       }
 
 -- one party at most has the turn
-pub one_turn : (w : Word) (ps : List Place) (l m : Queue) (t : Lock) → IsMachine w ps l m t → IsMutex t → sum_by only_turns ps + sum_by marks ps ≤ 1
-one_turn w ps l m t i mutex = omega (arith, turned_all ps t.places i.as_many i.in_turn, mutex.one_holder)
+pub one_turn : (w : Word) (ps : List Place) (l m : Queue) (t : Mutex) → IsMachine w ps l m t → IsMutex t → sum_by only_turns ps + sum_by marks ps ≤ 1
+one_turn w ps l m t i mutex = omega (arith, turned_all ps t.courses i.as_many i.in_turn, mutex.one_holder)
 
-module _ (memory starving : Bool) (p : ℕ) (v w : Word) (ps : List Place) (l m l' m' : Queue) (t u : Lock) where
+module _ (memory starving : Bool) (p : ℕ) (v w : Word) (ps : List Place) (l m l' m' : Queue) (t u : Mutex) where
   pub kept : (x : Place) (f : Found) → IsMachine v ps l m t → IsMutex t → p < length ps → SameRoles x (place_at ps p)
       → OnWord (action_of x) f v w → OnNoWriter p (action_of x) f l.entries l'.entries → OnNoReaders p (action_of x) f m.entries m'.entries → OnTurn memory starving p (action_of x) f t u
       → l'.parties ≡ l.parties → m'.parties ≡ m.parties → IsMachine w (set ps p (place_after (next_of x f))) l' m' u
   kept x f i mutex known same ew el em et lp mp =
       let y : Place = place_after (next_of x f) in
-      let link : fits_turn x (turn_at t.places p) ≡ true = ap (λ h. h (turn_at t.places p)) same.in_turn ∙ i.in_turn p in
+      let link : fits_turn x (turn_at t.courses p) ≡ true = ap (λ h. h (turn_at t.courses p)) same.in_turn ∙ i.in_turn p in
       let fit : Fits (action_of x) f x y = fits x f in
       let mv : Moves x y (counts_of ps) (counts_of (set ps p y)) = moves ps p x y known same in
       let turn : sum_by only_turns ps + sum_by marks ps ≤ 1 = one_turn v ps l m t i mutex in
@@ -73,9 +72,9 @@ module _ (memory starving : Bool) (p : ℕ) (v w : Word) (ps : List Place) (l m 
       let size : length (set ps p y) ≡ length ps = length-set ps p y in
       record {
         sound = sound p v w (counts_of ps) (counts_of (set ps p y)) x y mv (counted ps) (counted (set ps p y)) turn l.entries l'.entries m.entries m'.entries i.sound (action_of x) f ew el em fit w_line r_line fo;
-        in_turn = λ j. elim (ℕ_discrete j p) as (λ _. fits_turn (place_at (set ps p y) j) (turn_at u.places j) ≡ true) [
-          | yes e ↦ (let P : ℕ → Type 0 = λ n. fits_turn (place_at (set ps p y) n) (turn_at u.places n) ≡ true in
-              subst P (sym e) (rw (get_or-set_same ps p y Out known) (links x f (turn_at t.places p) (turn_at u.places p) (led memory starving p t u x f et link) (turn_stays memory starving p t u x f et) link)))
+        in_turn = λ j. elim (ℕ_discrete j p) as (λ _. fits_turn (place_at (set ps p y) j) (turn_at u.courses j) ≡ true) [
+          | yes e ↦ (let P : ℕ → Type 0 = λ n. fits_turn (place_at (set ps p y) n) (turn_at u.courses n) ≡ true in
+              subst P (sym e) (rw (get_or-set_same ps p y Out known) (links x f (turn_at t.courses p) (turn_at u.courses p) (led memory starving p t u x f et link) (turn_stays memory starving p t u x f et) link)))
           | no apart ↦ rw (get_or-set_other ps p j y Out apart, turn_others memory starving p t u (action_of x) f et j apart) (i.in_turn j)
         ];
         no_writer = λ j. elim (ℕ_discrete j p) as (λ _. entries_of j l'.entries ≡ in_no_writer (place_at (set ps p y) j)) [

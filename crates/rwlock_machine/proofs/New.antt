@@ -3,7 +3,7 @@ use Rattle.std.proofs.Common.{◌≡◌, ℕ, zero, suc, [], length, get_or, rep
 use Rattle.std.specs.List.{sum_by}
 use Rattle.std.proofs.lemmas.List.Sums.{sum_by-cons}
 use Rattle.lock_queue.specs.Queues.{queue}
-use Rattle.mutex_machine.specs.Machine.{new_lock}
+use Rattle.mutex_machine.specs.Mutex.{new_mutex}
 use Rattle.mutex_machine.proofs.Callers.{new_is_out, new_parties}
 use Rattle.rwlock_machine.specs.declared.program.Place.{Place}
 use Rattle.rwlock_machine.specs.declared.program.Place.TheVariants.{Out}
@@ -24,7 +24,7 @@ size : (n : ℕ) → length (replicate n Out) ≡ n
 size zero = refl
 size (suc n) = ap (λ n. suc n) (size n)
 
-pub new_is : (n starved limit : ℕ) → IsMachine (new_word limit) (replicate n Out) (queue n []) (queue n []) (new_lock n starved)
+pub new_is : (n starved limit : ℕ) → IsMachine (new_word limit) (replicate n Out) (queue n []) (queue n []) (new_mutex n starved)
 new_is n starved limit = record {
   sound = record {
     writer = no_sum marks refl n;

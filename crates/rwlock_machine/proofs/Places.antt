@@ -2,9 +2,8 @@
 use Rattle.std.proofs.Common.{◌≡◌, ◌≢◌, ℕ, ◌+◌, ◌≤◌, zero, suc, true, List, [], ◌∷◌, length, refl, ap, arith}
 use Rattle.std.specs.List.{sum_by}
 use Rattle.std.proofs.lemmas.List.Sums.{sum_by-le-sum_by, sum_by-cons}
-use Rattle.mutex_machine.specs.declared.program.Place.{Place as TurnPlace}
-use Rattle.mutex_machine.specs.Roles.{holds}
-use Rattle.mutex_machine.specs.Machine.{place_at as turn_at}
+use Rattle.mutex_machine.specs.Course.{Course as TurnCourse, holds}
+use Rattle.mutex_machine.specs.Mutex.{course_at as turn_at}
 use Rattle.mutex_machine.proofs.Callers.{holding_holds}
 use Rattle.rwlock_machine.specs.declared.program.Place.{Place}
 use Rattle.rwlock_machine.specs.declared.program.Place.TheVariants.{Out, Upgradable, Writing, AskNoWriter, ReleaseTurn, Add, TryUpgrade, Upgrade, Mark, TryWrite, JoinNoReaders, LookNoReaders, AskNoReaders, AwaitNoReaders, LookUnlisted, LeaveNoReaders, DropUpgradable, DropUpgradableNotify, DropWrite, CancelAwait, Unmark, UnmarkNotify, Down, DownNotify}
@@ -44,7 +43,7 @@ counted ps = record {
 }
 
 -- who has the turn holds the turn's mutex
-pub turned : (x : Place) (t : TurnPlace) → fits_turn x t ≡ true → has_turn x ≤ holds t
+pub turned : (x : Place) (t : TurnCourse) → fits_turn x t ≡ true → has_turn x ≤ holds t
 turned (ReleaseTurn e) t h = omega (arith, holding_holds t h)
 turned (Add trying) t h = omega (arith, holding_holds t h)
 turned Upgradable t h = omega (arith, holding_holds t h)
@@ -69,7 +68,7 @@ turned (Down keeps) t h = omega (arith, holding_holds t h)
 turned DownNotify t h = omega (arith, holding_holds t h)
 turned _ t h = omega arith
 
-pub turned_all : (xs : List Place) (ts : List TurnPlace) → length ts ≡ length xs → ((p : ℕ) → fits_turn (place_at xs p) (turn_at ts p) ≡ true) → sum_by only_turns xs + sum_by marks xs ≤ sum_by holds ts
+pub turned_all : (xs : List Place) (ts : List TurnCourse) → length ts ≡ length xs → ((p : ℕ) → fits_turn (place_at xs p) (turn_at ts p) ≡ true) → sum_by only_turns xs + sum_by marks xs ≤ sum_by holds ts
 turned_all [] ts e h = omega arith
 turned_all (x ∷ xs) [] e h = absurd (omega arith)
 turned_all (x ∷ xs) (t ∷ ts) e h =

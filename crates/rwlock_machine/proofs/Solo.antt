@@ -6,11 +6,9 @@ use Rattle.std.proofs.lemmas.List.Sums.{sum_by-set}
 use Rattle.lock_event.specs.declared.event.Entry.{Entry}
 use Rattle.lock_event.specs.Lists.{is_marked_at}
 use Rattle.lock_queue.specs.Parties.{is_party}
-use Rattle.mutex_machine.specs.declared.program.Place.{Place as TurnPlace}
-use Rattle.mutex_machine.specs.Roles.{listed}
-use Rattle.mutex_machine.specs.Machine.{place_at as turn_at}
-use Rattle.mutex_machine.proofs.Callers.{out_unlisted, holding_unlisted}
-use Rattle.mutex_machine.proofs.SoloPolls.{first_marked}
+use Rattle.mutex_machine.specs.Course.{Course as TurnCourse, listed}
+use Rattle.mutex_machine.specs.Mutex.{course_at as turn_at}
+use Rattle.mutex_machine.proofs.Callers.{out_unlisted, holding_unlisted, first_marked}
 use Rattle.rwlock_machine.specs.declared.program.Place.{Place}
 use Rattle.rwlock_machine.specs.declared.program.Place.TheVariants.{Out, Made, Reading, Upgradable, Writing, EnterRead, AskNoWriter, PassOn, WaitTurn, AwaitNoReaders, LookUnlisted, LeaveNoReaders}
 use Rattle.rwlock_machine.specs.declared.program.Action.TheVariants as act
@@ -181,7 +179,7 @@ pending_r (WaitTurn q) h there = absurd (omega arith)
 pending_r (LookUnlisted upgrade) h there = absurd (omega arith)
 pending_r _ h there = absurd (cc)
 
-pending_t : (x : Place) (t : TurnPlace) → is_resting x ≡ true → fits_turn x t ≡ true → 0 < listed t → waits_for_turn x ≡ true
+pending_t : (x : Place) (t : TurnCourse) → is_resting x ≡ true → fits_turn x t ≡ true → 0 < listed t → waits_for_turn x ≡ true
 pending_t (WaitTurn q) t h fits there = refl
 pending_t AskNoWriter t h fits there = absurd (omega (arith, there, out_unlisted t fits))
 pending_t Out t h fits there = absurd (omega (arith, there, out_unlisted t fits))
@@ -210,6 +208,6 @@ solo_polls v laws = record {
       (found.0, (pending_r (place_at v.places found.0) (rest found.0) there, found.1));
   some_turn_called = λ rest free some.
       let found = first_marked v.turn.entries laws.turn.in_order (laws.wakes_turn rest free some) in
-      let there : 0 < listed (turn_at v.turn.places found.0) = omega (arith, laws.turn.owners found.0, found.2) in
-      (found.0, (pending_t (place_at v.places found.0) (turn_at v.turn.places found.0) (rest found.0) (laws.in_turn found.0) there, found.1));
+      let there : 0 < listed (turn_at v.turn.courses found.0) = omega (arith, laws.turn.owners found.0, found.2) in
+      (found.0, (pending_t (place_at v.places found.0) (turn_at v.turn.courses found.0) (rest found.0) (laws.in_turn found.0) there, found.1));
 }

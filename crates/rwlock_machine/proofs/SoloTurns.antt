@@ -5,14 +5,13 @@ use Rattle.std.specs.List.{sum_by}
 use Rattle.std.proofs.lemmas.List.Sums.{sum_by-set}
 use Rattle.lock_world.specs.declared.refusal.Refusal.TheVariants.{Starved}
 use Rattle.mutex_machine.specs.declared.program.LockCall.TheVariants as turn_call
-use Rattle.mutex_machine.specs.declared.program.Next.{Next as TurnNext}
-use Rattle.mutex_machine.specs.declared.program.Next.TheVariants as turn_next
+use Rattle.mutex_machine.specs.declared.mutex.Step.{Step as TurnStep}
+use Rattle.mutex_machine.specs.declared.mutex.Step.TheVariants as turn_step
 use Rattle.mutex_machine.specs.declared.program.End.{End as TurnEnd}
 use Rattle.mutex_machine.specs.declared.program.End.TheVariants as turn_end
-use Rattle.mutex_machine.specs.Machine.{Lock, place_at as turn_at}
-use Rattle.mutex_machine.specs.Acts.{Acts as TurnActs, IsStarved, holders, starved}
-use Rattle.mutex_machine.specs.Solo as turn
-use Rattle.mutex_machine.proofs.SoloPolls.{solo_polls as turn_law}
+use Rattle.mutex_machine.specs.Mutex.{Mutex, IsStarved, holders, starved}
+use Rattle.mutex_machine.specs.Alone as turn
+use Rattle.mutex_machine.proofs.AloneSeen.{solo_polls as turn_law}
 use Rattle.rwlock_machine.specs.declared.program.Purpose.{Purpose}
 use Rattle.rwlock_machine.specs.declared.program.Purpose.TheVariants as purpose
 use Rattle.rwlock_machine.specs.declared.program.Place.{Place}
@@ -85,12 +84,12 @@ abbrev SameLists : RwLock → RwLock → Type 0
 SameLists m mid = (mid.no_writer ≡ m.no_writer) × (mid.no_readers ≡ m.no_readers)
 
 -- what a step in the turn finds there
-goes : (p : ℕ) (starving : Bool) (t u : Lock) (f : Found) → OnTurn true starving p act.Go f t u → (n : TurnNext) × (f ≡ Turn n) × TurnActs true p (turn_at t.places p) n t u
-goes p starving t u (Turn n) o = (n, refl, o.acts)
+goes : (p : ℕ) (starving : Bool) (t u : Mutex) (f : Found) → OnTurn true starving p act.Go f t u → (n : TurnStep) × (f ≡ Turn n) × turn.HasGoneOn true p n t u
+goes p starving t u (Turn n) o = (n, refl, o.done)
 goes p starving t u _ o = absurd o
 
-begins : (p : ℕ) (starving : Bool) (t u : Lock) (f : Found) → OnTurn true starving p (act.Begin turn_call.Poll) f t u → (n : TurnNext) × (f ≡ Turn n) × turn.BeginsPoll p n t u
-begins p starving t u (Turn n) o = (n, refl, o.acts)
+begins : (p : ℕ) (starving : Bool) (t u : Mutex) (f : Found) → OnTurn true starving p (act.Begin turn_call.Poll) f t u → (n : TurnStep) × (f ≡ Turn n) × turn.HasBegun true p turn_call.Poll n t u
+begins p starving t u (Turn n) o = (n, refl, o.done)
 begins p starving t u _ o = absurd o
 
 module _ (p : ℕ) (e : End) (new : RwLock) where
@@ -137,19 +136,19 @@ module _ (p : ℕ) (e : End) (new : RwLock) where
   Rest (next.End x q) m = (e ≡ x) × (new ≡ m)
 
   -- the poll's call on the turn has ended so, and nothing else was done
-  record TurnEnded (Polls : TurnEnd → Lock → Type 0) (q : Purpose) (from : RwLock) : Type 0 where
+  record TurnEnded (Polls : TurnEnd → Mutex → Type 0) (q : Purpose) (from : RwLock) : Type 0 where
     pub turn_end : TurnEnd
     pub mid : RwLock
     pub polls : Polls turn_end mid.turn
-    pub rest : Rest (after_lock q (Turn (turn_next.End turn_end))) mid
-    pub places : mid.places ≡ set from.places p (place_after (after_lock q (Turn (turn_next.End turn_end))))
+    pub rest : Rest (after_lock q (Turn (turn_step.End turn_end))) mid
+    pub places : mid.places ≡ set from.places p (place_after (after_lock q (Turn (turn_step.End turn_end))))
     pub no_writer : mid.no_writer ≡ from.no_writer
     pub no_readers : mid.no_readers ≡ from.no_readers
     pub limit : mid.limit ≡ from.limit
 
   -- with this action
-  ends_turn : (Polls : TurnEnd → Lock → Type 0) (q : Purpose) (x : Place) (starving : Bool) (n : Next) (m mid : RwLock) (te : TurnEnd) → Acts true starving p x n m mid → SameLists m mid → Rest n mid
-      → n ≡ after_lock q (Turn (turn_next.End te)) → Polls te mid.turn → TurnEnded Polls q m
+  ends_turn : (Polls : TurnEnd → Mutex → Type 0) (q : Purpose) (x : Place) (starving : Bool) (n : Next) (m mid : RwLock) (te : TurnEnd) → Acts true starving p x n m mid → SameLists m mid → Rest n mid
+      → n ≡ after_lock q (Turn (turn_step.End te)) → Polls te mid.turn → TurnEnded Polls q m
   ends_turn Polls q x starving n m mid te a same rest is polls = record {
     turn_end = te;
     mid = mid;
@@ -162,10 +161,10 @@ module _ (p : ℕ) (e : End) (new : RwLock) where
   }
 
   -- or later
-  later : (Polls Then : TurnEnd → Lock → Type 0) (q : Purpose) (m mid : RwLock) → SameLists m mid → mid.places ≡ set m.places p (TakeTurn q) → mid.limit ≡ m.limit
-      → ((te : TurnEnd) (l : Lock) → Then te l → Polls te l) → TurnEnded Then q mid → TurnEnded Polls q m
+  later : (Polls Then : TurnEnd → Mutex → Type 0) (q : Purpose) (m mid : RwLock) → SameLists m mid → mid.places ≡ set m.places p (TakeTurn q) → mid.limit ≡ m.limit
+      → ((te : TurnEnd) (l : Mutex) → Then te l → Polls te l) → TurnEnded Then q mid → TurnEnded Polls q m
   later Polls Then q m mid same places limit onward k =
-      let to : Place = place_after (after_lock q (Turn (turn_next.End k.turn_end))) in
+      let to : Place = place_after (after_lock q (Turn (turn_step.End k.turn_end))) in
       record {
         turn_end = k.turn_end;
         mid = k.mid;
@@ -178,29 +177,29 @@ module _ (p : ℕ) (e : End) (new : RwLock) where
       }
 
   -- the party goes on with its call on the turn, or polls there, and leaves the turn so
-  abbrev Goes : RwLock → TurnEnd → Lock → Type 0
+  abbrev Goes : RwLock → TurnEnd → Mutex → Type 0
   Goes m te l = turn.GoesOnAlone p te l m.turn
 
-  abbrev Polls : RwLock → TurnEnd → Lock → Type 0
+  abbrev Polls : RwLock → TurnEnd → Mutex → Type 0
   Polls m te l = turn.PollsAlone p te l m.turn
 
   module _ (q : Purpose) (starving : Bool) (m mid : RwLock) (n : Next) (known : p < length m.places) where
     -- the next action of a call on the turn, and the rest of it
     one_goes : Acts true starving p (TakeTurn q) n m mid → Rest n mid → (n ≡ go_to (TakeTurn q) → p < length mid.places → place_at mid.places p ≡ TakeTurn q → TurnEnded (Goes mid) q mid)
-        → (k : TurnNext) → n ≡ after_lock q (Turn k) → TurnActs true p (turn_at m.turn.places p) k m.turn mid.turn → TurnEnded (Goes m) q m
-    one_goes acts rest more (turn_next.Do a to) is did =
+        → (k : TurnStep) → n ≡ after_lock q (Turn k) → turn.HasGoneOn true p k m.turn mid.turn → TurnEnded (Goes m) q m
+    one_goes acts rest more turn_step.More is did =
         let there = lands starving (TakeTurn q) n m mid known acts in
         later (Goes m) (Goes mid) q m mid (acts.no_writer, acts.no_readers) (acts.places ∙ ap (λ k. set m.places p (place_after k)) is) acts.limit
-        (λ te l g. turn.step m.turn mid.turn a to did g) (more is there.0 (there.1 ∙ ap place_after is))
-    one_goes acts rest more (turn_next.End te) is did = ends_turn (Goes m) q (TakeTurn q) starving n m mid te acts (acts.no_writer, acts.no_readers) rest is (turn.last m.turn did)
+        (λ te l g. turn.further m.turn mid.turn did g) (more is there.0 (there.1 ∙ ap place_after is))
+    one_goes acts rest more (turn_step.End te) is did = ends_turn (Goes m) q (TakeTurn q) starving n m mid te acts (acts.no_writer, acts.no_readers) rest is (turn.last m.turn did)
 
     first_goes : Acts true starving p (WaitTurn q) n m mid → Rest n mid → (n ≡ go_to (TakeTurn q) → p < length mid.places → place_at mid.places p ≡ TakeTurn q → TurnEnded (Goes mid) q mid)
-        → (k : TurnNext) → n ≡ after_lock q (Turn k) → turn.BeginsPoll p k m.turn mid.turn → TurnEnded (Polls m) q m
-    first_goes acts rest more (turn_next.Do a to) is did =
+        → (k : TurnStep) → n ≡ after_lock q (Turn k) → turn.HasBegun true p turn_call.Poll k m.turn mid.turn → TurnEnded (Polls m) q m
+    first_goes acts rest more turn_step.More is did =
         let there = lands starving (WaitTurn q) n m mid known acts in
         later (Polls m) (Goes mid) q m mid (acts.no_writer, acts.no_readers) (acts.places ∙ ap (λ k. set m.places p (place_after k)) is) acts.limit
-        (λ te l g. turn.begun m.turn mid.turn a to did g) (more is there.0 (there.1 ∙ ap place_after is))
-    first_goes acts rest more (turn_next.End te) is did = ends_turn (Polls m) q (WaitTurn q) starving n m mid te acts (acts.no_writer, acts.no_readers) rest is (turn.at_once m.turn did)
+        (λ te l g. turn.begun m.turn mid.turn did g) (more is there.0 (there.1 ∙ ap place_after is))
+    first_goes acts rest more (turn_step.End te) is did = ends_turn (Polls m) q (WaitTurn q) starving n m mid te acts (acts.no_writer, acts.no_readers) rest is (turn.at_once m.turn did)
 
   turn_goes : (q : Purpose) (m : RwLock) → p < length m.places → place_at m.places p ≡ TakeTurn q → GoesOnAlone p e new m → TurnEnded (Goes m) q m
   turn_goes q m known here (last old starving to a) =
@@ -251,7 +250,7 @@ module _ (p : ℕ) (e : End) (new v : RwLock) (laws : IsRwLock v) (free : holder
   law = turn_law v.turn laws.turn free
 
   -- the turn was got there
-  got : (te : TurnEnd) (mid : RwLock) → te ≡ turn_end.Got → Rest p e new (after_lock waiter.0 (Turn (turn_next.End te))) mid → mid.places ≡ set v.places p (place_after (after_lock waiter.0 (Turn (turn_next.End te)))) → mid.limit ≡ v.limit → TookTurn p e new
+  got : (te : TurnEnd) (mid : RwLock) → te ≡ turn_end.Got → Rest p e new (after_lock waiter.0 (Turn (turn_step.End te))) mid → mid.places ≡ set v.places p (place_after (after_lock waiter.0 (Turn (turn_step.End te)))) → mid.limit ≡ v.limit → TookTurn p e new
   got turn_end.Got mid is rest places limit =
       let to : Place = with_turn waiter.0 false in
       let here : place_at mid.places p ≡ to = ap (λ ps. place_at ps p) places ∙ get_or-set_same v.places p to Out known in
@@ -263,7 +262,7 @@ module _ (p : ℕ) (e : End) (new v : RwLock) (laws : IsRwLock v) (free : holder
   got _ mid is rest places limit = absurd (cc)
 
   -- its party gave way there
-  gave : (te : TurnEnd) (mid : RwLock) → turn.GaveWay p v.turn te mid.turn → turn.StandsBack p v.turn te mid.turn → Rest p e new (after_lock waiter.0 (Turn (turn_next.End te))) mid → mid.places ≡ set v.places p (place_after (after_lock waiter.0 (Turn (turn_next.End te))))
+  gave : (te : TurnEnd) (mid : RwLock) → turn.GaveWay p v.turn te mid.turn → turn.StandsBack p v.turn te mid.turn → Rest p e new (after_lock waiter.0 (Turn (turn_step.End te))) mid → mid.places ≡ set v.places p (place_after (after_lock waiter.0 (Turn (turn_step.End te))))
       → SameLists v mid → mid.limit ≡ v.limit → GaveTurnWay p v e new
   gave turn_end.Pending mid g back rest places same limit =
       let here : place_at mid.places p ≡ WaitTurn waiter.0 = ap (λ ps. place_at ps p) places ∙ get_or-set_same v.places p (WaitTurn waiter.0) Out known in
@@ -276,7 +275,7 @@ module _ (p : ℕ) (e : End) (new v : RwLock) (laws : IsRwLock v) (free : holder
       } in
       subst (λ x. GaveTurnWay p v x new) (sym rest.0) (subst (λ m. GaveTurnWay p v Pending m) (sym rest.1) so)
   gave (turn_end.Refused Starved) mid g back rest places same limit =
-      let to : Place = place_after (after_lock waiter.0 (Turn (turn_next.End (turn_end.Refused Starved)))) in
+      let to : Place = place_after (after_lock waiter.0 (Turn (turn_step.End (turn_end.Refused Starved)))) in
       let here : place_at mid.places p ≡ to = ap (λ ps. place_at ps p) places ∙ get_or-set_same v.places p to Out known in
       let so : GaveTurnWay p v (Refused Starved) mid = record {
         stands_back = (g, rw here refl);

@@ -3,9 +3,8 @@ use Rattle.std.specs.Prelude.{◌≡◌, ◌≢◌, ℕ, ◌+◌, ◌<◌, ◌�
 use Rattle.std.specs.List.{sum_by}
 use Rattle.lock_event.specs.Lists.{marked_count, IsMarkedFirst}
 use Rattle.lock_queue.specs.Parties.{entries_of}
-use Rattle.mutex_machine.specs.Machine.{place_at as turn_at}
-use Rattle.mutex_machine.specs.Roles.{holds}
-use Rattle.mutex_machine.specs.Acts.{IsMutex, holders}
+use Rattle.mutex_machine.specs.Mutex.{course_at as turn_at, IsMutex, holders}
+use Rattle.mutex_machine.specs.Course.{holds}
 use Rattle.rwlock_machine.specs.declared.program.Place.{Place}
 use Rattle.rwlock_machine.specs.declared.program.Action.{Action}
 use Rattle.rwlock_machine.specs.declared.program.Action.TheVariants as act
@@ -89,10 +88,10 @@ pub record IsRwLock (v : RwLock) : Type 0 where
   pub one_turn : turns v ≤ 1
   pub turns_apart : (p q : ℕ) → p ≢ q → has_turn (place_at v.places p) + has_turn (place_at v.places q) ≤ 1
   -- who has the turn here holds it in the turn's mutex, and each place goes with the place there
-  pub held : (p : ℕ) → has_turn (place_at v.places p) ≤ holds (turn_at v.turn.places p)
-  pub in_turn : (p : ℕ) → fits_turn (place_at v.places p) (turn_at v.turn.places p) ≡ true
+  pub held : (p : ℕ) → has_turn (place_at v.places p) ≤ holds (turn_at v.turn.courses p)
+  pub in_turn : (p : ℕ) → fits_turn (place_at v.places p) (turn_at v.turn.courses p) ≡ true
   pub turn : IsMutex v.turn
-  pub as_many : length v.turn.places ≡ length v.places
+  pub as_many : length v.turn.courses ≡ length v.places
   -- nobody reads while one writes
   pub alone : 0 < writers v → readers v ≡ 0
   pub writes_apart : (p q : ℕ) → writes (place_at v.places p) ≡ 1 → reads (place_at v.places q) ≡ 0

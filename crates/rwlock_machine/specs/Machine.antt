@@ -3,7 +3,7 @@ use Rattle.std.specs.Prelude.{◌≡◌, ℕ, true, List, [], length, slice_inde
 use Rattle.lock_event.specs.declared.event.Entry.{Entry}
 use Rattle.lock_queue.specs.Parties.{entries_of}
 use Rattle.lock_queue.specs.Queues.{Queue}
-use Rattle.mutex_machine.specs.Machine.{Lock, new_lock, place_at as turn_at}
+use Rattle.mutex_machine.specs.Mutex.{Mutex, new_mutex, course_at as turn_at}
 use Rattle.rwlock_machine.specs.declared.program.Place.{Place}
 use Rattle.rwlock_machine.specs.declared.program.Place.TheVariants.{Out}
 use Rattle.rwlock_machine.specs.declared.word.Word.{Word}
@@ -15,7 +15,7 @@ pub record RwLock : Type 0 where
   pub places : List Place
   pub no_writer : List (Entry ℕ)
   pub no_readers : List (Entry ℕ)
-  pub turn : Lock
+  pub turn : Mutex
   pub limit : ℕ
 
 abbrev pub place_at : List Place → ℕ → Place
@@ -23,7 +23,7 @@ place_at ps p = slice_index_or ps p Out
 
 -- free, with every party out
 abbrev pub new_rwlock : ℕ → ℕ → ℕ → RwLock
-new_rwlock parties starved readers = record { places = replicate parties Out; no_writer = []; no_readers = []; turn = new_lock parties starved; limit = readers }
+new_rwlock parties starved readers = record { places = replicate parties Out; no_writer = []; no_readers = []; turn = new_mutex parties starved; limit = readers }
 
 -- the same roles, as a call begins
 pub record SameRoles (p q : Place) : Type 0 where
@@ -39,13 +39,13 @@ pub record SameRoles (p q : Place) : Type 0 where
   pub owing_r : owes_no_readers p ≡ owes_no_readers q
   pub in_turn : fits_turn p ≡ fits_turn q
 
-pub record IsMachine (w : Word) (places : List Place) (l m : Queue) (turn : Lock) : Type 0 where
+pub record IsMachine (w : Word) (places : List Place) (l m : Queue) (turn : Mutex) : Type 0 where
   pub sound : IsSound (tally_of w l.entries m.entries) (counts_of places)
   -- each party's place goes with its place in the turn's mutex
-  pub in_turn : (p : ℕ) → fits_turn (place_at places p) (turn_at turn.places p) ≡ true
+  pub in_turn : (p : ℕ) → fits_turn (place_at places p) (turn_at turn.courses p) ≡ true
   -- a party's places in the lists are told by where it stands
   pub no_writer : (p : ℕ) → entries_of p l.entries ≡ in_no_writer (place_at places p)
   pub no_readers : (p : ℕ) → entries_of p m.entries ≡ in_no_readers (place_at places p)
-  pub as_many : length turn.places ≡ length places
+  pub as_many : length turn.courses ≡ length places
   pub as_many_w : l.parties ≡ length places
   pub as_many_r : m.parties ≡ length places

@@ -3,7 +3,7 @@ use Rattle.std.specs.Prelude.{Bool, true, false, Option, Some, None}
 use Rattle.lock_world.specs.declared.refusal.Refusal.{Refusal}
 use Rattle.lock_world.specs.declared.refusal.Refusal.TheVariants.{Memory, Readers}
 use Rattle.mutex_machine.specs.declared.program.LockCall.TheVariants as turn_call
-use Rattle.mutex_machine.specs.declared.program.Next.TheVariants as turn_next
+use Rattle.mutex_machine.specs.declared.mutex.Step.TheVariants as turn_step
 use Rattle.mutex_machine.specs.declared.program.End.TheVariants as turn_end
 use Rattle.rwlock_machine.specs.declared.program.Wanted.{Wanted}
 use Rattle.rwlock_machine.specs.declared.program.Wanted.TheVariants as wanted
@@ -158,9 +158,9 @@ wanted_of purpose.Write = wanted.Write
 
 -- what comes after a step of a poll that takes the turn
 abbrev pub after_lock : Purpose → Found → Next
-after_lock p (Turn (turn_next.Do action to)) = go_to (TakeTurn p)
-after_lock p (Turn (turn_next.End turn_end.Got)) = go_to (with_turn p false)
-after_lock p (Turn (turn_next.End (turn_end.Refused r))) = ends (Refused r) (Made (wanted_of p))
+after_lock p (Turn turn_step.More) = go_to (TakeTurn p)
+after_lock p (Turn (turn_step.End turn_end.Got)) = go_to (with_turn p false)
+after_lock p (Turn (turn_step.End (turn_end.Refused r))) = ends (Refused r) (Made (wanted_of p))
 after_lock p _ = ends Pending (WaitTurn p)
 
 -- what comes once the turn is released
@@ -177,11 +177,11 @@ abbrev pub after_turn : Place → Found → Next
 after_turn (EnterTurn p) f = after_lock p f
 after_turn (WaitTurn p) f = after_lock p f
 after_turn (TakeTurn p) f = after_lock p f
-after_turn (TryTurn p) (Turn (turn_next.End turn_end.Got)) = go_to (with_turn p true)
+after_turn (TryTurn p) (Turn (turn_step.End turn_end.Got)) = go_to (with_turn p true)
 after_turn (TryTurn p) _ = ends NotFree Out
-after_turn CancelTurn (Turn (turn_next.Do action to)) = go_to CancellingTurn
-after_turn CancellingTurn (Turn (turn_next.Do action to)) = go_to CancellingTurn
-after_turn (ReleaseTurn e) (Turn (turn_next.Do action to)) = go_to (ReleasingTurn e)
+after_turn CancelTurn (Turn turn_step.More) = go_to CancellingTurn
+after_turn CancellingTurn (Turn turn_step.More) = go_to CancellingTurn
+after_turn (ReleaseTurn e) (Turn turn_step.More) = go_to (ReleasingTurn e)
 after_turn (ReleaseTurn e) _ = released e
 after_turn (ReleasingTurn e) _ = released e
 after_turn _ _ = ends GivenBack Out

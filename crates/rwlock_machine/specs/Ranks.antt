@@ -3,7 +3,8 @@ use Rattle.std.specs.Prelude.{ℕ, ◌+◌, if◌then◌else◌, Bool, true, fal
 use Rattle.lock_event.specs.Lists.{is_marked_at}
 use Rattle.lock_queue.specs.Parties.{is_party}
 use Rattle.mutex_machine.specs.declared.program.LockCall.TheVariants as turn_call
-use Rattle.mutex_machine.specs.Ranks.{steps_left as turn_steps_left, most_steps as most_turn_steps}
+use Rattle.mutex_machine.specs.Mutex.{steps_left as turn_steps_left}
+use Rattle.mutex_machine.specs.Deeds.{most_steps as most_turn_steps}
 use Rattle.rwlock_machine.specs.declared.program.Purpose.{Purpose}
 use Rattle.rwlock_machine.specs.declared.program.Purpose.TheVariants as purpose
 use Rattle.rwlock_machine.specs.declared.program.Ending.{Ending}

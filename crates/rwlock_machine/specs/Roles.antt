@@ -1,8 +1,7 @@
 -- What a party at a place has and owes, each as 1 or 0, so that sums over the parties count them.
 use Rattle.std.specs.Prelude.{ℕ, ◌+◌, Bool, true, false}
 use Rattle.lock_queue.specs.Debts.{Roles}
-use Rattle.mutex_machine.specs.declared.program.Place.{Place as TurnPlace}
-use Rattle.mutex_machine.specs.Courses.{is_out, is_holding, is_taking, is_waiting, is_releasing, is_cancelling}
+use Rattle.mutex_machine.specs.Course.{Course as TurnCourse, is_out, is_holding, is_taking, is_waiting, is_releasing, is_cancelling}
 use Rattle.rwlock_machine.specs.declared.program.Ending.TheVariants as ending
 use Rattle.rwlock_machine.specs.declared.program.Place.{Place}
 use Rattle.rwlock_machine.specs.declared.program.Place.TheVariants.{Out, Made, Reading, Upgradable, Writing, LookNoWriter, AskNoWriter, PassOn, LeaveNoWriter, RefuseLeave, RefuseNotify, CancelRead, WaitTurn, TakeTurn, CancelTurn, CancellingTurn, ReleaseTurn, ReleasingTurn, Add, TryUpgrade, Upgrade, Mark, TryWrite, JoinNoReaders, LookNoReaders, AskNoReaders, AwaitNoReaders, LookUnlisted, LeaveNoReaders, DropRead, DropReadNotify, DropUpgradable, DropUpgradableNotify, DropWrite, CancelAwait, Unmark, UnmarkNotify, Down, DownNotify, DowngradeNotify}
@@ -126,7 +125,7 @@ abbrev pub for_no_readers : Roles Place
 for_no_readers = record { listed = in_no_readers; waits = waits_no_readers; owes = owes_no_readers }
 
 -- how a party that stands here stands in the turn's mutex
-abbrev pub fits_turn : Place → TurnPlace → Bool
+abbrev pub fits_turn : Place → TurnCourse → Bool
 fits_turn (WaitTurn p) t = is_waiting t
 fits_turn (TakeTurn p) t = is_taking t
 fits_turn CancelTurn t = is_waiting t

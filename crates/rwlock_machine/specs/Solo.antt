@@ -4,8 +4,8 @@ use Rattle.lock_event.specs.Lists.{is_marked_at}
 use Rattle.lock_queue.specs.Parties.{is_party}
 use Rattle.lock_world.specs.declared.refusal.Refusal.TheVariants.{Starved}
 use Rattle.mutex_machine.specs.declared.program.End.TheVariants as turn_end
-use Rattle.mutex_machine.specs.Acts.{IsStarved, holders, starved}
-use Rattle.mutex_machine.specs.Solo.{GaveWay}
+use Rattle.mutex_machine.specs.Mutex.{IsStarved, holders, starved}
+use Rattle.mutex_machine.specs.Alone.{GaveWay}
 use Rattle.rwlock_machine.specs.declared.program.Place.{Place}
 use Rattle.rwlock_machine.specs.declared.program.Place.TheVariants.{Made, Reading, Upgradable, Writing, AskNoWriter, WaitTurn, AwaitNoReaders}
 use Rattle.rwlock_machine.specs.declared.program.Action.{Action}

@@ -8,7 +8,7 @@
 
 ghost use Rattle.std.specs.Prelude.{◌≡◌, ◌<◌, false, length, slice_get, replicate, IfOk, IsSome, IsSomeAnd};
 ghost use Rattle.lock_queue.specs.Parties.{entries_of};
-ghost use Rattle.mutex_machine.specs.Acts.{TakenFairly};
+ghost use Rattle.mutex_machine.specs.Mutex.{TakenFairly};
 ghost use Rattle.rwlock_machine.specs.declared.program.Place.TheVariants as place;
 ghost use Rattle.rwlock_machine.specs.Program.{start_of, place_after};
 ghost use Rattle.rwlock_machine.specs.Roles.{bit};
@@ -24,7 +24,7 @@ use crate::program::{Action, Found, Next, Place, RwCall, action_at, decide, star
 use crate::word::Word;
 use lock_event::Entry;
 use lock_queue::WaitQueue;
-use mutex_machine::Lock;
+use mutex_machine::Mutex;
 use std::alloc::{AllocError, Global};
 use std::marker::Model;
 
@@ -35,13 +35,17 @@ pub struct RwLock {
     places: Vec<Place>,
     no_writer: WaitQueue,
     no_readers: WaitQueue,
-    turn: Lock,
+    turn: Mutex,
 }
 
 impl Model for RwLock {
+    ghost use Rattle.std.specs.Coded.{codes};
+    ghost use Rattle.mutex_machine.specs.Behind.{behind_coded};
     ghost use Rattle.rwlock_machine.specs.Machine.{RwLock, IsMachine};
 
     ghost Value = { RwLock };
+
+    ghost coded = { Prim.hlevel (codes, behind_coded) };
 
     ghost view = { λ m. record { places = m.places.items; no_writer = m.no_writer.entries; no_readers = m.no_readers.entries; turn = m.turn; limit = m.word.limit } };
 
@@ -83,7 +87,7 @@ fn carry_out(
     word: &mut Word,
     no_writer: &mut WaitQueue,
     no_readers: &mut WaitQueue,
-    turn: &mut Lock,
+    turn: &mut Mutex,
     party: u32,
     action: Action,
     memory: bool,
@@ -159,7 +163,7 @@ impl RwLock {
         let places = all_out(alloc, parties)?;
         let no_writer = WaitQueue::new(alloc, parties)?;
         let no_readers = WaitQueue::new(alloc, parties)?;
-        let turn = Lock::new(alloc, parties, starved)?;
+        let turn = Mutex::new(alloc, parties, starved)?;
         Ok(RwLock {
             word: Word::new(readers),
             places,
@@ -228,7 +232,7 @@ impl RwLock {
     }
 
     /// The mutex that is the turn.
-    pub fn turn(&self) -> &Lock
+    pub fn turn(&self) -> &Mutex
         ensures { result.now ≡ self.now.turn }
     {
         &self.turn

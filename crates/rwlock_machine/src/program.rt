@@ -12,7 +12,8 @@ ghost use Rattle.std.specs.Prelude.{◌≡◌};
 ghost use Rattle.rwlock_machine.specs.Program.{start_of, first_poll as first_poll_lem, poll_from, drop_from, action_of, go_to as go_to_lem, next_of, after_read as after_read_lem, refuse_read as refuse_read_lem, after_turn as after_turn_lem, after_lock as after_lock_lem, with_turn as with_turn_lem, released as released_lem, after_write as after_write_lem, after_giving_back as after_giving_back_lem};
 
 use lock_world::Refusal;
-use mutex_machine::program::{End as TurnEnd, LockCall, Next as TurnNext};
+use mutex_machine::Step as TurnStep;
+use mutex_machine::program::{End as TurnEnd, LockCall};
 
 /// What a future asks for that stands in no list, as when it was made.
 #[derive(Clone, Copy, Debug, PartialEq, Eq)]
@@ -219,8 +220,8 @@ pub enum Found {
     Yes,
     /// The entry waits.
     No,
-    /// What the party's call on the turn does next.
-    Turn(TurnNext),
+    /// What the step of the party's call on the turn came to.
+    Turn(TurnStep),
 }
 
 /// How a call ended.
@@ -500,13 +501,13 @@ fn after_turn(place: Place, found: Found) -> Next
         (Place::EnterTurn { purpose }, _)
         | (Place::WaitTurn { purpose }, _)
         | (Place::TakeTurn { purpose }, _) => after_lock(purpose, found),
-        (Place::TryTurn { purpose }, Found::Turn(TurnNext::End(TurnEnd::Got))) => {
+        (Place::TryTurn { purpose }, Found::Turn(TurnStep::End(TurnEnd::Got))) => {
             go_to(with_turn(purpose, true))
         }
         (Place::TryTurn { .. }, _) => Next::End(End::NotFree, Place::Out),
-        (Place::CancelTurn, Found::Turn(TurnNext::Do(_, _)))
-        | (Place::CancellingTurn, Found::Turn(TurnNext::Do(_, _))) => go_to(Place::CancellingTurn),
-        (Place::ReleaseTurn { ending }, Found::Turn(TurnNext::Do(_, _))) => {
+        (Place::CancelTurn, Found::Turn(TurnStep::More))
+        | (Place::CancellingTurn, Found::Turn(TurnStep::More)) => go_to(Place::CancellingTurn),
+        (Place::ReleaseTurn { ending }, Found::Turn(TurnStep::More)) => {
             go_to(Place::ReleasingTurn { ending })
         }
         (Place::ReleaseTurn { ending }, _) | (Place::ReleasingTurn { ending }, _) => {
@@ -521,9 +522,9 @@ fn after_lock(purpose: Purpose, found: Found) -> Next
     ensures { result ≡ after_lock_lem purpose found }
 {
     match found {
-        Found::Turn(TurnNext::Do(_, _)) => go_to(Place::TakeTurn { purpose }),
-        Found::Turn(TurnNext::End(TurnEnd::Got)) => go_to(with_turn(purpose, false)),
-        Found::Turn(TurnNext::End(TurnEnd::Refused(refusal))) => {
+        Found::Turn(TurnStep::More) => go_to(Place::TakeTurn { purpose }),
+        Found::Turn(TurnStep::End(TurnEnd::Got)) => go_to(with_turn(purpose, false)),
+        Found::Turn(TurnStep::End(TurnEnd::Refused(refusal))) => {
             let wanted = match purpose {
                 Purpose::UpgradableRead => Wanted::UpgradableRead,
                 Purpose::Write => Wanted::Write,

@@ -13,17 +13,13 @@ use Rattle.lock_world.specs.declared.standing.Stage.{Stage}
 use Rattle.lock_world.specs.declared.standing.Within.{Within}
 use Rattle.lock_world.specs.Rights.{Right, read, upgradable, write}
 use Rattle.lock_world.specs.Standings.{Standing, outside}
-use Rattle.mutex_machine.specs.declared.program.Place.{Place as TurnPlace}
+use Rattle.mutex_machine.specs.Course.{Course as TurnCourse, is_out, holds}
 use Rattle.mutex_machine.specs.declared.program.LockCall.TheVariants as turn_call
-use Rattle.mutex_machine.specs.declared.program.Next.TheVariants as turn_next
+use Rattle.mutex_machine.specs.declared.mutex.Step.TheVariants as turn_step
 use Rattle.mutex_machine.specs.declared.program.End.TheVariants as turn_end
-use Rattle.mutex_machine.specs.Courses.{is_out}
-use Rattle.mutex_machine.specs.Roles.{holds}
-use Rattle.mutex_machine.specs.Machine.{Lock, place_at as turn_at}
-use Rattle.mutex_machine.specs.State.{holder_of}
-use Rattle.mutex_machine.specs.Acts.{holders, starved}
-use Rattle.mutex_machine.proofs.Parts.{out_free}
-use Rattle.mutex_machine.proofs.Seen as sees
+use Rattle.mutex_machine.specs.Mutex.{Mutex, course_at as turn_at, holder_of, holders, starved}
+use Rattle.mutex_machine.proofs.Callers.{out_free}
+use Rattle.mutex_machine.proofs.Holders as sees
 use Rattle.rwlock_machine.specs.declared.program.Purpose.{Purpose}
 use Rattle.rwlock_machine.specs.Turns.{OnTurn}
 use Rattle.rwlock_machine.proofs.Leads.{Led}
@@ -139,10 +135,10 @@ drop_case from o i n up = record {
   first_write = λ e z. absurd (drop_first_write o i n e);
 }
 
-abbrev FirstCase : ℕ → TurnPlace → Stage → Option Sought → What → Place → RwCall → Within → Place → Type 0
+abbrev FirstCase : ℕ → TurnCourse → Stage → Option Sought → What → Place → RwCall → Within → Place → Type 0
 FirstCase v t s o what x c w from = (n : ℕ) (up : Bool) → Lists n up x → Firsts (stands_as v s x t) (right_of o) what n up from
 
-pub firsts : (v : ℕ) (t : TurnPlace) (s : Stage) (o : Option Sought) (what : What) (x : Place) (c : RwCall) (w : Within) → plan_of s o what ≡ Some (plan.Start c w) → goes_with s x ≡ true → agrees (sought_at x) o ≡ true → (from : Place) × (start_of c x ≡ Some from) × FirstCase v t s o what x c w from
+pub firsts : (v : ℕ) (t : TurnCourse) (s : Stage) (o : Option Sought) (what : What) (x : Place) (c : RwCall) (w : Within) → plan_of s o what ≡ Some (plan.Start c w) → goes_with s x ≡ true → agrees (sought_at x) o ≡ true → (from : Place) × (start_of c x ≡ Some from) × FirstCase v t s o what x c w from
 firsts v t = for_begun (FirstCase v t) (record {
   read = λ o i n up h. record { try_read = λ y e. absurd (cc); try_upgrade = λ y e. absurd (cc); try_turn = λ e. absurd (false≢true e); first_read = λ e. refl; first_upgradable = λ e. absurd (false≢true e); first_write = λ e z. absurd (false≢true e) };
   upgradable = λ o i n up h. record { try_read = λ y e. absurd (cc); try_upgrade = λ y e. absurd (cc); try_turn = λ e. absurd (false≢true e); first_read = λ e. absurd (false≢true e); first_upgradable = λ e. refl; first_write = λ e z. absurd (false≢true e) };
@@ -205,14 +201,14 @@ try_adds memory l v found.Full e = ((λ h. absurd (cc)), (λ h. absurd (omega (a
 try_adds memory l v _ e = absurd e
 
 -- a try with the turn is decided then; b is whether it is granted
-pub added : (memory : Bool) (l : RwLock) (v : ℕ) (u : TurnPlace) (f : Found) → Finds memory act.Add f l → (b : Bool) → (readers l < l.limit → b ≡ true) → (b ≡ true → readers l < l.limit)
+pub added : (memory : Bool) (l : RwLock) (v : ℕ) (u : TurnCourse) (f : Found) → Finds memory act.Add f l → (b : Bool) → (readers l < l.limit → b ≡ true) → (b ≡ true → readers l < l.limit)
     → verdict_then v tries u (next_of (place.Add true) f) ≡ Some (if b then answer.Granted (Value v) else answer.None)
 added memory l v u found.Done e b is means = rw (is e) refl
 added memory l v u found.Full e true is means = absurd (omega (arith, means refl, e))
 added memory l v u found.Full e false is means = refl
 added memory l v u _ e b is means = absurd e
 
-pub try_written : (memory : Bool) (l : RwLock) (v : ℕ) (u : TurnPlace) (f : Found) → marked l ≡ 0 → Finds memory act.TryWrite f l → (b : Bool) → (readers l ≡ 0 → b ≡ true) → (b ≡ true → readers l ≡ 0)
+pub try_written : (memory : Bool) (l : RwLock) (v : ℕ) (u : TurnCourse) (f : Found) → marked l ≡ 0 → Finds memory act.TryWrite f l → (b : Bool) → (readers l ≡ 0 → b ≡ true) → (b ≡ true → readers l ≡ 0)
     → verdict_then v tries u (next_of place.TryWrite f) ≡ Some (if b then answer.Granted (Value v) else answer.None)
 try_written memory l v u found.Done free e b is means = rw (is e.1) refl
 try_written memory l v u found.NotFree free e true is means = let none = means refl in absurd (omega (arith, none, e free))
@@ -234,17 +230,17 @@ try_writes memory l v _ free e = absurd e
 -- ---- the turn, at once
 
 -- a try takes the turn exactly where it is free; b is whether it is
-pub turn_tries : (memory starving : Bool) (p v : ℕ) (l k : Lock) (pr : Purpose) (f : Found) → OnTurn memory starving p (act.Begin turn_call.Try) f l k → Led (place.TryTurn pr) f (turn_at k.places p) → (b : Bool) → (holders l ≡ 0 → starved l ≡ 0 → b ≡ true) → (b ≡ true → (holders l ≡ 0) × (starved l ≡ 0))
+pub turn_tries : (memory starving : Bool) (p v : ℕ) (l k : Mutex) (pr : Purpose) (f : Found) → OnTurn memory starving p (act.Begin turn_call.Try) f l k → Led (place.TryTurn pr) f (turn_at k.courses p) → (b : Bool) → (holders l ≡ 0 → starved l ≡ 0 → b ≡ true) → (b ≡ true → (holders l ≡ 0) × (starved l ≡ 0))
     → (answer_at tries v (next_of (place.TryTurn pr) f) ≡ (if b then answer.Stepped else answer.None)) × ((holder_of k ≡ Some p) ↔ (b ≡ true))
-turn_tries memory starving p v l k pr (found.Turn (turn_next.End turn_end.Got)) o led b is means =
+turn_tries memory starving p v l k pr (found.Turn (turn_step.End turn_end.Got)) o led b is means =
     let holder : holder_of k ≡ Some p = o.legal.reason turn_end.Got refl refl in
-    let free = (o.at_once refl).0 holder in
+    let free = (o.at_once.takes refl).0 holder in
     let yes_it : b ≡ true = is free.0 free.1 in
     (rw yes_it refl, ((λ h. yes_it), (λ h. holder)))
-turn_tries memory starving p v l k pr (found.Turn (turn_next.End turn_end.NotFree)) o led b is means =
-    let none : holds (turn_at k.places p) ≡ 0 = out_free (turn_at k.places p) (ap is_out led) in
-    let never : holder_of k ≡ Some p → ⊥ = λ h. let one = sees.is_held_by k.places p h in omega (arith, one, none) in
-    let not_it : b ≡ false = by_test b (λ h. never ((o.at_once refl).1 (means h))) in
+turn_tries memory starving p v l k pr (found.Turn (turn_step.End turn_end.NotFree)) o led b is means =
+    let none : holds (turn_at k.courses p) ≡ 0 = out_free (turn_at k.courses p) (ap is_out led) in
+    let never : holder_of k ≡ Some p → ⊥ = λ h. let one = sees.is_held_by k.courses p h in omega (arith, one, none) in
+    let not_it : b ≡ false = by_test b (λ h. never ((o.at_once.takes refl).1 (means h))) in
     (rw not_it refl, ((λ h. absurd (never h)), (λ h. absurd (cc))))
   where
     by_test : (b : Bool) → (b ≡ true → ⊥) → b ≡ false
@@ -254,6 +250,6 @@ turn_tries memory starving p v l k pr (found.Turn _) o led b is means = absurd l
 turn_tries memory starving p v l k pr _ o led b is means = absurd o
 
 -- and so does the first action of a first poll
-pub turn_enters : (memory starving : Bool) (p : ℕ) (l k : Lock) (f : Found) → OnTurn memory starving p (act.Begin turn_call.Lock) f l k → (holder_of k ≡ Some p) ↔ ((holders l ≡ 0) × (starved l ≡ 0))
-turn_enters memory starving p l k (found.Turn n) o = o.at_once refl
+pub turn_enters : (memory starving : Bool) (p : ℕ) (l k : Mutex) (f : Found) → OnTurn memory starving p (act.Begin turn_call.Lock) f l k → (holder_of k ≡ Some p) ↔ ((holders l ≡ 0) × (starved l ≡ 0))
+turn_enters memory starving p l k (found.Turn n) o = o.at_once.takes refl
 turn_enters memory starving p l k _ o = absurd o

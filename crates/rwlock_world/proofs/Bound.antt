@@ -7,7 +7,7 @@ use Rattle.lock_world.specs.declared.moves.Answer.{Answer}
 use Rattle.lock_world.specs.declared.moves.Inputs.{Inputs}
 use Rattle.lock_world.specs.Bounds.{GaveWay, SomeMarked}
 use Rattle.lock_world.proofs.Bounds.{one_takes}
-use Rattle.mutex_machine.proofs.SoloPolls.{first_marked}
+use Rattle.mutex_machine.proofs.Callers.{first_marked}
 use Rattle.rwlock_world.specs.State.{nobody, World, standing_of, HasTurn, entries_in}
 use Rattle.rwlock_world.specs.Laws.{IsSound, IsAwake, IsTurnWanted, IsReadingWanted, IsWritingWanted}
 use Rattle.lock_world.specs.declared.moves.Call.TheVariants as call

@@ -19,14 +19,10 @@ use Rattle.lock_world.specs.Rosters.{how_many}
 use Rattle.lock_world.specs.Standings.{outside, is_outside_stage}
 use Rattle.lock_world.proofs.Bounds.{marked_listed}
 use Rattle.lock_world.proofs.Rests.{still_outside}
-use Rattle.mutex_machine.specs.declared.program.Place.{Place as TurnPlace}
-use Rattle.mutex_machine.specs.Machine.{place_at as turn_at}
-use Rattle.mutex_machine.specs.Roles.{bit, listed}
-use Rattle.mutex_machine.specs.Acts.{IsStarved, holders, starved}
-use Rattle.mutex_machine.specs.State.{holder_of}
-use Rattle.mutex_machine.proofs.Callers.{out_unlisted, holding_unlisted}
-use Rattle.mutex_machine.proofs.Parts.{gave_way}
-use Rattle.mutex_machine.proofs.Seen as sees
+use Rattle.mutex_machine.specs.Course.{Course as TurnCourse, bit, listed}
+use Rattle.mutex_machine.specs.Mutex.{course_at as turn_at, IsStarved, holders, starved, holder_of}
+use Rattle.mutex_machine.proofs.Callers.{out_unlisted, holding_unlisted, gave_way}
+use Rattle.mutex_machine.proofs.Holders as sees
 use Rattle.rwlock_machine.specs.declared.program.End.{End}
 use Rattle.rwlock_machine.specs.declared.program.End.TheVariants as «end»
 use Rattle.rwlock_machine.specs.declared.program.Next.TheVariants as next
@@ -58,12 +54,12 @@ use Rattle.rwlock_world.proofs.Views as view
 rest_eq : (r s : Rest) → outside r ≡ outside s → r ≡ s
 rest_eq r s h = cc
 
-pending_stage : (v : ℕ) (s : Stage) (x : Place) (t : TurnPlace) → stands_as v s x t ≡ outside rest.Pending → s ≡ Outside rest.Pending
+pending_stage : (v : ℕ) (s : Stage) (x : Place) (t : TurnCourse) → stands_as v s x t ≡ outside rest.Pending → s ≡ Outside rest.Pending
 pending_stage v (Outside r) x t h = ap Outside (rest_eq r rest.Pending h)
 pending_stage v (Inside w) x t h = absurd (cc)
 pending_stage v Forgotten x t h = absurd (cc)
 
-in_turn_list : (t : TurnPlace) (x : Place) → is_future x ≡ true → fits_turn x t ≡ true → 0 < listed t → waits_for_turn x ≡ true
+in_turn_list : (t : TurnCourse) (x : Place) → is_future x ≡ true → fits_turn x t ≡ true → 0 < listed t → waits_for_turn x ≡ true
 in_turn_list t = at_future (λ x. fits_turn x t ≡ true → 0 < listed t → waits_for_turn x ≡ true) (record {
   made = λ w fits there. absurd (omega (arith, there, out_unlisted t fits));
   no_writer = λ fits there. absurd (omega (arith, there, out_unlisted t fits));
@@ -119,15 +115,15 @@ module _ (n : ℕ) where
     rests_seen tf uf is resting =
         let t = w.behind in
         let u = v.behind in
-        let before : list_all is_outside_stage t.stages ≡ true = sym (rest_seen t.value t.stages t.lock.places t.lock.turn.places tf.as_many) ∙ resting in
-        rest_seen u.value u.stages u.lock.places u.lock.turn.places uf.as_many ∙ (ap (list_all is_outside_stage) is ∙ still_outside t.stages p (Outside rest.Pending) refl before)
+        let before : list_all is_outside_stage t.stages ≡ true = sym (rest_seen t.value t.stages t.lock.places t.lock.turn.courses tf.as_many) ∙ resting in
+        rest_seen u.value u.stages u.lock.places u.lock.turn.courses uf.as_many ∙ (ap (list_all is_outside_stage) is ∙ still_outside t.stages p (Outside rest.Pending) refl before)
 
     gives_way_seen : (e : End) → IsTable w.behind.lock w.behind.stages w.behind.sought → 0 < entries_of p w.behind.lock.turn.entries → starved w.behind.lock.turn < w.behind.lock.turn.limit → GaveTurnWay p w.behind.lock e v.behind.lock → StandsBack p w.behind.lock e v.behind.lock → Ended w p a v e → GivesTurnWay (shown w) p a (shown v)
     gives_way_seen «end».Pending tf there below g back k =
         let t = w.behind in
         let u = v.behind in
         record {
-          free = ap (λ h. turn_by h u.lock.places) (sees.none_held 0 u.lock.turn.places back.0.free);
+          free = ap (λ h. turn_by h u.lock.places) (sees.none_held 0 u.lock.turn.courses back.0.free);
           pending = k.answer;
           gave_way = gave_way p t.lock.turn u.lock.turn back.0 there;
           readers = ap (map is_reading) (g.places ∙ (ap (set t.lock.places p) back.1 ∙ set-get_or t.lock.places p place.Out));
@@ -160,7 +156,7 @@ module _ (n : ℕ) where
     pub at_stage : (p < length w.behind.stages) × (stage_at w.behind.stages p ≡ Outside rest.Pending)
     at_stage =
         let here : Place = place_at w.behind.lock.places p in
-        let there : TurnPlace = turn_at w.behind.lock.turn.places p in
+        let there : TurnCourse = turn_at w.behind.lock.turn.courses p in
         let stood : standing_of (shown w) p ≡ stands_as w.behind.value (stage_at w.behind.stages p) here there = owns.stood w.behind.lock w.behind.stages w.behind.sought w.behind.value laws tf p in
         elim (view.in_or_past w.behind.stages p) as (λ _. (p < length w.behind.stages) × (stage_at w.behind.stages p ≡ Outside rest.Pending)) [
           | inl known ↦ (known, pending_stage w.behind.value (stage_at w.behind.stages p) here there (sym stood ∙ pending))
@@ -191,16 +187,16 @@ module _ (n : ℕ) where
       either_seen some below (inr gave) = inr (gives_way_seen w v p a e tf some below gave gave.stands_back k)
 
       why_seen : (is_starved (shown w) p ≡ true) ⊎ (how_many (shown w).state.starved ≡ 0) → IsStarved t.lock.turn p ⊎ (starved t.lock.turn ≡ 0)
-      why_seen (inl starving) = inl (sym (sees.counted_bit (turn_at t.lock.turn.places p)) ∙ ap bit (sym (sees.starved_at t.lock.turn.places p) ∙ starving))
-      why_seen (inr none) = inr (sym (view.how_many-starved t.lock.turn.places) ∙ none)
+      why_seen (inl starving) = inl (sym (sees.counted_bit (turn_at t.lock.turn.courses p)) ∙ ap bit (sym (sees.starved_at t.lock.turn.courses p) ∙ starving))
+      why_seen (inr none) = inr (sym (view.how_many-starved t.lock.turn.courses) ∙ none)
 
       turn_polled : IsSoloForTurn (shown w) p i → (shown w).state.turn ≡ nobody → how_many_read (shown w) < t.lock.limit → SoloPollForTurn (shown w) p a (shown v)
       turn_polled solo free below =
           let some : 0 < entries_of p t.lock.turn.entries = marked_listed p t.lock.turn.entries solo.marked in
-          let there : 0 < listed (turn_at t.lock.turn.places p) = omega (arith, laws.turn.owners p, some) in
-          let called : IsCalledToTurn t.lock p = (in_turn_list (turn_at t.lock.turn.places p) (place_at t.lock.places p) future (laws.in_turn p) there, solo.marked) in
+          let there : 0 < listed (turn_at t.lock.turn.courses p) = omega (arith, laws.turn.owners p, some) in
+          let called : IsCalledToTurn t.lock p = (in_turn_list (turn_at t.lock.turn.courses p) (place_at t.lock.places p) future (laws.in_turn p) there, solo.marked) in
           let few : readers t.lock < t.lock.limit = rw view.how_many-read at below in
-          let nobody_there : holders t.lock.turn ≡ 0 = sees.none_holds 0 t.lock.turn.places (nobody_holds (holder_of t.lock.turn) t.lock.places free) in
+          let nobody_there : holders t.lock.turn ≡ 0 = sees.none_holds 0 t.lock.turn.courses (nobody_holds (holder_of t.lock.turn) t.lock.places free) in
           record {
             takes_or_gives_way = λ under. either_seen some (rw view.how_many-starved at under) (law.takes_turn_or_gives_way nobody_there few p e v.behind.lock called polls);
             takes = λ why. takes_turn_seen w v p a e (law.takes_turn nobody_there few p e v.behind.lock called (why_seen why) polls) k;

@@ -19,7 +19,7 @@ use Rattle.lock_world.specs.Frame.{is_drop, is_giving_back, is_poll_after_ready,
 use Rattle.lock_world.specs.Rights.{Right}
 use Rattle.lock_world.specs.Standings.{Standing, outside, inside, call_in, is_decided}
 use Rattle.lock_world.proofs.Equations.{some_eq}
-use Rattle.mutex_machine.specs.declared.program.Place.{Place as TurnPlace}
+use Rattle.mutex_machine.specs.Course.{Course as TurnCourse}
 use Rattle.rwlock_machine.specs.declared.program.Wanted.TheVariants as wanted
 use Rattle.rwlock_machine.specs.declared.program.Purpose.TheVariants as purpose
 use Rattle.rwlock_machine.specs.declared.program.Ending.TheVariants as ending
@@ -169,7 +169,7 @@ seeks_on o i k v (next.End (Refused r) q) = refl
 -- ---- a move of a party that stands so
 
 -- a party that stands as s, seeks o and is at x, and at t in the turn, does this from a place, in this call, and seeks that then
-pub record Moves (v : ℕ) (s : Standing) (o : Option Sought) (what : What) (x from : Place) (t : TurnPlace) (w : Within) (seeks : Next → Option Sought) : Type 0 where
+pub record Moves (v : ℕ) (s : Standing) (o : Option Sought) (what : What) (x from : Place) (t : TurnCourse) (w : Within) (seeks : Next → Option Sought) : Type 0 where
   pub call : call_in (knows (right_of o)) s what ≡ Some w
   pub share : share_of from ≡ share_of x
   pub same : SameRoles from x
@@ -186,7 +186,7 @@ pub record Moves (v : ℕ) (s : Standing) (o : Option Sought) (what : What) (x f
 same_at : (x : Place) → SameRoles x x
 same_at x = record { reading = refl; marking = refl; turning = refl; writing = refl; standing_w = refl; waiting_w = refl; owing_w = refl; standing_r = refl; waiting_r = refl; owing_r = refl; in_turn = refl }
 
-module _ (v : ℕ) (t : TurnPlace) where
+module _ (v : ℕ) (t : TurnCourse) where
   abbrev Begin_so : Stage → Option Sought → What → Place → RwCall → Within → Place → Type 0
   Begin_so s o what x c w from = Moves v (stands_as v s x t) o what x from t w (begins_to_seek c o)
 
@@ -501,7 +501,7 @@ not_begun rest.Pending (Some sought.Write) (call.Put n) i x g e = refl
 not_begun rest.Holding o c i x g e = guard_calls o c i e
 not_begun rest.Finished o c i x g e = absurd (cc)
 
-pub not_called : (v : ℕ) (s : Stage) (o : Option Sought) (what : What) (x : Place) (t : TurnPlace) → goes_with s x ≡ true → plan_of s o what ≡ None → call_in (knows (right_of o)) (stands_as v s x t) what ≡ None
+pub not_called : (v : ℕ) (s : Stage) (o : Option Sought) (what : What) (x : Place) (t : TurnCourse) → goes_with s x ≡ true → plan_of s o what ≡ None → call_in (knows (right_of o)) (stands_as v s x t) what ≡ None
 not_called v (Outside r) o (Begin c i) x t g e = not_begun r o c i x g e
 not_called v (Outside r) o (Go i) x t g e = refl
 not_called v (Inside w) o (Begin c i) x t g e = refl

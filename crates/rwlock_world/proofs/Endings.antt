@@ -10,7 +10,7 @@ use Rattle.lock_world.specs.declared.standing.Rest.TheVariants as rest
 use Rattle.lock_world.specs.declared.standing.Within.{Within}
 use Rattle.lock_world.specs.Frame.{is_refusal}
 use Rattle.lock_world.specs.Standings.{outside, inside, decision, is_possible, StandsAfter}
-use Rattle.mutex_machine.specs.declared.program.Place.{Place as TurnPlace}
+use Rattle.mutex_machine.specs.Course.{Course as TurnCourse}
 use Rattle.rwlock_machine.specs.declared.program.End.{End}
 use Rattle.rwlock_machine.specs.declared.program.End.TheVariants.{Got, Pending, Waiting, NotFree, GivenBack, Refused}
 use Rattle.rwlock_machine.specs.declared.program.Next.{Next}
@@ -62,7 +62,7 @@ always_possible c v (next.End GivenBack q) = refl
 always_possible c v (next.End (Refused r) q) = refl
 
 -- the answer and the new standing say what is decided
-pub decided_now : (w : Within) (x : Place) → is_on_course w.kind w.was (course_of x) ≡ true → (v : ℕ) (u : TurnPlace) (n : Next) → decision (answer_of w.kind v n) (stands_as v (stage_after w n) (place_after n) u) ≡ verdict_then v (course_of x) u n
+pub decided_now : (w : Within) (x : Place) → is_on_course w.kind w.was (course_of x) ≡ true → (v : ℕ) (u : TurnCourse) (n : Next) → decision (answer_of w.kind v n) (stands_as v (stage_after w n) (place_after n) u) ≡ verdict_then v (course_of x) u n
 decided_now w x h v u (next.Do a q) = refl
 decided_now w x h v u (next.End Got q) = ap Some (answer_is w x h v (next.End Got q))
 decided_now w x h v u (next.End Pending q) = refl
@@ -74,7 +74,7 @@ decided_now w x h v u (next.End (Refused r) q) = refl
 -- ---- how the party stands then
 
 abbrev StandsSo : Kind → Rest → Course → Type 0
-StandsSo k r c = (v : ℕ) (u : TurnPlace) (e : End) (q : Place) → ends_in c e q ≡ true → StandsAfter rest.Holding (within k r) (answer_of k v (next.End e q)) (stands_as v (stage_after (within k r) (next.End e q)) q u)
+StandsSo k r c = (v : ℕ) (u : TurnCourse) (e : End) (q : Place) → ends_in c e q ≡ true → StandsAfter rest.Holding (within k r) (answer_of k v (next.End e q)) (stands_as v (stage_after (within k r) (next.End e q)) q u)
 
 second : (a b : Bool) → a && b ≡ true → b ≡ true
 second true b h = h
@@ -132,7 +132,7 @@ stands_so = on_course StandsSo (record {
   try_upgrade = tried_to_upgrade;
 })
 
-pub stands_after : (w : Within) (x : Place) (n : Next) → is_on_course w.kind w.was (course_of x) ≡ true → Keeps (course_of x) n → (v : ℕ) (u : TurnPlace) → StandsAfter rest.Holding w (answer_of w.kind v n) (stands_as v (stage_after w n) (place_after n) u)
+pub stands_after : (w : Within) (x : Place) (n : Next) → is_on_course w.kind w.was (course_of x) ≡ true → Keeps (course_of x) n → (v : ℕ) (u : TurnCourse) → StandsAfter rest.Holding w (answer_of w.kind v n) (stands_as v (stage_after w n) (place_after n) u)
 stands_after w x (next.Do a q) h k v u = (verdict v q u, refl)
 stands_after w x (next.End e q) h k v u = stands_so w.kind w.was (course_of x) h v u e q k
 
@@ -167,7 +167,7 @@ waiting_upgrades k v x (next.End GivenBack q) h e = absurd (cc)
 waiting_upgrades k v x (next.End (Refused r) q) h e = absurd (cc)
 
 -- a call that is given back wasn't refused
-pub given_not_refused : (c : Course) (v : ℕ) (u : TurnPlace) (n : Next) → verdict_then v c u n ≡ Some answer.GivenBack → is_refusal (answer_at c v n) ≡ true → ⊥
+pub given_not_refused : (c : Course) (v : ℕ) (u : TurnCourse) (n : Next) → verdict_then v c u n ≡ Some answer.GivenBack → is_refusal (answer_at c v n) ≡ true → ⊥
 given_not_refused c v u (next.Do a q) e h = cc
 given_not_refused tries v u (next.End Got q) e h = cc
 given_not_refused tries_upgrade v u (next.End Got q) e h = cc
@@ -180,7 +180,7 @@ given_not_refused c v u (next.End (Refused r) q) e h = cc
 
 -- only a poll, or the beginning of an upgrade, leaves a party pending
 abbrev PendsSo : Kind → Rest → Course → Type 0
-PendsSo k r c = (v : ℕ) (x : Place) (u : TurnPlace) (e : End) (q : Place) → ends_in c e q ≡ true → KeepsUpgrade v x (next.End e q) → (answer_of k v (next.End e q) ≡ answer.Waiting → ⊥) → stands_as v (stage_after (within k r) (next.End e q)) q u ≡ outside rest.Pending → (is_upgrade q ≡ is_upgrade x) × (k ≡ kind.Drop → ⊥)
+PendsSo k r c = (v : ℕ) (x : Place) (u : TurnCourse) (e : End) (q : Place) → ends_in c e q ≡ true → KeepsUpgrade v x (next.End e q) → (answer_of k v (next.End e q) ≡ answer.Waiting → ⊥) → stands_as v (stage_after (within k r) (next.End e q)) q u ≡ outside rest.Pending → (is_upgrade q ≡ is_upgrade x) × (k ≡ kind.Drop → ⊥)
 
 pends_poll : (k : Kind) (r : Rest) → (k ≡ kind.Drop → ⊥) → PendsSo k r polls
 pends_poll k r d v x u Got q h g a e = absurd (cc)
@@ -226,7 +226,7 @@ by_drop : (b : Bool) (P : Type 0) → (b ≡ false → P) → (b ≡ true → P)
 by_drop true P f g = g refl
 by_drop false P f g = f refl
 
-pub pending_upgrades : (w : Within) (x : Place) → is_on_course w.kind w.was (course_of x) ≡ true → (v : ℕ) (u : TurnPlace) (n : Next) → Keeps (course_of x) n → KeepsUpgrade v x n → {drop : Bool} {was : Bool} → (drop ≡ false → is_upgrade x ≡ was) → (drop ≡ true → w.kind ≡ kind.Drop)
+pub pending_upgrades : (w : Within) (x : Place) → is_on_course w.kind w.was (course_of x) ≡ true → (v : ℕ) (u : TurnCourse) (n : Next) → Keeps (course_of x) n → KeepsUpgrade v x n → {drop : Bool} {was : Bool} → (drop ≡ false → is_upgrade x ≡ was) → (drop ≡ true → w.kind ≡ kind.Drop)
     → (answer_of w.kind v n ≡ answer.Waiting → ⊥) → stands_as v (stage_after w n) (place_after n) u ≡ outside rest.Pending → is_upgrade (place_after n) ≡ was
 pending_upgrades w x h v u (next.Do a q) k g {drop} {was} not is waits e = absurd (cc)
 pending_upgrades w x h v u (next.End en q) k g {drop} {was} not is waits e =
@@ -236,7 +236,7 @@ pending_upgrades w x h v u (next.End en q) k g {drop} {was} not is waits e =
 inside_eq : (w y : Within) (o z : Option Answer) → inside w o ≡ inside y z → o ≡ z
 inside_eq w y o z e = cc
 
-pub undecided_upgrades : (w : Within) (x : Place) (v : ℕ) (t u : TurnPlace) (n : Next) → KeepsUpgrade v x n → {drop : Bool} {was : Bool} → (drop ≡ false → is_upgrade x ≡ was) → (drop ≡ true → verdict_then v (course_of x) u n ≡ Some answer.GivenBack)
+pub undecided_upgrades : (w : Within) (x : Place) (v : ℕ) (t u : TurnCourse) (n : Next) → KeepsUpgrade v x n → {drop : Bool} {was : Bool} → (drop ≡ false → is_upgrade x ≡ was) → (drop ≡ true → verdict_then v (course_of x) u n ≡ Some answer.GivenBack)
     → (y : Within) → stands_as v (stage_after w n) (place_after n) u ≡ inside y None → is_upgrade (place_after n) ≡ was
 undecided_upgrades w x v t u (next.Do a q) g {drop} {was} not is y e =
     let none : verdict v q u ≡ None = inside_eq w y (verdict v q u) None e in

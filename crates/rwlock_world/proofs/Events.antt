@@ -24,8 +24,8 @@ use Rattle.lock_world.specs.Rights.{Right, write}
 use Rattle.lock_world.specs.Standings.{Standing, outside, inside, forgotten, inputs_of, call_in, is_possible, refused, StandsAfter, is_decided, decision}
 use Rattle.lock_world.specs.Steps.{nothing, changes}
 use Rattle.lock_world.proofs.Equations.{some_eq, none_some, some_none, outside_inside, is_refused, is_granted}
-use Rattle.mutex_machine.specs.declared.program.Place.{Place as TurnPlace}
-use Rattle.mutex_machine.specs.Machine.{place_at as turn_at}
+use Rattle.mutex_machine.specs.Course.{Course as TurnCourse}
+use Rattle.mutex_machine.specs.Mutex.{course_at as turn_at}
 use Rattle.rwlock_machine.specs.declared.program.Next.{Next}
 use Rattle.rwlock_machine.specs.declared.program.Place.{Place}
 use Rattle.rwlock_machine.specs.declared.program.Place.TheVariants as place
@@ -61,7 +61,7 @@ pub record Laws (t : Table) : Type 0 where
   pub fits : IsTable t.lock t.stages t.sought
 
 -- the party's standing
-stood : (t : Table) (p : ℕ) → Laws t → standing_of (view_of t) p ≡ stands_as t.value (stage_at t.stages p) (place_at t.lock.places p) (turn_at t.lock.turn.places p)
+stood : (t : Table) (p : ℕ) → Laws t → standing_of (view_of t) p ≡ stands_as t.value (stage_at t.stages p) (place_at t.lock.places p) (turn_at t.lock.turn.courses p)
 stood t p k = owns.stood t.lock t.stages t.sought t.value k.lock k.fits p
 
 each : (t : Table) → Laws t → (p : ℕ) → HasItsOwn (view_of t) p (standing_of (view_of t) p)
@@ -192,7 +192,7 @@ refused_number n k e = cc
 
 polled_again : (t : Table) (p : ℕ) (i : Inputs) → Laws t → stage_at t.stages p ≡ Outside rest.Holding → Legal (view_of t) (record { party = p; what = Begin call.Poll i }) (refused refusal.Finished) (view_of t)
 polled_again t p i k at =
-    let is : standing_of (view_of t) p ≡ outside rest.Holding = stood t p k ∙ ap (λ s. stands_as t.value s (place_at t.lock.places p) (turn_at t.lock.turn.places p)) at in
+    let is : standing_of (view_of t) p ≡ outside rest.Holding = stood t p k ∙ ap (λ s. stands_as t.value s (place_at t.lock.places p) (turn_at t.lock.turn.courses p)) at in
     let called : call_in (knows (sought_by (view_of t) p)) (standing_of (view_of t) p) (Begin call.Poll i) ≡ Some (within kind.LaterPoll rest.Holding) = rw is refl in
     let over : is_poll_after_ready (standing_of (view_of t) p) (Begin call.Poll i) ≡ true = rw is refl in
     let only : (b : Answer) → decision (refused refusal.Finished) (standing_of (view_of t) p) ≡ Some b → refused refusal.Finished ≡ b = λ b d. some_eq (sym (ap (decision (refused refusal.Finished)) is) ∙ d) in
@@ -245,7 +245,7 @@ writing_place x o g = at_guard (λ x. agrees (sought_at x) o ≡ true → o ≡ 
   not_up (Some _) a e = cc
 
 -- what a party without a right is decided on doesn't carry the value
-verdict_same : (v w : ℕ) (x : Place) (t : TurnPlace) → reads x ≡ 0 → has_turn x ≡ 0 → verdict v x t ≡ verdict w x t
+verdict_same : (v w : ℕ) (x : Place) (t : TurnCourse) → reads x ≡ 0 → has_turn x ≡ 0 → verdict v x t ≡ verdict w x t
 verdict_same v w place.LeaveNoWriter t r h = absurd (omega arith)
 verdict_same v w place.LeaveNoReaders t r h = absurd (omega arith)
 verdict_same v w (place.Unmark true) t r h = refl
@@ -254,7 +254,7 @@ verdict_same v w (place.UnmarkNotify true) t r h = refl
 verdict_same v w (place.UnmarkNotify false) t r h = refl
 verdict_same v w _ t r h = refl
 
-unvalued : (v u : ℕ) (s : Stage) (x : Place) (t : TurnPlace) → verdict u x t ≡ verdict v x t → stands_as u s x t ≡ stands_as v s x t
+unvalued : (v u : ℕ) (s : Stage) (x : Place) (t : TurnCourse) → verdict u x t ≡ verdict v x t → stands_as u s x t ≡ stands_as v s x t
 unvalued v u (Outside r) x t h = refl
 unvalued v u (Inside w) x t h = ap (inside w) h
 unvalued v u Forgotten x t h = refl
@@ -269,8 +269,8 @@ module _ (t : Table) (n : ℕ) (p : ℕ) (i : Inputs) where
   putting : Laws t → p < length t.stages → stage_at t.stages p ≡ Outside rest.Holding → seeking t.sought p ≡ Some sought.Write → Legal (view_of t) the_move (answer.Granted (Value n)) (view_of left)
   putting k known at seeks =
       let k2 : Laws left = record { lock = k.lock; fits = k.fits } in
-      let is : standing_of (view_of t) p ≡ outside rest.Holding = stood t p k ∙ ap (λ s. stands_as t.value s (place_at t.lock.places p) (turn_at t.lock.turn.places p)) at in
-      let now : standing_of (view_of left) p ≡ outside rest.Holding = stood left p k2 ∙ ap (λ s. stands_as n s (place_at t.lock.places p) (turn_at t.lock.turn.places p)) at in
+      let is : standing_of (view_of t) p ≡ outside rest.Holding = stood t p k ∙ ap (λ s. stands_as t.value s (place_at t.lock.places p) (turn_at t.lock.turn.courses p)) at in
+      let now : standing_of (view_of left) p ≡ outside rest.Holding = stood left p k2 ∙ ap (λ s. stands_as n s (place_at t.lock.places p) (turn_at t.lock.turn.courses p)) at in
       let own : HasItsOwn (view_of t) p (outside rest.Holding) = rw is at (each t k p) in
       let own_now : HasItsOwn (view_of left) p (outside rest.Holding) = rw now at (each left k2 p) in
       let wants : sought_by (view_of t) p ≡ Some write = sought_is t p ∙ ap right_of seeks in
@@ -279,8 +279,8 @@ module _ (t : Table) (n : ℕ) (p : ℕ) (i : Inputs) where
       let not_over : is_poll_after_ready (standing_of (view_of t) p) (Begin (call.Put n) i) ≡ false = rw is refl in
       let guard : is_guard (place_at t.lock.places p) ≡ true = rw at at (k.fits.fits p known) in
       let writing : place_at t.lock.places p ≡ place.Writing = writing_place (place_at t.lock.places p) (seeking t.sought p) guard (k.fits.seeks p known) seeks in
-      let apart_from : (q : ℕ) → q ≢ p → verdict n (place_at t.lock.places q) (turn_at t.lock.turn.places q) ≡ verdict t.value (place_at t.lock.places q) (turn_at t.lock.turn.places q) =
-      λ q apart. verdict_same n t.value (place_at t.lock.places q) (turn_at t.lock.turn.places q)
+      let apart_from : (q : ℕ) → q ≢ p → verdict n (place_at t.lock.places q) (turn_at t.lock.turn.courses q) ≡ verdict t.value (place_at t.lock.places q) (turn_at t.lock.turn.courses q) =
+      λ q apart. verdict_same n t.value (place_at t.lock.places q) (turn_at t.lock.turn.courses q)
       (k.lock.writes_apart p q (ap Rattle.rwlock_machine.specs.Roles.writes writing))
       (let two = k.lock.turns_apart p q (λ e. apart (sym e)) in omega (arith, two, ap has_turn writing)) in
       let only : (b : Answer) → decision (answer.Granted (Value n)) (standing_of (view_of left) p) ≡ Some b → answer.Granted (Value n) ≡ b = λ b d. some_eq (sym (ap (decision (answer.Granted (Value n))) now) ∙ d) in
@@ -298,8 +298,8 @@ module _ (t : Table) (n : ℕ) (p : ℕ) (i : Inputs) where
           readers_limit = refl;
           opening_value = refl;
           sought = set_back (view_of t).sought p;
-          others = λ q apart. stood left q k2 ∙ (unvalued t.value n (stage_at t.stages q) (place_at t.lock.places q) (turn_at t.lock.turn.places q) (apart_from q apart) ∙ sym (stood t q k));
-          parties = view.length-standings n t.stages t.lock.places t.lock.turn.places k.fits.as_many ∙ sym (view.length-standings t.value t.stages t.lock.places t.lock.turn.places k.fits.as_many);
+          others = λ q apart. stood left q k2 ∙ (unvalued t.value n (stage_at t.stages q) (place_at t.lock.places q) (turn_at t.lock.turn.courses q) (apart_from q apart) ∙ sym (stood t q k));
+          parties = view.length-standings n t.stages t.lock.places t.lock.turn.courses k.fits.as_many ∙ sym (view.length-standings t.value t.stages t.lock.places t.lock.turn.courses k.fits.as_many);
           found_memory = λ list e. absurd (cc);
           refused_idly = λ d. absurd (unlike (refused refusal.Memory) d.1 refl);
           giving_up = λ g. absurd (cc);
@@ -346,7 +346,7 @@ still memory starving p (place.ReleasingTurn q) f l k e h = absurd (cc)
 still memory starving p _ f l k e h = e
 
 stepping : (t u : Table) (m : Move) (a : Answer) (w : Within) (from : Place) (seeks : Next → Option Sought) → Laws t → Laws u → m.party < length t.stages → (s : Steps w from seeks m t a u)
-    → is_on_course w.kind w.was (course_of from) ≡ true → Moves t.value (stands_as t.value (stage_at t.stages m.party) (place_at t.lock.places m.party) (turn_at t.lock.turn.places m.party)) (seeking t.sought m.party) m.what (place_at t.lock.places m.party) from (turn_at t.lock.turn.places m.party) w seeks
+    → is_on_course w.kind w.was (course_of from) ≡ true → Moves t.value (stands_as t.value (stage_at t.stages m.party) (place_at t.lock.places m.party) (turn_at t.lock.turn.courses m.party)) (seeking t.sought m.party) m.what (place_at t.lock.places m.party) from (turn_at t.lock.turn.courses m.party) w seeks
     → Legal (view_of t) m a (view_of u)
 stepping t u m a w from seeks k j known s course moves =
     let l = t.lock in
@@ -357,7 +357,7 @@ stepping t u m a w from seeks k j known s course moves =
     let stages : u.stages ≡ ts = s.stages ∙ ap (λ y. set t.stages m.party (stage_after w y)) s.acts.next_is in
     let wanted : u.sought ≡ ps = s.sought ∙ ap (λ y. set t.sought m.party (seeks y)) s.acts.next_is in
     let says : a ≡ answer_of w.kind t.value n = s.answer ∙ ap (answer_of w.kind t.value) s.acts.next_is in
-    let fit : fits_turn from (turn_at l.turn.places m.party) ≡ true = rw moves.same.in_turn (k.lock.in_turn m.party) in
+    let fit : fits_turn from (turn_at l.turn.courses m.party) ≡ true = rw moves.same.in_turn (k.lock.in_turn m.party) in
     let walk = walks (inputs_of m.what).memory (inputs_of m.what).starving m.party from s.next l u.lock w s.acts fit course in
     let given : word.Known m l u.lock t.stages t.sought from s.acts.found = record {
       laws = k.lock;
@@ -407,7 +407,7 @@ not_within n k e h = grind (arith, nat_tests)
 -- a move that does nothing isn't possible
 uncalled : (t : Table) (m : Move) (b : Bool) → Laws t → b ≡ nat_lt m.party (length t.stages) → (if b then plan_of (stage_at t.stages m.party) (seeking t.sought m.party) m.what else None) ≡ None → call_of (view_of t) m ≡ None
 uncalled t m b k test none = elim (view.in_or_past t.stages m.party) as (λ _. call_of (view_of t) m ≡ None) [
-  | inl known ↦ rw (stood t m.party k, sought_is t m.party) (not_called t.value (stage_at t.stages m.party) (seeking t.sought m.party) m.what (place_at t.lock.places m.party) (turn_at t.lock.turn.places m.party) (k.fits.fits m.party known) (inside_plan b test none known))
+  | inl known ↦ rw (stood t m.party k, sought_is t m.party) (not_called t.value (stage_at t.stages m.party) (seeking t.sought m.party) m.what (place_at t.lock.places m.party) (turn_at t.lock.turn.courses m.party) (k.fits.fits m.party known) (inside_plan b test none known))
   | inr past ↦ rw (stood t m.party k, past) (past_call (sought_by (view_of t) m.party) m.what)
 ] where
   inside_plan : (b : Bool) → b ≡ nat_lt m.party (length t.stages) → (if b then plan_of (stage_at t.stages m.party) (seeking t.sought m.party) m.what else None) ≡ None → m.party < length t.stages → plan_of (stage_at t.stages m.party) (seeking t.sought m.party) m.what ≡ None
@@ -435,17 +435,17 @@ any_legal t u m a (Some (plan.Start c w)) e d k j =
     let x : Place = place_at t.lock.places m.party in
     let b = begun (start_of c x) d in
     let s = starts (stage_at t.stages m.party) (seeking t.sought m.party) m.what x c w p.1 (k.fits.fits m.party p.0) (k.fits.seeks m.party p.0) in
-    let y = beginning t.value (turn_at t.lock.turn.places m.party) (stage_at t.stages m.party) (seeking t.sought m.party) m.what x c w p.1 (k.fits.fits m.party p.0) (k.fits.seeks m.party p.0) in
+    let y = beginning t.value (turn_at t.lock.turn.courses m.party) (stage_at t.stages m.party) (seeking t.sought m.party) m.what x c w p.1 (k.fits.fits m.party p.0) (k.fits.seeks m.party p.0) in
     let same : s.0 ≡ b.0 = some_eq (sym s.1 ∙ b.1) in
     let same_too : y.0 ≡ b.0 = some_eq (sym y.1 ∙ b.1) in
     let C : Place → Type 0 = λ z. is_on_course w.kind w.was (course_of z) ≡ true in
-    let M : Place → Type 0 = λ z. Moves t.value (stands_as t.value (stage_at t.stages m.party) x (turn_at t.lock.turn.places m.party)) (seeking t.sought m.party) m.what x z (turn_at t.lock.turn.places m.party) w (begins_to_seek c (seeking t.sought m.party)) in
+    let M : Place → Type 0 = λ z. Moves t.value (stands_as t.value (stage_at t.stages m.party) x (turn_at t.lock.turn.courses m.party)) (seeking t.sought m.party) m.what x z (turn_at t.lock.turn.courses m.party) w (begins_to_seek c (seeking t.sought m.party)) in
     stepping t u m a w b.0 (begins_to_seek c (seeking t.sought m.party)) k j p.0 b.2 (subst C same s.2.course) (subst M same_too y.2)
 any_legal t u m a (Some (plan.Go w)) e d k j =
     let p = known_move m.party t.stages (plan.Go w) (plan_of (stage_at t.stages m.party) (seeking t.sought m.party) m.what) (nat_lt m.party (length t.stages)) refl e in
     let x : Place = place_at t.lock.places m.party in
     let on = going_on_course (stage_at t.stages m.party) (seeking t.sought m.party) m.what w x p.1 (k.fits.fits m.party p.0) in
-    stepping t u m a w x (goes_on_seeking (seeking t.sought m.party)) k j p.0 d on.1 (going t.value (turn_at t.lock.turn.places m.party) (stage_at t.stages m.party) (seeking t.sought m.party) m.what x w p.1)
+    stepping t u m a w x (goes_on_seeking (seeking t.sought m.party)) k j p.0 d on.1 (going t.value (turn_at t.lock.turn.courses m.party) (stage_at t.stages m.party) (seeking t.sought m.party) m.what x w p.1)
 
 pub event_legal : (t u : Table) (m : Move) (a : Answer) → IsStep t m a u → IsRwLock t.lock → IsTable t.lock t.stages t.sought → IsRwLock u.lock → IsTable u.lock u.stages u.sought → Legal (view_of t) m a (view_of u)
 event_legal t u m a step tm tf um uf = any_legal t u m a (plan_in t m) refl step (record { lock = tm; fits = tf }) (record { lock = um; fits = uf })

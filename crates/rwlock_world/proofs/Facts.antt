@@ -18,10 +18,8 @@ use Rattle.lock_world.specs.Refusals.{number_of}
 use Rattle.lock_world.specs.Rosters.{how_many}
 use Rattle.lock_world.specs.Standings.{inputs_of}
 use Rattle.lock_world.specs.Steps.{Deed, nothing, changes, does}
-use Rattle.mutex_machine.specs.Courses.{is_out as is_out_there, is_holding}
-use Rattle.mutex_machine.specs.Roles.{listed}
-use Rattle.mutex_machine.specs.Machine.{place_at as turn_at}
-use Rattle.mutex_machine.specs.State.{holder_of, starved_of}
+use Rattle.mutex_machine.specs.Course.{is_out as is_out_there, is_holding, listed}
+use Rattle.mutex_machine.specs.Mutex.{course_at as turn_at, holder_of, starved_of}
 use Rattle.mutex_machine.proofs.Callers.{out_unlisted, holding_unlisted}
 use Rattle.rwlock_machine.specs.declared.program.Found.{Found}
 use Rattle.rwlock_machine.specs.declared.program.Found.TheVariants.{No}
@@ -91,10 +89,10 @@ pub record Facts (m : Move) (l k : RwLock) (ss : List Stage) (os : List (Option 
   pub no_readers : k.no_readers ≡ no_readers_after m.party deed l.no_readers
   pub no_writer : k.no_writer ≡ no_writer_after m.party deed l.no_writer
   pub starved_limit : k.turn.limit ≡ l.turn.limit
-  pub others : (q : ℕ) → q ≢ m.party → turn_at k.turn.places q ≡ turn_at l.turn.places q
-  pub judged : JudgedAs m (seen l ss os v) k (seen k ts ps v) v x (place_after n) deed (verdict v x (turn_at l.turn.places m.party)) (verdict_then v (course_of x) (turn_at k.turn.places m.party) n)
+  pub others : (q : ℕ) → q ≢ m.party → turn_at k.turn.courses q ≡ turn_at l.turn.courses q
+  pub judged : JudgedAs m (seen l ss os v) k (seen k ts ps v) v x (place_after n) deed (verdict v x (turn_at l.turn.courses m.party)) (verdict_then v (course_of x) (turn_at k.turn.courses m.party) n)
   pub room : Room (inputs_of m.what).memory deed
-  pub holds_on : keeps_what_it_has (verdict v x (turn_at l.turn.places m.party)) deed ≡ true
+  pub holds_on : keeps_what_it_has (verdict v x (turn_at l.turn.courses m.party)) deed ≡ true
   pub over : is_after_ready (answer_at (course_of x) v n) ≡ false
   pub upgrade : KeepsUpgrade v x n
   pub refused : RefusedAt x n
@@ -195,18 +193,18 @@ module _ (m : Move) (l k : RwLock) (ss : List Stage) (os : List (Option Sought))
         subst P (sym holder) (ap (λ y. turn_as p (share_of y)) (get_or-set_same l.places p to place.Out there) ∙ (sym (h.1 p) ∙ ap (λ s. turn_after p (deed_at x f) (turn_as p s)) c.share))
     turned (inr h) = turn_kept (holder_of l.turn) l.places p to there (h.1 ∙ c.share) ∙ sym (h.0 p (turn_by (holder_of l.turn) l.places))
 
-    unlisted : in_no_writer x + in_no_readers x ≡ 0 → (is_out_there (turn_at l.turn.places p) ≡ true) ⊎ (is_holding (turn_at l.turn.places p) ≡ true) → entries_in (seen l ss os v) p ≡ 0
+    unlisted : in_no_writer x + in_no_readers x ≡ 0 → (is_out_there (turn_at l.turn.courses p) ≡ true) ⊎ (is_holding (turn_at l.turn.courses p) ≡ true) → entries_in (seen l ss os v) p ≡ 0
     unlisted e h =
-        let none : listed (turn_at l.turn.places p) ≡ 0 = elim h as (λ _. listed (turn_at l.turn.places p) ≡ 0) [ inl o ↦ out_unlisted (turn_at l.turn.places p) o | inr o ↦ holding_unlisted (turn_at l.turn.places p) o ] in
+        let none : listed (turn_at l.turn.courses p) ≡ 0 = elim h as (λ _. listed (turn_at l.turn.courses p) ≡ 0) [ inl o ↦ out_unlisted (turn_at l.turn.courses p) o | inr o ↦ holding_unlisted (turn_at l.turn.courses p) o ] in
         omega (arith, c.laws.owners_no_writer p, c.laws.owners_no_readers p, c.laws.turn.owners p, none, e, c.same.standing_w, c.same.standing_r)
 
-    fit : fits_turn x (turn_at l.turn.places p) ≡ true
+    fit : fits_turn x (turn_at l.turn.courses p) ≡ true
     fit = rw c.same.in_turn (c.laws.in_turn p)
 
     cause : (q : Refusal) → Refuses memory l x f q → CauseAs m (seen l ss os v) (seen k ts ps v) q
     cause refusal.Memory h = (
       h.0,
-      unlisted h.1 (h.3 (turn_at l.turn.places p) fit),
+      unlisted h.1 (h.3 (turn_at l.turn.courses p) fit),
       ap (λ t. t.entries) still,
       r.no_readers p l.no_readers k.no_readers c.no_readers ∙ ap (λ (d : Deed Change ListName). no_readers_after p d l.no_readers) h.2,
       r.no_writer p l.no_writer k.no_writer c.no_writer ∙ ap (λ (d : Deed Change ListName). no_writer_after p d l.no_writer) h.2,
@@ -264,10 +262,10 @@ module _ (m : Move) (l k : RwLock) (ss : List Stage) (os : List (Option Sought))
       no_readers = r.no_readers p l.no_readers k.no_readers c.no_readers;
       no_writer = r.no_writer p l.no_writer k.no_writer c.no_writer;
       starved_limit = ap (λ t. t.limit) still;
-      others = λ q apart. ap (λ t. turn_at t.places q) still;
-      judged = judges (verdict v x (turn_at l.turn.places p)) (verdict_then v (course_of x) (turn_at k.turn.places p) (next_of x f)) (r.judged (turn_at l.turn.places p) (turn_at k.turn.places p));
+      others = λ q apart. ap (λ t. turn_at t.courses q) still;
+      judged = judges (verdict v x (turn_at l.turn.courses p)) (verdict_then v (course_of x) (turn_at k.turn.courses p) (next_of x f)) (r.judged (turn_at l.turn.courses p) (turn_at k.turn.courses p));
       room = r.room;
-      holds_on = r.holds_on (turn_at l.turn.places p);
+      holds_on = r.holds_on (turn_at l.turn.courses p);
       over = r.over;
       upgrade = r.upgrade;
       refused = r.refused;

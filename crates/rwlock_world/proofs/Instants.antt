@@ -24,19 +24,17 @@ use Rattle.lock_world.specs.Rights.{Right, read, upgradable, write}
 use Rattle.lock_world.specs.Rosters.{how_many}
 use Rattle.lock_world.specs.Standings.{Standing, outside, inside, inputs_of, decision}
 use Rattle.lock_world.proofs.Equations.{some_eq, some_none}
-use Rattle.mutex_machine.specs.declared.program.Place.{Place as TurnPlace}
-use Rattle.mutex_machine.specs.Machine.{place_at as turn_at}
-use Rattle.mutex_machine.specs.Roles.{listed}
-use Rattle.mutex_machine.specs.State.{holder_of}
-use Rattle.mutex_machine.specs.Acts.{holders, starved}
-use Rattle.mutex_machine.proofs.Parts.{waiting_listed}
-use Rattle.mutex_machine.proofs.Seen as sees
+use Rattle.mutex_machine.specs.Course.{Course as TurnCourse, listed}
+use Rattle.mutex_machine.specs.Mutex.{course_at as turn_at, holder_of, holders, starved}
+use Rattle.mutex_machine.proofs.Callers.{waiting_listed}
+use Rattle.mutex_machine.proofs.Holders as sees
 use Rattle.rwlock_machine.specs.declared.program.Found.{Found}
 use Rattle.rwlock_machine.specs.declared.program.Next.{Next}
 use Rattle.rwlock_machine.specs.declared.program.Place.{Place}
 use Rattle.rwlock_machine.specs.declared.program.Place.TheVariants as place
 use Rattle.rwlock_machine.specs.declared.program.Purpose.{Purpose}
 use Rattle.rwlock_machine.specs.declared.program.Purpose.TheVariants as purpose
+use Rattle.rwlock_machine.specs.declared.program.RwCall.{RwCall}
 use Rattle.rwlock_machine.specs.Program.{start_of, action_of, next_of, place_after}
 use Rattle.rwlock_machine.specs.Roles.{only_turns, fits_turn}
 use Rattle.rwlock_machine.specs.Machine.{SameRoles, place_at}
@@ -111,9 +109,15 @@ passer q p upgrading e = absurd (cc)
 passer q p waiting e = absurd (cc)
 passer q p writing e = absurd (cc)
 
-passer_holds : (h : Option ℕ) (xs : List Place) (p : ℕ) → turn_by h xs ≡ state.passes p → h ≡ Some p
+pub passer_holds : (h : Option ℕ) (xs : List Place) (p : ℕ) → turn_by h xs ≡ state.passes p → h ≡ Some p
 passer_holds None xs p e = absurd (cc)
 passer_holds (Some q) xs p e = ap Some (passer q p (share_of (place_at xs q)) e)
+
+-- nobody has a free turn, and nobody is starved for it
+pub turn_is_free : (t : Table) → is_turn_free (view_of t).state ≡ true → (holders t.lock.turn ≡ 0) × (starved t.lock.turn ≡ 0)
+turn_is_free t h =
+    let b = free_means (view_of t).state.turn (how_many (view_of t).state.starved) h in
+    (sees.none_holds 0 t.lock.turn.courses (nobody_holds (holder_of t.lock.turn) t.lock.places b.0), sym (view.how_many-starved t.lock.turn.courses) ∙ b.1)
 
 -- ---- one action
 
@@ -124,11 +128,11 @@ pub record Acted (t u : Table) (m : Move) (a : Answer) (from : Place) : Type 0 w
   pub found : Found
   pub finds : Finds (inputs_of m.what).memory (action_of from) found t.lock
   pub turn : OnTurn (inputs_of m.what).memory (inputs_of m.what).starving m.party (action_of from) found t.lock.turn u.lock.turn
-  pub leads : Led from found (turn_at u.lock.turn.places m.party)
+  pub leads : Led from found (turn_at u.lock.turn.courses m.party)
   pub places : u.lock.places ≡ set t.lock.places m.party (place_after (next_of from found))
   pub same : SameRoles from (place_at t.lock.places m.party)
   pub answer : a ≡ answer_at (course_of from) t.value (next_of from found)
-  pub decides : decision a (standing_of (view_of u) m.party) ≡ verdict_then t.value (course_of from) (turn_at u.lock.turn.places m.party) (next_of from found)
+  pub decides : decision a (standing_of (view_of u) m.party) ≡ verdict_then t.value (course_of from) (turn_at u.lock.turn.courses m.party) (next_of from found)
 
 module _ (t u : Table) (m : Move) (a : Answer) where
   abbrev p : ℕ
@@ -156,10 +160,10 @@ module _ (t u : Table) (m : Move) (a : Answer) where
   enters_says k h = let b = enters_means (is_marked old.state.turn) (how_many_read old) t.lock.limit h in (bit_seen t.lock t.stages t.sought t.value k.lock k.fits b.0, omega (arith, reading, b.1))
 
   free_is : holders t.lock.turn ≡ 0 → starved t.lock.turn ≡ 0 → is_turn_free old.state ≡ true
-  free_is h s = free_test old.state.turn (how_many old.state.starved) (ap (λ o. turn_by o t.lock.places) (sees.none_held 0 t.lock.turn.places h)) (view.how_many-starved t.lock.turn.places ∙ s)
+  free_is h s = free_test old.state.turn (how_many old.state.starved) (ap (λ o. turn_by o t.lock.places) (sees.none_held 0 t.lock.turn.courses h)) (view.how_many-starved t.lock.turn.courses ∙ s)
 
   free_says : is_turn_free old.state ≡ true → (holders t.lock.turn ≡ 0) × (starved t.lock.turn ≡ 0)
-  free_says h = let b = free_means old.state.turn (how_many old.state.starved) h in (sees.none_holds 0 t.lock.turn.places (nobody_holds (holder_of t.lock.turn) t.lock.places b.0), sym (view.how_many-starved t.lock.turn.places) ∙ b.1)
+  free_says h = turn_is_free t h
 
   -- where a party that acted stands then
   lands : (x : Place) (y : Acted t u m a x) → place_at u.lock.places p ≡ place_after (next_of x y.found)
@@ -172,7 +176,7 @@ module _ (t u : Table) (m : Move) (a : Answer) where
   -- a party that took the turn passes with it
   passes_then : (x : Place) (y : Acted t u m a x) → steps_in_turn x ≡ true → holder_of u.lock.turn ≡ Some p → new.state.turn ≡ state.passes p
   passes_then x y in_turn h =
-      let row = turn_row t.value (turn_at u.lock.turn.places p) x y.found in_turn y.leads in
+      let row = turn_row t.value (turn_at u.lock.turn.courses p) x y.found in_turn y.leads in
       ap (λ o. turn_by o u.lock.places) h ∙ ap (turn_as p) (ap share_of (lands x y) ∙ row.sharing)
 
   holds_then : new.state.turn ≡ state.passes p → holder_of u.lock.turn ≡ Some p
@@ -214,13 +218,13 @@ module _ (t u : Table) (m : Move) (a : Answer) where
 
   at_added : Acted t u m a (place.Add true) → decision a (standing_of new p) ≡ Some (granted_if (nat_lt (how_many_read old) old.readers_limit) old)
   at_added y =
-      y.decides ∙ added memory t.lock t.value (turn_at u.lock.turn.places p) y.found y.finds (nat_lt (how_many_read old) t.lock.limit)
+      y.decides ∙ added memory t.lock t.value (turn_at u.lock.turn.courses p) y.found y.finds (nat_lt (how_many_read old) t.lock.limit)
       (λ h. below_test (how_many_read old) t.lock.limit (omega (arith, reading, h)))
       (λ h. omega (arith, reading, below_means (how_many_read old) t.lock.limit h))
 
   at_try_written : Acted t u m a place.TryWrite → decision a (standing_of new p) ≡ Some (granted_if (how_many_read old == 0) old)
   at_try_written y =
-      y.decides ∙ try_written memory t.lock t.value (turn_at u.lock.turn.places p) y.found (unmarked place.TryWrite y refl) y.finds (how_many_read old == 0)
+      y.decides ∙ try_written memory t.lock t.value (turn_at u.lock.turn.courses p) y.found (unmarked place.TryWrite y refl) y.finds (how_many_read old == 0)
       (λ h. none_test (how_many_read old) (reading ∙ h))
       (λ h. sym reading ∙ none_means (how_many_read old) h)
 
@@ -272,17 +276,17 @@ acted_at_once t u m a from y b =
 
 -- ---- where they begin
 
-stood : (t : Table) (p : ℕ) → Laws t → standing_of (view_of t) p ≡ stands_as t.value (stage_at t.stages p) (place_at t.lock.places p) (turn_at t.lock.turn.places p)
+stood : (t : Table) (p : ℕ) → Laws t → standing_of (view_of t) p ≡ stands_as t.value (stage_at t.stages p) (place_at t.lock.places p) (turn_at t.lock.turn.courses p)
 stood t p k = owns.stood t.lock t.stages t.sought t.value k.lock k.fits p
 
 first_as : (t : Table) (m : Move) (r : Right) → Laws t
-    → is_first (view_of t) m r ≡ is_first_poll r (stands_as t.value (stage_at t.stages m.party) (place_at t.lock.places m.party) (turn_at t.lock.turn.places m.party)) (right_of (seeking t.sought m.party)) m.what (entries_in (view_of t) m.party)
+    → is_first (view_of t) m r ≡ is_first_poll r (stands_as t.value (stage_at t.stages m.party) (place_at t.lock.places m.party) (turn_at t.lock.turn.courses m.party)) (right_of (seeking t.sought m.party)) m.what (entries_in (view_of t) m.party)
 first_as t m r k =
     ap (λ s. is_first_poll r s (sought_by (view_of t) m.party) m.what (entries_in (view_of t) m.party)) (stood t m.party k)
-    ∙ ap (λ o. is_first_poll r (stands_as t.value (stage_at t.stages m.party) (place_at t.lock.places m.party) (turn_at t.lock.turn.places m.party)) o m.what (entries_in (view_of t) m.party)) (view.seeks_at t.sought m.party)
+    ∙ ap (λ o. is_first_poll r (stands_as t.value (stage_at t.stages m.party) (place_at t.lock.places m.party) (turn_at t.lock.turn.courses m.party)) o m.what (entries_in (view_of t) m.party)) (view.seeks_at t.sought m.party)
 
 -- a party that begins a call isn't inside one
-starts_outside : (v : ℕ) (s : Stage) (o : Option Sought) (what : What) (x : Place) (t : TurnPlace) (p : Plan) (u : Within) (d : Option Answer) → plan_of s o what ≡ Some p → stands_as v s x t ≡ inside u d → p ≡ plan.Go u
+starts_outside : (v : ℕ) (s : Stage) (o : Option Sought) (what : What) (x : Place) (t : TurnCourse) (p : Plan) (u : Within) (d : Option Answer) → plan_of s o what ≡ Some p → stands_as v s x t ≡ inside u d → p ≡ plan.Go u
 starts_outside v (Outside r) o what x t p u d e h = absurd (cc)
 starts_outside v (Inside w) o (Begin c i) x t p u d e h = absurd (cc)
 starts_outside v (Inside w) o (Go i) x t p u d e h = sym (some_eq e) ∙ ap plan.Go (inside_eq w u (verdict v x t) d h) where
@@ -290,7 +294,7 @@ starts_outside v (Inside w) o (Go i) x t p u d e h = sym (some_eq e) ∙ ap plan
   inside_eq w u c d e = cc
 starts_outside v Forgotten o what x t p u d e h = absurd (cc)
 
-turn_waits : (x : Place) (t : TurnPlace) → fits_turn x t ≡ true → listed t ≡ 0 → waits_for_turn x ≡ false
+turn_waits : (x : Place) (t : TurnCourse) → fits_turn x t ≡ true → listed t ≡ 0 → waits_for_turn x ≡ false
 turn_waits (place.WaitTurn q) t h e = absurd (omega (arith, waiting_listed t h, e))
 turn_waits _ t h e = refl
 
@@ -298,16 +302,16 @@ lists : (t : Table) (p : ℕ) → Laws t → Lists (entries_in (view_of t) p) (i
 lists t p k = record {
   no_writer = λ e. omega (arith, e, k.lock.owners_no_writer p);
   no_readers = λ e. omega (arith, e, k.lock.owners_no_readers p);
-  turn = λ e. turn_waits (place_at t.lock.places p) (turn_at t.lock.turn.places p) (k.lock.in_turn p) (omega (arith, e, k.lock.turn.owners p));
+  turn = λ e. turn_waits (place_at t.lock.places p) (turn_at t.lock.turn.courses p) (k.lock.in_turn p) (omega (arith, e, k.lock.turn.owners p));
   upgrade = view.upgrades_at t.lock.places p;
 }
 
 begins_start : (t : Table) (m : Move) (p : Plan) (from : Place) → Laws t → plan_of (stage_at t.stages m.party) (seeking t.sought m.party) m.what ≡ Some p → ((u : Within) → p ≡ plan.Go u → ⊥)
-    → Firsts (stands_as t.value (stage_at t.stages m.party) (place_at t.lock.places m.party) (turn_at t.lock.turn.places m.party)) (right_of (seeking t.sought m.party)) m.what (entries_in (view_of t) m.party) (is_upgrader (view_of t) m.party) from
+    → Firsts (stands_as t.value (stage_at t.stages m.party) (place_at t.lock.places m.party) (turn_at t.lock.turn.courses m.party)) (right_of (seeking t.sought m.party)) m.what (entries_in (view_of t) m.party) (is_upgrader (view_of t) m.party) from
     → Begins (view_of t) m from
 begins_start t m p from k planned starts f =
     let out : (r : Right) → IsTryWithTurn (view_of t) m r → ⊥ = λ r y.
-    starts y.0 (starts_outside t.value (stage_at t.stages m.party) (seeking t.sought m.party) m.what (place_at t.lock.places m.party) (turn_at t.lock.turn.places m.party) p y.0 None planned (sym (stood t m.party k) ∙ y.1)) in
+    starts y.0 (starts_outside t.value (stage_at t.stages m.party) (seeking t.sought m.party) m.what (place_at t.lock.places m.party) (turn_at t.lock.turn.courses m.party) p y.0 None planned (sym (stood t m.party k) ∙ y.1)) in
     record {
       try_read = f.try_read;
       try_upgrade = f.try_upgrade;
@@ -320,7 +324,7 @@ begins_start t m p from k planned starts f =
     }
 
 -- a try with the turn, by where it stands
-tries_from : (v : ℕ) (x : Place) (t : TurnPlace) (o : Option Sought) → is_inside x ≡ true → course_of x ≡ tries → verdict v x t ≡ None → agrees (sought_at x) o ≡ true → (o ≡ Some sought.Upgradable → x ≡ place.Add true) × (o ≡ Some sought.Write → x ≡ place.TryWrite)
+tries_from : (v : ℕ) (x : Place) (t : TurnCourse) (o : Option Sought) → is_inside x ≡ true → course_of x ≡ tries → verdict v x t ≡ None → agrees (sought_at x) o ≡ true → (o ≡ Some sought.Upgradable → x ≡ place.Add true) × (o ≡ Some sought.Write → x ≡ place.TryWrite)
 tries_from v (place.Add true) t o i c d s = ((λ e. refl), (λ e. absurd (unlike (Some sought.Upgradable) o (Some sought.Write) s e refl)))
 tries_from v (place.Add false) t o i c d s = absurd (cc)
 tries_from v place.TryWrite t o i c d s = ((λ e. absurd (unlike (Some sought.Write) o (Some sought.Upgradable) s e refl)), (λ e. refl))
@@ -366,7 +370,7 @@ inside_both w u c d e = (cc, cc)
 begins_go : (t : Table) (m : Move) (w : Within) → Laws t → m.party < length t.stages → plan_of (stage_at t.stages m.party) (seeking t.sought m.party) m.what ≡ Some (plan.Go w) → Begins (view_of t) m (place_at t.lock.places m.party)
 begins_go t m w k known planned =
     let x : Place = place_at t.lock.places m.party in
-    let y : TurnPlace = turn_at t.lock.turn.places m.party in
+    let y : TurnCourse = turn_at t.lock.turn.courses m.party in
     let o : Option Sought = seeking t.sought m.party in
     let at = goes_inside (stage_at t.stages m.party) o m.what w planned in
     let is : standing_of (view_of t) m.party ≡ inside w (verdict t.value x y) = stood t m.party k ∙ ap (λ s. stands_as t.value s x y) at.0 in
@@ -393,13 +397,13 @@ stepping t u m a w from seeks k ku known s course same begins =
     let there : m.party < length t.lock.places = omega (arith, k.fits.as_many, known) in
     let lands : place_at u.lock.places m.party ≡ place_after s.next = ap (λ xs. place_at xs m.party) s.acts.places ∙ get_or-set_same t.lock.places m.party (place_after s.next) place.Out there in
     let stages : stage_at u.stages m.party ≡ stage_after w s.next = ap (λ ss. stage_at ss m.party) s.stages ∙ get_or-set_same t.stages m.party (stage_after w s.next) Forgotten known in
-    let y : TurnPlace = turn_at u.lock.turn.places m.party in
+    let y : TurnCourse = turn_at u.lock.turn.courses m.party in
     let stands : standing_of (view_of u) m.party ≡ stands_as t.value (stage_after w s.next) (place_after s.next) y =
     stood u m.party ku ∙ (ap (λ n. stands_as n (stage_at u.stages m.party) (place_at u.lock.places m.party) y) s.value ∙ (ap (λ g. stands_as t.value g (place_at u.lock.places m.party) y) stages ∙ ap (λ z. stands_as t.value (stage_after w s.next) z y) lands)) in
     let decided : decision a (standing_of (view_of u) m.party) ≡ verdict_then t.value (course_of from) y s.next =
     ap (λ b. decision b (standing_of (view_of u) m.party)) s.answer ∙ (ap (decision (answer_of w.kind t.value s.next)) stands ∙ ends.decided_now w from course t.value y s.next) in
     let l = t.lock in
-    let fit : fits_turn from (turn_at l.turn.places m.party) ≡ true = rw same.in_turn (k.lock.in_turn m.party) in
+    let fit : fits_turn from (turn_at l.turn.courses m.party) ≡ true = rw same.in_turn (k.lock.in_turn m.party) in
     acted_at_once t u m a from (record {
       laws = k;
       known = omega (arith, k.fits.as_many, known);
@@ -482,7 +486,7 @@ still_at_once t m a after k h =
     let s : Standing = standing_of (view_of t) m.party in
     let o : Option Right = sought_by (view_of t) m.party in
     let n : ℕ = entries_in (view_of t) m.party in
-    let is : s ≡ outside rest.Holding = stood t m.party k ∙ ap (λ s. stands_as t.value s (place_at t.lock.places m.party) (turn_at t.lock.turn.places m.party)) it.0 in
+    let is : s ≡ outside rest.Holding = stood t m.party k ∙ ap (λ s. stands_as t.value s (place_at t.lock.places m.party) (turn_at t.lock.turn.courses m.party)) it.0 in
     record {
       try_read = λ i e b. absurd (apart_from_read m.what i it.1 e);
       try_upgrade = λ i e b. absurd (apart_from_upgrade m.what i it.1 e);
@@ -532,7 +536,7 @@ polls_write (Some write) (Begin call.Poll i) n h = (i, refl)
 polls_write (Some write) _ n h = absurd (false≢true h)
 polls_write _ what n h = absurd (false≢true h)
 
-module _ (v : ℕ) (x : Place) (t : TurnPlace) where
+module _ (v : ℕ) (x : Place) (t : TurnCourse) where
   never_reads : (s : Stage) (o : Option Sought) (what : What) (n : ℕ) → (s ≡ Outside rest.Finished → ⊥) → plan_of s o what ≡ None → is_first_poll read (stands_as v s x t) (right_of o) what n ≡ true → ⊥
   never_reads (Outside rest.Idle) o what n f e h = idle_read o what n e h
   never_reads (Outside rest.Pending) o what n f e h = unpolled o what e (polls_read (right_of o) what n h)
@@ -566,7 +570,7 @@ impossible_at_once t m k none =
     let s : Stage = stage_at t.stages m.party in
     let o : Option Sought = seeking t.sought m.party in
     let x : Place = place_at t.lock.places m.party in
-    let y : TurnPlace = turn_at t.lock.turn.places m.party in
+    let y : TurnCourse = turn_at t.lock.turn.courses m.party in
     let n : ℕ = entries_in (view_of t) m.party in
     let unfinished : s ≡ Outside rest.Finished → ⊥ = λ e. elim (view.in_or_past t.stages m.party) as (λ _. ⊥) [ inl known ↦ never_finished s x (k.fits.fits m.party known) e | inr past ↦ cc ] in
     let unplanned : plan_of s o m.what ≡ None = elim (view.in_or_past t.stages m.party) as (λ _. plan_of s o m.what ≡ None) [
@@ -596,6 +600,39 @@ begun (Some from) h = (from, refl, h)
 start_goes : (c : _) (w u : Within) → plan.Start c w ≡ plan.Go u → ⊥
 start_goes c w u e = cc
 
+-- a call that has begun
+pub record Started (t u : Table) (m : Move) (a : Answer) (c : RwCall) (w : Within) : Type 0 where
+  pub from : Place
+  pub known : m.party < length t.stages
+  pub did : Steps w from (begins_to_seek c (seeking t.sought m.party)) m t a u
+  pub course : is_on_course w.kind w.was (course_of from) ≡ true
+  pub same : SameRoles from (place_at t.lock.places m.party)
+  pub begins : Begins (view_of t) m from
+
+pub started : (t u : Table) (m : Move) (a : Answer) (c : RwCall) (w : Within) → plan_in t m ≡ Some (plan.Start c w) → Does (Some (plan.Start c w)) m t a u → Laws t → Started t u m a c w
+started t u m a c w e d k =
+    let p = known_move m.party t.stages (plan.Start c w) (plan_of (stage_at t.stages m.party) (seeking t.sought m.party) m.what) (nat_lt m.party (length t.stages)) refl e in
+    let s : Stage = stage_at t.stages m.party in
+    let o : Option Sought = seeking t.sought m.party in
+    let x : Place = place_at t.lock.places m.party in
+    let y : TurnCourse = turn_at t.lock.turn.courses m.party in
+    let b = begun (start_of c x) d in
+    let st = starts s o m.what x c w p.1 (k.fits.fits m.party p.0) (k.fits.seeks m.party p.0) in
+    let mv = beginning t.value y s o m.what x c w p.1 (k.fits.fits m.party p.0) (k.fits.seeks m.party p.0) in
+    let fs = firsts t.value y s o m.what x c w p.1 (k.fits.fits m.party p.0) (k.fits.seeks m.party p.0) in
+    let C : Place → Type 0 = λ z. is_on_course w.kind w.was (course_of z) ≡ true in
+    let S : Place → Type 0 = λ z. SameRoles z x in
+    let F : Place → Type 0 = λ z. Firsts (stands_as t.value s x y) (right_of o) m.what (entries_in (view_of t) m.party) (is_upgrader (view_of t) m.party) z in
+    let first = subst F (some_eq (sym fs.1 ∙ b.1)) (fs.2 (entries_in (view_of t) m.party) (is_upgrader (view_of t) m.party) (lists t m.party k)) in
+    record {
+      from = b.0;
+      known = p.0;
+      did = b.2;
+      course = subst C (some_eq (sym st.1 ∙ b.1)) st.2.course;
+      same = subst S (some_eq (sym mv.1 ∙ b.1)) mv.2.same;
+      begins = begins_start t m (plan.Start c w) b.0 k p.1 (start_goes c w) first;
+    }
+
 any_at_once : (t u : Table) (m : Move) (a : Answer) (o : Option Plan) → plan_in t m ≡ o → Does o m t a u → Laws t → Laws u → AnswersAtOnce (view_of t) m a (view_of u)
 any_at_once t u m a None e d k ku = rw (d.0, d.1) (impossible_at_once t m k e)
 any_at_once t u m a (Some plan.Finished) e d k ku =
@@ -605,29 +642,15 @@ any_at_once t u m a (Some (plan.Put n)) e d k ku =
     let p = known_move m.party t.stages (plan.Put n) (plan_of (stage_at t.stages m.party) (seeking t.sought m.party) m.what) (nat_lt m.party (length t.stages)) refl e in
     still_at_once t m a (view_of u) k (ap is_still p.1)
 any_at_once t u m a (Some (plan.Start c w)) e d k ku =
-    let p = known_move m.party t.stages (plan.Start c w) (plan_of (stage_at t.stages m.party) (seeking t.sought m.party) m.what) (nat_lt m.party (length t.stages)) refl e in
-    let s : Stage = stage_at t.stages m.party in
-    let o : Option Sought = seeking t.sought m.party in
-    let x : Place = place_at t.lock.places m.party in
-    let y : TurnPlace = turn_at t.lock.turn.places m.party in
-    let b = begun (start_of c x) d in
-    let st = starts s o m.what x c w p.1 (k.fits.fits m.party p.0) (k.fits.seeks m.party p.0) in
-    let mv = beginning t.value y s o m.what x c w p.1 (k.fits.fits m.party p.0) (k.fits.seeks m.party p.0) in
-    let fs = firsts t.value y s o m.what x c w p.1 (k.fits.fits m.party p.0) (k.fits.seeks m.party p.0) in
-    let C : Place → Type 0 = λ z. is_on_course w.kind w.was (course_of z) ≡ true in
-    let S : Place → Type 0 = λ z. SameRoles z x in
-    let F : Place → Type 0 = λ z. Firsts (stands_as t.value s x y) (right_of o) m.what (entries_in (view_of t) m.party) (is_upgrader (view_of t) m.party) z in
-    let course = subst C (some_eq (sym st.1 ∙ b.1)) st.2.course in
-    let same = subst S (some_eq (sym mv.1 ∙ b.1)) mv.2.same in
-    let first = subst F (some_eq (sym fs.1 ∙ b.1)) (fs.2 (entries_in (view_of t) m.party) (is_upgrader (view_of t) m.party) (lists t m.party k)) in
-    stepping t u m a w b.0 (begins_to_seek c o) k ku p.0 b.2 course same (begins_start t m (plan.Start c w) b.0 k p.1 (start_goes c w) first)
+    let b = started t u m a c w e d k in
+    stepping t u m a w b.from (begins_to_seek c (seeking t.sought m.party)) k ku b.known b.did b.course b.same b.begins
 any_at_once t u m a (Some (plan.Go w)) e d k ku =
     let p = known_move m.party t.stages (plan.Go w) (plan_of (stage_at t.stages m.party) (seeking t.sought m.party) m.what) (nat_lt m.party (length t.stages)) refl e in
     let s : Stage = stage_at t.stages m.party in
     let o : Option Sought = seeking t.sought m.party in
     let x : Place = place_at t.lock.places m.party in
     let on = going_on_course s o m.what w x p.1 (k.fits.fits m.party p.0) in
-    let moves = going t.value (turn_at t.lock.turn.places m.party) s o m.what x w p.1 in
+    let moves = going t.value (turn_at t.lock.turn.courses m.party) s o m.what x w p.1 in
     stepping t u m a w x (goes_on_seeking o) k ku p.0 d on.1 moves.same (begins_go t m w k p.0 p.1)
 
 pub event_at_once : (t u : Table) (m : Move) (a : Answer) → IsStep t m a u → IsRwLock t.lock → IsTable t.lock t.stages t.sought → IsRwLock u.lock → IsTable u.lock u.stages u.sought → AnswersAtOnce (view_of t) m a (view_of u)

@@ -22,9 +22,9 @@ use Rattle.lock_world.specs.Rights.{Right, read, upgradable, write}
 use Rattle.lock_world.specs.Standings.{Standing, inside, StandsAfter, IsUndecided, is_decided, is_possible, decision, refused}
 use Rattle.lock_world.specs.Steps.{Deed, nothing, does, joins}
 use Rattle.lock_world.proofs.Equations.{some_eq, some_none}
-use Rattle.mutex_machine.specs.declared.program.Place.{Place as TurnPlace}
-use Rattle.mutex_machine.specs.Machine.{place_at as turn_at}
-use Rattle.mutex_machine.proofs.Parts.{out_free, waiting_free}
+use Rattle.mutex_machine.specs.Course.{Course as TurnCourse}
+use Rattle.mutex_machine.specs.Mutex.{course_at as turn_at}
+use Rattle.mutex_machine.proofs.Callers.{out_free, waiting_free}
 use Rattle.rwlock_machine.specs.declared.program.Next.{Next}
 use Rattle.rwlock_machine.specs.declared.program.Next.TheVariants as next
 use Rattle.rwlock_machine.specs.declared.program.Place.{Place}
@@ -80,7 +80,7 @@ given_up (Some b) d h g = (b, refl)
 given_up None d h g = absurd (cc)
 
 -- what is answered Pending was decided then
-pending_now : (v : ℕ) (c : Course) (t : TurnPlace) (n : Next) → answer_at c v n ≡ answer.Pending → verdict_then v c t n ≡ Some answer.Pending
+pending_now : (v : ℕ) (c : Course) (t : TurnCourse) (n : Next) → answer_at c v n ≡ answer.Pending → verdict_then v c t n ≡ Some answer.Pending
 pending_now v c t (next.Do a q) e = absurd (cc)
 pending_now v c t (next.End y q) e = ap Some e
 
@@ -137,11 +137,11 @@ module _ (m : Move) (l k : RwLock) (ss : List Stage) (os : List (Option Sought))
   abbrev to : Place
   to = place_after n
 
-  abbrev t : TurnPlace
-  t = turn_at l.turn.places p
+  abbrev t : TurnCourse
+  t = turn_at l.turn.courses p
 
-  abbrev u : TurnPlace
-  u = turn_at k.turn.places p
+  abbrev u : TurnCourse
+  u = turn_at k.turn.courses p
 
   abbrev here : Place
   here = place_at l.places p
@@ -193,8 +193,8 @@ module _ (m : Move) (l k : RwLock) (ss : List Stage) (os : List (Option Sought))
     others : (q : ℕ) → q ≢ p → standing_of new q ≡ standing_of old q
     others q apart =
         owns.stood k ts ps v c.new_laws c.new_fits q
-        ∙ (ap (λ s. stands_as v s (place_at k.places q) (turn_at k.turn.places q)) (get_or-set_other ss p q (stage_after w n) Forgotten apart)
-        ∙ (ap (λ y. stands_as v (stage_at ss q) y (turn_at k.turn.places q)) (ap (λ xs. place_at xs q) c.places ∙ get_or-set_other l.places p q to place.Out apart)
+        ∙ (ap (λ s. stands_as v s (place_at k.places q) (turn_at k.turn.courses q)) (get_or-set_other ss p q (stage_after w n) Forgotten apart)
+        ∙ (ap (λ y. stands_as v (stage_at ss q) y (turn_at k.turn.courses q)) (ap (λ xs. place_at xs q) c.places ∙ get_or-set_other l.places p q to place.Out apart)
         ∙ (ap (stands_as v (stage_at ss q) (place_at l.places q)) (c.facts.others q apart) ∙ sym (owns.stood l ss os v c.laws c.fits q))))
 
     answer_is : said ≡ answer_at (course_of x) v n
@@ -260,7 +260,7 @@ module _ (m : Move) (l k : RwLock) (ss : List Stage) (os : List (Option Sought))
       opening_value = refl;
       sought = map-set right_of os p (seeks n) ∙ ap (set (map right_of os) p) (sym (c.moves.sought n) ∙ ap (λ o. sought_after o m.what said) (sym sought_was));
       others = others;
-      parties = view.length-standings v ts k.places k.turn.places c.new_fits.as_many ∙ (length-set ss p (stage_after w n) ∙ sym (view.length-standings v ss l.places l.turn.places c.fits.as_many));
+      parties = view.length-standings v ts k.places k.turn.courses c.new_fits.as_many ∙ (length-set ss p (stage_after w n) ∙ sym (view.length-standings v ss l.places l.turn.courses c.fits.as_many));
       found_memory = λ list e. found_room d list c.facts.room e;
       refused_idly = λ y. elim (reason (refused refusal.Memory) y) as (λ _. d ≡ nothing) [ inl e ↦ absurd (cc) | inr z ↦ (idle_memory x to d z.0 z.1 z.3).0 ];
       parting = parting;

@@ -29,3 +29,4 @@ mod Stepping
 pub mod WorldLaws
 pub mod Bound
 mod Promises
+pub mod FirstPolls

@@ -4,9 +4,9 @@ use Rattle.lock_world.specs.declared.standing.Rest.TheVariants.{Idle}
 use Rattle.lock_world.specs.declared.standing.Stage.TheVariants.{Outside}
 use Rattle.lock_world.specs.Standings.{outside}
 use Rattle.lock_world.specs.Rights.{Right}
-use Rattle.mutex_machine.specs.declared.program.Place.{Place as TurnPlace}
-use Rattle.mutex_machine.specs.Machine.{new_lock}
-use Rattle.mutex_machine.proofs.Parts.{new_has_no_holder, new_has_none_starved}
+use Rattle.mutex_machine.specs.Course.{Course as TurnCourse}
+use Rattle.mutex_machine.specs.Mutex.{new_mutex}
+use Rattle.mutex_machine.proofs.Callers.{new_has_no_holder, new_has_none_starved}
 use Rattle.rwlock_machine.specs.declared.program.Place.TheVariants as place
 use Rattle.rwlock_world.specs.State.{new_world}
 use Rattle.rwlock_world.specs.Table.{new_table}
@@ -24,7 +24,7 @@ none_seek : (n : ℕ) → map right_of (replicate n None) ≡ replicate n None
 none_seek zero = refl
 none_seek (suc n) = ap (λ (l : List (Option Right)). None ∷ l) (none_seek n)
 
-all_idle : (n v : ℕ) (ts : List TurnPlace) → standings v (replicate n (Outside Idle)) (replicate n place.Out) ts ≡ replicate n (outside Idle)
+all_idle : (n v : ℕ) (ts : List TurnCourse) → standings v (replicate n (Outside Idle)) (replicate n place.Out) ts ≡ replicate n (outside Idle)
 all_idle zero v ts = refl
 all_idle (suc n) v ts = ap (λ l. outside Idle ∷ l) (all_idle n v (rest ts))
 
@@ -35,5 +35,5 @@ starts_new parties starved readers value =
     let s = none_seek parties in
     let h = new_has_no_holder parties starved in
     let c = new_has_none_starved parties starved in
-    let i = all_idle parties value (new_lock parties starved).places in
+    let i = all_idle parties value (new_mutex parties starved).courses in
     rw (r, u, s, h, c, i) refl

@@ -14,15 +14,10 @@ use Rattle.lock_world.specs.Rights.{Right, read, upgradable, write}
 use Rattle.lock_world.specs.Standings.{inside}
 use Rattle.mutex_machine.specs.declared.program.End.{End as TurnEnd}
 use Rattle.mutex_machine.specs.declared.program.End.TheVariants as turn_end
-use Rattle.mutex_machine.specs.declared.program.Place.{Place as TurnPlace}
-use Rattle.mutex_machine.specs.Legal.{decision}
-use Rattle.mutex_machine.specs.Courses.{is_out, is_holding}
-use Rattle.mutex_machine.specs.Roles.{holds, listed}
-use Rattle.mutex_machine.specs.Machine.{place_at as turn_at}
-use Rattle.mutex_machine.specs.State.{is_holder, is_counted, holder_of}
-use Rattle.mutex_machine.proofs.Callers.{out_unlisted, holding_unlisted}
-use Rattle.mutex_machine.proofs.Parts.{out_free, out_unstarved, holding_unstarved, waiting_free}
-use Rattle.mutex_machine.proofs.Seen as sees
+use Rattle.mutex_machine.specs.Course.{Course as TurnCourse, decision, is_out, is_holding, holds, listed}
+use Rattle.mutex_machine.specs.Mutex.{course_at as turn_at, is_holder, is_counted, holder_of}
+use Rattle.mutex_machine.proofs.Callers.{out_unlisted, holding_unlisted, out_free, out_unstarved, holding_unstarved, waiting_free}
+use Rattle.mutex_machine.proofs.Holders as sees
 use Rattle.rwlock_machine.specs.declared.program.Ending.{Ending}
 use Rattle.rwlock_machine.specs.declared.program.Ending.TheVariants as ending
 use Rattle.rwlock_machine.specs.declared.program.Place.{Place}
@@ -61,7 +56,7 @@ has_as t p upgrading e = rw e refl
 has_as t p waiting e = rw e refl
 has_as t p writing e = rw e refl
 
-holds_one : (b : Bool) (n : ℕ) → Rattle.mutex_machine.specs.Roles.bit b ≡ n → 1 ≤ n → n ≡ 1
+holds_one : (b : Bool) (n : ℕ) → Rattle.mutex_machine.specs.Course.bit b ≡ n → 1 ≤ n → n ≡ 1
 holds_one true n e h = sym e
 holds_one false n e h = absurd (omega (arith, e, h))
 
@@ -152,7 +147,7 @@ refused_not_pending : (o : Option TurnEnd) → refused_by o ≡ Some answer.Pend
 refused_not_pending (Some (turn_end.Refused r)) h = absurd (cc)
 refused_not_pending _ h = absurd (cc)
 
-pub pending_undecided : (v : ℕ) (x : Place) (t : TurnPlace) → verdict v x t ≡ Some answer.Pending → ⊥
+pub pending_undecided : (v : ℕ) (x : Place) (t : TurnCourse) → verdict v x t ≡ Some answer.Pending → ⊥
 pending_undecided v (place.TakeTurn p) t h = refused_not_pending (decision t) h
 pending_undecided v (place.ReleaseTurn e) t h = until_not_pending e h
 pending_undecided v (place.ReleasingTurn e) t h = until_not_pending e h
@@ -169,16 +164,16 @@ module _ (l : RwLock) (ss : List Stage) (os : List (Option Sought)) (v : ℕ) (l
   abbrev w : World
   w = seen l ss os v
 
-  pub stood : (q : ℕ) → standing_of w q ≡ stands_as v (stage_at ss q) (place_at l.places q) (turn_at l.turn.places q)
-  stood q = view.standings_at v ss l.places l.turn.places fits.as_many q
+  pub stood : (q : ℕ) → standing_of w q ≡ stands_as v (stage_at ss q) (place_at l.places q) (turn_at l.turn.courses q)
+  stood q = view.standings_at v ss l.places l.turn.courses fits.as_many q
 
-  stands_pending : (s : Stage) (x : Place) (t : TurnPlace) (u : Within) → stands_as v s x t ≢ inside u (Some answer.Pending)
+  stands_pending : (s : Stage) (x : Place) (t : TurnCourse) (u : Within) → stands_as v s x t ≢ inside u (Some answer.Pending)
   stands_pending (Outside r) x t u e = absurd (cc)
   stands_pending (Inside w) x t u e = pending_undecided v x t (decided_as w u (verdict v x t) (Some answer.Pending) e)
   stands_pending Forgotten x t u e = absurd (cc)
 
   pub not_pending : (q : ℕ) (u : Within) → standing_of w q ≢ inside u (Some answer.Pending)
-  not_pending q u e = stands_pending (stage_at ss q) (place_at l.places q) (turn_at l.turn.places q) u (sym (stood q) ∙ e)
+  not_pending q u e = stands_pending (stage_at ss q) (place_at l.places q) (turn_at l.turn.courses q) u (sym (stood q) ∙ e)
 
   pub reads_as : (q : ℕ) → state.reads w q ≡ is_reading (place_at l.places q)
   reads_as q = view.reads_at l.places q
@@ -192,23 +187,23 @@ module _ (l : RwLock) (ss : List Stage) (os : List (Option Sought)) (v : ℕ) (l
   -- who has the turn where it stands has it
   pub holder_is : (q : ℕ) → has_turn (place_at l.places q) ≡ 1 → holder_of l.turn ≡ Some q
   holder_is q h =
-      let some : 1 ≤ holds (turn_at l.turn.places q) = omega (arith, laws.held q, h) in
-      sees.holds_it l.turn.places q laws.turn.one_holder (holds_one (is_holder (turn_at l.turn.places q)) (holds (turn_at l.turn.places q)) (sees.holds_bit (turn_at l.turn.places q)) some)
+      let some : 1 ≤ holds (turn_at l.turn.courses q) = omega (arith, laws.held q, h) in
+      sees.holds_it l.turn.courses q laws.turn.one_holder (holds_one (is_holder (turn_at l.turn.courses q)) (holds (turn_at l.turn.courses q)) (sees.holds_bit (turn_at l.turn.courses q)) some)
 
   pub turn_is : (q : ℕ) → has_turn (place_at l.places q) ≡ 1 → w.state.turn ≡ turn_as q (share_of (place_at l.places q))
   turn_is q h = ap (λ o. turn_by o l.places) (holder_is q h)
 
-  pub no_turn : (q : ℕ) → holds (turn_at l.turn.places q) ≡ 0 → HasTurn w.state.turn q → ⊥
-  no_turn q none h = let one = sees.is_held_by l.turn.places q (holder_has (holder_of l.turn) l.places q h) in absurd (omega arith)
+  pub no_turn : (q : ℕ) → holds (turn_at l.turn.courses q) ≡ 0 → HasTurn w.state.turn q → ⊥
+  no_turn q none h = let one = sees.is_held_by l.turn.courses q (holder_has (holder_of l.turn) l.places q h) in absurd (omega arith)
 
-  pub clear_at : (q : ℕ) (x : Place) → place_at l.places q ≡ x → in_no_writer x ≡ 0 → in_no_readers x ≡ 0 → listed (turn_at l.turn.places q) ≡ 0 → is_counted (turn_at l.turn.places q) ≡ false → IsClear w q
+  pub clear_at : (q : ℕ) (x : Place) → place_at l.places q ≡ x → in_no_writer x ≡ 0 → in_no_readers x ≡ 0 → listed (turn_at l.turn.courses q) ≡ 0 → is_counted (turn_at l.turn.courses q) ≡ false → IsClear w q
   clear_at q x e nw nr li co = (
     omega (arith, laws.owners_no_writer q, laws.owners_no_readers q, laws.turn.owners q, li, ap in_no_writer e, ap in_no_readers e, nw, nr),
-    sees.starved_at l.turn.places q ∙ co,
+    sees.starved_at l.turn.courses q ∙ co,
   )
 
-  fit_at : (q : ℕ) (x : Place) → place_at l.places q ≡ x → fits_turn x (turn_at l.turn.places q) ≡ true
-  fit_at q x e = let P : Place → Type 0 = λ x. fits_turn x (turn_at l.turn.places q) ≡ true in subst P e (laws.in_turn q)
+  fit_at : (q : ℕ) (x : Place) → place_at l.places q ≡ x → fits_turn x (turn_at l.turn.courses q) ≡ true
+  fit_at q x e = let P : Place → Type 0 = λ x. fits_turn x (turn_at l.turn.courses q) ≡ true in subst P e (laws.in_turn q)
 
   reads_at : (q : ℕ) (x : Place) → place_at l.places q ≡ x → state.reads w q ≡ is_reading x
   reads_at q x e = reads_as q ∙ ap is_reading e
@@ -217,20 +212,20 @@ module _ (l : RwLock) (ss : List Stage) (os : List (Option Sought)) (v : ℕ) (l
   turn_at_place q x e h = turn_is q (ap has_turn e ∙ h) ∙ ap (λ y. turn_as q (share_of y)) e
 
   -- a party at a place that goes with one out of the turn
-  pub out_clear : (q : ℕ) (x : Place) → place_at l.places q ≡ x → in_no_writer x ≡ 0 → in_no_readers x ≡ 0 → is_out (turn_at l.turn.places q) ≡ true → IsClear w q
-  out_clear q x e nw nr o = clear_at q x e nw nr (out_unlisted (turn_at l.turn.places q) o) (out_unstarved (turn_at l.turn.places q) o)
+  pub out_clear : (q : ℕ) (x : Place) → place_at l.places q ≡ x → in_no_writer x ≡ 0 → in_no_readers x ≡ 0 → is_out (turn_at l.turn.courses q) ≡ true → IsClear w q
+  out_clear q x e nw nr o = clear_at q x e nw nr (out_unlisted (turn_at l.turn.courses q) o) (out_unstarved (turn_at l.turn.courses q) o)
 
-  pub holding_clear : (q : ℕ) (x : Place) → place_at l.places q ≡ x → in_no_writer x ≡ 0 → in_no_readers x ≡ 0 → is_holding (turn_at l.turn.places q) ≡ true → IsClear w q
-  holding_clear q x e nw nr o = clear_at q x e nw nr (holding_unlisted (turn_at l.turn.places q) o) (holding_unstarved (turn_at l.turn.places q) o)
+  pub holding_clear : (q : ℕ) (x : Place) → place_at l.places q ≡ x → in_no_writer x ≡ 0 → in_no_readers x ≡ 0 → is_holding (turn_at l.turn.courses q) ≡ true → IsClear w q
+  holding_clear q x e nw nr o = clear_at q x e nw nr (holding_unlisted (turn_at l.turn.courses q) o) (holding_unstarved (turn_at l.turn.courses q) o)
 
   pub seeks_just : (q : ℕ) (s : Option Sought) (r : Right) → right_of s ≡ Some r → same_sought s (seeking os q) ≡ true → sought_by w q ≡ Some r
   seeks_just q s r e h = seeks_as q ∙ (ap right_of (same_is s (seeking os q) h) ∙ e)
 
   -- ---- a party has just the right that its guard is for
 
-  pub reading : (q : ℕ) (x : Place) → place_at l.places q ≡ x → is_reading x ≡ true → is_out (turn_at l.turn.places q) ≡ true → agrees (sought_at x) (seeking os q) ≡ true → sought_at x ≡ Some (Some sought.Read) → HasSought w q
+  pub reading : (q : ℕ) (x : Place) → place_at l.places q ≡ x → is_reading x ≡ true → is_out (turn_at l.turn.courses q) ≡ true → agrees (sought_at x) (seeking os q) ≡ true → sought_at x ≡ Some (Some sought.Read) → HasSought w q
   reading q x e r o a s = let P : Option (Option Sought) → Type 0 = λ k. agrees k (seeking os q) ≡ true in
-      (read, seeks_just q (Some sought.Read) read refl (subst P s a), (reads_at q x e ∙ r, no_turn q (out_free (turn_at l.turn.places q) o)))
+      (read, seeks_just q (Some sought.Read) read refl (subst P s a), (reads_at q x e ∙ r, no_turn q (out_free (turn_at l.turn.courses q) o)))
 
   pub upgradable_has : (q : ℕ) (x : Place) → place_at l.places q ≡ x → is_reading x ≡ true → has_turn x ≡ 1 → share_of x ≡ upgrading → agrees (sought_at x) (seeking os q) ≡ true → sought_at x ≡ Some (Some sought.Upgradable) → HasSought w q
   upgradable_has q x e r h u a s = let P : Option (Option Sought) → Type 0 = λ k. agrees k (seeking os q) ≡ true in
@@ -252,16 +247,16 @@ module _ (l : RwLock) (ss : List Stage) (os : List (Option Sought)) (v : ℕ) (l
 
   future_has : (q : ℕ) (x : Place) → plans.is_future x ≡ true → place_at l.places q ≡ x → agrees (sought_at x) (seeking os q) ≡ true → IsFuture q
   future_has q = at_future (λ x. place_at l.places q ≡ x → agrees (sought_at x) (seeking os q) ≡ true → IsFuture q) (record {
-    made = λ m e a. (reads_at q (place.Made m) e, inr (no_turn q (out_free (turn_at l.turn.places q) (fit_at q (place.Made m) e)), upgrades_as q ∙ ap is_upgrade e));
-    no_writer = λ e a. (reads_at q place.AskNoWriter e, inr (no_turn q (out_free (turn_at l.turn.places q) (fit_at q place.AskNoWriter e)), upgrades_as q ∙ ap is_upgrade e));
-    turn = λ p e a. (reads_at q (place.WaitTurn p) e, inr (no_turn q (waiting_free (turn_at l.turn.places q) (fit_at q (place.WaitTurn p) e)), upgrades_as q ∙ ap is_upgrade e));
+    made = λ m e a. (reads_at q (place.Made m) e, inr (no_turn q (out_free (turn_at l.turn.courses q) (fit_at q (place.Made m) e)), upgrades_as q ∙ ap is_upgrade e));
+    no_writer = λ e a. (reads_at q place.AskNoWriter e, inr (no_turn q (out_free (turn_at l.turn.courses q) (fit_at q place.AskNoWriter e)), upgrades_as q ∙ ap is_upgrade e));
+    turn = λ p e a. (reads_at q (place.WaitTurn p) e, inr (no_turn q (waiting_free (turn_at l.turn.courses q) (fit_at q (place.WaitTurn p) e)), upgrades_as q ∙ ap is_upgrade e));
     no_readers = λ u e a. (reads_at q (place.AwaitNoReaders u) e, inl (turn_at_place q (place.AwaitNoReaders u) e refl, seeks_just q (Some sought.Write) write refl a));
     upgrade = λ e a. (reads_at q (place.LookUnlisted true) e, inl (turn_at_place q (place.LookUnlisted true) e refl, seeks_just q (Some sought.Write) write refl a));
   })
 
   out_has : (q : ℕ) (x : Place) → plans.is_out x ≡ true → place_at l.places q ≡ x → IsClear w q × HasNothing w q × (is_upgrader w q ≡ false)
   out_has q = at_out (λ x. place_at l.places q ≡ x → IsClear w q × HasNothing w q × (is_upgrader w q ≡ false)) (λ e.
-      let o = fit_at q place.Out e in (out_clear q place.Out e refl refl o, (reads_at q place.Out e, no_turn q (out_free (turn_at l.turn.places q) o)), upgrades_as q ∙ ap is_upgrade e))
+      let o = fit_at q place.Out e in (out_clear q place.Out e refl refl o, (reads_at q place.Out e, no_turn q (out_free (turn_at l.turn.courses q) o)), upgrades_as q ∙ ap is_upgrade e))
 
   -- ---- an undecided party has no right
 
@@ -280,7 +275,7 @@ module _ (l : RwLock) (ss : List Stage) (os : List (Option Sought)) (v : ℕ) (l
         seeks_just q (Some sought.Write) write refl (subst P (u.seeks (ap share_of (sym e) ∙ here)) a)),
   )
 
-  pub undecided : (x : Place) (t : TurnPlace) → is_inside x ≡ true → verdict v x t ≡ None → IsUndecided x
+  pub undecided : (x : Place) (t : TurnCourse) → is_inside x ≡ true → verdict v x t ≡ None → IsUndecided x
   undecided place.LeaveNoWriter t i n = absurd (cc)
   undecided place.LeaveNoReaders t i n = absurd (cc)
   undecided (place.ReleaseTurn e) t i n = absurd (cc)
@@ -314,17 +309,17 @@ module _ (l : RwLock) (ss : List Stage) (os : List (Option Sought)) (v : ℕ) (l
   first true b h = refl
   first false b h = absurd (cc)
 
-  has : (q : ℕ) (s : Stage) (x : Place) → place_at l.places q ≡ x → goes_with s x ≡ true → agrees (sought_at x) (seeking os q) ≡ true → HasItsOwn w q (stands_as v s x (turn_at l.turn.places q))
+  has : (q : ℕ) (s : Stage) (x : Place) → place_at l.places q ≡ x → goes_with s x ≡ true → agrees (sought_at x) (seeking os q) ≡ true → HasItsOwn w q (stands_as v s x (turn_at l.turn.courses q))
   has q (Outside rest.Idle) x at g a = out_has q x g at
   has q (Outside rest.Pending) x at g a = future_has q x g at a
   has q (Outside rest.Holding) x at g a = guard_has q x g at a
   has q (Outside rest.Finished) x at g a = absurd (cc)
-  has q (Inside u) x at g a = inside_has (verdict v x (turn_at l.turn.places q)) refl where
+  has q (Inside u) x at g a = inside_has (verdict v x (turn_at l.turn.courses q)) refl where
     here : is_inside x ≡ true
     here = first (is_inside x) (is_on_course u.kind u.was (course_of x)) g
 
-    inside_has : (o : Option Answer) → verdict v x (turn_at l.turn.places q) ≡ o → HasItsOwn w q (inside u o)
-    inside_has None e = undecided_has q x at (undecided x (turn_at l.turn.places q) here e) a
+    inside_has : (o : Option Answer) → verdict v x (turn_at l.turn.courses q) ≡ o → HasItsOwn w q (inside u o)
+    inside_has None e = undecided_has q x at (undecided x (turn_at l.turn.courses q) here e) a
     inside_has (Some b) e = λ d. reads_at q x at ∙ downgraded_reads x here (downgrade_course u.kind u.was (course_of x) (second (is_inside x) (is_on_course u.kind u.was (course_of x)) g) d)
   has q Forgotten x at g a = tt
 

@@ -2,8 +2,8 @@
 use Rattle.std.proofs.Common.{◌≡◌, ◌&&◌, Bool, true, false, Option, refl}
 use Rattle.lock_world.specs.declared.refusal.Refusal.{Refusal}
 use Rattle.lock_world.specs.declared.refusal.Refusal.TheVariants as refusal
-use Rattle.mutex_machine.specs.declared.program.Place.{Place as TurnPlace}
-use Rattle.mutex_machine.specs.declared.program.Next.TheVariants as turn_next
+use Rattle.mutex_machine.specs.Course.{Course as TurnCourse}
+use Rattle.mutex_machine.specs.declared.mutex.Step.TheVariants as turn_step
 use Rattle.mutex_machine.specs.declared.program.End.TheVariants as turn_end
 use Rattle.rwlock_machine.specs.declared.program.Purpose.TheVariants as purpose
 use Rattle.rwlock_machine.specs.declared.program.Ending.TheVariants as ending
@@ -64,7 +64,7 @@ pub record Path (x : Place) (f : Found) : Type 0 where
   pub keeps : Keeps (course_of x) (next_of x f)
   pub seeks : Seeks x (next_of x f)
 
-module _ (memory : Bool) (l : RwLock) (to : TurnPlace) where
+module _ (memory : Bool) (l : RwLock) (to : TurnCourse) where
   pub path : (x : Place) (f : Found) → Finds memory (action_of x) f l → Led x f to → (course_of x ≡ strays → ⊥) → Path x f
   path Out Done e l n = record { keeps = refl; seeks = λ s h. h }
   path Out _ e l n = absurd e
@@ -115,104 +115,104 @@ module _ (memory : Bool) (l : RwLock) (to : TurnPlace) where
   path TryRead Writer e l n = record { keeps = refl; seeks = refl }
   path TryRead Full e l n = record { keeps = refl; seeks = refl }
   path TryRead _ e l n = absurd e
-  path (EnterTurn purpose.UpgradableRead) (Turn (turn_next.Do a q)) e l n = record { keeps = (refl, refl); seeks = λ s h. h }
-  path (EnterTurn purpose.UpgradableRead) (Turn (turn_next.End turn_end.Got)) e l n = record { keeps = (refl, refl); seeks = λ s h. h }
-  path (EnterTurn purpose.UpgradableRead) (Turn (turn_next.End turn_end.Pending)) e l n = record { keeps = refl; seeks = λ s h. h }
-  path (EnterTurn purpose.UpgradableRead) (Turn (turn_next.End (turn_end.Refused refusal.Memory))) e l n = record { keeps = refl; seeks = λ s h. h }
-  path (EnterTurn purpose.UpgradableRead) (Turn (turn_next.End (turn_end.Refused refusal.Starved))) e l n = record { keeps = refl; seeks = λ s h. h }
+  path (EnterTurn purpose.UpgradableRead) (Turn turn_step.More) e l n = record { keeps = (refl, refl); seeks = λ s h. h }
+  path (EnterTurn purpose.UpgradableRead) (Turn (turn_step.End turn_end.Got)) e l n = record { keeps = (refl, refl); seeks = λ s h. h }
+  path (EnterTurn purpose.UpgradableRead) (Turn (turn_step.End turn_end.Pending)) e l n = record { keeps = refl; seeks = λ s h. h }
+  path (EnterTurn purpose.UpgradableRead) (Turn (turn_step.End (turn_end.Refused refusal.Memory))) e l n = record { keeps = refl; seeks = λ s h. h }
+  path (EnterTurn purpose.UpgradableRead) (Turn (turn_step.End (turn_end.Refused refusal.Starved))) e l n = record { keeps = refl; seeks = λ s h. h }
   path (EnterTurn purpose.UpgradableRead) (Turn _) e l n = absurd l
   path (EnterTurn purpose.UpgradableRead) _ e l n = absurd e
-  path (EnterTurn purpose.Write) (Turn (turn_next.Do a q)) e l n = record { keeps = (refl, refl); seeks = λ s h. h }
-  path (EnterTurn purpose.Write) (Turn (turn_next.End turn_end.Got)) e l n = record { keeps = (refl, refl); seeks = λ s h. h }
-  path (EnterTurn purpose.Write) (Turn (turn_next.End turn_end.Pending)) e l n = record { keeps = refl; seeks = λ s h. h }
-  path (EnterTurn purpose.Write) (Turn (turn_next.End (turn_end.Refused refusal.Memory))) e l n = record { keeps = refl; seeks = λ s h. h }
-  path (EnterTurn purpose.Write) (Turn (turn_next.End (turn_end.Refused refusal.Starved))) e l n = record { keeps = refl; seeks = λ s h. h }
+  path (EnterTurn purpose.Write) (Turn turn_step.More) e l n = record { keeps = (refl, refl); seeks = λ s h. h }
+  path (EnterTurn purpose.Write) (Turn (turn_step.End turn_end.Got)) e l n = record { keeps = (refl, refl); seeks = λ s h. h }
+  path (EnterTurn purpose.Write) (Turn (turn_step.End turn_end.Pending)) e l n = record { keeps = refl; seeks = λ s h. h }
+  path (EnterTurn purpose.Write) (Turn (turn_step.End (turn_end.Refused refusal.Memory))) e l n = record { keeps = refl; seeks = λ s h. h }
+  path (EnterTurn purpose.Write) (Turn (turn_step.End (turn_end.Refused refusal.Starved))) e l n = record { keeps = refl; seeks = λ s h. h }
   path (EnterTurn purpose.Write) (Turn _) e l n = absurd l
   path (EnterTurn purpose.Write) _ e l n = absurd e
-  path (WaitTurn purpose.UpgradableRead) (Turn (turn_next.Do a q)) e l n = record { keeps = (refl, refl); seeks = λ s h. h }
-  path (WaitTurn purpose.UpgradableRead) (Turn (turn_next.End turn_end.Got)) e l n = record { keeps = (refl, refl); seeks = λ s h. h }
-  path (WaitTurn purpose.UpgradableRead) (Turn (turn_next.End turn_end.Pending)) e l n = record { keeps = refl; seeks = λ s h. h }
-  path (WaitTurn purpose.UpgradableRead) (Turn (turn_next.End (turn_end.Refused refusal.Memory))) e l n = record { keeps = refl; seeks = λ s h. h }
-  path (WaitTurn purpose.UpgradableRead) (Turn (turn_next.End (turn_end.Refused refusal.Starved))) e l n = record { keeps = refl; seeks = λ s h. h }
+  path (WaitTurn purpose.UpgradableRead) (Turn turn_step.More) e l n = record { keeps = (refl, refl); seeks = λ s h. h }
+  path (WaitTurn purpose.UpgradableRead) (Turn (turn_step.End turn_end.Got)) e l n = record { keeps = (refl, refl); seeks = λ s h. h }
+  path (WaitTurn purpose.UpgradableRead) (Turn (turn_step.End turn_end.Pending)) e l n = record { keeps = refl; seeks = λ s h. h }
+  path (WaitTurn purpose.UpgradableRead) (Turn (turn_step.End (turn_end.Refused refusal.Memory))) e l n = record { keeps = refl; seeks = λ s h. h }
+  path (WaitTurn purpose.UpgradableRead) (Turn (turn_step.End (turn_end.Refused refusal.Starved))) e l n = record { keeps = refl; seeks = λ s h. h }
   path (WaitTurn purpose.UpgradableRead) (Turn _) e l n = absurd l
   path (WaitTurn purpose.UpgradableRead) _ e l n = absurd e
-  path (WaitTurn purpose.Write) (Turn (turn_next.Do a q)) e l n = record { keeps = (refl, refl); seeks = λ s h. h }
-  path (WaitTurn purpose.Write) (Turn (turn_next.End turn_end.Got)) e l n = record { keeps = (refl, refl); seeks = λ s h. h }
-  path (WaitTurn purpose.Write) (Turn (turn_next.End turn_end.Pending)) e l n = record { keeps = refl; seeks = λ s h. h }
-  path (WaitTurn purpose.Write) (Turn (turn_next.End (turn_end.Refused refusal.Memory))) e l n = record { keeps = refl; seeks = λ s h. h }
-  path (WaitTurn purpose.Write) (Turn (turn_next.End (turn_end.Refused refusal.Starved))) e l n = record { keeps = refl; seeks = λ s h. h }
+  path (WaitTurn purpose.Write) (Turn turn_step.More) e l n = record { keeps = (refl, refl); seeks = λ s h. h }
+  path (WaitTurn purpose.Write) (Turn (turn_step.End turn_end.Got)) e l n = record { keeps = (refl, refl); seeks = λ s h. h }
+  path (WaitTurn purpose.Write) (Turn (turn_step.End turn_end.Pending)) e l n = record { keeps = refl; seeks = λ s h. h }
+  path (WaitTurn purpose.Write) (Turn (turn_step.End (turn_end.Refused refusal.Memory))) e l n = record { keeps = refl; seeks = λ s h. h }
+  path (WaitTurn purpose.Write) (Turn (turn_step.End (turn_end.Refused refusal.Starved))) e l n = record { keeps = refl; seeks = λ s h. h }
   path (WaitTurn purpose.Write) (Turn _) e l n = absurd l
   path (WaitTurn purpose.Write) _ e l n = absurd e
-  path (TakeTurn purpose.UpgradableRead) (Turn (turn_next.Do a q)) e l n = record { keeps = (refl, refl); seeks = λ s h. h }
-  path (TakeTurn purpose.UpgradableRead) (Turn (turn_next.End turn_end.Got)) e l n = record { keeps = (refl, refl); seeks = λ s h. h }
-  path (TakeTurn purpose.UpgradableRead) (Turn (turn_next.End turn_end.Pending)) e l n = record { keeps = refl; seeks = λ s h. h }
-  path (TakeTurn purpose.UpgradableRead) (Turn (turn_next.End (turn_end.Refused refusal.Memory))) e l n = record { keeps = refl; seeks = λ s h. h }
-  path (TakeTurn purpose.UpgradableRead) (Turn (turn_next.End (turn_end.Refused refusal.Starved))) e l n = record { keeps = refl; seeks = λ s h. h }
+  path (TakeTurn purpose.UpgradableRead) (Turn turn_step.More) e l n = record { keeps = (refl, refl); seeks = λ s h. h }
+  path (TakeTurn purpose.UpgradableRead) (Turn (turn_step.End turn_end.Got)) e l n = record { keeps = (refl, refl); seeks = λ s h. h }
+  path (TakeTurn purpose.UpgradableRead) (Turn (turn_step.End turn_end.Pending)) e l n = record { keeps = refl; seeks = λ s h. h }
+  path (TakeTurn purpose.UpgradableRead) (Turn (turn_step.End (turn_end.Refused refusal.Memory))) e l n = record { keeps = refl; seeks = λ s h. h }
+  path (TakeTurn purpose.UpgradableRead) (Turn (turn_step.End (turn_end.Refused refusal.Starved))) e l n = record { keeps = refl; seeks = λ s h. h }
   path (TakeTurn purpose.UpgradableRead) (Turn _) e l n = absurd l
   path (TakeTurn purpose.UpgradableRead) _ e l n = absurd e
-  path (TakeTurn purpose.Write) (Turn (turn_next.Do a q)) e l n = record { keeps = (refl, refl); seeks = λ s h. h }
-  path (TakeTurn purpose.Write) (Turn (turn_next.End turn_end.Got)) e l n = record { keeps = (refl, refl); seeks = λ s h. h }
-  path (TakeTurn purpose.Write) (Turn (turn_next.End turn_end.Pending)) e l n = record { keeps = refl; seeks = λ s h. h }
-  path (TakeTurn purpose.Write) (Turn (turn_next.End (turn_end.Refused refusal.Memory))) e l n = record { keeps = refl; seeks = λ s h. h }
-  path (TakeTurn purpose.Write) (Turn (turn_next.End (turn_end.Refused refusal.Starved))) e l n = record { keeps = refl; seeks = λ s h. h }
+  path (TakeTurn purpose.Write) (Turn turn_step.More) e l n = record { keeps = (refl, refl); seeks = λ s h. h }
+  path (TakeTurn purpose.Write) (Turn (turn_step.End turn_end.Got)) e l n = record { keeps = (refl, refl); seeks = λ s h. h }
+  path (TakeTurn purpose.Write) (Turn (turn_step.End turn_end.Pending)) e l n = record { keeps = refl; seeks = λ s h. h }
+  path (TakeTurn purpose.Write) (Turn (turn_step.End (turn_end.Refused refusal.Memory))) e l n = record { keeps = refl; seeks = λ s h. h }
+  path (TakeTurn purpose.Write) (Turn (turn_step.End (turn_end.Refused refusal.Starved))) e l n = record { keeps = refl; seeks = λ s h. h }
   path (TakeTurn purpose.Write) (Turn _) e l n = absurd l
   path (TakeTurn purpose.Write) _ e l n = absurd e
-  path (TryTurn purpose.UpgradableRead) (Turn (turn_next.End turn_end.Got)) e l n = record { keeps = (refl, refl); seeks = λ s h. h }
-  path (TryTurn purpose.UpgradableRead) (Turn (turn_next.End turn_end.NotFree)) e l n = record { keeps = refl; seeks = refl }
+  path (TryTurn purpose.UpgradableRead) (Turn (turn_step.End turn_end.Got)) e l n = record { keeps = (refl, refl); seeks = λ s h. h }
+  path (TryTurn purpose.UpgradableRead) (Turn (turn_step.End turn_end.NotFree)) e l n = record { keeps = refl; seeks = refl }
   path (TryTurn purpose.UpgradableRead) (Turn _) e l n = absurd l
   path (TryTurn purpose.UpgradableRead) _ e l n = absurd e
-  path (TryTurn purpose.Write) (Turn (turn_next.End turn_end.Got)) e l n = record { keeps = (refl, refl); seeks = λ s h. h }
-  path (TryTurn purpose.Write) (Turn (turn_next.End turn_end.NotFree)) e l n = record { keeps = refl; seeks = refl }
+  path (TryTurn purpose.Write) (Turn (turn_step.End turn_end.Got)) e l n = record { keeps = (refl, refl); seeks = λ s h. h }
+  path (TryTurn purpose.Write) (Turn (turn_step.End turn_end.NotFree)) e l n = record { keeps = refl; seeks = refl }
   path (TryTurn purpose.Write) (Turn _) e l n = absurd l
   path (TryTurn purpose.Write) _ e l n = absurd e
-  path CancelTurn (Turn (turn_next.Do a q)) e l n = record { keeps = (refl, refl); seeks = λ s h. h }
-  path CancelTurn (Turn (turn_next.End turn_end.GivenBack)) e l n = record { keeps = refl; seeks = λ s h. h }
+  path CancelTurn (Turn turn_step.More) e l n = record { keeps = (refl, refl); seeks = λ s h. h }
+  path CancelTurn (Turn (turn_step.End turn_end.GivenBack)) e l n = record { keeps = refl; seeks = λ s h. h }
   path CancelTurn (Turn _) e l n = absurd l
   path CancelTurn _ e l n = absurd e
-  path CancellingTurn (Turn (turn_next.Do a q)) e l n = record { keeps = (refl, refl); seeks = λ s h. h }
-  path CancellingTurn (Turn (turn_next.End turn_end.GivenBack)) e l n = record { keeps = refl; seeks = λ s h. h }
+  path CancellingTurn (Turn turn_step.More) e l n = record { keeps = (refl, refl); seeks = λ s h. h }
+  path CancellingTurn (Turn (turn_step.End turn_end.GivenBack)) e l n = record { keeps = refl; seeks = λ s h. h }
   path CancellingTurn (Turn _) e l n = absurd l
   path CancellingTurn _ e l n = absurd e
-  path (ReleaseTurn ending.GivenBack) (Turn (turn_next.Do a q)) e l n = record { keeps = (refl, refl); seeks = λ s h. h }
-  path (ReleaseTurn ending.GivenBack) (Turn (turn_next.End turn_end.GivenBack)) e l n = record { keeps = refl; seeks = λ s h. h }
+  path (ReleaseTurn ending.GivenBack) (Turn turn_step.More) e l n = record { keeps = (refl, refl); seeks = λ s h. h }
+  path (ReleaseTurn ending.GivenBack) (Turn (turn_step.End turn_end.GivenBack)) e l n = record { keeps = refl; seeks = λ s h. h }
   path (ReleaseTurn ending.GivenBack) (Turn _) e l n = absurd l
   path (ReleaseTurn ending.GivenBack) _ e l n = absurd e
-  path (ReleaseTurn ending.NotFree) (Turn (turn_next.Do a q)) e l n = record { keeps = (refl, refl); seeks = λ s h. h }
-  path (ReleaseTurn ending.NotFree) (Turn (turn_next.End turn_end.GivenBack)) e l n = record { keeps = refl; seeks = refl }
+  path (ReleaseTurn ending.NotFree) (Turn turn_step.More) e l n = record { keeps = (refl, refl); seeks = λ s h. h }
+  path (ReleaseTurn ending.NotFree) (Turn (turn_step.End turn_end.GivenBack)) e l n = record { keeps = refl; seeks = refl }
   path (ReleaseTurn ending.NotFree) (Turn _) e l n = absurd l
   path (ReleaseTurn ending.NotFree) _ e l n = absurd e
-  path (ReleaseTurn ending.RefuseReaders) (Turn (turn_next.Do a q)) e l n = record { keeps = (refl, refl); seeks = λ s h. h }
-  path (ReleaseTurn ending.RefuseReaders) (Turn (turn_next.End turn_end.GivenBack)) e l n = record { keeps = refl; seeks = λ s h. h }
+  path (ReleaseTurn ending.RefuseReaders) (Turn turn_step.More) e l n = record { keeps = (refl, refl); seeks = λ s h. h }
+  path (ReleaseTurn ending.RefuseReaders) (Turn (turn_step.End turn_end.GivenBack)) e l n = record { keeps = refl; seeks = λ s h. h }
   path (ReleaseTurn ending.RefuseReaders) (Turn _) e l n = absurd l
   path (ReleaseTurn ending.RefuseReaders) _ e l n = absurd e
-  path (ReleaseTurn ending.RefuseMemory) (Turn (turn_next.Do a q)) e l n = record { keeps = (refl, refl); seeks = λ s h. h }
-  path (ReleaseTurn ending.RefuseMemory) (Turn (turn_next.End turn_end.GivenBack)) e l n = record { keeps = refl; seeks = λ s h. h }
+  path (ReleaseTurn ending.RefuseMemory) (Turn turn_step.More) e l n = record { keeps = (refl, refl); seeks = λ s h. h }
+  path (ReleaseTurn ending.RefuseMemory) (Turn (turn_step.End turn_end.GivenBack)) e l n = record { keeps = refl; seeks = λ s h. h }
   path (ReleaseTurn ending.RefuseMemory) (Turn _) e l n = absurd l
   path (ReleaseTurn ending.RefuseMemory) _ e l n = absurd e
-  path (ReleaseTurn ending.Reading) (Turn (turn_next.Do a q)) e l n = record { keeps = (refl, refl); seeks = λ s h. h }
-  path (ReleaseTurn ending.Reading) (Turn (turn_next.End turn_end.GivenBack)) e l n = record { keeps = refl; seeks = λ s h. h }
+  path (ReleaseTurn ending.Reading) (Turn turn_step.More) e l n = record { keeps = (refl, refl); seeks = λ s h. h }
+  path (ReleaseTurn ending.Reading) (Turn (turn_step.End turn_end.GivenBack)) e l n = record { keeps = refl; seeks = λ s h. h }
   path (ReleaseTurn ending.Reading) (Turn _) e l n = absurd l
   path (ReleaseTurn ending.Reading) _ e l n = absurd e
-  path (ReleaseTurn ending.NotifyReaders) (Turn (turn_next.Do a q)) e l n = record { keeps = (refl, refl); seeks = λ s h. h }
-  path (ReleaseTurn ending.NotifyReaders) (Turn (turn_next.End turn_end.GivenBack)) e l n = record { keeps = (refl, refl); seeks = λ s h. h }
+  path (ReleaseTurn ending.NotifyReaders) (Turn turn_step.More) e l n = record { keeps = (refl, refl); seeks = λ s h. h }
+  path (ReleaseTurn ending.NotifyReaders) (Turn (turn_step.End turn_end.GivenBack)) e l n = record { keeps = (refl, refl); seeks = λ s h. h }
   path (ReleaseTurn ending.NotifyReaders) (Turn _) e l n = absurd l
   path (ReleaseTurn ending.NotifyReaders) _ e l n = absurd e
-  path (ReleasingTurn ending.GivenBack) (Turn (turn_next.End turn_end.GivenBack)) e l n = record { keeps = refl; seeks = λ s h. h }
+  path (ReleasingTurn ending.GivenBack) (Turn (turn_step.End turn_end.GivenBack)) e l n = record { keeps = refl; seeks = λ s h. h }
   path (ReleasingTurn ending.GivenBack) (Turn _) e l n = absurd l
   path (ReleasingTurn ending.GivenBack) _ e l n = absurd e
-  path (ReleasingTurn ending.NotFree) (Turn (turn_next.End turn_end.GivenBack)) e l n = record { keeps = refl; seeks = refl }
+  path (ReleasingTurn ending.NotFree) (Turn (turn_step.End turn_end.GivenBack)) e l n = record { keeps = refl; seeks = refl }
   path (ReleasingTurn ending.NotFree) (Turn _) e l n = absurd l
   path (ReleasingTurn ending.NotFree) _ e l n = absurd e
-  path (ReleasingTurn ending.RefuseReaders) (Turn (turn_next.End turn_end.GivenBack)) e l n = record { keeps = refl; seeks = λ s h. h }
+  path (ReleasingTurn ending.RefuseReaders) (Turn (turn_step.End turn_end.GivenBack)) e l n = record { keeps = refl; seeks = λ s h. h }
   path (ReleasingTurn ending.RefuseReaders) (Turn _) e l n = absurd l
   path (ReleasingTurn ending.RefuseReaders) _ e l n = absurd e
-  path (ReleasingTurn ending.RefuseMemory) (Turn (turn_next.End turn_end.GivenBack)) e l n = record { keeps = refl; seeks = λ s h. h }
+  path (ReleasingTurn ending.RefuseMemory) (Turn (turn_step.End turn_end.GivenBack)) e l n = record { keeps = refl; seeks = λ s h. h }
   path (ReleasingTurn ending.RefuseMemory) (Turn _) e l n = absurd l
   path (ReleasingTurn ending.RefuseMemory) _ e l n = absurd e
-  path (ReleasingTurn ending.Reading) (Turn (turn_next.End turn_end.GivenBack)) e l n = record { keeps = refl; seeks = λ s h. h }
+  path (ReleasingTurn ending.Reading) (Turn (turn_step.End turn_end.GivenBack)) e l n = record { keeps = refl; seeks = λ s h. h }
   path (ReleasingTurn ending.Reading) (Turn _) e l n = absurd l
   path (ReleasingTurn ending.Reading) _ e l n = absurd e
-  path (ReleasingTurn ending.NotifyReaders) (Turn (turn_next.End turn_end.GivenBack)) e l n = record { keeps = (refl, refl); seeks = λ s h. h }
+  path (ReleasingTurn ending.NotifyReaders) (Turn (turn_step.End turn_end.GivenBack)) e l n = record { keeps = (refl, refl); seeks = λ s h. h }
   path (ReleasingTurn ending.NotifyReaders) (Turn _) e l n = absurd l
   path (ReleasingTurn ending.NotifyReaders) _ e l n = absurd e
   path (Add true) Done e l n = record { keeps = refl; seeks = λ s h. h }

@@ -1,5 +1,5 @@
 -- Where nobody is starved for the turn, a whole call starves nobody that hasn't waited for too long.
-use Rattle.std.proofs.Common.{◌≡◌, ◌≢◌, ℕ, ◌<◌, ◌⊎◌, inl, inr, Bool, true, false, zero, suc, List, [], ◌∷◌, length, nat_lt, Option, Some, None, refl, arith, ap, sym, ◌∙◌, subst}
+use Rattle.std.proofs.Common.{◌≡◌, ◌≢◌, ℕ, ◌<◌, Bool, true, false, zero, suc, List, [], ◌∷◌, length, nat_lt, Option, Some, None, refl, arith, ap, sym, ◌∙◌, subst}
 use Rattle.std.specs.List.{sum_by}
 use Rattle.std.proofs.lemmas.List.Sums.{sum_by-cons}
 use Rattle.lock_world.specs.Accounts.{Account, accounts_after}
@@ -7,7 +7,6 @@ use Rattle.lock_world.specs.declared.moves.Answer.{Answer}
 use Rattle.lock_world.specs.declared.moves.Answer.TheVariants as answer
 use Rattle.lock_world.specs.declared.moves.Call.{Call}
 use Rattle.lock_world.specs.declared.moves.Inputs.{Inputs}
-use Rattle.lock_world.specs.declared.moves.Move.{Move}
 use Rattle.lock_world.specs.declared.moves.What.{What}
 use Rattle.lock_world.specs.declared.moves.What.TheVariants.{Begin, Go}
 use Rattle.lock_world.specs.declared.standing.Stage.{Stage}
@@ -17,16 +16,10 @@ use Rattle.lock_world.specs.Standings.{inputs_of}
 use Rattle.lock_world.specs.Whole.{going_on, moves_of, answers_of}
 use Rattle.lock_frame.specs.Steps.{beginning}
 use Rattle.lock_frame.proofs.Runs.{along, Onward}
-use Rattle.mutex_machine.specs.declared.program.Place.{Place as TurnPlace}
-use Rattle.mutex_machine.specs.Acts.{starved, Acts as TurnActs}
-use Rattle.mutex_machine.specs.Courses.{is_counting}
-use Rattle.mutex_machine.specs.Machine.{Lock, SameRoles as SameTurnRoles, place_at as turn_at}
-use Rattle.mutex_machine.specs.Program.{start_of as turn_start_of}
-use Rattle.mutex_machine.specs.Roles.{bit, counted}
-use Rattle.mutex_machine.specs.State.{is_counted}
-use Rattle.mutex_machine.proofs.Promised.{begins_uncounted, begins_heedless, none_counted, out_uncounted, holding_uncounted, waiting_uncounted}
-use Rattle.mutex_machine.proofs.Seen as sees
-use Rattle.mutex_machine.proofs.Starts.{start_same as turn_start_same}
+use Rattle.mutex_machine.specs.Course.{Course as TurnCourse, is_counting, bit, counted}
+use Rattle.mutex_machine.specs.Mutex.{starved, Mutex, course_at as turn_at, is_counted}
+use Rattle.mutex_machine.proofs.Callers.{out_uncounted, holding_uncounted, waiting_uncounted}
+use Rattle.mutex_machine.proofs.Holders as sees
 use Rattle.rwlock_machine.specs.declared.program.Action.{Action}
 use Rattle.rwlock_machine.specs.declared.program.Action.TheVariants as act
 use Rattle.rwlock_machine.specs.declared.program.Found.{Found}
@@ -41,11 +34,11 @@ use Rattle.rwlock_machine.specs.Turns.{OnTurn}
 use Rattle.rwlock_world.specs.declared.world.table.Plan.{Plan}
 use Rattle.rwlock_world.specs.declared.world.table.Plan.TheVariants as plan
 use Rattle.rwlock_world.specs.declared.world.table.Sought.{Sought}
-use Rattle.rwlock_world.specs.Plans.{plan_of, stage_at, seeking, sought_at, agrees, goes_with}
+use Rattle.rwlock_world.specs.Plans.{plan_of, stage_at, seeking}
 use Rattle.rwlock_world.specs.Runs.{Runs, HoldsWell}
 use Rattle.rwlock_world.specs.State.{World, is_starved}
 use Rattle.rwlock_world.specs.Steps.{Stands, Steps as Moved}
-use Rattle.rwlock_world.specs.Table.{Table, Steps, Does, IsStep, plan_in}
+use Rattle.rwlock_world.specs.Table.{Table, Steps, Does, plan_in}
 use Rattle.rwlock_world.proofs.Begun.{ForBegun, for_begun}
 use Rattle.rwlock_world.proofs.Events.{known_move}
 use Rattle.rwlock_world.proofs.Tables.{began}
@@ -55,7 +48,7 @@ use Rattle.rwlock_world.proofs.Whole.{never_begun, never_going}
 -- ---- whoever begins a call isn't about to be counted
 
 abbrev Rests : Stage → Option Sought → What → Place → RwCall → Within → Place → Type 0
-Rests s o what x d w from = (t : TurnPlace) → fits_turn x t ≡ true → is_counting t ≡ false
+Rests s o what x d w from = (t : TurnCourse) → fits_turn x t ≡ true → is_counting t ≡ false
 
 rests : ForBegun Rests
 rests = record {
@@ -87,26 +80,17 @@ rests = record {
 
 -- ---- what a step did to the turn
 
-same_turn : (x : TurnPlace) → SameTurnRoles x x
-same_turn x = record { holding = refl; starving = refl; standing = refl; waiting = refl; owing = refl }
-
-begun_turn : {P : TurnPlace → Type 0} (o : Option TurnPlace) → Rattle.std.specs.Prelude.IsSomeAnd o P → (from : TurnPlace) × (o ≡ Some from) × P from
-begun_turn None h = absurd h
-begun_turn (Some from) h = (from, refl, h)
-
-module _ (memory : Bool) (p : ℕ) (l k : Lock) (there : p < length l.places) (none : starved l ≡ 0) (not_next : is_counting (turn_at l.places p) ≡ false) where
+module _ (memory : Bool) (p : ℕ) (l k : Mutex) (none : starved l ≡ 0) (not_next : is_counting (turn_at l.courses p) ≡ false) where
   abbrev Still : Type 0
-  Still = (starved k ≡ 0) × (is_counting (turn_at k.places p) ≡ false)
+  Still = (starved k ≡ 0) × (is_counting (turn_at k.courses p) ≡ false)
 
   unmoved : k ≡ l → Still
-  unmoved e = (ap starved e ∙ none, ap (λ t. is_counting (turn_at t.places p)) e ∙ not_next)
+  unmoved e = (ap starved e ∙ none, ap (λ t. is_counting (turn_at t.courses p)) e ∙ not_next)
 
   turn_uncounted : (a : Action) (f : Found) → OnTurn memory false p a f l k → Still
-  turn_uncounted (act.Begin c) (Turn n) o =
-      let b = begun_turn (turn_start_of c (turn_at l.places p)) o.acts in
-      none_counted memory p b.0 n l k b.2 (begins_heedless c (turn_at l.places p) b.0 n false b.1) there (turn_start_same c (turn_at l.places p) b.0 b.1) none (begins_uncounted c (turn_at l.places p) b.0 b.1)
+  turn_uncounted (act.Begin c) (Turn n) o = o.patient refl none not_next
   turn_uncounted (act.Begin c) _ o = absurd o
-  turn_uncounted act.Go (Turn n) o = none_counted memory p (turn_at l.places p) n l k o.acts o.clock there (same_turn (turn_at l.places p)) none not_next
+  turn_uncounted act.Go (Turn n) o = o.patient refl none not_next
   turn_uncounted act.Go _ o = absurd o
   turn_uncounted _ f o = unmoved o
 
@@ -118,7 +102,7 @@ record Unstarved (p : ℕ) (x : World) : Type 0 where
 
 record Unstarving (p : ℕ) (x : World) : Type 0 where
   pub now : Unstarved p x
-  pub not_next : is_counting (turn_at x.behind.lock.turn.places p) ≡ false
+  pub not_next : is_counting (turn_at x.behind.lock.turn.courses p) ≡ false
 
 -- nothing was done, and then the call doesn't go on
 record Nothing (t : Table) (a : Answer) (u : Table) : Type 0 where
@@ -129,12 +113,11 @@ nothing_by : (t u : Table) (a b : Answer) → u.lock ≡ t.lock → a ≡ b → 
 nothing_by t u a b same is not_stepped = record { same = same; not_stepped = λ e. not_stepped (sym is ∙ e) }
 
 module _ (p : ℕ) (i : Inputs) (patient : i.starving ≡ false) where
-  stepped : (x v : World) (what : What) (from : Place) (a : Answer) (w : Within) (seeks : Next → Option Sought) → (inputs_of what).starving ≡ false → Stands x → Stands v → p < length x.behind.stages → starved x.behind.lock.turn ≡ 0 → is_counting (turn_at x.behind.lock.turn.places p) ≡ false
+  stepped : (x v : World) (what : What) (from : Place) (a : Answer) (w : Within) (seeks : Next → Option Sought) → (inputs_of what).starving ≡ false → Stands x → Stands v → p < length x.behind.stages → starved x.behind.lock.turn ≡ 0 → is_counting (turn_at x.behind.lock.turn.courses p) ≡ false
       → Steps w from seeks (record { party = p; what = what }) x.behind a v.behind → Onward (Unstarving p) (λ b y. Unstarved p y) a v
   stepped x v what from a w seeks quiet stands stands_then known none not_next s =
-      let there : p < length x.behind.lock.turn.places = omega (arith, stands.fits.as_many, stands.lock.as_many, known) in
       let O : Bool → Type 0 = λ b. OnTurn (inputs_of what).memory b p (action_of from) s.acts.found x.behind.lock.turn v.behind.lock.turn in
-      let it = turn_uncounted (inputs_of what).memory p x.behind.lock.turn v.behind.lock.turn there none not_next (action_of from) s.acts.found (subst O quiet s.acts.turn) in
+      let it = turn_uncounted (inputs_of what).memory p x.behind.lock.turn v.behind.lock.turn none not_next (action_of from) s.acts.found (subst O quiet s.acts.turn) in
       let now : Unstarved p v = record { stands = stands_then; none = it.0 } in
       record { going = λ e. record { now = now; not_next = it.1 }; ended = λ e. now }
 
@@ -168,8 +151,8 @@ module _ (p : ℕ) (i : Inputs) (patient : i.starving ≡ false) where
       let t = x.behind in
       let k = known_move p t.stages (plan.Start lc w) (plan_of (stage_at t.stages p) (seeking t.sought p) (Begin c i)) (nat_lt p (length t.stages)) refl e in
       let b = began (start_of lc (place_at t.lock.places p)) d in
-      let quiet : is_counting (turn_at t.lock.turn.places p) ≡ false =
-      (for_begun Rests rests (stage_at t.stages p) (seeking t.sought p) (Begin c i) (place_at t.lock.places p) lc w k.1 (sx.fits.fits p k.0) (sx.fits.seeks p k.0)).2 (turn_at t.lock.turn.places p) (sx.lock.in_turn p) in
+      let quiet : is_counting (turn_at t.lock.turn.courses p) ≡ false =
+      (for_begun Rests rests (stage_at t.stages p) (seeking t.sought p) (Begin c i) (place_at t.lock.places p) lc w k.1 (sx.fits.fits p k.0) (sx.fits.seeks p k.0)).2 (turn_at t.lock.turn.courses p) (sx.lock.in_turn p) in
       stepped x v (Begin c i) b.0 a w _ patient sx sv k.0 none quiet b.2
   first_by c x v a (Some (plan.Go w)) sx none sv e d =
       let t = x.behind in
@@ -180,15 +163,15 @@ module _ (p : ℕ) (i : Inputs) (patient : i.starving ≡ false) where
   first c x none a v s = first_by c x v a (plan_in x.behind (beginning p c i)) s.did.stood none s.did.stands refl s.did.step
 
 starved_behind : (w : World) → Stands w → how_many w.state.starved ≡ starved w.behind.lock.turn
-starved_behind w s = ap (λ x. how_many x.state.starved) s.seen ∙ view.how_many-starved w.behind.lock.turn.places
+starved_behind w s = ap (λ x. how_many x.state.starved) s.seen ∙ view.how_many-starved w.behind.lock.turn.courses
 
 not_counted : (w : World) (p : ℕ) → Unstarved p w → is_starved w p ≡ false
-not_counted w p k = ap (λ x. is_starved x p) k.stands.seen ∙ (sees.starved_at w.behind.lock.turn.places p ∙ by_bit (is_counted (turn_at w.behind.lock.turn.places p)) (sees.counted_bit (turn_at w.behind.lock.turn.places p)) (none_at w.behind.lock.turn.places p k.none)) where
-  by_bit : (b : Bool) → bit b ≡ counted (turn_at w.behind.lock.turn.places p) → counted (turn_at w.behind.lock.turn.places p) ≡ 0 → b ≡ false
+not_counted w p k = ap (λ x. is_starved x p) k.stands.seen ∙ (sees.starved_at w.behind.lock.turn.courses p ∙ by_bit (is_counted (turn_at w.behind.lock.turn.courses p)) (sees.counted_bit (turn_at w.behind.lock.turn.courses p)) (none_at w.behind.lock.turn.courses p k.none)) where
+  by_bit : (b : Bool) → bit b ≡ counted (turn_at w.behind.lock.turn.courses p) → counted (turn_at w.behind.lock.turn.courses p) ≡ 0 → b ≡ false
   by_bit true e n = absurd (omega (arith, e, n))
   by_bit false e n = refl
 
-  none_at : (ps : List TurnPlace) (q : ℕ) → sum_by counted ps ≡ 0 → counted (turn_at ps q) ≡ 0
+  none_at : (ps : List TurnCourse) (q : ℕ) → sum_by counted ps ≡ 0 → counted (turn_at ps q) ≡ 0
   none_at [] q e = refl
   none_at (x ∷ xs) zero e = omega (arith, sum_by-cons counted x xs, e)
   none_at (x ∷ xs) (suc q) e = none_at xs q (omega (arith, sum_by-cons counted x xs, e))

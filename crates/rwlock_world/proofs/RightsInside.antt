@@ -11,7 +11,7 @@ use Rattle.lock_world.specs.declared.standing.Stage.{Stage}
 use Rattle.lock_world.specs.declared.standing.Stage.TheVariants.{Outside, Inside, Forgotten}
 use Rattle.lock_world.specs.declared.standing.Within.{Within}
 use Rattle.lock_world.specs.Standings.{inside}
-use Rattle.mutex_machine.specs.Machine.{place_at as turn_at}
+use Rattle.mutex_machine.specs.Mutex.{course_at as turn_at}
 use Rattle.rwlock_machine.specs.declared.program.Ending.TheVariants as ending
 use Rattle.rwlock_machine.specs.declared.program.Place.{Place}
 use Rattle.rwlock_machine.specs.declared.program.Place.TheVariants as place
@@ -110,7 +110,7 @@ module _ (l : RwLock) (ss : List Stage) (os : List (Option Sought)) (v : ℕ) (f
   -- a party that is inside a call is in the table, at that stage
   staged : (p : ℕ) (u : Within) (d : Option Answer) → standing_of w p ≡ inside u d → (stage_at ss p ≡ Inside u) × (p < length ss)
   staged p u d e =
-      let stood : stands_as v (stage_at ss p) (place_at l.places p) (turn_at l.turn.places p) ≡ inside u d = sym (view.standings_at v ss l.places l.turn.places fits.as_many p) ∙ e in
+      let stood : stands_as v (stage_at ss p) (place_at l.places p) (turn_at l.turn.courses p) ≡ inside u d = sym (view.standings_at v ss l.places l.turn.courses fits.as_many p) ∙ e in
       let stage = by_stage (stage_at ss p) stood in (
         stage,
         elim (view.in_or_past ss p) as (λ _. p < length ss) [
@@ -119,7 +119,7 @@ module _ (l : RwLock) (ss : List Stage) (os : List (Option Sought)) (v : ℕ) (f
         ],
       )
     where
-      by_stage : (s : Stage) → stands_as v s (place_at l.places p) (turn_at l.turn.places p) ≡ inside u d → s ≡ Inside u
+      by_stage : (s : Stage) → stands_as v s (place_at l.places p) (turn_at l.turn.courses p) ≡ inside u d → s ≡ Inside u
       by_stage (Outside r) h = absurd (cc)
       by_stage (Inside x) h = ap Inside (same_within u x d _ h)
       by_stage Forgotten h = absurd (cc)
@@ -144,4 +144,4 @@ module _ (l : RwLock) (ss : List Stage) (os : List (Option Sought)) (v : ℕ) (f
       view.seeks_at os p ∙ ap right_of (none_sought (seeking os p) seeks)
 
   pub as_many_seek : length w.sought ≡ length w.standings
-  as_many_seek = length-map os right_of ∙ (fits.as_many_seek ∙ sym (view.length-standings v ss l.places l.turn.places fits.as_many))
+  as_many_seek = length-map os right_of ∙ (fits.as_many_seek ∙ sym (view.length-standings v ss l.places l.turn.courses fits.as_many))

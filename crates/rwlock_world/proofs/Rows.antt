@@ -11,8 +11,7 @@ use Rattle.lock_world.specs.declared.refusal.Refusal.TheVariants as refusal
 use Rattle.lock_world.specs.Refusals.{number_of}
 use Rattle.lock_world.specs.Standings.{refused}
 use Rattle.lock_world.specs.Steps.{Deed, nothing, changes, does, joins, asks, leaves, notifies}
-use Rattle.mutex_machine.specs.declared.program.Place.{Place as TurnPlace}
-use Rattle.mutex_machine.specs.Courses.{is_out as is_out_there, is_holding}
+use Rattle.mutex_machine.specs.Course.{Course as TurnCourse, is_out as is_out_there, is_holding}
 use Rattle.rwlock_machine.specs.declared.program.Action.{Action}
 use Rattle.rwlock_machine.specs.declared.program.Action.TheVariants as act
 use Rattle.rwlock_machine.specs.declared.program.End.TheVariants.{Got, Pending, Waiting, NotFree, GivenBack, Refused}
@@ -21,7 +20,7 @@ use Rattle.rwlock_machine.specs.declared.program.Next.TheVariants as next
 use Rattle.rwlock_machine.specs.declared.program.Found.{Found}
 use Rattle.rwlock_machine.specs.declared.program.Found.TheVariants.{Done, Writer, Full, NoneLeft, SomeLeft, NoMemory, Yes, No, Turn}
 use Rattle.rwlock_machine.specs.declared.program.Found.TheVariants as found
-use Rattle.mutex_machine.specs.declared.program.Next.TheVariants as turn_next
+use Rattle.mutex_machine.specs.declared.mutex.Step.TheVariants as turn_step
 use Rattle.mutex_machine.specs.declared.program.End.TheVariants as turn_end
 use Rattle.rwlock_machine.specs.declared.program.Purpose.TheVariants as purpose
 use Rattle.rwlock_machine.specs.declared.program.Ending.TheVariants as ending
@@ -84,7 +83,7 @@ answer_at c v (next.End NotFree q) = answer.None
 answer_at c v (next.End GivenBack q) = answer.GivenBack
 answer_at c v (next.End (Refused r) q) = refused r
 
-abbrev pub verdict_then : ℕ → Course → TurnPlace → Next → Option Answer
+abbrev pub verdict_then : ℕ → Course → TurnCourse → Next → Option Answer
 verdict_then v c t (next.Do a q) = verdict v q t
 verdict_then v c t (next.End e q) = Some (answer_at c v (next.End e q))
 
@@ -157,7 +156,7 @@ lacks_memory _ = false
 
 -- why a step refuses its call
 abbrev pub Refuses : Bool → RwLock → Place → Found → Refusal → Type 0
-Refuses memory l x f refusal.Memory = (memory ≡ false) × (in_no_writer x + in_no_readers x ≡ 0) × (deed_at x f ≡ nothing) × ((t : TurnPlace) → fits_turn x t ≡ true → (is_out_there t ≡ true) ⊎ (is_holding t ≡ true)) × (lacks_memory x ≡ true)
+Refuses memory l x f refusal.Memory = (memory ≡ false) × (in_no_writer x + in_no_readers x ≡ 0) × (deed_at x f ≡ nothing) × ((t : TurnCourse) → fits_turn x t ≡ true → (is_out_there t ≡ true) ⊎ (is_holding t ≡ true)) × (lacks_memory x ≡ true)
 Refuses memory l x f refusal.Readers = (l.limit ≤ readers l) × (meets (sought_at (place_after (next_of x f))) refusal.Readers ≡ true)
 Refuses memory l x f _ = ⊥
 
@@ -188,7 +187,7 @@ keeps_what_it_has o d = not (gives_up d) || is_judged o
 
 -- an upgrade's future stays one while its call is undecided or pending
 abbrev pub KeepsUpgrade : ℕ → Place → Next → Type 0
-KeepsUpgrade v x (next.Do a q) = (t : TurnPlace) → verdict v q t ≡ None → is_upgrade q ≡ is_upgrade x
+KeepsUpgrade v x (next.Do a q) = (t : TurnCourse) → verdict v q t ≡ None → is_upgrade q ≡ is_upgrade x
 KeepsUpgrade v x (next.End Waiting q) = is_upgrade q ≡ true
 KeepsUpgrade v x (next.End Pending q) = is_upgrade q ≡ is_upgrade x
 KeepsUpgrade v x (next.End (Refused r) q) = is_upgrade q ≡ is_upgrade x
@@ -208,9 +207,9 @@ pub record Row (memory : Bool) (l : RwLock) (v : ℕ) (x : Place) (f : Found) : 
   pub no_writer : (p : ℕ) (a b : List (Entry ℕ)) → OnNoWriter p (action_of x) f a b → b ≡ no_writer_after p (deed_at x f) a
   pub no_readers : (p : ℕ) (a b : List (Entry ℕ)) → OnNoReaders p (action_of x) f a b → b ≡ no_readers_after p (deed_at x f) a
   pub finding : Finding (deed_at x f) l x
-  pub judged : (t u : TurnPlace) → Judged memory l v x f (verdict v x t) (verdict_then v (course_of x) u (next_of x f))
+  pub judged : (t u : TurnCourse) → Judged memory l v x f (verdict v x t) (verdict_then v (course_of x) u (next_of x f))
   pub room : Room memory (deed_at x f)
-  pub holds_on : (t : TurnPlace) → keeps_what_it_has (verdict v x t) (deed_at x f) ≡ true
+  pub holds_on : (t : TurnCourse) → keeps_what_it_has (verdict v x t) (deed_at x f) ≡ true
   pub over : is_after_ready (answer_at (course_of x) v (next_of x f)) ≡ false
   pub upgrade : KeepsUpgrade v x (next_of x f)
   pub refused : RefusedAt x (next_of x f)
@@ -358,105 +357,105 @@ pub record TurnRow (v : ℕ) (x : Place) (f : Found) : Type 0 where
   pub upgrade : KeepsUpgrade v x (next_of x f)
   pub refused : RefusedAt x (next_of x f)
 
-pub turn_row : (v : ℕ) (u : TurnPlace) (x : Place) (f : Found) → steps_in_turn x ≡ true → Led x f u → TurnRow v x f
-turn_row v u (EnterTurn purpose.UpgradableRead) (Turn (turn_next.Do a q)) t e = record { reading = refl; sharing = refl; over = refl; upgrade = λ t h. refl; refused = tt }
-turn_row v u (EnterTurn purpose.UpgradableRead) (Turn (turn_next.End turn_end.Got)) t e = record { reading = refl; sharing = refl; over = refl; upgrade = λ t h. refl; refused = tt }
-turn_row v u (EnterTurn purpose.UpgradableRead) (Turn (turn_next.End turn_end.Pending)) t e = record { reading = refl; sharing = refl; over = refl; upgrade = refl; refused = tt }
-turn_row v u (EnterTurn purpose.UpgradableRead) (Turn (turn_next.End (turn_end.Refused refusal.Memory))) t e = record { reading = refl; sharing = refl; over = refl; upgrade = refl; refused = inl (refl, refl) }
-turn_row v u (EnterTurn purpose.UpgradableRead) (Turn (turn_next.End (turn_end.Refused refusal.Starved))) t e = record { reading = refl; sharing = refl; over = refl; upgrade = refl; refused = inl (refl, refl) }
+pub turn_row : (v : ℕ) (u : TurnCourse) (x : Place) (f : Found) → steps_in_turn x ≡ true → Led x f u → TurnRow v x f
+turn_row v u (EnterTurn purpose.UpgradableRead) (Turn turn_step.More) t e = record { reading = refl; sharing = refl; over = refl; upgrade = λ t h. refl; refused = tt }
+turn_row v u (EnterTurn purpose.UpgradableRead) (Turn (turn_step.End turn_end.Got)) t e = record { reading = refl; sharing = refl; over = refl; upgrade = λ t h. refl; refused = tt }
+turn_row v u (EnterTurn purpose.UpgradableRead) (Turn (turn_step.End turn_end.Pending)) t e = record { reading = refl; sharing = refl; over = refl; upgrade = refl; refused = tt }
+turn_row v u (EnterTurn purpose.UpgradableRead) (Turn (turn_step.End (turn_end.Refused refusal.Memory))) t e = record { reading = refl; sharing = refl; over = refl; upgrade = refl; refused = inl (refl, refl) }
+turn_row v u (EnterTurn purpose.UpgradableRead) (Turn (turn_step.End (turn_end.Refused refusal.Starved))) t e = record { reading = refl; sharing = refl; over = refl; upgrade = refl; refused = inl (refl, refl) }
 turn_row v u (EnterTurn purpose.UpgradableRead) (Turn _) t e = absurd e
 turn_row v u (EnterTurn purpose.UpgradableRead) _ t e = absurd e
-turn_row v u (EnterTurn purpose.Write) (Turn (turn_next.Do a q)) t e = record { reading = refl; sharing = refl; over = refl; upgrade = λ t h. refl; refused = tt }
-turn_row v u (EnterTurn purpose.Write) (Turn (turn_next.End turn_end.Got)) t e = record { reading = refl; sharing = refl; over = refl; upgrade = λ t h. refl; refused = tt }
-turn_row v u (EnterTurn purpose.Write) (Turn (turn_next.End turn_end.Pending)) t e = record { reading = refl; sharing = refl; over = refl; upgrade = refl; refused = tt }
-turn_row v u (EnterTurn purpose.Write) (Turn (turn_next.End (turn_end.Refused refusal.Memory))) t e = record { reading = refl; sharing = refl; over = refl; upgrade = refl; refused = inl (refl, refl) }
-turn_row v u (EnterTurn purpose.Write) (Turn (turn_next.End (turn_end.Refused refusal.Starved))) t e = record { reading = refl; sharing = refl; over = refl; upgrade = refl; refused = inl (refl, refl) }
+turn_row v u (EnterTurn purpose.Write) (Turn turn_step.More) t e = record { reading = refl; sharing = refl; over = refl; upgrade = λ t h. refl; refused = tt }
+turn_row v u (EnterTurn purpose.Write) (Turn (turn_step.End turn_end.Got)) t e = record { reading = refl; sharing = refl; over = refl; upgrade = λ t h. refl; refused = tt }
+turn_row v u (EnterTurn purpose.Write) (Turn (turn_step.End turn_end.Pending)) t e = record { reading = refl; sharing = refl; over = refl; upgrade = refl; refused = tt }
+turn_row v u (EnterTurn purpose.Write) (Turn (turn_step.End (turn_end.Refused refusal.Memory))) t e = record { reading = refl; sharing = refl; over = refl; upgrade = refl; refused = inl (refl, refl) }
+turn_row v u (EnterTurn purpose.Write) (Turn (turn_step.End (turn_end.Refused refusal.Starved))) t e = record { reading = refl; sharing = refl; over = refl; upgrade = refl; refused = inl (refl, refl) }
 turn_row v u (EnterTurn purpose.Write) (Turn _) t e = absurd e
 turn_row v u (EnterTurn purpose.Write) _ t e = absurd e
-turn_row v u (WaitTurn purpose.UpgradableRead) (Turn (turn_next.Do a q)) t e = record { reading = refl; sharing = refl; over = refl; upgrade = λ t h. refl; refused = tt }
-turn_row v u (WaitTurn purpose.UpgradableRead) (Turn (turn_next.End turn_end.Got)) t e = record { reading = refl; sharing = refl; over = refl; upgrade = λ t h. refl; refused = tt }
-turn_row v u (WaitTurn purpose.UpgradableRead) (Turn (turn_next.End turn_end.Pending)) t e = record { reading = refl; sharing = refl; over = refl; upgrade = refl; refused = tt }
-turn_row v u (WaitTurn purpose.UpgradableRead) (Turn (turn_next.End (turn_end.Refused refusal.Memory))) t e = record { reading = refl; sharing = refl; over = refl; upgrade = refl; refused = inl (refl, refl) }
-turn_row v u (WaitTurn purpose.UpgradableRead) (Turn (turn_next.End (turn_end.Refused refusal.Starved))) t e = record { reading = refl; sharing = refl; over = refl; upgrade = refl; refused = inl (refl, refl) }
+turn_row v u (WaitTurn purpose.UpgradableRead) (Turn turn_step.More) t e = record { reading = refl; sharing = refl; over = refl; upgrade = λ t h. refl; refused = tt }
+turn_row v u (WaitTurn purpose.UpgradableRead) (Turn (turn_step.End turn_end.Got)) t e = record { reading = refl; sharing = refl; over = refl; upgrade = λ t h. refl; refused = tt }
+turn_row v u (WaitTurn purpose.UpgradableRead) (Turn (turn_step.End turn_end.Pending)) t e = record { reading = refl; sharing = refl; over = refl; upgrade = refl; refused = tt }
+turn_row v u (WaitTurn purpose.UpgradableRead) (Turn (turn_step.End (turn_end.Refused refusal.Memory))) t e = record { reading = refl; sharing = refl; over = refl; upgrade = refl; refused = inl (refl, refl) }
+turn_row v u (WaitTurn purpose.UpgradableRead) (Turn (turn_step.End (turn_end.Refused refusal.Starved))) t e = record { reading = refl; sharing = refl; over = refl; upgrade = refl; refused = inl (refl, refl) }
 turn_row v u (WaitTurn purpose.UpgradableRead) (Turn _) t e = absurd e
 turn_row v u (WaitTurn purpose.UpgradableRead) _ t e = absurd e
-turn_row v u (WaitTurn purpose.Write) (Turn (turn_next.Do a q)) t e = record { reading = refl; sharing = refl; over = refl; upgrade = λ t h. refl; refused = tt }
-turn_row v u (WaitTurn purpose.Write) (Turn (turn_next.End turn_end.Got)) t e = record { reading = refl; sharing = refl; over = refl; upgrade = λ t h. refl; refused = tt }
-turn_row v u (WaitTurn purpose.Write) (Turn (turn_next.End turn_end.Pending)) t e = record { reading = refl; sharing = refl; over = refl; upgrade = refl; refused = tt }
-turn_row v u (WaitTurn purpose.Write) (Turn (turn_next.End (turn_end.Refused refusal.Memory))) t e = record { reading = refl; sharing = refl; over = refl; upgrade = refl; refused = inl (refl, refl) }
-turn_row v u (WaitTurn purpose.Write) (Turn (turn_next.End (turn_end.Refused refusal.Starved))) t e = record { reading = refl; sharing = refl; over = refl; upgrade = refl; refused = inl (refl, refl) }
+turn_row v u (WaitTurn purpose.Write) (Turn turn_step.More) t e = record { reading = refl; sharing = refl; over = refl; upgrade = λ t h. refl; refused = tt }
+turn_row v u (WaitTurn purpose.Write) (Turn (turn_step.End turn_end.Got)) t e = record { reading = refl; sharing = refl; over = refl; upgrade = λ t h. refl; refused = tt }
+turn_row v u (WaitTurn purpose.Write) (Turn (turn_step.End turn_end.Pending)) t e = record { reading = refl; sharing = refl; over = refl; upgrade = refl; refused = tt }
+turn_row v u (WaitTurn purpose.Write) (Turn (turn_step.End (turn_end.Refused refusal.Memory))) t e = record { reading = refl; sharing = refl; over = refl; upgrade = refl; refused = inl (refl, refl) }
+turn_row v u (WaitTurn purpose.Write) (Turn (turn_step.End (turn_end.Refused refusal.Starved))) t e = record { reading = refl; sharing = refl; over = refl; upgrade = refl; refused = inl (refl, refl) }
 turn_row v u (WaitTurn purpose.Write) (Turn _) t e = absurd e
 turn_row v u (WaitTurn purpose.Write) _ t e = absurd e
-turn_row v u (TakeTurn purpose.UpgradableRead) (Turn (turn_next.Do a q)) t e = record { reading = refl; sharing = refl; over = refl; upgrade = λ t h. refl; refused = tt }
-turn_row v u (TakeTurn purpose.UpgradableRead) (Turn (turn_next.End turn_end.Got)) t e = record { reading = refl; sharing = refl; over = refl; upgrade = λ t h. refl; refused = tt }
-turn_row v u (TakeTurn purpose.UpgradableRead) (Turn (turn_next.End turn_end.Pending)) t e = record { reading = refl; sharing = refl; over = refl; upgrade = refl; refused = tt }
-turn_row v u (TakeTurn purpose.UpgradableRead) (Turn (turn_next.End (turn_end.Refused refusal.Memory))) t e = record { reading = refl; sharing = refl; over = refl; upgrade = refl; refused = inl (refl, refl) }
-turn_row v u (TakeTurn purpose.UpgradableRead) (Turn (turn_next.End (turn_end.Refused refusal.Starved))) t e = record { reading = refl; sharing = refl; over = refl; upgrade = refl; refused = inl (refl, refl) }
+turn_row v u (TakeTurn purpose.UpgradableRead) (Turn turn_step.More) t e = record { reading = refl; sharing = refl; over = refl; upgrade = λ t h. refl; refused = tt }
+turn_row v u (TakeTurn purpose.UpgradableRead) (Turn (turn_step.End turn_end.Got)) t e = record { reading = refl; sharing = refl; over = refl; upgrade = λ t h. refl; refused = tt }
+turn_row v u (TakeTurn purpose.UpgradableRead) (Turn (turn_step.End turn_end.Pending)) t e = record { reading = refl; sharing = refl; over = refl; upgrade = refl; refused = tt }
+turn_row v u (TakeTurn purpose.UpgradableRead) (Turn (turn_step.End (turn_end.Refused refusal.Memory))) t e = record { reading = refl; sharing = refl; over = refl; upgrade = refl; refused = inl (refl, refl) }
+turn_row v u (TakeTurn purpose.UpgradableRead) (Turn (turn_step.End (turn_end.Refused refusal.Starved))) t e = record { reading = refl; sharing = refl; over = refl; upgrade = refl; refused = inl (refl, refl) }
 turn_row v u (TakeTurn purpose.UpgradableRead) (Turn _) t e = absurd e
 turn_row v u (TakeTurn purpose.UpgradableRead) _ t e = absurd e
-turn_row v u (TakeTurn purpose.Write) (Turn (turn_next.Do a q)) t e = record { reading = refl; sharing = refl; over = refl; upgrade = λ t h. refl; refused = tt }
-turn_row v u (TakeTurn purpose.Write) (Turn (turn_next.End turn_end.Got)) t e = record { reading = refl; sharing = refl; over = refl; upgrade = λ t h. refl; refused = tt }
-turn_row v u (TakeTurn purpose.Write) (Turn (turn_next.End turn_end.Pending)) t e = record { reading = refl; sharing = refl; over = refl; upgrade = refl; refused = tt }
-turn_row v u (TakeTurn purpose.Write) (Turn (turn_next.End (turn_end.Refused refusal.Memory))) t e = record { reading = refl; sharing = refl; over = refl; upgrade = refl; refused = inl (refl, refl) }
-turn_row v u (TakeTurn purpose.Write) (Turn (turn_next.End (turn_end.Refused refusal.Starved))) t e = record { reading = refl; sharing = refl; over = refl; upgrade = refl; refused = inl (refl, refl) }
+turn_row v u (TakeTurn purpose.Write) (Turn turn_step.More) t e = record { reading = refl; sharing = refl; over = refl; upgrade = λ t h. refl; refused = tt }
+turn_row v u (TakeTurn purpose.Write) (Turn (turn_step.End turn_end.Got)) t e = record { reading = refl; sharing = refl; over = refl; upgrade = λ t h. refl; refused = tt }
+turn_row v u (TakeTurn purpose.Write) (Turn (turn_step.End turn_end.Pending)) t e = record { reading = refl; sharing = refl; over = refl; upgrade = refl; refused = tt }
+turn_row v u (TakeTurn purpose.Write) (Turn (turn_step.End (turn_end.Refused refusal.Memory))) t e = record { reading = refl; sharing = refl; over = refl; upgrade = refl; refused = inl (refl, refl) }
+turn_row v u (TakeTurn purpose.Write) (Turn (turn_step.End (turn_end.Refused refusal.Starved))) t e = record { reading = refl; sharing = refl; over = refl; upgrade = refl; refused = inl (refl, refl) }
 turn_row v u (TakeTurn purpose.Write) (Turn _) t e = absurd e
 turn_row v u (TakeTurn purpose.Write) _ t e = absurd e
-turn_row v u (TryTurn purpose.UpgradableRead) (Turn (turn_next.End turn_end.Got)) t e = record { reading = refl; sharing = refl; over = refl; upgrade = λ t h. refl; refused = tt }
-turn_row v u (TryTurn purpose.UpgradableRead) (Turn (turn_next.End turn_end.NotFree)) t e = record { reading = refl; sharing = refl; over = refl; upgrade = tt; refused = tt }
+turn_row v u (TryTurn purpose.UpgradableRead) (Turn (turn_step.End turn_end.Got)) t e = record { reading = refl; sharing = refl; over = refl; upgrade = λ t h. refl; refused = tt }
+turn_row v u (TryTurn purpose.UpgradableRead) (Turn (turn_step.End turn_end.NotFree)) t e = record { reading = refl; sharing = refl; over = refl; upgrade = tt; refused = tt }
 turn_row v u (TryTurn purpose.UpgradableRead) (Turn _) t e = absurd e
 turn_row v u (TryTurn purpose.UpgradableRead) _ t e = absurd e
-turn_row v u (TryTurn purpose.Write) (Turn (turn_next.End turn_end.Got)) t e = record { reading = refl; sharing = refl; over = refl; upgrade = λ t h. refl; refused = tt }
-turn_row v u (TryTurn purpose.Write) (Turn (turn_next.End turn_end.NotFree)) t e = record { reading = refl; sharing = refl; over = refl; upgrade = tt; refused = tt }
+turn_row v u (TryTurn purpose.Write) (Turn (turn_step.End turn_end.Got)) t e = record { reading = refl; sharing = refl; over = refl; upgrade = λ t h. refl; refused = tt }
+turn_row v u (TryTurn purpose.Write) (Turn (turn_step.End turn_end.NotFree)) t e = record { reading = refl; sharing = refl; over = refl; upgrade = tt; refused = tt }
 turn_row v u (TryTurn purpose.Write) (Turn _) t e = absurd e
 turn_row v u (TryTurn purpose.Write) _ t e = absurd e
-turn_row v u CancelTurn (Turn (turn_next.Do a q)) t e = record { reading = refl; sharing = refl; over = refl; upgrade = λ t h. refl; refused = tt }
-turn_row v u CancelTurn (Turn (turn_next.End turn_end.GivenBack)) t e = record { reading = refl; sharing = refl; over = refl; upgrade = tt; refused = tt }
+turn_row v u CancelTurn (Turn turn_step.More) t e = record { reading = refl; sharing = refl; over = refl; upgrade = λ t h. refl; refused = tt }
+turn_row v u CancelTurn (Turn (turn_step.End turn_end.GivenBack)) t e = record { reading = refl; sharing = refl; over = refl; upgrade = tt; refused = tt }
 turn_row v u CancelTurn (Turn _) t e = absurd e
 turn_row v u CancelTurn _ t e = absurd e
-turn_row v u CancellingTurn (Turn (turn_next.Do a q)) t e = record { reading = refl; sharing = refl; over = refl; upgrade = λ t h. refl; refused = tt }
-turn_row v u CancellingTurn (Turn (turn_next.End turn_end.GivenBack)) t e = record { reading = refl; sharing = refl; over = refl; upgrade = tt; refused = tt }
+turn_row v u CancellingTurn (Turn turn_step.More) t e = record { reading = refl; sharing = refl; over = refl; upgrade = λ t h. refl; refused = tt }
+turn_row v u CancellingTurn (Turn (turn_step.End turn_end.GivenBack)) t e = record { reading = refl; sharing = refl; over = refl; upgrade = tt; refused = tt }
 turn_row v u CancellingTurn (Turn _) t e = absurd e
 turn_row v u CancellingTurn _ t e = absurd e
-turn_row v u (ReleaseTurn ending.GivenBack) (Turn (turn_next.Do a q)) t e = record { reading = refl; sharing = refl; over = refl; upgrade = λ t h. refl; refused = tt }
-turn_row v u (ReleaseTurn ending.GivenBack) (Turn (turn_next.End turn_end.GivenBack)) t e = record { reading = refl; sharing = refl; over = refl; upgrade = tt; refused = tt }
+turn_row v u (ReleaseTurn ending.GivenBack) (Turn turn_step.More) t e = record { reading = refl; sharing = refl; over = refl; upgrade = λ t h. refl; refused = tt }
+turn_row v u (ReleaseTurn ending.GivenBack) (Turn (turn_step.End turn_end.GivenBack)) t e = record { reading = refl; sharing = refl; over = refl; upgrade = tt; refused = tt }
 turn_row v u (ReleaseTurn ending.GivenBack) (Turn _) t e = absurd e
 turn_row v u (ReleaseTurn ending.GivenBack) _ t e = absurd e
-turn_row v u (ReleasingTurn ending.GivenBack) (Turn (turn_next.End turn_end.GivenBack)) t e = record { reading = refl; sharing = refl; over = refl; upgrade = tt; refused = tt }
+turn_row v u (ReleasingTurn ending.GivenBack) (Turn (turn_step.End turn_end.GivenBack)) t e = record { reading = refl; sharing = refl; over = refl; upgrade = tt; refused = tt }
 turn_row v u (ReleasingTurn ending.GivenBack) (Turn _) t e = absurd e
 turn_row v u (ReleasingTurn ending.GivenBack) _ t e = absurd e
-turn_row v u (ReleaseTurn ending.NotFree) (Turn (turn_next.Do a q)) t e = record { reading = refl; sharing = refl; over = refl; upgrade = λ t h. refl; refused = tt }
-turn_row v u (ReleaseTurn ending.NotFree) (Turn (turn_next.End turn_end.GivenBack)) t e = record { reading = refl; sharing = refl; over = refl; upgrade = tt; refused = tt }
+turn_row v u (ReleaseTurn ending.NotFree) (Turn turn_step.More) t e = record { reading = refl; sharing = refl; over = refl; upgrade = λ t h. refl; refused = tt }
+turn_row v u (ReleaseTurn ending.NotFree) (Turn (turn_step.End turn_end.GivenBack)) t e = record { reading = refl; sharing = refl; over = refl; upgrade = tt; refused = tt }
 turn_row v u (ReleaseTurn ending.NotFree) (Turn _) t e = absurd e
 turn_row v u (ReleaseTurn ending.NotFree) _ t e = absurd e
-turn_row v u (ReleasingTurn ending.NotFree) (Turn (turn_next.End turn_end.GivenBack)) t e = record { reading = refl; sharing = refl; over = refl; upgrade = tt; refused = tt }
+turn_row v u (ReleasingTurn ending.NotFree) (Turn (turn_step.End turn_end.GivenBack)) t e = record { reading = refl; sharing = refl; over = refl; upgrade = tt; refused = tt }
 turn_row v u (ReleasingTurn ending.NotFree) (Turn _) t e = absurd e
 turn_row v u (ReleasingTurn ending.NotFree) _ t e = absurd e
-turn_row v u (ReleaseTurn ending.RefuseReaders) (Turn (turn_next.Do a q)) t e = record { reading = refl; sharing = refl; over = refl; upgrade = λ t h. refl; refused = tt }
-turn_row v u (ReleaseTurn ending.RefuseReaders) (Turn (turn_next.End turn_end.GivenBack)) t e = record { reading = refl; sharing = refl; over = refl; upgrade = refl; refused = inl (refl, refl) }
+turn_row v u (ReleaseTurn ending.RefuseReaders) (Turn turn_step.More) t e = record { reading = refl; sharing = refl; over = refl; upgrade = λ t h. refl; refused = tt }
+turn_row v u (ReleaseTurn ending.RefuseReaders) (Turn (turn_step.End turn_end.GivenBack)) t e = record { reading = refl; sharing = refl; over = refl; upgrade = refl; refused = inl (refl, refl) }
 turn_row v u (ReleaseTurn ending.RefuseReaders) (Turn _) t e = absurd e
 turn_row v u (ReleaseTurn ending.RefuseReaders) _ t e = absurd e
-turn_row v u (ReleasingTurn ending.RefuseReaders) (Turn (turn_next.End turn_end.GivenBack)) t e = record { reading = refl; sharing = refl; over = refl; upgrade = refl; refused = inl (refl, refl) }
+turn_row v u (ReleasingTurn ending.RefuseReaders) (Turn (turn_step.End turn_end.GivenBack)) t e = record { reading = refl; sharing = refl; over = refl; upgrade = refl; refused = inl (refl, refl) }
 turn_row v u (ReleasingTurn ending.RefuseReaders) (Turn _) t e = absurd e
 turn_row v u (ReleasingTurn ending.RefuseReaders) _ t e = absurd e
-turn_row v u (ReleaseTurn ending.RefuseMemory) (Turn (turn_next.Do a q)) t e = record { reading = refl; sharing = refl; over = refl; upgrade = λ t h. refl; refused = tt }
-turn_row v u (ReleaseTurn ending.RefuseMemory) (Turn (turn_next.End turn_end.GivenBack)) t e = record { reading = refl; sharing = refl; over = refl; upgrade = refl; refused = inl (refl, refl) }
+turn_row v u (ReleaseTurn ending.RefuseMemory) (Turn turn_step.More) t e = record { reading = refl; sharing = refl; over = refl; upgrade = λ t h. refl; refused = tt }
+turn_row v u (ReleaseTurn ending.RefuseMemory) (Turn (turn_step.End turn_end.GivenBack)) t e = record { reading = refl; sharing = refl; over = refl; upgrade = refl; refused = inl (refl, refl) }
 turn_row v u (ReleaseTurn ending.RefuseMemory) (Turn _) t e = absurd e
 turn_row v u (ReleaseTurn ending.RefuseMemory) _ t e = absurd e
-turn_row v u (ReleasingTurn ending.RefuseMemory) (Turn (turn_next.End turn_end.GivenBack)) t e = record { reading = refl; sharing = refl; over = refl; upgrade = refl; refused = inl (refl, refl) }
+turn_row v u (ReleasingTurn ending.RefuseMemory) (Turn (turn_step.End turn_end.GivenBack)) t e = record { reading = refl; sharing = refl; over = refl; upgrade = refl; refused = inl (refl, refl) }
 turn_row v u (ReleasingTurn ending.RefuseMemory) (Turn _) t e = absurd e
 turn_row v u (ReleasingTurn ending.RefuseMemory) _ t e = absurd e
-turn_row v u (ReleaseTurn ending.Reading) (Turn (turn_next.Do a q)) t e = record { reading = refl; sharing = refl; over = refl; upgrade = λ t h. refl; refused = tt }
-turn_row v u (ReleaseTurn ending.Reading) (Turn (turn_next.End turn_end.GivenBack)) t e = record { reading = refl; sharing = refl; over = refl; upgrade = tt; refused = tt }
+turn_row v u (ReleaseTurn ending.Reading) (Turn turn_step.More) t e = record { reading = refl; sharing = refl; over = refl; upgrade = λ t h. refl; refused = tt }
+turn_row v u (ReleaseTurn ending.Reading) (Turn (turn_step.End turn_end.GivenBack)) t e = record { reading = refl; sharing = refl; over = refl; upgrade = tt; refused = tt }
 turn_row v u (ReleaseTurn ending.Reading) (Turn _) t e = absurd e
 turn_row v u (ReleaseTurn ending.Reading) _ t e = absurd e
-turn_row v u (ReleasingTurn ending.Reading) (Turn (turn_next.End turn_end.GivenBack)) t e = record { reading = refl; sharing = refl; over = refl; upgrade = tt; refused = tt }
+turn_row v u (ReleasingTurn ending.Reading) (Turn (turn_step.End turn_end.GivenBack)) t e = record { reading = refl; sharing = refl; over = refl; upgrade = tt; refused = tt }
 turn_row v u (ReleasingTurn ending.Reading) (Turn _) t e = absurd e
 turn_row v u (ReleasingTurn ending.Reading) _ t e = absurd e
-turn_row v u (ReleaseTurn ending.NotifyReaders) (Turn (turn_next.Do a q)) t e = record { reading = refl; sharing = refl; over = refl; upgrade = λ t h. refl; refused = tt }
-turn_row v u (ReleaseTurn ending.NotifyReaders) (Turn (turn_next.End turn_end.GivenBack)) t e = record { reading = refl; sharing = refl; over = refl; upgrade = λ t h. refl; refused = tt }
+turn_row v u (ReleaseTurn ending.NotifyReaders) (Turn turn_step.More) t e = record { reading = refl; sharing = refl; over = refl; upgrade = λ t h. refl; refused = tt }
+turn_row v u (ReleaseTurn ending.NotifyReaders) (Turn (turn_step.End turn_end.GivenBack)) t e = record { reading = refl; sharing = refl; over = refl; upgrade = λ t h. refl; refused = tt }
 turn_row v u (ReleaseTurn ending.NotifyReaders) (Turn _) t e = absurd e
 turn_row v u (ReleaseTurn ending.NotifyReaders) _ t e = absurd e
-turn_row v u (ReleasingTurn ending.NotifyReaders) (Turn (turn_next.End turn_end.GivenBack)) t e = record { reading = refl; sharing = refl; over = refl; upgrade = λ t h. refl; refused = tt }
+turn_row v u (ReleasingTurn ending.NotifyReaders) (Turn (turn_step.End turn_end.GivenBack)) t e = record { reading = refl; sharing = refl; over = refl; upgrade = λ t h. refl; refused = tt }
 turn_row v u (ReleasingTurn ending.NotifyReaders) (Turn _) t e = absurd e
 turn_row v u (ReleasingTurn ending.NotifyReaders) _ t e = absurd e
 turn_row v u _ f t e = absurd (cc)

@@ -9,13 +9,11 @@ use Rattle.lock_world.specs.declared.standing.Stage.{Stage}
 use Rattle.lock_world.specs.declared.standing.Stage.TheVariants.{Outside, Inside, Forgotten}
 use Rattle.lock_world.specs.Standings.{is_outside, outside, forgotten, is_outside_stage, forgets}
 use Rattle.lock_world.specs.Rights.{Right, read, upgradable, write, wait_to_write, excludes}
-use Rattle.mutex_machine.specs.declared.program.Place.{Place as TurnPlace}
-use Rattle.mutex_machine.specs.Machine.{place_at as turn_at}
-use Rattle.mutex_machine.specs.Roles.{counted, holds, listed, is_resting as rests_in_turn}
-use Rattle.mutex_machine.specs.State.{is_counted, holder_of}
-use Rattle.mutex_machine.specs.Acts as lock
+use Rattle.mutex_machine.specs.Course.{Course as TurnCourse, counted, holds, listed, is_resting as rests_in_turn}
+use Rattle.mutex_machine.specs.Mutex.{course_at as turn_at, is_counted, holder_of}
+use Rattle.mutex_machine.specs.Mutex as lock
 use Rattle.mutex_machine.proofs.Callers.{out_rests, holding_rests, waiting_rests}
-use Rattle.mutex_machine.proofs.Seen as sees
+use Rattle.mutex_machine.proofs.Holders as sees
 use Rattle.rwlock_machine.specs.declared.program.Ending.TheVariants as ending
 use Rattle.rwlock_machine.specs.declared.program.Place.{Place}
 use Rattle.rwlock_machine.specs.declared.program.Place.TheVariants as place
@@ -197,13 +195,13 @@ split : (a b : Bool) → a && b ≡ true → (a ≡ true) × (b ≡ true)
 split true b h = (refl, h)
 split false b h = absurd (cc)
 
-same_outside : (v : ℕ) (s : Stage) (x : Place) (t : TurnPlace) → is_outside (stands_as v s x t) ≡ is_outside_stage s
+same_outside : (v : ℕ) (s : Stage) (x : Place) (t : TurnCourse) → is_outside (stands_as v s x t) ≡ is_outside_stage s
 same_outside v (Outside r) x t = refl
 same_outside v (Inside u) x t = refl
 same_outside v Forgotten x t = refl
 
 -- the World is at rest where its table is
-pub rest_seen : (v : ℕ) (ss : List Stage) (xs : List Place) (ts : List TurnPlace) → length ss ≡ length xs → list_all is_outside (standings v ss xs ts) ≡ list_all is_outside_stage ss
+pub rest_seen : (v : ℕ) (ss : List Stage) (xs : List Place) (ts : List TurnCourse) → length ss ≡ length xs → list_all is_outside (standings v ss xs ts) ≡ list_all is_outside_stage ss
 rest_seen v [] xs ts e = refl
 rest_seen v (s ∷ ss) [] ts e = absurd (omega arith)
 rest_seen v (s ∷ ss) (x ∷ xs) ts e = let more = rest_seen v ss xs (others ts) (omega arith) in let one = same_outside v s x (turn_at ts 0) in cc
@@ -225,7 +223,7 @@ all_rest l ss os fits resting p = elim (past_out l.places p) as (λ _. is_restin
 ]
 
 -- and in the turn
-rests_there : (x : Place) (t : TurnPlace) → is_resting x ≡ true → fits_turn x t ≡ true → rests_in_turn t ≡ true
+rests_there : (x : Place) (t : TurnCourse) → is_resting x ≡ true → fits_turn x t ≡ true → rests_in_turn t ≡ true
 rests_there place.Out t h e = out_rests t e
 rests_there (place.Made w) t h e = out_rests t e
 rests_there place.Reading t h e = out_rests t e
@@ -237,7 +235,7 @@ rests_there (place.AwaitNoReaders u) t h e = holding_rests t e
 rests_there (place.LookUnlisted u) t h e = holding_rests t e
 rests_there _ t h e = absurd (cc)
 
-turns_rest : (ts : List TurnPlace) → ((p : ℕ) → rests_in_turn (turn_at ts p) ≡ true) → lock.IsAtRest ts
+turns_rest : (ts : List TurnCourse) → ((p : ℕ) → rests_in_turn (turn_at ts p) ≡ true) → lock.IsAtRest ts
 turns_rest [] h = tt
 turns_rest (t ∷ ts) h = (h 0, turns_rest ts (λ p. h (suc p)))
 
@@ -325,15 +323,15 @@ nobody_holds (Some p) xs e = absurd (by_share (share_of (place_at xs p)) e) wher
   by_share waiting e = cc
   by_share writing e = cc
 
-one_counted : (b : Bool) (n : ℕ) → Rattle.mutex_machine.specs.Roles.bit b ≡ n → b ≡ true → n ≡ 1
-one_counted b n e h = sym e ∙ ap Rattle.mutex_machine.specs.Roles.bit h
+one_counted : (b : Bool) (n : ℕ) → Rattle.mutex_machine.specs.Course.bit b ≡ n → b ≡ true → n ≡ 1
+one_counted b n e h = sym e ∙ ap Rattle.mutex_machine.specs.Course.bit h
 
 module _ (t : Table) (laws : IsRwLock t.lock) (fits : IsTable t.lock t.stages t.sought) where
   abbrev seen_as : World
   seen_as = view_of t
 
   -- a listed party that is outside every call is pending, or was
-  pends : (p : ℕ) (s : Stage) → standing_of seen_as p ≡ stands_as t.value s (place_at t.lock.places p) (turn_at t.lock.turn.places p) → is_outside_stage s ≡ true → 0 < entries_in seen_as p → HasItsOwn seen_as p (standing_of seen_as p)
+  pends : (p : ℕ) (s : Stage) → standing_of seen_as p ≡ stands_as t.value s (place_at t.lock.places p) (turn_at t.lock.turn.courses p) → is_outside_stage s ≡ true → 0 < entries_in seen_as p → HasItsOwn seen_as p (standing_of seen_as p)
       → (standing_of seen_as p ≡ outside rest.Pending) ⊎ (standing_of seen_as p ≡ forgotten)
   pends p (Outside rest.Idle) e o some own = let k : HasItsOwn seen_as p (outside rest.Idle) = rw e at own in absurd (omega (arith, k.0.0, some))
   pends p (Outside rest.Pending) e o some own = inl e
@@ -344,20 +342,20 @@ module _ (t : Table) (laws : IsRwLock t.lock) (fits : IsTable t.lock t.stages t.
 
   pub awake : is_at_rest seen_as ≡ true → IsAwake seen_as
   awake resting =
-      let out : list_all is_outside_stage t.stages ≡ true = sym (rest_seen t.value t.stages t.lock.places t.lock.turn.places fits.as_many) ∙ resting in
+      let out : list_all is_outside_stage t.stages ≡ true = sym (rest_seen t.value t.stages t.lock.places t.lock.turn.courses fits.as_many) ∙ resting in
       let quiet : IsAtRest t.lock = all_rest t.lock t.stages t.sought fits out in
       let stood = owns.stood t.lock t.stages t.sought t.value laws fits in
       let each = owns.each t.lock t.stages t.sought t.value laws fits in
       record {
-        turn_marked = λ free. laws.wakes_turn quiet (sees.none_holds 0 t.lock.turn.places (nobody_holds (holder_of t.lock.turn) t.lock.places free.0)) free.1;
+        turn_marked = λ free. laws.wakes_turn quiet (sees.none_holds 0 t.lock.turn.courses (nobody_holds (holder_of t.lock.turn) t.lock.places free.0)) free.1;
         reading_marked = λ free. laws.wakes_no_writer quiet (bit_seen t.lock t.stages t.sought t.value laws fits free.0) free.1;
         writing_marked = λ free. laws.wakes_no_readers quiet (sym (view.how_many-read t.lock.places) ∙ free.0) free.1;
         pending = λ p some. elim (view.in_or_past t.stages p) as (λ _. (standing_of seen_as p ≡ outside rest.Pending) ⊎ (standing_of seen_as p ≡ forgotten)) [
           | inl known ↦ pends p (stage_at t.stages p) (stood p) (every t.stages p out known) some (each p)
-          | inr past ↦ inr (stood p ∙ ap (λ s. stands_as t.value s (place_at t.lock.places p) (turn_at t.lock.turn.places p)) past)
+          | inr past ↦ inr (stood p ∙ ap (λ s. stands_as t.value s (place_at t.lock.places p) (turn_at t.lock.turn.courses p)) past)
         ];
         starved = λ p counts.
-            let ts = t.lock.turn.places in
+            let ts = t.lock.turn.courses in
             let one : counted (turn_at ts p) ≡ 1 = one_counted (is_counted (turn_at ts p)) (counted (turn_at ts p)) (sees.counted_bit (turn_at ts p)) (sym (sees.starved_at ts p) ∙ counts) in
             let listed_once : entries_of p t.lock.turn.entries ≡ 1 = laws.turn.starved_listed (turns_rest ts (λ q. rests_there (place_at t.lock.places q) (turn_at ts q) (quiet q) (laws.in_turn q))) p one in
             omega (arith, listed_once);
@@ -389,7 +387,7 @@ forgotten_fits l ss os fits resting =
       seeks = λ p h. fits.seeks p (omega (arith, length-map ss forgets));
     }
 
-forgets_one : (v u : ℕ) (s : Stage) (x : Place) (t : TurnPlace) → is_outside_stage s ≡ true → stands_as u (forgets s) x t ≡ is_forgotten_then (stands_as v s x t)
+forgets_one : (v u : ℕ) (s : Stage) (x : Place) (t : TurnCourse) → is_outside_stage s ≡ true → stands_as u (forgets s) x t ≡ is_forgotten_then (stands_as v s x t)
 forgets_one v u (Outside rest.Idle) x t h = refl
 forgets_one v u (Outside rest.Pending) x t h = refl
 forgets_one v u (Outside rest.Holding) x t h = refl
@@ -397,7 +395,7 @@ forgets_one v u (Outside rest.Finished) x t h = refl
 forgets_one v u (Inside w) x t h = absurd (cc)
 forgets_one v u Forgotten x t h = refl
 
-forgets_seen : (v u : ℕ) (ss : List Stage) (xs : List Place) (ts : List TurnPlace) → list_all is_outside_stage ss ≡ true → standings u (map forgets ss) xs ts ≡ map is_forgotten_then (standings v ss xs ts)
+forgets_seen : (v u : ℕ) (ss : List Stage) (xs : List Place) (ts : List TurnCourse) → list_all is_outside_stage ss ≡ true → standings u (map forgets ss) xs ts ≡ map is_forgotten_then (standings v ss xs ts)
 forgets_seen v u [] xs ts h = refl
 forgets_seen v u (s ∷ ss) [] ts h = refl
 forgets_seen v u (s ∷ ss) (x ∷ xs) ts h =
@@ -407,7 +405,7 @@ forgets_seen v u (s ∷ ss) (x ∷ xs) ts h =
 
 -- a table whose value was put is seen as the World in which it was
 pub put_seen : (t : Table) (v : ℕ) → list_all is_outside_stage t.stages ≡ true → view_of (table_with t v) ≡ world_with (view_of t) v
-put_seen t v resting = let all = forgets_seen t.value v t.stages t.lock.places t.lock.turn.places resting in cc
+put_seen t v resting = let all = forgets_seen t.value v t.stages t.lock.places t.lock.turn.courses resting in cc
 
 -- ---- the words
 
@@ -435,5 +433,5 @@ none_test None = refl
 none_test (Some p) = refl
 
 -- the turn's word
-pub held_seen : (l : RwLock) (b : Bool) → Rattle.mutex_machine.specs.Roles.bit b ≡ lock.holders l.turn → Rattle.std.specs.Prelude.not b ≡ state.is_nobody (turn_by (holder_of l.turn) l.places)
-held_seen l b e = ap Rattle.std.specs.Prelude.not (sees.held_seen b l.turn.places e) ∙ (none_test (holder_of l.turn) ∙ sym (nobody_test (holder_of l.turn) l.places))
+pub held_seen : (l : RwLock) (b : Bool) → Rattle.mutex_machine.specs.Course.bit b ≡ lock.holders l.turn → Rattle.std.specs.Prelude.not b ≡ state.is_nobody (turn_by (holder_of l.turn) l.places)
+held_seen l b e = ap Rattle.std.specs.Prelude.not (sees.held_seen b l.turn.courses e) ∙ (none_test (holder_of l.turn) ∙ sym (nobody_test (holder_of l.turn) l.places))

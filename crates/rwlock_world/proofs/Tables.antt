@@ -10,7 +10,7 @@ use Rattle.lock_world.specs.declared.standing.Stage.{Stage}
 use Rattle.lock_world.specs.declared.standing.Stage.TheVariants.{Forgotten}
 use Rattle.lock_world.specs.declared.standing.Within.{Within}
 use Rattle.lock_world.specs.Standings.{inputs_of}
-use Rattle.mutex_machine.specs.Machine.{place_at as turn_at}
+use Rattle.mutex_machine.specs.Mutex.{course_at as turn_at}
 use Rattle.rwlock_machine.specs.declared.program.RwCall.{RwCall}
 use Rattle.rwlock_machine.specs.declared.program.Next.{Next}
 use Rattle.rwlock_machine.specs.declared.program.Place.{Place}
@@ -60,9 +60,9 @@ pub record Walks (x : Place) (n : Next) : Type 0 where
   pub keeps : Keeps (course_of x) n
   pub seeks : Seeks x n
 
-pub walks : (memory starving : Bool) (p : ℕ) (x : Place) (n : Next) (l m : RwLock) (w : Within) → Acts memory starving p x n l m → fits_turn x (turn_at l.turn.places p) ≡ true → is_on_course w.kind w.was (course_of x) ≡ true → Walks x n
+pub walks : (memory starving : Bool) (p : ℕ) (x : Place) (n : Next) (l m : RwLock) (w : Within) → Acts memory starving p x n l m → fits_turn x (turn_at l.turn.courses p) ≡ true → is_on_course w.kind w.was (course_of x) ≡ true → Walks x n
 walks memory starving p x n l m w a fits on =
-    let it : Path x a.found = path memory l (turn_at m.turn.places p) x a.found a.finds (led memory starving p l.turn m.turn x a.found a.turn fits) (strays_not w x on) in
+    let it : Path x a.found = path memory l (turn_at m.turn.courses p) x a.found a.finds (led memory starving p l.turn m.turn x a.found a.turn fits) (strays_not w x on) in
     let P : Next → Type 0 = λ n. Walks x n in
     subst P (sym a.next_is) (record { keeps = it.keeps; seeks = it.seeks })
 
@@ -78,7 +78,7 @@ module _ (l m : RwLock) (ss : List Stage) (os : List (Option Sought)) (p : ℕ) 
       let x : Place = place_at l.places p in
       let b = starts (stage_at ss p) (seeking os p) what x c w e (t.fits p known) (t.seeks p known) in
       let acts : Acts memory starving p b.0 n l m = rw b.1 at h in
-      let fits : fits_turn b.0 (turn_at l.turn.places p) ≡ true = rw (start_same c x b.0 b.1).in_turn (k.in_turn p) in
+      let fits : fits_turn b.0 (turn_at l.turn.courses p) ≡ true = rw (start_same c x b.0 b.1).in_turn (k.in_turn p) in
       let walk = walks memory starving p b.0 n l m w acts fits b.2.course in
       table_kept l m ss os p (stage_after w n) (begins_to_seek c (seeking os p) n) (place_after n) t known acts.places (stage_fits w b.0 n b.2.course walk.keeps) (begun_seeks c x b.0 w n (seeking os p) b.2 walk.seeks)
 

@@ -11,22 +11,19 @@ use Rattle.lock_world.specs.declared.refusal.Refusal.TheVariants as refusal
 use Rattle.lock_world.specs.declared.standing.Stage.{Stage}
 use Rattle.lock_world.specs.Standings.{inputs_of, refused}
 use Rattle.lock_world.specs.Steps.{Deed, changes, does, joins}
-use Rattle.mutex_machine.specs.declared.program.Place.{Place as TurnPlace}
+use Rattle.mutex_machine.specs.Course.{Course as TurnCourse, is_out, Takes, Tries, Releases, Cancels, holds, decision}
 use Rattle.mutex_machine.specs.declared.program.LockCall.{LockCall}
 use Rattle.mutex_machine.specs.declared.program.LockCall.TheVariants as turn_call
-use Rattle.mutex_machine.specs.declared.program.Next.{Next as TurnNext}
-use Rattle.mutex_machine.specs.declared.program.Next.TheVariants as turn_next
+use Rattle.mutex_machine.specs.declared.mutex.Step.{Step as TurnStep}
+use Rattle.mutex_machine.specs.declared.mutex.Step.TheVariants as turn_step
 use Rattle.mutex_machine.specs.declared.program.End.{End as TurnEnd}
 use Rattle.mutex_machine.specs.declared.program.End.TheVariants as turn_end
-use Rattle.mutex_machine.specs.Courses.{is_out, Takes, Tries, Releases, Cancels}
-use Rattle.mutex_machine.specs.Roles.{holds}
-use Rattle.mutex_machine.specs.Machine.{place_at as turn_at}
-use Rattle.mutex_machine.specs.State.{holder_of}
-use Rattle.mutex_machine.specs.Legal as mutex
-use Rattle.mutex_machine.specs.Legal.{decision, decided_by, decided_then, IsReason}
-use Rattle.mutex_machine.proofs.Parts.{out_free, releasing_free, releasing_decided, cancelling_decided, IsPolls, taking_decided}
-use Rattle.mutex_machine.proofs.Callers.{holding_holds}
-use Rattle.mutex_machine.proofs.Seen as sees
+use Rattle.mutex_machine.specs.Mutex.{course_at as turn_at, holder_of}
+use Rattle.mutex_machine.specs.Deeds as mutex
+use Rattle.mutex_machine.specs.Conduct.{decided_then, IsReason}
+use Rattle.mutex_machine.specs.Deeds.{decided_by}
+use Rattle.mutex_machine.proofs.Callers.{out_free, releasing_free, releasing_decided, cancelling_decided, IsPolls, taking_decided, holding_holds}
+use Rattle.mutex_machine.proofs.Holders as sees
 use Rattle.rwlock_machine.specs.declared.program.Found.{Found}
 use Rattle.rwlock_machine.specs.declared.program.Found.TheVariants.{Turn}
 use Rattle.rwlock_machine.specs.declared.program.Ending.TheVariants as ending
@@ -67,21 +64,21 @@ never_pending o (inl e) h = absurd (cc)
 never_pending o (inr (inl e)) h = absurd (cc)
 never_pending o (inr (inr r)) h = let e = r.1 in absurd (cc)
 
-now_polled : (v : ℕ) (u : TurnPlace) (pr : Purpose) (tn : TurnNext) → Takes tn u → verdict_then v polls u (after_lock pr (Turn tn)) ≡ poll_says (decided_then tn u)
-now_polled v u pr (turn_next.Do a q) h = says_refused (decision u) (taking_decided u h)
-now_polled v u purpose.UpgradableRead (turn_next.End turn_end.Got) h = refl
-now_polled v u purpose.Write (turn_next.End turn_end.Got) h = refl
-now_polled v u pr (turn_next.End turn_end.Pending) h = refl
-now_polled v u pr (turn_next.End (turn_end.Refused refusal.Memory)) h = refl
-now_polled v u pr (turn_next.End (turn_end.Refused refusal.Starved)) h = refl
-now_polled v u pr (turn_next.End _) h = absurd h
+now_polled : (v : ℕ) (u : TurnCourse) (pr : Purpose) (tn : TurnStep) → Takes tn u → verdict_then v polls u (after_lock pr (Turn tn)) ≡ poll_says (decided_then tn u)
+now_polled v u pr turn_step.More h = says_refused (decision u) (taking_decided u h)
+now_polled v u purpose.UpgradableRead (turn_step.End turn_end.Got) h = refl
+now_polled v u purpose.Write (turn_step.End turn_end.Got) h = refl
+now_polled v u pr (turn_step.End turn_end.Pending) h = refl
+now_polled v u pr (turn_step.End (turn_end.Refused refusal.Memory)) h = refl
+now_polled v u pr (turn_step.End (turn_end.Refused refusal.Starved)) h = refl
+now_polled v u pr (turn_step.End _) h = absurd h
 
-now_cancelled : (v : ℕ) (u : TurnPlace) (tn : TurnNext) → Cancels tn u → (verdict_then v drops u (after_turn place.CancelTurn (Turn tn)) ≡ Some answer.GivenBack) × (verdict_then v drops u (after_turn place.CancellingTurn (Turn tn)) ≡ Some answer.GivenBack)
-now_cancelled v u (turn_next.Do a q) h = (refl, refl)
-now_cancelled v u (turn_next.End turn_end.GivenBack) h = (refl, refl)
-now_cancelled v u (turn_next.End _) h = absurd h
+now_cancelled : (v : ℕ) (u : TurnCourse) (tn : TurnStep) → Cancels tn u → (verdict_then v drops u (after_turn place.CancelTurn (Turn tn)) ≡ Some answer.GivenBack) × (verdict_then v drops u (after_turn place.CancellingTurn (Turn tn)) ≡ Some answer.GivenBack)
+now_cancelled v u turn_step.More h = (refl, refl)
+now_cancelled v u (turn_step.End turn_end.GivenBack) h = (refl, refl)
+now_cancelled v u (turn_step.End _) h = absurd h
 
-now_given_back : (v : ℕ) (u : TurnPlace) (e : _) → (verdict_then v (course_until e) u (after_turn (place.ReleaseTurn e) (Turn (turn_next.End turn_end.GivenBack))) ≡ Some (verdict_until e)) × (verdict_then v (course_until e) u (after_turn (place.ReleasingTurn e) (Turn (turn_next.End turn_end.GivenBack))) ≡ Some (verdict_until e))
+now_given_back : (v : ℕ) (u : TurnCourse) (e : _) → (verdict_then v (course_until e) u (after_turn (place.ReleaseTurn e) (Turn (turn_step.End turn_end.GivenBack))) ≡ Some (verdict_until e)) × (verdict_then v (course_until e) u (after_turn (place.ReleasingTurn e) (Turn (turn_step.End turn_end.GivenBack))) ≡ Some (verdict_until e))
 now_given_back v u ending.GivenBack = (refl, refl)
 now_given_back v u ending.NotFree = (refl, refl)
 now_given_back v u ending.RefuseReaders = (refl, refl)
@@ -89,34 +86,34 @@ now_given_back v u ending.RefuseMemory = (refl, refl)
 now_given_back v u ending.Reading = (refl, refl)
 now_given_back v u ending.NotifyReaders = (refl, refl)
 
-now_released : (v : ℕ) (u : TurnPlace) (e : _) (tn : TurnNext) → Releases tn u → verdict_then v (course_until e) u (after_turn (place.ReleaseTurn e) (Turn tn)) ≡ Some (verdict_until e)
-now_released v u e (turn_next.Do a q) h = refl
-now_released v u e (turn_next.End turn_end.GivenBack) h = (now_given_back v u e).0
-now_released v u e (turn_next.End _) h = absurd h
+now_released : (v : ℕ) (u : TurnCourse) (e : _) (tn : TurnStep) → Releases tn u → verdict_then v (course_until e) u (after_turn (place.ReleaseTurn e) (Turn tn)) ≡ Some (verdict_until e)
+now_released v u e turn_step.More h = refl
+now_released v u e (turn_step.End turn_end.GivenBack) h = (now_given_back v u e).0
+now_released v u e (turn_step.End _) h = absurd h
 
-now_releasing : (v : ℕ) (u : TurnPlace) (e : _) (tn : TurnNext) → Ends tn u → verdict_then v (course_until e) u (after_turn (place.ReleasingTurn e) (Turn tn)) ≡ Some (verdict_until e)
-now_releasing v u e (turn_next.End turn_end.GivenBack) h = (now_given_back v u e).1
-now_releasing v u e (turn_next.End _) h = absurd h
-now_releasing v u e (turn_next.Do a q) h = absurd h
+now_releasing : (v : ℕ) (u : TurnCourse) (e : _) (tn : TurnStep) → Ends tn u → verdict_then v (course_until e) u (after_turn (place.ReleasingTurn e) (Turn tn)) ≡ Some (verdict_until e)
+now_releasing v u e (turn_step.End turn_end.GivenBack) h = (now_given_back v u e).1
+now_releasing v u e (turn_step.End _) h = absurd h
+now_releasing v u e turn_step.More h = absurd h
 
-released_free : (u : TurnPlace) (tn : TurnNext) → Releases tn u → holds u ≡ 0
-released_free u (turn_next.Do a q) h = releasing_free u h
-released_free u (turn_next.End turn_end.GivenBack) h = out_free u (ap is_out h)
-released_free u (turn_next.End _) h = absurd h
+released_free : (u : TurnCourse) (tn : TurnStep) → Releases tn u → holds u ≡ 0
+released_free u turn_step.More h = releasing_free u h
+released_free u (turn_step.End turn_end.GivenBack) h = out_free u (ap is_out h)
+released_free u (turn_step.End _) h = absurd h
 
 -- whoever is refused on its way to the turn seeks what needs it
-meets_turn : (pr : Purpose) (u : TurnPlace) (tn : TurnNext) → Takes tn u → (r : Refusal) → decided_then tn u ≡ Some (turn_end.Refused r) → meets (sought_at (place_after (after_lock pr (Turn tn)))) refusal.Starved ≡ true
-meets_turn purpose.UpgradableRead u (turn_next.Do a q) h r e = refl
-meets_turn purpose.Write u (turn_next.Do a q) h r e = refl
-meets_turn purpose.UpgradableRead u (turn_next.End turn_end.Got) h r e = absurd (cc)
-meets_turn purpose.Write u (turn_next.End turn_end.Got) h r e = absurd (cc)
-meets_turn purpose.UpgradableRead u (turn_next.End turn_end.Pending) h r e = absurd (cc)
-meets_turn purpose.Write u (turn_next.End turn_end.Pending) h r e = absurd (cc)
-meets_turn purpose.UpgradableRead u (turn_next.End (turn_end.Refused refusal.Memory)) h r e = refl
-meets_turn purpose.Write u (turn_next.End (turn_end.Refused refusal.Memory)) h r e = refl
-meets_turn purpose.UpgradableRead u (turn_next.End (turn_end.Refused refusal.Starved)) h r e = refl
-meets_turn purpose.Write u (turn_next.End (turn_end.Refused refusal.Starved)) h r e = refl
-meets_turn pr u (turn_next.End _) h r e = absurd h
+meets_turn : (pr : Purpose) (u : TurnCourse) (tn : TurnStep) → Takes tn u → (r : Refusal) → decided_then tn u ≡ Some (turn_end.Refused r) → meets (sought_at (place_after (after_lock pr (Turn tn)))) refusal.Starved ≡ true
+meets_turn purpose.UpgradableRead u turn_step.More h r e = refl
+meets_turn purpose.Write u turn_step.More h r e = refl
+meets_turn purpose.UpgradableRead u (turn_step.End turn_end.Got) h r e = absurd (cc)
+meets_turn purpose.Write u (turn_step.End turn_end.Got) h r e = absurd (cc)
+meets_turn purpose.UpgradableRead u (turn_step.End turn_end.Pending) h r e = absurd (cc)
+meets_turn purpose.Write u (turn_step.End turn_end.Pending) h r e = absurd (cc)
+meets_turn purpose.UpgradableRead u (turn_step.End (turn_end.Refused refusal.Memory)) h r e = refl
+meets_turn purpose.Write u (turn_step.End (turn_end.Refused refusal.Memory)) h r e = refl
+meets_turn purpose.UpgradableRead u (turn_step.End (turn_end.Refused refusal.Starved)) h r e = refl
+meets_turn purpose.Write u (turn_step.End (turn_end.Refused refusal.Starved)) h r e = refl
+meets_turn pr u (turn_step.End _) h r e = absurd h
 
 -- what a deed gives up, and that a join found room
 room_of : (memory : Bool) (d : Deed Change ListName) → ((list : ListName) → d ≡ does list joins → memory ≡ true) → Room memory d
@@ -144,11 +141,11 @@ module _ (m : Move) (l k : RwLock) (ss : List Stage) (os : List (Option Sought))
   abbrev p : ℕ
   p = m.party
 
-  abbrev t : TurnPlace
-  t = turn_at l.turn.places p
+  abbrev t : TurnCourse
+  t = turn_at l.turn.courses p
 
-  abbrev u : TurnPlace
-  u = turn_at k.turn.places p
+  abbrev u : TurnCourse
+  u = turn_at k.turn.courses p
 
   abbrev memory : Bool
   memory = (inputs_of m.what).memory
@@ -165,7 +162,7 @@ module _ (m : Move) (l k : RwLock) (ss : List Stage) (os : List (Option Sought))
   abbrev Judges : Place → Place → Deed Change ListName → Option Answer → Option Answer → Type 0
   Judges x to d was now = JudgedAs m old k new v x to d was now
 
-  facts : (x : Place) (f : Found) (c : Known m l k ss os x f) → TurnRow v x f → (decided : Option TurnEnd) (n : TurnNext) (did : TurnDid memory p decided n l.turn k.turn) (mv : TurnMoved p l k old did.legal.deed) → keeps_what_it_has (verdict v x t) mv.deed ≡ true → k.no_writer ≡ l.no_writer → k.no_readers ≡ l.no_readers
+  facts : (x : Place) (f : Found) (c : Known m l k ss os x f) → TurnRow v x f → (decided : Option TurnEnd) (n : TurnStep) (did : TurnDid memory p decided n l.turn k.turn) (mv : TurnMoved p l k old did.legal.deed) → keeps_what_it_has (verdict v x t) mv.deed ≡ true → k.no_writer ≡ l.no_writer → k.no_readers ≡ l.no_readers
       → Judges x (place_after (next_of x f)) mv.deed (verdict v x t) (verdict_then v (course_of x) u (next_of x f)) → Facts m l k ss os ts ps v x (next_of x f)
   facts x f c row decided n did mv kept_on nw nr judged = record {
     deed = mv.deed;
@@ -190,19 +187,19 @@ module _ (m : Move) (l k : RwLock) (ss : List Stage) (os : List (Option Sought))
   -- a refusal in the turn has its cause
   cause : (x : Place) (f : Found) (c : Known m l k ss os x f) → in_no_writer x ≡ 0 → in_no_readers x ≡ 0 → k.no_writer ≡ l.no_writer → k.no_readers ≡ l.no_readers → (r : Refusal) → IsReason memory p l.turn k.turn (turn_end.Refused r) → CauseAs m old new r
   cause x f c ew er nw nr refusal.Memory h = (h.0, omega (arith, h.1, c.laws.owners_no_writer p, c.laws.owners_no_readers p, c.same.standing_w, c.same.standing_r, ew, er), h.2, nr, nw)
-  cause x f c ew er nw nr refusal.Starved h = view.how_many-starved l.turn.places ∙ h
+  cause x f c ew er nw nr refusal.Starved h = view.how_many-starved l.turn.courses ∙ h
   cause x f c ew er nw nr refusal.Readers h = absurd h
   cause x f c ew er nw nr refusal.Permits h = absurd h
   cause x f c ew er nw nr refusal.Generations h = absurd h
   cause x f c ew er nw nr refusal.Finished h = absurd h
 
-  waits_then : (pr : Purpose) (tn : TurnNext) → Takes tn u → decided_then tn u ≡ Some turn_end.Pending → told_in k.turn.entries p ≡ Some Waiting → WaitsIn k p (place_after (after_lock pr (Turn tn)))
-  waits_then pr (turn_next.Do a q) h e w = absurd (never_pending (decision u) (taking_decided u h) e)
-  waits_then pr (turn_next.End turn_end.Pending) h e w = w
-  waits_then pr (turn_next.End turn_end.Got) h e w = absurd (cc)
-  waits_then pr (turn_next.End turn_end.NotFree) h e w = absurd h
-  waits_then pr (turn_next.End turn_end.GivenBack) h e w = absurd h
-  waits_then pr (turn_next.End (turn_end.Refused r)) h e w = absurd (cc)
+  waits_then : (pr : Purpose) (tn : TurnStep) → Takes tn u → decided_then tn u ≡ Some turn_end.Pending → told_in k.turn.entries p ≡ Some Waiting → WaitsIn k p (place_after (after_lock pr (Turn tn)))
+  waits_then pr turn_step.More h e w = absurd (never_pending (decision u) (taking_decided u h) e)
+  waits_then pr (turn_step.End turn_end.Pending) h e w = w
+  waits_then pr (turn_step.End turn_end.Got) h e w = absurd (cc)
+  waits_then pr (turn_step.End turn_end.NotFree) h e w = absurd h
+  waits_then pr (turn_step.End turn_end.GivenBack) h e w = absurd h
+  waits_then pr (turn_step.End (turn_end.Refused r)) h e w = absurd (cc)
 
   -- a poll that wasn't decided there
   undecided : (x to : Place) (d : Deed Change ListName) (o : Option TurnEnd) → ((e : TurnEnd) → o ≡ Some e → IsReason memory p l.turn k.turn e) → ((r : Refusal) → IsReason memory p l.turn k.turn (turn_end.Refused r) → CauseAs m old new r)
@@ -214,7 +211,7 @@ module _ (m : Move) (l k : RwLock) (ss : List Stage) (os : List (Option Sought))
   undecided x to d (Some turn_end.Pending) why causes waits idle = waits refl (why turn_end.Pending refl)
   undecided x to d (Some (turn_end.Refused r)) why causes waits idle = (r, refl, causes r (why (turn_end.Refused r) refl), idle r refl)
 
-  polled : (x : Place) (pr : Purpose) (tn : TurnNext) (decided : Option TurnEnd) (did : TurnDid memory p decided tn l.turn k.turn) (mv : TurnMoved p l k old did.legal.deed) → IsPolls decided → Takes tn u → ((r : Refusal) → IsReason memory p l.turn k.turn (turn_end.Refused r) → CauseAs m old new r) → ((r : Refusal) → decided ≡ None → decided_then tn u ≡ Some (turn_end.Refused r) → Fitting x (place_after (after_lock pr (Turn tn))) mv.deed r)
+  polled : (x : Place) (pr : Purpose) (tn : TurnStep) (decided : Option TurnEnd) (did : TurnDid memory p decided tn l.turn k.turn) (mv : TurnMoved p l k old did.legal.deed) → IsPolls decided → Takes tn u → ((r : Refusal) → IsReason memory p l.turn k.turn (turn_end.Refused r) → CauseAs m old new r) → ((r : Refusal) → decided ≡ None → decided_then tn u ≡ Some (turn_end.Refused r) → Fitting x (place_after (after_lock pr (Turn tn))) mv.deed r)
       → Judges x (place_after (after_lock pr (Turn tn))) mv.deed (refused_by decided) (verdict_then v polls u (after_lock pr (Turn tn)))
   polled x pr tn decided did mv dec takes causes idle =
       let to : Place = place_after (after_lock pr (Turn tn)) in
@@ -231,30 +228,30 @@ module _ (m : Move) (l k : RwLock) (ss : List Stage) (os : List (Option Sought))
             let kept = did.legal.kept (turn_end.Refused h.0) h.1 in
             rw (h.1, kept.0) (refl, mv.parting kept.1)
 
-  tried : (pr : Purpose) (tn : TurnNext) (d : Deed Change ListName) → Tries tn u → Judges (place.TryTurn pr) (place_after (after_turn (place.TryTurn pr) (Turn tn))) d None (verdict_then v tries u (after_turn (place.TryTurn pr) (Turn tn)))
-  tried purpose.UpgradableRead (turn_next.End turn_end.Got) d h = tt
-  tried purpose.Write (turn_next.End turn_end.Got) d h = tt
-  tried pr (turn_next.End turn_end.NotFree) d h = tt
-  tried pr (turn_next.End _) d h = absurd h
-  tried pr (turn_next.Do a q) d h = absurd h
+  tried : (pr : Purpose) (tn : TurnStep) (d : Deed Change ListName) → Tries tn u → Judges (place.TryTurn pr) (place_after (after_turn (place.TryTurn pr) (Turn tn))) d None (verdict_then v tries u (after_turn (place.TryTurn pr) (Turn tn)))
+  tried purpose.UpgradableRead (turn_step.End turn_end.Got) d h = tt
+  tried purpose.Write (turn_step.End turn_end.Got) d h = tt
+  tried pr (turn_step.End turn_end.NotFree) d h = tt
+  tried pr (turn_step.End _) d h = absurd h
+  tried pr turn_step.More d h = absurd h
 
   -- whoever isn't decided there, or has the turn, keeps what it has
-  on_hold : (decided : Option TurnEnd) (n : TurnNext) (did : TurnDid memory p decided n l.turn k.turn) (mv : TurnMoved p l k old did.legal.deed) → IsPolls decided → keeps_what_it_has (refused_by decided) mv.deed ≡ true
+  on_hold : (decided : Option TurnEnd) (n : TurnStep) (did : TurnDid memory p decided n l.turn k.turn) (mv : TurnMoved p l k old did.legal.deed) → IsPolls decided → keeps_what_it_has (refused_by decided) mv.deed ≡ true
   on_hold decided n did mv (inl e) = kept_so (refused_by decided) mv.deed (never_given (gives_up mv.deed) (mutex.is_release did.legal.deed) mv.giving_up (released_given did.legal.deed (did.legal.holds_on e)))
   on_hold decided n did mv (inr (inl e)) = kept_so (refused_by decided) mv.deed (never_given (gives_up mv.deed) (mutex.is_release did.legal.deed) mv.giving_up (did.legal.keeps_lock e))
   on_hold decided n did mv (inr (inr h)) = let P : Option TurnEnd → Type 0 = λ o. keeps_what_it_has (refused_by o) mv.deed ≡ true in subst P (sym h.1) (judged_so (refused h.0) mv.deed)
 
   -- a refusal for memory on the way does nothing else
-  idle_there : (pr : Purpose) (n : TurnNext) (did : TurnDid memory p (decision t) n l.turn k.turn) (mv : TurnMoved p l k old did.legal.deed) (r : Refusal) → decision t ≡ None → decided_then n u ≡ Some (turn_end.Refused r) → Takes n u → Fitting (place.TakeTurn pr) (place_after (after_lock pr (Turn n))) mv.deed r
+  idle_there : (pr : Purpose) (n : TurnStep) (did : TurnDid memory p (decision t) n l.turn k.turn) (mv : TurnMoved p l k old did.legal.deed) (r : Refusal) → decision t ≡ None → decided_then n u ≡ Some (turn_end.Refused r) → Takes n u → Fitting (place.TakeTurn pr) (place_after (after_lock pr (Turn n))) mv.deed r
   idle_there pr n did mv refusal.Memory e h takes = (mv.idle (did.legal.refused_idly e h), refl)
   idle_there pr n did mv refusal.Starved e h takes = meets_turn pr u n takes refusal.Starved h
   idle_there pr n did mv refusal.Readers e h takes = absurd (did.legal.reason (turn_end.Refused refusal.Readers) e h)
   idle_there pr n did mv _ e h takes = tt
 
-  begun : (c : LockCall) (n : TurnNext) → TurnBegins memory p c n l.turn k.turn → TurnDid memory p (decided_by c) n l.turn k.turn
+  begun : (c : LockCall) (n : TurnStep) → TurnBegins memory starving p c n l.turn k.turn → TurnDid memory p (decided_by c) n l.turn k.turn
   begun c n b = record { legal = b.legal; fair = b.fair }
 
-  gone_on : (n : TurnNext) → TurnGoesOn memory starving p n l.turn k.turn → TurnDid memory p (decision t) n l.turn k.turn
+  gone_on : (n : TurnStep) → TurnGoesOn memory starving p n l.turn k.turn → TurnDid memory p (decision t) n l.turn k.turn
   gone_on n b = record { legal = b.legal; fair = b.fair }
 
   pub on_turn : (x : Place) (f : Found) → Known m l k ss os x f → steps_in_turn x ≡ true → OnTurn memory starving p (action_of x) f l.turn k.turn → Led x f u → fits_turn x t ≡ true → Facts m l k ss os ts ps v x (next_of x f)
@@ -297,7 +294,7 @@ module _ (m : Move) (l k : RwLock) (ss : List Stage) (os : List (Option Sought))
   on_turn (place.ReleaseTurn ending.Reading) (Turn tn) c s o e fit =
       let row = turn_row v u (place.ReleaseTurn ending.Reading) (Turn tn) s e in
       let did = begun turn_call.Release tn o in
-      let held : holder_of l.turn ≡ Some p = sees.holds_it l.turn.places p c.laws.turn.one_holder (holding_holds t fit) in
+      let held : holder_of l.turn ≡ Some p = sees.holds_it l.turn.courses p c.laws.turn.one_holder (holding_holds t fit) in
       let mv = left m l k ss os ts ps v (place.ReleaseTurn ending.Reading) (Turn tn) c afterwards row.sharing (Some turn_end.GivenBack) tn did refl held (released_free u tn e) in
       facts (place.ReleaseTurn ending.Reading) (Turn tn) c row (Some turn_end.GivenBack) tn did mv (judged_so (verdict_until ending.Reading) mv.deed) c.no_writer c.no_readers (now_released v u ending.Reading tn e, mv.parting (did.legal.kept turn_end.GivenBack refl).1)
   on_turn (place.ReleaseTurn ending.GivenBack) (Turn tn) c s o e fit =

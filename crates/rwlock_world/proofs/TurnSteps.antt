@@ -8,17 +8,15 @@ use Rattle.lock_world.specs.declared.standing.Stage.{Stage}
 use Rattle.lock_world.specs.Rosters.{how_many}
 use Rattle.lock_world.specs.Standings.{inputs_of}
 use Rattle.lock_world.specs.Steps.{Deed, ListFunction, nothing, changes, does, joins}
-use Rattle.mutex_machine.specs.declared.program.Place.{Place as TurnPlace}
-use Rattle.mutex_machine.specs.declared.program.Next.{Next as TurnNext}
+use Rattle.mutex_machine.specs.Course.{Course as TurnCourse, holds, counted, decision}
+use Rattle.mutex_machine.specs.declared.mutex.Step.{Step as TurnStep}
 use Rattle.mutex_machine.specs.declared.program.End.{End as TurnEnd}
-use Rattle.mutex_machine.specs.Roles as turn_roles
-use Rattle.mutex_machine.specs.Roles.{holds, counted}
-use Rattle.mutex_machine.specs.Machine.{Lock, place_at as turn_at}
-use Rattle.mutex_machine.specs.State.{is_holder, is_counted, holder_of, starved_of}
-use Rattle.mutex_machine.specs.Acts.{TakenFairly}
-use Rattle.mutex_machine.specs.Legal as mutex
-use Rattle.mutex_machine.specs.Legal.{decision, decided_by, decided_then, IsReason, IsLegal}
-use Rattle.mutex_machine.proofs.Seen as sees
+use Rattle.mutex_machine.specs.Course as turn_roles
+use Rattle.mutex_machine.specs.Mutex.{Mutex, course_at as turn_at, is_holder, is_counted, holder_of, starved_of, TakenFairly}
+use Rattle.mutex_machine.specs.Deeds as mutex
+use Rattle.mutex_machine.specs.Conduct.{IsLegal}
+use Rattle.mutex_machine.specs.Deeds.{decided_by}
+use Rattle.mutex_machine.proofs.Holders as sees
 use Rattle.rwlock_machine.specs.declared.program.Found.{Found}
 use Rattle.rwlock_machine.specs.declared.program.Place.{Place}
 use Rattle.rwlock_machine.specs.declared.program.Place.TheVariants as place
@@ -58,7 +56,7 @@ put_off (b ∷ xs) ys (suc p) e = elim (put_off xs (set xs p false) p refl) as (
 -- ---- the deed
 
 -- what the mutex says of the action, whichever call it belongs to
-pub record TurnDid (memory : Bool) (p : ℕ) (decided : Option TurnEnd) (n : TurnNext) (old new : Lock) : Type 0 where
+pub record TurnDid (memory : Bool) (p : ℕ) (decided : Option TurnEnd) (n : TurnStep) (old new : Mutex) : Type 0 where
   pub legal : IsLegal memory p decided n old new
   pub fair : TakenFairly old new
 
@@ -96,11 +94,11 @@ module _ (m : Move) (l k : RwLock) (ss : List Stage) (os : List (Option Sought))
   abbrev here : Place
   here = place_at l.places p
 
-  abbrev t : TurnPlace
-  t = turn_at l.turn.places p
+  abbrev t : TurnCourse
+  t = turn_at l.turn.courses p
 
-  abbrev u : TurnPlace
-  u = turn_at k.turn.places p
+  abbrev u : TurnCourse
+  u = turn_at k.turn.courses p
 
   abbrev memory : Bool
   memory = (inputs_of m.what).memory
@@ -112,7 +110,7 @@ module _ (m : Move) (l k : RwLock) (ss : List Stage) (os : List (Option Sought))
   known_place = there m l k ss os ts ps v x f c
 
   held_by : (h : Bool) → is_holder t ≡ h → h ≡ true → holder_of l.turn ≡ Some p
-  held_by h e y = sees.holds_it l.turn.places p c.laws.turn.one_holder (sym (sees.holds_bit t) ∙ ap turn_roles.bit (e ∙ y))
+  held_by h e y = sees.holds_it l.turn.courses p c.laws.turn.one_holder (sym (sees.holds_bit t) ∙ ap turn_roles.bit (e ∙ y))
 
   -- the turn with no holder is seen as nobody's
   turn_none : (h : Option ℕ) (xs : List Place) → h ≡ None → turn_by h xs ≡ state.nobody
@@ -121,19 +119,19 @@ module _ (m : Move) (l k : RwLock) (ss : List Stage) (os : List (Option Sought))
   turn_own : (h : Option ℕ) → h ≡ Some p → turn_by h k.places ≡ state.passes p
   turn_own h e = ap (λ o. turn_by o k.places) e ∙ (ap (λ y. turn_as p (share_of y)) (ap (λ xs. place_at xs p) c.places ∙ get_or-set_same l.places p to place.Out known_place) ∙ ap (turn_as p) passes_on)
 
-  module _ (decided : Option TurnEnd) (n : TurnNext) (did : TurnDid memory p decided n l.turn k.turn) where
+  module _ (decided : Option TurnEnd) (n : TurnStep) (did : TurnDid memory p decided n l.turn k.turn) where
     -- the turn stays with whoever has it, if the share of the party that moved is as it was
     stays : share_of x ≡ passing → holder_of k.turn ≡ holder_of l.turn → turn_by (holder_of k.turn) k.places ≡ turn_by (holder_of l.turn) l.places
     stays s e = ap (λ o. turn_by o k.places) e ∙ (ap (turn_by (holder_of l.turn)) c.places ∙ turn_kept (holder_of l.turn) l.places p to known_place (passes_on ∙ (sym s ∙ c.share)))
 
     -- whoever else held the turn still does
     others_hold : (q : ℕ) → q ≢ p → holder_of l.turn ≡ Some q → holder_of k.turn ≡ Some q
-    others_hold q apart e = sees.holds_it k.turn.places q afterwards.turn.one_holder (ap holds (did.legal.others q apart) ∙ sees.is_held_by l.turn.places q e)
+    others_hold q apart e = sees.holds_it k.turn.courses q afterwards.turn.one_holder (ap holds (did.legal.others q apart) ∙ sees.is_held_by l.turn.courses q e)
 
     left_nobody : (h : Option ℕ) → holder_of l.turn ≡ h → holder_of k.turn ≡ None → (is_holder t ≡ false) → h ≡ None
     left_nobody None e n0 out = refl
     left_nobody (Some q) e n0 out = elim (ℕ_discrete q p) as (λ _. Some q ≡ None) [
-      | yes same ↦ (let one : holds t ≡ 1 = sees.is_held_by l.turn.places p (e ∙ ap Some same) in
+      | yes same ↦ (let one : holds t ≡ 1 = sees.is_held_by l.turn.courses p (e ∙ ap Some same) in
           let none : holds t ≡ 0 = sym (sees.holds_bit t) ∙ ap turn_roles.bit out in absurd (omega (arith, one, none)))
       | no apart ↦ (let h = others_hold q apart e in absurd (cc))
     ]
@@ -141,11 +139,11 @@ module _ (m : Move) (l k : RwLock) (ss : List Stage) (os : List (Option Sought))
     took_free : is_holder t ≡ false → holder_of k.turn ≡ Some p → (turn_by (holder_of l.turn) l.places ≡ state.nobody) × ((how_many (starved_of l.turn) ≡ 0) ⊎ (get_or (starved_of l.turn) p false ≡ true))
     took_free out e =
         let none : holds t ≡ 0 = sym (sees.holds_bit t) ∙ ap turn_roles.bit out in
-        let free = did.fair p none (sees.is_held_by k.turn.places p e) in (
-          turn_none (holder_of l.turn) l.places (sees.none_held 0 l.turn.places free.0),
+        let free = did.fair p none (sees.is_held_by k.turn.courses p e) in (
+          turn_none (holder_of l.turn) l.places (sees.none_held 0 l.turn.courses free.0),
           elim free.1 as (λ _. (how_many (starved_of l.turn) ≡ 0) ⊎ (get_or (starved_of l.turn) p false ≡ true)) [
-            | inl e0 ↦ inl (view.how_many-starved l.turn.places ∙ e0)
-            | inr own ↦ inr (sees.starved_at l.turn.places p ∙ sees.is_one (is_counted t) (sees.counted_bit t ∙ own))
+            | inl e0 ↦ inl (view.how_many-starved l.turn.courses ∙ e0)
+            | inr own ↦ inr (sees.starved_at l.turn.courses p ∙ sees.is_one (is_counted t) (sees.counted_bit t ∙ own))
           ],
         )
 
@@ -164,7 +162,7 @@ module _ (m : Move) (l k : RwLock) (ss : List Stage) (os : List (Option Sought))
     ]
     moved_by (changes mutex.starves) h s e own = elim (put_on (starved_of l.turn) (starved_of k.turn) p s) as (λ _. TurnMoved p l k w (changes mutex.starves)) [
       | inl same ↦ record { deed = nothing; readers = λ rs. refl; turn = stays own h; starved = same; valued = λ n. refl; allowed = tt; turn_list = e; no_readers = λ es. refl; no_writer = λ es. refl; parting = λ g. absurd (cc); giving_up = λ g. absurd (cc); joining = λ list j. absurd (cc); idle = λ i. refl }
-      | inr one ↦ record { deed = changes starves; readers = λ rs. refl; turn = stays own h; starved = s; valued = λ n. refl; allowed = (one.0, omega (arith, one.1, view.how_many-starved k.turn.places, afterwards.turn.few_starved, did.legal.limit)); turn_list = e; no_readers = λ es. refl; no_writer = λ es. refl; parting = λ g. absurd (cc); giving_up = λ g. absurd (cc); joining = λ list j. absurd (cc); idle = λ i. absurd (cc) }
+      | inr one ↦ record { deed = changes starves; readers = λ rs. refl; turn = stays own h; starved = s; valued = λ n. refl; allowed = (one.0, omega (arith, one.1, view.how_many-starved k.turn.courses, afterwards.turn.few_starved, did.legal.limit)); turn_list = e; no_readers = λ es. refl; no_writer = λ es. refl; parting = λ g. absurd (cc); giving_up = λ g. absurd (cc); joining = λ list j. absurd (cc); idle = λ i. absurd (cc) }
     ]
     moved_by (changes mutex.recovers) h s e own = elim (put_off (starved_of l.turn) (starved_of k.turn) p s) as (λ _. TurnMoved p l k w (changes mutex.recovers)) [
       | inl same ↦ record { deed = nothing; readers = λ rs. refl; turn = stays own h; starved = same; valued = λ n. refl; allowed = tt; turn_list = e; no_readers = λ es. refl; no_writer = λ es. refl; parting = λ g. refl; giving_up = λ g. absurd (cc); joining = λ list j. absurd (cc); idle = λ i. refl }
@@ -173,7 +171,7 @@ module _ (m : Move) (l k : RwLock) (ss : List Stage) (os : List (Option Sought))
 
     -- where the party had the turn for an upgradable right and has it no more, it left it
     still_holds : (h : Option ℕ) → holder_of k.turn ≡ h → h ≡ Some p → holds u ≡ 0 → ⊥
-    still_holds h e y none = let one = sees.is_held_by k.turn.places p (e ∙ y) in absurd (omega (arith, one, none))
+    still_holds h e y none = let one = sees.is_held_by k.turn.courses p (e ∙ y) in absurd (omega (arith, one, none))
 
     left_by : (d : Deed mutex.Change mutex.ListName) → holder_of k.turn ≡ mutex.holder_after p d (holder_of l.turn) → starved_of k.turn ≡ mutex.starved_after p d (starved_of l.turn) → k.turn.entries ≡ mutex.entries_after p d l.turn.entries
         → share_of x ≡ upgrading → holder_of l.turn ≡ Some p → holds u ≡ 0 → TurnMoved p l k w d

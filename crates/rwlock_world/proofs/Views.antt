@@ -6,11 +6,9 @@ use Rattle.lock_world.specs.declared.standing.Stage.{Stage}
 use Rattle.lock_world.specs.declared.standing.Stage.TheVariants.{Forgotten}
 use Rattle.lock_world.specs.Standings.{forgotten}
 use Rattle.lock_world.specs.Rosters.{how_many}
-use Rattle.mutex_machine.specs.declared.program.Place.{Place as TurnPlace}
-use Rattle.mutex_machine.specs.Machine.{place_at as turn_at}
-use Rattle.mutex_machine.specs.Roles.{counted}
-use Rattle.mutex_machine.specs.State.{is_counted}
-use Rattle.mutex_machine.proofs.Seen as sees
+use Rattle.mutex_machine.specs.Course.{Course as TurnCourse, counted}
+use Rattle.mutex_machine.specs.Mutex.{course_at as turn_at, is_counted}
+use Rattle.mutex_machine.proofs.Holders as sees
 use Rattle.rwlock_machine.specs.declared.program.Place.{Place}
 use Rattle.rwlock_machine.specs.declared.program.Place.TheVariants as place
 use Rattle.rwlock_machine.specs.declared.program.Ending.TheVariants as ending
@@ -20,18 +18,18 @@ use Rattle.rwlock_world.specs.declared.world.table.Sought.{Sought}
 use Rattle.rwlock_world.specs.Plans.{stage_at, seeking}
 use Rattle.rwlock_world.specs.View.{is_reading, is_upgrade, right_of, stands_as, rest, standings}
 
-turn_rest : (ts : List TurnPlace) (p : ℕ) → turn_at (rest ts) p ≡ turn_at ts (suc p)
+turn_rest : (ts : List TurnCourse) (p : ℕ) → turn_at (rest ts) p ≡ turn_at ts (suc p)
 turn_rest [] p = refl
 turn_rest (t ∷ ts) p = refl
 
-pub standings_at : (v : ℕ) (ss : List Stage) (xs : List Place) (ts : List TurnPlace) → length ss ≡ length xs → (p : ℕ)
+pub standings_at : (v : ℕ) (ss : List Stage) (xs : List Place) (ts : List TurnCourse) → length ss ≡ length xs → (p : ℕ)
     → get_or (standings v ss xs ts) p forgotten ≡ stands_as v (stage_at ss p) (place_at xs p) (turn_at ts p)
 standings_at v [] xs ts e p = refl
 standings_at v (s ∷ ss) [] ts e p = absurd (omega arith)
 standings_at v (s ∷ ss) (x ∷ xs) ts e zero = refl
 standings_at v (s ∷ ss) (x ∷ xs) ts e (suc p) = standings_at v ss xs (rest ts) (omega arith) p ∙ ap (stands_as v (stage_at ss p) (place_at xs p)) (turn_rest ts p)
 
-pub length-standings : (v : ℕ) (ss : List Stage) (xs : List Place) (ts : List TurnPlace) → length ss ≡ length xs → length (standings v ss xs ts) ≡ length ss
+pub length-standings : (v : ℕ) (ss : List Stage) (xs : List Place) (ts : List TurnCourse) → length ss ≡ length xs → length (standings v ss xs ts) ≡ length ss
 length-standings v [] xs ts e = refl
 length-standings v (s ∷ ss) [] ts e = absurd (omega arith)
 length-standings v (s ∷ ss) (x ∷ xs) ts e = ap suc (length-standings v ss xs (rest ts) (omega arith))
@@ -57,10 +55,10 @@ one_if : (b : Bool) → (if b then 1 else 0) ≡ bit b
 one_if true = refl
 one_if false = refl
 
-pub how_many-starved : (ts : List TurnPlace) → how_many (map is_counted ts) ≡ sum_by counted ts
+pub how_many-starved : (ts : List TurnCourse) → how_many (map is_counted ts) ≡ sum_by counted ts
 how_many-starved [] = refl
 how_many-starved (t ∷ ts) = omega (arith, one_starved (is_counted t), sum_by-cons counted t ts, sees.counted_bit t, how_many-starved ts) where
-  one_starved : (b : Bool) → (if b then 1 else 0) ≡ Rattle.mutex_machine.specs.Roles.bit b
+  one_starved : (b : Bool) → (if b then 1 else 0) ≡ Rattle.mutex_machine.specs.Course.bit b
   one_starved true = refl
   one_starved false = refl
 

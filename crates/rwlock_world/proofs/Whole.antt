@@ -20,10 +20,7 @@ use Rattle.lock_world.specs.declared.standing.Within.{Within}
 use Rattle.lock_world.specs.Standings.{inputs_of, refused}
 use Rattle.lock_world.specs.Whole.{going_on}
 use Rattle.lock_frame.specs.Steps.{left_by as left_of}
-use Rattle.mutex_machine.specs.declared.program.Place.{Place as TurnPlace}
-use Rattle.mutex_machine.specs.declared.program.Place.TheVariants as turn_place
-use Rattle.mutex_machine.specs.Machine.{place_at as turn_at}
-use Rattle.mutex_machine.specs.Ranks.{left as turn_left, steps_left as turn_steps_left, is_own_marked, is_open}
+use Rattle.mutex_machine.specs.Mutex.{steps_left as turn_steps_left}
 use Rattle.rwlock_machine.specs.declared.program.End.TheVariants as «end»
 use Rattle.rwlock_machine.specs.declared.program.Next.{Next}
 use Rattle.rwlock_machine.specs.declared.program.Next.TheVariants as next
@@ -52,20 +49,6 @@ left_by a t p = left_of a (steps_left t.lock p)
 
 -- ---- no place has no steps left
 
-turn_some_left : (x : TurnPlace) (m o : Bool) → 0 < turn_left x m o
-turn_some_left (turn_place.Look told) m o = grind arith
-turn_some_left turn_place.Ask m o = grind arith
-turn_some_left turn_place.JoinStarved m o = grind arith
-turn_some_left turn_place.LookAlone m o = grind arith
-turn_some_left turn_place.PassOnListed m o = grind arith
-turn_some_left turn_place.AskStarved m o = grind arith
-turn_some_left turn_place.Seize m o = grind arith
-turn_some_left (turn_place.Count true told) m o = omega arith
-turn_some_left (turn_place.Count false told) m o = omega arith
-turn_some_left (turn_place.Uncount true) m o = omega arith
-turn_some_left (turn_place.Uncount false) m o = omega arith
-turn_some_left _ m o = omega arith
-
 some_left : (x : Place) (here there : Bool) (turn : ℕ) → 0 < turn → 0 < left x here there turn
 some_left (LookNoWriter told) here there turn h = grind arith
 some_left AskNoWriter here there turn h = grind arith
@@ -83,8 +66,8 @@ some_left (Down true) here there turn h = omega arith
 some_left (Down false) here there turn h = omega arith
 some_left _ here there turn h = omega arith
 
-steps_some : (v : RwLock) (p : ℕ) → 0 < steps_left v p
-steps_some v p = some_left (place_at v.places p) (is_marked_at (is_party p) v.no_writer) (is_marked_at (is_party p) v.no_readers) (turn_steps_left v.turn p) (turn_some_left (turn_at v.turn.places p) (is_own_marked v.turn p) (is_open v.turn))
+steps_some : (v : RwLock) (p : ℕ) → IsRwLock v → 0 < steps_left v p
+steps_some v p laws = some_left (place_at v.places p) (is_marked_at (is_party p) v.no_writer) (is_marked_at (is_party p) v.no_readers) (turn_steps_left v.turn p) (laws.turn.some_left p)
 
 -- ---- a step
 
@@ -194,9 +177,9 @@ module _ (t u : Table) (p : ℕ) (laws : IsRwLock t.lock) (fits : IsTable t.lock
 
   -- a further step leaves less to do
   pub onward : (i : Inputs) (a : Answer) (o : Option Plan) → plan_in t (going_on p i) ≡ o → Does o (going_on p i) t a u → left_by a u p < steps_left t.lock p
-  onward i a None e d = let none = nothing_left a answer.NotPossible u p d.0 refl in omega (arith, steps_some t.lock p)
-  onward i a (Some plan.Finished) e d = let none = nothing_left a (refused refusal.Finished) u p d.0 refl in omega (arith, steps_some t.lock p)
-  onward i a (Some (plan.Put n)) e d = let none = nothing_left a (answer.Granted (Value n)) u p d.0 refl in omega (arith, steps_some t.lock p)
+  onward i a None e d = let none = nothing_left a answer.NotPossible u p d.0 refl in omega (arith, steps_some t.lock p laws)
+  onward i a (Some plan.Finished) e d = let none = nothing_left a (refused refusal.Finished) u p d.0 refl in omega (arith, steps_some t.lock p laws)
+  onward i a (Some (plan.Put n)) e d = let none = nothing_left a (answer.Granted (Value n)) u p d.0 refl in omega (arith, steps_some t.lock p laws)
   onward i a (Some (plan.Start lc w)) e d =
       let k = known_move p t.stages (plan.Start lc w) (plan_of (stage_at t.stages p) (seeking t.sought p) (Go i)) (nat_lt p (length t.stages)) refl e in
       absurd (never_begun (stage_at t.stages p) (seeking t.sought p) i lc w k.1)

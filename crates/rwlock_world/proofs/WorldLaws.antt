@@ -24,6 +24,7 @@ use Rattle.rwlock_world.proofs.Opened.{sound_opened, awake_opened}
 use Rattle.rwlock_world.proofs.Sound.{sound, awake}
 use Rattle.rwlock_world.proofs.Rights.{holds_well}
 use Rattle.rwlock_world.proofs.Whole as whole
+use Rattle.rwlock_world.proofs.FirstPolls.{upgradable_ready, write_ready}
 use Rattle.rwlock_world.proofs.Promises.{unstarved_at_end}
 use Rattle.rwlock_world.proofs.BoundSeen.{turn_seen_polled, reading_seen_polled, writing_seen_polled}
 
@@ -64,4 +65,6 @@ keeps_promise known w p c i n a v runs ended =
       reading = λ is. reading_seen_polled known w p i n a v stood (subst R is runs) ended;
       writing = λ is. writing_seen_polled known w p i n a v stood (subst R is runs) ended;
       unstarved = λ patient none. unstarved_at_end known w p c i n a v stood patient none runs ended;
+      first_upgradable = upgradable_ready known w p c i n a v stood runs ended;
+      first_write = write_ready known w p c i n a v stood runs ended;
     }

@@ -8,12 +8,15 @@ use Rattle.lock_world.specs.declared.moves.Call.{Call}
 use Rattle.lock_world.specs.declared.moves.Call.TheVariants as call
 use Rattle.lock_world.specs.declared.moves.Got.TheVariants.{Value}
 use Rattle.lock_world.specs.declared.moves.Inputs.{Inputs}
+use Rattle.lock_world.specs.declared.moves.What.TheVariants.{Begin}
 use Rattle.lock_world.specs.declared.standing.Rest.TheVariants.{Pending}
+use Rattle.lock_world.specs.Rights.{upgradable, write}
 use Rattle.lock_world.specs.Rosters.{how_many}
 use Rattle.lock_world.specs.Standings.{outside}
 use Rattle.lock_world.specs.Bounds as bounds
-use Rattle.rwlock_world.specs.State.{nobody, is_upgradable, waits_to_write, writes, World, standing_of, reads, is_starved, how_many_read, is_marked, HasTurn}
+use Rattle.rwlock_world.specs.State.{nobody, is_upgradable, waits_to_write, writes, World, standing_of, reads, is_starved, how_many_read, is_marked, is_turn_free, is_upgrader, HasTurn}
 use Rattle.rwlock_world.specs.Laws.{is_at_rest}
+use Rattle.rwlock_world.specs.Legal.{is_first}
 use Rattle.rwlock_world.specs.Whole.{IsWholeCall}
 
 -- ---- Solo polls
@@ -64,12 +67,15 @@ pub record TakesToWrite (w : World) (p : ℕ) (a : Answer) (v : World) : Type 0 
   pub kept : v.state.value ≡ w.state.value
   pub writes : v.state.turn ≡ writes p
 
--- What a whole call promises: a solo poll of a free turn takes it or gives way; one to read or to write, where that is free, takes it; and where nobody is starved, a party isn't starved at the end that hasn't waited for too long.
+-- What a whole call promises: a solo poll of a free turn takes it or gives way; one to read or to write, where that is free, takes it; where nobody is starved, a party isn't starved at the end that hasn't waited for too long; and a first poll of what is free is ready.
 pub record Promises (w : World) (p : ℕ) (c : Call) (inputs : Inputs) (a : Answer) (v : World) : Type 0 where
   pub turn : c ≡ call.Poll → IsSoloForTurn w p inputs → w.state.turn ≡ nobody → how_many_read w < w.readers_limit → SoloPollForTurn w p a v
   pub reading : c ≡ call.Poll → IsSoloToRead w p inputs → is_marked w.state.turn ≡ false → how_many_read w < w.readers_limit → TakesToRead w p a v
   pub writing : c ≡ call.Poll → IsSoloToWrite w p inputs → how_many_read w ≡ 0 → TakesToWrite w p a v
   pub unstarved : inputs.starving ≡ false → how_many w.state.starved ≡ 0 → is_starved v p ≡ false
+  -- a first poll that finds the turn free is ready: of an upgradable read where readers are below their limit, of a write where nobody reads
+  pub first_upgradable : is_first w (record { party = p; what = Begin c inputs }) upgradable ≡ true → is_turn_free w.state ≡ true → how_many_read w < w.readers_limit → a ≡ answer.Ready (Value w.state.value)
+  pub first_write : is_first w (record { party = p; what = Begin c inputs }) write ≡ true → is_upgrader w p ≡ false → is_turn_free w.state ≡ true → how_many_read w ≡ 0 → a ≡ answer.Ready (Value w.state.value)
 
 -- ---- Polls that pass over what is free
 

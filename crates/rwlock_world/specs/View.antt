@@ -8,12 +8,10 @@ use Rattle.lock_world.specs.declared.standing.Stage.{Stage}
 use Rattle.lock_world.specs.declared.standing.Stage.TheVariants.{Outside, Inside, Forgotten}
 use Rattle.lock_world.specs.Rights.{Right, read, upgradable, write}
 use Rattle.lock_world.specs.Standings.{Standing, outside, inside, forgotten, refused}
-use Rattle.mutex_machine.specs.declared.program.Place.{Place as TurnPlace}
+use Rattle.mutex_machine.specs.Course.{Course as TurnCourse, decision}
 use Rattle.mutex_machine.specs.declared.program.End.{End as TurnEnd}
 use Rattle.mutex_machine.specs.declared.program.End.TheVariants as turn_end
-use Rattle.mutex_machine.specs.Legal.{decision}
-use Rattle.mutex_machine.specs.Machine.{place_at as turn_at}
-use Rattle.mutex_machine.specs.State.{holder_of, starved_of}
+use Rattle.mutex_machine.specs.Mutex.{course_at as turn_at, holder_of, starved_of}
 use Rattle.rwlock_machine.specs.declared.program.Ending.{Ending}
 use Rattle.rwlock_machine.specs.declared.program.Ending.TheVariants as ending
 use Rattle.rwlock_machine.specs.declared.program.Place.{Place}
@@ -99,7 +97,7 @@ verdict_until ending.Reading = answer.GivenBack
 verdict_until ending.NotifyReaders = answer.GivenBack
 
 -- the answer that a call will give whose party stands here, and so in the turn, over this value, if it is decided
-abbrev pub verdict : ℕ → Place → TurnPlace → Option Answer
+abbrev pub verdict : ℕ → Place → TurnCourse → Option Answer
 verdict v place.LeaveNoWriter t = Some (answer.Ready (Value v))
 verdict v place.LeaveNoReaders t = Some (answer.Ready (Value v))
 verdict v (place.RefuseLeave told) t = Some (refused Readers)
@@ -125,16 +123,16 @@ verdict v place.DownNotify t = Some answer.GivenBack
 verdict v place.DowngradeNotify t = Some answer.GivenBack
 verdict v _ t = None
 
-abbrev pub stands_as : ℕ → Stage → Place → TurnPlace → Standing
+abbrev pub stands_as : ℕ → Stage → Place → TurnCourse → Standing
 stands_as v (Outside r) x t = outside r
 stands_as v (Inside w) x t = inside w (verdict v x t)
 stands_as v Forgotten x t = forgotten
 
-abbrev pub rest : List TurnPlace → List TurnPlace
+abbrev pub rest : List TurnCourse → List TurnCourse
 rest [] = []
 rest (t ∷ ts) = ts
 
-abbrev pub standings : ℕ → List Stage → List Place → List TurnPlace → List Standing
+abbrev pub standings : ℕ → List Stage → List Place → List TurnCourse → List Standing
 standings v [] xs ts = []
 standings v (s ∷ ss) [] ts = []
 standings v (s ∷ ss) (x ∷ xs) ts = stands_as v s x (turn_at ts 0) ∷ standings v ss xs (rest ts)
@@ -145,7 +143,7 @@ seen l ss os v = record {
   turn_list = l.turn.entries;
   no_readers = l.no_readers;
   no_writer = l.no_writer;
-  standings = standings v ss l.places l.turn.places;
+  standings = standings v ss l.places l.turn.courses;
   sought = map right_of os;
   upgraders = map is_upgrade l.places;
   starved_limit = l.turn.limit;

@@ -36,10 +36,14 @@ pub struct World {
 }
 
 impl Model for World {
+    ghost use Rattle.std.specs.Coded.{codes};
+    ghost use Rattle.mutex_machine.specs.Behind.{behind_coded};
     ghost use Rattle.rwlock_world.specs.State.{World};
     ghost use Rattle.rwlock_world.specs.View.{opened, view_of};
 
     ghost Value = { World };
+
+    ghost coded = { Prim.hlevel (codes, behind_coded) };
 
     ghost view = { λ w. opened w.opening_value (view_of w.table) };
 }

@@ -1,7 +1,7 @@
 //! A mutex's machine alone.
 
-use mutex_machine::Lock;
 use mutex_machine::program::{End, LockCall, Next, Place};
+use mutex_machine::{Lock, Mutex, Step};
 use std::alloc::AllocError;
 use std::process::Abort;
 
@@ -29,5 +29,27 @@ fn the_machine_alone_hands_its_lock_on(rt: HostRuntime) -> Result<(), AllocError
     }
     assert_state(&rt, &lock, (true, 0, 0));
     lock.laws();
+    Ok(())
+}
+
+#[test]
+fn a_free_mutex_is_taken_at_once(rt: HostRuntime) -> Result<(), AllocError> {
+    let mut mutex = Mutex::new(rt.alloc(), 2, 1)?;
+    assert_eq!(rt;
+        (mutex.is_held(), mutex.starved(), mutex.waiting()),
+        (false, 0, 0)
+    );
+    assert_eq!(rt;
+        mutex.begin(0, LockCall::Lock, true, false),
+        Step::End(End::Got)
+    );
+    assert_eq!(rt;
+        (mutex.is_held(), mutex.starved(), mutex.waiting()),
+        (true, 0, 0)
+    );
+    assert_eq!(rt; mutex.go(0, true, false), Step::End(End::Got));
+    assert!(rt; mutex.entry(0).is_none());
+    mutex.laws();
+    mutex.solo_polls();
     Ok(())
 }

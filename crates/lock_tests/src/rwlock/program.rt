@@ -2,26 +2,24 @@
 //! each finding that the action can make.
 
 use lock_world::Refusal;
-use mutex_machine::program::{End as TurnEnd, LockCall, Next as TurnNext};
+use mutex_machine::Step as TurnStep;
+use mutex_machine::program::{End as TurnEnd, LockCall};
 use rwlock_machine::program::{
     Action, End, Ending, Found, Next, Place, Purpose, RwCall, Wanted, action_at, decide, start,
 };
 use std::process::Abort;
 
-const TURN_STEP: Found = Found::Turn(TurnNext::Do(
-    mutex_machine::program::Action::Take,
-    mutex_machine::program::Place::Retry,
-));
+const TURN_STEP: Found = Found::Turn(TurnStep::More);
 
-const TURN_GOT: Found = Found::Turn(TurnNext::End(TurnEnd::Got));
+const TURN_GOT: Found = Found::Turn(TurnStep::End(TurnEnd::Got));
 
-const TURN_PENDING: Found = Found::Turn(TurnNext::End(TurnEnd::Pending));
+const TURN_PENDING: Found = Found::Turn(TurnStep::End(TurnEnd::Pending));
 
-const TURN_NOT_FREE: Found = Found::Turn(TurnNext::End(TurnEnd::NotFree));
+const TURN_NOT_FREE: Found = Found::Turn(TurnStep::End(TurnEnd::NotFree));
 
-const TURN_GIVEN_BACK: Found = Found::Turn(TurnNext::End(TurnEnd::GivenBack));
+const TURN_GIVEN_BACK: Found = Found::Turn(TurnStep::End(TurnEnd::GivenBack));
 
-const TURN_REFUSED: Found = Found::Turn(TurnNext::End(TurnEnd::Refused(Refusal::Starved)));
+const TURN_REFUSED: Found = Found::Turn(TurnStep::End(TurnEnd::Refused(Refusal::Starved)));
 
 const MADE_READ: Place = Place::Made {
     wanted: Wanted::Read,

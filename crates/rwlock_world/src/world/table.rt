@@ -197,9 +197,13 @@ pub(crate) struct Table {
 }
 
 impl Model for Table {
+    ghost use Rattle.std.specs.Coded.{codes};
+    ghost use Rattle.mutex_machine.specs.Behind.{behind_coded};
     ghost use Rattle.rwlock_world.specs.Table.{Table, IsTable};
 
     ghost Value = { Table };
+
+    ghost coded = { Prim.hlevel (codes, behind_coded) };
 
     ghost view = { λ t. record { lock = t.lock; stages = t.stages.items; sought = t.sought.items; value = t.value } };
 

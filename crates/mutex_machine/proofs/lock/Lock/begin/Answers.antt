@@ -8,7 +8,8 @@ use Rattle.mutex_machine.proofs.Promised.{begins_unrefused}
 use Rattle.lock_queue.specs.Parties.{entries_of}
 use Rattle.mutex_machine.specs.declared.program.End.{End}
 use Rattle.mutex_machine.specs.Roles.{listed}
-use Rattle.mutex_machine.specs.Legal.{IsLegal, decision, decided_by}
+use Rattle.mutex_machine.specs.Legal.{IsLegal, decision}
+use Rattle.mutex_machine.specs.Deeds.{decided_by}
 use Rattle.mutex_machine.proofs.Legal.{begins_decided, begins_fresh}
 use Rattle.mutex_machine.proofs.lock.Lock.begin.Goals as goal
 

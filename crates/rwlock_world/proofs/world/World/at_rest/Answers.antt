@@ -7,4 +7,4 @@ use Rattle.rwlock_world.proofs.world.World.at_rest.Goals as goal
 pub returns : goal.returns
 returns c =
     c.at_rest.ensures
-    ∙ (sym (rest_seen c.self.inside.table.value c.self.inside.table.stages c.self.inside.table.lock.places c.self.inside.table.lock.turn.places c.laws.ensures.fits.as_many) ∙ ap is_at_rest c.self.view_is)
+    ∙ (sym (rest_seen c.self.inside.table.value c.self.inside.table.stages c.self.inside.table.lock.places c.self.inside.table.lock.turn.courses c.laws.ensures.fits.as_many) ∙ ap is_at_rest c.self.view_is)

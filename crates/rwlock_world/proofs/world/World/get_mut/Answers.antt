@@ -10,12 +10,12 @@ use Rattle.rwlock_world.proofs.world.World.get_mut.Goals as goal
 
 pub value_mut-requires : goal.value_mut-requires
 value_mut-requires c =
-    sym (rest_seen c.self.inside.table.value c.self.inside.table.stages c.self.inside.table.lock.places c.self.inside.table.lock.turn.places c.laws.ensures.fits.as_many)
+    sym (rest_seen c.self.inside.table.value c.self.inside.table.stages c.self.inside.table.lock.places c.self.inside.table.lock.turn.courses c.laws.ensures.fits.as_many)
     ∙ (ap is_at_rest c.self.view_is ∙ c.requires)
 
 pub returns : goal.returns
 returns c =
     let resting : list_all is_outside_stage c.self.inside.table.stages ≡ true =
-    sym (rest_seen c.self.inside.table.value c.self.inside.table.stages c.self.inside.table.lock.places c.self.inside.table.lock.turn.places c.laws.ensures.fits.as_many)
+    sym (rest_seen c.self.inside.table.value c.self.inside.table.stages c.self.inside.table.lock.places c.self.inside.table.lock.turn.courses c.laws.ensures.fits.as_many)
     ∙ (ap is_at_rest c.self.view_is ∙ c.requires) in
     ((refl, λ v. ap (opened c.self.inside.opening_value) (put_seen c.self.inside.table v resting) ∙ ap (λ w. world_with w v) c.self.view_is), record { lends = tt; value = c.value_mut.ensures.value ∙ ap (λ w. w.state.value) c.self.view_is })

@@ -1,6 +1,6 @@
 -- The turn's word is held exactly where a party has the turn.
 use Rattle.std.proofs.Common.{ap, ◌∙◌}
-use Rattle.mutex_machine.specs.Acts.{holders}
+use Rattle.mutex_machine.specs.Mutex.{holders}
 use Rattle.rwlock_world.specs.State.{is_nobody}
 use Rattle.rwlock_world.proofs.Sound.{held_seen}
 use Rattle.rwlock_world.proofs.world.World.is_turn_held.Goals as goal
