@@ -1,0 +1,4 @@
+pub mod Ends
+pub mod Stages
+pub mod Tables
+pub mod Views
