@@ -2,3 +2,4 @@ pub mod Ends
 pub mod Stages
 pub mod Tables
 pub mod Views
+pub mod Rights

@@ -125,13 +125,17 @@ runs kind.Drop rest.Holding x = is_returning x
 runs kind.Forget rest.Holding x = is_forgetting x
 runs _ _ x = false
 
--- The calls of a semaphore that may take more than one step: a poll, an add, and the drop of a guard.
-abbrev pub is_long_call : Kind → Rest → Bool
-is_long_call kind.FirstPoll rest.Idle = true
-is_long_call kind.LaterPoll rest.Pending = true
-is_long_call kind.Add rest.Idle = true
-is_long_call kind.Drop rest.Holding = true
-is_long_call _ _ = false
+-- a place that a call has come to, and not one at which it only begins
+abbrev pub is_begun : Place → Bool
+is_begun (Take false false) = false
+is_begun Retake = false
+is_begun Try = false
+is_begun Lower = false
+is_begun GiveBack = false
+is_begun (Raise n) = false
+is_begun CancelLeave = false
+is_begun Abandon = false
+is_begun _ = true
 
 -- a stage that goes with where the party stands
 abbrev pub goes_with : Stage → Position → Bool
@@ -139,7 +143,7 @@ goes_with (Outside rest.Idle) Out = true
 goes_with (Outside rest.Pending) Out = true
 goes_with (Outside rest.Pending) Waiting = true
 goes_with (Outside rest.Holding) Holding = true
-goes_with (Inside w) (At x) = is_long_call w.kind w.was && runs w.kind w.was x
+goes_with (Inside w) (At x) = is_begun x && runs w.kind w.was x
 goes_with _ _ = false
 
 abbrev pub Stands : Semaphore → ℕ → Stage → Type 0

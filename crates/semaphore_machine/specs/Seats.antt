@@ -24,16 +24,15 @@ one_permit = record { permit = true; under_way = 0 }
 abbrev pub permits_of : Share → ℕ
 permits_of s = if s.permit then 1 else 0
 
--- What a party has; whether it stands in the list; whether it waits there, having looked at the permits since it joined; whether its program still has to notify, or to look with a notification that it took; and what its call is decided on.
+-- What a party has; whether it stands in the list; whether it waits there, having looked at the permits since it joined; and whether its program still has to notify, or to look with a notification that it took.
 pub record Seat : Type 0 where
   pub share : Share
   pub listed : ℕ
   pub waits : ℕ
   pub owes : ℕ
-  pub verdict : Option Answer
 
-abbrev pub seat : Share → ℕ → ℕ → ℕ → Option Answer → Seat
-seat s listed waits owes verdict = record { share = s; listed = listed; waits = waits; owes = owes; verdict = verdict }
+abbrev pub seat : Share → ℕ → ℕ → ℕ → Seat
+seat s listed waits owes = record { share = s; listed = listed; waits = waits; owes = owes }
 
 abbrev pub bit : Bool → ℕ
 bit true = 1
@@ -45,28 +44,28 @@ some_of zero = 0
 some_of (suc n) = 1
 
 abbrev pub seat_of : Place → Seat
-seat_of (Take false told) = seat nothing_had 0 0 (bit told) None
-seat_of (Take true told) = seat nothing_had 1 0 0 None
-seat_of Retake = seat nothing_had 1 1 0 None
-seat_of (Join told) = seat nothing_had 0 0 0 None
-seat_of Ask = seat nothing_had 1 1 0 None
-seat_of (Leave more) = seat one_permit 1 0 (bit more) (Some (Ready Plain))
-seat_of HandOn = seat one_permit 0 0 1 (Some (Ready Plain))
-seat_of RefuseNotify = seat nothing_had 0 0 0 (Some (refused Memory))
-seat_of Try = seat nothing_had 0 0 0 None
-seat_of Lower = seat one_permit 0 0 0 (Some GivenBack)
-seat_of GiveBack = seat one_permit 0 0 0 (Some GivenBack)
-seat_of GiveBackNotify = seat nothing_had 0 0 1 (Some GivenBack)
-seat_of (Raise n) = seat nothing_had 0 0 0 None
-seat_of (GiveAdded n) = seat (record { permit = false; under_way = n }) 0 0 0 (Some (Granted Plain))
-seat_of (NotifyAdded n) = seat nothing_had 0 0 (some_of n) (Some (Granted Plain))
-seat_of CancelLeave = seat nothing_had 1 1 0 (Some GivenBack)
-seat_of Abandon = seat nothing_had 0 0 0 (Some GivenBack)
+seat_of (Take false told) = seat nothing_had 0 0 (bit told)
+seat_of (Take true told) = seat nothing_had 1 0 0
+seat_of Retake = seat nothing_had 1 1 0
+seat_of (Join told) = seat nothing_had 0 0 0
+seat_of Ask = seat nothing_had 1 1 0
+seat_of (Leave more) = seat one_permit 1 0 (bit more)
+seat_of HandOn = seat one_permit 0 0 1
+seat_of RefuseNotify = seat nothing_had 0 0 0
+seat_of Try = seat nothing_had 0 0 0
+seat_of Lower = seat one_permit 0 0 0
+seat_of GiveBack = seat one_permit 0 0 0
+seat_of GiveBackNotify = seat nothing_had 0 0 1
+seat_of (Raise n) = seat nothing_had 0 0 0
+seat_of (GiveAdded n) = seat (record { permit = false; under_way = n }) 0 0 0
+seat_of (NotifyAdded n) = seat nothing_had 0 0 (some_of n)
+seat_of CancelLeave = seat nothing_had 1 1 0
+seat_of Abandon = seat nothing_had 0 0 0
 
 abbrev pub seated : Position → Seat
-seated Out = seat nothing_had 0 0 0 None
-seated Waiting = seat nothing_had 1 1 0 None
-seated Holding = seat one_permit 0 0 0 None
+seated Out = seat nothing_had 0 0 0
+seated Waiting = seat nothing_had 1 1 0
+seated Holding = seat one_permit 0 0 0
 seated (At place) = seat_of place
 
 -- each of these by itself
@@ -88,8 +87,23 @@ waits x = (seated x).waits
 abbrev pub owes : Position → ℕ
 owes x = (seated x).owes
 
+-- what the call is decided on of a party at a place
+abbrev pub verdict_of : Place → Option Answer
+verdict_of (Leave more) = Some (Ready Plain)
+verdict_of HandOn = Some (Ready Plain)
+verdict_of RefuseNotify = Some (refused Memory)
+verdict_of Lower = Some GivenBack
+verdict_of GiveBack = Some GivenBack
+verdict_of GiveBackNotify = Some GivenBack
+verdict_of (GiveAdded n) = Some (Granted Plain)
+verdict_of (NotifyAdded n) = Some (Granted Plain)
+verdict_of CancelLeave = Some GivenBack
+verdict_of Abandon = Some GivenBack
+verdict_of _ = None
+
 abbrev pub verdict : Position → Option Answer
-verdict x = (seated x).verdict
+verdict (At place) = verdict_of place
+verdict x = None
 
 -- how many permits the add that a party is in adds; none where it is in none
 abbrev pub adds_at : Position → ℕ
