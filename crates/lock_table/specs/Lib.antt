@@ -1,0 +1,5 @@
+pub mod Ends
+pub mod Stages
+pub mod Tables
+pub mod Views
+pub mod Rights

@@ -1,0 +1,49 @@
+//! What carries out the programs of a primitive's calls.
+
+ghost use Rattle.std.specs.Prelude.{◌≡◌, ◌<◌, ℕ, Bool, Some};
+ghost use Rattle.lock_world.specs.declared.moves.Answer.{Answer as AnswerOf};
+ghost use Rattle.lock_world.specs.declared.moves.Call.{Call as CallOf};
+ghost use Rattle.lock_world.specs.declared.moves.What.{What as WhatOf};
+ghost use Rattle.lock_world.specs.declared.standing.Rest.{Rest as RestOf};
+ghost use Rattle.lock_world.specs.declared.standing.Stage.{Stage as StageOf};
+ghost use Rattle.lock_world.specs.declared.standing.Within.{Within as WithinOf};
+ghost use Rattle.lock_table.specs.Stages.{stage_after};
+ghost use Rattle.lock_table.specs.Tables.{Keeps, Called};
+
+use lock_world::standing::{Rest, Within};
+use lock_world::{Answer, Call, What};
+
+/// The machine of a primitive: its words, its lists, and where each party stands in its program. A
+/// [`Table`](crate::Table) keeps the stages of its parties, and asks it for one action at a time.
+pub trait Machine: Drop {
+    /// How many parties it has.
+    ghost parties: { Self → ℕ };
+
+    /// Which calls it knows of a party. Each machine knows a later poll.
+    ghost knows: { Self → ℕ → CallOf → Bool };
+
+    /// How a party stands whose future has been ready.
+    ghost ready: { RestOf };
+
+    /// A party at this stage may stand where it does.
+    ghost stands: { Self → ℕ → StageOf → Type 0 };
+
+    /// One action of a party within this call, by this move, answered so.
+    ghost acts: { Self → ℕ → WithinOf → WhatOf → AnswerOf → Self → Type 0 };
+
+    /// Whether it knows this call of this party.
+    fn knows(&self, party: u32, call: Call) -> bool
+        requires { party < parties self.now }
+        ensures { result ≡ knows self.now party call };
+
+    /// How a party stands whose future has been ready.
+    fn ready(&self) -> Rest
+        ensures { result ≡ ready };
+
+    /// One action of a party, within a call that it may begin or go on with. All others stand as before.
+    fn act(&mut self, party: u32, within: Within, what: What) -> Answer
+        requires known { party < parties self.old }
+        requires called { Called knows stands self.old party within what }
+        ensures acts { acts self.old party within what result self.new }
+        ensures keeps { Keeps parties stands self.old party (stage_after ready within result) self.new };
+}

@@ -1,0 +1,122 @@
+//! A machine, and at which stage of its calls each party is.
+
+ghost use Rattle.std.specs.Prelude.{◌≡◌, ◌<◌, ℕ, length, IfOk};
+ghost use Rattle.std.specs.List.{list_all};
+ghost use Rattle.lock_world.specs.Standings.{is_outside_stage};
+ghost use Rattle.lock_world.specs.declared.standing.Rest.TheVariants.{Idle};
+ghost use Rattle.lock_world.specs.declared.standing.Stage.TheVariants.{Outside};
+ghost use Rattle.lock_table.specs.Stages.{call_at};
+ghost use Rattle.lock_table.specs.Tables.{IsTable as IsTable_lem, IsStep, new_table};
+
+use crate::machine::Machine;
+use crate::stages::{may_begin, polls_again, stage_after};
+use lock_world::standing::{Rest, Stage, Within};
+use lock_world::{Answer, Move, Refusal, What};
+use std::alloc::{AllocError, Global};
+use std::marker::Model;
+
+/// A machine, at which stage of its calls each party is, and the number that the World was made with.
+#[derive(Drop)]
+pub struct Table<M: Machine> {
+    machine: M,
+    stages: Vec<Stage>,
+    opening: u64,
+}
+
+impl<M: Machine> Model for Table<M> {
+    ghost use Rattle.lock_table.specs.Tables.{Table, IsTable};
+
+    ghost Value = { Table M };
+
+    ghost view = { λ t. record { machine = t.machine; stages = t.stages.items; opening = t.opening } };
+
+    ghost invariant = { λ t. IsTable M.parties M.stands t.machine t.stages.items };
+}
+
+/// The call that a move belongs to, where its party may make it.
+fn call_of<M: Machine>(machine: &M, party: u32, stage: Stage, what: What) -> Option<Within>
+    requires { party < M.parties machine.now }
+    ensures { result ≡ call_at (M.knows machine.now party) stage what }
+{
+    match stage {
+        Stage::Outside(was) => match what {
+            What::Begin(call, _) => {
+                let kind = call.kind();
+                if machine.knows(party, call) && may_begin(was, kind) {
+                    Some(Within { kind, was })
+                } else {
+                    None
+                }
+            }
+            What::Go(_) => None,
+        },
+        Stage::Inside(within) => match what {
+            What::Begin(_, _) => None,
+            What::Go(_) => Some(within),
+        },
+        Stage::Forgotten => None,
+    }
+}
+
+impl<M: Machine> Table<M> {
+    /// A table of so many idle parties over a machine that has as many. Refused for memory alone, and then
+    /// nothing is kept; afterwards no step needs memory.
+    pub fn new(alloc: Global, machine: M, parties: u32, opening: u64) -> Result<Table<M>, AllocError>
+        requires as_many { M.parties machine ≡ parties }
+        requires idle { (p : ℕ) → p < parties → M.stands machine p (Outside Idle) }
+        ensures { IfOk result (λ t. t ≡ new_table machine parties opening) }
+    {
+        let mut stages = Vec::new(alloc);
+        stages.resize(parties as usize, Stage::Outside(Rest::Idle))?;
+        Ok(Table {
+            machine,
+            stages,
+            opening,
+        })
+    }
+
+    /// What always holds of a table: each party may stand where it does. It does nothing.
+    pub fn laws(&self)
+        ensures fits { IsTable_lem M.parties M.stands self.now.machine self.now.stages }
+    {
+        let _ = &self.stages;
+    }
+
+    /// The machine.
+    pub fn machine(&self) -> &M
+        ensures { result.now ≡ self.now.machine }
+    {
+        &self.machine
+    }
+
+    /// Whether nobody is inside a call.
+    pub fn at_rest(&self) -> bool
+        ensures { result ≡ list_all is_outside_stage self.now.stages }
+    {
+        self.stages.iter().all(|stage| stage.is_outside())
+    }
+
+    /// One move. A move that its party may not make, and one of a party past the table, is answered
+    /// `NotPossible`; a poll of a future that has been ready `Refused(6)`; and neither changes anything. For
+    /// any other the machine acts once, and its answer says at which stage the party is then.
+    pub fn step(&mut self, m: &Move) -> Answer
+        ensures { IsStep M.knows M.ready M.acts self.old m.now result self.new }
+    {
+        let at = m.party as usize;
+        if at >= self.stages.len() {
+            return Answer::NotPossible;
+        }
+        let stage = self.stages[at];
+        match call_of(&self.machine, m.party, stage, m.what) {
+            None => Answer::NotPossible,
+            Some(within) => {
+                if polls_again(stage, m.what) {
+                    return Answer::Refused(Refusal::Finished.number());
+                }
+                let answer = self.machine.act(m.party, within, m.what);
+                self.stages[at] = stage_after(self.machine.ready(), within, answer);
+                answer
+            }
+        }
+    }
+}

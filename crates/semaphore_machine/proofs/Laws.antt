@@ -1,0 +1,34 @@
+-- What always holds of a semaphore, as callers see it.
+use Rattle.std.proofs.Common.{◌≡◌, ℕ, ◌+◌, ◌<◌, Bool, true, List, [], ◌∷◌, length, refl, arith}
+use Rattle.lock_event.specs.Lists.{marked_count, IsMarkedFirst}
+use Rattle.lock_queue.specs.Queues.{Queue}
+use Rattle.lock_queue.specs.Debts.{Roles, Rests, AllRest}
+use Rattle.lock_queue.proofs.Debts.{paid_at_rest}
+use Rattle.semaphore_machine.specs.declared.program.Position.{Position}
+use Rattle.semaphore_machine.specs.declared.program.Position.TheVariants.{Out, Waiting, Holding, At}
+use Rattle.semaphore_machine.specs.declared.words.Words.{Words}
+use Rattle.semaphore_machine.specs.Seats.{listed, waits, owes, is_resting}
+use Rattle.semaphore_machine.specs.Machine.{IsKept, IsAtRest, IsSemaphore}
+
+abbrev roles : Roles Position
+roles = record { listed = listed; waits = waits; owes = owes }
+
+-- a resting party owes nothing, and waits where it is listed
+rests : (x : Position) → is_resting x ≡ true → Rests roles x
+rests Out h = (refl, refl)
+rests Waiting h = (refl, refl)
+rests Holding h = (refl, refl)
+rests (At place) h = absurd (cc)
+
+all_rest : (xs : List Position) → IsAtRest xs → AllRest roles xs
+all_rest [] h = tt
+all_rest (x ∷ xs) h = (rests x h.0, all_rest xs h.1)
+
+pub is_semaphore : (w : Words) (xs : List Position) (q : Queue) → IsKept w xs q → IsMarkedFirst q.entries → IsSemaphore (record { words = w; positions = xs; entries = q.entries })
+is_semaphore w xs q k ordered = record {
+  balanced = k.sound.balanced;
+  limited = k.sound.limited;
+  owners = k.owners;
+  in_order = ordered;
+  wakes = λ rest free some. paid_at_rest roles (0 < w.available) xs (length q.entries) (marked_count q.entries) (all_rest xs rest) k.sound.in_list k.sound.owed free some;
+}

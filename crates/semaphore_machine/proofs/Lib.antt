@@ -1,0 +1,7 @@
+pub mod Steps
+pub mod Effects
+pub mod Kept
+pub mod CanDo
+pub mod Turns
+pub mod Locks
+pub mod Laws

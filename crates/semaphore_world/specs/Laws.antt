@@ -1,0 +1,48 @@
+-- What always holds of a semaphore's World, between any two moves.
+use Rattle.std.specs.Prelude.{◌≡◌, ℕ, ◌+◌, ◌<◌, ◌≤◌, Bool, true, false, length, Option}
+use Rattle.std.specs.List.{list_all}
+use Rattle.lock_event.specs.Lists.{marked_count, IsMarkedFirst}
+use Rattle.lock_queue.specs.Parties.{entries_of}
+use Rattle.lock_world.specs.declared.moves.Answer.{Answer}
+use Rattle.lock_world.specs.declared.standing.Kind.{Kind}
+use Rattle.lock_world.specs.declared.standing.Kind.TheVariants as kind
+use Rattle.lock_world.specs.declared.standing.Rest.{Rest}
+use Rattle.lock_world.specs.declared.standing.Rest.TheVariants.{Idle, Pending, Holding}
+use Rattle.lock_world.specs.declared.standing.Within.{Within}
+use Rattle.lock_world.specs.Standings.{outside, inside, is_outside}
+use Rattle.semaphore_world.specs.State.{World, held, under_way, available, standing_of}
+use Rattle.semaphore_world.specs.Legal.{HasItsOwn}
+
+-- The calls of a semaphore that may take more than one step: a poll, an add, and the drop of a guard.
+abbrev pub is_long_call : Kind → Rest → Bool
+is_long_call kind.FirstPoll Idle = true
+is_long_call kind.LaterPoll Pending = true
+is_long_call kind.Add Idle = true
+is_long_call kind.Drop Holding = true
+is_long_call _ _ = false
+
+pub record IsSound (w : World) : Type 0 where
+  -- The permits that parties have, those under way and those available make up the limit; so no more parties have one than the limit says.
+  pub balanced : available w.state + held w.state + under_way w.state ≡ w.state.limit
+  pub limited : w.state.limit ≤ w.most
+  pub few_holders : held w.state ≤ w.state.limit
+  -- Each party has what its standing says.
+  pub each : (p : ℕ) → HasItsOwn w p (standing_of w p)
+  -- A party that is inside a call is in a poll, an add or the drop of a guard, which it could begin.
+  pub inside_calls : (p : ℕ) (u : Within) (decided : Option Answer) → standing_of w p ≡ inside u decided → is_long_call u.kind u.was ≡ true
+  -- No party stands in the list twice, and the marked entries stand before the waiting ones.
+  pub once : (p : ℕ) → entries_of p w.entries ≤ 1
+  pub in_order : IsMarkedFirst w.entries
+
+-- Nobody is inside a call.
+abbrev pub is_at_rest : World → Bool
+is_at_rest w = list_all is_outside w.standings
+
+-- A permit is available, and some party waits for one in the list.
+abbrev pub IsFreeAndWanted : World → Type 0
+IsFreeAndWanted w = (0 < available w.state) × (0 < length w.entries)
+
+-- At rest no notification is lost: if a permit is available and wanted then some entry is marked; and each entry belongs to a party that is pending.
+pub record IsAwake (w : World) : Type 0 where
+  pub marked : IsFreeAndWanted w → 0 < marked_count w.entries
+  pub pending : (p : ℕ) → 0 < entries_of p w.entries → standing_of w p ≡ outside Pending
