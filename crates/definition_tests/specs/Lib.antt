@@ -1,3 +1,4 @@
 pub mod Never
 pub mod Mutex
 pub mod ReadWrite
+pub mod Semaphore

@@ -5,3 +5,4 @@
 
 mod mutex;
 mod rwlock;
+mod semaphore;

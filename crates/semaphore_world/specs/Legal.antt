@@ -83,8 +83,8 @@ abbrev pub IsAllowed : World → Move → Deed Change ListName → Type 0
 IsAllowed w m (changes takes) = (is_free w.state ≡ true) × (share_at w.state m.party ≡ nothing_had)
 IsAllowed w m (changes gives_back) = (share_at w.state m.party ≡ one_permit) × (is_drop m.what ≡ true)
 IsAllowed w m (changes forgets) = (share_at w.state m.party ≡ one_permit) × (is_forget m.what ≡ true)
-IsAllowed w m (changes (raises n)) = (added_in m.what ≡ Some n) × (w.state.limit + n ≤ w.most)
-IsAllowed w m (changes (gives n)) = ((share_at w.state m.party).under_way ≡ n) × (adds_of w m.party ≡ n)
+IsAllowed w m (changes (raises n)) = (added_in m.what ≡ Some n) × (w.state.limit + n ≤ w.most) × (share_at w.state m.party ≡ nothing_had)
+IsAllowed w m (changes (gives n)) = (share_at w.state m.party ≡ record { permit = false; under_way = n }) × (adds_of w m.party ≡ n)
 IsAllowed w m (does list (notifies n)) = notice (standing_of w m.party) (adds_of w m.party) ≡ n
 IsAllowed w m _ = Unit {0}
 

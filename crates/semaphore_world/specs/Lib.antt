@@ -8,3 +8,4 @@ pub mod Runs
 pub mod Whole
 pub mod Bound
 pub mod Openings
+pub mod Limits

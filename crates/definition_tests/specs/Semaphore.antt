@@ -1,0 +1,148 @@
+-- Runs of a semaphore that no user would accept. Each record is one wrong run: what its steps would be, if it were legal.
+use Rattle.std.specs.Prelude.{◌≡◌, ◌≢◌, ℕ, ◌+◌, ◌<◌, ◌≤◌, true, false, length, Option, Some, None}
+use Rattle.lock_event.specs.Lists.{marked_count}
+use Rattle.lock_queue.specs.Parties.{entries_of}
+use Rattle.lock_world.specs.declared.moves.Answer.{Answer}
+use Rattle.lock_world.specs.declared.moves.Answer.TheVariants as answer
+use Rattle.lock_world.specs.declared.moves.Call.{Call}
+use Rattle.lock_world.specs.declared.moves.Call.TheVariants as call
+use Rattle.lock_world.specs.declared.moves.Inputs.{Inputs}
+use Rattle.lock_world.specs.declared.moves.Move.{Move}
+use Rattle.lock_world.specs.declared.moves.What.TheVariants.{Begin, Go}
+use Rattle.lock_world.specs.declared.refusal.Refusal.TheVariants.{Memory}
+use Rattle.lock_world.specs.declared.standing.Kind.TheVariants as kind
+use Rattle.lock_world.specs.declared.standing.Rest.TheVariants.{Pending, Holding}
+use Rattle.lock_world.specs.declared.standing.Within.{Within}
+use Rattle.lock_world.specs.Frame.{is_drop, is_refusal}
+use Rattle.lock_world.specs.Standings.{outside, inside, is_possible, refused}
+use Rattle.lock_world.specs.Steps.{does, notifies}
+use Rattle.semaphore_machine.specs.Deeds.{for_a_permit}
+use Rattle.semaphore_world.specs.AtOnce.{AnswersAtOnce, is_try, is_first_poll}
+use Rattle.semaphore_world.specs.Bound.{Promises}
+use Rattle.semaphore_world.specs.Legal.{Legal, added_in, is_forget}
+use Rattle.semaphore_world.specs.State.{World, has_permit, is_free, standing_of, adds_of, mark_of}
+
+-- A move of a party, and what it leads to.
+pub record Step : Type 0 where
+  pub old : World
+  pub move : Move
+  pub answer : Answer
+  pub new : World
+
+abbrev pub IsLegal : Step → Type 0
+IsLegal s = Legal s.old s.move s.answer s.new
+
+abbrev pub IsAtOnce : Step → Type 0
+IsAtOnce s = AnswersAtOnce s.old s.move s.answer s.new
+
+-- A whole call, and where it ends.
+pub record Whole : Type 0 where
+  pub old : World
+  pub party : ℕ
+  pub call : Call
+  pub inputs : Inputs
+  pub answer : Answer
+  pub new : World
+
+abbrev pub Keeps : Whole → Type 0
+Keeps c = Promises c.old c.party c.call c.inputs c.answer c.new
+
+-- A try is answered None though a permit is available.
+pub record TriesInVain : Type 0 where
+  pub step : Step
+  pub tries : is_try step.move.what ≡ true
+  pub free : is_free step.old.state ≡ true
+  pub none : step.answer ≡ answer.None
+  pub legal : IsAtOnce step
+
+-- An acquire takes a permit and isn't decided, so that it may give it back and wait.
+pub record TakesUndecided : Type 0 where
+  pub step : Step
+  pub within : Within
+  pub undecided : standing_of step.new step.move.party ≡ inside within None
+  pub took : has_permit step.new.state step.move.party ≡ true
+  pub legal : IsLegal step
+
+-- An acquire that goes on gives a permit back that its party had.
+pub record GivesBackWithin : Type 0 where
+  pub step : Step
+  pub inputs : Inputs
+  pub goes : step.move.what ≡ Go inputs
+  pub had : has_permit step.old.state step.move.party ≡ true
+  pub gave : has_permit step.new.state step.move.party ≡ false
+  pub legal : IsLegal step
+
+-- An add begins with something else than raising the limit, as with giving what it adds.
+pub record GivesBeforeItRaises : Type 0 where
+  pub step : Step
+  pub number : ℕ
+  pub some : 0 < number
+  pub adds : added_in step.move.what ≡ Some number
+  pub fits : step.old.state.limit + number ≤ step.old.most
+  pub possible : is_possible step.answer ≡ true
+  pub not_raised : step.new.state.limit ≡ step.old.state.limit
+  pub legal : IsAtOnce step
+
+-- An add notifies for another number of permits than it gave.
+pub record NotifiesForOthers : Type 0 where
+  pub step : Step
+  pub within : Within
+  pub told : ℕ
+  pub decided : Option Answer
+  pub adding : standing_of step.old step.move.party ≡ inside within decided
+  pub kind : within.kind ≡ kind.Add
+  pub others : told ≢ adds_of step.old step.move.party
+  pub legal : IsLegal step
+  pub notifies : legal.one_change.deed ≡ does for_a_permit (notifies told)
+
+-- A forget leaves the limit, so that its permit may come back.
+pub record ForgetsInVain : Type 0 where
+  pub step : Step
+  pub forgets : is_forget step.move.what ≡ true
+  pub possible : is_possible step.answer ≡ true
+  pub some : 0 < step.old.state.limit
+  pub left : step.new.state.limit ≡ step.old.state.limit
+  pub legal : IsAtOnce step
+
+-- An acquire is refused for memory at its first step, where a permit is available.
+pub record RefusedThoughFree : Type 0 where
+  pub step : Step
+  pub first : is_first_poll (standing_of step.old step.move.party) step.move.what (entries_of step.move.party step.old.entries) ≡ true
+  pub free : is_free step.old.state ≡ true
+  pub refused : step.answer ≡ refused Memory
+  pub legal : IsAtOnce step
+
+-- Or later in its first poll, carried out whole.
+pub record RefusedAtLast : Type 0 where
+  pub whole : Whole
+  pub first : is_first_poll (standing_of whole.old whole.party) (Begin whole.call whole.inputs) (entries_of whole.party whole.old.entries) ≡ true
+  pub free : is_free whole.old.state ≡ true
+  pub refused : whole.answer ≡ refused Memory
+  pub kept : Keeps whole
+
+-- A party is answered Pending and stands in no list: nobody will ever wake it.
+pub record WaitsUnlisted : Type 0 where
+  pub step : Step
+  pub pending : step.answer ≡ answer.Pending
+  pub unlisted : mark_of step.new step.move.party ≡ None
+  pub legal : IsLegal step
+
+-- A pending party polls alone, where a permit is available, and waits again.
+pub record PassesOverInVain : Type 0 where
+  pub whole : Whole
+  pub polls : whole.call ≡ call.Poll
+  pub was_pending : standing_of whole.old whole.party ≡ outside Pending
+  pub free : is_free whole.old.state ≡ true
+  pub pending : whole.answer ≡ answer.Pending
+  pub kept : Keeps whole
+
+-- A listed party's poll is refused, and nobody else is told: what it was told is lost.
+pub record KeepsItsTold : Type 0 where
+  pub whole : Whole
+  pub polls : whole.call ≡ call.Poll
+  pub was_pending : standing_of whole.old whole.party ≡ outside Pending
+  pub listed : 0 < entries_of whole.party whole.old.entries
+  pub refused : is_refusal whole.answer ≡ true
+  pub some : 0 < length whole.new.entries
+  pub none_told : marked_count whole.new.entries ≡ 0
+  pub kept : Keeps whole

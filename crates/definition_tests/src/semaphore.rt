@@ -1,0 +1,19 @@
+//! Wrong runs of a semaphore.
+
+ghost use Rattle.definition_tests.specs.Never.{Never};
+ghost use Rattle.definition_tests.specs.Semaphore.{TriesInVain, TakesUndecided, GivesBackWithin, GivesBeforeItRaises, NotifiesForOthers, ForgetsInVain, RefusedThoughFree, RefusedAtLast, WaitsUnlisted, PassesOverInVain, KeepsItsTold};
+
+/// Each clause says of one wrong run that it isn't legal.
+fn wrong_runs()
+    ensures tries_in_vain { Never (TriesInVain) }
+    ensures takes_undecided { Never (TakesUndecided) }
+    ensures gives_back_within { Never (GivesBackWithin) }
+    ensures gives_before_it_raises { Never (GivesBeforeItRaises) }
+    ensures notifies_for_others { Never (NotifiesForOthers) }
+    ensures forgets_in_vain { Never (ForgetsInVain) }
+    ensures refused_though_free { Never (RefusedThoughFree) }
+    ensures refused_at_last { Never (RefusedAtLast) }
+    ensures waits_unlisted { Never (WaitsUnlisted) }
+    ensures passes_over_in_vain { Never (PassesOverInVain) }
+    ensures keeps_its_told { Never (KeepsItsTold) }
+{}

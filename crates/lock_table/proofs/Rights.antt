@@ -1,0 +1,31 @@
+-- After each step what is known tells the rights, if the party that moves keeps its account and the others theirs.
+use Rattle.std.proofs.Common.{◌≡◌, ◌≢◌, ℕ, ◌==◌, if◌then◌else◌, Bool, true, false, refl, arith, ap, sym, ◌∙◌, subst}
+use Rattle.std.proofs.Math.Decide.{ℕ_discrete}
+use Rattle.std.proofs.lemmas.Bool.Decides.{nat_tests}
+use Rattle.lock_world.specs.declared.moves.Answer.{Answer}
+use Rattle.lock_world.specs.declared.moves.Move.{Move}
+use Rattle.lock_world.specs.Accounts.{Account, account_after, accounts_after}
+use Rattle.lock_table.specs.Rights.{TellsAccounts}
+
+chosen : (b : Bool) (x y : Account) → b ≡ true → (if b then x else y) ≡ x
+chosen true x y e = refl
+chosen false x y e = absurd (cc)
+
+other : (b : Bool) (x y : Account) → b ≡ false → (if b then x else y) ≡ y
+other false x y e = refl
+other true x y e = absurd (cc)
+
+same_test : (p q : ℕ) → q ≡ p → (p == q) ≡ true
+same_test p q e = grind (arith, nat_tests)
+
+other_test : (p q : ℕ) → q ≢ p → (p == q) ≡ false
+other_test p q e = grind (arith, nat_tests)
+
+module _ {W : Type 0} (accounts_of : W → ℕ → Account) where
+  pub tells_on : (known : ℕ → Account) (w : W) (m : Move) (a : Answer) (v : W) → TellsAccounts accounts_of known w
+      → account_after (accounts_of w m.party) m.what a ≡ accounts_of v m.party → ((q : ℕ) → q ≢ m.party → accounts_of v q ≡ accounts_of w q) → TellsAccounts accounts_of (accounts_after known m a) v
+  tells_on known w m a v tells own others q = elim (ℕ_discrete q m.party) as (λ _. accounts_after known m a q ≡ accounts_of v q) [
+    | yes e ↦ chosen (m.party == q) (account_after (known q) m.what a) (known q) (same_test m.party q e)
+        ∙ (ap (λ k. account_after k m.what a) (tells q) ∙ (let P : ℕ → Type 0 = λ k. account_after (accounts_of w k) m.what a ≡ accounts_of v k in subst P (sym e) own))
+    | no apart ↦ other (m.party == q) (account_after (known q) m.what a) (known q) (other_test m.party q apart) ∙ (tells q ∙ sym (others q apart))
+  ]

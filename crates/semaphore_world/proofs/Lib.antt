@@ -1,0 +1,15 @@
+pub mod Seen
+pub mod Rows
+pub mod Turns
+pub mod Idle
+pub mod Legals
+pub mod Acting
+pub mod AtOnce
+pub mod Sound
+pub mod Stepping
+pub mod Whole
+pub mod Rights
+pub mod Promises
+pub mod Bound
+pub mod Opening
+pub mod WorldLaws
