@@ -61,7 +61,12 @@ fn call_of<M: Machine>(machine: &M, party: u32, stage: Stage, what: What) -> Opt
 impl<M: Machine> Table<M> {
     /// A table of so many idle parties over a machine that has as many. Refused for memory alone, and then
     /// nothing is kept; afterwards no step needs memory.
-    pub fn new(alloc: Global, machine: M, parties: u32, opening: u64) -> Result<Table<M>, AllocError>
+    pub fn new(
+        alloc: Global,
+        machine: M,
+        parties: u32,
+        opening: u64,
+    ) -> Result<Table<M>, AllocError>
         requires as_many { M.parties machine ≡ parties }
         requires idle { (p : ℕ) → p < parties → M.stands machine p (Outside Idle) }
         ensures { IfOk result (λ t. t ≡ new_table machine parties opening) }
