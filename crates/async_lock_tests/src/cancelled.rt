@@ -2,7 +2,7 @@
 
 use crate::clocks::Fake;
 use crate::polls::{is_pending, is_pending_arc, ready, ready_arc};
-use async_lock::Mutex;
+use async_lock::{Mutex, Settled};
 use futures::test::MockTask;
 use std::sync::Arc;
 use std::sync::atomic::{AtomicU64, Ordering};
@@ -32,7 +32,7 @@ fn a_waiting_future_leaves_the_list(rt: HostRuntime) -> Result<(), Fail> {
         return Ok(());
     };
     let held = mutex.try_lock();
-    let (mut one, mut two) = (mutex.lock(), mutex.lock());
+    let (mut one, mut two) = (Settled(mutex.lock()), Settled(mutex.lock()));
     assert!(rt; is_pending(&first, &mut one));
     assert!(rt; is_pending(&second, &mut two));
     drop(one);
@@ -52,7 +52,7 @@ fn a_notified_future_passes_its_notification_on(rt: HostRuntime) -> Result<(), F
         return Ok(());
     };
     let held = mutex.try_lock();
-    let (mut one, mut two) = (mutex.lock(), mutex.lock());
+    let (mut one, mut two) = (Settled(mutex.lock()), Settled(mutex.lock()));
     assert!(rt; is_pending(&first, &mut one));
     assert!(rt; is_pending(&second, &mut two));
     drop(held);
@@ -75,7 +75,10 @@ fn a_notified_owned_future_passes_its_notification_on(rt: HostRuntime) -> Result
         return Ok(());
     };
     let held = mutex.try_lock();
-    let (mut one, mut two) = (Mutex::lock_arc(&mutex), Mutex::lock_arc(&mutex));
+    let (mut one, mut two) = (
+        Settled(Mutex::lock_arc(&mutex)),
+        Settled(Mutex::lock_arc(&mutex)),
+    );
     assert!(rt; is_pending_arc(&first, &mut one));
     assert!(rt; is_pending_arc(&second, &mut two));
     drop(held);
@@ -101,7 +104,7 @@ fn a_starved_future_takes_its_count_off(rt: HostRuntime) -> Result<(), Fail> {
         return Ok(());
     };
     let held = mutex.try_lock();
-    let (mut one, mut two) = (mutex.lock(), mutex.lock());
+    let (mut one, mut two) = (Settled(mutex.lock()), Settled(mutex.lock()));
     assert!(rt; is_pending(&first, &mut one));
     micros.store(501, Ordering::SeqCst);
     drop(held);
@@ -137,7 +140,7 @@ fn a_starved_future_that_waits_leaves_the_list(rt: HostRuntime) -> Result<(), Fa
         return Ok(());
     };
     let held = mutex.try_lock();
-    let (mut one, mut two) = (mutex.lock(), mutex.lock());
+    let (mut one, mut two) = (Settled(mutex.lock()), Settled(mutex.lock()));
     assert!(rt; is_pending(&first, &mut one));
     micros.store(501, Ordering::SeqCst);
     drop(held);

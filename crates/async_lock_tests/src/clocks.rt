@@ -1,7 +1,7 @@
 //! What the clock says of a waiter.
 
 use crate::polls::{is_pending, ready};
-use async_lock::{Mutex, Refusal};
+use async_lock::{Mutex, Refusal, Settled};
 use futures::test::MockTask;
 use std::alloc::{Alloc, AllocGlobal, Global};
 use std::io;
@@ -68,7 +68,7 @@ where
     let task = MockTask::new(&rt).ok()?;
     let mutex = Mutex::new(Fake::new(rt, clock), 1u64).ok()?;
     let held = mutex.try_lock();
-    let mut future = mutex.lock();
+    let mut future = Settled(mutex.lock());
     if !is_pending(&task, &mut future) {
         return None;
     }

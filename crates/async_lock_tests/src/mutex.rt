@@ -136,7 +136,7 @@ fn yields_when_contended(rt: HostRuntime) -> Result<(), Fail> {
     {
         let held = mutex.try_lock();
         assert!(rt; held.is_some());
-        let mut future = mutex.lock();
+        let mut future = Settled(mutex.lock());
         assert!(rt; is_pending(&task, &mut future));
         assert!(rt; !task.is_woken());
         drop(held);
@@ -148,7 +148,7 @@ fn yields_when_contended(rt: HostRuntime) -> Result<(), Fail> {
     };
     let held = Mutex::try_lock_arc(&mutex);
     assert!(rt; held.is_some());
-    let mut future = Mutex::lock_arc(&mutex);
+    let mut future = Settled(Mutex::lock_arc(&mutex));
     assert!(rt; is_pending_arc(&task, &mut future));
     assert!(rt; !task.is_woken());
     drop(held);

@@ -1,50 +1,64 @@
 //! Polls by a test's task.
 
 use async_lock::lock_futures::{Lock, LockArc};
-use async_lock::{MutexGuard, MutexGuardArc, Refusal, Turn};
+use async_lock::{MutexGuard, MutexGuardArc, Refusal, Settled, Turn};
+use futures::task::Poll;
 use futures::test::MockTask;
 use std::sync::Wait;
 use std::time::Clock;
 
 /// One poll. Where memory is refused, one more: a refused future is as when it was made.
-pub fn poll<'a, T: Drop, R: Wait + Clock>(
+pub fn poll<'a, T, R: Wait + Clock>(
     task: &MockTask,
-    future: &mut Lock<'a, T, R>,
+    future: &mut Settled<Lock<'a, T, R>>,
 ) -> Turn<MutexGuard<'a, T, R>> {
-    match task.enter(|cx| future.poll(cx)) {
-        Turn::Refused(Refusal::Memory) => task.enter(|cx| future.poll(cx)),
-        turn => turn,
+    let mut polled = task.poll(future);
+    if matches!(polled, Poll::Ready(Err(Refusal::Memory))) {
+        polled = task.poll(future);
+    }
+    match polled {
+        Poll::Pending => Turn::Pending,
+        Poll::Ready(Ok(guard)) => Turn::Ready(guard),
+        Poll::Ready(Err(refusal)) => Turn::Refused(refusal),
     }
 }
 
 /// As [`poll`], of an owned future.
 pub fn poll_arc<T: Drop, R: Wait + Clock + Drop>(
     task: &MockTask,
-    future: &mut LockArc<T, R>,
+    future: &mut Settled<LockArc<T, R>>,
 ) -> Turn<MutexGuardArc<T, R>> {
-    match task.enter(|cx| future.poll(cx)) {
-        Turn::Refused(Refusal::Memory) => task.enter(|cx| future.poll(cx)),
-        turn => turn,
+    let mut polled = task.poll(future);
+    if matches!(polled, Poll::Ready(Err(Refusal::Memory))) {
+        polled = task.poll(future);
+    }
+    match polled {
+        Poll::Pending => Turn::Pending,
+        Poll::Ready(Ok(guard)) => Turn::Ready(guard),
+        Poll::Ready(Err(refusal)) => Turn::Refused(refusal),
     }
 }
 
 /// Whether this poll is pending.
-pub fn is_pending<T: Drop, R: Wait + Clock>(task: &MockTask, future: &mut Lock<'_, T, R>) -> bool {
+pub fn is_pending<T, R: Wait + Clock>(
+    task: &MockTask,
+    future: &mut Settled<Lock<'_, T, R>>,
+) -> bool {
     matches!(poll(task, future), Turn::Pending)
 }
 
 /// Whether this poll is pending, of an owned future.
 pub fn is_pending_arc<T: Drop, R: Wait + Clock + Drop>(
     task: &MockTask,
-    future: &mut LockArc<T, R>,
+    future: &mut Settled<LockArc<T, R>>,
 ) -> bool {
     matches!(poll_arc(task, future), Turn::Pending)
 }
 
 /// The guard, if this poll is ready.
-pub fn ready<'a, T: Drop, R: Wait + Clock>(
+pub fn ready<'a, T, R: Wait + Clock>(
     task: &MockTask,
-    future: &mut Lock<'a, T, R>,
+    future: &mut Settled<Lock<'a, T, R>>,
 ) -> Option<MutexGuard<'a, T, R>> {
     match poll(task, future) {
         Turn::Ready(guard) => Some(guard),
@@ -55,7 +69,7 @@ pub fn ready<'a, T: Drop, R: Wait + Clock>(
 /// The guard, if this poll is ready, of an owned future.
 pub fn ready_arc<T: Drop, R: Wait + Clock + Drop>(
     task: &MockTask,
-    future: &mut LockArc<T, R>,
+    future: &mut Settled<LockArc<T, R>>,
 ) -> Option<MutexGuardArc<T, R>> {
     match poll_arc(task, future) {
         Turn::Ready(guard) => Some(guard),

@@ -1,7 +1,7 @@
 //! A mutex's rounds: taken, written, given back and taken again, with whoever waits told.
 
 use crate::polls::{is_pending, is_pending_arc, poll, poll_arc, ready, ready_arc};
-use async_lock::{Mutex, MutexGuard, MutexGuardArc, Refusal, Turn};
+use async_lock::{Mutex, MutexGuard, MutexGuardArc, Refusal, Settled, Turn};
 use futures::test::MockTask;
 use std::sync::Arc;
 use std::test::Fail;
@@ -11,7 +11,7 @@ fn what_is_written_is_read_by_the_next(rt: HostRuntime) -> Result<(), Fail> {
     let (Ok(mutex), Ok(task)) = (Mutex::new(rt, 1u64), MockTask::new(&rt)) else {
         return Ok(());
     };
-    let mut future = mutex.lock();
+    let mut future = Settled(mutex.lock());
     let Some(mut guard) = ready(&task, &mut future) else {
         panic!(rt; "the lock is free");
     };
@@ -31,7 +31,7 @@ fn what_is_written_is_read_by_the_next_owner(rt: HostRuntime) -> Result<(), Fail
     let Ok(mutex) = Arc::new(rt.alloc(), mutex) else {
         return Ok(());
     };
-    let mut future = Mutex::lock_arc(&mutex);
+    let mut future = Settled(Mutex::lock_arc(&mutex));
     let Some(mut guard) = ready_arc(&task, &mut future) else {
         panic!(rt; "the lock is free");
     };
@@ -51,7 +51,7 @@ fn a_waiting_future_is_woken_takes_the_lock_and_is_over(rt: HostRuntime) -> Resu
     };
     let held = mutex.try_lock();
     assert!(rt; held.is_some());
-    let mut future = mutex.lock();
+    let mut future = Settled(mutex.lock());
     assert!(rt; is_pending(&task, &mut future));
     // Polled again by the same task while it waits: its waker stays, and wakes nobody.
     assert!(rt; is_pending(&task, &mut future) && !task.is_woken());
@@ -63,7 +63,7 @@ fn a_waiting_future_is_woken_takes_the_lock_and_is_over(rt: HostRuntime) -> Resu
     let (Ok(other), Ok(second)) = (MockTask::new(&rt), MockTask::new(&rt)) else {
         return Ok(());
     };
-    let mut next = mutex.lock();
+    let mut next = Settled(mutex.lock());
     assert!(rt; is_pending(&second, &mut next));
     assert!(rt; matches!(poll(&other, &mut future), Turn::Refused(Refusal::Finished)));
     assert!(rt; !other.is_woken() && !task.is_woken() && !second.is_woken());
@@ -86,7 +86,7 @@ fn a_waiting_owned_future_is_woken_takes_the_lock_and_is_over(rt: HostRuntime) -
     };
     let held = Mutex::try_lock_arc(&mutex);
     assert!(rt; held.is_some());
-    let mut future = Mutex::lock_arc(&mutex);
+    let mut future = Settled(Mutex::lock_arc(&mutex));
     assert!(rt; is_pending_arc(&task, &mut future));
     assert!(rt; is_pending_arc(&task, &mut future) && !task.is_woken());
     drop(held);
@@ -96,7 +96,7 @@ fn a_waiting_owned_future_is_woken_takes_the_lock_and_is_over(rt: HostRuntime) -
     let (Ok(other), Ok(second)) = (MockTask::new(&rt), MockTask::new(&rt)) else {
         return Ok(());
     };
-    let mut next = Mutex::lock_arc(&mutex);
+    let mut next = Settled(Mutex::lock_arc(&mutex));
     assert!(rt; is_pending_arc(&second, &mut next));
     assert!(rt;
         matches!(
@@ -122,7 +122,7 @@ fn a_future_that_moved_to_another_task_wakes_that_one(rt: HostRuntime) -> Result
         return Ok(());
     };
     let held = mutex.try_lock();
-    let mut future = mutex.lock();
+    let mut future = Settled(mutex.lock());
     assert!(rt; is_pending(&first, &mut future));
     assert!(rt; is_pending(&second, &mut future) && !second.is_woken());
     drop(held);
@@ -141,7 +141,7 @@ fn a_lock_goes_from_hand_to_hand_in_order(rt: HostRuntime) -> Result<(), Fail> {
     };
     let mut held = mutex.try_lock();
     for round in 0..10u64 {
-        let (mut one, mut two) = (mutex.lock(), mutex.lock());
+        let (mut one, mut two) = (Settled(mutex.lock()), Settled(mutex.lock()));
         assert!(rt; is_pending(&first, &mut one));
         assert!(rt; is_pending(&second, &mut two));
         drop(held);
@@ -192,8 +192,8 @@ fn an_owned_future_outlives_every_other_owner(rt: HostRuntime) -> Result<(), Fai
         return Ok(());
     };
     let held = Mutex::try_lock_arc(&mutex);
-    let mut future = Mutex::lock_arc(&mutex);
-    let unpolled = Mutex::lock_arc(&mutex);
+    let mut future = Settled(Mutex::lock_arc(&mutex));
+    let unpolled = Settled(Mutex::lock_arc(&mutex));
     assert!(rt; is_pending_arc(&task, &mut future));
     drop(mutex);
     drop(held);

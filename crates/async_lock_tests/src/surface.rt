@@ -1,7 +1,7 @@
 //! Each public call once, with its texts.
 
 use crate::polls::ready;
-use async_lock::{Mutex, Refusal, Settled};
+use async_lock::{Mutex, Refusal, Settled, Turn};
 use futures::executor::block_on;
 use futures::test::MockTask;
 use std::alloc::AllocGlobal;
@@ -18,7 +18,7 @@ fn each_borrowed_call_succeeds(rt: HostRuntime) -> Result<(), Fail> {
     let got = block_on(&rt, Settled(mutex.lock()))?;
     assert_eq!(rt; got.map(|guard| *guard).ok(), Some(1));
     let task = MockTask::new(&rt)?;
-    let mut future = mutex.lock();
+    let mut future = Settled(mutex.lock());
     assert!(rt; ready(&task, &mut future).is_some());
     drop(future);
     *mutex.get_mut() = 2;
@@ -96,5 +96,21 @@ fn futures_are_shown_by_their_names(rt: HostRuntime) -> Result<(), Fail> {
     let owned = Mutex::lock_arc(&mutex);
     let text = format!(in rt.alloc(); "{owned:?}")?;
     assert_eq!(rt; text.as_str(), "LockArc { .. }");
+    Ok(())
+}
+
+#[test]
+fn a_poll_by_a_context_answers_a_turn(rt: HostRuntime) -> Result<(), Fail> {
+    let mutex = Arc::new(rt.alloc(), Mutex::new(rt, 7u64)?)?;
+    let task = MockTask::new(&rt)?;
+    let held = mutex.try_lock();
+    let mut future = mutex.lock();
+    assert!(rt; task.enter(|cx| matches!(future.poll(cx), Turn::Pending)));
+    drop(held);
+    assert!(rt; task.enter(|cx| matches!(future.poll(cx), Turn::Ready(_))));
+    assert!(rt; task.enter(|cx| matches!(future.poll(cx), Turn::Refused(Refusal::Finished))));
+    let mut owned = Mutex::lock_arc(&mutex);
+    assert!(rt; task.enter(|cx| matches!(owned.poll(cx), Turn::Ready(_))));
+    assert!(rt; task.enter(|cx| matches!(owned.poll(cx), Turn::Refused(Refusal::Finished))));
     Ok(())
 }

@@ -1,7 +1,7 @@
 //! The value: reached past forgotten guards, and dropped exactly once on every way out.
 
 use crate::polls::{is_pending, is_pending_arc, ready, ready_arc};
-use async_lock::Mutex;
+use async_lock::{Mutex, Settled};
 use futures::test::MockTask;
 use std::mem;
 use std::sync::Arc;
@@ -58,7 +58,7 @@ fn the_value_is_lent_past_a_forgotten_waiter(rt: HostRuntime) -> Result<(), Fail
     };
     {
         let held = mutex.try_lock();
-        let mut future = mutex.lock();
+        let mut future = Settled(mutex.lock());
         assert!(rt; is_pending(&task, &mut future));
         mem::forget(future);
         drop(held);
@@ -102,7 +102,7 @@ fn the_value_is_dropped_once_with_the_last_owner(rt: HostRuntime) -> Result<(), 
             return Ok(());
         };
         let held = Mutex::try_lock_arc(&mutex);
-        let mut future = Mutex::lock_arc(&mutex);
+        let mut future = Settled(Mutex::lock_arc(&mutex));
         drop(mutex);
         assert!(rt; is_pending_arc(&task, &mut future));
         drop(held);
@@ -146,11 +146,11 @@ fn the_value_is_dropped_once_by_a_cancelled_future(rt: HostRuntime) -> Result<()
             return Ok(());
         };
         let held = mutex.try_lock();
-        let mut future = mutex.lock();
+        let mut future = Settled(mutex.lock());
         assert!(rt; is_pending(&task, &mut future));
         drop(future);
         drop(held);
-        let mut future = mutex.lock();
+        let mut future = Settled(mutex.lock());
         assert!(rt; ready(&task, &mut future).is_some());
         assert_eq!(rt; drops.load(Ordering::SeqCst), 0);
     }
