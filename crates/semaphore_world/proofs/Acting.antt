@@ -60,10 +60,6 @@ use Rattle.semaphore_world.proofs.Seen as seen
 use Rattle.semaphore_world.proofs.Idle.{Standing_well}
 use Rattle.semaphore_world.proofs.Rows.{said, SharesSo, AllowedAt, is_join, Refuses, Reason, Judged, Room, Row, row, never_pending}
 use Rattle.semaphore_world.proofs.Turns.{Here}
-<<<<<<< HEAD
-
-=======
->>>>>>> semaphore
 use Rattle.semaphore_world.proofs.Legals as legals
 use Rattle.semaphore_world.proofs.Legals.{each_has, none_added}
 

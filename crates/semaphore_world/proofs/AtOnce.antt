@@ -64,17 +64,9 @@ use Rattle.semaphore_world.specs.AtOnce.{AnswersAtOnce, AddsAtOnce, is_try, is_p
 use Rattle.semaphore_machine.proofs.Turns.{Moves, Turn, turn}
 use Rattle.semaphore_world.proofs.Acting.{Acting}
 use Rattle.semaphore_world.proofs.Acting as acting
-<<<<<<< HEAD
-
 use Rattle.semaphore_world.proofs.Legals as legals
 use Rattle.semaphore_world.proofs.Legals.{each_has, none_added}
 
-
-=======
-use Rattle.semaphore_world.proofs.Legals as legals
-use Rattle.semaphore_world.proofs.Legals.{each_has, none_added}
-
->>>>>>> semaphore
 -- ---- Where calls begin
 
 -- the place at which each call begins that decides at once

@@ -173,15 +173,6 @@ module _ (p : ℕ) (i : Inputs) where
       record {
         going = λ e. (let next = rows.going (sym k.answer ∙ e) in (next.0, at ∙ next.1, next.2));
         ended = λ n r some. (
-<<<<<<< HEAD
-          let here : k.from ≡ RefuseNotify = rows.refused (ap is_refusal (sym k.answer) ∙ r) in
-          let P : Place → Type 0 = λ y. Finds (inputs_of m.what).memory m.party (action_of y) k.found t.machine.words t.machine.entries × (u.machine.entries ≡ entries_after m.party (deed_of (action_of y) k.found) t.machine.entries) in
-          let Q : ℕ → Type 0 = λ q. Finds (inputs_of m.what).memory q (act.Notify 1) k.found t.machine.words t.machine.entries × (u.machine.entries ≡ entries_after q (deed_of (act.Notify 1) k.found) t.machine.entries) in
-          let both : P k.from = (k.acts.finds, k.acts.entries) in
-          let so : Q p = subst Q same (subst P here both) in
-          told (inputs_of m.what).memory t.machine.words t.machine.entries u.machine.entries k.found so.0 so.1 some
-        );
-=======
             let here : k.from ≡ RefuseNotify = rows.refused (ap is_refusal (sym k.answer) ∙ r) in
             let P : Place → Type 0 = λ y. Finds (inputs_of m.what).memory m.party (action_of y) k.found t.machine.words t.machine.entries × (u.machine.entries ≡ entries_after m.party (deed_of (action_of y) k.found) t.machine.entries) in
             let Q : ℕ → Type 0 = λ q. Finds (inputs_of m.what).memory q (act.Notify 1) k.found t.machine.words t.machine.entries × (u.machine.entries ≡ entries_after q (deed_of (act.Notify 1) k.found) t.machine.entries) in
@@ -189,7 +180,6 @@ module _ (p : ℕ) (i : Inputs) where
             let so : Q p = subst Q same (subst P here both) in
             told (inputs_of m.what).memory t.machine.words t.machine.entries u.machine.entries k.found so.0 so.1 some
             );
->>>>>>> semaphore
       }
 
   quiet : (a b : Answer) (v : World) → a ≡ b → is_refusal b ≡ false → (b ≡ answer.Stepped → ⊥) → Onwards a v
@@ -224,17 +214,10 @@ module _ (p : ℕ) (i : Inputs) where
       let some : 0 < entries_of p t.machine.entries = (let P : World → Type 0 = λ z. 0 < entries_of p z.entries in subst P same listed) in
       let stands : standing_of (view_of t) p ≡ outside rest.Pending = ap (λ z. standing_of z p) (sym same) ∙ pending in
       seen_as b y s.did.stands.seen (by_way t u m b refl
-<<<<<<< HEAD
-        (way t u m b s.did.stood.semaphore s.did.stood.fits s.did.stands.semaphore s.did.stands.fits s.did.step)
-        (λ v k. polls_hand k.from (entries_of p t.machine.entries)
-            ((door t u m b s.did.stood.semaphore s.did.stood.fits s.did.stands.semaphore s.did.stands.fits v k).polls (ap (λ z. is_poll z (Begin call.Poll i)) (sym (acting.stood t u m b v k) ∙ stands)))
-            some (acting.own_entries t u m b v k)))
-=======
       (way t u m b s.did.stood.semaphore s.did.stood.fits s.did.stands.semaphore s.did.stands.fits s.did.step)
       (λ v k. polls_hand k.from (entries_of p t.machine.entries)
       ((door t u m b s.did.stood.semaphore s.did.stood.fits s.did.stands.semaphore s.did.stands.fits v k).polls (ap (λ z. is_poll z (Begin call.Poll i)) (sym (acting.stood t u m b v k) ∙ stands)))
       some (acting.own_entries t u m b v k)))
->>>>>>> semaphore
 
   pub hands_on : (known : Known) (w : World) (n : ℕ) (a : Answer) (v : World) → Runs known w (moves_of p call.Poll i n) (answers_of n a) v → a ≢ answer.Stepped → standing_of w p ≡ outside rest.Pending → 0 < entries_of p w.entries → HandsOn a v
   hands_on known w n a v runs ended pending listed = along Steps learn HoldsWell p i IsHanding HandsOn hands_going known n w (beginning p call.Poll i) a v (λ b x s. hands_begun w b x pending listed s) ended runs

@@ -340,17 +340,10 @@ past_has : (t : Table Semaphore) (laws : IsSemaphoreTable t) (q : ℕ) → stand
 past_has t fits q e = ap (λ (z : Share). z.permit) (seen.share_seen t q) ∙ seen.by_stage_or_past t.stages q ((share_of (position_at t.machine.positions q)).permit ≡ false)
     (λ past. ap (λ x. (share_of x).permit) (seen.past_out t.machine.positions q (omega (arith, past, fits.as_many))))
     (λ inside. never (stage_at t.stages q) (position_at t.machine.positions q) (verdict (position_at t.machine.positions q)) (fits.stands q inside) (sym (seen.stands_seen t q) ∙ e)) where
-<<<<<<< HEAD
-  never : (s : Stage) (x : Position) (d : Option Answer) → goes_with s x ≡ true → stands_as d s ≡ forgotten → (share_of x).permit ≡ false
-  never (Outside r) x d g h = absurd (cc h)
-  never (Inside w) x d g h = absurd (cc h)
-  never Forgotten x d g h = absurd (cc g)
-=======
       never : (s : Stage) (x : Position) (d : Option Answer) → goes_with s x ≡ true → stands_as d s ≡ forgotten → (share_of x).permit ≡ false
       never (Outside r) x d g h = absurd (cc h)
       never (Inside w) x d g h = absurd (cc h)
       never Forgotten x d g h = absurd (cc g)
->>>>>>> semaphore
 
 pub holds_well : (k : Known) (t u : Table Semaphore) (m : Move) (a : Answer) → IsSemaphoreTable u → Tells k (view_of t) → Counted_on t u m a → IsSound (view_of u) → (is_at_rest (view_of u) ≡ true → IsAwake (view_of u)) → StepsWell Tells HoldsWell (learn k m a) (view_of u)
 holds_well k t u m a fits tells on sound awake =

@@ -33,11 +33,7 @@ goes_well k w m a v tells s =
     let P : World → Type 0 = StepsWell Tells HoldsWell (learn k m a) in
     let Q : World → Type 0 = Tells k in
     subst P (sym s.did.stands.seen) (holds_well k w.behind v.behind m a s.did.stands.fits (subst Q s.did.stood.seen tells) (counted w.behind v.behind m a (way_of w m a v s))
-<<<<<<< HEAD
-        (sound v.behind s.did.stands.semaphore s.did.stands.fits) (awake v.behind s.did.stands.semaphore s.did.stands.fits))
-=======
     (sound v.behind s.did.stands.semaphore s.did.stands.fits) (awake v.behind s.did.stands.semaphore s.did.stands.fits))
->>>>>>> semaphore
 
 pub begins : (w : World) (p : ℕ) (c : Call) (i : Inputs) (a : Answer) (v : World) → Steps w (beginning p c i) a v → 1 + left_by a (steps_left_of v p) ≤ most_steps_of c
 begins w p c i a v s = whole.begins w.behind v.behind p c i a (way_of w (beginning p c i) a v s)
