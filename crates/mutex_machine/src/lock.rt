@@ -1,8 +1,8 @@
 //! The mutex machine: its word, its list, and where each party stands in its program.
 //!
-//! A World stands on it, and so do the turn of a read-write lock and the inner lock of a barrier. What
-//! they may rest on is said by its contracts alone: a call leads on as specs/Courses says, every
-//! step is one of the programs' (specs/Acts), and [`Lock::laws`] says what always holds.
+//! A mutex's World stands on it, place by place: a call leads on as specs/Courses says, every step is one
+//! of the programs' (specs/Acts), and [`Lock::laws`] says what always holds. Those who build on a mutex
+//! and know none of its places stand on [`Mutex`](crate::Mutex).
 
 ghost use Rattle.std.specs.Prelude.{◌≡◌, ℕ, Bool, ◌+◌, ◌<◌, ◌≤◌, ◌^◌, true, false, length, Some, None, slice_set, slice_index_or, slice_get, IfOk, IsSome, IsSomeAnd};
 ghost use Rattle.mutex_machine.specs.Program.{next_of, action_of, place_after};
