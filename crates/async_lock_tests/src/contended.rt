@@ -15,7 +15,7 @@ fn two_threads_add_under_the_lock(rt: HostRuntime) -> Result<(), Fail> {
         for _ in 0..1000u32 {
             match mutex.lock_blocking() {
                 Ok(mut guard) => *guard = guard.saturating_add(1),
-                Err(_) => refused += 1,
+                Err(_) => refused = refused.saturating_add(1),
             }
         }
         refused
@@ -39,7 +39,7 @@ fn two_threads_add_under_the_lock_that_they_own(rt: HostRuntime) -> Result<(), F
         for _ in 0..1000u32 {
             match Mutex::lock_arc_blocking(&mutex) {
                 Ok(mut guard) => *guard = guard.saturating_add(1),
-                Err(_) => refused += 1,
+                Err(_) => refused = refused.saturating_add(1),
             }
         }
         refused

@@ -1,8 +1,8 @@
 //! Tests of the public locks and of the waiting list that they share, by their public calls. There is nothing
 //! else here, and no crate stands on it.
 //!
-//! Each test also ends well where one allocation fails, whichever it is: what is refused memory is tried again, or
-//! the test is over.
+//! Those of `surface` have ample memory. Each other test also ends well where one allocation fails, whichever it
+//! is: what is refused memory is tried again, or the test is over.
 #![tactic(auto)]
 
 #[cfg(test)]

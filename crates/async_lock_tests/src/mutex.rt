@@ -16,7 +16,7 @@ fn smoke(rt: HostRuntime) -> Result<(), Fail> {
     let mut had = 0u32;
     for _ in 0..3u32 {
         if let Ok(Ok(guard)) = block_on(&rt, Settled(mutex.lock())) {
-            had += 1;
+            had = had.saturating_add(1);
             drop(guard);
         }
     }
