@@ -3,13 +3,7 @@
 
 use lock_table::End;
 use lock_world::{Call, Refusal};
-<<<<<<< HEAD
-use semaphore_machine::program::{
-    Action, Found, Next, Place, Position, action_at, decide, start,
-};
-=======
 use semaphore_machine::program::{Action, Found, Next, Place, Position, action_at, decide, start};
->>>>>>> semaphore
 use std::process::Abort;
 
 const ONE_LEFT: Found = Found::Taken { more: true };
@@ -38,13 +32,6 @@ const TOLD_LISTED_LOOK: Place = Place::Take {
 
 /// Where this finding leads on to another place.
 fn leads(rt: &impl Abort, from: Place, found: Found, to: Place) {
-<<<<<<< HEAD
-    assert_eq!(rt; decide(from, found), Next::Do(to), "after {from:?} found {found:?}");
-}
-
-fn ends(rt: &impl Abort, from: Place, found: Found, end: End) {
-    assert_eq!(rt; decide(from, found), Next::End(end), "after {from:?} found {found:?}");
-=======
     assert_eq!(rt;
         decide(from, found),
         Next::Do(to),
@@ -58,7 +45,6 @@ fn ends(rt: &impl Abort, from: Place, found: Found, end: End) {
         Next::End(end),
         "after {from:?} found {found:?}"
     );
->>>>>>> semaphore
 }
 
 #[test]
@@ -93,16 +79,12 @@ fn a_look_takes_a_permit_or_waits(rt: HostRuntime) {
         leads(&rt, LISTED_LOOK, found, Place::Leave { more: false });
         leads(&rt, Place::Retake, found, Place::Leave { more: false });
     }
-<<<<<<< HEAD
-    leads(&rt, FIRST_LOOK, Found::NoneLeft, Place::Join { told: false });
-=======
     leads(
         &rt,
         FIRST_LOOK,
         Found::NoneLeft,
         Place::Join { told: false },
     );
->>>>>>> semaphore
     leads(&rt, TOLD_LOOK, Found::NoneLeft, Place::Join { told: true });
     leads(&rt, LISTED_LOOK, Found::NoneLeft, Place::Ask);
     leads(&rt, TOLD_LISTED_LOOK, Found::NoneLeft, Place::Ask);
@@ -123,12 +105,6 @@ fn a_told_look_hands_on_where_permits_are_left(rt: HostRuntime) {
 #[test]
 fn a_join_leads_to_another_look_or_is_refused(rt: HostRuntime) {
     leads(&rt, Place::Join { told: false }, Found::Done, LISTED_LOOK);
-<<<<<<< HEAD
-    leads(&rt, Place::Join { told: true }, Found::Done, TOLD_LISTED_LOOK);
-    let refused = End::Refused(Refusal::Memory);
-    ends(&rt, Place::Join { told: false }, Found::NoMemory, refused);
-    leads(&rt, Place::Join { told: true }, Found::NoMemory, Place::RefuseNotify);
-=======
     leads(
         &rt,
         Place::Join { told: true },
@@ -143,7 +119,6 @@ fn a_join_leads_to_another_look_or_is_refused(rt: HostRuntime) {
         Found::NoMemory,
         Place::RefuseNotify,
     );
->>>>>>> semaphore
     ends(&rt, Place::RefuseNotify, Found::Done, refused);
 }
 
@@ -163,16 +138,12 @@ fn the_other_calls(rt: HostRuntime) {
     ends(&rt, Place::GiveBackNotify, Found::Done, End::GivenBack);
     ends(&rt, Place::Lower, Found::Done, End::GivenBack);
     leads(&rt, Place::Raise(2), Found::Done, Place::GiveAdded(2));
-<<<<<<< HEAD
-    ends(&rt, Place::Raise(2), Found::PastLimit, End::Refused(Refusal::Permits));
-=======
     ends(
         &rt,
         Place::Raise(2),
         Found::PastLimit,
         End::Refused(Refusal::Permits),
     );
->>>>>>> semaphore
     leads(&rt, Place::GiveAdded(2), Found::Done, Place::NotifyAdded(2));
     ends(&rt, Place::NotifyAdded(2), Found::Done, End::Granted);
     ends(&rt, Place::CancelLeave, Found::Done, End::GivenBack);

@@ -90,15 +90,11 @@ fn an_acquire_hands_on_what_is_left(rt: HostRuntime) -> Result<(), Fail> {
     expect_steps(
         &rt,
         &mut world,
-<<<<<<< HEAD
-        &[(2, GO, Answer::Stepped), (2, GO, Answer::Stepped), (2, GO, READY)],
-=======
         &[
             (2, GO, Answer::Stepped),
             (2, GO, Answer::Stepped),
             (2, GO, READY),
         ],
->>>>>>> semaphore
     );
     assert_state(&rt, &world, (1, 2, 1));
     assert_eq!(rt; told(&world, 0), Some((3, Mark::Notified)));
@@ -171,14 +167,10 @@ fn an_acquire_is_refused_after_its_notification(rt: HostRuntime) -> Result<(), F
     expect(
         &rt,
         &mut world,
-<<<<<<< HEAD
-        &[(0, Call::Drop, Answer::GivenBack), (3, Call::TryAcquire, GRANTED)],
-=======
         &[
             (0, Call::Drop, Answer::GivenBack),
             (3, Call::TryAcquire, GRANTED),
         ],
->>>>>>> semaphore
     );
     expect_steps(
         &rt,
