@@ -150,7 +150,7 @@ fn a_lock_goes_from_hand_to_hand_in_order(rt: HostRuntime) -> Result<(), Fail> {
         let Some(mut guard) = ready(&first, &mut one) else {
             panic!(rt; "the lock is free");
         };
-        *guard += 1;
+        *guard = guard.saturating_add(1);
         drop(guard);
         assert!(rt; second.is_woken());
         held = ready(&second, &mut two);
