@@ -18,6 +18,7 @@ use timing::{Row, median};
 
 /// How often a run does what is timed, where it takes some ten nanoseconds, and where it takes more.
 const OFTEN: u64 = 500_000;
+
 const SELDOM: u64 = 20_000;
 
 fn print<R: Print + Clock, W: Row>(rt: &R, name: &str, row: &W, times: u64) -> io::Result<()> {
@@ -26,7 +27,9 @@ fn print<R: Print + Clock, W: Row>(rt: &R, name: &str, row: &W, times: u64) -> i
 }
 
 /// The rows, or none where memory is refused.
-fn print_all<R: Wait + Clock + Print + AllocGlobal + RandomSource + Copy + Drop>(rt: R) -> io::Result<()> {
+fn print_all<R: Wait + Clock + Print + AllocGlobal + RandomSource + Copy + Drop>(
+    rt: R,
+) -> io::Result<()> {
     let alloc = rt.alloc();
     let std_mutex = std::sync::Mutex::new(0_u64);
     let Ok(mutex) = Mutex::new(rt, 0_u64) else {
@@ -44,9 +47,19 @@ fn print_all<R: Wait + Clock + Print + AllocGlobal + RandomSource + Copy + Drop>
     print(&rt, "std lock and unlock", &std_pair, OFTEN)?;
     print(&rt, "try_lock and drop", &TryPair { mutex }, OFTEN)?;
     print(&rt, "try_lock, held", &HeldTry { mutex }, OFTEN)?;
-    print(&rt, "try_lock_arc and drop", &TryArcPair { mutex: &owned }, OFTEN)?;
+    print(
+        &rt,
+        "try_lock_arc and drop",
+        &TryArcPair { mutex: &owned },
+        OFTEN,
+    )?;
     print(&rt, "lock ready and drop", &LockPair { mutex, task }, OFTEN)?;
-    print(&rt, "poll to pending and drop", &PendingPoll { mutex, task }, SELDOM)?;
+    print(
+        &rt,
+        "poll to pending and drop",
+        &PendingPoll { mutex, task },
+        SELDOM,
+    )?;
     for waiting in [1, 10, 1000] {
         let row = HandOver {
             mutex,

@@ -10,8 +10,8 @@ mod one_mutex;
 mod tests;
 
 pub use add_one::audited;
-pub use one_mutex::public;
 use lock_world::Answer;
+pub use one_mutex::public;
 use std::alloc::Global;
 use std::sync::Wait;
 use std::thread;

@@ -91,15 +91,12 @@ impl Write for Sink {
 }
 
 /// What a run needs of its runtime.
-trait Runs:
-    Threads + Wait + Clock + RandomSource + AllocGlobal + Abort + Sync + Copy + Drop
-{
-}
+trait Runs: Threads + Wait + Clock + RandomSource + AllocGlobal + Abort + Sync + Copy + Drop {}
 
-impl<R> Runs for R where
-    R: Threads + Wait + Clock + RandomSource + AllocGlobal + Abort + Sync + Copy + Drop
-{
-}
+impl<R> Runs for R
+where
+    R: Threads + Wait + Clock + RandomSource + AllocGlobal + Abort + Sync + Copy + Drop,
+{}
 
 /// What was kept, as text.
 fn text_of(sink: &Sink) -> &str {
