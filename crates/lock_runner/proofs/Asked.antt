@@ -1,5 +1,5 @@
 -- What the arguments ask for.
-use Rattle.std.proofs.Common.{◌≡◌, ℕ, List, [], ◌∷◌, length, sym, ◌∙◌, ap, arith, refl}
+use Rattle.std.proofs.Common.{◌≡◌, ℕ, List, [], ◌∷◌, length, sym, subst, ◌∙◌, ap, arith, refl}
 use Rattle.std.specs.Prelude.{Option, Some, None, IfSome, IfNone, codes}
 use Rattle.lock_runner.specs.declared.task.Task.{Task}
 use Rattle.lock_runner.specs.declared.task.Task.TheVariants.{Script, Threads}
@@ -18,3 +18,10 @@ pub not_both : (words : List (List ℕ)) (count : ℕ) → words ≡ asked → A
 not_both words count e (word, two, rest) =
     let clash : codes "threads" ∷ word ∷ [] ≡ codes "script" ∷ [] = sym two ∙ e in
     omega (arith, ap length clash)
+
+-- what was read of the words is what they ask for
+pub asks_of : (words : List (List ℕ)) (r : Option Task) (task : Task) → r ≡ Some task → IfSome r (AsksFor words) → AsksFor words task
+asks_of words r task is asks = let P : Option Task → Type 0 = λ o. IfSome o (AsksFor words) in subst P is asks
+
+pub asks_nothing : (words : List (List ℕ)) (r : Option Task) → r ≡ None → IfNone r ((task : Task) → ¬ AsksFor words task) → (task : Task) → ¬ AsksFor words task
+asks_nothing words r is none = let P : Option Task → Type 0 = λ o. IfNone o ((task : Task) → ¬ AsksFor words task) in subst P is none

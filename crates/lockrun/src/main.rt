@@ -29,12 +29,17 @@ fn arguments<R: Env + AllocGlobal>(rt: &R) -> Result<Vec<String>, Fault>
     }
 }
 
-/// The whole run on the streams of the process, as its status.
-fn status(rt: &HostRuntime) -> Result<u8, Fault> {
-    let words = arguments(rt)?;
-    let mut output = BufWriter::new(rt.alloc(), rt.stdout()).map_err(|_| Fault::Memory)?;
-    Ok(lock_runner::run(
-        rt,
+/// The whole run, on the streams of the process.
+fn main(rt: HostRuntime) -> ExitCode {
+    let words = match arguments(&rt) {
+        Ok(words) => words,
+        Err(fault) => return ended(fault, &rt),
+    };
+    let Ok(mut output) = BufWriter::new(rt.alloc(), rt.stdout()) else {
+        return ended(Fault::Memory, &rt);
+    };
+    ExitCode::from(lock_runner::run(
+        &rt,
         rt.alloc(),
         words.as_slice(),
         &mut rt.stdin(),
@@ -43,9 +48,7 @@ fn status(rt: &HostRuntime) -> Result<u8, Fault> {
     ))
 }
 
-fn main(rt: HostRuntime) -> ExitCode {
-    ExitCode::from(match status(&rt) {
-        Ok(status) => status,
-        Err(fault) => lock_runner::report(fault, &mut rt.stderr()),
-    })
+/// The status of a run that ends so before it begins.
+fn ended(fault: Fault, rt: &HostRuntime) -> ExitCode {
+    ExitCode::from(lock_runner::report(fault, &mut rt.stderr()))
 }

@@ -1,23 +1,52 @@
-use Rattle.std.proofs.Common.{◌≡◌}
+-- What the words ask for decides which clauses speak.
+use Rattle.std.proofs.Common.{◌≡◌, ◌∙◌, ap}
 use Rattle.std.specs.Prelude.{Some}
-use Rattle.lock_runner.specs.declared.task.Task.TheVariants.{Script}
-use Rattle.lock_runner.proofs.Asked.{only_script}
+use Rattle.lock_runner.specs.declared.task.Task.TheVariants.{Script, Threads}
+use Rattle.lock_runner.proofs.Asked.{only_script, not_both, asks_of, asks_nothing}
+use Rattle.lock_runner.proofs.Faults.{Keeps-same}
 use Rattle.lock_runner.proofs.program.run.Goals as goal
 
-pub returns-in-Some-Threads-clause-asked : goal.returns-in-Some-Threads-clause-asked
-returns-in-Some-Threads-clause-asked g c = λ e.
-    let script : c.parse.result ≡ Some Script = only_script _ c.parse.result c.parse.ensures.asks c.parse.ensures.none e in
-    absurd cc
+pub returns-in-Ok-clause-usage : goal.returns-in-Ok-clause-usage
+returns-in-Ok-clause-usage g c = λ none. absurd (none Script (asks_of _ c.parse.result Script (c.in-Some-Script.is ∙ ap Some c.in-Some-Script.field-0-is) c.parse.ensures.asks))
 
-pub returns-in-Some-Threads-clause-long : goal.returns-in-Some-Threads-clause-long
-returns-in-Some-Threads-clause-long g c = λ e.
-    let script : c.parse.result ≡ Some Script = only_script _ c.parse.result c.parse.ensures.asks c.parse.ensures.none e in
-    absurd cc
+pub returns-in-Ok-clause-threads : goal.returns-in-Ok-clause-threads
+returns-in-Ok-clause-threads g c = λ count asks. absurd (not_both _ count (asks_of _ c.parse.result Script (c.in-Some-Script.is ∙ ap Some c.in-Some-Script.field-0-is) c.parse.ensures.asks) asks)
+
+pub returns-in-Err-clause-usage : goal.returns-in-Err-clause-usage
+returns-in-Err-clause-usage g c = λ none. absurd (none Script (asks_of _ c.parse.result Script (c.in-Some-Script.is ∙ ap Some c.in-Some-Script.field-0-is) c.parse.ensures.asks))
+
+pub returns-in-Err-clause-threads : goal.returns-in-Err-clause-threads
+returns-in-Err-clause-threads g c = λ count asks. absurd (not_both _ count (asks_of _ c.parse.result Script (c.in-Some-Script.is ∙ ap Some c.in-Some-Script.field-0-is) c.parse.ensures.asks) asks)
+
+pub returns-in-Ok-threads-clause-usage : goal.returns-in-Ok-threads-clause-usage
+returns-in-Ok-threads-clause-usage g c = λ none. absurd (none (Threads c.in-Some-Threads.workers) (asks_of _ c.parse.result (Threads c.in-Some-Threads.workers) (c.in-Some-Threads.is ∙ ap Some c.in-Some-Threads.field-0-is) c.parse.ensures.asks))
+
+pub returns-in-Ok-threads-clause-script : goal.returns-in-Ok-threads-clause-script
+returns-in-Ok-threads-clause-script g c = λ e zero. absurd (not_both _ c.in-Some-Threads.workers e (asks_of _ c.parse.result (Threads c.in-Some-Threads.workers) (c.in-Some-Threads.is ∙ ap Some c.in-Some-Threads.field-0-is) c.parse.ensures.asks))
+
+pub returns-in-Ok-threads-clause-played : goal.returns-in-Ok-threads-clause-played
+returns-in-Ok-threads-clause-played g c = λ e zero. absurd (not_both _ c.in-Some-Threads.workers e (asks_of _ c.parse.result (Threads c.in-Some-Threads.workers) (c.in-Some-Threads.is ∙ ap Some c.in-Some-Threads.field-0-is) c.parse.ensures.asks))
+
+pub returns-in-Ok-threads-clause-long : goal.returns-in-Ok-threads-clause-long
+returns-in-Ok-threads-clause-long g c = λ e. absurd (not_both _ c.in-Some-Threads.workers e (asks_of _ c.parse.result (Threads c.in-Some-Threads.workers) (c.in-Some-Threads.is ∙ ap Some c.in-Some-Threads.field-0-is) c.parse.ensures.asks))
+
+pub returns-in-Err-threads-clause-usage : goal.returns-in-Err-threads-clause-usage
+returns-in-Err-threads-clause-usage g c = λ none. absurd (none (Threads c.in-Some-Threads.workers) (asks_of _ c.parse.result (Threads c.in-Some-Threads.workers) (c.in-Some-Threads.is ∙ ap Some c.in-Some-Threads.field-0-is) c.parse.ensures.asks))
+
+pub returns-in-Err-threads-clause-script : goal.returns-in-Err-threads-clause-script
+returns-in-Err-threads-clause-script g c = λ e zero. absurd (not_both _ c.in-Some-Threads.workers e (asks_of _ c.parse.result (Threads c.in-Some-Threads.workers) (c.in-Some-Threads.is ∙ ap Some c.in-Some-Threads.field-0-is) c.parse.ensures.asks))
+
+pub returns-in-Err-threads-clause-played : goal.returns-in-Err-threads-clause-played
+returns-in-Err-threads-clause-played g c = λ e zero. absurd (not_both _ c.in-Some-Threads.workers e (asks_of _ c.parse.result (Threads c.in-Some-Threads.workers) (c.in-Some-Threads.is ∙ ap Some c.in-Some-Threads.field-0-is) c.parse.ensures.asks))
+
+pub returns-in-Err-threads-clause-long : goal.returns-in-Err-threads-clause-long
+returns-in-Err-threads-clause-long g c = λ e. absurd (not_both _ c.in-Some-Threads.workers e (asks_of _ c.parse.result (Threads c.in-Some-Threads.workers) (c.in-Some-Threads.is ∙ ap Some c.in-Some-Threads.field-0-is) c.parse.ensures.asks))
 
 pub returns-in-None-clause-asked : goal.returns-in-None-clause-asked
-returns-in-None-clause-asked g c = λ e.
-    let script : c.parse.result ≡ Some Script = only_script _ c.parse.result c.parse.ensures.asks c.parse.ensures.none e in
-    absurd cc
+returns-in-None-clause-asked g c = λ task asks. absurd (asks_nothing _ c.parse.result c.in-None.is c.parse.ensures.none task asks)
+
+pub returns-in-None-clause-threads : goal.returns-in-None-clause-threads
+returns-in-None-clause-threads g c = λ count asks. absurd (asks_nothing _ c.parse.result c.in-None.is c.parse.ensures.none (Threads count) asks)
 
 pub returns-in-None-clause-long : goal.returns-in-None-clause-long
 returns-in-None-clause-long g c = λ e.
