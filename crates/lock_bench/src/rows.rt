@@ -12,12 +12,12 @@ use std::time::Clock;
 
 /// Lock and unlock of std's mutex.
 #[derive(Drop)]
-pub struct StdPair<'a, R> {
+pub struct StdPair<'a, 'b, R> {
     pub rt: &'a R,
-    pub mutex: &'a std::sync::Mutex<u64>,
+    pub mutex: &'b std::sync::Mutex<u64>,
 }
 
-impl<R: Wait> Row for StdPair<'_, R> {
+impl<R: Wait> Row for StdPair<'_, '_, R> {
     fn go(&self, times: u64) {
         for _ in 0..times {
             let mut guard = black_box(self.mutex).lock(self.rt);
@@ -76,12 +76,12 @@ impl<R: Wait + Drop> Row for TryArcPair<'_, R> {
 
 /// A `lock` that is ready at its first poll, and the guard's drop.
 #[derive(Drop)]
-pub struct LockPair<'a, R: Wait> {
+pub struct LockPair<'a, 'b, R: Wait> {
     pub mutex: &'a Mutex<u64, R>,
-    pub task: &'a MockTask,
+    pub task: &'b MockTask,
 }
 
-impl<R: Wait + Clock> Row for LockPair<'_, R> {
+impl<R: Wait + Clock> Row for LockPair<'_, '_, R> {
     fn go(&self, times: u64) {
         let mutex = self.mutex;
         self.task.enter(|cx| {
@@ -96,12 +96,12 @@ impl<R: Wait + Clock> Row for LockPair<'_, R> {
 
 /// A poll of a new future to pending, and the future's drop.
 #[derive(Drop)]
-pub struct PendingPoll<'a, R: Wait> {
+pub struct PendingPoll<'a, 'b, R: Wait> {
     pub mutex: &'a Mutex<u64, R>,
-    pub task: &'a MockTask,
+    pub task: &'b MockTask,
 }
 
-impl<R: Wait + Clock> Row for PendingPoll<'_, R> {
+impl<R: Wait + Clock> Row for PendingPoll<'_, '_, R> {
     fn go(&self, times: u64) {
         let mutex = self.mutex;
         let held = mutex.try_lock();
@@ -117,14 +117,14 @@ impl<R: Wait + Clock> Row for PendingPoll<'_, R> {
 /// Hand-over with so many futures waiting: the guard is dropped, the first future in the list gets the lock, and a new
 /// one joins in its place.
 #[derive(Drop)]
-pub struct HandOver<'a, R: Wait> {
+pub struct HandOver<'a, 'b, R: Wait> {
     pub mutex: &'a Mutex<u64, R>,
-    pub task: &'a MockTask,
+    pub task: &'b MockTask,
     pub alloc: Global,
     pub waiting: u64,
 }
 
-impl<R: Wait + Clock> Row for HandOver<'_, R> {
+impl<R: Wait + Clock> Row for HandOver<'_, '_, R> {
     fn go(&self, times: u64) {
         let Some(held) = self.mutex.try_lock() else {
             return;
