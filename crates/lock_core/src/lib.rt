@@ -14,6 +14,11 @@ pub mod rwlock {
     pub use rwlock_world::{MOST_READERS, MOST_STARVED_FOR_THE_TURN, World};
 }
 
+/// A semaphore, from the crate `semaphore_world`.
+pub mod semaphore {
+    pub use semaphore_world::World;
+}
+
 pub use lock_event::{Entry, Mark, Memory};
 pub use lock_frame::AnyWorld;
 pub use lock_world::{Answer, Call, Got, Inputs, Made, Move, Refusal, What};

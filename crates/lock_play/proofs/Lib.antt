@@ -1,3 +1,4 @@
 pub mod Texts
 pub mod Mutex
 pub mod RwLock
+pub mod Semaphore

@@ -3,4 +3,5 @@ pub mod Openings
 pub mod Requests
 pub mod Mutex
 pub mod RwLock
+pub mod Semaphore
 pub mod Worlds

@@ -1,13 +1,16 @@
--- The World that a line makes.
-use Rattle.std.specs.Prelude.{ℕ, min, Option, Some, None}
+-- The World that a line makes, and when it makes none.
+use Rattle.std.specs.Prelude.{◌≡◌, ◌⊎◌, ℕ, ◌<◌, ◌^◌, ◌-◌, min, Option, Some, None, unwrap_or}
 use Rattle.mutex_world.specs.declared.world.TheConstants.{MOST_STARVED}
 use Rattle.rwlock_world.specs.declared.world.TheConstants.{MOST_STARVED_FOR_THE_TURN, MOST_READERS}
 use Rattle.mutex_world.specs.State as mutex
 use Rattle.rwlock_world.specs.State as rwlock
+use Rattle.semaphore_world.specs.State as semaphore
+use Rattle.lock_world.specs.declared.refusal.Refusal.{Refusal}
+use Rattle.lock_world.specs.declared.refusal.Refusal.TheVariants.{Memory, Permits}
 use Rattle.lock_script.specs.declared.command.Model.{Model}
 use Rattle.lock_script.specs.declared.command.Model.TheVariants as model
 use Rattle.lock_play.specs.declared.world.World.{World}
-use Rattle.lock_play.specs.declared.world.World.TheVariants.{Mutex, RwLock}
+use Rattle.lock_play.specs.declared.world.World.TheVariants.{Mutex, RwLock, Semaphore}
 
 -- a limit: the number that is given, or the greatest where that is less or none is given
 abbrev pub limit_of : Option ℕ → ℕ → ℕ
@@ -18,3 +21,15 @@ limit_of (Some n) most = min n most
 abbrev pub world_of : Model → World
 world_of (model.Mutex parties value starved) = Mutex (mutex.new_world parties (limit_of starved MOST_STARVED) value)
 world_of (model.RwLock parties value starved readers) = RwLock (rwlock.new_world parties (limit_of starved MOST_STARVED_FOR_THE_TURN) (limit_of readers MOST_READERS) value)
+world_of (model.Semaphore parties permits most) = Semaphore (semaphore.new_world parties permits (unwrap_or most (2 ^ 64 - 1)))
+
+-- the numbers describe a semaphore with more permits than its limit may be: no World is made of them
+abbrev pub HasTooManyPermits : Model → Type 0
+HasTooManyPermits (model.Semaphore parties permits (Some most)) = most < permits
+HasTooManyPermits _ = ⊥
+
+-- why no World is made: for too many permits, and of other numbers for memory alone
+abbrev pub IsRefusedFor : Model → Refusal → Type 0
+IsRefusedFor m Permits = HasTooManyPermits m
+IsRefusedFor m Memory = ¬ HasTooManyPermits m
+IsRefusedFor m _ = ⊥

@@ -8,14 +8,20 @@ use Rattle.rwlock_world.specs.State as rwlock
 use Rattle.rwlock_world.specs.Steps as rwlock_steps
 use Rattle.rwlock_world.specs.Whole as rwlock_whole
 use Rattle.rwlock_world.specs.Bound as rwlock_bound
+use Rattle.semaphore_world.specs.State as semaphore
+use Rattle.semaphore_world.specs.Steps as semaphore_steps
+use Rattle.semaphore_world.specs.Whole as semaphore_whole
+use Rattle.semaphore_world.specs.Bound as semaphore_bound
 use Rattle.lock_script.specs.declared.command.Request.{Request}
 use Rattle.lock_play.specs.declared.world.World.{World}
-use Rattle.lock_play.specs.declared.world.World.TheVariants.{Mutex, RwLock}
+use Rattle.lock_play.specs.declared.world.World.TheVariants.{Mutex, RwLock, Semaphore}
 use Rattle.lock_play.specs.Mutex as mutex_played
 use Rattle.lock_play.specs.RwLock as rwlock_played
+use Rattle.lock_play.specs.Semaphore as semaphore_played
 use Rattle.lock_play.specs.Requests.{Does}
 
 -- what is asked for leads to a World of the same lock, and is answered by this text
 abbrev pub CarriesOut : Request → World → World → List ℕ → Type 0
 CarriesOut request (Mutex old) new text = (v : mutex.World) × (new ≡ Mutex v) × Does mutex_steps.Steps mutex_whole.IsWholeCall mutex_bound.Promises mutex_played.put_gives mutex_played.take_gives mutex_played.text_of request old v text
 CarriesOut request (RwLock old) new text = (v : rwlock.World) × (new ≡ RwLock v) × Does rwlock_steps.Steps rwlock_whole.IsWholeCall rwlock_bound.Promises rwlock_played.put_gives rwlock_played.take_gives rwlock_played.text_of request old v text
+CarriesOut request (Semaphore old) new text = (v : semaphore.World) × (new ≡ Semaphore v) × Does semaphore_steps.Steps semaphore_whole.IsWholeCall semaphore_bound.Promises semaphore_played.put_gives semaphore_played.take_gives semaphore_played.text_of request old v text

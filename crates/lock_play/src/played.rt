@@ -2,6 +2,7 @@
 
 mod mutex;
 mod rwlock;
+mod semaphore;
 
 ghost use Rattle.std.specs.Prelude.{◌≡◌, ◌≤◌, ◌<◌, ◌^◌, ℕ, List};
 ghost use Rattle.lock_world.specs.Runs.{Runs};

@@ -2,13 +2,13 @@
 
 ghost use Rattle.std.specs.Prelude.{◌≡◌, ℕ, List, min, IfOk, IfErr};
 ghost use Rattle.lock_play.specs.Answers.{Prints};
-ghost use Rattle.lock_play.specs.Openings.{limit_of, world_of};
+ghost use Rattle.lock_play.specs.Openings.{limit_of, world_of, HasTooManyPermits, IsRefusedFor};
 ghost use Rattle.lock_play.specs.Worlds.{CarriesOut};
 
 use crate::played;
 use lock_core::mutex::MOST_STARVED;
 use lock_core::rwlock::{MOST_READERS, MOST_STARVED_FOR_THE_TURN};
-use lock_core::{Refusal, mutex, rwlock};
+use lock_core::{Refusal, mutex, rwlock, semaphore};
 use lock_script::command::{Model, Request};
 use std::alloc::Global;
 use std::io;
@@ -19,13 +19,16 @@ use std::io::Write;
 pub enum World {
     Mutex(mutex::World),
     RwLock(rwlock::World),
+    Semaphore(semaphore::World),
 }
 
 impl World {
-    /// The World that a line asks for. Refused for memory alone.
+    /// The World that a line asks for. A semaphore with more permits than its limit may be is refused as
+    /// [`Refusal::Permits`]; any other World for memory alone.
     pub fn new(alloc: Global, model: Model) -> Result<World, Refusal>
         ensures made { IfOk result (λ w. w ≡ world_of model) }
-        ensures refused { IfErr result (λ r. r ≡ Refusal.Memory) }
+        ensures fits { IfOk result (λ w. ¬ HasTooManyPermits model) }
+        ensures refused { IfErr result (IsRefusedFor model) }
     {
         match model {
             Model::Mutex {
@@ -48,6 +51,15 @@ impl World {
                 let made = rwlock::World::with_limits(alloc, parties, value, starved, readers)?;
                 Ok(World::RwLock(made))
             }
+            Model::Semaphore {
+                parties,
+                permits,
+                most,
+            } => {
+                let most = most.unwrap_or(u64::MAX);
+                let made = semaphore::World::with_limits(alloc, parties, permits, most)?;
+                Ok(World::Semaphore(made))
+            }
         }
     }
 
@@ -60,6 +72,7 @@ impl World {
         match self {
             World::Mutex(world) => played::carry_out(request, world, output),
             World::RwLock(world) => played::carry_out(request, world, output),
+            World::Semaphore(world) => played::carry_out(request, world, output),
         }
     }
 }

@@ -13,8 +13,11 @@ use Rattle.lock_script.specs.declared.command.Command.TheVariants.{New}
 use Rattle.lock_script.specs.declared.command.Model.{Model}
 use Rattle.lock_script.specs.Commands.{name_of, verb_of, Asks}
 use Rattle.lock_script.specs.Lines.{lines_of, words_of, is_byte, IsPrintable, IsTrimmed}
-use Rattle.lock_play.specs.Openings.{world_of}
-use Rattle.lock_runner.specs.Plays.{Leads, Plays, PlaysLine, IsPlayed}
+use Rattle.lock_world.specs.declared.refusal.Refusal.{Refusal}
+use Rattle.lock_world.specs.declared.refusal.Refusal.TheVariants.{Memory, Permits}
+use Rattle.lock_world.specs.Refusals.{number_of}
+use Rattle.lock_play.specs.Openings.{world_of, HasTooManyPermits, IsRefusedFor}
+use Rattle.lock_runner.specs.Plays.{Leads, Makes, Plays, PlaysLine, IsPlayed}
 use Rattle.lock_play.proofs.Texts.{Appends-more}
 
 -- of nothing
@@ -22,10 +25,22 @@ pub Appends-nothing : (a : Option (List ℕ)) → Appends a a []
 Appends-nothing None = tt
 Appends-nothing (Some xs) = sym (append-nil xs)
 
--- a new World is told of
-pub leads_new : {A E : Type 0} (model : Model) (command : Command) (old new : Option World) (before after : Option (List ℕ)) (r : Result A E) → command ≡ New model → OnOk r (new ≡ Some (world_of model)) → OnOk r (Appends before after (codes "ok\n")) → OnOk r ((text : List ℕ) × Leads command old new text × Appends before after (text ++ 10 ∷ []))
-leads_new model command old new before after (Ok v) c m p = (codes "ok", subst (λ k. Leads k old new (codes "ok")) (sym c) (m, refl), p)
-leads_new model command old new before after (Err e) c m p = tt
+-- a new World that is made, or refused by its number, is told of
+pub leads_new : {A E : Type 0} (model : Model) (command : Command) (old new : Option World) (before after : Option (List ℕ)) (r : Result A E) → command ≡ New model → OnOk r ((text : List ℕ) × Makes model old new text × Appends before after (text ++ 10 ∷ [])) → OnOk r ((text : List ℕ) × Leads command old new text × Appends before after (text ++ 10 ∷ []))
+leads_new model command old new before after (Ok v) c (text, m, p) = (text, subst (λ k. Leads k old new text) (sym c) m, p)
+leads_new model command old new before after (Err e) c h = tt
+
+-- one that is made
+pub made_new : {A E : Type 0} (model : Model) (old new : Option World) (before after : Option (List ℕ)) (r : Result A E) → new ≡ Some (world_of model) → ¬ HasTooManyPermits model → OnOk r (Appends before after (codes "ok\n")) → OnOk r ((text : List ℕ) × Makes model old new text × Appends before after (text ++ 10 ∷ []))
+made_new model old new before after (Ok v) e n p = (codes "ok", inl (n, e, refl), p)
+made_new model old new before after (Err e) w n p = tt
+
+-- one that is refused, but not for memory
+pub made_none : {A E : Type 0} (model : Model) (refusal : Refusal) (old new : Option World) (before after : Option (List ℕ)) (r : Result A E) → new ≡ old → IsRefusedFor model refusal → ¬ (refusal ≡ Memory) → OnOk r (Appends before after (codes "refused " ++ decimal (number_of refusal) ++ 10 ∷ [])) → OnOk r ((text : List ℕ) × Makes model old new text × Appends before after (text ++ 10 ∷ []))
+made_none model Permits old new before after (Ok v) e h n p = (codes "refused 4", inr (h, e, refl), p)
+made_none model Memory old new before after r e h n p = absurd (n refl)
+made_none model refusal old new before after (Err e) w h n p = tt
+made_none model refusal old new before after (Ok v) w h n p = absurd h
 
 -- a line whose command leads so is played
 pub answered : {A E : Type 0} (line : List ℕ) (command : Command) (old new : Option World) (before after : Option (List ℕ)) (r : Result A E) → Asks (words_of line) command → IsPrintable line → IsTrimmed line → OnOk r ((text : List ℕ) × Leads command old new text × Appends before after (text ++ 10 ∷ [])) → OnOk r ((bytes : List ℕ) × PlaysLine line old new bytes × Appends before after bytes)

@@ -3,18 +3,24 @@ use Rattle.std.specs.Prelude.{◌≡◌, ◌⊎◌, ℕ, ◌+◌, ◌<◌, List,
 use Rattle.std.specs.Io.KnownBytes.{Appends, Keeps}
 use Rattle.lock_script.specs.declared.command.Command.{Command}
 use Rattle.lock_script.specs.declared.command.Command.TheVariants.{New, On}
+use Rattle.lock_script.specs.declared.command.Model.{Model}
 use Rattle.lock_play.specs.declared.world.World.{World}
 use Rattle.lock_script.specs.Lines.{lines_of, IsSkipped}
-use Rattle.lock_play.specs.Openings.{world_of}
+use Rattle.lock_play.specs.Openings.{world_of, HasTooManyPermits}
 use Rattle.lock_runner.specs.declared.fault.Fault.{Fault}
 use Rattle.lock_runner.specs.declared.fault.Fault.TheVariants.{Usage, Read, TooLong, BadLine, Write, Memory, Thread}
 use Rattle.lock_runner.specs.declared.program.TheConstants.{LIMIT}
 use Rattle.lock_runner.specs.Scripts.{IsCommand, IsLine, NeedsWorld}
 use Rattle.lock_play.specs.Worlds.{CarriesOut}
 
+-- a new World takes the place of any old one; for too many permits it is refused by its number, 4, and the old one stays
+abbrev pub Makes : Model → Option World → Option World → List ℕ → Type 0
+Makes model old new text = ((¬ HasTooManyPermits model) × (new ≡ Some (world_of model)) × (text ≡ codes "ok"))
+    ⊎ (HasTooManyPermits model × (new ≡ old) × (text ≡ codes "refused 4"))
+
 -- a command leads from the World that stands, if one does, to another, and is answered by this text; where none stands only a new one can be asked for
 abbrev pub Leads : Command → Option World → Option World → List ℕ → Type 0
-Leads (New model) old new text = (new ≡ Some (world_of model)) × (text ≡ codes "ok")
+Leads (New model) old new text = Makes model old new text
 Leads (On request) None new text = ⊥
 Leads (On request) (Some old) new text = (v : World) × (new ≡ Some v) × CarriesOut request old v text
 

@@ -1,6 +1,8 @@
 //! A whole run, from its arguments to its status, over any reader and writers.
 
 #[cfg(test)]
+mod bad_lines;
+#[cfg(test)]
 mod rows;
 #[cfg(test)]
 mod tests;
@@ -8,8 +10,7 @@ mod tests;
 ghost use Rattle.std.specs.Prelude.{◌≡◌, ◌≢◌, ◌⊎◌, ◌+◌, ◌<◌, ◌≤◌, ◌↔◌, ◌++◌, ℕ, List, [], ◌∷◌, All, codes, length, map, vec_len, string_bytes, Some, None, Ok, Err, IsOk, IsErr, IsTrue, IfOk, IfErr, OnOk, OnErr, IfSome};
 ghost use Rattle.std.specs.Io.{StartsWith, appended_bytes};
 ghost use Rattle.std.specs.Io.KnownBytes.{Appends, Consumes, IsAtEnd, Keeps};
-ghost use Rattle.lock_play.specs.Openings.{world_of};
-ghost use Rattle.lock_runner.specs.Plays.{IsAtFault, IsBad, IsPlayed, Leads, PlaysLine, PrintsNumber, Tells, TellsOfLine};
+ghost use Rattle.lock_runner.specs.Plays.{IsAtFault, IsBad, IsPlayed, Leads, Makes, PlaysLine, PrintsNumber, Tells, TellsOfLine};
 ghost use Rattle.lock_runner.specs.Scripts.{asked, AsksFor, IsLine, IsScript, IsStartOfScript};
 ghost use Rattle.lock_runner.specs.declared.task.Task.{Task as TaskOf};
 ghost use Rattle.lock_script.specs.Lines.{lines_of};
@@ -286,15 +287,16 @@ fn answer_command<O: Write>(
     }
 }
 
-/// Puts a new World in place of any old one. Where it is refused, the old one stays.
+/// Puts a new World in place of any old one. Where it is refused, for its numbers or for memory, the old one
+/// stays.
 fn make<O: Write>(
     alloc: Global,
     model: Model,
     world: &mut Option<World>,
     output: &mut O,
 ) -> Result<(), Fault>
-    ensures made { OnOk result (world.new ≡ Some (world_of model)) }
-    ensures prints { OnOk result (Appends (O.contents output.old) (O.contents output.new) (codes "ok\n")) }
+    ensures made { OnOk result ((text : List ℕ) × Makes model world.old world.new text
+        × Appends (O.contents output.old) (O.contents output.new) (text ++ 10 ∷ [])) }
     ensures system { IfErr result (λ fault. TellsOfLine (λ n. ⊥) fault (O.contents output.old) (O.contents output.new)) }
 {
     match World::new(alloc, model) {

@@ -10,7 +10,7 @@ use Rattle.lock_script.specs.declared.command.Verb.{Verb}
 use Rattle.lock_script.specs.declared.command.Verb.TheVariants as verb
 use Rattle.lock_script.specs.declared.command.Command.{Command}
 use Rattle.lock_script.specs.declared.command.Command.TheVariants.{New, On}
-use Rattle.lock_script.specs.declared.command.Model.TheVariants.{Mutex, RwLock}
+use Rattle.lock_script.specs.declared.command.Model.TheVariants.{Mutex, RwLock, Semaphore}
 use Rattle.lock_script.specs.declared.command.Request.TheVariants.{Step, Whole, Put, Take, Show}
 use Rattle.lock_script.specs.Lines.{Writes}
 
@@ -18,6 +18,7 @@ use Rattle.lock_script.specs.Lines.{Writes}
 abbrev pub name_of : Verb → List ℕ
 name_of verb.Mutex = codes "mutex"
 name_of verb.RwLock = codes "rwlock"
+name_of verb.Semaphore = codes "semaphore"
 name_of verb.Begin = codes "begin"
 name_of verb.Go = codes "go"
 name_of verb.Do = codes "do"
@@ -35,15 +36,15 @@ abbrev pub WritesLimits : List (List ℕ) → Option ℕ → Option ℕ → Type
 WritesLimits words None second = (words ≡ []) × (second ≡ None)
 WritesLimits words (Some n) second = (word : List ℕ) × (others : List (List ℕ)) × (words ≡ word ∷ others) × Writes word n × WritesLimit others second
 
--- the numbers of a mutex: of parties, from 1 to 64, the value, and how many parties may be starved
-pub record AreMutexNumbers (words : List (List ℕ)) (parties value : ℕ) (starved : Option ℕ) : Type 0 where
+-- the number of parties, from 1 to 64, one more number, and a limit: of a mutex the value, and how many parties may be starved; of a semaphore the permits, and the greatest value of its limit
+pub record AreNumbersAndLimit (words : List (List ℕ)) (parties value : ℕ) (limit : Option ℕ) : Type 0 where
   pub first : List ℕ
   pub second : List ℕ
   pub others : List (List ℕ)
   pub are : words ≡ first ∷ second ∷ others
   pub counts : Writes first parties
   pub values : Writes second value
-  pub limits : WritesLimit others starved
+  pub limits : WritesLimit others limit
   pub least : 1 ≤ parties
   pub most : parties ≤ 64
 
@@ -73,6 +74,9 @@ IsWordOf word call.Upgrade = word ≡ codes "upgrade"
 IsWordOf word call.TryUpgrade = word ≡ codes "tryupgrade"
 IsWordOf word call.Downgrade = word ≡ codes "downgrade"
 IsWordOf word call.DowngradeToUpgradable = word ≡ codes "toupgradable"
+IsWordOf word call.Acquire = word ≡ codes "acquire"
+IsWordOf word call.TryAcquire = word ≡ codes "tryacquire"
+IsWordOf word call.Forget = word ≡ codes "forget"
 IsWordOf word call.Poll = word ≡ codes "poll"
 IsWordOf word call.Drop = word ≡ codes "drop"
 IsWordOf word _ = ⊥
@@ -80,6 +84,7 @@ IsWordOf word _ = ⊥
 -- the words begin with those of this call, and the others follow
 abbrev pub BeginsWithCall : List (List ℕ) → Call → List (List ℕ) → Type 0
 BeginsWithCall words (call.Put v) others = (word : List ℕ) × (words ≡ codes "put" ∷ word ∷ others) × Writes word v
+BeginsWithCall words (call.AddPermits n) others = (word : List ℕ) × (words ≡ codes "add" ∷ word ∷ others) × Writes word n
 BeginsWithCall words c others = (word : List ℕ) × (words ≡ word ∷ others) × IsWordOf word c
 
 -- the word says what the maker gives: `made=` with a number, or `made=fail`
@@ -125,6 +130,7 @@ pub record AreOfGo (words : List (List ℕ)) (party : ℕ) (inputs : Inputs) : T
 abbrev pub verb_of : Command → Verb
 verb_of (New (Mutex parties value starved)) = verb.Mutex
 verb_of (New (RwLock parties value starved readers)) = verb.RwLock
+verb_of (New (Semaphore parties permits most)) = verb.Semaphore
 verb_of (On (Step party (Begin call inputs))) = verb.Begin
 verb_of (On (Step party (Go inputs))) = verb.Go
 verb_of (On (Whole party call inputs)) = verb.Do
@@ -134,8 +140,9 @@ verb_of (On Show) = verb.Show
 
 -- the words after the first one write what the command takes
 abbrev pub Details : List (List ℕ) → Command → Type 0
-Details words (New (Mutex parties value starved)) = AreMutexNumbers words parties value starved
+Details words (New (Mutex parties value starved)) = AreNumbersAndLimit words parties value starved
 Details words (New (RwLock parties value starved readers)) = AreRwLockNumbers words parties value starved readers
+Details words (New (Semaphore parties permits most)) = AreNumbersAndLimit words parties permits most
 Details words (On (Step party (Begin call inputs))) = AreOfCall words party call inputs
 Details words (On (Step party (Go inputs))) = AreOfGo words party inputs
 Details words (On (Whole party call inputs)) = AreOfCall words party call inputs

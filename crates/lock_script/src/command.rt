@@ -4,7 +4,7 @@ ghost use Rattle.std.specs.Prelude.{◌≡◌, ◌≢◌, ◌↔◌, ◌≤◌, 
 ghost use Rattle.lock_world.specs.declared.moves.Call.{Call};
 ghost use Rattle.lock_world.specs.declared.moves.Inputs.{Inputs};
 ghost use Rattle.lock_world.specs.declared.moves.Made.{Made};
-ghost use Rattle.lock_script.specs.Commands.{name_of, verb_of, AreOfCall, Asks, BeginsWithCall, Details, IsWordOf};
+ghost use Rattle.lock_script.specs.Commands.{name_of, verb_of, AreNumbersAndLimit, AreOfCall, Asks, BeginsWithCall, Details, IsWordOf};
 ghost use Rattle.lock_script.specs.Commands.{is_of_maker, WritesInputs, WritesLimit, WritesLimits, WritesMade};
 ghost use Rattle.lock_script.specs.declared.command.Command.{Command};
 ghost use Rattle.lock_script.specs.declared.command.Verb.{Verb};
@@ -40,6 +40,13 @@ pub enum Model {
         value: u64,
         starved: Option<u64>,
         readers: Option<u64>,
+    },
+    /// A semaphore with so many permits and parties, whose limit never passes `most`: the greatest number of
+    /// 64 bits, where no number is given.
+    Semaphore {
+        parties: u32,
+        permits: u64,
+        most: Option<u64>,
     },
 }
 
@@ -89,6 +96,7 @@ pub fn parse(text: &[u8]) -> Option<Command>
 enum Verb {
     Mutex,
     RwLock,
+    Semaphore,
     Begin,
     Go,
     Do,
@@ -105,6 +113,7 @@ fn named(word: &[u8]) -> Option<Verb>
     match word {
         _ if is(word, b"mutex") => Some(Verb::Mutex),
         _ if is(word, b"rwlock") => Some(Verb::RwLock),
+        _ if is(word, b"semaphore") => Some(Verb::Semaphore),
         _ if is(word, b"begin") => Some(Verb::Begin),
         _ if is(word, b"go") => Some(Verb::Go),
         _ if is(word, b"do") => Some(Verb::Do),
@@ -131,6 +140,7 @@ fn whole(words: &mut Words<'_>) -> Option<Command>
     match named(words.next()?)? {
         Verb::Mutex => mutex(words),
         Verb::RwLock => rwlock(words),
+        Verb::Semaphore => semaphore(words),
         Verb::Begin => begin(words),
         Verb::Go => go(words),
         Verb::Do => poll_whole(words),
@@ -145,14 +155,37 @@ fn mutex(words: &mut Words<'_>) -> Option<Command>
     ensures words { IfSome result (λ c. (verb_of c ≡ Verb.Mutex) × Details words.old c) }
     ensures asked { (c : Command) → verb_of c ≡ Verb.Mutex → Details words.old c → result ≡ Some c }
 {
-    let parties = parties(words)?;
-    let value = number(words)?;
-    let starved = limit(words)?;
+    let (parties, value, starved) = numbers(words)?;
     Some(Command::New(Model::Mutex {
         parties,
         value,
         starved,
     }))
+}
+
+/// A semaphore, by the words after its name.
+fn semaphore(words: &mut Words<'_>) -> Option<Command>
+    ensures words { IfSome result (λ c. (verb_of c ≡ Verb.Semaphore) × Details words.old c) }
+    ensures asked { (c : Command) → verb_of c ≡ Verb.Semaphore → Details words.old c → result ≡ Some c }
+{
+    let (parties, permits, most) = numbers(words)?;
+    Some(Command::New(Model::Semaphore {
+        parties,
+        permits,
+        most,
+    }))
+}
+
+/// The number of parties, the number after it, and the limit that the words left write, all of them.
+fn numbers(words: &mut Words<'_>) -> Option<(u32, u64, Option<u64>)>
+    ensures words { IfSome result (λ n. AreNumbersAndLimit words.old n.0 n.1 n.2) }
+    ensures asked { (parties first : ℕ) (limit : Option ℕ) → AreNumbersAndLimit words.old parties first limit
+        → result ≡ Some (parties, first, limit) }
+{
+    let parties = parties(words)?;
+    let first = number(words)?;
+    let limit = limit(words)?;
+    Some((parties, first, limit))
 }
 
 /// A read-write lock, by the words after its name.
@@ -310,6 +343,9 @@ fn call(words: &mut Words<'_>) -> Option<Call>
     if is(word, b"put") {
         return Some(Call::Put(number(words)?));
     }
+    if is(word, b"add") {
+        return Some(Call::AddPermits(number(words)?));
+    }
     plain_call(word)
 }
 
@@ -331,6 +367,9 @@ fn plain_call(word: &[u8]) -> Option<Call>
         _ if is(word, b"tryupgrade") => Some(Call::TryUpgrade),
         _ if is(word, b"downgrade") => Some(Call::Downgrade),
         _ if is(word, b"toupgradable") => Some(Call::DowngradeToUpgradable),
+        _ if is(word, b"acquire") => Some(Call::Acquire),
+        _ if is(word, b"tryacquire") => Some(Call::TryAcquire),
+        _ if is(word, b"forget") => Some(Call::Forget),
         _ if is(word, b"poll") => Some(Call::Poll),
         _ if is(word, b"drop") => Some(Call::Drop),
         _ => None,

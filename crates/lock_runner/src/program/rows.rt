@@ -1,7 +1,22 @@
 //! The stored rows: each script with its answers, as they stand in scripts/.
 
 /// Each script, and what the program prints for it.
-pub const ROWS: [(&str, &str); 26] = [
+pub const ROWS: [(&str, &str); 31] = [
+    // acquire-hands-on-what-is-left
+    (
+        "semaphore 4 2\ndo 0 tryacquire\ndo 1 tryacquire\ndo 2 acquire\ndo 3 acquire\nbegin 2 poll\ndo 0 drop\ndo 1 drop\ngo 2\ngo 2\ngo 2\nshow\n",
+        "ok\ngranted\ngranted\npending\npending\nstepped\ngiven back\ngiven back\nstepped\nstepped\nready\nsemaphore available=1 limit=2 list=[3n]\n",
+    ),
+    // acquire-refused-after-notification
+    (
+        "semaphore 4 1\ndo 0 tryacquire\ndo 1 acquire\ndo 2 acquire\nbegin 1 poll\ndo 0 drop\ndo 3 tryacquire\ngo 1\ngo 1\ngo 1 nomem\ngo 1\nshow\ndo 3 drop\ndo 2 poll\n",
+        "ok\ngranted\npending\npending\nstepped\ngiven back\ngranted\nstepped\nstepped\nstepped\nrefused 1\nsemaphore available=0 limit=1 list=[2n]\ngiven back\nready\n",
+    ),
+    // added-permit-wakes-one
+    (
+        "semaphore 3 0\ndo 0 acquire\ndo 1 acquire\ndo 2 add 1\ndo 0 poll\ndo 1 poll\nshow\n",
+        "ok\npending\npending\ngranted\nready\npending\nsemaphore available=0 limit=1 list=[1w]\n",
+    ),
     // count-comes-off-before-the-entry
     (
         "mutex 4 0\ndo 0 lock\ndo 1 lock\ndo 0 drop\ndo 2 trylock\ndo 1 poll starving\nshow\ndo 2 drop\nbegin 1 drop\ndo 3 lock\ngo 1\nshow\n",
@@ -41,6 +56,11 @@ pub const ROWS: [(&str, &str); 26] = [
     (
         "rwlock 2 0\ndo 0 read\ndo 1 write\ndo 0 drop\nshow\ndo 1 poll\n",
         "ok\nready 0\npending\ngiven back\nrwlock turn=1 starved=0 writer=1 readers=0 value=0 turnlist=[] noreaders=[1n] nowriter=[]\nready 0\n",
+    ),
+    // limit-and-forget
+    (
+        "semaphore 2 18446744073709551615\ndo 0 add 1\ndo 0 acquire\ndo 0 forget\nshow\ndo 0 add 1\nshow\n",
+        "ok\nrefused 4\nready\ngiven back\nsemaphore available=18446744073709551614 limit=18446744073709551614 list=[]\ngranted\nsemaphore available=18446744073709551615 limit=18446744073709551615 list=[]\n",
     ),
     // lock-without-memory-behind-a-waiter
     (
@@ -101,6 +121,11 @@ pub const ROWS: [(&str, &str); 26] = [
     (
         "mutex 4 0\ndo 0 lock\ndo 1 lock\ndo 2 lock\ndo 0 drop\ndo 3 trylock\ndo 1 poll nomem\nshow\n",
         "ok\nready 0\npending\npending\ngiven back\ngranted 0\nrefused 1\nmutex locked=1 starved=0 value=0 list=[2n]\n",
+    ),
+    // too-many-permits-to-begin-with
+    (
+        "semaphore 1 3 2\n",
+        "refused 4\n",
     ),
     // try-upgrade-when-alone
     (

@@ -1,3 +1,4 @@
+use super::bad_lines::BAD_LINES;
 use super::rows::ROWS;
 use super::{LIMIT, run};
 use std::alloc::AllocError;
@@ -345,119 +346,47 @@ fn answers_each_good_line_of_a_read_write_lock(rt: HostRuntime) -> Result<(), Fa
     Ok(())
 }
 
-/// Lines that are bad though a World stands.
-const BAD_LINES: [&[u8]; 103] = [
-    // Spaces at an end.
-    b" ",
-    b"  ",
-    b" show",
-    b"show ",
-    b" # note",
-    // Unknown words.
-    b"foo",
-    b"Show",
-    b"shows",
-    b"Do 0 lock",
-    b"getMut 1",
-    b"takes",
-    b"Rwlock 1 0",
-    b"semaphore 1 1",
-    b"cell 1",
-    b"barrier 1 1",
-    b"begin 0 Lock",
-    b"begin 0 Read",
-    b"do 0 downgrade_to_upgradable",
-    b"do 0 upgradable",
-    b"do 0 foo",
-    b"do 0 acquire",
-    b"do 0 set 5",
-    // Missing and spare numbers and words.
-    b"mutex",
-    b"mutex 1",
-    b"mutex 1 0 0 0",
-    b"rwlock",
-    b"rwlock 1",
-    b"rwlock 1 0 0 0 0",
-    b"rwlock 1 0 nomem",
-    b"begin",
-    b"begin 0",
-    b"begin 0 put",
-    b"begin 0 put 5 6",
-    b"begin 0 lock 5",
-    b"begin lock",
-    b"go",
-    b"go 0 0",
-    b"go 0 lock",
-    b"show 0",
-    b"do",
-    b"do 0",
-    b"do lock",
-    b"do 0 put",
-    b"do 0 put nomem",
-    b"do 0 lock 5",
-    b"do 0 trylock lock",
-    b"do 0 read 5",
-    b"do 0 upgrade write",
-    b"getmut",
-    b"getmut 1 2",
-    b"getmut 1 nomem",
-    b"take 0",
-    b"take nomem",
-    // Words that are no numbers.
-    b"mutex 1 x",
-    b"mutex 1 +0",
-    b"mutex 1 -0",
-    b"mutex 1 0x1",
-    b"mutex 1 18446744073709551616",
-    b"mutex 1 000000000000000000000",
-    b"mutex 1 99999999999999999999",
-    b"go 18446744073709551616",
-    b"mutex 1 0 x",
-    b"mutex 1 0 18446744073709551616",
-    b"rwlock 1 x",
-    b"rwlock 1 0 x",
-    b"rwlock 1 0 0 x",
-    b"rwlock 1 0 18446744073709551616",
-    b"rwlock 1 0 0 18446744073709551616",
-    b"do 18446744073709551616 lock",
-    b"getmut x",
-    b"getmut 18446744073709551616",
-    // Numbers of parties out of their range.
-    b"mutex 0 0",
-    b"mutex 65 0",
-    b"mutex 4294967297 0",
-    b"rwlock 0 0",
-    b"rwlock 65 0 1 1",
-    // Inputs given twice, and what is no input.
-    b"go 0 nomem nomem",
-    b"go 0 starving nomem starving",
-    b"go 0 made=1 made=1",
-    b"go 0 made=fail made=1",
-    b"go 0 made=1 nomem made=fail",
-    b"go 0 made",
-    b"go 0 made=",
-    b"go 0 made=x",
-    b"go 0 made= 1",
-    b"go 0 made=18446744073709551616",
-    b"go 0 memory",
-    b"do 0 lock nomem nomem",
-    b"do 0 lock starving starving",
-    b"do 0 lock made=fail made=fail",
-    // Bytes that aren't printable ASCII.
-    b"show\t",
-    b"sh\tow",
-    b"show\r",
-    b"sh\x00ow",
-    b"show\x7f",
-    b"sh\xc3\xa9ow",
-    b"mutex 1\t0",
-    b"\x00",
-    b"#\t",
-    b"# a note\r",
-    b"#\x7f",
-    b"# \xc3\xa9",
-    b"#\x1f",
-];
+#[test]
+fn answers_each_good_line_of_a_semaphore(rt: HostRuntime) -> Result<(), Fail> {
+    for (script, answers) in [
+        (
+            "semaphore 1 0\nshow\n",
+            "ok\nsemaphore available=0 limit=0 list=[]\n",
+        ),
+        (
+            "semaphore  64 2 2\nshow\n",
+            "ok\nsemaphore available=2 limit=2 list=[]\n",
+        ),
+        // A World that is refused by its number leaves the old one as it stands, of whichever lock it is.
+        (
+            "mutex 1 7\nsemaphore 1 3 2\nshow\nsemaphore 1 2 2\nsemaphore 1 1 0\nshow\n",
+            "ok\nrefused 4\nmutex locked=0 starved=0 value=7 list=[]\nok\nrefused 4\nsemaphore available=2 limit=2 list=[]\n",
+        ),
+        // Each call.
+        (
+            "semaphore 2 1 3\ndo 0 acquire\ndo 1 tryacquire\ndo 0 poll\ndo 0 drop\ndo 1 tryacquire\ndo 1 forget\ndo 0 add 4\ndo 0 add 3\nshow\n",
+            "ok\nready\nnone\nrefused 6\ngiven back\ngranted\ngiven back\nrefused 4\ngranted\nsemaphore available=3 limit=3 list=[]\n",
+        ),
+        // What an add has not yet given is in the limit, and isn't available.
+        (
+            "semaphore 2 1\nbegin 0 add 2\nshow\ngetmut 1\ntake\ngo 0\nshow\n",
+            "ok\nstepped\nsemaphore available=1 limit=3 list=[]\nnot possible\nnot possible\nstepped\nsemaphore available=3 limit=3 list=[]\n",
+        ),
+        // There is no value, also at rest.
+        (
+            "semaphore 1 1\ngetmut 1\ntake\ndo 0 acquire\ndo 0 put 5\n",
+            "ok\nnot possible\nnot possible\nready\nnot possible\n",
+        ),
+        // The calls of one lock are not possible on the other.
+        (
+            "semaphore 1 1\ndo 0 lock\ndo 0 read\ndo 0 trywrite\nmutex 1 0\ndo 0 acquire\ndo 0 tryacquire\ndo 0 add 1\ndo 0 lock\ndo 0 forget\n",
+            "ok\nnot possible\nnot possible\nnot possible\nok\nnot possible\nnot possible\nnot possible\nready 0\nnot possible\n",
+        ),
+    ] {
+        expect(&rt, script.as_bytes(), answers, "", 0)?;
+    }
+    Ok(())
+}
 
 /// Runs a script with this line between two good ones, which stops at it.
 fn expect_bad<R: Runs>(rt: &R, line: &[u8]) -> Result<(), Fail> {

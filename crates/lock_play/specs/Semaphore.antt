@@ -1,0 +1,19 @@
+-- What a script asks of a semaphore beyond its moves.
+use Rattle.std.specs.Prelude.{ℕ, List, ◌++◌, codes, decimal}
+use Rattle.semaphore_world.specs.State.{World, available}
+use Rattle.lock_play.specs.declared.played.Reply.{Reply}
+use Rattle.lock_play.specs.declared.played.Reply.TheVariants.{NotPossible}
+use Rattle.lock_play.specs.Answers.{list_text}
+
+-- a semaphore has no value
+abbrev pub put_gives : World → ℕ → Reply × World
+put_gives w v = (NotPossible, w)
+
+abbrev pub take_gives : World → Reply × World
+take_gives w = (NotPossible, w)
+
+-- the state
+abbrev pub text_of : World → List ℕ
+text_of w = codes "semaphore available=" ++ decimal (available w.state)
+    ++ codes " limit=" ++ decimal w.state.limit
+    ++ codes " list=" ++ list_text w.entries
