@@ -1,6 +1,6 @@
 -- A script that is played, line by line.
 use Rattle.std.proofs.Common.{◌≡◌, ℕ, ◌≤◌, Bool, true, false, ltb, List, [], ◌∷◌, ◌++◌, length, refl, sym, subst, ◌∙◌, ap, arith, append_assoc, inl, inr}
-use Rattle.std.specs.Prelude.{◌==◌, Option, Some, None, Result, Ok, Err, OnOk, codes}
+use Rattle.std.specs.Prelude.{◌==◌, Option, Some, None, Result, Ok, Err, OnOk, codes, decimal}
 use Rattle.std.specs.Io.KnownBytes.{Appends}
 use Rattle.std.specs.List.{before_first, after_first, position_or_len}
 use Rattle.std.proofs.lemmas.List.{take_all, drop_all, append-nil}
@@ -14,8 +14,7 @@ use Rattle.lock_script.specs.declared.command.Model.{Model}
 use Rattle.lock_script.specs.Commands.{name_of, verb_of, Asks}
 use Rattle.lock_script.specs.Lines.{lines_of, words_of, is_byte, IsPrintable, IsTrimmed}
 use Rattle.lock_world.specs.declared.refusal.Refusal.{Refusal}
-use Rattle.lock_world.specs.declared.refusal.Refusal.TheVariants.{Memory, Permits}
-use Rattle.lock_world.specs.Refusals.{number_of}
+use Rattle.lock_world.specs.declared.refusal.Refusal.TheVariants.{Permits}
 use Rattle.lock_play.specs.Openings.{world_of, HasTooManyPermits, IsRefusedFor}
 use Rattle.lock_runner.specs.Plays.{Leads, Makes, Plays, PlaysLine, IsPlayed}
 use Rattle.lock_play.proofs.Texts.{Appends-more}
@@ -31,16 +30,14 @@ leads_new model command old new before after (Ok v) c (text, m, p) = (text, subs
 leads_new model command old new before after (Err e) c h = tt
 
 -- one that is made
-pub made_new : {A E : Type 0} (model : Model) (old new : Option World) (before after : Option (List ℕ)) (r : Result A E) → new ≡ Some (world_of model) → ¬ HasTooManyPermits model → OnOk r (Appends before after (codes "ok\n")) → OnOk r ((text : List ℕ) × Makes model old new text × Appends before after (text ++ 10 ∷ []))
-made_new model old new before after (Ok v) e n p = (codes "ok", inl (n, e, refl), p)
+pub made_new : {A E : Type 0} (model : Model) (old : Option World) (new : World) (before after : Option (List ℕ)) (r : Result A E) → new ≡ world_of model → ¬ HasTooManyPermits model → OnOk r (Appends before after (codes "ok\n")) → OnOk r ((text : List ℕ) × Makes model old (Some new) text × Appends before after (text ++ 10 ∷ []))
+made_new model old new before after (Ok v) e n p = (codes "ok", inl (n, ap Some e, refl), p)
 made_new model old new before after (Err e) w n p = tt
 
--- one that is refused, but not for memory
-pub made_none : {A E : Type 0} (model : Model) (refusal : Refusal) (old new : Option World) (before after : Option (List ℕ)) (r : Result A E) → new ≡ old → IsRefusedFor model refusal → ¬ (refusal ≡ Memory) → OnOk r (Appends before after (codes "refused " ++ decimal (number_of refusal) ++ 10 ∷ [])) → OnOk r ((text : List ℕ) × Makes model old new text × Appends before after (text ++ 10 ∷ []))
-made_none model Permits old new before after (Ok v) e h n p = (codes "refused 4", inr (h, e, refl), p)
-made_none model Memory old new before after r e h n p = absurd (n refl)
-made_none model refusal old new before after (Err e) w h n p = tt
-made_none model refusal old new before after (Ok v) w h n p = absurd h
+-- one that is refused for too many permits
+pub made_none : {A E : Type 0} (model : Model) (refusal : Refusal) (n : ℕ) (old : Option World) (before after : Option (List ℕ)) (r : Result A E) → IsRefusedFor model refusal → refusal ≡ Permits → n ≡ 4 → OnOk r (Appends before after ((codes "refused " ++ decimal n) ++ 10 ∷ [])) → OnOk r ((text : List ℕ) × Makes model old old text × Appends before after (text ++ 10 ∷ []))
+made_none model refusal n old before after (Ok v) h e f p = (codes "refused " ++ decimal 4, inr (subst (IsRefusedFor model) e h, refl, refl), subst (λ k. Appends before after ((codes "refused " ++ decimal k) ++ 10 ∷ [])) f p)
+made_none model refusal n old before after (Err w) h e f p = tt
 
 -- a line whose command leads so is played
 pub answered : {A E : Type 0} (line : List ℕ) (command : Command) (old new : Option World) (before after : Option (List ℕ)) (r : Result A E) → Asks (words_of line) command → IsPrintable line → IsTrimmed line → OnOk r ((text : List ℕ) × Leads command old new text × Appends before after (text ++ 10 ∷ [])) → OnOk r ((bytes : List ℕ) × PlaysLine line old new bytes × Appends before after bytes)

@@ -16,7 +16,7 @@ use Rattle.lock_play.specs.Worlds.{CarriesOut}
 -- a new World takes the place of any old one; for too many permits it is refused by its number, 4, and the old one stays
 abbrev pub Makes : Model → Option World → Option World → List ℕ → Type 0
 Makes model old new text = ((¬ HasTooManyPermits model) × (new ≡ Some (world_of model)) × (text ≡ codes "ok"))
-    ⊎ (HasTooManyPermits model × (new ≡ old) × (text ≡ codes "refused 4"))
+    ⊎ (HasTooManyPermits model × (new ≡ old) × (text ≡ codes "refused " ++ decimal 4))
 
 -- a command leads from the World that stands, if one does, to another, and is answered by this text; where none stands only a new one can be asked for
 abbrev pub Leads : Command → Option World → Option World → List ℕ → Type 0

@@ -304,8 +304,10 @@ fn make<O: Write>(
             *world = Some(made);
             written(answer::write_reply(Reply::Done, output))
         }
-        Err(Refusal::Memory) => Err(Fault::Memory),
-        Err(refusal) => written(answer::write_refused(refusal.number(), output)),
+        Err(Refusal::Permits) => {
+            written(answer::write_refused(Refusal::Permits.number(), output))
+        }
+        Err(_) => Err(Fault::Memory),
     }
 }
 
