@@ -1,10 +1,11 @@
 ghost use Rattle.std.specs.Prelude.{◌≡◌};
 ghost use Rattle.rwlock_world.specs.State.{opening_of as rwlock_opening_of};
+ghost use Rattle.semaphore_world.specs.State.{opening_of as semaphore_opening_of};
 
 use super::*;
 use crate::rows::{INPUTS, STARVING, begin, dropped_waiter, go, world};
 use lock_core::mutex::World;
-use lock_core::{Call, Got, Inputs, Mark, What, rwlock};
+use lock_core::{Call, Got, Inputs, Mark, What, rwlock, semaphore};
 use std::process::Abort;
 
 /// Records a move, once more where memory was refused; then nothing had changed.
@@ -112,6 +113,33 @@ fn a_book_takes_any_world(rt: HostRuntime) {
     ];
     expect_record(&rt, &mut book, &rows);
     assert_eq!(rt; book.world().readers(), 0);
+}
+
+/// A semaphore's World of one permit, made again once where memory was refused.
+fn semaphore_world(rt: &(impl AllocGlobal + Abort)) -> semaphore::World
+    ensures { result ≡ semaphore_opening_of result }
+{
+    match semaphore::World::new(rt.alloc(), 2, 1) {
+        Ok(world) => world,
+        Err(_) => {
+            semaphore::World::new(rt.alloc(), 2, 1).expect(rt, "only one allocation is refused")
+        }
+    }
+}
+
+#[test]
+fn a_book_takes_a_semaphore(rt: HostRuntime) {
+    let mut book = Book::new(rt.alloc(), semaphore_world(&rt));
+    let rows = [
+        (begin(0, Call::TryAcquire), Answer::Granted(Got::Plain)),
+        (begin(1, Call::TryAcquire), Answer::None),
+        (begin(0, Call::Drop), Answer::Stepped),
+        (go(0), Answer::GivenBack),
+        (begin(1, Call::Acquire), Answer::Ready(Got::Plain)),
+        (begin(1, Call::Forget), Answer::GivenBack),
+    ];
+    expect_record(&rt, &mut book, &rows);
+    assert_eq!(rt; (book.world().available(), book.world().limit()), (0, 0));
 }
 
 /// Two parties wait for a free lock, the second one notified and the first one starved by a try that came
