@@ -1,5 +1,5 @@
 -- What contracts see of a mutex's future, and what a poll answers.
-use Rattle.std.specs.Prelude.{◌≡◌, Bool, true, false, Option, Some, None}
+use Rattle.std.specs.Prelude.{◌≡◌, Bool, true, false}
 use Rattle.async_lock.specs.declared.mutex.Mutex.{Mutex}
 use Rattle.lock_words.specs.declared.turn.Turn.{Turn}
 use Rattle.lock_words.specs.declared.turn.Turn.TheVariants.{Pending, Ready, Refused}
@@ -12,10 +12,6 @@ pub record Future (T R : Type 0) : Type 0 where
 
 abbrev pub future : {T R : Type 0} → Mutex T R → Bool → Future T R
 future mutex over = record { mutex = mutex; is_over = over }
-
-abbrev pub is_over : {A : Type 0} → Option A → Bool
-is_over None = true
-is_over (Some x) = false
 
 -- Ready, what was got is this and the future is over. One that is over is refused as finished and stays so; no other is.
 abbrev pub IsTurn : {G : Type 0} → (G → Type 0) → Bool → Turn G → Bool → Type 0

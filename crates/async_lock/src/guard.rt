@@ -108,14 +108,14 @@ impl<T, R: Wait> DerefMut for MutexGuardArc<T, R> {
 impl<T, R: Wait> Drop for MutexGuard<'_, T, R> {
     fn drop(self) {
         let Self { mutex, seat, hold } = self;
-        mutex.release(seat, hold);
+        mutex.raw.release(&mutex.rt, seat, hold);
     }
 }
 
 impl<T: Drop, R: Wait + Drop> Drop for MutexGuardArc<T, R> {
     fn drop(self) {
         let Self { mutex, seat, hold } = self;
-        mutex.release(seat, hold);
+        mutex.raw.release(&mutex.rt, seat, hold);
         drop(mutex);
     }
 }

@@ -1,6 +1,6 @@
 //! The futures of a mutex.
 
-ghost use Rattle.std.specs.Prelude.{◌≡◌, ℕ, Some, false};
+ghost use Rattle.std.specs.Prelude.{◌≡◌, ℕ, false};
 ghost use Rattle.std.specs.Arc.{arc_value};
 ghost use Rattle.futures.specs.Task.{Covers, Keeps};
 ghost use Rattle.lock_words.specs.Turns.{OnPending};
@@ -23,32 +23,33 @@ use std::{fmt, mem};
 /// In clauses it is its mutex, and whether it was ready before (`is_over`).
 pub struct Lock<'a, T, R: Wait> {
     mutex: &'a Mutex<T, R>,
-    // `None` once it was ready.
+    is_over: bool,
+    // `None` before the first poll that didn't get the lock, and once it was ready.
     waiting: Option<Waiting<T>>,
 }
 
 impl<'a, T, R: Wait> Model for Lock<'a, T, R> {
-    ghost use Rattle.std.specs.Prelude.{◌≡◌, Some};
-    ghost use Rattle.async_lock.specs.Futures.{Future, future, is_over};
+    ghost use Rattle.std.specs.Prelude.{IfSome};
+    ghost use Rattle.async_lock.specs.Futures.{Future, future};
     ghost use Rattle.async_lock.specs.Outcomes.{Waits};
 
     ghost Value = { Future T R };
 
-    ghost view = { λ l. future l.mutex.now (is_over l.waiting) };
+    ghost view = { λ l. future l.mutex.now l.is_over };
 
-    ghost invariant = { λ l. (q : _) → l.waiting ≡ Some q → Waits l.mutex.now.raw.words q };
+    ghost invariant = { λ l. IfSome l.waiting (Waits l.mutex.now.raw.words) };
 }
 
 impl<'a, T, R: Wait> Lock<'a, T, R> {
     ghost use Rattle.async_lock.specs.Futures.{future};
 
-    pub(crate) fn new(mutex: &'a Mutex<T, R>, waiting: Waiting<T>) -> Lock<'a, T, R>
-        requires { Waits mutex.now.raw.words waiting }
+    pub(crate) fn new(mutex: &'a Mutex<T, R>) -> Lock<'a, T, R>
         ensures { result ≡ future mutex.now false }
     {
         Lock {
             mutex,
-            waiting: Some(waiting),
+            is_over: false,
+            waiting: None,
         }
     }
 }
@@ -64,6 +65,7 @@ impl<'a, T, R: Wait + Clock> Lock<'a, T, R> {
     ///
     /// Pending, it has registered with the mutex's source (`registered`), and it keeps what the context had
     /// registered before (`kept`).
+    #[inline]
     pub fn poll(&mut self, cx: &mut Context<'_>) -> Turn<MutexGuard<'a, T, R>>
         ensures turn { IsTurn (λ guard. guard.mutex.now ≡ self.old.mutex) self.old.is_over result self.new.is_over }
         ensures mutex { self.new.mutex ≡ self.old.mutex }
@@ -71,11 +73,38 @@ impl<'a, T, R: Wait + Clock> Lock<'a, T, R> {
         ensures kept { Keeps cx.old cx.new }
     {
         let mutex = self.mutex;
-        let Some(waiting) = self.waiting.take() else {
+        if self.is_over {
             return Turn::Refused(Refusal::Finished);
+        }
+        if self.waiting.is_none() {
+            if let Some((seat, hold)) = mutex.raw.take() {
+                self.is_over = true;
+                return Turn::Ready(MutexGuard::new(mutex, seat, hold));
+            }
+        }
+        self.go_on(cx)
+    }
+
+    // A poll that doesn't get the lock at once. It stands apart, since what it takes room for would be cleared at
+    // each poll.
+    #[inline(never)]
+    fn go_on(&mut self, cx: &mut Context<'_>) -> Turn<MutexGuard<'a, T, R>>
+        requires { self.old.is_over ≡ false }
+        ensures turn { IsTurn (λ guard. guard.mutex.now ≡ self.old.mutex) false result self.new.is_over }
+        ensures mutex { self.new.mutex ≡ self.old.mutex }
+        ensures registered { OnPending result (Covers cx.new (λ s. s ≡ self.old.mutex.raw.list.source.id)) }
+        ensures kept { Keeps cx.old cx.new }
+    {
+        let mutex = self.mutex;
+        let waiting = match self.waiting.take() {
+            Some(waiting) => waiting,
+            None => mutex.first(),
         };
         match mutex.poll_waiting(cx, waiting) {
-            Outcome::Got(seat, hold) => Turn::Ready(MutexGuard::new(mutex, seat, hold)),
+            Outcome::Got(seat, hold) => {
+                self.is_over = true;
+                Turn::Ready(MutexGuard::new(mutex, seat, hold))
+            }
             Outcome::Waits(waiting) => {
                 self.waiting = Some(waiting);
                 Turn::Pending
@@ -98,7 +127,11 @@ impl<'a, T, R: Wait + Clock> Polled for Lock<'a, T, R> {
 
 impl<T, R: Wait> Drop for Lock<'_, T, R> {
     fn drop(self) {
-        let Self { mutex, waiting } = self;
+        let Self {
+            mutex,
+            is_over: _,
+            waiting,
+        } = self;
         if let Some(waiting) = waiting {
             mutex.cancel(waiting);
         }
@@ -127,14 +160,15 @@ pub enum Stage<T, R> {
     Finished,
 }
 
-/// A party that waits, with its share of the mutex.
+/// A future's share of the mutex, with its party once it was polled.
 #[derive(Drop)]
 pub struct Owned<T, R> {
     mutex: Arc<Mutex<T, R>>,
-    waiting: Waiting<T>,
+    waiting: Option<Waiting<T>>,
 }
 
 impl<T, R> Model for Owned<T, R> {
+    ghost use Rattle.std.specs.Prelude.{IfSome};
     ghost use Rattle.std.specs.Arc.{arc_value};
     ghost use Rattle.async_lock.specs.Outcomes.{Waits};
     ghost use Rattle.async_lock.specs.declared.mutex.Mutex.{Mutex};
@@ -143,7 +177,7 @@ impl<T, R> Model for Owned<T, R> {
 
     ghost view = { λ o. arc_value o.mutex };
 
-    ghost invariant = { λ o. Waits (arc_value o.mutex).raw.words o.waiting };
+    ghost invariant = { λ o. IfSome o.waiting (Waits (arc_value o.mutex).raw.words) };
 }
 
 impl<T, R> Owned<T, R> {
@@ -151,19 +185,24 @@ impl<T, R> Owned<T, R> {
         requires { Waits (arc_value mutex).raw.words waiting }
         ensures { result ≡ arc_value mutex }
     {
-        Owned { mutex, waiting }
+        Owned {
+            mutex,
+            waiting: Some(waiting),
+        }
     }
 }
 
 impl<T, R: Wait> LockArc<T, R> {
     ghost use Rattle.async_lock.specs.Sources.{is_finished};
 
-    pub(crate) fn new(mutex: Arc<Mutex<T, R>>, waiting: Waiting<T>) -> LockArc<T, R>
-        requires { Waits (arc_value mutex).raw.words waiting }
+    pub(crate) fn new(mutex: Arc<Mutex<T, R>>) -> LockArc<T, R>
         ensures { is_finished result.stage ≡ false }
     {
         LockArc {
-            stage: Stage::Waits(Owned::new(mutex, waiting)),
+            stage: Stage::Waits(Owned {
+                mutex,
+                waiting: None,
+            }),
         }
     }
 
@@ -194,6 +233,15 @@ impl<T: Drop, R: Wait + Clock + Drop> LockArc<T, R> {
             }
             Stage::Waits(owned) => {
                 let Owned { mutex, waiting } = owned;
+                let waiting = match waiting {
+                    Some(waiting) => waiting,
+                    None => match mutex.raw.take() {
+                        Some((seat, hold)) => {
+                            return Turn::Ready(MutexGuardArc::new(mutex, seat, hold));
+                        }
+                        None => mutex.first(),
+                    },
+                };
                 match mutex.poll_waiting(cx, waiting) {
                     Outcome::Got(seat, hold) => {
                         Turn::Ready(MutexGuardArc::new(mutex, seat, hold))
@@ -227,7 +275,9 @@ impl<T: Drop, R: Wait + Drop> Drop for LockArc<T, R> {
             Stage::Unowned | Stage::Finished => (),
             Stage::Waits(owned) => {
                 let Owned { mutex, waiting } = owned;
-                mutex.cancel(waiting);
+                if let Some(waiting) = waiting {
+                    mutex.cancel(waiting);
+                }
                 drop(mutex);
             }
         }

@@ -14,7 +14,7 @@ use crate::waiting::{Outcome, Waiting};
 use futures::executor::block_on;
 use futures::task::Context;
 use lock_driver::{MutexParty, RawMutex, WaitingList};
-use lock_words::{Hold, Seat, Settled, Taking, Words};
+use lock_words::{Hold, Seat, Settled, Words};
 use lock_world::Refusal;
 use mutex_machine::program::{End, LockCall, Place};
 use std::alloc::AllocGlobal;
@@ -69,19 +69,8 @@ impl<T, R> Mutex<T, R> {
         self.raw.words.get_mut()
     }
 
-    // One try.
-    fn take(&self) -> Option<(Seat<T>, Hold<T>)>
-        ensures { IfSome result (λ r. Holds self.now.raw.words r.0 r.1 × (r.0.starved ≡ false)) }
-    {
-        let mut seat = self.raw.words.sit();
-        match self.raw.words.take(&mut seat) {
-            Taking::Got(hold) => Some((seat, hold)),
-            Taking::Held | Taking::Starved => None,
-        }
-    }
-
     // A party that waits to be polled for the first time.
-    fn first(&self) -> Waiting<T>
+    pub(crate) fn first(&self) -> Waiting<T>
         ensures { Waits self.now.raw.words result }
     {
         Waiting {
@@ -101,7 +90,7 @@ impl<T, R: Wait> Mutex<T, R> {
     pub fn try_lock(&self) -> Option<MutexGuard<'_, T, R>>
         ensures { IfSome result (λ guard. guard.mutex.now ≡ self.now) }
     {
-        let (seat, hold) = self.take()?;
+        let (seat, hold) = self.raw.take()?;
         Some(MutexGuard::new(self, seat, hold))
     }
 
@@ -109,17 +98,7 @@ impl<T, R: Wait> Mutex<T, R> {
     pub fn lock(&self) -> Lock<'_, T, R>
         ensures { result ≡ future self.now false }
     {
-        Lock::new(self, self.first())
-    }
-
-    // Gives the lock back.
-    pub(crate) fn release(&self, seat: Seat<T>, hold: Hold<T>)
-        requires { Holds self.now.raw.words seat hold × (seat.starved ≡ false) }
-    {
-        let mut party = self.raw.holder(seat, hold);
-        let _ = self
-            .raw
-            .call(&self.rt, &mut party, LockCall::Release, Place::Holding);
+        Lock::new(self)
     }
 
     // Gives back what a future has that is dropped.
@@ -143,9 +122,14 @@ impl<T: Drop, R: Wait + Drop> Mutex<T, R> {
     pub fn try_lock_arc(this: &Arc<Mutex<T, R>>) -> Option<MutexGuardArc<T, R>>
         ensures { IfSome result (λ guard. guard ≡ arc_value this.now) }
     {
-        let mutex = Arc::try_clone(this).ok()?;
-        let (seat, hold) = mutex.take()?;
-        Some(MutexGuardArc::new(mutex, seat, hold))
+        let (seat, hold) = this.raw.take()?;
+        match Arc::try_clone(this) {
+            Ok(mutex) => Some(MutexGuardArc::new(mutex, seat, hold)),
+            Err(_) => {
+                this.raw.release(&this.rt, seat, hold);
+                None
+            }
+        }
     }
 
     /// As [`Mutex::lock`], for a future that owns its share of the mutex and gives it to its guard. Where that share
@@ -154,10 +138,7 @@ impl<T: Drop, R: Wait + Drop> Mutex<T, R> {
         ensures { is_finished result.stage ≡ false }
     {
         match Arc::try_clone(this) {
-            Ok(mutex) => {
-                let waiting = mutex.first();
-                LockArc::new(mutex, waiting)
-            }
+            Ok(mutex) => LockArc::new(mutex),
             Err(_) => LockArc::unowned(),
         }
     }

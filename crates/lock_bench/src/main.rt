@@ -2,18 +2,21 @@
 #![tactic(auto)]
 
 mod rows;
+mod threads;
 mod timing;
 
 use async_lock::Mutex;
 use futures::test::MockTask;
-use rows::{HandOver, HeldTry, LockPair, PendingPoll, StdPair, TryArcPair, TryPair};
+use rows::{BlockingPair, HandOver, HeldTry, LockPair, PendingPoll, StdPair, TryArcPair, TryPair};
 use std::alloc::AllocGlobal;
 use std::process::ExitCode;
 use std::random::RandomSource;
 use std::rt::Env;
 use std::sync::{Arc, Wait};
+use std::thread::Threads;
 use std::time::Clock;
 use std::{env, io};
+use threads::median_of_threads;
 use timing::{Row, median};
 
 /// How often a run does what is timed, where it takes some ten nanoseconds, and where it takes more.
@@ -21,15 +24,22 @@ const OFTEN: u64 = 500_000;
 
 const SELDOM: u64 = 20_000;
 
+/// How often threads are started in a run.
+const RARELY: u64 = 20;
+
 fn print<R: Print + Clock, W: Row>(rt: &R, name: &str, row: &W, times: u64) -> io::Result<()> {
-    let tenths = median(rt, row, times)?;
+    print_tenths(rt, name, median(rt, row, times)?)
+}
+
+fn print_tenths<R: Print>(rt: &R, name: &str, tenths: u64) -> io::Result<()> {
     println!(rt; "{name}: {}.{} ns", tenths / 10, tenths % 10)
 }
 
 /// The rows, or none where memory is refused.
-fn print_all<R: Wait + Clock + Print + AllocGlobal + RandomSource + Copy + Drop>(
-    rt: R,
-) -> io::Result<()> {
+fn print_all<R>(rt: R) -> io::Result<()>
+where
+    R: Threads + Wait + Clock + Print + AllocGlobal + RandomSource + Sync + Copy + Drop,
+{
     let alloc = rt.alloc();
     let std_mutex = std::sync::Mutex::new(0_u64);
     let Ok(mutex) = Mutex::new(rt, 0_u64) else {
@@ -56,6 +66,12 @@ fn print_all<R: Wait + Clock + Print + AllocGlobal + RandomSource + Copy + Drop>
     print(&rt, "lock ready and drop", &LockPair { mutex, task }, OFTEN)?;
     print(
         &rt,
+        "lock_blocking and drop",
+        &BlockingPair { mutex },
+        OFTEN,
+    )?;
+    print(
+        &rt,
         "poll to pending and drop",
         &PendingPoll { mutex, task },
         SELDOM,
@@ -69,6 +85,11 @@ fn print_all<R: Wait + Clock + Print + AllocGlobal + RandomSource + Copy + Drop>
         };
         println!(rt; "{waiting} waiting:")?;
         print(&rt, "hand-over", &row, SELDOM)?;
+    }
+    for workers in [1, 4, 16] {
+        println!(rt; "{workers} threads:")?;
+        let tenths = median_of_threads(&rt, alloc, workers, RARELY)?;
+        print_tenths(&rt, "started, each adds one, joined", tenths)?;
     }
     Ok(())
 }

@@ -5,8 +5,9 @@ use async_lock::lock_futures::Lock;
 use async_lock::{Mutex, MutexGuard, Turn};
 use futures::task::Context;
 use futures::test::MockTask;
-use std::alloc::Global;
+use std::alloc::{AllocGlobal, Global};
 use std::hint::black_box;
+use std::random::RandomSource;
 use std::sync::{Arc, Wait};
 use std::time::Clock;
 
@@ -91,6 +92,22 @@ impl<R: Wait + Clock> Row for LockPair<'_, '_, R> {
                 }
             }
         });
+    }
+}
+
+/// `lock_blocking` of a free mutex, and the guard's drop.
+#[derive(Drop)]
+pub struct BlockingPair<'a, R: Wait> {
+    pub mutex: &'a Mutex<u64, R>,
+}
+
+impl<R: Wait + Clock + RandomSource + AllocGlobal> Row for BlockingPair<'_, R> {
+    fn go(&self, times: u64) {
+        for _ in 0..times {
+            if let Ok(mut guard) = black_box(self.mutex).lock_blocking() {
+                *guard = guard.wrapping_add(1);
+            }
+        }
     }
 }
 

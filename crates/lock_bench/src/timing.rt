@@ -1,7 +1,7 @@
 //! How long something takes.
 
 use std::io;
-use std::time::{Clock, Instant};
+use std::time::{Clock, Duration, Instant};
 
 /// What is timed.
 pub trait Row {
@@ -20,9 +20,18 @@ pub fn median<R: Clock, W: Row>(rt: &R, row: &W, times: u64) -> io::Result<u64> 
     for slot in found.iter_mut() {
         let start = Instant::now(rt)?;
         row.go(times);
-        let taken = start.elapsed(rt)?.as_nanos();
-        *slot = u64::try_from(taken).unwrap_or(u64::MAX);
+        *slot = nanoseconds(start.elapsed(rt)?);
     }
+    Ok(tenths(&mut found, times))
+}
+
+/// A duration in whole nanoseconds.
+pub fn nanoseconds(taken: Duration) -> u64 {
+    u64::try_from(taken.as_nanos()).unwrap_or(u64::MAX)
+}
+
+/// The tenths of nanoseconds that one time takes, by the nanoseconds that runs of so many times took.
+pub fn tenths(found: &mut [u64; RUNS], times: u64) -> u64 {
     found.sort_unstable();
-    Ok(found[RUNS / 2].saturating_mul(10) / times.max(1))
+    found[RUNS / 2].saturating_mul(10) / times.max(1)
 }

@@ -54,17 +54,24 @@ impl<T> RawMutex<T> {
         }
     }
 
-    /// The party that holds the lock by this seat, with the right to the value.
-    pub fn holder(&self, seat: Seat<T>, hold: Hold<T>) -> MutexParty<T>
-        requires { Holds self.now.words seat hold × (seat.starved ≡ false) }
-        ensures { Stands self.now.words result at.Holding }
+    /// Takes the lock at once, if it is free and nobody is starved. It is the first action of a try and of a first
+    /// poll, and ends either with the lock; a program that it doesn't end goes on by [`RawMutex::call`].
+    ///
+    /// By the contract the seat that it answers holds the lock, with the right to its value (`holds`).
+    #[inline]
+    pub fn take(&self) -> Option<(Seat<T>, Hold<T>)>
+        ensures holds { IfSome result (λ r. Holds self.now.words r.0 r.1 × (r.0.starved ≡ false)) }
     {
-        MutexParty {
-            seat,
-            hold: Some(hold),
-            entry: None,
-            waker: None,
-            is_starving: false,
+        prove!(
+            matches!(action_at(Place::Try), Action::Take)
+                && matches!(action_at(Place::Enter), Action::Take)
+        );
+        prove!(matches!(decide(Place::Try, Found::Free), Next::End(End::Got)));
+        prove!(matches!(decide(Place::Enter, Found::Free), Next::End(End::Got)));
+        let mut seat = self.words.sit();
+        match self.words.take(&mut seat) {
+            Taking::Got(hold) => Some((seat, hold)),
+            Taking::Held | Taking::Starved => None,
         }
     }
 }
@@ -90,6 +97,27 @@ impl<T> RawMutex<T> {
             unreachable!()
         };
         party.drive(self, rt, first)
+    }
+
+    /// Gives the lock back by the seat that holds it, with the right to its value. The program of a release has no
+    /// branch, and so its two actions stand here in their order; that they are the table's is proved.
+    #[inline]
+    pub fn release<R: Wait>(&self, rt: &R, seat: Seat<T>, hold: Hold<T>)
+        requires { Holds self.now.words seat hold }
+    {
+        prove!(matches!(start(LockCall::Release, Place::Holding), Some(Place::Clear)));
+        prove!(matches!(action_at(Place::Clear), Action::Clear));
+        prove!(matches!(
+            decide(Place::Clear, Found::Done),
+            Next::Do(Action::Notify, Place::ReleaseNotify)
+        ));
+        prove!(matches!(
+            decide(Place::ReleaseNotify, Found::Done),
+            Next::End(End::GivenBack)
+        ));
+        let mut seat = seat;
+        self.words.clear(&mut seat, hold);
+        self.list.notify(rt, 1);
     }
 }
 

@@ -110,10 +110,16 @@ impl WaitingList {
 
     /// Notifies waiting entries from the front on until `n` are marked or none waits, and calls their wakers,
     /// each once. A list without entries isn't asked for its lock.
+    #[inline]
     pub fn notify<R: Wait>(&self, rt: &R, n: usize) {
-        if !self.is_listed() {
-            return;
+        if self.is_listed() {
+            self.notify_listed(rt, n);
         }
+    }
+
+    // As `notify`, of a list that had entries.
+    #[inline(never)]
+    fn notify_listed<R: Wait>(&self, rt: &R, n: usize) {
         let mut due = {
             let mut entries = self.entries.lock(rt);
             entries.notify(n);

@@ -1,0 +1,37 @@
+//! Threads that add up under one mutex, timed. It is no row like the others, since what starts threads is handed its
+//! runtime.
+
+use crate::timing::{RUNS, nanoseconds, tenths};
+use lock_workers::{Gate, public};
+use std::alloc::{AllocGlobal, Global};
+use std::hint::black_box;
+use std::io;
+use std::random::RandomSource;
+use std::sync::Wait;
+use std::thread::Threads;
+use std::time::{Clock, Instant};
+
+/// What a worker passes that need not wait.
+#[derive(Drop)]
+struct Open;
+
+impl Gate for Open {
+    fn pass(&self, _worker: u32) {}
+}
+
+/// The tenths of nanoseconds that it takes to start so many threads, of which each adds one under one mutex, and to
+/// join them, as `lockrun threads` does: the median of [`RUNS`] runs of so many times.
+pub fn median_of_threads<R>(rt: &R, alloc: Global, workers: u32, times: u64) -> io::Result<u64>
+where
+    R: Threads + Wait + Clock + RandomSource + AllocGlobal + Sync + Copy + Drop,
+{
+    let mut found = [0_u64; RUNS];
+    for slot in found.iter_mut() {
+        let start = Instant::now(rt)?;
+        for _ in 0..times {
+            black_box(public(rt, alloc, workers, &Open).is_ok());
+        }
+        *slot = nanoseconds(start.elapsed(rt)?);
+    }
+    Ok(tenths(&mut found, times))
+}
