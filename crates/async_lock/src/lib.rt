@@ -19,6 +19,10 @@ pub mod lock_futures {
 }
 
 pub use guard::{MutexGuard, MutexGuardArc};
+pub use lock_audit;
+pub use lock_core;
+pub use lock_event;
+pub use lock_words;
 pub use lock_words::{Polled, Settled, Turn};
 pub use lock_world::Refusal;
 pub use mutex::Mutex;
