@@ -10,7 +10,7 @@ use Rattle.lock_script.specs.declared.command.Verb.{Verb}
 use Rattle.lock_script.specs.declared.command.Verb.TheVariants as verb
 use Rattle.lock_script.specs.declared.command.Command.{Command}
 use Rattle.lock_script.specs.declared.command.Command.TheVariants.{New, On}
-use Rattle.lock_script.specs.declared.command.Model.TheVariants.{Mutex, RwLock, Semaphore}
+use Rattle.lock_script.specs.declared.command.Model.TheVariants.{Mutex, RwLock, Semaphore, Cell}
 use Rattle.lock_script.specs.declared.command.Request.TheVariants.{Step, Whole, Put, Take, Show}
 use Rattle.lock_script.specs.Lines.{Writes}
 
@@ -19,6 +19,7 @@ abbrev pub name_of : Verb → List ℕ
 name_of verb.Mutex = codes "mutex"
 name_of verb.RwLock = codes "rwlock"
 name_of verb.Semaphore = codes "semaphore"
+name_of verb.Cell = codes "cell"
 name_of verb.Begin = codes "begin"
 name_of verb.Go = codes "go"
 name_of verb.Do = codes "do"
@@ -77,6 +78,8 @@ IsWordOf word call.DowngradeToUpgradable = word ≡ codes "toupgradable"
 IsWordOf word call.Acquire = word ≡ codes "acquire"
 IsWordOf word call.TryAcquire = word ≡ codes "tryacquire"
 IsWordOf word call.Forget = word ≡ codes "forget"
+IsWordOf word call.Initialize = word ≡ codes "init"
+IsWordOf word call.Wait = word ≡ codes "wait"
 IsWordOf word call.Poll = word ≡ codes "poll"
 IsWordOf word call.Drop = word ≡ codes "drop"
 IsWordOf word _ = ⊥
@@ -85,6 +88,8 @@ IsWordOf word _ = ⊥
 abbrev pub BeginsWithCall : List (List ℕ) → Call → List (List ℕ) → Type 0
 BeginsWithCall words (call.Put v) others = (word : List ℕ) × (words ≡ codes "put" ∷ word ∷ others) × Writes word v
 BeginsWithCall words (call.AddPermits n) others = (word : List ℕ) × (words ≡ codes "add" ∷ word ∷ others) × Writes word n
+BeginsWithCall words (call.Set v) others = (word : List ℕ) × (words ≡ codes "set" ∷ word ∷ others) × Writes word v
+BeginsWithCall words (call.TrySet v) others = (word : List ℕ) × (words ≡ codes "tryset" ∷ word ∷ others) × Writes word v
 BeginsWithCall words c others = (word : List ℕ) × (words ≡ word ∷ others) × IsWordOf word c
 
 -- the word says what the maker gives: `made=` with a number, or `made=fail`
@@ -131,6 +136,7 @@ abbrev pub verb_of : Command → Verb
 verb_of (New (Mutex parties value starved)) = verb.Mutex
 verb_of (New (RwLock parties value starved readers)) = verb.RwLock
 verb_of (New (Semaphore parties permits most)) = verb.Semaphore
+verb_of (New (Cell parties)) = verb.Cell
 verb_of (On (Step party (Begin call inputs))) = verb.Begin
 verb_of (On (Step party (Go inputs))) = verb.Go
 verb_of (On (Whole party call inputs)) = verb.Do
@@ -143,6 +149,7 @@ abbrev pub Details : List (List ℕ) → Command → Type 0
 Details words (New (Mutex parties value starved)) = AreNumbersAndLimit words parties value starved
 Details words (New (RwLock parties value starved readers)) = AreRwLockNumbers words parties value starved readers
 Details words (New (Semaphore parties permits most)) = AreNumbersAndLimit words parties permits most
+Details words (New (Cell parties)) = (word : List ℕ) × (words ≡ word ∷ []) × Writes word parties × (1 ≤ parties) × (parties ≤ 64)
 Details words (On (Step party (Begin call inputs))) = AreOfCall words party call inputs
 Details words (On (Step party (Go inputs))) = AreOfGo words party inputs
 Details words (On (Whole party call inputs)) = AreOfCall words party call inputs

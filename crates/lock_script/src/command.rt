@@ -48,6 +48,10 @@ pub enum Model {
         permits: u64,
         most: Option<u64>,
     },
+    /// A once-cell that is empty, with so many parties.
+    Cell {
+        parties: u32,
+    },
 }
 
 /// What is asked of a World.
@@ -97,6 +101,7 @@ enum Verb {
     Mutex,
     RwLock,
     Semaphore,
+    Cell,
     Begin,
     Go,
     Do,
@@ -114,6 +119,7 @@ fn named(word: &[u8]) -> Option<Verb>
         _ if is(word, b"mutex") => Some(Verb::Mutex),
         _ if is(word, b"rwlock") => Some(Verb::RwLock),
         _ if is(word, b"semaphore") => Some(Verb::Semaphore),
+        _ if is(word, b"cell") => Some(Verb::Cell),
         _ if is(word, b"begin") => Some(Verb::Begin),
         _ if is(word, b"go") => Some(Verb::Go),
         _ if is(word, b"do") => Some(Verb::Do),
@@ -141,6 +147,7 @@ fn whole(words: &mut Words<'_>) -> Option<Command>
         Verb::Mutex => mutex(words),
         Verb::RwLock => rwlock(words),
         Verb::Semaphore => semaphore(words),
+        Verb::Cell => cell(words),
         Verb::Begin => begin(words),
         Verb::Go => go(words),
         Verb::Do => poll_whole(words),
@@ -174,6 +181,16 @@ fn semaphore(words: &mut Words<'_>) -> Option<Command>
         permits,
         most,
     }))
+}
+
+/// A once-cell, by the words after its name.
+fn cell(words: &mut Words<'_>) -> Option<Command>
+    ensures words { IfSome result (λ c. (verb_of c ≡ Verb.Cell) × Details words.old c) }
+    ensures asked { (c : Command) → verb_of c ≡ Verb.Cell → Details words.old c → result ≡ Some c }
+{
+    let parties = parties(words)?;
+    end(words)?;
+    Some(Command::New(Model::Cell { parties }))
 }
 
 /// The number of parties, the number after it, and the limit that the words left write, all of them.
@@ -346,6 +363,12 @@ fn call(words: &mut Words<'_>) -> Option<Call>
     if is(word, b"add") {
         return Some(Call::AddPermits(number(words)?));
     }
+    if is(word, b"set") {
+        return Some(Call::Set(number(words)?));
+    }
+    if is(word, b"tryset") {
+        return Some(Call::TrySet(number(words)?));
+    }
     plain_call(word)
 }
 
@@ -370,6 +393,8 @@ fn plain_call(word: &[u8]) -> Option<Call>
         _ if is(word, b"acquire") => Some(Call::Acquire),
         _ if is(word, b"tryacquire") => Some(Call::TryAcquire),
         _ if is(word, b"forget") => Some(Call::Forget),
+        _ if is(word, b"init") => Some(Call::Initialize),
+        _ if is(word, b"wait") => Some(Call::Wait),
         _ if is(word, b"poll") => Some(Call::Poll),
         _ if is(word, b"drop") => Some(Call::Drop),
         _ => None,

@@ -1,7 +1,7 @@
 //! Lines that no script may have, also where a World stands.
 
 /// Lines that are bad though a World stands.
-pub const BAD_LINES: [&[u8]; 124] = [
+pub const BAD_LINES: [&[u8]; 142] = [
     // Spaces at an end.
     b" ",
     b"  ",
@@ -18,7 +18,8 @@ pub const BAD_LINES: [&[u8]; 124] = [
     b"Rwlock 1 0",
     b"Semaphore 1 1",
     b"sem 1 1",
-    b"cell 1",
+    b"Cell 1",
+    b"once 1",
     b"barrier 1 1",
     b"begin 0 Lock",
     b"begin 0 Read",
@@ -28,7 +29,9 @@ pub const BAD_LINES: [&[u8]; 124] = [
     b"do 0 addpermits 1",
     b"do 0 try_acquire",
     b"do 0 permit",
-    b"do 0 set 5",
+    b"do 0 initialize",
+    b"do 0 setmut 5",
+    b"do 0 try_set 5",
     // Missing and spare numbers and words.
     b"mutex",
     b"mutex 1",
@@ -41,6 +44,9 @@ pub const BAD_LINES: [&[u8]; 124] = [
     b"semaphore 1",
     b"semaphore 1 1 1 1",
     b"semaphore 1 1 nomem",
+    b"cell",
+    b"cell 1 1",
+    b"cell 1 nomem",
     b"begin",
     b"begin 0",
     b"begin 0 put",
@@ -66,6 +72,13 @@ pub const BAD_LINES: [&[u8]; 124] = [
     b"do 0 acquire 1",
     b"do 0 tryacquire 1",
     b"do 0 forget 1",
+    b"do 0 set",
+    b"do 0 set nomem",
+    b"do 0 set 1 2",
+    b"do 0 tryset",
+    b"do 0 tryset 1 2",
+    b"do 0 init 1",
+    b"do 0 wait 1",
     b"getmut",
     b"getmut 1 2",
     b"getmut 1 nomem",
@@ -93,6 +106,9 @@ pub const BAD_LINES: [&[u8]; 124] = [
     b"semaphore 1 1 18446744073709551616",
     b"do 0 add x",
     b"do 0 add 18446744073709551616",
+    b"cell x",
+    b"do 0 set x",
+    b"do 0 tryset 18446744073709551616",
     b"do 18446744073709551616 lock",
     b"getmut x",
     b"getmut 18446744073709551616",
@@ -104,6 +120,8 @@ pub const BAD_LINES: [&[u8]; 124] = [
     b"rwlock 65 0 1 1",
     b"semaphore 0 1",
     b"semaphore 65 1",
+    b"cell 0",
+    b"cell 65",
     // Inputs given twice, and what is no input.
     b"go 0 nomem nomem",
     b"go 0 starving nomem starving",

@@ -1,7 +1,7 @@
 //! The stored rows: each script with its answers, as they stand in scripts/.
 
 /// Each script, and what the program prints for it.
-pub const ROWS: [(&str, &str); 31] = [
+pub const ROWS: [(&str, &str); 37] = [
     // acquire-hands-on-what-is-left
     (
         "semaphore 4 2\ndo 0 tryacquire\ndo 1 tryacquire\ndo 2 acquire\ndo 3 acquire\nbegin 2 poll\ndo 0 drop\ndo 1 drop\ngo 2\ngo 2\ngo 2\nshow\n",
@@ -17,6 +17,11 @@ pub const ROWS: [(&str, &str); 31] = [
         "semaphore 3 0\ndo 0 acquire\ndo 1 acquire\ndo 2 add 1\ndo 0 poll\ndo 1 poll\nshow\n",
         "ok\npending\npending\ngranted\nready\npending\nsemaphore available=0 limit=1 list=[1w]\n",
     ),
+    // cell-wait-and-take
+    (
+        "cell 3\ndo 0 wait\ndo 1 init\ndo 1 poll made=5\nshow\ndo 0 poll\ntake\nshow\n",
+        "ok\npending\npending\nready 5\ncell full 5 active=[] passive=[0a]\nready 5\n5\ncell empty active=[] passive=[]\n",
+    ),
     // count-comes-off-before-the-entry
     (
         "mutex 4 0\ndo 0 lock\ndo 1 lock\ndo 0 drop\ndo 2 trylock\ndo 1 poll starving\nshow\ndo 2 drop\nbegin 1 drop\ndo 3 lock\ngo 1\nshow\n",
@@ -27,20 +32,45 @@ pub const ROWS: [(&str, &str); 31] = [
         "rwlock 2 1\ndo 0 write\ndo 1 read\ndo 0 toupgradable\nshow\ndo 1 poll\n",
         "ok\nready 1\npending\ngiven back\nrwlock turn=1 starved=0 writer=0 readers=1 value=1 turnlist=[] noreaders=[] nowriter=[1n]\nready 1\n",
     ),
+    // dropped-initializer-passes-on
+    (
+        "cell 3\ndo 0 init\ndo 1 init\ndo 2 set 5\ndo 0 drop\nshow\ndo 1 drop\nshow\ndo 2 poll\nshow\n",
+        "ok\npending\npending\npending\ngiven back\ncell empty active=[1n 2w] passive=[]\ngiven back\ncell empty active=[2n] passive=[]\nready 5\ncell full 5 active=[] passive=[]\n",
+    ),
+    // dropped-maker-leaves-cell-empty
+    (
+        "cell 3\ndo 0 init\ndo 1 init\ndo 2 tryset 9\ndo 0 drop\nshow\ndo 1 poll made=7\ndo 2 set 2\nshow\n",
+        "ok\npending\npending\nnone\ngiven back\ncell empty active=[1n] passive=[]\nready 7\nready taken 2\ncell full 7 active=[] passive=[]\n",
+    ),
     // dropped-upgrade-frees-all
     (
         "rwlock 2 0\ndo 0 upread\ndo 0 upgrade\ndo 0 drop\ndo 1 trywrite\n",
         "ok\nready 0\nwaiting\ngiven back\ngranted 0\n",
+    ),
+    // dropped-wait-of-a-full-cell
+    (
+        "cell 4\ndo 0 wait\ndo 1 wait\ndo 2 wait\ndo 0 drop\ndo 3 tryset 4\nshow\ndo 1 drop\nshow\ndo 2 poll\nshow\n",
+        "ok\npending\npending\npending\ngiven back\ngranted\ncell full 4 active=[] passive=[1a 2a]\ngiven back\ncell full 4 active=[] passive=[2a]\nready 4\ncell full 4 active=[] passive=[]\n",
     ),
     // dropped-waiter-passes-on
     (
         "mutex 3 0\ndo 0 lock\ndo 1 lock\ndo 2 lock\ndo 0 drop\nshow\ndo 1 drop\nshow\ndo 2 poll\n",
         "ok\nready 0\npending\npending\ngiven back\nmutex locked=0 starved=0 value=0 list=[1n 2w]\ngiven back\nmutex locked=0 starved=0 value=0 list=[2n]\nready 0\n",
     ),
+    // dropped-waiting-initializer
+    (
+        "cell 3\ndo 0 init\ndo 1 init\ndo 2 init\ndo 1 drop\nshow\ndo 0 poll made=fail\nshow\ndo 2 poll made=6\nshow\n",
+        "ok\npending\npending\npending\ngiven back\ncell making active=[2w] passive=[]\nready failed\ncell empty active=[2n] passive=[]\nready 6\ncell full 6 active=[] passive=[]\n",
+    ),
     // dropped-writer-frees-readers
     (
         "rwlock 4 0\ndo 0 read\ndo 1 write\ndo 2 tryread\ndo 1 drop\ndo 2 tryread\ndo 3 tryupread\nshow\n",
         "ok\nready 0\npending\nnone\ngiven back\ngranted 0\ngranted 0\nrwlock turn=1 starved=0 writer=0 readers=3 value=0 turnlist=[] noreaders=[] nowriter=[]\n",
+    ),
+    // failed-maker-wakes-the-next
+    (
+        "cell 2\ndo 0 init\ndo 1 init\ndo 0 poll made=fail\nshow\ndo 1 poll made=4\n",
+        "ok\npending\npending\nready failed\ncell empty active=[1n] passive=[]\nready 4\n",
     ),
     // first-run
     (
@@ -123,7 +153,10 @@ pub const ROWS: [(&str, &str); 31] = [
         "ok\nready 0\npending\npending\ngiven back\ngranted 0\nrefused 1\nmutex locked=1 starved=0 value=0 list=[2n]\n",
     ),
     // too-many-permits-to-begin-with
-    ("semaphore 1 3 2\n", "refused 4\n"),
+    (
+        "semaphore 1 3 2\n",
+        "refused 4\n",
+    ),
     // try-upgrade-when-alone
     (
         "rwlock 2 1\ndo 0 upread\ndo 1 read\ndo 0 tryupgrade\ndo 1 drop\ndo 0 tryupgrade\n",

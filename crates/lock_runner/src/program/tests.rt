@@ -388,6 +388,44 @@ fn answers_each_good_line_of_a_semaphore(rt: HostRuntime) -> Result<(), Fail> {
     Ok(())
 }
 
+#[test]
+fn answers_each_good_line_of_a_cell(rt: HostRuntime) -> Result<(), Fail> {
+    for (script, answers) in [
+        ("cell 1\nshow\n", "ok\ncell empty active=[] passive=[]\n"),
+        // Each call, with each of what a maker gives.
+        (
+            "cell 4\ndo 0 init\ndo 1 wait\ndo 2 set 8\nshow\ndo 0 poll made=fail\ndo 0 poll\ndo 2 poll\ndo 0 init\ndo 0 set 1\ndo 3 tryset 2\ndo 3 wait\ndo 1 poll\ndo 1 drop\nshow\n",
+            "ok\npending\npending\npending\ncell making active=[2w] passive=[1w]\nready failed\nrefused 6\nready 8\nready 8\nready taken 1\nnone\nready 8\nready 8\ngiven back\ncell full 8 active=[] passive=[]\n",
+        ),
+        (
+            "cell 2\ndo 0 init made=fail\ndo 0 init made=3\ndo 1 tryset 4\nshow\n",
+            "ok\nready failed\nready 3\nnone\ncell full 3 active=[] passive=[]\n",
+        ),
+        // The value is put and taken at rest, where there is one; whoever waits is forgotten then.
+        (
+            "cell 2\ngetmut 5\ntake\ndo 0 tryset 1\ngetmut 5\nshow\ntake\nshow\ntake\ngetmut 6\n",
+            "ok\nnone\nnone\ngranted\nok\ncell full 5 active=[] passive=[]\n5\ncell empty active=[] passive=[]\nnone\nnone\n",
+        ),
+        (
+            "cell 2\nbegin 0 init made=9\ngetmut 1\ntake\ngo 0 made=9\nshow\n",
+            "ok\nstepped\nnot possible\nnot possible\nstepped\ncell making active=[] passive=[]\n",
+        ),
+        // A notification that its party isn't going to take goes on where a set without memory is refused.
+        (
+            "cell 2\ndo 0 init\ndo 1 set 3 nomem\nshow\ndo 1 poll\nshow\n",
+            "ok\npending\nrefused 1\ncell making active=[] passive=[]\npending\ncell making active=[1w] passive=[]\n",
+        ),
+        // The calls of one lock are not possible on the other.
+        (
+            "cell 1\ndo 0 lock\ndo 0 acquire\nsemaphore 1 1\ndo 0 init\ndo 0 set 1\ndo 0 tryset 1\ndo 0 wait\n",
+            "ok\nnot possible\nnot possible\nok\nnot possible\nnot possible\nnot possible\nnot possible\n",
+        ),
+    ] {
+        expect(&rt, script.as_bytes(), answers, "", 0)?;
+    }
+    Ok(())
+}
+
 /// Runs a script with this line between two good ones, which stops at it.
 fn expect_bad<R: Runs>(rt: &R, line: &[u8]) -> Result<(), Fail> {
     let mut script = Vec::new(rt.alloc());
