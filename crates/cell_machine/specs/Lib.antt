@@ -1,0 +1,6 @@
+pub mod Program
+pub mod Deeds
+pub mod Seats
+pub mod Tally
+pub mod Machine
+pub mod Ranks
