@@ -8,8 +8,8 @@ use Rattle.lock_world.specs.declared.moves.Inputs.{Inputs}
 use Rattle.lock_world.specs.declared.moves.Made.{Made}
 use Rattle.lock_world.specs.declared.moves.Made.TheVariants as made
 use Rattle.lock_world.specs.Steps.{Deed, nothing, changes, does, ListFunction, joins, asks, leaves, notifies, notifies_additionally, list_after}
-use Rattle.cell_machine.specs.declared.content.Content.{Content}
-use Rattle.cell_machine.specs.declared.content.Content.TheVariants as content
+use Rattle.cell_machine.specs.declared.words.Content.{Content}
+use Rattle.cell_machine.specs.declared.words.Content.TheVariants as content
 use Rattle.cell_machine.specs.declared.program.Action.{Action}
 use Rattle.cell_machine.specs.declared.program.Action.TheVariants as act
 use Rattle.cell_machine.specs.declared.program.Found.{Found}

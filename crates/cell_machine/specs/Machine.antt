@@ -1,8 +1,8 @@
 -- A once-cell: what is in it, where each party stands, and who waits in its lists; and what one action does to it.
-use Rattle.std.specs.Prelude.{◌≡◌, ℕ, ◌<◌, ◌≤◌, ◌==◌, ◌&&◌, Bool, true, false, List, [], ◌∷◌, length, Option, Some, slice_index_or, slice_set, replicate}
+use Rattle.std.specs.Prelude.{◌≡◌, ℕ, ◌<◌, ◌≤◌, ◌==◌, ◌&&◌, if◌then◌else◌, Bool, true, false, List, [], ◌∷◌, length, Option, Some, slice_index_or, slice_set, replicate}
+use Rattle.std.specs.List.{sum_by}
 use Rattle.lock_event.specs.declared.event.Entry.{Entry}
-use Rattle.lock_event.specs.declared.event.Mark.TheVariants.{Waiting as Waits_unmarked}
-use Rattle.lock_event.specs.Lists.{marked_count, mark_at, is_marked_at, IsMarkedFirst}
+use Rattle.lock_event.specs.Lists.{is_marked, marked_count, is_marked_at, IsMarkedFirst}
 use Rattle.lock_queue.specs.Parties.{is_party, entries_of}
 use Rattle.lock_queue.specs.Queues.{Queue}
 use Rattle.lock_world.specs.declared.moves.Answer.{Answer}
@@ -21,8 +21,8 @@ use Rattle.lock_world.specs.declared.standing.Stage.TheVariants.{Outside, Inside
 use Rattle.lock_world.specs.declared.standing.Within.{Within}
 use Rattle.lock_world.specs.Standings.{inputs_of}
 use Rattle.lock_table.specs.Ends.{answer_of}
-use Rattle.cell_machine.specs.declared.content.Content.{Content}
-use Rattle.cell_machine.specs.declared.content.Content.TheVariants as content
+use Rattle.cell_machine.specs.declared.words.Content.{Content}
+use Rattle.cell_machine.specs.declared.words.Content.TheVariants as content
 use Rattle.cell_machine.specs.declared.program.Found.{Found}
 use Rattle.cell_machine.specs.declared.program.ListName.{ListName}
 use Rattle.cell_machine.specs.declared.program.ListName.TheVariants.{Active, Passive}
@@ -58,13 +58,14 @@ abbrev pub is_maker : Content → ℕ → Bool
 is_maker (content.BeingMade q) p = q == p
 is_maker _ p = false
 
--- The party has an entry there that isn't marked.
-abbrev pub IsUnmarked : ℕ → List (Entry ℕ) → Type 0
-IsUnmarked p l = mark_at (is_party p) l ≡ Some Waits_unmarked
+-- Whether the party has an entry there that isn't marked.
+abbrev pub is_unmarked : ℕ → List (Entry ℕ) → Bool
+is_unmarked p [] = false
+is_unmarked p (e ∷ es) = if is_party p e.key then (if is_marked e.mark then false else true) else is_unmarked p es
 
 -- Once the cell is full, each entry of this list is marked, but of parties that haven't seen it yet or are about to leave; unless somebody is about to mark them all.
 abbrev pub AllTold : ListName → Content → List Position → List (Entry ℕ) → Type 0
-AllTold list c xs l = (v : ℕ) → c ≡ content.Full v → ((q : ℕ) → will_tell list (position_at xs q) ≡ false) → (p : ℕ) → IsUnmarked p l → is_late list (position_at xs p) ≡ true
+AllTold list c xs l = (v : ℕ) → c ≡ content.Full v → ((q : ℕ) → will_tell list (position_at xs q) ≡ false) → (p : ℕ) → is_unmarked p l ≡ true → is_late list (position_at xs p) ≡ true
 
 pub record IsKept (c : Content) (xs : List Position) (active passive : Queue) : Type 0 where
   pub sound : IsSound (tally_of c active.entries) (counts_of xs)
@@ -77,6 +78,7 @@ pub record IsKept (c : Content) (xs : List Position) (active passive : Queue) : 
   -- each listed party has one entry, and no other party has one
   pub active_owners : (p : ℕ) → entries_of p active.entries ≡ in_active (position_at xs p)
   pub passive_owners : (p : ℕ) → entries_of p passive.entries ≡ in_passive_at (position_at xs p)
+  pub passive_listed : sum_by in_passive_at xs ≡ length passive.entries
   pub active_parties : active.parties ≡ length xs
   pub passive_parties : passive.parties ≡ length xs
   pub few : length xs ≤ 4294967295

@@ -4,8 +4,8 @@ use Rattle.std.specs.List.{sum_by}
 use Rattle.lock_event.specs.declared.event.Entry.{Entry}
 use Rattle.lock_event.specs.Lists.{marked_count}
 use Rattle.lock_queue.specs.Debts.{IsOwed}
-use Rattle.cell_machine.specs.declared.content.Content.{Content}
-use Rattle.cell_machine.specs.declared.content.Content.TheVariants as content
+use Rattle.cell_machine.specs.declared.words.Content.{Content}
+use Rattle.cell_machine.specs.declared.words.Content.TheVariants as content
 use Rattle.cell_machine.specs.declared.program.Position.{Position}
 use Rattle.cell_machine.specs.Seats.{in_active, waits, owes}
 

@@ -10,8 +10,10 @@ ghost use Rattle.cell_machine.specs.Program.{place_for as place_for_lem, positio
 ghost use Rattle.cell_machine.specs.Deeds.{CanDo, CanList, Finds, FindsJoin, FindsAsk, FindsMade, deed_of, content_after, active_after, passive_after, list_of};
 ghost use Rattle.cell_machine.specs.Machine.{new_cell, IsCell, answer_by};
 
-use crate::content::Content;
-use crate::program::{Action, Found, ListName, Maker, Next, Place, Position, action_at, decide, start};
+use crate::program::{
+    Action, Found, ListName, Maker, Next, Place, Position, action_at, decide, start,
+};
+use crate::words::{Content, Words};
 use lock_event::Entry;
 use lock_queue::WaitQueue;
 use lock_table::{End, Machine};
@@ -26,7 +28,7 @@ use std::marker::Model;
 /// one step is one call.
 #[derive(Drop)]
 pub struct OnceCell {
-    content: Content,
+    words: Words,
     active: WaitQueue,
     passive: WaitQueue,
     positions: Vec<Position>,
@@ -37,9 +39,9 @@ impl Model for OnceCell {
 
     ghost Value = { OnceCell };
 
-    ghost view = { λ s. record { content = s.content; positions = s.positions.items; active = s.active.entries; passive = s.passive.entries } };
+    ghost view = { λ s. record { content = s.words; positions = s.positions.items; active = s.active.entries; passive = s.passive.entries } };
 
-    ghost invariant = { λ s. IsKept s.content s.positions.items s.active s.passive };
+    ghost invariant = { λ s. IsKept s.words s.positions.items s.active s.passive };
 }
 
 /// What the maker of an initialisation gives.
@@ -85,7 +87,7 @@ fn ask_in(list: &mut WaitQueue, party: u32) -> Found
 
 /// Carries out one action for a party.
 fn carry_out(
-    content: &mut Content,
+    words: &mut Words,
     active: &mut WaitQueue,
     passive: &mut WaitQueue,
     party: u32,
@@ -93,22 +95,22 @@ fn carry_out(
     inputs: Inputs,
 ) -> Found
     requires { CanDo party action active.old passive.old }
-    ensures finds { Finds inputs party action result content.old active.old.entries passive.old.entries }
-    ensures content { content.new ≡ content_after party (deed_of action result) content.old }
+    ensures finds { Finds inputs party action result words.old active.old.entries passive.old.entries }
+    ensures words { words.new ≡ content_after party (deed_of action result) words.old }
     ensures active { active.new ≡ queue active.old.parties (active_after party (deed_of action result) active.old.entries) }
     ensures passive { passive.new ≡ queue passive.old.parties (passive_after party (deed_of action result) passive.old.entries) }
 {
     match action {
-        Action::Look => return content.look(),
-        Action::Claim => return content.claim(party),
+        Action::Look => return words.look(),
+        Action::Claim => return words.claim(party),
         Action::Make(maker) => return polled(maker, inputs.made),
         Action::Join(ListName::Active) => return join_in(active, party, inputs.memory),
         Action::Join(ListName::Passive) => return join_in(passive, party, inputs.memory),
         Action::Ask(ListName::Active) => return ask_in(active, party),
         Action::Ask(ListName::Passive) => return ask_in(passive, party),
         Action::Nothing => (),
-        Action::Fill(value) => content.fill(value),
-        Action::Empty => content.empty(),
+        Action::Fill(value) => words.fill(value),
+        Action::Empty => words.empty(),
         Action::Leave(ListName::Active) => active.leave(party),
         Action::Leave(ListName::Passive) => passive.leave(party),
         Action::Notify(ListName::Active) => active.notify(1),
@@ -178,7 +180,7 @@ impl OnceCell {
         let active = WaitQueue::new(alloc, parties)?;
         let passive = WaitQueue::new(alloc, parties)?;
         Ok(OnceCell {
-            content: Content::Empty,
+            words: Words::new(),
             active,
             passive,
             positions,
@@ -189,7 +191,7 @@ impl OnceCell {
     pub fn content(&self) -> Content
         ensures { result ≡ self.now.content }
     {
-        self.content
+        self.words.content()
     }
 
     /// How many entries the list has.
@@ -251,12 +253,7 @@ impl Machine for OnceCell {
     fn knows(&self, _party: u32, call: Call) -> bool {
         matches!(
             call,
-            Call::Initialize
-                | Call::Set(_)
-                | Call::Wait
-                | Call::TrySet(_)
-                | Call::Poll
-                | Call::Drop
+            Call::Initialize | Call::Set(_) | Call::Wait | Call::TrySet(_) | Call::Poll | Call::Drop
         )
     }
 
@@ -270,7 +267,7 @@ impl Machine for OnceCell {
             unreachable!()
         };
         let found = carry_out(
-            &mut self.content,
+            &mut self.words,
             &mut self.active,
             &mut self.passive,
             party,
