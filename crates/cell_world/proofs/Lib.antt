@@ -1,0 +1,11 @@
+pub mod Seen
+pub mod Legals
+pub mod Rows
+pub mod Turns
+pub mod Values
+pub mod Idle
+pub mod Acting
+pub mod AtOnce
+pub mod Stepping
+pub mod Sound
+pub mod Opening
