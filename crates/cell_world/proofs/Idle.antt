@@ -106,7 +106,7 @@ poll_possible s (Begin call.Poll i) h e none = let P : Standing → Type 0 = λ 
 poll_possible s _ h e none = cc (h)
 
 -- a poll after ready is nothing else
-record Again (s : Standing) (what : What) : Type 0 where
+pub record Again (s : Standing) (what : What) : Type 0 where
   pub try : is_try what ≡ false
   pub making : (t : Task) (n : ℕ) (b : Bool) → is_first_making s what t n b ≡ false
   pub waiting : (t : Task) (n : ℕ) → is_first_wait s what t n ≡ false
@@ -117,7 +117,7 @@ record Again (s : Standing) (what : What) : Type 0 where
   pub stands : (w : Within) → call_in knows s what ≡ Some w → StandsAfter rest.Finished w (refused refusal.Finished) s
   pub out : (w : Within) (b : Answer) → s ≡ inside w (Some b) → ⊥
 
-again : (s : Standing) (what : What) → is_poll_after_ready s what ≡ true → Again s what
+pub again : (s : Standing) (what : What) → is_poll_after_ready s what ≡ true → Again s what
 again (outside rest.Holding) (Begin call.Poll i) h = record { try = refl; making = λ t n b. refl; waiting = λ t n. refl; pending = λ e. cc; drop = refl; task = refl; shut = refl; stands = λ w e. (let P : Within → Type 0 = λ w. StandsAfter rest.Finished w (refused refusal.Finished) (outside rest.Holding) in subst P (some_eq e) (refl, refl)); out = λ w b e. cc }
 again (outside rest.Finished) (Begin call.Poll i) h = record { try = refl; making = λ t n b. refl; waiting = λ t n. refl; pending = λ e. cc; drop = refl; task = refl; shut = refl; stands = λ w e. (let P : Within → Type 0 = λ w. StandsAfter rest.Finished w (refused refusal.Finished) (outside rest.Finished) in subst P (some_eq e) (refl, refl)); out = λ w b e. cc }
 again _ _ h = absurd (cc)

@@ -9,3 +9,8 @@ pub mod AtOnce
 pub mod Stepping
 pub mod Sound
 pub mod Opening
+pub mod Whole
+pub mod Rights
+pub mod Promises
+pub mod Bound
+pub mod WorldLaws

@@ -149,19 +149,19 @@ module _ (i : Inputs) (p : ℕ) (c : Content) where
   no_empty m empty = let never : BeingMade p ≡ Empty = sym m ∙ empty in cc never
 
   -- what the maker of an initialisation gave
-  gave : (k : Maker) (m : Made) (u : ℕ) → FindsMade k m (found.Made u) → fills_with u ≡ given (task_by k) m
+  pub gave : (k : Maker) (m : Made) (u : ℕ) → FindsMade k m (found.Made u) → fills_with u ≡ given (task_by k) m
   gave (Given v) m u e = cc e
   gave Closure made.Pending u e = absurd (cc e)
   gave Closure (made.Value v) u e = cc e
   gave Closure made.Fail u e = absurd (cc e)
 
-  gave_failure : (k : Maker) (m : Made) → FindsMade k m found.Failed → failed ≡ given (task_by k) m
+  pub gave_failure : (k : Maker) (m : Made) → FindsMade k m found.Failed → failed ≡ given (task_by k) m
   gave_failure (Given v) m e = absurd (cc e)
   gave_failure Closure made.Pending e = absurd (cc e)
   gave_failure Closure (made.Value v) e = absurd (cc e)
   gave_failure Closure made.Fail e = refl
 
-  pends : (k : Maker) (m : Made) → FindsMade k m found.NotYet → (k ≡ Closure) × (m ≡ made.Pending)
+  pub pends : (k : Maker) (m : Made) → FindsMade k m found.NotYet → (k ≡ Closure) × (m ≡ made.Pending)
   pends (Given v) m e = absurd (cc e)
   pends Closure made.Pending e = (refl, refl)
   pends Closure (made.Value v) e = absurd (cc e)
@@ -173,7 +173,7 @@ module _ (i : Inputs) (p : ℕ) (c : Content) where
   unexpected Closure (made.Value v) f e = inr (inl (v, e))
   unexpected Closure made.Fail f e = inr (inr e)
 
-  never_found : (k : Maker) (m : Made) (f : Found) → FindsMade k m f → (f ≡ found.NotYet → ⊥) → ((u : ℕ) → f ≡ found.Made u → ⊥) → (f ≡ found.Failed → ⊥) → ⊥
+  pub never_found : (k : Maker) (m : Made) (f : Found) → FindsMade k m f → (f ≡ found.NotYet → ⊥) → ((u : ℕ) → f ≡ found.Made u → ⊥) → (f ≡ found.Failed → ⊥) → ⊥
   never_found k m f e a b d = elim (unexpected k m f e) as (λ _. ⊥) [ inl x ↦ a x | inr y ↦ elim y as (λ _. ⊥) [ inl z ↦ b z.0 z.1 | inr z ↦ d z ] ]
 
   pub row : (q r : List (Entry ℕ)) (x : Place) (f : Found) → Finds i p (action_of x) f c q r → Row x f
