@@ -1,4 +1,5 @@
 pub mod Never
+pub mod Cell
 pub mod Mutex
 pub mod ReadWrite
 pub mod Semaphore

@@ -5,12 +5,12 @@ use Rattle.lock_world.specs.declared.moves.Call.TheVariants as call
 use Rattle.lock_world.specs.declared.moves.Inputs.{Inputs}
 use Rattle.lock_world.specs.Bounds.{GaveWay}
 use Rattle.lock_world.proofs.Bounds.{one_takes}
-use Rattle.mutex_machine.proofs.SoloPolls.{first_marked}
-use Rattle.mutex_world.specs.State.{World}
-use Rattle.mutex_world.specs.Laws.{IsSound, IsAwake, IsFreeAndWanted}
-use Rattle.mutex_world.specs.Runs.{rights_of}
-use Rattle.mutex_world.proofs.WorldLaws.{keeps_promise}
+use Rattle.lock_table.proofs.Bounds.{first_marked}
 use Rattle.mutex_world.specs.Bound.{Takes, GivesWay, PassesOver, IsBounded}
+use Rattle.mutex_world.specs.Laws.{IsSound, IsAwake, IsFreeAndWanted}
+use Rattle.mutex_world.specs.Runs.{accounts_of}
+use Rattle.mutex_world.specs.State.{World}
+use Rattle.mutex_world.proofs.WorldLaws.{keeps_promise}
 
 abbrev IsFree : World → Type 0
 IsFree w = w.state.holder ≡ None
@@ -20,7 +20,7 @@ passed w p a v not_taken (inl takes) = absurd (not_taken takes.holder)
 passed w p a v not_taken (inr gives) = (gives.free, gives.gave_way)
 
 gives : (w : World) (p : ℕ) (inputs : Inputs) (a : Answer) (v : World) → IsFree w → PassesOver w p inputs a v → IsFree v × GaveWay p w.state.starved w.entries v.state.starved v.entries
-gives w p inputs a v free over = passed w p a v over.not_taken (((keeps_promise (rights_of w) w p call.Poll inputs over.whole.more a v over.whole.runs over.whole.ended).solo refl over.solo free).takes_or_gives_way over.limit)
+gives w p inputs a v free over = passed w p a v over.not_taken (((keeps_promise (accounts_of w) w p call.Poll inputs over.whole.more a v over.whole.runs over.whole.ended).solo refl over.solo free).takes_or_gives_way over.limit)
 
 pub bounded : (w : World) → IsSound w → IsAwake w → IsFreeAndWanted w → IsBounded w
 bounded w sound awake wanted =

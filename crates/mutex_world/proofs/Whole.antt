@@ -1,45 +1,42 @@
 -- A call that is carried out alone ends within its number of steps.
-use Rattle.std.proofs.Common.{◌≡◌, ℕ, ◌+◌, ◌<◌, ◌≤◌, Bool, true, false, length, nat_lt, Option, Some, None, IsSomeAnd, refl, arith, ap, ◌∙◌, subst}
-use Rattle.mutex_machine.specs.declared.program.LockCall.{LockCall}
-use Rattle.mutex_machine.specs.declared.program.Next.{Next}
-use Rattle.mutex_machine.specs.declared.program.Next.TheVariants as next
-use Rattle.mutex_machine.specs.declared.program.End.TheVariants as «end»
-use Rattle.lock_world.specs.declared.refusal.Refusal.TheVariants as refusal
-use Rattle.lock_world.specs.declared.moves.Got.TheVariants.{Value}
-use Rattle.lock_world.specs.Standings.{inputs_of, refused}
-use Rattle.mutex_machine.specs.declared.program.Place.{Place}
-use Rattle.mutex_machine.specs.declared.program.Place.TheVariants.{Look, Ask, JoinStarved, LookAlone, PassOnListed, AskStarved, Seize, Count, Uncount}
+use Rattle.std.proofs.Common.{◌≡◌, ℕ, ◌+◌, ◌<◌, ◌≤◌, Bool, true, false, Option, Some, None, refl, arith, ap, sym, ◌∙◌, subst}
 use Rattle.lock_world.specs.declared.moves.Answer.{Answer}
 use Rattle.lock_world.specs.declared.moves.Answer.TheVariants as answer
 use Rattle.lock_world.specs.declared.moves.Call.{Call}
 use Rattle.lock_world.specs.declared.moves.Call.TheVariants as call
+use Rattle.lock_world.specs.declared.moves.Got.TheVariants.{Value}
 use Rattle.lock_world.specs.declared.moves.Inputs.{Inputs}
 use Rattle.lock_world.specs.declared.moves.Move.{Move}
 use Rattle.lock_world.specs.declared.moves.What.{What}
 use Rattle.lock_world.specs.declared.moves.What.TheVariants.{Begin, Go}
-use Rattle.lock_frame.specs.Steps.{left_by as left_of}
-use Rattle.mutex_world.specs.declared.world.table.Plan.{Plan}
-use Rattle.mutex_world.specs.declared.world.table.Plan.TheVariants as plan
-use Rattle.lock_world.specs.declared.standing.Kind.{Kind}
-use Rattle.lock_world.specs.declared.standing.Kind.TheVariants as kind
+use Rattle.lock_world.specs.declared.refusal.Refusal.TheVariants.{Finished}
+use Rattle.lock_world.specs.declared.standing.Rest.TheVariants as rest
 use Rattle.lock_world.specs.declared.standing.Stage.{Stage}
 use Rattle.lock_world.specs.declared.standing.Within.{Within}
-use Rattle.mutex_machine.specs.Program.{start_of}
-use Rattle.mutex_machine.specs.Machine.{SameRoles, place_at}
-use Rattle.mutex_machine.specs.Acts.{Acts, IsMutex}
-use Rattle.mutex_world.specs.Plans.{plan_of, answer_of, stage_at}
-use Rattle.mutex_machine.specs.Ranks.{left, steps_left, left_after, most_steps, is_own_marked, is_open}
-use Rattle.mutex_world.specs.Table.{Table, IsTable, Steps, Does, plan_in}
+use Rattle.lock_world.specs.Frame.{put_in}
+use Rattle.lock_world.specs.Standings.{inputs_of, refused}
 use Rattle.lock_world.specs.Whole.{going_on}
+use Rattle.lock_world.proofs.Equations.{some_eq}
+use Rattle.lock_frame.specs.Steps.{beginning, left_by}
+use Rattle.lock_table.specs.Stages.{stage_at, call_at, polls_again}
+use Rattle.lock_table.specs.Tables.{Table, Acted}
+use Rattle.lock_table.proofs.Ways.{way, by_way}
+use Rattle.mutex_machine.specs.declared.program.End.TheVariants as «end»
+use Rattle.mutex_machine.specs.declared.program.Next.{Next}
+use Rattle.mutex_machine.specs.declared.program.Next.TheVariants as next
+use Rattle.mutex_machine.specs.declared.program.Place.{Place}
+use Rattle.mutex_machine.specs.declared.program.Place.TheVariants.{Look, Ask, JoinStarved, LookAlone, PassOnListed, AskStarved, Seize, Count, Uncount}
+use Rattle.mutex_machine.specs.Acts.{IsMutex}
+use Rattle.mutex_machine.specs.Machine.{Lock}
+use Rattle.mutex_machine.specs.Ranks.{left, steps_left, left_after, is_own_marked, is_open}
+use Rattle.mutex_machine.proofs.Alone.{fewer}
+use Rattle.mutex_world.specs.Guarded.{Guarded, knows, Moves, MovesBy, answer_by, is_try_kind, place_of, with_value, goes_with}
+use Rattle.mutex_world.specs.Steps.{IsMutexTable, TableSteps}
 use Rattle.mutex_world.specs.Whole.{most_steps_of}
-use Rattle.mutex_machine.proofs.Alone.{fewer, within}
-use Rattle.mutex_machine.proofs.Starts.{start_same}
-use Rattle.mutex_world.proofs.Begun.{for_start, for_go}
-use Rattle.mutex_world.proofs.Events.{known_move}
-
--- how many steps are left after this answer
-abbrev pub left_by : Answer → Table → ℕ → ℕ
-left_by a t p = left_of a (steps_left t.lock p)
+use Rattle.mutex_world.proofs.Acting as acting
+use Rattle.mutex_world.proofs.Here.{same_roles}
+use Rattle.mutex_world.proofs.Stepping.{known_calls, carried}
+use Rattle.mutex_world.proofs.Turns.{Turn, turn}
 
 some_left : (x : Place) (m o : Bool) → 0 < left x m o
 some_left (Look told) m o = grind arith
@@ -55,80 +52,81 @@ some_left (Uncount true) m o = omega arith
 some_left (Uncount false) m o = omega arith
 some_left _ m o = omega arith
 
--- a step's answer says what is left
-left_said : (k : Kind) (v : ℕ) (n : Next) (t : Table) (p : ℕ) → left_by (answer_of k v n) t p ≡ left_after n t.lock p
-left_said k v (next.Do a q) t p = refl
-left_said kind.Try v (next.End «end».Got) t p = refl
-left_said _ v (next.End «end».Got) t p = refl
-left_said k v (next.End «end».Pending) t p = refl
-left_said k v (next.End «end».NotFree) t p = refl
-left_said k v (next.End «end».GivenBack) t p = refl
-left_said k v (next.End («end».Refused r)) t p = refl
-
 one_at_least : (c : Call) → 1 ≤ most_steps_of c
 one_at_least call.Lock = omega arith
 one_at_least call.Poll = omega arith
 one_at_least call.Drop = omega arith
 one_at_least _ = omega arith
 
-abbrev bound_of : What → LockCall → Type 0
-bound_of (Begin c i) lc = most_steps lc ≡ most_steps_of c
-bound_of (Go i) lc = ⊥
+-- no call has more left where it begins than it may take
+abbrev WithinMost : Stage → What → Within → Place → Place → Type 0
+WithinMost s (Begin c i) w x from = (m o : Bool) → left from m o ≤ most_steps_of c
+WithinMost s (Go i) w x from = x ≡ from
 
--- the machine's bound is the call's
-bound_is : (s : Stage) (c : Call) (i : Inputs) (lc : LockCall) (w : Within) → plan_of s (Begin c i) ≡ Some (plan.Start lc w) → most_steps lc ≡ most_steps_of c
-bound_is s c i lc w e = for_start (λ s what lc w. bound_of what lc) (record { lock = λ i. refl; try = λ i. refl; poll = λ i. refl; cancel = λ i. refl; release = λ i. refl }) s (Begin c i) lc w e
+ask_at_most : (m o : Bool) → left Ask m o ≤ 12
+ask_at_most m o = grind arith
 
-abbrev goes_on : What → Type 0
-goes_on (Begin c i) = ⊥
-goes_on (Go i) = Unit {0}
+ask_starved_at_most : (m o : Bool) → left AskStarved m o ≤ 12
+ask_starved_at_most m o = grind arith
 
-pub never_begun : (s : Stage) (i : Inputs) (lc : LockCall) (w : Within) → plan_of s (Go i) ≡ Some (plan.Start lc w) → ⊥
-never_begun s i lc w e = for_start (λ s what lc w. bound_of what lc) (record { lock = λ i. refl; try = λ i. refl; poll = λ i. refl; cancel = λ i. refl; release = λ i. refl }) s (Go i) lc w e
+within_most : (s : Stage) (what : What) (w : Within) (x : Place) → goes_with s x ≡ true → call_at knows s what ≡ Some w → polls_again s what ≡ false → put_in what ≡ None → Turn WithinMost s what w x
+within_most = turn WithinMost (record {
+  lock = λ i m o. omega arith;
+  try = λ i m o. omega arith;
+  poll = λ i m o. omega arith;
+  poll_listed = λ i m o. ask_at_most m o;
+  poll_starved = λ i m o. ask_starved_at_most m o;
+  abandon = λ i m o. omega arith;
+  cancel = λ i m o. omega arith;
+  cancel_starved = λ i m o. omega arith;
+  release = λ i m o. omega arith;
+  go = λ w x i h. refl;
+})
 
-pub never_going : (s : Stage) (c : Call) (i : Inputs) (w : Within) → plan_of s (Begin c i) ≡ Some (plan.Go w) → ⊥
-never_going s c i w e = for_go (λ s what w. goes_on what) (λ i w. tt) s (Begin c i) w e
+left_said : (trying : Bool) (v : ℕ) (n : Next) (l : Lock) (p : ℕ) → left_by (answer_by trying v n) (steps_left l p) ≡ left_after n l p
+left_said trying v (next.Do a q) l p = refl
+left_said true v (next.End «end».Got) l p = refl
+left_said false v (next.End «end».Got) l p = refl
+left_said trying v (next.End «end».Pending) l p = refl
+left_said trying v (next.End «end».NotFree) l p = refl
+left_said trying v (next.End «end».GivenBack) l p = refl
+left_said trying v (next.End («end».Refused r)) l p = refl
 
-pub begun : {P : Place → Type 0} (o : Option Place) → IsSomeAnd o P → (from : Place) × (o ≡ Some from) × P from
-begun None h = absurd h
-begun (Some from) h = (from, refl, h)
+module _ (t u : Table Guarded) (m : Move) (a : Answer) where
+  abbrev p : ℕ
+  p = m.party
 
-nothing_left : (a b : Answer) (u : Table) (p : ℕ) → a ≡ b → left_by b u p ≡ 0 → left_by a u p ≡ 0
-nothing_left a b u p e z = ap (λ x. left_by x u p) e ∙ z
+  abbrev Left : Answer → Table Guarded → ℕ
+  Left b x = left_by b (steps_left x.machine.lock p)
 
-module _ (t u : Table) (p : ℕ) (mutex : IsMutex t.lock) (fits : IsTable t.lock t.stages) where
   -- one step of the party leaves less to do than there was at its place
-  falls : (m : Move) (a : Answer) (w : Within) (from : Place) → m.party ≡ p → p < length t.stages → SameRoles from (place_at t.lock.places p) → Steps w from m t a u
-      → left_by a u p < left from (is_own_marked t.lock p) (is_open t.lock)
-  falls m a w from e known same s =
-      let said : left_by a u p ≡ left_after s.next u.lock p = ap (λ x. left_by x u p) s.answer ∙ left_said w.kind t.value s.next u p in
-      let A : ℕ → Type 0 = λ q. Acts (inputs_of m.what).memory q from s.next t.lock u.lock in
-      let acts = subst A e s.acts in
-      let less = fewer (inputs_of m.what).memory p from s.next t.lock u.lock (omega (arith, fits.as_many, known)) same (mutex.owners p) acts in
+  less : (w : Within) (k : acting.Acting t u m a w) → Left a u < left k.carries.from (is_own_marked t.machine.lock p) (is_open t.machine.lock)
+  less w k =
+      let said : Left a u ≡ left_after k.carries.next u.machine.lock p = ap (λ b. Left b u) k.carries.answer ∙ left_said (is_try_kind w.kind) t.machine.value k.carries.next u.machine.lock p in
+      let few = fewer (inputs_of m.what).memory p k.carries.from k.carries.next t.machine.lock u.machine.lock (acting.there t u m a w k) (same_roles (stage_at t.stages p) w (place_of t.machine p) k.carries.from k.here.begins) (k.old_laws.owners p) k.carries.carried.acts in
       omega arith
 
-  -- the first step of a call, and what is left then
-  pub first : (c : Call) (i : Inputs) (a : Answer) (o : Option Plan) → plan_in t (record { party = p; what = Begin c i }) ≡ o → Does o (record { party = p; what = Begin c i }) t a u → 1 + left_by a u p ≤ most_steps_of c
-  first c i a None e d = let none = nothing_left a answer.NotPossible u p d.0 refl in omega (arith, one_at_least c)
-  first c i a (Some plan.Finished) e d = let none = nothing_left a (refused refusal.Finished) u p d.0 refl in omega (arith, one_at_least c)
-  first c i a (Some (plan.Put n)) e d = let none = nothing_left a (answer.Granted (Value n)) u p d.0 refl in omega (arith, one_at_least c)
-  first c i a (Some (plan.Start lc w)) e d =
-      let k = known_move p t.stages (plan.Start lc w) (plan_of (stage_at t.stages p) (Begin c i)) (nat_lt p (length t.stages)) refl e in
-      let b = begun (start_of lc (place_at t.lock.places p)) d in
-      let less = falls (record { party = p; what = Begin c i }) a w b.0 refl k.0 (start_same lc (place_at t.lock.places p) b.0 b.1) b.2 in
-      omega (arith, bound_is (stage_at t.stages p) c i lc w k.1, within lc (place_at t.lock.places p) b.0 (is_own_marked t.lock p) (is_open t.lock) b.1)
-  first c i a (Some (plan.Go w)) e d =
-      let k = known_move p t.stages (plan.Go w) (plan_of (stage_at t.stages p) (Begin c i)) (nat_lt p (length t.stages)) refl e in
-      absurd (never_going (stage_at t.stages p) c i w k.1)
+  pub from_turn : (w : Within) (k : acting.Acting t u m a w) → WithinMost (stage_at t.stages p) m.what w (place_of t.machine p) k.carries.from
+  from_turn w k =
+      let turned = within_most (stage_at t.stages p) m.what w (place_of t.machine p) (k.old_fits.stands p k.inside) k.call k.first k.none in
+      let P : Place → Type 0 = WithinMost (stage_at t.stages p) m.what w (place_of t.machine p) in
+      subst P (some_eq (sym turned.starts ∙ k.carries.starts)) turned.holds
 
-  -- a further step leaves less to do
-  pub onward : (i : Inputs) (a : Answer) (o : Option Plan) → plan_in t (going_on p i) ≡ o → Does o (going_on p i) t a u → left_by a u p < steps_left t.lock p
-  onward i a None e d = let none = nothing_left a answer.NotPossible u p d.0 refl in omega (arith, some_left (place_at t.lock.places p) (is_own_marked t.lock p) (is_open t.lock))
-  onward i a (Some plan.Finished) e d = let none = nothing_left a (refused refusal.Finished) u p d.0 refl in omega (arith, some_left (place_at t.lock.places p) (is_own_marked t.lock p) (is_open t.lock))
-  onward i a (Some (plan.Put n)) e d = let none = nothing_left a (answer.Granted (Value n)) u p d.0 refl in omega (arith, some_left (place_at t.lock.places p) (is_own_marked t.lock p) (is_open t.lock))
-  onward i a (Some (plan.Start lc w)) e d =
-      let k = known_move p t.stages (plan.Start lc w) (plan_of (stage_at t.stages p) (Go i)) (nat_lt p (length t.stages)) refl e in
-      absurd (never_begun (stage_at t.stages p) i lc w k.1)
-  onward i a (Some (plan.Go w)) e d =
-      let k = known_move p t.stages (plan.Go w) (plan_of (stage_at t.stages p) (Go i)) (nat_lt p (length t.stages)) refl e in
-      falls (going_on p i) a w (place_at t.lock.places p) refl k.0 (record { holding = refl; starving = refl; standing = refl; waiting = refl; owing = refl }) d
+  module _ (tl : IsMutex t.machine.lock) (tf : IsMutexTable t) (ul : IsMutex u.machine.lock) (uf : IsMutexTable u) (P : Answer → Table Guarded → Type 0) where
+    -- what holds where nothing is left, and where the lock acted, holds of each step
+    by_put : (w : Within) → call_at knows (stage_at t.stages p) m.what ≡ Some w → polls_again (stage_at t.stages p) m.what ≡ false → (d : Acted known_calls rest.Holding Moves w t m a u) → ((n : ℕ) → u.machine ≡ with_value t.machine n → P (answer.Granted (Value n)) u) → (acting.Acting t u m a w → P a u) → (o : Option ℕ) → put_in m.what ≡ o → P a u
+    by_put w e f d put act None none = act (carried t u m a tl tf ul uf w e f d none)
+    by_put w e f d put act (Some n) some = (let Q : Option ℕ → Type 0 = λ o. MovesBy o t.machine p w m.what a u.machine in let k : Q (Some n) = subst Q some d.acts in let A : Answer → Type 0 = λ b. P b u in subst A (sym k.0) (put n k.1))
+
+    pub by_step : P answer.NotPossible t → P (refused Finished) t → ((n : ℕ) → u.machine ≡ with_value t.machine n → P (answer.Granted (Value n)) u) → ((w : Within) → acting.Acting t u m a w → P a u) → TableSteps t m a u → P a u
+    by_step none again put act step = by_way known_calls rest.Holding Moves t u m a P (λ e. none) (λ w e f. again) (λ w e f d. by_put w e f d put (act w) (put_in m.what) refl) (way known_calls rest.Holding Moves t u m a step)
+
+pub begins : (t u : Table Guarded) (p : ℕ) (c : Call) (i : Inputs) (a : Answer) → IsMutex t.machine.lock → IsMutexTable t → IsMutex u.machine.lock → IsMutexTable u → TableSteps t (beginning p c i) a u → 1 + left_by a (steps_left u.machine.lock p) ≤ most_steps_of c
+begins t u p c i a tl tf ul uf step = by_step t u (beginning p c i) a tl tf ul uf (λ b x. 1 + left_by b (steps_left x.machine.lock p) ≤ most_steps_of c) (one_at_least c) (one_at_least c) (λ n e. one_at_least c)
+    (λ w k. let few = from_turn t u (beginning p c i) a w k (is_own_marked t.machine.lock p) (is_open t.machine.lock) in omega (arith, less t u (beginning p c i) a w k, few)) step
+
+pub falls : (t u : Table Guarded) (p : ℕ) (i : Inputs) (a : Answer) → IsMutex t.machine.lock → IsMutexTable t → IsMutex u.machine.lock → IsMutexTable u → TableSteps t (going_on p i) a u → left_by a (steps_left u.machine.lock p) < steps_left t.machine.lock p
+falls t u p i a tl tf ul uf step =
+    let some = some_left (place_of t.machine p) (is_own_marked t.machine.lock p) (is_open t.machine.lock) in
+    by_step t u (going_on p i) a tl tf ul uf (λ b x. left_by b (steps_left x.machine.lock p) < steps_left t.machine.lock p) some some (λ n e. some)
+    (λ w k. let P : Place → Type 0 = λ y. left_by a (steps_left u.machine.lock p) < left y (is_own_marked t.machine.lock p) (is_open t.machine.lock) in subst P (sym (from_turn t u (going_on p i) a w k)) (less t u (going_on p i) a w k)) step

@@ -1,0 +1,7 @@
+pub mod Words
+pub mod Program
+pub mod Deeds
+pub mod Seats
+pub mod Tally
+pub mod Machine
+pub mod Ranks

@@ -1,0 +1,225 @@
+-- A once-cell: what is in it, where each party stands, and who waits in its lists; and what one action does to it.
+use Rattle.std.specs.Prelude.{◌≡◌, ℕ, ◌<◌, ◌≤◌, ◌==◌, ◌&&◌, if◌then◌else◌, Bool, true, false, List, [], ◌∷◌, length, Option, Some, slice_index_or, slice_set, replicate}
+use Rattle.std.specs.List.{sum_by}
+use Rattle.lock_event.specs.declared.event.Entry.{Entry}
+use Rattle.lock_event.specs.Lists.{is_marked, marked_count, is_marked_at, IsMarkedFirst}
+use Rattle.lock_queue.specs.Parties.{is_party, entries_of}
+use Rattle.lock_queue.specs.Queues.{Queue}
+use Rattle.lock_world.specs.declared.moves.Answer.{Answer}
+use Rattle.lock_world.specs.declared.moves.Answer.TheVariants as answer
+use Rattle.lock_world.specs.declared.moves.Call.{Call}
+use Rattle.lock_world.specs.declared.moves.Call.TheVariants as call
+use Rattle.lock_world.specs.declared.moves.Got.TheVariants.{Plain}
+use Rattle.lock_world.specs.declared.moves.Inputs.{Inputs}
+use Rattle.lock_world.specs.declared.moves.What.{What}
+use Rattle.lock_world.specs.declared.standing.Kind.{Kind}
+use Rattle.lock_world.specs.declared.standing.Kind.TheVariants as kind
+use Rattle.lock_world.specs.declared.standing.Rest.{Rest}
+use Rattle.lock_world.specs.declared.standing.Rest.TheVariants as rest
+use Rattle.lock_world.specs.declared.standing.Stage.{Stage}
+use Rattle.lock_world.specs.declared.standing.Stage.TheVariants.{Outside, Inside, Forgotten}
+use Rattle.lock_world.specs.declared.standing.Within.{Within}
+use Rattle.lock_world.specs.Standings.{inputs_of}
+use Rattle.lock_table.specs.Ends.{answer_of}
+use Rattle.cell_machine.specs.declared.words.Content.{Content}
+use Rattle.cell_machine.specs.declared.words.Content.TheVariants as content
+use Rattle.cell_machine.specs.declared.program.Found.{Found}
+use Rattle.cell_machine.specs.declared.program.ListName.{ListName}
+use Rattle.cell_machine.specs.declared.program.ListName.TheVariants.{Active, Passive}
+use Rattle.cell_machine.specs.declared.program.Next.{Next}
+use Rattle.cell_machine.specs.declared.program.Next.TheVariants as next
+use Rattle.cell_machine.specs.declared.program.Place.{Place}
+use Rattle.cell_machine.specs.declared.program.Place.TheVariants.{Claim, ClaimListed, JoinActive, AskActive, LeaveToMake, Make, Fill, NotifyActive, NotifyPassive, Fail, FailNotify, LeaveFull, RefuseActive, Look, JoinPassive, LookListed, AskPassive, LeavePassive, RefusePassive, Try, TryFill, TryNotifyActive, TryNotifyPassive, CancelMake, CancelNotify, CancelLeave, Abandon}
+use Rattle.cell_machine.specs.declared.program.Position.{Position}
+use Rattle.cell_machine.specs.declared.program.Position.TheVariants.{Out, ToMake, WaitingToMake, Making, ToWait, Waiting, At}
+use Rattle.cell_machine.specs.Program.{place_for, action_of, next_of, position_after}
+use Rattle.cell_machine.specs.Seats.{makes_at, in_active, in_passive_at, value_known, is_late, will_tell, is_resting}
+use Rattle.cell_machine.specs.Deeds.{Finds, deed_of, content_after, active_after, passive_after}
+use Rattle.cell_machine.specs.Tally.{IsSound, tally_of, counts_of}
+
+-- what contracts see of a once-cell
+pub record OnceCell : Type 0 where
+  pub content : Content
+  pub positions : List Position
+  pub active : List (Entry ℕ)
+  pub passive : List (Entry ℕ)
+
+abbrev pub position_at : List Position → ℕ → Position
+position_at xs p = slice_index_or xs p Out
+
+-- empty, and every party out
+abbrev pub new_cell : ℕ → OnceCell
+new_cell parties = record { content = content.Empty; positions = replicate parties Out; active = []; passive = [] }
+
+-- ---- What always holds
+
+-- Whether this party makes the cell's value.
+abbrev pub is_maker : Content → ℕ → Bool
+is_maker (content.BeingMade q) p = q == p
+is_maker _ p = false
+
+-- Whether the party has an entry there that isn't marked.
+abbrev pub is_unmarked : ℕ → List (Entry ℕ) → Bool
+is_unmarked p [] = false
+is_unmarked p (e ∷ es) = if is_party p e.key then (if is_marked e.mark then false else true) else is_unmarked p es
+
+-- Once the cell is full, each entry of this list is marked, but of parties that haven't seen it yet or are about to leave; unless somebody is about to mark them all.
+abbrev pub AllTold : ListName → Content → List Position → List (Entry ℕ) → Type 0
+AllTold list c xs l = (v : ℕ) → c ≡ content.Full v → ((q : ℕ) → will_tell list (position_at xs q) ≡ false) → (p : ℕ) → is_unmarked p l ≡ true → is_late list (position_at xs p) ≡ true
+
+pub record IsKept (c : Content) (xs : List Position) (active passive : Queue) : Type 0 where
+  pub sound : IsSound (tally_of c active.entries) (counts_of xs)
+  -- whoever makes the value is where makers stand
+  pub makers : (p : ℕ) → makes_at (position_at xs p) ≡ is_maker c p
+  -- what parties know of the cell's value is so
+  pub values : (p v : ℕ) → value_known (position_at xs p) ≡ Some v → c ≡ content.Full v
+  pub active_told : AllTold Active c xs active.entries
+  pub passive_told : AllTold Passive c xs passive.entries
+  -- each listed party has one entry, and no other party has one
+  pub active_owners : (p : ℕ) → entries_of p active.entries ≡ in_active (position_at xs p)
+  pub passive_owners : (p : ℕ) → entries_of p passive.entries ≡ in_passive_at (position_at xs p)
+  pub passive_listed : sum_by in_passive_at xs ≡ length passive.entries
+  pub active_parties : active.parties ≡ length xs
+  pub passive_parties : passive.parties ≡ length xs
+  pub few : length xs ≤ 4294967295
+
+-- every party is outside the programs
+abbrev pub IsAtRest : List Position → Type 0
+IsAtRest [] = Unit {0}
+IsAtRest (x ∷ xs) = (is_resting x ≡ true) × IsAtRest xs
+
+-- What callers may rest on: one party at most makes, and stands where makers do; what a decided party tells is in the cell; a party's entries are told by where it stands; at rest, where the cell is empty and somebody is listed in `active`, some entry there is marked, and where it is full, every entry of both lists is.
+pub record IsCell (s : OnceCell) : Type 0 where
+  pub makers : (p : ℕ) → makes_at (position_at s.positions p) ≡ is_maker s.content p
+  pub values : (p v : ℕ) → value_known (position_at s.positions p) ≡ Some v → s.content ≡ content.Full v
+  pub active_owners : (p : ℕ) → entries_of p s.active ≡ in_active (position_at s.positions p)
+  pub passive_owners : (p : ℕ) → entries_of p s.passive ≡ in_passive_at (position_at s.positions p)
+  pub active_in_order : IsMarkedFirst s.active
+  pub passive_in_order : IsMarkedFirst s.passive
+  pub wakes : IsAtRest s.positions → s.content ≡ content.Empty → 0 < length s.active → 0 < marked_count s.active
+  pub active_told : IsAtRest s.positions → (v : ℕ) → s.content ≡ content.Full v → (p : ℕ) → 0 < entries_of p s.active → is_marked_at (is_party p) s.active ≡ true
+  pub passive_told : IsAtRest s.positions → (v : ℕ) → s.content ≡ content.Full v → (p : ℕ) → 0 < entries_of p s.passive → is_marked_at (is_party p) s.passive ≡ true
+
+-- ---- Which parties stand where
+
+-- The calls of a cell.
+abbrev pub knows : Call → Bool
+knows call.Initialize = true
+knows (call.Set v) = true
+knows call.Wait = true
+knows (call.TrySet v) = true
+knows call.Poll = true
+knows call.Drop = true
+knows _ = false
+
+-- a place in the program of a poll, of a try, and of a drop
+abbrev pub is_polling : Place → Bool
+is_polling (Claim k told) = true
+is_polling (ClaimListed k) = true
+is_polling (JoinActive k told) = true
+is_polling (AskActive k) = true
+is_polling (LeaveToMake k) = true
+is_polling (Make k) = true
+is_polling (Fill v) = true
+is_polling (NotifyActive v) = true
+is_polling (NotifyPassive v) = true
+is_polling Fail = true
+is_polling FailNotify = true
+is_polling (LeaveFull k v) = true
+is_polling (RefuseActive k) = true
+is_polling (Look told) = true
+is_polling (JoinPassive told) = true
+is_polling LookListed = true
+is_polling AskPassive = true
+is_polling (LeavePassive v) = true
+is_polling RefusePassive = true
+is_polling _ = false
+
+abbrev pub is_trying : Place → Bool
+is_trying (Try v) = true
+is_trying (TryFill v) = true
+is_trying (TryNotifyActive v) = true
+is_trying (TryNotifyPassive v) = true
+is_trying _ = false
+
+abbrev pub is_cancelling : Place → Bool
+is_cancelling CancelMake = true
+is_cancelling CancelNotify = true
+is_cancelling (CancelLeave list) = true
+is_cancelling Abandon = true
+is_cancelling _ = false
+
+abbrev pub is_abandoning : Place → Bool
+is_abandoning Abandon = true
+is_abandoning _ = false
+
+-- a place in the program of a call of this kind, begun by a party that stood so
+abbrev pub runs : Kind → Rest → Place → Bool
+runs kind.FirstPoll rest.Idle x = is_polling x
+runs kind.FirstPoll rest.Finished x = is_polling x
+runs kind.LaterPoll rest.Pending x = is_polling x
+runs kind.Try rest.Idle x = is_trying x
+runs kind.Try rest.Finished x = is_trying x
+runs kind.Drop rest.Pending x = is_cancelling x
+runs kind.Drop rest.Finished x = is_abandoning x
+runs _ _ x = false
+
+-- a place that a call has come to, and not one at which it only begins
+abbrev pub is_begun : Place → Bool
+is_begun (Claim k false) = false
+is_begun (Look false) = false
+is_begun (Try v) = false
+is_begun CancelMake = false
+is_begun (CancelLeave list) = false
+is_begun Abandon = false
+is_begun _ = true
+
+-- a position of a pending party
+abbrev pub is_pending : Position → Bool
+is_pending (ToMake k) = true
+is_pending (WaitingToMake k) = true
+is_pending (Making k) = true
+is_pending ToWait = true
+is_pending Waiting = true
+is_pending _ = false
+
+abbrev pub is_out : Position → Bool
+is_out Out = true
+is_out _ = false
+
+-- a stage that goes with where the party stands
+abbrev pub goes_with : Stage → Position → Bool
+goes_with (Outside rest.Idle) x = is_out x
+goes_with (Outside rest.Finished) x = is_out x
+goes_with (Outside rest.Pending) x = is_pending x
+goes_with (Inside w) (At x) = is_begun x && runs w.kind w.was x
+goes_with Forgotten x = is_resting x
+goes_with _ _ = false
+
+abbrev pub Stands : OnceCell → ℕ → Stage → Type 0
+Stands s p stage = goes_with stage (position_at s.positions p) ≡ true
+
+-- ---- One action
+
+-- what a call's next is answered
+abbrev pub answer_by : Next → Answer
+answer_by (next.Do x) = answer.Stepped
+answer_by (next.Ready got) = answer.Ready got
+answer_by (next.End e) = answer_of Plain e
+
+-- A party does the action of this place, which finds this, and goes where its program says.
+pub record Acts (inputs : Inputs) (p : ℕ) (from : Place) (found : Found) (s t : OnceCell) : Type 0 where
+  pub finds : Finds inputs p (action_of from) found s.content s.active s.passive
+  pub content : t.content ≡ content_after p (deed_of (action_of from) found) s.content
+  pub active : t.active ≡ active_after p (deed_of (action_of from) found) s.active
+  pub passive : t.passive ≡ passive_after p (deed_of (action_of from) found) s.passive
+  pub positions : t.positions ≡ slice_set s.positions p (position_after from (next_of from found))
+
+-- A move of the party, answered so.
+pub record Moves (s : OnceCell) (p : ℕ) (w : Within) (what : What) (a : Answer) (t : OnceCell) : Type 0 where
+  pub from : Place
+  pub starts : place_for what (position_at s.positions p) ≡ Some from
+  pub runs : runs w.kind w.was from ≡ true
+  pub found : Found
+  pub acts : Acts (inputs_of what) p from found s t
+  pub answer : a ≡ answer_by (next_of from found)

@@ -1,0 +1,281 @@
+//! The once-cell's machine: what is in it, its lists, and where each party stands in its program.
+
+ghost use Rattle.std.specs.Prelude.{◌≡◌, ℕ, ◌<◌, ◌≤◌, length, slice_get, IfOk};
+ghost use Rattle.lock_queue.specs.Queues.{queue};
+ghost use Rattle.lock_world.specs.declared.standing.Stage.TheVariants.{Outside};
+ghost use Rattle.lock_world.specs.declared.standing.Rest.TheVariants.{Idle};
+ghost use Rattle.cell_machine.specs.declared.program.Action.TheVariants as acts;
+ghost use Rattle.cell_machine.specs.declared.program.ListName.TheVariants as lists;
+ghost use Rattle.cell_machine.specs.Program.{place_for as place_for_lem, position_after, pending_at as pending_at_lem, refused_at as refused_at_lem};
+ghost use Rattle.cell_machine.specs.Deeds.{CanDo, CanList, Finds, FindsJoin, FindsAsk, FindsMade, deed_of, content_after, active_after, passive_after, list_of};
+ghost use Rattle.cell_machine.specs.Machine.{new_cell, IsCell, answer_by};
+
+use crate::program::{
+    Action, Found, ListName, Maker, Next, Place, Position, action_at, decide, start,
+};
+use crate::words::{Content, Words};
+use lock_event::Entry;
+use lock_queue::WaitQueue;
+use lock_table::{End, Machine};
+use lock_world::standing::{Rest, Within};
+use lock_world::{Answer, Call, Got, Inputs, Made, What};
+use std::alloc::{AllocError, Global};
+use std::marker::Model;
+
+/// A once-cell, and where each of its parties stands.
+///
+/// The Rust crate keeps the state in an atomic word, the value beside it, and the lists in two events. Here
+/// one step is one call.
+#[derive(Drop)]
+pub struct OnceCell {
+    words: Words,
+    active: WaitQueue,
+    passive: WaitQueue,
+    positions: Vec<Position>,
+}
+
+impl Model for OnceCell {
+    ghost use Rattle.cell_machine.specs.Machine.{OnceCell, IsKept};
+
+    ghost Value = { OnceCell };
+
+    ghost view = { λ s. record { content = s.words; positions = s.positions.items; active = s.active.entries; passive = s.passive.entries } };
+
+    ghost invariant = { λ s. IsKept s.words s.positions.items s.active s.passive };
+}
+
+/// What the maker of an initialisation gives.
+fn polled(maker: Maker, made: Made) -> Found
+    ensures { FindsMade maker made result }
+{
+    match maker {
+        Maker::Given(value) => Found::Made(value),
+        Maker::Closure => match made {
+            Made::Pending => Found::NotYet,
+            Made::Value(value) => Found::Made(value),
+            Made::Fail => Found::Failed,
+        },
+    }
+}
+
+/// A party joins a list, where there is memory.
+fn join_in(list: &mut WaitQueue, party: u32, memory: bool) -> Found
+    requires { CanList party (acts.Join lists.Active) list.old }
+    ensures finds { FindsJoin memory result }
+    ensures list { list.new ≡ queue list.old.parties (active_after party (deed_of (acts.Join lists.Active) result) list.old.entries) }
+{
+    if memory {
+        list.join(party);
+        Found::Done
+    } else {
+        Found::NoMemory
+    }
+}
+
+/// A party asks for its notification in a list.
+fn ask_in(list: &mut WaitQueue, party: u32) -> Found
+    requires { CanList party (acts.Ask lists.Active) list.old }
+    ensures finds { FindsAsk party result list.old.entries }
+    ensures list { list.new ≡ queue list.old.parties (active_after party (deed_of (acts.Ask lists.Active) result) list.old.entries) }
+{
+    if list.ask(party) {
+        Found::Yes
+    } else {
+        Found::No
+    }
+}
+
+/// Carries out one action for a party.
+fn carry_out(
+    words: &mut Words,
+    active: &mut WaitQueue,
+    passive: &mut WaitQueue,
+    party: u32,
+    action: Action,
+    inputs: Inputs,
+) -> Found
+    requires { CanDo party action active.old passive.old }
+    ensures finds { Finds inputs party action result words.old active.old.entries passive.old.entries }
+    ensures words { words.new ≡ content_after party (deed_of action result) words.old }
+    ensures active { active.new ≡ queue active.old.parties (active_after party (deed_of action result) active.old.entries) }
+    ensures passive { passive.new ≡ queue passive.old.parties (passive_after party (deed_of action result) passive.old.entries) }
+{
+    match action {
+        Action::Look => return words.look(),
+        Action::Claim => return words.claim(party),
+        Action::Make(maker) => return polled(maker, inputs.made),
+        Action::Join(ListName::Active) => return join_in(active, party, inputs.memory),
+        Action::Join(ListName::Passive) => return join_in(passive, party, inputs.memory),
+        Action::Ask(ListName::Active) => return ask_in(active, party),
+        Action::Ask(ListName::Passive) => return ask_in(passive, party),
+        Action::Nothing => (),
+        Action::Fill(value) => words.fill(value),
+        Action::Empty => words.empty(),
+        Action::Leave(ListName::Active) => active.leave(party),
+        Action::Leave(ListName::Passive) => passive.leave(party),
+        Action::Notify(ListName::Active) => active.notify(1),
+        Action::Notify(ListName::Passive) => passive.notify(1),
+        Action::NotifyAll(ListName::Active) => active.notify_additional(usize::MAX),
+        Action::NotifyAll(ListName::Passive) => passive.notify_additional(usize::MAX),
+    }
+    Found::Done
+}
+
+/// Where a party stands that was answered Pending at this place.
+fn pending_at(from: Place) -> Position
+    ensures { result ≡ pending_at_lem from }
+{
+    match from {
+        Place::Make(maker) => Position::Making(maker),
+        Place::AskActive(maker) => Position::WaitingToMake(maker),
+        Place::AskPassive => Position::Waiting,
+        _ => Position::Out,
+    }
+}
+
+/// Where a party stands that was refused at this place.
+fn refused_at(from: Place) -> Position
+    ensures { result ≡ refused_at_lem from }
+{
+    match from {
+        Place::JoinActive { maker, .. } | Place::RefuseActive(maker) => Position::ToMake(maker),
+        Place::JoinPassive { .. } | Place::RefusePassive => Position::ToWait,
+        _ => Position::Out,
+    }
+}
+
+/// Where a party stands after this.
+fn after(from: Place, next: Next) -> Position
+    ensures { result ≡ position_after from next }
+{
+    match next {
+        Next::Do(place) => Position::At(place),
+        Next::End(End::Pending) => pending_at(from),
+        Next::End(End::Refused(_)) => refused_at(from),
+        Next::End(_) | Next::Ready(_) => Position::Out,
+    }
+}
+
+/// The place whose action a move carries out.
+fn place_for(what: What, at: Position) -> Option<Place>
+    ensures { result ≡ place_for_lem what at }
+{
+    match what {
+        What::Begin(call, _) => start(call, at),
+        What::Go(_) => match at {
+            Position::At(place) => Some(place),
+            _ => None,
+        },
+    }
+}
+
+impl OnceCell {
+    /// An empty cell for so many parties, numbered from 0, none of which has called yet. Refused for memory
+    /// alone; afterwards no step needs any.
+    pub fn new(alloc: Global, parties: u32) -> Result<OnceCell, AllocError>
+        ensures { IfOk result (λ s. s ≡ new_cell parties) }
+    {
+        let mut positions = Vec::new(alloc);
+        positions.resize(parties as usize, Position::Out)?;
+        let active = WaitQueue::new(alloc, parties)?;
+        let passive = WaitQueue::new(alloc, parties)?;
+        Ok(OnceCell {
+            words: Words::new(),
+            active,
+            passive,
+            positions,
+        })
+    }
+
+    /// What is in the cell.
+    pub fn content(&self) -> Content
+        ensures { result ≡ self.now.content }
+    {
+        self.words.content()
+    }
+
+    /// How many entries the list has.
+    pub fn waiting(&self, list: ListName) -> usize
+        ensures { result ≡ length (list_of list self.now.active self.now.passive) }
+    {
+        match list {
+            ListName::Active => self.active.len(),
+            ListName::Passive => self.passive.len(),
+        }
+    }
+
+    /// The entry at this place of the list, counted from the front: the party, and what it has been told.
+    /// None past the last.
+    pub fn entry(&self, list: ListName, index: usize) -> Option<Entry<u32>>
+        ensures { result ≡ slice_get (list_of list self.now.active self.now.passive) index }
+    {
+        match list {
+            ListName::Active => self.active.entry(index),
+            ListName::Passive => self.passive.entry(index),
+        }
+    }
+
+    /// What always holds of a cell. It does nothing.
+    pub fn laws(&self)
+        ensures { IsCell self.now }
+    {
+        self.active.laws();
+        self.passive.laws();
+    }
+}
+
+/// What a call's next is answered.
+fn answer_to(next: Next) -> Answer
+    ensures { result ≡ answer_by next }
+{
+    match next {
+        Next::Do(_) => Answer::Stepped,
+        Next::Ready(got) => Answer::Ready(got),
+        Next::End(end) => end.answer(Got::Plain),
+    }
+}
+
+impl Machine for OnceCell {
+    ghost use Rattle.std.specs.Prelude.{length};
+    ghost use Rattle.cell_machine.specs.Machine as machine;
+    ghost use Rattle.lock_world.specs.declared.standing.Rest.TheVariants.{Finished};
+
+    ghost parties = { λ s. length s.positions };
+
+    ghost knows = { λ s p. machine.knows };
+
+    ghost ready = { Finished };
+
+    ghost stands = { machine.Stands };
+
+    ghost acts = { machine.Moves };
+
+    fn knows(&self, _party: u32, call: Call) -> bool {
+        matches!(
+            call,
+            Call::Initialize | Call::Set(_) | Call::Wait | Call::TrySet(_) | Call::Poll | Call::Drop
+        )
+    }
+
+    fn ready(&self) -> Rest {
+        Rest::Finished
+    }
+
+    fn act(&mut self, party: u32, _within: Within, what: What) -> Answer {
+        let at = party as usize;
+        let Some(from) = place_for(what, self.positions[at]) else {
+            unreachable!()
+        };
+        let found = carry_out(
+            &mut self.words,
+            &mut self.active,
+            &mut self.passive,
+            party,
+            action_at(from),
+            what.inputs(),
+        );
+        let next = decide(from, found);
+        self.positions[at] = after(from, next);
+        answer_to(next)
+    }
+}

@@ -1,0 +1,110 @@
+//! What a once-cell has in it, and the words that say so.
+
+ghost use Rattle.std.specs.Prelude.{◌≡◌};
+ghost use Rattle.cell_machine.specs.Deeds.{FindsContent, claimed_after};
+ghost use Rattle.cell_machine.specs.declared.words.Content.TheVariants as contents;
+
+use crate::program::Found;
+use std::marker::Model;
+
+/// What a once-cell has in it.
+#[derive(Clone, Copy, Debug, PartialEq, Eq)]
+pub enum Content {
+    /// Nothing, and nobody makes its value.
+    Empty,
+    /// Nothing yet: this party makes its value.
+    BeingMade(u32),
+    /// This value.
+    Full(u64),
+}
+
+/// How far a cell is.
+#[derive(Clone, Copy, Debug, PartialEq, Eq)]
+enum State {
+    /// Nobody has begun to make its value.
+    Empty,
+    /// This party makes its value.
+    BeingMade(u32),
+    /// A value entered. It may have been taken from outside every call since.
+    Full,
+}
+
+/// The state of a cell, and its value beside it. A full cell whose value was taken is empty.
+#[derive(Drop)]
+pub struct Words {
+    state: State,
+    value: Option<u64>,
+}
+
+impl Model for Words {
+    ghost use Rattle.cell_machine.specs.Words.{content_of};
+    ghost use Rattle.cell_machine.specs.declared.words.Content.{Content};
+
+    ghost Value = { Content };
+
+    ghost view = { λ w. content_of w.state w.value };
+}
+
+impl Words {
+    /// Those of an empty cell.
+    pub fn new() -> Words
+        ensures { result ≡ contents.Empty }
+    {
+        Words {
+            state: State::Empty,
+            value: None,
+        }
+    }
+
+    /// What is in the cell.
+    pub fn content(&self) -> Content
+        ensures { result ≡ self.now }
+    {
+        match self.state {
+            State::Empty => Content::Empty,
+            State::BeingMade(party) => Content::BeingMade(party),
+            State::Full => match self.value {
+                Some(value) => Content::Full(value),
+                None => Content::Empty,
+            },
+        }
+    }
+
+    /// What a look finds.
+    pub fn look(&self) -> Found
+        ensures { FindsContent result self.now }
+    {
+        match self.content() {
+            Content::Empty => Found::Empty,
+            Content::BeingMade(_) => Found::BeingMade,
+            Content::Full(value) => Found::Full(value),
+        }
+    }
+
+    /// The party begins to make the value, if the cell is empty. What it found is what stood before.
+    pub fn claim(&mut self, party: u32) -> Found
+        ensures finds { FindsContent result self.old }
+        ensures content { self.new ≡ claimed_after party result self.old }
+    {
+        let found = self.look();
+        if let Found::Empty = found {
+            self.state = State::BeingMade(party);
+        }
+        found
+    }
+
+    /// The value that was made enters the cell.
+    pub fn fill(&mut self, value: u64)
+        ensures { self.new ≡ contents.Full value }
+    {
+        self.value = Some(value);
+        self.state = State::Full;
+    }
+
+    /// The making ends, and no value enters.
+    pub fn empty(&mut self)
+        ensures { self.new ≡ contents.Empty }
+    {
+        self.state = State::Empty;
+    }
+}

@@ -1,0 +1,570 @@
+-- An action of a party is a legal step, as callers see it.
+use Rattle.std.proofs.Common.{◌≡◌, ◌≢◌, ℕ, zero, suc, ◌+◌, ◌<◌, ◌≤◌, ◌||◌, ◌&&◌, ◌==◌, ◌↔◌, ◌⊎◌, inl, inr, if◌then◌else◌, Bool, true, false, List, [], ◌∷◌, map, length, get_or, Option, Some, None, is_some, refl, arith, ap, sym, ◌∙◌, subst, get_or-set_same, get_or-set_other, length-set}
+use Rattle.std.proofs.Math.ListN.{set}
+use Rattle.std.specs.List.{list_all}
+use Rattle.std.proofs.lemmas.Bool.Decides.{nat_tests}
+use Rattle.lock_event.specs.declared.event.Entry.{Entry}
+use Rattle.lock_event.specs.declared.event.Mark.TheVariants.{Waiting as Waits_unmarked}
+use Rattle.lock_event.specs.Lists.{is_marked_at, mark_at, marked_count, without, IsMarkedFirst}
+use Rattle.lock_queue.specs.Parties.{is_party, entries_of}
+use Rattle.lock_queue.proofs.Told.{waits_at}
+use Rattle.lock_world.specs.declared.moves.Answer.{Answer}
+use Rattle.lock_world.specs.declared.moves.Answer.TheVariants as answer
+use Rattle.lock_world.specs.declared.moves.Call.{Call}
+use Rattle.lock_world.specs.declared.moves.Call.TheVariants as call
+use Rattle.lock_world.specs.declared.moves.Got.{Got}
+use Rattle.lock_world.specs.declared.moves.Got.TheVariants as got
+use Rattle.lock_world.specs.declared.moves.Inputs.{Inputs}
+use Rattle.lock_world.specs.declared.moves.Made.{Made}
+use Rattle.lock_world.specs.declared.moves.Made.TheVariants as made
+use Rattle.lock_world.specs.declared.moves.Move.{Move}
+use Rattle.lock_world.specs.declared.moves.What.{What}
+use Rattle.lock_world.specs.declared.moves.What.TheVariants.{Begin, Go}
+use Rattle.lock_world.specs.declared.refusal.Refusal.{Refusal}
+use Rattle.lock_world.specs.declared.refusal.Refusal.TheVariants as refusal
+use Rattle.lock_world.specs.declared.standing.Kind.{Kind}
+use Rattle.lock_world.specs.declared.standing.Kind.TheVariants as kind
+use Rattle.lock_world.specs.declared.standing.Rest.{Rest}
+use Rattle.lock_world.specs.declared.standing.Rest.TheVariants as rest
+use Rattle.lock_world.specs.declared.standing.Stage.{Stage}
+use Rattle.lock_world.specs.declared.standing.Stage.TheVariants.{Outside, Inside, Forgotten}
+use Rattle.lock_world.specs.declared.standing.Within.{Within}
+use Rattle.lock_world.specs.Standings.{Standing, outside, inside, forgotten, inputs_of, call_in, is_outside, is_outside_stage, is_possible, is_stepped, is_decided, may_end, decision, refused, Decides, IsUndecided, StandsAfter}
+use Rattle.lock_world.specs.Frame.{is_drop, is_giving_back, is_poll_after_ready, is_refusal}
+use Rattle.lock_world.specs.Refusals.{number_of}
+use Rattle.lock_world.specs.Steps.{Deed, nothing, changes, does, joins, asks, leaves, notifies, notifies_additionally, list_after}
+use Rattle.lock_world.proofs.Equations.{some_eq, none_some, some_none}
+use Rattle.lock_table.specs.Stages.{stage_at, stands_as, call_at, polls_again, stage_after}
+use Rattle.lock_table.specs.Tables.{Table}
+use Rattle.lock_table.specs.Ends.{answer_of}
+use Rattle.lock_table.specs.declared.end.End.TheVariants as «end»
+use Rattle.lock_table.proofs.Calls.{call_seen, again_seen, stands_seen, decided_after, decision_seen}
+use Rattle.lock_table.proofs.Views.{length-standings, standings_at, rest_seen, outside_at}
+use Rattle.cell_machine.specs.declared.program.Action.{Action}
+use Rattle.cell_machine.specs.declared.program.Action.TheVariants as act
+use Rattle.cell_machine.specs.declared.program.Found.{Found}
+use Rattle.cell_machine.specs.declared.program.Found.TheVariants as found
+use Rattle.cell_machine.specs.declared.program.ListName.{ListName}
+use Rattle.cell_machine.specs.declared.program.ListName.TheVariants.{Active, Passive}
+use Rattle.cell_machine.specs.declared.program.Maker.{Maker}
+use Rattle.cell_machine.specs.declared.program.Maker.TheVariants.{Closure, Given}
+use Rattle.cell_machine.specs.declared.program.Next.{Next}
+use Rattle.cell_machine.specs.declared.program.Next.TheVariants as next
+use Rattle.cell_machine.specs.declared.program.Place.{Place}
+use Rattle.cell_machine.specs.declared.program.Place.TheVariants.{Claim, ClaimListed, JoinActive, AskActive, LeaveToMake, Make, Fill, NotifyActive, NotifyPassive, Fail, FailNotify, LeaveFull, RefuseActive, Look, JoinPassive, LookListed, AskPassive, LeavePassive, RefusePassive, Try, TryFill, TryNotifyActive, TryNotifyPassive, CancelMake, CancelNotify, CancelLeave, Abandon}
+use Rattle.cell_machine.specs.declared.program.Position.{Position}
+use Rattle.cell_machine.specs.declared.program.Position.TheVariants.{Out, ToMake, WaitingToMake, Making, ToWait, Waiting, At}
+use Rattle.cell_machine.specs.declared.words.Content.{Content}
+use Rattle.cell_machine.specs.declared.words.Content.TheVariants.{Empty, BeingMade, Full}
+use Rattle.cell_machine.specs.Program.{place_for, action_of, next_of, position_after, got_of}
+use Rattle.cell_machine.specs.Seats.{Task, no_task, initializes, sets, waits_only, fills_with, failed, task_by, task_at, task_of as place_task, Seat, seat_of, seated, makes_at, in_active, in_passive_at, value_known, verdict, verdict_of, is_resting}
+use Rattle.cell_machine.specs.Deeds.{Change, begins, fills, empties, everyone, list_of, deed_of, content_after, active_after, passive_after, Finds, FindsContent, FindsMade, FindsJoin, FindsAsk}
+use Rattle.cell_machine.specs.Machine.{OnceCell, IsCell, IsAtRest, Acts, Moves as MovesOf, knows, goes_with, runs, is_begun, is_polling, is_trying, is_cancelling, is_abandoning, is_pending, is_out, is_maker, position_at, answer_by}
+use Rattle.cell_machine.proofs.Kept.{after}
+use Rattle.cell_machine.proofs.Turns.{Turn, turn, Fits, fits, lands, the}
+use Rattle.cell_machine.proofs.Contents as contents
+use Rattle.cell_world.specs.State.{World, is_empty, is_full, value_in, list_in, standing_of, task_of}
+use Rattle.cell_world.specs.View.{view_of}
+use Rattle.cell_world.specs.Tasks.{task_in, or_before, task_then, makes, list_for, given, is_open}
+use Rattle.cell_world.specs.Legal.{call_of, DecidesOn, IsPossible, gives_something_back, gives_up, IsItsList, IsAllowed, ChangesOneThing, KnowsTask, Carried, IsGranted, Carries, IsPendingMaker, WaitsInList, Waits, IsOutOfMemory, IsCause, IsRefusedForCause, HasByTask, HasNothing, HasItsOwn, LeavesClear, EndsProperly, Legal}
+use Rattle.cell_world.specs.AtOnce.{AnswersAtOnce, TriesAtOnce, MakesAtOnce, PollsMaker, DropsMaker, is_try, is_poll, would_make, is_first_making, waits_for, is_first_wait, got_by, first_answer, maker_answer}
+use Rattle.cell_world.specs.Laws.{IsSound, IsAwake, IsStillThere, IsFreeAndWanted, is_at_rest, is_long_call, may_be_maker}
+use Rattle.cell_world.specs.Steps.{IsCellTable, TableSteps, Stands, Did, Steps}
+use Rattle.cell_world.proofs.Seen as seen
+use Rattle.cell_world.proofs.Legals as legals
+use Rattle.cell_world.proofs.Legals.{each_has, never_pending, in_list, Standing_well}
+use Rattle.cell_world.proofs.Rows.{said, open_at, is_join, content_then, AllowedAt, Refuses, Reason, Judged, Room, TaskThen, Row, row}
+use Rattle.cell_world.proofs.Turns.{Here, TaskFits}
+
+-- ---- Answers
+
+-- what a call is decided on after this
+said_so : (x : Place) (n : Next) → decided_after (answer_by n) (verdict (position_after x n)) ≡ said n
+said_so x (next.Do y) = refl
+said_so x (next.Ready g) = refl
+said_so x (next.End «end».Got) = refl
+said_so x (next.End «end».Granted) = refl
+said_so x (next.End «end».Pending) = refl
+said_so x (next.End «end».NotFree) = refl
+said_so x (next.End «end».GivenBack) = refl
+said_so x (next.End («end».Refused r)) = refl
+
+possible_by : (n : Next) → is_possible (answer_by n) ≡ true
+possible_by (next.Do y) = refl
+possible_by (next.Ready g) = refl
+possible_by (next.End «end».Got) = refl
+possible_by (next.End «end».Granted) = refl
+possible_by (next.End «end».Pending) = refl
+possible_by (next.End «end».NotFree) = refl
+possible_by (next.End «end».GivenBack) = refl
+possible_by (next.End («end».Refused r)) = refl
+
+-- what is answered, and doesn't go on, was decided
+said_then : (n : Next) (b : Answer) → is_stepped b ≡ false → answer_by n ≡ b → said n ≡ Some b
+said_then (next.Do y) b h e = let never : is_stepped answer.Stepped ≡ false = ap is_stepped e ∙ h in absurd (cc)
+said_then (next.Ready g) b h e = ap Some e
+said_then (next.End f) b h e = ap Some e
+
+polls_end : (x : Place) (f : Found) → is_polling x ≡ true → is_stepped (answer_by (next_of x f)) ≡ false → may_end kind.FirstPoll (answer_by (next_of x f)) ≡ true
+polls_end (Claim k told) (found.Full u) h e = refl
+polls_end (Claim k told) found.Empty h e = absurd (cc e)
+polls_end (Claim k told) _ h e = absurd (cc e)
+polls_end (ClaimListed k) found.Empty h e = absurd (cc e)
+polls_end (ClaimListed k) (found.Full u) h e = absurd (cc e)
+polls_end (ClaimListed k) _ h e = absurd (cc e)
+polls_end (JoinActive k told) found.Done h e = absurd (cc e)
+polls_end (JoinActive k true) _ h e = absurd (cc e)
+polls_end (JoinActive k false) _ h e = refl
+polls_end (AskActive k) found.Yes h e = absurd (cc e)
+polls_end (AskActive k) _ h e = refl
+polls_end (LeaveToMake k) f h e = absurd (cc e)
+polls_end (Make k) (found.Made u) h e = absurd (cc e)
+polls_end (Make k) found.Failed h e = absurd (cc e)
+polls_end (Make k) _ h e = refl
+polls_end (Fill v) f h e = absurd (cc e)
+polls_end (NotifyActive v) f h e = absurd (cc e)
+polls_end (NotifyPassive v) f h e = refl
+polls_end Fail f h e = absurd (cc e)
+polls_end FailNotify f h e = refl
+polls_end (LeaveFull k v) f h e = refl
+polls_end (RefuseActive k) f h e = refl
+polls_end (Look told) (found.Full u) h e = refl
+polls_end (Look told) _ h e = absurd (cc e)
+polls_end (JoinPassive told) found.Done h e = absurd (cc e)
+polls_end (JoinPassive true) _ h e = absurd (cc e)
+polls_end (JoinPassive false) _ h e = refl
+polls_end LookListed (found.Full u) h e = absurd (cc e)
+polls_end LookListed _ h e = absurd (cc e)
+polls_end AskPassive found.Yes h e = absurd (cc e)
+polls_end AskPassive _ h e = refl
+polls_end (LeavePassive v) f h e = refl
+polls_end RefusePassive f h e = refl
+polls_end _ f h e = absurd (cc h)
+
+later_ends : (a : Answer) → may_end kind.FirstPoll a ≡ true → may_end kind.LaterPoll a ≡ true
+later_ends answer.Pending h = refl
+later_ends (answer.Ready g) h = refl
+later_ends (answer.Refused n) h = refl
+later_ends _ h = absurd (cc)
+
+tries_end : (x : Place) (f : Found) → is_trying x ≡ true → is_stepped (answer_by (next_of x f)) ≡ false → may_end kind.Try (answer_by (next_of x f)) ≡ true
+tries_end (Try v) found.Empty h e = absurd (cc e)
+tries_end (Try v) _ h e = refl
+tries_end (TryFill v) f h e = absurd (cc e)
+tries_end (TryNotifyActive v) f h e = absurd (cc e)
+tries_end (TryNotifyPassive v) f h e = refl
+tries_end _ f h e = absurd (cc h)
+
+cancels_end : (x : Place) (f : Found) → is_cancelling x ≡ true → is_stepped (answer_by (next_of x f)) ≡ false → may_end kind.Drop (answer_by (next_of x f)) ≡ true
+cancels_end CancelMake f h e = absurd (cc e)
+cancels_end CancelNotify f h e = refl
+cancels_end (CancelLeave list) f h e = refl
+cancels_end Abandon f h e = refl
+cancels_end _ f h e = absurd (cc h)
+
+abandons_cancel : (x : Place) → is_abandoning x ≡ true → is_cancelling x ≡ true
+abandons_cancel Abandon h = refl
+abandons_cancel _ h = absurd (cc h)
+
+ends_by : (k : Kind) (r : Rest) (x : Place) (f : Found) → runs k r x ≡ true → is_stepped (answer_by (next_of x f)) ≡ false → may_end k (answer_by (next_of x f)) ≡ true
+ends_by kind.FirstPoll rest.Idle x f h e = polls_end x f h e
+ends_by kind.FirstPoll rest.Finished x f h e = polls_end x f h e
+ends_by kind.LaterPoll rest.Pending x f h e = later_ends (answer_by (next_of x f)) (polls_end x f h e)
+ends_by kind.Try rest.Idle x f h e = tries_end x f h e
+ends_by kind.Try rest.Finished x f h e = tries_end x f h e
+ends_by kind.Drop rest.Pending x f h e = cancels_end x f h e
+ends_by kind.Drop rest.Finished x f h e = cancels_end x f (abandons_cancel x h) e
+ends_by _ _ x f h e = absurd (cc h)
+
+-- ---- What was decided, and what is decided now
+
+module _ (i : Inputs) (p : ℕ) (c : Content) (x : Place) (f : Found) where
+  parted : (v o : Option Answer) → Judged i p c x f v o → is_some v ≡ true → gives_something_back (deed_of (action_of x) f) ≡ true
+  parted (Some b) o j h = j.1
+  parted None o j h = absurd (cc)
+
+  kept_on : (v o : Option Answer) (b : Answer) → Judged i p c x f v o → v ≡ Some b → o ≡ Some b
+  kept_on (Some d) o b j e = j.0 ∙ e
+  kept_on None o b j e = absurd (none_some e)
+
+  reasoned : (v o : Option Answer) (b : Answer) → Judged i p c x f v o → ((d : Answer) → v ≡ Some d → d ≡ answer.GivenBack) → o ≡ Some b → (b ≡ answer.GivenBack) ⊎ Reason i p c x f b
+  reasoned (Some d) o b j late e = inl (some_eq (sym e ∙ j.0) ∙ late d refl)
+  reasoned None None b j late e = absurd (none_some e)
+  reasoned None (Some d) b j late e = let P : Answer → Type 0 = Reason i p c x f in inr (subst P (some_eq e) j)
+
+  pended : (v o : Option Answer) → Judged i p c x f v o → (v ≡ Some answer.Pending → ⊥) → o ≡ Some answer.Pending → Reason i p c x f answer.Pending
+  pended (Some d) o j late e = absurd (late (sym j.0 ∙ e))
+  pended None None j late e = absurd (none_some e)
+  pended None (Some d) j late e = let P : Answer → Type 0 = Reason i p c x f in subst P (some_eq e) j
+
+  overs : (r : Refusal) → 6 ≡ number_of r → Refuses i p c x f r → ⊥
+  overs refusal.Memory e y = omega arith
+  overs _ e y = y
+
+  not_over : (v o : Option Answer) → Judged i p c x f v o → (v ≡ Some (refused refusal.Finished) → ⊥) → o ≡ Some (refused refusal.Finished) → ⊥
+  not_over (Some d) o j late e = late (sym j.0 ∙ e)
+  not_over None None j late e = none_some e
+  not_over None (Some d) j late e = let P : Answer → Type 0 = Reason i p c x f in let why = subst P (some_eq e) j in overs why.0 why.1 why.2
+
+refused_six : (n : ℕ) → answer.Refused n ≡ refused refusal.Finished → n ≡ 6
+refused_six n e = cc
+
+never_over : (x : Place) → verdict_of x ≡ Some (refused refusal.Finished) → ⊥
+never_over (RefuseActive k) e = let six : Path ℕ 1 6 = refused_six 1 (some_eq e) in absurd (omega (arith, six))
+never_over RefusePassive e = let six : Path ℕ 1 6 = refused_six 1 (some_eq e) in absurd (omega (arith, six))
+never_over (LeaveFull k v) e = cc e
+never_over _ e = cc
+
+join_unlisted : (x : Place) → is_join x ≡ true → (in_active (At x) ≡ 0) × (in_passive_at (At x) ≡ 0)
+join_unlisted (JoinActive k told) h = (refl, refl)
+join_unlisted (JoinPassive told) h = (refl, refl)
+join_unlisted _ h = absurd (cc)
+
+room_found : (i : Inputs) (p : ℕ) (c : Content) (d : Deed Change ListName) (list : ListName) → Room i p c d → d ≡ does list joins → i.memory ≡ true
+room_found i p c d list h e = let P : Deed Change ListName → Type 0 = Room i p c in subst P e h
+
+-- a party that stands so has a future or a try
+open_out : (d : Option Answer) (s : Stage) → goes_with s Out ≡ true → is_open (stands_as d s) ≡ false
+open_out d (Outside rest.Idle) g = refl
+open_out d (Outside rest.Finished) g = refl
+open_out d (Outside rest.Pending) g = absurd (cc g)
+open_out d (Outside rest.Holding) g = absurd (cc g)
+open_out d (Inside w) g = absurd (cc g)
+open_out d Forgotten g = refl
+
+open_so : (s : Stage) (x : Position) → goes_with s x ≡ true → is_open (stands_as (verdict x) s) ≡ true → open_at x ≡ true
+open_so s Out g o = let never = open_out None s g in absurd (cc (never, o))
+open_so s (At y) g o = refl
+open_so s (ToMake k) g o = refl
+open_so s (WaitingToMake k) g o = refl
+open_so s (Making k) g o = refl
+open_so s ToWait g o = refl
+open_so s Waiting g o = refl
+
+not_dropped_by : (what : What) (before : Task) → is_drop what ≡ true → or_before (task_in what) before ≡ failed → before ≡ failed
+not_dropped_by (Begin call.Drop inputs) before h f = absurd (cc f)
+not_dropped_by _ before h f = absurd (cc h)
+
+asks_listed : (list : ListName) (y : Place) → action_of y ≡ act.Ask list → in_list list (At y) ≡ 1
+asks_listed Active (AskActive z) e = refl
+asks_listed Passive AskPassive e = refl
+asks_listed _ _ e = absurd (cc e)
+
+asks_task : (list : ListName) (y : Place) → action_of y ≡ act.Ask list → list_for (task_at (after y found.No)) ≡ Some list
+asks_task Active (AskActive z) e = legals.active_for z
+asks_task Passive AskPassive e = refl
+asks_task _ _ e = absurd (cc e)
+
+module _ (t u : Table OnceCell) (m : Move) (a : Answer) (w : Within) where
+  abbrev p : ℕ
+  p = m.party
+
+  abbrev xs : List Position
+  xs = t.machine.positions
+
+  abbrev x : Position
+  x = position_at xs p
+
+  abbrev s : Stage
+  s = stage_at t.stages p
+
+  abbrev old : World
+  old = view_of t
+
+  abbrev new : World
+  new = view_of u
+
+  abbrev i : Inputs
+  i = inputs_of m.what
+
+  abbrev c : Content
+  c = t.machine.content
+
+  -- a move that the machine carries out
+  pub record Acting : Type 0 where
+    pub inside : p < length t.stages
+    pub old_laws : IsCell t.machine
+    pub old_fits : IsCellTable t
+    pub new_laws : IsCell u.machine
+    pub new_fits : IsCellTable u
+    pub call : call_at knows s m.what ≡ Some w
+    pub first : polls_again s m.what ≡ false
+    pub from : Place
+    pub found : Found
+    pub here : Here s m.what w x from
+    pub starts : place_for m.what x ≡ Some from
+    pub runs : runs w.kind w.was from ≡ true
+    pub acts : Acts i p from found t.machine u.machine
+    pub answer : a ≡ answer_by (next_of from found)
+    pub stages : u.stages ≡ set t.stages p (stage_after rest.Finished w a)
+    pub opening : u.opening ≡ t.opening
+
+  module _ (k : Acting) where
+    abbrev from : Place
+    from = k.from
+
+    abbrev fnd : Found
+    fnd = k.found
+
+    abbrev to : Position
+    to = after from fnd
+
+    abbrev deed : Deed Change ListName
+    deed = deed_of (action_of from) fnd
+
+    r : Row i p c from fnd
+    r = row i p c t.machine.active t.machine.passive from fnd k.acts.finds
+
+    there : p < length xs
+    there = omega (arith, k.inside, k.old_fits.as_many)
+
+    pub lands_at : position_at u.machine.positions p ≡ to
+    lands_at = ap (λ ps. position_at ps p) k.acts.positions ∙ get_or-set_same xs p to Out there
+
+    pub stays : (q : ℕ) → q ≢ p → position_at u.machine.positions q ≡ position_at xs q
+    stays q apart = ap (λ ps. position_at ps q) k.acts.positions ∙ get_or-set_other xs p q to Out apart
+
+    pub stood : standing_of old p ≡ stands_as (verdict x) s
+    stood = seen.standing_seen t p
+
+    stage_new : stage_at u.stages p ≡ stage_after rest.Finished w a
+    stage_new = ap (λ ss. stage_at ss p) k.stages ∙ get_or-set_same t.stages p (stage_after rest.Finished w a) Forgotten k.inside
+
+    pub stands : standing_of new p ≡ stands_as (verdict to) (stage_after rest.Finished w a)
+    stands = seen.standing_seen u p ∙ (ap (λ y. stands_as (verdict y) (stage_at u.stages p)) lands_at ∙ ap (stands_as (verdict to)) stage_new)
+
+    pub others_stand : (q : ℕ) → q ≢ p → standing_of new q ≡ standing_of old q
+    others_stand q apart = seen.standing_seen u q ∙ (ap (λ y. stands_as (verdict y) (stage_at u.stages q)) (stays q apart)
+        ∙ (ap (stands_as (verdict (position_at xs q))) (ap (λ ss. stage_at ss q) k.stages ∙ get_or-set_other t.stages p q (stage_after rest.Finished w a) Forgotten apart) ∙ sym (seen.standing_seen t q)))
+
+    pub decides : decision a (standing_of new p) ≡ said (next_of from fnd)
+    decides = ap (decision a) stands ∙ (decision_seen rest.Finished w a (verdict to) ∙ (ap (λ b. decided_after b (verdict to)) k.answer ∙ said_so from (next_of from fnd)))
+
+    pub task_old : task_of old p ≡ task_at x
+    task_old = seen.task_seen t p
+
+    pub task_new : task_of new p ≡ task_at to
+    task_new = seen.task_seen u p ∙ ap task_at lands_at
+
+    pub task_now : task_then m.what (task_of old p) ≡ place_task from
+    task_now = ap (task_then m.what) task_old ∙ k.here.task
+
+    pub makes_seen : makes_at (At from) ≡ is_maker c p
+    makes_seen = ap (λ (z : Seat). z.makes) k.here.same ∙ k.old_laws.makers p
+
+    maker_of : makes_at (At from) ≡ true → c ≡ BeingMade p
+    maker_of h = contents.maker_is c p (sym makes_seen ∙ h)
+
+    fits_now : (b : Action) → action_of from ≡ b → TaskFits b m.what x
+    fits_now b e = let P : Action → Type 0 = λ b. TaskFits b m.what x in subst P e k.here.fits
+
+    not_asked : (list : ListName) → is_marked_at (is_party p) (list_in list old) ≡ false → list_after p asks (list_in list old) ≡ list_in list old
+    not_asked list e = rw e refl
+
+    its_list : (list : ListName) → list_for (task_at x) ≡ Some list → IsItsList old m list
+    its_list list h = ap list_for task_old ∙ h
+
+    allowed_so : (d : Deed Change ListName) → AllowedAt i p c d from → IsAllowed old m d
+    allowed_so nothing h = tt
+    allowed_so (changes begins) h = (h.0, ap makes task_now ∙ h.1)
+    allowed_so (changes (fills v)) h = (maker_of h.0, task_old ∙ fits_now (act.Fill v) h.1)
+    allowed_so (changes empties) h = (maker_of h.0, elim (fits_now act.Empty h.1) as (λ _. (is_drop m.what ≡ true) ⊎ (task_of old p ≡ failed)) [ inl d ↦ inl d | inr e ↦ inr (task_old ∙ e) ])
+    allowed_so (does list joins) h = its_list list (fits_now (act.Join list) h)
+    allowed_so (does list asks) h = its_list list (fits_now (act.Ask list) h)
+    allowed_so (does list leaves) h = its_list list (fits_now (act.Leave list) h)
+    allowed_so (does list (notifies n)) h = h
+    allowed_so (does list (notifies_additionally n)) h = let fit = fits_now (act.NotifyAll list) h.1 in (fit.0, h.0, k.old_laws.values p fit.0 fit.2, task_old ∙ fit.1)
+
+    decided_there : is_decided (standing_of old p) || is_giving_back m.what ≡ is_some (verdict_of from)
+    decided_there = ap (λ z. is_decided z || is_giving_back m.what) stood ∙ k.here.decides
+
+    one_change : ChangesOneThing old m new
+    one_change = record {
+      deed = deed;
+      allowed = allowed_so deed r.allowed;
+      cell = k.acts.content;
+      active = k.acts.active;
+      passive = k.acts.passive;
+      others = others_stand;
+      parties = length-standings (λ q. verdict (position_at u.machine.positions q)) u.stages ∙ (ap length k.stages ∙ (length-set t.stages p (stage_after rest.Finished w a) ∙ sym (length-standings (λ q. verdict (position_at xs q)) t.stages)));
+      found_memory = λ list e. room_found i p c deed list r.room e;
+      parting = λ h. parted i p c from fnd (verdict_of from) (said (next_of from fnd)) r.judged (sym decided_there ∙ h);
+      giving_up = λ h. ap (λ b. b || is_maker c p) decided_there ∙ (ap (λ b. is_some (verdict_of from) || b) (sym makes_seen) ∙ r.held_on h);
+    }
+
+    goes_new : goes_with (stage_after rest.Finished w a) to ≡ true
+    goes_new = ap (λ b. goes_with (stage_after rest.Finished w b) to) k.answer ∙ lands w from fnd k.runs
+
+    open_now : is_open (standing_of new p) ≡ true → open_at to ≡ true
+    open_now o = open_so (stage_after rest.Finished w a) to goes_new (ap is_open (sym stands) ∙ o)
+
+    cell_kept : (y : Maker) → from ≡ Make y → new.cell ≡ old.cell
+    cell_kept y e = k.acts.content ∙ ap (λ z. content_then i p c z fnd) e
+
+    knows_task : KnowsTask old m a new
+    knows_task = record {
+      begun = λ b e h o. elim (r.task (open_now o)) as (λ _. task_of new p ≡ b) [
+        | inl same ↦ task_new ∙ (same ∙ (sym k.here.task ∙ ap (λ z. or_before z (task_at x)) e))
+        | inr gave ↦ absurd (k.here.making b e gave.0.0 gave.0.1)
+      ];
+      going = λ e h o. (
+          let before : place_task from ≡ task_of old p = sym k.here.task ∙ (ap (λ z. or_before z (task_at x)) e ∙ sym task_old) in
+          elim (r.task (open_now o)) as (λ _. (task_of new p ≡ task_of old p) ⊎ ((old.cell ≡ BeingMade p) × (new.cell ≡ old.cell) × (task_of new p ≡ given (task_of old p) i.made))) [
+            | inl same ↦ inl (task_new ∙ (same ∙ before))
+            | inr gave ↦ inr (maker_of (ap (λ z. makes_at (At z)) gave.0.1), cell_kept gave.0.0 gave.0.1, task_new ∙ (gave.1 ∙ ap (λ z. given z i.made) before))
+          ]
+          );
+      others = λ q apart. seen.task_seen u q ∙ (ap task_at (stays q apart) ∙ sym (seen.task_seen t q));
+    }
+
+    -- what is decided now, and was not before, has its reason, or is given back
+    reason : (b : Answer) → DecidesOn old m a new b → (b ≡ answer.GivenBack) ⊎ Reason i p c from fnd b
+    reason b d = reasoned i p c from fnd (verdict_of from) (said (next_of from fnd)) b r.judged (k.here.undecided (sym (ap is_decided stood) ∙ d.0)) (sym decides ∙ d.1)
+
+    fail_fits : from ≡ Fail → fnd ≡ found.Done → (old.cell ≡ BeingMade p) × (new.cell ≡ Empty) × (task_of old p ≡ failed)
+    fail_fits e d = (
+      maker_of (ap (λ z. makes_at (At z)) e),
+      k.acts.content ∙ (ap (λ z. content_then i p c z fnd) e ∙ ap (content_then i p c Fail) d),
+      (elim (fits_now act.Empty (ap action_of e)) as (λ _. task_of old p ≡ failed) [ inl drop ↦ task_old ∙ not_dropped_by m.what (task_at x) drop (k.here.task ∙ ap place_task e) | inr f ↦ task_old ∙ f ]),
+    )
+
+    carried : (g : Got) → Reason i p c from fnd (answer.Ready g) → Carried g old m new
+    carried (got.Value v) y = (k.acts.content ∙ y.0, λ own e. y.1 own (sym task_now ∙ e))
+    carried (got.Taken own) y = (y.0, task_now ∙ y.1)
+    carried got.Failed y = fail_fits y.0 y.1
+    carried got.Plain y = absurd y
+    carried (got.Leader b) y = absurd y
+
+    carries : Carries old m a new
+    carries = record {
+      ready = λ g d. elim (reason (answer.Ready g) d) as (λ _. Carried g old m new) [ inl e ↦ absurd (cc) | inr y ↦ carried g y ];
+      granted = λ g d. elim (reason (answer.Granted g) d) as (λ _. IsGranted g old m new) [ inl e ↦ absurd (cc) | inr y ↦ record { plain = y.0; empty = y.1; begun = k.acts.content ∙ y.2; value = (y.3.0, k.here.tries y.3.0 y.3.1) } ];
+      filled = λ v making full. elim (r.filled v making (sym k.acts.content ∙ full)) as (λ _. (decision a (standing_of new p) ≡ Some (answer.Ready (got.Value v))) ⊎ (decision a (standing_of new p) ≡ Some (answer.Granted got.Plain))) [ inl e ↦ inl (decides ∙ e) | inr e ↦ inr (decides ∙ e) ];
+      emptied = λ making empty. elim (r.emptied making (sym k.acts.content ∙ empty)) as (λ _. (is_drop m.what ≡ true) ⊎ (decision a (standing_of new p) ≡ Some (answer.Ready got.Failed))) [ inl e ↦ inl (k.here.drop e) | inr e ↦ inr (decides ∙ e) ];
+    }
+
+    pub own_active : entries_of p t.machine.active ≡ in_active (At from)
+    own_active = k.old_laws.active_owners p ∙ ap (λ (z : Seat). z.active) (sym k.here.same)
+
+    pub own_passive : entries_of p t.machine.passive ≡ in_passive_at (At from)
+    own_passive = k.old_laws.passive_owners p ∙ ap (λ (z : Seat). z.passive) (sym k.here.same)
+
+    own_entries : (list : ListName) → entries_of p (list_in list old) ≡ in_list list (At from)
+    own_entries Active = own_active
+    own_entries Passive = own_passive
+
+    list_new : (list : ListName) → action_of from ≡ act.Ask list → fnd ≡ found.No → (list_in list new ≡ list_after p asks (list_in list old)) × (is_marked_at (is_party p) (list_in list old) ≡ false)
+    list_new Active e f = (
+      k.acts.active ∙ (ap (λ b. active_after p (deed_of b fnd) t.machine.active) e ∙ ap (λ z. active_after p (deed_of (act.Ask Active) z) t.machine.active) f),
+      (let P : Action → Found → Type 0 = λ b z. Finds i p b z c t.machine.active t.machine.passive in let Q : Action → Type 0 = λ b. P b fnd in subst (P (act.Ask Active)) f (subst Q e k.acts.finds)),
+    )
+    list_new Passive e f = (
+      k.acts.passive ∙ (ap (λ b. passive_after p (deed_of b fnd) t.machine.passive) e ∙ ap (λ z. passive_after p (deed_of (act.Ask Passive) z) t.machine.passive) f),
+      (let P : Action → Found → Type 0 = λ b z. Finds i p b z c t.machine.active t.machine.passive in let Q : Action → Type 0 = λ b. P b fnd in subst (P (act.Ask Passive)) f (subst Q e k.acts.finds)),
+    )
+
+    waits_in : (list : ListName) → action_of from ≡ act.Ask list → fnd ≡ found.No → WaitsInList m new
+    waits_in list e f =
+        let l = list_new list e f in
+        let kept : list_in list new ≡ list_in list old = l.0 ∙ not_asked list l.1 in
+        let one : entries_of p (list_in list old) ≡ 1 = own_entries list ∙ asks_listed list from e in
+        let P : List (Entry ℕ) → Type 0 = λ es. mark_at (is_party p) es ≡ Some Waits_unmarked in
+        record {
+          list = list;
+          its = ap list_for (task_new ∙ ap (λ z. task_at (after from z)) f) ∙ asks_task list from e;
+          waits = subst P (sym kept) (waits_at p (list_in list old) one l.1);
+        }
+
+    maker_waits : from ≡ Make Closure → fnd ≡ found.NotYet → i.made ≡ made.Pending → IsPendingMaker m new
+    maker_waits e f h = record {
+      maker = k.acts.content ∙ (ap (λ z. content_then i p c z fnd) e ∙ maker_of (ap (λ z. makes_at (At z)) e));
+      task = task_new ∙ (ap (λ z. task_at (after z fnd)) e ∙ ap (λ z. task_at (after (Make Closure) z)) f);
+      input = h;
+    }
+
+    waits : Waits m a new
+    waits = record {
+      waiting = λ e. elim (pended i p c from fnd (verdict_of from) (said (next_of from fnd)) r.judged (never_pending from) (said_then (next_of from fnd) answer.Pending refl (sym k.answer ∙ e))) as (λ _. IsPendingMaker m new ⊎ WaitsInList m new) [
+        | inl y ↦ inl (maker_waits y.0 y.1 y.2)
+        | inr y ↦ inr (waits_in y.0 y.1 y.2)
+      ];
+      not_before = λ v e. (legals.well u k.new_laws k.new_fits).never_pending p v e;
+    }
+
+    -- nothing was done: the lists are as before
+    nothing_listed : deed ≡ nothing → (new.cell ≡ old.cell) × (new.active ≡ old.active) × (new.passive ≡ old.passive)
+    nothing_listed e = (
+      k.acts.content ∙ ap (λ (d : Deed Change ListName). content_after p d c) e,
+      k.acts.active ∙ ap (λ (d : Deed Change ListName). active_after p d t.machine.active) e,
+      k.acts.passive ∙ ap (λ (d : Deed Change ListName). passive_after p d t.machine.passive) e,
+    )
+
+    unlisted : is_join from ≡ true → (list : ListName) → entries_of p (list_in list old) ≡ 0
+    unlisted h Active = own_active ∙ (join_unlisted from h).0
+    unlisted h Passive = own_passive ∙ (join_unlisted from h).1
+
+    cause : (d : Refusal) → Refuses i p c from fnd d → IsCause old m new d
+    cause refusal.Memory y = let n = nothing_listed y.2 in record { input = y.0; unlisted = unlisted y.1; cell = n.0; active = n.1; passive = n.2 }
+    cause refusal.Finished y = absurd y
+    cause _ y = absurd y
+
+    was_inside : (d : Refusal) → 1 ≡ number_of d → Refuses i p c from fnd d → IsUndecided (standing_of old p)
+    was_inside refusal.Memory e y = let j = k.here.joins y.1 in (j.0, stood ∙ j.1)
+    was_inside _ e y = absurd y
+
+    refused_for_cause : IsRefusedForCause old m a new
+    refused_for_cause = record {
+      cause = λ n d. elim (reason (answer.Refused n) d) as (λ _. (b : Refusal) × (n ≡ number_of b) × IsCause old m new b) [ inl e ↦ absurd (cc) | inr y ↦ (y.0, y.1, cause y.0 y.2) ];
+      memory = λ d. elim (reason (refused refusal.Memory) d) as (λ _. IsUndecided (standing_of old p)) [ inl e ↦ absurd (cc) | inr y ↦ was_inside y.0 y.1 y.2 ];
+      after_ready = (
+        (λ e. absurd (not_over i p c from fnd (verdict_of from) (said (next_of from fnd)) r.judged (never_over from) (said_then (next_of from fnd) (refused refusal.Finished) refl (sym k.answer ∙ e)))),
+        (λ e. let never : polls_again s m.what ≡ true = sym (again_seen (verdict x) s m.what) ∙ (ap (λ z. is_poll_after_ready z m.what) (sym stood) ∙ e) in absurd (cc (k.first, never))),
+      );
+    }
+
+    cleared : is_refusal a ≡ true → (in_active to ≡ 0) × (in_passive_at to ≡ 0) × (makes_at to ≡ false)
+    cleared h = r.clear (ap is_refusal (sym k.answer) ∙ h)
+
+    refused_list : is_refusal a ≡ true → (list : ListName) → entries_of p (list_in list new) ≡ 0
+    refused_list h Active = k.new_laws.active_owners p ∙ (ap in_active lands_at ∙ (cleared h).0)
+    refused_list h Passive = k.new_laws.passive_owners p ∙ (ap in_passive_at lands_at ∙ (cleared h).1)
+
+    leaves_clear : LeavesClear m a new
+    leaves_clear = record {
+      each = each_has u k.new_laws k.new_fits;
+      refused = refused_list;
+      refused_maker = λ h. sym (k.new_laws.makers p) ∙ (ap makes_at lands_at ∙ (cleared h).2);
+    }
+
+    called : call_of old m ≡ Some w
+    called = ap (λ z. call_in knows z m.what) stood ∙ (call_seen knows (verdict x) s m.what ∙ k.call)
+
+    pub is_possible_now : is_possible a ≡ true
+    is_possible_now = ap is_possible k.answer ∙ possible_by (next_of from fnd)
+
+    may_end_so : is_stepped a ≡ false → may_end w.kind a ≡ true
+    may_end_so h = ap (may_end w.kind) k.answer ∙ ends_by w.kind w.was from fnd k.runs (sym (ap is_stepped k.answer) ∙ h)
+
+    ends_properly : EndsProperly old m a new
+    ends_properly = record {
+      stands = λ v e. (let P : Within → Type 0 = λ v. StandsAfter rest.Finished v a (standing_of new p) in subst P (some_eq (sym called ∙ e)) (rw stands (stands_seen rest.Finished w a (verdict to) is_possible_now may_end_so)));
+      as_decided = λ v b e h. decides ∙ kept_on i p c from fnd (verdict_of from) (said (next_of from fnd)) b r.judged (k.here.kept v b (sym stood ∙ e));
+    }
+
+    possible_so : IsPossible old m a new
+    possible_so = record {
+      exactly = ((λ e. let never : is_possible answer.NotPossible ≡ true = ap is_possible (sym e) ∙ is_possible_now in absurd (cc (never))), (λ e. absurd (none_some (sym e ∙ called))));
+      unchanged = λ e. (let never : is_possible answer.NotPossible ≡ true = ap is_possible (sym e) ∙ is_possible_now in absurd (cc (never)));
+    }
+
+    pub legal : Legal old m a new
+    legal = record {
+      possible = possible_so;
+      one_change = one_change;
+      knows_task = knows_task;
+      carries = carries;
+      waits = waits;
+      refused_for_cause = refused_for_cause;
+      leaves_clear = leaves_clear;
+      ends_properly = ends_properly;
+    }

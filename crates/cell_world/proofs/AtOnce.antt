@@ -1,0 +1,316 @@
+-- What the first step of a call decides at once.
+use Rattle.std.proofs.Common.{◌≡◌, ◌≢◌, ℕ, zero, suc, ◌+◌, ◌<◌, ◌≤◌, ◌||◌, ◌&&◌, ◌==◌, ◌↔◌, ◌⊎◌, inl, inr, if◌then◌else◌, Bool, true, false, List, [], ◌∷◌, map, length, get_or, Option, Some, None, is_some, refl, arith, ap, sym, ◌∙◌, subst, get_or-set_same, get_or-set_other, length-set}
+use Rattle.std.proofs.Math.ListN.{set}
+use Rattle.std.specs.List.{list_all}
+use Rattle.std.proofs.lemmas.Bool.Decides.{nat_tests}
+use Rattle.lock_event.specs.declared.event.Entry.{Entry}
+use Rattle.lock_event.specs.declared.event.Mark.TheVariants.{Waiting as Waits_unmarked}
+use Rattle.lock_event.specs.Lists.{is_marked_at, mark_at, marked_count, without, IsMarkedFirst}
+use Rattle.lock_queue.specs.Parties.{is_party, entries_of}
+use Rattle.lock_queue.proofs.Told.{waits_at}
+use Rattle.lock_world.specs.declared.moves.Answer.{Answer}
+use Rattle.lock_world.specs.declared.moves.Answer.TheVariants as answer
+use Rattle.lock_world.specs.declared.moves.Call.{Call}
+use Rattle.lock_world.specs.declared.moves.Call.TheVariants as call
+use Rattle.lock_world.specs.declared.moves.Got.{Got}
+use Rattle.lock_world.specs.declared.moves.Got.TheVariants as got
+use Rattle.lock_world.specs.declared.moves.Inputs.{Inputs}
+use Rattle.lock_world.specs.declared.moves.Made.{Made}
+use Rattle.lock_world.specs.declared.moves.Made.TheVariants as made
+use Rattle.lock_world.specs.declared.moves.Move.{Move}
+use Rattle.lock_world.specs.declared.moves.What.{What}
+use Rattle.lock_world.specs.declared.moves.What.TheVariants.{Begin, Go}
+use Rattle.lock_world.specs.declared.refusal.Refusal.{Refusal}
+use Rattle.lock_world.specs.declared.refusal.Refusal.TheVariants as refusal
+use Rattle.lock_world.specs.declared.standing.Kind.{Kind}
+use Rattle.lock_world.specs.declared.standing.Kind.TheVariants as kind
+use Rattle.lock_world.specs.declared.standing.Rest.{Rest}
+use Rattle.lock_world.specs.declared.standing.Rest.TheVariants as rest
+use Rattle.lock_world.specs.declared.standing.Stage.{Stage}
+use Rattle.lock_world.specs.declared.standing.Stage.TheVariants.{Outside, Inside, Forgotten}
+use Rattle.lock_world.specs.declared.standing.Within.{Within}
+use Rattle.lock_world.specs.Standings.{Standing, outside, inside, forgotten, inputs_of, call_in, is_outside, is_outside_stage, is_possible, is_stepped, is_decided, may_end, decision, refused, Decides, IsUndecided, StandsAfter}
+use Rattle.lock_world.specs.Frame.{is_drop, is_giving_back, is_poll_after_ready, is_refusal}
+use Rattle.lock_world.specs.Refusals.{number_of}
+use Rattle.lock_world.specs.Steps.{Deed, nothing, changes, does, joins, asks, leaves, notifies, notifies_additionally, list_after}
+use Rattle.lock_world.proofs.Equations.{some_eq, none_some, some_none}
+use Rattle.lock_table.specs.Stages.{stage_at, stands_as, call_at, polls_again, stage_after}
+use Rattle.lock_table.specs.Tables.{Table}
+use Rattle.lock_table.specs.Ends.{answer_of}
+use Rattle.lock_table.specs.declared.end.End.TheVariants as «end»
+use Rattle.lock_table.proofs.Calls.{call_seen, again_seen, stands_seen, decided_after, decision_seen}
+use Rattle.lock_table.proofs.Views.{length-standings, standings_at, rest_seen, outside_at}
+use Rattle.cell_machine.specs.declared.program.Action.{Action}
+use Rattle.cell_machine.specs.declared.program.Action.TheVariants as act
+use Rattle.cell_machine.specs.declared.program.Found.{Found}
+use Rattle.cell_machine.specs.declared.program.Found.TheVariants as found
+use Rattle.cell_machine.specs.declared.program.ListName.{ListName}
+use Rattle.cell_machine.specs.declared.program.ListName.TheVariants.{Active, Passive}
+use Rattle.cell_machine.specs.declared.program.Maker.{Maker}
+use Rattle.cell_machine.specs.declared.program.Maker.TheVariants.{Closure, Given}
+use Rattle.cell_machine.specs.declared.program.Next.{Next}
+use Rattle.cell_machine.specs.declared.program.Next.TheVariants as next
+use Rattle.cell_machine.specs.declared.program.Place.{Place}
+use Rattle.cell_machine.specs.declared.program.Place.TheVariants.{Claim, ClaimListed, JoinActive, AskActive, LeaveToMake, Make, Fill, NotifyActive, NotifyPassive, Fail, FailNotify, LeaveFull, RefuseActive, Look, JoinPassive, LookListed, AskPassive, LeavePassive, RefusePassive, Try, TryFill, TryNotifyActive, TryNotifyPassive, CancelMake, CancelNotify, CancelLeave, Abandon}
+use Rattle.cell_machine.specs.declared.program.Position.{Position}
+use Rattle.cell_machine.specs.declared.program.Position.TheVariants.{Out, ToMake, WaitingToMake, Making, ToWait, Waiting, At}
+use Rattle.cell_machine.specs.declared.words.Content.{Content}
+use Rattle.cell_machine.specs.declared.words.Content.TheVariants.{Empty, BeingMade, Full}
+use Rattle.cell_machine.specs.Program.{place_for, action_of, next_of, position_after, got_of}
+use Rattle.cell_machine.specs.Seats.{Task, no_task, initializes, sets, waits_only, fills_with, failed, task_by, task_at, task_of as place_task, Seat, seat_of, seated, makes_at, in_active, in_passive_at, value_known, verdict, verdict_of, is_resting}
+use Rattle.cell_machine.specs.Deeds.{Change, begins, fills, empties, everyone, list_of, deed_of, content_after, active_after, passive_after, Finds, FindsContent, FindsMade, FindsJoin, FindsAsk}
+use Rattle.cell_machine.specs.Machine.{OnceCell, IsCell, IsAtRest, Acts, Moves as MovesOf, knows, goes_with, runs, is_begun, is_polling, is_trying, is_cancelling, is_abandoning, is_pending, is_out, is_maker, position_at, answer_by}
+use Rattle.cell_machine.proofs.Kept.{after}
+use Rattle.cell_machine.proofs.Turns.{Turn, turn, Fits, fits, lands, the}
+use Rattle.cell_machine.proofs.Contents as contents
+use Rattle.cell_world.specs.State.{World, is_empty, is_full, value_in, list_in, standing_of, task_of}
+use Rattle.cell_world.specs.View.{view_of}
+use Rattle.cell_world.specs.Tasks.{task_in, or_before, task_then, makes, list_for, given, is_open}
+use Rattle.cell_world.specs.Legal.{call_of, DecidesOn, IsPossible, gives_something_back, gives_up, IsItsList, IsAllowed, ChangesOneThing, KnowsTask, Carried, IsGranted, Carries, IsPendingMaker, WaitsInList, Waits, IsOutOfMemory, IsCause, IsRefusedForCause, HasByTask, HasNothing, HasItsOwn, LeavesClear, EndsProperly, Legal}
+use Rattle.cell_world.specs.AtOnce.{AnswersAtOnce, TriesAtOnce, MakesAtOnce, PollsMaker, DropsMaker, is_try, is_poll, would_make, is_first_making, waits_for, is_first_wait, got_by, first_answer, maker_answer}
+use Rattle.cell_world.specs.Laws.{IsSound, IsAwake, IsStillThere, IsFreeAndWanted, is_at_rest, is_long_call, may_be_maker}
+use Rattle.cell_world.specs.Steps.{IsCellTable, TableSteps, Stands, Did, Steps}
+use Rattle.cell_world.proofs.Seen as seen
+use Rattle.cell_world.proofs.Rows.{said, content_then}
+use Rattle.cell_world.proofs.Acting.{Acting}
+use Rattle.cell_world.proofs.Acting as acting
+
+-- ---- Where calls begin
+
+-- the place at which each call begins that decides at once
+pub record EntranceAt (s : Standing) (what : What) (x : Position) (from : Place) : Type 0 where
+  pub tries : is_try what ≡ true → (v : ℕ) × (from ≡ Try v)
+  pub making : (n : ℕ) (b : Bool) → is_first_making s what (task_at x) n b ≡ true → n ≡ in_active x → b ≡ makes_at x → (k : Maker) × (from ≡ Claim k false)
+  pub waiting : (n : ℕ) → is_first_wait s what (task_at x) n ≡ true → n ≡ in_passive_at x → from ≡ Look false
+  pub maker : is_poll what ≡ true → s ≡ outside rest.Pending → makes_at x ≡ true → (k : Maker) × (from ≡ Make k)
+  pub dropped : is_drop what ≡ true → makes_at x ≡ true → from ≡ CancelMake
+  pub in_active : is_poll what ≡ true → s ≡ outside rest.Pending → 0 < in_active x → (k : Maker) × (from ≡ AskActive k)
+  pub in_passive : is_poll what ≡ true → s ≡ outside rest.Pending → 0 < in_passive_at x → from ≡ AskPassive
+
+abbrev pub Entrance : Stage → What → Within → Position → Place → Type 0
+Entrance s what w x from = EntranceAt (stands_as (verdict x) s) what x from
+
+not_one : (n : ℕ) → (n == 0) ≡ true → n ≡ 1 → ⊥
+not_one n h e = grind (arith, nat_tests)
+
+split : (a b : Bool) → a && b ≡ true → (a ≡ true) × (b ≡ true)
+split true b h = (refl, h)
+split false b h = absurd (cc h)
+
+not_first : (k : Maker) (n : ℕ) (b : Bool) → would_make (task_by k) && ((n == 0) && (if b then false else true)) ≡ true → n ≡ 1 → ⊥
+not_first k n b h l = let two = split (would_make (task_by k)) ((n == 0) && (if b then false else true)) h in not_one n (split (n == 0) (if b then false else true) two.1).0 l
+
+not_first_maker : (k : Maker) (n : ℕ) (b : Bool) → would_make (task_by k) && ((n == 0) && (if b then false else true)) ≡ true → b ≡ true → ⊥
+not_first_maker k n b h d =
+    let two = split (would_make (task_by k)) ((n == 0) && (if b then false else true)) h in
+    let last : (if b then false else true) ≡ true = (split (n == 0) (if b then false else true) two.1).1 in
+    let P : Bool → Type 0 = λ z. (if z then false else true) ≡ true in
+    let never : false ≡ true = subst P d last in
+    cc never
+
+maker_waits : (k : Maker) (b : Bool) → waits_for (task_by k) && b ≡ true → ⊥
+maker_waits Closure b h = cc h
+maker_waits (Given v) b h = cc h
+
+first_wait_init : (r : Rest) (i : Inputs) (n : ℕ) → is_first_wait (outside r) (Begin call.Initialize i) no_task n ≡ true → ⊥
+first_wait_init rest.Idle i n h = cc h
+first_wait_init rest.Finished i n h = cc h
+first_wait_init rest.Pending i n h = cc h
+first_wait_init rest.Holding i n h = cc h
+
+first_wait_set : (v : ℕ) (r : Rest) (i : Inputs) (n : ℕ) → is_first_wait (outside r) (Begin (call.Set v) i) no_task n ≡ true → ⊥
+first_wait_set v rest.Idle i n h = cc h
+first_wait_set v rest.Finished i n h = cc h
+first_wait_set v rest.Pending i n h = cc h
+first_wait_set v rest.Holding i n h = cc h
+
+first_wait_try : (v : ℕ) (r : Rest) (i : Inputs) (n : ℕ) → is_first_wait (outside r) (Begin (call.TrySet v) i) no_task n ≡ true → ⊥
+first_wait_try v rest.Idle i n h = cc h
+first_wait_try v rest.Finished i n h = cc h
+first_wait_try v rest.Pending i n h = cc h
+first_wait_try v rest.Holding i n h = cc h
+
+first_making_wait : (r : Rest) (i : Inputs) (n : ℕ) (b : Bool) → is_first_making (outside r) (Begin call.Wait i) no_task n b ≡ true → ⊥
+first_making_wait rest.Idle i n b h = cc h
+first_making_wait rest.Finished i n b h = cc h
+first_making_wait rest.Pending i n b h = cc h
+first_making_wait rest.Holding i n b h = cc h
+
+first_making_try : (v : ℕ) (r : Rest) (i : Inputs) (n : ℕ) (b : Bool) → is_first_making (outside r) (Begin (call.TrySet v) i) no_task n b ≡ true → ⊥
+first_making_try v rest.Idle i n b h = cc h
+first_making_try v rest.Finished i n b h = cc h
+first_making_try v rest.Pending i n b h = cc h
+first_making_try v rest.Holding i n b h = cc h
+
+pub entrance : (s : Stage) (what : What) (w : Within) (x : Position) → goes_with s x ≡ true → call_at knows s what ≡ Some w → polls_again s what ≡ false → Turn Entrance s what w x
+entrance = turn Entrance (record {
+  initialize = λ r i g h. record { tries = λ h. absurd (cc h); making = λ n b h l d. (Closure, refl); waiting = λ n h l. absurd (first_wait_init r i n h); maker = λ h e d. absurd (cc h); dropped = λ h d. absurd (cc h); in_active = λ h e some. absurd (omega arith); in_passive = λ h e some. absurd (omega arith) };
+  set = λ v r i g h. record { tries = λ h. absurd (cc h); making = λ n b h l d. (Given v, refl); waiting = λ n h l. absurd (first_wait_set v r i n h); maker = λ h e d. absurd (cc h); dropped = λ h d. absurd (cc h); in_active = λ h e some. absurd (omega arith); in_passive = λ h e some. absurd (omega arith) };
+  wait = λ r i g h. record { tries = λ h. absurd (cc h); making = λ n b h l d. absurd (first_making_wait r i n b h); waiting = λ n h l. refl; maker = λ h e d. absurd (cc h); dropped = λ h d. absurd (cc h); in_active = λ h e some. absurd (omega arith); in_passive = λ h e some. absurd (omega arith) };
+  try = λ v r i g h. record { tries = λ h. (v, refl); making = λ n b h l d. absurd (first_making_try v r i n b h); waiting = λ n h l. absurd (first_wait_try v r i n h); maker = λ h e d. absurd (cc h); dropped = λ h d. absurd (cc h); in_active = λ h e some. absurd (omega arith); in_passive = λ h e some. absurd (omega arith) };
+  poll = λ k i. record { tries = λ h. absurd (cc h); making = λ n b h l d. (k, refl); waiting = λ n h l. absurd (maker_waits k (n == 0) h); maker = λ h e d. absurd (cc d); dropped = λ h d. absurd (cc h); in_active = λ h e some. absurd (omega arith); in_passive = λ h e some. absurd (omega arith) };
+  poll_listed = λ k i. record { tries = λ h. absurd (cc h); making = λ n b h l d. absurd (not_first k n b h l); waiting = λ n h l. absurd (maker_waits k (n == 0) h); maker = λ h e d. absurd (cc d); dropped = λ h d. absurd (cc h); in_active = λ h e some. (k, refl); in_passive = λ h e some. absurd (omega arith) };
+  poll_maker = λ k i. record { tries = λ h. absurd (cc h); making = λ n b h l d. absurd (not_first_maker k n b h d); waiting = λ n h l. absurd (maker_waits k (n == 0) h); maker = λ h e d. (k, refl); dropped = λ h d. absurd (cc h); in_active = λ h e some. absurd (omega arith); in_passive = λ h e some. absurd (omega arith) };
+  poll_wait = λ i. record { tries = λ h. absurd (cc h); making = λ n b h l d. absurd (cc h); waiting = λ n h l. refl; maker = λ h e d. absurd (cc d); dropped = λ h d. absurd (cc h); in_active = λ h e some. absurd (omega arith); in_passive = λ h e some. absurd (omega arith) };
+  poll_waiting = λ i. record { tries = λ h. absurd (cc h); making = λ n b h l d. absurd (cc h); waiting = λ n h l. absurd (not_one n h l); maker = λ h e d. absurd (cc d); dropped = λ h d. absurd (cc h); in_active = λ h e some. absurd (omega arith); in_passive = λ h e some. refl };
+  cancel = λ k i. record { tries = λ h. absurd (cc h); making = λ n b h l d. absurd (cc h); waiting = λ n h l. absurd (cc h); maker = λ h e d. absurd (cc h); dropped = λ h d. absurd (cc d); in_active = λ h e some. absurd (cc h); in_passive = λ h e some. absurd (omega arith) };
+  cancel_maker = λ k i. record { tries = λ h. absurd (cc h); making = λ n b h l d. absurd (cc h); waiting = λ n h l. absurd (cc h); maker = λ h e d. absurd (cc h); dropped = λ h d. refl; in_active = λ h e some. absurd (omega arith); in_passive = λ h e some. absurd (omega arith) };
+  cancel_wait = λ i. record { tries = λ h. absurd (cc h); making = λ n b h l d. absurd (cc h); waiting = λ n h l. absurd (cc h); maker = λ h e d. absurd (cc h); dropped = λ h d. absurd (cc d); in_active = λ h e some. absurd (omega arith); in_passive = λ h e some. absurd (cc h) };
+  abandon = λ k i. record { tries = λ h. absurd (cc h); making = λ n b h l d. absurd (cc h); waiting = λ n h l. absurd (cc h); maker = λ h e d. absurd (cc h); dropped = λ h d. absurd (cc d); in_active = λ h e some. absurd (omega arith); in_passive = λ h e some. absurd (omega arith) };
+  abandon_wait = λ i. record { tries = λ h. absurd (cc h); making = λ n b h l d. absurd (cc h); waiting = λ n h l. absurd (cc h); maker = λ h e d. absurd (cc h); dropped = λ h d. absurd (cc d); in_active = λ h e some. absurd (omega arith); in_passive = λ h e some. absurd (omega arith) };
+  drop_finished = λ i. record { tries = λ h. absurd (cc h); making = λ n b h l d. absurd (cc h); waiting = λ n h l. absurd (cc h); maker = λ h e d. absurd (cc h); dropped = λ h d. absurd (cc d); in_active = λ h e some. absurd (omega arith); in_passive = λ h e some. absurd (omega arith) };
+  go = λ w x i begun here. record { tries = λ h. absurd (cc h); making = λ n b h l d. absurd (cc h); waiting = λ n h l. absurd (cc h); maker = λ h e d. absurd (cc h); dropped = λ h d. absurd (cc h); in_active = λ h e some. absurd (cc h); in_passive = λ h e some. absurd (cc h) };
+})
+
+-- ---- What is found there
+
+found_empty : (f : Found) (c : Content) → FindsContent f c → is_empty c ≡ true → f ≡ found.Empty
+found_empty found.Empty c e h = refl
+found_empty found.BeingMade c e h = absurd (cc (ap is_empty e.1, h))
+found_empty (found.Full v) c e h = absurd (cc (ap is_empty e, h))
+found_empty _ c e h = absurd e
+
+module _ (p : ℕ) (c : Content) where
+  abbrev claimed : Found → Content
+  claimed f = content_after p (deed_of act.Claim f) c
+
+  claims : (f : Found) → FindsContent f c → is_maker c p ≡ false → is_maker (claimed f) p ≡ is_empty c
+  claims found.Empty e un = contents.is_its_maker p ∙ sym (ap is_empty e)
+  claims found.BeingMade e un = un ∙ sym (ap is_empty e.1)
+  claims (found.Full v) e un = un ∙ sym (ap is_empty e)
+  claims _ e un = absurd e
+
+  try_answer : (v : ℕ) (f : Found) → FindsContent f c → answer_by (next_of (Try v) f) ≡ (if is_empty c then answer.Stepped else answer.None)
+  try_answer v found.Empty e = rw e refl
+  try_answer v found.BeingMade e = rw e.1 refl
+  try_answer v (found.Full u) e = rw e refl
+  try_answer v _ e = absurd e
+
+  claim_answer : (k : Maker) (f : Found) → FindsContent f c → answer_by (next_of (Claim k false) f) ≡ first_answer (task_by k) c
+  claim_answer k found.Empty e = rw e refl
+  claim_answer k found.BeingMade e = rw e.1 refl
+  claim_answer Closure (found.Full u) e = rw e refl
+  claim_answer (Given v) (found.Full u) e = rw e refl
+  claim_answer k _ e = absurd e
+
+  look_answer : (f : Found) → FindsContent f c → answer_by (next_of (Look false) f) ≡ first_answer waits_only c
+  look_answer found.Empty e = rw e refl
+  look_answer found.BeingMade e = rw e.1 refl
+  look_answer (found.Full u) e = rw e refl
+  look_answer _ e = absurd e
+
+make_answer : (k : Maker) (m : Made) (f : Found) → FindsMade k m f → answer_by (next_of (Make k) f) ≡ maker_answer (task_by k) m
+make_answer (Given v) m f e = ap (λ f. answer_by (next_of (Make (Given v)) f)) e
+make_answer Closure made.Pending f e = ap (λ f. answer_by (next_of (Make Closure) f)) e
+make_answer Closure (made.Value v) f e = ap (λ f. answer_by (next_of (Make Closure) f)) e
+make_answer Closure made.Fail f e = ap (λ f. answer_by (next_of (Make Closure) f)) e
+
+make_task : (k : Maker) (m : Made) (f : Found) → FindsMade k m f → task_at (after (Make k) f) ≡ given (task_by k) m
+make_task (Given v) m f e = ap (λ f. task_at (after (Make (Given v)) f)) e
+make_task Closure made.Pending f e = ap (λ f. task_at (after (Make Closure) f)) e
+make_task Closure (made.Value v) f e = ap (λ f. task_at (after (Make Closure) f)) e
+make_task Closure made.Fail f e = ap (λ f. task_at (after (Make Closure) f)) e
+
+module _ (t u : Table OnceCell) (m : Move) (a : Answer) (w : Within) (k : Acting t u m a w) (door : Entrance (stage_at t.stages m.party) m.what w (position_at t.machine.positions m.party) k.from) where
+  abbrev p : ℕ
+  p = m.party
+
+  abbrev old : World
+  old = view_of t
+
+  abbrev new : World
+  new = view_of u
+
+  abbrev c : Content
+  c = t.machine.content
+
+  abbrev x : Position
+  x = position_at t.machine.positions p
+
+  abbrev i : Inputs
+  i = inputs_of m.what
+
+  -- what is so of the place at which a call begins is so of where it began
+  at : (y : Place) (P : Place → Type 0) → k.from ≡ y → P k.from → P y
+  at y P e h = subst P e h
+
+  finds_at : (y : Place) → k.from ≡ y → Finds i p (action_of y) k.found c t.machine.active t.machine.passive
+  finds_at y e = at y (λ z. Finds i p (action_of z) k.found c t.machine.active t.machine.passive) e k.acts.finds
+
+  answered : (y : Place) → k.from ≡ y → a ≡ answer_by (next_of y k.found)
+  answered y e = k.answer ∙ ap (λ z. answer_by (next_of z k.found)) e
+
+  content_at : (y : Place) → k.from ≡ y → new.cell ≡ content_then i p c y k.found
+  content_at y e = k.acts.content ∙ ap (λ z. content_then i p c z k.found) e
+
+  decided : (y : Place) → k.from ≡ y → decision a (standing_of new p) ≡ said (next_of y k.found)
+  decided y e = acting.decides t u m a w k ∙ ap (λ z. said (next_of z k.found)) e
+
+  task_at_place : (y : Place) → k.from ≡ y → task_then m.what (task_of old p) ≡ place_task y
+  task_at_place y e = acting.task_now t u m a w k ∙ ap place_task e
+
+  unmade : (y : Place) → k.from ≡ y → makes_at (At y) ≡ false → is_maker c p ≡ false
+  unmade y e h = sym (acting.makes_seen t u m a w k) ∙ (ap (λ z. makes_at (At z)) e ∙ h)
+
+  tried : is_try m.what ≡ true → TriesAtOnce old m a new
+  tried h = (
+      let v = (door.tries h).0 in
+      let e : k.from ≡ Try v = (door.tries h).1 in
+      record {
+        answered = answered (Try v) e ∙ try_answer p c v k.found (finds_at (Try v) e);
+        begins = ap (λ z. is_maker z p) (content_at (Try v) e) ∙ claims p c k.found (finds_at (Try v) e) (unmade (Try v) e refl);
+        granted = λ empty. decided (Try v) e ∙ ap (λ f. said (next_of (Try v) f)) (found_empty k.found c (finds_at (Try v) e) empty);
+      }
+      )
+
+  making : is_first_making (stands_as (verdict x) (stage_at t.stages p)) m.what (task_at x) (entries_of p t.machine.active) (is_maker c p) ≡ true → MakesAtOnce old m a new
+  making h = (
+      let d = door.making (entries_of p t.machine.active) (is_maker c p) h (k.old_laws.active_owners p) (sym (k.old_laws.makers p)) in
+      let y : Place = Claim d.0 false in
+      record {
+        answered = answered y d.1 ∙ (claim_answer p c d.0 k.found (finds_at y d.1) ∙ ap (λ z. first_answer z c) (sym (task_at_place y d.1)));
+        begins = ap (λ z. is_maker z p) (content_at y d.1) ∙ claims p c k.found (finds_at y d.1) (unmade y d.1 refl);
+      }
+      )
+
+  waiting : is_first_wait (stands_as (verdict x) (stage_at t.stages p)) m.what (task_at x) (entries_of p t.machine.passive) ≡ true → a ≡ first_answer waits_only c
+  waiting h =
+      let e = door.waiting (entries_of p t.machine.passive) h (k.old_laws.passive_owners p) in
+      answered (Look false) e ∙ look_answer p c k.found (finds_at (Look false) e)
+
+  polled_task : is_poll m.what ≡ true → task_in m.what ≡ None
+  polled_task h = by_what m.what h where
+    by_what : (what : What) → is_poll what ≡ true → task_in what ≡ None
+    by_what (Begin call.Poll j) h = refl
+    by_what _ h = absurd (cc h)
+
+  polled : is_poll m.what ≡ true → stands_as (verdict x) (stage_at t.stages p) ≡ outside rest.Pending → is_maker c p ≡ true → PollsMaker old m a new
+  polled h pending made = (
+      let d = door.maker h pending (k.old_laws.makers p ∙ made) in
+      let y : Place = Make d.0 in
+      let task : task_of old p ≡ task_by d.0 = sym (ap (λ z. or_before z (task_of old p)) (polled_task h)) ∙ task_at_place y d.1 in
+      record {
+        answered = answered y d.1 ∙ (make_answer d.0 i.made k.found (finds_at y d.1) ∙ ap (λ z. maker_answer z i.made) (sym task));
+        task = acting.task_new t u m a w k ∙ (ap (λ z. task_at (after z k.found)) d.1 ∙ (make_task d.0 i.made k.found (finds_at y d.1) ∙ ap (λ z. given z i.made) (sym task)));
+        cell = content_at y d.1;
+      }
+      )
+
+  emptied : (f : Found) → Finds i p act.Empty f c t.machine.active t.machine.passive → content_after p (deed_of act.Empty f) c ≡ Empty
+  emptied found.Done e = refl
+  emptied _ e = absurd e
+
+  dropped : is_drop m.what ≡ true → is_maker c p ≡ true → DropsMaker a new
+  dropped h made = (
+      let e = door.dropped h (k.old_laws.makers p ∙ made) in
+      record { empty = content_at CancelMake e ∙ emptied k.found (finds_at CancelMake e); goes_on = answered CancelMake e }
+      )
+
+  pub at_once : AnswersAtOnce old m a new
+  at_once = record {
+    tried = λ h possible. tried h;
+    making = λ h. making (ap (λ z. is_first_making z m.what (task_at x) (entries_of p t.machine.active) (is_maker c p)) (sym (acting.stood t u m a w k)) ∙ (ap (λ z. is_first_making (standing_of old p) m.what z (entries_of p t.machine.active) (is_maker c p)) (sym (acting.task_old t u m a w k)) ∙ h));
+    waiting = λ h. waiting (ap (λ z. is_first_wait z m.what (task_at x) (entries_of p t.machine.passive)) (sym (acting.stood t u m a w k)) ∙ (ap (λ z. is_first_wait (standing_of old p) m.what z (entries_of p t.machine.passive)) (sym (acting.task_old t u m a w k)) ∙ h));
+    maker = λ h pending made. polled h (sym (acting.stood t u m a w k) ∙ pending) made;
+    dropped = λ h possible made. dropped h made;
+  }

@@ -1,0 +1,203 @@
+-- A move that does nothing is a legal step: one that its party may not make, and a poll of a future that has been ready.
+use Rattle.std.proofs.Common.{◌≡◌, ◌≢◌, ℕ, zero, suc, ◌+◌, ◌<◌, ◌≤◌, ◌||◌, ◌&&◌, ◌==◌, ◌↔◌, ◌⊎◌, inl, inr, if◌then◌else◌, Bool, true, false, List, [], ◌∷◌, map, length, get_or, Option, Some, None, is_some, refl, arith, ap, sym, ◌∙◌, subst, get_or-set_same, get_or-set_other, length-set}
+use Rattle.std.proofs.Math.ListN.{set}
+use Rattle.std.specs.List.{list_all}
+use Rattle.std.proofs.lemmas.Bool.Decides.{nat_tests}
+use Rattle.lock_event.specs.declared.event.Entry.{Entry}
+use Rattle.lock_event.specs.declared.event.Mark.TheVariants.{Waiting as Waits_unmarked}
+use Rattle.lock_event.specs.Lists.{is_marked_at, mark_at, marked_count, without, IsMarkedFirst}
+use Rattle.lock_queue.specs.Parties.{is_party, entries_of}
+use Rattle.lock_queue.proofs.Told.{waits_at}
+use Rattle.lock_world.specs.declared.moves.Answer.{Answer}
+use Rattle.lock_world.specs.declared.moves.Answer.TheVariants as answer
+use Rattle.lock_world.specs.declared.moves.Call.{Call}
+use Rattle.lock_world.specs.declared.moves.Call.TheVariants as call
+use Rattle.lock_world.specs.declared.moves.Got.{Got}
+use Rattle.lock_world.specs.declared.moves.Got.TheVariants as got
+use Rattle.lock_world.specs.declared.moves.Inputs.{Inputs}
+use Rattle.lock_world.specs.declared.moves.Made.{Made}
+use Rattle.lock_world.specs.declared.moves.Made.TheVariants as made
+use Rattle.lock_world.specs.declared.moves.Move.{Move}
+use Rattle.lock_world.specs.declared.moves.What.{What}
+use Rattle.lock_world.specs.declared.moves.What.TheVariants.{Begin, Go}
+use Rattle.lock_world.specs.declared.refusal.Refusal.{Refusal}
+use Rattle.lock_world.specs.declared.refusal.Refusal.TheVariants as refusal
+use Rattle.lock_world.specs.declared.standing.Kind.{Kind}
+use Rattle.lock_world.specs.declared.standing.Kind.TheVariants as kind
+use Rattle.lock_world.specs.declared.standing.Rest.{Rest}
+use Rattle.lock_world.specs.declared.standing.Rest.TheVariants as rest
+use Rattle.lock_world.specs.declared.standing.Stage.{Stage}
+use Rattle.lock_world.specs.declared.standing.Stage.TheVariants.{Outside, Inside, Forgotten}
+use Rattle.lock_world.specs.declared.standing.Within.{Within}
+use Rattle.lock_world.specs.Standings.{Standing, outside, inside, forgotten, inputs_of, call_in, is_outside, is_outside_stage, is_possible, is_stepped, is_decided, may_end, decision, refused, Decides, IsUndecided, StandsAfter}
+use Rattle.lock_world.specs.Frame.{is_drop, is_giving_back, is_poll_after_ready, is_refusal}
+use Rattle.lock_world.specs.Refusals.{number_of}
+use Rattle.lock_world.specs.Steps.{Deed, nothing, changes, does, joins, asks, leaves, notifies, notifies_additionally, list_after}
+use Rattle.lock_world.proofs.Equations.{some_eq, none_some, some_none}
+use Rattle.lock_table.specs.Stages.{stage_at, stands_as, call_at, polls_again, stage_after}
+use Rattle.lock_table.specs.Tables.{Table}
+use Rattle.lock_table.specs.Ends.{answer_of}
+use Rattle.lock_table.specs.declared.end.End.TheVariants as «end»
+use Rattle.lock_table.proofs.Calls.{call_seen, again_seen, stands_seen, decided_after, decision_seen}
+use Rattle.lock_table.proofs.Views.{length-standings, standings_at, rest_seen, outside_at}
+use Rattle.cell_machine.specs.declared.program.Action.{Action}
+use Rattle.cell_machine.specs.declared.program.Action.TheVariants as act
+use Rattle.cell_machine.specs.declared.program.Found.{Found}
+use Rattle.cell_machine.specs.declared.program.Found.TheVariants as found
+use Rattle.cell_machine.specs.declared.program.ListName.{ListName}
+use Rattle.cell_machine.specs.declared.program.ListName.TheVariants.{Active, Passive}
+use Rattle.cell_machine.specs.declared.program.Maker.{Maker}
+use Rattle.cell_machine.specs.declared.program.Maker.TheVariants.{Closure, Given}
+use Rattle.cell_machine.specs.declared.program.Next.{Next}
+use Rattle.cell_machine.specs.declared.program.Next.TheVariants as next
+use Rattle.cell_machine.specs.declared.program.Place.{Place}
+use Rattle.cell_machine.specs.declared.program.Place.TheVariants.{Claim, ClaimListed, JoinActive, AskActive, LeaveToMake, Make, Fill, NotifyActive, NotifyPassive, Fail, FailNotify, LeaveFull, RefuseActive, Look, JoinPassive, LookListed, AskPassive, LeavePassive, RefusePassive, Try, TryFill, TryNotifyActive, TryNotifyPassive, CancelMake, CancelNotify, CancelLeave, Abandon}
+use Rattle.cell_machine.specs.declared.program.Position.{Position}
+use Rattle.cell_machine.specs.declared.program.Position.TheVariants.{Out, ToMake, WaitingToMake, Making, ToWait, Waiting, At}
+use Rattle.cell_machine.specs.declared.words.Content.{Content}
+use Rattle.cell_machine.specs.declared.words.Content.TheVariants.{Empty, BeingMade, Full}
+use Rattle.cell_machine.specs.Program.{place_for, action_of, next_of, position_after, got_of}
+use Rattle.cell_machine.specs.Seats.{Task, no_task, initializes, sets, waits_only, fills_with, failed, task_by, task_at, task_of as place_task, Seat, seat_of, seated, makes_at, in_active, in_passive_at, value_known, verdict, verdict_of, is_resting}
+use Rattle.cell_machine.specs.Deeds.{Change, begins, fills, empties, everyone, list_of, deed_of, content_after, active_after, passive_after, Finds, FindsContent, FindsMade, FindsJoin, FindsAsk}
+use Rattle.cell_machine.specs.Machine.{OnceCell, IsCell, IsAtRest, Acts, Moves as MovesOf, knows, goes_with, runs, is_begun, is_polling, is_trying, is_cancelling, is_abandoning, is_pending, is_out, is_maker, position_at, answer_by}
+use Rattle.cell_machine.proofs.Kept.{after}
+use Rattle.cell_machine.proofs.Turns.{Turn, turn, Fits, fits, lands, the}
+use Rattle.cell_machine.proofs.Contents as contents
+use Rattle.cell_world.specs.State.{World, is_empty, is_full, value_in, list_in, standing_of, task_of}
+use Rattle.cell_world.specs.View.{view_of}
+use Rattle.cell_world.specs.Tasks.{task_in, or_before, task_then, makes, list_for, given, is_open}
+use Rattle.cell_world.specs.Legal.{call_of, DecidesOn, IsPossible, gives_something_back, gives_up, IsItsList, IsAllowed, ChangesOneThing, KnowsTask, Carried, IsGranted, Carries, IsPendingMaker, WaitsInList, Waits, IsOutOfMemory, IsCause, IsRefusedForCause, HasByTask, HasNothing, HasItsOwn, LeavesClear, EndsProperly, Legal}
+use Rattle.cell_world.specs.AtOnce.{AnswersAtOnce, TriesAtOnce, MakesAtOnce, PollsMaker, DropsMaker, is_try, is_poll, would_make, is_first_making, waits_for, is_first_wait, got_by, first_answer, maker_answer}
+use Rattle.cell_world.specs.Laws.{IsSound, IsAwake, IsStillThere, IsFreeAndWanted, is_at_rest, is_long_call, may_be_maker}
+use Rattle.cell_world.specs.Steps.{IsCellTable, TableSteps, Stands, Did, Steps}
+use Rattle.cell_world.proofs.Seen as seen
+use Rattle.cell_world.proofs.Legals.{Standing_well}
+
+-- where nothing moves, nothing is decided but the answer
+same_decides : (s : Standing) (a b : Answer) → Decides s a s b → b ≡ a
+same_decides (outside r) a b d = sym (some_eq d.1)
+same_decides (inside w None) a b d = absurd (none_some d.1)
+same_decides (inside w (Some c)) a b d = absurd (cc (d.0))
+same_decides forgotten a b d = sym (some_eq d.1)
+
+-- which moves are possible
+again_possible : (s : Standing) (what : What) → is_poll_after_ready s what ≡ true → call_in knows s what ≡ None → ⊥
+again_possible (outside rest.Holding) (Begin call.Poll i) h e = cc
+again_possible (outside rest.Finished) (Begin call.Poll i) h e = cc
+again_possible _ _ h e = cc
+
+module _ (t : Task) (n : ℕ) (b : Bool) where
+  pub making_possible : (s : Standing) (what : What) → is_first_making s what t n b ≡ true → call_in knows s what ≡ None → ⊥
+  making_possible (outside rest.Idle) (Begin call.Initialize i) h e = cc
+  making_possible (outside rest.Idle) (Begin (call.Set v) i) h e = cc
+  making_possible (outside rest.Finished) (Begin call.Initialize i) h e = cc
+  making_possible (outside rest.Finished) (Begin (call.Set v) i) h e = cc
+  making_possible (outside rest.Pending) (Begin call.Poll i) h e = cc
+  making_possible _ _ h e = cc
+
+  pub waiting_possible : (s : Standing) (what : What) → is_first_wait s what t n ≡ true → call_in knows s what ≡ None → ⊥
+  waiting_possible (outside rest.Idle) (Begin call.Wait i) h e = cc
+  waiting_possible (outside rest.Finished) (Begin call.Wait i) h e = cc
+  waiting_possible (outside rest.Pending) (Begin call.Poll i) h e = cc
+  waiting_possible _ _ h e = cc
+
+poll_possible : (s : Standing) (what : What) → is_poll what ≡ true → s ≡ outside rest.Pending → call_in knows s what ≡ None → ⊥
+poll_possible s (Begin call.Poll i) h e none = let P : Standing → Type 0 = λ x. call_in knows x (Begin call.Poll i) ≡ None in let never : P (outside rest.Pending) = subst P e none in cc (never)
+poll_possible s _ h e none = cc (h)
+
+-- a poll after ready is nothing else
+pub record Again (s : Standing) (what : What) : Type 0 where
+  pub try : is_try what ≡ false
+  pub making : (t : Task) (n : ℕ) (b : Bool) → is_first_making s what t n b ≡ false
+  pub waiting : (t : Task) (n : ℕ) → is_first_wait s what t n ≡ false
+  pub pending : s ≡ outside rest.Pending → ⊥
+  pub drop : is_drop what ≡ false
+  pub task : task_in what ≡ None
+  pub shut : is_open s ≡ false
+  pub stands : (w : Within) → call_in knows s what ≡ Some w → StandsAfter rest.Finished w (refused refusal.Finished) s
+  pub out : (w : Within) (b : Answer) → s ≡ inside w (Some b) → ⊥
+
+pub again : (s : Standing) (what : What) → is_poll_after_ready s what ≡ true → Again s what
+again (outside rest.Holding) (Begin call.Poll i) h = record { try = refl; making = λ t n b. refl; waiting = λ t n. refl; pending = λ e. cc; drop = refl; task = refl; shut = refl; stands = λ w e. (let P : Within → Type 0 = λ w. StandsAfter rest.Finished w (refused refusal.Finished) (outside rest.Holding) in subst P (some_eq e) (refl, refl)); out = λ w b e. cc }
+again (outside rest.Finished) (Begin call.Poll i) h = record { try = refl; making = λ t n b. refl; waiting = λ t n. refl; pending = λ e. cc; drop = refl; task = refl; shut = refl; stands = λ w e. (let P : Within → Type 0 = λ w. StandsAfter rest.Finished w (refused refusal.Finished) (outside rest.Finished) in subst P (some_eq e) (refl, refl)); out = λ w b e. cc }
+again _ _ h = absurd (cc)
+
+module _ (w : World) (m : Move) (well : Standing_well w) where
+  abbrev s : Standing
+  s = standing_of w m.party
+
+  same_cell : (v : ℕ) → w.cell ≡ BeingMade m.party → w.cell ≡ Full v → ⊥
+  same_cell v made full = let never : BeingMade m.party ≡ Full v = sym made ∙ full in cc never
+
+  not_both : w.cell ≡ BeingMade m.party → w.cell ≡ Empty → ⊥
+  not_both made empty = let never : BeingMade m.party ≡ Empty = sym made ∙ empty in cc never
+
+  still_one : ChangesOneThing w m w
+  still_one = record { deed = nothing; allowed = tt; cell = refl; active = refl; passive = refl; others = λ q apart. refl; parties = refl; found_memory = λ list e. absurd (cc); parting = λ h. refl; giving_up = λ h. absurd (cc) }
+
+  pub impossible : call_of w m ≡ None → Legal w m answer.NotPossible w
+  impossible none = record {
+    possible = record { exactly = ((λ e. none), (λ e. refl)); unchanged = λ e. refl };
+    one_change = still_one;
+    knows_task = record { begun = λ t e h o. absurd (cc h); going = λ e h o. inl refl; others = λ q apart. refl };
+    carries = record {
+      ready = λ g d. (let e = same_decides s answer.NotPossible (answer.Ready g) d in absurd (cc));
+      granted = λ g d. (let e = same_decides s answer.NotPossible (answer.Granted g) d in absurd (cc));
+      filled = λ v made full. absurd (same_cell v made full);
+      emptied = λ made empty. absurd (not_both made empty);
+    };
+    waits = record { waiting = λ e. absurd (cc); not_before = well.never_pending m.party };
+    refused_for_cause = record {
+      cause = λ n d. (let e = same_decides s answer.NotPossible (answer.Refused n) d in absurd (cc));
+      memory = λ d. (let e = same_decides s answer.NotPossible (refused refusal.Memory) d in absurd (cc));
+      after_ready = ((λ e. absurd (cc)), (λ e. absurd (again_possible s m.what e none)));
+    };
+    leaves_clear = record { each = well.each; refused = λ h. absurd (cc); refused_maker = λ h. absurd (cc) };
+    ends_properly = record { stands = λ u e. absurd (none_some (sym none ∙ e)); as_decided = λ u b e h. absurd (cc) };
+  }
+
+  pub impossible_at_once : call_of w m ≡ None → AnswersAtOnce w m answer.NotPossible w
+  impossible_at_once none = record {
+    tried = λ t h. absurd (cc h);
+    making = λ h. absurd (making_possible (task_of w m.party) (entries_of m.party w.active) (is_maker w.cell m.party) s m.what h none);
+    waiting = λ h. absurd (waiting_possible (task_of w m.party) (entries_of m.party w.passive) false s m.what h none);
+    maker = λ h e made. absurd (poll_possible s m.what h e none);
+    dropped = λ d h made. absurd (cc h);
+  }
+
+  module _ (h : is_poll_after_ready s m.what ≡ true) where
+    abbrev so : Again s m.what
+    so = again s m.what h
+
+    refused_so : (n : ℕ) → answer.Refused n ≡ refused refusal.Finished → n ≡ 6
+    refused_so n e = cc
+
+    pub over : (call_of w m ≡ None → ⊥) → Legal w m (refused refusal.Finished) w
+    over some = record {
+      possible = record { exactly = ((λ e. absurd (cc)), (λ e. absurd (some e))); unchanged = λ e. refl };
+      one_change = still_one;
+      knows_task = record { begun = λ t e h o. absurd (none_some (sym so.task ∙ e)); going = λ e h o. inl refl; others = λ q apart. refl };
+      carries = record {
+        ready = λ g d. (let e = same_decides s (refused refusal.Finished) (answer.Ready g) d in absurd (cc));
+        granted = λ g d. (let e = same_decides s (refused refusal.Finished) (answer.Granted g) d in absurd (cc));
+        filled = λ v made full. absurd (same_cell v made full);
+        emptied = λ made empty. absurd (not_both made empty);
+      };
+      waits = record { waiting = λ e. absurd (cc); not_before = well.never_pending m.party };
+      refused_for_cause = record {
+        cause = λ n d. (refusal.Finished, refused_so n (same_decides s (refused refusal.Finished) (answer.Refused n) d), refl);
+        memory = λ d. (let e : 1 ≡ 6 = refused_so 1 (same_decides s (refused refusal.Finished) (refused refusal.Memory) d) in absurd (omega arith));
+        after_ready = ((λ e. h), (λ e. refl));
+      };
+      leaves_clear = record { each = well.each; refused = λ h. absurd (cc); refused_maker = λ h. absurd (cc) };
+      ends_properly = record { stands = λ u e. so.stands u e; as_decided = λ u b e h. absurd (so.out u b e) };
+    }
+
+    pub over_at_once : AnswersAtOnce w m (refused refusal.Finished) w
+    over_at_once = record {
+      tried = λ t g. (let never = so.try in absurd (cc (t, never)));
+      making = λ g. (let never = so.making (task_of w m.party) (entries_of m.party w.active) (is_maker w.cell m.party) in absurd (cc (g, never)));
+      waiting = λ g. (let never = so.waiting (task_of w m.party) (entries_of m.party w.passive) in absurd (cc (g, never)));
+      maker = λ g e made. absurd (so.pending e);
+      dropped = λ d g made. (let never = so.drop in absurd (cc (d, never)));
+    }

@@ -1,0 +1,16 @@
+pub mod Seen
+pub mod Legals
+pub mod Rows
+pub mod Turns
+pub mod Values
+pub mod Idle
+pub mod Acting
+pub mod AtOnce
+pub mod Stepping
+pub mod Sound
+pub mod Opening
+pub mod Whole
+pub mod Rights
+pub mod Promises
+pub mod Bound
+pub mod WorldLaws

@@ -1,0 +1,209 @@
+-- After each step what is known by the answers goes on to be so.
+use Rattle.std.proofs.Common.{◌≡◌, ◌≢◌, ℕ, zero, suc, ◌+◌, ◌<◌, ◌≤◌, ◌||◌, ◌&&◌, ◌==◌, ◌↔◌, ◌⊎◌, inl, inr, if◌then◌else◌, Bool, true, false, List, [], ◌∷◌, map, length, get_or, Option, Some, None, is_some, refl, arith, ap, sym, ◌∙◌, subst, get_or-set_same, get_or-set_other, length-set}
+use Rattle.std.proofs.Math.ListN.{set}
+use Rattle.std.specs.List.{list_all}
+use Rattle.std.proofs.lemmas.Bool.Decides.{nat_tests}
+use Rattle.lock_event.specs.declared.event.Entry.{Entry}
+use Rattle.lock_event.specs.declared.event.Mark.TheVariants.{Waiting as Waits_unmarked}
+use Rattle.lock_event.specs.Lists.{is_marked_at, mark_at, marked_count, without, IsMarkedFirst}
+use Rattle.lock_queue.specs.Parties.{is_party, entries_of}
+use Rattle.lock_queue.proofs.Told.{waits_at}
+use Rattle.lock_world.specs.declared.moves.Answer.{Answer}
+use Rattle.lock_world.specs.declared.moves.Answer.TheVariants as answer
+use Rattle.lock_world.specs.declared.moves.Call.{Call}
+use Rattle.lock_world.specs.declared.moves.Call.TheVariants as call
+use Rattle.lock_world.specs.declared.moves.Got.{Got}
+use Rattle.lock_world.specs.declared.moves.Got.TheVariants as got
+use Rattle.lock_world.specs.declared.moves.Inputs.{Inputs}
+use Rattle.lock_world.specs.declared.moves.Made.{Made}
+use Rattle.lock_world.specs.declared.moves.Made.TheVariants as made
+use Rattle.lock_world.specs.declared.moves.Move.{Move}
+use Rattle.lock_world.specs.declared.moves.What.{What}
+use Rattle.lock_world.specs.declared.moves.What.TheVariants.{Begin, Go}
+use Rattle.lock_world.specs.declared.refusal.Refusal.{Refusal}
+use Rattle.lock_world.specs.declared.refusal.Refusal.TheVariants as refusal
+use Rattle.lock_world.specs.declared.standing.Kind.{Kind}
+use Rattle.lock_world.specs.declared.standing.Kind.TheVariants as kind
+use Rattle.lock_world.specs.declared.standing.Rest.{Rest}
+use Rattle.lock_world.specs.declared.standing.Rest.TheVariants as rest
+use Rattle.lock_world.specs.declared.standing.Stage.{Stage}
+use Rattle.lock_world.specs.declared.standing.Stage.TheVariants.{Outside, Inside, Forgotten}
+use Rattle.lock_world.specs.declared.standing.Within.{Within}
+use Rattle.lock_world.specs.Standings.{Standing, outside, inside, forgotten, inputs_of, call_in, is_outside, is_outside_stage, is_possible, is_stepped, is_decided, may_end, decision, refused, Decides, IsUndecided, StandsAfter}
+use Rattle.lock_world.specs.Frame.{is_drop, is_giving_back, is_poll_after_ready, is_refusal}
+use Rattle.lock_world.specs.Refusals.{number_of}
+use Rattle.lock_world.specs.Steps.{Deed, nothing, changes, does, joins, asks, leaves, notifies, notifies_additionally, list_after}
+use Rattle.lock_world.proofs.Equations.{some_eq, none_some, some_none}
+use Rattle.lock_table.specs.Stages.{stage_at, stands_as, call_at, polls_again, stage_after}
+use Rattle.lock_table.specs.Tables.{Table}
+use Rattle.lock_table.specs.Ends.{answer_of}
+use Rattle.lock_table.specs.declared.end.End.TheVariants as «end»
+use Rattle.lock_table.proofs.Calls.{call_seen, again_seen, stands_seen, decided_after, decision_seen}
+use Rattle.lock_table.proofs.Views.{length-standings, standings_at, rest_seen, outside_at}
+use Rattle.cell_machine.specs.declared.program.Action.{Action}
+use Rattle.cell_machine.specs.declared.program.Action.TheVariants as act
+use Rattle.cell_machine.specs.declared.program.Found.{Found}
+use Rattle.cell_machine.specs.declared.program.Found.TheVariants as found
+use Rattle.cell_machine.specs.declared.program.ListName.{ListName}
+use Rattle.cell_machine.specs.declared.program.ListName.TheVariants.{Active, Passive}
+use Rattle.cell_machine.specs.declared.program.Maker.{Maker}
+use Rattle.cell_machine.specs.declared.program.Maker.TheVariants.{Closure, Given}
+use Rattle.cell_machine.specs.declared.program.Next.{Next}
+use Rattle.cell_machine.specs.declared.program.Next.TheVariants as next
+use Rattle.cell_machine.specs.declared.program.Place.{Place}
+use Rattle.cell_machine.specs.declared.program.Place.TheVariants.{Claim, ClaimListed, JoinActive, AskActive, LeaveToMake, Make, Fill, NotifyActive, NotifyPassive, Fail, FailNotify, LeaveFull, RefuseActive, Look, JoinPassive, LookListed, AskPassive, LeavePassive, RefusePassive, Try, TryFill, TryNotifyActive, TryNotifyPassive, CancelMake, CancelNotify, CancelLeave, Abandon}
+use Rattle.cell_machine.specs.declared.program.Position.{Position}
+use Rattle.cell_machine.specs.declared.program.Position.TheVariants.{Out, ToMake, WaitingToMake, Making, ToWait, Waiting, At}
+use Rattle.cell_machine.specs.declared.words.Content.{Content}
+use Rattle.cell_machine.specs.declared.words.Content.TheVariants.{Empty, BeingMade, Full}
+use Rattle.cell_machine.specs.Program.{place_for, action_of, next_of, position_after, got_of}
+use Rattle.cell_machine.specs.Seats.{Task, no_task, initializes, sets, waits_only, fills_with, failed, task_by, task_at, task_of as place_task, Seat, seat_of, seated, makes_at, in_active, in_passive_at, value_known, verdict, verdict_of, is_resting}
+use Rattle.cell_machine.specs.Deeds.{Change, begins, fills, empties, everyone, list_of, deed_of, content_after, active_after, passive_after, Finds, FindsContent, FindsMade, FindsJoin, FindsAsk}
+use Rattle.cell_machine.specs.Machine.{OnceCell, IsCell, IsAtRest, Acts, Moves as MovesOf, knows, goes_with, runs, is_begun, is_polling, is_trying, is_cancelling, is_abandoning, is_pending, is_out, is_maker, position_at, answer_by}
+use Rattle.cell_machine.proofs.Kept.{after}
+use Rattle.cell_machine.proofs.Turns.{Turn, turn, Fits, fits, lands, the}
+use Rattle.cell_machine.proofs.Contents as contents
+use Rattle.cell_world.specs.State.{World, is_empty, is_full, value_in, list_in, standing_of, task_of}
+use Rattle.cell_world.specs.View.{view_of}
+use Rattle.cell_world.specs.Tasks.{task_in, or_before, task_then, makes, list_for, given, is_open}
+use Rattle.cell_world.specs.Legal.{call_of, DecidesOn, IsPossible, gives_something_back, gives_up, IsItsList, IsAllowed, ChangesOneThing, KnowsTask, Carried, IsGranted, Carries, IsPendingMaker, WaitsInList, Waits, IsOutOfMemory, IsCause, IsRefusedForCause, HasByTask, HasNothing, HasItsOwn, LeavesClear, EndsProperly, Legal}
+use Rattle.cell_world.specs.AtOnce.{AnswersAtOnce, TriesAtOnce, MakesAtOnce, PollsMaker, DropsMaker, is_try, is_poll, would_make, is_first_making, waits_for, is_first_wait, got_by, first_answer, maker_answer}
+use Rattle.cell_world.specs.Laws.{IsSound, IsAwake, IsStillThere, IsFreeAndWanted, is_at_rest, is_long_call, may_be_maker}
+use Rattle.cell_world.specs.Steps.{IsCellTable, TableSteps, Stands, Did, Steps}
+use Rattle.cell_world.proofs.Seen as seen
+use Rattle.lock_world.specs.Accounts.{Account, account_after, accounts_after, HasByAnswers}
+use Rattle.lock_world.specs.Rights.{Right}
+use Rattle.lock_frame.specs.Steps.{StepsWell}
+use Rattle.cell_world.specs.Runs.{Known, Tells, HoldsWell, no_account, learn, value_after}
+use Rattle.cell_world.proofs.Legals.{each_has}
+use Rattle.cell_world.proofs.Values.{stays_full}
+use Rattle.cell_world.proofs.Acting.{Acting}
+use Rattle.cell_world.proofs.Stepping.{Way, impossible, over, acts}
+
+-- ---- no answer of a cell gives a right
+
+abbrev Quiet : What → Answer → Type 0
+Quiet what a = account_after no_account what a ≡ no_account
+
+quiet_go : (i : Inputs) (a : Answer) → Quiet (Go i) a
+quiet_go i answer.None = refl
+quiet_go i _ = refl
+
+quiet_initialize : (i : Inputs) (a : Answer) → Quiet (Begin call.Initialize i) a
+quiet_initialize i answer.None = refl
+quiet_initialize i _ = refl
+
+quiet_set : (v : ℕ) (i : Inputs) (a : Answer) → Quiet (Begin (call.Set v) i) a
+quiet_set v i answer.None = refl
+quiet_set v i _ = refl
+
+quiet_wait : (i : Inputs) (a : Answer) → Quiet (Begin call.Wait i) a
+quiet_wait i answer.None = refl
+quiet_wait i _ = refl
+
+quiet_try : (v : ℕ) (i : Inputs) (a : Answer) → Quiet (Begin (call.TrySet v) i) a
+quiet_try v i answer.None = refl
+quiet_try v i _ = refl
+
+quiet_poll : (i : Inputs) (a : Answer) → Quiet (Begin call.Poll i) a
+quiet_poll i answer.None = refl
+quiet_poll i _ = refl
+
+quiet_drop : (i : Inputs) (a : Answer) → Quiet (Begin call.Drop i) a
+quiet_drop i answer.None = refl
+quiet_drop i _ = refl
+
+abbrev Quietly : Stage → What → Within → Position → Place → Type 0
+Quietly s what w x from = (a : Answer) → Quiet what a
+
+quietly : (s : Stage) (what : What) (w : Within) (x : Position) → goes_with s x ≡ true → call_at knows s what ≡ Some w → polls_again s what ≡ false → Turn Quietly s what w x
+quietly = turn Quietly (record {
+  initialize = λ r i g h. quiet_initialize i;
+  set = λ v r i g h. quiet_set v i;
+  wait = λ r i g h. quiet_wait i;
+  try = λ v r i g h. quiet_try v i;
+  poll = λ k i. quiet_poll i;
+  poll_listed = λ k i. quiet_poll i;
+  poll_maker = λ k i. quiet_poll i;
+  poll_wait = λ i. quiet_poll i;
+  poll_waiting = λ i. quiet_poll i;
+  cancel = λ k i. quiet_drop i;
+  cancel_maker = λ k i. quiet_drop i;
+  cancel_wait = λ i. quiet_drop i;
+  abandon = λ k i. quiet_drop i;
+  abandon_wait = λ i. quiet_drop i;
+  drop_finished = λ i. quiet_drop i;
+  go = λ w x i begun here. quiet_go i;
+})
+
+quiet_impossible : (what : What) → Quiet what answer.NotPossible
+quiet_impossible (Begin call.TryUpgrade i) = refl
+quiet_impossible _ = refl
+
+quiet_again : (s : Stage) (what : What) → polls_again s what ≡ true → Quiet what (refused refusal.Finished)
+quiet_again (Outside rest.Holding) (Begin call.Poll i) h = refl
+quiet_again (Outside rest.Finished) (Begin call.Poll i) h = refl
+quiet_again _ _ h = absurd (cc h)
+
+pub quiet : (t u : Table OnceCell) (m : Move) (a : Answer) → Way t u m a → Quiet m.what a
+quiet t u m a (impossible e ea eu) = let P : Answer → Type 0 = Quiet m.what in subst P (sym ea) (quiet_impossible m.what)
+quiet t u m a (over w e f ea eu) = let P : Answer → Type 0 = Quiet m.what in subst P (sym ea) (quiet_again (stage_at t.stages m.party) m.what f)
+quiet t u m a (acts w k) = (quietly (stage_at t.stages m.party) m.what w (position_at t.machine.positions m.party) (k.old_fits.stands m.party k.inside) k.call k.first).holds a
+
+-- ---- the value that an answer tells is in the cell
+
+by_standing : (w : World) (m : Move) (u : World) (v : ℕ) (within : Within) (s : Standing) → Legal w m (answer.Ready (got.Value v)) u → standing_of w m.party ≡ s → HasItsOwn w m.party s
+    → call_of w m ≡ Some within → u.cell ≡ Full v
+by_standing w m u v within s l e own called = (
+    let a : Answer = answer.Ready (got.Value v) in
+    let decided : decision a (standing_of u m.party) ≡ Some a = ap (decision a) (l.ends_properly.stands within called).1 in
+    by_decided s decided e own
+    ) where
+      fresh : decision (answer.Ready (got.Value v)) (standing_of u m.party) ≡ Some (answer.Ready (got.Value v)) → is_decided (standing_of w m.party) ≡ false → u.cell ≡ Full v
+      fresh decided h = (l.carries.ready (got.Value v) (h, decided)).0
+
+      by_decided : (s : Standing) → decision (answer.Ready (got.Value v)) (standing_of u m.party) ≡ Some (answer.Ready (got.Value v)) → standing_of w m.party ≡ s → HasItsOwn w m.party s → u.cell ≡ Full v
+      by_decided (outside r) decided e own = fresh decided (ap is_decided e)
+      by_decided (inside z None) decided e own = fresh decided (ap is_decided e)
+      by_decided forgotten decided e own = fresh decided (ap is_decided e)
+      by_decided (inside z (Some b)) decided e own =
+          let same : b ≡ answer.Ready (got.Value v) = some_eq (sym (l.ends_properly.as_decided z b e refl) ∙ decided) in
+          let P : Answer → Type 0 = λ b. HasItsOwn w m.party (inside z (Some b)) in
+          stays_full w m (answer.Ready (got.Value v)) u l v (subst P same own)
+
+told_value : (w : World) (m : Move) (a : Answer) (u : World) → Legal w m a u → HasItsOwn w m.party (standing_of w m.party) → (v : ℕ) → a ≡ answer.Ready (got.Value v) → u.cell ≡ Full v
+told_value w m a u l own v e = by_call (call_of w m) refl where
+  so : Legal w m (answer.Ready (got.Value v)) u
+  so = let P : Answer → Type 0 = λ b. Legal w m b u in subst P e l
+
+  by_call : (o : Option Within) → call_of w m ≡ o → u.cell ≡ Full v
+  by_call None none = let never : answer.Ready (got.Value v) ≡ answer.NotPossible = so.possible.exactly.1 none in absurd (cc never)
+  by_call (Some within) called = by_standing w m u v within (standing_of w m.party) so refl own called
+
+value_on : (told : Option ℕ) (a : Answer) (c : Content) (v : ℕ) → value_after told a ≡ Some v → ((z : ℕ) → a ≡ answer.Ready (got.Value z) → c ≡ Full z) → ((z : ℕ) → told ≡ Some z → c ≡ Full z) → c ≡ Full v
+value_on told (answer.Ready (got.Value z)) c v e now before = now z refl ∙ ap Full (some_eq e)
+value_on told (answer.Ready _) c v e now before = before v e
+value_on told _ c v e now before = before v e
+
+-- ---- what is known, and that all is well
+
+chosen : (b : Bool) (x : Account) → x ≡ no_account → (if b then x else no_account) ≡ no_account
+chosen true x e = e
+chosen false x e = refl
+
+module _ (k : Known) (t u : Table OnceCell) (m : Move) (a : Answer) where
+  pub holds_well : IsCell t.machine → IsCellTable t → Legal (view_of t) m a (view_of u) → Way t u m a → Tells k (view_of t) → IsSound (view_of u) → (is_at_rest (view_of u) ≡ true → IsAwake (view_of u)) → StepsWell Tells HoldsWell (learn k m a) (view_of u)
+  holds_well laws fits l way tells sound awake = (
+      let quietly : Quiet m.what a = quiet t u m a way in
+      let rights : (q : ℕ) → accounts_after k.accounts m a q ≡ no_account = λ q. rw (tells.rights q) (chosen (m.party == q) (account_after no_account m.what a) quietly) in
+      let value : (v : ℕ) → value_after k.value a ≡ Some v → (view_of u).cell ≡ Full v = λ v e. value_on k.value a (view_of u).cell v e (λ z is. told_value (view_of t) m a (view_of u) l (each_has t laws fits m.party) z is) (λ z is. stays_full (view_of t) m a (view_of u) l z (tells.value z is)) in
+      record {
+        tells = record { rights = rights; value = value };
+        well = record {
+          no_rights = λ q r h. (let none : false ≡ true = sym (ap (λ (z : Account). z.has) (rights q)) ∙ h.0 in cc none);
+          value = value;
+          sound = sound;
+          awake = awake;
+        };
+      }
+      )

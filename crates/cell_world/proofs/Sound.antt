@@ -1,0 +1,209 @@
+-- What always holds of a once-cell's World, as callers see it.
+use Rattle.std.proofs.Common.{◌≡◌, ◌≢◌, ℕ, zero, suc, ◌+◌, ◌<◌, ◌≤◌, ◌||◌, ◌&&◌, ◌==◌, ◌↔◌, ◌⊎◌, inl, inr, if◌then◌else◌, Bool, true, false, List, [], ◌∷◌, map, length, get_or, Option, Some, None, is_some, refl, arith, ap, sym, ◌∙◌, subst, get_or-set_same, get_or-set_other, length-set}
+use Rattle.std.proofs.Math.ListN.{set}
+use Rattle.std.specs.List.{list_all}
+use Rattle.std.proofs.lemmas.Bool.Decides.{nat_tests}
+use Rattle.lock_event.specs.declared.event.Entry.{Entry}
+use Rattle.lock_event.specs.declared.event.Mark.TheVariants.{Waiting as Waits_unmarked}
+use Rattle.lock_event.specs.Lists.{is_marked_at, mark_at, marked_count, without, IsMarkedFirst}
+use Rattle.lock_queue.specs.Parties.{is_party, entries_of}
+use Rattle.lock_queue.proofs.Told.{waits_at}
+use Rattle.lock_world.specs.declared.moves.Answer.{Answer}
+use Rattle.lock_world.specs.declared.moves.Answer.TheVariants as answer
+use Rattle.lock_world.specs.declared.moves.Call.{Call}
+use Rattle.lock_world.specs.declared.moves.Call.TheVariants as call
+use Rattle.lock_world.specs.declared.moves.Got.{Got}
+use Rattle.lock_world.specs.declared.moves.Got.TheVariants as got
+use Rattle.lock_world.specs.declared.moves.Inputs.{Inputs}
+use Rattle.lock_world.specs.declared.moves.Made.{Made}
+use Rattle.lock_world.specs.declared.moves.Made.TheVariants as made
+use Rattle.lock_world.specs.declared.moves.Move.{Move}
+use Rattle.lock_world.specs.declared.moves.What.{What}
+use Rattle.lock_world.specs.declared.moves.What.TheVariants.{Begin, Go}
+use Rattle.lock_world.specs.declared.refusal.Refusal.{Refusal}
+use Rattle.lock_world.specs.declared.refusal.Refusal.TheVariants as refusal
+use Rattle.lock_world.specs.declared.standing.Kind.{Kind}
+use Rattle.lock_world.specs.declared.standing.Kind.TheVariants as kind
+use Rattle.lock_world.specs.declared.standing.Rest.{Rest}
+use Rattle.lock_world.specs.declared.standing.Rest.TheVariants as rest
+use Rattle.lock_world.specs.declared.standing.Stage.{Stage}
+use Rattle.lock_world.specs.declared.standing.Stage.TheVariants.{Outside, Inside, Forgotten}
+use Rattle.lock_world.specs.declared.standing.Within.{Within}
+use Rattle.lock_world.specs.Standings.{Standing, outside, inside, forgotten, inputs_of, call_in, is_outside, is_outside_stage, is_possible, is_stepped, is_decided, may_end, decision, refused, Decides, IsUndecided, StandsAfter}
+use Rattle.lock_world.specs.Frame.{is_drop, is_giving_back, is_poll_after_ready, is_refusal}
+use Rattle.lock_world.specs.Refusals.{number_of}
+use Rattle.lock_world.specs.Steps.{Deed, nothing, changes, does, joins, asks, leaves, notifies, notifies_additionally, list_after}
+use Rattle.lock_world.proofs.Equations.{some_eq, none_some, some_none}
+use Rattle.lock_table.specs.Stages.{stage_at, stands_as, call_at, polls_again, stage_after}
+use Rattle.lock_table.specs.Tables.{Table}
+use Rattle.lock_table.specs.Ends.{answer_of}
+use Rattle.lock_table.specs.declared.end.End.TheVariants as «end»
+use Rattle.lock_table.proofs.Calls.{call_seen, again_seen, stands_seen, decided_after, decision_seen}
+use Rattle.lock_table.proofs.Views.{length-standings, standings_at, rest_seen, outside_at}
+use Rattle.cell_machine.specs.declared.program.Action.{Action}
+use Rattle.cell_machine.specs.declared.program.Action.TheVariants as act
+use Rattle.cell_machine.specs.declared.program.Found.{Found}
+use Rattle.cell_machine.specs.declared.program.Found.TheVariants as found
+use Rattle.cell_machine.specs.declared.program.ListName.{ListName}
+use Rattle.cell_machine.specs.declared.program.ListName.TheVariants.{Active, Passive}
+use Rattle.cell_machine.specs.declared.program.Maker.{Maker}
+use Rattle.cell_machine.specs.declared.program.Maker.TheVariants.{Closure, Given}
+use Rattle.cell_machine.specs.declared.program.Next.{Next}
+use Rattle.cell_machine.specs.declared.program.Next.TheVariants as next
+use Rattle.cell_machine.specs.declared.program.Place.{Place}
+use Rattle.cell_machine.specs.declared.program.Place.TheVariants.{Claim, ClaimListed, JoinActive, AskActive, LeaveToMake, Make, Fill, NotifyActive, NotifyPassive, Fail, FailNotify, LeaveFull, RefuseActive, Look, JoinPassive, LookListed, AskPassive, LeavePassive, RefusePassive, Try, TryFill, TryNotifyActive, TryNotifyPassive, CancelMake, CancelNotify, CancelLeave, Abandon}
+use Rattle.cell_machine.specs.declared.program.Position.{Position}
+use Rattle.cell_machine.specs.declared.program.Position.TheVariants.{Out, ToMake, WaitingToMake, Making, ToWait, Waiting, At}
+use Rattle.cell_machine.specs.declared.words.Content.{Content}
+use Rattle.cell_machine.specs.declared.words.Content.TheVariants.{Empty, BeingMade, Full}
+use Rattle.cell_machine.specs.Program.{place_for, action_of, next_of, position_after, got_of}
+use Rattle.cell_machine.specs.Seats.{Task, no_task, initializes, sets, waits_only, fills_with, failed, task_by, task_at, task_of as place_task, Seat, seat_of, seated, makes_at, in_active, in_passive_at, value_known, verdict, verdict_of, is_resting}
+use Rattle.cell_machine.specs.Deeds.{Change, begins, fills, empties, everyone, list_of, deed_of, content_after, active_after, passive_after, Finds, FindsContent, FindsMade, FindsJoin, FindsAsk}
+use Rattle.cell_machine.specs.Machine.{OnceCell, IsCell, IsAtRest, Acts, Moves as MovesOf, knows, goes_with, runs, is_begun, is_polling, is_trying, is_cancelling, is_abandoning, is_pending, is_out, is_maker, position_at, answer_by}
+use Rattle.cell_machine.proofs.Kept.{after}
+use Rattle.cell_machine.proofs.Turns.{Turn, turn, Fits, fits, lands, the}
+use Rattle.cell_machine.proofs.Contents as contents
+use Rattle.cell_world.specs.State.{World, is_empty, is_full, value_in, list_in, standing_of, task_of}
+use Rattle.cell_world.specs.View.{view_of}
+use Rattle.cell_world.specs.Tasks.{task_in, or_before, task_then, makes, list_for, given, is_open}
+use Rattle.cell_world.specs.Legal.{call_of, DecidesOn, IsPossible, gives_something_back, gives_up, IsItsList, IsAllowed, ChangesOneThing, KnowsTask, Carried, IsGranted, Carries, IsPendingMaker, WaitsInList, Waits, IsOutOfMemory, IsCause, IsRefusedForCause, HasByTask, HasNothing, HasItsOwn, LeavesClear, EndsProperly, Legal}
+use Rattle.cell_world.specs.AtOnce.{AnswersAtOnce, TriesAtOnce, MakesAtOnce, PollsMaker, DropsMaker, is_try, is_poll, would_make, is_first_making, waits_for, is_first_wait, got_by, first_answer, maker_answer}
+use Rattle.cell_world.specs.Laws.{IsSound, IsAwake, IsStillThere, IsFreeAndWanted, is_at_rest, is_long_call, may_be_maker}
+use Rattle.cell_world.specs.Steps.{IsCellTable, TableSteps, Stands, Did, Steps}
+use Rattle.cell_world.proofs.Seen as seen
+use Rattle.cell_world.proofs.Legals.{each_has, in_list}
+
+both : (a b : Bool) → a && b ≡ true → (a ≡ true) × (b ≡ true)
+both true b h = (refl, h)
+both false b h = absurd (cc h)
+
+-- a call that is begun may take more than one step
+abandon_unbegun : (x : Place) → is_abandoning x ≡ true → is_begun x ≡ true → ⊥
+abandon_unbegun Abandon h b = cc b
+abandon_unbegun _ h b = cc h
+
+long_by : (k : Kind) (r : Rest) (x : Place) → is_begun x ≡ true → runs k r x ≡ true → is_long_call k r ≡ true
+long_by kind.FirstPoll rest.Idle x b h = refl
+long_by kind.FirstPoll rest.Finished x b h = refl
+long_by kind.LaterPoll rest.Pending x b h = refl
+long_by kind.Try rest.Idle x b h = refl
+long_by kind.Try rest.Finished x b h = refl
+long_by kind.Drop rest.Pending x b h = refl
+long_by kind.Drop rest.Finished x b h = absurd (abandon_unbegun x h b)
+long_by _ _ x b h = absurd (cc h)
+
+long_at : (s : Stage) (x : Position) (d : Option Answer) (u : Within) (e : Option Answer) → goes_with s x ≡ true → stands_as d s ≡ inside u e → is_long_call u.kind u.was ≡ true
+long_at (Outside r) x d u e g h = absurd (cc h)
+long_at Forgotten x d u e g h = absurd (cc h)
+long_at (Inside w) (At y) d u e g h =
+    let two = both (is_begun y) (runs w.kind w.was y) g in
+    let same : w ≡ u = cc h in
+    let P : Within → Type 0 = λ v. is_long_call v.kind v.was ≡ true in
+    subst P same (long_by w.kind w.was y two.0 two.1)
+long_at (Inside w) _ d u e g h = absurd (cc g)
+
+one_listed : (x : Position) → in_active x + in_passive_at x ≤ 1
+one_listed (WaitingToMake k) = omega arith
+one_listed Waiting = omega arith
+one_listed (At (ClaimListed k)) = omega arith
+one_listed (At (AskActive k)) = omega arith
+one_listed (At (LeaveToMake k)) = omega arith
+one_listed (At (LeaveFull k v)) = omega arith
+one_listed (At LookListed) = omega arith
+one_listed (At AskPassive) = omega arith
+one_listed (At (LeavePassive v)) = omega arith
+one_listed (At (CancelLeave Active)) = omega arith
+one_listed (At (CancelLeave Passive)) = omega arith
+one_listed (At _) = omega arith
+one_listed _ = omega arith
+
+-- who makes is pending, inside a call, or forgotten
+makes_so : (s : Stage) (x : Position) (d : Option Answer) → goes_with s x ≡ true → makes_at x ≡ true → may_be_maker (stands_as d s) ≡ true
+makes_so (Outside rest.Pending) x d g h = refl
+makes_so (Inside w) x d g h = refl
+makes_so Forgotten x d g h = refl
+makes_so (Outside rest.Idle) Out d g h = absurd (cc h)
+makes_so (Outside rest.Idle) _ d g h = absurd (cc g)
+makes_so (Outside rest.Finished) Out d g h = absurd (cc h)
+makes_so (Outside rest.Finished) _ d g h = absurd (cc g)
+makes_so (Outside rest.Holding) x d g h = absurd (cc g)
+
+-- outside every call a party rests
+resting : (s : Stage) (x : Position) → goes_with s x ≡ true → is_outside_stage s ≡ true → is_resting x ≡ true
+resting (Outside r) Out g o = refl
+resting (Outside r) (ToMake k) g o = refl
+resting (Outside r) (WaitingToMake k) g o = refl
+resting (Outside r) (Making k) g o = refl
+resting (Outside r) ToWait g o = refl
+resting (Outside r) Waiting g o = refl
+resting (Outside rest.Idle) (At y) g o = absurd (cc g)
+resting (Outside rest.Pending) (At y) g o = absurd (cc g)
+resting (Outside rest.Holding) (At y) g o = absurd (cc g)
+resting (Outside rest.Finished) (At y) g o = absurd (cc g)
+resting (Inside w) x g o = absurd (cc o)
+resting Forgotten x g o = g
+
+all_rest : (xs : List Position) → ((q : ℕ) → q < length xs → is_resting (position_at xs q) ≡ true) → IsAtRest xs
+all_rest [] h = tt
+all_rest (x ∷ xs) h = (h 0 (omega arith), all_rest xs (λ q j. h (suc q) (omega arith)))
+
+-- who stands in a list or makes outside every call is pending, or was when it was forgotten
+still_there : (s : Stage) (x : Position) (d : Option Answer) → goes_with s x ≡ true → is_outside_stage s ≡ true → (x ≡ Out → ⊥) → IsStillThere (stands_as d s)
+still_there (Outside rest.Pending) x d g o h = inl refl
+still_there Forgotten x d g o h = inr refl
+still_there (Outside rest.Idle) Out d g o h = absurd (h refl)
+still_there (Outside rest.Idle) _ d g o h = absurd (cc g)
+still_there (Outside rest.Finished) Out d g o h = absurd (h refl)
+still_there (Outside rest.Finished) _ d g o h = absurd (cc g)
+still_there (Outside rest.Holding) x d g o h = absurd (cc g)
+still_there (Inside w) x d g o h = absurd (cc o)
+
+module _ (t : Table OnceCell) (laws : IsCell t.machine) (fits : IsCellTable t) where
+  abbrev xs : List Position
+  xs = t.machine.positions
+
+  pub sound : IsSound (view_of t)
+  sound = record {
+    each = each_has t laws fits;
+    maker = λ q h. seen.by_stage_or_past_at t.stages q (may_be_maker (standing_of (view_of t) q) ≡ true)
+        (λ past. ap may_be_maker (seen.standing_seen t q ∙ ap (stands_as (verdict (position_at xs q))) past))
+        (λ inside. ap may_be_maker (seen.standing_seen t q) ∙ makes_so (stage_at t.stages q) (position_at xs q) (verdict (position_at xs q)) (fits.stands q inside) (laws.makers q ∙ h));
+    inside_calls = λ q u d e. seen.by_stage_or_past_at t.stages q (is_long_call u.kind u.was ≡ true)
+        (λ past. (let h : stands_as (verdict (position_at xs q)) Forgotten ≡ inside u d = ap (stands_as (verdict (position_at xs q))) (sym past) ∙ (sym (seen.standing_seen t q) ∙ e) in absurd (cc (h))))
+        (λ inside. long_at (stage_at t.stages q) (position_at xs q) (verdict (position_at xs q)) u d (fits.stands q inside) (sym (seen.standing_seen t q) ∙ e));
+    once = λ q. omega (arith, laws.active_owners q, laws.passive_owners q, one_listed (position_at xs q));
+    active_in_order = laws.active_in_order;
+    passive_in_order = laws.passive_in_order;
+  }
+
+  listed_seen : (list : ListName) (q : ℕ) → entries_of q (list_in list (view_of t)) ≡ in_list list (position_at xs q)
+  listed_seen Active q = laws.active_owners q
+  listed_seen Passive q = laws.passive_owners q
+
+  never_out : (list : ListName) → in_list list Out ≡ 0
+  never_out Active = refl
+  never_out Passive = refl
+
+  module _ (rests : is_at_rest (view_of t) ≡ true) where
+    stages_rest : list_all is_outside_stage t.stages ≡ true
+    stages_rest = sym (rest_seen (λ q. verdict (position_at xs q)) t.stages) ∙ rests
+
+    positions_rest : IsAtRest xs
+    positions_rest = all_rest xs (λ q j. resting (stage_at t.stages q) (position_at xs q) (fits.stands q (omega (arith, j, fits.as_many))) (outside_at t.stages stages_rest q))
+
+    there : (q : ℕ) → (position_at xs q ≡ Out → ⊥) → IsStillThere (standing_of (view_of t) q)
+    there q some = seen.by_stage_or_past t.stages q (IsStillThere (standing_of (view_of t) q))
+        (λ past. absurd (some (seen.past_out xs q (omega (arith, past, fits.as_many)))))
+        (λ inside. subst IsStillThere (sym (seen.standing_seen t q)) (still_there (stage_at t.stages q) (position_at xs q) (verdict (position_at xs q)) (fits.stands q inside) (outside_at t.stages stages_rest q) some))
+
+    told : (list : ListName) (v : ℕ) → t.machine.content ≡ Full v → (q : ℕ) → 0 < entries_of q (list_in list (view_of t)) → is_marked_at (is_party q) (list_in list (view_of t)) ≡ true
+    told Active v full q some = laws.active_told positions_rest v full q some
+    told Passive v full q some = laws.passive_told positions_rest v full q some
+
+    pub awake : IsAwake (view_of t)
+    awake = record {
+      marked = λ h. laws.wakes positions_rest h.0 h.1;
+      all_marked = λ v full list q some. told list v full q some;
+      waiting = λ list q some. there q (λ out. (let none : in_list list (position_at xs q) ≡ 0 = ap (in_list list) out ∙ never_out list in let zero_entries : entries_of q (list_in list (view_of t)) ≡ 0 = listed_seen list q ∙ none in absurd (omega arith)));
+      making = λ q made. there q (λ out. (let one : makes_at (position_at xs q) ≡ true = laws.makers q ∙ (ap (λ z. is_maker z q) made ∙ contents.is_its_maker q) in let none : makes_at (position_at xs q) ≡ false = ap makes_at out in absurd (cc (one, none))));
+    }

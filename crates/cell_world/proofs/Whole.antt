@@ -1,0 +1,263 @@
+-- A call that is carried out alone ends within its number of steps.
+use Rattle.std.proofs.Common.{◌≡◌, ◌≢◌, ℕ, zero, suc, ◌+◌, ◌<◌, ◌≤◌, ◌||◌, ◌&&◌, ◌==◌, ◌↔◌, ◌⊎◌, inl, inr, if◌then◌else◌, Bool, true, false, List, [], ◌∷◌, map, length, get_or, Option, Some, None, is_some, refl, arith, ap, sym, ◌∙◌, subst, get_or-set_same, get_or-set_other, length-set}
+use Rattle.std.proofs.Math.ListN.{set}
+use Rattle.std.specs.List.{list_all}
+use Rattle.std.proofs.lemmas.Bool.Decides.{nat_tests}
+use Rattle.lock_event.specs.declared.event.Entry.{Entry}
+use Rattle.lock_event.specs.declared.event.Mark.TheVariants.{Waiting as Waits_unmarked}
+use Rattle.lock_event.specs.Lists.{is_marked_at, mark_at, marked_count, without, IsMarkedFirst}
+use Rattle.lock_queue.specs.Parties.{is_party, entries_of}
+use Rattle.lock_queue.proofs.Told.{waits_at}
+use Rattle.lock_world.specs.declared.moves.Answer.{Answer}
+use Rattle.lock_world.specs.declared.moves.Answer.TheVariants as answer
+use Rattle.lock_world.specs.declared.moves.Call.{Call}
+use Rattle.lock_world.specs.declared.moves.Call.TheVariants as call
+use Rattle.lock_world.specs.declared.moves.Got.{Got}
+use Rattle.lock_world.specs.declared.moves.Got.TheVariants as got
+use Rattle.lock_world.specs.declared.moves.Inputs.{Inputs}
+use Rattle.lock_world.specs.declared.moves.Made.{Made}
+use Rattle.lock_world.specs.declared.moves.Made.TheVariants as made
+use Rattle.lock_world.specs.declared.moves.Move.{Move}
+use Rattle.lock_world.specs.declared.moves.What.{What}
+use Rattle.lock_world.specs.declared.moves.What.TheVariants.{Begin, Go}
+use Rattle.lock_world.specs.declared.refusal.Refusal.{Refusal}
+use Rattle.lock_world.specs.declared.refusal.Refusal.TheVariants as refusal
+use Rattle.lock_world.specs.declared.standing.Kind.{Kind}
+use Rattle.lock_world.specs.declared.standing.Kind.TheVariants as kind
+use Rattle.lock_world.specs.declared.standing.Rest.{Rest}
+use Rattle.lock_world.specs.declared.standing.Rest.TheVariants as rest
+use Rattle.lock_world.specs.declared.standing.Stage.{Stage}
+use Rattle.lock_world.specs.declared.standing.Stage.TheVariants.{Outside, Inside, Forgotten}
+use Rattle.lock_world.specs.declared.standing.Within.{Within}
+use Rattle.lock_world.specs.Standings.{Standing, outside, inside, forgotten, inputs_of, call_in, is_outside, is_outside_stage, is_possible, is_stepped, is_decided, may_end, decision, refused, Decides, IsUndecided, StandsAfter}
+use Rattle.lock_world.specs.Frame.{is_drop, is_giving_back, is_poll_after_ready, is_refusal}
+use Rattle.lock_world.specs.Refusals.{number_of}
+use Rattle.lock_world.specs.Steps.{Deed, nothing, changes, does, joins, asks, leaves, notifies, notifies_additionally, list_after}
+use Rattle.lock_world.proofs.Equations.{some_eq, none_some, some_none}
+use Rattle.lock_table.specs.Stages.{stage_at, stands_as, call_at, polls_again, stage_after}
+use Rattle.lock_table.specs.Tables.{Table}
+use Rattle.lock_table.specs.Ends.{answer_of}
+use Rattle.lock_table.specs.declared.end.End.TheVariants as «end»
+use Rattle.lock_table.proofs.Calls.{call_seen, again_seen, stands_seen, decided_after, decision_seen}
+use Rattle.lock_table.proofs.Views.{length-standings, standings_at, rest_seen, outside_at}
+use Rattle.cell_machine.specs.declared.program.Action.{Action}
+use Rattle.cell_machine.specs.declared.program.Action.TheVariants as act
+use Rattle.cell_machine.specs.declared.program.Found.{Found}
+use Rattle.cell_machine.specs.declared.program.Found.TheVariants as found
+use Rattle.cell_machine.specs.declared.program.ListName.{ListName}
+use Rattle.cell_machine.specs.declared.program.ListName.TheVariants.{Active, Passive}
+use Rattle.cell_machine.specs.declared.program.Maker.{Maker}
+use Rattle.cell_machine.specs.declared.program.Maker.TheVariants.{Closure, Given}
+use Rattle.cell_machine.specs.declared.program.Next.{Next}
+use Rattle.cell_machine.specs.declared.program.Next.TheVariants as next
+use Rattle.cell_machine.specs.declared.program.Place.{Place}
+use Rattle.cell_machine.specs.declared.program.Place.TheVariants.{Claim, ClaimListed, JoinActive, AskActive, LeaveToMake, Make, Fill, NotifyActive, NotifyPassive, Fail, FailNotify, LeaveFull, RefuseActive, Look, JoinPassive, LookListed, AskPassive, LeavePassive, RefusePassive, Try, TryFill, TryNotifyActive, TryNotifyPassive, CancelMake, CancelNotify, CancelLeave, Abandon}
+use Rattle.cell_machine.specs.declared.program.Position.{Position}
+use Rattle.cell_machine.specs.declared.program.Position.TheVariants.{Out, ToMake, WaitingToMake, Making, ToWait, Waiting, At}
+use Rattle.cell_machine.specs.declared.words.Content.{Content}
+use Rattle.cell_machine.specs.declared.words.Content.TheVariants.{Empty, BeingMade, Full}
+use Rattle.cell_machine.specs.Program.{place_for, action_of, next_of, position_after, got_of}
+use Rattle.cell_machine.specs.Seats.{Task, no_task, initializes, sets, waits_only, fills_with, failed, task_by, task_at, task_of as place_task, Seat, seat_of, seated, makes_at, in_active, in_passive_at, value_known, verdict, verdict_of, is_resting}
+use Rattle.cell_machine.specs.Deeds.{Change, begins, fills, empties, everyone, list_of, deed_of, content_after, active_after, passive_after, Finds, FindsContent, FindsMade, FindsJoin, FindsAsk}
+use Rattle.cell_machine.specs.Machine.{OnceCell, IsCell, IsAtRest, Acts, Moves as MovesOf, knows, goes_with, runs, is_begun, is_polling, is_trying, is_cancelling, is_abandoning, is_pending, is_out, is_maker, position_at, answer_by}
+use Rattle.cell_machine.proofs.Kept.{after}
+use Rattle.cell_machine.proofs.Turns.{Turn, turn, Fits, fits, lands, the}
+use Rattle.cell_machine.proofs.Contents as contents
+use Rattle.cell_world.specs.State.{World, is_empty, is_full, value_in, list_in, standing_of, task_of}
+use Rattle.cell_world.specs.View.{view_of}
+use Rattle.cell_world.specs.Tasks.{task_in, or_before, task_then, makes, list_for, given, is_open}
+use Rattle.cell_world.specs.Legal.{call_of, DecidesOn, IsPossible, gives_something_back, gives_up, IsItsList, IsAllowed, ChangesOneThing, KnowsTask, Carried, IsGranted, Carries, IsPendingMaker, WaitsInList, Waits, IsOutOfMemory, IsCause, IsRefusedForCause, HasByTask, HasNothing, HasItsOwn, LeavesClear, EndsProperly, Legal}
+use Rattle.cell_world.specs.AtOnce.{AnswersAtOnce, TriesAtOnce, MakesAtOnce, PollsMaker, DropsMaker, is_try, is_poll, would_make, is_first_making, waits_for, is_first_wait, got_by, first_answer, maker_answer}
+use Rattle.cell_world.specs.Laws.{IsSound, IsAwake, IsStillThere, IsFreeAndWanted, is_at_rest, is_long_call, may_be_maker}
+use Rattle.cell_world.specs.Steps.{IsCellTable, TableSteps, Stands, Did, Steps}
+use Rattle.cell_world.proofs.Seen as seen
+use Rattle.lock_world.specs.Whole.{going_on}
+use Rattle.lock_frame.specs.Steps.{left_by, beginning}
+use Rattle.lock_table.proofs.Lists.{joined_unmarked}
+use Rattle.cell_machine.specs.Ranks.{left, left_at, active_marked, passive_marked, steps_left}
+use Rattle.cell_world.specs.Whole.{most_steps_of}
+use Rattle.cell_world.proofs.Acting.{Acting}
+use Rattle.cell_world.proofs.Acting as acting
+use Rattle.cell_world.proofs.Stepping.{Way, impossible, over, acts, way}
+
+-- how many steps are left once this was found, by whether the party's own entries are marked then
+abbrev pub Left : Place → Found → Bool → Bool → ℕ
+Left x f active passive = left_by (answer_by (next_of x f)) (left_at (after x f) active passive)
+
+module _ (i : Inputs) (p : ℕ) (c : Content) (q r : List (Entry ℕ)) where
+  abbrev own : Bool
+  own = is_marked_at (is_party p) q
+
+  abbrev own_passive : Bool
+  own_passive = is_marked_at (is_party p) r
+
+  abbrev active_then : Place → Found → Bool
+  active_then x f = is_marked_at (is_party p) (active_after p (deed_of (action_of x) f) q)
+
+  abbrev passive_then : Place → Found → Bool
+  passive_then x f = is_marked_at (is_party p) (passive_after p (deed_of (action_of x) f) r)
+
+  leaves_next : (b : Bool) → 5 < (if b then 10 else 6)
+  leaves_next true = omega arith
+  leaves_next false = omega arith
+
+  ends : (b : Bool) → 1 < (if b then 10 else 6)
+  ends true = omega arith
+  ends false = omega arith
+
+  asks_next : (b : Bool) → (if b then 9 else 1) < (if b then 10 else 6)
+  asks_next true = omega arith
+  asks_next false = omega arith
+
+  ends_passive : (b : Bool) → 1 < (if b then 6 else 2)
+  ends_passive true = omega arith
+  ends_passive false = omega arith
+
+  asks_passive : (b : Bool) → (if b then 5 else 1) < (if b then 6 else 2)
+  asks_passive true = omega arith
+  asks_passive false = omega arith
+
+  pub fewer : (x : Place) (f : Found) → Finds i p (action_of x) f c q r → entries_of p q ≡ in_active (At x) → entries_of p r ≡ in_passive_at (At x) → Left x f (active_then x f) (passive_then x f) < left x own own_passive
+  fewer (Claim m told) found.Empty e n k = omega arith
+  fewer (Claim m told) (found.Full u) e n k = omega arith
+  fewer (Claim m told) found.BeingMade e n k = omega arith
+  fewer (Claim m told) _ e n k = absurd e
+  fewer (ClaimListed m) found.Empty e n k = leaves_next own
+  fewer (ClaimListed m) (found.Full u) e n k = ends own
+  fewer (ClaimListed m) found.BeingMade e n k = asks_next own
+  fewer (ClaimListed m) _ e n k = absurd e
+  fewer (JoinActive m told) found.Done e n k = let un = joined_unmarked p q n in rw un (omega arith)
+  fewer (JoinActive m true) found.NoMemory e n k = omega arith
+  fewer (JoinActive m false) found.NoMemory e n k = omega arith
+  fewer (JoinActive m told) _ e n k = absurd e
+  fewer (AskActive m) found.Yes e n k = rw e (omega arith)
+  fewer (AskActive m) found.No e n k = rw e (omega arith)
+  fewer (AskActive m) _ e n k = absurd e
+  fewer (LeaveToMake m) f e n k = omega arith
+  fewer (Make m) (found.Made u) e n k = omega arith
+  fewer (Make m) found.Failed e n k = omega arith
+  fewer (Make m) _ e n k = omega arith
+  fewer (Fill v) f e n k = omega arith
+  fewer (NotifyActive v) f e n k = omega arith
+  fewer (NotifyPassive v) f e n k = omega arith
+  fewer Fail f e n k = omega arith
+  fewer FailNotify f e n k = omega arith
+  fewer (LeaveFull m v) f e n k = omega arith
+  fewer (RefuseActive m) f e n k = omega arith
+  fewer (Look told) (found.Full u) e n k = omega arith
+  fewer (Look told) _ e n k = omega arith
+  fewer (JoinPassive told) found.Done e n k = let un = joined_unmarked p r k in rw un (omega arith)
+  fewer (JoinPassive true) found.NoMemory e n k = omega arith
+  fewer (JoinPassive false) found.NoMemory e n k = omega arith
+  fewer (JoinPassive told) _ e n k = absurd e
+  fewer LookListed (found.Full u) e n k = ends_passive own_passive
+  fewer LookListed _ e n k = asks_passive own_passive
+  fewer AskPassive found.Yes e n k = rw e (omega arith)
+  fewer AskPassive found.No e n k = rw e (omega arith)
+  fewer AskPassive _ e n k = absurd e
+  fewer (LeavePassive v) f e n k = omega arith
+  fewer RefusePassive f e n k = omega arith
+  fewer (Try v) found.Empty e n k = omega arith
+  fewer (Try v) _ e n k = omega arith
+  fewer (TryFill v) f e n k = omega arith
+  fewer (TryNotifyActive v) f e n k = omega arith
+  fewer (TryNotifyPassive v) f e n k = omega arith
+  fewer CancelMake f e n k = omega arith
+  fewer CancelNotify f e n k = omega arith
+  fewer (CancelLeave list) f e n k = omega arith
+  fewer Abandon f e n k = omega arith
+
+-- at least one step is left
+by_bool : (b : Bool) (m n : ℕ) → 0 < m → 0 < n → 0 < (if b then m else n)
+by_bool true m n h k = h
+by_bool false m n h k = k
+
+some_left : (x : Place) (a b : Bool) → 0 < left x a b
+some_left (ClaimListed k) a b = by_bool a 10 6 (omega arith) (omega arith)
+some_left (AskActive k) a b = by_bool a 9 1 (omega arith) (omega arith)
+some_left LookListed a b = by_bool b 6 2 (omega arith) (omega arith)
+some_left AskPassive a b = by_bool b 5 1 (omega arith) (omega arith)
+some_left _ a b = omega arith
+
+some_at : (x : Position) (a b : Bool) → 0 < left_at x a b
+some_at (At x) a b = some_left x a b
+some_at _ a b = omega arith
+
+one_at_least : (c : Call) → 1 ≤ most_steps_of c
+one_at_least call.Initialize = omega arith
+one_at_least (call.Set v) = omega arith
+one_at_least call.Wait = omega arith
+one_at_least call.Poll = omega arith
+one_at_least (call.TrySet v) = omega arith
+one_at_least call.Drop = omega arith
+one_at_least _ = omega arith
+
+-- no call has more left where it begins than it may take
+abbrev Within_most : Stage → What → Within → Position → Place → Type 0
+Within_most s (Begin c i) w x from = (a b : Bool) → left from a b ≤ most_steps_of c
+Within_most s (Go i) w x from = x ≡ At from
+
+at_most_nine : (b : Bool) (n : ℕ) → n ≤ 9 → (if b then n else 1) ≤ 9
+at_most_nine true n h = h
+at_most_nine false n h = omega arith
+
+within_most : (s : Stage) (what : What) (w : Within) (x : Position) → goes_with s x ≡ true → call_at knows s what ≡ Some w → polls_again s what ≡ false → Turn Within_most s what w x
+within_most = turn Within_most (record {
+  initialize = λ r i g h a b. omega arith;
+  set = λ v r i g h a b. omega arith;
+  wait = λ r i g h a b. omega arith;
+  try = λ v r i g h a b. omega arith;
+  poll = λ k i a b. omega arith;
+  poll_listed = λ k i a b. at_most_nine a 9 (omega arith);
+  poll_maker = λ k i a b. omega arith;
+  poll_wait = λ i a b. omega arith;
+  poll_waiting = λ i a b. at_most_nine b 5 (omega arith);
+  cancel = λ k i a b. omega arith;
+  cancel_maker = λ k i a b. omega arith;
+  cancel_wait = λ i a b. omega arith;
+  abandon = λ k i a b. omega arith;
+  abandon_wait = λ i a b. omega arith;
+  drop_finished = λ i a b. omega arith;
+  go = λ w x i begun here. refl;
+})
+
+module _ (t u : Table OnceCell) (m : Move) (a : Answer) where
+  abbrev p : ℕ
+  p = m.party
+
+  -- one step of the party leaves less to do than there was at its place
+  less : (w : Within) (k : Acting t u m a w) → left_by a (steps_left u.machine p) < left k.from (active_marked t.machine p) (passive_marked t.machine p)
+  less w k =
+      let here = fewer (inputs_of m.what) p t.machine.content t.machine.active t.machine.passive k.from k.found k.acts.finds (acting.own_active t u m a w k) (acting.own_passive t u m a w k) in
+      let marks : active_marked u.machine p ≡ is_marked_at (is_party p) (active_after p (deed_of (action_of k.from) k.found) t.machine.active) = ap (is_marked_at (is_party p)) k.acts.active in
+      let marks' : passive_marked u.machine p ≡ is_marked_at (is_party p) (passive_after p (deed_of (action_of k.from) k.found) t.machine.passive) = ap (is_marked_at (is_party p)) k.acts.passive in
+      let same : left_by a (steps_left u.machine p) ≡ Left k.from k.found (is_marked_at (is_party p) (active_after p (deed_of (action_of k.from) k.found) t.machine.active)) (is_marked_at (is_party p) (passive_after p (deed_of (action_of k.from) k.found) t.machine.passive)) =
+      ap (λ b. left_by b (steps_left u.machine p)) k.answer ∙ (ap (λ x. left_by (answer_by (next_of k.from k.found)) (left_at x (active_marked u.machine p) (passive_marked u.machine p))) (acting.lands_at t u m a w k)
+      ∙ (ap (λ b. Left k.from k.found b (passive_marked u.machine p)) marks ∙ ap (λ b. Left k.from k.found (is_marked_at (is_party p) (active_after p (deed_of (action_of k.from) k.found) t.machine.active)) b) marks')) in
+      rw same here
+
+  nothing_left : (b : Answer) → a ≡ b → (n : ℕ) → left_by b n ≡ 0 → left_by a n ≡ 0
+  nothing_left b e n z = ap (λ x. left_by x n) e ∙ z
+
+  pub from_turn : (w : Within) (k : Acting t u m a w) → Within_most (stage_at t.stages p) m.what w (position_at t.machine.positions p) k.from
+  from_turn w k =
+      let turned = within_most (stage_at t.stages p) m.what w (position_at t.machine.positions p) (k.old_fits.stands p k.inside) k.call k.first in
+      let same : turned.from ≡ k.from = some_eq (sym turned.starts ∙ k.starts) in
+      let P : Place → Type 0 = λ y. Within_most (stage_at t.stages p) m.what w (position_at t.machine.positions p) y in
+      subst P same turned.holds
+
+  some_here : 0 < steps_left t.machine p
+  some_here = some_at (position_at t.machine.positions p) (active_marked t.machine p) (passive_marked t.machine p)
+
+pub begins_few : (t u : Table OnceCell) (p : ℕ) (c : Call) (i : Inputs) (a : Answer) → Way t u (beginning p c i) a → 1 + left_by a (steps_left u.machine p) ≤ most_steps_of c
+begins_few t u p c i a (impossible e ea eu) = let none = nothing_left t u (beginning p c i) a answer.NotPossible ea (steps_left u.machine p) refl in omega (arith, one_at_least c)
+begins_few t u p c i a (over w e f ea eu) = let none = nothing_left t u (beginning p c i) a (refused refusal.Finished) ea (steps_left u.machine p) refl in omega (arith, one_at_least c)
+begins_few t u p c i a (acts w k) = let few = from_turn t u (beginning p c i) a w k (active_marked t.machine p) (passive_marked t.machine p) in omega (arith, less t u (beginning p c i) a w k, few)
+
+pub falls : (t u : Table OnceCell) (p : ℕ) (i : Inputs) (a : Answer) → Way t u (going_on p i) a → left_by a (steps_left u.machine p) < steps_left t.machine p
+falls t u p i a (impossible e ea eu) = let none = nothing_left t u (going_on p i) a answer.NotPossible ea (steps_left u.machine p) refl in omega (arith, some_here t u (going_on p i) a)
+falls t u p i a (over w e f ea eu) = let none = nothing_left t u (going_on p i) a (refused refusal.Finished) ea (steps_left u.machine p) refl in omega (arith, some_here t u (going_on p i) a)
+falls t u p i a (acts w k) =
+    let at : position_at t.machine.positions p ≡ At k.from = from_turn t u (going_on p i) a w k in
+    let same : steps_left t.machine p ≡ left k.from (active_marked t.machine p) (passive_marked t.machine p) = ap (λ x. left_at x (active_marked t.machine p) (passive_marked t.machine p)) at in
+    rw same (less t u (going_on p i) a w k)

@@ -1,0 +1,12 @@
+-- The World is at rest where its table is.
+use Rattle.std.proofs.Common.{ap, sym, ◌∙◌}
+use Rattle.lock_table.proofs.Views.{rest_seen}
+use Rattle.cell_machine.specs.Seats.{verdict}
+use Rattle.cell_machine.specs.Machine.{position_at}
+use Rattle.cell_world.specs.Laws.{is_at_rest}
+use Rattle.cell_world.proofs.world.World.at_rest.Goals as goal
+
+pub returns : goal.returns
+returns c =
+    c.at_rest.ensures
+    ∙ (sym (rest_seen (λ p. verdict (position_at c.self.inside.table.machine.positions p)) c.self.inside.table.stages) ∙ ap is_at_rest c.self.view_is)

@@ -1,0 +1,101 @@
+-- What the first step of a call decides at once.
+use Rattle.std.specs.Prelude.{◌≡◌, ℕ, ◌==◌, ◌&&◌, if◌then◌else◌, Bool, true, false, Option, Some, None}
+use Rattle.lock_queue.specs.Parties.{entries_of}
+use Rattle.lock_world.specs.declared.moves.Answer.{Answer}
+use Rattle.lock_world.specs.declared.moves.Answer.TheVariants as answer
+use Rattle.lock_world.specs.declared.moves.Call.TheVariants as call
+use Rattle.lock_world.specs.declared.moves.Got.{Got}
+use Rattle.lock_world.specs.declared.moves.Got.TheVariants as got
+use Rattle.lock_world.specs.declared.moves.Made.{Made}
+use Rattle.lock_world.specs.declared.moves.Made.TheVariants as made
+use Rattle.lock_world.specs.declared.moves.Move.{Move}
+use Rattle.lock_world.specs.declared.moves.What.{What}
+use Rattle.lock_world.specs.declared.moves.What.TheVariants.{Begin}
+use Rattle.lock_world.specs.declared.standing.Rest.TheVariants.{Idle, Pending, Finished}
+use Rattle.lock_world.specs.Frame.{is_drop}
+use Rattle.lock_world.specs.Standings.{Standing, outside, inputs_of, is_possible, decision}
+use Rattle.cell_machine.specs.declared.words.Content.{Content}
+use Rattle.cell_machine.specs.declared.words.Content.TheVariants.{Empty, BeingMade, Full}
+use Rattle.cell_machine.specs.Seats.{Task, initializes, sets, waits_only}
+use Rattle.cell_machine.specs.Machine.{is_maker}
+use Rattle.cell_world.specs.State.{World, is_empty, standing_of, task_of}
+use Rattle.cell_world.specs.Tasks.{task_then, given, list_for}
+
+abbrev pub is_try : What → Bool
+is_try (Begin (call.TrySet v) inputs) = true
+is_try _ = false
+
+abbrev pub is_poll : What → Bool
+is_poll (Begin call.Poll inputs) = true
+is_poll _ = false
+
+-- One of those that would make: an initialisation or a set.
+abbrev pub would_make : Task → Bool
+would_make initializes = true
+would_make (sets v) = true
+would_make _ = false
+
+-- The first poll of an initialisation or a set, or one after a refusal that left it as when it was made: then it has no entry and doesn't make.
+abbrev pub is_first_making : Standing → What → Task → ℕ → Bool → Bool
+is_first_making (outside Idle) (Begin call.Initialize inputs) t n making = true
+is_first_making (outside Idle) (Begin (call.Set v) inputs) t n making = true
+is_first_making (outside Finished) (Begin call.Initialize inputs) t n making = true
+is_first_making (outside Finished) (Begin (call.Set v) inputs) t n making = true
+is_first_making (outside Pending) (Begin call.Poll inputs) t n making = would_make t && ((n == 0) && (if making then false else true))
+is_first_making s _ t n making = false
+
+-- The first poll of a wait, or one after a refusal.
+abbrev pub waits_for : Task → Bool
+waits_for waits_only = true
+waits_for _ = false
+
+abbrev pub is_first_wait : Standing → What → Task → ℕ → Bool
+is_first_wait (outside Idle) (Begin call.Wait inputs) t n = true
+is_first_wait (outside Finished) (Begin call.Wait inputs) t n = true
+is_first_wait (outside Pending) (Begin call.Poll inputs) t n = waits_for t && (n == 0)
+is_first_wait s _ t n = false
+
+-- What a future is ready with that finds this value in the cell: a set has its own back.
+abbrev pub got_by : Task → ℕ → Got
+got_by (sets own) v = got.Taken own
+got_by t v = got.Value v
+
+-- How the first poll of a future with this task is answered by what is in the cell: at once where it is full.
+abbrev pub first_answer : Task → Content → Answer
+first_answer t (Full v) = answer.Ready (got_by t v)
+first_answer t Empty = answer.Stepped
+first_answer t (BeingMade q) = answer.Stepped
+
+-- How the poll of the maker is answered: Pending if its input says so, and a set's never.
+abbrev pub maker_answer : Task → Made → Answer
+maker_answer initializes made.Pending = answer.Pending
+maker_answer t m = answer.Stepped
+
+-- A try begins to make exactly on an empty cell, and then is to be granted; else it answers None.
+pub record TriesAtOnce (old : World) (m : Move) (a : Answer) (new : World) : Type 0 where
+  pub answered : a ≡ (if is_empty old.cell then answer.Stepped else answer.None)
+  pub begins : is_maker new.cell m.party ≡ is_empty old.cell
+  pub granted : is_empty old.cell ≡ true → decision a (standing_of new m.party) ≡ Some (answer.Granted got.Plain)
+
+-- The first step of a first initialisation or set begins to make exactly on an empty cell, and is ready on a full one.
+pub record MakesAtOnce (old : World) (m : Move) (a : Answer) (new : World) : Type 0 where
+  pub answered : a ≡ first_answer (task_then m.what (task_of old m.party)) old.cell
+  pub begins : is_maker new.cell m.party ≡ is_empty old.cell
+
+-- The poll of the party that makes asks its maker, and the cell stays as it is.
+pub record PollsMaker (old : World) (m : Move) (a : Answer) (new : World) : Type 0 where
+  pub answered : a ≡ maker_answer (task_of old m.party) (inputs_of m.what).made
+  pub task : task_of new m.party ≡ given (task_of old m.party) (inputs_of m.what).made
+  pub cell : new.cell ≡ old.cell
+
+-- A dropped maker leaves the cell empty at its first step, and goes on, to notify.
+pub record DropsMaker (a : Answer) (new : World) : Type 0 where
+  pub empty : new.cell ≡ Empty
+  pub goes_on : a ≡ answer.Stepped
+
+pub record AnswersAtOnce (old : World) (m : Move) (a : Answer) (new : World) : Type 0 where
+  pub tried : is_try m.what ≡ true → is_possible a ≡ true → TriesAtOnce old m a new
+  pub making : is_first_making (standing_of old m.party) m.what (task_of old m.party) (entries_of m.party old.active) (is_maker old.cell m.party) ≡ true → MakesAtOnce old m a new
+  pub waiting : is_first_wait (standing_of old m.party) m.what (task_of old m.party) (entries_of m.party old.passive) ≡ true → a ≡ first_answer waits_only old.cell
+  pub maker : is_poll m.what ≡ true → standing_of old m.party ≡ outside Pending → is_maker old.cell m.party ≡ true → PollsMaker old m a new
+  pub dropped : is_drop m.what ≡ true → is_possible a ≡ true → is_maker old.cell m.party ≡ true → DropsMaker a new

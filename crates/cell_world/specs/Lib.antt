@@ -1,0 +1,11 @@
+pub mod State
+pub mod View
+pub mod Tasks
+pub mod Legal
+pub mod AtOnce
+pub mod Laws
+pub mod Steps
+pub mod Runs
+pub mod Whole
+pub mod Bound
+pub mod Openings

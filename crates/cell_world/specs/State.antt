@@ -1,0 +1,64 @@
+-- What callers see of a once-cell's World: what is in the cell, its lists, and how each party stands.
+use Rattle.std.specs.Prelude.{◌≡◌, ℕ, Bool, true, false, List, [], Option, Some, None, slice_index_or, replicate, length}
+use Rattle.lock_event.specs.declared.event.Entry.{Entry}
+use Rattle.lock_world.specs.declared.standing.Rest.TheVariants.{Idle}
+use Rattle.lock_world.specs.Standings.{Standing, outside, forgotten}
+use Rattle.lock_table.specs.Tables.{Table, new_table}
+use Rattle.cell_machine.specs.declared.program.ListName.{ListName}
+use Rattle.cell_machine.specs.declared.words.Content.{Content}
+use Rattle.cell_machine.specs.declared.words.Content.TheVariants.{Empty, BeingMade, Full}
+use Rattle.cell_machine.specs.Seats.{Task, no_task}
+use Rattle.cell_machine.specs.Deeds.{list_of}
+use Rattle.cell_machine.specs.Machine.{OnceCell, new_cell}
+
+-- What is in the cell: nothing, nothing yet while one party makes its value, or a value. The list of those that would make it, and the list of those that only wait, with their marks; how each party stands; and what each party's future is for. What stands behind the World is named by no clause but that of its own step.
+pub record World : Type 0 where
+  pub cell : Content
+  pub active : List (Entry ℕ)
+  pub passive : List (Entry ℕ)
+  pub standings : List Standing
+  pub tasks : List Task
+  pub behind : Table OnceCell
+
+abbrev pub is_empty : Content → Bool
+is_empty Empty = true
+is_empty (BeingMade q) = false
+is_empty (Full v) = false
+
+abbrev pub is_full : Content → Bool
+is_full Empty = false
+is_full (BeingMade q) = false
+is_full (Full v) = true
+
+-- The cell's value, if it is full.
+abbrev pub value_in : Content → Option ℕ
+value_in Empty = None
+value_in (BeingMade q) = None
+value_in (Full v) = Some v
+
+-- The list of this name.
+abbrev pub list_in : ListName → World → List (Entry ℕ)
+list_in list w = list_of list w.active w.passive
+
+-- A party past the table stands as one that is forgotten: it moves no more.
+abbrev pub standing_of : World → ℕ → Standing
+standing_of w p = slice_index_or w.standings p forgotten
+
+-- What a party's future is for.
+abbrev pub task_of : World → ℕ → Task
+task_of w p = slice_index_or w.tasks p no_task
+
+-- As it is made: empty, nobody is listed, and each party is idle.
+abbrev pub new_world : ℕ → World
+new_world parties = record {
+  cell = Empty;
+  active = [];
+  passive = [];
+  standings = replicate parties (outside Idle);
+  tasks = replicate parties no_task;
+  behind = new_table (new_cell parties) parties 0;
+}
+
+-- The World as it was made, by the number of its parties.
+abbrev pub opening_of : World → World
+opening_of w = new_world (length w.standings)

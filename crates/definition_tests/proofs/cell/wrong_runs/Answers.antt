@@ -1,0 +1,143 @@
+-- No wrong run of a once-cell is legal.
+use Rattle.std.proofs.Common.{◌≡◌, ◌≢◌, ℕ, ◌<◌, ◌⊎◌, inl, inr, if◌then◌else◌, Bool, true, false, Option, Some, None, refl, arith, ap, sym, ◌∙◌, subst}
+use Rattle.std.proofs.lemmas.Bool.{false≢true, true≢false}
+use Rattle.lock_event.specs.Lists.{mark_at}
+use Rattle.lock_queue.specs.Parties.{is_party}
+use Rattle.lock_world.specs.declared.moves.Answer.{Answer}
+use Rattle.lock_world.specs.declared.moves.Answer.TheVariants as answer
+use Rattle.lock_world.specs.declared.moves.Inputs.{Inputs}
+use Rattle.lock_world.specs.declared.moves.Made.{Made}
+use Rattle.lock_world.specs.declared.moves.Made.TheVariants as made
+use Rattle.lock_world.specs.declared.moves.Move.{Move}
+use Rattle.lock_world.specs.declared.moves.What.{What}
+use Rattle.lock_world.specs.Frame.{is_drop}
+use Rattle.lock_world.specs.Standings.{is_possible, inputs_of}
+use Rattle.lock_world.specs.Steps.{Deed, nothing, changes, does}
+use Rattle.lock_world.proofs.Equations.{some_eq, some_none, none_some}
+use Rattle.cell_machine.specs.declared.program.ListName.{ListName}
+use Rattle.cell_machine.specs.declared.program.ListName.TheVariants.{Active, Passive}
+use Rattle.cell_machine.specs.declared.words.Content.{Content}
+use Rattle.cell_machine.specs.declared.words.Content.TheVariants.{Empty, BeingMade, Full}
+use Rattle.cell_machine.specs.Seats.{Task, no_task, initializes, sets, waits_only, fills_with, failed}
+use Rattle.cell_machine.specs.Deeds.{Change, begins, fills, empties, content_after}
+use Rattle.cell_machine.specs.Machine.{is_maker}
+use Rattle.cell_machine.proofs.Contents.{maker_is}
+use Rattle.cell_world.specs.State.{World, list_in, is_empty, task_of}
+use Rattle.cell_world.specs.Tasks.{task_in, given, list_for}
+use Rattle.cell_world.specs.Legal.{IsAllowed, IsPendingMaker, WaitsInList}
+use Rattle.cell_world.specs.Bound.{ComesTo}
+use Rattle.cell_world.proofs.Values.{stays_full}
+use Rattle.definition_tests.proofs.cell.wrong_runs.Goals as goal
+
+chosen : (b c : Bool) (x y : Answer) → b ≡ c → (if b then x else y) ≡ (if c then x else y)
+chosen b c x y e = ap (λ z. if z then x else y) e
+
+possible_by : (a b : Answer) → a ≡ b → is_possible b ≡ true → is_possible a ≡ true
+possible_by a b e h = ap is_possible e ∙ h
+
+pub returns-clause-enters_twice : goal.returns-clause-enters_twice
+returns-clause-enters_twice c = λ r. r.other (stays_full r.step.old r.step.move r.step.answer r.step.new r.legal r.value r.full)
+
+made_empty : (n : ℕ) (c : Content) → c ≡ BeingMade n → c ≡ Empty → ⊥
+made_empty n c e f = let never : BeingMade n ≡ Empty = sym e ∙ f in cc never
+
+same_maker : (n k : ℕ) (c : Content) → c ≡ BeingMade n → c ≡ BeingMade k → k ≡ n
+same_maker n k c e f = let same : BeingMade n ≡ BeingMade k = sym e ∙ f in cc same
+
+-- making ends by its maker alone, dropped or failed
+ends_so : (w : World) (m : Move) (d : Deed Change ListName) (c : Content) (n : ℕ) → IsAllowed w m d → c ≡ content_after m.party d w.cell → w.cell ≡ BeingMade n → c ≡ Empty → (is_drop m.what ≡ true) ⊎ (task_of w n ≡ failed)
+ends_so w m nothing c n ok e made empty = absurd (made_empty n w.cell made (sym e ∙ empty))
+ends_so w m (does list f) c n ok e made empty = absurd (made_empty n w.cell made (sym e ∙ empty))
+ends_so w m (changes begins) c n ok e made empty = absurd (made_empty n w.cell made ok.0)
+ends_so w m (changes (fills v)) c n ok e made empty = let never : Full v ≡ Empty = sym e ∙ empty in absurd (cc never)
+ends_so w m (changes empties) c n ok e made empty = elim ok.1 as (λ _. (is_drop m.what ≡ true) ⊎ (task_of w n ≡ failed)) [ inl d ↦ inl d | inr f ↦ inr (ap (task_of w) (sym (same_maker n m.party w.cell made ok.0)) ∙ f) ]
+
+pub returns-clause-ends_by_nothing : goal.returns-clause-ends_by_nothing
+returns-clause-ends_by_nothing c = λ r.
+    let one = r.legal.one_change in
+    elim (ends_so r.step.old r.step.move one.deed r.step.new.cell r.maker one.allowed one.cell r.making r.ended) as (λ _. ⊥) [ inl d ↦ true≢false (sym d ∙ r.not_dropped) | inr f ↦ r.not_failed f ]
+
+made_full : (n v : ℕ) (c : Content) → c ≡ BeingMade n → c ≡ Full v → ⊥
+made_full n v c e f = let never : BeingMade n ≡ Full v = sym e ∙ f in cc never
+
+fills_so : (w : World) (m : Move) (d : Deed Change ListName) (c : Content) (u v : ℕ) → IsAllowed w m d → c ≡ content_after m.party d w.cell → w.cell ≡ BeingMade m.party → task_of w m.party ≡ fills_with v → c ≡ Full u → u ≡ v
+fills_so w m nothing c u v ok e made gave full = absurd (made_full m.party u w.cell made (sym e ∙ full))
+fills_so w m (does list f) c u v ok e made gave full = absurd (made_full m.party u w.cell made (sym e ∙ full))
+fills_so w m (changes begins) c u v ok e made gave full = let never : BeingMade m.party ≡ Full u = sym e ∙ full in absurd (cc never)
+fills_so w m (changes empties) c u v ok e made gave full = let never : Empty ≡ Full u = sym e ∙ full in absurd (cc never)
+fills_so w m (changes (fills z)) c u v ok e made gave full =
+    let one : Full z ≡ Full u = sym e ∙ full in
+    let two : fills_with z ≡ fills_with v = sym ok.1 ∙ gave in
+    cc (one, two)
+
+pub returns-clause-fills_another : goal.returns-clause-fills_another
+returns-clause-fills_another c = λ r.
+    let one = r.legal.one_change in
+    r.other (fills_so r.step.old r.step.move one.deed r.step.new.cell r.entered r.given one.allowed one.cell (maker_is r.step.old.cell r.step.move.party r.making) r.gave r.fills)
+
+pub returns-clause-makes_another : goal.returns-clause-makes_another
+returns-clause-makes_another c = λ r.
+    let none : task_in r.step.move.what ≡ None = ap task_in r.goes in
+    let input : (inputs_of r.step.move.what).made ≡ made.Value r.given = ap (λ (z : What). (inputs_of z).made) r.goes ∙ r.gave in
+    elim (r.legal.knows_task.going none r.possible r.open) as (λ _. ⊥) [
+      | inl same ↦ (let never : fills_with r.kept ≡ initializes = sym r.goes_on ∙ (same ∙ r.asked) in cc never)
+      | inr gave ↦ (let so : fills_with r.kept ≡ given initializes (made.Value r.given) = sym r.goes_on ∙ (gave.2 ∙ (ap (λ z. given z (inputs_of r.step.move.what).made) r.asked ∙ ap (given initializes) input)) in r.other (cc so))
+    ]
+
+pub returns-clause-ready_too_soon : goal.returns-clause-ready_too_soon
+returns-clause-ready_too_soon c = λ r. r.not_full (r.legal.carries.ready _ r.decides).0
+
+-- who is answered Pending makes
+pends_so : (t : Task) (p : ℕ) (a : Answer) (v : World) → ComesTo t p a v → a ≡ answer.Pending → v.cell ≡ BeingMade p
+pends_so (fills_with x) p a v h e = let never = sym h.0 ∙ e in absurd (cc never)
+pends_so failed p a v h e = let never = sym h.0 ∙ e in absurd (cc never)
+pends_so no_task p a v h e = let never = sym h.0 ∙ e in absurd (cc never)
+pends_so initializes p a v h e = h.1
+pends_so (sets x) p a v h e = h.1
+pends_so waits_only p a v h e = h.1
+
+pub returns-clause-waits_without_making : goal.returns-clause-waits_without_making
+returns-clause-waits_without_making c = λ r. r.no_maker (pends_so _ r.whole.party r.whole.answer r.whole.new (r.kept.first r.first r.empty) r.pending)
+
+waits_active : (m : Move) (v : World) → IsPendingMaker m v ⊎ WaitsInList m v → list_for (task_of v m.party) ≡ Some Active → (v.cell ≡ BeingMade m.party → ⊥) → mark_at (is_party m.party) v.active ≡ None → ⊥
+waits_active m v (inl k) its no un = no k.maker
+waits_active m v (inr k) its no un = by_list k.list (some_eq (sym k.its ∙ its)) k.waits where
+  by_list : (list : ListName) → list ≡ Active → mark_at (is_party m.party) (list_in list v) ≡ Some _ → ⊥
+  by_list Active e w = none_some (sym un ∙ w)
+  by_list Passive e w = cc e
+
+pub returns-clause-waits_in_passive : goal.returns-clause-waits_in_passive
+returns-clause-waits_in_passive c = λ r. waits_active r.step.move r.step.new (r.legal.waits.waiting r.pending) (ap list_for r.task) r.no_maker r.unlisted
+
+waits_passive : (m : Move) (v : World) → IsPendingMaker m v ⊎ WaitsInList m v → task_of v m.party ≡ waits_only → mark_at (is_party m.party) v.passive ≡ None → ⊥
+waits_passive m v (inl k) task un = let never : initializes ≡ waits_only = sym k.task ∙ task in cc never
+waits_passive m v (inr k) task un = by_list k.list (some_eq (sym k.its ∙ ap list_for task)) k.waits where
+  by_list : (list : ListName) → list ≡ Passive → mark_at (is_party m.party) (list_in list v) ≡ Some _ → ⊥
+  by_list Passive e w = none_some (sym un ∙ w)
+  by_list Active e w = cc e
+
+pub returns-clause-waits_in_active : goal.returns-clause-waits_in_active
+returns-clause-waits_in_active c = λ r. waits_passive r.step.move r.step.new (r.legal.waits.waiting r.pending) r.task r.unlisted
+
+pub returns-clause-tries_in_vain : goal.returns-clause-tries_in_vain
+returns-clause-tries_in_vain c = λ r.
+    let so : answer.None ≡ answer.Stepped = sym r.none ∙ ((r.legal.tried r.tries (possible_by r.step.answer answer.None r.none refl)).answered ∙ chosen (is_empty r.step.old.cell) true answer.Stepped answer.None r.empty) in cc so
+
+pub returns-clause-tries_while_made : goal.returns-clause-tries_while_made
+returns-clause-tries_while_made c = λ r.
+    let so : answer.Stepped ≡ answer.None = sym r.goes_on ∙ ((r.legal.tried r.tries (possible_by r.step.answer answer.Stepped r.goes_on refl)).answered ∙ chosen (is_empty r.step.old.cell) false answer.Stepped answer.None r.taken) in cc so
+
+pub returns-clause-loses_its_own : goal.returns-clause-loses_its_own
+returns-clause-loses_its_own c = λ r. (r.legal.carries.ready _ r.decides).1 r.own r.set
+
+pub returns-clause-stays_made : goal.returns-clause-stays_made
+returns-clause-stays_made c = λ r. made_empty r.step.move.party r.step.new.cell r.left (r.legal.dropped r.drops r.possible r.making).empty
+
+pub returns-clause-tells_nobody : goal.returns-clause-tells_nobody
+returns-clause-tells_nobody c = λ r. let some = (r.kept.dropped r.drops r.was_pending r.making).1.notified r.some in absurd (omega (arith, some, r.none_told))
+
+pub returns-clause-passes_over_in_vain : goal.returns-clause-passes_over_in_vain
+returns-clause-passes_over_in_vain c = λ r. r.no_maker (pends_so _ r.whole.party r.whole.answer r.whole.new (r.kept.solo r.polls r.solo r.empty) r.pending)
+
+pub returns-clause-keeps_its_told : goal.returns-clause-keeps_its_told
+returns-clause-keeps_its_told c = λ r. let some = r.kept.hands_on r.polls r.was_pending r.list r.listed r.refused r.some in absurd (omega (arith, some, r.none_told))

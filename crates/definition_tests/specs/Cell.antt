@@ -1,0 +1,195 @@
+-- Runs of a once-cell that no user would accept. Each record is one wrong run: what its steps would be, if it were legal.
+use Rattle.std.specs.Prelude.{◌≡◌, ◌≢◌, ℕ, ◌<◌, true, false, length, None}
+use Rattle.lock_event.specs.Lists.{marked_count, mark_at}
+use Rattle.lock_queue.specs.Parties.{is_party, entries_of}
+use Rattle.lock_world.specs.declared.moves.Answer.{Answer}
+use Rattle.lock_world.specs.declared.moves.Answer.TheVariants as answer
+use Rattle.lock_world.specs.declared.moves.Call.{Call}
+use Rattle.lock_world.specs.declared.moves.Call.TheVariants as call
+use Rattle.lock_world.specs.declared.moves.Got.TheVariants as got
+use Rattle.lock_world.specs.declared.moves.Inputs.{Inputs}
+use Rattle.lock_world.specs.declared.moves.Made.TheVariants as made
+use Rattle.lock_world.specs.declared.moves.Move.{Move}
+use Rattle.lock_world.specs.declared.moves.What.TheVariants.{Begin, Go}
+use Rattle.lock_world.specs.declared.standing.Rest.TheVariants.{Pending}
+use Rattle.lock_world.specs.Frame.{is_drop, is_refusal}
+use Rattle.lock_world.specs.Standings.{outside, is_possible}
+use Rattle.cell_machine.specs.declared.program.ListName.{ListName}
+use Rattle.cell_machine.specs.declared.words.Content.TheVariants.{Empty, BeingMade, Full}
+use Rattle.cell_machine.specs.Seats.{initializes, sets, waits_only, fills_with, failed}
+use Rattle.cell_machine.specs.Machine.{is_maker}
+use Rattle.cell_world.specs.AtOnce.{AnswersAtOnce, is_try, is_first_making}
+use Rattle.cell_world.specs.Bound.{IsSolo, Promises}
+use Rattle.cell_world.specs.Legal.{Legal, DecidesOn}
+use Rattle.cell_world.specs.State.{World, list_in, is_empty, standing_of, task_of}
+use Rattle.cell_world.specs.Tasks.{task_then, is_open}
+
+-- A move of a party, and what it leads to.
+pub record Step : Type 0 where
+  pub old : World
+  pub move : Move
+  pub answer : Answer
+  pub new : World
+
+abbrev pub IsLegal : Step → Type 0
+IsLegal s = Legal s.old s.move s.answer s.new
+
+abbrev pub IsAtOnce : Step → Type 0
+IsAtOnce s = AnswersAtOnce s.old s.move s.answer s.new
+
+-- A whole call, and where it ends.
+pub record Whole : Type 0 where
+  pub old : World
+  pub party : ℕ
+  pub call : Call
+  pub inputs : Inputs
+  pub answer : Answer
+  pub new : World
+
+abbrev pub Keeps : Whole → Type 0
+Keeps c = Promises c.old c.party c.call c.inputs c.answer c.new
+
+-- A second value enters a full cell, or its value goes.
+pub record EntersTwice : Type 0 where
+  pub step : Step
+  pub value : ℕ
+  pub full : step.old.cell ≡ Full value
+  pub other : step.new.cell ≢ Full value
+  pub legal : IsLegal step
+
+-- The making ends and no value enters, though the maker has neither failed nor is dropped.
+pub record EndsByNothing : Type 0 where
+  pub step : Step
+  pub maker : ℕ
+  pub making : step.old.cell ≡ BeingMade maker
+  pub ended : step.new.cell ≡ Empty
+  pub not_dropped : is_drop step.move.what ≡ false
+  pub not_failed : task_of step.old maker ≢ failed
+  pub legal : IsLegal step
+
+-- The cell is filled with another value than the one that its maker gave.
+pub record FillsAnother : Type 0 where
+  pub step : Step
+  pub given : ℕ
+  pub entered : ℕ
+  pub other : entered ≢ given
+  pub gave : task_of step.old step.move.party ≡ fills_with given
+  pub unfilled : is_empty step.old.cell ≡ false
+  pub making : is_maker step.old.cell step.move.party ≡ true
+  pub fills : step.new.cell ≡ Full entered
+  pub legal : IsLegal step
+
+-- The maker gives one value by the move's input, and its party goes on with another.
+pub record MakesAnother : Type 0 where
+  pub step : Step
+  pub inputs : Inputs
+  pub given : ℕ
+  pub kept : ℕ
+  pub other : kept ≢ given
+  pub goes : step.move.what ≡ Go inputs
+  pub gave : inputs.made ≡ made.Value given
+  pub asked : task_of step.old step.move.party ≡ initializes
+  pub possible : is_possible step.answer ≡ true
+  pub open : is_open (standing_of step.new step.move.party) ≡ true
+  pub goes_on : task_of step.new step.move.party ≡ fills_with kept
+  pub legal : IsLegal step
+
+-- A party is to be ready with a value that isn't in the cell.
+pub record ReadyTooSoon : Type 0 where
+  pub step : Step
+  pub value : ℕ
+  pub decides : DecidesOn step.old step.move step.answer step.new (answer.Ready (got.Value value))
+  pub not_full : step.new.cell ≢ Full value
+  pub legal : IsLegal step
+
+-- A first initialisation finds the cell empty, and is answered Pending without being its maker.
+pub record WaitsWithoutMaking : Type 0 where
+  pub whole : Whole
+  pub first : is_first_making (standing_of whole.old whole.party) (Begin whole.call whole.inputs) (task_of whole.old whole.party) (entries_of whole.party whole.old.active) (is_maker whole.old.cell whole.party) ≡ true
+  pub empty : whole.old.cell ≡ Empty
+  pub pending : whole.answer ≡ answer.Pending
+  pub no_maker : whole.new.cell ≢ BeingMade whole.party
+  pub kept : Keeps whole
+
+-- An initialisation that isn't the maker is answered Pending, and doesn't stand in `active`.
+pub record WaitsInPassive : Type 0 where
+  pub step : Step
+  pub pending : step.answer ≡ answer.Pending
+  pub task : task_of step.new step.move.party ≡ initializes
+  pub no_maker : step.new.cell ≢ BeingMade step.move.party
+  pub unlisted : mark_at (is_party step.move.party) step.new.active ≡ None
+  pub legal : IsLegal step
+
+-- A wait is answered Pending, and doesn't stand in `passive`.
+pub record WaitsInActive : Type 0 where
+  pub step : Step
+  pub pending : step.answer ≡ answer.Pending
+  pub task : task_of step.new step.move.party ≡ waits_only
+  pub unlisted : mark_at (is_party step.move.party) step.new.passive ≡ None
+  pub legal : IsLegal step
+
+-- A try is answered None though the cell is empty.
+pub record TriesInVain : Type 0 where
+  pub step : Step
+  pub tries : is_try step.move.what ≡ true
+  pub empty : is_empty step.old.cell ≡ true
+  pub none : step.answer ≡ answer.None
+  pub legal : IsAtOnce step
+
+-- A try goes on, as to wait, though the cell isn't empty.
+pub record TriesWhileMade : Type 0 where
+  pub step : Step
+  pub tries : is_try step.move.what ≡ true
+  pub taken : is_empty step.old.cell ≡ false
+  pub goes_on : step.answer ≡ answer.Stepped
+  pub legal : IsAtOnce step
+
+-- A set finds the cell full, and is ready with the cell's value: the value handed in is lost.
+pub record LosesItsOwn : Type 0 where
+  pub step : Step
+  pub own : ℕ
+  pub value : ℕ
+  pub set : task_then step.move.what (task_of step.old step.move.party) ≡ sets own
+  pub decides : DecidesOn step.old step.move step.answer step.new (answer.Ready (got.Value value))
+  pub legal : IsLegal step
+
+-- A dropped maker leaves the cell being made.
+pub record StaysMade : Type 0 where
+  pub step : Step
+  pub drops : is_drop step.move.what ≡ true
+  pub possible : is_possible step.answer ≡ true
+  pub making : is_maker step.old.cell step.move.party ≡ true
+  pub left : step.new.cell ≡ BeingMade step.move.party
+  pub legal : IsAtOnce step
+
+-- A maker is dropped, others wait to make, and nobody is told.
+pub record TellsNobody : Type 0 where
+  pub whole : Whole
+  pub drops : whole.call ≡ call.Drop
+  pub was_pending : standing_of whole.old whole.party ≡ outside Pending
+  pub making : is_maker whole.old.cell whole.party ≡ true
+  pub some : 0 < length whole.new.active
+  pub none_told : marked_count whole.new.active ≡ 0
+  pub kept : Keeps whole
+
+-- A notified party polls alone, where the cell is empty, and waits again.
+pub record PassesOverInVain : Type 0 where
+  pub whole : Whole
+  pub polls : whole.call ≡ call.Poll
+  pub solo : IsSolo whole.old whole.party whole.inputs
+  pub empty : whole.old.cell ≡ Empty
+  pub pending : whole.answer ≡ answer.Pending
+  pub no_maker : whole.new.cell ≢ BeingMade whole.party
+  pub kept : Keeps whole
+
+-- A listed party's poll is refused, and nobody else is told: what it was told is lost.
+pub record KeepsItsTold : Type 0 where
+  pub whole : Whole
+  pub list : ListName
+  pub polls : whole.call ≡ call.Poll
+  pub was_pending : standing_of whole.old whole.party ≡ outside Pending
+  pub listed : 0 < entries_of whole.party (list_in list whole.old)
+  pub refused : is_refusal whole.answer ≡ true
+  pub some : 0 < length (list_in list whole.new)
+  pub none_told : marked_count (list_in list whole.new) ≡ 0
+  pub kept : Keeps whole

@@ -1,0 +1,23 @@
+//! Wrong runs of a once-cell.
+
+ghost use Rattle.definition_tests.specs.Never.{Never};
+ghost use Rattle.definition_tests.specs.Cell.{EntersTwice, EndsByNothing, FillsAnother, MakesAnother, ReadyTooSoon, WaitsWithoutMaking, WaitsInPassive, WaitsInActive, TriesInVain, TriesWhileMade, LosesItsOwn, StaysMade, TellsNobody, PassesOverInVain, KeepsItsTold};
+
+/// Each clause says of one wrong run that it isn't legal.
+fn wrong_runs()
+    ensures enters_twice { Never (EntersTwice) }
+    ensures ends_by_nothing { Never (EndsByNothing) }
+    ensures fills_another { Never (FillsAnother) }
+    ensures makes_another { Never (MakesAnother) }
+    ensures ready_too_soon { Never (ReadyTooSoon) }
+    ensures waits_without_making { Never (WaitsWithoutMaking) }
+    ensures waits_in_passive { Never (WaitsInPassive) }
+    ensures waits_in_active { Never (WaitsInActive) }
+    ensures tries_in_vain { Never (TriesInVain) }
+    ensures tries_while_made { Never (TriesWhileMade) }
+    ensures loses_its_own { Never (LosesItsOwn) }
+    ensures stays_made { Never (StaysMade) }
+    ensures tells_nobody { Never (TellsNobody) }
+    ensures passes_over_in_vain { Never (PassesOverInVain) }
+    ensures keeps_its_told { Never (KeepsItsTold) }
+{}
