@@ -63,7 +63,6 @@ is_free c e = let one : free_of c ≡ 1 = ap free_of e in omega arith
 pub is_cell : (c : Content) (xs : List Position) (q r : Queue) → IsKept c xs q r → IsMarkedFirst q.entries → IsMarkedFirst r.entries → IsCell (record { content = c; positions = xs; active = q.entries; passive = r.entries })
 is_cell c xs q r k ordered ordered_passive = record {
   makers = k.makers;
-  values = k.values;
   active_owners = k.active_owners;
   passive_owners = k.passive_owners;
   active_in_order = ordered;

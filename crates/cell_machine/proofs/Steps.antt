@@ -49,7 +49,7 @@ Effect (act.Leave Active) found.Done s t = ListDid leaves false s t
 Effect (act.Leave Active) _ s t = ⊥
 Effect (act.Notify Active) found.Done s t = ListDid (notifies 1) false s t
 Effect (act.Notify Active) _ s t = ⊥
-Effect (act.NotifyAll Active) found.Done s t = ListDid (notifies_additionally everyone) false s t
+Effect (act.NotifyAll Active) found.Done s t = (0 < s.size → 0 < t.marked) × ListDid (notifies_additionally everyone) false s t
 Effect (act.NotifyAll Active) _ s t = ⊥
 Effect _ _ s t = Same s t
 
