@@ -79,7 +79,7 @@ pub returns-clause-makes_another : goal.returns-clause-makes_another
 returns-clause-makes_another c = λ r.
     let none : task_in r.step.move.what ≡ None = ap task_in r.goes in
     let input : (inputs_of r.step.move.what).made ≡ made.Value r.given = ap (λ (z : What). (inputs_of z).made) r.goes ∙ r.gave in
-    elim (r.legal.knows_task.going none r.possible r.open) as (λ _. ⊥) [
+    elim (r.legal.knows_task.going none r.possible r.still_open) as (λ _. ⊥) [
       | inl same ↦ (let never : fills_with r.kept ≡ initializes = sym r.goes_on ∙ (same ∙ r.asked) in cc never)
       | inr gave ↦ (let so : fills_with r.kept ≡ given initializes (made.Value r.given) = sym r.goes_on ∙ (gave.2 ∙ (ap (λ z. given z (inputs_of r.step.move.what).made) r.asked ∙ ap (given initializes) input)) in r.other (cc so))
     ]
