@@ -1,8 +1,8 @@
 -- A cell's value, lent or taken from outside every call.
-use Rattle.std.specs.Prelude.{ℕ, Option, Some, None, map}
+use Rattle.std.specs.Prelude.{ℕ, Option, Some, map}
 use Rattle.std.specs.Borrow.{LendsIf, MutBor, Fml, u64}
 use Rattle.lock_table.specs.Lending.{table_with, forgotten_then}
-use Rattle.cell_machine.specs.Words.{refilled}
+use Rattle.cell_machine.specs.Words.{refilled, value_in}
 use Rattle.cell_machine.specs.Machine.{with_value}
 use Rattle.cell_world.specs.contracts.world.World.{the_row}
 use Rattle.cell_world.specs.State.{World}
@@ -17,4 +17,4 @@ world_with w v = record w {
 
 -- The World ends with the last value that was left behind the reference; where none was lent, the cell is as it was.
 abbrev pub LendsValue : MutBor World → Option (MutBor ℕ) → Fml
-LendsValue w r = LendsIf the_row u64 w r (λ v. world_with w.now (Some v)) (world_with w.now None)
+LendsValue w r = LendsIf the_row u64 w r (λ v. world_with w.now (Some v)) (world_with w.now (value_in w.now.cell))
