@@ -1,16 +1,15 @@
 -- An action of one party keeps what always holds of a cell.
-use Rattle.std.proofs.Common.{◌≡◌, ◌≢◌, ℕ, zero, suc, ◌+◌, ◌*◌, ◌<◌, ◌≤◌, Bool, true, false, List, [], ◌∷◌, length, get_or, Option, Some, refl, arith, ap, sym, subst, ◌∙◌, length-set, get_or-set_same, get_or-set_other}
+use Rattle.std.proofs.Common.{◌≡◌, ◌≢◌, ℕ, zero, suc, ◌+◌, ◌*◌, ◌<◌, ◌≤◌, true, false, List, [], ◌∷◌, length, get_or, Some, refl, arith, ap, sym, subst, ◌∙◌, length-set, get_or-set_same, get_or-set_other}
 use Rattle.std.proofs.Math.ListN.{set}
 use Rattle.std.proofs.Math.Decide.{ℕ_discrete}
 use Rattle.std.specs.List.{sum_by}
 use Rattle.std.proofs.lemmas.List.Sums.{sum_by-set, sum_by-le, sum_by-le-sum_by, get_or-le-sum_by}
 use Rattle.lock_event.specs.declared.event.Entry.{Entry}
-use Rattle.lock_event.specs.declared.event.Mark.TheVariants as mark
 use Rattle.lock_event.specs.Lists.{is_marked_at}
 use Rattle.lock_queue.specs.Parties.{is_party, entries_of}
 use Rattle.lock_world.specs.declared.moves.Inputs.{Inputs}
 use Rattle.lock_world.specs.Steps.{Deed, nothing, changes, does, joins, asks, leaves, notifies, notifies_additionally, list_after}
-use Rattle.lock_world.proofs.Equations.{some_eq, none_some}
+use Rattle.lock_world.proofs.Equations.{some_eq}
 use Rattle.lock_queue.specs.Queues.{Queue, queue}
 use Rattle.lock_world.specs.declared.moves.What.{What}
 use Rattle.lock_world.specs.declared.standing.Rest.TheVariants as rest
@@ -26,19 +25,16 @@ use Rattle.cell_machine.specs.declared.program.Found.{Found}
 use Rattle.cell_machine.specs.declared.program.Found.TheVariants as found
 use Rattle.cell_machine.specs.declared.program.ListName.{ListName}
 use Rattle.cell_machine.specs.declared.program.ListName.TheVariants.{Active, Passive}
-use Rattle.cell_machine.specs.declared.program.Maker.{Maker}
-use Rattle.cell_machine.specs.declared.program.Maker.TheVariants.{Closure, Given}
 use Rattle.cell_machine.specs.declared.program.Place.{Place}
 use Rattle.cell_machine.specs.declared.program.Place.TheVariants.{Claim, ClaimListed, JoinActive, AskActive, LeaveToMake, Make, Fill, NotifyActive, NotifyPassive, Fail, FailNotify, LeaveFull, RefuseActive, Look, JoinPassive, LookListed, AskPassive, LeavePassive, RefusePassive, Try, TryFill, TryNotifyActive, TryNotifyPassive, CancelMake, CancelNotify, CancelLeave, Abandon}
 use Rattle.cell_machine.specs.declared.program.Position.{Position}
-use Rattle.cell_machine.specs.declared.program.Position.TheVariants.{Out, ToMake, WaitingToMake, Making, ToWait, Waiting, At}
+use Rattle.cell_machine.specs.declared.program.Position.TheVariants.{Out, WaitingToMake, Waiting, At}
 use Rattle.cell_machine.specs.declared.words.Content.{Content}
-use Rattle.cell_machine.specs.declared.words.Content.TheVariants as content
 use Rattle.cell_machine.specs.Program.{place_for, action_of, next_of}
-use Rattle.cell_machine.specs.Seats.{Seat, seat_of, seated, makes_at, in_active, in_passive_at, waits, owes, is_late, will_tell, value_known}
+use Rattle.cell_machine.specs.Seats.{Seat, seat_of, seated, makes_at, in_active, in_passive_at, waits, owes, value_known}
 use Rattle.cell_machine.specs.Deeds.{Change, CanDo, Finds, deed_of, content_after, active_after, passive_after, everyone}
-use Rattle.cell_machine.specs.Tally.{Tally, Counts, IsSound, tally_of, counts_of}
-use Rattle.cell_machine.specs.Machine.{OnceCell, IsKept, Stands, knows, goes_with, answer_by, runs, position_at, is_maker}
+use Rattle.cell_machine.specs.Tally.{Tally, IsSound, tally_of, counts_of}
+use Rattle.cell_machine.specs.Machine.{OnceCell, IsKept, Stands, knows, goes_with, answer_by, position_at, is_maker}
 use Rattle.cell_machine.proofs.Steps.{Effect, Goes}
 use Rattle.cell_machine.proofs.Effects.{numbers}
 use Rattle.cell_machine.proofs.Kept.{after, kept}

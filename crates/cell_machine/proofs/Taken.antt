@@ -1,8 +1,7 @@
 -- What always holds of a full cell still holds once its value was put or taken from outside every call.
-use Rattle.std.proofs.Common.{◌≡◌, ℕ, zero, suc, ◌+◌, ◌<◌, ◌≤◌, ◌⊎◌, inl, inr, Bool, true, false, List, [], ◌∷◌, length, get_or, Option, Some, None, refl, arith, ap, sym, ◌∙◌, subst}
+use Rattle.std.proofs.Common.{◌≡◌, ℕ, zero, suc, ◌+◌, ◌<◌, true, false, List, [], ◌∷◌, Option, Some, None, refl, arith}
 use Rattle.std.specs.List.{sum_by}
-use Rattle.std.proofs.lemmas.List.Sums.{sum_by-cons, get_or-le-sum_by}
-use Rattle.lock_event.specs.declared.event.Entry.{Entry}
+use Rattle.std.proofs.lemmas.List.Sums.{sum_by-cons}
 use Rattle.lock_event.specs.Lists.{marked_count, is_marked_at, without}
 use Rattle.lock_event.proofs.Counts.{marked_count-without_marked}
 use Rattle.lock_queue.specs.Parties.{is_party, entries_of}
@@ -10,15 +9,14 @@ use Rattle.lock_queue.specs.Queues.{Queue}
 use Rattle.cell_machine.specs.declared.program.ListName.TheVariants.{Active, Passive}
 use Rattle.cell_machine.specs.declared.program.Place.TheVariants.{NotifyActive, TryNotifyActive, AskActive, CancelLeave}
 use Rattle.cell_machine.specs.declared.program.Position.{Position}
-use Rattle.cell_machine.specs.declared.program.Position.TheVariants.{Out, WaitingToMake, At}
-use Rattle.cell_machine.specs.declared.words.Content.{Content}
+use Rattle.cell_machine.specs.declared.program.Position.TheVariants.{WaitingToMake, At}
 use Rattle.cell_machine.specs.declared.words.Content.TheVariants as content
 use Rattle.cell_machine.specs.declared.words.State.{State}
 use Rattle.cell_machine.specs.declared.words.State.TheVariants as state
 use Rattle.cell_machine.specs.declared.words.Words.{Words}
 use Rattle.cell_machine.specs.Words.{content_by, kept_by, content_of, kept_of, refilled}
 use Rattle.cell_machine.specs.Seats.{in_active, waits, owes, is_late, will_tell}
-use Rattle.cell_machine.specs.Machine.{IsKept, position_at, is_unmarked}
+use Rattle.cell_machine.specs.Machine.{IsKept, position_at}
 use Rattle.cell_machine.proofs.Marks.{else_marked}
 
 -- where some term of a sum isn't nothing, one party has it

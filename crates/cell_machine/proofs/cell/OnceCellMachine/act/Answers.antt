@@ -1,15 +1,13 @@
 -- An action of one party is one of its program, and keeps what always holds of the cell.
-use Rattle.std.proofs.Common.{◌≡◌, ◌<◌, Some, length, ap, sym, ◌∙◌, refl}
+use Rattle.std.proofs.Common.{◌≡◌, ◌<◌, length, ap, sym, ◌∙◌}
 use Rattle.std.proofs.Math.ListN.{set}
 use Rattle.lock_queue.specs.Queues.{queue}
-use Rattle.lock_world.specs.Standings.{inputs_of}
-use Rattle.cell_machine.specs.declared.program.Action.{Action}
-use Rattle.cell_machine.specs.Program.{place_for, action_of, next_of, position_after}
+use Rattle.cell_machine.specs.Program.{action_of, position_after}
 use Rattle.cell_machine.specs.Deeds.{Finds, deed_of, content_after, active_after, passive_after}
-use Rattle.cell_machine.specs.Machine.{answer_by, Acts, OnceCell, IsKept, Stands}
-use Rattle.cell_machine.specs.Words.{content_of, kept_of}
+use Rattle.cell_machine.specs.Machine.{answer_by, IsKept, Stands}
+use Rattle.cell_machine.specs.Words.{content_of}
 use Rattle.cell_machine.proofs.Kept.{after}
-use Rattle.cell_machine.proofs.Locks.{Began, began, locked, keeps}
+use Rattle.cell_machine.proofs.Locks.{began, locked, keeps}
 use Rattle.cell_machine.proofs.Taken.{settled}
 use Rattle.cell_machine.proofs.cell.OnceCellMachine.act.Goals as goal
 
