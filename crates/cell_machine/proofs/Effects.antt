@@ -1,29 +1,31 @@
 -- What an action does, in numbers.
-use Rattle.std.proofs.Common.{◌≡◌, ℕ, ◌+◌, ◌<◌, ◌≤◌, Bool, true, false, List, length, refl, arith, ap}
+use Rattle.std.proofs.Common.{ℕ, ◌<◌, Bool, true, false, List, [], ◌∷◌, length, refl, arith, ap}
 use Rattle.lock_event.specs.declared.event.Entry.{Entry}
-use Rattle.lock_event.specs.Lists.{is_marked_at}
-use Rattle.lock_queue.specs.Parties.{is_party, entries_of}
+use Rattle.lock_event.specs.declared.event.Mark.TheVariants.{Additional}
+use Rattle.lock_event.specs.Lists.{is_marked_at, marked_count, mark_waiting}
+use Rattle.lock_event.proofs.Counts.{marked_count-le-mark_waiting}
+use Rattle.lock_queue.specs.Parties.{is_party}
 use Rattle.lock_queue.specs.Queues.{Queue}
 use Rattle.lock_world.specs.declared.moves.Inputs.{Inputs}
-use Rattle.lock_world.specs.Steps.{ListFunction, joins, asks, leaves, notifies, notifies_additionally}
-use Rattle.lock_table.proofs.Lists.{CanList, Counted, counted}
+use Rattle.lock_world.specs.Steps.{joins, asks, leaves, notifies, notifies_additionally}
+use Rattle.lock_table.proofs.Lists.{counted}
 use Rattle.cell_machine.specs.declared.program.Action.{Action}
 use Rattle.cell_machine.specs.declared.program.Action.TheVariants as act
 use Rattle.cell_machine.specs.declared.program.Found.{Found}
 use Rattle.cell_machine.specs.declared.program.Found.TheVariants as found
-use Rattle.cell_machine.specs.declared.program.ListName.{ListName}
 use Rattle.cell_machine.specs.declared.program.ListName.TheVariants.{Active, Passive}
-use Rattle.cell_machine.specs.declared.program.Maker.{Maker}
-use Rattle.cell_machine.specs.declared.program.Maker.TheVariants.{Closure, Given}
-use Rattle.cell_machine.specs.declared.program.Place.{Place}
-use Rattle.cell_machine.specs.declared.program.Place.TheVariants.{Claim, ClaimListed, JoinActive, AskActive, LeaveToMake, Make, Fill, NotifyActive, NotifyPassive, Fail, FailNotify, LeaveFull, RefuseActive, Look, JoinPassive, LookListed, AskPassive, LeavePassive, RefusePassive, Try, TryFill, TryNotifyActive, TryNotifyPassive, CancelMake, CancelNotify, CancelLeave, Abandon}
-use Rattle.cell_machine.specs.declared.program.Position.{Position}
-use Rattle.cell_machine.specs.declared.program.Position.TheVariants.{Out, ToMake, WaitingToMake, Making, ToWait, Waiting, At}
 use Rattle.cell_machine.specs.declared.words.Content.{Content}
-use Rattle.cell_machine.specs.declared.words.Content.TheVariants as content
 use Rattle.cell_machine.specs.Deeds.{CanDo, Finds, deed_of, content_after, active_after, everyone}
 use Rattle.cell_machine.specs.Tally.{tally_of, free_of}
 use Rattle.cell_machine.proofs.Steps.{Effect}
+
+-- where a list isn't empty, telling all marks some entry
+mark_some : (n : ℕ) (l : List (Entry ℕ)) → 0 < n → 0 < length l → 0 < marked_count (mark_waiting Additional n l)
+mark_some n [] h some = absurd (omega arith)
+mark_some n (e ∷ es) h some = grind (arith, marked_count-le-mark_waiting Additional n es)
+
+tell_some : (l : List (Entry ℕ)) → 0 < length l → 0 < marked_count (mark_waiting Additional everyone l)
+tell_some l some = mark_some everyone l (omega arith) some
 
 module _ (p : ℕ) (c : Content) (q r : Queue) (i : Inputs) where
   abbrev told : Bool
@@ -59,7 +61,7 @@ module _ (p : ℕ) (c : Content) (q r : Queue) (i : Inputs) where
   numbers (act.Notify Active) _ e k = absurd e
   numbers (act.Notify Passive) found.Done e k = (refl, (refl, refl))
   numbers (act.Notify Passive) _ e k = (refl, (refl, refl))
-  numbers (act.NotifyAll Active) found.Done e k = (refl, counted p q.entries (notifies_additionally everyone) told refl tt)
+  numbers (act.NotifyAll Active) found.Done e k = (tell_some q.entries, (refl, counted p q.entries (notifies_additionally everyone) told refl tt))
   numbers (act.NotifyAll Active) _ e k = absurd e
   numbers (act.NotifyAll Passive) found.Done e k = (refl, (refl, refl))
   numbers (act.NotifyAll Passive) _ e k = (refl, (refl, refl))

@@ -1,28 +1,20 @@
 -- What always holds of a cell, as callers see it.
-use Rattle.std.proofs.Common.{◌≡◌, ℕ, zero, suc, ◌+◌, ◌<◌, Bool, true, false, List, [], ◌∷◌, length, Option, Some, None, refl, arith, ap, sym, ◌∙◌}
+use Rattle.std.proofs.Common.{◌≡◌, ℕ, zero, suc, ◌<◌, true, false, List, [], ◌∷◌, length, refl, arith, ap}
 use Rattle.lock_event.specs.declared.event.Entry.{Entry}
 use Rattle.lock_event.specs.Lists.{marked_count, is_marked_at, IsMarkedFirst}
 use Rattle.lock_queue.specs.Parties.{is_party, entries_of}
 use Rattle.lock_queue.specs.Queues.{Queue}
 use Rattle.lock_queue.specs.Debts.{Roles, Rests, AllRest}
 use Rattle.lock_queue.proofs.Debts.{paid_at_rest}
-use Rattle.cell_machine.specs.declared.program.Action.{Action}
-use Rattle.cell_machine.specs.declared.program.Action.TheVariants as act
-use Rattle.cell_machine.specs.declared.program.Found.{Found}
-use Rattle.cell_machine.specs.declared.program.Found.TheVariants as found
 use Rattle.cell_machine.specs.declared.program.ListName.{ListName}
 use Rattle.cell_machine.specs.declared.program.ListName.TheVariants.{Active, Passive}
-use Rattle.cell_machine.specs.declared.program.Maker.{Maker}
-use Rattle.cell_machine.specs.declared.program.Maker.TheVariants.{Closure, Given}
-use Rattle.cell_machine.specs.declared.program.Place.{Place}
-use Rattle.cell_machine.specs.declared.program.Place.TheVariants.{Claim, ClaimListed, JoinActive, AskActive, LeaveToMake, Make, Fill, NotifyActive, NotifyPassive, Fail, FailNotify, LeaveFull, RefuseActive, Look, JoinPassive, LookListed, AskPassive, LeavePassive, RefusePassive, Try, TryFill, TryNotifyActive, TryNotifyPassive, CancelMake, CancelNotify, CancelLeave, Abandon}
 use Rattle.cell_machine.specs.declared.program.Position.{Position}
-use Rattle.cell_machine.specs.declared.program.Position.TheVariants.{Out, ToMake, WaitingToMake, Making, ToWait, Waiting, At}
+use Rattle.cell_machine.specs.declared.program.Position.TheVariants.{At}
 use Rattle.cell_machine.specs.declared.words.Content.{Content}
 use Rattle.cell_machine.specs.declared.words.Content.TheVariants as content
 use Rattle.cell_machine.specs.Seats.{in_active, waits, owes, is_late, will_tell, is_resting}
 use Rattle.cell_machine.specs.Tally.{free_of}
-use Rattle.cell_machine.specs.Machine.{IsKept, IsAtRest, IsCell, AllTold, position_at, is_unmarked}
+use Rattle.cell_machine.specs.Machine.{IsKept, IsAtRest, IsCell, AllTold, position_at}
 use Rattle.cell_machine.proofs.Marks.{else_marked}
 
 abbrev roles : Roles Position
@@ -63,7 +55,6 @@ is_free c e = let one : free_of c ≡ 1 = ap free_of e in omega arith
 pub is_cell : (c : Content) (xs : List Position) (q r : Queue) → IsKept c xs q r → IsMarkedFirst q.entries → IsMarkedFirst r.entries → IsCell (record { content = c; positions = xs; active = q.entries; passive = r.entries })
 is_cell c xs q r k ordered ordered_passive = record {
   makers = k.makers;
-  values = k.values;
   active_owners = k.active_owners;
   passive_owners = k.passive_owners;
   active_in_order = ordered;

@@ -1,16 +1,15 @@
 -- An action of one party keeps what always holds of a cell.
-use Rattle.std.proofs.Common.{◌≡◌, ◌≢◌, ℕ, zero, suc, ◌+◌, ◌*◌, ◌<◌, ◌≤◌, Bool, true, false, List, [], ◌∷◌, length, get_or, Option, Some, refl, arith, ap, sym, subst, ◌∙◌, length-set, get_or-set_same, get_or-set_other}
+use Rattle.std.proofs.Common.{◌≡◌, ◌≢◌, ℕ, zero, suc, ◌+◌, ◌*◌, ◌<◌, ◌≤◌, true, false, List, [], ◌∷◌, length, get_or, Some, refl, arith, ap, sym, subst, ◌∙◌, length-set, get_or-set_same, get_or-set_other}
 use Rattle.std.proofs.Math.ListN.{set}
 use Rattle.std.proofs.Math.Decide.{ℕ_discrete}
 use Rattle.std.specs.List.{sum_by}
 use Rattle.std.proofs.lemmas.List.Sums.{sum_by-set, sum_by-le, sum_by-le-sum_by, get_or-le-sum_by}
 use Rattle.lock_event.specs.declared.event.Entry.{Entry}
-use Rattle.lock_event.specs.declared.event.Mark.TheVariants as mark
 use Rattle.lock_event.specs.Lists.{is_marked_at}
 use Rattle.lock_queue.specs.Parties.{is_party, entries_of}
 use Rattle.lock_world.specs.declared.moves.Inputs.{Inputs}
 use Rattle.lock_world.specs.Steps.{Deed, nothing, changes, does, joins, asks, leaves, notifies, notifies_additionally, list_after}
-use Rattle.lock_world.proofs.Equations.{some_eq, none_some}
+use Rattle.lock_world.proofs.Equations.{some_eq}
 use Rattle.lock_queue.specs.Queues.{Queue, queue}
 use Rattle.lock_world.specs.declared.moves.What.{What}
 use Rattle.lock_world.specs.declared.standing.Rest.TheVariants as rest
@@ -26,19 +25,16 @@ use Rattle.cell_machine.specs.declared.program.Found.{Found}
 use Rattle.cell_machine.specs.declared.program.Found.TheVariants as found
 use Rattle.cell_machine.specs.declared.program.ListName.{ListName}
 use Rattle.cell_machine.specs.declared.program.ListName.TheVariants.{Active, Passive}
-use Rattle.cell_machine.specs.declared.program.Maker.{Maker}
-use Rattle.cell_machine.specs.declared.program.Maker.TheVariants.{Closure, Given}
 use Rattle.cell_machine.specs.declared.program.Place.{Place}
 use Rattle.cell_machine.specs.declared.program.Place.TheVariants.{Claim, ClaimListed, JoinActive, AskActive, LeaveToMake, Make, Fill, NotifyActive, NotifyPassive, Fail, FailNotify, LeaveFull, RefuseActive, Look, JoinPassive, LookListed, AskPassive, LeavePassive, RefusePassive, Try, TryFill, TryNotifyActive, TryNotifyPassive, CancelMake, CancelNotify, CancelLeave, Abandon}
 use Rattle.cell_machine.specs.declared.program.Position.{Position}
-use Rattle.cell_machine.specs.declared.program.Position.TheVariants.{Out, ToMake, WaitingToMake, Making, ToWait, Waiting, At}
+use Rattle.cell_machine.specs.declared.program.Position.TheVariants.{Out, WaitingToMake, Waiting, At}
 use Rattle.cell_machine.specs.declared.words.Content.{Content}
-use Rattle.cell_machine.specs.declared.words.Content.TheVariants as content
 use Rattle.cell_machine.specs.Program.{place_for, action_of, next_of}
-use Rattle.cell_machine.specs.Seats.{Seat, seat_of, seated, makes_at, in_active, in_passive_at, waits, owes, is_late, will_tell, value_known}
+use Rattle.cell_machine.specs.Seats.{Seat, seat_of, seated, makes_at, in_active, in_passive_at, waits, owes, value_known}
 use Rattle.cell_machine.specs.Deeds.{Change, CanDo, Finds, deed_of, content_after, active_after, passive_after, everyone}
-use Rattle.cell_machine.specs.Tally.{Tally, Counts, IsSound, tally_of, counts_of}
-use Rattle.cell_machine.specs.Machine.{OnceCell, IsKept, Stands, knows, goes_with, answer_by, runs, position_at, is_maker}
+use Rattle.cell_machine.specs.Tally.{Tally, IsSound, tally_of, counts_of}
+use Rattle.cell_machine.specs.Machine.{OnceCell, IsKept, Stands, knows, goes_with, answer_by, position_at, is_maker}
 use Rattle.cell_machine.proofs.Steps.{Effect, Goes}
 use Rattle.cell_machine.proofs.Effects.{numbers}
 use Rattle.cell_machine.proofs.Kept.{after, kept}
@@ -380,18 +376,12 @@ module _ (p : ℕ) (c : Content) (xs : List Position) (q r : Queue) (i : Inputs)
       let sums = sum_by-set in_passive_at xs p to Out known in
       let stood : in_passive_at (get_or xs p Out) ≡ in_passive_at (At x) = ap (λ (z : Seat). z.passive) (sym fit.same) in
       let makes : makes_at (At x) ≡ is_maker c p = ap (λ (z : Seat). z.makes) fit.same ∙ lock.makers p in
-      let values : (v : ℕ) → value_known (At x) ≡ Some v → c ≡ content.Full v = λ v h. lock.values p v (fit.value ∙ h) in
       record {
         sound = sound;
         makers = λ j. elim (ℕ_discrete j p) as (λ _. makes_at (position_at (set xs p to) j) ≡ is_maker (content_after p d c) j) [
           | yes e ↦ (let P : ℕ → Type 0 = λ k. makes_at (position_at (set xs p to) k) ≡ is_maker (content_after p d c) k in
               subst P (sym e) (rw (get_or-set_same xs p to Out known) (contents.maker_then i p c q.entries r.entries x f finds makes)))
           | no apart ↦ rw (get_or-set_other xs p j to Out apart) (lock.makers j ∙ sym (contents.others_make i p c q.entries r.entries x f finds makes j apart))
-        ];
-        values = λ j v h. elim (ℕ_discrete j p) as (λ _. content_after p d c ≡ content.Full v) [
-          | yes e ↦ (let P : ℕ → Type 0 = λ k. value_known (position_at (set xs p to) k) ≡ Some v in
-              contents.value_then i p c q.entries r.entries x f finds values v (rw (get_or-set_same xs p to Out known) at (subst P e h)))
-          | no apart ↦ contents.full_stays i p c q.entries r.entries x f finds makes v (lock.values j v (rw (get_or-set_other xs p j to Out apart) at h))
         ];
         active_told = all_told i p c q.entries r.entries Active xs x f finds known (fit.late Active) (fit.tells Active) lock.active_told (fits_all in_active xs (length q.entries) bounded lock.sound.in_list lock.few) now;
         passive_told = all_told i p c q.entries r.entries Passive xs x f finds known (fit.late Passive) (fit.tells Passive) lock.passive_told (fits_all in_passive_at xs (length r.entries) bounded_passive lock.passive_listed lock.few) now_passive;
@@ -436,13 +426,27 @@ began xs p read w what s from known is starts stands call first =
 pub never_lost : (xs : List Position) (p : ℕ) (w : Within) (what : What) (s : Stage) → goes_with s (position_at xs p) ≡ true → call_at knows s what ≡ Some w → polls_again s what ≡ false → (from : Place) × (place_for what (position_at xs p) ≡ Some from)
 never_lost xs p w what s stands call first = let t = fits s what w (position_at xs p) stands call first in (t.from, t.starts)
 
-pub keeps : (x y : OnceCell) (p : ℕ) (w : Within) (from : Place) (f : Found) → p < length x.positions → runs w.kind w.was from ≡ true → y.positions ≡ set x.positions p (after from f)
+pub keeps : (x y : OnceCell) (p : ℕ) (i : Inputs) (w : Within) (from : Place) (f : Found) (s : Stage) → p < length x.positions → Fits w (position_at x.positions p) from → Stands x p s → ((q : ℕ) → makes_at (position_at x.positions q) ≡ is_maker x.content q)
+    → Finds i p (action_of from) f x.content x.active x.passive → y.positions ≡ set x.positions p (after from f) → y.content ≡ content_after p (deed_of (action_of from) f) x.content
     → Keeps (λ (s : OnceCell). length s.positions) Stands x p (stage_after rest.Finished w (answer_by (next_of from f))) y
-keeps x y p w from f known here to =
+keeps x y p i w from f s known fit stood makers finds to content = (
     let P : List Position → Type 0 = λ ps. goes_with (stage_after rest.Finished w (answer_by (next_of from f))) (position_at ps p) ≡ true in
-    let set_to : P (set x.positions p (after from f)) = rw (get_or-set_same x.positions p (after from f) Out known) (lands w from f here) in
+    let set_to : P (set x.positions p (after from f)) = rw (get_or-set_same x.positions p (after from f) Out known) (lands w from f fit.runs) in
+    let here : position_at y.positions p ≡ after from f = ap (λ ps. position_at ps p) to ∙ get_or-set_same x.positions p (after from f) Out known in
+    let made : makes_at (At from) ≡ is_maker x.content p = ap (λ (z : Seat). z.makes) fit.same ∙ makers p in
     record {
       as_many = ap length to ∙ length-set x.positions p (after from f);
-      own = subst P (sym to) set_to;
-      others = λ q s apart stood. (let Q : List Position → Type 0 = λ ps. goes_with s (position_at ps q) ≡ true in subst Q (sym to) (rw (get_or-set_other x.positions p q (after from f) Out apart) stood));
+      own = record {
+        goes = subst P (sym to) set_to;
+        value = λ v e. content ∙ contents.value_then i p x.content x.active x.passive from f finds (λ u h. stood.value u (fit.value ∙ h)) v (ap value_known (sym here) ∙ e);
+      };
+      others = λ q z apart there. (
+          let same : position_at y.positions q ≡ position_at x.positions q = ap (λ ps. position_at ps q) to ∙ get_or-set_other x.positions p q (after from f) Out apart in
+          let Q : Position → Type 0 = λ b. goes_with z b ≡ true in
+          record {
+            goes = subst Q (sym same) there.goes;
+            value = λ v e. content ∙ contents.full_stays i p x.content x.active x.passive from f finds made v (there.value v (ap value_known (sym same) ∙ e));
+          }
+          );
     }
+    )

@@ -1,10 +1,10 @@
 -- Which entries aren't marked, before and after a list function.
-use Rattle.std.proofs.Common.{◌≡◌, ◌≢◌, ℕ, zero, suc, ◌+◌, ◌-◌, ◌<◌, ◌≤◌, if◌then◌else◌, Bool, true, false, List, [], ◌∷◌, ◌++◌, length, Option, Some, None, refl, arith}
+use Rattle.std.proofs.Common.{◌≡◌, ◌≢◌, ℕ, ◌-◌, ◌<◌, ◌≤◌, if◌then◌else◌, Bool, true, false, List, [], ◌∷◌, length, Option, Some, None, refl, arith}
 use Rattle.std.proofs.lemmas.Bool.Decides.{nat_tests}
 use Rattle.lock_event.specs.declared.event.Entry.{Entry}
 use Rattle.lock_event.specs.declared.event.Mark.{Mark}
 use Rattle.lock_event.specs.declared.event.Mark.TheVariants.{Waiting, Notified, Additional}
-use Rattle.lock_event.specs.Lists.{entry, is_marked, is_marked_at, marked_count, joined, mark_waiting, without, mark_at, passed_on}
+use Rattle.lock_event.specs.Lists.{is_marked, is_marked_at, marked_count, joined, mark_waiting, without, mark_at, passed_on}
 use Rattle.lock_queue.specs.Parties.{is_party, entries_of}
 use Rattle.lock_world.specs.Steps.{ListFunction, joins, asks, leaves, notifies, notifies_additionally, list_after}
 use Rattle.cell_machine.specs.Machine.{is_unmarked}

@@ -1,21 +1,13 @@
 -- What a step does to the numbers.
-use Rattle.std.proofs.Common.{◌≡◌, ℕ, ◌+◌, ◌<◌, ◌≤◌, Bool, true, false}
+use Rattle.std.proofs.Common.{◌≡◌, ◌+◌, ◌<◌, ◌≤◌, Bool, true, false}
 use Rattle.lock_world.specs.Steps.{ListFunction, joins, asks, leaves, notifies, notifies_additionally}
 use Rattle.lock_table.proofs.Lists.{Counted}
 use Rattle.cell_machine.specs.declared.program.Action.{Action}
 use Rattle.cell_machine.specs.declared.program.Action.TheVariants as act
 use Rattle.cell_machine.specs.declared.program.Found.{Found}
 use Rattle.cell_machine.specs.declared.program.Found.TheVariants as found
-use Rattle.cell_machine.specs.declared.program.ListName.{ListName}
-use Rattle.cell_machine.specs.declared.program.ListName.TheVariants.{Active, Passive}
-use Rattle.cell_machine.specs.declared.program.Maker.{Maker}
-use Rattle.cell_machine.specs.declared.program.Maker.TheVariants.{Closure, Given}
-use Rattle.cell_machine.specs.declared.program.Place.{Place}
-use Rattle.cell_machine.specs.declared.program.Place.TheVariants.{Claim, ClaimListed, JoinActive, AskActive, LeaveToMake, Make, Fill, NotifyActive, NotifyPassive, Fail, FailNotify, LeaveFull, RefuseActive, Look, JoinPassive, LookListed, AskPassive, LeavePassive, RefusePassive, Try, TryFill, TryNotifyActive, TryNotifyPassive, CancelMake, CancelNotify, CancelLeave, Abandon}
+use Rattle.cell_machine.specs.declared.program.ListName.TheVariants.{Active}
 use Rattle.cell_machine.specs.declared.program.Position.{Position}
-use Rattle.cell_machine.specs.declared.program.Position.TheVariants.{Out, ToMake, WaitingToMake, Making, ToWait, Waiting, At}
-use Rattle.cell_machine.specs.declared.words.Content.{Content}
-use Rattle.cell_machine.specs.declared.words.Content.TheVariants as content
 use Rattle.cell_machine.specs.Deeds.{everyone}
 use Rattle.cell_machine.specs.Seats.{in_active, waits, owes}
 use Rattle.cell_machine.specs.Tally.{Tally, Counts}
@@ -49,7 +41,7 @@ Effect (act.Leave Active) found.Done s t = ListDid leaves false s t
 Effect (act.Leave Active) _ s t = ⊥
 Effect (act.Notify Active) found.Done s t = ListDid (notifies 1) false s t
 Effect (act.Notify Active) _ s t = ⊥
-Effect (act.NotifyAll Active) found.Done s t = ListDid (notifies_additionally everyone) false s t
+Effect (act.NotifyAll Active) found.Done s t = (0 < s.size → 0 < t.marked) × ListDid (notifies_additionally everyone) false s t
 Effect (act.NotifyAll Active) _ s t = ⊥
 Effect _ _ s t = Same s t
 

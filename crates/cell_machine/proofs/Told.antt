@@ -1,34 +1,28 @@
 -- Whom a full cell has told.
-use Rattle.std.proofs.Common.{◌≡◌, ◌≢◌, ℕ, zero, suc, ◌+◌, ◌<◌, ◌≤◌, ◌⊎◌, inl, inr, Bool, true, false, List, length, Option, Some, None, refl, arith, ap, sym, ◌∙◌, subst, get_or-set_same, get_or-set_other}
+use Rattle.std.proofs.Common.{◌≡◌, ◌≢◌, ℕ, ◌<◌, ◌≤◌, inl, inr, Bool, true, false, List, length, refl, ap, sym, ◌∙◌, subst, get_or-set_same, get_or-set_other}
 use Rattle.std.proofs.Math.ListN.{set}
 use Rattle.std.proofs.Math.Decide.{ℕ_discrete}
 use Rattle.lock_event.specs.declared.event.Entry.{Entry}
 use Rattle.lock_event.specs.declared.event.Mark.TheVariants as mark
-use Rattle.lock_event.specs.Lists.{is_marked_at}
-use Rattle.lock_queue.specs.Parties.{is_party, entries_of}
+use Rattle.lock_queue.specs.Parties.{entries_of}
 use Rattle.lock_world.specs.declared.moves.Inputs.{Inputs}
-use Rattle.lock_world.specs.Steps.{Deed, nothing, changes, does, joins, asks, leaves, notifies, notifies_additionally, list_after}
-use Rattle.lock_world.proofs.Equations.{some_eq, none_some}
-use Rattle.cell_machine.specs.declared.program.Action.{Action}
-use Rattle.cell_machine.specs.declared.program.Action.TheVariants as act
+use Rattle.lock_world.specs.Steps.{Deed, nothing, changes, does}
 use Rattle.cell_machine.specs.declared.program.Found.{Found}
 use Rattle.cell_machine.specs.declared.program.Found.TheVariants as found
 use Rattle.cell_machine.specs.declared.program.ListName.{ListName}
 use Rattle.cell_machine.specs.declared.program.ListName.TheVariants.{Active, Passive}
-use Rattle.cell_machine.specs.declared.program.Maker.{Maker}
-use Rattle.cell_machine.specs.declared.program.Maker.TheVariants.{Closure, Given}
 use Rattle.cell_machine.specs.declared.program.Place.{Place}
 use Rattle.cell_machine.specs.declared.program.Place.TheVariants.{Claim, ClaimListed, JoinActive, AskActive, LeaveToMake, Make, Fill, NotifyActive, NotifyPassive, Fail, FailNotify, LeaveFull, RefuseActive, Look, JoinPassive, LookListed, AskPassive, LeavePassive, RefusePassive, Try, TryFill, TryNotifyActive, TryNotifyPassive, CancelMake, CancelNotify, CancelLeave, Abandon}
 use Rattle.cell_machine.specs.declared.program.Position.{Position}
-use Rattle.cell_machine.specs.declared.program.Position.TheVariants.{Out, ToMake, WaitingToMake, Making, ToWait, Waiting, At}
+use Rattle.cell_machine.specs.declared.program.Position.TheVariants.{Out, At}
 use Rattle.cell_machine.specs.declared.words.Content.{Content}
 use Rattle.cell_machine.specs.declared.words.Content.TheVariants as content
-use Rattle.cell_machine.specs.Program.{action_of, next_of}
+use Rattle.cell_machine.specs.Program.{action_of}
 use Rattle.cell_machine.specs.Seats.{in_active, in_passive_at, is_late, will_tell}
 use Rattle.cell_machine.specs.Deeds.{Finds, deed_of, content_after, active_after, passive_after, list_of, everyone, Change}
 use Rattle.cell_machine.specs.Machine.{position_at, is_unmarked, AllTold}
 use Rattle.cell_machine.proofs.Kept.{after}
-use Rattle.cell_machine.proofs.Marks.{never_unlisted, all_marked, marked_then, unmarked_before}
+use Rattle.cell_machine.proofs.Marks.{never_unlisted, all_marked, unmarked_before}
 use Rattle.cell_machine.proofs.Contents.{full_before}
 
 abbrev pub in_list : ListName → Position → ℕ

@@ -1,6 +1,5 @@
 -- Where a call begins or goes on, and at which stage its party is after its action.
-use Rattle.std.proofs.Common.{◌≡◌, ◌&&◌, Bool, true, false, Option, Some, None, refl, ap, sym, ◌∙◌, subst}
-use Rattle.lock_world.specs.declared.moves.Call.{Call}
+use Rattle.std.proofs.Common.{◌≡◌, ◌&&◌, Bool, true, false, Some, refl, subst}
 use Rattle.lock_world.specs.declared.moves.Call.TheVariants as call
 use Rattle.lock_world.specs.declared.moves.Inputs.{Inputs}
 use Rattle.lock_world.specs.declared.moves.What.{What}
@@ -14,8 +13,6 @@ use Rattle.lock_world.specs.declared.standing.Stage.TheVariants.{Outside, Inside
 use Rattle.lock_world.specs.declared.standing.Within.{Within}
 use Rattle.lock_world.proofs.Equations.{some_eq}
 use Rattle.lock_table.specs.Stages.{call_at, polls_again, stage_after}
-use Rattle.cell_machine.specs.declared.program.Action.{Action}
-use Rattle.cell_machine.specs.declared.program.Action.TheVariants as act
 use Rattle.cell_machine.specs.declared.program.Found.{Found}
 use Rattle.cell_machine.specs.declared.program.Found.TheVariants as found
 use Rattle.cell_machine.specs.declared.program.ListName.{ListName}
@@ -26,8 +23,6 @@ use Rattle.cell_machine.specs.declared.program.Place.{Place}
 use Rattle.cell_machine.specs.declared.program.Place.TheVariants.{Claim, ClaimListed, JoinActive, AskActive, LeaveToMake, Make, Fill, NotifyActive, NotifyPassive, Fail, FailNotify, LeaveFull, RefuseActive, Look, JoinPassive, LookListed, AskPassive, LeavePassive, RefusePassive, Try, TryFill, TryNotifyActive, TryNotifyPassive, CancelMake, CancelNotify, CancelLeave, Abandon}
 use Rattle.cell_machine.specs.declared.program.Position.{Position}
 use Rattle.cell_machine.specs.declared.program.Position.TheVariants.{Out, ToMake, WaitingToMake, Making, ToWait, Waiting, At}
-use Rattle.cell_machine.specs.declared.words.Content.{Content}
-use Rattle.cell_machine.specs.declared.words.Content.TheVariants as content
 use Rattle.cell_machine.specs.Program.{place_for, next_of}
 use Rattle.cell_machine.specs.Seats.{seat_of, seated, value_known, is_late, will_tell}
 use Rattle.cell_machine.specs.Machine.{knows, runs, is_polling, is_trying, is_cancelling, is_begun, goes_with, answer_by}

@@ -1,5 +1,5 @@
 -- What an action is: one change of the cell, or one list function; and what it finds.
-use Rattle.std.specs.Prelude.{◌≡◌, ℕ, ◌<◌, ◌==◌, Bool, true, false, List}
+use Rattle.std.specs.Prelude.{◌≡◌, ℕ, ◌<◌, Bool, true, false, List}
 use Rattle.lock_event.specs.declared.event.Entry.{Entry}
 use Rattle.lock_event.specs.Lists.{is_marked_at}
 use Rattle.lock_queue.specs.Parties.{is_party, entries_of}
@@ -7,7 +7,7 @@ use Rattle.lock_queue.specs.Queues.{Queue}
 use Rattle.lock_world.specs.declared.moves.Inputs.{Inputs}
 use Rattle.lock_world.specs.declared.moves.Made.{Made}
 use Rattle.lock_world.specs.declared.moves.Made.TheVariants as made
-use Rattle.lock_world.specs.Steps.{Deed, nothing, changes, does, ListFunction, joins, asks, leaves, notifies, notifies_additionally, list_after}
+use Rattle.lock_world.specs.Steps.{Deed, nothing, changes, does, joins, asks, leaves, notifies, notifies_additionally, list_after}
 use Rattle.cell_machine.specs.declared.words.Content.{Content}
 use Rattle.cell_machine.specs.declared.words.Content.TheVariants as content
 use Rattle.cell_machine.specs.declared.program.Action.{Action}

@@ -35,6 +35,7 @@ use Rattle.cell_machine.specs.declared.program.Position.TheVariants.{Out, ToMake
 use Rattle.cell_machine.specs.Program.{place_for, action_of, next_of, position_after}
 use Rattle.cell_machine.specs.Seats.{makes_at, in_active, in_passive_at, value_known, is_late, will_tell, is_resting}
 use Rattle.cell_machine.specs.Deeds.{Finds, deed_of, content_after, active_after, passive_after}
+use Rattle.cell_machine.specs.Words.{refilled}
 use Rattle.cell_machine.specs.Tally.{IsSound, tally_of, counts_of}
 
 -- what contracts see of a once-cell
@@ -71,8 +72,6 @@ pub record IsKept (c : Content) (xs : List Position) (active passive : Queue) : 
   pub sound : IsSound (tally_of c active.entries) (counts_of xs)
   -- whoever makes the value is where makers stand
   pub makers : (p : ℕ) → makes_at (position_at xs p) ≡ is_maker c p
-  -- what parties know of the cell's value is so
-  pub values : (p v : ℕ) → value_known (position_at xs p) ≡ Some v → c ≡ content.Full v
   pub active_told : AllTold Active c xs active.entries
   pub passive_told : AllTold Passive c xs passive.entries
   -- each listed party has one entry, and no other party has one
@@ -88,10 +87,9 @@ abbrev pub IsAtRest : List Position → Type 0
 IsAtRest [] = Unit {0}
 IsAtRest (x ∷ xs) = (is_resting x ≡ true) × IsAtRest xs
 
--- What callers may rest on: one party at most makes, and stands where makers do; what a decided party tells is in the cell; a party's entries are told by where it stands; at rest, where the cell is empty and somebody is listed in `active`, some entry there is marked, and where it is full, every entry of both lists is.
+-- What callers may rest on: one party at most makes, and stands where makers do; a party's entries are told by where it stands; at rest, where the cell is empty and somebody is listed in `active`, some entry there is marked, and where it is full, every entry of both lists is.
 pub record IsCell (s : OnceCell) : Type 0 where
   pub makers : (p : ℕ) → makes_at (position_at s.positions p) ≡ is_maker s.content p
-  pub values : (p v : ℕ) → value_known (position_at s.positions p) ≡ Some v → s.content ≡ content.Full v
   pub active_owners : (p : ℕ) → entries_of p s.active ≡ in_active (position_at s.positions p)
   pub passive_owners : (p : ℕ) → entries_of p s.passive ≡ in_passive_at (position_at s.positions p)
   pub active_in_order : IsMarkedFirst s.active
@@ -196,8 +194,16 @@ goes_with (Inside w) (At x) = is_begun x && runs w.kind w.was x
 goes_with Forgotten x = is_resting x
 goes_with _ _ = false
 
-abbrev pub Stands : OnceCell → ℕ → Stage → Type 0
-Stands s p stage = goes_with stage (position_at s.positions p) ≡ true
+-- A party at this stage may stand where it does, and what it knows of the cell's value is so.
+pub record Stands (s : OnceCell) (p : ℕ) (stage : Stage) : Type 0 where
+  pub goes : goes_with stage (position_at s.positions p) ≡ true
+  pub value : (v : ℕ) → value_known (position_at s.positions p) ≡ Some v → s.content ≡ content.Full v
+
+-- ---- The value, from outside every call
+
+-- The cell with another value, or without the one that it had; one that isn't full stays as it is.
+abbrev pub with_value : OnceCell → Option ℕ → OnceCell
+with_value s v = record s { content = refilled s.content v }
 
 -- ---- One action
 

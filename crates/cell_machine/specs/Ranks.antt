@@ -1,5 +1,5 @@
 -- How many steps of a party's call are left, if the others stand still.
-use Rattle.std.specs.Prelude.{ℕ, if◌then◌else◌, Bool, true, false}
+use Rattle.std.specs.Prelude.{ℕ, if◌then◌else◌, Bool}
 use Rattle.lock_event.specs.Lists.{is_marked_at}
 use Rattle.lock_queue.specs.Parties.{is_party}
 use Rattle.cell_machine.specs.declared.program.Place.{Place}

@@ -9,6 +9,7 @@ ghost use Rattle.cell_machine.specs.declared.program.ListName.TheVariants as lis
 ghost use Rattle.cell_machine.specs.Program.{place_for as place_for_lem, position_after, pending_at as pending_at_lem, refused_at as refused_at_lem};
 ghost use Rattle.cell_machine.specs.Deeds.{CanDo, CanList, Finds, FindsJoin, FindsAsk, FindsMade, deed_of, content_after, active_after, passive_after, list_of};
 ghost use Rattle.cell_machine.specs.Machine.{new_cell, IsCell, answer_by};
+ghost use Rattle.cell_machine.specs.Words.{content_of, kept_of};
 
 use crate::program::{
     Action, Found, ListName, Maker, Next, Place, Position, action_at, decide, start,
@@ -16,7 +17,7 @@ use crate::program::{
 use crate::words::{Content, Words};
 use lock_event::Entry;
 use lock_queue::WaitQueue;
-use lock_table::{End, Machine};
+use lock_table::{End, Machine, Valued};
 use lock_world::standing::{Rest, Within};
 use lock_world::{Answer, Call, Got, Inputs, Made, What};
 use std::alloc::{AllocError, Global};
@@ -36,12 +37,13 @@ pub struct OnceCell {
 
 impl Model for OnceCell {
     ghost use Rattle.cell_machine.specs.Machine.{OnceCell, IsKept};
+    ghost use Rattle.cell_machine.specs.Words.{content_of, kept_of};
 
     ghost Value = { OnceCell };
 
-    ghost view = { λ s. record { content = s.words; positions = s.positions.items; active = s.active.entries; passive = s.passive.entries } };
+    ghost view = { λ s. record { content = content_of s.words; positions = s.positions.items; active = s.active.entries; passive = s.passive.entries } };
 
-    ghost invariant = { λ s. IsKept s.words s.positions.items s.active s.passive };
+    ghost invariant = { λ s. IsKept (kept_of s.words) s.positions.items s.active s.passive };
 }
 
 /// What the maker of an initialisation gives.
@@ -94,9 +96,11 @@ fn carry_out(
     action: Action,
     inputs: Inputs,
 ) -> Found
-    requires { CanDo party action active.old passive.old }
-    ensures finds { Finds inputs party action result words.old active.old.entries passive.old.entries }
-    ensures words { words.new ≡ content_after party (deed_of action result) words.old }
+    requires can { CanDo party action active.old passive.old }
+    requires kept { kept_of words.old ≡ content_of words.old }
+    ensures finds { Finds inputs party action result (content_of words.old) active.old.entries passive.old.entries }
+    ensures words { content_of words.new ≡ content_after party (deed_of action result) (content_of words.old) }
+    ensures kept { kept_of words.new ≡ content_of words.new }
     ensures active { active.new ≡ queue active.old.parties (active_after party (deed_of action result) active.old.entries) }
     ensures passive { passive.new ≡ queue passive.old.parties (passive_after party (deed_of action result) passive.old.entries) }
 {
@@ -266,6 +270,7 @@ impl Machine for OnceCell {
         let Some(from) = place_for(what, self.positions[at]) else {
             unreachable!()
         };
+        self.words.settle();
         let found = carry_out(
             &mut self.words,
             &mut self.active,
@@ -278,4 +283,27 @@ impl Machine for OnceCell {
         self.positions[at] = after(from, next);
         answer_to(next)
     }
+}
+
+impl Valued for OnceCell {
+    ghost use Rattle.cell_machine.specs.Machine as machine;
+    ghost use Rattle.cell_machine.specs.Words.{value_in};
+    ghost use Rattle.cell_machine.specs.Stays.{stays_so};
+    ghost use Rattle.std.specs.Prelude.{refl};
+
+    type Value = Option<u64>;
+
+    ghost value_of = { λ s. value_in s.content };
+
+    ghost with_value = { machine.with_value };
+
+    fn value_mut(&mut self) -> &mut Option<u64> {
+        self.words.settle();
+        let words = &mut self.words;
+        &mut words.value
+    }
+
+    ghost as_many = { λ s v. refl };
+
+    ghost stays = { λ s v p stage outside h. stays_so s v p stage outside h };
 }

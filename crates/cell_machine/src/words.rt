@@ -2,10 +2,10 @@
 
 ghost use Rattle.std.specs.Prelude.{◌≡◌};
 ghost use Rattle.cell_machine.specs.Deeds.{FindsContent, claimed_after};
+ghost use Rattle.cell_machine.specs.Words.{content_of, kept_of, value_in};
 ghost use Rattle.cell_machine.specs.declared.words.Content.TheVariants as contents;
 
 use crate::program::Found;
-use std::marker::Model;
 
 /// What a once-cell has in it.
 #[derive(Clone, Copy, Debug, PartialEq, Eq)]
@@ -20,7 +20,7 @@ pub enum Content {
 
 /// How far a cell is.
 #[derive(Clone, Copy, Debug, PartialEq, Eq)]
-enum State {
+pub enum State {
     /// Nobody has begun to make its value.
     Empty,
     /// This party makes its value.
@@ -32,23 +32,15 @@ enum State {
 /// The state of a cell, and its value beside it. A full cell whose value was taken is empty.
 #[derive(Drop)]
 pub struct Words {
-    state: State,
-    value: Option<u64>,
-}
-
-impl Model for Words {
-    ghost use Rattle.cell_machine.specs.Words.{content_of};
-    ghost use Rattle.cell_machine.specs.declared.words.Content.{Content};
-
-    ghost Value = { Content };
-
-    ghost view = { λ w. content_of w.state w.value };
+    pub state: State,
+    pub value: Option<u64>,
 }
 
 impl Words {
     /// Those of an empty cell.
     pub fn new() -> Words
-        ensures { result ≡ contents.Empty }
+        ensures content { content_of result ≡ contents.Empty }
+        ensures kept { kept_of result ≡ contents.Empty }
     {
         Words {
             state: State::Empty,
@@ -58,7 +50,7 @@ impl Words {
 
     /// What is in the cell.
     pub fn content(&self) -> Content
-        ensures { result ≡ self.now }
+        ensures { result ≡ content_of self.now }
     {
         match self.state {
             State::Empty => Content::Empty,
@@ -70,9 +62,26 @@ impl Words {
         }
     }
 
+    /// The state follows the value, which may have been taken or put from outside every call. What is in the
+    /// cell stays.
+    pub fn settle(&mut self)
+        ensures content { content_of self.new ≡ content_of self.old }
+        ensures kept { kept_of self.new ≡ content_of self.new }
+        ensures value { self.new.value ≡ value_in (content_of self.new) }
+    {
+        match self.state {
+            State::Full => {
+                if self.value.is_none() {
+                    self.state = State::Empty;
+                }
+            }
+            _ => self.value = None,
+        }
+    }
+
     /// What a look finds.
     pub fn look(&self) -> Found
-        ensures { FindsContent result self.now }
+        ensures { FindsContent result (content_of self.now) }
     {
         match self.content() {
             Content::Empty => Found::Empty,
@@ -83,8 +92,10 @@ impl Words {
 
     /// The party begins to make the value, if the cell is empty. What it found is what stood before.
     pub fn claim(&mut self, party: u32) -> Found
-        ensures finds { FindsContent result self.old }
-        ensures content { self.new ≡ claimed_after party result self.old }
+        requires { kept_of self.old ≡ content_of self.old }
+        ensures finds { FindsContent result (content_of self.old) }
+        ensures content { content_of self.new ≡ claimed_after party result (content_of self.old) }
+        ensures kept { kept_of self.new ≡ content_of self.new }
     {
         let found = self.look();
         if let Found::Empty = found {
@@ -95,7 +106,8 @@ impl Words {
 
     /// The value that was made enters the cell.
     pub fn fill(&mut self, value: u64)
-        ensures { self.new ≡ contents.Full value }
+        ensures content { content_of self.new ≡ contents.Full value }
+        ensures kept { kept_of self.new ≡ contents.Full value }
     {
         self.value = Some(value);
         self.state = State::Full;
@@ -103,7 +115,8 @@ impl Words {
 
     /// The making ends, and no value enters.
     pub fn empty(&mut self)
-        ensures { self.new ≡ contents.Empty }
+        ensures content { content_of self.new ≡ contents.Empty }
+        ensures kept { kept_of self.new ≡ contents.Empty }
     {
         self.state = State::Empty;
     }

@@ -132,6 +132,63 @@ fn a_wait_is_told_once_the_cell_is_full(rt: HostRuntime) -> Result<(), Fail> {
     assert_eq!(rt; told(&world, PASSIVE, 0), Some((0, Mark::Additional)));
     expect(&rt, &mut world, &[(0, Call::Poll, INPUTS, ready(5))]);
     assert_state(&rt, &world, (Content::Full(5), 0, 0));
+    assert_eq!(rt; world.take(), Some(5));
+    assert_state(&rt, &world, (Content::Empty, 0, 0));
+    assert_eq!(rt; world.take(), None);
+    Ok(())
+}
+
+#[test]
+fn another_value_enters_once_one_was_taken(rt: HostRuntime) -> Result<(), Fail> {
+    let mut world = cell(rt.alloc(), 3)?;
+    expect(
+        &rt,
+        &mut world,
+        &[
+            (0, Call::Set(5), INPUTS, ready(5)),
+            (1, Call::Wait, INPUTS, ready(5)),
+        ],
+    );
+    if let Some(value) = world.get_mut() {
+        *value = 6;
+    }
+    assert_eq!(rt; world.value(), Some(6));
+    assert_eq!(rt; world.take(), Some(6));
+    expect(
+        &rt,
+        &mut world,
+        &[
+            (1, Call::Wait, INPUTS, Answer::Pending),
+            (0, Call::Set(7), INPUTS, ready(7)),
+            (1, Call::Poll, INPUTS, ready(7)),
+        ],
+    );
+    assert_eq!(rt; world.into_inner(), Some(7));
+    Ok(())
+}
+
+#[test]
+fn who_was_pending_is_forgotten_once_the_value_was_taken(rt: HostRuntime) -> Result<(), Fail> {
+    let mut world = cell(rt.alloc(), 3)?;
+    expect(
+        &rt,
+        &mut world,
+        &[
+            (0, Call::Initialize, INPUTS, Answer::Pending),
+            (1, Call::Wait, INPUTS, Answer::Pending),
+        ],
+    );
+    assert!(rt; world.get_mut().is_none());
+    assert_state(&rt, &world, (Content::BeingMade(0), 0, 1));
+    expect(
+        &rt,
+        &mut world,
+        &[
+            (0, Call::Poll, gives(3), Answer::NotPossible),
+            (1, Call::Drop, INPUTS, Answer::NotPossible),
+            (2, Call::TrySet(4), INPUTS, Answer::None),
+        ],
+    );
     Ok(())
 }
 

@@ -63,7 +63,8 @@ use Rattle.cell_machine.specs.Machine.{OnceCell, IsCell, IsAtRest, Acts, Moves a
 use Rattle.cell_machine.proofs.Kept.{after}
 use Rattle.cell_machine.proofs.Turns.{Turn, turn, Fits, fits, lands, the}
 use Rattle.cell_machine.proofs.Contents as contents
-use Rattle.cell_world.specs.State.{World, is_empty, is_full, value_in, list_in, standing_of, task_of}
+use Rattle.cell_world.specs.State.{World, is_empty, is_full, list_in, standing_of, task_of}
+use Rattle.cell_machine.specs.Words.{value_in}
 use Rattle.cell_world.specs.View.{view_of}
 use Rattle.cell_world.specs.Tasks.{task_in, or_before, task_then, makes, list_for, given, is_open}
 use Rattle.cell_world.specs.Legal.{call_of, DecidesOn, IsPossible, gives_something_back, gives_up, IsItsList, IsAllowed, ChangesOneThing, KnowsTask, Carried, IsGranted, Carries, IsPendingMaker, WaitsInList, Waits, IsOutOfMemory, IsCause, IsRefusedForCause, HasByTask, HasNothing, HasItsOwn, LeavesClear, EndsProperly, Legal}
@@ -373,7 +374,7 @@ module _ (t u : Table OnceCell) (m : Move) (a : Answer) (w : Within) where
     allowed_so (does list asks) h = its_list list (fits_now (act.Ask list) h)
     allowed_so (does list leaves) h = its_list list (fits_now (act.Leave list) h)
     allowed_so (does list (notifies n)) h = h
-    allowed_so (does list (notifies_additionally n)) h = let fit = fits_now (act.NotifyAll list) h.1 in (fit.0, h.0, k.old_laws.values p fit.0 fit.2, task_old ∙ fit.1)
+    allowed_so (does list (notifies_additionally n)) h = let fit = fits_now (act.NotifyAll list) h.1 in (fit.0, h.0, (k.old_fits.stands p k.inside).value fit.0 fit.2, task_old ∙ fit.1)
 
     decided_there : is_decided (standing_of old p) || is_giving_back m.what ≡ is_some (verdict_of from)
     decided_there = ap (λ z. is_decided z || is_giving_back m.what) stood ∙ k.here.decides

@@ -63,7 +63,8 @@ use Rattle.cell_machine.specs.Machine.{OnceCell, IsCell, IsAtRest, Acts, Moves a
 use Rattle.cell_machine.proofs.Kept.{after}
 use Rattle.cell_machine.proofs.Turns.{Turn, turn, Fits, fits, lands, the}
 use Rattle.cell_machine.proofs.Contents as contents
-use Rattle.cell_world.specs.State.{World, is_empty, is_full, value_in, list_in, standing_of, task_of}
+use Rattle.cell_world.specs.State.{World, is_empty, is_full, list_in, standing_of, task_of}
+use Rattle.cell_machine.specs.Words.{value_in}
 use Rattle.cell_world.specs.View.{view_of}
 use Rattle.cell_world.specs.Tasks.{task_in, or_before, task_then, makes, list_for, given, is_open}
 use Rattle.cell_world.specs.Legal.{call_of, DecidesOn, IsPossible, gives_something_back, gives_up, IsItsList, IsAllowed, ChangesOneThing, KnowsTask, Carried, IsGranted, Carries, IsPendingMaker, WaitsInList, Waits, IsOutOfMemory, IsCause, IsRefusedForCause, HasByTask, HasNothing, HasItsOwn, LeavesClear, EndsProperly, Legal}
@@ -164,12 +165,17 @@ pub record Standing_well (w : World) : Type 0 where
   pub never_pending : (p : ℕ) (u : Within) → standing_of w p ≢ inside u (Some answer.Pending)
 
 module _ (t : Table OnceCell) (laws : IsCell t.machine) (fits : IsCellTable t) where
+  known : (q v : ℕ) → value_known (position_at t.machine.positions q) ≡ Some v → t.machine.content ≡ Full v
+  known q v e = seen.by_stage_or_past t.stages q (t.machine.content ≡ Full v)
+      (λ past. (let out : value_known (position_at t.machine.positions q) ≡ None = ap value_known (seen.past_out t.machine.positions q (omega (arith, past, fits.as_many))) in absurd (none_some (sym out ∙ e))))
+      (λ inside. (fits.stands q inside).value v e)
+
   pub facts : (q : ℕ) → Facts (view_of t) q (position_at t.machine.positions q)
-  facts q = record { active = laws.active_owners q; passive = laws.passive_owners q; makes = laws.makers q; task = seen.task_seen t q; value = laws.values q }
+  facts q = record { active = laws.active_owners q; passive = laws.passive_owners q; makes = laws.makers q; task = seen.task_seen t q; value = known q }
 
   pub each_has : (q : ℕ) → HasItsOwn (view_of t) q (standing_of (view_of t) q)
   each_has q = subst (HasItsOwn (view_of t) q) (sym (seen.standing_seen t q)) (seen.by_stage t.stages q (λ s. HasItsOwn (view_of t) q (stands_as (verdict (position_at t.machine.positions q)) s)) tt
-      (λ inside. own_by (view_of t) q (stage_at t.stages q) (position_at t.machine.positions q) (fits.stands q inside) (facts q)))
+      (λ inside. own_by (view_of t) q (stage_at t.stages q) (position_at t.machine.positions q) (fits.stands q inside).goes (facts q)))
 
   pub well : Standing_well (view_of t)
   well = record {

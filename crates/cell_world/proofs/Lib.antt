@@ -14,3 +14,4 @@ pub mod Rights
 pub mod Promises
 pub mod Bound
 pub mod WorldLaws
+pub mod Lent

@@ -63,7 +63,8 @@ use Rattle.cell_machine.specs.Machine.{OnceCell, IsCell, IsAtRest, Acts, Moves a
 use Rattle.cell_machine.proofs.Kept.{after}
 use Rattle.cell_machine.proofs.Turns.{Turn, turn, Fits, fits, lands, the}
 use Rattle.cell_machine.proofs.Contents as contents
-use Rattle.cell_world.specs.State.{World, is_empty, is_full, value_in, list_in, standing_of, task_of}
+use Rattle.cell_world.specs.State.{World, is_empty, is_full, list_in, standing_of, task_of}
+use Rattle.cell_machine.specs.Words.{value_in}
 use Rattle.cell_world.specs.View.{view_of}
 use Rattle.cell_world.specs.Tasks.{task_in, or_before, task_then, makes, list_for, given, is_open}
 use Rattle.cell_world.specs.Legal.{call_of, DecidesOn, IsPossible, gives_something_back, gives_up, IsItsList, IsAllowed, ChangesOneThing, KnowsTask, Carried, IsGranted, Carries, IsPendingMaker, WaitsInList, Waits, IsOutOfMemory, IsCause, IsRefusedForCause, HasByTask, HasNothing, HasItsOwn, LeavesClear, EndsProperly, Legal}
@@ -117,7 +118,7 @@ again_goes i Forgotten h = cc h
 may_go : (t : Table OnceCell) (p : ℕ) (i : Inputs) (y : Place) → IsCellTable t → position_at t.machine.positions p ≡ At y → call_at knows (stage_at t.stages p) (Go i) ≡ None → ⊥
 may_go t p i y fits at none = seen.by_stage_or_past t.stages p ⊥
     (λ past. (let out : position_at t.machine.positions p ≡ Out = seen.past_out t.machine.positions p (omega (arith, past, fits.as_many)) in let never : At y ≡ Out = sym at ∙ out in cc never))
-    (λ inside. (let P : Position → Type 0 = λ x. goes_with (stage_at t.stages p) x ≡ true in stage_goes i y (stage_at t.stages p) (subst P at (fits.stands p inside)) none))
+    (λ inside. (let P : Position → Type 0 = λ x. goes_with (stage_at t.stages p) x ≡ true in stage_goes i y (stage_at t.stages p) (subst P at (fits.stands p inside).goes) none))
 
 -- ---- who makes comes to what its maker gives
 

@@ -63,7 +63,8 @@ use Rattle.cell_machine.specs.Machine.{OnceCell, IsCell, IsAtRest, Acts, Moves a
 use Rattle.cell_machine.proofs.Kept.{after}
 use Rattle.cell_machine.proofs.Turns.{Turn, turn, Fits, fits, lands, the}
 use Rattle.cell_machine.proofs.Contents as contents
-use Rattle.cell_world.specs.State.{World, is_empty, is_full, value_in, list_in, standing_of, task_of}
+use Rattle.cell_world.specs.State.{World, is_empty, is_full, list_in, standing_of, task_of}
+use Rattle.cell_machine.specs.Words.{value_in}
 use Rattle.cell_world.specs.View.{view_of}
 use Rattle.cell_world.specs.Tasks.{task_in, or_before, task_then, makes, list_for, given, is_open}
 use Rattle.cell_world.specs.Legal.{call_of, DecidesOn, IsPossible, gives_something_back, gives_up, IsItsList, IsAllowed, ChangesOneThing, KnowsTask, Carried, IsGranted, Carries, IsPendingMaker, WaitsInList, Waits, IsOutOfMemory, IsCause, IsRefusedForCause, HasByTask, HasNothing, HasItsOwn, LeavesClear, EndsProperly, Legal}
@@ -167,10 +168,10 @@ module _ (t : Table OnceCell) (laws : IsCell t.machine) (fits : IsCellTable t) w
     each = each_has t laws fits;
     maker = λ q h. seen.by_stage_or_past_at t.stages q (may_be_maker (standing_of (view_of t) q) ≡ true)
         (λ past. ap may_be_maker (seen.standing_seen t q ∙ ap (stands_as (verdict (position_at xs q))) past))
-        (λ inside. ap may_be_maker (seen.standing_seen t q) ∙ makes_so (stage_at t.stages q) (position_at xs q) (verdict (position_at xs q)) (fits.stands q inside) (laws.makers q ∙ h));
+        (λ inside. ap may_be_maker (seen.standing_seen t q) ∙ makes_so (stage_at t.stages q) (position_at xs q) (verdict (position_at xs q)) (fits.stands q inside).goes (laws.makers q ∙ h));
     inside_calls = λ q u d e. seen.by_stage_or_past_at t.stages q (is_long_call u.kind u.was ≡ true)
         (λ past. (let h : stands_as (verdict (position_at xs q)) Forgotten ≡ inside u d = ap (stands_as (verdict (position_at xs q))) (sym past) ∙ (sym (seen.standing_seen t q) ∙ e) in absurd (cc (h))))
-        (λ inside. long_at (stage_at t.stages q) (position_at xs q) (verdict (position_at xs q)) u d (fits.stands q inside) (sym (seen.standing_seen t q) ∙ e));
+        (λ inside. long_at (stage_at t.stages q) (position_at xs q) (verdict (position_at xs q)) u d (fits.stands q inside).goes (sym (seen.standing_seen t q) ∙ e));
     once = λ q. omega (arith, laws.active_owners q, laws.passive_owners q, one_listed (position_at xs q));
     active_in_order = laws.active_in_order;
     passive_in_order = laws.passive_in_order;
@@ -189,12 +190,12 @@ module _ (t : Table OnceCell) (laws : IsCell t.machine) (fits : IsCellTable t) w
     stages_rest = sym (rest_seen (λ q. verdict (position_at xs q)) t.stages) ∙ rests
 
     positions_rest : IsAtRest xs
-    positions_rest = all_rest xs (λ q j. resting (stage_at t.stages q) (position_at xs q) (fits.stands q (omega (arith, j, fits.as_many))) (outside_at t.stages stages_rest q))
+    positions_rest = all_rest xs (λ q j. resting (stage_at t.stages q) (position_at xs q) (fits.stands q (omega (arith, j, fits.as_many))).goes (outside_at t.stages stages_rest q))
 
     there : (q : ℕ) → (position_at xs q ≡ Out → ⊥) → IsStillThere (standing_of (view_of t) q)
     there q some = seen.by_stage_or_past t.stages q (IsStillThere (standing_of (view_of t) q))
         (λ past. absurd (some (seen.past_out xs q (omega (arith, past, fits.as_many)))))
-        (λ inside. subst IsStillThere (sym (seen.standing_seen t q)) (still_there (stage_at t.stages q) (position_at xs q) (verdict (position_at xs q)) (fits.stands q inside) (outside_at t.stages stages_rest q) some))
+        (λ inside. subst IsStillThere (sym (seen.standing_seen t q)) (still_there (stage_at t.stages q) (position_at xs q) (verdict (position_at xs q)) (fits.stands q inside).goes (outside_at t.stages stages_rest q) some))
 
     told : (list : ListName) (v : ℕ) → t.machine.content ≡ Full v → (q : ℕ) → 0 < entries_of q (list_in list (view_of t)) → is_marked_at (is_party q) (list_in list (view_of t)) ≡ true
     told Active v full q some = laws.active_told positions_rest v full q some

@@ -63,7 +63,8 @@ use Rattle.cell_machine.specs.Machine.{OnceCell, IsCell, IsAtRest, Acts, Moves a
 use Rattle.cell_machine.proofs.Kept.{after}
 use Rattle.cell_machine.proofs.Turns.{Turn, turn, Fits, fits, lands, the}
 use Rattle.cell_machine.proofs.Contents as contents
-use Rattle.cell_world.specs.State.{World, is_empty, is_full, value_in, list_in, standing_of, task_of}
+use Rattle.cell_world.specs.State.{World, is_empty, is_full, list_in, standing_of, task_of}
+use Rattle.cell_machine.specs.Words.{value_in}
 use Rattle.cell_world.specs.View.{view_of}
 use Rattle.cell_world.specs.Tasks.{task_in, or_before, task_then, makes, list_for, given, is_open}
 use Rattle.cell_world.specs.Legal.{call_of, DecidesOn, IsPossible, gives_something_back, gives_up, IsItsList, IsAllowed, ChangesOneThing, KnowsTask, Carried, IsGranted, Carries, IsPendingMaker, WaitsInList, Waits, IsOutOfMemory, IsCause, IsRefusedForCause, HasByTask, HasNothing, HasItsOwn, LeavesClear, EndsProperly, Legal}
@@ -91,7 +92,7 @@ module _ (t u : Table OnceCell) (m : Move) (a : Answer) (tl : IsCell t.machine) 
     by_call None b e f d = impossible e d.0 d.1
     by_call (Some w) true e f d = over w e f d.0 d.1
     by_call (Some w) false e f d =
-        let turn = here (stage_at t.stages m.party) m.what w (position_at t.machine.positions m.party) (tf.stands m.party d.inside) e f in
+        let turn = here (stage_at t.stages m.party) m.what w (position_at t.machine.positions m.party) (tf.stands m.party d.inside).goes e f in
         let same : turn.from ≡ d.acts.from = some_eq (sym turn.starts ∙ d.acts.starts) in
         let P : Place → Type 0 = Here (stage_at t.stages m.party) m.what w (position_at t.machine.positions m.party) in
         acts w (record {
@@ -125,7 +126,7 @@ module _ (t u : Table OnceCell) (m : Move) (a : Answer) (tl : IsCell t.machine) 
   -- the place at which a call begins that decides at once
   pub door : (w : Within) (k : Acting t u m a w) → Entrance (stage_at t.stages m.party) m.what w (position_at t.machine.positions m.party) k.from
   door w k =
-      let turn = entrance (stage_at t.stages m.party) m.what w (position_at t.machine.positions m.party) (tf.stands m.party k.inside) k.call k.first in
+      let turn = entrance (stage_at t.stages m.party) m.what w (position_at t.machine.positions m.party) (tf.stands m.party k.inside).goes k.call k.first in
       let same : turn.from ≡ k.from = some_eq (sym turn.starts ∙ k.starts) in
       let P : Place → Type 0 = λ y. Entrance (stage_at t.stages m.party) m.what w (position_at t.machine.positions m.party) y in
       subst P same turn.holds

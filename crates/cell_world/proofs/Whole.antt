@@ -63,7 +63,8 @@ use Rattle.cell_machine.specs.Machine.{OnceCell, IsCell, IsAtRest, Acts, Moves a
 use Rattle.cell_machine.proofs.Kept.{after}
 use Rattle.cell_machine.proofs.Turns.{Turn, turn, Fits, fits, lands, the}
 use Rattle.cell_machine.proofs.Contents as contents
-use Rattle.cell_world.specs.State.{World, is_empty, is_full, value_in, list_in, standing_of, task_of}
+use Rattle.cell_world.specs.State.{World, is_empty, is_full, list_in, standing_of, task_of}
+use Rattle.cell_machine.specs.Words.{value_in}
 use Rattle.cell_world.specs.View.{view_of}
 use Rattle.cell_world.specs.Tasks.{task_in, or_before, task_then, makes, list_for, given, is_open}
 use Rattle.cell_world.specs.Legal.{call_of, DecidesOn, IsPossible, gives_something_back, gives_up, IsItsList, IsAllowed, ChangesOneThing, KnowsTask, Carried, IsGranted, Carries, IsPendingMaker, WaitsInList, Waits, IsOutOfMemory, IsCause, IsRefusedForCause, HasByTask, HasNothing, HasItsOwn, LeavesClear, EndsProperly, Legal}
@@ -241,7 +242,7 @@ module _ (t u : Table OnceCell) (m : Move) (a : Answer) where
 
   pub from_turn : (w : Within) (k : Acting t u m a w) → Within_most (stage_at t.stages p) m.what w (position_at t.machine.positions p) k.from
   from_turn w k =
-      let turned = within_most (stage_at t.stages p) m.what w (position_at t.machine.positions p) (k.old_fits.stands p k.inside) k.call k.first in
+      let turned = within_most (stage_at t.stages p) m.what w (position_at t.machine.positions p) (k.old_fits.stands p k.inside).goes k.call k.first in
       let same : turned.from ≡ k.from = some_eq (sym turned.starts ∙ k.starts) in
       let P : Place → Type 0 = λ y. Within_most (stage_at t.stages p) m.what w (position_at t.machine.positions p) y in
       subst P same turned.holds

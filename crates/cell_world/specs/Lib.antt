@@ -9,3 +9,4 @@ pub mod Runs
 pub mod Whole
 pub mod Bound
 pub mod Openings
+pub mod Lending

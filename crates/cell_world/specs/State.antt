@@ -1,5 +1,5 @@
 -- What callers see of a once-cell's World: what is in the cell, its lists, and how each party stands.
-use Rattle.std.specs.Prelude.{◌≡◌, ℕ, Bool, true, false, List, [], Option, Some, None, slice_index_or, replicate, length}
+use Rattle.std.specs.Prelude.{◌≡◌, ℕ, Bool, true, false, List, [], slice_index_or, replicate, length}
 use Rattle.lock_event.specs.declared.event.Entry.{Entry}
 use Rattle.lock_world.specs.declared.standing.Rest.TheVariants.{Idle}
 use Rattle.lock_world.specs.Standings.{Standing, outside, forgotten}
@@ -29,12 +29,6 @@ abbrev pub is_full : Content → Bool
 is_full Empty = false
 is_full (BeingMade q) = false
 is_full (Full v) = true
-
--- The cell's value, if it is full.
-abbrev pub value_in : Content → Option ℕ
-value_in Empty = None
-value_in (BeingMade q) = None
-value_in (Full v) = Some v
 
 -- The list of this name.
 abbrev pub list_in : ListName → World → List (Entry ℕ)

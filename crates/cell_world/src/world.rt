@@ -9,11 +9,15 @@ ghost use Rattle.std.specs.Prelude.{◌≡◌, ◌<◌, ◌≤◌, ℕ, Bool, tr
 ghost use Rattle.lock_world.specs.declared.moves.Answer.{Answer as AnswerOf};
 ghost use Rattle.lock_world.specs.declared.moves.Move.{Move as MoveOf};
 ghost use Rattle.lock_world.specs.declared.refusal.Refusal.TheVariants as refusals;
-ghost use Rattle.cell_world.specs.State.{new_world, list_in, is_full, value_in, World as WorldOf};
+ghost use Rattle.cell_world.specs.State.{new_world, list_in, is_full, World as WorldOf};
+ghost use Rattle.cell_machine.specs.Words.{value_in};
 ghost use Rattle.cell_world.specs.Steps.{Steps};
 ghost use Rattle.cell_world.specs.Laws.{IsSound, IsAwake, IsFreeAndWanted, is_at_rest};
 ghost use Rattle.cell_world.specs.Runs.{Known, Runs, entered};
 ghost use Rattle.cell_world.specs.Bound.{IsBounded};
+ghost use Rattle.cell_world.specs.Lending.{LendsValue, world_with};
+ghost use Rattle.std.specs.Borrow.{sem};
+ghost use Rattle.std.specs.Option.{option_copied_mut};
 
 use cell_machine::program::ListName;
 use cell_machine::{Content, OnceCell};
@@ -150,6 +154,37 @@ impl World {
         ensures { result ≡ slice_get (list_in list self.now) index }
     {
         self.table.machine().entry(list, index)
+    }
+
+    /// Lends the cell's value, of a World at rest; None where the cell isn't full. Whoever was pending, the
+    /// maker too, is forgotten: from then on its moves are not possible, and its entry stays in its list.
+    ///
+    /// The Rust crate's `get_mut` asks for the only reference to the cell, so that no future can be left.
+    pub fn get_mut(&mut self) -> Option<&mut u64>
+        requires { is_at_rest self.old ≡ true }
+        ensures* lends { sem 𝓛 (LendsValue self.entry result) }
+        ensures value { option_copied_mut result ≡ value_in self.old.cell }
+    {
+        let value = self.table.value_mut();
+        value.as_mut()
+    }
+
+    /// Takes the cell's value out, of a World at rest: then the cell is empty, and another value may enter.
+    /// None, and the cell stays as it is, where it isn't full. Whoever was pending is forgotten, as by
+    /// [`World::get_mut`].
+    pub fn take(&mut self) -> Option<u64>
+        requires { is_at_rest self.old ≡ true }
+        ensures value { result ≡ value_in self.old.cell }
+        ensures taken { self.new ≡ world_with self.old None }
+    {
+        self.table.value_mut().take()
+    }
+
+    /// The cell's value, if it is full, and the World is gone.
+    pub fn into_inner(self) -> Option<u64>
+        ensures { result ≡ value_in self.cell }
+    {
+        self.value()
     }
 }
 

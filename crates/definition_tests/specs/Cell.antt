@@ -90,7 +90,7 @@ pub record MakesAnother : Type 0 where
   pub gave : inputs.made ≡ made.Value given
   pub asked : task_of step.old step.move.party ≡ initializes
   pub possible : is_possible step.answer ≡ true
-  pub open : is_open (standing_of step.new step.move.party) ≡ true
+  pub still_open : is_open (standing_of step.new step.move.party) ≡ true
   pub goes_on : task_of step.new step.move.party ≡ fills_with kept
   pub legal : IsLegal step
 

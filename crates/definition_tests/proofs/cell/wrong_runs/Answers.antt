@@ -1,6 +1,7 @@
 -- No wrong run of a once-cell is legal.
 use Rattle.std.proofs.Common.{◌≡◌, ◌≢◌, ℕ, ◌<◌, ◌⊎◌, inl, inr, if◌then◌else◌, Bool, true, false, Option, Some, None, refl, arith, ap, sym, ◌∙◌, subst}
 use Rattle.std.proofs.lemmas.Bool.{false≢true, true≢false}
+use Rattle.lock_event.specs.declared.event.Mark.TheVariants.{Waiting}
 use Rattle.lock_event.specs.Lists.{mark_at}
 use Rattle.lock_queue.specs.Parties.{is_party}
 use Rattle.lock_world.specs.declared.moves.Answer.{Answer}
@@ -79,7 +80,7 @@ pub returns-clause-makes_another : goal.returns-clause-makes_another
 returns-clause-makes_another c = λ r.
     let none : task_in r.step.move.what ≡ None = ap task_in r.goes in
     let input : (inputs_of r.step.move.what).made ≡ made.Value r.given = ap (λ (z : What). (inputs_of z).made) r.goes ∙ r.gave in
-    elim (r.legal.knows_task.going none r.possible r.open) as (λ _. ⊥) [
+    elim (r.legal.knows_task.going none r.possible r.still_open) as (λ _. ⊥) [
       | inl same ↦ (let never : fills_with r.kept ≡ initializes = sym r.goes_on ∙ (same ∙ r.asked) in cc never)
       | inr gave ↦ (let so : fills_with r.kept ≡ given initializes (made.Value r.given) = sym r.goes_on ∙ (gave.2 ∙ (ap (λ z. given z (inputs_of r.step.move.what).made) r.asked ∙ ap (given initializes) input)) in r.other (cc so))
     ]
@@ -100,9 +101,9 @@ pub returns-clause-waits_without_making : goal.returns-clause-waits_without_maki
 returns-clause-waits_without_making c = λ r. r.no_maker (pends_so _ r.whole.party r.whole.answer r.whole.new (r.kept.first r.first r.empty) r.pending)
 
 waits_active : (m : Move) (v : World) → IsPendingMaker m v ⊎ WaitsInList m v → list_for (task_of v m.party) ≡ Some Active → (v.cell ≡ BeingMade m.party → ⊥) → mark_at (is_party m.party) v.active ≡ None → ⊥
-waits_active m v (inl k) its no un = no k.maker
-waits_active m v (inr k) its no un = by_list k.list (some_eq (sym k.its ∙ its)) k.waits where
-  by_list : (list : ListName) → list ≡ Active → mark_at (is_party m.party) (list_in list v) ≡ Some _ → ⊥
+waits_active m v (inl k) its other un = other k.maker
+waits_active m v (inr k) its other un = by_list k.list (some_eq (sym k.its ∙ its)) k.waits where
+  by_list : (list : ListName) → list ≡ Active → mark_at (is_party m.party) (list_in list v) ≡ Some Waiting → ⊥
   by_list Active e w = none_some (sym un ∙ w)
   by_list Passive e w = cc e
 
@@ -112,7 +113,7 @@ returns-clause-waits_in_passive c = λ r. waits_active r.step.move r.step.new (r
 waits_passive : (m : Move) (v : World) → IsPendingMaker m v ⊎ WaitsInList m v → task_of v m.party ≡ waits_only → mark_at (is_party m.party) v.passive ≡ None → ⊥
 waits_passive m v (inl k) task un = let never : initializes ≡ waits_only = sym k.task ∙ task in cc never
 waits_passive m v (inr k) task un = by_list k.list (some_eq (sym k.its ∙ ap list_for task)) k.waits where
-  by_list : (list : ListName) → list ≡ Passive → mark_at (is_party m.party) (list_in list v) ≡ Some _ → ⊥
+  by_list : (list : ListName) → list ≡ Passive → mark_at (is_party m.party) (list_in list v) ≡ Some Waiting → ⊥
   by_list Passive e w = none_some (sym un ∙ w)
   by_list Active e w = cc e
 

@@ -1,41 +1,47 @@
 -- An action of one party is one of its program, and keeps what always holds of the cell.
-use Rattle.std.proofs.Common.{◌≡◌, ◌<◌, Some, length, ap, sym, ◌∙◌, refl}
+use Rattle.std.proofs.Common.{◌≡◌, ◌<◌, length, ap, sym, ◌∙◌}
 use Rattle.std.proofs.Math.ListN.{set}
 use Rattle.lock_queue.specs.Queues.{queue}
-use Rattle.lock_world.specs.Standings.{inputs_of}
-use Rattle.cell_machine.specs.declared.program.Action.{Action}
-use Rattle.cell_machine.specs.Program.{place_for, action_of, next_of, position_after}
+use Rattle.cell_machine.specs.Program.{action_of, position_after}
 use Rattle.cell_machine.specs.Deeds.{Finds, deed_of, content_after, active_after, passive_after}
-use Rattle.cell_machine.specs.Machine.{answer_by, Acts, OnceCell}
+use Rattle.cell_machine.specs.Machine.{answer_by, IsKept, Stands}
+use Rattle.cell_machine.specs.Words.{content_of}
 use Rattle.cell_machine.proofs.Kept.{after}
-use Rattle.cell_machine.proofs.Locks.{Began, began, locked, keeps}
+use Rattle.cell_machine.proofs.Locks.{began, locked, keeps}
+use Rattle.cell_machine.proofs.Taken.{settled}
 use Rattle.cell_machine.proofs.cell.OnceCellMachine.act.Goals as goal
 
 pub invariant_of-self : goal.invariant_of-self
 invariant_of-self c =
     let xs = c.self.inside.positions.items in
     let known : c.args.party < length xs = rw (ap (λ s. length s.positions) c.self.view_is) c.requires.known in
+    let stood : Stands (record { content = content_of c.self.inside.words; positions = xs; active = c.self.inside.active.entries; passive = c.self.inside.passive.entries }) c.args.party c.requires.called.stage = rw (← c.self.view_is) at c.requires.called.stands in
     let start = began xs c.args.party c.index.result.now c.args._within c.args.what c.requires.called.stage c.in-Some.from known c.index.ensures (sym c.place_for.ensures ∙ c.in-Some.is)
-    (rw (ap (λ s. s.positions) c.self.view_is) c.requires.called.stands) c.requires.called.call c.requires.called.first in
+    stood.goes c.requires.called.call c.requires.called.first in
     let to : c.after.result ≡ after c.in-Some.from c.carry_out-found.result = c.after.ensures ∙ ap (position_after c.in-Some.from) c.decide-next.ensures in
-    let words : c.carry_out-found.new.words ≡ content_after c.args.party (deed_of (action_of c.in-Some.from) c.carry_out-found.result) c.self.inside.words = rw c.action_at.ensures at c.carry_out-found.ensures.words in
+    let settled_words : content_of c.settle.new.self ≡ content_of c.self.inside.words = c.settle.ensures.content in
+    let words : content_of c.carry_out-found.new.words ≡ content_after c.args.party (deed_of (action_of c.in-Some.from) c.carry_out-found.result) (content_of c.self.inside.words) = rw settled_words at (rw c.action_at.ensures at c.carry_out-found.ensures.words) in
     let active : c.carry_out-found.new.active ≡ queue c.self.inside.active.parties (active_after c.args.party (deed_of (action_of c.in-Some.from) c.carry_out-found.result) c.self.inside.active.entries) = rw c.action_at.ensures at c.carry_out-found.ensures.active in
     let passive : c.carry_out-found.new.passive ≡ queue c.self.inside.passive.parties (passive_after c.args.party (deed_of (action_of c.in-Some.from) c.carry_out-found.result) c.self.inside.passive.entries) = rw c.action_at.ensures at c.carry_out-found.ensures.passive in
-    let finds : Finds c.inputs.result c.args.party (action_of c.in-Some.from) c.carry_out-found.result c.self.inside.words c.self.inside.active.entries c.self.inside.passive.entries = rw c.action_at.ensures at c.carry_out-found.ensures.finds in
-    rw (to, words, active, passive)
-    (locked c.args.party c.self.inside.words xs c.self.inside.active c.self.inside.passive c.inputs.result c.args._within c.in-Some.from c.carry_out-found.result c.self.invariant known start.fits finds)
+    let finds : Finds c.inputs.result c.args.party (action_of c.in-Some.from) c.carry_out-found.result (content_of c.self.inside.words) c.self.inside.active.entries c.self.inside.passive.entries = rw settled_words at (rw c.action_at.ensures at c.carry_out-found.ensures.finds) in
+    let kept : IsKept (content_of c.self.inside.words) xs c.self.inside.active c.self.inside.passive = settled xs c.self.inside.active c.self.inside.passive c.self.inside.words c.self.invariant in
+    rw (c.carry_out-found.ensures.kept, to, words, active, passive)
+    (locked c.args.party (content_of c.self.inside.words) xs c.self.inside.active c.self.inside.passive c.inputs.result c.args._within c.in-Some.from c.carry_out-found.result kept known start.fits finds)
 
 pub returns-clause-acts : goal.returns-clause-acts
 returns-clause-acts c =
     let xs = c.self.inside.positions.items in
     let known : c.args.party < length xs = rw (ap (λ s. length s.positions) c.self.view_is) c.requires.known in
+    let stood : Stands (record { content = content_of c.self.inside.words; positions = xs; active = c.self.inside.active.entries; passive = c.self.inside.passive.entries }) c.args.party c.requires.called.stage = rw (← c.self.view_is) at c.requires.called.stands in
     let start = began xs c.args.party c.index.result.now c.args._within c.args.what c.requires.called.stage c.in-Some.from known c.index.ensures (sym c.place_for.ensures ∙ c.in-Some.is)
-    (rw (ap (λ s. s.positions) c.self.view_is) c.requires.called.stands) c.requires.called.call c.requires.called.first in
+    stood.goes c.requires.called.call c.requires.called.first in
     let to : c.after.result ≡ after c.in-Some.from c.carry_out-found.result = c.after.ensures ∙ ap (position_after c.in-Some.from) c.decide-next.ensures in
-    let words : c.carry_out-found.new.words ≡ content_after c.args.party (deed_of (action_of c.in-Some.from) c.carry_out-found.result) c.self.inside.words = rw c.action_at.ensures at c.carry_out-found.ensures.words in
+    let settled_words : content_of c.settle.new.self ≡ content_of c.self.inside.words = c.settle.ensures.content in
+    let words : content_of c.carry_out-found.new.words ≡ content_after c.args.party (deed_of (action_of c.in-Some.from) c.carry_out-found.result) (content_of c.self.inside.words) = rw settled_words at (rw c.action_at.ensures at c.carry_out-found.ensures.words) in
     let active : c.carry_out-found.new.active ≡ queue c.self.inside.active.parties (active_after c.args.party (deed_of (action_of c.in-Some.from) c.carry_out-found.result) c.self.inside.active.entries) = rw c.action_at.ensures at c.carry_out-found.ensures.active in
     let passive : c.carry_out-found.new.passive ≡ queue c.self.inside.passive.parties (passive_after c.args.party (deed_of (action_of c.in-Some.from) c.carry_out-found.result) c.self.inside.passive.entries) = rw c.action_at.ensures at c.carry_out-found.ensures.passive in
-    let finds : Finds c.inputs.result c.args.party (action_of c.in-Some.from) c.carry_out-found.result c.self.inside.words c.self.inside.active.entries c.self.inside.passive.entries = rw c.action_at.ensures at c.carry_out-found.ensures.finds in
+    let finds : Finds c.inputs.result c.args.party (action_of c.in-Some.from) c.carry_out-found.result (content_of c.self.inside.words) c.self.inside.active.entries c.self.inside.passive.entries = rw settled_words at (rw c.action_at.ensures at c.carry_out-found.ensures.finds) in
+    let kept : IsKept (content_of c.self.inside.words) xs c.self.inside.active c.self.inside.passive = settled xs c.self.inside.active c.self.inside.passive c.self.inside.words c.self.invariant in
     rw (← c.self.view_is)
     (record {
       from = c.in-Some.from;
@@ -54,5 +60,18 @@ returns-clause-acts c =
 
 pub returns-clause-keeps : goal.returns-clause-keeps
 returns-clause-keeps c =
-    let m = returns-clause-acts c in
-    rw m.answer (keeps c.args.self.now _ c.args.party c.args._within m.from m.found c.requires.known m.runs m.acts.positions)
+    let xs = c.self.inside.positions.items in
+    let known : c.args.party < length xs = rw (ap (λ s. length s.positions) c.self.view_is) c.requires.known in
+    let stood : Stands (record { content = content_of c.self.inside.words; positions = xs; active = c.self.inside.active.entries; passive = c.self.inside.passive.entries }) c.args.party c.requires.called.stage = rw (← c.self.view_is) at c.requires.called.stands in
+    let start = began xs c.args.party c.index.result.now c.args._within c.args.what c.requires.called.stage c.in-Some.from known c.index.ensures (sym c.place_for.ensures ∙ c.in-Some.is)
+    stood.goes c.requires.called.call c.requires.called.first in
+    let to : c.after.result ≡ after c.in-Some.from c.carry_out-found.result = c.after.ensures ∙ ap (position_after c.in-Some.from) c.decide-next.ensures in
+    let settled_words : content_of c.settle.new.self ≡ content_of c.self.inside.words = c.settle.ensures.content in
+    let words : content_of c.carry_out-found.new.words ≡ content_after c.args.party (deed_of (action_of c.in-Some.from) c.carry_out-found.result) (content_of c.self.inside.words) = rw settled_words at (rw c.action_at.ensures at c.carry_out-found.ensures.words) in
+    let active : c.carry_out-found.new.active ≡ queue c.self.inside.active.parties (active_after c.args.party (deed_of (action_of c.in-Some.from) c.carry_out-found.result) c.self.inside.active.entries) = rw c.action_at.ensures at c.carry_out-found.ensures.active in
+    let passive : c.carry_out-found.new.passive ≡ queue c.self.inside.passive.parties (passive_after c.args.party (deed_of (action_of c.in-Some.from) c.carry_out-found.result) c.self.inside.passive.entries) = rw c.action_at.ensures at c.carry_out-found.ensures.passive in
+    let finds : Finds c.inputs.result c.args.party (action_of c.in-Some.from) c.carry_out-found.result (content_of c.self.inside.words) c.self.inside.active.entries c.self.inside.passive.entries = rw settled_words at (rw c.action_at.ensures at c.carry_out-found.ensures.finds) in
+    let kept : IsKept (content_of c.self.inside.words) xs c.self.inside.active c.self.inside.passive = settled xs c.self.inside.active c.self.inside.passive c.self.inside.words c.self.invariant in
+    let answered = c.answer_to.ensures ∙ ap answer_by c.decide-next.ensures in
+    rw (← c.self.view_is) (rw answered
+    (keeps (record { content = content_of c.self.inside.words; positions = xs; active = c.self.inside.active.entries; passive = c.self.inside.passive.entries }) _ c.args.party c.inputs.result c.args._within c.in-Some.from c.carry_out-found.result c.requires.called.stage known start.fits stood kept.makers finds (ap (set xs c.args.party) to) words))

@@ -1,0 +1,13 @@
+-- The value is taken from the World as from its table.
+use Rattle.std.proofs.Common.{ap, ◌∙◌, None}
+use Rattle.lock_table.specs.Lending.{table_with}
+use Rattle.cell_machine.specs.Machine.{with_value}
+use Rattle.cell_world.specs.View.{view_of}
+use Rattle.cell_world.proofs.Lent.{rests_there, put_here}
+use Rattle.cell_world.proofs.world.World.take.Goals as goal
+
+pub value_mut-requires : goal.value_mut-requires
+value_mut-requires c = rests_there c.self.inside.table c.args.self.now c.self.view_is c.requires
+
+pub returns-clause-taken : goal.returns-clause-taken
+returns-clause-taken c = ap (λ v. view_of (table_with with_value c.self.inside.table v)) c.take.ensures.after ∙ put_here c.self.inside.table c.args.self.now None c.self.view_is c.requires
