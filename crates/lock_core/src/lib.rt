@@ -19,6 +19,13 @@ pub mod semaphore {
     pub use semaphore_world::World;
 }
 
+/// A once-cell, from the crate `cell_world`.
+pub mod cell {
+    pub use cell_machine::Content;
+    pub use cell_machine::program::ListName;
+    pub use cell_world::World;
+}
+
 pub use lock_event::{Entry, Mark, Memory};
 pub use lock_frame::AnyWorld;
 pub use lock_world::{Answer, Call, Got, Inputs, Made, Move, Refusal, What};

@@ -4,4 +4,5 @@ pub mod Requests
 pub mod Mutex
 pub mod RwLock
 pub mod Semaphore
+pub mod Cell
 pub mod Worlds

@@ -5,12 +5,13 @@ use Rattle.rwlock_world.specs.declared.world.TheConstants.{MOST_STARVED_FOR_THE_
 use Rattle.mutex_world.specs.State as mutex
 use Rattle.rwlock_world.specs.State as rwlock
 use Rattle.semaphore_world.specs.State as semaphore
+use Rattle.cell_world.specs.State as cell
 use Rattle.lock_world.specs.declared.refusal.Refusal.{Refusal}
 use Rattle.lock_world.specs.declared.refusal.Refusal.TheVariants.{Memory, Permits}
 use Rattle.lock_script.specs.declared.command.Model.{Model}
 use Rattle.lock_script.specs.declared.command.Model.TheVariants as model
 use Rattle.lock_play.specs.declared.world.World.{World}
-use Rattle.lock_play.specs.declared.world.World.TheVariants.{Mutex, RwLock, Semaphore}
+use Rattle.lock_play.specs.declared.world.World.TheVariants.{Mutex, RwLock, Semaphore, Cell}
 
 -- a limit: the number that is given, or the greatest where that is less or none is given
 abbrev pub limit_of : Option ℕ → ℕ → ℕ
@@ -21,6 +22,7 @@ limit_of (Some n) most = min n most
 abbrev pub world_of : Model → World
 world_of (model.Mutex parties value starved) = Mutex (mutex.new_world parties (limit_of starved MOST_STARVED) value)
 world_of (model.RwLock parties value starved readers) = RwLock (rwlock.new_world parties (limit_of starved MOST_STARVED_FOR_THE_TURN) (limit_of readers MOST_READERS) value)
+world_of (model.Cell parties) = Cell (cell.new_world parties)
 world_of (model.Semaphore parties permits most) = Semaphore (semaphore.new_world parties permits (unwrap_or most (2 ^ 64 - 1)))
 
 -- the numbers describe a semaphore with more permits than its limit may be: no World is made of them

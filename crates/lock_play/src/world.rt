@@ -8,7 +8,7 @@ ghost use Rattle.lock_play.specs.Worlds.{CarriesOut};
 use crate::played;
 use lock_core::mutex::MOST_STARVED;
 use lock_core::rwlock::{MOST_READERS, MOST_STARVED_FOR_THE_TURN};
-use lock_core::{Refusal, mutex, rwlock, semaphore};
+use lock_core::{Refusal, cell, mutex, rwlock, semaphore};
 use lock_script::command::{Model, Request};
 use std::alloc::Global;
 use std::io;
@@ -20,6 +20,7 @@ pub enum World {
     Mutex(mutex::World),
     RwLock(rwlock::World),
     Semaphore(semaphore::World),
+    Cell(cell::World),
 }
 
 impl World {
@@ -60,6 +61,7 @@ impl World {
                 let made = semaphore::World::with_limits(alloc, parties, permits, most)?;
                 Ok(World::Semaphore(made))
             }
+            Model::Cell { parties } => Ok(World::Cell(cell::World::new(alloc, parties)?)),
         }
     }
 
@@ -73,6 +75,7 @@ impl World {
             World::Mutex(world) => played::carry_out(request, world, output),
             World::RwLock(world) => played::carry_out(request, world, output),
             World::Semaphore(world) => played::carry_out(request, world, output),
+            World::Cell(world) => played::carry_out(request, world, output),
         }
     }
 }

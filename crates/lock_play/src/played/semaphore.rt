@@ -31,7 +31,10 @@ impl Played for World {
     fn show<O: Write>(&self, output: &mut O) -> io::Result<()> {
         let available = self.available();
         let limit = self.limit();
-        write!(output, "semaphore available={available} limit={limit} list=")?;
+        write!(
+            output,
+            "semaphore available={available} limit={limit} list="
+        )?;
         answer::write_list(self, output)?;
         writeln!(output)
     }

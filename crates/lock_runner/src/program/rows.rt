@@ -153,10 +153,7 @@ pub const ROWS: [(&str, &str); 37] = [
         "ok\nready 0\npending\npending\ngiven back\ngranted 0\nrefused 1\nmutex locked=1 starved=0 value=0 list=[2n]\n",
     ),
     // too-many-permits-to-begin-with
-    (
-        "semaphore 1 3 2\n",
-        "refused 4\n",
-    ),
+    ("semaphore 1 3 2\n", "refused 4\n"),
     // try-upgrade-when-alone
     (
         "rwlock 2 1\ndo 0 upread\ndo 1 read\ndo 0 tryupgrade\ndo 1 drop\ndo 0 tryupgrade\n",

@@ -1,0 +1,37 @@
+-- What a script asks of a once-cell beyond its moves.
+use Rattle.std.specs.Prelude.{ℕ, Option, Some, None, List, ◌++◌, codes, decimal, if◌then◌else◌}
+use Rattle.cell_machine.specs.declared.words.Content.{Content}
+use Rattle.cell_machine.specs.declared.words.Content.TheVariants.{Empty, BeingMade, Full}
+use Rattle.cell_machine.specs.Words.{value_in}
+use Rattle.cell_world.specs.State.{World}
+use Rattle.cell_world.specs.Laws.{is_at_rest}
+use Rattle.cell_world.specs.Lending.{world_with}
+use Rattle.lock_play.specs.declared.played.Reply.{Reply}
+use Rattle.lock_play.specs.declared.played.Reply.TheVariants.{Done, Nothing, Value, NotPossible}
+use Rattle.lock_play.specs.Answers.{list_text}
+
+-- a value takes the place of the one in the cell, if there is one, exactly where nobody is inside a call
+abbrev pub put_in : Option ℕ → World → ℕ → Reply × World
+put_in (Some found) w v = (Done, world_with w (Some v))
+put_in None w v = (Nothing, world_with w None)
+
+abbrev pub put_gives : World → ℕ → Reply × World
+put_gives w v = if is_at_rest w then put_in (value_in w.cell) w v else (NotPossible, w)
+
+-- the value is taken out, if there is one, exactly where nobody is inside a call
+abbrev pub reply_of : Option ℕ → Reply
+reply_of (Some found) = Value found
+reply_of None = Nothing
+
+abbrev pub take_gives : World → Reply × World
+take_gives w = if is_at_rest w then (reply_of (value_in w.cell), world_with w None) else (NotPossible, w)
+
+-- what is in the cell
+abbrev pub content_text : Content → List ℕ
+content_text Empty = codes "cell empty"
+content_text (BeingMade party) = codes "cell making"
+content_text (Full v) = codes "cell full " ++ decimal v
+
+-- the state
+abbrev pub text_of : World → List ℕ
+text_of w = content_text w.cell ++ codes " active=" ++ list_text w.active ++ codes " passive=" ++ list_text w.passive

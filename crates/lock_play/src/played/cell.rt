@@ -1,0 +1,95 @@
+//! The once-cell's World, as a script plays on it.
+
+ghost use Rattle.std.specs.Prelude.{◌≡◌, ◌++◌, codes, OnOk};
+ghost use Rattle.std.specs.Io.KnownBytes.{Appends};
+ghost use Rattle.lock_play.specs.Answers.{Prints};
+ghost use Rattle.lock_play.specs.Cell.{content_text};
+
+use super::{Played, Reply};
+use crate::answer::{self, Listed};
+use lock_core::cell::{Content, ListName, World};
+use lock_event::Entry;
+use std::io;
+use std::io::Write;
+
+impl Played for World {
+    ghost use Rattle.lock_play.specs.Cell as cell;
+
+    ghost put_gives = { cell.put_gives };
+
+    ghost take_gives = { cell.take_gives };
+
+    ghost text_of = { cell.text_of };
+
+    fn put(&mut self, value: u64) -> Reply {
+        if !self.at_rest() {
+            return Reply::NotPossible;
+        }
+        match self.get_mut() {
+            Some(lent) => {
+                *lent = value;
+                Reply::Done
+            }
+            None => Reply::Nothing,
+        }
+    }
+
+    fn take(&mut self) -> Reply {
+        if !self.at_rest() {
+            return Reply::NotPossible;
+        }
+        match World::take(self) {
+            Some(value) => Reply::Value(value),
+            None => Reply::Nothing,
+        }
+    }
+
+    fn show<O: Write>(&self, output: &mut O) -> io::Result<()> {
+        write_content(self.content(), output)?;
+        write!(output, " active=")?;
+        answer::write_list(&list(self, ListName::Active), output)?;
+        write!(output, " passive=")?;
+        answer::write_list(&list(self, ListName::Passive), output)?;
+        writeln!(output)
+    }
+}
+
+/// Writes what is in a cell.
+fn write_content<O: Write>(content: Content, output: &mut O) -> io::Result<()>
+    ensures { OnOk result (Appends (O.contents output.old) (O.contents output.new) (content_text content)) }
+{
+    match content {
+        Content::Empty => write!(output, "cell empty"),
+        Content::BeingMade(_) => write!(output, "cell making"),
+        Content::Full(value) => write!(output, "cell full {value}"),
+    }
+}
+
+/// One list of a once-cell.
+#[derive(Drop)]
+struct OneList<'a> {
+    world: &'a World,
+    name: ListName,
+}
+
+/// This list of a World.
+fn list(world: &World, name: ListName) -> OneList<'_>
+    ensures world { result.world.now ≡ world.now }
+    ensures name { result.name ≡ name }
+{
+    OneList { world, name }
+}
+
+impl<'a> Listed for OneList<'a> {
+    ghost use Rattle.cell_world.specs.State.{list_in};
+
+    ghost entries = { λ l. list_in l.name l.world.now };
+
+    fn waiting(&self) -> usize {
+        self.world.waiting(self.name)
+    }
+
+    fn entry(&self, index: usize) -> Option<Entry<u32>> {
+        self.world.entry(self.name, index)
+    }
+}
