@@ -304,7 +304,7 @@ module _ (t u : Table Guarded) (m : Move) (a : Answer) (w : Within) where
         let Q : ℕ → Type 0 = λ j. (how_many old.state.starved ≡ 0) ⊎ (is_starved old.state j ≡ true) in (
           sees.none_held 0 g.lock.places allowed.0,
           subst Q f.0 (elim allowed.1 as (λ _. Q p) [
-            | inl none ↦ inl (seen.how_many-seen g.lock.places ∙ none)
+            | inl none ↦ inl (sees.how_many_counted g.lock.places ∙ none)
             | inr own ↦ inr (sees.starved_at g.lock.places p ∙ sees.is_one (is_counted x) (sees.counted_bit x ∙ own))
           ]),
         )
@@ -329,7 +329,7 @@ module _ (t u : Table Guarded) (m : Move) (a : Answer) (w : Within) where
     others_keep = record {
       lock = λ q apart. let both = kept_so q apart d way.allowed in ((λ e. both.0 (sym way.holder ∙ e)), (λ e. way.holder ∙ both.1 e));
       starved = λ q apart. sees.starved_at h.lock.places q ∙ (ap is_counted (way.others q apart) ∙ sym (sees.starved_at g.lock.places q));
-      limit = λ was is. (let few : starved g.lock < g.lock.limit = starves_so d way.allowed (ap (λ bs. is_on bs p) (sym way.starved) ∙ is) was in rw seen.how_many-seen few);
+      limit = λ was is. (let few : starved g.lock < g.lock.limit = starves_so d way.allowed (ap (λ bs. is_on bs p) (sym way.starved) ∙ is) was in rw sees.how_many_counted few);
     }
 
     -- ---- why a call is decided
@@ -382,7 +382,7 @@ module _ (t u : Table Guarded) (m : Move) (a : Answer) (w : Within) where
 
     cause : (c : Refusal) → IsReason memory p g.lock h.lock («end».Refused c) → IsCause old m new c
     cause refusal.Memory y = (y.0, y.1, y.2, made _ _ _ _ _ _ y.3 y.4 k.carries.carried.value)
-    cause refusal.Starved y = seen.how_many-seen g.lock.places ∙ y
+    cause refusal.Starved y = sees.how_many_counted g.lock.places ∙ y
     cause refusal.Finished y = absurd y
     cause _ y = absurd y
 

@@ -98,7 +98,7 @@ module _ (t : Table Guarded) (p : ℕ) where
 
     why_seen : (is_starved (view_of t).state p ≡ true) ⊎ (how_many (view_of t).state.starved ≡ 0) → IsStarved t.machine.lock p ⊎ (starved t.machine.lock ≡ 0)
     why_seen (inl starving) = inl (sym (sees.counted_bit (place_of t.machine p)) ∙ ap bit (sym starved_seen ∙ starving))
-    why_seen (inr none) = inr (sym (seen.how_many-seen t.machine.lock.places) ∙ none)
+    why_seen (inr none) = inr (sym (sees.how_many_counted t.machine.lock.places) ∙ none)
 
     module _ (u : Table Guarded) (a : Answer) (um : IsMutex u.machine.lock) (uf : IsMutexTable u) where
       either_seen : (e : End) → Ended t p a u e → starved t.machine.lock < t.machine.lock.limit → Took p e u.machine.lock ⊎ GaveWay p t.machine.lock e u.machine.lock → Takes (view_of t) p a (view_of u) ⊎ GivesWay (view_of t) p a (view_of u)
@@ -109,7 +109,7 @@ module _ (t : Table Guarded) (p : ℕ) where
       ended_seen e polls k free =
           let law = solo_polls t.machine.lock tm (sees.none_holds 0 t.machine.lock.places free) in
           record {
-            takes_or_gives_way = λ below. either_seen e k (rw seen.how_many-seen at below) (law.takes_or_gives_way p e u.machine.lock is_called polls);
+            takes_or_gives_way = λ below. either_seen e k (rw sees.how_many_counted at below) (law.takes_or_gives_way p e u.machine.lock is_called polls);
             takes = λ why. takes_seen u a um uf e (law.takes p e u.machine.lock is_called (why_seen why) polls) k;
           }
 

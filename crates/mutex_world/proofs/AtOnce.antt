@@ -82,10 +82,10 @@ module _ (t u : Table Guarded) (m : Move) (a : Answer) (w : Within) (k : Acting 
   f = k.carries.carried.acts.found
 
   free_is : holders g.lock ≡ 0 → starved g.lock ≡ 0 → is_free old.state ≡ true
-  free_is h s = free_test old.state.holder (how_many old.state.starved) (sees.none_held 0 g.lock.places h) (seen.how_many-seen g.lock.places ∙ s)
+  free_is h s = free_test old.state.holder (how_many old.state.starved) (sees.none_held 0 g.lock.places h) (sees.how_many_counted g.lock.places ∙ s)
 
   free_says : is_free old.state ≡ true → (holders g.lock ≡ 0) × (starved g.lock ≡ 0)
-  free_says t = let m = free_means old.state.holder (how_many old.state.starved) t in (sees.none_holds 0 g.lock.places m.0, sym (seen.how_many-seen g.lock.places) ∙ m.1)
+  free_says t = let m = free_means old.state.holder (how_many old.state.starved) t in (sees.none_holds 0 g.lock.places m.0, sym (sees.how_many_counted g.lock.places) ∙ m.1)
 
   -- the answer, from this place and of a try or not
   answered : (y : Place) (b : Bool) → k.carries.from ≡ y → is_try_kind w.kind ≡ b → a ≡ answer_by b g.value (next_of y f)

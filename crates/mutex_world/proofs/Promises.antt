@@ -158,7 +158,7 @@ module _ (p : ℕ) (i : Inputs) where
       told_from (stage_at t.stages p) u (place_of t.machine p) k.carries.from stage k.call k.carries.starts (waits_listed (place_of t.machine p) fits (omega (arith, s.did.stood.mutex.owners p, there))))) s
 
 starved_behind : (w : World) → Stands w → how_many w.state.starved ≡ starved w.behind.machine.lock
-starved_behind w s = ap (λ x. how_many x.state.starved) s.seen ∙ seen.how_many-seen w.behind.machine.lock.places
+starved_behind w s = ap (λ x. how_many x.state.starved) s.seen ∙ sees.how_many_counted w.behind.machine.lock.places
 
 not_counted : (w : World) (p : ℕ) → Stands w → starved w.behind.machine.lock ≡ 0 → is_starved w.state p ≡ false
 not_counted w p s none = ap (λ x. is_starved x.state p) s.seen ∙ (sees.starved_at w.behind.machine.lock.places p ∙ by_bit (is_counted (lock_at w p)) (sees.counted_bit (lock_at w p)) (none_at w.behind.machine.lock.places p none)) where

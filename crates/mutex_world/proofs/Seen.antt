@@ -32,14 +32,6 @@ use Rattle.mutex_world.specs.State.{standing_of, IsClear}
 use Rattle.mutex_world.specs.Steps.{IsMutexTable}
 use Rattle.mutex_world.specs.View.{answer_on, verdict, view_of}
 
-one_if : (b : Bool) → (if b then 1 else 0) ≡ bit b
-one_if true = refl
-one_if false = refl
-
-pub how_many-seen : (ps : List Place) → how_many (map is_counted ps) ≡ sum_by counted ps
-how_many-seen [] = refl
-how_many-seen (x ∷ xs) = omega (arith, one_if (is_counted x), sum_by-cons counted x xs, sees.counted_bit x, how_many-seen xs)
-
 pub stands_seen : (t : Table Guarded) (q : ℕ) → standing_of (view_of t) q ≡ stands_as (verdict t.machine q) (stage_at t.stages q)
 stands_seen t q = stood verdict t q
 

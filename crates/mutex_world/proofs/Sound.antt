@@ -97,7 +97,7 @@ module _ (t : Table Guarded) (laws : IsMutex t.machine.lock) (fits : IsMutexTabl
   sound = record {
     exclusion = λ p q r s a b e. excluded (view_of t) p q r s a b;
     each = seen.each t laws fits;
-    few_starved = rw seen.how_many-seen laws.few_starved;
+    few_starved = rw sees.how_many_counted laws.few_starved;
     inside_calls = λ q u d e. by_stage_or_past_at t.stages q (is_long_call u.kind u.was ≡ true)
         (λ past. (let h : stands_as (verdict t.machine q) Forgotten ≡ inside u d = ap (stands_as (verdict t.machine q)) (sym past) ∙ (sym (seen.stands_seen t q) ∙ e) in absurd (cc (h))))
         (λ inside. long_at (stage_at t.stages q) (place_of t.machine q) (verdict t.machine q) u d (fits.stands q inside) (sym (seen.stands_seen t q) ∙ e));
