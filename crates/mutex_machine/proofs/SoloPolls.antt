@@ -1,5 +1,5 @@
 -- Polls in a row, each carried out alone while the lock is free.
-use Rattle.std.proofs.Common.{◌≡◌, ◌≢◌, ℕ, zero, suc, ◌+◌, ◌-◌, ◌<◌, ◌≤◌, ◌⊎◌, inl, inr, true, false, IsSomeAnd, List, [], ◌∷◌, length, refl, sym, ap, arith, subst, ◌∙◌}
+use Rattle.std.proofs.Common.{◌≡◌, ◌≢◌, ℕ, zero, suc, ◌+◌, ◌-◌, ◌<◌, ◌≤◌, ◌⊎◌, inl, inr, true, IsSomeAnd, List, [], ◌∷◌, length, refl, sym, ap, arith, subst, ◌∙◌}
 use Rattle.std.proofs.Math.Decide.{ℕ_discrete}
 use Rattle.std.specs.List.{sum_by}
 use Rattle.std.proofs.lemmas.List.Sums.{sum_by-cons}
@@ -7,7 +7,7 @@ use Rattle.std.proofs.lemmas.Bool.Decides.{nat_tests}
 use Rattle.lock_event.specs.declared.event.Entry.{Entry}
 use Rattle.lock_event.specs.declared.event.Mark.{Mark}
 use Rattle.lock_event.specs.declared.event.Mark.TheVariants.{Waiting, Notified}
-use Rattle.lock_event.specs.Lists.{entry, is_marked, is_marked_at, joined, notified, without, marked_count, mark_waiting, IsMarkedFirst}
+use Rattle.lock_event.specs.Lists.{entry, joined, notified, without, marked_count, mark_waiting}
 use Rattle.lock_event.proofs.Marks.{length-mark_waiting}
 use Rattle.lock_event.proofs.Counts.{length-joined, length-without, marked_count-notified}
 use Rattle.lock_queue.specs.Parties.{is_party, entries_of}

@@ -29,7 +29,6 @@ use Rattle.mutex_world.specs.View.{view_of}
 use Rattle.mutex_world.proofs.Acting.{Acting}
 use Rattle.mutex_world.proofs.Acting as acting
 use Rattle.mutex_world.proofs.Here.{same_roles}
-use Rattle.mutex_world.proofs.Seen as seen
 
 free_test : (h : Option ℕ) (n : ℕ) → h ≡ None → n ≡ 0 → is_none h && (n == 0) ≡ true
 free_test None n h e = rw e refl

@@ -1,7 +1,5 @@
 -- What callers see of a machine, party by party, and what each party has by how it stands.
-use Rattle.std.proofs.Common.{◌≡◌, ◌≢◌, ℕ, Bool, true, false, List, [], ◌∷◌, map, if◌then◌else◌, Option, Some, None, refl, arith, ap, sym, ◌∙◌, subst}
-use Rattle.std.specs.List.{sum_by}
-use Rattle.std.proofs.lemmas.List.Sums.{sum_by-cons}
+use Rattle.std.proofs.Common.{◌≡◌, ◌≢◌, ℕ, true, false, Option, Some, None, refl, arith, ap, sym, ◌∙◌, subst}
 use Rattle.lock_world.specs.declared.moves.Answer.{Answer}
 use Rattle.lock_world.specs.declared.moves.Answer.TheVariants as answer
 use Rattle.lock_world.specs.declared.standing.Kind.{Kind}
@@ -11,7 +9,6 @@ use Rattle.lock_world.specs.declared.standing.Rest.TheVariants as rest
 use Rattle.lock_world.specs.declared.standing.Stage.{Stage}
 use Rattle.lock_world.specs.declared.standing.Stage.TheVariants.{Outside, Inside, Forgotten}
 use Rattle.lock_world.specs.declared.standing.Within.{Within}
-use Rattle.lock_world.specs.Rosters.{how_many}
 use Rattle.lock_world.specs.Standings.{inside}
 use Rattle.lock_world.proofs.Equations.{some_eq}
 use Rattle.lock_table.specs.Stages.{stage_at, stands_as}
@@ -23,7 +20,7 @@ use Rattle.mutex_machine.specs.declared.program.Place.{Place}
 use Rattle.mutex_machine.specs.declared.program.Place.TheVariants as place
 use Rattle.mutex_machine.specs.Acts.{IsMutex}
 use Rattle.mutex_machine.specs.Legal.{decision}
-use Rattle.mutex_machine.specs.Roles.{bit, holds, counted, listed}
+use Rattle.mutex_machine.specs.Roles.{holds, listed}
 use Rattle.mutex_machine.specs.State.{is_counted}
 use Rattle.mutex_machine.proofs.Seen as sees
 use Rattle.mutex_world.specs.Guarded.{Guarded, place_of, is_within, goes_with}

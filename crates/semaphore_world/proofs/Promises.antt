@@ -1,5 +1,5 @@
 -- What whole calls promise.
-use Rattle.std.proofs.Common.{◌≡◌, ◌≢◌, ℕ, ◌-◌, ◌<◌, ◌⊎◌, inl, inr, ◌&&◌, if◌then◌else◌, Bool, true, false, List, length, Option, Some, None, refl, arith, ap, sym, ◌∙◌, subst}
+use Rattle.std.proofs.Common.{◌≡◌, ◌≢◌, ℕ, ◌-◌, ◌<◌, ◌⊎◌, inl, inr, ◌&&◌, if◌then◌else◌, Bool, true, false, List, length, Some, refl, arith, ap, sym, ◌∙◌, subst}
 use Rattle.lock_event.specs.declared.event.Entry.{Entry}
 use Rattle.lock_event.specs.declared.event.Mark.TheVariants.{Notified}
 use Rattle.lock_event.specs.Lists.{marked_count}
@@ -13,17 +13,17 @@ use Rattle.lock_world.specs.declared.moves.Call.TheVariants as call
 use Rattle.lock_world.specs.declared.moves.Got.TheVariants.{Plain}
 use Rattle.lock_world.specs.declared.moves.Inputs.{Inputs}
 use Rattle.lock_world.specs.declared.moves.Move.{Move}
-use Rattle.lock_world.specs.declared.moves.What.TheVariants.{Begin, Go}
+use Rattle.lock_world.specs.declared.moves.What.TheVariants.{Begin}
 use Rattle.lock_world.specs.declared.refusal.Refusal.TheVariants as refusal
 use Rattle.lock_world.specs.declared.standing.Kind.TheVariants as kind
 use Rattle.lock_world.specs.declared.standing.Rest.TheVariants as rest
 use Rattle.lock_world.specs.declared.standing.Within.{Within}
 use Rattle.lock_world.specs.Frame.{is_refusal}
-use Rattle.lock_world.specs.Standings.{Standing, outside, inside, is_possible, call_in, decision, refused, inputs_of, StandsAfter}
+use Rattle.lock_world.specs.Standings.{Standing, outside, call_in, refused, inputs_of, StandsAfter}
 use Rattle.lock_world.specs.Whole.{going_on, moves_of, answers_of}
-use Rattle.lock_world.proofs.Equations.{some_eq, none_some}
 use Rattle.lock_frame.specs.Steps.{beginning}
-use Rattle.lock_frame.proofs.Runs.{Onward, along, at_first}
+use Rattle.lock_frame.proofs.Endings.{ends_on}
+use Rattle.lock_frame.proofs.Runs.{Onward, along, at_first, last_of}
 use Rattle.lock_table.specs.Tables.{Table}
 use Rattle.semaphore_machine.specs.declared.program.Action.TheVariants as act
 use Rattle.semaphore_machine.specs.declared.program.Found.{Found}
@@ -37,7 +37,7 @@ use Rattle.semaphore_machine.specs.Seats.{Share, seat_of}
 use Rattle.semaphore_machine.specs.Deeds.{deed_of, entries_after, Finds}
 use Rattle.semaphore_machine.specs.Machine.{Semaphore, IsSemaphore, answer_by, position_at, knows}
 use Rattle.semaphore_machine.proofs.Kept.{after}
-use Rattle.semaphore_world.specs.State.{World, is_free, standing_of}
+use Rattle.semaphore_world.specs.State.{World, has_permit, is_free, standing_of}
 use Rattle.semaphore_world.specs.Legal.{call_of, HasItsOwn}
 use Rattle.semaphore_world.specs.AtOnce.{is_first_poll, is_poll}
 use Rattle.semaphore_world.specs.Steps.{Steps, IsSemaphoreTable, TableSteps}
@@ -60,51 +60,20 @@ first_ready known w p c i n a v runs ended first free = at_first Steps learn Hol
 
 -- ---- a poll that is to be ready
 
-abbrev to_be_ready : Option Answer
-to_be_ready = Some (answer.Ready Plain)
+ready_has : (x : World) (p : ℕ) (u : Within) (a : Answer) → a ≡ answer.Ready Plain → StandsAfter rest.Holding u a (standing_of x p) → HasItsOwn x p (standing_of x p) → has_permit x.state p ≡ true
+ready_has x p u a is stands own =
+    let A : Answer → Type 0 = λ b. StandsAfter rest.Holding u b (standing_of x p) in
+    let there : standing_of x p ≡ outside rest.Holding = (subst A is stands).1 in
+    let P : Standing → Type 0 = HasItsOwn x p in
+    ap (λ (z : Share). z.permit) (subst P there own).1
 
-module _ (p : ℕ) (i : Inputs) where
-  abbrev IsTaking : World → Type 0
-  IsTaking x = (u : Within) × (standing_of x p ≡ inside u to_be_ready)
-
-  by_answer : (u : Within) (b : Answer) (x : World) → StandsAfter rest.Holding u b (standing_of x p) → decision b (standing_of x p) ≡ to_be_ready → HasItsOwn x p (standing_of x p) → Onward IsTaking (Takes p) b x
-  by_answer u answer.Stepped x s d own = record {
-    going = λ e. (u, s.1 ∙ ap (inside u) (sym (ap (decision answer.Stepped) s.1) ∙ d));
-    ended = λ n. absurd (n refl);
-  }
-  by_answer u (answer.Ready got) x s d own = record {
-    going = λ e. absurd (cc (e));
-    ended = λ n. record {
-      ready = some_eq (sym (ap (decision (answer.Ready got)) s.1) ∙ d);
-      permit = (let P : Standing → Type 0 = HasItsOwn x p in ap (λ (z : Share). z.permit) (subst P s.1 own).1);
-    };
-  }
-  by_answer u answer.Pending x s d own = let e = some_eq (sym (ap (decision answer.Pending) s.1) ∙ d) in absurd (cc (e))
-  by_answer u (answer.Granted got) x s d own = let e = some_eq (sym (ap (decision (answer.Granted got)) s.1) ∙ d) in absurd (cc (e))
-  by_answer u answer.None x s d own = let e = some_eq (sym (ap (decision answer.None) s.1) ∙ d) in absurd (cc (e))
-  by_answer u answer.GivenBack x s d own = let e = some_eq (sym (ap (decision answer.GivenBack) s.1) ∙ d) in absurd (cc (e))
-  by_answer u answer.Waiting x s d own = let e = some_eq (sym (ap (decision answer.Waiting) s.1) ∙ d) in absurd (cc (e))
-  by_answer u (answer.Refused n) x s d own = let e = some_eq (sym (ap (decision (answer.Refused n)) s.1) ∙ d) in absurd (cc (e))
-  by_answer u answer.NotPossible x s d own = let e = some_eq (sym (ap (decision answer.NotPossible) s.1) ∙ d) in absurd (cc (e))
-
-  is_possible_so : (o : Option Within) (u : Within) (b : Answer) → o ≡ Some u → (b ≡ answer.NotPossible → o ≡ None) → is_possible b ≡ true
-  is_possible_so o u answer.NotPossible e only = absurd (none_some (sym (only refl) ∙ e))
-  is_possible_so o u _ e only = refl
-
-  goes_on : (x : World) (b : Answer) (y : World) → IsTaking x → Steps x (going_on p i) b y → Onward IsTaking (Takes p) b y
-  goes_on x b y g s =
-      let called : call_of x (going_on p i) ≡ Some g.0 = ap (λ z. call_in knows z (Go i)) g.1 in
-      let possible = is_possible_so (call_of x (going_on p i)) g.0 b called s.legal.possible.exactly.0 in
-      by_answer g.0 b y (s.legal.ends_properly.stands g.0 called) (s.legal.ends_properly.as_decided g.0 (answer.Ready Plain) g.1 possible) (s.legal.leaves_clear.each p)
-
-  taken : (w : World) (b : Answer) (y : World) → standing_of w p ≡ outside rest.Pending → is_free w.state ≡ true → Steps w (beginning p call.Poll i) b y → Onward IsTaking (Takes p) b y
-  taken w b y pending free s =
-      let polls : is_poll (standing_of w p) (Begin call.Poll i) ≡ true = ap (λ z. is_poll z (Begin call.Poll i)) pending in
-      let called : call_of w (beginning p call.Poll i) ≡ Some (record { kind = kind.LaterPoll; was = rest.Pending }) = ap (λ z. call_in knows z (Begin call.Poll i)) pending in
-      by_answer (record { kind = kind.LaterPoll; was = rest.Pending }) b y (s.legal.ends_properly.stands _ called) (s.at_once.taken polls free) (s.legal.leaves_clear.each p)
-
-  pub later_takes : (known : Known) (w : World) (n : ℕ) (a : Answer) (v : World) → Runs known w (moves_of p call.Poll i n) (answers_of n a) v → a ≢ answer.Stepped → standing_of w p ≡ outside rest.Pending → is_free w.state ≡ true → Takes p a v
-  later_takes known w n a v runs ended pending free = along Steps learn HoldsWell p i IsTaking (Takes p) goes_on known n w (beginning p call.Poll i) a v (λ b x s. taken w b x pending free s) ended runs
+later_takes : (known : Known) (w : World) (p : ℕ) (i : Inputs) (n : ℕ) (a : Answer) (v : World) → Runs known w (moves_of p call.Poll i n) (answers_of n a) v → a ≢ answer.Stepped → standing_of w p ≡ outside rest.Pending → is_free w.state ≡ true → Takes p a v
+later_takes known w p i n a v runs ended pending free =
+    let polls : is_poll (standing_of w p) (Begin call.Poll i) ≡ true = ap (λ z. is_poll z (Begin call.Poll i)) pending in
+    let called : call_of w (beginning p call.Poll i) ≡ Some (record { kind = kind.LaterPoll; was = rest.Pending }) = ap (λ z. call_in knows z (Begin call.Poll i)) pending in
+    let so = ends_on Steps learn HoldsWell standing_of (λ y q. knows) rest.Holding (λ y m b z s. s.legal.possible) (λ y m b z s. s.legal.ends_properly) p i (answer.Ready Plain) known w call.Poll n a v
+    (record { kind = kind.LaterPoll; was = rest.Pending }) called (λ e x s. s.at_once.taken polls free) ended runs in
+    record { ready = so.answer; permit = ready_has v p so.within a so.answer so.stands ((last_of Steps learn HoldsWell known w p i n (Begin call.Poll i) a v runs).legal.legal.leaves_clear.each p) }
 
 -- ---- a poll that was told hands on
 
@@ -220,6 +189,6 @@ module _ (p : ℕ) (i : Inputs) where
 pub keeps_promises : (known : Known) (w : World) (p : ℕ) (c : Call) (i : Inputs) (n : ℕ) (a : Answer) (v : World) → Runs known w (moves_of p c i n) (answers_of n a) v → a ≢ answer.Stepped → Promises w p c i a v
 keeps_promises known w p c i n a v runs ended = record {
   first = first_ready known w p c i n a v runs ended;
-  later = λ e pending free. (let P : Call → Type 0 = λ c. Runs known w (moves_of p c i n) (answers_of n a) v in later_takes p i known w n a v (subst P e runs) ended pending free);
+  later = λ e pending free. (let P : Call → Type 0 = λ c. Runs known w (moves_of p c i n) (answers_of n a) v in later_takes known w p i n a v (subst P e runs) ended pending free);
   hands_on = λ e pending listed. (let P : Call → Type 0 = λ c. Runs known w (moves_of p c i n) (answers_of n a) v in hands_on p i known w n a v (subst P e runs) ended pending listed);
 }
