@@ -35,9 +35,9 @@ use Rattle.semaphore_machine.proofs.Kept.{after}
 use Rattle.semaphore_machine.proofs.Turns.{Turn, turn}
 use Rattle.semaphore_world.specs.Steps.{IsSemaphoreTable, TableSteps}
 use Rattle.semaphore_world.specs.Whole.{most_steps_of}
-use Rattle.semaphore_world.proofs.Acting.{Acting}
-use Rattle.semaphore_world.proofs.Acting as acting
-use Rattle.semaphore_world.proofs.Stepping.{by_step}
+use Rattle.semaphore_world.proofs.step.Acting.{Acting}
+use Rattle.semaphore_world.proofs.step.Acting as acting
+use Rattle.semaphore_world.proofs.step.Stepping.{by_step}
 
 -- how many steps are left once this was found, by whether the party's own entry is marked then
 abbrev pub Left : Place → Found → Bool → ℕ

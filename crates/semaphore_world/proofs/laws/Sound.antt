@@ -24,8 +24,8 @@ use Rattle.semaphore_machine.specs.Machine.{Semaphore, IsSemaphore, IsAtRest, go
 use Rattle.semaphore_world.specs.View.{view_of}
 use Rattle.semaphore_world.specs.Laws.{IsSound, IsAwake, is_at_rest, is_long_call}
 use Rattle.semaphore_world.specs.Steps.{IsSemaphoreTable}
-use Rattle.semaphore_world.proofs.Seen as seen
-use Rattle.semaphore_world.proofs.Legals.{each_has}
+use Rattle.semaphore_world.proofs.table.Seen as seen
+use Rattle.semaphore_world.proofs.step.Owns.{each_has}
 
 both : (a b : Bool) → a && b ≡ true → (a ≡ true) × (b ≡ true)
 both true b h = (refl, h)

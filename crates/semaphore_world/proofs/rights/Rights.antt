@@ -49,10 +49,10 @@ use Rattle.semaphore_world.specs.Legal.{HasItsOwn}
 use Rattle.semaphore_world.specs.Laws.{IsSound, IsAwake, is_at_rest}
 use Rattle.semaphore_world.specs.Steps.{IsSemaphoreTable, TableSteps}
 use Rattle.semaphore_world.specs.Runs.{Known, Tells, HoldsWell, accounts_of, sought_by, learn, added_by, forgotten_by}
-use Rattle.semaphore_world.proofs.Seen as seen
-use Rattle.semaphore_world.proofs.Acting.{Acting}
-use Rattle.semaphore_world.proofs.Acting as acting
-use Rattle.semaphore_world.proofs.Stepping.{by_step}
+use Rattle.semaphore_world.proofs.table.Seen as seen
+use Rattle.semaphore_world.proofs.step.Acting.{Acting}
+use Rattle.semaphore_world.proofs.step.Acting as acting
+use Rattle.semaphore_world.proofs.step.Stepping.{by_step}
 
 abbrev account_at : Standing → Account
 account_at s = account_by s (sought_by s) None

@@ -30,12 +30,12 @@ use Rattle.semaphore_machine.proofs.Kept.{after}
 use Rattle.semaphore_world.specs.State.{World, has_permit, is_free, standing_of}
 use Rattle.semaphore_world.specs.View.{view_of}
 use Rattle.semaphore_world.specs.Legal.{state_after, added_in, is_forget}
-use Rattle.semaphore_world.proofs.Seen as seen
-use Rattle.semaphore_world.proofs.Rows.{said}
+use Rattle.semaphore_world.proofs.table.Seen as seen
+use Rattle.semaphore_world.proofs.step.Rows.{said}
 use Rattle.semaphore_world.specs.AtOnce.{AnswersAtOnce, AddsAtOnce, is_try, is_poll, is_first_poll}
 use Rattle.semaphore_machine.proofs.Turns.{Turn, turn}
-use Rattle.semaphore_world.proofs.Acting.{Acting}
-use Rattle.semaphore_world.proofs.Acting as acting
+use Rattle.semaphore_world.proofs.step.Acting.{Acting}
+use Rattle.semaphore_world.proofs.step.Acting as acting
 
 -- ---- Where calls begin
 

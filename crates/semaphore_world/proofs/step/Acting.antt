@@ -53,11 +53,11 @@ use Rattle.semaphore_world.specs.State.{State, World, share_at, has_permit, stan
 use Rattle.semaphore_world.specs.View.{view_of}
 use Rattle.semaphore_world.specs.Legal.{call_of, DecidesOn, state_after, gives_something_back, added_in, notice, IsAllowed, ChangesOneThing, KnowsAdds, Carries, Waits, IsCause, IsRefusedForCause, LeavesClear, EndsProperly, Legal}
 use Rattle.semaphore_world.specs.Steps.{IsSemaphoreTable}
-use Rattle.semaphore_world.proofs.Seen as seen
-use Rattle.semaphore_world.proofs.Rows.{said, SharesSo, AllowedAt, is_join, Refuses, Reason, Judged, Room, Row, row, never_pending}
-use Rattle.semaphore_world.proofs.Turns.{Here}
-use Rattle.semaphore_world.proofs.Legals as legals
-use Rattle.semaphore_world.proofs.Legals.{each_has, none_added}
+use Rattle.semaphore_world.proofs.table.Seen as seen
+use Rattle.semaphore_world.proofs.step.Rows.{said, SharesSo, AllowedAt, is_join, Refuses, Reason, Judged, Room, Row, row, never_pending}
+use Rattle.semaphore_world.proofs.step.Here.{Here}
+use Rattle.semaphore_world.proofs.step.Owns as legals
+use Rattle.semaphore_world.proofs.step.Owns.{each_has, none_added}
 
 -- ---- Answers
 

@@ -24,7 +24,7 @@ use Rattle.semaphore_machine.specs.Seats.{seat_of, seated, verdict, verdict_of, 
 use Rattle.semaphore_machine.specs.Machine.{knows, goes_with, runs, is_begun, is_polling, is_adding, is_returning}
 use Rattle.semaphore_machine.proofs.Turns.{Turn, turn}
 use Rattle.semaphore_world.specs.Legal.{added_in, is_forget, is_add, notice}
-use Rattle.semaphore_world.proofs.Rows.{is_join}
+use Rattle.semaphore_world.proofs.step.Rows.{is_join}
 
 pub record Here (s : Stage) (what : What) (w : Within) (x : Position) (from : Place) : Type 0 where
   pub same : seat_of from ≡ seated x

@@ -1,4 +1,4 @@
--- An action of a party is a legal step, as callers see it.
+-- What each party has, by where it stands.
 use Rattle.std.proofs.Common.{◌≡◌, ℕ, true, false, Some, refl, arith, ap, sym, ◌∙◌, subst}
 use Rattle.lock_queue.specs.Parties.{entries_of}
 use Rattle.lock_world.specs.declared.moves.Answer.TheVariants as answer
@@ -20,9 +20,9 @@ use Rattle.semaphore_world.specs.State.{World, share_at, standing_of, adds_of}
 use Rattle.semaphore_world.specs.View.{view_of}
 use Rattle.semaphore_world.specs.Legal.{HasItsOwn}
 use Rattle.semaphore_world.specs.Steps.{IsSemaphoreTable}
-use Rattle.semaphore_world.proofs.Seen as seen
-use Rattle.semaphore_world.proofs.Idle.{StandsWell}
-use Rattle.semaphore_world.proofs.Rows.{never_pending}
+use Rattle.semaphore_world.proofs.table.Seen as seen
+use Rattle.semaphore_world.proofs.step.Idle.{StandsWell}
+use Rattle.semaphore_world.proofs.step.Rows.{never_pending}
 
 -- ---- What parties have, by where they stand
 

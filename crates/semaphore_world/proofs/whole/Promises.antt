@@ -44,10 +44,10 @@ use Rattle.semaphore_world.specs.Steps.{Steps, IsSemaphoreTable, TableSteps}
 use Rattle.semaphore_world.specs.View.{view_of}
 use Rattle.semaphore_world.specs.Runs.{Known, HoldsWell, learn, Runs}
 use Rattle.semaphore_world.specs.Bound.{Takes, Promises}
-use Rattle.semaphore_world.proofs.Acting.{Acting}
-use Rattle.semaphore_world.proofs.Acting as acting
-use Rattle.semaphore_world.proofs.Stepping.{by_step, door}
-use Rattle.semaphore_world.proofs.Whole.{from_turn}
+use Rattle.semaphore_world.proofs.step.Acting.{Acting}
+use Rattle.semaphore_world.proofs.step.Acting as acting
+use Rattle.semaphore_world.proofs.step.Stepping.{by_step, door}
+use Rattle.semaphore_world.proofs.whole.Whole.{from_turn}
 
 chosen : (b : Bool) (x y : Answer) → b ≡ true → (if b then x else y) ≡ x
 chosen true x y e = refl

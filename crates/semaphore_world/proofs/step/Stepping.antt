@@ -22,12 +22,12 @@ use Rattle.semaphore_world.specs.View.{view_of}
 use Rattle.semaphore_world.specs.Legal.{call_of, Legal}
 use Rattle.semaphore_world.specs.AtOnce.{AnswersAtOnce}
 use Rattle.semaphore_world.specs.Steps.{IsSemaphoreTable, TableSteps, Stands, Steps}
-use Rattle.semaphore_world.proofs.Seen as seen
-use Rattle.semaphore_world.proofs.Idle as idle
-use Rattle.semaphore_world.proofs.Legals.{well}
-use Rattle.semaphore_world.proofs.Turns.{Here, here}
-use Rattle.semaphore_world.proofs.Acting.{Acting, legal}
-use Rattle.semaphore_world.proofs.AtOnce.{Entrance, entrance, at_once}
+use Rattle.semaphore_world.proofs.table.Seen as seen
+use Rattle.semaphore_world.proofs.step.Idle as idle
+use Rattle.semaphore_world.proofs.step.Owns.{well}
+use Rattle.semaphore_world.proofs.step.Here.{Here, here}
+use Rattle.semaphore_world.proofs.step.Acting.{Acting, legal}
+use Rattle.semaphore_world.proofs.step.AtOnce.{Entrance, entrance, at_once}
 
 abbrev pub known_calls : Semaphore → ℕ → Call → Bool
 known_calls s p = knows

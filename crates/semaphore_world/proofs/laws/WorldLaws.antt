@@ -15,9 +15,9 @@ use Rattle.semaphore_world.specs.State.{World, standing_of}
 use Rattle.semaphore_world.specs.Steps.{Steps}
 use Rattle.semaphore_world.specs.Runs.{Known, Tells, HoldsWell, known_of, learn}
 use Rattle.semaphore_world.specs.Whole.{most_steps_of, steps_left_of}
-use Rattle.semaphore_world.proofs.Sound.{sound, awake}
-use Rattle.semaphore_world.proofs.Rights.{counted, holds_well}
-use Rattle.semaphore_world.proofs.Whole as whole
+use Rattle.semaphore_world.proofs.laws.Sound.{sound, awake}
+use Rattle.semaphore_world.proofs.rights.Rights.{counted, holds_well}
+use Rattle.semaphore_world.proofs.whole.Whole as whole
 
 pub told_at_first : (w : World) → Tells (known_of w) w
 told_at_first w = record { rights = λ p. refl; limit = refl }

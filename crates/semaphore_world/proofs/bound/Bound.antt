@@ -8,7 +8,7 @@ use Rattle.semaphore_world.specs.State.{World, has_permit}
 use Rattle.semaphore_world.specs.Laws.{IsSound, IsAwake, IsFreeAndWanted}
 use Rattle.semaphore_world.specs.Runs.{known_of}
 use Rattle.semaphore_world.specs.Bound.{PassesOver, IsBounded}
-use Rattle.semaphore_world.proofs.Promises.{keeps_promises}
+use Rattle.semaphore_world.proofs.whole.Promises.{keeps_promises}
 
 never_passed : (w : World) (p : ℕ) (i : Inputs) (a : Answer) (v : World) → PassesOver w p i a v → ⊥
 never_passed w p i a v o =
