@@ -20,10 +20,10 @@ use Rattle.mutex_world.specs.Runs.{Runs, HoldsWell, TellsRights, accounts_of}
 use Rattle.mutex_world.specs.State.{World, standing_of}
 use Rattle.mutex_world.specs.Steps.{Stands, Steps}
 use Rattle.mutex_world.specs.Whole.{most_steps_of, steps_left_of}
-use Rattle.mutex_world.proofs.Promises.{keeps_promises}
-use Rattle.mutex_world.proofs.Rights.{own, holds_well}
-use Rattle.mutex_world.proofs.Sound.{sound, awake}
-use Rattle.mutex_world.proofs.Whole as whole
+use Rattle.mutex_world.proofs.whole.Promises.{keeps_promises}
+use Rattle.mutex_world.proofs.rights.Rights.{own, holds_well}
+use Rattle.mutex_world.proofs.laws.Sound.{sound, awake}
+use Rattle.mutex_world.proofs.whole.Whole as whole
 
 sound_now : (w : World) → Stands w → IsSound w
 sound_now w s = subst IsSound (sym s.seen) (sound w.behind s.mutex s.fits)

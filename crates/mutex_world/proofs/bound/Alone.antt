@@ -36,8 +36,8 @@ use Rattle.mutex_world.specs.Guarded.{Guarded, knows, place_of, answer_by, Carri
 use Rattle.mutex_world.specs.Runs.{Runs}
 use Rattle.mutex_world.specs.State.{World}
 use Rattle.mutex_world.specs.Steps.{Steps, TableSteps}
-use Rattle.mutex_world.proofs.Stepping.{known_calls}
-use Rattle.mutex_world.proofs.Turns.{within}
+use Rattle.mutex_world.proofs.step.Stepping.{known_calls}
+use Rattle.mutex_world.proofs.table.Turns.{within}
 
 -- a later poll
 abbrev later : Within

@@ -27,7 +27,7 @@ use Rattle.mutex_machine.proofs.Starts.{start_same}
 use Rattle.mutex_world.specs.Guarded.{knows, goes_with, is_within, is_try_kind}
 use Rattle.mutex_world.specs.Legal.{is_try, is_first_poll}
 use Rattle.mutex_world.specs.View.{answer_on}
-use Rattle.mutex_world.proofs.Turns.{Turn, turn}
+use Rattle.mutex_world.proofs.table.Turns.{Turn, turn}
 
 -- the standing of a party at this stage and place
 abbrev pub standing_at : ℕ → Stage → Place → Standing

@@ -48,13 +48,13 @@ use Rattle.mutex_world.specs.Runs.{Runs, HoldsWell}
 use Rattle.mutex_world.specs.State.{World, standing_of, is_starved, is_free}
 use Rattle.mutex_world.specs.Steps.{Stands, Steps}
 use Rattle.mutex_world.specs.View.{verdict}
-use Rattle.mutex_world.proofs.Acting.{Acting}
-use Rattle.mutex_world.proofs.Acting as acting
-use Rattle.mutex_world.proofs.AloneSeen.{waits_listed, poll_seen}
-use Rattle.mutex_world.proofs.Here.{BeginsOrGoes, same_roles}
-use Rattle.mutex_world.proofs.Seen as seen
-use Rattle.mutex_world.proofs.Turns.{within}
-use Rattle.mutex_world.proofs.Whole.{from_turn, by_step}
+use Rattle.mutex_world.proofs.step.Acting.{Acting}
+use Rattle.mutex_world.proofs.step.Acting as acting
+use Rattle.mutex_world.proofs.bound.AloneSeen.{waits_listed, poll_seen}
+use Rattle.mutex_world.proofs.step.Here.{BeginsOrGoes, same_roles}
+use Rattle.mutex_world.proofs.table.Seen as seen
+use Rattle.mutex_world.proofs.table.Turns.{within}
+use Rattle.mutex_world.proofs.whole.Whole.{from_turn, by_step}
 
 abbrev lock_at : World → ℕ → Place
 lock_at x p = place_of x.behind.machine p

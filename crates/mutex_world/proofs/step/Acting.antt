@@ -43,9 +43,10 @@ use Rattle.mutex_world.specs.Legal.{Change, ListName, takes, releases, starves, 
 use Rattle.mutex_world.specs.State.{State, World, standing_of, is_starved, mark_of}
 use Rattle.mutex_world.specs.Steps.{IsMutexTable}
 use Rattle.mutex_world.specs.View.{answer_on, verdict, view_of}
-use Rattle.mutex_world.proofs.Here.{Here, BeginsOrGoes, standing_at}
-use Rattle.mutex_world.proofs.Seen as seen
-use Rattle.mutex_world.proofs.Turns.{Lands}
+use Rattle.mutex_world.proofs.step.Here.{Here, BeginsOrGoes, standing_at}
+use Rattle.mutex_world.proofs.step.Owns as owns
+use Rattle.mutex_world.proofs.table.Seen as seen
+use Rattle.mutex_world.proofs.table.Turns.{Lands}
 
 -- ---- the lock's deed, as callers see it
 
@@ -377,7 +378,7 @@ module _ (t u : Table Guarded) (m : Move) (a : Answer) (w : Within) where
           let at = ends_at trying v n answer.Pending (sym e ∙ k.carries.answer) refl in
           let is : at.0 ≡ «end».Pending = ended_as trying v at.0 answer.Pending (sym e ∙ (k.carries.answer ∙ ap (answer_by trying v) at.1)) in
           waits_by (decision from) refl (ap (λ z. decided_then z to) at.1 ∙ ap Some is);
-      not_before = λ within e. seen.not_pending u k.new_laws k.new_fits p within e;
+      not_before = λ within e. owns.not_pending u k.new_laws k.new_fits p within e;
     }
 
     cause : (c : Refusal) → IsReason memory p g.lock h.lock («end».Refused c) → IsCause old m new c
@@ -417,8 +418,8 @@ module _ (t u : Table Guarded) (m : Move) (a : Answer) (w : Within) where
 
     leaves_clear : LeavesClear m a new
     leaves_clear = record {
-      each = seen.each u k.new_laws k.new_fits;
-      refused = λ is. (let out : to ≡ Out = lands_at ∙ refused_out trying v from n (ap is_refusal (sym k.carries.answer) ∙ is) in seen.clear_at u k.new_laws k.new_fits p (ap listed out) (ap is_counted out));
+      each = owns.each u k.new_laws k.new_fits;
+      refused = λ is. (let out : to ≡ Out = lands_at ∙ refused_out trying v from n (ap is_refusal (sym k.carries.answer) ∙ is) in owns.clear_at u k.new_laws k.new_fits p (ap listed out) (ap is_counted out));
     }
 
     value_kept : IsValueKept old m a new

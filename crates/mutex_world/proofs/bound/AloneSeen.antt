@@ -41,9 +41,9 @@ use Rattle.mutex_world.specs.Runs.{Runs}
 use Rattle.mutex_world.specs.State.{World, is_starved}
 use Rattle.mutex_world.specs.Steps.{Stands, IsMutexTable}
 use Rattle.mutex_world.specs.View.{verdict, view_of}
-use Rattle.mutex_world.proofs.Alone.{Ended, polls_alone}
-use Rattle.mutex_world.proofs.Seen as seen
-use Rattle.mutex_world.proofs.Turns.{within}
+use Rattle.mutex_world.proofs.bound.Alone.{Ended, polls_alone}
+use Rattle.mutex_world.proofs.table.Seen as seen
+use Rattle.mutex_world.proofs.table.Turns.{within}
 use Rattle.lock_world.specs.declared.standing.Kind.TheVariants as kind
 
 -- a pending party with an entry waits

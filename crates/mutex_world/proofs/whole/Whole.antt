@@ -33,10 +33,10 @@ use Rattle.mutex_machine.proofs.Alone.{fewer}
 use Rattle.mutex_world.specs.Guarded.{Guarded, knows, Moves, MovesBy, answer_by, is_try_kind, place_of, with_value, goes_with}
 use Rattle.mutex_world.specs.Steps.{IsMutexTable, TableSteps}
 use Rattle.mutex_world.specs.Whole.{most_steps_of}
-use Rattle.mutex_world.proofs.Acting as acting
-use Rattle.mutex_world.proofs.Here.{same_roles}
-use Rattle.mutex_world.proofs.Stepping.{known_calls, carried}
-use Rattle.mutex_world.proofs.Turns.{Turn, turn}
+use Rattle.mutex_world.proofs.step.Acting as acting
+use Rattle.mutex_world.proofs.step.Here.{same_roles}
+use Rattle.mutex_world.proofs.step.Stepping.{known_calls, carried}
+use Rattle.mutex_world.proofs.table.Turns.{Turn, turn}
 
 some_left : (x : Place) (m o : Bool) → 0 < left x m o
 some_left (Look told) m o = grind arith

@@ -26,15 +26,16 @@ use Rattle.mutex_world.specs.Legal.{call_of}
 use Rattle.mutex_world.specs.State.{standing_of}
 use Rattle.mutex_world.specs.Steps.{IsMutexTable, TableSteps, Stands, Steps}
 use Rattle.mutex_world.specs.View.{verdict, view_of}
-use Rattle.mutex_world.proofs.Acting.{Acting, legal}
-use Rattle.mutex_world.proofs.Acts.{landed}
-use Rattle.mutex_world.proofs.AtOnce.{at_once}
-use Rattle.mutex_world.proofs.Here.{Here, here}
-use Rattle.mutex_world.proofs.Idle as idle
-use Rattle.mutex_world.proofs.Idle.{StandsWell, IsGood}
-use Rattle.mutex_world.proofs.Putting.{putting}
-use Rattle.mutex_world.proofs.Seen as seen
-use Rattle.mutex_world.proofs.Turns.{puts}
+use Rattle.mutex_world.proofs.step.Acting.{Acting, legal}
+use Rattle.mutex_world.proofs.table.Acts.{landed}
+use Rattle.mutex_world.proofs.step.AtOnce.{at_once}
+use Rattle.mutex_world.proofs.step.Here.{Here, here}
+use Rattle.mutex_world.proofs.step.Idle as idle
+use Rattle.mutex_world.proofs.step.Idle.{StandsWell, IsGood}
+use Rattle.mutex_world.proofs.step.Putting.{putting}
+use Rattle.mutex_world.proofs.step.Owns as owns
+use Rattle.mutex_world.proofs.table.Seen as seen
+use Rattle.mutex_world.proofs.table.Turns.{puts}
 
 abbrev pub known_calls : Guarded → ℕ → Call → Bool
 known_calls g p = knows
@@ -71,7 +72,7 @@ module _ (t u : Table Guarded) (m : Move) (a : Answer) (tl : IsMutex t.machine.l
       }
 
   well : StandsWell (view_of t)
-  well = record { each = seen.each t tl tf; never_pending = seen.not_pending t tl tf }
+  well = record { each = owns.each t tl tf; never_pending = owns.not_pending t tl tf }
 
   call_is : call_of (view_of t) m ≡ call_at knows s m.what
   call_is = ap (λ z. call_in knows z m.what) (seen.stands_seen t m.party) ∙ call_seen knows (verdict t.machine m.party) s m.what

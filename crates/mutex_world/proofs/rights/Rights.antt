@@ -48,10 +48,10 @@ use Rattle.mutex_world.specs.Runs.{accounts_of, sought_by, right_by, TellsRights
 use Rattle.mutex_world.specs.State.{World, standing_of}
 use Rattle.mutex_world.specs.Steps.{IsMutexTable, TableSteps}
 use Rattle.mutex_world.specs.View.{verdict, view_of}
-use Rattle.mutex_world.proofs.Acting as acting
-use Rattle.mutex_world.proofs.Seen as seen
-use Rattle.mutex_world.proofs.Stepping.{known_calls, carried}
-use Rattle.mutex_world.proofs.Turns.{within, Turn, turn, Puts, puts}
+use Rattle.mutex_world.proofs.step.Acting as acting
+use Rattle.mutex_world.proofs.table.Seen as seen
+use Rattle.mutex_world.proofs.step.Stepping.{known_calls, carried}
+use Rattle.mutex_world.proofs.table.Turns.{within, Turn, turn, Puts, puts}
 
 abbrev account_at : Standing → Option Right → Account
 account_at s r = account_by s (sought_by s) r

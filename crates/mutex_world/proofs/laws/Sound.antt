@@ -35,7 +35,8 @@ use Rattle.mutex_world.specs.Lending.{world_with}
 use Rattle.mutex_world.specs.State.{World}
 use Rattle.mutex_world.specs.Steps.{IsMutexTable}
 use Rattle.mutex_world.specs.View.{verdict, view_of}
-use Rattle.mutex_world.proofs.Seen as seen
+use Rattle.mutex_world.proofs.step.Owns as owns
+use Rattle.mutex_world.proofs.table.Seen as seen
 
 excluded : (w : World) (p q : ℕ) (r s : Right) → HasRight w p r → HasRight w q s → p ≡ q
 excluded w p q hold hold a b = cc
@@ -96,7 +97,7 @@ module _ (t : Table Guarded) (laws : IsMutex t.machine.lock) (fits : IsMutexTabl
   pub sound : IsSound (view_of t)
   sound = record {
     exclusion = λ p q r s a b e. excluded (view_of t) p q r s a b;
-    each = seen.each t laws fits;
+    each = owns.each t laws fits;
     few_starved = rw sees.how_many_counted laws.few_starved;
     inside_calls = λ q u d e. by_stage_or_past_at t.stages q (is_long_call u.kind u.was ≡ true)
         (λ past. (let h : stands_as (verdict t.machine q) Forgotten ≡ inside u d = ap (stands_as (verdict t.machine q)) (sym past) ∙ (sym (seen.stands_seen t q) ∙ e) in absurd (cc (h))))

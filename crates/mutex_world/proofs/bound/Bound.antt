@@ -10,7 +10,7 @@ use Rattle.mutex_world.specs.Bound.{Takes, GivesWay, PassesOver, IsBounded}
 use Rattle.mutex_world.specs.Laws.{IsSound, IsAwake, IsFreeAndWanted}
 use Rattle.mutex_world.specs.Runs.{accounts_of}
 use Rattle.mutex_world.specs.State.{World}
-use Rattle.mutex_world.proofs.WorldLaws.{keeps_promise}
+use Rattle.mutex_world.proofs.laws.WorldLaws.{keeps_promise}
 
 abbrev IsFree : World → Type 0
 IsFree w = w.state.holder ≡ None

@@ -26,9 +26,9 @@ use Rattle.mutex_world.specs.Guarded.{Guarded, place_of, answer_by, is_try_kind}
 use Rattle.mutex_world.specs.Legal.{is_first_poll, AnswersAtOnce}
 use Rattle.mutex_world.specs.State.{World, standing_of, is_free}
 use Rattle.mutex_world.specs.View.{view_of}
-use Rattle.mutex_world.proofs.Acting.{Acting}
-use Rattle.mutex_world.proofs.Acting as acting
-use Rattle.mutex_world.proofs.Here.{same_roles}
+use Rattle.mutex_world.proofs.step.Acting.{Acting}
+use Rattle.mutex_world.proofs.step.Acting as acting
+use Rattle.mutex_world.proofs.step.Here.{same_roles}
 
 free_test : (h : Option ℕ) (n : ℕ) → h ≡ None → n ≡ 0 → is_none h && (n == 0) ≡ true
 free_test None n h e = rw e refl

@@ -14,7 +14,7 @@ use Rattle.mutex_machine.specs.declared.program.Next.{Next}
 use Rattle.mutex_machine.specs.Program.{next_of, place_after}
 use Rattle.mutex_machine.specs.Machine.{place_at}
 use Rattle.mutex_world.specs.Guarded.{Guarded, knows, Stands, place_of, goes_with, Carries}
-use Rattle.mutex_world.proofs.Turns.{Lands, lands}
+use Rattle.mutex_world.proofs.table.Turns.{Lands, lands}
 
 abbrev parties : Guarded → ℕ
 parties g = length g.lock.places

@@ -30,9 +30,10 @@ use Rattle.mutex_world.specs.Legal.{puts, is_first_poll, call_of, HasItsOwn}
 use Rattle.mutex_world.specs.State.{World, standing_of}
 use Rattle.mutex_world.specs.Steps.{IsMutexTable}
 use Rattle.mutex_world.specs.View.{verdict, view_of}
-use Rattle.mutex_world.proofs.Idle.{IsGood}
-use Rattle.mutex_world.proofs.Seen as seen
-use Rattle.mutex_world.proofs.Turns.{within}
+use Rattle.mutex_world.proofs.step.Idle.{IsGood}
+use Rattle.mutex_world.proofs.step.Owns as owns
+use Rattle.mutex_world.proofs.table.Seen as seen
+use Rattle.mutex_world.proofs.table.Turns.{within}
 
 granted_eq : (n : ℕ) (got : _) → answer.Granted (Value n) ≡ answer.Granted got → got ≡ Value n
 granted_eq n got e = cc
@@ -67,7 +68,7 @@ module _ (t : Table Guarded) (n p : ℕ) (i : Inputs) (laws : IsMutex t.machine.
   is = seen.stands_seen left p ∙ ap (stands_as (verdict left.machine p)) at
 
   own : HasItsOwn old p (outside rest.Holding)
-  own = rw was at (seen.each t laws fits p)
+  own = rw was at (owns.each t laws fits p)
 
   called : call_of old m ≡ Some (within kind.Put rest.Holding)
   called = ap (λ z. call_in knows z m.what) was
@@ -108,13 +109,13 @@ module _ (t : Table Guarded) (n p : ℕ) (i : Inputs) (laws : IsMutex t.machine.
       taken_fairly = λ q is was. absurd (was is);
       others_keep = record { lock = λ q apart. ((λ h. h), (λ h. h)); starved = λ q apart. refl; limit = λ was is. absurd (cc) };
       carries = record { ready = λ got d. absurd (unlike (answer.Ready got) d.1 refl); granted = λ got d. (granted_eq n got (only (answer.Granted got) d.1), own.1) };
-      waits = record { waiting = λ e. absurd (cc); not_before = seen.not_pending left laws left_fits p };
+      waits = record { waiting = λ e. absurd (cc); not_before = owns.not_pending left laws left_fits p };
       refused_for_cause = record {
         cause = λ c d. absurd (unlike (answer.Refused c) d.1 refl);
         memory = λ d. absurd (unlike (refused refusal.Memory) d.1 refl);
         after_ready = ((λ e. absurd (true≢false (ap is_granted e))), (λ e. (let never : false ≡ true = sym (ap (λ z. is_poll_after_ready z m.what) was) ∙ e in absurd (false≢true never))));
       };
-      leaves_clear = record { each = seen.each left laws left_fits; refused = λ h. absurd (false≢true h) };
+      leaves_clear = record { each = owns.each left laws left_fits; refused = λ h. absurd (false≢true h) };
       value_kept = record {
         put = λ v e h. (let same : n ≡ v = some_eq e in (ap (λ x. answer.Granted (Value x)) same, same));
         kept = λ h. elim h as (λ _. n ≡ t.machine.value) [ inl e ↦ absurd (none_some (sym e)) | inr e ↦ absurd (true≢false (ap is_possible e)) ];
