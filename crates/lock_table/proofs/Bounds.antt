@@ -6,7 +6,7 @@ use Rattle.lock_event.specs.Lists.{is_marked, marked_count, is_marked_at, IsMark
 use Rattle.lock_queue.specs.Parties.{is_party, entries_of}
 use Rattle.lock_world.specs.declared.moves.Answer.{Answer}
 use Rattle.lock_world.specs.declared.moves.Inputs.{Inputs}
-use Rattle.lock_world.specs.Bounds.{PassedOver, OneTakes}
+use Rattle.lock_world.specs.Bounds.{OneTakes}
 
 module _ {W : Type 0} (PassesOver : W → ℕ → Inputs → Answer → W → Type 0) (list : W → List (Entry ℕ)) where
   pub first_takes : (w : W) → ((p : ℕ) (inputs : Inputs) (a : Answer) (v : W) → PassesOver w p inputs a v → ⊥) → 0 < length (list w) → OneTakes PassesOver list w

@@ -2,16 +2,14 @@
 use Rattle.std.proofs.Common.{◌≡◌, ◌≢◌, ℕ, zero, suc, ◌+◌, ◌-◌, ◌<◌, ◌≤◌, if◌then◌else◌, Bool, true, false, List, [], ◌∷◌, length, refl, arith, ap, ◌∙◌}
 use Rattle.std.proofs.lemmas.Bool.Decides.{nat_tests}
 use Rattle.lock_event.specs.declared.event.Entry.{Entry}
-use Rattle.lock_event.specs.declared.event.Mark.{Mark}
 use Rattle.lock_event.specs.declared.event.Mark.TheVariants.{Waiting, Notified, Additional}
-use Rattle.lock_event.specs.Lists.{entry, is_marked, marked_count, mark_waiting, notified, without, mark_at, is_listed, is_marked_at}
+use Rattle.lock_event.specs.Lists.{entry, marked_count, mark_waiting, without, mark_at, is_listed, is_marked_at}
 use Rattle.lock_event.proofs.Marks.{length-mark_waiting, marked_count-joined, mark_waiting-none}
 use Rattle.lock_event.proofs.Counts.{length-joined, length-without, length-passed_on, marked_count-without_marked, marked_count-le-mark_waiting, marked_count-left}
 use Rattle.lock_queue.specs.Parties.{is_party, entries_of}
 use Rattle.lock_queue.proofs.Rekeyed.{entries_of-joined, entries_of-mark_waiting, entries_of-passed_on, entries_of-without_own, entries_of-without_other}
 use Rattle.lock_queue.proofs.Queues.{own_one, other_one}
 use Rattle.lock_world.specs.Steps.{ListFunction, joins, asks, leaves, notifies, notifies_additionally, list_after}
-use Rattle.lock_world.proofs.Bounds.{marked_listed}
 
 -- a listed party's entry is found
 pub is_there : (p : ℕ) (l : List (Entry ℕ)) → 0 < entries_of p l → is_listed (is_party p) l ≡ true

@@ -1,11 +1,11 @@
 -- How callers see the parties of a table, one by one.
-use Rattle.std.proofs.Common.{◌≡◌, ◌≢◌, ℕ, zero, suc, ◌+◌, ◌<◌, ◌&&◌, Bool, true, false, List, [], ◌∷◌, length, get_or, replicate, Option, None, refl, arith, ap, sym, ◌∙◌, subst}
+use Rattle.std.proofs.Common.{◌≡◌, ℕ, zero, suc, ◌+◌, ◌&&◌, Bool, true, false, List, [], ◌∷◌, length, get_or, replicate, Option, refl, arith, ap, ◌∙◌}
 use Rattle.std.specs.List.{list_all}
 use Rattle.lock_world.specs.declared.moves.Answer.{Answer}
 use Rattle.lock_world.specs.declared.standing.Stage.{Stage}
 use Rattle.lock_world.specs.declared.standing.Stage.TheVariants.{Outside, Inside, Forgotten}
 use Rattle.lock_world.specs.declared.standing.Rest.TheVariants.{Idle}
-use Rattle.lock_world.specs.Standings.{Standing, outside, forgotten, is_outside, is_outside_stage}
+use Rattle.lock_world.specs.Standings.{outside, forgotten, is_outside, is_outside_stage}
 use Rattle.lock_table.specs.Stages.{stage_at, stands_as}
 use Rattle.lock_table.specs.Views.{standings_from, standings}
 

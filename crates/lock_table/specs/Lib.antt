@@ -3,3 +3,4 @@ pub mod Stages
 pub mod Tables
 pub mod Views
 pub mod Rights
+pub mod Lending

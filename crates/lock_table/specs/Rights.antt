@@ -1,5 +1,5 @@
 -- What is known of the parties' rights by moves and answers alone, where a run begins and after each step, in any World.
-use Rattle.std.specs.Prelude.{◌≡◌, ℕ, Bool, true, false, Option, is_some}
+use Rattle.std.specs.Prelude.{◌≡◌, ℕ, true, false, Option, is_some}
 use Rattle.lock_world.specs.declared.standing.Rest.TheVariants.{Holding}
 use Rattle.lock_world.specs.Accounts.{Account}
 use Rattle.lock_world.specs.Rights.{Right}

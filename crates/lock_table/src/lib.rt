@@ -8,5 +8,5 @@ mod stages;
 mod table;
 
 pub use end::End;
-pub use machine::Machine;
+pub use machine::{Machine, Valued};
 pub use table::Table;

@@ -1,6 +1,6 @@
 //! What carries out the programs of a primitive's calls.
 
-ghost use Rattle.std.specs.Prelude.{◌≡◌, ◌<◌, ℕ, Bool, Some};
+ghost use Rattle.std.specs.Prelude.{◌≡◌, ◌<◌, ℕ, Bool, true, Some};
 ghost use Rattle.lock_world.specs.declared.moves.Answer.{Answer as AnswerOf};
 ghost use Rattle.lock_world.specs.declared.moves.Call.{Call as CallOf};
 ghost use Rattle.lock_world.specs.declared.moves.What.{What as WhatOf};
@@ -9,6 +9,8 @@ ghost use Rattle.lock_world.specs.declared.standing.Stage.{Stage as StageOf};
 ghost use Rattle.lock_world.specs.declared.standing.Within.{Within as WithinOf};
 ghost use Rattle.lock_table.specs.Stages.{stage_after};
 ghost use Rattle.lock_table.specs.Tables.{Keeps, Called};
+ghost use Rattle.lock_world.specs.Standings.{forgets, is_outside_stage};
+ghost use Rattle.std.specs.Borrow.{Lends, sem};
 
 use lock_world::standing::{Rest, Within};
 use lock_world::{Answer, Call, What};
@@ -46,4 +48,31 @@ pub trait Machine: Drop {
         requires called { Called knows stands self.old party within what }
         ensures acts { acts self.old party within what result self.new }
         ensures keeps { Keeps parties stands self.old party (stage_after ready within result) self.new };
+}
+
+/// A machine over a value, which may be lent while nobody is inside a call.
+///
+/// The value is of any type: a number, or an `Option` of one where there may be none, which is then taken by
+/// writing `None`.
+pub trait Valued: Machine {
+    /// What the value is.
+    type Value: Drop;
+
+    /// The value.
+    ghost value_of: { Self → Self.Value };
+
+    /// The machine with another value.
+    ghost with_value: { Self → Self.Value → Self };
+
+    /// Lends the value.
+    fn value_mut(&mut self) -> &mut Self::Value
+        ensures* lends { sem 𝓛 (Lends Self.row Self.Value.row self.entry result (with_value self.old)) }
+        ensures value { result.now ≡ value_of self.old };
+
+    /// It has as many parties as before.
+    ghost as_many: { (x : Self) (v : Self.Value) → Self.parties (with_value x v) ≡ Self.parties x };
+
+    /// Whoever stood outside every call before may stand as it does then: forgotten, if it was pending or had
+    /// a right.
+    ghost stays: { (x : Self) (v : Self.Value) (p : ℕ) (s : StageOf) → is_outside_stage s ≡ true → Self.stands x p s → Self.stands (with_value x v) p (forgets s) };
 }

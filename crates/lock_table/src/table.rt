@@ -1,14 +1,14 @@
 //! A machine, and at which stage of its calls each party is.
 
-ghost use Rattle.std.specs.Prelude.{◌≡◌, ◌<◌, ℕ, length, IfOk};
+ghost use Rattle.std.specs.Prelude.{◌≡◌, ◌<◌, ℕ, true, length, map, IfOk};
 ghost use Rattle.std.specs.List.{list_all};
-ghost use Rattle.lock_world.specs.Standings.{is_outside_stage};
+ghost use Rattle.lock_world.specs.Standings.{is_outside_stage, forgets};
 ghost use Rattle.lock_world.specs.declared.standing.Rest.TheVariants.{Idle};
 ghost use Rattle.lock_world.specs.declared.standing.Stage.TheVariants.{Outside};
 ghost use Rattle.lock_table.specs.Stages.{call_at};
 ghost use Rattle.lock_table.specs.Tables.{IsTable as IsTable_lem, IsStep, new_table};
 
-use crate::machine::Machine;
+use crate::machine::{Machine, Valued};
 use crate::stages::{may_begin, polls_again, stage_after};
 use lock_world::standing::{Rest, Stage, Within};
 use lock_world::{Answer, Move, Refusal, What};
@@ -123,5 +123,29 @@ impl<M: Machine> Table<M> {
                 answer
             }
         }
+    }
+}
+
+ghost use Rattle.std.specs.Borrow.{sem};
+ghost use Rattle.lock_table.specs.Lending.{LendsValue};
+
+/// Whoever is pending or has a right is forgotten.
+fn forget_all(stages: &mut Vec<Stage>)
+    ensures { stages.new.items ≡ map forgets stages.old.items }
+{
+    for stage in stages.iter_mut() {
+        *stage = stage.forgotten();
+    }
+}
+
+impl<M: Valued> Table<M> {
+    /// Lends the machine's value from outside every call: whoever is pending or has a right is forgotten.
+    pub fn value_mut(&mut self) -> &mut M::Value
+        requires { list_all is_outside_stage self.old.stages ≡ true }
+        ensures* lends { sem 𝓛 (LendsValue M.row M.Value.row M.Machine M.with_value self.entry result) }
+        ensures value { result.now ≡ M.value_of self.old.machine }
+    {
+        forget_all(&mut self.stages);
+        self.machine.value_mut()
     }
 }
