@@ -12,7 +12,8 @@ use Rattle.rwlock_world.specs.State.{Turn, nobody, passes, is_upgradable, waits_
 use Rattle.rwlock_world.specs.Changes
 use Rattle.rwlock_world.specs.Changes.{ListName, turn_after, readers_after, IsAllowed}
 use Rattle.rwlock_world.specs.Legal.{Legal}
-use Rattle.rwlock_world.specs.Runs.{right_by, right_in, account_by, accounts_of}
+use Rattle.lock_table.specs.Rights.{account_by}
+use Rattle.rwlock_world.specs.Runs.{right_by, right_in, accounts_of}
 
 pub other_test : (p q : ℕ) → q ≢ p → (p == q) ≡ false
 other_test p q e = grind (arith, nat_tests)

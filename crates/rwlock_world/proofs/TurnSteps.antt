@@ -23,7 +23,6 @@ use Rattle.rwlock_machine.specs.declared.program.Place.TheVariants as place
 use Rattle.rwlock_machine.specs.Program.{next_of, place_after}
 use Rattle.rwlock_machine.specs.Machine.{RwLock, place_at}
 use Rattle.rwlock_machine.specs.Acts.{IsRwLock}
-use Rattle.rwlock_world.specs.declared.world.table.Sought.{Sought}
 use Rattle.rwlock_world.specs.Changes.{Change, ListName, takes_turn, leaves_turn, starves, recovers, for_the_turn, turn_after, readers_after, starved_after, value_after, turn_list_after, no_readers_after, no_writer_after, IsAllowed, gives_back, gives_up}
 use Rattle.rwlock_world.specs.State as state
 use Rattle.rwlock_world.specs.State.{World, told_in, entries_in}
@@ -83,7 +82,7 @@ bool_or false = inr refl
 joins_there : (g : ListFunction) (list : ListName) → Path (Deed Change ListName) (does for_the_turn g) (does list joins) → Path (Deed mutex.Change mutex.ListName) (does mutex.for_the_lock g) (does mutex.for_the_lock joins)
 joins_there g list e = cc
 
-module _ (m : Move) (l k : RwLock) (ss : List Stage) (os : List (Option Sought)) (ts : List Stage) (ps : List (Option Sought)) (v : ℕ) (x : Place) (f : Found) (c : Known m l k ss os x f) (afterwards : IsRwLock k)
+module _ (m : Move) (l k : RwLock) (ss : List Stage) (opening : ℕ) (ts : List Stage) (v : ℕ) (x : Place) (f : Found) (c : Known m l k ss v x f) (afterwards : IsRwLock k)
     (passes_on : share_of (place_after (next_of x f)) ≡ passing) where
   abbrev p : ℕ
   p = m.party
@@ -104,10 +103,10 @@ module _ (m : Move) (l k : RwLock) (ss : List Stage) (os : List (Option Sought))
   memory = (inputs_of m.what).memory
 
   abbrev w : World
-  w = seen l ss os v
+  w = seen l ss opening v
 
   known_place : p < length l.places
-  known_place = there m l k ss os ts ps v x f c
+  known_place = there m l k ss opening ts v x f c
 
   held_by : (h : Bool) → is_holder t ≡ h → h ≡ true → holder_of l.turn ≡ Some p
   held_by h e y = sees.holds_it l.turn.courses p c.laws.turn.one_holder (sym (sees.holds_bit t) ∙ ap turn_roles.bit (e ∙ y))

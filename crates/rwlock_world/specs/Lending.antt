@@ -5,7 +5,8 @@ use Rattle.rwlock_world.specs.contracts.world.World.{the_row}
 use Rattle.lock_world.specs.declared.standing.Rest.TheVariants.{Pending, Holding}
 use Rattle.lock_world.specs.Standings.{Standing, outside, forgotten}
 use Rattle.rwlock_world.specs.State.{World}
-use Rattle.rwlock_world.specs.Table.{table_with}
+use Rattle.lock_table.specs.Lending.{table_with}
+use Rattle.rwlock_world.specs.Number.{number_with}
 
 -- Whoever is pending or has a guard is forgotten.
 abbrev pub is_forgotten_then : Standing → Standing
@@ -18,7 +19,7 @@ abbrev pub world_with : World → ℕ → World
 world_with w v = record w {
   state = record w.state { value = v };
   standings = map is_forgotten_then w.standings;
-  behind = table_with w.behind v;
+  behind = table_with number_with w.behind v;
 }
 
 -- The World ends with the last value that was left behind the reference.

@@ -8,7 +8,8 @@ use Rattle.lock_world.specs.declared.standing.Rest.TheVariants.{Idle}
 use Rattle.lock_world.specs.Rights.{Right}
 use Rattle.lock_world.specs.Rosters.{how_many, is_on}
 use Rattle.lock_world.specs.Standings.{Standing, outside, forgotten}
-use Rattle.rwlock_world.specs.Table.{Table, new_table}
+use Rattle.lock_table.specs.Tables.{Table, new_table}
+use Rattle.rwlock_world.specs.Number.{LockedNumber, new_number}
 
 -- The turn: nobody has it, or one party that takes or leaves it, is upgradable, waits to write, or writes.
 pub data Turn : Type 0 where
@@ -37,7 +38,7 @@ pub record World : Type 0 where
   pub starved_limit : ℕ
   pub readers_limit : ℕ
   pub opening_value : ℕ
-  pub behind : Table
+  pub behind : Table LockedNumber
 
 -- A party past the table stands as one that is forgotten, and seeks nothing.
 abbrev pub standing_of : World → ℕ → Standing
@@ -105,7 +106,7 @@ new_world parties starved readers value = record {
   starved_limit = starved;
   readers_limit = readers;
   opening_value = value;
-  behind = new_table parties starved readers value;
+  behind = new_table (new_number parties starved readers value) parties value;
 }
 
 -- The World as it was made, by the numbers that it keeps: how many parties, the limits, and the value.
