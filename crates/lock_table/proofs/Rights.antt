@@ -3,7 +3,17 @@ use Rattle.std.proofs.Common.{◌≡◌, ◌≢◌, ℕ, ◌==◌, if◌then◌e
 use Rattle.std.proofs.Math.Decide.{ℕ_discrete}
 use Rattle.std.proofs.lemmas.Bool.Decides.{nat_tests}
 use Rattle.lock_world.specs.declared.moves.Answer.{Answer}
+use Rattle.lock_world.specs.declared.moves.Answer.TheVariants as answer
+use Rattle.lock_world.specs.declared.moves.Call.TheVariants as call
 use Rattle.lock_world.specs.declared.moves.Move.{Move}
+use Rattle.lock_world.specs.declared.moves.What.{What}
+use Rattle.lock_world.specs.declared.moves.What.TheVariants.{Begin}
+use Rattle.lock_world.specs.declared.refusal.Refusal.TheVariants as refusal
+use Rattle.lock_world.specs.declared.standing.Rest.TheVariants.{Holding, Finished}
+use Rattle.lock_world.specs.declared.standing.Stage.{Stage}
+use Rattle.lock_world.specs.declared.standing.Stage.TheVariants.{Outside}
+use Rattle.lock_world.specs.Standings.{refused}
+use Rattle.lock_table.specs.Stages.{polls_again}
 use Rattle.lock_world.specs.Accounts.{Account, account_after, accounts_after}
 use Rattle.lock_table.specs.Rights.{TellsAccounts}
 
@@ -29,3 +39,13 @@ module _ {W : Type 0} (accounts_of : W → ℕ → Account) where
         ∙ (ap (λ k. account_after k m.what a) (tells q) ∙ (let P : ℕ → Type 0 = λ k. account_after (accounts_of w k) m.what a ≡ accounts_of v k in subst P (sym e) own))
     | no apart ↦ other (m.party == q) (account_after (known q) m.what a) (known q) (other_test m.party q apart) ∙ (tells q ∙ sym (others q apart))
   ]
+
+-- a move that isn't possible changes no account, and nor does a poll after ready
+pub idle_account : (k : Account) (what : What) → account_after k what answer.NotPossible ≡ k
+idle_account k (Begin call.TryUpgrade i) = refl
+idle_account k _ = refl
+
+pub again_account : (k : Account) (s : Stage) (what : What) → polls_again s what ≡ true → account_after k what (refused refusal.Finished) ≡ k
+again_account k (Outside Holding) (Begin call.Poll i) h = refl
+again_account k (Outside Finished) (Begin call.Poll i) h = refl
+again_account k _ _ h = absurd (cc (h))
