@@ -47,6 +47,8 @@ use Rattle.rwlock_world.proofs.Kept.{walks, put_is}
 use Rattle.rwlock_world.proofs.Legals as legals
 use Rattle.rwlock_world.proofs.Stages.{strays_not, stage_then}
 use Rattle.rwlock_world.proofs.TurnFacts.{on_turn}
+use Rattle.lock_table.proofs.Mapped.{set_same}
+use Rattle.lock_table.proofs.Past.{inside_or_past}
 use Rattle.rwlock_world.proofs.Views as view
 use Rattle.rwlock_world.proofs.Views.{Fits}
 
@@ -93,12 +95,6 @@ past_at : (f g : Call → Bool) (s : Stage) (what : What) → s ≡ Forgotten �
 past_at f g s (Begin c i) e = rw e refl
 past_at f g s (Go i) e = rw e refl
 
--- an element is put where it stands already
-set_same : (l : List Stage) (p : ℕ) (x : Stage) → stage_at l p ≡ x → p < length l → set l p x ≡ l
-set_same [] p x e h = refl
-set_same (s ∷ ss) zero x e h = ap (λ z. z ∷ ss) (sym e)
-set_same (s ∷ ss) (suc p) x e h = ap (λ l. s ∷ l) (set_same ss p x e (omega arith))
-
 table_eq : (x y : LockedNumber) (ss ts : List Stage) (n k : ℕ) → x ≡ y → ss ≡ ts → n ≡ k → Path (Table LockedNumber) (record { machine = x; stages = ss; opening = n }) (record { machine = y; stages = ts; opening = k })
 table_eq x y ss ts n k e d g = cc
 
@@ -115,9 +111,9 @@ module _ (t u : Table LockedNumber) (m : Move) (a : Answer) (old : Laws t) (new 
   call_is =
       let d = verdict t.machine.value here (turn_at t.machine.lock.turn.courses m.party) in
       let seen : call_of (view_of t) m ≡ call_at (knows (sought_at here)) stage m.what = rw (stood t m.party old, sought_is t m.party) (call_seen (knows (sought_at here)) d stage m.what) in
-      seen ∙ elim (view.in_or_past t.stages m.party) as (λ _. call_at (knows (sought_at here)) stage m.what ≡ call_at (knows_at here) stage m.what) [
+      seen ∙ elim (inside_or_past t.stages m.party) as (λ _. call_at (knows (sought_at here)) stage m.what ≡ call_at (knows_at here) stage m.what) [
         | inl inside ↦ sym (known_at stage m.what here (old.fits.stands m.party inside))
-        | inr past ↦ past_at (knows (sought_at here)) (knows_at here) stage m.what past
+        | inr past ↦ past_at (knows (sought_at here)) (knows_at here) stage m.what past.1
       ]
 
   pub again_is : is_poll_after_ready (standing_of (view_of t) m.party) m.what ≡ polls_again stage m.what
@@ -152,7 +148,7 @@ module _ (t u : Table LockedNumber) (m : Move) (a : Answer) (old : Laws t) (new 
         let put = put_is stage m.what v w here o e in
         let S : Within → Type 0 = λ y. u.stages ≡ set t.stages m.party (stage_after rest.Holding y a) in
         let B : Answer → Type 0 = λ b. u.stages ≡ set t.stages m.party (stage_after rest.Holding (within kind.Put rest.Holding) b) in
-        let stay : u.stages ≡ t.stages = subst B d.0 (subst S put.call stages) ∙ set_same t.stages m.party _ put.stage inside in
+        let stay : u.stages ≡ t.stages = subst B d.0 (subst S put.call stages) ∙ set_same t.stages m.party Forgotten _ put.stage inside in
         puts w v inside o e d.0 (table_eq _ _ _ _ _ _ d.1 stay opening)
 
     by_call : (o : Option Within) (b : Bool) → call_at (knows_at here) stage m.what ≡ o → polls_again stage m.what ≡ b → TableDoes knows_there rest.Holding MovesThere o b t m a u → Way t u m a

@@ -50,6 +50,7 @@ use Rattle.rwlock_world.proofs.BoundRuns.{Ended, polls_alone}
 use Rattle.rwlock_world.proofs.Sound.{nobody_holds, bit_seen}
 use Rattle.lock_table.proofs.Views.{rest_seen}
 use Rattle.rwlock_world.proofs.Owns as owns
+use Rattle.lock_table.proofs.Past.{inside_or_past}
 use Rattle.rwlock_world.proofs.Views as view
 
 -- ---- where a pending party stands that is listed
@@ -165,9 +166,9 @@ module _ (w : World) (p : ℕ) (i : Inputs) (laws : IsRwLock w.behind.machine.lo
       let here : Place = place_at w.behind.machine.lock.places p in
       let there : TurnCourse = turn_at w.behind.machine.lock.turn.courses p in
       let stood : standing_of (shown w) p ≡ standing_at w.behind.machine.value (stage_at w.behind.stages p) here there = owns.stood w.behind.machine.lock w.behind.stages w.behind.opening w.behind.machine.value laws tf p in
-      elim (view.in_or_past w.behind.stages p) as (λ _. (p < length w.behind.stages) × (stage_at w.behind.stages p ≡ Outside rest.Pending)) [
+      elim (inside_or_past w.behind.stages p) as (λ _. (p < length w.behind.stages) × (stage_at w.behind.stages p ≡ Outside rest.Pending)) [
         | inl known ↦ (known, pending_stage w.behind.machine.value (stage_at w.behind.stages p) here there (sym stood ∙ pending))
-        | inr past ↦ (let never : standing_at w.behind.machine.value Forgotten here there ≡ outside rest.Pending = rw past at (sym stood ∙ pending) in absurd (cc))
+        | inr past ↦ (let never : standing_at w.behind.machine.value Forgotten here there ≡ outside rest.Pending = rw past.1 at (sym stood ∙ pending) in absurd (cc))
       ]
 
   future : is_future (place_at t.machine.lock.places p) ≡ true

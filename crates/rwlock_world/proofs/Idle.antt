@@ -5,6 +5,7 @@ use Rattle.std.proofs.lemmas.Bool.{false≢true, true≢false}
 use Rattle.lock_world.specs.declared.moves.Answer.{Answer}
 use Rattle.lock_world.specs.declared.moves.Answer.TheVariants as answer
 use Rattle.lock_world.specs.declared.moves.Call.TheVariants as call
+use Rattle.lock_world.specs.declared.moves.Got.{Got}
 use Rattle.lock_world.specs.declared.moves.Got.TheVariants.{Value}
 use Rattle.lock_world.specs.declared.moves.Inputs.{Inputs}
 use Rattle.lock_world.specs.declared.moves.Move.{Move}
@@ -17,13 +18,16 @@ use Rattle.lock_world.specs.declared.standing.Rest.TheVariants as rest
 use Rattle.lock_world.specs.declared.standing.Stage.{Stage}
 use Rattle.lock_world.specs.declared.standing.Stage.TheVariants.{Outside, Inside, Forgotten}
 use Rattle.lock_world.specs.declared.standing.Within.{Within}
-use Rattle.lock_world.specs.Frame.{is_drop, is_poll_after_ready}
+use Rattle.lock_world.specs.Accounts.{sought_after}
+use Rattle.lock_world.specs.Frame.{is_drop, is_poll_after_ready, is_refusal, put_in}
 use Rattle.lock_world.specs.Rights.{Right, write}
 use Rattle.lock_world.specs.Standings.{Standing, outside, inside, forgotten, call_in, is_possible, refused, StandsAfter, is_decided, decision}
 use Rattle.lock_world.specs.Steps.{nothing, changes}
 use Rattle.lock_world.proofs.Equations.{some_eq, none_some, some_none, outside_inside, is_refused, is_granted}
 use Rattle.lock_table.specs.Stages.{stage_at, polls_again}
 use Rattle.lock_table.specs.Tables.{Table}
+use Rattle.lock_table.proofs.Idle as frame
+use Rattle.lock_table.proofs.Idle.{Idle, same_decides}
 use Rattle.lock_table.proofs.Views.{length-standings}
 use Rattle.mutex_machine.specs.Course.{Course as TurnCourse}
 use Rattle.mutex_machine.specs.Mutex.{course_at as turn_at}
@@ -34,12 +38,12 @@ use Rattle.rwlock_machine.specs.Roles.{reads, has_turn}
 use Rattle.rwlock_machine.specs.Machine.{place_at}
 use Rattle.rwlock_machine.specs.Acts.{IsRwLock}
 use Rattle.rwlock_world.specs.Changes.{puts}
-use Rattle.rwlock_world.specs.Legal.{knows, call_of, HasItsOwn, HasSought, HasJust, Legal}
+use Rattle.rwlock_world.specs.Legal.{knows, knows_of, call_of, IsCause, HasItsOwn, HasSought, HasJust, Legal}
 use Rattle.rwlock_world.specs.Number.{LockedNumber, number_with}
 use Rattle.rwlock_world.specs.Stages.{sought_at, goes_with}
 use Rattle.rwlock_world.specs.State.{World, standing_of, sought_by}
 use Rattle.rwlock_world.specs.Steps.{IsNumberTable}
-use Rattle.rwlock_world.specs.View.{verdict, standing_at, view_of}
+use Rattle.rwlock_world.specs.View.{verdict_of, verdict, standing_at, view_of}
 use Rattle.rwlock_world.proofs.Begun.{within}
 use Rattle.rwlock_world.proofs.Owns as owns
 use Rattle.rwlock_world.proofs.Views as view
@@ -70,36 +74,38 @@ set_back (o ∷ os) (suc p) = ap (λ l. o ∷ l) (set_back os p)
 
 -- ---- moves that change nothing
 
-decides_nothing : (s : Standing) (b : Answer) → is_decided s ≡ false → decision answer.NotPossible s ≡ Some b → answer.NotPossible ≡ b
-decides_nothing (outside r) b u d = some_eq d
-decides_nothing (inside w None) b u d = absurd (cc)
-decides_nothing (inside w (Some a)) b u d = absurd (cc)
-decides_nothing forgotten b u d = some_eq d
+-- ---- moves that do nothing
 
-polls_possible : (o : Option Right) (s : Standing) (what : What) → call_in (knows o) s what ≡ None → is_poll_after_ready s what ≡ false
-polls_possible o (outside rest.Holding) (Begin call.Poll i) e = absurd (cc)
-polls_possible o (outside rest.Finished) (Begin call.Poll i) e = absurd (cc)
-polls_possible o _ _ e = refl
+-- what such a move is answered: nothing that carries a value, or that leaves a future as when it was made
+record Quiet (what : What) (a : Answer) : Type 0 where
+  pub ready : (got : Got) → answer.Ready got ≡ a → ⊥
+  pub granted : (got : Got) → answer.Granted got ≡ a → ⊥
+  pub waiting : a ≡ answer.Waiting → ⊥
+  pub pending : answer.Pending ≡ a → ⊥
+  pub refusal : is_refusal a ≡ false
+  pub sought : (o : Option Right) → sought_after o what a ≡ o
+  pub put : (v : ℕ) → put_in what ≡ Some v → is_possible a ≡ true → ⊥
+
+idle_legal : (t : Table LockedNumber) (m : Move) (a : Answer) → Laws t → Quiet m.what a → Idle standing_of knows_of rest.Holding IsCause (view_of t) m refl a → Legal (view_of t) m a (view_of t)
+idle_legal t m a k q i =
+    let w = view_of t in
+    let s : Standing = standing_of w m.party in
+    record {
+      possible = i.possible;
+      one_change = record { deed = nothing; state = refl; allowed = tt; turn_list = refl; no_readers = refl; no_writer = refl; starved_limit = refl; readers_limit = refl; opening_value = refl; sought = set_back w.sought m.party ∙ ap (set w.sought m.party) (sym (q.sought (sought_by w m.party))); others = λ p apart. refl; parties = refl; found_memory = λ list e. absurd (cc); refused_idly = λ y. refl; parting = λ h. refl; giving_up = λ g. absurd (cc) };
+      carries = record { ready = λ got d. absurd (q.ready got (same_decides s a (answer.Ready got) d)); granted = λ got d. absurd (q.granted got (same_decides s a (answer.Granted got) d)) };
+      waits = record { waiting = λ e. absurd (q.pending (sym e)); not_before = not_pending t m.party k };
+      refused_for_cause = i.refused_for_cause;
+      leaves_clear = record { each = each t k; refused = λ h. absurd (false≢true (sym q.refusal ∙ h)); gives_up_turn = λ h e. absurd (false≢true (sym q.refusal ∙ h)); keeps_turn = λ h e. absurd (false≢true (sym q.refusal ∙ h)) };
+      value_kept = record { put = λ v e h. absurd (q.put v e h); kept = λ h. refl };
+      ends_properly = i.ends_properly;
+      keeps_upgrades = record { begins = λ e. absurd (q.waiting e); pending = λ e h. refl; undecided = λ u h. refl; others = λ p apart. refl };
+    }
 
 pub impossible : (t : Table LockedNumber) (m : Move) → Laws t → call_of (view_of t) m ≡ None → Legal (view_of t) m answer.NotPossible (view_of t)
-impossible t m k none = record {
-  possible = record { exactly = ((λ e. none), (λ e. refl)); unchanged = λ e. refl };
-  one_change = record { deed = nothing; state = refl; allowed = tt; turn_list = refl; no_readers = refl; no_writer = refl; starved_limit = refl; readers_limit = refl; opening_value = refl; sought = set_back (view_of t).sought m.party; others = λ q apart. refl; parties = refl; found_memory = λ list e. absurd (cc); refused_idly = λ y. refl; parting = λ h. refl; giving_up = λ g. absurd (cc) };
-  carries = record {
-    ready = λ got d. absurd (cc (decides_nothing (standing_of (view_of t) m.party) (answer.Ready got) d.0 d.1));
-    granted = λ got d. absurd (cc (decides_nothing (standing_of (view_of t) m.party) (answer.Granted got) d.0 d.1));
-  };
-  waits = record { waiting = λ e. absurd (cc); not_before = not_pending t m.party k };
-  refused_for_cause = record {
-    cause = λ n d. absurd (cc (decides_nothing (standing_of (view_of t) m.party) (answer.Refused n) d.0 d.1));
-    memory = λ d. absurd (cc (decides_nothing (standing_of (view_of t) m.party) (refused refusal.Memory) d.0 d.1));
-    after_ready = ((λ e. absurd (cc)), (λ e. absurd (cc (polls_possible (sought_by (view_of t) m.party) (standing_of (view_of t) m.party) m.what none))));
-  };
-  leaves_clear = record { each = each t k; refused = λ h. absurd (cc); gives_up_turn = λ h e. absurd (cc); keeps_turn = λ h e. absurd (cc) };
-  value_kept = record { put = λ v e h. absurd (cc); kept = λ h. refl };
-  ends_properly = record { stands = λ u e. absurd (cc); as_decided = λ u b e h. absurd (cc) };
-  keeps_upgrades = record { begins = λ e. absurd (cc); pending = λ e h. refl; undecided = λ w h. refl; others = λ q apart. refl };
-}
+impossible t m k none =
+    idle_legal t m answer.NotPossible k (record { ready = λ got e. cc; granted = λ got e. cc; waiting = λ e. cc; pending = λ e. cc; refusal = refl; sought = λ o. refl; put = λ v e h. cc })
+    (frame.impossible standing_of knows_of rest.Holding IsCause (view_of t) m refl none)
 
 -- ---- a poll after ready
 
@@ -109,38 +115,12 @@ again_is (Outside rest.Holding) (Begin call.Poll i) x h g = (i, refl, refl)
 again_is (Outside rest.Finished) (Begin call.Poll i) x h g = absurd (false≢true g)
 again_is _ _ x h g = absurd (false≢true h)
 
-refused_number : (n k : ℕ) → answer.Refused n ≡ answer.Refused k → n ≡ k
-refused_number n k e = cc
-
 pub polled_again : (t : Table LockedNumber) (p : ℕ) (i : Inputs) → Laws t → stage_at t.stages p ≡ Outside rest.Holding → Legal (view_of t) (record { party = p; what = Begin call.Poll i }) (refused refusal.Finished) (view_of t)
 polled_again t p i k at =
     let is : standing_of (view_of t) p ≡ outside rest.Holding = stood t p k ∙ ap (λ s. standing_at t.machine.value s (place_at t.machine.lock.places p) (turn_at t.machine.lock.turn.courses p)) at in
-    let called : call_in (knows (sought_by (view_of t) p)) (standing_of (view_of t) p) (Begin call.Poll i) ≡ Some (within kind.LaterPoll rest.Holding) = rw is refl in
-    let over : is_poll_after_ready (standing_of (view_of t) p) (Begin call.Poll i) ≡ true = rw is refl in
-    let only : (b : Answer) → decision (refused refusal.Finished) (standing_of (view_of t) p) ≡ Some b → refused refusal.Finished ≡ b = λ b d. some_eq (sym (ap (decision (refused refusal.Finished)) is) ∙ d) in
-    let unlike : (b : Answer) → decision (refused refusal.Finished) (standing_of (view_of t) p) ≡ Some b → is_refused b ≡ false → ⊥ = λ b d h. true≢false (ap is_refused (only b d) ∙ h) in
-    record {
-      possible = record { exactly = ((λ e. absurd (true≢false (ap is_possible e))), (λ e. absurd (some_none (sym called ∙ e)))); unchanged = λ e. refl };
-      one_change = record { deed = nothing; state = refl; allowed = tt; turn_list = refl; no_readers = refl; no_writer = refl; starved_limit = refl; readers_limit = refl; opening_value = refl; sought = set_back (view_of t).sought p; others = λ q apart. refl; parties = refl; found_memory = λ list e. absurd (cc); refused_idly = λ y. refl; parting = λ h. refl; giving_up = λ g. absurd (cc) };
-      carries = record {
-        ready = λ got d. absurd (unlike (answer.Ready got) d.1 refl);
-        granted = λ got d. absurd (unlike (answer.Granted got) d.1 refl);
-      };
-      waits = record { waiting = λ e. absurd (cc); not_before = not_pending t p k };
-      refused_for_cause = record {
-        cause = λ n d. (refusal.Finished, sym (refused_number _ n (only (answer.Refused n) d.1)), refl);
-        memory = λ d. let never = only (refused refusal.Memory) d.1 in absurd (cc);
-        after_ready = ((λ e. over), (λ e. refl));
-      };
-      leaves_clear = record { each = each t k; refused = λ h. absurd (false≢true h); gives_up_turn = λ h e. absurd (false≢true h); keeps_turn = λ h e. absurd (false≢true h) };
-      value_kept = record { put = λ v e h. absurd (none_some e); kept = λ h. refl };
-      ends_properly = record {
-        stands = λ u e. let P : Within → Type 0 = λ u. StandsAfter rest.Holding u (refused refusal.Finished) (standing_of (view_of t) p) in
-            subst P (some_eq (sym called ∙ e)) (refl, is);
-        as_decided = λ u b e h. absurd (outside_inside (sym is ∙ e));
-      };
-      keeps_upgrades = record { begins = λ e. absurd (true≢false (ap is_refused e)); pending = λ e h. refl; undecided = λ w h. refl; others = λ q apart. refl };
-    }
+    let m : Move = record { party = p; what = Begin call.Poll i } in
+    idle_legal t m (refused refusal.Finished) k (record { ready = λ got e. cc; granted = λ got e. cc; waiting = λ e. cc; pending = λ e. cc; refusal = refl; sought = λ o. refl; put = λ v e h. absurd (none_some e) })
+    (frame.over standing_of knows_of rest.Holding IsCause (view_of t) m refl (rw is refl) refl)
 
 -- ---- a value is put
 
@@ -203,7 +183,7 @@ module _ (t : Table LockedNumber) (n : ℕ) (p : ℕ) (i : Inputs) where
           opening_value = refl;
           sought = set_back (view_of t).sought p;
           others = λ q apart. stood left q k2 ∙ (unvalued t.machine.value n (stage_at t.stages q) (place_at t.machine.lock.places q) (turn_at t.machine.lock.turn.courses q) (apart_from q apart) ∙ sym (stood t q k));
-          parties = length-standings (λ q. verdict n (place_at t.machine.lock.places q) (turn_at t.machine.lock.turn.courses q)) t.stages ∙ sym (length-standings (λ q. verdict t.machine.value (place_at t.machine.lock.places q) (turn_at t.machine.lock.turn.courses q)) t.stages);
+          parties = length-standings (verdict_of (number_with t.machine n)) t.stages ∙ sym (length-standings (verdict_of t.machine) t.stages);
           found_memory = λ list e. absurd (cc);
           refused_idly = λ d. absurd (unlike (refused refusal.Memory) d.1 refl);
           giving_up = λ g. absurd (cc);

@@ -37,11 +37,11 @@ use Rattle.rwlock_machine.specs.Acts.{IsRwLock}
 use Rattle.rwlock_world.specs.Changes.{Change, ListName, gives_back, gives_up}
 use Rattle.rwlock_world.specs.State as state
 use Rattle.rwlock_world.specs.State.{State, World, standing_of, sought_by, is_upgrader, told_in, HasTurn, IsClear}
-use Rattle.rwlock_world.specs.Legal.{call_of, DecidesOn, IsPossible, ChangesOneThing, HasSought, LeavesClear, Carries, Waits, list_for, may_meet, IsCause, IsRefusedForCause, IsValueKept, EndsProperly, KeepsUpgrades, Legal}
+use Rattle.rwlock_world.specs.Legal.{knows_of, call_of, DecidesOn, IsPossible, ChangesOneThing, HasSought, LeavesClear, Carries, Waits, list_for, may_meet, IsCause, IsRefusedForCause, IsValueKept, EndsProperly, KeepsUpgrades, Legal}
 use Rattle.lock_table.specs.Stages.{stage_at}
 use Rattle.rwlock_world.specs.Stages.{Course, sought_at, course_of, is_on_course}
-use Rattle.rwlock_world.specs.Number.{answer_by}
-use Rattle.rwlock_world.specs.View.{is_upgrade, verdict, standing_at, seen}
+use Rattle.rwlock_world.specs.Number.{LockedNumber, answer_by}
+use Rattle.rwlock_world.specs.View.{is_upgrade, verdict, verdict_of, standing_at, seen}
 use Rattle.rwlock_world.proofs.Kept.{Walks}
 use Rattle.rwlock_world.proofs.Stages.{stage_then, always_possible, may_end_so}
 use Rattle.rwlock_world.proofs.Rows.{Room, keeps_what_it_has, lacks_memory, verdict_then, is_after_ready, is_got, is_made}
@@ -49,8 +49,9 @@ use Rattle.rwlock_world.proofs.Facts.{WaitsIn, CauseAs, Fitting, ReasonAs, Judge
 use Rattle.rwlock_world.proofs.Calls.{Moves}
 use Rattle.rwlock_world.proofs.Endings as ends
 use Rattle.rwlock_world.proofs.Owns as owns
-use Rattle.lock_table.proofs.Calls.{decided_after, decision_seen, stands_seen}
-use Rattle.lock_table.proofs.Views.{length-standings}
+use Rattle.lock_table.specs.Tables.{Table}
+use Rattle.lock_table.proofs.Acting as acting
+use Rattle.lock_table.proofs.Calls.{decided_after, stands_seen}
 use Rattle.rwlock_world.proofs.Views as view
 use Rattle.rwlock_world.proofs.Views.{Fits}
 
@@ -149,6 +150,12 @@ module _ (m : Move) (l k : RwLock) (ss : List Stage) (opening : ℕ) (v : ℕ) (
   abbrev ts : List Stage
   ts = set ss p (stage_then w v n)
 
+  abbrev before : Table LockedNumber
+  before = record { machine = record { lock = l; value = v }; stages = ss; opening = opening }
+
+  abbrev after : Table LockedNumber
+  after = record { machine = record { lock = k; value = v }; stages = ts; opening = opening }
+
   abbrev old : World
   old = seen l ss opening v
 
@@ -184,29 +191,24 @@ module _ (m : Move) (l k : RwLock) (ss : List Stage) (opening : ℕ) (v : ℕ) (
     lands = ap (λ xs. place_at xs p) c.places ∙ get_or-set_same l.places p to place.Out there
 
     stood : standing_of old p ≡ standing_at v (stage_at ss p) here t
-    stood = owns.stood l ss opening v c.laws c.fits p
+    stood = acting.stood verdict_of before p
 
     stands : standing_of new p ≡ standing_at v (stage_then w v n) to u
-    stands = owns.stood k ts opening v c.new_laws c.new_fits p ∙ (ap (λ s. standing_at v s (place_at k.places p) u) (get_or-set_same ss p (stage_then w v n) Forgotten c.known) ∙ ap (λ y. standing_at v (stage_then w v n) y u) lands)
+    stands = acting.stands verdict_of rest.Holding before after p w said c.known refl ∙ ap (λ y. standing_at v (stage_then w v n) y u) lands
 
     others : (q : ℕ) → q ≢ p → standing_of new q ≡ standing_of old q
     others q apart =
-        owns.stood k ts opening v c.new_laws c.new_fits q
-        ∙ (ap (λ s. standing_at v s (place_at k.places q) (turn_at k.turn.courses q)) (get_or-set_other ss p q (stage_then w v n) Forgotten apart)
-        ∙ (ap (λ y. standing_at v (stage_at ss q) y (turn_at k.turn.courses q)) (ap (λ xs. place_at xs q) c.places ∙ get_or-set_other l.places p q to place.Out apart)
-        ∙ (ap (standing_at v (stage_at ss q) (place_at l.places q)) (c.facts.others q apart) ∙ sym (owns.stood l ss opening v c.laws c.fits q))))
+        acting.others_stand verdict_of rest.Holding before after p w said c.known refl q apart
+        (ap (λ y. verdict v y (turn_at k.turn.courses q)) (ap (λ xs. place_at xs q) c.places ∙ get_or-set_other l.places p q to place.Out apart) ∙ ap (verdict v (place_at l.places q)) (c.facts.others q apart))
 
     always : is_possible said ≡ true
     always = always_possible v n
 
-    never : said ≡ answer.NotPossible → ⊥
-    never e = false≢true (sym (ap is_possible e) ∙ always)
-
     possible : IsPossible old m said new
-    possible = record { exactly = ((λ e. absurd (never e)), (λ e. absurd (some_none (sym c.call ∙ e)))); unchanged = λ e. absurd (never e) }
+    possible = acting.possible_so standing_of knows_of rest.Holding old m said new w c.call always
 
     decides : decision said (standing_of new p) ≡ verdict_then v u n
-    decides = ap (decision said) stands ∙ decision_seen rest.Holding w said (verdict v to u)
+    decides = acting.decides verdict_of rest.Holding before after p w said c.known refl ∙ ap (λ y. decided_after said (verdict v y u)) lands
 
     keeps_to : (b : Answer) → verdict v x t ≡ Some b → (verdict_then v u n ≡ Some b) × (gives_back d ≡ true)
     keeps_to b e = keep m old k new v x to d (verdict v x t) (verdict_then v u n) b c.facts.judged e
@@ -250,7 +252,7 @@ module _ (m : Move) (l k : RwLock) (ss : List Stage) (opening : ℕ) (v : ℕ) (
       opening_value = refl;
       sought = ap (map sought_at) c.places ∙ (map-set sought_at l.places p to ∙ ap (set (map sought_at l.places) p) (c.moves.sought n c.walks.seeks ∙ ap (λ o. sought_after o m.what said) (sym (view.seeks_at l.places p))));
       others = others;
-      parties = length-standings (λ q. verdict v (place_at k.places q) (turn_at k.turn.courses q)) ts ∙ (length-set ss p (stage_then w v n) ∙ sym (length-standings (λ q. verdict v (place_at l.places q) (turn_at l.turn.courses q)) ss));
+      parties = acting.as_many verdict_of rest.Holding before after p w said c.known refl;
       found_memory = λ list e. found_room d list c.facts.room e;
       refused_idly = λ y. elim (reason (refused refusal.Memory) y) as (λ _. d ≡ nothing) [ inl e ↦ absurd (cc) | inr z ↦ (idle_memory x to d z.0 z.1 z.3).0 ];
       parting = parting;
@@ -363,14 +365,10 @@ module _ (m : Move) (l k : RwLock) (ss : List Stage) (opening : ℕ) (v : ℕ) (
     value_kept : IsValueKept old m said new
     value_kept = record { put = λ r e h. let never = c.no_put in absurd (cc); kept = λ h. refl }
 
-    called : (y : Within) → call_of old m ≡ Some y → w ≡ y
-    called y e = some_eq (sym c.call ∙ e)
-
     ends_properly : EndsProperly old m said new
-    ends_properly = record {
-      stands = λ y e. let P : Within → Type 0 = λ y. StandsAfter rest.Holding y said (standing_of new p) in subst P (called y e) (rw stands (stands_seen rest.Holding w said (verdict v to u) always (may_end_so w v x n c.moves.course c.walks.keeps)));
-      as_decided = λ y b e h. decides ∙ (keeps_to b (c.moves.decided y b (sym stood ∙ e))).0;
-    }
+    ends_properly =
+        acting.ends_so standing_of knows_of rest.Holding old m said new w c.call always (rw stands (stands_seen rest.Holding w said (verdict v to u) always (may_end_so w v x n c.moves.course c.walks.keeps)))
+        (λ y b e. decides ∙ (keeps_to b (c.moves.decided y b (sym stood ∙ e))).0)
 
     keeps_upgrades : KeepsUpgrades old m said new
     keeps_upgrades = record {

@@ -31,9 +31,10 @@ use Rattle.rwlock_world.specs.Legal.{HasSought, HasNothing, HasItsOwn}
 use Rattle.lock_table.specs.Stages.{stage_at}
 use Rattle.rwlock_world.specs.Stages.{Course, downgrades, course_of, course_until, is_on_course, sought_at, is_inside, goes_with}
 use Rattle.rwlock_world.specs.Stages as plans
-use Rattle.rwlock_world.specs.View.{Share, passing, upgrading, waiting, writing, turn_as, share_of, turn_by, is_reading, is_upgrade, verdict, verdict_until, refused_by, standing_at, seen}
+use Rattle.rwlock_world.specs.View.{verdict_of, Share, passing, upgrading, waiting, writing, turn_as, share_of, turn_by, is_reading, is_upgrade, verdict, verdict_until, refused_by, standing_at, seen}
 use Rattle.rwlock_world.proofs.Begun.{at_out, at_future, at_guard}
 use Rattle.lock_table.proofs.Views.{standings_at}
+use Rattle.lock_table.proofs.Past.{inside_or_past}
 use Rattle.rwlock_world.proofs.Views as view
 use Rattle.rwlock_world.proofs.Views.{Fits}
 
@@ -152,7 +153,7 @@ module _ (l : RwLock) (ss : List Stage) (opening : ℕ) (v : ℕ) (laws : IsRwLo
   w = seen l ss opening v
 
   pub stood : (q : ℕ) → standing_of w q ≡ standing_at v (stage_at ss q) (place_at l.places q) (turn_at l.turn.courses q)
-  stood q = standings_at (λ p. verdict v (place_at l.places p) (turn_at l.turn.courses p)) ss q
+  stood q = standings_at (verdict_of (record { lock = l; value = v })) ss q
 
   stands_pending : (s : Stage) (x : Place) (t : TurnCourse) (u : Within) → standing_at v s x t ≢ inside u (Some answer.Pending)
   stands_pending (Outside r) x t u e = absurd (cc)
@@ -307,7 +308,7 @@ module _ (l : RwLock) (ss : List Stage) (opening : ℕ) (v : ℕ) (laws : IsRwLo
   has q Forgotten x at g = tt
 
   pub each : (q : ℕ) → HasItsOwn w q (standing_of w q)
-  each q = elim (view.in_or_past ss q) as (λ _. HasItsOwn w q (standing_of w q)) [
+  each q = elim (inside_or_past ss q) as (λ _. HasItsOwn w q (standing_of w q)) [
     | inl known ↦ rw (stood q) (has q (stage_at ss q) (place_at l.places q) refl (fits.stands q known))
-    | inr past ↦ rw (stood q, past) tt
+    | inr past ↦ rw (stood q, past.1) tt
   ]

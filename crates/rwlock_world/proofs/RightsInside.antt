@@ -20,8 +20,9 @@ use Rattle.lock_table.specs.Stages.{stage_at}
 use Rattle.rwlock_world.specs.Stages.{Course, drops, upgrades, tries_upgrade, course_of, is_on_course, is_inside, goes_with, sought_at}
 use Rattle.rwlock_world.specs.State.{World, standing_of, sought_by}
 use Rattle.rwlock_world.specs.Laws.{is_long_call}
-use Rattle.rwlock_world.specs.View.{verdict, standing_at, seen}
+use Rattle.rwlock_world.specs.View.{verdict_of, verdict, standing_at, seen}
 use Rattle.lock_table.proofs.Views.{standings_at, length-standings}
+use Rattle.lock_table.proofs.Past.{inside_or_past}
 use Rattle.rwlock_world.proofs.Views as view
 use Rattle.rwlock_world.proofs.Views.{Fits}
 
@@ -107,12 +108,12 @@ module _ (l : RwLock) (ss : List Stage) (opening : ℕ) (v : ℕ) (fits : Fits l
   -- a party that is inside a call is in the table, at that stage
   staged : (p : ℕ) (u : Within) (d : Option Answer) → standing_of w p ≡ inside u d → (stage_at ss p ≡ Inside u) × (p < length ss)
   staged p u d e =
-      let stood : standing_at v (stage_at ss p) (place_at l.places p) (turn_at l.turn.courses p) ≡ inside u d = sym (standings_at (λ p. verdict v (place_at l.places p) (turn_at l.turn.courses p)) ss p) ∙ e in
+      let stood : standing_at v (stage_at ss p) (place_at l.places p) (turn_at l.turn.courses p) ≡ inside u d = sym (standings_at (verdict_of (record { lock = l; value = v })) ss p) ∙ e in
       let stage = by_stage (stage_at ss p) stood in (
         stage,
-        elim (view.in_or_past ss p) as (λ _. p < length ss) [
+        elim (inside_or_past ss p) as (λ _. p < length ss) [
           | inl known ↦ known
-          | inr past ↦ absurd (cc (sym stage ∙ past))
+          | inr past ↦ absurd (cc (sym stage ∙ past.1))
         ],
       )
     where
@@ -139,4 +140,4 @@ module _ (l : RwLock) (ss : List Stage) (opening : ℕ) (v : ℕ) (fits : Fits l
       view.seeks_at l.places p ∙ drop_seeks (place_at l.places p) course
 
   pub as_many_seek : length w.sought ≡ length w.standings
-  as_many_seek = length-map l.places sought_at ∙ (sym fits.as_many ∙ sym (length-standings (λ p. verdict v (place_at l.places p) (turn_at l.turn.courses p)) ss))
+  as_many_seek = length-map l.places sought_at ∙ (sym fits.as_many ∙ sym (length-standings (verdict_of (record { lock = l; value = v })) ss))

@@ -35,11 +35,12 @@ use Rattle.lock_table.specs.Lending.{table_with}
 use Rattle.rwlock_world.specs.Lent.{future_rests, guard_rests}
 use Rattle.rwlock_world.specs.Number.{LockedNumber, number_with}
 use Rattle.rwlock_world.specs.Steps.{IsNumberTable}
-use Rattle.rwlock_world.specs.View.{Share, passing, upgrading, waiting, writing, turn_as, share_of, turn_by, is_reading, verdict, standing_at, view_of}
+use Rattle.rwlock_world.specs.View.{verdict_of, Share, passing, upgrading, waiting, writing, turn_as, share_of, turn_by, is_reading, verdict, standing_at, view_of}
 use Rattle.rwlock_world.proofs.Begun.{at_out, at_future, at_guard}
 use Rattle.lock_table.specs.Stages.{stands_as as standing_as}
 use Rattle.lock_table.specs.Views.{standings_from}
 use Rattle.lock_table.proofs.Views.{rest_seen, outside_at}
+use Rattle.lock_table.proofs.Past.{inside_or_past}
 use Rattle.rwlock_world.proofs.Views as view
 use Rattle.rwlock_world.proofs.Views.{Fits}
 use Rattle.rwlock_world.proofs.Owns as owns
@@ -329,7 +330,7 @@ module _ (t : Table LockedNumber) (laws : IsRwLock t.machine.lock) (fits : IsNum
 
   pub awake : is_at_rest seen_as ≡ true → IsAwake seen_as
   awake resting =
-      let out : list_all is_outside_stage t.stages ≡ true = sym (rest_seen (λ p. verdict t.machine.value (place_at t.machine.lock.places p) (turn_at t.machine.lock.turn.courses p)) t.stages) ∙ resting in
+      let out : list_all is_outside_stage t.stages ≡ true = sym (rest_seen (verdict_of t.machine) t.stages) ∙ resting in
       let quiet : IsAtRest t.machine.lock = all_rest t.machine.lock t.stages t.machine.value fits out in
       let stood = owns.stood t.machine.lock t.stages t.opening t.machine.value laws fits in
       let each = owns.each t.machine.lock t.stages t.opening t.machine.value laws fits in
@@ -337,9 +338,9 @@ module _ (t : Table LockedNumber) (laws : IsRwLock t.machine.lock) (fits : IsNum
         turn_marked = λ free. laws.wakes_turn quiet (sees.none_holds 0 t.machine.lock.turn.courses (nobody_holds (holder_of t.machine.lock.turn) t.machine.lock.places free.0)) free.1;
         reading_marked = λ free. laws.wakes_no_writer quiet (bit_seen t.machine.lock t.stages t.opening t.machine.value laws fits free.0) free.1;
         writing_marked = λ free. laws.wakes_no_readers quiet (sym (view.how_many-read t.machine.lock.places) ∙ free.0) free.1;
-        pending = λ p some. elim (view.in_or_past t.stages p) as (λ _. (standing_of seen_as p ≡ outside rest.Pending) ⊎ (standing_of seen_as p ≡ forgotten)) [
+        pending = λ p some. elim (inside_or_past t.stages p) as (λ _. (standing_of seen_as p ≡ outside rest.Pending) ⊎ (standing_of seen_as p ≡ forgotten)) [
           | inl known ↦ pends p (stage_at t.stages p) (stood p) (outside_at t.stages out p) some (each p)
-          | inr past ↦ inr (stood p ∙ ap (λ s. standing_at t.machine.value s (place_at t.machine.lock.places p) (turn_at t.machine.lock.turn.courses p)) past)
+          | inr past ↦ inr (stood p ∙ ap (λ s. standing_at t.machine.value s (place_at t.machine.lock.places p) (turn_at t.machine.lock.turn.courses p)) past.1)
         ];
         starved = λ p counts.
             let ts = t.machine.lock.turn.courses in
@@ -367,7 +368,7 @@ forgets_from n f g (s ∷ ss) h =
 
 -- a table whose value was put is seen as the World in which it was
 pub put_seen : (t : Table LockedNumber) (v : ℕ) → list_all is_outside_stage t.stages ≡ true → view_of (table_with number_with t v) ≡ world_with (view_of t) v
-put_seen t v resting = let all = forgets_from 0 (λ p. verdict t.machine.value (place_at t.machine.lock.places p) (turn_at t.machine.lock.turn.courses p)) (λ p. verdict v (place_at t.machine.lock.places p) (turn_at t.machine.lock.turn.courses p)) t.stages resting in cc
+put_seen t v resting = let all = forgets_from 0 (verdict_of t.machine) (verdict_of (number_with t.machine v)) t.stages resting in cc
 
 -- ---- the words
 

@@ -24,6 +24,7 @@ use Rattle.rwlock_world.proofs.Idle as idle
 use Rattle.rwlock_world.proofs.Idle.{Laws}
 use Rattle.rwlock_world.proofs.Instants.{at_once, still_at_once, impossible_at_once}
 use Rattle.rwlock_world.proofs.Kept.{put_is}
+use Rattle.lock_table.proofs.Past.{inside_or_past}
 use Rattle.rwlock_world.proofs.Views as view
 
 -- the call that puts a value
@@ -46,10 +47,10 @@ module _ (t u : Table LockedNumber) (m : Move) (a : Answer) (old : Laws t) (new 
 
   good : Way t u m a → Good m a u
   good (impossible e ea eu) = moved answer.NotPossible t m.what ea eu refl (idle.impossible t m old e, impossible_at_once (view_of t) m e)
-  good (over w e f ea eu) = elim (view.in_or_past t.stages m.party) as (λ _. Good m a u) [
+  good (over w e f ea eu) = elim (inside_or_past t.stages m.party) as (λ _. Good m a u) [
     | inl inside ↦ (let it = idle.again_is (stage_at t.stages m.party) m.what (place_at t.machine.lock.places m.party) f (old.fits.stands m.party inside) in
         moved (refused refusal.Finished) t (Begin call.Poll it.0) ea eu it.2 (idle.polled_again t m.party it.0 old it.1, still_at_once t (record { party = m.party; what = Begin call.Poll it.0 }) (refused refusal.Finished) (view_of t) old it.1 refl))
-    | inr past ↦ (let never : polls_again (stage_at t.stages m.party) m.what ≡ false = ap (λ s. polls_again s m.what) past in absurd (cc))
+    | inr past ↦ (let never : polls_again (stage_at t.stages m.party) m.what ≡ false = ap (λ s. polls_again s m.what) past.1 in absurd (cc))
   ]
   good (puts w v inside o e ea eu) =
       let put = put_is (stage_at t.stages m.party) m.what v w (place_at t.machine.lock.places m.party) o e in

@@ -7,6 +7,7 @@ use Rattle.lock_world.specs.declared.standing.Stage.TheVariants.{Forgotten}
 use Rattle.lock_world.specs.Rosters.{how_many}
 use Rattle.lock_table.specs.Stages.{stage_at}
 use Rattle.lock_table.specs.Tables.{IsTable}
+use Rattle.lock_table.proofs.Mapped.{mapped_at}
 use Rattle.mutex_machine.specs.Course.{Course as TurnCourse, counted}
 use Rattle.mutex_machine.specs.Mutex.{course_at as turn_at, is_counted}
 use Rattle.mutex_machine.proofs.Holders as sees
@@ -26,19 +27,13 @@ Fits l ss v = IsTable parties Stands (record { lock = l; value = v }) ss
 -- ---- rosters
 
 pub reads_at : (xs : List Place) (p : ℕ) → get_or (map is_reading xs) p false ≡ is_reading (place_at xs p)
-reads_at [] p = refl
-reads_at (x ∷ xs) zero = refl
-reads_at (x ∷ xs) (suc p) = reads_at xs p
+reads_at xs p = mapped_at is_reading xs p place.Out
 
 pub upgrades_at : (xs : List Place) (p : ℕ) → get_or (map is_upgrade xs) p false ≡ is_upgrade (place_at xs p)
-upgrades_at [] p = refl
-upgrades_at (x ∷ xs) zero = refl
-upgrades_at (x ∷ xs) (suc p) = upgrades_at xs p
+upgrades_at xs p = mapped_at is_upgrade xs p place.Out
 
 pub seeks_at : (xs : List Place) (p : ℕ) → get_or (map sought_at xs) p None ≡ sought_at (place_at xs p)
-seeks_at [] p = refl
-seeks_at (x ∷ xs) zero = refl
-seeks_at (x ∷ xs) (suc p) = seeks_at xs p
+seeks_at xs p = mapped_at sought_at xs p place.Out
 
 one_if : (b : Bool) → (if b then 1 else 0) ≡ bit b
 one_if true = refl
@@ -111,8 +106,3 @@ reading_bit place.DowngradeNotify = refl
 pub how_many-read : (xs : List Place) → how_many (map is_reading xs) ≡ sum_by reads xs
 how_many-read [] = refl
 how_many-read (x ∷ xs) = omega (arith, one_if (is_reading x), sum_by-cons reads x xs, reading_bit x, how_many-read xs)
-
-pub in_or_past : (ss : List Stage) (q : ℕ) → (q < length ss) ⊎ (stage_at ss q ≡ Forgotten)
-in_or_past [] q = inr refl
-in_or_past (s ∷ ss) zero = inl (omega arith)
-in_or_past (s ∷ ss) (suc q) = elim (in_or_past ss q) as (λ _. (suc q < length (s ∷ ss)) ⊎ (stage_at ss q ≡ Forgotten)) [ inl h ↦ inl (omega arith) | inr h ↦ inr h ]

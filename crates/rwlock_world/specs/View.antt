@@ -121,13 +121,17 @@ verdict v _ t = None
 abbrev pub standing_at : ℕ → Stage → Place → TurnCourse → Standing
 standing_at v s x t = stands_as (verdict v x t) s
 
+-- by party
+abbrev pub verdict_of : LockedNumber → ℕ → Option Answer
+verdict_of x p = verdict x.value (place_at x.lock.places p) (turn_at x.lock.turn.courses p)
+
 abbrev pub seen : RwLock → List Stage → ℕ → ℕ → World
 seen l ss opening v = record {
   state = record { readers = map is_reading l.places; turn = turn_by (holder_of l.turn) l.places; starved = starved_of l.turn; value = v };
   turn_list = l.turn.entries;
   no_readers = l.no_readers;
   no_writer = l.no_writer;
-  standings = standings (λ p. verdict v (place_at l.places p) (turn_at l.turn.courses p)) ss;
+  standings = standings (verdict_of (record { lock = l; value = v })) ss;
   sought = map sought_at l.places;
   upgraders = map is_upgrade l.places;
   starved_limit = l.turn.limit;

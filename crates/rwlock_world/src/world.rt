@@ -244,7 +244,7 @@ impl World {
     pub fn into_inner(self) -> u64
         ensures { result ≡ self.state.value }
     {
-        self.table.machine().value()
+        World::value(&self)
     }
 }
 

@@ -4,11 +4,11 @@ use Rattle.lock_table.proofs.Views.{rest_seen}
 use Rattle.mutex_machine.specs.Mutex.{course_at as turn_at}
 use Rattle.rwlock_machine.specs.Machine.{place_at}
 use Rattle.rwlock_world.specs.Laws.{is_at_rest}
-use Rattle.rwlock_world.specs.View.{verdict}
+use Rattle.rwlock_world.specs.View.{verdict_of, verdict}
 use Rattle.rwlock_world.proofs.world.World.at_rest.Goals as goal
 
 pub returns : goal.returns
 returns c =
     let t = c.self.inside.table in
     c.at_rest.ensures
-    ∙ (sym (rest_seen (λ p. verdict t.machine.value (place_at t.machine.lock.places p) (turn_at t.machine.lock.turn.courses p)) t.stages) ∙ ap is_at_rest c.self.view_is)
+    ∙ (sym (rest_seen (verdict_of t.machine) t.stages) ∙ ap is_at_rest c.self.view_is)

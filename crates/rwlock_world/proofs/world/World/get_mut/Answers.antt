@@ -7,17 +7,17 @@ use Rattle.mutex_machine.specs.Mutex.{course_at as turn_at}
 use Rattle.rwlock_machine.specs.Machine.{place_at}
 use Rattle.rwlock_world.specs.Laws.{is_at_rest}
 use Rattle.rwlock_world.specs.Lending.{world_with}
-use Rattle.rwlock_world.specs.View.{verdict}
+use Rattle.rwlock_world.specs.View.{verdict_of, verdict}
 use Rattle.rwlock_world.proofs.Sound.{put_seen}
 use Rattle.rwlock_world.proofs.world.World.get_mut.Goals as goal
 
 pub value_mut-requires : goal.value_mut-requires
 value_mut-requires c =
     let t = c.self.inside.table in
-    sym (rest_seen (λ p. verdict t.machine.value (place_at t.machine.lock.places p) (turn_at t.machine.lock.turn.courses p)) t.stages) ∙ (ap is_at_rest c.self.view_is ∙ c.requires)
+    sym (rest_seen (verdict_of t.machine) t.stages) ∙ (ap is_at_rest c.self.view_is ∙ c.requires)
 
 pub returns : goal.returns
 returns c =
     let t = c.self.inside.table in
-    let resting : list_all is_outside_stage t.stages ≡ true = sym (rest_seen (λ p. verdict t.machine.value (place_at t.machine.lock.places p) (turn_at t.machine.lock.turn.courses p)) t.stages) ∙ (ap is_at_rest c.self.view_is ∙ c.requires) in
+    let resting : list_all is_outside_stage t.stages ≡ true = sym (rest_seen (verdict_of t.machine) t.stages) ∙ (ap is_at_rest c.self.view_is ∙ c.requires) in
     ((refl, λ v. put_seen t v resting ∙ ap (λ w. world_with w v) c.self.view_is), record { lends = tt; value = c.value_mut.ensures.value ∙ ap (λ w. w.state.value) c.self.view_is })
