@@ -32,8 +32,9 @@ use Rattle.rwlock_machine.specs.Parties.{OnNoWriter, OnNoReaders}
 use Rattle.rwlock_machine.specs.Machine.{RwLock, SameRoles, place_at}
 use Rattle.rwlock_machine.specs.Acts.{IsRwLock, Finds}
 use Rattle.rwlock_machine.proofs.Leads.{steps_in_turn}
-use Rattle.rwlock_world.specs.Changes.{Change, ListName, takes_turn, leaves_turn, starves, recovers, begins_to_read, stops_reading, becomes_upgradable, stops_upgradable, begins_to_wait, begins_to_write, upgrades, upgrades_at_once, unmarks, downgrades, downgrades_to_upgradable, puts, turn_after, readers_after, starved_after, value_after, turn_list_after, no_readers_after, no_writer_after, IsAllowed, gives_back}
-use Rattle.rwlock_world.specs.State.{World, told_in, entries_in, how_many_read}
+use Rattle.rwlock_world.specs.Changes.{Change, takes_turn, leaves_turn, starves, recovers, begins_to_read, stops_reading, becomes_upgradable, stops_upgradable, begins_to_wait, begins_to_write, upgrades, upgrades_at_once, unmarks, downgrades, downgrades_to_upgradable, puts, turn_after, readers_after, starved_after, value_after, IsAllowed, gives_back, entries_after}
+use Rattle.rwlock_world.specs.State.{ListName, for_the_turn, for_no_readers, for_no_writer}
+use Rattle.rwlock_world.specs.State.{World, list_of, told_in, entries_in, how_many_read}
 use Rattle.rwlock_world.specs.Legal.{may_meet, IsCause}
 use Rattle.rwlock_world.specs.Number.{answer_by}
 use Rattle.rwlock_world.specs.Stages.{strays, course_of, sought_at}
@@ -85,9 +86,7 @@ pub record Facts (m : Move) (l k : RwLock) (ss : List Stage) (opening : ℕ) (ts
   pub starved : starved_of k.turn ≡ starved_after m.party deed (starved_of l.turn)
   pub valued : value_after deed v ≡ v
   pub allowed : IsAllowed m.party deed (seen l ss opening v)
-  pub turn_list : k.turn.entries ≡ turn_list_after m.party deed l.turn.entries
-  pub no_readers : k.no_readers ≡ no_readers_after m.party deed l.no_readers
-  pub no_writer : k.no_writer ≡ no_writer_after m.party deed l.no_writer
+  pub lists : (list : ListName) → list_of (seen k ts opening v) list ≡ entries_after m.party deed list (list_of (seen l ss opening v) list)
   pub starved_limit : k.turn.limit ≡ l.turn.limit
   pub others : (q : ℕ) → q ≢ m.party → turn_at k.turn.courses q ≡ turn_at l.turn.courses q
   pub judged : JudgedAs m (seen l ss opening v) k (seen k ts opening v) v x (place_after n) deed (verdict v x (turn_at l.turn.courses m.party)) (verdict_then v (turn_at k.turn.courses m.party) n)
@@ -202,13 +201,11 @@ module _ (m : Move) (l k : RwLock) (ss : List Stage) (opening : ℕ) (ts : List 
     fit = rw c.same.in_turn (c.laws.in_turn p)
 
     cause : (q : Refusal) → Refuses memory l x f q → CauseAs m (seen l ss opening v) (seen k ts opening v) q
-    cause refusal.Memory h = (
-      h.0,
-      unlisted h.1 (h.3 (turn_at l.turn.courses p) fit),
-      ap (λ t. t.entries) still,
-      r.no_readers p l.no_readers k.no_readers c.no_readers ∙ ap (λ (d : Deed Change ListName). no_readers_after p d l.no_readers) h.2,
-      r.no_writer p l.no_writer k.no_writer c.no_writer ∙ ap (λ (d : Deed Change ListName). no_writer_after p d l.no_writer) h.2,
-    )
+    cause refusal.Memory h = (h.0, unlisted h.1 (h.3 (turn_at l.turn.courses p) fit), by_list) where
+      by_list : (list : ListName) → list_of (seen k ts opening v) list ≡ list_of (seen l ss opening v) list
+      by_list for_the_turn = ap (λ t. t.entries) still
+      by_list for_no_readers = r.no_readers p l.no_readers k.no_readers c.no_readers ∙ ap (λ (d : Deed Change ListName). entries_after p d for_no_readers l.no_readers) h.2
+      by_list for_no_writer = r.no_writer p l.no_writer k.no_writer c.no_writer ∙ ap (λ (d : Deed Change ListName). entries_after p d for_no_writer l.no_writer) h.2
     cause refusal.Readers h = omega (arith, view.how_many-read l.places, h.0)
     cause refusal.Starved h = absurd h
     cause refusal.Permits h = absurd h
@@ -258,9 +255,7 @@ module _ (m : Move) (l k : RwLock) (ss : List Stage) (opening : ℕ) (ts : List 
       starved = ap starved_of still ∙ sym (r.starving p (starved_of l.turn));
       valued = r.valued v;
       allowed = allows (deed_at x f) r.finding;
-      turn_list = ap (λ t. t.entries) still ∙ sym (r.unturned p l.turn.entries);
-      no_readers = r.no_readers p l.no_readers k.no_readers c.no_readers;
-      no_writer = r.no_writer p l.no_writer k.no_writer c.no_writer;
+      lists = by_list;
       starved_limit = ap (λ t. t.limit) still;
       others = λ q apart. ap (λ t. turn_at t.courses q) still;
       judged = judges (verdict v x (turn_at l.turn.courses p)) (verdict_then v (turn_at k.turn.courses p) (next_of x f)) (r.judged (turn_at l.turn.courses p) (turn_at k.turn.courses p));
@@ -270,5 +265,10 @@ module _ (m : Move) (l k : RwLock) (ss : List Stage) (opening : ℕ) (ts : List 
       upgrade = r.upgrade;
       refused = r.refused;
     } where
+      by_list : (list : ListName) → list_of (seen k ts opening v) list ≡ entries_after p (deed_at x f) list (list_of (seen l ss opening v) list)
+      by_list for_the_turn = ap (λ t. t.entries) still ∙ sym (r.unturned p l.turn.entries)
+      by_list for_no_readers = r.no_readers p l.no_readers k.no_readers c.no_readers
+      by_list for_no_writer = r.no_writer p l.no_writer k.no_writer c.no_writer
+
       reads_on : (d : Deed Change ListName) → Reads d (is_reading x) (is_reading to) → Reads d (is_reading (place_at l.places p)) (is_reading to)
       reads_on d h = subst (λ (b : Bool). Reads d b (is_reading to)) reads_same h

@@ -92,7 +92,7 @@ idle_legal t m a k q i =
     let s : Standing = standing_of w m.party in
     record {
       possible = i.possible;
-      one_change = record { deed = nothing; state = refl; allowed = tt; turn_list = refl; no_readers = refl; no_writer = refl; starved_limit = refl; readers_limit = refl; opening_value = refl; sought = set_back w.sought m.party ∙ ap (set w.sought m.party) (sym (q.sought (sought_by w m.party))); others = λ p apart. refl; parties = refl; found_memory = λ list e. absurd (cc); refused_idly = λ y. refl; parting = λ h. refl; giving_up = λ g. absurd (cc) };
+      one_change = record { deed = nothing; state = refl; allowed = tt; lists = λ list. refl; starved_limit = refl; readers_limit = refl; opening_value = refl; sought = set_back w.sought m.party ∙ ap (set w.sought m.party) (sym (q.sought (sought_by w m.party))); others = λ p apart. refl; parties = refl; found_memory = λ list e. absurd (cc); refused_idly = λ y. refl; parting = λ h. refl; giving_up = λ g. absurd (cc) };
       carries = record { ready = λ got d. absurd (q.ready got (same_decides s a (answer.Ready got) d)); granted = λ got d. absurd (q.granted got (same_decides s a (answer.Granted got) d)) };
       waits = record { waiting = λ e. absurd (q.pending (sym e)); not_before = not_pending t m.party k };
       refused_for_cause = i.refused_for_cause;
@@ -175,9 +175,7 @@ module _ (t : Table LockedNumber) (n : ℕ) (p : ℕ) (i : Inputs) where
           deed = changes (puts n);
           state = refl;
           allowed = just.1;
-          turn_list = refl;
-          no_readers = refl;
-          no_writer = refl;
+          lists = λ list. refl;
           starved_limit = refl;
           readers_limit = refl;
           opening_value = refl;

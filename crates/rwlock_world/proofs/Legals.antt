@@ -34,7 +34,8 @@ use Rattle.rwlock_machine.specs.Program.{place_after}
 use Rattle.rwlock_machine.specs.Roles.{fits_turn}
 use Rattle.rwlock_machine.specs.Machine.{RwLock, place_at}
 use Rattle.rwlock_machine.specs.Acts.{IsRwLock}
-use Rattle.rwlock_world.specs.Changes.{Change, ListName, gives_back, gives_up}
+use Rattle.rwlock_world.specs.Changes.{Change, gives_back, gives_up}
+use Rattle.rwlock_world.specs.State.{ListName, for_the_turn, for_no_readers, for_no_writer}
 use Rattle.rwlock_world.specs.State as state
 use Rattle.rwlock_world.specs.State.{State, World, standing_of, sought_by, is_upgrader, told_in, HasTurn, IsClear}
 use Rattle.rwlock_world.specs.Legal.{knows_of, call_of, DecidesOn, IsPossible, ChangesOneThing, HasSought, LeavesClear, Carries, Waits, list_for, may_meet, IsCause, IsRefusedForCause, IsValueKept, EndsProperly, KeepsUpgrades, Legal}
@@ -244,9 +245,7 @@ module _ (m : Move) (l k : RwLock) (ss : List Stage) (opening : ℕ) (v : ℕ) (
       deed = d;
       state = made _ _ _ _ _ _ _ _ c.facts.readers c.facts.turn c.facts.starved (sym c.facts.valued);
       allowed = c.facts.allowed;
-      turn_list = c.facts.turn_list;
-      no_readers = c.facts.no_readers;
-      no_writer = c.facts.no_writer;
+      lists = c.facts.lists;
       starved_limit = c.facts.starved_limit;
       readers_limit = c.limit;
       opening_value = refl;

@@ -32,8 +32,9 @@ use Rattle.rwlock_machine.specs.Parties.{OnNoWriter, OnNoReaders}
 use Rattle.rwlock_machine.specs.Machine.{RwLock}
 use Rattle.rwlock_machine.specs.Acts.{Finds, readers, marked}
 use Rattle.rwlock_machine.proofs.Leads.{Led, steps_in_turn}
-use Rattle.rwlock_world.specs.Changes.{Change, ListName, begins_to_read, stops_reading, becomes_upgradable, stops_upgradable, begins_to_wait, begins_to_write, upgrades, upgrades_at_once, unmarks, downgrades, downgrades_to_upgradable, for_no_readers, for_no_writer, turn_after, starved_after, value_after, turn_list_after, no_readers_after, no_writer_after, gives_back, gives_up}
+use Rattle.rwlock_world.specs.Changes.{Change, begins_to_read, stops_reading, becomes_upgradable, stops_upgradable, begins_to_wait, begins_to_write, upgrades, upgrades_at_once, unmarks, downgrades, downgrades_to_upgradable, turn_after, starved_after, value_after, entries_after, gives_back, gives_up}
 use Rattle.rwlock_world.specs.State as state
+use Rattle.rwlock_world.specs.State.{ListName, for_the_turn, for_no_readers, for_no_writer}
 use Rattle.lock_table.proofs.Calls.{decided_after}
 use Rattle.rwlock_world.specs.Legal.{may_meet}
 use Rattle.rwlock_world.specs.Number.{answer_by}
@@ -184,9 +185,9 @@ pub record Row (memory : Bool) (l : RwLock) (v : ℕ) (x : Place) (f : Found) : 
   pub sharing : Shares (deed_at x f) x (place_after (next_of x f))
   pub starving : (p : ℕ) (s : List Bool) → starved_after p (deed_at x f) s ≡ s
   pub valued : (u : ℕ) → value_after (deed_at x f) u ≡ u
-  pub unturned : (p : ℕ) (a : List (Entry ℕ)) → turn_list_after p (deed_at x f) a ≡ a
-  pub no_writer : (p : ℕ) (a b : List (Entry ℕ)) → OnNoWriter p (action_of x) f a b → b ≡ no_writer_after p (deed_at x f) a
-  pub no_readers : (p : ℕ) (a b : List (Entry ℕ)) → OnNoReaders p (action_of x) f a b → b ≡ no_readers_after p (deed_at x f) a
+  pub unturned : (p : ℕ) (a : List (Entry ℕ)) → entries_after p (deed_at x f) for_the_turn a ≡ a
+  pub no_writer : (p : ℕ) (a b : List (Entry ℕ)) → OnNoWriter p (action_of x) f a b → b ≡ entries_after p (deed_at x f) for_no_writer a
+  pub no_readers : (p : ℕ) (a b : List (Entry ℕ)) → OnNoReaders p (action_of x) f a b → b ≡ entries_after p (deed_at x f) for_no_readers a
   pub finding : Finding (deed_at x f) l x
   pub judged : (t u : TurnCourse) → Judged memory l v x f (verdict v x t) (verdict_then v u (next_of x f))
   pub room : Room memory (deed_at x f)

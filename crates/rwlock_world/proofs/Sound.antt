@@ -3,6 +3,7 @@ use Rattle.std.proofs.Common.{◌≡◌, ℕ, ◌+◌, ◌<◌, ◌≤◌, ◌�
 use Rattle.std.specs.List.{list_all, sum_by}
 use Rattle.std.proofs.lemmas.List.{length-map}
 use Rattle.std.proofs.lemmas.List.Sums.{sum_by-cons}
+use Rattle.lock_event.specs.Lists.{IsMarkedFirst}
 use Rattle.lock_queue.specs.Parties.{entries_of}
 use Rattle.lock_world.specs.declared.moves.Answer.{Answer}
 use Rattle.lock_world.specs.declared.standing.Rest.TheVariants as rest
@@ -27,7 +28,7 @@ use Rattle.lock_table.specs.Stages.{stage_at}
 use Rattle.rwlock_world.specs.Stages.{is_future, is_guard, goes_with}
 use Rattle.lock_table.specs.Tables.{Table}
 use Rattle.rwlock_world.specs.State as state
-use Rattle.rwlock_world.specs.State.{Turn, nobody, passes, is_upgradable, waits_to_write, writes, World, standing_of, is_marked, entries_in, HasTurn}
+use Rattle.rwlock_world.specs.State.{ListName, for_the_turn, for_no_readers, for_no_writer, list_of, Turn, nobody, passes, is_upgradable, waits_to_write, writes, World, standing_of, is_marked, entries_in, HasTurn}
 use Rattle.rwlock_world.specs.Legal.{HasItsOwn}
 use Rattle.rwlock_world.specs.Laws.{HasRight, IsSound, is_at_rest, IsAwake}
 use Rattle.rwlock_world.specs.Lending.{is_forgotten_then, world_with}
@@ -179,10 +180,12 @@ module _ (t : Table LockedNumber) (laws : IsRwLock t.machine.lock) (fits : IsNum
     as_many_seek = calls.as_many_seek t.machine.lock t.stages t.opening t.machine.value fits;
     few_starved = rw (view.how_many-starved) laws.turn.few_starved;
     once = λ p. omega (arith, laws.one_entry p);
-    turn_in_order = laws.turn.in_order;
-    no_readers_in_order = laws.in_order_no_readers;
-    no_writer_in_order = laws.in_order_no_writer;
-  }
+    in_order = by_list;
+  } where
+    by_list : (list : ListName) → IsMarkedFirst (list_of w list)
+    by_list for_the_turn = laws.turn.in_order
+    by_list for_no_readers = laws.in_order_no_readers
+    by_list for_no_writer = laws.in_order_no_writer
 
 -- ---- at rest
 

@@ -37,9 +37,10 @@ use Rattle.rwlock_machine.specs.Turns.{OnTurn, TurnBegins, TurnGoesOn}
 use Rattle.rwlock_machine.specs.Machine.{RwLock}
 use Rattle.rwlock_machine.specs.Acts.{IsRwLock}
 use Rattle.rwlock_machine.proofs.Leads.{Led, Ends, steps_in_turn}
-use Rattle.rwlock_world.specs.Changes.{Change, ListName, gives_up}
+use Rattle.rwlock_world.specs.Changes.{Change, entries_after, gives_up}
+use Rattle.rwlock_world.specs.State.{ListName, for_the_turn, for_no_readers, for_no_writer}
 use Rattle.rwlock_world.specs.Legal.{may_meet}
-use Rattle.rwlock_world.specs.State.{World, told_in}
+use Rattle.rwlock_world.specs.State.{World, list_of, told_in}
 use Rattle.rwlock_world.specs.Stages.{sought_at, course_of, course_until, polls, tries, drops}
 use Rattle.rwlock_world.specs.View.{is_reading, verdict, verdict_until, refused_by, seen}
 use Rattle.rwlock_world.proofs.Rows.{verdict_then, Room, keeps_what_it_has, TurnRow, turn_row}
@@ -171,9 +172,7 @@ module _ (m : Move) (l k : RwLock) (ss : List Stage) (opening : ℕ) (ts : List 
     starved = mv.starved;
     valued = mv.valued v;
     allowed = mv.allowed;
-    turn_list = mv.turn_list;
-    no_readers = nr ∙ sym (mv.no_readers l.no_readers);
-    no_writer = nw ∙ sym (mv.no_writer l.no_writer);
+    lists = by_list;
     starved_limit = did.legal.limit;
     others = did.legal.others;
     judged = judged;
@@ -182,11 +181,19 @@ module _ (m : Move) (l k : RwLock) (ss : List Stage) (opening : ℕ) (ts : List 
     over = row.over;
     upgrade = row.upgrade;
     refused = row.refused;
-  }
+  } where
+    by_list : (list : ListName) → list_of new list ≡ entries_after p mv.deed list (list_of old list)
+    by_list for_the_turn = mv.turn_list
+    by_list for_no_readers = nr ∙ sym (mv.no_readers l.no_readers)
+    by_list for_no_writer = nw ∙ sym (mv.no_writer l.no_writer)
 
   -- a refusal in the turn has its cause
   cause : (x : Place) (f : Found) (c : Known m l k ss v x f) → in_no_writer x ≡ 0 → in_no_readers x ≡ 0 → k.no_writer ≡ l.no_writer → k.no_readers ≡ l.no_readers → (r : Refusal) → IsReason memory p l.turn k.turn (turn_end.Refused r) → CauseAs m old new r
-  cause x f c ew er nw nr refusal.Memory h = (h.0, omega (arith, h.1, c.laws.owners_no_writer p, c.laws.owners_no_readers p, c.same.standing_w, c.same.standing_r, ew, er), h.2, nr, nw)
+  cause x f c ew er nw nr refusal.Memory h = (h.0, omega (arith, h.1, c.laws.owners_no_writer p, c.laws.owners_no_readers p, c.same.standing_w, c.same.standing_r, ew, er), by_list) where
+    by_list : (list : ListName) → list_of new list ≡ list_of old list
+    by_list for_the_turn = h.2
+    by_list for_no_readers = nr
+    by_list for_no_writer = nw
   cause x f c ew er nw nr refusal.Starved h = view.how_many-starved l.turn.courses ∙ h
   cause x f c ew er nw nr refusal.Readers h = absurd h
   cause x f c ew er nw nr refusal.Permits h = absurd h

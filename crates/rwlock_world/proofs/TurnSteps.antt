@@ -23,7 +23,8 @@ use Rattle.rwlock_machine.specs.declared.program.Place.TheVariants as place
 use Rattle.rwlock_machine.specs.Program.{next_of, place_after}
 use Rattle.rwlock_machine.specs.Machine.{RwLock, place_at}
 use Rattle.rwlock_machine.specs.Acts.{IsRwLock}
-use Rattle.rwlock_world.specs.Changes.{Change, ListName, takes_turn, leaves_turn, starves, recovers, for_the_turn, turn_after, readers_after, starved_after, value_after, turn_list_after, no_readers_after, no_writer_after, IsAllowed, gives_back, gives_up}
+use Rattle.rwlock_world.specs.Changes.{Change, takes_turn, leaves_turn, starves, recovers, turn_after, readers_after, starved_after, value_after, IsAllowed, gives_back, gives_up, entries_after}
+use Rattle.rwlock_world.specs.State.{ListName, for_the_turn, for_no_readers, for_no_writer}
 use Rattle.rwlock_world.specs.State as state
 use Rattle.rwlock_world.specs.State.{World, told_in, entries_in}
 use Rattle.rwlock_world.specs.View.{passing, upgrading, turn_as, share_of, turn_by, seen}
@@ -67,9 +68,9 @@ pub record TurnMoved (p : ℕ) (l k : RwLock) (w : World) (mutex_deed : Deed mut
   pub starved : starved_of k.turn ≡ starved_after p deed (starved_of l.turn)
   pub valued : (u : ℕ) → value_after deed u ≡ u
   pub allowed : IsAllowed p deed w
-  pub turn_list : k.turn.entries ≡ turn_list_after p deed l.turn.entries
-  pub no_readers : (es : List (Entry ℕ)) → no_readers_after p deed es ≡ es
-  pub no_writer : (es : List (Entry ℕ)) → no_writer_after p deed es ≡ es
+  pub turn_list : k.turn.entries ≡ entries_after p deed for_the_turn l.turn.entries
+  pub no_readers : (es : List (Entry ℕ)) → entries_after p deed for_no_readers es ≡ es
+  pub no_writer : (es : List (Entry ℕ)) → entries_after p deed for_no_writer es ≡ es
   pub parting : mutex.gives_back mutex_deed ≡ true → gives_back deed ≡ true
   pub giving_up : gives_up deed ≡ true → mutex.is_release mutex_deed ≡ true
   pub joining : (list : ListName) → deed ≡ does list joins → mutex_deed ≡ does mutex.for_the_lock joins

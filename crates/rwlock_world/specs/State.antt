@@ -40,6 +40,17 @@ pub record World : Type 0 where
   pub opening_value : ℕ
   pub behind : Table LockedNumber
 
+-- The lists: of those that wait for the turn, of the one that waits until no reader is left, and of readers that wait until no writer is.
+pub data ListName : Type 0 where
+  for_the_turn : ListName
+  for_no_readers : ListName
+  for_no_writer : ListName
+
+abbrev pub list_of : World → ListName → List (Entry ℕ)
+list_of w for_the_turn = w.turn_list
+list_of w for_no_readers = w.no_readers
+list_of w for_no_writer = w.no_writer
+
 -- A party past the table stands as one that is forgotten, and seeks nothing.
 abbrev pub standing_of : World → ℕ → Standing
 standing_of w p = slice_index_or w.standings p forgotten
