@@ -171,7 +171,7 @@ module _ (w : World) (p : ℕ) (i : Inputs) (laws : IsRwLock w.behind.machine.lo
         | inr past ↦ (let never : standing_at w.behind.machine.value Forgotten here there ≡ outside rest.Pending = rw past.1 at (sym stood ∙ pending) in absurd (cc))
       ]
 
-  future : is_future (place_at t.machine.lock.places p) ≡ true
+  pub future : is_future (place_at t.machine.lock.places p) ≡ true
   future = ap (λ s. goes_with s (place_at t.machine.lock.places p)) (sym at_stage.1) ∙ tf.stands p at_stage.0
 
   law : SoloPolls t.machine.lock

@@ -30,3 +30,4 @@ pub mod FirstPolls
 mod Promises
 pub mod WorldLaws
 pub mod Bound
+pub mod Handing

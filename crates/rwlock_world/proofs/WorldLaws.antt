@@ -24,6 +24,7 @@ use Rattle.rwlock_world.proofs.BoundRuns.{laws}
 use Rattle.rwlock_world.proofs.Sound.{sound, awake}
 use Rattle.rwlock_world.proofs.Rights.{holds_well}
 use Rattle.rwlock_world.proofs.Whole as whole
+use Rattle.rwlock_world.proofs.Handing.{hands_on}
 use Rattle.rwlock_world.proofs.FirstPolls.{upgradable_ready, write_ready}
 use Rattle.rwlock_world.proofs.Promises.{unstarved_at_end}
 use Rattle.rwlock_world.proofs.BoundSeen.{turn_seen_polled, reading_seen_polled, writing_seen_polled}
@@ -70,4 +71,5 @@ keeps_promise known w p c i n a v runs ended =
       unstarved = λ patient none. unstarved_at_end known w p c i n a v stood patient none runs ended;
       first_upgradable = upgradable_ready known w p c i n a v stood runs ended;
       first_write = write_ready known w p c i n a v stood runs ended;
+      hands_on = hands_on known w p c i n a v stood runs ended;
     }
