@@ -1,9 +1,14 @@
 -- Each party may stand where it does once a value was lent.
-use Rattle.std.proofs.Common.{◌≡◌, true, ℕ, zero, suc, ◌<◌, List, [], ◌∷◌, length, map, refl, ap, sym, ◌∙◌, subst}
+use Rattle.std.proofs.Common.{◌≡◌, true, false, Bool, ◌&&◌, ℕ, zero, suc, ◌+◌, ◌<◌, List, [], ◌∷◌, length, map, Option, refl, ap, sym, ◌∙◌, subst}
+use Rattle.lock_world.specs.declared.moves.Answer.{Answer}
+use Rattle.lock_world.specs.declared.standing.Rest.TheVariants.{Idle, Pending, Holding, Finished}
 use Rattle.lock_world.specs.declared.standing.Stage.{Stage}
+use Rattle.lock_world.specs.declared.standing.Stage.TheVariants.{Outside, Inside, Forgotten}
 use Rattle.lock_world.specs.Standings.{forgets, is_outside_stage}
 use Rattle.std.specs.List.{list_all}
-use Rattle.lock_table.specs.Stages.{stage_at}
+use Rattle.lock_table.specs.Lending.{forgotten_then}
+use Rattle.lock_table.specs.Stages.{stage_at, stands_as}
+use Rattle.lock_table.specs.Views.{standings_from, standings}
 use Rattle.lock_table.specs.Tables.{IsTable}
 use Rattle.lock_table.proofs.Views.{outside_at}
 
@@ -23,3 +28,25 @@ still_fits parties Stands x y ss as_many stays resting t = record {
   as_many = length-forgotten ss ∙ (t.as_many ∙ sym as_many);
   stands = λ p within. subst (Stands y p) (sym (forgotten_at ss p)) (stays p (stage_at ss p) (outside_at ss resting p) (t.stands p (subst (λ n. p < n) (length-forgotten ss) within)));
 }
+
+-- and callers see that
+forgets_one : (d e : Option Answer) (s : Stage) → is_outside_stage s ≡ true → stands_as e (forgets s) ≡ forgotten_then (stands_as d s)
+forgets_one d e (Outside Idle) h = refl
+forgets_one d e (Outside Pending) h = refl
+forgets_one d e (Outside Holding) h = refl
+forgets_one d e (Outside Finished) h = refl
+forgets_one d e (Inside w) h = absurd (cc)
+forgets_one d e Forgotten h = refl
+
+split : (a b : Bool) → a && b ≡ true → (a ≡ true) × (b ≡ true)
+split true b h = (refl, h)
+split false b h = absurd (cc)
+
+from_lent : (n : ℕ) (verdict verdict' : ℕ → Option Answer) (ss : List Stage) → list_all is_outside_stage ss ≡ true → standings_from n verdict' (map forgets ss) ≡ map forgotten_then (standings_from n verdict ss)
+from_lent n verdict verdict' [] h = refl
+from_lent n verdict verdict' (s ∷ ss) h =
+    let both = split (is_outside_stage s) (list_all is_outside_stage ss) h in
+    ap (λ z. z ∷ standings_from (n + 1) verdict' (map forgets ss)) (forgets_one (verdict n) (verdict' n) s both.0) ∙ ap (λ l. forgotten_then (stands_as (verdict n) s) ∷ l) (from_lent (n + 1) verdict verdict' ss both.1)
+
+pub lent_seen : (verdict verdict' : ℕ → Option Answer) (ss : List Stage) → list_all is_outside_stage ss ≡ true → standings verdict' (map forgets ss) ≡ map forgotten_then (standings verdict ss)
+lent_seen verdict verdict' ss h = from_lent 0 verdict verdict' ss h

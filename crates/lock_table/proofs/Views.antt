@@ -4,6 +4,7 @@ use Rattle.std.specs.List.{list_all}
 use Rattle.lock_world.specs.declared.moves.Answer.{Answer}
 use Rattle.lock_world.specs.declared.standing.Stage.{Stage}
 use Rattle.lock_world.specs.declared.standing.Stage.TheVariants.{Outside, Inside, Forgotten}
+use Rattle.lock_world.specs.declared.standing.Rest.{Rest}
 use Rattle.lock_world.specs.declared.standing.Rest.TheVariants.{Idle}
 use Rattle.lock_world.specs.Standings.{outside, forgotten, is_outside, is_outside_stage}
 use Rattle.lock_table.specs.Stages.{stage_at, stands_as}
@@ -54,3 +55,9 @@ pub outside_at : (ss : List Stage) → list_all is_outside_stage ss ≡ true →
 outside_at [] all p = refl
 outside_at (s ∷ ss) all zero = (split (is_outside_stage s) (list_all is_outside_stage ss) all).0
 outside_at (s ∷ ss) all (suc p) = outside_at ss (split (is_outside_stage s) (list_all is_outside_stage ss) all).1 p
+
+-- a party that stands outside is at that stage
+pub outside_stage : (d : Option Answer) (s : Stage) (r : Rest) → stands_as d s ≡ outside r → s ≡ Outside r
+outside_stage d (Outside k) r e = cc
+outside_stage d (Inside w) r e = absurd (cc (e))
+outside_stage d Forgotten r e = absurd (cc (e))

@@ -47,3 +47,10 @@ module _ {M : Type 0} (knows : M → ℕ → Call → Bool) (ready : Rest) (Acts
         (λ e. record { going = λ s. absurd (cc (s)); ended = λ n. none })
         (λ w e f. record { going = λ s. absurd (cc (s)); ended = λ n. again })
         acted (way step)
+
+    -- what the machine carries out, by the call that the move belongs to
+    pub acted : (w : Within) → call_at (knows t.machine m.party) (stage_at t.stages m.party) m.what ≡ Some w → polls_again (stage_at t.stages m.party) m.what ≡ false → IsStep knows ready Acts t m a u → Acted knows ready Acts w t m a u
+    acted w e f step =
+        let C : Option Within → Type 0 = λ o. Does knows ready Acts o (polls_again (stage_at t.stages m.party) m.what) t m a u in
+        let B : Bool → Type 0 = λ b. Does knows ready Acts (Some w) b t m a u in
+        subst B f (subst C e step)

@@ -5,7 +5,6 @@ use Rattle.lock_event.specs.declared.event.Mark.TheVariants.{Waiting}
 use Rattle.lock_queue.specs.Parties.{entries_of}
 use Rattle.lock_world.specs.declared.moves.Answer.{Answer}
 use Rattle.lock_world.specs.declared.moves.Answer.TheVariants as answer
-use Rattle.lock_world.specs.declared.moves.Call.{Call}
 use Rattle.lock_world.specs.declared.moves.Call.TheVariants as call
 use Rattle.lock_world.specs.declared.moves.Got.TheVariants.{Value}
 use Rattle.lock_world.specs.declared.moves.Move.{Move}
@@ -20,16 +19,8 @@ use Rattle.lock_world.specs.Frame as frame
 use Rattle.lock_world.specs.Frame.{is_drop, is_refusal, put_in}
 use Rattle.lock_world.specs.Steps.{Deed, nothing, changes, does, joins, leaves, list_after, is_parting}
 use Rattle.lock_world.specs.Rosters.{how_many}
+use Rattle.mutex_world.specs.Guarded.{knows}
 use Rattle.mutex_world.specs.State.{State, World, standing_of, is_starved, is_free, mark_of, IsClear}
-
--- The calls of a mutex.
-abbrev pub knows : Call → Bool
-knows call.Lock = true
-knows call.TryLock = true
-knows call.Poll = true
-knows call.Drop = true
-knows (call.Put v) = true
-knows _ = false
 
 -- The call that a move belongs to, where its party may make it.
 abbrev pub call_of : World → Move → Option Within

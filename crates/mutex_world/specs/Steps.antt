@@ -1,23 +1,31 @@
 -- One step of a mutex's World: what its callers see, and what its table did behind it.
-use Rattle.std.specs.Prelude.{◌≡◌}
+use Rattle.std.specs.Prelude.{◌≡◌, length}
 use Rattle.lock_world.specs.declared.moves.Answer.{Answer}
 use Rattle.lock_world.specs.declared.moves.Move.{Move}
+use Rattle.lock_world.specs.declared.standing.Rest.TheVariants.{Holding}
+use Rattle.lock_table.specs.Tables.{Table, IsTable, IsStep}
 use Rattle.mutex_machine.specs.Acts.{IsMutex}
+use Rattle.mutex_world.specs.Guarded.{Guarded, knows, Moves, Stands as StandsThere}
 use Rattle.mutex_world.specs.State.{World}
-use Rattle.mutex_world.specs.Table.{IsStep, IsTable}
-use Rattle.mutex_world.specs.View.{opened, view_of}
+use Rattle.mutex_world.specs.View.{view_of}
 use Rattle.mutex_world.specs.Legal.{Legal, AnswersAtOnce}
+
+abbrev pub IsMutexTable : Table Guarded → Type 0
+IsMutexTable t = IsTable (λ (g : Guarded). length g.lock.places) StandsThere t.machine t.stages
+
+abbrev pub TableSteps : Table Guarded → Move → Answer → Table Guarded → Type 0
+TableSteps = IsStep (λ (g : Guarded) p. knows) Holding Moves
 
 -- the World is seen as what stands behind it
 pub record Stands (w : World) : Type 0 where
-  pub seen : w ≡ opened w.opening_value (view_of w.behind)
-  pub mutex : IsMutex w.behind.lock
-  pub fits : IsTable w.behind.lock w.behind.stages
+  pub seen : w ≡ view_of w.behind
+  pub mutex : IsMutex w.behind.machine.lock
+  pub fits : IsMutexTable w.behind
 
 -- what the table did
 pub record Did (old : World) (m : Move) (a : Answer) (new : World) : Type 0 where
   pub stood : Stands old
-  pub step : IsStep old.behind m a new.behind
+  pub step : TableSteps old.behind m a new.behind
   pub stands : Stands new
 
 -- From the old World the move may be answered so, and lead to the new World: a legal step, whose immediate answers are right, and which its table did.

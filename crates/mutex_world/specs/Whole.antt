@@ -22,4 +22,4 @@ IsWholeCall = whole.IsWholeCall RunsOn standing_of most_steps_of
 
 -- How many steps are left at most of the call that a party is in.
 abbrev pub steps_left_of : World → ℕ → ℕ
-steps_left_of w p = steps_left w.behind.lock p
+steps_left_of w p = steps_left w.behind.machine.lock p

@@ -1,11 +1,9 @@
-//! The mutex's World: a mutex over a number, in which each party has its standing. It stands on the
-//! machine of `mutex_machine`.
+//! The mutex's World: a mutex over a number, in which each party has its standing. It is a table over the
+//! machine of `mutex_machine`, with a value beside it.
 //!
 //! The Rust crate's `Mutex` lends a value of any type and runs in threads. Here the value is a number,
 //! a guard is a party that holds the lock, and one step is one call, so that contracts can speak of
 //! every interleaving: specs/State says what is seen, specs/Legal what a step may do.
-
-mod table;
 
 ghost use Rattle.std.specs.Prelude.{◌≡◌, Bool, ◌<◌, ◌≤◌, ℕ, true, [], ◌∷◌, ◌++◌, None, IfOk, IfErr, OnErr, length, min, slice_get, is_some, vec_len, vec_capacity};
 ghost use Rattle.lock_world.specs.Rosters.{how_many};
@@ -14,12 +12,13 @@ ghost use Rattle.mutex_world.specs.Steps.{Steps};
 ghost use Rattle.mutex_world.specs.Laws.{IsSound, IsAwake, IsFreeAndWanted, is_at_rest};
 ghost use Rattle.mutex_world.specs.Bound.{IsBounded};
 
+use crate::guarded::Guarded;
 use lock_event::Entry;
 use lock_frame::AnyWorld;
+use lock_table::Table;
 use lock_world::{Answer, Move, Refusal};
 use std::alloc::Global;
 use std::marker::Model;
-use table::Table;
 
 /// The greatest number of starved parties of a mutex. The Rust crate aborts where this project refuses.
 pub const MOST_STARVED: u32 = 1_073_741_823;
@@ -27,17 +26,16 @@ pub const MOST_STARVED: u32 = 1_073_741_823;
 /// A mutex over a number, its parties, and their calls.
 #[derive(Drop)]
 pub struct World {
-    table: Table,
-    opening_value: u64,
+    table: Table<Guarded>,
 }
 
 impl Model for World {
     ghost use Rattle.mutex_world.specs.State.{World};
-    ghost use Rattle.mutex_world.specs.View.{opened, view_of};
+    ghost use Rattle.mutex_world.specs.View.{view_of};
 
     ghost Value = { World };
 
-    ghost view = { λ w. opened w.opening_value (view_of w.table) };
+    ghost view = { λ w. view_of w.table };
 }
 
 ghost use Rattle.std.specs.Borrow.{sem};
@@ -65,11 +63,11 @@ impl World {
         ensures opening { IfOk result (λ w. w ≡ new_world parties (min starved MOST_STARVED) value) }
         ensures refused { IfErr result (λ r. r ≡ Refusal.Memory) }
     {
-        match Table::new(alloc, parties, value, starved.min(MOST_STARVED)) {
-            Ok(table) => Ok(World {
-                table,
-                opening_value: value,
-            }),
+        let Ok(guarded) = Guarded::new(alloc, parties, value, starved.min(MOST_STARVED)) else {
+            return Err(Refusal::Memory);
+        };
+        match Table::new(alloc, guarded, parties, value) {
+            Ok(table) => Ok(World { table }),
             Err(_) => Err(Refusal::Memory),
         }
     }
@@ -87,8 +85,10 @@ impl World {
         ensures { Steps self.old m.now result self.new }
     {
         self.table.laws();
+        self.table.machine().laws();
         let answer = self.table.step(m);
         self.table.laws();
+        self.table.machine().laws();
         answer
     }
 
@@ -96,7 +96,6 @@ impl World {
     pub fn at_rest(&self) -> bool
         ensures { result ≡ is_at_rest self.now }
     {
-        self.table.laws();
         self.table.at_rest()
     }
 
@@ -107,6 +106,7 @@ impl World {
         ensures awake { is_at_rest self.now ≡ true → IsAwake self.now }
     {
         self.table.laws();
+        self.table.machine().laws();
     }
 
     /// How often a lock that is free, at rest, may be passed over while parties wait for it: among as many
@@ -126,22 +126,22 @@ impl World {
     pub fn is_locked(&self) -> bool
         ensures { result ≡ is_some self.now.state.holder }
     {
-        self.table.laws();
-        self.table.lock().is_held()
+        self.table.machine().laws();
+        self.table.machine().lock().is_held()
     }
 
     /// How many parties are starved, as the word says.
     pub fn starved(&self) -> u32
         ensures { result ≡ how_many self.now.state.starved }
     {
-        self.table.lock().starved()
+        self.table.machine().lock().starved()
     }
 
     /// How many entries the list of waiting parties has.
     pub fn waiting(&self) -> usize
         ensures { result ≡ length self.now.entries }
     {
-        self.table.lock().waiting()
+        self.table.machine().lock().waiting()
     }
 
     /// The entry at this place of the list, counted from the front: its key is the party, and its
@@ -149,14 +149,14 @@ impl World {
     pub fn entry(&self, index: usize) -> Option<Entry<u32>>
         ensures { result ≡ slice_get self.now.entries index }
     {
-        self.table.lock().entry(index)
+        self.table.machine().lock().entry(index)
     }
 
     /// The value that the last put left, or that the World was made with.
     pub fn value(&self) -> u64
         ensures { result ≡ self.now.state.value }
     {
-        self.table.value()
+        self.table.machine().value()
     }
 
     /// Lends the value, of a World at rest. Whoever was pending or held the lock is forgotten: from then on
@@ -170,7 +170,6 @@ impl World {
         ensures* lends { sem 𝓛 (LendsValue self.entry result) }
         ensures value { result.now ≡ self.old.state.value }
     {
-        self.table.laws();
         self.table.value_mut()
     }
 
@@ -178,7 +177,8 @@ impl World {
     pub fn into_inner(self) -> u64
         ensures { result ≡ self.state.value }
     {
-        Table::value(&self.table)
+        let World { table } = self;
+        table.machine().value()
     }
 }
 
@@ -186,7 +186,8 @@ impl AnyWorld for World {
     ghost use Rattle.mutex_world.specs.Steps as steps;
     ghost use Rattle.mutex_world.specs.State as state;
     ghost use Rattle.mutex_world.specs.Laws as laws;
-    ghost use Rattle.mutex_world.specs.Runs.{HoldsWell, TellsRights, rights_of, rights_after};
+    ghost use Rattle.mutex_world.specs.Runs.{HoldsWell, TellsRights, accounts_of};
+    ghost use Rattle.lock_world.specs.Accounts.{Account, accounts_after};
     ghost use Rattle.mutex_world.specs.Whole.{most_steps_of, steps_left_of};
     ghost use Rattle.mutex_world.specs.Bound.{Promises};
     ghost use Rattle.mutex_world.specs.Openings.{opening_kept};
@@ -199,11 +200,11 @@ impl AnyWorld for World {
 
     ghost is_at_rest = { laws.is_at_rest };
 
-    ghost Known = { ℕ → Bool };
+    ghost Known = { ℕ → Account };
 
-    ghost known_of = { rights_of };
+    ghost known_of = { accounts_of };
 
-    ghost learn = { rights_after };
+    ghost learn = { accounts_after };
 
     ghost tells = { TellsRights };
 

@@ -1,11 +1,10 @@
 -- What an action does, in numbers.
-use Rattle.std.proofs.Common.{◌≡◌, ℕ, zero, suc, ◌+◌, ◌-◌, ◌<◌, ◌≤◌, Bool, true, false, List, length, refl, arith}
-use Rattle.lock_event.specs.declared.event.Entry.{Entry}
+use Rattle.std.proofs.Common.{ℕ, zero, suc, Bool, true, false, refl, arith}
 use Rattle.lock_event.specs.Lists.{is_marked_at}
-use Rattle.lock_queue.specs.Parties.{is_party, entries_of}
+use Rattle.lock_queue.specs.Parties.{is_party}
 use Rattle.lock_queue.specs.Queues.{Queue}
-use Rattle.lock_world.specs.Steps.{ListFunction, joins, asks, leaves, notifies}
-use Rattle.lock_table.proofs.Lists.{CanList, Counted, counted}
+use Rattle.lock_world.specs.Steps.{joins, asks, leaves, notifies}
+use Rattle.lock_table.proofs.Lists.{Counted, counted}
 use Rattle.semaphore_machine.specs.declared.program.Action.{Action}
 use Rattle.semaphore_machine.specs.declared.program.Action.TheVariants as act
 use Rattle.semaphore_machine.specs.declared.program.Found.{Found}

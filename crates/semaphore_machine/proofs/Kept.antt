@@ -1,5 +1,5 @@
 -- Each step keeps what always holds of the numbers.
-use Rattle.std.proofs.Common.{◌≡◌, ℕ, ◌+◌, ◌<◌, ◌≤◌, zero, suc, true, false, arith}
+use Rattle.std.proofs.Common.{◌≡◌, ◌+◌, ◌<◌, ◌≤◌, zero, suc, true, false, arith}
 use Rattle.lock_queue.proofs.Debts.{still_owed}
 use Rattle.semaphore_machine.specs.declared.program.Found.{Found}
 use Rattle.semaphore_machine.specs.declared.program.Found.TheVariants.{Done, Taken, NoneLeft, PastLimit, NoMemory, Yes, No}

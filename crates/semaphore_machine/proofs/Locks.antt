@@ -1,5 +1,5 @@
 -- An action of one party keeps what always holds of a semaphore.
-use Rattle.std.proofs.Common.{◌≡◌, ◌≢◌, ℕ, zero, suc, ◌+◌, ◌<◌, ◌≤◌, Bool, true, false, List, [], ◌∷◌, length, get_or, Some, refl, arith, ap, sym, subst, ◌∙◌, length-set, get_or-set_same, get_or-set_other}
+use Rattle.std.proofs.Common.{◌≡◌, ◌≢◌, ℕ, ◌+◌, ◌<◌, ◌≤◌, Bool, true, false, List, length, get_or, Some, refl, arith, ap, sym, subst, ◌∙◌, length-set, get_or-set_same, get_or-set_other}
 use Rattle.std.proofs.Math.ListN.{set}
 use Rattle.std.proofs.Math.Decide.{ℕ_discrete}
 use Rattle.std.specs.List.{sum_by}
@@ -7,7 +7,7 @@ use Rattle.std.proofs.lemmas.List.Sums.{sum_by-set, sum_by-le-sum_by, get_or-le-
 use Rattle.lock_event.specs.declared.event.Entry.{Entry}
 use Rattle.lock_queue.specs.Parties.{entries_of}
 use Rattle.lock_queue.specs.Queues.{Queue, queue}
-use Rattle.lock_world.specs.Steps.{Deed, nothing, changes, does, joins, asks, leaves, notifies}
+use Rattle.lock_world.specs.Steps.{Deed, nothing, changes, does}
 use Rattle.lock_world.specs.declared.moves.What.{What}
 use Rattle.lock_world.specs.declared.standing.Rest.TheVariants as rest
 use Rattle.lock_world.specs.declared.standing.Stage.{Stage}
@@ -15,21 +15,22 @@ use Rattle.lock_world.specs.declared.standing.Within.{Within}
 use Rattle.lock_world.proofs.Equations.{some_eq}
 use Rattle.lock_table.specs.Stages.{call_at, polls_again, stage_after}
 use Rattle.lock_table.specs.Tables.{Keeps}
+use Rattle.lock_table.proofs.Mapped.{any_default}
 use Rattle.lock_table.proofs.Lists as lists
 use Rattle.lock_table.proofs.Lists.{CanList}
 use Rattle.semaphore_machine.specs.declared.program.Action.{Action}
 use Rattle.semaphore_machine.specs.declared.program.Action.TheVariants as act
 use Rattle.semaphore_machine.specs.declared.program.Found.{Found}
-use Rattle.semaphore_machine.specs.declared.program.Found.TheVariants.{Done, Taken, NoneLeft, PastLimit, NoMemory, Yes, No}
+use Rattle.semaphore_machine.specs.declared.program.Found.TheVariants.{Done, Taken, Yes, No}
 use Rattle.semaphore_machine.specs.declared.program.Place.{Place}
-use Rattle.semaphore_machine.specs.declared.program.Place.TheVariants.{Take, Retake, Join, Ask, Leave, HandOn, RefuseNotify, Try, Lower, GiveBack, GiveBackNotify, Raise, GiveAdded, NotifyAdded, CancelLeave, Abandon}
+use Rattle.semaphore_machine.specs.declared.program.Place.TheVariants.{Take, Retake, Ask, Leave, CancelLeave}
 use Rattle.semaphore_machine.specs.declared.program.Position.{Position}
 use Rattle.semaphore_machine.specs.declared.program.Position.TheVariants.{Out, Waiting, Holding, At}
 use Rattle.semaphore_machine.specs.declared.words.Words.{Words}
 use Rattle.semaphore_machine.specs.Program.{place_for, action_of, next_of}
 use Rattle.semaphore_machine.specs.Seats.{Seat, seat_of, seated, permits_of, permits_at, under_way_at, listed, waits, owes}
 use Rattle.semaphore_machine.specs.Deeds.{Change, ListName, for_a_permit, CanDo, Finds, deed_of, words_after, entries_after}
-use Rattle.semaphore_machine.specs.Tally.{Tally, Counts, IsSound, tally_of, counts_of}
+use Rattle.semaphore_machine.specs.Tally.{Tally, IsSound, tally_of, counts_of}
 use Rattle.semaphore_machine.specs.Machine.{Semaphore, IsKept, Stands, knows, goes_with, answer_by, runs, position_at}
 use Rattle.semaphore_machine.proofs.Steps.{Effect, Goes}
 use Rattle.semaphore_machine.proofs.Effects.{numbers}
@@ -138,11 +139,6 @@ module _ (p : ℕ) (w : Words) (xs : List Position) (q : Queue) (memory : Bool) 
       }
 
 -- ---- as the machine's call says it
-
-any_default : {A : Type 0} (xs : List A) (i : ℕ) (d e : A) → i < length xs → get_or xs i d ≡ get_or xs i e
-any_default [] i d e h = absurd (omega arith)
-any_default (x ∷ xs) zero d e h = refl
-any_default (x ∷ xs) (suc i) d e h = any_default xs i d e (omega arith)
 
 -- where the party's call begins or goes on
 pub record Began (xs : List Position) (p : ℕ) (w : Within) (what : What) (from : Place) : Type 0 where

@@ -1,6 +1,5 @@
 -- Where a call begins or goes on, and at which stage its party is after its action.
-use Rattle.std.proofs.Common.{◌≡◌, ◌&&◌, Bool, true, false, Option, Some, None, refl, ap, sym, ◌∙◌, subst}
-use Rattle.lock_world.specs.declared.moves.Call.{Call}
+use Rattle.std.proofs.Common.{◌≡◌, ◌&&◌, Bool, true, false, Some, refl, subst}
 use Rattle.lock_world.specs.declared.moves.Call.TheVariants as call
 use Rattle.lock_world.specs.declared.moves.Inputs.{Inputs}
 use Rattle.lock_world.specs.declared.moves.What.{What}
@@ -15,7 +14,7 @@ use Rattle.lock_world.specs.declared.standing.Within.{Within}
 use Rattle.lock_world.proofs.Equations.{some_eq}
 use Rattle.lock_table.specs.Stages.{call_at, polls_again, stage_after}
 use Rattle.semaphore_machine.specs.declared.program.Found.{Found}
-use Rattle.semaphore_machine.specs.declared.program.Found.TheVariants.{Done, Taken, NoneLeft, PastLimit, NoMemory, Yes, No}
+use Rattle.semaphore_machine.specs.declared.program.Found.TheVariants.{Done, Taken, Yes}
 use Rattle.semaphore_machine.specs.declared.program.Place.{Place}
 use Rattle.semaphore_machine.specs.declared.program.Place.TheVariants.{Take, Retake, Join, Ask, Leave, HandOn, RefuseNotify, Try, Lower, GiveBack, GiveBackNotify, Raise, GiveAdded, NotifyAdded, CancelLeave, Abandon}
 use Rattle.semaphore_machine.specs.declared.program.Position.{Position}

@@ -1,21 +1,20 @@
 -- An action of a party is a legal step, as callers see it.
-use Rattle.std.proofs.Common.{◌≡◌, ◌≢◌, ℕ, ◌+◌, ◌<◌, ◌≤◌, ◌||◌, ◌↔◌, ◌⊎◌, inl, inr, Bool, true, false, List, map, length, Option, Some, None, is_some, refl, arith, ap, sym, ◌∙◌, subst, get_or-set_same, get_or-set_other, length-set}
+use Rattle.std.proofs.Common.{◌≡◌, ◌≢◌, ℕ, ◌<◌, ◌||◌, ◌⊎◌, inl, inr, Bool, true, false, List, map, length, Option, Some, None, is_some, refl, arith, ap, sym, ◌∙◌, subst, get_or-set_same, get_or-set_other}
 use Rattle.std.proofs.Math.ListN.{set}
 use Rattle.std.proofs.Math.Seq.{map-set_same}
 use Rattle.std.proofs.lemmas.List.{map-set}
 use Rattle.lock_event.specs.declared.event.Entry.{Entry}
 use Rattle.lock_event.specs.declared.event.Mark.TheVariants.{Waiting}
-use Rattle.lock_event.specs.Lists.{is_marked_at, mark_at, without}
+use Rattle.lock_event.specs.Lists.{mark_at}
 use Rattle.lock_queue.specs.Parties.{is_party, entries_of}
 use Rattle.lock_queue.proofs.Told.{waits_at}
 use Rattle.lock_world.specs.declared.moves.Answer.{Answer}
 use Rattle.lock_world.specs.declared.moves.Answer.TheVariants as answer
 use Rattle.lock_world.specs.declared.moves.Call.TheVariants as call
 use Rattle.lock_world.specs.declared.moves.Got.TheVariants.{Plain}
-use Rattle.lock_world.specs.declared.moves.Inputs.{Inputs}
 use Rattle.lock_world.specs.declared.moves.Move.{Move}
 use Rattle.lock_world.specs.declared.moves.What.{What}
-use Rattle.lock_world.specs.declared.moves.What.TheVariants.{Begin, Go}
+use Rattle.lock_world.specs.declared.moves.What.TheVariants.{Begin}
 use Rattle.lock_world.specs.declared.refusal.Refusal.{Refusal}
 use Rattle.lock_world.specs.declared.refusal.Refusal.TheVariants as refusal
 use Rattle.lock_world.specs.declared.standing.Kind.{Kind}
@@ -25,39 +24,36 @@ use Rattle.lock_world.specs.declared.standing.Rest.TheVariants as rest
 use Rattle.lock_world.specs.declared.standing.Stage.{Stage}
 use Rattle.lock_world.specs.declared.standing.Stage.TheVariants.{Outside, Inside, Forgotten}
 use Rattle.lock_world.specs.declared.standing.Within.{Within}
-use Rattle.lock_world.specs.Standings.{Standing, outside, inside, inputs_of, call_in, is_outside, is_possible, is_stepped, is_decided, may_end, decision, refused, Decides, IsUndecided, StandsAfter}
-use Rattle.lock_world.specs.Frame.{is_drop, is_giving_back, is_poll_after_ready, is_refusal}
+use Rattle.lock_world.specs.Standings.{inputs_of, call_in, is_possible, is_stepped, is_decided, may_end, decision, refused, IsUndecided}
+use Rattle.lock_world.specs.Frame.{is_giving_back, is_poll_after_ready, is_refusal}
 use Rattle.lock_world.specs.Refusals.{number_of}
-use Rattle.lock_world.specs.Steps.{Deed, nothing, changes, does, joins, asks, leaves, notifies, notifies_additionally, list_after}
-use Rattle.lock_world.proofs.Equations.{some_eq, none_some, some_none}
+use Rattle.lock_world.specs.Steps.{Deed, nothing, changes, does, joins, asks, leaves, notifies, notifies_additionally}
+use Rattle.lock_world.proofs.Equations.{some_eq, none_some}
 use Rattle.lock_table.specs.Stages.{stage_at, stands_as, call_at, polls_again, stage_after}
 use Rattle.lock_table.specs.Tables.{Table}
-use Rattle.lock_table.specs.Ends.{answer_of}
+use Rattle.lock_table.proofs.Mapped.{set_same}
+use Rattle.lock_table.proofs.Acting as acting
 use Rattle.lock_table.proofs.Calls.{call_seen, again_seen, stands_seen, decided_after, decision_seen}
-use Rattle.lock_table.proofs.Views.{length-standings}
-use Rattle.semaphore_machine.specs.declared.program.Action.{Action}
-use Rattle.semaphore_machine.specs.declared.program.Action.TheVariants as act
 use Rattle.semaphore_machine.specs.declared.program.Found.{Found}
-use Rattle.semaphore_machine.specs.declared.program.Found.TheVariants.{Done, Taken, NoneLeft, PastLimit, NoMemory, Yes, No}
+use Rattle.semaphore_machine.specs.declared.program.Found.TheVariants.{Done, Taken, PastLimit, Yes, No}
 use Rattle.semaphore_machine.specs.declared.program.Next.{Next}
 use Rattle.semaphore_machine.specs.declared.program.Next.TheVariants as next
 use Rattle.lock_table.specs.declared.end.End.TheVariants as «end»
 use Rattle.semaphore_machine.specs.declared.program.Place.{Place}
 use Rattle.semaphore_machine.specs.declared.program.Place.TheVariants.{Take, Retake, Join, Ask, Leave, HandOn, RefuseNotify, Try, Lower, GiveBack, GiveBackNotify, Raise, GiveAdded, NotifyAdded, CancelLeave, Abandon}
 use Rattle.semaphore_machine.specs.declared.program.Position.{Position}
-use Rattle.semaphore_machine.specs.declared.program.Position.TheVariants.{Out, Waiting as Waits_here, Holding, At}
+use Rattle.semaphore_machine.specs.declared.program.Position.TheVariants.{Out, At}
 use Rattle.semaphore_machine.specs.declared.words.Words.{Words}
 use Rattle.semaphore_machine.specs.Program.{place_for, action_of, next_of, position_after}
-use Rattle.semaphore_machine.specs.Seats.{Seat, Share, nothing_had, one_permit, seat_of, seated, share_of, listed, verdict, verdict_of, adds_at}
-use Rattle.semaphore_machine.specs.Deeds.{Change, ListName, takes, gives_back, forgets, raises, gives, limit_after, share_after, deed_of, Finds, words_after, entries_after}
-use Rattle.semaphore_machine.specs.Machine.{Semaphore, IsSemaphore, Acts, knows, goes_with, runs, is_begun, position_at, answer_by, is_polling, is_adding, is_returning, is_cancelling, is_trying, is_forgetting}
+use Rattle.semaphore_machine.specs.Seats.{Seat, Share, seat_of, share_of, listed, verdict, verdict_of, adds_at}
+use Rattle.semaphore_machine.specs.Deeds.{Change, ListName, takes, gives_back, forgets, raises, gives, share_after, deed_of, Finds, words_after, entries_after}
+use Rattle.semaphore_machine.specs.Machine.{Semaphore, IsSemaphore, Acts, knows, runs, is_begun, position_at, answer_by, is_polling}
 use Rattle.semaphore_machine.proofs.Kept.{after}
-use Rattle.semaphore_world.specs.State.{State, World, share_at, has_permit, is_free, standing_of, adds_of, mark_of}
+use Rattle.semaphore_world.specs.State.{State, World, share_at, has_permit, standing_of, adds_of}
 use Rattle.semaphore_world.specs.View.{view_of}
-use Rattle.semaphore_world.specs.Legal.{call_of, DecidesOn, IsPossible, state_after, gives_something_back, gives_up, added_in, is_forget, notice, IsAllowed, ChangesOneThing, KnowsAdds, Carries, Waits, IsCause, IsRefusedForCause, HasItsOwn, LeavesClear, EndsProperly, Legal}
+use Rattle.semaphore_world.specs.Legal.{call_of, DecidesOn, state_after, gives_something_back, added_in, notice, IsAllowed, ChangesOneThing, KnowsAdds, Carries, Waits, IsCause, IsRefusedForCause, LeavesClear, EndsProperly, Legal}
 use Rattle.semaphore_world.specs.Steps.{IsSemaphoreTable}
 use Rattle.semaphore_world.proofs.Seen as seen
-use Rattle.semaphore_world.proofs.Idle.{Standing_well}
 use Rattle.semaphore_world.proofs.Rows.{said, SharesSo, AllowedAt, is_join, Refuses, Reason, Judged, Room, Row, row, never_pending}
 use Rattle.semaphore_world.proofs.Turns.{Here}
 use Rattle.semaphore_world.proofs.Legals as legals
@@ -229,6 +225,10 @@ same_machine v w xs ys es fs e d g = cc
 same_table : (x y : Semaphore) (ss rs : List Stage) (n k : ℕ) → x ≡ y → ss ≡ rs → n ≡ k → Path (Table Semaphore) (record { machine = x; stages = ss; opening = n }) (record { machine = y; stages = rs; opening = k })
 same_table x y ss rs n k e d g = cc
 
+-- the answer on which the call is decided that a party is in
+abbrev verdict_in : Semaphore → ℕ → Option Answer
+verdict_in s q = verdict (position_at s.positions q)
+
 module _ (t u : Table Semaphore) (m : Move) (a : Answer) (w : Within) where
   abbrev p : ℕ
   p = m.party
@@ -299,12 +299,10 @@ module _ (t u : Table Semaphore) (m : Move) (a : Answer) (w : Within) where
     stood = seen.stands_seen t p
 
     pub stands : standing_of new p ≡ stands_as (verdict to) (stage_after rest.Holding w a)
-    stands = seen.stands_seen u p ∙ (ap (λ y. stands_as (verdict y) (stage_at u.stages p)) lands
-        ∙ ap (stands_as (verdict to)) (ap (λ ss. stage_at ss p) k.stages ∙ get_or-set_same t.stages p (stage_after rest.Holding w a) Forgotten k.inside))
+    stands = acting.stands verdict_in rest.Holding t u p w a k.inside k.stages ∙ ap (λ y. stands_as (verdict y) (stage_after rest.Holding w a)) lands
 
     pub others_stand : (q : ℕ) → q ≢ p → standing_of new q ≡ standing_of old q
-    others_stand q apart = seen.stands_seen u q ∙ (ap (λ y. stands_as (verdict y) (stage_at u.stages q)) (stays q apart)
-        ∙ (ap (stands_as (verdict (position_at xs q))) (ap (λ ss. stage_at ss q) k.stages ∙ get_or-set_other t.stages p q (stage_after rest.Holding w a) Forgotten apart) ∙ sym (seen.stands_seen t q)))
+    others_stand q apart = acting.others_stand verdict_in rest.Holding t u p w a k.inside k.stages q apart (ap verdict (stays q apart))
 
     pub decides : decision a (standing_of new p) ≡ said (next_of from found)
     decides = ap (decision a) stands ∙ (decision_seen rest.Holding w a (verdict to) ∙ (ap (λ b. decided_after b (verdict to)) k.answer ∙ said_so from (next_of from found)))
@@ -353,7 +351,7 @@ module _ (t u : Table Semaphore) (m : Move) (a : Answer) (w : Within) where
       most = most_so deed k.acts.words;
       opening_permits = k.opening;
       others = others_stand;
-      parties = length-standings (λ q. verdict (position_at u.machine.positions q)) u.stages ∙ (ap length k.stages ∙ (length-set t.stages p (stage_after rest.Holding w a) ∙ sym (length-standings (λ q. verdict (position_at xs q)) t.stages)));
+      parties = acting.as_many verdict_in rest.Holding t u p w a k.inside k.stages;
       found_memory = λ list e. room_found memory deed list r.room e;
       parting = λ h. parted memory t.machine.words from found (verdict_of from) (said (next_of from found)) r.judged (sym decided_there ∙ h);
       giving_up = λ h. decided_there ∙ r.held_on h;
@@ -408,8 +406,8 @@ module _ (t u : Table Semaphore) (m : Move) (a : Answer) (w : Within) where
         let so : P (Raise n) PastLimit = subst (P (Raise n)) ep (subst Q ef all) in
         let out : x ≡ Out = (k.here.adds n (k.here.raise n ef)).1 in
         let stage : s ≡ Outside w.was = add_stage s m.what w n (k.here.raise n ef) k.call in
-        let positions : u.machine.positions ≡ xs = so.2 ∙ seen.set_same xs p Out Out out there in
-        let stages : u.stages ≡ t.stages = k.stages ∙ (ap (λ b. set t.stages p (stage_after rest.Holding w b)) so.3 ∙ seen.set_same t.stages p Forgotten (Outside w.was) stage k.inside) in
+        let positions : u.machine.positions ≡ xs = so.2 ∙ set_same xs p Out Out out there in
+        let stages : u.stages ≡ t.stages = k.stages ∙ (ap (λ b. set t.stages p (stage_after rest.Holding w b)) so.3 ∙ set_same t.stages p Forgotten (Outside w.was) stage k.inside) in
         same_table _ _ _ _ _ _ (same_machine _ _ _ _ _ _ so.0 positions so.1) stages k.opening
 
     cause : (c : Refusal) → Refuses memory t.machine.words from found c → IsCause old m new c
@@ -450,20 +448,12 @@ module _ (t u : Table Semaphore) (m : Move) (a : Answer) (w : Within) where
     may_end_so h = ap (may_end w.kind) k.answer ∙ ends_by w.kind w.was from found k.runs (sym (ap is_stepped k.answer) ∙ h)
 
     ends_properly : EndsProperly old m a new
-    ends_properly = record {
-      stands = λ v e. (let P : Within → Type 0 = λ v. StandsAfter rest.Holding v a (standing_of new p) in subst P (some_eq (sym called ∙ e)) (rw stands (stands_seen rest.Holding w a (verdict to) is_possible_now may_end_so)));
-      as_decided = λ v b e h. decides ∙ kept_on memory t.machine.words from found (verdict_of from) (said (next_of from found)) b r.judged (k.here.kept v b (sym stood ∙ e));
-    }
-
-    possible_so : IsPossible old m a new
-    possible_so = record {
-      exactly = ((λ e. let never : is_possible answer.NotPossible ≡ true = ap is_possible (sym e) ∙ is_possible_now in absurd (cc (never))), (λ e. absurd (none_some (sym e ∙ called))));
-      unchanged = λ e. (let never : is_possible answer.NotPossible ≡ true = ap is_possible (sym e) ∙ is_possible_now in absurd (cc (never)));
-    }
+    ends_properly = acting.ends_so standing_of (λ y q. knows) rest.Holding old m a new w called is_possible_now (rw stands (stands_seen rest.Holding w a (verdict to) is_possible_now may_end_so))
+        (λ v b e. decides ∙ kept_on memory t.machine.words from found (verdict_of from) (said (next_of from found)) b r.judged (k.here.kept v b (sym stood ∙ e)))
 
     pub legal : Legal old m a new
     legal = record {
-      possible = possible_so;
+      possible = acting.possible_so standing_of (λ y q. knows) rest.Holding old m a new w called is_possible_now;
       one_change = one_change;
       knows_adds = knows_adds;
       carries = carries;

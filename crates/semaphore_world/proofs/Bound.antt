@@ -1,12 +1,10 @@
 -- A permit that is available is taken by the first solo poll.
-use Rattle.std.proofs.Common.{◌≡◌, ℕ, ◌<◌, true, false, inl, refl, ap, sym, ◌∙◌}
-use Rattle.lock_event.specs.declared.event.Entry.{Entry}
+use Rattle.std.proofs.Common.{◌≡◌, ℕ, true, inl, refl}
 use Rattle.lock_world.specs.declared.moves.Answer.{Answer}
 use Rattle.lock_world.specs.declared.moves.Call.TheVariants as call
 use Rattle.lock_world.specs.declared.moves.Inputs.{Inputs}
-use Rattle.lock_world.specs.Bounds.{SomeMarked}
 use Rattle.lock_table.proofs.Bounds.{first_takes, first_marked}
-use Rattle.semaphore_world.specs.State.{World, has_permit, is_free, available}
+use Rattle.semaphore_world.specs.State.{World, has_permit}
 use Rattle.semaphore_world.specs.Laws.{IsSound, IsAwake, IsFreeAndWanted}
 use Rattle.semaphore_world.specs.Runs.{known_of}
 use Rattle.semaphore_world.specs.Bound.{PassesOver, IsBounded}

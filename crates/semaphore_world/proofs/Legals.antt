@@ -1,63 +1,28 @@
 -- An action of a party is a legal step, as callers see it.
-use Rattle.std.proofs.Common.{◌≡◌, ◌≢◌, ℕ, ◌+◌, ◌<◌, ◌≤◌, ◌||◌, ◌↔◌, Bool, true, false, List, map, length, Option, Some, None, is_some, refl, arith, ap, sym, ◌∙◌, subst, get_or-set_same, get_or-set_other, length-set}
-use Rattle.std.proofs.Math.ListN.{set}
-use Rattle.std.proofs.Math.Seq.{map-set_same}
-use Rattle.std.proofs.lemmas.List.{map-set}
-use Rattle.lock_event.specs.declared.event.Entry.{Entry}
-use Rattle.lock_event.specs.declared.event.Mark.TheVariants.{Waiting}
-use Rattle.lock_event.specs.Lists.{is_marked_at, without}
-use Rattle.lock_queue.specs.Parties.{is_party, entries_of}
-use Rattle.lock_queue.proofs.Told.{waits_at}
-use Rattle.lock_world.specs.declared.moves.Answer.{Answer}
+use Rattle.std.proofs.Common.{◌≡◌, ℕ, true, false, Some, refl, arith, ap, sym, ◌∙◌, subst}
+use Rattle.lock_queue.specs.Parties.{entries_of}
 use Rattle.lock_world.specs.declared.moves.Answer.TheVariants as answer
-use Rattle.lock_world.specs.declared.moves.Inputs.{Inputs}
-use Rattle.lock_world.specs.declared.moves.Move.{Move}
-use Rattle.lock_world.specs.declared.moves.What.{What}
-use Rattle.lock_world.specs.declared.moves.What.TheVariants.{Begin, Go}
-use Rattle.lock_world.specs.declared.refusal.Refusal.{Refusal}
-use Rattle.lock_world.specs.declared.refusal.Refusal.TheVariants as refusal
-use Rattle.lock_world.specs.declared.standing.Kind.{Kind}
-use Rattle.lock_world.specs.declared.standing.Kind.TheVariants as kind
-use Rattle.lock_world.specs.declared.standing.Rest.{Rest}
 use Rattle.lock_world.specs.declared.standing.Rest.TheVariants as rest
 use Rattle.lock_world.specs.declared.standing.Stage.{Stage}
 use Rattle.lock_world.specs.declared.standing.Stage.TheVariants.{Outside, Inside, Forgotten}
 use Rattle.lock_world.specs.declared.standing.Within.{Within}
-use Rattle.lock_world.specs.Standings.{Standing, outside, inside, inputs_of, is_outside, is_possible, is_stepped, is_decided, may_end, decision, refused, Decides, IsUndecided, StandsAfter}
-use Rattle.lock_world.specs.Frame.{is_drop, is_giving_back, is_poll_after_ready, is_refusal}
-use Rattle.lock_world.specs.Refusals.{number_of}
-use Rattle.lock_world.specs.Steps.{Deed, nothing, changes, does, joins, asks, leaves, notifies, list_after}
-use Rattle.lock_world.proofs.Equations.{some_eq, none_some, some_none}
-use Rattle.lock_table.specs.Stages.{stage_at, stands_as, call_at, polls_again, stage_after}
+use Rattle.lock_world.specs.Standings.{inside, is_outside}
+use Rattle.lock_table.specs.Stages.{stage_at, stands_as}
 use Rattle.lock_table.specs.Tables.{Table}
-use Rattle.lock_table.specs.Ends.{answer_of}
-use Rattle.lock_table.proofs.Calls.{call_seen, again_seen, stands_seen, decided_after, decision_seen}
-use Rattle.lock_table.proofs.Views.{length-standings}
-use Rattle.semaphore_machine.specs.declared.program.Action.{Action}
-use Rattle.semaphore_machine.specs.declared.program.Action.TheVariants as act
-use Rattle.semaphore_machine.specs.declared.program.Found.{Found}
-use Rattle.semaphore_machine.specs.declared.program.Found.TheVariants.{Done, Taken, NoneLeft, PastLimit, NoMemory, Yes, No}
-use Rattle.semaphore_machine.specs.declared.program.Next.{Next}
-use Rattle.semaphore_machine.specs.declared.program.Next.TheVariants as next
-use Rattle.lock_table.specs.declared.end.End.TheVariants as «end»
-use Rattle.semaphore_machine.specs.declared.program.Place.{Place}
-use Rattle.semaphore_machine.specs.declared.program.Place.TheVariants.{Take, Retake, Join, Ask, Leave, HandOn, RefuseNotify, Try, Lower, GiveBack, GiveBackNotify, Raise, GiveAdded, NotifyAdded, CancelLeave, Abandon}
+use Rattle.lock_table.proofs.Mapped.{past_last}
+use Rattle.lock_table.proofs.Past.{by_stage, by_stage_or_past}
+use Rattle.semaphore_machine.specs.declared.program.Place.TheVariants.{Take, Retake, Join, Ask, Leave, HandOn, Try, Raise}
 use Rattle.semaphore_machine.specs.declared.program.Position.{Position}
 use Rattle.semaphore_machine.specs.declared.program.Position.TheVariants.{Out, Waiting as Waits_here, Holding, At}
-use Rattle.semaphore_machine.specs.declared.words.Words.{Words}
-use Rattle.semaphore_machine.specs.Program.{place_for, action_of, next_of}
-use Rattle.semaphore_machine.specs.Seats.{Seat, Share, nothing_had, one_permit, seat_of, seated, share_of, listed, verdict, verdict_of, adds_at}
-use Rattle.semaphore_machine.specs.Deeds.{Change, ListName, takes, gives_back, forgets, raises, gives, limit_after, share_after, deed_of, Finds, words_after, entries_after}
-use Rattle.semaphore_machine.specs.Machine.{Semaphore, IsSemaphore, Moves, knows, goes_with, runs, is_begun, position_at, answer_by, is_polling, is_adding, is_returning, is_cancelling, is_trying, is_forgetting}
-use Rattle.semaphore_machine.proofs.Kept.{after}
-use Rattle.semaphore_world.specs.State.{State, World, share_at, has_permit, is_free, standing_of, adds_of, mark_of}
+use Rattle.semaphore_machine.specs.Seats.{share_of, listed, verdict, adds_at}
+use Rattle.semaphore_machine.specs.Machine.{Semaphore, IsSemaphore, goes_with, position_at}
+use Rattle.semaphore_world.specs.State.{World, share_at, standing_of, adds_of}
 use Rattle.semaphore_world.specs.View.{view_of}
-use Rattle.semaphore_world.specs.Legal.{call_of, DecidesOn, IsPossible, state_after, gives_something_back, gives_up, added_in, is_forget, notice, IsAllowed, ChangesOneThing, KnowsAdds, Carries, Waits, IsCause, IsRefusedForCause, HasItsOwn, LeavesClear, EndsProperly, Legal}
+use Rattle.semaphore_world.specs.Legal.{HasItsOwn}
 use Rattle.semaphore_world.specs.Steps.{IsSemaphoreTable}
 use Rattle.semaphore_world.proofs.Seen as seen
-use Rattle.semaphore_world.proofs.Idle.{Standing_well}
-use Rattle.semaphore_world.proofs.Rows.{said, SharesSo, AllowedAt, is_join, Refuses, Reason, Judged, Room, Row, row, never_pending}
-use Rattle.semaphore_world.proofs.Turns.{Here}
+use Rattle.semaphore_world.proofs.Idle.{StandsWell}
+use Rattle.semaphore_world.proofs.Rows.{never_pending}
 
 -- ---- What parties have, by where they stand
 
@@ -104,15 +69,15 @@ pends_by Forgotten x u e = cc
 
 module _ (t : Table Semaphore) (laws : IsSemaphore t.machine) (fits : IsSemaphoreTable t) where
   pub each_has : (q : ℕ) → HasItsOwn (view_of t) q (standing_of (view_of t) q)
-  each_has q = subst (HasItsOwn (view_of t) q) (sym (seen.stands_seen t q)) (seen.by_stage t.stages q (λ s. HasItsOwn (view_of t) q (stands_as (verdict (position_at t.machine.positions q)) s)) tt
+  each_has q = subst (HasItsOwn (view_of t) q) (sym (seen.stands_seen t q)) (by_stage t.stages q (λ s. HasItsOwn (view_of t) q (stands_as (verdict (position_at t.machine.positions q)) s)) tt
       (λ inside. own_by (view_of t) q (stage_at t.stages q) (position_at t.machine.positions q) (fits.stands q inside) (laws.owners q) (seen.share_seen t q)))
 
   pub none_added : (q : ℕ) → is_outside (standing_of (view_of t) q) ≡ true → adds_of (view_of t) q ≡ 0
-  none_added q out = seen.adds_seen t q ∙ seen.by_stage_or_past t.stages q (adds_at (position_at t.machine.positions q) ≡ 0)
-      (λ past. ap adds_at (seen.past_out t.machine.positions q (omega (arith, fits.as_many))))
+  none_added q out = seen.adds_seen t q ∙ by_stage_or_past t.stages q (adds_at (position_at t.machine.positions q) ≡ 0)
+      (λ past. ap adds_at (past_last t.machine.positions q Out (omega (arith, fits.as_many))))
       (λ inside. adds_by (stage_at t.stages q) (position_at t.machine.positions q) (fits.stands q inside) (sym (ap is_outside (seen.stands_seen t q)) ∙ out))
 
-  pub well : Standing_well (view_of t)
+  pub well : StandsWell (view_of t)
   well = record {
     each = each_has;
     adds = none_added;

@@ -1,19 +1,15 @@
 -- A new table is seen as a new World.
-use Rattle.std.proofs.Common.{◌≡◌, ℕ, zero, suc, List, ◌∷◌, map, replicate, get_or, refl, ap}
+use Rattle.std.proofs.Common.{◌≡◌, ℕ, List, replicate}
 use Rattle.lock_event.specs.declared.event.Entry.{Entry}
 use Rattle.lock_world.specs.Standings.{Standing}
 use Rattle.lock_table.specs.Tables.{Table, new_table}
+use Rattle.lock_table.proofs.Mapped.{mapped_alike}
 use Rattle.lock_table.proofs.Views.{all_idle}
-use Rattle.semaphore_machine.specs.declared.program.Position.{Position}
 use Rattle.semaphore_machine.specs.declared.program.Position.TheVariants.{Out}
 use Rattle.semaphore_machine.specs.Seats.{Share, share_of, adds_at, verdict}
 use Rattle.semaphore_machine.specs.Machine.{Semaphore, new_semaphore, position_at}
 use Rattle.semaphore_world.specs.State.{World, new_world}
 use Rattle.semaphore_world.specs.View.{view_of}
-
-mapped : {A B : Type 0} (f : A → B) (n : ℕ) (x : A) → map f (replicate n x) ≡ replicate n (f x)
-mapped f zero x = refl
-mapped f (suc n) x = ap (λ l. f x ∷ l) (mapped f n x)
 
 made : (limit : ℕ) (ss ss' : List Share) (es : List (Entry ℕ)) (ts ts' : List Standing) (ns ns' : List ℕ) (most opening : ℕ) (t : Table Semaphore) → ss ≡ ss' → ts ≡ ts' → ns ≡ ns'
     → Path World (record { state = record { limit = limit; shares = ss }; entries = es; standings = ts; adds = ns; most = most; opening_permits = opening; behind = t })
@@ -21,4 +17,4 @@ made : (limit : ℕ) (ss ss' : List Share) (es : List (Entry ℕ)) (ts ts' : Lis
 made limit ss ss' es ts ts' ns ns' most opening t e d g = cc
 
 pub starts_new : (parties permits most : ℕ) → view_of (new_table (new_semaphore parties permits most) parties permits) ≡ new_world parties permits most
-starts_new parties permits most = made permits _ _ _ _ _ _ _ most permits _ (mapped share_of parties Out) (all_idle parties (λ p. verdict (position_at (replicate parties Out) p))) (mapped adds_at parties Out)
+starts_new parties permits most = made permits _ _ _ _ _ _ _ most permits _ (mapped_alike share_of parties Out) (all_idle parties (λ p. verdict (position_at (replicate parties Out) p))) (mapped_alike adds_at parties Out)

@@ -1,8 +1,8 @@
 -- What whole calls promise.
-use Rattle.std.proofs.Common.{◌≡◌, ◌≢◌, ℕ, zero, suc, ◌-◌, ◌<◌, ◌⊎◌, inl, inr, ◌&&◌, if◌then◌else◌, Bool, true, false, List, [], ◌∷◌, ◌++◌, length, replicate, Option, Some, None, refl, arith, ap, sym, ◌∙◌, subst}
+use Rattle.std.proofs.Common.{◌≡◌, ◌≢◌, ℕ, ◌-◌, ◌<◌, ◌⊎◌, inl, inr, ◌&&◌, if◌then◌else◌, Bool, true, false, List, length, Option, Some, None, refl, arith, ap, sym, ◌∙◌, subst}
 use Rattle.lock_event.specs.declared.event.Entry.{Entry}
 use Rattle.lock_event.specs.declared.event.Mark.TheVariants.{Notified}
-use Rattle.lock_event.specs.Lists.{marked_count, notified}
+use Rattle.lock_event.specs.Lists.{marked_count}
 use Rattle.lock_event.proofs.Marks.{length-mark_waiting}
 use Rattle.lock_event.proofs.Counts.{marked_count-notified}
 use Rattle.lock_queue.specs.Parties.{entries_of}
@@ -13,7 +13,6 @@ use Rattle.lock_world.specs.declared.moves.Call.TheVariants as call
 use Rattle.lock_world.specs.declared.moves.Got.TheVariants.{Plain}
 use Rattle.lock_world.specs.declared.moves.Inputs.{Inputs}
 use Rattle.lock_world.specs.declared.moves.Move.{Move}
-use Rattle.lock_world.specs.declared.moves.What.{What}
 use Rattle.lock_world.specs.declared.moves.What.TheVariants.{Begin, Go}
 use Rattle.lock_world.specs.declared.refusal.Refusal.TheVariants as refusal
 use Rattle.lock_world.specs.declared.standing.Kind.TheVariants as kind
@@ -24,31 +23,30 @@ use Rattle.lock_world.specs.Standings.{Standing, outside, inside, is_possible, c
 use Rattle.lock_world.specs.Whole.{going_on, moves_of, answers_of}
 use Rattle.lock_world.proofs.Equations.{some_eq, none_some}
 use Rattle.lock_frame.specs.Steps.{beginning}
-use Rattle.lock_frame.proofs.Runs.{Onward, along}
+use Rattle.lock_frame.proofs.Runs.{Onward, along, at_first}
 use Rattle.lock_table.specs.Tables.{Table}
 use Rattle.semaphore_machine.specs.declared.program.Action.TheVariants as act
 use Rattle.semaphore_machine.specs.declared.program.Found.{Found}
 use Rattle.semaphore_machine.specs.declared.program.Found.TheVariants.{Done, Taken, Yes}
 use Rattle.semaphore_machine.specs.declared.program.Place.{Place}
 use Rattle.semaphore_machine.specs.declared.program.Place.TheVariants.{Take, Retake, Join, Ask, Leave, HandOn, RefuseNotify}
-use Rattle.semaphore_machine.specs.declared.program.Position.{Position}
 use Rattle.semaphore_machine.specs.declared.program.Position.TheVariants.{At}
 use Rattle.semaphore_machine.specs.declared.words.Words.{Words}
 use Rattle.semaphore_machine.specs.Program.{action_of, next_of}
 use Rattle.semaphore_machine.specs.Seats.{Share, seat_of}
 use Rattle.semaphore_machine.specs.Deeds.{deed_of, entries_after, Finds}
-use Rattle.semaphore_machine.specs.Machine.{Semaphore, answer_by, position_at, knows}
+use Rattle.semaphore_machine.specs.Machine.{Semaphore, IsSemaphore, answer_by, position_at, knows}
 use Rattle.semaphore_machine.proofs.Kept.{after}
-use Rattle.semaphore_world.specs.State.{World, has_permit, is_free, standing_of}
-use Rattle.semaphore_world.specs.Legal.{call_of, HasItsOwn, Legal}
-use Rattle.semaphore_world.specs.AtOnce.{AnswersAtOnce, is_first_poll, is_poll}
-use Rattle.semaphore_world.specs.Steps.{Steps}
+use Rattle.semaphore_world.specs.State.{World, is_free, standing_of}
+use Rattle.semaphore_world.specs.Legal.{call_of, HasItsOwn}
+use Rattle.semaphore_world.specs.AtOnce.{is_first_poll, is_poll}
+use Rattle.semaphore_world.specs.Steps.{Steps, IsSemaphoreTable, TableSteps}
 use Rattle.semaphore_world.specs.View.{view_of}
 use Rattle.semaphore_world.specs.Runs.{Known, HoldsWell, learn, Runs}
 use Rattle.semaphore_world.specs.Bound.{Takes, Promises}
 use Rattle.semaphore_world.proofs.Acting.{Acting}
 use Rattle.semaphore_world.proofs.Acting as acting
-use Rattle.semaphore_world.proofs.Stepping.{Way, impossible, over, acts, way, door}
+use Rattle.semaphore_world.proofs.Stepping.{by_step, door}
 use Rattle.semaphore_world.proofs.Whole.{from_turn}
 
 chosen : (b : Bool) (x y : Answer) → b ≡ true → (if b then x else y) ≡ x
@@ -56,10 +54,9 @@ chosen true x y e = refl
 chosen false x y e = absurd (cc)
 
 -- a first poll of a semaphore with a permit is ready at its first step
-first_ready : (known : Known) (w : World) (p : ℕ) (c : Call) (i : Inputs) (n : ℕ) (a : Answer) (v : World) → Runs known w (moves_of p c i n) (answers_of n a) v
+first_ready : (known : Known) (w : World) (p : ℕ) (c : Call) (i : Inputs) (n : ℕ) (a : Answer) (v : World) → Runs known w (moves_of p c i n) (answers_of n a) v → a ≢ answer.Stepped
     → is_first_poll (standing_of w p) (Begin c i) (entries_of p w.entries) ≡ true → is_free w.state ≡ true → a ≡ answer.Ready Plain
-first_ready known w p c i zero a v runs first free = runs.1.at_once.ready first ∙ chosen (is_free w.state) (answer.Ready Plain) answer.Stepped free
-first_ready known w p c i (suc n) a v runs first free = let never : answer.Stepped ≡ answer.Ready Plain = runs.1.at_once.ready first ∙ chosen (is_free w.state) (answer.Ready Plain) answer.Stepped free in absurd (cc (never))
+first_ready known w p c i n a v runs ended first free = at_first Steps learn HoldsWell known w p c i n a v (answer.Ready Plain) (λ e. cc (e)) (λ b x s. s.at_once.ready first ∙ chosen (is_free w.state) (answer.Ready Plain) answer.Stepped free) ended runs
 
 -- ---- a poll that is to be ready
 
@@ -182,13 +179,13 @@ module _ (p : ℕ) (i : Inputs) where
             );
       }
 
-  quiet : (a b : Answer) (v : World) → a ≡ b → is_refusal b ≡ false → (b ≡ answer.Stepped → ⊥) → Onwards a v
-  quiet a b v e r n = record { going = λ s. absurd (n (sym e ∙ s)); ended = λ s h some. absurd (cc (ap is_refusal e, r, h)) }
+  quiet : (b : Answer) (v : World) → is_refusal b ≡ false → (b ≡ answer.Stepped → ⊥) → Onwards b v
+  quiet b v r n = record { going = λ s. absurd (n s); ended = λ s h some. absurd (cc (r, h)) }
 
-  by_way : (t u : Table Semaphore) (m : Move) (a : Answer) → m.party ≡ p → Way t u m a → ((w : Within) (k : Acting t u m a w) → is_handing k.from ≡ true) → Onwards a (view_of u)
-  by_way t u m a same (impossible e ea eu) hands = quiet a answer.NotPossible (view_of u) ea refl (λ s. cc (s))
-  by_way t u m a same (over w e f ea eu) hands = quiet a (refused refusal.Finished) (view_of u) ea refl (λ s. cc (s))
-  by_way t u m a same (acts w k) hands = acted t u m a w k same (hands w k)
+  by_hands : (t u : Table Semaphore) (m : Move) (a : Answer) (tl : IsSemaphore t.machine) (tf : IsSemaphoreTable t) (ul : IsSemaphore u.machine) (uf : IsSemaphoreTable u) → m.party ≡ p → ((w : Within) (k : Acting t u m a w) → is_handing k.from ≡ true) → TableSteps t m a u → Onwards a (view_of u)
+  by_hands t u m a tl tf ul uf same hands step = by_step t u m a tl tf ul uf (λ b x. Onwards b (view_of x))
+      (λ e. quiet answer.NotPossible (view_of t) refl (λ s. cc (s))) (λ w e f. quiet (refused refusal.Finished) (view_of t) refl (λ s. cc (s)))
+      (λ w k. acted t u m a w k same (hands w k)) step
 
   at_same : (x y : Place) → At x ≡ At y → x ≡ y
   at_same x y e = cc
@@ -197,9 +194,8 @@ module _ (p : ℕ) (i : Inputs) where
   seen_as a v e o = record { going = o.going; ended = λ n r some. (let P : List (Entry ℕ) → Type 0 = λ l. 0 < length l in let Q : List (Entry ℕ) → Type 0 = λ l. 0 < marked_count l in let es : v.entries ≡ v.behind.machine.entries = ap (λ (z : World). z.entries) e in subst Q (sym es) (o.ended n r (subst P es some))) }
 
   hands_going : (x : World) (b : Answer) (y : World) → IsHanding x → Steps x (going_on p i) b y → Onwards b y
-  hands_going x b y g s = seen_as b y s.did.stands.seen (by_way x.behind y.behind (going_on p i) b refl
-      (way x.behind y.behind (going_on p i) b s.did.stood.semaphore s.did.stood.fits s.did.stands.semaphore s.did.stands.fits s.did.step)
-      (λ w k. ap is_handing (at_same k.from g.0 (sym (from_turn x.behind y.behind (going_on p i) b w k) ∙ g.1)) ∙ g.2))
+  hands_going x b y g s = seen_as b y s.did.stands.seen (by_hands x.behind y.behind (going_on p i) b s.did.stood.semaphore s.did.stood.fits s.did.stands.semaphore s.did.stands.fits refl
+      (λ w k. ap is_handing (at_same k.from g.0 (sym (from_turn x.behind y.behind (going_on p i) b w k) ∙ g.1)) ∙ g.2) s.did.step)
 
   polls_hand : (y : Place) (n : ℕ) → (y ≡ Take false false) ⊎ (y ≡ Retake) → 0 < n → n ≡ (seat_of y).listed → is_handing y ≡ true
   polls_hand y n (inl e) some l = let none : n ≡ 0 = l ∙ ap (λ z. (seat_of z).listed) e in absurd (omega arith)
@@ -213,18 +209,17 @@ module _ (p : ℕ) (i : Inputs) where
       let same : w ≡ view_of t = s.did.stood.seen in
       let some : 0 < entries_of p t.machine.entries = (let P : World → Type 0 = λ z. 0 < entries_of p z.entries in subst P same listed) in
       let stands : standing_of (view_of t) p ≡ outside rest.Pending = ap (λ z. standing_of z p) (sym same) ∙ pending in
-      seen_as b y s.did.stands.seen (by_way t u m b refl
-      (way t u m b s.did.stood.semaphore s.did.stood.fits s.did.stands.semaphore s.did.stands.fits s.did.step)
+      seen_as b y s.did.stands.seen (by_hands t u m b s.did.stood.semaphore s.did.stood.fits s.did.stands.semaphore s.did.stands.fits refl
       (λ v k. polls_hand k.from (entries_of p t.machine.entries)
       ((door t u m b s.did.stood.semaphore s.did.stood.fits s.did.stands.semaphore s.did.stands.fits v k).polls (ap (λ z. is_poll z (Begin call.Poll i)) (sym (acting.stood t u m b v k) ∙ stands)))
-      some (acting.own_entries t u m b v k)))
+      some (acting.own_entries t u m b v k)) s.did.step)
 
   pub hands_on : (known : Known) (w : World) (n : ℕ) (a : Answer) (v : World) → Runs known w (moves_of p call.Poll i n) (answers_of n a) v → a ≢ answer.Stepped → standing_of w p ≡ outside rest.Pending → 0 < entries_of p w.entries → HandsOn a v
   hands_on known w n a v runs ended pending listed = along Steps learn HoldsWell p i IsHanding HandsOn hands_going known n w (beginning p call.Poll i) a v (λ b x s. hands_begun w b x pending listed s) ended runs
 
 pub keeps_promises : (known : Known) (w : World) (p : ℕ) (c : Call) (i : Inputs) (n : ℕ) (a : Answer) (v : World) → Runs known w (moves_of p c i n) (answers_of n a) v → a ≢ answer.Stepped → Promises w p c i a v
 keeps_promises known w p c i n a v runs ended = record {
-  first = first_ready known w p c i n a v runs;
+  first = first_ready known w p c i n a v runs ended;
   later = λ e pending free. (let P : Call → Type 0 = λ c. Runs known w (moves_of p c i n) (answers_of n a) v in later_takes p i known w n a v (subst P e runs) ended pending free);
   hands_on = λ e pending listed. (let P : Call → Type 0 = λ c. Runs known w (moves_of p c i n) (answers_of n a) v in hands_on p i known w n a v (subst P e runs) ended pending listed);
 }

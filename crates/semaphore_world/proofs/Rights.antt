@@ -1,5 +1,5 @@
 -- After each step what is known tells the rights and the limit.
-use Rattle.std.proofs.Common.{◌≡◌, ◌≢◌, ℕ, ◌+◌, ◌-◌, ◌<◌, ◌≤◌, ◌&&◌, ◌↔◌, ◌⊎◌, inl, inr, Bool, true, false, List, get_or, length, Option, Some, None, refl, arith, ap, sym, ◌∙◌, subst}
+use Rattle.std.proofs.Common.{◌≡◌, ◌≢◌, ℕ, ◌+◌, ◌<◌, ◌≤◌, ◌↔◌, ◌⊎◌, inl, inr, true, false, get_or, length, Option, Some, None, refl, arith, ap, sym, ◌∙◌, subst}
 use Rattle.std.specs.List.{sum_by}
 use Rattle.std.proofs.lemmas.List.Sums.{get_or-le-sum_by}
 use Rattle.lock_world.specs.declared.moves.Answer.{Answer}
@@ -21,36 +21,38 @@ use Rattle.lock_world.specs.Accounts.{Account, account_after, HasByAnswers}
 use Rattle.lock_world.specs.Rights.{Right, permit}
 use Rattle.lock_world.specs.Standings.{Standing, outside, inside, forgotten, is_outside, refused, inputs_of}
 use Rattle.lock_world.specs.Steps.{Deed, nothing, changes, does}
-use Rattle.lock_world.proofs.Equations.{some_eq, none_some}
+use Rattle.lock_world.proofs.Equations.{some_eq}
 use Rattle.lock_frame.specs.Steps.{StepsWell}
 use Rattle.lock_table.specs.Rights.{account_by, TellsAccounts}
 use Rattle.lock_table.specs.Stages.{stage_at, stands_as, call_at, polls_again, stage_after}
 use Rattle.lock_table.specs.Tables.{Table}
-use Rattle.lock_table.proofs.Rights.{tells_on}
+use Rattle.lock_table.proofs.Mapped.{past_last}
+use Rattle.lock_table.proofs.Past.{by_stage_or_past}
+use Rattle.lock_table.proofs.Rights.{tells_on, idle_account, again_account}
 use Rattle.semaphore_machine.specs.declared.program.Action.TheVariants as act
 use Rattle.semaphore_machine.specs.declared.program.Found.{Found}
-use Rattle.semaphore_machine.specs.declared.program.Found.TheVariants.{Done, Taken, NoneLeft, PastLimit, NoMemory, Yes, No}
+use Rattle.semaphore_machine.specs.declared.program.Found.TheVariants.{Done, Taken, Yes, No}
 use Rattle.semaphore_machine.specs.declared.program.Place.{Place}
 use Rattle.semaphore_machine.specs.declared.program.Place.TheVariants.{Take, Retake, Join, Ask, Leave, HandOn, RefuseNotify, Try, Lower, GiveBack, GiveBackNotify, Raise, GiveAdded, NotifyAdded, CancelLeave, Abandon}
 use Rattle.semaphore_machine.specs.declared.program.Position.{Position}
-use Rattle.semaphore_machine.specs.declared.program.Position.TheVariants.{Out, Waiting, Holding, At}
+use Rattle.semaphore_machine.specs.declared.program.Position.TheVariants.{Out, Waiting, At}
 use Rattle.semaphore_machine.specs.declared.words.Words.{Words}
 use Rattle.semaphore_machine.specs.Program.{action_of, next_of}
 use Rattle.semaphore_machine.specs.Seats.{Seat, Share, seat_of, permits_of, permits_at, share_of, verdict}
 use Rattle.semaphore_machine.specs.Deeds.{Change, ListName, takes, gives_back, forgets, raises, gives, deed_of, words_after, Finds}
-use Rattle.semaphore_machine.specs.Machine.{Semaphore, IsSemaphore, answer_by, position_at, knows, goes_with, runs, is_begun, is_polling, is_adding, is_returning}
+use Rattle.semaphore_machine.specs.Machine.{Semaphore, IsSemaphore, answer_by, position_at, knows, goes_with, runs, is_begun, is_polling}
 use Rattle.semaphore_machine.proofs.Kept.{after}
 use Rattle.semaphore_machine.proofs.Turns.{Turn, turn}
-use Rattle.semaphore_world.specs.State.{World, share_at, has_permit, standing_of}
+use Rattle.semaphore_world.specs.State.{World, has_permit, standing_of}
 use Rattle.semaphore_world.specs.View.{view_of}
 use Rattle.semaphore_world.specs.Legal.{HasItsOwn}
 use Rattle.semaphore_world.specs.Laws.{IsSound, IsAwake, is_at_rest}
-use Rattle.semaphore_world.specs.Steps.{IsSemaphoreTable}
+use Rattle.semaphore_world.specs.Steps.{IsSemaphoreTable, TableSteps}
 use Rattle.semaphore_world.specs.Runs.{Known, Tells, HoldsWell, accounts_of, sought_by, learn, added_by, forgotten_by}
 use Rattle.semaphore_world.proofs.Seen as seen
 use Rattle.semaphore_world.proofs.Acting.{Acting}
 use Rattle.semaphore_world.proofs.Acting as acting
-use Rattle.semaphore_world.proofs.Stepping.{Way, impossible, over, acts}
+use Rattle.semaphore_world.proofs.Stepping.{by_step}
 
 abbrev account_at : Standing → Account
 account_at s = account_by s (sought_by s) None
@@ -291,31 +293,21 @@ module _ (t u : Table Semaphore) (m : Move) (a : Answer) where
   none_added (Begin call.Forget i) = (refl, refl)
   none_added _ = (refl, refl)
 
-  idle_account : (z : Account) (what : What) → account_after z what answer.NotPossible ≡ z
-  idle_account z (Begin call.TryUpgrade i) = refl
-  idle_account z _ = refl
-
-  again_account : (s : Stage) (what : What) (d : Option Answer) → polls_again s what ≡ true → (account_after (account_at (stands_as d s)) what (refused refusal.Finished) ≡ account_at (stands_as d s)) × (forgotten_by what (refused refusal.Finished) ≡ 0) × (added_by what (refused refusal.Finished) ≡ 0)
-  again_account (Outside rest.Holding) (Begin call.Poll i) d h = (refl, refl, refl)
-  again_account (Outside rest.Finished) (Begin call.Poll i) d h = (refl, refl, refl)
-  again_account _ _ d h = absurd (cc h)
+  again_limit : (s : Stage) (what : What) → polls_again s what ≡ true → (forgotten_by what (refused refusal.Finished) ≡ 0) × (added_by what (refused refusal.Finished) ≡ 0)
+  again_limit (Outside rest.Holding) (Begin call.Poll i) h = (refl, refl)
+  again_limit (Outside rest.Finished) (Begin call.Poll i) h = (refl, refl)
+  again_limit _ _ h = absurd (cc h)
 
   abbrev On : Answer → Table Semaphore → Type 0
   On b x = (account_after (accounts_of old p) m.what b ≡ accounts_of (view_of x) p) × ((q : ℕ) → q ≢ p → accounts_of (view_of x) q ≡ accounts_of old q) × (x.machine.words.limit + forgotten_by m.what b ≡ t.machine.words.limit + added_by m.what b)
 
-  still : (b : Answer) → a ≡ b → u ≡ t → On b t → Counted_on
-  still b ea eu h =
-      let P : Answer → Type 0 = λ c. On c t in
-      let all = subst (On a) (sym eu) (subst P (sym ea) h) in
+  pub counted : IsSemaphore t.machine → IsSemaphoreTable t → IsSemaphore u.machine → IsSemaphoreTable u → TableSteps t m a u → Counted_on
+  counted tl tf ul uf step =
+      let all = by_step t u m a tl tf ul uf On
+      (λ e. (idle_account (accounts_of old p) m.what, λ q apart. refl, (let none = none_added m.what in omega (arith, none.0, none.1))))
+      (λ w e f. (again_account (accounts_of old p) (stage_at t.stages p) m.what f, λ q apart. refl, (let same = again_limit (stage_at t.stages p) m.what f in omega (arith, same.0, same.1))))
+      (λ w k. let on = counted_acting w k in (on.own, on.others, on.limit)) step in
       record { own = all.0; others = all.1; limit = all.2 }
-
-  pub counted : Way t u m a → Counted_on
-  counted (impossible e ea eu) = still answer.NotPossible ea eu (idle_account (accounts_of old p) m.what, λ q apart. refl, (let none = none_added m.what in omega (arith, none.0, none.1)))
-  counted (over w e f ea eu) =
-      let same = again_account (stage_at t.stages p) m.what (verdict (position_at t.machine.positions p)) f in
-      let stood = seen.stands_seen t p in
-      still (refused refusal.Finished) ea eu (ap (λ z. account_after (account_at z) m.what (refused refusal.Finished)) stood ∙ (same.0 ∙ ap account_at (sym stood)), λ q apart. refl, omega (arith, same.1, same.2))
-  counted (acts w k) = counted_acting w k
 
 -- ---- what is known, and that all is well
 
@@ -337,8 +329,8 @@ own_told w p r forgotten own h = absurd (cc (h.0))
 
 -- a party past the table has nothing
 past_has : (t : Table Semaphore) (laws : IsSemaphoreTable t) (q : ℕ) → standing_of (view_of t) q ≡ forgotten → has_permit (view_of t).state q ≡ false
-past_has t fits q e = ap (λ (z : Share). z.permit) (seen.share_seen t q) ∙ seen.by_stage_or_past t.stages q ((share_of (position_at t.machine.positions q)).permit ≡ false)
-    (λ past. ap (λ x. (share_of x).permit) (seen.past_out t.machine.positions q (omega (arith, past, fits.as_many))))
+past_has t fits q e = ap (λ (z : Share). z.permit) (seen.share_seen t q) ∙ by_stage_or_past t.stages q ((share_of (position_at t.machine.positions q)).permit ≡ false)
+    (λ past. ap (λ x. (share_of x).permit) (past_last t.machine.positions q Out (omega (arith, past, fits.as_many))))
     (λ inside. never (stage_at t.stages q) (position_at t.machine.positions q) (verdict (position_at t.machine.positions q)) (fits.stands q inside) (sym (seen.stands_seen t q) ∙ e)) where
       never : (s : Stage) (x : Position) (d : Option Answer) → goes_with s x ≡ true → stands_as d s ≡ forgotten → (share_of x).permit ≡ false
       never (Outside r) x d g h = absurd (cc h)

@@ -1,8 +1,6 @@
 -- What always holds of a semaphore's World, as callers see it.
-use Rattle.std.proofs.Common.{◌≡◌, ℕ, zero, suc, ◌+◌, ◌<◌, ◌≤◌, ◌&&◌, Bool, true, false, List, [], ◌∷◌, length, Option, Some, None, refl, arith, ap, sym, ◌∙◌, subst}
-use Rattle.std.specs.List.{sum_by, list_all}
-use Rattle.lock_event.specs.Lists.{marked_count}
-use Rattle.lock_queue.specs.Parties.{entries_of}
+use Rattle.std.proofs.Common.{◌≡◌, ℕ, suc, ◌<◌, ◌≤◌, ◌&&◌, Bool, true, false, List, [], ◌∷◌, length, Option, refl, arith, ap, sym, ◌∙◌, subst}
+use Rattle.std.specs.List.{list_all}
 use Rattle.lock_world.specs.declared.moves.Answer.{Answer}
 use Rattle.lock_world.specs.declared.standing.Kind.{Kind}
 use Rattle.lock_world.specs.declared.standing.Kind.TheVariants as kind
@@ -11,17 +9,18 @@ use Rattle.lock_world.specs.declared.standing.Rest.TheVariants as rest
 use Rattle.lock_world.specs.declared.standing.Stage.{Stage}
 use Rattle.lock_world.specs.declared.standing.Stage.TheVariants.{Outside, Inside, Forgotten}
 use Rattle.lock_world.specs.declared.standing.Within.{Within}
-use Rattle.lock_world.specs.Standings.{Standing, outside, inside, is_outside_stage}
+use Rattle.lock_world.specs.Standings.{outside, inside, is_outside_stage}
 use Rattle.lock_table.specs.Stages.{stage_at, stands_as}
 use Rattle.lock_table.specs.Tables.{Table}
+use Rattle.lock_table.proofs.Mapped.{past_last}
+use Rattle.lock_table.proofs.Past.{by_stage_or_past, by_stage_or_past_at}
 use Rattle.lock_table.proofs.Views.{rest_seen, outside_at}
 use Rattle.semaphore_machine.specs.declared.program.Place.{Place}
-use Rattle.semaphore_machine.specs.declared.program.Place.TheVariants.{Take, Retake, Join, Ask, Leave, HandOn, RefuseNotify, Try, Lower, GiveBack, GiveBackNotify, Raise, GiveAdded, NotifyAdded, CancelLeave, Abandon}
+use Rattle.semaphore_machine.specs.declared.program.Place.TheVariants.{Take, Leave, Try, Lower, CancelLeave, Abandon}
 use Rattle.semaphore_machine.specs.declared.program.Position.{Position}
 use Rattle.semaphore_machine.specs.declared.program.Position.TheVariants.{Out, Waiting, Holding, At}
-use Rattle.semaphore_machine.specs.Seats.{permits_at, under_way_at, listed, verdict, is_resting}
+use Rattle.semaphore_machine.specs.Seats.{listed, verdict, is_resting}
 use Rattle.semaphore_machine.specs.Machine.{Semaphore, IsSemaphore, IsAtRest, goes_with, runs, is_begun, position_at}
-use Rattle.semaphore_world.specs.State.{World, available, held, under_way, standing_of}
 use Rattle.semaphore_world.specs.View.{view_of}
 use Rattle.semaphore_world.specs.Laws.{IsSound, IsAwake, is_at_rest, is_long_call}
 use Rattle.semaphore_world.specs.Steps.{IsSemaphoreTable}
@@ -102,7 +101,7 @@ module _ (t : Table Semaphore) (laws : IsSemaphore t.machine) (fits : IsSemaphor
     limited = laws.limited;
     few_holders = omega (arith, seen.held_seen t, laws.balanced);
     each = each_has t laws fits;
-    inside_calls = λ q u d e. seen.by_stage_or_past_at t.stages q (is_long_call u.kind u.was ≡ true)
+    inside_calls = λ q u d e. by_stage_or_past_at t.stages q (is_long_call u.kind u.was ≡ true)
         (λ past. (let h : stands_as (verdict (position_at xs q)) Forgotten ≡ inside u d = ap (stands_as (verdict (position_at xs q))) (sym past) ∙ (sym (seen.stands_seen t q) ∙ e) in absurd (cc (h))))
         (λ inside. long_at (stage_at t.stages q) (position_at xs q) (verdict (position_at xs q)) u d (fits.stands q inside) (sym (seen.stands_seen t q) ∙ e));
     once = λ q. omega (arith, laws.owners q, one_listed (position_at xs q));
@@ -116,7 +115,7 @@ module _ (t : Table Semaphore) (laws : IsSemaphore t.machine) (fits : IsSemaphor
     pub awake : IsAwake (view_of t)
     awake = record {
       marked = λ h. laws.wakes (all_rest xs (λ q i. resting (stage_at t.stages q) (position_at xs q) (fits.stands q (omega (arith, i, fits.as_many))) (outside_at t.stages stages_rest q))) (omega (arith, h.0, seen.available_seen t laws)) h.1;
-      pending = λ q some. seen.stands_seen t q ∙ seen.by_stage_or_past t.stages q (stands_as (verdict (position_at xs q)) (stage_at t.stages q) ≡ outside rest.Pending)
-          (λ past. (let out : listed (position_at xs q) ≡ 0 = ap listed (seen.past_out xs q (omega (arith, past, fits.as_many))) in absurd (omega (arith, out, some, laws.owners q))))
+      pending = λ q some. seen.stands_seen t q ∙ by_stage_or_past t.stages q (stands_as (verdict (position_at xs q)) (stage_at t.stages q) ≡ outside rest.Pending)
+          (λ past. (let out : listed (position_at xs q) ≡ 0 = ap listed (past_last xs q Out (omega (arith, past, fits.as_many))) in absurd (omega (arith, out, some, laws.owners q))))
           (λ inside. waits_so (stage_at t.stages q) (position_at xs q) (verdict (position_at xs q)) (fits.stands q inside) (outside_at t.stages stages_rest q) (omega (arith, some, laws.owners q)));
     }

@@ -1,10 +1,10 @@
 -- What is so where a move begins or goes on.
-use Rattle.std.proofs.Common.{◌≡◌, ℕ, ◌||◌, if◌then◌else◌, Bool, true, false, Option, Some, None, is_some, refl, ap, sym, ◌∙◌}
+use Rattle.std.proofs.Common.{◌≡◌, ℕ, ◌||◌, if◌then◌else◌, true, false, Option, Some, None, is_some, refl, ap, sym, ◌∙◌}
 use Rattle.lock_world.specs.declared.moves.Answer.{Answer}
 use Rattle.lock_world.specs.declared.moves.Answer.TheVariants as answer
 use Rattle.lock_world.specs.declared.moves.Inputs.{Inputs}
 use Rattle.lock_world.specs.declared.moves.What.{What}
-use Rattle.lock_world.specs.declared.moves.What.TheVariants.{Begin, Go}
+use Rattle.lock_world.specs.declared.moves.What.TheVariants.{Go}
 use Rattle.lock_world.specs.declared.standing.Kind.{Kind}
 use Rattle.lock_world.specs.declared.standing.Kind.TheVariants as kind
 use Rattle.lock_world.specs.declared.standing.Rest.{Rest}
@@ -12,17 +12,17 @@ use Rattle.lock_world.specs.declared.standing.Rest.TheVariants as rest
 use Rattle.lock_world.specs.declared.standing.Stage.{Stage}
 use Rattle.lock_world.specs.declared.standing.Within.{Within}
 use Rattle.lock_world.specs.Frame.{is_drop, is_giving_back}
-use Rattle.lock_world.specs.Standings.{Standing, inside, is_decided, IsUndecided}
+use Rattle.lock_world.specs.Standings.{inside, is_decided, IsUndecided}
 use Rattle.lock_table.specs.Stages.{stands_as, call_at, polls_again}
 use Rattle.semaphore_machine.specs.declared.program.Action.TheVariants as act
 use Rattle.semaphore_machine.specs.declared.program.Place.{Place}
-use Rattle.semaphore_machine.specs.declared.program.Place.TheVariants.{Take, Retake, Join, Ask, Leave, HandOn, RefuseNotify, Try, Lower, GiveBack, GiveBackNotify, Raise, GiveAdded, NotifyAdded, CancelLeave, Abandon}
+use Rattle.semaphore_machine.specs.declared.program.Place.TheVariants.{Join, HandOn, RefuseNotify, Try, Lower, GiveBack, GiveBackNotify, Raise, GiveAdded, NotifyAdded, CancelLeave, Abandon}
 use Rattle.semaphore_machine.specs.declared.program.Position.{Position}
-use Rattle.semaphore_machine.specs.declared.program.Position.TheVariants.{Out, Waiting, Holding, At}
+use Rattle.semaphore_machine.specs.declared.program.Position.TheVariants.{Out, At}
 use Rattle.semaphore_machine.specs.Program.{action_of}
 use Rattle.semaphore_machine.specs.Seats.{seat_of, seated, verdict, verdict_of, adds_at}
 use Rattle.semaphore_machine.specs.Machine.{knows, goes_with, runs, is_begun, is_polling, is_adding, is_returning}
-use Rattle.semaphore_machine.proofs.Turns.{Moves, Turn, turn}
+use Rattle.semaphore_machine.proofs.Turns.{Turn, turn}
 use Rattle.semaphore_world.specs.Legal.{added_in, is_forget, is_add, notice}
 use Rattle.semaphore_world.proofs.Rows.{is_join}
 

@@ -1,21 +1,18 @@
 -- A call that is carried out alone ends within its number of steps.
-use Rattle.std.proofs.Common.{◌≡◌, ℕ, ◌+◌, ◌<◌, ◌≤◌, ◌&&◌, if◌then◌else◌, Bool, true, false, List, Option, Some, None, refl, arith, ap, sym, ◌∙◌, subst}
+use Rattle.std.proofs.Common.{◌≡◌, ℕ, ◌+◌, ◌<◌, ◌≤◌, if◌then◌else◌, Bool, true, false, List, Some, refl, arith, ap, sym, ◌∙◌, subst}
 use Rattle.lock_event.specs.declared.event.Entry.{Entry}
 use Rattle.lock_event.specs.Lists.{is_marked_at}
 use Rattle.lock_queue.specs.Parties.{is_party, entries_of}
 use Rattle.lock_world.specs.declared.moves.Answer.{Answer}
-use Rattle.lock_world.specs.declared.moves.Answer.TheVariants as answer
 use Rattle.lock_world.specs.declared.moves.Call.{Call}
 use Rattle.lock_world.specs.declared.moves.Call.TheVariants as call
 use Rattle.lock_world.specs.declared.moves.Inputs.{Inputs}
 use Rattle.lock_world.specs.declared.moves.Move.{Move}
 use Rattle.lock_world.specs.declared.moves.What.{What}
 use Rattle.lock_world.specs.declared.moves.What.TheVariants.{Begin, Go}
-use Rattle.lock_world.specs.declared.refusal.Refusal.TheVariants as refusal
 use Rattle.lock_world.specs.declared.standing.Stage.{Stage}
 use Rattle.lock_world.specs.declared.standing.Within.{Within}
-use Rattle.lock_world.specs.Standings.{refused, inputs_of}
-use Rattle.lock_world.specs.Steps.{joins}
+use Rattle.lock_world.specs.Standings.{inputs_of}
 use Rattle.lock_world.specs.Whole.{going_on}
 use Rattle.lock_world.proofs.Equations.{some_eq}
 use Rattle.lock_frame.specs.Steps.{left_by, beginning}
@@ -30,7 +27,7 @@ use Rattle.semaphore_machine.specs.declared.program.Position.{Position}
 use Rattle.semaphore_machine.specs.declared.program.Position.TheVariants.{Out, Waiting, Holding, At}
 use Rattle.semaphore_machine.specs.declared.words.Words.{Words}
 use Rattle.semaphore_machine.specs.Program.{action_of, next_of}
-use Rattle.semaphore_machine.specs.Seats.{Seat, seat_of, listed}
+use Rattle.semaphore_machine.specs.Seats.{seat_of, listed}
 use Rattle.semaphore_machine.specs.Deeds.{deed_of, entries_after, Finds}
 use Rattle.semaphore_machine.specs.Machine.{Semaphore, IsSemaphore, answer_by, position_at, knows, goes_with}
 use Rattle.semaphore_machine.specs.Ranks.{left, left_at, is_own_marked, steps_left}
@@ -40,7 +37,7 @@ use Rattle.semaphore_world.specs.Steps.{IsSemaphoreTable, TableSteps}
 use Rattle.semaphore_world.specs.Whole.{most_steps_of}
 use Rattle.semaphore_world.proofs.Acting.{Acting}
 use Rattle.semaphore_world.proofs.Acting as acting
-use Rattle.semaphore_world.proofs.Stepping.{Way, impossible, over, acts, way}
+use Rattle.semaphore_world.proofs.Stepping.{by_step}
 
 -- how many steps are left once this was found, by whether the party's own entry is marked then
 abbrev pub Left : Place → Found → Bool → ℕ
@@ -176,9 +173,6 @@ module _ (t u : Table Semaphore) (m : Move) (a : Answer) where
       ap (λ b. left_by b (steps_left u.machine p)) k.answer ∙ (ap (λ x. left_by (answer_by (next_of k.from k.found)) (left_at x (is_own_marked u.machine p))) (acting.lands t u m a w k) ∙ ap (λ b. Left k.from k.found b) marks) in
       rw same here
 
-  nothing_left : (b : Answer) → a ≡ b → (n : ℕ) → left_by b n ≡ 0 → left_by a n ≡ 0
-  nothing_left b e n z = ap (λ x. left_by x n) e ∙ z
-
   pub from_turn : (w : Within) (k : Acting t u m a w) → Within_most (stage_at t.stages p) m.what w (position_at t.machine.positions p) k.from
   from_turn w k =
       let turned = within_most (stage_at t.stages p) m.what w (position_at t.machine.positions p) (k.old_fits.stands p k.inside) k.call k.first in
@@ -186,15 +180,13 @@ module _ (t u : Table Semaphore) (m : Move) (a : Answer) where
       let P : Place → Type 0 = λ y. Within_most (stage_at t.stages p) m.what w (position_at t.machine.positions p) y in
       subst P same turned.holds
 
-pub begins : (t u : Table Semaphore) (p : ℕ) (c : Call) (i : Inputs) (a : Answer) → Way t u (beginning p c i) a → 1 + left_by a (steps_left u.machine p) ≤ most_steps_of c
-begins t u p c i a (impossible e ea eu) = let none = nothing_left t u (beginning p c i) a answer.NotPossible ea (steps_left u.machine p) refl in omega (arith, one_at_least c)
-begins t u p c i a (over w e f ea eu) = let none = nothing_left t u (beginning p c i) a (refused refusal.Finished) ea (steps_left u.machine p) refl in omega (arith, one_at_least c)
-begins t u p c i a (acts w k) = let few = from_turn t u (beginning p c i) a w k (is_own_marked t.machine p) in omega (arith, less t u (beginning p c i) a w k, few)
+module _ (t u : Table Semaphore) (tl : IsSemaphore t.machine) (tf : IsSemaphoreTable t) (ul : IsSemaphore u.machine) (uf : IsSemaphoreTable u) (p : ℕ) (i : Inputs) (a : Answer) where
+  pub begins : (c : Call) → TableSteps t (beginning p c i) a u → 1 + left_by a (steps_left u.machine p) ≤ most_steps_of c
+  begins c step = by_step t u (beginning p c i) a tl tf ul uf (λ b x. 1 + left_by b (steps_left x.machine p) ≤ most_steps_of c) (λ e. one_at_least c) (λ w e f. one_at_least c)
+      (λ w k. let few = from_turn t u (beginning p c i) a w k (is_own_marked t.machine p) in omega (arith, less t u (beginning p c i) a w k, few)) step
 
-pub falls : (t u : Table Semaphore) (p : ℕ) (i : Inputs) (a : Answer) → Way t u (going_on p i) a → left_by a (steps_left u.machine p) < steps_left t.machine p
-falls t u p i a (impossible e ea eu) = let none = nothing_left t u (going_on p i) a answer.NotPossible ea (steps_left u.machine p) refl in omega (arith, some_at (position_at t.machine.positions p) (is_own_marked t.machine p))
-falls t u p i a (over w e f ea eu) = let none = nothing_left t u (going_on p i) a (refused refusal.Finished) ea (steps_left u.machine p) refl in omega (arith, some_at (position_at t.machine.positions p) (is_own_marked t.machine p))
-falls t u p i a (acts w k) =
-    let at : position_at t.machine.positions p ≡ At k.from = from_turn t u (going_on p i) a w k in
-    let same : steps_left t.machine p ≡ left k.from (is_own_marked t.machine p) = ap (λ x. left_at x (is_own_marked t.machine p)) at in
-    rw same (less t u (going_on p i) a w k)
+  pub falls : TableSteps t (going_on p i) a u → left_by a (steps_left u.machine p) < steps_left t.machine p
+  falls step =
+      let some = some_at (position_at t.machine.positions p) (is_own_marked t.machine p) in
+      by_step t u (going_on p i) a tl tf ul uf (λ b x. left_by b (steps_left x.machine p) < steps_left t.machine p) (λ e. some) (λ w e f. some)
+      (λ w k. let P : Position → Type 0 = λ x. left_by a (steps_left u.machine p) < left_at x (is_own_marked t.machine p) in subst P (sym (from_turn t u (going_on p i) a w k)) (less t u (going_on p i) a w k)) step

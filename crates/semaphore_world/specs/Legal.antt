@@ -1,5 +1,5 @@
 -- What one move may do to a semaphore, and how it may be answered.
-use Rattle.std.specs.Prelude.{◌≡◌, ◌≢◌, ℕ, ◌+◌, ◌<◌, ◌≤◌, ◌||◌, if◌then◌else◌, Bool, true, false, List, length, Option, Some, None, slice_set}
+use Rattle.std.specs.Prelude.{◌≡◌, ◌≢◌, ℕ, ◌+◌, ◌<◌, ◌≤◌, ◌||◌, if◌then◌else◌, Bool, true, false, length, Option, Some, None, slice_set}
 use Rattle.lock_event.specs.declared.event.Mark.TheVariants.{Waiting}
 use Rattle.lock_queue.specs.Parties.{entries_of}
 use Rattle.lock_world.specs.declared.moves.Answer.{Answer}

@@ -1,10 +1,10 @@
 -- What callers see of a semaphore's World: its state, its list, and how each party stands.
-use Rattle.std.specs.Prelude.{◌≡◌, ℕ, ◌+◌, ◌-◌, ◌<◌, Bool, List, [], Option, nat_lt, slice_index_or, replicate, length}
+use Rattle.std.specs.Prelude.{ℕ, ◌+◌, ◌-◌, Bool, List, [], Option, nat_lt, slice_index_or, replicate, length}
 use Rattle.std.specs.List.{sum_by}
 use Rattle.lock_event.specs.declared.event.Entry.{Entry}
 use Rattle.lock_event.specs.declared.event.Mark.{Mark}
 use Rattle.lock_event.specs.Lists.{mark_at}
-use Rattle.lock_queue.specs.Parties.{is_party, entries_of}
+use Rattle.lock_queue.specs.Parties.{is_party}
 use Rattle.lock_world.specs.declared.standing.Rest.TheVariants.{Idle}
 use Rattle.lock_world.specs.Standings.{Standing, outside, forgotten}
 use Rattle.lock_table.specs.Tables.{Table, new_table}

@@ -1,5 +1,5 @@
 -- How callers see what stands behind a semaphore's World.
-use Rattle.std.specs.Prelude.{ℕ, map}
+use Rattle.std.specs.Prelude.{map}
 use Rattle.lock_table.specs.Tables.{Table}
 use Rattle.lock_table.specs.Views.{standings}
 use Rattle.semaphore_machine.specs.Seats.{share_of, adds_at, verdict}

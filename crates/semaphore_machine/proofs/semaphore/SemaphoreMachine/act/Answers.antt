@@ -1,16 +1,14 @@
 -- An action of one party is one of its program, and keeps what always holds of the semaphore.
-use Rattle.std.proofs.Common.{◌≡◌, ◌<◌, Some, length, ap, sym, ◌∙◌, refl}
+use Rattle.std.proofs.Common.{◌≡◌, ◌<◌, length, ap, sym, ◌∙◌}
 use Rattle.std.proofs.Math.ListN.{set}
 use Rattle.lock_queue.specs.Queues.{queue}
 use Rattle.lock_world.specs.Standings.{inputs_of}
 use Rattle.lock_world.specs.declared.moves.Inputs.{Inputs}
-use Rattle.semaphore_machine.specs.declared.program.Action.{Action}
-use Rattle.semaphore_machine.specs.Program.{place_for, action_of, next_of, position_after}
+use Rattle.semaphore_machine.specs.Program.{action_of, position_after}
 use Rattle.semaphore_machine.specs.Deeds.{Finds, deed_of, words_after, entries_after}
-use Rattle.semaphore_machine.specs.Machine.{answer_by, Acts, Semaphore}
+use Rattle.semaphore_machine.specs.Machine.{answer_by}
 use Rattle.semaphore_machine.proofs.Kept.{after}
-use Rattle.semaphore_machine.proofs.CanDo.{can_do}
-use Rattle.semaphore_machine.proofs.Locks.{Began, began, locked, keeps}
+use Rattle.semaphore_machine.proofs.Locks.{began, locked, keeps}
 use Rattle.semaphore_machine.proofs.semaphore.SemaphoreMachine.act.Goals as goal
 
 pub invariant_of-self : goal.invariant_of-self

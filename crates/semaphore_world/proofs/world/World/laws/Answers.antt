@@ -1,6 +1,4 @@
 -- What holds of the table holds as callers see it.
-use Rattle.std.proofs.Common.{◌≡◌, sym, subst}
-use Rattle.semaphore_machine.specs.Machine.{Semaphore, IsSemaphore}
 use Rattle.semaphore_world.proofs.Sound.{sound, awake}
 use Rattle.semaphore_world.proofs.world.World.laws.Goals as goal
 
