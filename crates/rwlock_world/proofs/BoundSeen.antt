@@ -48,20 +48,12 @@ use Rattle.rwlock_world.specs.Bound.{IsSoloForTurn, IsSoloToRead, IsSoloToWrite,
 use Rattle.rwlock_world.proofs.Begun.{at_future}
 use Rattle.rwlock_world.proofs.BoundRuns.{Ended, polls_alone}
 use Rattle.rwlock_world.proofs.Sound.{nobody_holds, bit_seen}
-use Rattle.lock_table.proofs.Views.{rest_seen}
+use Rattle.lock_table.proofs.Views.{rest_seen, outside_stage}
 use Rattle.rwlock_world.proofs.Owns as owns
 use Rattle.lock_table.proofs.Past.{inside_or_past}
 use Rattle.rwlock_world.proofs.Views as view
 
 -- ---- where a pending party stands that is listed
-
-rest_eq : (r s : Rest) → outside r ≡ outside s → r ≡ s
-rest_eq r s h = cc
-
-pending_stage : (v : ℕ) (s : Stage) (x : Place) (t : TurnCourse) → standing_at v s x t ≡ outside rest.Pending → s ≡ Outside rest.Pending
-pending_stage v (Outside r) x t h = ap Outside (rest_eq r rest.Pending h)
-pending_stage v (Inside w) x t h = absurd (cc)
-pending_stage v Forgotten x t h = absurd (cc)
 
 in_turn_list : (t : TurnCourse) (x : Place) → is_future x ≡ true → fits_turn x t ≡ true → 0 < listed t → waits_for_turn x ≡ true
 in_turn_list t = at_future (λ x. fits_turn x t ≡ true → 0 < listed t → waits_for_turn x ≡ true) (record {
@@ -167,7 +159,7 @@ module _ (w : World) (p : ℕ) (i : Inputs) (laws : IsRwLock w.behind.machine.lo
       let there : TurnCourse = turn_at w.behind.machine.lock.turn.courses p in
       let stood : standing_of (shown w) p ≡ standing_at w.behind.machine.value (stage_at w.behind.stages p) here there = owns.stood w.behind.machine.lock w.behind.stages w.behind.opening w.behind.machine.value laws tf p in
       elim (inside_or_past w.behind.stages p) as (λ _. (p < length w.behind.stages) × (stage_at w.behind.stages p ≡ Outside rest.Pending)) [
-        | inl known ↦ (known, pending_stage w.behind.machine.value (stage_at w.behind.stages p) here there (sym stood ∙ pending))
+        | inl known ↦ (known, outside_stage (verdict w.behind.machine.value here there) (stage_at w.behind.stages p) rest.Pending (sym stood ∙ pending))
         | inr past ↦ (let never : standing_at w.behind.machine.value Forgotten here there ≡ outside rest.Pending = rw past.1 at (sym stood ∙ pending) in absurd (cc))
       ]
 

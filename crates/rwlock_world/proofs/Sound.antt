@@ -31,7 +31,7 @@ use Rattle.rwlock_world.specs.State as state
 use Rattle.rwlock_world.specs.State.{ListName, for_the_turn, for_no_readers, for_no_writer, list_of, Turn, nobody, passes, is_upgradable, waits_to_write, writes, World, standing_of, is_marked, entries_in, HasTurn}
 use Rattle.rwlock_world.specs.Legal.{HasItsOwn}
 use Rattle.rwlock_world.specs.Laws.{HasRight, IsSound, is_at_rest, IsAwake}
-use Rattle.rwlock_world.specs.Lending.{is_forgotten_then, world_with}
+use Rattle.rwlock_world.specs.Lending.{world_with}
 use Rattle.lock_table.specs.Lending.{table_with}
 use Rattle.rwlock_world.specs.Lent.{future_rests, guard_rests}
 use Rattle.rwlock_world.specs.Number.{LockedNumber, number_with}
@@ -40,6 +40,7 @@ use Rattle.rwlock_world.specs.View.{verdict_of, Share, passing, upgrading, waiti
 use Rattle.rwlock_world.proofs.Begun.{at_out, at_future, at_guard}
 use Rattle.lock_table.specs.Stages.{stands_as as standing_as}
 use Rattle.lock_table.specs.Views.{standings_from}
+use Rattle.lock_table.proofs.Lending.{lent_seen}
 use Rattle.lock_table.proofs.Views.{rest_seen, outside_at}
 use Rattle.lock_table.proofs.Past.{inside_or_past}
 use Rattle.rwlock_world.proofs.Views as view
@@ -354,24 +355,9 @@ module _ (t : Table LockedNumber) (laws : IsRwLock t.machine.lock) (fits : IsNum
 
 -- ---- a value put at rest
 
-forgets_one : (d c : Option Answer) (s : Stage) → is_outside_stage s ≡ true → standing_as c (forgets s) ≡ is_forgotten_then (standing_as d s)
-forgets_one d c (Outside rest.Idle) h = refl
-forgets_one d c (Outside rest.Pending) h = refl
-forgets_one d c (Outside rest.Holding) h = refl
-forgets_one d c (Outside rest.Finished) h = refl
-forgets_one d c (Inside w) h = absurd (cc)
-forgets_one d c Forgotten h = refl
-
-forgets_from : (n : ℕ) (f g : ℕ → Option Answer) (ss : List Stage) → list_all is_outside_stage ss ≡ true → standings_from n g (map forgets ss) ≡ map is_forgotten_then (standings_from n f ss)
-forgets_from n f g [] h = refl
-forgets_from n f g (s ∷ ss) h =
-    let both = split (is_outside_stage s) (list_all is_outside_stage ss) h in
-    let more = forgets_from (n + 1) f g ss both.1 in
-    let one = forgets_one (f n) (g n) s both.0 in cc
-
 -- a table whose value was put is seen as the World in which it was
 pub put_seen : (t : Table LockedNumber) (v : ℕ) → list_all is_outside_stage t.stages ≡ true → view_of (table_with number_with t v) ≡ world_with (view_of t) v
-put_seen t v resting = let all = forgets_from 0 (verdict_of t.machine) (verdict_of (number_with t.machine v)) t.stages resting in cc
+put_seen t v resting = let all = lent_seen (verdict_of t.machine) (verdict_of (number_with t.machine v)) t.stages resting in cc
 
 -- ---- the words
 
