@@ -1,7 +1,7 @@
 -- An action of a party is a legal step, as callers see it.
 use Rattle.std.proofs.Common.{◌≡◌, ◌≢◌, ℕ, ◌<◌, ◌⊎◌, inl, inr, Bool, true, false, List, length, Option, Some, None, [], ◌∷◌, zero, suc, arith, refl, ap, sym, ◌∙◌, subst}
 use Rattle.std.proofs.Math.ListN.{set}
-use Rattle.std.proofs.lemmas.Bool.{false≢true}
+use Rattle.std.proofs.lemmas.Bool.{false≢true, cases_Bool}
 use Rattle.lock_world.specs.declared.moves.Answer.{Answer}
 use Rattle.lock_world.specs.declared.moves.Answer.TheVariants as answer
 use Rattle.lock_world.specs.declared.moves.Call.{Call}
@@ -167,10 +167,6 @@ module _ (t u : Table LockedNumber) (m : Move) (a : Answer) (old : Laws t) (new 
 
 -- ---- a step of a call
 
-bool_or : (b : Bool) → (b ≡ true) ⊎ (b ≡ false)
-bool_or true = inl refl
-bool_or false = inr refl
-
 still : (memory starving : Bool) (p : ℕ) (x : Place) (f : _) (l k : _) → OnTurn memory starving p (action_of x) f l k → steps_in_turn x ≡ false → k ≡ l
 still memory starving p (place.EnterTurn q) f l k e h = absurd (cc)
 still memory starving p (place.WaitTurn q) f l k e h = absurd (cc)
@@ -225,7 +221,7 @@ module _ (t u : Table LockedNumber) (m : Move) (a : Answer) (w : Within) (c : Ac
         share = c.moves.share;
         straight = strays_not w c.from c.moves.course;
       } in
-      let facts : Facts m l k t.stages t.opening ts v c.from n = elim (bool_or (steps_in_turn c.from)) as (λ _. Facts m l k t.stages t.opening ts v c.from n) [
+      let facts : Facts m l k t.stages t.opening ts v c.from n = elim (cases_Bool (steps_in_turn c.from)) as (λ _. Facts m l k t.stages t.opening ts v c.from n) [
         | inl y ↦ on_turn m l k t.stages t.opening ts v c.new.lock c.from c.acts.found given y c.acts.turn (led memory starving m.party l.turn k.turn c.from c.acts.found c.acts.turn fit) fit
         | inr y ↦ word.on_word m l k t.stages t.opening ts v c.from c.acts.found given (still memory starving m.party c.from c.acts.found l.turn k.turn c.acts.turn y) y
       ] in

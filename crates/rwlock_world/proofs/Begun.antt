@@ -1,6 +1,6 @@
 -- Which action each move carries out: one case for each call and each place at which a party may begin it, and one for a party that goes on.
 use Rattle.std.proofs.Common.{◌≡◌, ◌&&◌, if◌then◌else◌, Bool, true, false, Option, Some, None, refl, ap, subst, sym}
-use Rattle.std.proofs.lemmas.Bool.{false≢true}
+use Rattle.std.proofs.lemmas.Bool.{false≢true, and_parts}
 use Rattle.lock_world.specs.declared.moves.Call.{Call}
 use Rattle.lock_world.specs.declared.moves.Call.TheVariants as call
 use Rattle.lock_world.specs.declared.moves.Inputs.{Inputs}
@@ -99,10 +99,6 @@ pub record Turn (P : Stage → What → Place → Within → Place → Type 0) (
   pub starts : place_for what x ≡ Some from
   pub holds : P s what x w from
 
-both : (a b : Bool) → a && b ≡ true → (a ≡ true) × (b ≡ true)
-both true b h = (refl, h)
-both false b h = absurd (cc)
-
 module _ (P : Stage → What → Place → Within → Place → Type 0) (k : ForMoves P) where
   -- a call that is begun by a party that stands here, and is no put
   abbrev Case : Rest → Call → Inputs → Within → Place → Type 0
@@ -171,7 +167,7 @@ module _ (P : Stage → What → Place → Within → Place → Type 0) (k : For
   turn (Outside r) (Go i) x w g e f n = absurd (none_some e)
   turn (Inside v) (Begin c i) x w g e f n = absurd (none_some e)
   turn (Inside v) (Go i) x w g e f n =
-      let on = both (is_inside x) (is_on_course v.kind v.was (course_of x)) g in
+      let on = and_parts (is_inside x) (is_on_course v.kind v.was (course_of x)) g in
       let Q : Within → Type 0 = λ y. Turn P (Inside v) (Go i) x y in
       subst Q (some_eq e) (record { from = x; starts = refl; holds = k.go v i x on.0 on.1 })
   turn Forgotten (Begin c i) x w g e f n = absurd (none_some e)

@@ -188,7 +188,7 @@ module _ (w : World) (p : ℕ) (i : Inputs) (laws : IsRwLock w.behind.machine.lo
 
     why_seen : (is_starved (shown w) p ≡ true) ⊎ (how_many (shown w).state.starved ≡ 0) → IsStarved t.machine.lock.turn p ⊎ (starved t.machine.lock.turn ≡ 0)
     why_seen (inl starving) = inl (sym (sees.counted_bit (turn_at t.machine.lock.turn.courses p)) ∙ ap bit (sym (sees.starved_at t.machine.lock.turn.courses p) ∙ starving))
-    why_seen (inr none) = inr (sym (view.how_many-starved t.machine.lock.turn.courses) ∙ none)
+    why_seen (inr none) = inr (sym (sees.how_many_counted t.machine.lock.turn.courses) ∙ none)
 
     turn_polled : IsSoloForTurn (shown w) p i → (shown w).state.turn ≡ nobody → how_many_read (shown w) < t.machine.lock.limit → SoloPollForTurn (shown w) p a (shown v)
     turn_polled solo free below =
@@ -198,7 +198,7 @@ module _ (w : World) (p : ℕ) (i : Inputs) (laws : IsRwLock w.behind.machine.lo
         let few : readers t.machine.lock < t.machine.lock.limit = rw view.how_many-read at below in
         let nobody_there : holders t.machine.lock.turn ≡ 0 = sees.none_holds 0 t.machine.lock.turn.courses (nobody_holds (holder_of t.machine.lock.turn) t.machine.lock.places free) in
         record {
-          takes_or_gives_way = λ under. either_seen some (rw view.how_many-starved at under) (law.takes_turn_or_gives_way nobody_there few p e v.behind.machine.lock called polls);
+          takes_or_gives_way = λ under. either_seen some (rw sees.how_many_counted at under) (law.takes_turn_or_gives_way nobody_there few p e v.behind.machine.lock called polls);
           takes = λ why. takes_turn_seen w v p a e (law.takes_turn nobody_there few p e v.behind.machine.lock called (why_seen why) polls) k;
         }
 

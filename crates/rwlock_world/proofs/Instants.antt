@@ -4,6 +4,7 @@ use Rattle.std.specs.Prelude.{not}
 use Rattle.std.proofs.Math.ListN.{set}
 use Rattle.std.proofs.lemmas.Bool.Decides.{nat_tests}
 use Rattle.std.proofs.lemmas.Bool.{false≢true}
+use Rattle.std.proofs.lemmas.Bool.{eqb-true, eq-eqb, ltb-true, lt-ltb}
 use Rattle.lock_world.specs.declared.moves.Answer.{Answer}
 use Rattle.lock_world.specs.declared.moves.Answer.TheVariants as answer
 use Rattle.lock_world.specs.declared.moves.Call.{Call}
@@ -68,24 +69,6 @@ enters_means : (b : Bool) (n k : ℕ) → not b && nat_lt n k ≡ true → (b �
 enters_means true n k h = absurd (cc)
 enters_means false n k h = (refl, grind (arith, nat_tests))
 
-one_test : (n : ℕ) → n ≡ 1 → (n == 1) ≡ true
-one_test n e = rw e refl
-
-one_means : (n : ℕ) → (n == 1) ≡ true → n ≡ 1
-one_means n h = grind (arith, nat_tests)
-
-none_test : (n : ℕ) → n ≡ 0 → (n == 0) ≡ true
-none_test n e = rw e refl
-
-none_means : (n : ℕ) → (n == 0) ≡ true → n ≡ 0
-none_means n h = grind (arith, nat_tests)
-
-below_test : (n k : ℕ) → n < k → nat_lt n k ≡ true
-below_test n k h = grind (arith, nat_tests)
-
-below_means : (n k : ℕ) → nat_lt n k ≡ true → n < k
-below_means n k h = grind (arith, nat_tests)
-
 free_test : (t : Turn) (n : ℕ) → t ≡ state.nobody → n ≡ 0 → is_nobody t && (n == 0) ≡ true
 free_test t n e d = rw (e, d) refl
 
@@ -112,7 +95,7 @@ passer_holds (Some q) xs p e = ap Some (passer q p (share_of (place_at xs q)) e)
 pub turn_is_free : (t : Table LockedNumber) → is_turn_free (view_of t).state ≡ true → (holders t.machine.lock.turn ≡ 0) × (starved t.machine.lock.turn ≡ 0)
 turn_is_free t h =
     let b = free_means (view_of t).state.turn (how_many (view_of t).state.starved) h in
-    (sees.none_holds 0 t.machine.lock.turn.courses (nobody_holds (holder_of t.machine.lock.turn) t.machine.lock.places b.0), sym (view.how_many-starved t.machine.lock.turn.courses) ∙ b.1)
+    (sees.none_holds 0 t.machine.lock.turn.courses (nobody_holds (holder_of t.machine.lock.turn) t.machine.lock.places b.0), sym (sees.how_many_counted t.machine.lock.turn.courses) ∙ b.1)
 
 -- ---- one action
 
@@ -155,7 +138,7 @@ module _ (t u : Table LockedNumber) (m : Move) (a : Answer) where
   enters_says k h = let b = enters_means (is_marked old.state.turn) (how_many_read old) t.machine.lock.limit h in (bit_seen t.machine.lock t.stages t.opening t.machine.value k.lock k.fits b.0, omega (arith, reading, b.1))
 
   free_is : holders t.machine.lock.turn ≡ 0 → starved t.machine.lock.turn ≡ 0 → is_turn_free old.state ≡ true
-  free_is h s = free_test old.state.turn (how_many old.state.starved) (ap (λ o. turn_by o t.machine.lock.places) (sees.none_held 0 t.machine.lock.turn.courses h)) (view.how_many-starved t.machine.lock.turn.courses ∙ s)
+  free_is h s = free_test old.state.turn (how_many old.state.starved) (ap (λ o. turn_by o t.machine.lock.places) (sees.none_held 0 t.machine.lock.turn.courses h)) (sees.how_many_counted t.machine.lock.turn.courses ∙ s)
 
   free_says : is_turn_free old.state ≡ true → (holders t.machine.lock.turn ≡ 0) × (starved t.machine.lock.turn ≡ 0)
   free_says h = turn_is_free t h
@@ -183,7 +166,7 @@ module _ (t u : Table LockedNumber) (m : Move) (a : Answer) where
   at_try_read y = y.answer ∙ try_reads memory t.machine.lock t.machine.value y.found y.finds (may_read old) enters_is (enters_says y.laws)
 
   at_try_upgrade : Acted t u m a place.TryUpgrade → a ≡ granted_if (how_many_read old == 1) old
-  at_try_upgrade y = y.answer ∙ try_upgrades memory t.machine.lock t.machine.value y.found y.finds (unmarked place.TryUpgrade y refl) (how_many_read old == 1) (λ e. one_test (how_many_read old) (reading ∙ e)) (λ h. sym reading ∙ one_means (how_many_read old) h)
+  at_try_upgrade y = y.answer ∙ try_upgrades memory t.machine.lock t.machine.value y.found y.finds (unmarked place.TryUpgrade y refl) (how_many_read old == 1) (λ e. eq-eqb (how_many_read old) 1 (reading ∙ e)) (λ h. sym reading ∙ eqb-true (how_many_read old) 1 h)
 
   abbrev TakesTurn : Type 0
   TakesTurn = (new.state.turn ≡ state.passes p) ↔ (is_turn_free old.state ≡ true)
@@ -214,14 +197,14 @@ module _ (t u : Table LockedNumber) (m : Move) (a : Answer) where
   at_added : Acted t u m a (place.Add true) → decision a (standing_of new p) ≡ Some (granted_if (nat_lt (how_many_read old) old.readers_limit) old)
   at_added y =
       y.decides ∙ added memory t.machine.lock t.machine.value (turn_at u.machine.lock.turn.courses p) y.found y.finds (nat_lt (how_many_read old) t.machine.lock.limit)
-      (λ h. below_test (how_many_read old) t.machine.lock.limit (omega (arith, reading, h)))
-      (λ h. omega (arith, reading, below_means (how_many_read old) t.machine.lock.limit h))
+      (λ h. lt-ltb (how_many_read old) t.machine.lock.limit (omega (arith, reading, h)))
+      (λ h. omega (arith, reading, ltb-true (how_many_read old) t.machine.lock.limit h))
 
   at_try_written : Acted t u m a place.TryWrite → decision a (standing_of new p) ≡ Some (granted_if (how_many_read old == 0) old)
   at_try_written y =
       y.decides ∙ try_written memory t.machine.lock t.machine.value (turn_at u.machine.lock.turn.courses p) y.found (unmarked place.TryWrite y refl) y.finds (how_many_read old == 0)
-      (λ h. none_test (how_many_read old) (reading ∙ h))
-      (λ h. sym reading ∙ none_means (how_many_read old) h)
+      (λ h. eq-eqb (how_many_read old) 0 (reading ∙ h))
+      (λ h. sym reading ∙ eqb-true (how_many_read old) 0 h)
 
   at_add : Acted t u m a (place.Add true) → (a ≡ answer.Granted (Value old.state.value)) ↔ (how_many_read old < old.readers_limit)
   at_add y =

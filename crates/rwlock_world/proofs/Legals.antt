@@ -3,7 +3,7 @@ use Rattle.std.proofs.Common.{◌≡◌, ◌≢◌, ℕ, ◌<◌, ◌⊎◌, ◌
 use Rattle.std.proofs.Math.ListN.{set}
 use Rattle.std.proofs.lemmas.Bool.Decides.{nat_tests}
 use Rattle.std.proofs.lemmas.List.{map-set}
-use Rattle.std.proofs.lemmas.Bool.{false≢true}
+use Rattle.std.proofs.lemmas.Bool.{false≢true, cases_Bool}
 use Rattle.lock_event.specs.declared.event.Mark.TheVariants as mark
 use Rattle.lock_world.specs.declared.moves.Answer.{Answer}
 use Rattle.lock_world.specs.declared.moves.Answer.TheVariants as answer
@@ -127,10 +127,6 @@ out_of_turn w p (state.waits_to_write q) n = by_test (q == p) refl where
 not_inside : (b : Bool) (c : Bool) → (b ≡ true → c ≡ true) → c ≡ false → b ≡ false
 not_inside true c h e = absurd (cc (h refl))
 not_inside false c h e = refl
-
-bool_or : (b : Bool) → (b ≡ true) ⊎ (b ≡ false)
-bool_or true = inl refl
-bool_or false = inr refl
 
 module _ (m : Move) (l k : RwLock) (ss : List Stage) (opening : ℕ) (v : ℕ) (x : Place) (n : Next) (w : Within) where
   abbrev p : ℕ
@@ -332,7 +328,7 @@ module _ (m : Move) (l k : RwLock) (ss : List Stage) (opening : ℕ) (v : ℕ) (
 
     -- a drop isn't refused
     not_drop : is_refusal said ≡ true → is_drop m.what ≡ false
-    not_drop h = elim (bool_or (is_drop m.what)) as (λ _. is_drop m.what ≡ false) [
+    not_drop h = elim (cases_Bool (is_drop m.what)) as (λ _. is_drop m.what ≡ false) [
       | inl y ↦ (let it = keeps_to answer.GivenBack (c.moves.drop_is y).0 in absurd (ends.given_not_refused v u n it.0 h))
       | inr y ↦ y
     ]

@@ -1,5 +1,6 @@
 -- What each party has, by how it stands.
 use Rattle.std.proofs.Common.{◌≡◌, ◌≢◌, ℕ, ◌≤◌, ◌⊎◌, inl, inr, Bool, true, false, List, Option, Some, None, refl, arith, ap, sym, subst, ◌∙◌}
+use Rattle.std.proofs.lemmas.Bool.{and_parts}
 use Rattle.lock_world.specs.declared.moves.Answer.{Answer}
 use Rattle.lock_world.specs.declared.moves.Answer.TheVariants as answer
 use Rattle.lock_world.specs.declared.refusal.Refusal.TheVariants as refusal
@@ -285,14 +286,6 @@ module _ (l : RwLock) (ss : List Stage) (opening : ℕ) (v : ℕ) (laws : IsRwLo
   undecided (place.Unmark false) t i n = absurd (cc)
   undecided _ t i n = record { reads = refl; share = ((λ e. cc), (λ e. cc)); seeks = λ e. absurd (cc) }
 
-  second : (a b : Bool) → Rattle.std.specs.Prelude.◌&&◌ a b ≡ true → b ≡ true
-  second true b h = h
-  second false b h = absurd (cc)
-
-  first : (a b : Bool) → Rattle.std.specs.Prelude.◌&&◌ a b ≡ true → a ≡ true
-  first true b h = refl
-  first false b h = absurd (cc)
-
   has : (q : ℕ) (s : Stage) (x : Place) → place_at l.places q ≡ x → goes_with s x ≡ true → HasItsOwn w q (standing_at v s x (turn_at l.turn.courses q))
   has q (Outside rest.Idle) x at g = out_has q x g at
   has q (Outside rest.Pending) x at g = future_has q x g at
@@ -300,11 +293,11 @@ module _ (l : RwLock) (ss : List Stage) (opening : ℕ) (v : ℕ) (laws : IsRwLo
   has q (Outside rest.Finished) x at g = absurd (cc)
   has q (Inside u) x at g = inside_has (verdict v x (turn_at l.turn.courses q)) refl where
     here : is_inside x ≡ true
-    here = first (is_inside x) (is_on_course u.kind u.was (course_of x)) g
+    here = (and_parts (is_inside x) (is_on_course u.kind u.was (course_of x)) g).0
 
     inside_has : (o : Option Answer) → verdict v x (turn_at l.turn.courses q) ≡ o → HasItsOwn w q (inside u o)
     inside_has None e = undecided_has q x at (undecided x (turn_at l.turn.courses q) here e)
-    inside_has (Some b) e = λ d. reads_at q x at ∙ downgraded_reads x here (downgrade_course u.kind u.was (course_of x) (second (is_inside x) (is_on_course u.kind u.was (course_of x)) g) d)
+    inside_has (Some b) e = λ d. reads_at q x at ∙ downgraded_reads x here (downgrade_course u.kind u.was (course_of x) (and_parts (is_inside x) (is_on_course u.kind u.was (course_of x)) g).1 d)
   has q Forgotten x at g = tt
 
   pub each : (q : ℕ) → HasItsOwn w q (standing_of w q)

@@ -138,7 +138,7 @@ module _ (p : ℕ) (i : Inputs) (patient : i.starving ≡ false) where
         (turn Rests rests (stage_at x.behind.stages p) (Begin c i) here w (k.old.fits.stands p k.inside) k.call k.first k.no_put).holds (turn_at x.behind.machine.lock.turn.courses p) (k.old.lock.in_turn p)
 
 starved_behind : (w : World) → Stands w → how_many w.state.starved ≡ starved w.behind.machine.lock.turn
-starved_behind w s = ap (λ x. how_many x.state.starved) s.seen ∙ view.how_many-starved w.behind.machine.lock.turn.courses
+starved_behind w s = ap (λ x. how_many x.state.starved) s.seen ∙ sees.how_many_counted w.behind.machine.lock.turn.courses
 
 not_counted : (w : World) (p : ℕ) → Unstarved p w → is_starved w p ≡ false
 not_counted w p k = ap (λ x. is_starved x p) k.stands.seen ∙ (sees.starved_at w.behind.machine.lock.turn.courses p ∙ by_bit (is_counted (turn_at w.behind.machine.lock.turn.courses p)) (sees.counted_bit (turn_at w.behind.machine.lock.turn.courses p)) (none_at w.behind.machine.lock.turn.courses p k.none)) where

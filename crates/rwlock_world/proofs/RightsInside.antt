@@ -1,6 +1,7 @@
 -- In which calls a party may be, and what it seeks there.
 use Rattle.std.proofs.Common.{◌≡◌, ℕ, ◌<◌, ◌&&◌, inl, inr, Bool, true, false, List, length, Option, Some, None, refl, ap, sym, ◌∙◌, subst}
 use Rattle.std.proofs.lemmas.List.{length-map}
+use Rattle.std.proofs.lemmas.Bool.{and_parts}
 use Rattle.lock_world.specs.declared.moves.Answer.{Answer}
 use Rattle.lock_world.specs.declared.refusal.Refusal.TheVariants as refusal
 use Rattle.lock_world.specs.declared.standing.Kind.{Kind}
@@ -94,10 +95,6 @@ drop_seeks (place.Add true) e = absurd (cc)
 drop_seeks (place.Add false) e = absurd (cc)
 drop_seeks _ e = absurd (cc)
 
-both : (a b : Bool) → a && b ≡ true → (a ≡ true) × (b ≡ true)
-both true b h = (refl, h)
-both false b h = absurd (cc)
-
 same_within : (u x : Within) (d e : Option Answer) → inside x e ≡ inside u d → x ≡ u
 same_within u x d e h = cc
 
@@ -126,7 +123,7 @@ module _ (l : RwLock) (ss : List Stage) (opening : ℕ) (v : ℕ) (fits : Fits l
   fitting p u d e =
       let at = staged p u d e in
       let P : Stage → Type 0 = λ s. goes_with s (place_at l.places p) ≡ true in
-      both (is_inside (place_at l.places p)) (is_on_course u.kind u.was (course_of (place_at l.places p))) (subst P at.0 (fits.stands p at.1))
+      and_parts (is_inside (place_at l.places p)) (is_on_course u.kind u.was (course_of (place_at l.places p))) (subst P at.0 (fits.stands p at.1))
 
   pub inside_calls : (p : ℕ) (u : Within) (d : Option Answer) → standing_of w p ≡ inside u d → is_long_call u.kind u.was ≡ true
   inside_calls p u d e =

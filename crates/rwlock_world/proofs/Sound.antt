@@ -179,7 +179,7 @@ module _ (t : Table LockedNumber) (laws : IsRwLock t.machine.lock) (fits : IsNum
     inside_calls = calls.inside_calls t.machine.lock t.stages t.opening t.machine.value fits;
     drops_seek_nothing = calls.drops_seek_nothing t.machine.lock t.stages t.opening t.machine.value fits;
     as_many_seek = calls.as_many_seek t.machine.lock t.stages t.opening t.machine.value fits;
-    few_starved = rw (view.how_many-starved) laws.turn.few_starved;
+    few_starved = rw (sees.how_many_counted) laws.turn.few_starved;
     once = λ p. omega (arith, laws.one_entry p);
     in_order = by_list;
   } where
@@ -198,10 +198,6 @@ rests (Outside rest.Holding) x g o = guard_rests x g
 rests (Outside rest.Finished) x g o = absurd (cc)
 rests (Inside u) x g o = absurd (cc)
 rests Forgotten x g o = g
-
-split : (a b : Bool) → a && b ≡ true → (a ≡ true) × (b ≡ true)
-split true b h = (refl, h)
-split false b h = absurd (cc)
 
 past_out : (xs : List Place) (p : ℕ) → (p < length xs) ⊎ (place_at xs p ≡ place.Out)
 past_out [] p = inr refl
@@ -315,9 +311,6 @@ nobody_holds (Some p) xs e = absurd (by_share (share_of (place_at xs p)) e) wher
   by_share waiting e = cc
   by_share writing e = cc
 
-one_counted : (b : Bool) (n : ℕ) → Rattle.mutex_machine.specs.Course.bit b ≡ n → b ≡ true → n ≡ 1
-one_counted b n e h = sym e ∙ ap Rattle.mutex_machine.specs.Course.bit h
-
 module _ (t : Table LockedNumber) (laws : IsRwLock t.machine.lock) (fits : IsNumberTable t) where
   abbrev seen_as : World
   seen_as = view_of t
@@ -348,7 +341,7 @@ module _ (t : Table LockedNumber) (laws : IsRwLock t.machine.lock) (fits : IsNum
         ];
         starved = λ p counts.
             let ts = t.machine.lock.turn.courses in
-            let one : counted (turn_at ts p) ≡ 1 = one_counted (is_counted (turn_at ts p)) (counted (turn_at ts p)) (sees.counted_bit (turn_at ts p)) (sym (sees.starved_at ts p) ∙ counts) in
+            let one : counted (turn_at ts p) ≡ 1 = true_one (is_counted (turn_at ts p)) (counted (turn_at ts p)) (sees.counted_bit (turn_at ts p)) (sym (sees.starved_at ts p) ∙ counts) in
             let listed_once : entries_of p t.machine.lock.turn.entries ≡ 1 = laws.turn.starved_listed (turns_rest ts (λ q. rests_there (place_at t.machine.lock.places q) (turn_at ts q) (quiet q) (laws.in_turn q))) p one in
             omega (arith, listed_once);
       }
@@ -385,5 +378,5 @@ none_test None = refl
 none_test (Some p) = refl
 
 -- the turn's word
-pub held_seen : (l : RwLock) (b : Bool) → Rattle.mutex_machine.specs.Course.bit b ≡ lock.holders l.turn → Rattle.std.specs.Prelude.not b ≡ state.is_nobody (turn_by (holder_of l.turn) l.places)
+pub held_seen : (l : RwLock) (b : Bool) → bit b ≡ lock.holders l.turn → Rattle.std.specs.Prelude.not b ≡ state.is_nobody (turn_by (holder_of l.turn) l.places)
 held_seen l b e = ap Rattle.std.specs.Prelude.not (sees.held_seen b l.turn.courses e) ∙ (none_test (holder_of l.turn) ∙ sym (nobody_test (holder_of l.turn) l.places))

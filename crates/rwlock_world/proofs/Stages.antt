@@ -1,5 +1,6 @@
 -- A party's stage, and what it seeks, go with its place after each action.
 use Rattle.std.proofs.Common.{◌≡◌, ℕ, ◌&&◌, Bool, true, false, Option, Some, None, refl, ap, ◌∙◌}
+use Rattle.std.proofs.lemmas.Bool.{and_parts}
 use Rattle.lock_world.specs.declared.moves.Answer.{Answer}
 use Rattle.lock_world.specs.declared.moves.Answer.TheVariants as answer
 use Rattle.lock_world.specs.declared.moves.Call.TheVariants as call
@@ -67,14 +68,6 @@ strays_not w x h = never_strays w.kind w.was (course_of x) h
 abbrev pub stage_then : Within → ℕ → Next → Stage
 stage_then w v n = stage_after rest.Holding w (answer_by v n)
 
-first : (a b : Bool) → a && b ≡ true → a ≡ true
-first true b h = refl
-first false b h = absurd (cc)
-
-second : (a b : Bool) → a && b ≡ true → b ≡ true
-second true b h = h
-second false b h = absurd (cc)
-
 -- a call on its course ends by an answer by which it may, and its party stands where it may then
 pub record Over (k : Kind) (r : Rest) (v : ℕ) (n : Next) : Type 0 where
   pub ends : may_end k (answer_by v n) ≡ true
@@ -86,19 +79,19 @@ EndsSo k r c = (v : ℕ) (e : End) (q : Place) → ends_in c e q ≡ true → Ov
 first_polled : EndsSo kind.FirstPoll rest.Idle polls
 first_polled v Got q h = record { ends = refl; fits = h }
 first_polled v Pending q h = record { ends = refl; fits = h }
-first_polled v (Refused refusal.Memory) q h = record { ends = refl; fits = first (is_future q) true h }
-first_polled v (Refused refusal.Starved) q h = record { ends = refl; fits = first (is_future q) true h }
-first_polled v (Refused refusal.Readers) q h = record { ends = refl; fits = first (is_future q) true h }
-first_polled v (Refused _) q h = let never = second (is_future q) false h in absurd (cc)
+first_polled v (Refused refusal.Memory) q h = record { ends = refl; fits = (and_parts (is_future q) true h).0 }
+first_polled v (Refused refusal.Starved) q h = record { ends = refl; fits = (and_parts (is_future q) true h).0 }
+first_polled v (Refused refusal.Readers) q h = record { ends = refl; fits = (and_parts (is_future q) true h).0 }
+first_polled v (Refused _) q h = let never = (and_parts (is_future q) false h).1 in absurd (cc)
 first_polled v _ q h = absurd (cc)
 
 later_polled : EndsSo kind.LaterPoll rest.Pending polls
 later_polled v Got q h = record { ends = refl; fits = h }
 later_polled v Pending q h = record { ends = refl; fits = h }
-later_polled v (Refused refusal.Memory) q h = record { ends = refl; fits = first (is_future q) true h }
-later_polled v (Refused refusal.Starved) q h = record { ends = refl; fits = first (is_future q) true h }
-later_polled v (Refused refusal.Readers) q h = record { ends = refl; fits = first (is_future q) true h }
-later_polled v (Refused _) q h = let never = second (is_future q) false h in absurd (cc)
+later_polled v (Refused refusal.Memory) q h = record { ends = refl; fits = (and_parts (is_future q) true h).0 }
+later_polled v (Refused refusal.Starved) q h = record { ends = refl; fits = (and_parts (is_future q) true h).0 }
+later_polled v (Refused refusal.Readers) q h = record { ends = refl; fits = (and_parts (is_future q) true h).0 }
+later_polled v (Refused _) q h = let never = (and_parts (is_future q) false h).1 in absurd (cc)
 later_polled v _ q h = absurd (cc)
 
 tried : EndsSo kind.Try rest.Idle tries

@@ -194,7 +194,7 @@ module _ (m : Move) (l k : RwLock) (ss : List Stage) (opening : ℕ) (ts : List 
     by_list for_the_turn = h.2
     by_list for_no_readers = nr
     by_list for_no_writer = nw
-  cause x f c ew er nw nr refusal.Starved h = view.how_many-starved l.turn.courses ∙ h
+  cause x f c ew er nw nr refusal.Starved h = sees.how_many_counted l.turn.courses ∙ h
   cause x f c ew er nw nr refusal.Readers h = absurd h
   cause x f c ew er nw nr refusal.Permits h = absurd h
   cause x f c ew er nw nr refusal.Generations h = absurd h

@@ -10,7 +10,7 @@ use Rattle.lock_table.specs.Tables.{IsTable}
 use Rattle.lock_table.proofs.Mapped.{mapped_at}
 use Rattle.mutex_machine.specs.Course.{Course as TurnCourse, counted}
 use Rattle.mutex_machine.specs.Mutex.{course_at as turn_at, is_counted}
-use Rattle.mutex_machine.proofs.Holders as sees
+use Rattle.mutex_machine.proofs.Rosters as rosters
 use Rattle.rwlock_machine.specs.declared.program.Place.{Place}
 use Rattle.rwlock_machine.specs.declared.program.Place.TheVariants as place
 use Rattle.rwlock_machine.specs.declared.program.Ending.TheVariants as ending
@@ -34,17 +34,6 @@ upgrades_at xs p = mapped_at is_upgrade xs p place.Out
 
 pub seeks_at : (xs : List Place) (p : ℕ) → get_or (map sought_at xs) p None ≡ sought_at (place_at xs p)
 seeks_at xs p = mapped_at sought_at xs p place.Out
-
-one_if : (b : Bool) → (if b then 1 else 0) ≡ bit b
-one_if true = refl
-one_if false = refl
-
-pub how_many-starved : (ts : List TurnCourse) → how_many (map is_counted ts) ≡ sum_by counted ts
-how_many-starved [] = refl
-how_many-starved (t ∷ ts) = omega (arith, one_starved (is_counted t), sum_by-cons counted t ts, sees.counted_bit t, how_many-starved ts) where
-  one_starved : (b : Bool) → (if b then 1 else 0) ≡ Rattle.mutex_machine.specs.Course.bit b
-  one_starved true = refl
-  one_starved false = refl
 
 pub reading_bit : (x : Place) → bit (is_reading x) ≡ reads x
 reading_bit place.Out = refl
@@ -104,5 +93,4 @@ reading_bit place.DownNotify = refl
 reading_bit place.DowngradeNotify = refl
 
 pub how_many-read : (xs : List Place) → how_many (map is_reading xs) ≡ sum_by reads xs
-how_many-read [] = refl
-how_many-read (x ∷ xs) = omega (arith, one_if (is_reading x), sum_by-cons reads x xs, reading_bit x, how_many-read xs)
+how_many-read = rosters.how_many_on reads place.Out reading_bit refl
