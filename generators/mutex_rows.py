@@ -1,142 +1,11 @@
 #!/usr/bin/env python3
-"""Writes the case tables of a mutex's steps: crates/mutex_machine/proofs/Rows.antt, of the machine,
-and crates/mutex_world/proofs/Rows.antt, of its World with its answers.
+"""Writes the case table of a mutex's steps: crates/mutex_machine/proofs/Rows.antt.
 
 Run it at the top of the repository after a change of the mutex's program. Each row is one place
 with one finding of its action: what the step changes, and what it decides.
 """
 
-HEAD = '''-- Each step of a call, place by place: what it changes, and what it decides. Written by generators/mutex_rows.py.
-use Rattle.std.proofs.Common.{◌≡◌, ℕ, ◌<◌, ◌==◌, ◌⊎◌, inl, inr, Bool, true, false, Option, Some, None, refl}
-use Rattle.lock_world.specs.declared.refusal.Refusal.{Refusal}
-use Rattle.lock_world.specs.declared.refusal.Refusal.TheVariants as refusal
-use Rattle.mutex_machine.specs.declared.program.Place.{Place}
-use Rattle.mutex_machine.specs.declared.program.Place.TheVariants.{Out, Holding, Enter, Try, Clear, CancelUncount, CancelLeave, Join, Look, Ask, Retry, PassOn, Count, JoinStarved, LookAlone, PassOnListed, AskStarved, Seize, Uncount, Leave, RefuseUncount, RefuseLeave, RefuseNotifyMemory, RefuseNotifyStarved, ReleaseNotify}
-use Rattle.mutex_machine.specs.declared.program.Action.{Action}
-use Rattle.mutex_machine.specs.declared.program.Action.TheVariants as act
-use Rattle.mutex_machine.specs.declared.program.Next.{Next}
-use Rattle.mutex_machine.specs.declared.program.Next.TheVariants as next
-use Rattle.mutex_machine.specs.declared.program.End.TheVariants as «end»
-use Rattle.mutex_machine.specs.declared.program.Found.{Found}
-use Rattle.mutex_machine.specs.declared.program.Found.TheVariants.{Done, Free, Held, SomeStarved, AtLimit, NoMemory, Yes, No}
-use Rattle.lock_world.specs.declared.moves.Answer.{Answer}
-use Rattle.lock_world.specs.declared.moves.Answer.TheVariants as answer
-use Rattle.lock_world.specs.declared.moves.Got.TheVariants.{Value}
-use Rattle.lock_world.specs.Refusals.{number_of}
-use Rattle.lock_world.specs.Standings.{refused}
-use Rattle.lock_world.specs.Steps.{Deed, nothing, changes, does, joins, asks, leaves, notifies}
-use Rattle.mutex_machine.specs.Program.{action_of, next_of}
-use Rattle.mutex_machine.specs.Roles.{counted, listed}
-use Rattle.mutex_machine.specs.Machine.{Lock}
-use Rattle.mutex_machine.specs.Acts.{Finds, holders, starved}
-use Rattle.mutex_world.specs.Legal.{Change, ListName, takes, releases, starves, recovers, puts, for_the_lock, gives_back, gives_up}
-use Rattle.mutex_machine.specs.State.{is_holder, is_counted}
-use Rattle.mutex_world.specs.View.{verdict}
-use Rattle.mutex_machine.proofs.Kept.{after}
-
--- what an action changes that found this
-abbrev pub deed_of : Action → Found → Deed Change ListName
-deed_of act.Take Free = changes takes
-deed_of act.TakeAlone Free = changes takes
-deed_of act.Set Free = changes takes
-deed_of act.Count Done = changes starves
-deed_of act.Uncount Done = changes recovers
-deed_of act.Clear Done = changes releases
-deed_of act.Join Done = does for_the_lock joins
-deed_of act.Ask Yes = does for_the_lock asks
-deed_of act.Leave Done = does for_the_lock leaves
-deed_of act.Notify Done = does for_the_lock (notifies 1)
-deed_of _ _ = nothing
-
--- a party joins the list here
-abbrev pub is_joining : Place → Bool
-is_joining (Join told) = true
-is_joining JoinStarved = true
-is_joining _ = false
-
-abbrev pub is_at_try : Place → Bool
-is_at_try Try = true
-is_at_try _ = false
-
--- the answer of a try, or of another call
-abbrev pub answer_by : Bool → ℕ → Next → Answer
-answer_by trying v (next.Do action p) = answer.Stepped
-answer_by true v (next.End «end».Got) = answer.Granted (Value v)
-answer_by false v (next.End «end».Got) = answer.Ready (Value v)
-answer_by trying v (next.End «end».Pending) = answer.Pending
-answer_by trying v (next.End «end».NotFree) = answer.None
-answer_by trying v (next.End «end».GivenBack) = answer.GivenBack
-answer_by trying v (next.End («end».Refused r)) = refused r
-
-abbrev pub is_after_ready : Answer → Bool
-is_after_ready (answer.Refused n) = n == number_of refusal.Finished
-is_after_ready _ = false
-
--- how a deed turns whether its party holds the lock, and whether it is starved
-abbrev pub Holds : Deed Change ListName → Bool → Bool → Type 0
-Holds (changes takes) b c = (b ≡ false) × (c ≡ true)
-Holds (changes releases) b c = (b ≡ true) × (c ≡ false)
-Holds _ b c = c ≡ b
-
-abbrev pub Starves : Deed Change ListName → Bool → Bool → Type 0
-Starves (changes starves) b c = (b ≡ false) × (c ≡ true)
-Starves (changes recovers) b c = (b ≡ true) × (c ≡ false)
-Starves _ b c = c ≡ b
-
--- what a deed found, and that no step of a program puts a value
-abbrev pub Finding : Deed Change ListName → Lock → Place → Type 0
-Finding (changes takes) l from = (holders l ≡ 0) × ((starved l ≡ 0) ⊎ (counted from ≡ 1))
-Finding (changes starves) l from = starved l < l.limit
-Finding (changes (puts v)) l from = ⊥
-Finding _ l from = Unit {0}
-
-abbrev pub verdict_then : ℕ → Bool → Next → Option Answer
-verdict_then v trying (next.Do a q) = verdict v q
-verdict_then v trying (next.End e) = Some (answer_by trying v (next.End e))
-
--- why a step refuses its call
-abbrev pub Refuses : Bool → Lock → Place → Found → Refusal → Type 0
-Refuses memory l from f refusal.Memory = (memory ≡ false) × (listed from ≡ 0) × (deed_of (action_of from) f ≡ nothing) × (is_joining from ≡ true)
-Refuses memory l from f refusal.Starved = starved l ≡ l.limit
-Refuses memory l from f _ = ⊥
-
--- why a step decides its call on an answer
-abbrev pub Reason : Bool → Lock → ℕ → Place → Found → Answer → Type 0
-Reason memory l v from f answer.Pending = (action_of from ≡ act.Ask) × (f ≡ No) × (listed from ≡ 1)
-Reason memory l v from f (answer.Ready got) = (is_holder (after from f) ≡ true) × (got ≡ Value v)
-Reason memory l v from f (answer.Granted got) = (is_holder (after from f) ≡ true) × (got ≡ Value v)
-Reason memory l v from f answer.None = Unit {0}
-Reason memory l v from f (answer.Refused n) = (r : Refusal) × (n ≡ number_of r) × Refuses memory l from f r
-Reason memory l v from f _ = ⊥
-
-abbrev pub Judged : Bool → Lock → ℕ → Place → Found → Option Answer → Option Answer → Type 0
-Judged memory l v from f (Some b) o = (o ≡ Some b) × (gives_back (deed_of (action_of from) f) ≡ true)
-Judged memory l v from f None None = Unit {0}
-Judged memory l v from f None (Some b) = Reason memory l v from f b
-
--- whether a join found memory, and that a party gives nothing up until its call is decided
-abbrev pub Room : Bool → Deed Change ListName → Type 0
-Room memory (does list joins) = memory ≡ true
-Room memory _ = Unit {0}
-
-abbrev pub HoldsOn : Option Answer → Deed Change ListName → Type 0
-HoldsOn None d = gives_up d ≡ false
-HoldsOn (Some b) d = Unit {0}
-
-pub record Row (memory : Bool) (l : Lock) (v : ℕ) (from : Place) (f : Found) : Type 0 where
-  pub holds : Holds (deed_of (action_of from) f) (is_holder from) (is_holder (after from f))
-  pub starves : Starves (deed_of (action_of from) f) (is_counted from) (is_counted (after from f))
-  pub finding : Finding (deed_of (action_of from) f) l from
-  pub judged : Judged memory l v from f (verdict v from) (verdict_then v (is_at_try from) (next_of from f))
-  pub room : Room memory (deed_of (action_of from) f)
-  pub holds_on : HoldsOn (verdict v from) (deed_of (action_of from) f)
-  pub over : is_after_ready (answer_by (is_at_try from) v (next_of from f)) ≡ false
-
-module _ (memory : Bool) (l : Lock) (v : ℕ) where
-  pub row : (from : Place) (f : Found) → Finds memory (action_of from) f l → Row memory l v from f
-'''
-
-MACHINE_HEAD = """-- Each action of a party, place by place: what it changes, and what it decides. Written by generators/mutex_rows.py.
+HEAD = """-- Each action of a party, place by place: what it changes, and what it decides. Written by generators/mutex_rows.py.
 use Rattle.std.proofs.Common.{◌≡◌, ◌<◌, ◌⊎◌, inl, inr, Bool, true, false, Option, Some, None, refl}
 use Rattle.lock_world.specs.declared.refusal.Refusal.TheVariants.{Memory, Starved}
 use Rattle.lock_world.specs.Steps.{Deed, nothing, changes, does, joins, asks, leaves, notifies}
@@ -233,27 +102,18 @@ module _ (memory : Bool) (l : Lock) where
 
 TAKES = ('Take', 'TakeAlone', 'Set')
 BOTH = '(refl, refl)'
-# How a step is judged: as it was decided before, not yet decided, or decided now for a reason. Each table
-# has its own words for it.
+# How a step is judged: as it was decided before, not yet decided, or decided now for a reason.
 KEPT, UNDECIDED, TAKEN, NOT_FREE, WAITING, NO_MEMORY, AT_LIMIT = range(7)
-WORLD_SAYS = {
+SAYS = {
     KEPT: BOTH,
     UNDECIDED: 'tt',
-    TAKEN: BOTH,
-    NOT_FREE: 'tt',
-    WAITING: '(refl, refl, refl)',
-    NO_MEMORY: '(refusal.Memory, refl, (e, refl, refl, refl))',
-    AT_LIMIT: '(refusal.Starved, refl, e)',
-}
-MACHINE_SAYS = {
-    **WORLD_SAYS,
     TAKEN: 'refl',
+    WAITING: '(refl, refl, refl)',
     NO_MEMORY: '(e, refl, refl)',
     AT_LIMIT: 'e',
 }
 
 rows = []
-machine_rows = []
 
 
 def row(place, action, found, judged):
@@ -268,17 +128,17 @@ def row(place, action, found, judged):
         finding = 'e'
     room = 'e' if action == 'Join' and found == 'Done' else 'tt'
     holds_on = 'tt' if judged == KEPT else 'refl'
-    machine_holds_on = 'refl' if place in ('(Uncount true)', '(Uncount false)', 'Leave') else holds_on
-    said = MACHINE_SAYS[judged]
+    if place in ('(Uncount true)', '(Uncount false)', 'Leave'):
+        holds_on = 'refl'
     if judged == NOT_FREE:
         said = 'inr e' if found == 'SomeStarved' else 'inl e.0'
-    rows.append(f'  row {place} {found} e = record {{ holds = {holds}; starves = {starves}; finding = {finding}; judged = {WORLD_SAYS[judged]}; room = {room}; holds_on = {holds_on}; over = refl }}')
-    machine_rows.append(f'  row {place} {found} e = record {{ holds = {holds}; starves = {starves}; finding = {finding}; judged = {said}; room = {room}; holds_on = {machine_holds_on} }}')
+    else:
+        said = SAYS[judged]
+    rows.append(f'  row {place} {found} e = record {{ holds = {holds}; starves = {starves}; finding = {finding}; judged = {said}; room = {room}; holds_on = {holds_on} }}')
 
 
 def rest(place):
     rows.append(f'  row {place} _ e = absurd e')
-    machine_rows.append(f'  row {place} _ e = absurd e')
 
 
 def one(place, action, judged):
@@ -342,8 +202,5 @@ one('RefuseNotifyMemory', 'Notify', KEPT)
 one('RefuseNotifyStarved', 'Notify', KEPT)
 one('ReleaseNotify', 'Notify', KEPT)
 
-with open('crates/mutex_world/proofs/Rows.antt', 'w', encoding='utf-8') as out:
-    out.write(HEAD + '\n'.join(rows) + '\n')
-
 with open('crates/mutex_machine/proofs/Rows.antt', 'w', encoding='utf-8') as out:
-    out.write(MACHINE_HEAD + '\n'.join(machine_rows) + '\n')
+    out.write(HEAD + '\n'.join(rows) + '\n')

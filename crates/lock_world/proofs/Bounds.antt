@@ -2,7 +2,7 @@
 use Rattle.std.proofs.Common.{◌≡◌, ℕ, zero, suc, ◌+◌, ◌<◌, ◌≤◌, if◌then◌else◌, Bool, true, false, List, [], ◌∷◌, length, get_or, refl, arith}
 use Rattle.std.proofs.lemmas.Bool.Decides.{nat_tests}
 use Rattle.lock_event.specs.declared.event.Entry.{Entry}
-use Rattle.lock_event.specs.Lists.{is_marked_at}
+use Rattle.lock_event.specs.Lists.{is_marked, marked_count, is_marked_at, IsMarkedFirst}
 use Rattle.lock_queue.specs.Parties.{is_party, entries_of}
 use Rattle.lock_world.specs.declared.moves.Answer.{Answer}
 use Rattle.lock_world.specs.declared.moves.Inputs.{Inputs}
@@ -62,3 +62,14 @@ module _ {W : Type 0} (PassesOver : W → ℕ → Inputs → Answer → W → Ty
       let gave = gives w t.0 t.1 t.2 t.3 free t.4 in
       let less : unstarved_in (starved w) (list w) < length (list w) = some_starved w listed gave.1.some_starved in
       omega arith
+
+own_first : (e : Entry ℕ) (es : List (Entry ℕ)) → is_marked e.mark ≡ true → (is_marked_at (is_party e.key) (e ∷ es) ≡ true) × (0 < entries_of e.key (e ∷ es))
+own_first e es h = (grind (arith, nat_tests), grind (arith, nat_tests))
+
+head_marked : (e : Entry ℕ) (es : List (Entry ℕ)) → (is_marked e.mark ≡ false → marked_count es ≡ 0) → 0 < marked_count (e ∷ es) → is_marked e.mark ≡ true
+head_marked e es first some = grind arith
+
+-- where some entry is marked, the first one is
+pub first_marked : (l : List (Entry ℕ)) → IsMarkedFirst l → 0 < marked_count l → (q : ℕ) × (is_marked_at (is_party q) l ≡ true) × (0 < entries_of q l)
+first_marked [] first some = absurd (omega arith)
+first_marked (e ∷ es) first some = let own = own_first e es (head_marked e es first.0 some) in (e.key, own.0, own.1)

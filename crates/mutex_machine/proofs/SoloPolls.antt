@@ -1,5 +1,5 @@
 -- Polls in a row, each carried out alone while the lock is free.
-use Rattle.std.proofs.Common.{◌≡◌, ◌≢◌, ℕ, zero, suc, ◌+◌, ◌-◌, ◌<◌, ◌≤◌, ◌⊎◌, inl, inr, true, false, IsSomeAnd, List, [], ◌∷◌, length, refl, sym, ap, arith, subst, ◌∙◌}
+use Rattle.std.proofs.Common.{◌≡◌, ◌≢◌, ℕ, zero, suc, ◌+◌, ◌-◌, ◌<◌, ◌≤◌, ◌⊎◌, inl, inr, true, IsSomeAnd, List, [], ◌∷◌, length, refl, sym, ap, arith, subst, ◌∙◌}
 use Rattle.std.proofs.Math.Decide.{ℕ_discrete}
 use Rattle.std.specs.List.{sum_by}
 use Rattle.std.proofs.lemmas.List.Sums.{sum_by-cons}
@@ -7,13 +7,14 @@ use Rattle.std.proofs.lemmas.Bool.Decides.{nat_tests}
 use Rattle.lock_event.specs.declared.event.Entry.{Entry}
 use Rattle.lock_event.specs.declared.event.Mark.{Mark}
 use Rattle.lock_event.specs.declared.event.Mark.TheVariants.{Waiting, Notified}
-use Rattle.lock_event.specs.Lists.{entry, is_marked, is_marked_at, joined, notified, without, marked_count, mark_waiting, IsMarkedFirst}
+use Rattle.lock_event.specs.Lists.{entry, joined, notified, without, marked_count, mark_waiting}
 use Rattle.lock_event.proofs.Marks.{length-mark_waiting}
 use Rattle.lock_event.proofs.Counts.{length-joined, length-without, marked_count-notified}
 use Rattle.lock_queue.specs.Parties.{is_party, entries_of}
 use Rattle.lock_queue.proofs.Rekeyed.{entries_of-joined, entries_of-mark_waiting, entries_of-without_own, entries_of-without_other}
 use Rattle.lock_queue.proofs.Queues.{own_one, other_one}
 use Rattle.lock_world.specs.declared.refusal.Refusal.TheVariants as refusal
+pub use Rattle.lock_world.proofs.Bounds.{first_marked}
 use Rattle.mutex_machine.specs.declared.program.Place.{Place}
 use Rattle.mutex_machine.specs.declared.program.Place.TheVariants.{Out, Holding, Ask, AskStarved}
 use Rattle.mutex_machine.specs.declared.program.LockCall.TheVariants as call
@@ -270,17 +271,6 @@ module _ (l : Lock) (mutex : IsMutex l) (open_lock : holders l ≡ 0) where
       let gave = gave_one n t.0 t.1 l t.2 t.4 (λ owned open_then. in_turn n t.2 new owned open_then t.6) (either l mutex.owners open_lock t.0 t.1 t.2 t.3 t.5) in
       let less : unstarved_listed l < length l.entries = some_starved rest gave.1 in
       omega (arith, gave.0)
-
--- the first entry is marked, where one is
-head_marked : (e : Entry ℕ) (es : List (Entry ℕ)) → (is_marked e.mark ≡ false → marked_count es ≡ 0) → 0 < marked_count (e ∷ es) → is_marked e.mark ≡ true
-head_marked e es first some = grind arith
-
-own_first : (e : Entry ℕ) (es : List (Entry ℕ)) → is_marked e.mark ≡ true → (is_marked_at (is_party e.key) (e ∷ es) ≡ true) × (0 < entries_of e.key (e ∷ es))
-own_first e es told = (grind (arith, nat_tests), grind (arith, nat_tests))
-
-pub first_marked : (l : List (Entry ℕ)) → IsMarkedFirst l → 0 < marked_count l → (q : ℕ) × (is_marked_at (is_party q) l ≡ true) × (0 < entries_of q l)
-first_marked [] first some = absurd (omega arith)
-first_marked (e ∷ es) first some = let own = own_first e es (head_marked e es first.0 some) in (e.key, own.0, own.1)
 
 -- a listed party that rests is pending
 pending_at : (x : Place) → is_resting x ≡ true → 0 < listed x → is_waiting x ≡ true

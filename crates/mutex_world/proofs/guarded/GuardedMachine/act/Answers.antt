@@ -2,7 +2,7 @@
 use Rattle.std.proofs.Common.{◌≡◌, ℕ, Option, None, ap, sym, ◌∙◌, subst}
 use Rattle.lock_world.specs.Frame.{put_in}
 use Rattle.mutex_world.specs.Guarded.{Guarded, MovesBy, Carries, place_for, place_of, is_try_kind, answer_by}
-use Rattle.mutex_world.proofs.Acts.{started, carry_keeps}
+use Rattle.mutex_world.proofs.table.Acts.{started, carry_keeps}
 use Rattle.mutex_world.proofs.guarded.GuardedMachine.act.Goals as goal
 
 pub returns-in-None-clause-acts : goal.returns-in-None-clause-acts

@@ -1,5 +1,5 @@
 -- Solo polls in turn.
-use Rattle.mutex_world.proofs.Bound.{bounded as law}
+use Rattle.mutex_world.proofs.bound.Bound.{bounded as law}
 use Rattle.mutex_world.proofs.world.World.solo_polls.Goals as goal
 
 pub returns : goal.returns

@@ -3,8 +3,8 @@ use Rattle.std.proofs.Common.{ap, sym, ◌∙◌}
 use Rattle.lock_world.specs.Rosters.{how_many}
 use Rattle.mutex_machine.specs.Acts.{starved}
 use Rattle.mutex_world.specs.Guarded.{Guarded}
-use Rattle.mutex_world.proofs.Seen.{how_many-seen}
+use Rattle.mutex_machine.proofs.Seen.{how_many_counted}
 use Rattle.mutex_world.proofs.world.World.starved.Goals as goal
 
 pub returns : goal.returns
-returns c = c.starved.ensures ∙ (ap starved c.lock.ensures ∙ (ap (λ (g : Guarded). starved g.lock) c.machine.ensures ∙ (sym (how_many-seen c.self.inside.table.machine.lock.places) ∙ ap (λ w. how_many w.state.starved) c.self.view_is)))
+returns c = c.starved.ensures ∙ (ap starved c.lock.ensures ∙ (ap (λ (g : Guarded). starved g.lock) c.machine.ensures ∙ (sym (how_many_counted c.self.inside.table.machine.lock.places) ∙ ap (λ w. how_many w.state.starved) c.self.view_is)))

@@ -3,7 +3,7 @@ use Rattle.std.proofs.Common.{ap, ◌∙◌}
 use Rattle.lock_table.specs.Tables.{new_table}
 use Rattle.mutex_world.specs.State.{new_world}
 use Rattle.mutex_world.specs.View.{view_of}
-use Rattle.mutex_world.proofs.Opening.{starts_new}
+use Rattle.mutex_world.proofs.table.Opening.{starts_new}
 use Rattle.mutex_world.proofs.world.World.with_limits.Goals as goal
 
 pub returns-in-Ok-new-clause-opening : goal.returns-in-Ok-new-clause-opening

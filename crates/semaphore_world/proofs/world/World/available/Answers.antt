@@ -2,7 +2,7 @@
 use Rattle.std.proofs.Common.{ap, sym, ◌∙◌}
 use Rattle.semaphore_machine.specs.Machine.{Semaphore}
 use Rattle.semaphore_world.specs.State.{available}
-use Rattle.semaphore_world.proofs.Seen.{available_seen}
+use Rattle.semaphore_world.proofs.table.Seen.{available_seen}
 use Rattle.semaphore_world.proofs.world.World.available.Goals as goal
 
 pub returns : goal.returns

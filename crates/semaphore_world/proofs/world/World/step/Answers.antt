@@ -1,5 +1,5 @@
 -- The table's step is legal, as callers see it.
-use Rattle.semaphore_world.proofs.Stepping.{stepped}
+use Rattle.semaphore_world.proofs.step.Stepping.{stepped}
 use Rattle.semaphore_world.proofs.world.World.step.Goals as goal
 
 pub returns : goal.returns

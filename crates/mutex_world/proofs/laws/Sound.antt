@@ -1,0 +1,135 @@
+-- What always holds of a mutex's World, as callers see it, and that no notification is lost at rest.
+use Rattle.std.proofs.Common.{◌≡◌, ℕ, suc, ◌<◌, ◌⊎◌, inl, inr, Bool, true, List, [], ◌∷◌, length, Option, refl, arith, ap, sym, ◌∙◌, subst}
+use Rattle.std.proofs.lemmas.Bool.Decides.{nat_tests}
+use Rattle.std.specs.List.{list_all}
+use Rattle.lock_event.specs.declared.event.Entry.{Entry}
+use Rattle.lock_queue.specs.Parties.{entries_of}
+use Rattle.lock_world.specs.declared.moves.Answer.{Answer}
+use Rattle.lock_world.specs.declared.standing.Kind.{Kind}
+use Rattle.lock_world.specs.declared.standing.Kind.TheVariants as kind
+use Rattle.lock_world.specs.declared.standing.Rest.{Rest}
+use Rattle.lock_world.specs.declared.standing.Rest.TheVariants as rest
+use Rattle.lock_world.specs.declared.standing.Stage.{Stage}
+use Rattle.lock_world.specs.declared.standing.Stage.TheVariants.{Outside, Inside, Forgotten}
+use Rattle.lock_world.specs.declared.standing.Within.{Within}
+use Rattle.lock_world.specs.Rights.{Right, hold}
+use Rattle.lock_world.specs.Standings.{Standing, outside, inside, forgotten, is_outside_stage}
+use Rattle.lock_table.specs.Lending.{table_with}
+use Rattle.lock_table.specs.Stages.{stage_at, stands_as}
+use Rattle.lock_table.specs.Tables.{Table}
+use Rattle.lock_table.proofs.Lending.{lent_seen}
+use Rattle.lock_table.proofs.Past.{by_stage_or_past_at}
+use Rattle.lock_table.proofs.Views.{rest_seen, outside_at}
+use Rattle.mutex_machine.specs.declared.program.Place.{Place}
+use Rattle.mutex_machine.specs.declared.program.Place.TheVariants as place
+use Rattle.mutex_machine.specs.Acts as lock
+use Rattle.mutex_machine.specs.Acts.{IsMutex}
+use Rattle.mutex_machine.specs.Machine.{place_at}
+use Rattle.mutex_machine.specs.Roles.{counted, listed, is_resting}
+use Rattle.mutex_machine.specs.State.{is_counted}
+use Rattle.mutex_machine.proofs.CanDo.{once}
+use Rattle.mutex_machine.proofs.Seen as sees
+use Rattle.mutex_world.specs.Guarded.{Guarded, place_of, is_within, goes_with, with_value}
+use Rattle.mutex_world.specs.Laws.{HasRight, IsSound, is_long_call, is_at_rest, IsAwake}
+use Rattle.mutex_world.specs.Lending.{world_with}
+use Rattle.mutex_world.specs.State.{World}
+use Rattle.mutex_world.specs.Steps.{IsMutexTable}
+use Rattle.mutex_world.specs.View.{verdict, view_of}
+use Rattle.mutex_world.proofs.step.Owns as owns
+use Rattle.mutex_world.proofs.table.Seen as seen
+
+excluded : (w : World) (p q : ℕ) (r s : Right) → HasRight w p r → HasRight w q s → p ≡ q
+excluded w p q hold hold a b = cc
+excluded w p q hold _ a b = absurd b
+excluded w p q _ s a b = absurd a
+
+-- a stage inside a call is a poll's or a drop's
+long_by : (k : Kind) (r : Rest) (x : Place) → is_within k r x ≡ true → is_long_call k r ≡ true
+long_by kind.FirstPoll rest.Idle x h = refl
+long_by kind.LaterPoll rest.Pending x h = refl
+long_by kind.Drop rest.Pending x h = refl
+long_by kind.Drop rest.Holding x h = refl
+long_by _ _ x h = absurd (cc (h))
+
+long_at : (s : Stage) (x : Place) (d : Option Answer) (u : Within) (e : Option Answer) → goes_with s x ≡ true → stands_as d s ≡ inside u e → is_long_call u.kind u.was ≡ true
+long_at (Outside r) x d u e g h = absurd (cc h)
+long_at Forgotten x d u e g h = absurd (cc h)
+long_at (Inside w) x d u e g h =
+    let same : w ≡ u = cc h in
+    let P : Within → Type 0 = λ v. is_long_call v.kind v.was ≡ true in
+    subst P same (long_by w.kind w.was x g)
+
+-- outside every call a party rests
+resting : (s : Stage) (x : Place) → goes_with s x ≡ true → is_outside_stage s ≡ true → is_resting x ≡ true
+resting s place.Out g o = refl
+resting s place.Holding g o = refl
+resting s place.Ask g o = refl
+resting s place.AskStarved g o = refl
+resting (Outside rest.Idle) _ g o = absurd (cc g)
+resting (Outside rest.Pending) _ g o = absurd (cc g)
+resting (Outside rest.Holding) _ g o = absurd (cc g)
+resting (Outside rest.Finished) _ g o = absurd (cc g)
+resting (Inside w) _ g o = absurd (cc o)
+resting Forgotten _ g o = absurd (cc g)
+
+all_rest : (xs : List Place) → ((q : ℕ) → q < length xs → is_resting (place_at xs q) ≡ true) → lock.IsAtRest xs
+all_rest [] h = tt
+all_rest (x ∷ xs) h = (h 0 (omega arith), all_rest xs (λ q i. h (suc q) (omega arith)))
+
+-- a listed party that is outside every call is pending, or was
+pends_so : (s : Stage) (x : Place) (d : Option Answer) → goes_with s x ≡ true → is_outside_stage s ≡ true → 0 < listed x → (stands_as d s ≡ outside rest.Pending) ⊎ (stands_as d s ≡ forgotten)
+pends_so (Outside rest.Pending) x d g o l = inl refl
+pends_so (Outside rest.Idle) place.Out d g o l = absurd (omega arith)
+pends_so (Outside rest.Idle) _ d g o l = absurd (cc g)
+pends_so (Outside rest.Holding) place.Holding d g o l = absurd (omega arith)
+pends_so (Outside rest.Holding) _ d g o l = absurd (cc g)
+pends_so (Outside rest.Finished) x d g o l = absurd (cc g)
+pends_so (Inside w) x d g o l = absurd (cc o)
+pends_so Forgotten x d g o l = inr refl
+
+one_counted : (x : Place) → is_counted x ≡ true → counted x ≡ 1
+one_counted x h = grind (arith, nat_tests)
+
+module _ (t : Table Guarded) (laws : IsMutex t.machine.lock) (fits : IsMutexTable t) where
+  abbrev xs : List Place
+  xs = t.machine.lock.places
+
+  pub sound : IsSound (view_of t)
+  sound = record {
+    exclusion = λ p q r s a b e. excluded (view_of t) p q r s a b;
+    each = owns.each t laws fits;
+    few_starved = rw sees.how_many_counted laws.few_starved;
+    inside_calls = λ q u d e. by_stage_or_past_at t.stages q (is_long_call u.kind u.was ≡ true)
+        (λ past. (let h : stands_as (verdict t.machine q) Forgotten ≡ inside u d = ap (stands_as (verdict t.machine q)) (sym past) ∙ (sym (seen.stands_seen t q) ∙ e) in absurd (cc (h))))
+        (λ inside. long_at (stage_at t.stages q) (place_of t.machine q) (verdict t.machine q) u d (fits.stands q inside) (sym (seen.stands_seen t q) ∙ e));
+    once = λ p. rw (laws.owners p) (once (place_of t.machine p));
+    in_order = laws.in_order;
+  }
+
+  module _ (rests : is_at_rest (view_of t) ≡ true) where
+    stages_rest : list_all is_outside_stage t.stages ≡ true
+    stages_rest = sym (rest_seen (verdict t.machine) t.stages) ∙ rests
+
+    places_rest : lock.IsAtRest xs
+    places_rest = all_rest xs (λ q i. resting (stage_at t.stages q) (place_at xs q) (fits.stands q (omega (arith, i, fits.as_many))) (outside_at t.stages stages_rest q))
+
+    pub awake : IsAwake (view_of t)
+    awake = record {
+      marked = λ free. laws.wakes places_rest (sees.none_holds 0 xs free.0) free.1;
+      pending = λ q some.
+          let P : Standing → Type 0 = λ z. (z ≡ outside rest.Pending) ⊎ (z ≡ forgotten) in
+          subst P (sym (seen.stands_seen t q)) (by_stage_or_past_at t.stages q (P (stands_as (verdict t.machine q) (stage_at t.stages q)))
+          (λ past. inr (ap (stands_as (verdict t.machine q)) past))
+          (λ inside. pends_so (stage_at t.stages q) (place_of t.machine q) (verdict t.machine q) (fits.stands q inside) (outside_at t.stages stages_rest q) (omega (arith, some, laws.owners q))));
+      starved = λ q counts. (let one : entries_of q t.machine.lock.entries ≡ 1 = laws.starved_listed places_rest q (one_counted (place_of t.machine q) (sym (sees.starved_at xs q) ∙ counts)) in omega arith);
+    }
+
+-- ---- a value put at rest
+
+made : (h : Option ℕ) (bs : List Bool) (v : ℕ) (es : List (Entry ℕ)) (zs ys : List Standing) (limit opening : ℕ) (t : Table Guarded) → zs ≡ ys
+    → Path World (record { state = record { holder = h; starved = bs; value = v }; entries = es; standings = zs; limit = limit; opening_value = opening; behind = t }) (record { state = record { holder = h; starved = bs; value = v }; entries = es; standings = ys; limit = limit; opening_value = opening; behind = t })
+made h bs v es zs ys limit opening t e = cc
+
+-- a table whose value was put is seen as the World in which it was
+pub put_seen : (t : Table Guarded) (v : ℕ) → list_all is_outside_stage t.stages ≡ true → view_of (table_with with_value t v) ≡ world_with (view_of t) v
+put_seen t v rests = made _ _ v _ _ _ _ _ _ (lent_seen (verdict t.machine) (verdict (with_value t.machine v)) t.stages rests)

@@ -1,0 +1,60 @@
+-- The laws of a mutex's World: what follows from one step that its table did.
+use Rattle.std.proofs.Common.{◌≡◌, ◌≢◌, ℕ, ◌+◌, ◌<◌, ◌≤◌, true, List, [], ◌∷◌, refl, sym, ap, ◌∙◌, subst}
+use Rattle.lock_world.specs.declared.moves.Answer.{Answer}
+use Rattle.lock_world.specs.declared.moves.Answer.TheVariants as answer
+use Rattle.lock_world.specs.declared.moves.Call.{Call}
+use Rattle.lock_world.specs.declared.moves.Inputs.{Inputs}
+use Rattle.lock_world.specs.declared.moves.Move.{Move}
+use Rattle.lock_world.specs.declared.moves.What.TheVariants.{Begin}
+use Rattle.lock_world.specs.declared.standing.Rest.TheVariants.{Holding}
+use Rattle.lock_world.specs.Accounts.{Account, account_after, accounts_after}
+use Rattle.lock_world.specs.Standings.{is_outside, is_possible}
+use Rattle.lock_world.specs.Whole.{going_on, moves_of, answers_of}
+use Rattle.lock_frame.specs.Steps.{StepsWell, left_by, beginning}
+use Rattle.lock_frame.proofs.Endings.{ends_outside as outside_at_end}
+use Rattle.lock_frame.proofs.Runs.{last_of}
+use Rattle.mutex_world.specs.Bound.{Promises}
+use Rattle.mutex_world.specs.Guarded.{knows}
+use Rattle.mutex_world.specs.Laws.{IsSound, IsAwake, is_at_rest}
+use Rattle.mutex_world.specs.Runs.{Runs, HoldsWell, TellsRights, accounts_of}
+use Rattle.mutex_world.specs.State.{World, standing_of}
+use Rattle.mutex_world.specs.Steps.{Stands, Steps}
+use Rattle.mutex_world.specs.Whole.{most_steps_of, steps_left_of}
+use Rattle.mutex_world.proofs.whole.Promises.{keeps_promises}
+use Rattle.mutex_world.proofs.rights.Rights.{own, holds_well}
+use Rattle.mutex_world.proofs.laws.Sound.{sound, awake}
+use Rattle.mutex_world.proofs.whole.Whole as whole
+
+sound_now : (w : World) → Stands w → IsSound w
+sound_now w s = subst IsSound (sym s.seen) (sound w.behind s.mutex s.fits)
+
+awake_now : (w : World) → Stands w → is_at_rest w ≡ true → IsAwake w
+awake_now w s = let A : World → Type 0 = λ x. is_at_rest x ≡ true → IsAwake x in subst A (sym s.seen) (awake w.behind s.mutex s.fits)
+
+pub told_at_first : (w : World) → TellsRights (accounts_of w) w
+told_at_first w p = refl
+
+own_now : (w : World) (m : Move) (a : Answer) (v : World) → Steps w m a v → account_after (accounts_of w m.party) m.what a ≡ accounts_of v m.party
+own_now w m a v s =
+    ap (λ x. account_after (accounts_of x m.party) m.what a) s.did.stood.seen
+    ∙ (own w.behind v.behind m a s.did.stood.mutex s.did.stood.fits s.did.stands.mutex s.did.stands.fits s.did.step ∙ ap (λ x. accounts_of x m.party) (sym s.did.stands.seen))
+
+pub goes_well : (known : ℕ → Account) (w : World) (m : Move) (a : Answer) (v : World) → TellsRights known w → Steps w m a v → StepsWell TellsRights HoldsWell (accounts_after known m a) v
+goes_well known w m a v tells s = holds_well known w m a v tells (own_now w m a v s) s.legal (sound_now v s.did.stands) (awake_now v s.did.stands)
+
+pub begins : (w : World) (p : ℕ) (c : Call) (i : Inputs) (a : Answer) (v : World) → Steps w (beginning p c i) a v → 1 + left_by a (steps_left_of v p) ≤ most_steps_of c
+begins w p c i a v s = whole.begins w.behind v.behind p c i a s.did.stood.mutex s.did.stood.fits s.did.stands.mutex s.did.stands.fits s.did.step
+
+pub falls : (w : World) (p : ℕ) (i : Inputs) (a : Answer) (v : World) → Steps w (going_on p i) a v → left_by a (steps_left_of v p) < steps_left_of w p
+falls w p i a v s = whole.falls w.behind v.behind p i a s.did.stood.mutex s.did.stood.fits s.did.stands.mutex s.did.stands.fits s.did.step
+
+pub ends_outside : (w : World) (m : Move) (a : Answer) (v : World) → Steps w m a v → a ≢ answer.Stepped → is_possible a ≡ true → is_outside (standing_of v m.party) ≡ true
+ends_outside w m a v s = outside_at_end standing_of (λ x p. knows) Holding w m a v s.legal.possible s.legal.ends_properly
+
+stood_first : (known : ℕ → Account) (w : World) (m : Move) (ms : List Move) (answers : List Answer) (v : World) → Runs known w (m ∷ ms) answers v → Stands w
+stood_first known w m ms [] v runs = absurd runs
+stood_first known w m ms (a ∷ more) v runs = runs.1.did.stood
+
+pub keeps_promise : (known : ℕ → Account) (w : World) (p : ℕ) (c : Call) (i : Inputs) (n : ℕ) (a : Answer) (v : World) → Runs known w (moves_of p c i n) (answers_of n a) v → a ≢ answer.Stepped → Promises w p c i a v
+keeps_promise known w p c i n a v runs ended =
+    keeps_promises known w p c i n a v (stood_first known w (beginning p c i) _ (answers_of n a) v runs) (last_of Steps accounts_after HoldsWell known w p i n (Begin c i) a v runs).legal.did.stands runs ended

@@ -1,0 +1,2 @@
+-- The rights by the answers alone.
+pub mod Rights

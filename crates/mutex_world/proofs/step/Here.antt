@@ -1,0 +1,80 @@
+-- What is so where a move begins or goes on.
+use Rattle.std.proofs.Common.{◌≡◌, ℕ, ◌||◌, ◌==◌, ◌⊎◌, inl, inr, true, false, Option, Some, None, is_some, refl, arith, sym}
+use Rattle.std.proofs.lemmas.Bool.Decides.{nat_tests}
+use Rattle.lock_world.specs.declared.moves.Answer.{Answer}
+use Rattle.lock_world.specs.declared.moves.What.{What}
+use Rattle.lock_world.specs.declared.standing.Kind.{Kind}
+use Rattle.lock_world.specs.declared.standing.Kind.TheVariants as kind
+use Rattle.lock_world.specs.declared.standing.Rest.{Rest}
+use Rattle.lock_world.specs.declared.standing.Stage.{Stage}
+use Rattle.lock_world.specs.declared.standing.Stage.TheVariants.{Inside}
+use Rattle.lock_world.specs.declared.standing.Within.{Within}
+use Rattle.lock_world.specs.Frame.{is_drop, put_in}
+use Rattle.lock_world.specs.Standings.{Standing, inside, is_decided}
+use Rattle.lock_world.proofs.Equations.{some_eq}
+use Rattle.lock_table.specs.Stages.{stands_as, call_at, polls_again}
+use Rattle.mutex_machine.specs.declared.program.End.{End}
+use Rattle.mutex_machine.specs.declared.program.End.TheVariants as «end»
+use Rattle.mutex_machine.specs.declared.program.LockCall.{LockCall}
+use Rattle.mutex_machine.specs.declared.program.LockCall.TheVariants as lock_call
+use Rattle.mutex_machine.specs.declared.program.Place.{Place}
+use Rattle.mutex_machine.specs.declared.program.Place.TheVariants.{Enter, Try}
+use Rattle.mutex_machine.specs.Legal.{decision}
+use Rattle.mutex_machine.specs.Machine.{SameRoles}
+use Rattle.mutex_machine.specs.Program.{start_of}
+use Rattle.mutex_machine.specs.Roles.{listed}
+use Rattle.mutex_machine.proofs.Starts.{start_same}
+use Rattle.mutex_world.specs.Guarded.{knows, goes_with, is_within, is_try_kind}
+use Rattle.mutex_world.specs.Legal.{is_try, is_first_poll}
+use Rattle.mutex_world.specs.View.{answer_on}
+use Rattle.mutex_world.proofs.table.Turns.{Turn, turn}
+
+-- the standing of a party at this stage and place
+abbrev pub standing_at : ℕ → Stage → Place → Standing
+standing_at v s x = stands_as (answer_on v (decision x)) s
+
+-- a call begins here, or its party goes on
+abbrev pub BeginsOrGoes : Stage → Within → Place → Place → Type 0
+BeginsOrGoes s w x from = ((c : LockCall) × (start_of c x ≡ Some from)) ⊎ ((s ≡ Inside w) × (from ≡ x))
+
+pub record Here (s : Stage) (what : What) (w : Within) (x from : Place) : Type 0 where
+  pub begins : BeginsOrGoes s w x from
+  pub decides : (v : ℕ) → is_decided (standing_at v s x) || is_drop what ≡ is_some (decision from)
+  pub kept : (v : ℕ) (u : Within) (b : Answer) → standing_at v s x ≡ inside u (Some b) → (answer_on v (decision from) ≡ Some b) × (is_try_kind w.kind ≡ false)
+  pub undecided : (v : ℕ) → is_decided (standing_at v s x) ≡ false → (e : End) → decision from ≡ Some e → e ≡ «end».GivenBack
+  pub first : (v n : ℕ) → is_first_poll (standing_at v s x) what n ≡ true → n ≡ listed x → (from ≡ Enter) × (is_try_kind w.kind ≡ false)
+  pub tries : is_try what ≡ true → (from ≡ Try) × (is_try_kind w.kind ≡ true)
+
+not_one : (n : ℕ) → (n == 0) ≡ true → n ≡ 1 → ⊥
+not_one n h e = grind (arith, nat_tests)
+
+decides_so : (v : ℕ) (w : Within) (o : Option End) → is_decided (inside w (answer_on v o)) || false ≡ is_some o
+decides_so v w None = refl
+decides_so v w (Some e) = refl
+
+undecided_so : (v : ℕ) (w : Within) (o : Option End) (e : End) → is_decided (inside w (answer_on v o)) ≡ false → o ≡ Some e → e ≡ «end».GivenBack
+undecided_so v w None e h is = absurd (cc)
+undecided_so v w (Some f) e h is = absurd (cc)
+
+never_tries : (k : Kind) (r : Rest) (x : Place) → is_within k r x ≡ true → is_try_kind k ≡ false
+never_tries kind.Try r x h = absurd (cc)
+never_tries _ r x h = refl
+
+pub here : (s : Stage) (what : What) (w : Within) (x : Place) → goes_with s x ≡ true → call_at knows s what ≡ Some w → polls_again s what ≡ false → put_in what ≡ None → Turn Here s what w x
+here = turn Here (record {
+  lock = λ i. record { begins = inl (lock_call.Lock, refl); decides = λ v. refl; kept = λ v u b e. absurd (cc); undecided = λ v h e d. absurd (cc); first = λ v n h l. (refl, refl); tries = λ h. absurd (cc) };
+  try = λ i. record { begins = inl (lock_call.Try, refl); decides = λ v. refl; kept = λ v u b e. absurd (cc); undecided = λ v h e d. absurd (cc); first = λ v n h l. absurd (cc); tries = λ h. (refl, refl) };
+  poll = λ i. record { begins = inl (lock_call.Poll, refl); decides = λ v. refl; kept = λ v u b e. absurd (cc); undecided = λ v h e d. absurd (cc); first = λ v n h l. (refl, refl); tries = λ h. absurd (cc) };
+  poll_listed = λ i. record { begins = inl (lock_call.Poll, refl); decides = λ v. refl; kept = λ v u b e. absurd (cc); undecided = λ v h e d. absurd (cc); first = λ v n h l. absurd (not_one n h l); tries = λ h. absurd (cc) };
+  poll_starved = λ i. record { begins = inl (lock_call.Poll, refl); decides = λ v. refl; kept = λ v u b e. absurd (cc); undecided = λ v h e d. absurd (cc); first = λ v n h l. absurd (not_one n h l); tries = λ h. absurd (cc) };
+  abandon = λ i. record { begins = inl (lock_call.Cancel, refl); decides = λ v. refl; kept = λ v u b e. absurd (cc); undecided = λ v h e d. sym (some_eq d); first = λ v n h l. absurd (cc); tries = λ h. absurd (cc) };
+  cancel = λ i. record { begins = inl (lock_call.Cancel, refl); decides = λ v. refl; kept = λ v u b e. absurd (cc); undecided = λ v h e d. sym (some_eq d); first = λ v n h l. absurd (cc); tries = λ h. absurd (cc) };
+  cancel_starved = λ i. record { begins = inl (lock_call.Cancel, refl); decides = λ v. refl; kept = λ v u b e. absurd (cc); undecided = λ v h e d. sym (some_eq d); first = λ v n h l. absurd (cc); tries = λ h. absurd (cc) };
+  release = λ i. record { begins = inl (lock_call.Release, refl); decides = λ v. refl; kept = λ v u b e. absurd (cc); undecided = λ v h e d. sym (some_eq d); first = λ v n h l. absurd (cc); tries = λ h. absurd (cc) };
+  go = λ w x i within. record { begins = inr (refl, refl); decides = λ v. decides_so v w (decision x); kept = λ v u b e. (cc, never_tries w.kind w.was x within); undecided = λ v h e d. undecided_so v w (decision x) e h d; first = λ v n h l. absurd (cc); tries = λ h. absurd (cc) };
+})
+
+-- a party has as much where its call begins as where it stood
+pub same_roles : (s : Stage) (w : Within) (x from : Place) → BeginsOrGoes s w x from → SameRoles from x
+same_roles s w x from (inl b) = start_same b.0 x from b.1
+same_roles s w x from (inr g) = rw g.1 (record { holding = refl; starving = refl; standing = refl; waiting = refl; owing = refl })

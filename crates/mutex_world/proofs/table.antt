@@ -1,0 +1,5 @@
+-- What stands behind the World, as callers see it.
+pub mod Turns
+pub mod Acts
+pub mod Seen
+pub mod Opening

@@ -1,0 +1,201 @@
+-- What a whole call promises beside its end, and beside what a solo poll does: by what each of its steps does to the machine.
+use Rattle.std.proofs.Common.{◌≡◌, ◌≢◌, ℕ, ◌<◌, inl, inr, if◌then◌else◌, Bool, true, false, zero, suc, List, [], ◌∷◌, length, Some, refl, arith, ap, sym, ◌∙◌, subst}
+use Rattle.std.specs.List.{sum_by}
+use Rattle.std.proofs.lemmas.List.Sums.{sum_by-cons}
+use Rattle.lock_event.specs.declared.event.Entry.{Entry}
+use Rattle.lock_event.specs.Lists.{marked_count}
+use Rattle.lock_queue.specs.Parties.{entries_of}
+use Rattle.lock_world.specs.declared.moves.Answer.{Answer}
+use Rattle.lock_world.specs.declared.moves.Answer.TheVariants as answer
+use Rattle.lock_world.specs.declared.moves.Call.{Call}
+use Rattle.lock_world.specs.declared.moves.Call.TheVariants as call
+use Rattle.lock_world.specs.declared.moves.Got.TheVariants.{Value}
+use Rattle.lock_world.specs.declared.moves.Inputs.{Inputs}
+use Rattle.lock_world.specs.declared.moves.Move.{Move}
+use Rattle.lock_world.specs.declared.moves.What.{What}
+use Rattle.lock_world.specs.declared.moves.What.TheVariants.{Begin, Go}
+use Rattle.lock_world.specs.declared.standing.Kind.TheVariants as kind
+use Rattle.lock_world.specs.declared.standing.Rest.TheVariants as rest
+use Rattle.lock_world.specs.declared.standing.Stage.{Stage}
+use Rattle.lock_world.specs.declared.standing.Stage.TheVariants.{Outside}
+use Rattle.lock_world.specs.declared.standing.Within.{Within}
+use Rattle.lock_world.specs.Accounts.{Account, accounts_after}
+use Rattle.lock_world.specs.Frame.{is_refusal}
+use Rattle.lock_world.specs.Rosters.{how_many}
+use Rattle.lock_world.specs.Standings.{outside, inputs_of}
+use Rattle.lock_world.specs.Whole.{going_on, moves_of, answers_of}
+use Rattle.lock_world.proofs.Equations.{some_eq, none_some}
+use Rattle.lock_frame.specs.Steps.{beginning}
+use Rattle.lock_frame.proofs.Runs.{along, at_first, Onward}
+use Rattle.lock_table.specs.Stages.{stage_at, call_at}
+use Rattle.lock_table.specs.Tables.{Table}
+use Rattle.lock_table.proofs.Views.{outside_stage}
+use Rattle.mutex_machine.specs.declared.program.End.TheVariants as «end»
+use Rattle.mutex_machine.specs.declared.program.Next.{Next}
+use Rattle.mutex_machine.specs.declared.program.Next.TheVariants as next
+use Rattle.mutex_machine.specs.declared.program.Place.{Place}
+use Rattle.mutex_machine.specs.Acts.{starved}
+use Rattle.mutex_machine.specs.Courses.{is_waiting, is_counting, is_told, HeedsClock}
+use Rattle.mutex_machine.specs.Machine.{place_at}
+use Rattle.mutex_machine.specs.Roles.{bit, counted}
+use Rattle.mutex_machine.specs.State.{is_counted}
+use Rattle.mutex_machine.proofs.Promised.{begins_uncounted, none_counted, HandsOn, told_on, begins_told}
+use Rattle.mutex_machine.proofs.Seen as sees
+use Rattle.mutex_world.specs.Bound.{Promises}
+use Rattle.mutex_world.specs.Guarded.{Guarded, knows, place_of, place_for, goes_with, answer_by, is_try_kind}
+use Rattle.mutex_world.specs.Legal.{is_first_poll}
+use Rattle.mutex_world.specs.Runs.{Runs, HoldsWell}
+use Rattle.mutex_world.specs.State.{World, standing_of, is_starved, is_free}
+use Rattle.mutex_world.specs.Steps.{Stands, Steps}
+use Rattle.mutex_world.specs.View.{verdict}
+use Rattle.mutex_world.proofs.step.Acting.{Acting}
+use Rattle.mutex_world.proofs.step.Acting as acting
+use Rattle.mutex_world.proofs.bound.AloneSeen.{waits_listed, poll_seen}
+use Rattle.mutex_world.proofs.step.Here.{BeginsOrGoes, same_roles}
+use Rattle.mutex_world.proofs.table.Seen as seen
+use Rattle.mutex_world.proofs.table.Turns.{within}
+use Rattle.mutex_world.proofs.whole.Whole.{from_turn, by_step}
+
+abbrev lock_at : World → ℕ → Place
+lock_at x p = place_of x.behind.machine p
+
+-- what the table's step leaves, the World's leaves
+abbrev On : (Table Guarded → Type 0) → (Answer → Table Guarded → Type 0) → Answer → Table Guarded → Type 0
+On G E = Onward G E
+
+of_world : (G : Table Guarded → Type 0) (E : Answer → Table Guarded → Type 0) (a : Answer) (v : World) → On G E a v.behind → Onward (λ x. G x.behind) (λ b x. E b x.behind) a v
+of_world G E a v o = record { going = o.going; ended = o.ended }
+
+-- a step that does nothing, or puts a value, ends its call
+quiet : (G : Table Guarded → Type 0) (E : Answer → Table Guarded → Type 0) (b : Answer) (x : Table Guarded) → (b ≡ answer.Stepped → ⊥) → E b x → On G E b x
+quiet G E b x never e = record { going = λ s. absurd (never s); ended = λ s. e }
+
+module _ (p : ℕ) (i : Inputs) where
+  -- ---- nobody is made starved that hasn't waited for too long, while nobody is
+
+  abbrev Unstarved : Table Guarded → Type 0
+  Unstarved t = starved t.machine.lock ≡ 0
+
+  abbrev Unstarving : Table Guarded → Type 0
+  Unstarving t = Unstarved t × (is_counting (place_of t.machine p) ≡ false)
+
+  module _ (patient : i.starving ≡ false) where
+    counts_none : (t u : Table Guarded) (what : What) (a : Answer) → (inputs_of what).starving ≡ false → Unstarved t → (w : Within) (k : Acting t u (record { party = p; what = what }) a w) → is_counting k.carries.from ≡ false → On Unstarving (λ b y. Unstarved y) a u
+    counts_none t u what a quiet none w k not_next =
+        let C : Bool → Type 0 = λ b. HeedsClock b k.carries.from k.carries.next in
+        let m : Move = record { party = p; what = what } in
+        let it = none_counted (inputs_of what).memory p k.carries.from k.carries.next t.machine.lock u.machine.lock k.carries.carried.acts (subst C quiet k.carries.carried.clock) (acting.there t u m a w k)
+        (same_roles (stage_at t.stages p) w (place_of t.machine p) k.carries.from k.here.begins) none not_next in
+        record { going = λ e. it; ended = λ e. it.0 }
+
+    abbrev Left : Answer → Table Guarded → Type 0
+    Left = On Unstarving (λ b y. Unstarved y)
+
+    steps_unstarved : (x : World) (what : What) (a : Answer) (v : World) → (inputs_of what).starving ≡ false → Unstarved x.behind → ((w : Within) (k : Acting x.behind v.behind (record { party = p; what = what }) a w) → is_counting k.carries.from ≡ false) → Steps x (record { party = p; what = what }) a v
+        → Onward (λ y. Unstarving y.behind) (λ b y. Unstarved y.behind) a v
+    steps_unstarved x what a v still none not_next s = of_world Unstarving (λ b y. Unstarved y) a v
+        (by_step x.behind v.behind (record { party = p; what = what }) a s.did.stood.mutex s.did.stood.fits s.did.stands.mutex s.did.stands.fits Left
+        (quiet Unstarving (λ b y. Unstarved y) _ x.behind (λ e. cc (e)) none) (quiet Unstarving (λ b y. Unstarved y) _ x.behind (λ e. cc (e)) none)
+        (λ n e. quiet Unstarving (λ b y. Unstarved y) _ v.behind (λ e. cc (e)) (ap (λ (g : Guarded). starved g.lock) e ∙ none))
+        (λ w k. counts_none x.behind v.behind what a still none w k (not_next w k)) s.did.step)
+
+    onward_unstarved : (x : World) (a : Answer) (v : World) → Unstarving x.behind → Steps x (going_on p i) a v → Onward (λ y. Unstarving y.behind) (λ b y. Unstarved y.behind) a v
+    onward_unstarved x a v g s = steps_unstarved x (Go i) a v patient g.0 (λ w k. ap is_counting (sym (from_turn x.behind v.behind (going_on p i) a w k)) ∙ g.1) s
+
+    begins_at : (c : Call) (s : Stage) (w : Within) (x from : Place) → call_at knows s (Begin c i) ≡ Some w → BeginsOrGoes s w x from → is_counting from ≡ false
+    begins_at c s w x from e (inl b) = begins_uncounted b.0 x from b.1
+    begins_at c s w x from e (inr g) = let C : Stage → Type 0 = λ z. call_at knows z (Begin c i) ≡ Some w in absurd (none_some (subst C g.0 e))
+
+    first_unstarved : (c : Call) (x : World) → Unstarved x.behind → (a : Answer) (v : World) → Steps x (beginning p c i) a v → Onward (λ y. Unstarving y.behind) (λ b y. Unstarved y.behind) a v
+    first_unstarved c x none a v s = steps_unstarved x (Begin c i) a v patient none (λ w k. begins_at c (stage_at x.behind.stages p) w (lock_at x p) k.carries.from k.call k.here.begins) s
+
+  -- ---- a refused poll of a listed party hands on
+
+  abbrev Told : Table Guarded → Type 0
+  Told t = is_told (place_of t.machine p) ≡ true
+
+  abbrev Handed : Answer → Table Guarded → Type 0
+  Handed b t = is_refusal b ≡ true → 0 < length t.machine.lock.entries → 0 < marked_count t.machine.lock.entries
+
+  on_by : (trying : Bool) (n : ℕ) (x : Next) (at : Place) (l : List (Entry ℕ)) (a : Answer) → a ≡ answer_by trying n x → HandsOn x at l → (a ≡ answer.Stepped → is_told at ≡ true) × (is_refusal a ≡ true → 0 < length l → 0 < marked_count l)
+  on_by trying n (next.Do b to) at l a e h = ((λ _. h), (λ r. absurd (cc (sym (ap is_refusal e) ∙ r))))
+  on_by true n (next.End «end».Got) at l a e h = ((λ s. absurd (cc)), (λ r. absurd (cc (sym (ap is_refusal e) ∙ r))))
+  on_by false n (next.End «end».Got) at l a e h = ((λ s. absurd (cc)), (λ r. absurd (cc (sym (ap is_refusal e) ∙ r))))
+  on_by trying n (next.End «end».Pending) at l a e h = ((λ s. absurd (cc)), (λ r. absurd (cc (sym (ap is_refusal e) ∙ r))))
+  on_by trying n (next.End «end».NotFree) at l a e h = ((λ s. absurd (cc)), (λ r. absurd (cc (sym (ap is_refusal e) ∙ r))))
+  on_by trying n (next.End «end».GivenBack) at l a e h = ((λ s. absurd (cc)), (λ r. absurd (cc (sym (ap is_refusal e) ∙ r))))
+  on_by trying n (next.End («end».Refused r)) at l a e h = ((λ s. absurd (cc)), (λ _. h))
+
+  acted_told : (t u : Table Guarded) (what : What) (a : Answer) (w : Within) (k : Acting t u (record { party = p; what = what }) a w) → is_told k.carries.from ≡ true → On Told Handed a u
+  acted_told t u what a w k told =
+      let on = told_on (inputs_of what).memory p k.carries.from k.carries.next t.machine.lock u.machine.lock k.carries.carried.acts (acting.there t u (record { party = p; what = what }) a w k) told in
+      let both = on_by (is_try_kind w.kind) t.machine.value k.carries.next (place_of u.machine p) u.machine.lock.entries a k.carries.answer on in
+      record { going = λ e. both.0 e; ended = λ e. both.1 }
+
+  steps_told : (x : World) (what : What) (a : Answer) (v : World) → ((w : Within) (k : Acting x.behind v.behind (record { party = p; what = what }) a w) → is_told k.carries.from ≡ true) → Steps x (record { party = p; what = what }) a v → Onward (λ y. Told y.behind) (λ b y. Handed b y.behind) a v
+  steps_told x what a v told s = of_world Told Handed a v
+      (by_step x.behind v.behind (record { party = p; what = what }) a s.did.stood.mutex s.did.stood.fits s.did.stands.mutex s.did.stands.fits (On Told Handed)
+      (quiet Told Handed _ x.behind (λ e. cc (e)) (λ r. absurd (cc (r)))) (quiet Told Handed _ x.behind (λ e. cc (e)) (λ r. absurd (cc (r)))) (λ n e. quiet Told Handed _ v.behind (λ e. cc (e)) (λ r. absurd (cc (r))))
+      (λ w k. acted_told x.behind v.behind what a w k (told w k)) s.did.step)
+
+  onward_told : (x : World) (a : Answer) (v : World) → Told x.behind → Steps x (going_on p i) a v → Onward (λ y. Told y.behind) (λ b y. Handed b y.behind) a v
+  onward_told x a v told s = steps_told x (Go i) a v (λ w k. ap is_told (sym (from_turn x.behind v.behind (going_on p i) a w k)) ∙ told) s
+
+  told_from : (s : Stage) (w : Within) (x from : Place) → s ≡ Outside rest.Pending → call_at knows s (Begin call.Poll i) ≡ Some w → place_for w.was (Begin call.Poll i) x ≡ Some from → is_waiting x ≡ true → is_told from ≡ true
+  told_from s w x from is e starts waits =
+      let C : Stage → Type 0 = λ z. call_at knows z (Begin call.Poll i) ≡ Some w in
+      let same : within kind.LaterPoll rest.Pending ≡ w = some_eq (subst C is e) in
+      let S : Within → Type 0 = λ v. place_for v.was (Begin call.Poll i) x ≡ Some from in
+      begins_told x from waits (subst S (sym same) starts)
+
+  first_told : (w : World) → standing_of w p ≡ outside rest.Pending → 0 < entries_of p w.entries → (a : Answer) (v : World) → Steps w (beginning p call.Poll i) a v → Onward (λ y. Told y.behind) (λ b y. Handed b y.behind) a v
+  first_told w pending some a v s =
+      let t = w.behind in
+      let stage : stage_at t.stages p ≡ Outside rest.Pending = outside_stage (verdict t.machine p) (stage_at t.stages p) rest.Pending (sym (seen.stands_seen t p) ∙ (sym (ap (λ x. standing_of x p) s.did.stood.seen) ∙ pending)) in
+      let there : 0 < entries_of p t.machine.lock.entries = subst (λ x. 0 < entries_of p x.entries) s.did.stood.seen some in
+      steps_told w (Begin call.Poll i) a v (λ u k.
+      (let fits : goes_with (Outside rest.Pending) (place_of t.machine p) ≡ true = ap (λ z. goes_with z (place_of t.machine p)) (sym stage) ∙ s.did.stood.fits.stands p k.inside in
+      told_from (stage_at t.stages p) u (place_of t.machine p) k.carries.from stage k.call k.carries.starts (waits_listed (place_of t.machine p) fits (omega (arith, s.did.stood.mutex.owners p, there))))) s
+
+starved_behind : (w : World) → Stands w → how_many w.state.starved ≡ starved w.behind.machine.lock
+starved_behind w s = ap (λ x. how_many x.state.starved) s.seen ∙ sees.how_many_counted w.behind.machine.lock.places
+
+not_counted : (w : World) (p : ℕ) → Stands w → starved w.behind.machine.lock ≡ 0 → is_starved w.state p ≡ false
+not_counted w p s none = ap (λ x. is_starved x.state p) s.seen ∙ (sees.starved_at w.behind.machine.lock.places p ∙ by_bit (is_counted (lock_at w p)) (sees.counted_bit (lock_at w p)) (none_at w.behind.machine.lock.places p none)) where
+  by_bit : (b : Bool) → bit b ≡ counted (lock_at w p) → counted (lock_at w p) ≡ 0 → b ≡ false
+  by_bit true e n = absurd (omega (arith, e, n))
+  by_bit false e n = refl
+
+  none_at : (ps : List Place) (q : ℕ) → sum_by counted ps ≡ 0 → counted (place_at ps q) ≡ 0
+  none_at [] q e = refl
+  none_at (x ∷ xs) zero e = omega (arith, sum_by-cons counted x xs, e)
+  none_at (x ∷ xs) (suc q) e = none_at xs q (omega (arith, sum_by-cons counted x xs, e))
+
+-- ---- the promises
+
+chosen : (b : Bool) (x y : Answer) → b ≡ true → (if b then x else y) ≡ x
+chosen true x y e = refl
+chosen false x y e = absurd (cc)
+
+module _ (known : ℕ → Account) (w : World) (p : ℕ) (c : Call) (i : Inputs) (n : ℕ) (a : Answer) (v : World) (stood : Stands w) (stands : Stands v) (runs : Runs known w (moves_of p c i n) (answers_of n a) v) (ended : a ≢ answer.Stepped) where
+  first : is_first_poll (standing_of w p) (Begin c i) (entries_of p w.entries) ≡ true → is_free w.state ≡ true → a ≡ answer.Ready (Value w.state.value)
+  first is free = at_first Steps accounts_after HoldsWell known w p c i n a v (answer.Ready (Value w.state.value)) (λ e. cc (e)) (λ b x s. s.at_once.ready is ∙ chosen (is_free w.state) (answer.Ready (Value w.state.value)) answer.Stepped free) ended runs
+
+  unstarved : i.starving ≡ false → how_many w.state.starved ≡ 0 → is_starved v.state p ≡ false
+  unstarved patient none =
+      let zero : starved w.behind.machine.lock ≡ 0 = sym (starved_behind w stood) ∙ none in
+      not_counted v p stands (along Steps accounts_after HoldsWell p i (λ y. Unstarving p i y.behind) (λ b y. Unstarved p i y.behind) (onward_unstarved p i patient) known n w (beginning p c i) a v (first_unstarved p i patient c w zero) ended runs)
+
+  hands_on : c ≡ call.Poll → standing_of w p ≡ outside rest.Pending → 0 < entries_of p w.entries → is_refusal a ≡ true → 0 < length v.entries → 0 < marked_count v.entries
+  hands_on is pending some refused there =
+      let R : Call → Type 0 = λ x. Runs known w (moves_of p x i n) (answers_of n a) v in
+      let h = along Steps accounts_after HoldsWell p i (λ y. Told p i y.behind) (λ b y. Handed p i b y.behind) (onward_told p i) known n w (beginning p call.Poll i) a v (first_told p i w pending some) ended (subst R is runs) in
+      subst (λ x. 0 < marked_count x.entries) (sym stands.seen) (h refused (subst (λ x. 0 < length x.entries) stands.seen there))
+
+  pub keeps_promises : Promises w p c i a v
+  keeps_promises = record {
+    first = first;
+    solo = λ is solo free. (let R : Call → Type 0 = λ x. Runs known w (moves_of p x i n) (answers_of n a) v in poll_seen known w p i n a v stood stands (subst R is runs) ended solo free);
+    unstarved = unstarved;
+    hands_on = hands_on;
+  }

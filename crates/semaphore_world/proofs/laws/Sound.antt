@@ -1,0 +1,121 @@
+-- What always holds of a semaphore's World, as callers see it.
+use Rattle.std.proofs.Common.{◌≡◌, ℕ, suc, ◌<◌, ◌≤◌, ◌&&◌, Bool, true, false, List, [], ◌∷◌, length, Option, refl, arith, ap, sym, ◌∙◌, subst}
+use Rattle.std.specs.List.{list_all}
+use Rattle.lock_world.specs.declared.moves.Answer.{Answer}
+use Rattle.lock_world.specs.declared.standing.Kind.{Kind}
+use Rattle.lock_world.specs.declared.standing.Kind.TheVariants as kind
+use Rattle.lock_world.specs.declared.standing.Rest.{Rest}
+use Rattle.lock_world.specs.declared.standing.Rest.TheVariants as rest
+use Rattle.lock_world.specs.declared.standing.Stage.{Stage}
+use Rattle.lock_world.specs.declared.standing.Stage.TheVariants.{Outside, Inside, Forgotten}
+use Rattle.lock_world.specs.declared.standing.Within.{Within}
+use Rattle.lock_world.specs.Standings.{outside, inside, is_outside_stage}
+use Rattle.lock_table.specs.Stages.{stage_at, stands_as}
+use Rattle.lock_table.specs.Tables.{Table}
+use Rattle.lock_table.proofs.Mapped.{past_last}
+use Rattle.lock_table.proofs.Past.{by_stage_or_past, by_stage_or_past_at}
+use Rattle.lock_table.proofs.Views.{rest_seen, outside_at}
+use Rattle.semaphore_machine.specs.declared.program.Place.{Place}
+use Rattle.semaphore_machine.specs.declared.program.Place.TheVariants.{Take, Leave, Try, Lower, CancelLeave, Abandon}
+use Rattle.semaphore_machine.specs.declared.program.Position.{Position}
+use Rattle.semaphore_machine.specs.declared.program.Position.TheVariants.{Out, Waiting, Holding, At}
+use Rattle.semaphore_machine.specs.Seats.{listed, verdict, is_resting}
+use Rattle.semaphore_machine.specs.Machine.{Semaphore, IsSemaphore, IsAtRest, goes_with, runs, is_begun, position_at}
+use Rattle.semaphore_world.specs.View.{view_of}
+use Rattle.semaphore_world.specs.Laws.{IsSound, IsAwake, is_at_rest, is_long_call}
+use Rattle.semaphore_world.specs.Steps.{IsSemaphoreTable}
+use Rattle.semaphore_world.proofs.table.Seen as seen
+use Rattle.semaphore_world.proofs.step.Owns.{each_has}
+
+both : (a b : Bool) → a && b ≡ true → (a ≡ true) × (b ≡ true)
+both true b h = (refl, h)
+both false b h = absurd (cc)
+
+-- a call that is begun may take more than one step
+long_by : (k : Kind) (r : Rest) (x : Place) → is_begun x ≡ true → runs k r x ≡ true → is_long_call k r ≡ true
+long_by kind.FirstPoll rest.Idle x b h = refl
+long_by kind.LaterPoll rest.Pending x b h = refl
+long_by kind.Add rest.Idle x b h = refl
+long_by kind.Drop rest.Holding x b h = refl
+long_by kind.Drop rest.Pending CancelLeave b h = absurd (cc)
+long_by kind.Drop rest.Pending Abandon b h = absurd (cc)
+long_by kind.Drop rest.Pending _ b h = absurd (cc h)
+long_by kind.Try rest.Idle Try b h = absurd (cc)
+long_by kind.Try rest.Idle _ b h = absurd (cc h)
+long_by kind.Forget rest.Holding Lower b h = absurd (cc)
+long_by kind.Forget rest.Holding _ b h = absurd (cc h)
+long_by _ _ x b h = absurd (cc h)
+
+long_at : (s : Stage) (x : Position) (d : Option Answer) (u : Within) (e : Option Answer) → goes_with s x ≡ true → stands_as d s ≡ inside u e → is_long_call u.kind u.was ≡ true
+long_at (Outside r) x d u e g h = absurd (cc h)
+long_at Forgotten x d u e g h = absurd (cc h)
+long_at (Inside w) (At y) d u e g h =
+    let two = both (is_begun y) (runs w.kind w.was y) g in
+    let same : w ≡ u = cc h in
+    let P : Within → Type 0 = λ v. is_long_call v.kind v.was ≡ true in
+    subst P same (long_by w.kind w.was y two.0 two.1)
+long_at (Inside w) _ d u e g h = absurd (cc g)
+
+one_listed : (x : Position) → listed x ≤ 1
+one_listed Out = omega arith
+one_listed Waiting = omega arith
+one_listed Holding = omega arith
+one_listed (At (Take true told)) = omega arith
+one_listed (At (Take false told)) = omega arith
+one_listed (At (Leave more)) = omega arith
+one_listed (At _) = omega arith
+
+-- outside every call a party rests
+resting : (s : Stage) (x : Position) → goes_with s x ≡ true → is_outside_stage s ≡ true → is_resting x ≡ true
+resting (Outside r) Out g o = refl
+resting (Outside r) Waiting g o = refl
+resting (Outside r) Holding g o = refl
+resting (Outside rest.Idle) (At y) g o = absurd (cc)
+resting (Outside rest.Pending) (At y) g o = absurd (cc)
+resting (Outside rest.Holding) (At y) g o = absurd (cc)
+resting (Outside rest.Finished) (At y) g o = absurd (cc)
+resting (Inside w) x g o = absurd (cc)
+resting Forgotten x g o = absurd (cc)
+
+all_rest : (xs : List Position) → ((q : ℕ) → q < length xs → is_resting (position_at xs q) ≡ true) → IsAtRest xs
+all_rest [] h = tt
+all_rest (x ∷ xs) h = (h 0 (omega arith), all_rest xs (λ q i. h (suc q) (omega arith)))
+
+waits_so : (s : Stage) (x : Position) (d : Option Answer) → goes_with s x ≡ true → is_outside_stage s ≡ true → 0 < listed x → stands_as d s ≡ outside rest.Pending
+waits_so (Outside rest.Pending) x d g o l = refl
+waits_so (Outside rest.Idle) Out d g o l = absurd (omega arith)
+waits_so (Outside rest.Idle) _ d g o l = absurd (cc g)
+waits_so (Outside rest.Holding) Holding d g o l = absurd (omega arith)
+waits_so (Outside rest.Holding) _ d g o l = absurd (cc g)
+waits_so (Outside rest.Finished) x d g o l = absurd (cc g)
+waits_so (Inside w) x d g o l = absurd (cc o)
+waits_so Forgotten x d g o l = absurd (cc g)
+
+module _ (t : Table Semaphore) (laws : IsSemaphore t.machine) (fits : IsSemaphoreTable t) where
+  abbrev xs : List Position
+  xs = t.machine.positions
+
+  pub sound : IsSound (view_of t)
+  sound = record {
+    balanced = omega (arith, seen.available_seen t laws, seen.held_seen t, seen.under_way_seen t, laws.balanced);
+    limited = laws.limited;
+    few_holders = omega (arith, seen.held_seen t, laws.balanced);
+    each = each_has t laws fits;
+    inside_calls = λ q u d e. by_stage_or_past_at t.stages q (is_long_call u.kind u.was ≡ true)
+        (λ past. (let h : stands_as (verdict (position_at xs q)) Forgotten ≡ inside u d = ap (stands_as (verdict (position_at xs q))) (sym past) ∙ (sym (seen.stands_seen t q) ∙ e) in absurd (cc (h))))
+        (λ inside. long_at (stage_at t.stages q) (position_at xs q) (verdict (position_at xs q)) u d (fits.stands q inside) (sym (seen.stands_seen t q) ∙ e));
+    once = λ q. omega (arith, laws.owners q, one_listed (position_at xs q));
+    in_order = laws.in_order;
+  }
+
+  module _ (rests : is_at_rest (view_of t) ≡ true) where
+    stages_rest : list_all is_outside_stage t.stages ≡ true
+    stages_rest = sym (rest_seen (λ q. verdict (position_at xs q)) t.stages) ∙ rests
+
+    pub awake : IsAwake (view_of t)
+    awake = record {
+      marked = λ h. laws.wakes (all_rest xs (λ q i. resting (stage_at t.stages q) (position_at xs q) (fits.stands q (omega (arith, i, fits.as_many))) (outside_at t.stages stages_rest q))) (omega (arith, h.0, seen.available_seen t laws)) h.1;
+      pending = λ q some. seen.stands_seen t q ∙ by_stage_or_past t.stages q (stands_as (verdict (position_at xs q)) (stage_at t.stages q) ≡ outside rest.Pending)
+          (λ past. (let out : listed (position_at xs q) ≡ 0 = ap listed (past_last xs q Out (omega (arith, past, fits.as_many))) in absurd (omega (arith, out, some, laws.owners q))))
+          (λ inside. waits_so (stage_at t.stages q) (position_at xs q) (verdict (position_at xs q)) (fits.stands q inside) (outside_at t.stages stages_rest q) (omega (arith, some, laws.owners q)));
+    }

@@ -1,0 +1,223 @@
+-- What the first step of a call decides at once.
+use Rattle.std.proofs.Common.{◌≡◌, ℕ, ◌⊎◌, inl, inr, Bool, true, false, Some, nat_lt, if◌then◌else◌, ◌==◌, refl, arith, ap, sym, ◌∙◌, subst}
+use Rattle.std.proofs.lemmas.Bool.Decides.{nat_tests}
+use Rattle.lock_queue.specs.Parties.{entries_of}
+use Rattle.lock_world.specs.declared.moves.Answer.{Answer}
+use Rattle.lock_world.specs.declared.moves.Answer.TheVariants as answer
+use Rattle.lock_world.specs.declared.moves.Got.TheVariants.{Plain}
+use Rattle.lock_world.specs.declared.moves.Move.{Move}
+use Rattle.lock_world.specs.declared.moves.What.{What}
+use Rattle.lock_world.specs.declared.standing.Rest.TheVariants as rest
+use Rattle.lock_world.specs.declared.standing.Stage.{Stage}
+use Rattle.lock_world.specs.declared.standing.Within.{Within}
+use Rattle.lock_world.specs.Standings.{Standing, outside, inputs_of, decision}
+use Rattle.lock_world.specs.Frame.{is_drop}
+use Rattle.lock_world.specs.Steps.{Deed, changes}
+use Rattle.lock_world.proofs.Equations.{some_eq}
+use Rattle.lock_table.specs.Stages.{stage_at, stands_as, call_at, polls_again}
+use Rattle.lock_table.specs.Tables.{Table}
+use Rattle.semaphore_machine.specs.declared.program.Action.TheVariants as act
+use Rattle.semaphore_machine.specs.declared.program.Found.{Found}
+use Rattle.semaphore_machine.specs.declared.program.Found.TheVariants.{Done, Taken, NoneLeft, PastLimit, NoMemory, Yes, No}
+use Rattle.semaphore_machine.specs.declared.program.Place.{Place}
+use Rattle.semaphore_machine.specs.declared.program.Place.TheVariants.{Take, Retake, Try, Lower, GiveBack, Raise}
+use Rattle.semaphore_machine.specs.declared.program.Position.{Position}
+use Rattle.semaphore_machine.specs.Program.{action_of, next_of}
+use Rattle.semaphore_machine.specs.Seats.{Share, share_of, listed, verdict}
+use Rattle.semaphore_machine.specs.Deeds.{Change, ListName, gives_back, forgets, deed_of, Finds, FindsPermit, FindsRoom}
+use Rattle.semaphore_machine.specs.Machine.{Semaphore, knows, goes_with, position_at, answer_by}
+use Rattle.semaphore_machine.proofs.Kept.{after}
+use Rattle.semaphore_world.specs.State.{World, has_permit, is_free, standing_of}
+use Rattle.semaphore_world.specs.View.{view_of}
+use Rattle.semaphore_world.specs.Legal.{state_after, added_in, is_forget}
+use Rattle.semaphore_world.proofs.table.Seen as seen
+use Rattle.semaphore_world.proofs.step.Rows.{said}
+use Rattle.semaphore_world.specs.AtOnce.{AnswersAtOnce, AddsAtOnce, is_try, is_poll, is_first_poll}
+use Rattle.semaphore_machine.proofs.Turns.{Turn, turn}
+use Rattle.semaphore_world.proofs.step.Acting.{Acting}
+use Rattle.semaphore_world.proofs.step.Acting as acting
+
+-- ---- Where calls begin
+
+-- the place at which each call begins that decides at once
+pub record EntranceAt (s : Standing) (what : What) (x : Position) (from : Place) : Type 0 where
+  pub tries : is_try what ≡ true → from ≡ Try
+  pub polls : is_poll s what ≡ true → (from ≡ Take false false) ⊎ (from ≡ Retake)
+  pub first : (n : ℕ) → is_first_poll s what n ≡ true → n ≡ listed x → from ≡ Take false false
+  pub adds : (n : ℕ) → added_in what ≡ Some n → from ≡ Raise n
+  pub forgets : is_forget what ≡ true → from ≡ Lower
+  pub drops : is_drop what ≡ true → s ≡ outside rest.Holding → from ≡ GiveBack
+
+abbrev pub Entrance : Stage → What → Within → Position → Place → Type 0
+Entrance s what w x from = EntranceAt (stands_as (verdict x) s) what x from
+
+not_one : (n : ℕ) → (n == 0) ≡ true → n ≡ 1 → ⊥
+not_one n h e = grind (arith, nat_tests)
+
+pub entrance : (s : Stage) (what : What) (w : Within) (x : Position) → goes_with s x ≡ true → call_at knows s what ≡ Some w → polls_again s what ≡ false → Turn Entrance s what w x
+entrance = turn Entrance (record {
+  acquire = λ i. record { tries = λ h. absurd (cc); polls = λ h. inl refl; first = λ n h l. refl; adds = λ n e. absurd (cc); forgets = λ h. absurd (cc); drops = λ h e. absurd (cc) };
+  try = λ i. record { tries = λ h. refl; polls = λ h. absurd (cc); first = λ n h l. absurd (cc); adds = λ n e. absurd (cc); forgets = λ h. absurd (cc); drops = λ h e. absurd (cc) };
+  add = λ k i. record { tries = λ h. absurd (cc); polls = λ h. absurd (cc); first = λ n h l. absurd (cc); adds = λ n e. ap Raise (some_eq e); forgets = λ h. absurd (cc); drops = λ h e. absurd (cc) };
+  poll = λ i. record { tries = λ h. absurd (cc); polls = λ h. inl refl; first = λ n h l. refl; adds = λ n e. absurd (cc); forgets = λ h. absurd (cc); drops = λ h e. absurd (cc) };
+  poll_listed = λ i. record { tries = λ h. absurd (cc); polls = λ h. inr refl; first = λ n h l. absurd (not_one n h l); adds = λ n e. absurd (cc); forgets = λ h. absurd (cc); drops = λ h e. absurd (cc) };
+  abandon = λ i. record { tries = λ h. absurd (cc); polls = λ h. absurd (cc); first = λ n h l. absurd (cc); adds = λ n e. absurd (cc); forgets = λ h. absurd (cc); drops = λ h e. absurd (cc) };
+  cancel = λ i. record { tries = λ h. absurd (cc); polls = λ h. absurd (cc); first = λ n h l. absurd (cc); adds = λ n e. absurd (cc); forgets = λ h. absurd (cc); drops = λ h e. absurd (cc) };
+  give_back = λ i. record { tries = λ h. absurd (cc); polls = λ h. absurd (cc); first = λ n h l. absurd (cc); adds = λ n e. absurd (cc); forgets = λ h. absurd (cc); drops = λ h e. refl };
+  forget = λ i. record { tries = λ h. absurd (cc); polls = λ h. absurd (cc); first = λ n h l. absurd (cc); adds = λ n e. absurd (cc); forgets = λ h. refl; drops = λ h e. absurd (cc) };
+  go = λ w x i begun here. record { tries = λ h. absurd (cc); polls = λ h. absurd (cc); first = λ n h l. absurd (cc); adds = λ n e. absurd (cc); forgets = λ h. absurd (cc); drops = λ h e. absurd (cc) };
+})
+
+-- ---- What is found there
+
+abbrev is_taken : Found → Bool
+is_taken (Taken more) = true
+is_taken _ = false
+
+-- a look at the permits says whether one is available
+found_free : (f : Found) (n : ℕ) → FindsPermit f n → nat_lt 0 n ≡ is_taken f
+found_free (Taken true) n e = seen.some_free n (omega arith)
+found_free (Taken false) n e = seen.some_free n (omega arith)
+found_free NoneLeft n e = seen.none_free n e
+found_free Done n e = absurd e
+found_free PastLimit n e = absurd e
+found_free NoMemory n e = absurd e
+found_free Yes n e = absurd e
+found_free No n e = absurd e
+
+module _ (t u : Table Semaphore) (m : Move) (a : Answer) (w : Within) (k : Acting t u m a w) (door : Entrance (stage_at t.stages m.party) m.what w (position_at t.machine.positions m.party) k.from) where
+  abbrev p : ℕ
+  p = m.party
+
+  abbrev old : World
+  old = view_of t
+
+  abbrev new : World
+  new = view_of u
+
+  abbrev memory : Bool
+  memory = (inputs_of m.what).memory
+
+  -- what is so of the place at which a call begins is so of where it began
+  module _ (y : Place) (P : Place → Type 0) where
+    at : k.from ≡ y → P k.from → P y
+    at e h = subst P e h
+
+  abbrev Found_there : Place → Type 0
+  Found_there y = Finds memory p (action_of y) k.found t.machine.words t.machine.entries
+
+  free_is : is_free old.state ≡ nat_lt 0 t.machine.words.available
+  free_is = seen.free_seen t k.old_laws
+
+  permit_new : has_permit new.state p ≡ (share_of (after k.from k.found)).permit
+  permit_new = ap (λ (z : Share). z.permit) (acting.share_new t u m a w k)
+
+  answered : (y : Place) → k.from ≡ y → a ≡ answer_by (next_of y k.found)
+  answered y e = k.answer ∙ ap (λ z. answer_by (next_of z k.found)) e
+
+  shared : (y : Place) → k.from ≡ y → has_permit new.state p ≡ (share_of (after y k.found)).permit
+  shared y e = permit_new ∙ ap (λ z. (share_of (after z k.found)).permit) e
+
+  decided : (y : Place) → k.from ≡ y → decision a (standing_of new p) ≡ said (next_of y k.found)
+  decided y e = acting.decides t u m a w k ∙ ap (λ z. said (next_of z k.found)) e
+
+  -- a look at the permits, at this place
+  free_at : (y : Place) → k.from ≡ y → (Found_there y → FindsPermit k.found t.machine.words.available) → is_free old.state ≡ is_taken k.found
+  free_at y e look = free_is ∙ found_free k.found t.machine.words.available (look (at y Found_there e k.acts.finds))
+
+  try_answer : (f : Found) → answer_by (next_of Try f) ≡ (if is_taken f then answer.Granted Plain else answer.None)
+  try_answer (Taken more) = refl
+  try_answer _ = refl
+
+  try_share : (f : Found) → (share_of (after Try f)).permit ≡ is_taken f
+  try_share (Taken more) = refl
+  try_share _ = refl
+
+  take_answer : (f : Found) → answer_by (next_of (Take false false) f) ≡ (if is_taken f then answer.Ready Plain else answer.Stepped)
+  take_answer (Taken more) = refl
+  take_answer _ = refl
+
+  take_share : (f : Found) → (share_of (after (Take false false) f)).permit ≡ is_taken f
+  take_share (Taken more) = refl
+  take_share _ = refl
+
+  take_said : (f : Found) → is_taken f ≡ true → said (next_of (Take false false) f) ≡ Some (answer.Ready Plain)
+  take_said (Taken more) h = refl
+  take_said _ h = absurd (cc)
+
+  retake_share : (f : Found) → (share_of (after Retake f)).permit ≡ is_taken f
+  retake_share (Taken more) = refl
+  retake_share _ = refl
+
+  retake_said : (f : Found) → is_taken f ≡ true → said (next_of Retake f) ≡ Some (answer.Ready Plain)
+  retake_said (Taken more) h = refl
+  retake_said _ h = absurd (cc)
+
+  chosen : {A : Type 0} (b c : Bool) (x y : A) → b ≡ c → (if c then x else y) ≡ (if b then x else y)
+  chosen b c x y e = ap (λ z. if z then x else y) (sym e)
+
+  tried : is_try m.what ≡ true → (a ≡ (if is_free old.state then answer.Granted Plain else answer.None)) × (has_permit new.state p ≡ is_free old.state)
+  tried h =
+      let e = door.tries h in
+      let free = free_at Try e (λ y. y) in
+      (answered Try e ∙ (try_answer k.found ∙ chosen (is_free old.state) (is_taken k.found) (answer.Granted Plain) answer.None free), shared Try e ∙ (try_share k.found ∙ sym free))
+
+  polled : is_poll (stands_as (verdict (position_at t.machine.positions p)) (stage_at t.stages p)) m.what ≡ true → (has_permit new.state p ≡ is_free old.state) × (is_free old.state ≡ true → decision a (standing_of new p) ≡ Some (answer.Ready Plain))
+  polled h = elim (door.polls h) as (λ _. (has_permit new.state p ≡ is_free old.state) × (is_free old.state ≡ true → decision a (standing_of new p) ≡ Some (answer.Ready Plain))) [
+    | inl e ↦ (let free = free_at (Take false false) e (λ y. y) in (shared (Take false false) e ∙ (take_share k.found ∙ sym free), λ is. decided (Take false false) e ∙ take_said k.found (sym free ∙ is)))
+    | inr e ↦ (let free = free_at Retake e (λ y. y) in (shared Retake e ∙ (retake_share k.found ∙ sym free), λ is. decided Retake e ∙ retake_said k.found (sym free ∙ is)))
+  ]
+
+  added : (n : ℕ) → added_in m.what ≡ Some n → AddsAtOnce n old m a new
+  added n e = by_found k.found (at (Raise n) Found_there from k.acts.finds) refl where
+    from : k.from ≡ Raise n
+    from = door.adds n e
+
+    by_found : (f : Found) → FindsRoom n f t.machine.words → k.found ≡ f → AddsAtOnce n old m a new
+    by_found Done room is = record {
+      fits = λ h. (acting.state_is t u m a w k ∙ ap (λ (d : Deed Change ListName). state_after p d old.state) (ap (λ y. deed_of (action_of y) k.found) from ∙ ap (deed_of (act.Raise n)) is), decided (Raise n) from ∙ ap (λ f. said (next_of (Raise n) f)) is);
+      past = λ h. absurd (omega (arith, h, room));
+    }
+    by_found PastLimit room is = record {
+      fits = λ h. absurd (omega (arith, h, room));
+      past = λ h. (answered (Raise n) from ∙ ap (λ f. answer_by (next_of (Raise n) f)) is, ap view_of (acting.unchanged t u m a w k n from is));
+    }
+    by_found _ room is = absurd room
+
+  done_there : (y : Place) → k.from ≡ y → deed_of (action_of k.from) k.found ≡ deed_of (action_of y) k.found
+  done_there y e = ap (λ z. deed_of (action_of z) k.found) e
+
+  lowered : (f : Found) → Finds memory p act.Lower f t.machine.words t.machine.entries → deed_of act.Lower f ≡ changes forgets
+  lowered Done e = refl
+  lowered _ e = absurd e
+
+  given_back : (f : Found) → Finds memory p act.GiveBack f t.machine.words t.machine.entries → deed_of act.GiveBack f ≡ changes gives_back
+  given_back Done e = refl
+  given_back _ e = absurd e
+
+  forgotten_so : is_forget m.what ≡ true → (a ≡ answer.GivenBack) × (new.state ≡ state_after p (changes forgets) old.state)
+  forgotten_so h =
+      let e = door.forgets h in
+      (answered Lower e, acting.state_is t u m a w k ∙ ap (λ (d : Deed Change ListName). state_after p d old.state) (done_there Lower e ∙ lowered k.found (at Lower Found_there e k.acts.finds)))
+
+  returned : is_drop m.what ≡ true → standing_of old p ≡ outside rest.Holding → new.state ≡ state_after p (changes gives_back) old.state
+  returned h stands =
+      let e = door.drops h (sym (acting.stood t u m a w k) ∙ stands) in
+      acting.state_is t u m a w k ∙ ap (λ (d : Deed Change ListName). state_after p d old.state) (done_there GiveBack e ∙ given_back k.found (at GiveBack Found_there e k.acts.finds))
+
+  seen_poll : is_poll (standing_of old p) m.what ≡ true → is_poll (stands_as (verdict (position_at t.machine.positions p)) (stage_at t.stages p)) m.what ≡ true
+  seen_poll h = ap (λ z. is_poll z m.what) (sym (acting.stood t u m a w k)) ∙ h
+
+  pub at_once : AnswersAtOnce old m a new
+  at_once = record {
+    tried = λ h possible. tried h;
+    polled = λ h. (polled (seen_poll h)).0;
+    taken = λ h. (polled (seen_poll h)).1;
+    ready = λ h.
+        let e = door.first (entries_of p old.entries) (ap (λ z. is_first_poll z m.what (entries_of p old.entries)) (sym (acting.stood t u m a w k)) ∙ h) (k.old_laws.owners p) in
+        let free = free_at (Take false false) e (λ y. y) in
+        answered (Take false false) e ∙ (take_answer k.found ∙ chosen (is_free old.state) (is_taken k.found) (answer.Ready Plain) answer.Stepped free);
+    added = λ n e possible. added n e;
+    forgotten = λ h possible. forgotten_so h;
+    returned = returned;
+  }

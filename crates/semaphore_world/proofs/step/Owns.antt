@@ -1,0 +1,85 @@
+-- What each party has, by where it stands.
+use Rattle.std.proofs.Common.{◌≡◌, ℕ, true, false, Some, refl, arith, ap, sym, ◌∙◌, subst}
+use Rattle.lock_queue.specs.Parties.{entries_of}
+use Rattle.lock_world.specs.declared.moves.Answer.TheVariants as answer
+use Rattle.lock_world.specs.declared.standing.Rest.TheVariants as rest
+use Rattle.lock_world.specs.declared.standing.Stage.{Stage}
+use Rattle.lock_world.specs.declared.standing.Stage.TheVariants.{Outside, Inside, Forgotten}
+use Rattle.lock_world.specs.declared.standing.Within.{Within}
+use Rattle.lock_world.specs.Standings.{inside, is_outside}
+use Rattle.lock_table.specs.Stages.{stage_at, stands_as}
+use Rattle.lock_table.specs.Tables.{Table}
+use Rattle.lock_table.proofs.Mapped.{past_last}
+use Rattle.lock_table.proofs.Past.{by_stage, by_stage_or_past}
+use Rattle.semaphore_machine.specs.declared.program.Place.TheVariants.{Take, Retake, Join, Ask, Leave, HandOn, Try, Raise}
+use Rattle.semaphore_machine.specs.declared.program.Position.{Position}
+use Rattle.semaphore_machine.specs.declared.program.Position.TheVariants.{Out, Waiting as Waits_here, Holding, At}
+use Rattle.semaphore_machine.specs.Seats.{share_of, listed, verdict, adds_at}
+use Rattle.semaphore_machine.specs.Machine.{Semaphore, IsSemaphore, goes_with, position_at}
+use Rattle.semaphore_world.specs.State.{World, share_at, standing_of, adds_of}
+use Rattle.semaphore_world.specs.View.{view_of}
+use Rattle.semaphore_world.specs.Legal.{HasItsOwn}
+use Rattle.semaphore_world.specs.Steps.{IsSemaphoreTable}
+use Rattle.semaphore_world.proofs.table.Seen as seen
+use Rattle.semaphore_world.proofs.step.Idle.{StandsWell}
+use Rattle.semaphore_world.proofs.step.Rows.{never_pending}
+
+-- ---- What parties have, by where they stand
+
+own_by : (w : World) (p : ℕ) (s : Stage) (x : Position) → goes_with s x ≡ true → entries_of p w.entries ≡ listed x → share_at w.state p ≡ share_of x → HasItsOwn w p (stands_as (verdict x) s)
+own_by w p (Outside rest.Idle) Out g l h = (l, h)
+own_by w p (Outside rest.Idle) _ g l h = absurd (cc)
+own_by w p (Outside rest.Pending) Out g l h = h
+own_by w p (Outside rest.Pending) Waits_here g l h = h
+own_by w p (Outside rest.Pending) _ g l h = absurd (cc)
+own_by w p (Outside rest.Holding) Holding g l h = (l, h)
+own_by w p (Outside rest.Holding) _ g l h = absurd (cc)
+own_by w p (Outside rest.Finished) x g l h = absurd (cc)
+own_by w p (Inside u) (At (Take false told)) g l h = h
+own_by w p (Inside u) (At (Take true told)) g l h = h
+own_by w p (Inside u) (At Retake) g l h = h
+own_by w p (Inside u) (At (Join told)) g l h = h
+own_by w p (Inside u) (At Ask) g l h = h
+own_by w p (Inside u) (At (Leave more)) g l h = h
+own_by w p (Inside u) (At HandOn) g l h = h
+own_by w p (Inside u) (At Try) g l h = h
+own_by w p (Inside u) (At (Raise n)) g l h = h
+own_by w p (Inside u) (At _) g l h = tt
+own_by w p (Inside u) _ g l h = absurd (cc)
+own_by w p Forgotten x g l h = tt
+
+adds_by : (s : Stage) (x : Position) → goes_with s x ≡ true → is_outside (stands_as (verdict x) s) ≡ true → adds_at x ≡ 0
+adds_by (Outside r) Out g o = refl
+adds_by (Outside r) Waits_here g o = refl
+adds_by (Outside r) Holding g o = refl
+adds_by (Outside rest.Idle) (At y) g o = absurd (cc)
+adds_by (Outside rest.Pending) (At y) g o = absurd (cc)
+adds_by (Outside rest.Holding) (At y) g o = absurd (cc)
+adds_by (Outside rest.Finished) (At y) g o = absurd (cc)
+adds_by (Inside u) x g o = absurd (cc)
+adds_by Forgotten x g o = absurd (cc)
+
+pends_by : (s : Stage) (x : Position) (u : Within) → stands_as (verdict x) s ≡ inside u (Some answer.Pending) → ⊥
+pends_by (Outside r) x u e = cc
+pends_by (Inside w) (At y) u e = never_pending y (cc)
+pends_by (Inside w) Out u e = cc
+pends_by (Inside w) Waits_here u e = cc
+pends_by (Inside w) Holding u e = cc
+pends_by Forgotten x u e = cc
+
+module _ (t : Table Semaphore) (laws : IsSemaphore t.machine) (fits : IsSemaphoreTable t) where
+  pub each_has : (q : ℕ) → HasItsOwn (view_of t) q (standing_of (view_of t) q)
+  each_has q = subst (HasItsOwn (view_of t) q) (sym (seen.stands_seen t q)) (by_stage t.stages q (λ s. HasItsOwn (view_of t) q (stands_as (verdict (position_at t.machine.positions q)) s)) tt
+      (λ inside. own_by (view_of t) q (stage_at t.stages q) (position_at t.machine.positions q) (fits.stands q inside) (laws.owners q) (seen.share_seen t q)))
+
+  pub none_added : (q : ℕ) → is_outside (standing_of (view_of t) q) ≡ true → adds_of (view_of t) q ≡ 0
+  none_added q out = seen.adds_seen t q ∙ by_stage_or_past t.stages q (adds_at (position_at t.machine.positions q) ≡ 0)
+      (λ past. ap adds_at (past_last t.machine.positions q Out (omega (arith, fits.as_many))))
+      (λ inside. adds_by (stage_at t.stages q) (position_at t.machine.positions q) (fits.stands q inside) (sym (ap is_outside (seen.stands_seen t q)) ∙ out))
+
+  pub well : StandsWell (view_of t)
+  well = record {
+    each = each_has;
+    adds = none_added;
+    never_pending = λ q u e. pends_by (stage_at t.stages q) (position_at t.machine.positions q) u (sym (seen.stands_seen t q) ∙ e);
+  }
