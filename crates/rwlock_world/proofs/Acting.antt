@@ -1,5 +1,5 @@
 -- An action of a party is a legal step, as callers see it.
-use Rattle.std.proofs.Common.{◌≡◌, ◌≢◌, ℕ, ◌<◌, ◌⊎◌, inl, inr, Bool, true, false, List, length, Option, Some, None, [], ◌∷◌, zero, suc, arith, refl, ap, sym, ◌∙◌, subst}
+use Rattle.std.proofs.Common.{◌≡◌, ℕ, ◌<◌, inl, inr, Bool, true, false, List, length, Option, Some, None, refl, ap, sym, ◌∙◌, subst}
 use Rattle.std.proofs.Math.ListN.{set}
 use Rattle.std.proofs.lemmas.Bool.{false≢true, cases_Bool}
 use Rattle.lock_world.specs.declared.moves.Answer.{Answer}
@@ -16,7 +16,7 @@ use Rattle.lock_world.specs.declared.standing.Stage.{Stage}
 use Rattle.lock_world.specs.declared.standing.Stage.TheVariants.{Forgotten}
 use Rattle.lock_world.specs.declared.standing.Within.{Within}
 use Rattle.lock_world.specs.Frame.{put_in, is_poll_after_ready}
-use Rattle.lock_world.specs.Standings.{inputs_of, call_in, refused}
+use Rattle.lock_world.specs.Standings.{inputs_of, refused}
 use Rattle.lock_world.proofs.Equations.{some_eq, none_some}
 use Rattle.lock_table.specs.Stages.{stage_at, call_at, polls_again, stage_after}
 use Rattle.lock_table.specs.Tables.{Table, Does as TableDoes}
@@ -33,11 +33,11 @@ use Rattle.rwlock_machine.specs.Machine.{RwLock, place_at}
 use Rattle.rwlock_machine.specs.Acts.{Acts}
 use Rattle.rwlock_machine.proofs.Leads.{led, steps_in_turn}
 use Rattle.rwlock_world.specs.Legal.{knows, call_of, Legal}
-use Rattle.rwlock_world.specs.Number.{LockedNumber, number_with, knows as knows_there, knows_at, answer_by, place_for, Acted, Does, Moves as MovesThere}
+use Rattle.rwlock_world.specs.Number.{LockedNumber, number_with, knows as knows_there, knows_at, answer_by, place_for, Does, Moves as MovesThere}
 use Rattle.rwlock_world.specs.Stages.{sought_at}
-use Rattle.rwlock_world.specs.State.{World, standing_of}
+use Rattle.rwlock_world.specs.State.{standing_of}
 use Rattle.rwlock_world.specs.Steps.{TableSteps}
-use Rattle.rwlock_world.specs.View.{verdict, standing_at, view_of}
+use Rattle.rwlock_world.specs.View.{verdict, view_of}
 use Rattle.rwlock_world.proofs.Begun.{within, known_at}
 use Rattle.rwlock_world.proofs.Calls.{Moves, moving}
 use Rattle.rwlock_world.proofs.Facts as word
@@ -49,7 +49,6 @@ use Rattle.rwlock_world.proofs.Stages.{strays_not, stage_then}
 use Rattle.rwlock_world.proofs.TurnFacts.{on_turn}
 use Rattle.lock_table.proofs.Mapped.{set_same}
 use Rattle.lock_table.proofs.Past.{inside_or_past}
-use Rattle.rwlock_world.proofs.Views as view
 use Rattle.rwlock_world.proofs.Views.{Fits}
 
 module _ (t u : Table LockedNumber) (m : Move) (a : Answer) (w : Within) where

@@ -1,5 +1,5 @@
 -- Which action each move carries out: one case for each call and each place at which a party may begin it, and one for a party that goes on.
-use Rattle.std.proofs.Common.{◌≡◌, ◌&&◌, if◌then◌else◌, Bool, true, false, Option, Some, None, refl, ap, subst, sym}
+use Rattle.std.proofs.Common.{◌≡◌, ◌&&◌, if◌then◌else◌, Bool, true, false, Some, None, refl, ap, subst}
 use Rattle.std.proofs.lemmas.Bool.{false≢true, and_parts}
 use Rattle.lock_world.specs.declared.moves.Call.{Call}
 use Rattle.lock_world.specs.declared.moves.Call.TheVariants as call

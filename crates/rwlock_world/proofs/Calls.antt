@@ -1,5 +1,5 @@
 -- What each move does, as its party stands: where it acts, in which call, and what it seeks then.
-use Rattle.std.proofs.Common.{◌≡◌, ℕ, Bool, true, false, Option, Some, None, refl, sym, ap, ◌∙◌}
+use Rattle.std.proofs.Common.{◌≡◌, ℕ, true, false, Option, Some, None, refl, sym, ap, ◌∙◌}
 use Rattle.lock_world.specs.declared.moves.Answer.{Answer}
 use Rattle.lock_world.specs.declared.moves.Answer.TheVariants as answer
 use Rattle.lock_world.specs.declared.moves.Call.{Call}
@@ -12,7 +12,7 @@ use Rattle.lock_world.specs.declared.standing.Kind.TheVariants as kind
 use Rattle.lock_world.specs.declared.standing.Rest.{Rest}
 use Rattle.lock_world.specs.declared.standing.Rest.TheVariants as rest
 use Rattle.lock_world.specs.declared.standing.Stage.{Stage}
-use Rattle.lock_world.specs.declared.standing.Stage.TheVariants.{Outside, Inside}
+use Rattle.lock_world.specs.declared.standing.Stage.TheVariants.{Outside}
 use Rattle.lock_world.specs.declared.standing.Within.{Within}
 use Rattle.lock_world.specs.Accounts.{aim, sought_after}
 use Rattle.lock_world.specs.Frame.{is_drop, is_giving_back, put_in}
@@ -35,7 +35,7 @@ use Rattle.rwlock_machine.proofs.Starts.{start_same}
 use Rattle.rwlock_world.specs.Number.{knows_at, answer_by}
 use Rattle.rwlock_world.specs.Stages.{sought_at, Course, tries_upgrade, course_of, is_on_course, is_inside, goes_with}
 use Rattle.rwlock_world.specs.View.{share_of, is_upgrade, verdict, standing_at}
-use Rattle.rwlock_world.proofs.Begun.{within, ForMoves, Turn, turn}
+use Rattle.rwlock_world.proofs.Begun.{within, Turn, turn}
 use Rattle.rwlock_world.proofs.Paths.{InVain, Seeks}
 use Rattle.rwlock_world.proofs.Rows.{lacks_memory}
 

@@ -1,5 +1,5 @@
 -- A first poll that finds the turn free takes it, and is ready at its next step where what it takes the turn for is free.
-use Rattle.std.proofs.Common.{◌≡◌, ◌≢◌, ℕ, ◌+◌, ◌<◌, Bool, true, false, List, length, Option, Some, None, refl, arith, ap, sym, ◌∙◌, subst, nat_lt, get_or-set_same, length-set}
+use Rattle.std.proofs.Common.{◌≡◌, ◌≢◌, ℕ, ◌<◌, Bool, true, false, length, Some, None, refl, arith, ap, sym, ◌∙◌, subst, get_or-set_same, length-set}
 use Rattle.std.proofs.Math.ListN.{set}
 use Rattle.std.specs.List.{sum_by}
 use Rattle.std.proofs.lemmas.List.Sums.{sum_by-set}
@@ -9,12 +9,10 @@ use Rattle.lock_world.specs.declared.moves.Answer.TheVariants as answer
 use Rattle.lock_world.specs.declared.moves.Call.{Call}
 use Rattle.lock_world.specs.declared.moves.Got.TheVariants.{Value}
 use Rattle.lock_world.specs.declared.moves.Inputs.{Inputs}
-use Rattle.lock_world.specs.declared.moves.What.TheVariants.{Begin, Go}
-use Rattle.lock_world.specs.declared.standing.Stage.{Stage}
+use Rattle.lock_world.specs.declared.moves.What.TheVariants.{Go}
 use Rattle.lock_world.specs.declared.standing.Stage.TheVariants.{Inside, Forgotten}
 use Rattle.lock_world.specs.declared.standing.Within.{Within}
 use Rattle.lock_world.specs.Rights.{upgradable, write}
-use Rattle.lock_world.specs.Standings.{inputs_of}
 use Rattle.lock_world.specs.Whole.{going_on, moves_of, answers_of}
 use Rattle.lock_frame.specs.Steps.{beginning}
 use Rattle.lock_frame.proofs.Runs.{along, Onward}
@@ -25,7 +23,6 @@ use Rattle.rwlock_machine.specs.declared.program.Action.TheVariants as act
 use Rattle.lock_table.specs.declared.end.End.TheVariants.{Got}
 use Rattle.rwlock_machine.specs.declared.program.Found.{Found}
 use Rattle.rwlock_machine.specs.declared.program.Found.TheVariants.{Done, Full, NoneLeft, SomeLeft, Turn}
-use Rattle.rwlock_machine.specs.declared.program.Next.{Next}
 use Rattle.rwlock_machine.specs.declared.program.Place.{Place}
 use Rattle.rwlock_machine.specs.declared.program.Place.TheVariants as place
 use Rattle.rwlock_machine.specs.declared.program.Purpose.{Purpose}
@@ -43,9 +40,8 @@ use Rattle.rwlock_world.specs.Runs.{Runs, HoldsWell}
 use Rattle.rwlock_world.specs.State as state
 use Rattle.rwlock_world.specs.State.{World, is_turn_free, is_upgrader, how_many_read}
 use Rattle.rwlock_world.specs.Steps.{Stands, Steps as Moved}
-use Rattle.lock_table.specs.Tables.{Table}
-use Rattle.rwlock_world.specs.Number.{LockedNumber, knows_at, answer_by}
-use Rattle.rwlock_world.specs.View.{turn_by, view_of}
+use Rattle.rwlock_world.specs.Number.{knows_at, answer_by}
+use Rattle.rwlock_world.specs.View.{view_of}
 use Rattle.rwlock_world.proofs.Acting.{Acting, Way, impossible, over, puts, acts, way, acting}
 use Rattle.rwlock_world.proofs.BoundRuns.{laws}
 use Rattle.rwlock_world.proofs.Instants.{begins, passer_holds, turn_is_free}

@@ -1,6 +1,5 @@
 -- A refused poll of a party that stood in a list leaves some entry of that list marked, unless the list is empty.
-use Rattle.std.proofs.Common.{◌≡◌, ◌≢◌, ℕ, ◌+◌, ◌<◌, ◌≤◌, Bool, true, false, List, [], ◌∷◌, length, Option, Some, None, refl, arith, ap, sym, ◌∙◌, subst, get_or-set_same}
-use Rattle.std.proofs.Math.ListN.{set}
+use Rattle.std.proofs.Common.{◌≡◌, ◌≢◌, ℕ, ◌<◌, ◌≤◌, Bool, true, false, List, [], ◌∷◌, length, Some, refl, arith, ap, sym, ◌∙◌, subst, get_or-set_same}
 use Rattle.std.proofs.Math.Decide.{ℕ_discrete}
 use Rattle.std.proofs.lemmas.Bool.{false≢true}
 use Rattle.std.proofs.lemmas.Bool.Decides.{nat_tests}
@@ -18,19 +17,18 @@ use Rattle.lock_world.specs.declared.moves.What.{What}
 use Rattle.lock_world.specs.declared.moves.What.TheVariants.{Begin, Go}
 use Rattle.lock_world.specs.declared.standing.Kind.TheVariants as kind
 use Rattle.lock_world.specs.declared.standing.Rest.TheVariants as rest
-use Rattle.lock_world.specs.declared.standing.Stage.TheVariants.{Outside}
 use Rattle.lock_world.specs.declared.standing.Within.{Within}
 use Rattle.lock_world.specs.Frame.{is_refusal}
 use Rattle.lock_world.specs.Standings.{outside, inputs_of}
 use Rattle.lock_world.specs.Steps.{Deed, nothing, changes, does}
 use Rattle.lock_world.specs.Whole.{going_on, moves_of, answers_of}
-use Rattle.lock_world.proofs.Equations.{some_eq, none_some}
+use Rattle.lock_world.proofs.Equations.{some_eq}
 use Rattle.lock_frame.specs.Steps.{beginning}
 use Rattle.lock_frame.proofs.Runs.{along, Onward}
 use Rattle.lock_table.specs.declared.end.End.TheVariants.{Got, Granted, Pending, NotFree, GivenBack, Refused}
-use Rattle.lock_table.specs.Stages.{stage_at, call_at, polls_again}
+use Rattle.lock_table.specs.Stages.{call_at, polls_again}
 use Rattle.lock_table.proofs.Lists.{others}
-use Rattle.mutex_machine.specs.Course.{Course as TurnCourse, is_waiting, is_told, is_releasing, listed}
+use Rattle.mutex_machine.specs.Course.{Course as TurnCourse, is_waiting, is_told, listed}
 use Rattle.mutex_machine.specs.declared.mutex.Step.{Step as TurnStep}
 use Rattle.mutex_machine.specs.declared.mutex.Step.TheVariants as turn_step
 use Rattle.mutex_machine.specs.declared.program.End.TheVariants as turn_end
@@ -55,7 +53,7 @@ use Rattle.rwlock_machine.specs.Parties.{OnNoWriter}
 use Rattle.rwlock_machine.specs.Turns.{OnTurn}
 use Rattle.rwlock_machine.specs.Machine.{place_at}
 use Rattle.rwlock_world.specs.Changes.{Change, entries_after}
-use Rattle.rwlock_world.specs.Number.{LockedNumber, knows_at, answer_by}
+use Rattle.rwlock_world.specs.Number.{knows_at, answer_by}
 use Rattle.rwlock_world.specs.Runs.{Runs, HoldsWell}
 use Rattle.rwlock_world.specs.Stages.{is_future}
 use Rattle.rwlock_world.specs.State.{ListName, for_the_turn, for_no_readers, for_no_writer, World, list_of, standing_of}

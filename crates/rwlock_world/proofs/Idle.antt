@@ -1,5 +1,5 @@
 -- A move that does nothing is a legal step: one that its party may not make, and a poll of a future that has been ready. And so is a put.
-use Rattle.std.proofs.Common.{◌≡◌, ◌≢◌, ℕ, zero, suc, ◌<◌, ◌||◌, inl, inr, Bool, true, false, List, [], ◌∷◌, length, Option, Some, None, refl, arith, ap, sym, ◌∙◌, subst, get_or}
+use Rattle.std.proofs.Common.{◌≡◌, ◌≢◌, ℕ, zero, suc, ◌<◌, ◌||◌, inl, inr, true, false, List, [], ◌∷◌, length, Option, Some, None, refl, arith, ap, sym, ◌∙◌, subst, get_or}
 use Rattle.std.proofs.Math.ListN.{set}
 use Rattle.std.proofs.lemmas.Bool.{false≢true, true≢false}
 use Rattle.lock_world.specs.declared.moves.Answer.{Answer}
@@ -10,10 +10,9 @@ use Rattle.lock_world.specs.declared.moves.Got.TheVariants.{Value}
 use Rattle.lock_world.specs.declared.moves.Inputs.{Inputs}
 use Rattle.lock_world.specs.declared.moves.Move.{Move}
 use Rattle.lock_world.specs.declared.moves.What.{What}
-use Rattle.lock_world.specs.declared.moves.What.TheVariants.{Begin, Go}
+use Rattle.lock_world.specs.declared.moves.What.TheVariants.{Begin}
 use Rattle.lock_world.specs.declared.refusal.Refusal.TheVariants as refusal
 use Rattle.lock_world.specs.declared.standing.Kind.TheVariants as kind
-use Rattle.lock_world.specs.declared.standing.Rest.{Rest}
 use Rattle.lock_world.specs.declared.standing.Rest.TheVariants as rest
 use Rattle.lock_world.specs.declared.standing.Stage.{Stage}
 use Rattle.lock_world.specs.declared.standing.Stage.TheVariants.{Outside, Inside, Forgotten}
@@ -21,9 +20,9 @@ use Rattle.lock_world.specs.declared.standing.Within.{Within}
 use Rattle.lock_world.specs.Accounts.{sought_after}
 use Rattle.lock_world.specs.Frame.{is_drop, is_poll_after_ready, is_refusal, put_in}
 use Rattle.lock_world.specs.Rights.{Right, write}
-use Rattle.lock_world.specs.Standings.{Standing, outside, inside, forgotten, call_in, is_possible, refused, StandsAfter, is_decided, decision}
+use Rattle.lock_world.specs.Standings.{Standing, outside, inside, call_in, is_possible, refused, StandsAfter, is_decided, decision}
 use Rattle.lock_world.specs.Steps.{nothing, changes}
-use Rattle.lock_world.proofs.Equations.{some_eq, none_some, some_none, outside_inside, is_refused, is_granted}
+use Rattle.lock_world.proofs.Equations.{some_eq, none_some, some_none, outside_inside, is_granted}
 use Rattle.lock_table.specs.Stages.{stage_at, polls_again}
 use Rattle.lock_table.specs.Tables.{Table}
 use Rattle.lock_table.proofs.Idle as frame

@@ -1,5 +1,5 @@
 -- Each move is answered at once where it should be, as callers see it.
-use Rattle.std.proofs.Common.{◌≡◌, ℕ, ◌<◌, ◌==◌, ◌&&◌, ◌↔◌, if◌then◌else◌, inl, inr, Bool, true, false, List, length, nat_lt, Option, Some, None, IsSomeAnd, refl, arith, ap, sym, ◌∙◌, subst, get_or-set_same}
+use Rattle.std.proofs.Common.{◌≡◌, ℕ, ◌<◌, ◌==◌, ◌&&◌, ◌↔◌, if◌then◌else◌, Bool, true, false, List, length, nat_lt, Option, Some, None, refl, arith, ap, sym, ◌∙◌, subst, get_or-set_same}
 use Rattle.std.specs.Prelude.{not}
 use Rattle.std.proofs.Math.ListN.{set}
 use Rattle.std.proofs.lemmas.Bool.Decides.{nat_tests}
@@ -7,19 +7,15 @@ use Rattle.std.proofs.lemmas.Bool.{false≢true}
 use Rattle.std.proofs.lemmas.Bool.{eqb-true, eq-eqb, ltb-true, lt-ltb}
 use Rattle.lock_world.specs.declared.moves.Answer.{Answer}
 use Rattle.lock_world.specs.declared.moves.Answer.TheVariants as answer
-use Rattle.lock_world.specs.declared.moves.Call.{Call}
 use Rattle.lock_world.specs.declared.moves.Call.TheVariants as call
 use Rattle.lock_world.specs.declared.moves.Got.TheVariants.{Value}
 use Rattle.lock_world.specs.declared.moves.Inputs.{Inputs}
 use Rattle.lock_world.specs.declared.moves.Move.{Move}
 use Rattle.lock_world.specs.declared.moves.What.{What}
-use Rattle.lock_world.specs.declared.moves.What.TheVariants.{Begin, Go}
-use Rattle.lock_world.specs.declared.standing.Kind.{Kind}
-use Rattle.lock_world.specs.declared.standing.Kind.TheVariants as kind
+use Rattle.lock_world.specs.declared.moves.What.TheVariants.{Begin}
 use Rattle.lock_world.specs.declared.standing.Rest.{Rest}
 use Rattle.lock_world.specs.declared.standing.Rest.TheVariants as rest
-use Rattle.lock_world.specs.declared.standing.Stage.{Stage}
-use Rattle.lock_world.specs.declared.standing.Stage.TheVariants.{Outside, Inside, Forgotten}
+use Rattle.lock_world.specs.declared.standing.Stage.TheVariants.{Outside, Forgotten}
 use Rattle.lock_world.specs.declared.standing.Within.{Within}
 use Rattle.lock_world.specs.Rights.{Right, read, upgradable, write}
 use Rattle.lock_world.specs.Rosters.{how_many}
@@ -30,7 +26,6 @@ use Rattle.mutex_machine.specs.Mutex.{course_at as turn_at, holder_of, holders, 
 use Rattle.mutex_machine.proofs.Callers.{waiting_listed}
 use Rattle.mutex_machine.proofs.Holders as sees
 use Rattle.rwlock_machine.specs.declared.program.Found.{Found}
-use Rattle.rwlock_machine.specs.declared.program.Next.{Next}
 use Rattle.rwlock_machine.specs.declared.program.Place.{Place}
 use Rattle.rwlock_machine.specs.declared.program.Place.TheVariants as place
 use Rattle.rwlock_machine.specs.declared.program.Purpose.{Purpose}
@@ -38,13 +33,13 @@ use Rattle.rwlock_machine.specs.declared.program.Purpose.TheVariants as purpose
 use Rattle.rwlock_machine.specs.Program.{action_of, next_of, place_after}
 use Rattle.rwlock_machine.specs.Roles.{only_turns, fits_turn}
 use Rattle.rwlock_machine.specs.Machine.{SameRoles, place_at}
-use Rattle.rwlock_machine.specs.Acts.{IsRwLock, Finds, readers, marked}
+use Rattle.rwlock_machine.specs.Acts.{Finds, readers, marked}
 use Rattle.rwlock_machine.specs.Turns.{OnTurn}
 use Rattle.rwlock_machine.proofs.Leads.{Led, led, steps_in_turn}
 use Rattle.rwlock_machine.proofs.Places.{share as share_in}
 use Rattle.rwlock_world.specs.State as state
 use Rattle.rwlock_world.specs.State.{Turn, World, standing_of, sought_by, is_upgrader, how_many_read, is_marked, is_nobody, is_turn_free, entries_in}
-use Rattle.rwlock_world.specs.Legal.{knows, call_of, may_read, granted_if, is_try_for_turn, IsTryWithTurn, is_first_poll, is_first, AnswersAtOnce}
+use Rattle.rwlock_world.specs.Legal.{knows, call_of, may_read, granted_if, is_try_for_turn, is_first_poll, AnswersAtOnce}
 use Rattle.lock_table.specs.Stages.{stage_at, stage_after, stands_as}
 use Rattle.lock_table.proofs.Calls.{decided_after, decision_seen}
 use Rattle.rwlock_world.specs.Stages.{sought_at}
@@ -56,7 +51,6 @@ use Rattle.rwlock_world.proofs.Sound.{none_marked, nobody_holds, bit_seen}
 use Rattle.rwlock_world.proofs.Acting.{Acting, fit, says}
 use Rattle.rwlock_world.proofs.Idle.{Laws, stood, sought_is}
 use Rattle.rwlock_world.proofs.AtOnce.{waits_for_turn, is_try_turn, Lists, Firsts, firsts, try_reads, first_reads, first_readies, try_upgrades, try_adds, added, try_writes, try_written, turn_tries, turn_enters}
-use Rattle.rwlock_world.proofs.Owns as owns
 use Rattle.rwlock_world.proofs.Views as view
 
 -- ---- tests

@@ -1,13 +1,12 @@
 -- Each party may stand where it does after each action of one.
-use Rattle.std.proofs.Common.{◌≡◌, ◌≢◌, ℕ, ◌<◌, ◌&&◌, if◌then◌else◌, Bool, true, false, length, Option, Some, None, IsSome, IsSomeAnd, refl, sym, ap, subst, ◌∙◌, get_or-set_same, get_or-set_other, length-set}
+use Rattle.std.proofs.Common.{◌≡◌, ℕ, ◌<◌, ◌&&◌, if◌then◌else◌, Bool, true, false, length, Option, Some, None, IsSome, IsSomeAnd, refl, sym, ap, subst, ◌∙◌, get_or-set_same, get_or-set_other, length-set}
 use Rattle.lock_world.specs.declared.moves.Answer.{Answer}
 use Rattle.lock_world.specs.declared.moves.Answer.TheVariants.{Granted}
-use Rattle.lock_world.specs.declared.moves.Call.{Call}
 use Rattle.lock_world.specs.declared.moves.Call.TheVariants as call
 use Rattle.lock_world.specs.declared.moves.Got.TheVariants.{Value}
 use Rattle.lock_world.specs.declared.moves.Inputs.{Inputs}
 use Rattle.lock_world.specs.declared.moves.What.{What}
-use Rattle.lock_world.specs.declared.moves.What.TheVariants.{Begin, Go}
+use Rattle.lock_world.specs.declared.moves.What.TheVariants.{Begin}
 use Rattle.lock_world.specs.declared.standing.Kind.TheVariants as kind
 use Rattle.lock_world.specs.declared.standing.Rest.TheVariants as rest
 use Rattle.lock_world.specs.declared.standing.Stage.{Stage}
@@ -15,8 +14,8 @@ use Rattle.lock_world.specs.declared.standing.Stage.TheVariants.{Outside, Inside
 use Rattle.lock_world.specs.declared.standing.Within.{Within}
 use Rattle.lock_world.specs.Frame.{put_in}
 use Rattle.lock_world.specs.Standings.{inputs_of}
-use Rattle.lock_world.proofs.Equations.{some_eq, none_some, some_none}
-use Rattle.lock_table.specs.Stages.{call_at, polls_again, stage_after}
+use Rattle.lock_world.proofs.Equations.{some_eq, none_some}
+use Rattle.lock_table.specs.Stages.{call_at, stage_after}
 use Rattle.lock_table.specs.Tables.{Keeps as KeepsStanding, Called}
 use Rattle.mutex_machine.specs.Mutex.{course_at as turn_at}
 use Rattle.rwlock_machine.specs.declared.program.Next.{Next}
@@ -27,9 +26,9 @@ use Rattle.rwlock_machine.specs.Roles.{fits_turn}
 use Rattle.rwlock_machine.specs.Machine.{RwLock, place_at}
 use Rattle.rwlock_machine.specs.Acts.{Acts, IsRwLock}
 use Rattle.rwlock_machine.proofs.Leads.{led}
-use Rattle.rwlock_world.specs.Number.{LockedNumber, parties, place_of, number_with, knows, knows_at, may_put, Stands, answer_by, place_for, Acted, Does, Moves as MovesThere}
-use Rattle.rwlock_world.specs.Stages.{course_of, is_on_course, goes_with}
-use Rattle.rwlock_world.proofs.Begun.{within, Turn}
+use Rattle.rwlock_world.specs.Number.{LockedNumber, parties, place_of, knows, knows_at, may_put, Stands, answer_by, place_for, Acted, Does, Moves as MovesThere}
+use Rattle.rwlock_world.specs.Stages.{course_of, is_on_course}
+use Rattle.rwlock_world.proofs.Begun.{within}
 use Rattle.rwlock_world.proofs.Paths.{Path, Keeps, Seeks, path}
 use Rattle.rwlock_world.proofs.Stages.{strays_not, stage_fits}
 use Rattle.rwlock_world.proofs.Calls.{Moves, moving}

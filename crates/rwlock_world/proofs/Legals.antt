@@ -1,5 +1,5 @@
 -- One step of a call is legal.
-use Rattle.std.proofs.Common.{◌≡◌, ◌≢◌, ℕ, ◌<◌, ◌⊎◌, ◌||◌, ◌==◌, if◌then◌else◌, inl, inr, Bool, true, false, List, map, length, Option, Some, None, refl, arith, ap, sym, ◌∙◌, subst, get_or-set_same, get_or-set_other, length-set}
+use Rattle.std.proofs.Common.{◌≡◌, ◌≢◌, ℕ, ◌<◌, ◌⊎◌, ◌||◌, ◌==◌, if◌then◌else◌, inl, inr, Bool, true, false, List, map, length, Option, Some, None, refl, arith, ap, sym, ◌∙◌, subst, get_or-set_same, get_or-set_other}
 use Rattle.std.proofs.Math.ListN.{set}
 use Rattle.std.proofs.lemmas.Bool.Decides.{nat_tests}
 use Rattle.std.proofs.lemmas.List.{map-set}
@@ -13,15 +13,14 @@ use Rattle.lock_world.specs.declared.refusal.Refusal.{Refusal}
 use Rattle.lock_world.specs.declared.refusal.Refusal.TheVariants as refusal
 use Rattle.lock_world.specs.declared.standing.Rest.TheVariants as rest
 use Rattle.lock_world.specs.declared.standing.Stage.{Stage}
-use Rattle.lock_world.specs.declared.standing.Stage.TheVariants.{Forgotten}
 use Rattle.lock_world.specs.declared.standing.Within.{Within}
 use Rattle.lock_world.specs.Accounts.{sought_after}
 use Rattle.lock_world.specs.Frame.{is_poll_after_ready, put_in, is_drop, is_giving_back, is_refusal}
 use Rattle.lock_world.specs.Refusals.{number_of}
 use Rattle.lock_world.specs.Rights.{Right, read, upgradable, write}
-use Rattle.lock_world.specs.Standings.{Standing, inside, StandsAfter, IsUndecided, is_decided, is_possible, decision, refused}
+use Rattle.lock_world.specs.Standings.{Standing, inside, IsUndecided, is_decided, is_possible, decision, refused}
 use Rattle.lock_world.specs.Steps.{Deed, nothing, does, joins}
-use Rattle.lock_world.proofs.Equations.{some_eq, some_none}
+use Rattle.lock_world.proofs.Equations.{some_eq}
 use Rattle.mutex_machine.specs.Course.{Course as TurnCourse}
 use Rattle.mutex_machine.specs.Mutex.{course_at as turn_at}
 use Rattle.mutex_machine.proofs.Callers.{out_free, waiting_free}
@@ -40,7 +39,7 @@ use Rattle.rwlock_world.specs.State as state
 use Rattle.rwlock_world.specs.State.{State, World, standing_of, sought_by, is_upgrader, told_in, HasTurn, IsClear}
 use Rattle.rwlock_world.specs.Legal.{knows_of, call_of, DecidesOn, IsPossible, ChangesOneThing, HasSought, LeavesClear, Carries, Waits, list_for, may_meet, IsCause, IsRefusedForCause, IsValueKept, EndsProperly, KeepsUpgrades, Legal}
 use Rattle.lock_table.specs.Stages.{stage_at}
-use Rattle.rwlock_world.specs.Stages.{Course, sought_at, course_of, is_on_course}
+use Rattle.rwlock_world.specs.Stages.{sought_at}
 use Rattle.rwlock_world.specs.Number.{LockedNumber, answer_by}
 use Rattle.rwlock_world.specs.View.{is_upgrade, verdict, verdict_of, standing_at, seen}
 use Rattle.rwlock_world.proofs.Kept.{Walks}

@@ -1,5 +1,5 @@
 -- Where each action leads, place by place. Written by generators/rwlock_world_rows.py.
-use Rattle.std.proofs.Common.{◌≡◌, ◌&&◌, Bool, true, false, Option, refl}
+use Rattle.std.proofs.Common.{◌≡◌, ◌&&◌, Bool, true, false, refl}
 use Rattle.lock_world.specs.declared.refusal.Refusal.{Refusal}
 use Rattle.lock_world.specs.declared.refusal.Refusal.TheVariants as refusal
 use Rattle.mutex_machine.specs.Course.{Course as TurnCourse}

@@ -1,5 +1,5 @@
 -- Where nobody is starved for the turn, a whole call starves nobody that hasn't waited for too long.
-use Rattle.std.proofs.Common.{◌≡◌, ◌≢◌, ℕ, ◌<◌, Bool, true, false, zero, suc, List, [], ◌∷◌, length, nat_lt, Option, Some, None, refl, arith, ap, sym, ◌∙◌, subst}
+use Rattle.std.proofs.Common.{◌≡◌, ◌≢◌, ℕ, Bool, true, false, zero, suc, List, [], ◌∷◌, refl, arith, ap, sym, ◌∙◌, subst}
 use Rattle.std.specs.List.{sum_by}
 use Rattle.std.proofs.lemmas.List.Sums.{sum_by-cons}
 use Rattle.lock_world.specs.Accounts.{Account, accounts_after}
@@ -26,21 +26,18 @@ use Rattle.rwlock_machine.specs.declared.program.Action.{Action}
 use Rattle.rwlock_machine.specs.declared.program.Action.TheVariants as act
 use Rattle.rwlock_machine.specs.declared.program.Found.{Found}
 use Rattle.rwlock_machine.specs.declared.program.Found.TheVariants.{Turn}
-use Rattle.rwlock_machine.specs.declared.program.Next.{Next}
 use Rattle.rwlock_machine.specs.declared.program.Place.{Place}
 use Rattle.rwlock_machine.specs.Machine.{place_at}
-use Rattle.rwlock_machine.specs.Program.{action_of, start_of}
+use Rattle.rwlock_machine.specs.Program.{action_of}
 use Rattle.rwlock_machine.specs.Roles.{fits_turn}
 use Rattle.rwlock_machine.specs.Turns.{OnTurn}
 use Rattle.lock_table.specs.Stages.{stage_at}
 use Rattle.rwlock_world.specs.Runs.{Runs, HoldsWell}
 use Rattle.rwlock_world.specs.State.{World, is_starved}
 use Rattle.rwlock_world.specs.Steps.{Stands, Steps as Moved}
-use Rattle.lock_table.specs.Tables.{Table}
 use Rattle.rwlock_world.proofs.Acting.{Acting, Way, impossible, over, puts, acts, way}
 use Rattle.rwlock_world.proofs.Begun.{ForMoves, turn}
 use Rattle.rwlock_world.proofs.BoundRuns.{laws}
-use Rattle.rwlock_world.proofs.Views as view
 
 -- ---- whoever begins a call isn't about to be counted
 

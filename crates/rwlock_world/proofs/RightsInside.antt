@@ -1,5 +1,5 @@
 -- In which calls a party may be, and what it seeks there.
-use Rattle.std.proofs.Common.{◌≡◌, ℕ, ◌<◌, ◌&&◌, inl, inr, Bool, true, false, List, length, Option, Some, None, refl, ap, sym, ◌∙◌, subst}
+use Rattle.std.proofs.Common.{◌≡◌, ℕ, ◌<◌, inl, inr, Bool, true, false, List, length, Option, None, refl, ap, sym, ◌∙◌, subst}
 use Rattle.std.proofs.lemmas.List.{length-map}
 use Rattle.std.proofs.lemmas.Bool.{and_parts}
 use Rattle.lock_world.specs.declared.moves.Answer.{Answer}
@@ -21,7 +21,7 @@ use Rattle.lock_table.specs.Stages.{stage_at}
 use Rattle.rwlock_world.specs.Stages.{Course, drops, upgrades, tries_upgrade, course_of, is_on_course, is_inside, goes_with, sought_at}
 use Rattle.rwlock_world.specs.State.{World, standing_of, sought_by}
 use Rattle.rwlock_world.specs.Laws.{is_long_call}
-use Rattle.rwlock_world.specs.View.{verdict_of, verdict, standing_at, seen}
+use Rattle.rwlock_world.specs.View.{verdict_of, standing_at, seen}
 use Rattle.lock_table.proofs.Views.{standings_at, length-standings}
 use Rattle.lock_table.proofs.Past.{inside_or_past}
 use Rattle.rwlock_world.proofs.Views as view

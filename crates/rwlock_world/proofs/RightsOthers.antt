@@ -11,7 +11,7 @@ use Rattle.lock_world.specs.Steps.{Deed, changes}
 use Rattle.rwlock_world.specs.State.{Turn, nobody, passes, is_upgradable, waits_to_write, writes, World, standing_of, sought_by, reads, HasTurn}
 use Rattle.rwlock_world.specs.Changes
 use Rattle.rwlock_world.specs.Changes.{turn_after, readers_after, IsAllowed}
-use Rattle.rwlock_world.specs.State.{ListName, for_the_turn, for_no_readers, for_no_writer}
+use Rattle.rwlock_world.specs.State.{ListName}
 use Rattle.rwlock_world.specs.Legal.{Legal}
 use Rattle.lock_table.specs.Rights.{account_by}
 use Rattle.rwlock_world.specs.Runs.{right_by, right_in, accounts_of}

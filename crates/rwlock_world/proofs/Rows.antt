@@ -9,12 +9,11 @@ use Rattle.lock_world.specs.declared.moves.Got.TheVariants.{Value}
 use Rattle.lock_world.specs.declared.refusal.Refusal.{Refusal}
 use Rattle.lock_world.specs.declared.refusal.Refusal.TheVariants as refusal
 use Rattle.lock_world.specs.Refusals.{number_of}
-use Rattle.lock_world.specs.Standings.{refused}
 use Rattle.lock_world.specs.Steps.{Deed, nothing, changes, does, joins, asks, leaves, notifies}
 use Rattle.mutex_machine.specs.Course.{Course as TurnCourse, is_out as is_out_there, is_holding}
 use Rattle.rwlock_machine.specs.declared.program.Action.{Action}
 use Rattle.rwlock_machine.specs.declared.program.Action.TheVariants as act
-use Rattle.lock_table.specs.declared.end.End.TheVariants.{Got, Granted, Pending, NotFree, GivenBack, Refused}
+use Rattle.lock_table.specs.declared.end.End.TheVariants.{Pending, Refused}
 use Rattle.rwlock_machine.specs.declared.program.Next.{Next}
 use Rattle.rwlock_machine.specs.declared.program.Next.TheVariants as next
 use Rattle.rwlock_machine.specs.declared.program.Found.{Found}

@@ -1,17 +1,15 @@
 -- What always holds of a read-write lock's World, and that no notification is lost at rest.
-use Rattle.std.proofs.Common.{◌≡◌, ℕ, ◌+◌, ◌<◌, ◌≤◌, ◌⊎◌, ◌&&◌, inl, inr, Bool, true, false, List, [], ◌∷◌, length, map, zero, suc, Option, Some, None, refl, arith, ap, sym, ◌∙◌, subst}
+use Rattle.std.proofs.Common.{◌≡◌, ℕ, ◌<◌, ◌≤◌, ◌⊎◌, inl, inr, Bool, true, false, List, [], ◌∷◌, length, zero, suc, Option, Some, None, refl, arith, ap, sym, ◌∙◌, subst}
 use Rattle.std.specs.List.{list_all, sum_by}
-use Rattle.std.proofs.lemmas.List.{length-map}
 use Rattle.std.proofs.lemmas.List.Sums.{sum_by-cons}
 use Rattle.lock_event.specs.Lists.{IsMarkedFirst}
 use Rattle.lock_queue.specs.Parties.{entries_of}
-use Rattle.lock_world.specs.declared.moves.Answer.{Answer}
 use Rattle.lock_world.specs.declared.standing.Rest.TheVariants as rest
 use Rattle.lock_world.specs.declared.standing.Stage.{Stage}
 use Rattle.lock_world.specs.declared.standing.Stage.TheVariants.{Outside, Inside, Forgotten}
-use Rattle.lock_world.specs.Standings.{is_outside, outside, forgotten, is_outside_stage, forgets}
+use Rattle.lock_world.specs.Standings.{outside, forgotten, is_outside_stage}
 use Rattle.lock_world.specs.Rights.{Right, read, upgradable, write, wait_to_write, excludes}
-use Rattle.mutex_machine.specs.Course.{Course as TurnCourse, counted, holds, listed, is_resting as rests_in_turn}
+use Rattle.mutex_machine.specs.Course.{Course as TurnCourse, counted, is_resting as rests_in_turn}
 use Rattle.mutex_machine.specs.Mutex.{course_at as turn_at, is_counted, holder_of}
 use Rattle.mutex_machine.specs.Mutex as lock
 use Rattle.mutex_machine.proofs.Callers.{out_rests, holding_rests, waiting_rests}
@@ -25,7 +23,7 @@ use Rattle.rwlock_machine.specs.Machine.{RwLock, place_at}
 use Rattle.rwlock_machine.specs.Acts.{IsRwLock, IsAtRest, writers, marked}
 use Rattle.rwlock_machine.proofs.Places.{share as share_in}
 use Rattle.lock_table.specs.Stages.{stage_at}
-use Rattle.rwlock_world.specs.Stages.{is_future, is_guard, goes_with}
+use Rattle.rwlock_world.specs.Stages.{goes_with}
 use Rattle.lock_table.specs.Tables.{Table}
 use Rattle.rwlock_world.specs.State as state
 use Rattle.rwlock_world.specs.State.{ListName, for_the_turn, for_no_readers, for_no_writer, list_of, Turn, nobody, passes, is_upgradable, waits_to_write, writes, World, standing_of, is_marked, entries_in, HasTurn}
@@ -36,10 +34,8 @@ use Rattle.lock_table.specs.Lending.{table_with}
 use Rattle.rwlock_world.specs.Lent.{future_rests, guard_rests}
 use Rattle.rwlock_world.specs.Number.{LockedNumber, number_with}
 use Rattle.rwlock_world.specs.Steps.{IsNumberTable}
-use Rattle.rwlock_world.specs.View.{verdict_of, Share, passing, upgrading, waiting, writing, turn_as, share_of, turn_by, is_reading, verdict, standing_at, view_of}
-use Rattle.rwlock_world.proofs.Begun.{at_out, at_future, at_guard}
-use Rattle.lock_table.specs.Stages.{stands_as as standing_as}
-use Rattle.lock_table.specs.Views.{standings_from}
+use Rattle.rwlock_world.specs.View.{verdict_of, Share, passing, upgrading, waiting, writing, turn_as, share_of, turn_by, is_reading, standing_at, view_of}
+use Rattle.rwlock_world.proofs.Begun.{at_out}
 use Rattle.lock_table.proofs.Lending.{lent_seen}
 use Rattle.lock_table.proofs.Views.{rest_seen, outside_at}
 use Rattle.lock_table.proofs.Past.{inside_or_past}

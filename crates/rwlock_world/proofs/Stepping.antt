@@ -1,5 +1,5 @@
 -- A table's step as callers see it.
-use Rattle.std.proofs.Common.{◌≡◌, ℕ, false, Some, inl, inr, refl, ap, sym, ◌∙◌, subst}
+use Rattle.std.proofs.Common.{◌≡◌, ℕ, false, Some, inl, inr, refl, ap, sym, subst}
 use Rattle.lock_world.specs.declared.moves.Answer.{Answer}
 use Rattle.lock_world.specs.declared.moves.Answer.TheVariants as answer
 use Rattle.lock_world.specs.declared.moves.Call.TheVariants as call
@@ -25,7 +25,6 @@ use Rattle.rwlock_world.proofs.Idle.{Laws}
 use Rattle.rwlock_world.proofs.Instants.{at_once, still_at_once, impossible_at_once}
 use Rattle.rwlock_world.proofs.Kept.{put_is}
 use Rattle.lock_table.proofs.Past.{inside_or_past}
-use Rattle.rwlock_world.proofs.Views as view
 
 -- the call that puts a value
 put_call : (what : What) (v : ℕ) → put_in what ≡ Some v → (i : Inputs) × (what ≡ Begin (call.Put v) i)

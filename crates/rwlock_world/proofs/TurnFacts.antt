@@ -41,12 +41,11 @@ use Rattle.rwlock_world.specs.Changes.{Change, entries_after, gives_up}
 use Rattle.rwlock_world.specs.State.{ListName, for_the_turn, for_no_readers, for_no_writer}
 use Rattle.rwlock_world.specs.Legal.{may_meet}
 use Rattle.rwlock_world.specs.State.{World, list_of, told_in}
-use Rattle.rwlock_world.specs.Stages.{sought_at, course_of, course_until, polls, tries, drops}
+use Rattle.rwlock_world.specs.Stages.{sought_at}
 use Rattle.rwlock_world.specs.View.{is_reading, verdict, verdict_until, refused_by, seen}
 use Rattle.rwlock_world.proofs.Rows.{verdict_then, Room, keeps_what_it_has, TurnRow, turn_row}
 use Rattle.rwlock_world.proofs.Facts.{WaitsIn, CauseAs, Fitting, JudgedAs, Facts, Known}
 use Rattle.rwlock_world.proofs.TurnSteps.{TurnDid, TurnMoved, moved, left}
-use Rattle.rwlock_world.proofs.Views as view
 
 -- ---- what a step of a poll decides there decides the call, but that the turn was got
 

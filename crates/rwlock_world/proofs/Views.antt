@@ -1,15 +1,10 @@
 -- What callers see of a read-write lock's table, party by party.
-use Rattle.std.proofs.Common.{◌≡◌, ℕ, ◌<◌, ◌⊎◌, inl, inr, Bool, true, false, List, [], ◌∷◌, map, length, get_or, zero, suc, Option, None, refl, arith, ap, ◌∙◌, if◌then◌else◌}
+use Rattle.std.proofs.Common.{◌≡◌, ℕ, false, List, map, get_or, None, refl}
 use Rattle.std.specs.List.{sum_by}
-use Rattle.std.proofs.lemmas.List.Sums.{sum_by-cons}
 use Rattle.lock_world.specs.declared.standing.Stage.{Stage}
-use Rattle.lock_world.specs.declared.standing.Stage.TheVariants.{Forgotten}
 use Rattle.lock_world.specs.Rosters.{how_many}
-use Rattle.lock_table.specs.Stages.{stage_at}
 use Rattle.lock_table.specs.Tables.{IsTable}
 use Rattle.lock_table.proofs.Mapped.{mapped_at}
-use Rattle.mutex_machine.specs.Course.{Course as TurnCourse, counted}
-use Rattle.mutex_machine.specs.Mutex.{course_at as turn_at, is_counted}
 use Rattle.mutex_machine.proofs.Rosters as rosters
 use Rattle.rwlock_machine.specs.declared.program.Place.{Place}
 use Rattle.rwlock_machine.specs.declared.program.Place.TheVariants as place

@@ -1,5 +1,5 @@
 -- A call that is carried out alone ends within its number of steps.
-use Rattle.std.proofs.Common.{◌≡◌, ℕ, ◌+◌, ◌<◌, ◌≤◌, Bool, true, false, length, nat_lt, Option, Some, None, refl, arith, ap, sym, ◌∙◌, subst}
+use Rattle.std.proofs.Common.{◌≡◌, ℕ, ◌+◌, ◌<◌, ◌≤◌, Bool, true, false, refl, arith, ap, sym, ◌∙◌}
 use Rattle.lock_event.specs.Lists.{is_marked_at}
 use Rattle.lock_queue.specs.Parties.{is_party}
 use Rattle.lock_world.specs.declared.moves.Answer.{Answer}
@@ -8,14 +8,9 @@ use Rattle.lock_world.specs.declared.moves.Call.{Call}
 use Rattle.lock_world.specs.declared.moves.Call.TheVariants as call
 use Rattle.lock_world.specs.declared.moves.Got.TheVariants.{Value}
 use Rattle.lock_world.specs.declared.moves.Inputs.{Inputs}
-use Rattle.lock_world.specs.declared.moves.Move.{Move}
 use Rattle.lock_world.specs.declared.moves.What.{What}
 use Rattle.lock_world.specs.declared.moves.What.TheVariants.{Begin, Go}
 use Rattle.lock_world.specs.declared.refusal.Refusal.TheVariants as refusal
-use Rattle.lock_world.specs.declared.standing.Kind.{Kind}
-use Rattle.lock_world.specs.declared.standing.Kind.TheVariants as kind
-use Rattle.lock_world.specs.declared.standing.Stage.{Stage}
-use Rattle.lock_world.specs.declared.standing.Stage.TheVariants.{Outside, Inside, Forgotten}
 use Rattle.lock_world.specs.declared.standing.Within.{Within}
 use Rattle.lock_world.specs.Standings.{inputs_of, refused}
 use Rattle.lock_world.specs.Whole.{going_on}
@@ -27,12 +22,10 @@ use Rattle.rwlock_machine.specs.declared.program.Next.{Next}
 use Rattle.rwlock_machine.specs.declared.program.Next.TheVariants as next
 use Rattle.rwlock_machine.specs.declared.program.Place.{Place}
 use Rattle.rwlock_machine.specs.declared.program.Place.TheVariants.{LookNoWriter, AskNoWriter, JoinNoReaders, LookNoReaders, AskNoReaders, AwaitNoReaders, LookUnlisted, CancellingTurn, TakeTurn, ReleasingTurn, Down}
-use Rattle.rwlock_machine.specs.Acts.{Acts, IsRwLock}
-use Rattle.rwlock_machine.specs.Machine.{RwLock, SameRoles, place_at}
-use Rattle.rwlock_machine.specs.Program.{start_of}
-use Rattle.rwlock_machine.specs.Ranks.{left, left_from, steps_left, left_after, most_steps}
+use Rattle.rwlock_machine.specs.Acts.{IsRwLock}
+use Rattle.rwlock_machine.specs.Machine.{RwLock, place_at}
+use Rattle.rwlock_machine.specs.Ranks.{left, left_from, steps_left, left_after}
 use Rattle.rwlock_machine.proofs.Alone.{fewer, begun_within}
-use Rattle.rwlock_machine.proofs.Starts.{start_same}
 use Rattle.lock_table.specs.Tables.{Table}
 use Rattle.rwlock_world.specs.Number.{LockedNumber, answer_by}
 use Rattle.rwlock_world.specs.Whole.{most_steps_of}

@@ -13,7 +13,6 @@ use Rattle.lock_frame.specs.Steps.{StepsWell, left_by, beginning}
 use Rattle.lock_frame.proofs.Endings.{ends_outside as outside_at_end}
 use Rattle.rwlock_world.specs.State.{World, standing_of}
 use Rattle.rwlock_world.specs.Steps.{Stands, Steps}
-use Rattle.rwlock_world.specs.View.{view_of}
 use Rattle.rwlock_world.specs.Laws.{IsSound, IsAwake, is_at_rest}
 use Rattle.rwlock_world.specs.Legal.{knows_of}
 use Rattle.rwlock_world.specs.Runs.{Runs, HoldsWell, TellsRights, accounts_of}

@@ -1,10 +1,8 @@
 -- The World is at rest where its table is.
 use Rattle.std.proofs.Common.{ap, sym, ◌∙◌}
 use Rattle.lock_table.proofs.Views.{rest_seen}
-use Rattle.mutex_machine.specs.Mutex.{course_at as turn_at}
-use Rattle.rwlock_machine.specs.Machine.{place_at}
 use Rattle.rwlock_world.specs.Laws.{is_at_rest}
-use Rattle.rwlock_world.specs.View.{verdict_of, verdict}
+use Rattle.rwlock_world.specs.View.{verdict_of}
 use Rattle.rwlock_world.proofs.world.World.at_rest.Goals as goal
 
 pub returns : goal.returns

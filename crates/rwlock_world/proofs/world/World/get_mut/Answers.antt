@@ -3,11 +3,9 @@ use Rattle.std.proofs.Common.{◌≡◌, true, refl, ap, sym, ◌∙◌}
 use Rattle.std.specs.List.{list_all}
 use Rattle.lock_world.specs.Standings.{is_outside_stage}
 use Rattle.lock_table.proofs.Views.{rest_seen}
-use Rattle.mutex_machine.specs.Mutex.{course_at as turn_at}
-use Rattle.rwlock_machine.specs.Machine.{place_at}
 use Rattle.rwlock_world.specs.Laws.{is_at_rest}
 use Rattle.rwlock_world.specs.Lending.{world_with}
-use Rattle.rwlock_world.specs.View.{verdict_of, verdict}
+use Rattle.rwlock_world.specs.View.{verdict_of}
 use Rattle.rwlock_world.proofs.Sound.{put_seen}
 use Rattle.rwlock_world.proofs.world.World.get_mut.Goals as goal
 

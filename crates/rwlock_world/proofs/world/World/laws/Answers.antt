@@ -1,6 +1,4 @@
 -- What holds of the table holds as callers see it.
-use Rattle.rwlock_machine.specs.Acts.{IsRwLock}
-use Rattle.rwlock_world.specs.Number.{LockedNumber}
 use Rattle.rwlock_world.proofs.Sound.{sound, awake}
 use Rattle.rwlock_world.proofs.world.World.laws.Goals as goal
 
