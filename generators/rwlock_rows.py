@@ -21,7 +21,7 @@ use Rattle.rwlock_machine.specs.declared.program.Found.TheVariants.{Done, Writer
 ''' % PLACES
 
 PURPOSES = ('purpose.UpgradableRead', 'purpose.Write')
-ENDINGS = ('ending.GivenBack', 'ending.NotFree', 'ending.RefuseReaders', 'ending.RefuseMemory', 'ending.Reading', 'ending.NotifyReaders')
+ENDINGS = ('ending.GivenBack', '(ending.NotFree p)', 'ending.RefuseReaders', 'ending.RefuseMemory', 'ending.Reading', 'ending.NotifyReaders')
 BOTH = ('true', 'false')
 DO = '(Turn turn_step.More)'
 GOT = '(Turn (turn_step.End turn_end.Got))'

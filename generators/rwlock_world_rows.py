@@ -22,8 +22,8 @@ use Rattle.mutex_machine.specs.declared.mutex.Step.TheVariants as turn_step
 use Rattle.mutex_machine.specs.declared.program.End.TheVariants as turn_end
 use Rattle.rwlock_machine.specs.declared.program.Purpose.TheVariants as purpose
 use Rattle.rwlock_machine.specs.declared.program.Ending.TheVariants as ending
-use Rattle.rwlock_machine.specs.declared.program.End.{{End}}
-use Rattle.rwlock_machine.specs.declared.program.End.TheVariants.{{Got, Pending, Waiting, NotFree, GivenBack, Refused}}
+use Rattle.lock_table.specs.declared.end.End.{{End}}
+use Rattle.lock_table.specs.declared.end.End.TheVariants.{{Got, Granted, Pending, NotFree, GivenBack, Refused}}
 use Rattle.rwlock_machine.specs.declared.program.Next.{{Next}}
 use Rattle.rwlock_machine.specs.declared.program.Next.TheVariants as next
 use Rattle.rwlock_machine.specs.declared.program.Found.{{Found}}
@@ -35,8 +35,7 @@ use Rattle.rwlock_machine.specs.Program.{{action_of, next_of}}
 use Rattle.rwlock_machine.specs.Machine.{{RwLock}}
 use Rattle.rwlock_machine.specs.Acts.{{Finds}}
 use Rattle.rwlock_machine.proofs.Leads.{{Led}}
-use Rattle.rwlock_world.specs.declared.world.table.Sought.{{Sought}}
-use Rattle.rwlock_world.specs.Plans.{{Course, polls, tries, drops, downgrades, upgrades, tries_upgrade, strays, course_of, is_inside, sought_at, agrees, is_out, is_future, is_guard}}
+use Rattle.rwlock_world.specs.Stages.{{Course, polls, tries, drops, downgrades, upgrades, tries_upgrade, strays, course_of, is_inside, sought_at, is_out, is_future, is_guard}}
 
 -- the refusals of a read-write lock's futures
 abbrev pub is_ours : Refusal → Bool
@@ -50,12 +49,11 @@ abbrev pub ends_in : Course → End → Place → Bool
 ends_in polls Got q = is_guard q
 ends_in polls Pending q = is_future q
 ends_in polls (Refused r) q = is_future q && is_ours r
-ends_in tries Got q = is_guard q
+ends_in tries Granted q = is_guard q
 ends_in tries NotFree q = is_out q
 ends_in drops GivenBack q = is_out q
 ends_in downgrades GivenBack q = is_guard q
-ends_in upgrades Waiting q = is_future q
-ends_in tries_upgrade Got q = is_guard q
+ends_in tries_upgrade Granted q = is_guard q
 ends_in tries_upgrade NotFree q = is_guard q
 ends_in _ _ q = false
 
@@ -63,17 +61,19 @@ ends_in _ _ q = false
 abbrev pub Keeps : Course → Next → Type 0
 Keeps c (next.Do a q) = (course_of q ≡ c) × (is_inside q ≡ true)
 Keeps c (next.End e q) = ends_in c e q ≡ true
+Keeps c (next.Wait q) = (c ≡ upgrades) × (is_future q ≡ true)
 
 -- where a party stands whose try was in vain
 abbrev pub InVain : Course → Place → Type 0
 InVain tries_upgrade q = q ≡ Upgradable
 InVain _ q = q ≡ Out
 
--- what is sought goes with the new place
+-- what is sought goes on to be sought
 abbrev pub Seeks : Place → Next → Type 0
-Seeks x (next.Do a q) = (s : Option Sought) → agrees (sought_at x) s ≡ true → agrees (sought_at q) s ≡ true
 Seeks x (next.End NotFree q) = InVain (course_of x) q
-Seeks x (next.End _ q) = (s : Option Sought) → agrees (sought_at x) s ≡ true → agrees (sought_at q) s ≡ true
+Seeks x (next.Do a q) = sought_at q ≡ sought_at x
+Seeks x (next.End _ q) = sought_at q ≡ sought_at x
+Seeks x (next.Wait q) = sought_at q ≡ sought_at x
 
 pub record Path (x : Place) (f : Found) : Type 0 where
   pub keeps : Keeps (course_of x) (next_of x f)
@@ -92,8 +92,6 @@ MEMORY = '(Turn (turn_step.End (turn_end.Refused refusal.Memory)))'
 STARVED = '(Turn (turn_step.End (turn_end.Refused refusal.Starved)))'
 
 paths = []
-H = 'λ s h. h'
-ANY = 'λ s h. refl'
 
 
 # The rows whose programs go on; in the others the call ends.
@@ -117,20 +115,20 @@ def goes_on(place, found):
     return f'{place} {found}' in GOES_ON
 
 
-def path(place, found, seeks=H):
-    keeps = '(refl, refl)' if goes_on(place, found) else 'refl'
+def path(place, found):
+    keeps = '(refl, refl)' if goes_on(place, found) or place == 'Upgrade' else 'refl'
     if found == 'NotFree':
         found = 'found.NotFree'
-    paths.append(f'  path {place} {found} e l n = record {{ keeps = {keeps}; seeks = {seeks} }}')
+    paths.append(f'  path {place} {found} e l n = record {{ keeps = {keeps}; seeks = refl }}')
 
 
 def no_other(place):
     paths.append(f'  path {place} _ e l n = absurd e')
 
 
-def word(place, *founds, **seeks):
+def word(place, *founds):
     for f in founds:
-        path(place, f, seeks.get(f, H))
+        path(place, f)
     no_other(place)
 
 
@@ -156,12 +154,12 @@ word('(RefuseNotify refusal.Memory)', 'Done')
 word('(RefuseNotify refusal.Readers)', 'Done')
 stray('(RefuseNotify _)')
 word('CancelRead', 'Done')
-word('TryRead', 'Done', 'Writer', 'Full', Writer='refl', Full='refl')
+word('TryRead', 'Done', 'Writer', 'Full')
 
 
 def turn(place, *founds):
     for f in founds:
-        path(place, f, 'refl' if f == NOT_FREE else H)
+        path(place, f)
     paths.append(f'  path {place} (Turn _) e l n = absurd l')
     no_other(place)
 
@@ -173,24 +171,24 @@ for p in ('purpose.UpgradableRead', 'purpose.Write'):
     turn(f'(TryTurn {p})', GOT, NOT_FREE)
 turn('CancelTurn', DO, BACK)
 turn('CancellingTurn', DO, BACK)
-ENDINGS = ('GivenBack', 'NotFree', 'RefuseReaders', 'RefuseMemory', 'Reading', 'NotifyReaders')
+ENDINGS = ('ending.GivenBack', '(ending.NotFree p)', 'ending.RefuseReaders', 'ending.RefuseMemory', 'ending.Reading', 'ending.NotifyReaders')
 for e in ENDINGS:
-    place = f'(ReleaseTurn ending.{e})'
+    place = f'(ReleaseTurn {e})'
     path(place, DO)
-    path(place, BACK, 'refl' if e == 'NotFree' else H)
+    path(place, BACK)
     paths.append(f'  path {place} (Turn _) e l n = absurd l')
     no_other(place)
 for e in ENDINGS:
-    place = f'(ReleasingTurn ending.{e})'
-    path(place, BACK, 'refl' if e == 'NotFree' else H)
+    place = f'(ReleasingTurn {e})'
+    path(place, BACK)
     paths.append(f'  path {place} (Turn _) e l n = absurd l')
     no_other(place)
-word('(Add true)', 'Done', 'Full', Full=ANY)
+word('(Add true)', 'Done', 'Full')
 word('(Add false)', 'Done', 'Full')
-word('TryUpgrade', 'Done', 'NotFree', NotFree='refl')
+word('TryUpgrade', 'Done', 'NotFree')
 word('Upgrade', 'Done')
 word('Mark', 'NoneLeft', 'SomeLeft')
-word('TryWrite', 'Done', 'NotFree', NotFree=ANY)
+word('TryWrite', 'Done', 'NotFree')
 for u in ('true', 'false'):
     word(f'(JoinNoReaders {u})', 'Done', 'NoMemory')
 word('(LookNoReaders u)', 'NoneLeft', 'SomeLeft')
@@ -233,7 +231,7 @@ use Rattle.lock_world.specs.Steps.{{Deed, nothing, changes, does, joins, asks, l
 use Rattle.mutex_machine.specs.Course.{{Course as TurnCourse, is_out as is_out_there, is_holding}}
 use Rattle.rwlock_machine.specs.declared.program.Action.{{Action}}
 use Rattle.rwlock_machine.specs.declared.program.Action.TheVariants as act
-use Rattle.rwlock_machine.specs.declared.program.End.TheVariants.{{Got, Pending, Waiting, NotFree, GivenBack, Refused}}
+use Rattle.lock_table.specs.declared.end.End.TheVariants.{{Got, Granted, Pending, NotFree, GivenBack, Refused}}
 use Rattle.rwlock_machine.specs.declared.program.Next.{{Next}}
 use Rattle.rwlock_machine.specs.declared.program.Next.TheVariants as next
 use Rattle.rwlock_machine.specs.declared.program.Found.{{Found}}
@@ -251,12 +249,14 @@ use Rattle.rwlock_machine.specs.Parties.{{OnNoWriter, OnNoReaders}}
 use Rattle.rwlock_machine.specs.Machine.{{RwLock}}
 use Rattle.rwlock_machine.specs.Acts.{{Finds, readers, marked}}
 use Rattle.rwlock_machine.proofs.Leads.{{Led, steps_in_turn}}
-use Rattle.rwlock_world.specs.Changes.{{Change, ListName, begins_to_read, stops_reading, becomes_upgradable, stops_upgradable, begins_to_wait, begins_to_write, upgrades, upgrades_at_once, unmarks, downgrades, downgrades_to_upgradable, for_no_readers, for_no_writer, turn_after, starved_after, value_after, turn_list_after, no_readers_after, no_writer_after, gives_back, gives_up}}
+use Rattle.rwlock_world.specs.Changes.{{Change, begins_to_read, stops_reading, becomes_upgradable, stops_upgradable, begins_to_wait, begins_to_write, upgrades, upgrades_at_once, unmarks, downgrades, downgrades_to_upgradable, turn_after, starved_after, value_after, entries_after, gives_back, gives_up}}
 use Rattle.rwlock_world.specs.State as state
-use Rattle.rwlock_world.specs.declared.world.table.Sought.{{Sought}}
+use Rattle.rwlock_world.specs.State.{{ListName, for_the_turn, for_no_readers, for_no_writer}}
+use Rattle.lock_table.proofs.Calls.{{decided_after}}
 use Rattle.rwlock_world.specs.Legal.{{may_meet}}
-use Rattle.rwlock_world.specs.Plans.{{Course, tries, tries_upgrade, strays, course_of, sought_at}}
-use Rattle.rwlock_world.specs.View.{{passing, upgrading, waiting, writing, turn_as, share_of, is_reading, is_upgrade, right_of, verdict}}
+use Rattle.rwlock_world.specs.Number.{{answer_by}}
+use Rattle.rwlock_world.specs.Stages.{{strays, course_of, sought_at}}
+use Rattle.rwlock_world.specs.View.{{passing, upgrading, waiting, writing, turn_as, share_of, is_reading, is_upgrade, verdict}}
 
 -- what an action changes that found this
 abbrev pub deed_of : Action → Found → Deed Change ListName
@@ -287,24 +287,9 @@ deed_at DropUpgradable f = changes stops_upgradable
 deed_at (Down true) f = changes downgrades_to_upgradable
 deed_at x f = deed_of (action_of x) f
 
--- the answer of a call on this course
-abbrev pub got_at : Course → ℕ → Answer
-got_at tries v = answer.Granted (Value v)
-got_at tries_upgrade v = answer.Granted (Value v)
-got_at c v = answer.Ready (Value v)
-
-abbrev pub answer_at : Course → ℕ → Next → Answer
-answer_at c v (next.Do a q) = answer.Stepped
-answer_at c v (next.End Got q) = got_at c v
-answer_at c v (next.End Pending q) = answer.Pending
-answer_at c v (next.End Waiting q) = answer.Waiting
-answer_at c v (next.End NotFree q) = answer.None
-answer_at c v (next.End GivenBack q) = answer.GivenBack
-answer_at c v (next.End (Refused r) q) = refused r
-
-abbrev pub verdict_then : ℕ → Course → TurnCourse → Next → Option Answer
-verdict_then v c t (next.Do a q) = verdict v q t
-verdict_then v c t (next.End e q) = Some (answer_at c v (next.End e q))
+-- what the call is decided on then
+abbrev pub verdict_then : ℕ → TurnCourse → Next → Option Answer
+verdict_then v t n = decided_after (answer_by v n) (verdict v (place_after n) t)
 
 abbrev pub is_after_ready : Answer → Bool
 is_after_ready (answer.Refused n) = n == number_of refusal.Finished
@@ -361,11 +346,6 @@ WaitsAt AskNoWriter f = f ≡ No
 WaitsAt (AskNoReaders u) f = f ≡ No
 WaitsAt _ f = ⊥
 
--- what is sought where a party stands may meet this limit
-abbrev pub meets : Option (Option Sought) → Refusal → Bool
-meets (Some s) r = may_meet (right_of s) r
-meets None r = false
-
 -- where a call may be refused for want of memory
 abbrev pub lacks_memory : Place → Bool
 lacks_memory (JoinNoWriter told) = true
@@ -376,7 +356,7 @@ lacks_memory _ = false
 -- why a step refuses its call
 abbrev pub Refuses : Bool → RwLock → Place → Found → Refusal → Type 0
 Refuses memory l x f refusal.Memory = (memory ≡ false) × (in_no_writer x + in_no_readers x ≡ 0) × (deed_at x f ≡ nothing) × ((t : TurnCourse) → fits_turn x t ≡ true → (is_out_there t ≡ true) ⊎ (is_holding t ≡ true)) × (lacks_memory x ≡ true)
-Refuses memory l x f refusal.Readers = (l.limit ≤ readers l) × (meets (sought_at (place_after (next_of x f))) refusal.Readers ≡ true)
+Refuses memory l x f refusal.Readers = (l.limit ≤ readers l) × (may_meet (sought_at (place_after (next_of x f))) refusal.Readers ≡ true)
 Refuses memory l x f _ = ⊥
 
 -- why a step decides its call on an answer
@@ -407,7 +387,7 @@ keeps_what_it_has o d = not (gives_up d) || is_judged o
 -- an upgrade's future stays one while its call is undecided or pending
 abbrev pub KeepsUpgrade : ℕ → Place → Next → Type 0
 KeepsUpgrade v x (next.Do a q) = (t : TurnCourse) → verdict v q t ≡ None → is_upgrade q ≡ is_upgrade x
-KeepsUpgrade v x (next.End Waiting q) = is_upgrade q ≡ true
+KeepsUpgrade v x (next.Wait q) = is_upgrade q ≡ true
 KeepsUpgrade v x (next.End Pending q) = is_upgrade q ≡ is_upgrade x
 KeepsUpgrade v x (next.End (Refused r) q) = is_upgrade q ≡ is_upgrade x
 KeepsUpgrade v x (next.End _ q) = Unit {{0}}
@@ -422,14 +402,14 @@ pub record Row (memory : Bool) (l : RwLock) (v : ℕ) (x : Place) (f : Found) : 
   pub sharing : Shares (deed_at x f) x (place_after (next_of x f))
   pub starving : (p : ℕ) (s : List Bool) → starved_after p (deed_at x f) s ≡ s
   pub valued : (u : ℕ) → value_after (deed_at x f) u ≡ u
-  pub unturned : (p : ℕ) (a : List (Entry ℕ)) → turn_list_after p (deed_at x f) a ≡ a
-  pub no_writer : (p : ℕ) (a b : List (Entry ℕ)) → OnNoWriter p (action_of x) f a b → b ≡ no_writer_after p (deed_at x f) a
-  pub no_readers : (p : ℕ) (a b : List (Entry ℕ)) → OnNoReaders p (action_of x) f a b → b ≡ no_readers_after p (deed_at x f) a
+  pub unturned : (p : ℕ) (a : List (Entry ℕ)) → entries_after p (deed_at x f) for_the_turn a ≡ a
+  pub no_writer : (p : ℕ) (a b : List (Entry ℕ)) → OnNoWriter p (action_of x) f a b → b ≡ entries_after p (deed_at x f) for_no_writer a
+  pub no_readers : (p : ℕ) (a b : List (Entry ℕ)) → OnNoReaders p (action_of x) f a b → b ≡ entries_after p (deed_at x f) for_no_readers a
   pub finding : Finding (deed_at x f) l x
-  pub judged : (t u : TurnCourse) → Judged memory l v x f (verdict v x t) (verdict_then v (course_of x) u (next_of x f))
+  pub judged : (t u : TurnCourse) → Judged memory l v x f (verdict v x t) (verdict_then v u (next_of x f))
   pub room : Room memory (deed_at x f)
   pub holds_on : (t : TurnCourse) → keeps_what_it_has (verdict v x t) (deed_at x f) ≡ true
-  pub over : is_after_ready (answer_at (course_of x) v (next_of x f)) ≡ false
+  pub over : is_after_ready (answer_by v (next_of x f)) ≡ false
   pub upgrade : KeepsUpgrade v x (next_of x f)
   pub refused : RefusedAt x (next_of x f)
 
@@ -603,7 +583,7 @@ TURN_ROWS = '''
 pub record TurnRow (v : ℕ) (x : Place) (f : Found) : Type 0 where
   pub reading : is_reading (place_after (next_of x f)) ≡ is_reading x
   pub sharing : share_of (place_after (next_of x f)) ≡ passing
-  pub over : is_after_ready (answer_at (course_of x) v (next_of x f)) ≡ false
+  pub over : is_after_ready (answer_by v (next_of x f)) ≡ false
   pub upgrade : KeepsUpgrade v x (next_of x f)
   pub refused : RefusedAt x (next_of x f)
 
@@ -639,11 +619,11 @@ for place in ('CancelTurn', 'CancellingTurn'):
     turn_row(place, BACK)
     turn_rest(place)
 for k in ENDINGS:
-    turn_row(f'(ReleaseTurn ending.{k})', DO)
-    turn_row(f'(ReleaseTurn ending.{k})', BACK)
-    turn_rest(f'(ReleaseTurn ending.{k})')
-    turn_row(f'(ReleasingTurn ending.{k})', BACK)
-    turn_rest(f'(ReleasingTurn ending.{k})')
+    turn_row(f'(ReleaseTurn {k})', DO)
+    turn_row(f'(ReleaseTurn {k})', BACK)
+    turn_rest(f'(ReleaseTurn {k})')
+    turn_row(f'(ReleasingTurn {k})', BACK)
+    turn_rest(f'(ReleasingTurn {k})')
 turn_rows.append('turn_row v u _ f t e = absurd (cc)')
 
 with open('crates/rwlock_world/proofs/Rows.antt', 'w', encoding='utf-8') as out:

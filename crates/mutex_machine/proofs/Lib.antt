@@ -23,3 +23,4 @@ pub mod Sights
 pub mod Callers
 pub mod Clauses
 pub mod AloneSeen
+pub mod Released

@@ -190,7 +190,7 @@ still_some : (l : List (Entry ℕ)) → 0 < length (notified l 1) → 0 < length
 still_some [] h = h
 still_some (e ∷ es) h = omega arith
 
-notified_now : (p : ℕ) (a : Action) (f : Found) (l m : List (Entry ℕ)) → a ≡ act.Notify → OnParties p a f l m → 0 < length m → 0 < marked_count m
+pub notified_now : (p : ℕ) (a : Action) (f : Found) (l m : List (Entry ℕ)) → a ≡ act.Notify → OnParties p a f l m → 0 < length m → 0 < marked_count m
 notified_now p a f l m e o some =
     let P : Action → Type 0 = λ b. OnParties p b f l m in
     let is : m ≡ notified l 1 = subst P e o in

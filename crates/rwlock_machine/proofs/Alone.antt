@@ -2,14 +2,14 @@
 use Rattle.std.proofs.Common.{◌≡◌, ℕ, ◌<◌, ◌≤◌, Bool, true, false, Some, length, refl, sym, ap, arith, ◌∙◌, get_or-set_same}
 use Rattle.lock_event.specs.Lists.{is_marked_at}
 use Rattle.lock_queue.specs.Parties.{is_party, entries_of}
+use Rattle.lock_world.specs.declared.moves.Call.{Call}
+use Rattle.lock_world.specs.declared.moves.Call.TheVariants as call
 use Rattle.lock_world.proofs.Equations.{some_eq, none_some}
 use Rattle.mutex_machine.specs.Mutex.{steps_left as turn_steps_left}
 use Rattle.rwlock_machine.specs.declared.program.Wanted.TheVariants as wanted
 use Rattle.rwlock_machine.specs.declared.program.Purpose.TheVariants as purpose
 use Rattle.rwlock_machine.specs.declared.program.Place.{Place}
 use Rattle.rwlock_machine.specs.declared.program.Place.TheVariants.{Out, Made, Reading, Upgradable, Writing, JoinNoWriter, AskNoWriter, WaitTurn, JoinNoReaders, AwaitNoReaders, LookUnlisted}
-use Rattle.rwlock_machine.specs.declared.program.RwCall.{RwCall}
-use Rattle.rwlock_machine.specs.declared.program.RwCall.TheVariants as call
 use Rattle.rwlock_machine.specs.declared.program.Action.TheVariants as act
 use Rattle.rwlock_machine.specs.declared.program.Next.{Next}
 use Rattle.rwlock_machine.specs.declared.program.Next.TheVariants as next
@@ -33,6 +33,7 @@ joins_unlisted_r _ e = absurd (cc)
 seen_then : (next : Next) (v : RwLock) (p : ℕ) → place_at v.places p ≡ place_after next → left_after next v p ≡ then_left next (is_marked_at (is_party p) v.no_writer) (is_marked_at (is_party p) v.no_readers) (turn_steps_left v.turn p)
 seen_then (next.Do action q) v p e = ap (λ x. left x (is_marked_at (is_party p) v.no_writer) (is_marked_at (is_party p) v.no_readers) (turn_steps_left v.turn p)) e
 seen_then (next.End e q) v p _ = refl
+seen_then (next.Wait q) v p _ = refl
 
 module _ (memory starving : Bool) (p : ℕ) (from : Place) (next : Next) (old new : RwLock) where
   -- a party that moves alone has fewer steps left after each
@@ -46,7 +47,7 @@ module _ (memory starving : Bool) (p : ℕ) (from : Place) (next : Next) (old ne
       (falls (is_marked_at (is_party p) old.no_writer) (is_marked_at (is_party p) old.no_readers) (is_marked_at (is_party p) new.no_writer) (is_marked_at (is_party p) new.no_readers) (turn_steps_left old.turn p) (turn_steps_left new.turn p) from a.found lower)
 
 -- no call begins where it has more steps left than it may take
-within : (c : RwCall) (at from : Place) (here there : Bool) (turn : ℕ) → start_of c at ≡ Some from → left from here there turn ≤ most_steps c
+within : (c : Call) (at from : Place) (here there : Bool) (turn : ℕ) → start_of c at ≡ Some from → left from here there turn ≤ most_steps c
 within call.Read Out from here there turn e = rw (← some_eq e) (omega arith)
 within call.Read _ from here there turn e = absurd (none_some e)
 within call.UpgradableRead Out from here there turn e = rw (← some_eq e) (omega arith)
@@ -85,9 +86,10 @@ within call.TryUpgrade _ from here there turn e = absurd (none_some e)
 within call.Downgrade Upgradable from here there turn e = rw (← some_eq e) (omega arith)
 within call.Downgrade Writing from here there turn e = rw (← some_eq e) (omega arith)
 within call.Downgrade _ from here there turn e = absurd (none_some e)
-within call.ToUpgradable Writing from here there turn e = rw (← some_eq e) (omega arith)
-within call.ToUpgradable _ from here there turn e = absurd (none_some e)
+within call.DowngradeToUpgradable Writing from here there turn e = rw (← some_eq e) (omega arith)
+within call.DowngradeToUpgradable _ from here there turn e = absurd (none_some e)
+within _ at from here there turn e = absurd (none_some e)
 
 -- a call that has begun has fewer steps left than it may take
-pub begun_within : (c : RwCall) (at from : Place) (v : RwLock) (p k : ℕ) → start_of c at ≡ Some from → k < left_from from v p → k < most_steps c
+pub begun_within : (c : Call) (at from : Place) (v : RwLock) (p k : ℕ) → start_of c at ≡ Some from → k < left_from from v p → k < most_steps c
 begun_within c at from v p k e less = omega (arith, within c at from (is_marked_at (is_party p) v.no_writer) (is_marked_at (is_party p) v.no_readers) (turn_steps_left v.turn p) e)

@@ -77,8 +77,8 @@ module _ (here there here' there' : Bool) (turn turn' : ℕ) where
   falls CancellingTurn _ e = omega arith
   falls (ReleaseTurn ending.GivenBack) (Turn turn_step.More) e = omega arith
   falls (ReleaseTurn ending.GivenBack) _ e = omega arith
-  falls (ReleaseTurn ending.NotFree) (Turn turn_step.More) e = omega arith
-  falls (ReleaseTurn ending.NotFree) _ e = omega arith
+  falls (ReleaseTurn (ending.NotFree p)) (Turn turn_step.More) e = omega arith
+  falls (ReleaseTurn (ending.NotFree p)) _ e = omega arith
   falls (ReleaseTurn ending.RefuseReaders) (Turn turn_step.More) e = omega arith
   falls (ReleaseTurn ending.RefuseReaders) _ e = omega arith
   falls (ReleaseTurn ending.RefuseMemory) (Turn turn_step.More) e = omega arith
@@ -90,9 +90,9 @@ module _ (here there here' there' : Bool) (turn turn' : ℕ) where
   falls (ReleasingTurn ending.GivenBack) (Turn turn_step.More) e = omega arith
   falls (ReleasingTurn ending.GivenBack) (Turn (turn_step.End ended)) e = omega arith
   falls (ReleasingTurn ending.GivenBack) _ e = omega arith
-  falls (ReleasingTurn ending.NotFree) (Turn turn_step.More) e = omega arith
-  falls (ReleasingTurn ending.NotFree) (Turn (turn_step.End ended)) e = omega arith
-  falls (ReleasingTurn ending.NotFree) _ e = omega arith
+  falls (ReleasingTurn (ending.NotFree p)) (Turn turn_step.More) e = omega arith
+  falls (ReleasingTurn (ending.NotFree p)) (Turn (turn_step.End ended)) e = omega arith
+  falls (ReleasingTurn (ending.NotFree p)) _ e = omega arith
   falls (ReleasingTurn ending.RefuseReaders) (Turn turn_step.More) e = omega arith
   falls (ReleasingTurn ending.RefuseReaders) (Turn (turn_step.End ended)) e = omega arith
   falls (ReleasingTurn ending.RefuseReaders) _ e = omega arith

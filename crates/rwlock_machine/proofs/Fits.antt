@@ -75,8 +75,8 @@ fits CancellingTurn (Turn turn_step.More) = record { reading = refl; marking = r
 fits CancellingTurn _ = record { reading = refl; marking = refl; standing_w = refl; standing_r = refl; set_by_turn = refl; cleared_by_own = refl; left_by_listed_w = refl; left_by_listed_r = refl; alone = refl; owed_w = refl; owed_r = refl }
 fits (ReleaseTurn ending.GivenBack) (Turn turn_step.More) = record { reading = refl; marking = refl; standing_w = refl; standing_r = refl; set_by_turn = refl; cleared_by_own = refl; left_by_listed_w = refl; left_by_listed_r = refl; alone = refl; owed_w = refl; owed_r = refl }
 fits (ReleaseTurn ending.GivenBack) _ = record { reading = refl; marking = refl; standing_w = refl; standing_r = refl; set_by_turn = refl; cleared_by_own = refl; left_by_listed_w = refl; left_by_listed_r = refl; alone = refl; owed_w = refl; owed_r = refl }
-fits (ReleaseTurn ending.NotFree) (Turn turn_step.More) = record { reading = refl; marking = refl; standing_w = refl; standing_r = refl; set_by_turn = refl; cleared_by_own = refl; left_by_listed_w = refl; left_by_listed_r = refl; alone = refl; owed_w = refl; owed_r = refl }
-fits (ReleaseTurn ending.NotFree) _ = record { reading = refl; marking = refl; standing_w = refl; standing_r = refl; set_by_turn = refl; cleared_by_own = refl; left_by_listed_w = refl; left_by_listed_r = refl; alone = refl; owed_w = refl; owed_r = refl }
+fits (ReleaseTurn (ending.NotFree p)) (Turn turn_step.More) = record { reading = refl; marking = refl; standing_w = refl; standing_r = refl; set_by_turn = refl; cleared_by_own = refl; left_by_listed_w = refl; left_by_listed_r = refl; alone = refl; owed_w = refl; owed_r = refl }
+fits (ReleaseTurn (ending.NotFree p)) _ = record { reading = refl; marking = refl; standing_w = refl; standing_r = refl; set_by_turn = refl; cleared_by_own = refl; left_by_listed_w = refl; left_by_listed_r = refl; alone = refl; owed_w = refl; owed_r = refl }
 fits (ReleaseTurn ending.RefuseReaders) (Turn turn_step.More) = record { reading = refl; marking = refl; standing_w = refl; standing_r = refl; set_by_turn = refl; cleared_by_own = refl; left_by_listed_w = refl; left_by_listed_r = refl; alone = refl; owed_w = refl; owed_r = refl }
 fits (ReleaseTurn ending.RefuseReaders) _ = record { reading = refl; marking = refl; standing_w = refl; standing_r = refl; set_by_turn = refl; cleared_by_own = refl; left_by_listed_w = refl; left_by_listed_r = refl; alone = refl; owed_w = refl; owed_r = refl }
 fits (ReleaseTurn ending.RefuseMemory) (Turn turn_step.More) = record { reading = refl; marking = refl; standing_w = refl; standing_r = refl; set_by_turn = refl; cleared_by_own = refl; left_by_listed_w = refl; left_by_listed_r = refl; alone = refl; owed_w = refl; owed_r = refl }
@@ -86,7 +86,7 @@ fits (ReleaseTurn ending.Reading) _ = record { reading = refl; marking = refl; s
 fits (ReleaseTurn ending.NotifyReaders) (Turn turn_step.More) = record { reading = refl; marking = refl; standing_w = refl; standing_r = refl; set_by_turn = refl; cleared_by_own = refl; left_by_listed_w = refl; left_by_listed_r = refl; alone = refl; owed_w = refl; owed_r = refl }
 fits (ReleaseTurn ending.NotifyReaders) _ = record { reading = refl; marking = refl; standing_w = refl; standing_r = refl; set_by_turn = refl; cleared_by_own = refl; left_by_listed_w = refl; left_by_listed_r = refl; alone = refl; owed_w = refl; owed_r = refl }
 fits (ReleasingTurn ending.GivenBack) _ = record { reading = refl; marking = refl; standing_w = refl; standing_r = refl; set_by_turn = refl; cleared_by_own = refl; left_by_listed_w = refl; left_by_listed_r = refl; alone = refl; owed_w = refl; owed_r = refl }
-fits (ReleasingTurn ending.NotFree) _ = record { reading = refl; marking = refl; standing_w = refl; standing_r = refl; set_by_turn = refl; cleared_by_own = refl; left_by_listed_w = refl; left_by_listed_r = refl; alone = refl; owed_w = refl; owed_r = refl }
+fits (ReleasingTurn (ending.NotFree p)) _ = record { reading = refl; marking = refl; standing_w = refl; standing_r = refl; set_by_turn = refl; cleared_by_own = refl; left_by_listed_w = refl; left_by_listed_r = refl; alone = refl; owed_w = refl; owed_r = refl }
 fits (ReleasingTurn ending.RefuseReaders) _ = record { reading = refl; marking = refl; standing_w = refl; standing_r = refl; set_by_turn = refl; cleared_by_own = refl; left_by_listed_w = refl; left_by_listed_r = refl; alone = refl; owed_w = refl; owed_r = refl }
 fits (ReleasingTurn ending.RefuseMemory) _ = record { reading = refl; marking = refl; standing_w = refl; standing_r = refl; set_by_turn = refl; cleared_by_own = refl; left_by_listed_w = refl; left_by_listed_r = refl; alone = refl; owed_w = refl; owed_r = refl }
 fits (ReleasingTurn ending.Reading) _ = record { reading = refl; marking = refl; standing_w = refl; standing_r = refl; set_by_turn = refl; cleared_by_own = refl; left_by_listed_w = refl; left_by_listed_r = refl; alone = refl; owed_w = refl; owed_r = refl }

@@ -21,7 +21,7 @@ use Rattle.rwlock_machine.specs.Ranks.{left}
 -- how many steps are left after this, by numbers alone
 abbrev pub then_left : Next → Bool → Bool → ℕ → ℕ
 then_left (next.Do action q) here there turn = left q here there turn
-then_left (next.End e q) here there turn = 0
+then_left _ here there turn = 0
 
 abbrev pub turn_left : TurnStep → ℕ → ℕ
 turn_left turn_step.More turn = turn

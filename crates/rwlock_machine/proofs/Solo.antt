@@ -14,8 +14,8 @@ use Rattle.rwlock_machine.specs.declared.program.Place.TheVariants.{Out, Made, R
 use Rattle.rwlock_machine.specs.declared.program.Action.TheVariants as act
 use Rattle.rwlock_machine.specs.declared.program.Found.{Found}
 use Rattle.rwlock_machine.specs.declared.program.Found.TheVariants.{Done, Writer, Full, NoneLeft, SomeLeft, Yes, No}
-use Rattle.rwlock_machine.specs.declared.program.End.{End}
-use Rattle.rwlock_machine.specs.declared.program.End.TheVariants.{Got}
+use Rattle.lock_table.specs.declared.end.End.{End}
+use Rattle.lock_table.specs.declared.end.End.TheVariants.{Got}
 use Rattle.rwlock_machine.specs.declared.program.Next.{Next}
 use Rattle.rwlock_machine.specs.declared.program.Next.TheVariants as next
 use Rattle.rwlock_machine.specs.Program.{next_of, place_after, go_to, ends}
@@ -56,6 +56,7 @@ module _ (p : ℕ) (v : RwLock) where
     abbrev Rest : Next → RwLock → Type 0
     Rest (next.Do a q) m = GoesOnAlone p e new m
     Rest (next.End x q) m = (e ≡ x) × (new ≡ m)
+    Rest (next.Wait q) m = ⊥
 
     -- the next action of a call from x, and the rest of it
     record Unfolded (x : Place) (m : RwLock) : Type 0 where

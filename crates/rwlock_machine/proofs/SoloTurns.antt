@@ -19,8 +19,8 @@ use Rattle.rwlock_machine.specs.declared.program.Place.TheVariants.{Out, Upgrada
 use Rattle.rwlock_machine.specs.declared.program.Action.TheVariants as act
 use Rattle.rwlock_machine.specs.declared.program.Found.{Found}
 use Rattle.rwlock_machine.specs.declared.program.Found.TheVariants.{Done, Full, NoneLeft, NoMemory, Yes, Turn}
-use Rattle.rwlock_machine.specs.declared.program.End.{End}
-use Rattle.rwlock_machine.specs.declared.program.End.TheVariants.{Got, Pending, Refused}
+use Rattle.lock_table.specs.declared.end.End.{End}
+use Rattle.lock_table.specs.declared.end.End.TheVariants.{Got, Pending, Refused}
 use Rattle.rwlock_machine.specs.declared.program.Next.{Next}
 use Rattle.rwlock_machine.specs.declared.program.Next.TheVariants as next
 use Rattle.rwlock_machine.specs.Program.{action_of, next_of, after_lock, with_turn, place_after, go_to, ends}
@@ -47,7 +47,7 @@ abbrev LeadsOn : Next → Type 0
 LeadsOn (next.Do a to) = is_on_way to ≡ true
 LeadsOn (next.End Got to) = to ≡ Writing
 LeadsOn (next.End Pending to) = waits_to_write to ≡ true
-LeadsOn (next.End _ to) = ⊥
+LeadsOn _ = ⊥
 
 leads_on : (x : Place) (f : Found) (v : RwLock) → is_on_way x ≡ true → Finds true (action_of x) f v → LeadsOn (next_of x f)
 leads_on Mark NoneLeft v h e = refl
@@ -134,6 +134,7 @@ module _ (p : ℕ) (e : End) (new : RwLock) where
   abbrev Rest : Next → RwLock → Type 0
   Rest (next.Do a q) m = GoesOnAlone p e new m
   Rest (next.End x q) m = (e ≡ x) × (new ≡ m)
+  Rest (next.Wait q) m = ⊥
 
   -- the poll's call on the turn has ended so, and nothing else was done
   record TurnEnded (Polls : TurnEnd → Mutex → Type 0) (q : Purpose) (from : RwLock) : Type 0 where

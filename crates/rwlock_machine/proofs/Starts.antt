@@ -1,15 +1,15 @@
 -- A call begins with the roles that its party has.
 use Rattle.std.proofs.Common.{◌≡◌, Some, refl, true}
+use Rattle.lock_world.specs.declared.moves.Call.{Call}
+use Rattle.lock_world.specs.declared.moves.Call.TheVariants as call
 use Rattle.lock_world.proofs.Equations.{some_eq, none_some}
 use Rattle.rwlock_machine.specs.declared.program.Wanted.TheVariants as wanted
 use Rattle.rwlock_machine.specs.declared.program.Place.{Place}
 use Rattle.rwlock_machine.specs.declared.program.Place.TheVariants.{Out, Made, Reading, Upgradable, Writing, AskNoWriter, WaitTurn, AwaitNoReaders, LookUnlisted}
-use Rattle.rwlock_machine.specs.declared.program.RwCall.{RwCall}
-use Rattle.rwlock_machine.specs.declared.program.RwCall.TheVariants as call
 use Rattle.rwlock_machine.specs.Program.{start_of}
 use Rattle.rwlock_machine.specs.Machine.{SameRoles}
 
-pub start_same : (c : RwCall) (at from : Place) → start_of c at ≡ Some from → SameRoles from at
+pub start_same : (c : Call) (at from : Place) → start_of c at ≡ Some from → SameRoles from at
 start_same call.Read Out from e = rw (← some_eq e) (record { reading = refl; marking = refl; turning = refl; writing = refl; standing_w = refl; waiting_w = refl; owing_w = refl; standing_r = refl; waiting_r = refl; owing_r = refl; in_turn = refl })
 start_same call.Read _ from e = absurd (none_some e)
 start_same call.UpgradableRead Out from e = rw (← some_eq e) (record { reading = refl; marking = refl; turning = refl; writing = refl; standing_w = refl; waiting_w = refl; owing_w = refl; standing_r = refl; waiting_r = refl; owing_r = refl; in_turn = refl })
@@ -46,5 +46,6 @@ start_same call.TryUpgrade _ from e = absurd (none_some e)
 start_same call.Downgrade Upgradable from e = rw (← some_eq e) (record { reading = refl; marking = refl; turning = refl; writing = refl; standing_w = refl; waiting_w = refl; owing_w = refl; standing_r = refl; waiting_r = refl; owing_r = refl; in_turn = refl })
 start_same call.Downgrade Writing from e = rw (← some_eq e) (record { reading = refl; marking = refl; turning = refl; writing = refl; standing_w = refl; waiting_w = refl; owing_w = refl; standing_r = refl; waiting_r = refl; owing_r = refl; in_turn = refl })
 start_same call.Downgrade _ from e = absurd (none_some e)
-start_same call.ToUpgradable Writing from e = rw (← some_eq e) (record { reading = refl; marking = refl; turning = refl; writing = refl; standing_w = refl; waiting_w = refl; owing_w = refl; standing_r = refl; waiting_r = refl; owing_r = refl; in_turn = refl })
-start_same call.ToUpgradable _ from e = absurd (none_some e)
+start_same call.DowngradeToUpgradable Writing from e = rw (← some_eq e) (record { reading = refl; marking = refl; turning = refl; writing = refl; standing_w = refl; waiting_w = refl; owing_w = refl; standing_r = refl; waiting_r = refl; owing_r = refl; in_turn = refl })
+start_same call.DowngradeToUpgradable _ from e = absurd (none_some e)
+start_same _ at from e = absurd (none_some e)

@@ -1,5 +1,7 @@
 -- The places of a read-write lock's calls: the action at each, and what comes after what it finds.
 use Rattle.std.specs.Prelude.{Bool, true, false, Option, Some, None}
+use Rattle.lock_world.specs.declared.moves.Call.{Call}
+use Rattle.lock_world.specs.declared.moves.Call.TheVariants as call
 use Rattle.lock_world.specs.declared.refusal.Refusal.{Refusal}
 use Rattle.lock_world.specs.declared.refusal.Refusal.TheVariants.{Memory, Readers}
 use Rattle.mutex_machine.specs.declared.program.LockCall.TheVariants as turn_call
@@ -13,14 +15,12 @@ use Rattle.rwlock_machine.specs.declared.program.Ending.{Ending}
 use Rattle.rwlock_machine.specs.declared.program.Ending.TheVariants as ending
 use Rattle.rwlock_machine.specs.declared.program.Place.{Place}
 use Rattle.rwlock_machine.specs.declared.program.Place.TheVariants.{Out, Made, Reading, Upgradable, Writing, EnterRead, JoinNoWriter, LookNoWriter, AskNoWriter, PassOn, LeaveNoWriter, RefuseLeave, RefuseNotify, CancelRead, TryRead, EnterTurn, WaitTurn, TakeTurn, TryTurn, CancelTurn, CancellingTurn, ReleaseTurn, ReleasingTurn, Add, TryUpgrade, Upgrade, Mark, TryWrite, JoinNoReaders, LookNoReaders, AskNoReaders, AwaitNoReaders, LookUnlisted, LeaveNoReaders, DropRead, DropReadNotify, DropUpgradable, DropUpgradableNotify, DropWrite, CancelAwait, Unmark, UnmarkNotify, Down, DownNotify, DowngradeNotify}
-use Rattle.rwlock_machine.specs.declared.program.RwCall.{RwCall}
-use Rattle.rwlock_machine.specs.declared.program.RwCall.TheVariants as call
 use Rattle.rwlock_machine.specs.declared.program.Action.{Action}
 use Rattle.rwlock_machine.specs.declared.program.Action.TheVariants as act
 use Rattle.rwlock_machine.specs.declared.program.Found.{Found}
 use Rattle.rwlock_machine.specs.declared.program.Found.TheVariants.{Done, Writer, NoneLeft, Yes, Turn}
-use Rattle.rwlock_machine.specs.declared.program.End.{End}
-use Rattle.rwlock_machine.specs.declared.program.End.TheVariants.{Got, Pending, Waiting, NotFree, GivenBack, Refused}
+use Rattle.lock_table.specs.declared.end.End.{End}
+use Rattle.lock_table.specs.declared.end.End.TheVariants.{Got, Granted, Pending, NotFree, GivenBack, Refused}
 use Rattle.rwlock_machine.specs.declared.program.Next.{Next}
 use Rattle.rwlock_machine.specs.declared.program.Next.TheVariants as next
 
@@ -51,7 +51,7 @@ drop_from Writing = Some DropWrite
 drop_from _ = None
 
 -- the place at which a call begins
-abbrev pub start_of : RwCall → Place → Option Place
+abbrev pub start_of : Call → Place → Option Place
 start_of call.Read Out = Some (first_poll wanted.Read)
 start_of call.UpgradableRead Out = Some (first_poll wanted.UpgradableRead)
 start_of call.Write Out = Some (first_poll wanted.Write)
@@ -64,7 +64,7 @@ start_of call.Upgrade Upgradable = Some Upgrade
 start_of call.TryUpgrade Upgradable = Some TryUpgrade
 start_of call.Downgrade Upgradable = Some (ReleaseTurn ending.Reading)
 start_of call.Downgrade Writing = Some (Down false)
-start_of call.ToUpgradable Writing = Some (Down true)
+start_of call.DowngradeToUpgradable Writing = Some (Down true)
 start_of _ _ = None
 
 -- the action at a place
@@ -142,7 +142,7 @@ after_read PassOn _ = go_to (EnterRead true)
 after_read LeaveNoWriter _ = ends Got Reading
 after_read (RefuseLeave told) _ = refuse_read told Readers
 after_read (RefuseNotify r) _ = refuse_read false r
-after_read TryRead Done = ends Got Reading
+after_read TryRead Done = ends Granted Reading
 after_read TryRead _ = ends NotFree Out
 after_read _ _ = ends GivenBack Out
 
@@ -166,7 +166,7 @@ after_lock p _ = ends Pending (WaitTurn p)
 -- what comes once the turn is released
 abbrev pub released : Ending → Next
 released ending.GivenBack = ends GivenBack Out
-released ending.NotFree = ends NotFree Out
+released (ending.NotFree p) = ends NotFree Out
 released ending.RefuseReaders = ends (Refused Readers) (Made wanted.UpgradableRead)
 released ending.RefuseMemory = ends (Refused Memory) (Made wanted.Write)
 released ending.Reading = ends GivenBack Reading
@@ -188,16 +188,17 @@ after_turn _ _ = ends GivenBack Out
 
 -- what comes after the places of a party that has the turn, on the way to its right
 abbrev pub after_write : Place → Found → Next
-after_write (Add trying) Done = ends Got Upgradable
-after_write (Add true) _ = go_to (ReleaseTurn ending.NotFree)
+after_write (Add true) Done = ends Granted Upgradable
+after_write (Add false) Done = ends Got Upgradable
+after_write (Add true) _ = go_to (ReleaseTurn (ending.NotFree purpose.UpgradableRead))
 after_write (Add false) _ = go_to (ReleaseTurn ending.RefuseReaders)
-after_write TryUpgrade Done = ends Got Writing
+after_write TryUpgrade Done = ends Granted Writing
 after_write TryUpgrade _ = ends NotFree Upgradable
-after_write Upgrade _ = ends Waiting (LookUnlisted true)
+after_write Upgrade _ = next.Wait (LookUnlisted true)
 after_write Mark NoneLeft = ends Got Writing
 after_write Mark _ = go_to (JoinNoReaders false)
-after_write TryWrite Done = ends Got Writing
-after_write TryWrite _ = go_to (ReleaseTurn ending.NotFree)
+after_write TryWrite Done = ends Granted Writing
+after_write TryWrite _ = go_to (ReleaseTurn (ending.NotFree purpose.Write))
 after_write (JoinNoReaders upgrade) Done = go_to (LookNoReaders upgrade)
 after_write (JoinNoReaders true) _ = ends (Refused Memory) (LookUnlisted true)
 after_write (JoinNoReaders false) _ = go_to (Unmark true)
@@ -270,3 +271,4 @@ next_of p f = after_giving_back p f
 abbrev pub place_after : Next → Place
 place_after (next.Do action p) = p
 place_after (next.End e p) = p
+place_after (next.Wait p) = p

@@ -2,6 +2,8 @@
 use Rattle.std.specs.Prelude.{ℕ, ◌+◌, if◌then◌else◌, Bool, true, false}
 use Rattle.lock_event.specs.Lists.{is_marked_at}
 use Rattle.lock_queue.specs.Parties.{is_party}
+use Rattle.lock_world.specs.declared.moves.Call.{Call}
+use Rattle.lock_world.specs.declared.moves.Call.TheVariants as call
 use Rattle.mutex_machine.specs.declared.program.LockCall.TheVariants as turn_call
 use Rattle.mutex_machine.specs.Mutex.{steps_left as turn_steps_left}
 use Rattle.mutex_machine.specs.Deeds.{most_steps as most_turn_steps}
@@ -11,8 +13,6 @@ use Rattle.rwlock_machine.specs.declared.program.Ending.{Ending}
 use Rattle.rwlock_machine.specs.declared.program.Ending.TheVariants as ending
 use Rattle.rwlock_machine.specs.declared.program.Place.{Place}
 use Rattle.rwlock_machine.specs.declared.program.Place.TheVariants.{EnterRead, JoinNoWriter, LookNoWriter, AskNoWriter, PassOn, RefuseLeave, EnterTurn, WaitTurn, TakeTurn, TryTurn, CancelTurn, CancellingTurn, ReleaseTurn, ReleasingTurn, Add, Mark, TryWrite, JoinNoReaders, LookNoReaders, AskNoReaders, AwaitNoReaders, LookUnlisted, DropRead, DropUpgradable, DropUpgradableNotify, DropWrite, CancelAwait, Unmark, UnmarkNotify, Down}
-use Rattle.rwlock_machine.specs.declared.program.RwCall.{RwCall}
-use Rattle.rwlock_machine.specs.declared.program.RwCall.TheVariants as call
 use Rattle.rwlock_machine.specs.declared.program.Next.{Next}
 use Rattle.rwlock_machine.specs.declared.program.Next.TheVariants as next
 use Rattle.rwlock_machine.specs.Roles.{bit}
@@ -80,19 +80,17 @@ steps_left v p = left_from (place_at v.places p) v p
 -- How many steps are left once a step has decided this: none where the call is over.
 abbrev pub left_after : Next → RwLock → ℕ → ℕ
 left_after (next.Do action q) v p = steps_left v p
-left_after (next.End e q) v p = 0
+left_after _ v p = 0
 
 -- No call takes more steps than this, its first one counted, if only its party moves.
-abbrev pub most_steps : RwCall → ℕ
+abbrev pub most_steps : Call → ℕ
 most_steps call.Read = 4
 most_steps call.UpgradableRead = 15
 most_steps call.Write = 18
-most_steps call.TryRead = 1
 most_steps call.TryUpgradableRead = 4
 most_steps call.TryWrite = 4
 most_steps call.Poll = 18
 most_steps call.Drop = 5
-most_steps call.Upgrade = 1
-most_steps call.TryUpgrade = 1
 most_steps call.Downgrade = 4
-most_steps call.ToUpgradable = 2
+most_steps call.DowngradeToUpgradable = 2
+most_steps _ = 1

@@ -2,6 +2,7 @@
 use Rattle.std.specs.Prelude.{◌≡◌, ℕ, ◌<◌, ◌⊎◌, Bool, true, false, length, slice_set, IsSomeAnd}
 use Rattle.lock_event.specs.Lists.{is_marked_at}
 use Rattle.lock_queue.specs.Parties.{is_party}
+use Rattle.lock_world.specs.declared.moves.Call.TheVariants as call
 use Rattle.lock_world.specs.declared.refusal.Refusal.TheVariants.{Starved}
 use Rattle.mutex_machine.specs.declared.program.End.TheVariants as turn_end
 use Rattle.mutex_machine.specs.Mutex.{IsStarved, holders, starved}
@@ -9,9 +10,8 @@ use Rattle.mutex_machine.specs.Alone.{GaveWay}
 use Rattle.rwlock_machine.specs.declared.program.Place.{Place}
 use Rattle.rwlock_machine.specs.declared.program.Place.TheVariants.{Made, Reading, Upgradable, Writing, AskNoWriter, WaitTurn, AwaitNoReaders}
 use Rattle.rwlock_machine.specs.declared.program.Action.{Action}
-use Rattle.rwlock_machine.specs.declared.program.RwCall.TheVariants as call
-use Rattle.rwlock_machine.specs.declared.program.End.{End}
-use Rattle.rwlock_machine.specs.declared.program.End.TheVariants.{Got, Pending, Refused}
+use Rattle.lock_table.specs.declared.end.End.{End}
+use Rattle.lock_table.specs.declared.end.End.TheVariants.{Got, Pending, Refused}
 use Rattle.rwlock_machine.specs.declared.program.Next.{Next}
 use Rattle.rwlock_machine.specs.declared.program.Next.TheVariants as next
 use Rattle.rwlock_machine.specs.Program.{start_of}

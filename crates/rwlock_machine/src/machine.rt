@@ -20,10 +20,11 @@ ghost use Rattle.rwlock_machine.specs.Acts.{Acts, IsRwLock, readers as readers_l
 ghost use Rattle.rwlock_machine.specs.Solo.{SoloPolls};
 ghost use Rattle.rwlock_machine.specs.Ranks.{left_from, left_after, steps_left, most_steps};
 
-use crate::program::{Action, Found, Next, Place, RwCall, action_at, decide, start};
+use crate::program::{Action, Found, Next, Place, action_at, decide, start};
 use crate::word::Word;
 use lock_event::Entry;
 use lock_queue::WaitQueue;
+use lock_world::Call;
 use mutex_machine::Mutex;
 use std::alloc::{AllocError, Global};
 use std::marker::Model;
@@ -177,7 +178,7 @@ impl RwLock {
     /// `starving` whether the party has waited for the turn for too long. The caller begins a call only
     /// where the party's place allows it. If only this party moves until the call ends, it has at most
     /// so many steps as `bounded` says.
-    pub fn begin(&mut self, party: u32, call: RwCall, memory: bool, starving: bool) -> Next
+    pub fn begin(&mut self, party: u32, call: Call, memory: bool, starving: bool) -> Next
         requires known { party < length self.old.places }
         requires can { IsSome (start_of call (place_at self.old.places party)) }
         ensures acts { IsSomeAnd (start_of call (place_at self.old.places party)) (λ from. Acts memory starving party from result self.old self.new) }
@@ -316,6 +317,6 @@ fn after(next: Next) -> Place
     ensures { result ≡ place_after next }
 {
     match next {
-        Next::Do(_, place) | Next::End(_, place) => place,
+        Next::Do(_, place) | Next::End(_, place) | Next::Wait(place) => place,
     }
 }

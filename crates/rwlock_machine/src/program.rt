@@ -11,7 +11,8 @@
 ghost use Rattle.std.specs.Prelude.{◌≡◌};
 ghost use Rattle.rwlock_machine.specs.Program.{start_of, first_poll as first_poll_lem, poll_from, drop_from, action_of, go_to as go_to_lem, next_of, after_read as after_read_lem, refuse_read as refuse_read_lem, after_turn as after_turn_lem, after_lock as after_lock_lem, with_turn as with_turn_lem, released as released_lem, after_write as after_write_lem, after_giving_back as after_giving_back_lem};
 
-use lock_world::Refusal;
+use lock_table::End;
+use lock_world::{Call, Refusal};
 use mutex_machine::Step as TurnStep;
 use mutex_machine::program::{End as TurnEnd, LockCall};
 
@@ -40,8 +41,8 @@ pub enum Purpose {
 pub enum Ending {
     /// The party has nothing.
     GivenBack,
-    /// The try was in vain.
-    NotFree,
+    /// The try for this was in vain.
+    NotFree { purpose: Purpose },
     /// The upgradable read is refused: there are too many readers.
     RefuseReaders,
     /// The write is refused: there was no memory for its entry.
@@ -224,23 +225,6 @@ pub enum Found {
     Turn(TurnStep),
 }
 
-/// How a call ended.
-#[derive(Clone, Copy, Debug, PartialEq, Eq)]
-pub enum End {
-    /// The party has the right that it asked for.
-    Got,
-    /// The future waits.
-    Pending,
-    /// The upgrade has begun, and is to be polled.
-    Waiting,
-    /// A try found the lock not free.
-    NotFree,
-    /// The party gave back what it had, or became what it asked to become.
-    GivenBack,
-    /// The future gave up.
-    Refused(Refusal),
-}
-
 /// What a program does next.
 #[derive(Clone, Copy, Debug, PartialEq, Eq)]
 pub enum Next {
@@ -248,61 +232,34 @@ pub enum Next {
     Do(Action, Place),
     /// The call is over, and the party stands at this place.
     End(End, Place),
-}
-
-/// A call on a read-write lock, as its machine knows it.
-#[derive(Clone, Copy, Debug, PartialEq, Eq)]
-pub enum RwCall {
-    /// The first poll of a read.
-    Read,
-    /// The first poll of an upgradable read.
-    UpgradableRead,
-    /// The first poll of a write.
-    Write,
-    /// Reads at once, or not at all.
-    TryRead,
-    /// Reads at once, with the turn, or not at all.
-    TryUpgradableRead,
-    /// Writes at once, or not at all.
-    TryWrite,
-    /// A later poll.
-    Poll,
-    /// The drop of a guard, or of a pending future.
-    Drop,
-    /// An upgradable reader begins to wait for the right to write.
-    Upgrade,
-    /// An upgradable reader writes at once, or stays what it is.
-    TryUpgrade,
-    /// An upgradable reader or a writer becomes a reader.
-    Downgrade,
-    /// A writer becomes an upgradable reader.
-    ToUpgradable,
+    /// The upgrade has begun, and its future, which stands at this place, is to be polled.
+    Wait(Place),
 }
 
 /// The place at which a call begins for a party that stands there; None where it can't.
-pub fn start(call: RwCall, at: Place) -> Option<Place>
+pub fn start(call: Call, at: Place) -> Option<Place>
     ensures { result ≡ start_of call at }
 {
     match (call, at) {
-        (RwCall::Read, Place::Out) => Some(first_poll(Wanted::Read)),
-        (RwCall::UpgradableRead, Place::Out) => Some(first_poll(Wanted::UpgradableRead)),
-        (RwCall::Write, Place::Out) => Some(first_poll(Wanted::Write)),
-        (RwCall::TryRead, Place::Out) => Some(Place::TryRead),
-        (RwCall::TryUpgradableRead, Place::Out) => Some(Place::TryTurn {
+        (Call::Read, Place::Out) => Some(first_poll(Wanted::Read)),
+        (Call::UpgradableRead, Place::Out) => Some(first_poll(Wanted::UpgradableRead)),
+        (Call::Write, Place::Out) => Some(first_poll(Wanted::Write)),
+        (Call::TryRead, Place::Out) => Some(Place::TryRead),
+        (Call::TryUpgradableRead, Place::Out) => Some(Place::TryTurn {
             purpose: Purpose::UpgradableRead,
         }),
-        (RwCall::TryWrite, Place::Out) => Some(Place::TryTurn {
+        (Call::TryWrite, Place::Out) => Some(Place::TryTurn {
             purpose: Purpose::Write,
         }),
-        (RwCall::Poll, _) => start_poll(at),
-        (RwCall::Drop, _) => start_drop(at),
-        (RwCall::Upgrade, Place::Upgradable) => Some(Place::Upgrade),
-        (RwCall::TryUpgrade, Place::Upgradable) => Some(Place::TryUpgrade),
-        (RwCall::Downgrade, Place::Upgradable) => Some(Place::ReleaseTurn {
+        (Call::Poll, _) => start_poll(at),
+        (Call::Drop, _) => start_drop(at),
+        (Call::Upgrade, Place::Upgradable) => Some(Place::Upgrade),
+        (Call::TryUpgrade, Place::Upgradable) => Some(Place::TryUpgrade),
+        (Call::Downgrade, Place::Upgradable) => Some(Place::ReleaseTurn {
             ending: Ending::Reading,
         }),
-        (RwCall::Downgrade, Place::Writing) => Some(Place::Down { keeps_turn: false }),
-        (RwCall::ToUpgradable, Place::Writing) => Some(Place::Down { keeps_turn: true }),
+        (Call::Downgrade, Place::Writing) => Some(Place::Down { keeps_turn: false }),
+        (Call::DowngradeToUpgradable, Place::Writing) => Some(Place::Down { keeps_turn: true }),
         _ => None,
     }
 }
@@ -471,7 +428,7 @@ fn after_read(place: Place, found: Found) -> Next
         (Place::LeaveNoWriter, _) => Next::End(End::Got, Place::Reading),
         (Place::RefuseLeave { told }, _) => refuse_read(told, Refusal::Readers),
         (Place::RefuseNotify { refusal }, _) => refuse_read(false, refusal),
-        (Place::TryRead, Found::Done) => Next::End(End::Got, Place::Reading),
+        (Place::TryRead, Found::Done) => Next::End(End::Granted, Place::Reading),
         (Place::TryRead, _) => Next::End(End::NotFree, Place::Out),
         _ => Next::End(End::GivenBack, Place::Out),
     }
@@ -552,7 +509,7 @@ fn released(ending: Ending) -> Next
 {
     match ending {
         Ending::GivenBack => Next::End(End::GivenBack, Place::Out),
-        Ending::NotFree => Next::End(End::NotFree, Place::Out),
+        Ending::NotFree { .. } => Next::End(End::NotFree, Place::Out),
         Ending::RefuseReaders => Next::End(
             End::Refused(Refusal::Readers),
             Place::Made {
@@ -575,21 +532,26 @@ fn after_write(place: Place, found: Found) -> Next
     ensures { result ≡ after_write_lem place found }
 {
     match (place, found) {
-        (Place::Add { .. }, Found::Done) => Next::End(End::Got, Place::Upgradable),
+        (Place::Add { trying: true }, Found::Done) => Next::End(End::Granted, Place::Upgradable),
+        (Place::Add { trying: false }, Found::Done) => Next::End(End::Got, Place::Upgradable),
         (Place::Add { trying: true }, _) => go_to(Place::ReleaseTurn {
-            ending: Ending::NotFree,
+            ending: Ending::NotFree {
+                purpose: Purpose::UpgradableRead,
+            },
         }),
         (Place::Add { trying: false }, _) => go_to(Place::ReleaseTurn {
             ending: Ending::RefuseReaders,
         }),
-        (Place::TryUpgrade, Found::Done) => Next::End(End::Got, Place::Writing),
+        (Place::TryUpgrade, Found::Done) => Next::End(End::Granted, Place::Writing),
         (Place::TryUpgrade, _) => Next::End(End::NotFree, Place::Upgradable),
-        (Place::Upgrade, _) => Next::End(End::Waiting, Place::LookUnlisted { upgrade: true }),
+        (Place::Upgrade, _) => Next::Wait(Place::LookUnlisted { upgrade: true }),
         (Place::Mark, Found::NoneLeft) => Next::End(End::Got, Place::Writing),
         (Place::Mark, _) => go_to(Place::JoinNoReaders { upgrade: false }),
-        (Place::TryWrite, Found::Done) => Next::End(End::Got, Place::Writing),
+        (Place::TryWrite, Found::Done) => Next::End(End::Granted, Place::Writing),
         (Place::TryWrite, _) => go_to(Place::ReleaseTurn {
-            ending: Ending::NotFree,
+            ending: Ending::NotFree {
+                purpose: Purpose::Write,
+            },
         }),
         (Place::JoinNoReaders { upgrade }, Found::Done) => {
             go_to(Place::LookNoReaders { upgrade })

@@ -7,8 +7,8 @@ use Rattle.lock_world.specs.declared.moves.Answer.{Answer}
 use Rattle.lock_world.specs.declared.moves.Inputs.{Inputs}
 use Rattle.lock_world.specs.Bounds.{GaveWay, SomeMarked}
 use Rattle.lock_world.proofs.Bounds.{one_takes}
-use Rattle.mutex_machine.proofs.Callers.{first_marked}
-use Rattle.rwlock_world.specs.State.{nobody, World, standing_of, HasTurn, entries_in}
+use Rattle.lock_table.proofs.Bounds.{first_marked}
+use Rattle.rwlock_world.specs.State.{for_the_turn, for_no_readers, for_no_writer, nobody, World, standing_of, HasTurn, entries_in}
 use Rattle.rwlock_world.specs.Laws.{IsSound, IsAwake, IsTurnWanted, IsReadingWanted, IsWritingWanted}
 use Rattle.lock_world.specs.declared.moves.Call.TheVariants as call
 use Rattle.rwlock_world.specs.Whole.{IsWholeCall}
@@ -40,7 +40,7 @@ gives w p inputs a v free over = passed w p a v over.not_taken (((kept w p input
 
 pub turn_bounded : (w : World) → IsSound w → IsAwake w → IsTurnWanted w → IsTurnBounded w
 turn_bounded w sound awake wanted = record {
-  some_marked = some_marked w awake w.turn_list (λ p. omega arith) sound.turn_in_order (awake.turn_marked wanted);
+  some_marked = some_marked w awake w.turn_list (λ p. omega arith) (sound.in_order for_the_turn) (awake.turn_marked wanted);
   one_takes = one_takes PassesTurnOver (λ v. v.state.starved) (λ v. v.turn_list) IsFree gives w wanted.0 wanted.1 awake.starved;
 }
 
@@ -48,12 +48,12 @@ turn_bounded w sound awake wanted = record {
 
 pub reading_bounded : (w : World) → IsSound w → IsAwake w → IsReadingWanted w → IsReadingBounded w
 reading_bounded w sound awake wanted = record {
-  some_marked = some_marked w awake w.no_writer (λ p. omega arith) sound.no_writer_in_order (awake.reading_marked wanted);
+  some_marked = some_marked w awake w.no_writer (λ p. omega arith) (sound.in_order for_no_writer) (awake.reading_marked wanted);
   none_passes = λ p inputs a v over. let reads = ((kept w p inputs a v over.whole).reading refl over.solo wanted.0 over.readers_limit).reads in let not = over.not_taken in absurd (cc);
 }
 
 pub writing_bounded : (w : World) → IsSound w → IsAwake w → IsWritingWanted w → IsWritingBounded w
 writing_bounded w sound awake wanted = record {
-  some_marked = some_marked w awake w.no_readers (λ p. omega arith) sound.no_readers_in_order (awake.writing_marked wanted);
+  some_marked = some_marked w awake w.no_readers (λ p. omega arith) (sound.in_order for_no_readers) (awake.writing_marked wanted);
   none_passes = λ p inputs a v over. over.not_taken ((kept w p inputs a v over.whole).writing refl over.solo wanted.0).writes;
 }

@@ -1,5 +1,5 @@
--- Where a move's step begins, and what its party's standing says of it.
-use Rattle.std.proofs.Common.{◌≡◌, ℕ, true, false, Option, Some, None, refl}
+-- What each move does, as its party stands: where it acts, in which call, and what it seeks then.
+use Rattle.std.proofs.Common.{◌≡◌, ℕ, true, false, Option, Some, None, refl, sym, ap, ◌∙◌}
 use Rattle.lock_world.specs.declared.moves.Answer.{Answer}
 use Rattle.lock_world.specs.declared.moves.Answer.TheVariants as answer
 use Rattle.lock_world.specs.declared.moves.Call.{Call}
@@ -7,220 +7,123 @@ use Rattle.lock_world.specs.declared.moves.Call.TheVariants as call
 use Rattle.lock_world.specs.declared.moves.Inputs.{Inputs}
 use Rattle.lock_world.specs.declared.moves.What.{What}
 use Rattle.lock_world.specs.declared.moves.What.TheVariants.{Begin, Go}
-use Rattle.lock_world.specs.declared.standing.Kind.{Kind}
+use Rattle.lock_world.specs.declared.refusal.Refusal.TheVariants as refusal
 use Rattle.lock_world.specs.declared.standing.Kind.TheVariants as kind
 use Rattle.lock_world.specs.declared.standing.Rest.{Rest}
 use Rattle.lock_world.specs.declared.standing.Rest.TheVariants as rest
 use Rattle.lock_world.specs.declared.standing.Stage.{Stage}
-use Rattle.lock_world.specs.declared.standing.Stage.TheVariants.{Outside, Inside, Forgotten}
+use Rattle.lock_world.specs.declared.standing.Stage.TheVariants.{Outside}
 use Rattle.lock_world.specs.declared.standing.Within.{Within}
-use Rattle.lock_world.specs.Accounts.{sought_after}
-use Rattle.lock_world.specs.Frame.{is_drop, is_giving_back, is_poll_after_ready, put_in}
+use Rattle.lock_world.specs.Accounts.{aim, sought_after}
+use Rattle.lock_world.specs.Frame.{is_drop, is_giving_back, put_in}
 use Rattle.lock_world.specs.Rights.{Right}
-use Rattle.lock_world.specs.Standings.{Standing, outside, inside, call_in, is_decided}
+use Rattle.lock_world.specs.Standings.{inside, is_decided}
 use Rattle.lock_world.proofs.Equations.{some_eq}
+use Rattle.lock_table.specs.declared.end.End.TheVariants.{NotFree}
+use Rattle.lock_table.specs.Stages.{call_at, polls_again}
 use Rattle.mutex_machine.specs.Course.{Course as TurnCourse}
 use Rattle.rwlock_machine.specs.declared.program.Wanted.TheVariants as wanted
 use Rattle.rwlock_machine.specs.declared.program.Purpose.TheVariants as purpose
 use Rattle.rwlock_machine.specs.declared.program.Ending.TheVariants as ending
-use Rattle.rwlock_machine.specs.declared.program.End.TheVariants.{Got, Pending, Waiting, NotFree, GivenBack, Refused}
 use Rattle.rwlock_machine.specs.declared.program.Next.{Next}
 use Rattle.rwlock_machine.specs.declared.program.Next.TheVariants as next
-use Rattle.rwlock_machine.specs.declared.program.RwCall.{RwCall}
-use Rattle.rwlock_machine.specs.declared.program.RwCall.TheVariants as rw_call
 use Rattle.rwlock_machine.specs.declared.program.Place.{Place}
 use Rattle.rwlock_machine.specs.declared.program.Place.TheVariants as place
-use Rattle.rwlock_machine.specs.Program.{start_of}
+use Rattle.rwlock_machine.specs.Program.{place_after, first_poll}
 use Rattle.rwlock_machine.specs.Machine.{SameRoles}
 use Rattle.rwlock_machine.proofs.Starts.{start_same}
-use Rattle.rwlock_world.specs.declared.world.table.Plan.TheVariants as plan
-use Rattle.rwlock_world.specs.declared.world.table.Sought.{Sought}
-use Rattle.rwlock_world.specs.declared.world.table.Sought.TheVariants as sought
-use Rattle.rwlock_world.specs.Legal.{knows}
-use Rattle.rwlock_world.specs.Plans.{begins_by, plan_of, within, answer_of, begins_to_seek, goes_on_seeking, sought_at, agrees, goes_with}
-use Rattle.rwlock_world.specs.View.{share_of, is_upgrade, right_of, verdict, stands_as}
-use Rattle.rwlock_world.proofs.Begun.{for_begun, for_go}
+use Rattle.rwlock_world.specs.Number.{knows_at, answer_by}
+use Rattle.rwlock_world.specs.Stages.{sought_at, Course, tries_upgrade, course_of, is_on_course, is_inside, goes_with}
+use Rattle.rwlock_world.specs.View.{share_of, is_upgrade, verdict, standing_at}
+use Rattle.rwlock_world.proofs.Begun.{within, Turn, turn}
+use Rattle.rwlock_world.proofs.Paths.{InVain, Seeks}
 use Rattle.rwlock_world.proofs.Rows.{lacks_memory}
 
--- ---- what is sought after each call
+-- ---- what is sought after an action
 
-seeks_read : (o : Option Sought) (i : Inputs) (v : ℕ) (n : Next) → sought_after (right_of o) (Begin call.Read i) (answer_of kind.FirstPoll v n) ≡ right_of (begins_to_seek rw_call.Read o n)
-seeks_read o i v (next.Do a q) = refl
-seeks_read o i v (next.End Got q) = refl
-seeks_read o i v (next.End Pending q) = refl
-seeks_read o i v (next.End Waiting q) = refl
-seeks_read o i v (next.End NotFree q) = refl
-seeks_read o i v (next.End GivenBack q) = refl
-seeks_read o i v (next.End (Refused r) q) = refl
+not_free_out : (c : Course) (q : Place) → (c ≡ tries_upgrade → ⊥) → InVain c q → q ≡ place.Out
+not_free_out tries_upgrade q n h = absurd (n refl)
+not_free_out _ q n h = h
 
-seeks_upgradable_read : (o : Option Sought) (i : Inputs) (v : ℕ) (n : Next) → sought_after (right_of o) (Begin call.UpgradableRead i) (answer_of kind.FirstPoll v n) ≡ right_of (begins_to_seek rw_call.UpgradableRead o n)
-seeks_upgradable_read o i v (next.Do a q) = refl
-seeks_upgradable_read o i v (next.End Got q) = refl
-seeks_upgradable_read o i v (next.End Pending q) = refl
-seeks_upgradable_read o i v (next.End Waiting q) = refl
-seeks_upgradable_read o i v (next.End NotFree q) = refl
-seeks_upgradable_read o i v (next.End GivenBack q) = refl
-seeks_upgradable_read o i v (next.End (Refused r) q) = refl
+-- once a call has begun, but a try to upgrade
+sought_begun : (o : Option Right) (c : Call) (i : Inputs) (v : ℕ) (from : Place) → sought_after o (Begin c i) answer.None ≡ None → sought_at from ≡ aim o c → (course_of from ≡ tries_upgrade → ⊥)
+    → (n : Next) → Seeks from n → sought_at (place_after n) ≡ sought_after o (Begin c i) (answer_by v n)
+sought_begun o c i v from none e up (next.Do a q) k = k ∙ e
+sought_begun o c i v from none e up (next.Wait q) k = k ∙ e
+sought_begun o c i v from none e up (next.End NotFree q) k = ap sought_at (not_free_out (course_of from) q up k) ∙ sym none
+sought_begun o c i v from none e up (next.End _ q) k = k ∙ e
 
-seeks_write : (o : Option Sought) (i : Inputs) (v : ℕ) (n : Next) → sought_after (right_of o) (Begin call.Write i) (answer_of kind.FirstPoll v n) ≡ right_of (begins_to_seek rw_call.Write o n)
-seeks_write o i v (next.Do a q) = refl
-seeks_write o i v (next.End Got q) = refl
-seeks_write o i v (next.End Pending q) = refl
-seeks_write o i v (next.End Waiting q) = refl
-seeks_write o i v (next.End NotFree q) = refl
-seeks_write o i v (next.End GivenBack q) = refl
-seeks_write o i v (next.End (Refused r) q) = refl
+sought_tried : (i : Inputs) (v : ℕ) (n : Next) → Seeks place.TryUpgrade n → sought_at (place_after n) ≡ sought_after (sought_at place.Upgradable) (Begin call.TryUpgrade i) (answer_by v n)
+sought_tried i v (next.Do a q) k = k
+sought_tried i v (next.Wait q) k = k
+sought_tried i v (next.End NotFree q) k = ap sought_at k
+sought_tried i v (next.End _ q) k = k
 
-seeks_try_read : (o : Option Sought) (i : Inputs) (v : ℕ) (n : Next) → sought_after (right_of o) (Begin call.TryRead i) (answer_of kind.Try v n) ≡ right_of (begins_to_seek rw_call.TryRead o n)
-seeks_try_read o i v (next.Do a q) = refl
-seeks_try_read o i v (next.End Got q) = refl
-seeks_try_read o i v (next.End Pending q) = refl
-seeks_try_read o i v (next.End Waiting q) = refl
-seeks_try_read o i v (next.End NotFree q) = refl
-seeks_try_read o i v (next.End GivenBack q) = refl
-seeks_try_read o i v (next.End (Refused r) q) = refl
+-- no upgrade that is tried goes on
+not_upgrading : (x : Place) → is_inside x ≡ true → course_of x ≡ tries_upgrade → ⊥
+not_upgrading place.TryUpgrade h e = absurd (cc)
+not_upgrading (place.RefuseNotify refusal.Memory) h e = cc
+not_upgrading (place.RefuseNotify refusal.Readers) h e = cc
+not_upgrading (place.RefuseNotify _) h e = cc
+not_upgrading (place.ReleaseTurn ending.GivenBack) h e = cc
+not_upgrading (place.ReleaseTurn (ending.NotFree p)) h e = cc
+not_upgrading (place.ReleaseTurn ending.RefuseReaders) h e = cc
+not_upgrading (place.ReleaseTurn ending.RefuseMemory) h e = cc
+not_upgrading (place.ReleaseTurn ending.Reading) h e = cc
+not_upgrading (place.ReleaseTurn ending.NotifyReaders) h e = cc
+not_upgrading (place.ReleasingTurn ending.GivenBack) h e = cc
+not_upgrading (place.ReleasingTurn (ending.NotFree p)) h e = cc
+not_upgrading (place.ReleasingTurn ending.RefuseReaders) h e = cc
+not_upgrading (place.ReleasingTurn ending.RefuseMemory) h e = cc
+not_upgrading (place.ReleasingTurn ending.Reading) h e = cc
+not_upgrading (place.ReleasingTurn ending.NotifyReaders) h e = cc
+not_upgrading (place.Add true) h e = cc
+not_upgrading (place.Add false) h e = cc
+not_upgrading (place.Unmark true) h e = cc
+not_upgrading (place.Unmark false) h e = cc
+not_upgrading (place.UnmarkNotify true) h e = cc
+not_upgrading (place.UnmarkNotify false) h e = cc
+not_upgrading _ h e = cc
 
-seeks_try_upgradable_read : (o : Option Sought) (i : Inputs) (v : ℕ) (n : Next) → sought_after (right_of o) (Begin call.TryUpgradableRead i) (answer_of kind.Try v n) ≡ right_of (begins_to_seek rw_call.TryUpgradableRead o n)
-seeks_try_upgradable_read o i v (next.Do a q) = refl
-seeks_try_upgradable_read o i v (next.End Got q) = refl
-seeks_try_upgradable_read o i v (next.End Pending q) = refl
-seeks_try_upgradable_read o i v (next.End Waiting q) = refl
-seeks_try_upgradable_read o i v (next.End NotFree q) = refl
-seeks_try_upgradable_read o i v (next.End GivenBack q) = refl
-seeks_try_upgradable_read o i v (next.End (Refused r) q) = refl
-
-seeks_try_write : (o : Option Sought) (i : Inputs) (v : ℕ) (n : Next) → sought_after (right_of o) (Begin call.TryWrite i) (answer_of kind.Try v n) ≡ right_of (begins_to_seek rw_call.TryWrite o n)
-seeks_try_write o i v (next.Do a q) = refl
-seeks_try_write o i v (next.End Got q) = refl
-seeks_try_write o i v (next.End Pending q) = refl
-seeks_try_write o i v (next.End Waiting q) = refl
-seeks_try_write o i v (next.End NotFree q) = refl
-seeks_try_write o i v (next.End GivenBack q) = refl
-seeks_try_write o i v (next.End (Refused r) q) = refl
-
-seeks_poll : (o : Option Sought) (i : Inputs) (v : ℕ) (n : Next) → sought_after (right_of o) (Begin call.Poll i) (answer_of kind.LaterPoll v n) ≡ right_of (begins_to_seek rw_call.Poll o n)
-seeks_poll o i v (next.Do a q) = refl
-seeks_poll o i v (next.End Got q) = refl
-seeks_poll o i v (next.End Pending q) = refl
-seeks_poll o i v (next.End Waiting q) = refl
-seeks_poll o i v (next.End NotFree q) = refl
-seeks_poll o i v (next.End GivenBack q) = refl
-seeks_poll o i v (next.End (Refused r) q) = refl
-
-seeks_drop : (o : Option Sought) (i : Inputs) (v : ℕ) (n : Next) → sought_after (right_of o) (Begin call.Drop i) (answer_of kind.Drop v n) ≡ right_of (begins_to_seek rw_call.Drop o n)
-seeks_drop o i v (next.Do a q) = refl
-seeks_drop o i v (next.End Got q) = refl
-seeks_drop o i v (next.End Pending q) = refl
-seeks_drop o i v (next.End Waiting q) = refl
-seeks_drop o i v (next.End NotFree q) = refl
-seeks_drop o i v (next.End GivenBack q) = refl
-seeks_drop o i v (next.End (Refused r) q) = refl
-
-seeks_upgrade : (o : Option Sought) (i : Inputs) (v : ℕ) (n : Next) → sought_after (right_of o) (Begin call.Upgrade i) (answer_of kind.Upgrade v n) ≡ right_of (begins_to_seek rw_call.Upgrade o n)
-seeks_upgrade o i v (next.Do a q) = refl
-seeks_upgrade o i v (next.End Got q) = refl
-seeks_upgrade o i v (next.End Pending q) = refl
-seeks_upgrade o i v (next.End Waiting q) = refl
-seeks_upgrade o i v (next.End NotFree q) = refl
-seeks_upgrade o i v (next.End GivenBack q) = refl
-seeks_upgrade o i v (next.End (Refused r) q) = refl
-
-seeks_try_upgrade : (o : Option Sought) (i : Inputs) (v : ℕ) (n : Next) → sought_after (right_of o) (Begin call.TryUpgrade i) (answer_of kind.TryUpgrade v n) ≡ right_of (begins_to_seek rw_call.TryUpgrade o n)
-seeks_try_upgrade o i v (next.Do a q) = refl
-seeks_try_upgrade o i v (next.End Got q) = refl
-seeks_try_upgrade o i v (next.End Pending q) = refl
-seeks_try_upgrade o i v (next.End Waiting q) = refl
-seeks_try_upgrade o i v (next.End NotFree q) = refl
-seeks_try_upgrade o i v (next.End GivenBack q) = refl
-seeks_try_upgrade o i v (next.End (Refused r) q) = refl
-
-seeks_downgrade : (o : Option Sought) (i : Inputs) (v : ℕ) (n : Next) → sought_after (right_of o) (Begin call.Downgrade i) (answer_of kind.Downgrade v n) ≡ right_of (begins_to_seek rw_call.Downgrade o n)
-seeks_downgrade o i v (next.Do a q) = refl
-seeks_downgrade o i v (next.End Got q) = refl
-seeks_downgrade o i v (next.End Pending q) = refl
-seeks_downgrade o i v (next.End Waiting q) = refl
-seeks_downgrade o i v (next.End NotFree q) = refl
-seeks_downgrade o i v (next.End GivenBack q) = refl
-seeks_downgrade o i v (next.End (Refused r) q) = refl
-
-seeks_downgrade_to_upgradable : (o : Option Sought) (i : Inputs) (v : ℕ) (n : Next) → sought_after (right_of o) (Begin call.DowngradeToUpgradable i) (answer_of kind.Downgrade v n) ≡ right_of (begins_to_seek rw_call.ToUpgradable o n)
-seeks_downgrade_to_upgradable o i v (next.Do a q) = refl
-seeks_downgrade_to_upgradable o i v (next.End Got q) = refl
-seeks_downgrade_to_upgradable o i v (next.End Pending q) = refl
-seeks_downgrade_to_upgradable o i v (next.End Waiting q) = refl
-seeks_downgrade_to_upgradable o i v (next.End NotFree q) = refl
-seeks_downgrade_to_upgradable o i v (next.End GivenBack q) = refl
-seeks_downgrade_to_upgradable o i v (next.End (Refused r) q) = refl
-
-got_seeks : (o : Option Right) (i : Inputs) (k : Kind) (v : ℕ) (q : Place) → sought_after o (Go i) (answer_of k v (next.End Got q)) ≡ o
-got_seeks o i kind.Try v q = refl
-got_seeks o i kind.TryUpgrade v q = refl
-got_seeks o i _ v q = refl
-
-seeks_on : (o : Option Sought) (i : Inputs) (k : Kind) (v : ℕ) (n : Next) → sought_after (right_of o) (Go i) (answer_of k v n) ≡ right_of (goes_on_seeking o n)
-seeks_on o i k v (next.Do a q) = refl
-seeks_on o i k v (next.End Got q) = got_seeks (right_of o) i k v q
-seeks_on o i k v (next.End Pending q) = refl
-seeks_on o i k v (next.End Waiting q) = refl
-seeks_on o i k v (next.End NotFree q) = refl
-seeks_on o i k v (next.End GivenBack q) = refl
-seeks_on o i k v (next.End (Refused r) q) = refl
+sought_on : (i : Inputs) (v : ℕ) (x : Place) → (course_of x ≡ tries_upgrade → ⊥) → (n : Next) → Seeks x n → sought_at (place_after n) ≡ sought_after (sought_at x) (Go i) (answer_by v n)
+sought_on i v x up (next.Do a q) k = k
+sought_on i v x up (next.Wait q) k = k
+sought_on i v x up (next.End NotFree q) k = ap sought_at (not_free_out (course_of x) q up k)
+sought_on i v x up (next.End _ q) k = k
 
 -- ---- a move of a party that stands so
 
--- a party that stands as s, seeks o and is at x, and at t in the turn, does this from a place, in this call, and seeks that then
-pub record Moves (v : ℕ) (s : Standing) (o : Option Sought) (what : What) (x from : Place) (t : TurnCourse) (w : Within) (seeks : Next → Option Sought) : Type 0 where
-  pub call : call_in (knows (right_of o)) s what ≡ Some w
+-- a party at this stage that is at x, and at t in the turn, acts at a place, in this call
+pub record Moves (v : ℕ) (t : TurnCourse) (s : Stage) (what : What) (x : Place) (w : Within) (from : Place) : Type 0 where
   pub share : share_of from ≡ share_of x
   pub same : SameRoles from x
-  pub decided : (u : Within) (b : Answer) → s ≡ inside u (Some b) → verdict v from t ≡ Some b
-  pub drops : is_decided s ≡ false → (b : Answer) → verdict v from t ≡ Some b → answer.GivenBack ≡ b
-  pub gives : is_decided s ≡ false → (b : Answer) → verdict v from t ≡ Some b → is_giving_back what ≡ true
-  pub lacking : lacks_memory from ≡ true → (a : Option Answer) × (s ≡ inside w a)
+  pub course : is_on_course w.kind w.was (course_of from) ≡ true
+  pub decided : (u : Within) (b : Answer) → standing_at v s x t ≡ inside u (Some b) → verdict v from t ≡ Some b
+  pub gives : is_decided (standing_at v s x t) ≡ false → (b : Answer) → verdict v from t ≡ Some b → (answer.GivenBack ≡ b) × (is_giving_back what ≡ true)
+  pub lacking : lacks_memory from ≡ true → (a : Option Answer) × (standing_at v s x t ≡ inside w a)
   pub drop_is : is_drop what ≡ true → (verdict v from t ≡ Some answer.GivenBack) × (w.kind ≡ kind.Drop)
-  pub no_put : put_in what ≡ None
-  pub not_over : is_poll_after_ready s what ≡ false
   pub upgrade : is_drop what ≡ false → is_upgrade from ≡ is_upgrade x
-  pub sought : (n : Next) → sought_after (right_of o) what (answer_of w.kind v n) ≡ right_of (seeks n)
+  pub sought : (n : Next) → Seeks from n → sought_at (place_after n) ≡ sought_after (sought_at x) what (answer_by v n)
 
 same_at : (x : Place) → SameRoles x x
 same_at x = record { reading = refl; marking = refl; turning = refl; writing = refl; standing_w = refl; waiting_w = refl; owing_w = refl; standing_r = refl; waiting_r = refl; owing_r = refl; in_turn = refl }
 
 module _ (v : ℕ) (t : TurnCourse) where
-  abbrev Begin_so : Stage → Option Sought → What → Place → RwCall → Within → Place → Type 0
-  Begin_so s o what x c w from = Moves v (stands_as v s x t) o what x from t w (begins_to_seek c o)
-
-  pub beginning : (s : Stage) (o : Option Sought) (what : What) (x : Place) (c : RwCall) (w : Within) → plan_of s o what ≡ Some (plan.Start c w) → goes_with s x ≡ true → agrees (sought_at x) o ≡ true → (from : Place) × (start_of c x ≡ Some from) × Begin_so s o what x c w from
-  beginning = for_begun Begin_so (record {
-    read = λ o i. record { call = refl; share = refl; same = start_same rw_call.Read place.Out (place.EnterRead false) refl; decided = λ u b d. absurd (cc); drops = λ u b d. absurd (cc); gives = λ u b d. absurd (cc); lacking = λ h. absurd (cc); drop_is = λ d. absurd (cc); no_put = refl; not_over = refl; upgrade = λ d. refl; sought = seeks_read o i v };
-    upgradable = λ o i. record { call = refl; share = refl; same = start_same rw_call.UpgradableRead place.Out (place.EnterTurn purpose.UpgradableRead) refl; decided = λ u b d. absurd (cc); drops = λ u b d. absurd (cc); gives = λ u b d. absurd (cc); lacking = λ h. absurd (cc); drop_is = λ d. absurd (cc); no_put = refl; not_over = refl; upgrade = λ d. refl; sought = seeks_upgradable_read o i v };
-    write = λ o i. record { call = refl; share = refl; same = start_same rw_call.Write place.Out (place.EnterTurn purpose.Write) refl; decided = λ u b d. absurd (cc); drops = λ u b d. absurd (cc); gives = λ u b d. absurd (cc); lacking = λ h. absurd (cc); drop_is = λ d. absurd (cc); no_put = refl; not_over = refl; upgrade = λ d. refl; sought = seeks_write o i v };
-    try_read = λ o i. record { call = refl; share = refl; same = start_same rw_call.TryRead place.Out place.TryRead refl; decided = λ u b d. absurd (cc); drops = λ u b d. absurd (cc); gives = λ u b d. absurd (cc); lacking = λ h. absurd (cc); drop_is = λ d. absurd (cc); no_put = refl; not_over = refl; upgrade = λ d. refl; sought = seeks_try_read o i v };
-    try_upgradable = λ o i. record { call = refl; share = refl; same = start_same rw_call.TryUpgradableRead place.Out (place.TryTurn purpose.UpgradableRead) refl; decided = λ u b d. absurd (cc); drops = λ u b d. absurd (cc); gives = λ u b d. absurd (cc); lacking = λ h. absurd (cc); drop_is = λ d. absurd (cc); no_put = refl; not_over = refl; upgrade = λ d. refl; sought = seeks_try_upgradable_read o i v };
-    try_write = λ o i. record { call = refl; share = refl; same = start_same rw_call.TryWrite place.Out (place.TryTurn purpose.Write) refl; decided = λ u b d. absurd (cc); drops = λ u b d. absurd (cc); gives = λ u b d. absurd (cc); lacking = λ h. absurd (cc); drop_is = λ d. absurd (cc); no_put = refl; not_over = refl; upgrade = λ d. refl; sought = seeks_try_write o i v };
-    poll_made = λ w o i a. made w o i;
-    poll_no_writer = λ o i a. record { call = refl; share = refl; same = same_at place.AskNoWriter; decided = λ u b d. absurd (cc); drops = λ u b d. absurd (cc); gives = λ u b d. absurd (cc); lacking = λ h. absurd (cc); drop_is = λ d. absurd (cc); no_put = refl; not_over = refl; upgrade = λ d. refl; sought = seeks_poll o i v };
-    poll_turn = λ p o i a. record { call = refl; share = refl; same = same_at (place.WaitTurn p); decided = λ u b d. absurd (cc); drops = λ u b d. absurd (cc); gives = λ u b d. absurd (cc); lacking = λ h. absurd (cc); drop_is = λ d. absurd (cc); no_put = refl; not_over = refl; upgrade = λ d. refl; sought = seeks_poll o i v };
-    poll_no_readers = λ u o i a. record { call = refl; share = refl; same = same_at (place.AwaitNoReaders u); decided = λ y b d. absurd (cc); drops = λ y b d. absurd (cc); gives = λ u b d. absurd (cc); lacking = λ h. absurd (cc); drop_is = λ d. absurd (cc); no_put = refl; not_over = refl; upgrade = λ d. refl; sought = seeks_poll o i v };
-    poll_upgrade = λ o i a. record { call = refl; share = refl; same = same_at (place.LookUnlisted true); decided = λ u b d. absurd (cc); drops = λ u b d. absurd (cc); gives = λ u b d. absurd (cc); lacking = λ h. absurd (cc); drop_is = λ d. absurd (cc); no_put = refl; not_over = refl; upgrade = λ d. refl; sought = seeks_poll o i v };
-    drop_made = λ w o i. record { call = refl; share = refl; same = start_same rw_call.Drop (place.Made w) place.Out refl; decided = λ u b d. absurd (cc); drops = λ u b d. some_eq d; gives = λ u b d. refl; lacking = λ h. absurd (cc); drop_is = λ d. (refl, refl); no_put = refl; not_over = refl; upgrade = λ d. absurd (cc); sought = seeks_drop o i v };
-    drop_no_writer = λ o i. record { call = refl; share = refl; same = start_same rw_call.Drop place.AskNoWriter place.CancelRead refl; decided = λ u b d. absurd (cc); drops = λ u b d. some_eq d; gives = λ u b d. refl; lacking = λ h. absurd (cc); drop_is = λ d. (refl, refl); no_put = refl; not_over = refl; upgrade = λ d. absurd (cc); sought = seeks_drop o i v };
-    drop_turn = λ p o i. record { call = refl; share = refl; same = start_same rw_call.Drop (place.WaitTurn p) place.CancelTurn refl; decided = λ u b d. absurd (cc); drops = λ u b d. some_eq d; gives = λ u b d. refl; lacking = λ h. absurd (cc); drop_is = λ d. (refl, refl); no_put = refl; not_over = refl; upgrade = λ d. absurd (cc); sought = seeks_drop o i v };
-    drop_no_readers = λ u o i. record { call = refl; share = refl; same = start_same rw_call.Drop (place.AwaitNoReaders u) place.CancelAwait refl; decided = λ y b d. absurd (cc); drops = λ y b d. some_eq d; gives = λ u b d. refl; lacking = λ h. absurd (cc); drop_is = λ d. (refl, refl); no_put = refl; not_over = refl; upgrade = λ d. absurd (cc); sought = seeks_drop o i v };
-    drop_upgrade = λ o i. record { call = refl; share = refl; same = start_same rw_call.Drop (place.LookUnlisted true) (place.Unmark false) refl; decided = λ u b d. absurd (cc); drops = λ u b d. some_eq d; gives = λ u b d. refl; lacking = λ h. absurd (cc); drop_is = λ d. (refl, refl); no_put = refl; not_over = refl; upgrade = λ d. absurd (cc); sought = seeks_drop o i v };
-    drop_reader = λ o i. record { call = refl; share = refl; same = start_same rw_call.Drop place.Reading place.DropRead refl; decided = λ u b d. absurd (cc); drops = λ u b d. some_eq d; gives = λ u b d. refl; lacking = λ h. absurd (cc); drop_is = λ d. (refl, refl); no_put = refl; not_over = refl; upgrade = λ d. absurd (cc); sought = seeks_drop o i v };
-    drop_upgradable = λ o i. record { call = refl; share = refl; same = start_same rw_call.Drop place.Upgradable place.DropUpgradable refl; decided = λ u b d. absurd (cc); drops = λ u b d. some_eq d; gives = λ u b d. refl; lacking = λ h. absurd (cc); drop_is = λ d. (refl, refl); no_put = refl; not_over = refl; upgrade = λ d. absurd (cc); sought = seeks_drop o i v };
-    drop_writer = λ o i. record { call = refl; share = refl; same = start_same rw_call.Drop place.Writing place.DropWrite refl; decided = λ u b d. absurd (cc); drops = λ u b d. some_eq d; gives = λ u b d. refl; lacking = λ h. absurd (cc); drop_is = λ d. (refl, refl); no_put = refl; not_over = refl; upgrade = λ d. absurd (cc); sought = seeks_drop o i v };
-    upgrade = λ i. record { call = refl; share = refl; same = start_same rw_call.Upgrade place.Upgradable place.Upgrade refl; decided = λ u b d. absurd (cc); drops = λ u b d. absurd (cc); gives = λ u b d. absurd (cc); lacking = λ h. absurd (cc); drop_is = λ d. absurd (cc); no_put = refl; not_over = refl; upgrade = λ d. refl; sought = seeks_upgrade (Some sought.Upgradable) i v };
-    try_upgrade = λ i. record { call = refl; share = refl; same = start_same rw_call.TryUpgrade place.Upgradable place.TryUpgrade refl; decided = λ u b d. absurd (cc); drops = λ u b d. absurd (cc); gives = λ u b d. absurd (cc); lacking = λ h. absurd (cc); drop_is = λ d. absurd (cc); no_put = refl; not_over = refl; upgrade = λ d. refl; sought = seeks_try_upgrade (Some sought.Upgradable) i v };
-    downgrade_upgradable = λ i. record { call = refl; share = refl; same = start_same rw_call.Downgrade place.Upgradable (place.ReleaseTurn ending.Reading) refl; decided = λ u b d. absurd (cc); drops = λ u b d. some_eq d; gives = λ u b d. refl; lacking = λ h. absurd (cc); drop_is = λ d. absurd (cc); no_put = refl; not_over = refl; upgrade = λ d. refl; sought = seeks_downgrade (Some sought.Upgradable) i v };
-    downgrade_writer = λ i. record { call = refl; share = refl; same = start_same rw_call.Downgrade place.Writing (place.Down false) refl; decided = λ u b d. absurd (cc); drops = λ u b d. absurd (cc); gives = λ u b d. absurd (cc); lacking = λ h. absurd (cc); drop_is = λ d. absurd (cc); no_put = refl; not_over = refl; upgrade = λ d. refl; sought = seeks_downgrade (Some sought.Write) i v };
-    to_upgradable = λ i. record { call = refl; share = refl; same = start_same rw_call.ToUpgradable place.Writing (place.Down true) refl; decided = λ u b d. absurd (cc); drops = λ u b d. absurd (cc); gives = λ u b d. absurd (cc); lacking = λ h. absurd (cc); drop_is = λ d. absurd (cc); no_put = refl; not_over = refl; upgrade = λ d. refl; sought = seeks_downgrade_to_upgradable (Some sought.Write) i v };
-  }) where
-    made : (w : _) (o : Option Sought) (i : Inputs) → Begin_so (Outside rest.Pending) o (Begin call.Poll i) (place.Made w) rw_call.Poll (within kind.LaterPoll rest.Pending) (Rattle.rwlock_machine.specs.Program.first_poll w)
-    made wanted.Read o i = record { call = refl; share = refl; same = start_same rw_call.Poll (place.Made wanted.Read) (place.EnterRead false) refl; decided = λ u b d. absurd (cc); drops = λ u b d. absurd (cc); gives = λ u b d. absurd (cc); lacking = λ h. absurd (cc); drop_is = λ d. absurd (cc); no_put = refl; not_over = refl; upgrade = λ d. refl; sought = seeks_poll o i v }
-    made wanted.UpgradableRead o i = record { call = refl; share = refl; same = start_same rw_call.Poll (place.Made wanted.UpgradableRead) (place.EnterTurn purpose.UpgradableRead) refl; decided = λ u b d. absurd (cc); drops = λ u b d. absurd (cc); gives = λ u b d. absurd (cc); lacking = λ h. absurd (cc); drop_is = λ d. absurd (cc); no_put = refl; not_over = refl; upgrade = λ d. refl; sought = seeks_poll o i v }
-    made wanted.Write o i = record { call = refl; share = refl; same = start_same rw_call.Poll (place.Made wanted.Write) (place.EnterTurn purpose.Write) refl; decided = λ u b d. absurd (cc); drops = λ u b d. absurd (cc); gives = λ u b d. absurd (cc); lacking = λ h. absurd (cc); drop_is = λ d. absurd (cc); no_put = refl; not_over = refl; upgrade = λ d. refl; sought = seeks_poll o i v }
+  -- a call that begins
+  opened : (r : Rest) (c : Call) (i : Inputs) (x : Place) (w : Within) (from : Place) → share_of from ≡ share_of x → SameRoles from x → is_on_course w.kind w.was (course_of from) ≡ true → lacks_memory from ≡ false
+      → ((b : Answer) → verdict v from t ≡ Some b → (answer.GivenBack ≡ b) × (is_giving_back (Begin c i) ≡ true)) → (is_drop (Begin c i) ≡ true → (verdict v from t ≡ Some answer.GivenBack) × (w.kind ≡ kind.Drop))
+      → (is_drop (Begin c i) ≡ false → is_upgrade from ≡ is_upgrade x) → ((n : Next) → Seeks from n → sought_at (place_after n) ≡ sought_after (sought_at x) (Begin c i) (answer_by v n)) → Moves v t (Outside r) (Begin c i) x w from
+  opened r c i x w from share same course lacks gives drop_is upgrade sought = record {
+    share = share;
+    same = same;
+    course = course;
+    decided = λ u b d. absurd (cc);
+    gives = λ u b d. gives b d;
+    lacking = λ h. absurd (cc);
+    drop_is = drop_is;
+    upgrade = upgrade;
+    sought = sought;
+  }
 
   undecided : (w : Within) (o : Option Answer) → is_decided (inside w o) ≡ false → o ≡ None
   undecided w None h = refl
@@ -229,282 +132,45 @@ module _ (v : ℕ) (t : TurnCourse) where
   inside_eq : (w u : Within) (o p : Option Answer) → inside w o ≡ inside u p → o ≡ p
   inside_eq w u o p e = cc
 
-  pub going : (s : Stage) (o : Option Sought) (what : What) (x : Place) (w : Within) → plan_of s o what ≡ Some (plan.Go w) → Moves v (stands_as v s x t) o what x x t w (goes_on_seeking o)
-  going s o what x w e =
-      let P : Stage → What → Within → Type 0 = λ s what w. Moves v (stands_as v s x t) o what x x t w (goes_on_seeking o) in
-      for_go P (λ i w. record {
-        call = refl;
-        share = refl;
-        same = same_at x;
-        decided = λ u b d. inside_eq w u (verdict v x t) (Some b) d;
-        drops = λ u b some. let none = undecided w (verdict v x t) u in absurd (cc);
-        gives = λ u b some. let none = undecided w (verdict v x t) u in absurd (cc);
-        lacking = λ h. (verdict v x t, refl);
-        drop_is = λ d. absurd (cc);
-        no_put = refl;
-        not_over = refl;
-        upgrade = λ d. refl;
-        sought = seeks_on o i w.kind v;
-      }) s o what w e
-
--- ---- a move that does nothing isn't possible
-
-guard_calls : (o : Option Sought) (c : Call) (i : Inputs) → begins_by rest.Holding o c ≡ None → call_in (knows (right_of o)) (outside rest.Holding) (Begin c i) ≡ None
-guard_calls None call.Lock i e = refl
-guard_calls (Some sought.Read) call.Lock i e = refl
-guard_calls (Some sought.Upgradable) call.Lock i e = refl
-guard_calls (Some sought.Write) call.Lock i e = refl
-guard_calls None call.TryLock i e = refl
-guard_calls (Some sought.Read) call.TryLock i e = refl
-guard_calls (Some sought.Upgradable) call.TryLock i e = refl
-guard_calls (Some sought.Write) call.TryLock i e = refl
-guard_calls None call.Read i e = refl
-guard_calls (Some sought.Read) call.Read i e = refl
-guard_calls (Some sought.Upgradable) call.Read i e = refl
-guard_calls (Some sought.Write) call.Read i e = refl
-guard_calls None call.UpgradableRead i e = refl
-guard_calls (Some sought.Read) call.UpgradableRead i e = refl
-guard_calls (Some sought.Upgradable) call.UpgradableRead i e = refl
-guard_calls (Some sought.Write) call.UpgradableRead i e = refl
-guard_calls None call.Write i e = refl
-guard_calls (Some sought.Read) call.Write i e = refl
-guard_calls (Some sought.Upgradable) call.Write i e = refl
-guard_calls (Some sought.Write) call.Write i e = refl
-guard_calls None call.TryRead i e = refl
-guard_calls (Some sought.Read) call.TryRead i e = refl
-guard_calls (Some sought.Upgradable) call.TryRead i e = refl
-guard_calls (Some sought.Write) call.TryRead i e = refl
-guard_calls None call.TryUpgradableRead i e = refl
-guard_calls (Some sought.Read) call.TryUpgradableRead i e = refl
-guard_calls (Some sought.Upgradable) call.TryUpgradableRead i e = refl
-guard_calls (Some sought.Write) call.TryUpgradableRead i e = refl
-guard_calls None call.TryWrite i e = refl
-guard_calls (Some sought.Read) call.TryWrite i e = refl
-guard_calls (Some sought.Upgradable) call.TryWrite i e = refl
-guard_calls (Some sought.Write) call.TryWrite i e = refl
-guard_calls None call.Upgrade i e = refl
-guard_calls (Some sought.Read) call.Upgrade i e = refl
-guard_calls (Some sought.Upgradable) call.Upgrade i e = absurd (cc)
-guard_calls (Some sought.Write) call.Upgrade i e = refl
-guard_calls None call.TryUpgrade i e = refl
-guard_calls (Some sought.Read) call.TryUpgrade i e = refl
-guard_calls (Some sought.Upgradable) call.TryUpgrade i e = absurd (cc)
-guard_calls (Some sought.Write) call.TryUpgrade i e = refl
-guard_calls None call.Downgrade i e = refl
-guard_calls (Some sought.Read) call.Downgrade i e = refl
-guard_calls (Some sought.Upgradable) call.Downgrade i e = absurd (cc)
-guard_calls (Some sought.Write) call.Downgrade i e = absurd (cc)
-guard_calls None call.DowngradeToUpgradable i e = refl
-guard_calls (Some sought.Read) call.DowngradeToUpgradable i e = refl
-guard_calls (Some sought.Upgradable) call.DowngradeToUpgradable i e = refl
-guard_calls (Some sought.Write) call.DowngradeToUpgradable i e = absurd (cc)
-guard_calls None call.Acquire i e = refl
-guard_calls (Some sought.Read) call.Acquire i e = refl
-guard_calls (Some sought.Upgradable) call.Acquire i e = refl
-guard_calls (Some sought.Write) call.Acquire i e = refl
-guard_calls None call.TryAcquire i e = refl
-guard_calls (Some sought.Read) call.TryAcquire i e = refl
-guard_calls (Some sought.Upgradable) call.TryAcquire i e = refl
-guard_calls (Some sought.Write) call.TryAcquire i e = refl
-guard_calls None call.Forget i e = refl
-guard_calls (Some sought.Read) call.Forget i e = refl
-guard_calls (Some sought.Upgradable) call.Forget i e = refl
-guard_calls (Some sought.Write) call.Forget i e = refl
-guard_calls None (call.AddPermits n) i e = refl
-guard_calls (Some sought.Read) (call.AddPermits n) i e = refl
-guard_calls (Some sought.Upgradable) (call.AddPermits n) i e = refl
-guard_calls (Some sought.Write) (call.AddPermits n) i e = refl
-guard_calls None call.Initialize i e = refl
-guard_calls (Some sought.Read) call.Initialize i e = refl
-guard_calls (Some sought.Upgradable) call.Initialize i e = refl
-guard_calls (Some sought.Write) call.Initialize i e = refl
-guard_calls None call.Wait i e = refl
-guard_calls (Some sought.Read) call.Wait i e = refl
-guard_calls (Some sought.Upgradable) call.Wait i e = refl
-guard_calls (Some sought.Write) call.Wait i e = refl
-guard_calls None (call.Set n) i e = refl
-guard_calls (Some sought.Read) (call.Set n) i e = refl
-guard_calls (Some sought.Upgradable) (call.Set n) i e = refl
-guard_calls (Some sought.Write) (call.Set n) i e = refl
-guard_calls None (call.TrySet n) i e = refl
-guard_calls (Some sought.Read) (call.TrySet n) i e = refl
-guard_calls (Some sought.Upgradable) (call.TrySet n) i e = refl
-guard_calls (Some sought.Write) (call.TrySet n) i e = refl
-guard_calls o call.Poll i e = absurd (cc)
-guard_calls o call.Drop i e = absurd (cc)
-guard_calls None (call.Put n) i e = refl
-guard_calls (Some sought.Read) (call.Put n) i e = refl
-guard_calls (Some sought.Upgradable) (call.Put n) i e = refl
-guard_calls (Some sought.Write) (call.Put n) i e = absurd (cc)
-
-not_begun : (r : Rest) (o : Option Sought) (c : Call) (i : Inputs) (x : Place) → goes_with (Outside r) x ≡ true → begins_by r o c ≡ None → call_in (knows (right_of o)) (outside r) (Begin c i) ≡ None
-not_begun rest.Idle None call.Lock i x g e = refl
-not_begun rest.Idle (Some sought.Read) call.Lock i x g e = refl
-not_begun rest.Idle (Some sought.Upgradable) call.Lock i x g e = refl
-not_begun rest.Idle (Some sought.Write) call.Lock i x g e = refl
-not_begun rest.Idle None call.TryLock i x g e = refl
-not_begun rest.Idle (Some sought.Read) call.TryLock i x g e = refl
-not_begun rest.Idle (Some sought.Upgradable) call.TryLock i x g e = refl
-not_begun rest.Idle (Some sought.Write) call.TryLock i x g e = refl
-not_begun rest.Idle o call.Read i x g e = absurd (cc)
-not_begun rest.Idle o call.UpgradableRead i x g e = absurd (cc)
-not_begun rest.Idle o call.Write i x g e = absurd (cc)
-not_begun rest.Idle o call.TryRead i x g e = absurd (cc)
-not_begun rest.Idle o call.TryUpgradableRead i x g e = absurd (cc)
-not_begun rest.Idle o call.TryWrite i x g e = absurd (cc)
-not_begun rest.Idle None call.Upgrade i x g e = refl
-not_begun rest.Idle (Some sought.Read) call.Upgrade i x g e = refl
-not_begun rest.Idle (Some sought.Upgradable) call.Upgrade i x g e = refl
-not_begun rest.Idle (Some sought.Write) call.Upgrade i x g e = refl
-not_begun rest.Idle None call.TryUpgrade i x g e = refl
-not_begun rest.Idle (Some sought.Read) call.TryUpgrade i x g e = refl
-not_begun rest.Idle (Some sought.Upgradable) call.TryUpgrade i x g e = refl
-not_begun rest.Idle (Some sought.Write) call.TryUpgrade i x g e = refl
-not_begun rest.Idle None call.Downgrade i x g e = refl
-not_begun rest.Idle (Some sought.Read) call.Downgrade i x g e = refl
-not_begun rest.Idle (Some sought.Upgradable) call.Downgrade i x g e = refl
-not_begun rest.Idle (Some sought.Write) call.Downgrade i x g e = refl
-not_begun rest.Idle None call.DowngradeToUpgradable i x g e = refl
-not_begun rest.Idle (Some sought.Read) call.DowngradeToUpgradable i x g e = refl
-not_begun rest.Idle (Some sought.Upgradable) call.DowngradeToUpgradable i x g e = refl
-not_begun rest.Idle (Some sought.Write) call.DowngradeToUpgradable i x g e = refl
-not_begun rest.Idle None call.Acquire i x g e = refl
-not_begun rest.Idle (Some sought.Read) call.Acquire i x g e = refl
-not_begun rest.Idle (Some sought.Upgradable) call.Acquire i x g e = refl
-not_begun rest.Idle (Some sought.Write) call.Acquire i x g e = refl
-not_begun rest.Idle None call.TryAcquire i x g e = refl
-not_begun rest.Idle (Some sought.Read) call.TryAcquire i x g e = refl
-not_begun rest.Idle (Some sought.Upgradable) call.TryAcquire i x g e = refl
-not_begun rest.Idle (Some sought.Write) call.TryAcquire i x g e = refl
-not_begun rest.Idle None call.Forget i x g e = refl
-not_begun rest.Idle (Some sought.Read) call.Forget i x g e = refl
-not_begun rest.Idle (Some sought.Upgradable) call.Forget i x g e = refl
-not_begun rest.Idle (Some sought.Write) call.Forget i x g e = refl
-not_begun rest.Idle None (call.AddPermits n) i x g e = refl
-not_begun rest.Idle (Some sought.Read) (call.AddPermits n) i x g e = refl
-not_begun rest.Idle (Some sought.Upgradable) (call.AddPermits n) i x g e = refl
-not_begun rest.Idle (Some sought.Write) (call.AddPermits n) i x g e = refl
-not_begun rest.Idle None call.Initialize i x g e = refl
-not_begun rest.Idle (Some sought.Read) call.Initialize i x g e = refl
-not_begun rest.Idle (Some sought.Upgradable) call.Initialize i x g e = refl
-not_begun rest.Idle (Some sought.Write) call.Initialize i x g e = refl
-not_begun rest.Idle None call.Wait i x g e = refl
-not_begun rest.Idle (Some sought.Read) call.Wait i x g e = refl
-not_begun rest.Idle (Some sought.Upgradable) call.Wait i x g e = refl
-not_begun rest.Idle (Some sought.Write) call.Wait i x g e = refl
-not_begun rest.Idle None (call.Set n) i x g e = refl
-not_begun rest.Idle (Some sought.Read) (call.Set n) i x g e = refl
-not_begun rest.Idle (Some sought.Upgradable) (call.Set n) i x g e = refl
-not_begun rest.Idle (Some sought.Write) (call.Set n) i x g e = refl
-not_begun rest.Idle None (call.TrySet n) i x g e = refl
-not_begun rest.Idle (Some sought.Read) (call.TrySet n) i x g e = refl
-not_begun rest.Idle (Some sought.Upgradable) (call.TrySet n) i x g e = refl
-not_begun rest.Idle (Some sought.Write) (call.TrySet n) i x g e = refl
-not_begun rest.Idle None call.Poll i x g e = refl
-not_begun rest.Idle (Some sought.Read) call.Poll i x g e = refl
-not_begun rest.Idle (Some sought.Upgradable) call.Poll i x g e = refl
-not_begun rest.Idle (Some sought.Write) call.Poll i x g e = refl
-not_begun rest.Idle None call.Drop i x g e = refl
-not_begun rest.Idle (Some sought.Read) call.Drop i x g e = refl
-not_begun rest.Idle (Some sought.Upgradable) call.Drop i x g e = refl
-not_begun rest.Idle (Some sought.Write) call.Drop i x g e = refl
-not_begun rest.Idle None (call.Put n) i x g e = refl
-not_begun rest.Idle (Some sought.Read) (call.Put n) i x g e = refl
-not_begun rest.Idle (Some sought.Upgradable) (call.Put n) i x g e = refl
-not_begun rest.Idle (Some sought.Write) (call.Put n) i x g e = refl
-not_begun rest.Pending None call.Lock i x g e = refl
-not_begun rest.Pending (Some sought.Read) call.Lock i x g e = refl
-not_begun rest.Pending (Some sought.Upgradable) call.Lock i x g e = refl
-not_begun rest.Pending (Some sought.Write) call.Lock i x g e = refl
-not_begun rest.Pending None call.TryLock i x g e = refl
-not_begun rest.Pending (Some sought.Read) call.TryLock i x g e = refl
-not_begun rest.Pending (Some sought.Upgradable) call.TryLock i x g e = refl
-not_begun rest.Pending (Some sought.Write) call.TryLock i x g e = refl
-not_begun rest.Pending None call.Read i x g e = refl
-not_begun rest.Pending (Some sought.Read) call.Read i x g e = refl
-not_begun rest.Pending (Some sought.Upgradable) call.Read i x g e = refl
-not_begun rest.Pending (Some sought.Write) call.Read i x g e = refl
-not_begun rest.Pending None call.UpgradableRead i x g e = refl
-not_begun rest.Pending (Some sought.Read) call.UpgradableRead i x g e = refl
-not_begun rest.Pending (Some sought.Upgradable) call.UpgradableRead i x g e = refl
-not_begun rest.Pending (Some sought.Write) call.UpgradableRead i x g e = refl
-not_begun rest.Pending None call.Write i x g e = refl
-not_begun rest.Pending (Some sought.Read) call.Write i x g e = refl
-not_begun rest.Pending (Some sought.Upgradable) call.Write i x g e = refl
-not_begun rest.Pending (Some sought.Write) call.Write i x g e = refl
-not_begun rest.Pending None call.TryRead i x g e = refl
-not_begun rest.Pending (Some sought.Read) call.TryRead i x g e = refl
-not_begun rest.Pending (Some sought.Upgradable) call.TryRead i x g e = refl
-not_begun rest.Pending (Some sought.Write) call.TryRead i x g e = refl
-not_begun rest.Pending None call.TryUpgradableRead i x g e = refl
-not_begun rest.Pending (Some sought.Read) call.TryUpgradableRead i x g e = refl
-not_begun rest.Pending (Some sought.Upgradable) call.TryUpgradableRead i x g e = refl
-not_begun rest.Pending (Some sought.Write) call.TryUpgradableRead i x g e = refl
-not_begun rest.Pending None call.TryWrite i x g e = refl
-not_begun rest.Pending (Some sought.Read) call.TryWrite i x g e = refl
-not_begun rest.Pending (Some sought.Upgradable) call.TryWrite i x g e = refl
-not_begun rest.Pending (Some sought.Write) call.TryWrite i x g e = refl
-not_begun rest.Pending None call.Upgrade i x g e = refl
-not_begun rest.Pending (Some sought.Read) call.Upgrade i x g e = refl
-not_begun rest.Pending (Some sought.Upgradable) call.Upgrade i x g e = refl
-not_begun rest.Pending (Some sought.Write) call.Upgrade i x g e = refl
-not_begun rest.Pending None call.TryUpgrade i x g e = refl
-not_begun rest.Pending (Some sought.Read) call.TryUpgrade i x g e = refl
-not_begun rest.Pending (Some sought.Upgradable) call.TryUpgrade i x g e = refl
-not_begun rest.Pending (Some sought.Write) call.TryUpgrade i x g e = refl
-not_begun rest.Pending None call.Downgrade i x g e = refl
-not_begun rest.Pending (Some sought.Read) call.Downgrade i x g e = refl
-not_begun rest.Pending (Some sought.Upgradable) call.Downgrade i x g e = refl
-not_begun rest.Pending (Some sought.Write) call.Downgrade i x g e = refl
-not_begun rest.Pending None call.DowngradeToUpgradable i x g e = refl
-not_begun rest.Pending (Some sought.Read) call.DowngradeToUpgradable i x g e = refl
-not_begun rest.Pending (Some sought.Upgradable) call.DowngradeToUpgradable i x g e = refl
-not_begun rest.Pending (Some sought.Write) call.DowngradeToUpgradable i x g e = refl
-not_begun rest.Pending None call.Acquire i x g e = refl
-not_begun rest.Pending (Some sought.Read) call.Acquire i x g e = refl
-not_begun rest.Pending (Some sought.Upgradable) call.Acquire i x g e = refl
-not_begun rest.Pending (Some sought.Write) call.Acquire i x g e = refl
-not_begun rest.Pending None call.TryAcquire i x g e = refl
-not_begun rest.Pending (Some sought.Read) call.TryAcquire i x g e = refl
-not_begun rest.Pending (Some sought.Upgradable) call.TryAcquire i x g e = refl
-not_begun rest.Pending (Some sought.Write) call.TryAcquire i x g e = refl
-not_begun rest.Pending None call.Forget i x g e = refl
-not_begun rest.Pending (Some sought.Read) call.Forget i x g e = refl
-not_begun rest.Pending (Some sought.Upgradable) call.Forget i x g e = refl
-not_begun rest.Pending (Some sought.Write) call.Forget i x g e = refl
-not_begun rest.Pending None (call.AddPermits n) i x g e = refl
-not_begun rest.Pending (Some sought.Read) (call.AddPermits n) i x g e = refl
-not_begun rest.Pending (Some sought.Upgradable) (call.AddPermits n) i x g e = refl
-not_begun rest.Pending (Some sought.Write) (call.AddPermits n) i x g e = refl
-not_begun rest.Pending None call.Initialize i x g e = refl
-not_begun rest.Pending (Some sought.Read) call.Initialize i x g e = refl
-not_begun rest.Pending (Some sought.Upgradable) call.Initialize i x g e = refl
-not_begun rest.Pending (Some sought.Write) call.Initialize i x g e = refl
-not_begun rest.Pending None call.Wait i x g e = refl
-not_begun rest.Pending (Some sought.Read) call.Wait i x g e = refl
-not_begun rest.Pending (Some sought.Upgradable) call.Wait i x g e = refl
-not_begun rest.Pending (Some sought.Write) call.Wait i x g e = refl
-not_begun rest.Pending None (call.Set n) i x g e = refl
-not_begun rest.Pending (Some sought.Read) (call.Set n) i x g e = refl
-not_begun rest.Pending (Some sought.Upgradable) (call.Set n) i x g e = refl
-not_begun rest.Pending (Some sought.Write) (call.Set n) i x g e = refl
-not_begun rest.Pending None (call.TrySet n) i x g e = refl
-not_begun rest.Pending (Some sought.Read) (call.TrySet n) i x g e = refl
-not_begun rest.Pending (Some sought.Upgradable) (call.TrySet n) i x g e = refl
-not_begun rest.Pending (Some sought.Write) (call.TrySet n) i x g e = refl
-not_begun rest.Pending o call.Poll i x g e = absurd (cc)
-not_begun rest.Pending o call.Drop i x g e = absurd (cc)
-not_begun rest.Pending None (call.Put n) i x g e = refl
-not_begun rest.Pending (Some sought.Read) (call.Put n) i x g e = refl
-not_begun rest.Pending (Some sought.Upgradable) (call.Put n) i x g e = refl
-not_begun rest.Pending (Some sought.Write) (call.Put n) i x g e = refl
-not_begun rest.Holding o c i x g e = guard_calls o c i e
-not_begun rest.Finished o c i x g e = absurd (cc)
-
-pub not_called : (v : ℕ) (s : Stage) (o : Option Sought) (what : What) (x : Place) (t : TurnCourse) → goes_with s x ≡ true → plan_of s o what ≡ None → call_in (knows (right_of o)) (stands_as v s x t) what ≡ None
-not_called v (Outside r) o (Begin c i) x t g e = not_begun r o c i x g e
-not_called v (Outside r) o (Go i) x t g e = refl
-not_called v (Inside w) o (Begin c i) x t g e = refl
-not_called v (Inside w) o (Go i) x t g e = absurd (cc)
-not_called v Forgotten o (Begin c i) x t g e = refl
-not_called v Forgotten o (Go i) x t g e = refl
+  pub moving : (s : Stage) (what : What) (x : Place) (w : Within) → goes_with s x ≡ true → call_at (knows_at x) s what ≡ Some w → polls_again s what ≡ false → put_in what ≡ None → Turn (Moves v t) s what x w
+  moving = turn (Moves v t) (record {
+    read = λ i. opened rest.Idle call.Read i place.Out (within kind.FirstPoll rest.Idle) (place.EnterRead false) refl (start_same call.Read place.Out (place.EnterRead false) refl) refl refl (λ b d. absurd (cc)) (λ d. absurd (cc)) (λ d. refl) (sought_begun (sought_at place.Out) call.Read i v (place.EnterRead false) refl refl (λ e. absurd (cc)));
+    upgradable = λ i. opened rest.Idle call.UpgradableRead i place.Out (within kind.FirstPoll rest.Idle) (place.EnterTurn purpose.UpgradableRead) refl (start_same call.UpgradableRead place.Out (place.EnterTurn purpose.UpgradableRead) refl) refl refl (λ b d. absurd (cc)) (λ d. absurd (cc)) (λ d. refl) (sought_begun (sought_at place.Out) call.UpgradableRead i v (place.EnterTurn purpose.UpgradableRead) refl refl (λ e. absurd (cc)));
+    write = λ i. opened rest.Idle call.Write i place.Out (within kind.FirstPoll rest.Idle) (place.EnterTurn purpose.Write) refl (start_same call.Write place.Out (place.EnterTurn purpose.Write) refl) refl refl (λ b d. absurd (cc)) (λ d. absurd (cc)) (λ d. refl) (sought_begun (sought_at place.Out) call.Write i v (place.EnterTurn purpose.Write) refl refl (λ e. absurd (cc)));
+    try_read = λ i. opened rest.Idle call.TryRead i place.Out (within kind.Try rest.Idle) place.TryRead refl (start_same call.TryRead place.Out place.TryRead refl) refl refl (λ b d. absurd (cc)) (λ d. absurd (cc)) (λ d. refl) (sought_begun (sought_at place.Out) call.TryRead i v place.TryRead refl refl (λ e. absurd (cc)));
+    try_upgradable = λ i. opened rest.Idle call.TryUpgradableRead i place.Out (within kind.Try rest.Idle) (place.TryTurn purpose.UpgradableRead) refl (start_same call.TryUpgradableRead place.Out (place.TryTurn purpose.UpgradableRead) refl) refl refl (λ b d. absurd (cc)) (λ d. absurd (cc)) (λ d. refl) (sought_begun (sought_at place.Out) call.TryUpgradableRead i v (place.TryTurn purpose.UpgradableRead) refl refl (λ e. absurd (cc)));
+    try_write = λ i. opened rest.Idle call.TryWrite i place.Out (within kind.Try rest.Idle) (place.TryTurn purpose.Write) refl (start_same call.TryWrite place.Out (place.TryTurn purpose.Write) refl) refl refl (λ b d. absurd (cc)) (λ d. absurd (cc)) (λ d. refl) (sought_begun (sought_at place.Out) call.TryWrite i v (place.TryTurn purpose.Write) refl refl (λ e. absurd (cc)));
+    poll_made = made;
+    poll_no_writer = λ i. opened rest.Pending call.Poll i place.AskNoWriter (within kind.LaterPoll rest.Pending) place.AskNoWriter refl (same_at place.AskNoWriter) refl refl (λ b d. absurd (cc)) (λ d. absurd (cc)) (λ d. refl) (sought_begun (sought_at place.AskNoWriter) call.Poll i v place.AskNoWriter refl refl (λ e. absurd (cc)));
+    poll_turn = λ p i. opened rest.Pending call.Poll i (place.WaitTurn p) (within kind.LaterPoll rest.Pending) (place.WaitTurn p) refl (same_at (place.WaitTurn p)) refl refl (λ b d. absurd (cc)) (λ d. absurd (cc)) (λ d. refl) (sought_begun (sought_at (place.WaitTurn p)) call.Poll i v (place.WaitTurn p) refl refl (λ e. absurd (cc)));
+    poll_no_readers = λ u i. opened rest.Pending call.Poll i (place.AwaitNoReaders u) (within kind.LaterPoll rest.Pending) (place.AwaitNoReaders u) refl (same_at (place.AwaitNoReaders u)) refl refl (λ b d. absurd (cc)) (λ d. absurd (cc)) (λ d. refl) (sought_begun (sought_at (place.AwaitNoReaders u)) call.Poll i v (place.AwaitNoReaders u) refl refl (λ e. absurd (cc)));
+    poll_upgrade = λ i. opened rest.Pending call.Poll i (place.LookUnlisted true) (within kind.LaterPoll rest.Pending) (place.LookUnlisted true) refl (same_at (place.LookUnlisted true)) refl refl (λ b d. absurd (cc)) (λ d. absurd (cc)) (λ d. refl) (sought_begun (sought_at (place.LookUnlisted true)) call.Poll i v (place.LookUnlisted true) refl refl (λ e. absurd (cc)));
+    drop_made = λ m i. opened rest.Pending call.Drop i (place.Made m) (within kind.Drop rest.Pending) place.Out refl (start_same call.Drop (place.Made m) place.Out refl) refl refl (λ b d. (some_eq d, refl)) (λ d. (refl, refl)) (λ d. absurd (cc)) (sought_begun (sought_at (place.Made m)) call.Drop i v place.Out refl refl (λ e. absurd (cc)));
+    drop_no_writer = λ i. opened rest.Pending call.Drop i place.AskNoWriter (within kind.Drop rest.Pending) place.CancelRead refl (start_same call.Drop place.AskNoWriter place.CancelRead refl) refl refl (λ b d. (some_eq d, refl)) (λ d. (refl, refl)) (λ d. absurd (cc)) (sought_begun (sought_at place.AskNoWriter) call.Drop i v place.CancelRead refl refl (λ e. absurd (cc)));
+    drop_turn = λ p i. opened rest.Pending call.Drop i (place.WaitTurn p) (within kind.Drop rest.Pending) place.CancelTurn refl (start_same call.Drop (place.WaitTurn p) place.CancelTurn refl) refl refl (λ b d. (some_eq d, refl)) (λ d. (refl, refl)) (λ d. absurd (cc)) (sought_begun (sought_at (place.WaitTurn p)) call.Drop i v place.CancelTurn refl refl (λ e. absurd (cc)));
+    drop_no_readers = λ u i. opened rest.Pending call.Drop i (place.AwaitNoReaders u) (within kind.Drop rest.Pending) place.CancelAwait refl (start_same call.Drop (place.AwaitNoReaders u) place.CancelAwait refl) refl refl (λ b d. (some_eq d, refl)) (λ d. (refl, refl)) (λ d. absurd (cc)) (sought_begun (sought_at (place.AwaitNoReaders u)) call.Drop i v place.CancelAwait refl refl (λ e. absurd (cc)));
+    drop_upgrade = λ i. opened rest.Pending call.Drop i (place.LookUnlisted true) (within kind.Drop rest.Pending) (place.Unmark false) refl (start_same call.Drop (place.LookUnlisted true) (place.Unmark false) refl) refl refl (λ b d. (some_eq d, refl)) (λ d. (refl, refl)) (λ d. absurd (cc)) (sought_begun (sought_at (place.LookUnlisted true)) call.Drop i v (place.Unmark false) refl refl (λ e. absurd (cc)));
+    drop_reader = λ i. opened rest.Holding call.Drop i place.Reading (within kind.Drop rest.Holding) place.DropRead refl (start_same call.Drop place.Reading place.DropRead refl) refl refl (λ b d. (some_eq d, refl)) (λ d. (refl, refl)) (λ d. absurd (cc)) (sought_begun (sought_at place.Reading) call.Drop i v place.DropRead refl refl (λ e. absurd (cc)));
+    drop_upgradable = λ i. opened rest.Holding call.Drop i place.Upgradable (within kind.Drop rest.Holding) place.DropUpgradable refl (start_same call.Drop place.Upgradable place.DropUpgradable refl) refl refl (λ b d. (some_eq d, refl)) (λ d. (refl, refl)) (λ d. absurd (cc)) (sought_begun (sought_at place.Upgradable) call.Drop i v place.DropUpgradable refl refl (λ e. absurd (cc)));
+    drop_writer = λ i. opened rest.Holding call.Drop i place.Writing (within kind.Drop rest.Holding) place.DropWrite refl (start_same call.Drop place.Writing place.DropWrite refl) refl refl (λ b d. (some_eq d, refl)) (λ d. (refl, refl)) (λ d. absurd (cc)) (sought_begun (sought_at place.Writing) call.Drop i v place.DropWrite refl refl (λ e. absurd (cc)));
+    upgrade = λ i. opened rest.Holding call.Upgrade i place.Upgradable (within kind.Upgrade rest.Holding) place.Upgrade refl (start_same call.Upgrade place.Upgradable place.Upgrade refl) refl refl (λ b d. absurd (cc)) (λ d. absurd (cc)) (λ d. refl) (sought_begun (sought_at place.Upgradable) call.Upgrade i v place.Upgrade refl refl (λ e. absurd (cc)));
+    try_upgrade = λ i. opened rest.Holding call.TryUpgrade i place.Upgradable (within kind.TryUpgrade rest.Holding) place.TryUpgrade refl (start_same call.TryUpgrade place.Upgradable place.TryUpgrade refl) refl refl (λ b d. absurd (cc)) (λ d. absurd (cc)) (λ d. refl) (sought_tried i v);
+    downgrade_upgradable = λ i. opened rest.Holding call.Downgrade i place.Upgradable (within kind.Downgrade rest.Holding) (place.ReleaseTurn ending.Reading) refl (start_same call.Downgrade place.Upgradable (place.ReleaseTurn ending.Reading) refl) refl refl (λ b d. (some_eq d, refl)) (λ d. absurd (cc)) (λ d. refl) (sought_begun (sought_at place.Upgradable) call.Downgrade i v (place.ReleaseTurn ending.Reading) refl refl (λ e. absurd (cc)));
+    downgrade_writer = λ i. opened rest.Holding call.Downgrade i place.Writing (within kind.Downgrade rest.Holding) (place.Down false) refl (start_same call.Downgrade place.Writing (place.Down false) refl) refl refl (λ b d. absurd (cc)) (λ d. absurd (cc)) (λ d. refl) (sought_begun (sought_at place.Writing) call.Downgrade i v (place.Down false) refl refl (λ e. absurd (cc)));
+    to_upgradable = λ i. opened rest.Holding call.DowngradeToUpgradable i place.Writing (within kind.Downgrade rest.Holding) (place.Down true) refl (start_same call.DowngradeToUpgradable place.Writing (place.Down true) refl) refl refl (λ b d. absurd (cc)) (λ d. absurd (cc)) (λ d. refl) (sought_begun (sought_at place.Writing) call.DowngradeToUpgradable i v (place.Down true) refl refl (λ e. absurd (cc)));
+    go = λ w i x here on. record {
+      share = refl;
+      same = same_at x;
+      course = on;
+      decided = λ u b d. inside_eq w u (verdict v x t) (Some b) d;
+      gives = λ u b some. let none = undecided w (verdict v x t) u in absurd (cc);
+      lacking = λ h. (verdict v x t, refl);
+      drop_is = λ d. absurd (cc);
+      upgrade = λ d. refl;
+      sought = sought_on i v x (not_upgrading x here);
+    };
+  }) where
+    made : (m : _) (i : Inputs) → Moves v t (Outside rest.Pending) (Begin call.Poll i) (place.Made m) (within kind.LaterPoll rest.Pending) (first_poll m)
+    made wanted.Read i = opened rest.Pending call.Poll i (place.Made wanted.Read) (within kind.LaterPoll rest.Pending) (place.EnterRead false) refl (start_same call.Poll (place.Made wanted.Read) (place.EnterRead false) refl) refl refl (λ b d. absurd (cc)) (λ d. absurd (cc)) (λ d. refl) (sought_begun (sought_at (place.Made wanted.Read)) call.Poll i v (place.EnterRead false) refl refl (λ e. absurd (cc)))
+    made wanted.UpgradableRead i = opened rest.Pending call.Poll i (place.Made wanted.UpgradableRead) (within kind.LaterPoll rest.Pending) (place.EnterTurn purpose.UpgradableRead) refl (start_same call.Poll (place.Made wanted.UpgradableRead) (place.EnterTurn purpose.UpgradableRead) refl) refl refl (λ b d. absurd (cc)) (λ d. absurd (cc)) (λ d. refl) (sought_begun (sought_at (place.Made wanted.UpgradableRead)) call.Poll i v (place.EnterTurn purpose.UpgradableRead) refl refl (λ e. absurd (cc)))
+    made wanted.Write i = opened rest.Pending call.Poll i (place.Made wanted.Write) (within kind.LaterPoll rest.Pending) (place.EnterTurn purpose.Write) refl (start_same call.Poll (place.Made wanted.Write) (place.EnterTurn purpose.Write) refl) refl refl (λ b d. absurd (cc)) (λ d. absurd (cc)) (λ d. refl) (sought_begun (sought_at (place.Made wanted.Write)) call.Poll i v (place.EnterTurn purpose.Write) refl refl (λ e. absurd (cc)))

@@ -32,17 +32,18 @@ use Rattle.rwlock_machine.specs.Parties.{OnNoWriter, OnNoReaders}
 use Rattle.rwlock_machine.specs.Machine.{RwLock, SameRoles, place_at}
 use Rattle.rwlock_machine.specs.Acts.{IsRwLock, Finds}
 use Rattle.rwlock_machine.proofs.Leads.{steps_in_turn}
-use Rattle.rwlock_world.specs.declared.world.table.Sought.{Sought}
-use Rattle.rwlock_world.specs.Changes.{Change, ListName, takes_turn, leaves_turn, starves, recovers, begins_to_read, stops_reading, becomes_upgradable, stops_upgradable, begins_to_wait, begins_to_write, upgrades, upgrades_at_once, unmarks, downgrades, downgrades_to_upgradable, puts, turn_after, readers_after, starved_after, value_after, turn_list_after, no_readers_after, no_writer_after, IsAllowed, gives_back}
-use Rattle.rwlock_world.specs.State.{World, told_in, entries_in, how_many_read}
-use Rattle.rwlock_world.specs.Legal.{IsCause}
-use Rattle.rwlock_world.specs.Plans.{strays, course_of, sought_at}
-use Rattle.rwlock_world.specs.Table.{IsTable}
+use Rattle.rwlock_world.specs.Changes.{Change, takes_turn, leaves_turn, starves, recovers, begins_to_read, stops_reading, becomes_upgradable, stops_upgradable, begins_to_wait, begins_to_write, upgrades, upgrades_at_once, unmarks, downgrades, downgrades_to_upgradable, puts, turn_after, readers_after, starved_after, value_after, IsAllowed, gives_back, entries_after}
+use Rattle.rwlock_world.specs.State.{ListName, for_the_turn, for_no_readers, for_no_writer}
+use Rattle.rwlock_world.specs.State.{World, list_of, told_in, entries_in, how_many_read}
+use Rattle.rwlock_world.specs.Legal.{may_meet, IsCause}
+use Rattle.rwlock_world.specs.Number.{answer_by}
+use Rattle.rwlock_world.specs.Stages.{strays, course_of, sought_at}
 use Rattle.rwlock_world.specs.View.{Share, passing, upgrading, waiting, writing, turn_as, share_of, turn_by, is_reading, verdict, seen}
-use Rattle.rwlock_world.proofs.Rows.{deed_at, answer_at, verdict_then, is_after_ready, Reads, Shares, Finding, is_got, WaitsAt, Refuses, Reason, Judged, Room, keeps_what_it_has, lacks_memory, meets, KeepsUpgrade, RefusedAt, Row, row}
+use Rattle.rwlock_world.proofs.Rows.{deed_at, verdict_then, is_after_ready, Reads, Shares, Finding, is_got, WaitsAt, Refuses, Reason, Judged, Room, keeps_what_it_has, lacks_memory, KeepsUpgrade, RefusedAt, Row, row}
 use Rattle.rwlock_world.proofs.Owns as owns
 use Rattle.rwlock_world.proofs.Sound.{none_marked}
 use Rattle.rwlock_world.proofs.Views as view
+use Rattle.rwlock_world.proofs.Views.{Fits}
 
 -- a party waits in the list of the place where it stands
 abbrev pub WaitsIn : RwLock → ℕ → Place → Type 0
@@ -61,8 +62,8 @@ CauseAs m old new _ = ⊥
 -- a refusal for memory does nothing else, and comes from a join, or from within a call on the turn; and whoever meets a limit stands where it may
 abbrev pub Fitting : Place → Place → Deed Change ListName → Refusal → Type 0
 Fitting x to d refusal.Memory = (d ≡ nothing) × (lacks_memory x ≡ true)
-Fitting x to d refusal.Readers = meets (sought_at to) refusal.Readers ≡ true
-Fitting x to d refusal.Starved = meets (sought_at to) refusal.Starved ≡ true
+Fitting x to d refusal.Readers = may_meet (sought_at to) refusal.Readers ≡ true
+Fitting x to d refusal.Starved = may_meet (sought_at to) refusal.Starved ≡ true
 Fitting x to d _ = Unit {0}
 
 -- why a call is decided on an answer
@@ -78,22 +79,20 @@ JudgedAs m old k new v x to d (Some b) o = (o ≡ Some b) × (gives_back d ≡ t
 JudgedAs m old k new v x to d None None = Unit {0}
 JudgedAs m old k new v x to d None (Some b) = ReasonAs m old k new v x to d b
 
-pub record Facts (m : Move) (l k : RwLock) (ss : List Stage) (os : List (Option Sought)) (ts : List Stage) (ps : List (Option Sought)) (v : ℕ) (x : Place) (n : Next) : Type 0 where
+pub record Facts (m : Move) (l k : RwLock) (ss : List Stage) (opening : ℕ) (ts : List Stage) (v : ℕ) (x : Place) (n : Next) : Type 0 where
   pub deed : Deed Change ListName
   pub readers : map is_reading k.places ≡ readers_after m.party deed (map is_reading l.places)
   pub turn : turn_by (holder_of k.turn) k.places ≡ turn_after m.party deed (turn_by (holder_of l.turn) l.places)
   pub starved : starved_of k.turn ≡ starved_after m.party deed (starved_of l.turn)
   pub valued : value_after deed v ≡ v
-  pub allowed : IsAllowed m.party deed (seen l ss os v)
-  pub turn_list : k.turn.entries ≡ turn_list_after m.party deed l.turn.entries
-  pub no_readers : k.no_readers ≡ no_readers_after m.party deed l.no_readers
-  pub no_writer : k.no_writer ≡ no_writer_after m.party deed l.no_writer
+  pub allowed : IsAllowed m.party deed (seen l ss opening v)
+  pub lists : (list : ListName) → list_of (seen k ts opening v) list ≡ entries_after m.party deed list (list_of (seen l ss opening v) list)
   pub starved_limit : k.turn.limit ≡ l.turn.limit
   pub others : (q : ℕ) → q ≢ m.party → turn_at k.turn.courses q ≡ turn_at l.turn.courses q
-  pub judged : JudgedAs m (seen l ss os v) k (seen k ts ps v) v x (place_after n) deed (verdict v x (turn_at l.turn.courses m.party)) (verdict_then v (course_of x) (turn_at k.turn.courses m.party) n)
+  pub judged : JudgedAs m (seen l ss opening v) k (seen k ts opening v) v x (place_after n) deed (verdict v x (turn_at l.turn.courses m.party)) (verdict_then v (turn_at k.turn.courses m.party) n)
   pub room : Room (inputs_of m.what).memory deed
   pub holds_on : keeps_what_it_has (verdict v x (turn_at l.turn.courses m.party)) deed ≡ true
-  pub over : is_after_ready (answer_at (course_of x) v n) ≡ false
+  pub over : is_after_ready (answer_by v n) ≡ false
   pub upgrade : KeepsUpgrade v x n
   pub refused : RefusedAt x n
 
@@ -128,9 +127,9 @@ turn_kept (Some q) xs p to known e = elim (ℕ_discrete q p) as (λ _. turn_by (
   | no apart ↦ ap (λ y. turn_as q (share_of y)) (get_or-set_other xs p q to place.Out apart)
 ]
 
-pub record Known (m : Move) (l k : RwLock) (ss : List Stage) (os : List (Option Sought)) (x : Place) (f : Found) : Type 0 where
+pub record Known (m : Move) (l k : RwLock) (ss : List Stage) (v : ℕ) (x : Place) (f : Found) : Type 0 where
   pub laws : IsRwLock l
-  pub fits : IsTable l ss os
+  pub fits : Fits l ss v
   pub known : m.party < length ss
   pub finds : Finds (inputs_of m.what).memory (action_of x) f l
   pub no_writer : OnNoWriter m.party (action_of x) f l.no_writer k.no_writer
@@ -140,7 +139,7 @@ pub record Known (m : Move) (l k : RwLock) (ss : List Stage) (os : List (Option 
   pub share : share_of x ≡ share_of (place_at l.places m.party)
   pub straight : course_of x ≡ strays → ⊥
 
-module _ (m : Move) (l k : RwLock) (ss : List Stage) (os : List (Option Sought)) (ts : List Stage) (ps : List (Option Sought)) (v : ℕ) (x : Place) (f : Found) (c : Known m l k ss os x f) where
+module _ (m : Move) (l k : RwLock) (ss : List Stage) (opening : ℕ) (ts : List Stage) (v : ℕ) (x : Place) (f : Found) (c : Known m l k ss v x f) where
   abbrev p : ℕ
   p = m.party
 
@@ -157,9 +156,9 @@ module _ (m : Move) (l k : RwLock) (ss : List Stage) (os : List (Option Sought))
   has_here h = omega (arith, c.same.turning, c.same.marking, h)
 
   turn_here : (s : Share) → has_turn x ≡ 1 → share_of x ≡ s → turn_by (holder_of l.turn) l.places ≡ turn_as p s
-  turn_here s h e = owns.turn_is l ss os v c.laws c.fits p (has_here h) ∙ ap (turn_as p) (sym c.share ∙ e)
+  turn_here s h e = owns.turn_is l ss opening v c.laws c.fits p (has_here h) ∙ ap (turn_as p) (sym c.share ∙ e)
 
-  allows : (d : Deed Change ListName) → Finding d l x → IsAllowed p d (seen l ss os v)
+  allows : (d : Deed Change ListName) → Finding d l x → IsAllowed p d (seen l ss opening v)
   allows (changes begins_to_read) h = (none_marked l h.0, omega (arith, view.how_many-read l.places, h.1))
   allows (changes stops_reading) h = view.reads_at l.places p ∙ (sym reads_same ∙ h)
   allows (changes becomes_upgradable) h = (turn_here passing h.0 h.1, omega (arith, view.how_many-read l.places, h.2))
@@ -188,12 +187,12 @@ module _ (m : Move) (l k : RwLock) (ss : List Stage) (os : List (Option Sought))
 
     turned : Shares (deed_at x f) x to → turn_by (holder_of l.turn) (set l.places p to) ≡ turn_after p (deed_at x f) (turn_by (holder_of l.turn) l.places)
     turned (inl h) =
-        let holder = owns.holder_is l ss os v c.laws c.fits p (has_here h.0) in
+        let holder = owns.holder_is l ss opening v c.laws c.fits p (has_here h.0) in
         let P : Option ℕ → Type 0 = λ o. turn_by o (set l.places p to) ≡ turn_after p (deed_at x f) (turn_by o l.places) in
         subst P (sym holder) (ap (λ y. turn_as p (share_of y)) (get_or-set_same l.places p to place.Out there) ∙ (sym (h.1 p) ∙ ap (λ s. turn_after p (deed_at x f) (turn_as p s)) c.share))
     turned (inr h) = turn_kept (holder_of l.turn) l.places p to there (h.1 ∙ c.share) ∙ sym (h.0 p (turn_by (holder_of l.turn) l.places))
 
-    unlisted : in_no_writer x + in_no_readers x ≡ 0 → (is_out_there (turn_at l.turn.courses p) ≡ true) ⊎ (is_holding (turn_at l.turn.courses p) ≡ true) → entries_in (seen l ss os v) p ≡ 0
+    unlisted : in_no_writer x + in_no_readers x ≡ 0 → (is_out_there (turn_at l.turn.courses p) ≡ true) ⊎ (is_holding (turn_at l.turn.courses p) ≡ true) → entries_in (seen l ss opening v) p ≡ 0
     unlisted e h =
         let none : listed (turn_at l.turn.courses p) ≡ 0 = elim h as (λ _. listed (turn_at l.turn.courses p) ≡ 0) [ inl o ↦ out_unlisted (turn_at l.turn.courses p) o | inr o ↦ holding_unlisted (turn_at l.turn.courses p) o ] in
         omega (arith, c.laws.owners_no_writer p, c.laws.owners_no_readers p, c.laws.turn.owners p, none, e, c.same.standing_w, c.same.standing_r)
@@ -201,14 +200,12 @@ module _ (m : Move) (l k : RwLock) (ss : List Stage) (os : List (Option Sought))
     fit : fits_turn x (turn_at l.turn.courses p) ≡ true
     fit = rw c.same.in_turn (c.laws.in_turn p)
 
-    cause : (q : Refusal) → Refuses memory l x f q → CauseAs m (seen l ss os v) (seen k ts ps v) q
-    cause refusal.Memory h = (
-      h.0,
-      unlisted h.1 (h.3 (turn_at l.turn.courses p) fit),
-      ap (λ t. t.entries) still,
-      r.no_readers p l.no_readers k.no_readers c.no_readers ∙ ap (λ (d : Deed Change ListName). no_readers_after p d l.no_readers) h.2,
-      r.no_writer p l.no_writer k.no_writer c.no_writer ∙ ap (λ (d : Deed Change ListName). no_writer_after p d l.no_writer) h.2,
-    )
+    cause : (q : Refusal) → Refuses memory l x f q → CauseAs m (seen l ss opening v) (seen k ts opening v) q
+    cause refusal.Memory h = (h.0, unlisted h.1 (h.3 (turn_at l.turn.courses p) fit), by_list) where
+      by_list : (list : ListName) → list_of (seen k ts opening v) list ≡ list_of (seen l ss opening v) list
+      by_list for_the_turn = ap (λ t. t.entries) still
+      by_list for_no_readers = r.no_readers p l.no_readers k.no_readers c.no_readers ∙ ap (λ (d : Deed Change ListName). entries_after p d for_no_readers l.no_readers) h.2
+      by_list for_no_writer = r.no_writer p l.no_writer k.no_writer c.no_writer ∙ ap (λ (d : Deed Change ListName). entries_after p d for_no_writer l.no_writer) h.2
     cause refusal.Readers h = omega (arith, view.how_many-read l.places, h.0)
     cause refusal.Starved h = absurd h
     cause refusal.Permits h = absurd h
@@ -234,7 +231,7 @@ module _ (m : Move) (l k : RwLock) (ss : List Stage) (os : List (Option Sought))
     fitting refusal.Generations h = tt
     fitting refusal.Finished h = tt
 
-    reasons : (b : Answer) → Reason memory l v x f b → ReasonAs m (seen l ss os v) k (seen k ts ps v) v x to (deed_at x f) b
+    reasons : (b : Answer) → Reason memory l v x f b → ReasonAs m (seen l ss opening v) k (seen k ts opening v) v x to (deed_at x f) b
     reasons answer.Pending h = waits_here x f c.no_writer c.no_readers (c.same.standing_w ∙ sym (c.laws.owners_no_writer p)) (c.same.standing_r ∙ sym (c.laws.owners_no_readers p)) h
     reasons (answer.Ready got) h = h
     reasons (answer.Granted got) h = h
@@ -245,12 +242,12 @@ module _ (m : Move) (l k : RwLock) (ss : List Stage) (os : List (Option Sought))
     reasons answer.Waiting h = tt
     reasons answer.NotPossible h = tt
 
-    judges : (was now : Option Answer) → Judged memory l v x f was now → JudgedAs m (seen l ss os v) k (seen k ts ps v) v x to (deed_at x f) was now
+    judges : (was now : Option Answer) → Judged memory l v x f was now → JudgedAs m (seen l ss opening v) k (seen k ts opening v) v x to (deed_at x f) was now
     judges (Some b) o h = h
     judges None None h = tt
     judges None (Some b) h = reasons b h
 
-    pub on_word : Facts m l k ss os ts ps v x (next_of x f)
+    pub on_word : Facts m l k ss opening ts v x (next_of x f)
     on_word = record {
       deed = deed_at x f;
       readers = ap (map is_reading) c.places ∙ readers_by (deed_at x f) p l.places to (reads_on (deed_at x f) r.reading);
@@ -258,17 +255,20 @@ module _ (m : Move) (l k : RwLock) (ss : List Stage) (os : List (Option Sought))
       starved = ap starved_of still ∙ sym (r.starving p (starved_of l.turn));
       valued = r.valued v;
       allowed = allows (deed_at x f) r.finding;
-      turn_list = ap (λ t. t.entries) still ∙ sym (r.unturned p l.turn.entries);
-      no_readers = r.no_readers p l.no_readers k.no_readers c.no_readers;
-      no_writer = r.no_writer p l.no_writer k.no_writer c.no_writer;
+      lists = by_list;
       starved_limit = ap (λ t. t.limit) still;
       others = λ q apart. ap (λ t. turn_at t.courses q) still;
-      judged = judges (verdict v x (turn_at l.turn.courses p)) (verdict_then v (course_of x) (turn_at k.turn.courses p) (next_of x f)) (r.judged (turn_at l.turn.courses p) (turn_at k.turn.courses p));
+      judged = judges (verdict v x (turn_at l.turn.courses p)) (verdict_then v (turn_at k.turn.courses p) (next_of x f)) (r.judged (turn_at l.turn.courses p) (turn_at k.turn.courses p));
       room = r.room;
       holds_on = r.holds_on (turn_at l.turn.courses p);
       over = r.over;
       upgrade = r.upgrade;
       refused = r.refused;
     } where
+      by_list : (list : ListName) → list_of (seen k ts opening v) list ≡ entries_after p (deed_at x f) list (list_of (seen l ss opening v) list)
+      by_list for_the_turn = ap (λ t. t.entries) still ∙ sym (r.unturned p l.turn.entries)
+      by_list for_no_readers = r.no_readers p l.no_readers k.no_readers c.no_readers
+      by_list for_no_writer = r.no_writer p l.no_writer k.no_writer c.no_writer
+
       reads_on : (d : Deed Change ListName) → Reads d (is_reading x) (is_reading to) → Reads d (is_reading (place_at l.places p)) (is_reading to)
       reads_on d h = subst (λ (b : Bool). Reads d b (is_reading to)) reads_same h

@@ -1,5 +1,5 @@
 -- A first poll that finds the turn free takes it, and is ready at its next step where what it takes the turn for is free.
-use Rattle.std.proofs.Common.{◌≡◌, ◌≢◌, ℕ, ◌+◌, ◌<◌, Bool, true, false, List, length, Option, Some, None, refl, arith, ap, sym, ◌∙◌, subst, nat_lt, get_or-set_same, length-set}
+use Rattle.std.proofs.Common.{◌≡◌, ◌≢◌, ℕ, ◌<◌, Bool, true, false, length, Some, None, refl, arith, ap, sym, ◌∙◌, subst, get_or-set_same, length-set}
 use Rattle.std.proofs.Math.ListN.{set}
 use Rattle.std.specs.List.{sum_by}
 use Rattle.std.proofs.lemmas.List.Sums.{sum_by-set}
@@ -9,12 +9,10 @@ use Rattle.lock_world.specs.declared.moves.Answer.TheVariants as answer
 use Rattle.lock_world.specs.declared.moves.Call.{Call}
 use Rattle.lock_world.specs.declared.moves.Got.TheVariants.{Value}
 use Rattle.lock_world.specs.declared.moves.Inputs.{Inputs}
-use Rattle.lock_world.specs.declared.moves.What.TheVariants.{Begin, Go}
-use Rattle.lock_world.specs.declared.standing.Stage.{Stage}
+use Rattle.lock_world.specs.declared.moves.What.TheVariants.{Go}
 use Rattle.lock_world.specs.declared.standing.Stage.TheVariants.{Inside, Forgotten}
 use Rattle.lock_world.specs.declared.standing.Within.{Within}
 use Rattle.lock_world.specs.Rights.{upgradable, write}
-use Rattle.lock_world.specs.Standings.{inputs_of}
 use Rattle.lock_world.specs.Whole.{going_on, moves_of, answers_of}
 use Rattle.lock_frame.specs.Steps.{beginning}
 use Rattle.lock_frame.proofs.Runs.{along, Onward}
@@ -22,38 +20,32 @@ use Rattle.mutex_machine.specs.declared.program.LockCall.TheVariants as turn_cal
 use Rattle.mutex_machine.specs.Mutex.{Mutex, holder_of, holders, starved}
 use Rattle.mutex_machine.proofs.Holders as sees
 use Rattle.rwlock_machine.specs.declared.program.Action.TheVariants as act
-use Rattle.rwlock_machine.specs.declared.program.End.TheVariants.{Got}
+use Rattle.lock_table.specs.declared.end.End.TheVariants.{Got}
 use Rattle.rwlock_machine.specs.declared.program.Found.{Found}
 use Rattle.rwlock_machine.specs.declared.program.Found.TheVariants.{Done, Full, NoneLeft, SomeLeft, Turn}
-use Rattle.rwlock_machine.specs.declared.program.Next.{Next}
 use Rattle.rwlock_machine.specs.declared.program.Place.{Place}
 use Rattle.rwlock_machine.specs.declared.program.Place.TheVariants as place
 use Rattle.rwlock_machine.specs.declared.program.Purpose.{Purpose}
 use Rattle.rwlock_machine.specs.declared.program.Purpose.TheVariants as purpose
-use Rattle.rwlock_machine.specs.declared.program.RwCall.{RwCall}
 use Rattle.rwlock_machine.specs.Acts.{Finds, readers}
 use Rattle.rwlock_machine.specs.Machine.{RwLock, place_at}
 use Rattle.rwlock_machine.specs.Program.{action_of, next_of, place_after, with_turn, go_to, ends}
 use Rattle.rwlock_machine.specs.Roles.{reads}
 use Rattle.rwlock_machine.specs.Turns.{OnTurn}
-use Rattle.rwlock_world.specs.declared.world.table.Plan.{Plan}
-use Rattle.rwlock_world.specs.declared.world.table.Plan.TheVariants as plan
 use Rattle.rwlock_world.specs.Legal.{is_first}
-use Rattle.rwlock_world.specs.Plans.{plan_of, answer_of, stage_after, stage_at, seeking, course_of, goes_on_seeking}
+use Rattle.lock_table.specs.Stages.{stage_at, stage_after, call_at, polls_again}
+use Rattle.lock_world.specs.declared.standing.Rest.TheVariants.{Holding}
+use Rattle.lock_world.proofs.Equations.{some_eq}
 use Rattle.rwlock_world.specs.Runs.{Runs, HoldsWell}
 use Rattle.rwlock_world.specs.State as state
 use Rattle.rwlock_world.specs.State.{World, is_turn_free, is_upgrader, how_many_read}
 use Rattle.rwlock_world.specs.Steps.{Stands, Steps as Moved}
-use Rattle.rwlock_world.specs.Table.{Table, Steps, Does, plan_in}
-use Rattle.rwlock_world.specs.View.{turn_by, opened, view_of}
-use Rattle.rwlock_world.proofs.Endings as endings
-use Rattle.rwlock_world.proofs.Events.{Laws, known_move}
-use Rattle.rwlock_world.proofs.Instants.{Started, started, passer_holds, turn_is_free}
-use Rattle.rwlock_world.proofs.Rows.{answer_at}
-use Rattle.rwlock_world.proofs.Stages.{going_on_course}
-use Rattle.rwlock_world.proofs.Tables.{planned}
+use Rattle.rwlock_world.specs.Number.{knows_at, answer_by}
+use Rattle.rwlock_world.specs.View.{view_of}
+use Rattle.rwlock_world.proofs.Acting.{Acting, Way, impossible, over, puts, acts, way, acting}
+use Rattle.rwlock_world.proofs.BoundRuns.{laws}
+use Rattle.rwlock_world.proofs.Instants.{begins, passer_holds, turn_is_free}
 use Rattle.rwlock_world.proofs.Views as view
-use Rattle.rwlock_world.proofs.Whole.{never_going}
 
 -- what the turn is taken for: whether it is free, and where its party stands then
 abbrev IsFreeFor : Purpose → RwLock → Type 0
@@ -72,10 +64,6 @@ gets memory purpose.UpgradableRead l _ e free = absurd e
 gets memory purpose.Write l NoneLeft e free = refl
 gets memory purpose.Write l SomeLeft e free = absurd (omega (arith, e, free))
 gets memory purpose.Write l _ e free = absurd e
-
-ready_with : (q : Purpose) (v : ℕ) → answer_at (course_of (with_turn q false)) v (ends Got (got_at q)) ≡ answer.Ready (Value v)
-ready_with purpose.UpgradableRead v = refl
-ready_with purpose.Write v = refl
 
 -- a first poll takes a free turn
 enters : (memory starving : Bool) (p : ℕ) (q : Purpose) (f : Found) (t u : Mutex) → OnTurn memory starving p (act.Begin turn_call.Lock) f t u → holders t ≡ 0 → starved t ≡ 0 → next_of (place.EnterTurn q) f ≡ go_to (with_turn q false)
@@ -96,9 +84,9 @@ record WithTurn (q : Purpose) (p n : ℕ) (x : World) : Type 0 where
   pub known : p < length x.behind.stages
   pub call : Within
   pub inside : stage_at x.behind.stages p ≡ Inside call
-  pub here : place_at x.behind.lock.places p ≡ with_turn q false
-  pub free : IsFreeFor q x.behind.lock
-  pub value : x.behind.value ≡ n
+  pub here : place_at x.behind.machine.lock.places p ≡ with_turn q false
+  pub free : IsFreeFor q x.behind.machine.lock
+  pub value : x.behind.machine.value ≡ n
 
 module _ (q : Purpose) (p n : ℕ) (i : Inputs) where
   abbrev Then : Answer → World → Type 0
@@ -107,75 +95,71 @@ module _ (q : Purpose) (p n : ℕ) (i : Inputs) where
   onward : (x : World) (a : Answer) (v : World) → WithTurn q p n x → Moved x (going_on p i) a v → Then a v
   onward x a v g s =
       let t = x.behind in
-      let D : Option Plan → Type 0 = λ o. Does o (going_on p i) t a v.behind in
-      let did : Steps g.call (place_at t.lock.places p) (goes_on_seeking (seeking t.sought p)) (going_on p i) t a v.behind = subst D (planned t (going_on p i) (Some (plan.Go g.call)) g.known (ap (λ s. plan_of s (seeking t.sought p) (Go i)) g.inside)) s.did.step in
-      let F : Place → Type 0 = λ y. Finds i.memory (action_of y) did.acts.found t.lock in
-      let N : next_of (place_at t.lock.places p) did.acts.found ≡ ends Got (got_at q) = ap (λ y. next_of y did.acts.found) g.here ∙ gets i.memory q t.lock did.acts.found (subst F g.here did.acts.finds) g.free in
-      let on = going_on_course (stage_at t.stages p) (seeking t.sought p) (Go i) g.call (place_at t.lock.places p) (ap (λ s. plan_of s (seeking t.sought p) (Go i)) g.inside) (s.did.stood.fits.fits p g.known) in
-      let ready : a ≡ answer.Ready (Value n) = did.answer ∙ (ap (answer_of g.call.kind t.value) (did.acts.next_is ∙ N) ∙ (endings.answer_is g.call (place_at t.lock.places p) on.1 t.value (ends Got (got_at q)) ∙ (ap (λ y. answer_at (course_of y) t.value (ends Got (got_at q))) g.here ∙ (ready_with q t.value ∙ ap (λ k. answer.Ready (Value k)) g.value)))) in
+      let here = place_at t.machine.lock.places p in
+      let c = acting t v.behind (going_on p i) a (laws x s.did.stood) (laws v s.did.stands) g.call (ap (λ s. call_at (knows_at here) s (Go i)) g.inside) (ap (λ s. polls_again s (Go i)) g.inside) refl s.did.step in
+      let at : c.from ≡ with_turn q false = sym (some_eq c.starts) ∙ g.here in
+      let F : Place → Type 0 = λ y. Finds i.memory (action_of y) c.acts.found t.machine.lock in
+      let N : next_of c.from c.acts.found ≡ ends Got (got_at q) = ap (λ y. next_of y c.acts.found) at ∙ gets i.memory q t.machine.lock c.acts.found (subst F at c.acts.finds) g.free in
+      let ready : a ≡ answer.Ready (Value n) = c.answer ∙ (ap (answer_by t.machine.value) (c.acts.next_is ∙ N) ∙ ap (λ k. answer.Ready (Value k)) g.value) in
       record { going = λ e. absurd (cc); ended = λ e. ready }
 
-  module _ (c : Call) (w : World) (stood : Stands w) (free : holders w.behind.lock.turn ≡ 0) (none : starved w.behind.lock.turn ≡ 0) (open_to : IsFreeFor q w.behind.lock) (is : w.behind.value ≡ n) where
+  module _ (c : Call) (w : World) (stood : Stands w) (free : holders w.behind.machine.lock.turn ≡ 0) (none : starved w.behind.machine.lock.turn ≡ 0) (open_to : IsFreeFor q w.behind.machine.lock) (is : w.behind.machine.value ≡ n) where
     -- the first step takes the turn, so that something was done
-    never : (x : World) → Stands x → x.state.turn ≡ state.passes p → x.behind.lock ≡ w.behind.lock → ⊥
+    never : (x : World) → Stands x → x.state.turn ≡ state.passes p → x.behind.machine.lock ≡ w.behind.machine.lock → ⊥
     never x sx passes same =
-        let held : holder_of x.behind.lock.turn ≡ Some p = passer_holds (holder_of x.behind.lock.turn) x.behind.lock.places p (sym (ap (λ y. y.state.turn) sx.seen) ∙ passes) in
-        let nobody : holder_of w.behind.lock.turn ≡ None = sees.none_held 0 w.behind.lock.turn.courses free in
+        let held : holder_of x.behind.machine.lock.turn ≡ Some p = passer_holds (holder_of x.behind.machine.lock.turn) x.behind.machine.lock.places p (sym (ap (λ y. y.state.turn) sx.seen) ∙ passes) in
+        let nobody : holder_of w.behind.machine.lock.turn ≡ None = sees.none_held 0 w.behind.machine.lock.turn.courses free in
         let both : Some p ≡ None = sym held ∙ (ap (λ l. holder_of l.turn) same ∙ nobody) in
         cc
 
-    takes : (x : World) (a : Answer) (lc : RwCall) (pw : Within) → Stands x → (b : Started w.behind x.behind (beginning p c i) a lc pw) → b.from ≡ place.EnterTurn q → Then a x
-    takes x a lc pw sx b at =
+    takes : (x : World) (a : Answer) (pw : Within) → Stands x → (b : Acting w.behind x.behind (beginning p c i) a pw) → b.from ≡ place.EnterTurn q → Then a x
+    takes x a pw sx b at =
         let t = w.behind in
         let u = x.behind in
         let y : Place = with_turn q false in
-        let f = b.did.acts.found in
-        let O : Place → Type 0 = λ z. OnTurn i.memory i.starving p (action_of z) f t.lock.turn u.lock.turn in
-        let next : b.did.next ≡ go_to y = b.did.acts.next_is ∙ (ap (λ z. next_of z f) at ∙ enters i.memory i.starving p q f t.lock.turn u.lock.turn (subst O at b.did.acts.turn) free none) in
-        let there : p < length t.lock.places = omega (arith, b.known, stood.fits.as_many, stood.lock.as_many) in
-        let places : u.lock.places ≡ set t.lock.places p y = b.did.acts.places ∙ ap (λ k. set t.lock.places p (place_after k)) next in
-        let stages : u.stages ≡ set t.stages p (Inside pw) = b.did.stages ∙ ap (λ k. set t.stages p (stage_after pw k)) next in
-        let sum = sum_by-set reads t.lock.places p y place.Out there in
-        let none_here : reads (place_at t.lock.places p) ≡ 0 = sym b.same.reading ∙ ap reads at in
-        let same : readers u.lock ≡ readers t.lock = ap (sum_by reads) places ∙ omega (arith, sum, none_here, reads_not q) in
+        let f = b.acts.found in
+        let O : Place → Type 0 = λ z. OnTurn i.memory i.starving p (action_of z) f t.machine.lock.turn u.machine.lock.turn in
+        let next : b.next ≡ go_to y = b.acts.next_is ∙ (ap (λ z. next_of z f) at ∙ enters i.memory i.starving p q f t.machine.lock.turn u.machine.lock.turn (subst O at b.acts.turn) free none) in
+        let stepped : a ≡ answer.Stepped = b.answer ∙ ap (answer_by t.machine.value) next in
+        let there : p < length t.machine.lock.places = omega (arith, b.inside, stood.fits.as_many, stood.lock.as_many) in
+        let places : u.machine.lock.places ≡ set t.machine.lock.places p y = b.acts.places ∙ ap (λ k. set t.machine.lock.places p (place_after k)) next in
+        let stages : u.stages ≡ set t.stages p (Inside pw) = b.stages ∙ ap (λ k. set t.stages p (stage_after Holding pw k)) stepped in
+        let sum = sum_by-set reads t.machine.lock.places p y place.Out there in
+        let none_here : reads (place_at t.machine.lock.places p) ≡ 0 = sym b.moves.same.reading ∙ ap reads at in
+        let same : readers u.machine.lock ≡ readers t.machine.lock = ap (sum_by reads) places ∙ omega (arith, sum, none_here, reads_not q) in
         record {
           going = λ e. record {
             stands = sx;
-            known = omega (arith, ap length stages, length-set t.stages p (Inside pw), b.known);
+            known = omega (arith, ap length stages, length-set t.stages p (Inside pw), b.inside);
             call = pw;
-            inside = ap (λ ss. stage_at ss p) stages ∙ get_or-set_same t.stages p (Inside pw) Forgotten b.known;
-            here = ap (λ ps. place_at ps p) places ∙ get_or-set_same t.lock.places p y place.Out there;
-            free = still_free q t.lock u.lock same b.did.acts.limit open_to;
-            value = b.did.value ∙ is;
+            inside = ap (λ ss. stage_at ss p) stages ∙ get_or-set_same t.stages p (Inside pw) Forgotten b.inside;
+            here = ap (λ ps. place_at ps p) places ∙ get_or-set_same t.machine.lock.places p y place.Out there;
+            free = still_free q t.machine.lock u.machine.lock same b.acts.limit open_to;
+            value = b.value ∙ is;
           };
-          ended = λ e. absurd (e (b.did.answer ∙ ap (answer_of pw.kind t.value) next));
+          ended = λ e. absurd (e stepped);
         }
 
-    first_by : (x : World) (a : Answer) (o : Option Plan) → Stands x → x.state.turn ≡ state.passes p → ((lc : RwCall) (pw : Within) → (b : Started w.behind x.behind (beginning p c i) a lc pw) → b.from ≡ place.EnterTurn q)
-        → plan_in w.behind (beginning p c i) ≡ o → Does o (beginning p c i) w.behind a x.behind → Then a x
-    first_by x a None sx passes at e d = absurd (never x sx passes (ap (λ t. t.lock) d.1))
-    first_by x a (Some plan.Finished) sx passes at e d = absurd (never x sx passes (ap (λ t. t.lock) d.1))
-    first_by x a (Some (plan.Put k)) sx passes at e d = absurd (never x sx passes (ap (λ t. t.lock) d.1))
-    first_by x a (Some (plan.Start lc pw)) sx passes at e d = let b = started w.behind x.behind (beginning p c i) a lc pw e d (record { lock = stood.lock; fits = stood.fits }) in takes x a lc pw sx b (at lc pw b)
-    first_by x a (Some (plan.Go pw)) sx passes at e d =
-        let t = w.behind in
-        let k = known_move p t.stages (plan.Go pw) (plan_of (stage_at t.stages p) (seeking t.sought p) (Begin c i)) (nat_lt p (length t.stages)) refl e in
-        absurd (never_going (stage_at t.stages p) (seeking t.sought p) c i pw k.1)
+    first_by : (x : World) (a : Answer) → Stands x → x.state.turn ≡ state.passes p → ((pw : Within) (b : Acting w.behind x.behind (beginning p c i) a pw) → b.from ≡ place.EnterTurn q) → Way w.behind x.behind (beginning p c i) a → Then a x
+    first_by x a sx passes at (impossible e ea eu) = absurd (never x sx passes (ap (λ t. t.machine.lock) eu))
+    first_by x a sx passes at (over pw e f ea eu) = absurd (never x sx passes (ap (λ t. t.machine.lock) eu))
+    first_by x a sx passes at (puts pw v inside o e ea eu) = absurd (never x sx passes (ap (λ t. t.machine.lock) eu))
+    first_by x a sx passes at (acts pw b) = takes x a pw sx b (at pw b)
 
 module _ (known : ℕ → Account) (w : World) (p : ℕ) (c : Call) (i : Inputs) (k : ℕ) (a : Answer) (v : World) (stood : Stands w) (runs : Runs known w (moves_of p c i k) (answers_of k a) v) (ended : a ≢ answer.Stepped) where
-  value_is : w.behind.value ≡ w.state.value
+  value_is : w.behind.machine.value ≡ w.state.value
   value_is = sym (ap (λ x. x.state.value) stood.seen)
 
-  free_turn : is_turn_free w.state ≡ true → (holders w.behind.lock.turn ≡ 0) × (starved w.behind.lock.turn ≡ 0)
+  free_turn : is_turn_free w.state ≡ true → (holders w.behind.machine.lock.turn ≡ 0) × (starved w.behind.machine.lock.turn ≡ 0)
   free_turn h = turn_is_free w.behind (subst (λ x. is_turn_free x.state ≡ true) stood.seen h)
 
   pub upgradable_ready : is_first w (beginning p c i) upgradable ≡ true → is_turn_free w.state ≡ true → how_many_read w < w.readers_limit → a ≡ answer.Ready (Value w.state.value)
   upgradable_ready first free below =
       let t = free_turn free in
       let here : is_first (view_of w.behind) (beginning p c i) upgradable ≡ true = subst (λ x. is_first x (beginning p c i) upgradable ≡ true) stood.seen first in
-      let few : how_many_read (view_of w.behind) < w.behind.lock.limit = subst (λ x. how_many_read x < x.readers_limit) stood.seen below in
+      let few : how_many_read (view_of w.behind) < w.behind.machine.lock.limit = subst (λ x. how_many_read x < x.readers_limit) stood.seen below in
       along Moved accounts_after HoldsWell p i (WithTurn purpose.UpgradableRead p w.state.value) (λ b x. b ≡ answer.Ready (Value w.state.value)) (onward purpose.UpgradableRead p w.state.value i) known k w (beginning p c i) a v
-      (λ b x s. first_by purpose.UpgradableRead p w.state.value i c w stood t.0 t.1 (rw view.how_many-read at few) value_is x b (plan_in w.behind (beginning p c i)) s.did.stands ((s.at_once.first_upgradable first).1 free) (λ lc pw y. y.begins.first_upgradable here) refl s.did.step)
+      (λ b x s. first_by purpose.UpgradableRead p w.state.value i c w stood t.0 t.1 (rw view.how_many-read at few) value_is x b s.did.stands ((s.at_once.first_upgradable first).1 free) (λ pw y. (begins w.behind x.behind (beginning p c i) b pw y).first_upgradable here) (way w.behind x.behind (beginning p c i) b (laws w stood) (laws x s.did.stands) s.did.step))
       ended runs
 
   pub write_ready : is_first w (beginning p c i) write ≡ true → is_upgrader w p ≡ false → is_turn_free w.state ≡ true → how_many_read w ≡ 0 → a ≡ answer.Ready (Value w.state.value)
@@ -185,5 +169,5 @@ module _ (known : ℕ → Account) (w : World) (p : ℕ) (c : Call) (i : Inputs)
       let new_here : is_upgrader (view_of w.behind) p ≡ false = subst (λ x. is_upgrader x p ≡ false) stood.seen new in
       let none_here : how_many_read (view_of w.behind) ≡ 0 = subst (λ x. how_many_read x ≡ 0) stood.seen none in
       along Moved accounts_after HoldsWell p i (WithTurn purpose.Write p w.state.value) (λ b x. b ≡ answer.Ready (Value w.state.value)) (onward purpose.Write p w.state.value i) known k w (beginning p c i) a v
-      (λ b x s. first_by purpose.Write p w.state.value i c w stood t.0 t.1 (sym (view.how_many-read w.behind.lock.places) ∙ none_here) value_is x b (plan_in w.behind (beginning p c i)) s.did.stands ((s.at_once.first_write first new).1 free) (λ lc pw y. y.begins.first_write here new_here) refl s.did.step)
+      (λ b x s. first_by purpose.Write p w.state.value i c w stood t.0 t.1 (sym (view.how_many-read w.behind.machine.lock.places) ∙ none_here) value_is x b s.did.stands ((s.at_once.first_write first new).1 free) (λ pw y. (begins w.behind x.behind (beginning p c i) b pw y).first_write here new_here) (way w.behind x.behind (beginning p c i) b (laws w stood) (laws x s.did.stands) s.did.step))
       ended runs

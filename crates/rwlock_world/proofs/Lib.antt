@@ -1,23 +1,24 @@
 pub mod Begun
 pub mod Paths
 pub mod Stages
-pub mod Tables
+pub mod Kept
 pub mod Views
-pub mod Opening
 pub mod Owns
-pub mod Sound
-pub mod Opened
 pub mod Rows
 pub mod Facts
 pub mod TurnSteps
 pub mod TurnFacts
 pub mod Calls
 pub mod Endings
+pub mod RightsInside
+pub mod Sound
 pub mod Legals
-pub mod Events
+pub mod Idle
+pub mod Acting
 pub mod AtOnce
 pub mod Instants
-pub mod RightsInside
+mod Stepping
+pub mod Opening
 pub mod RightsHeld
 pub mod RightsMoved
 pub mod RightsOthers
@@ -25,8 +26,8 @@ pub mod Rights
 pub mod Whole
 pub mod BoundRuns
 pub mod BoundSeen
-mod Stepping
+pub mod FirstPolls
+mod Promises
 pub mod WorldLaws
 pub mod Bound
-mod Promises
-pub mod FirstPolls
+pub mod Handing

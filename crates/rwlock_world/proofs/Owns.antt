@@ -1,5 +1,6 @@
 -- What each party has, by how it stands.
 use Rattle.std.proofs.Common.{◌≡◌, ◌≢◌, ℕ, ◌≤◌, ◌⊎◌, inl, inr, Bool, true, false, List, Option, Some, None, refl, arith, ap, sym, subst, ◌∙◌}
+use Rattle.std.proofs.lemmas.Bool.{and_parts}
 use Rattle.lock_world.specs.declared.moves.Answer.{Answer}
 use Rattle.lock_world.specs.declared.moves.Answer.TheVariants as answer
 use Rattle.lock_world.specs.declared.refusal.Refusal.TheVariants as refusal
@@ -25,17 +26,18 @@ use Rattle.rwlock_machine.specs.declared.program.Place.TheVariants as place
 use Rattle.rwlock_machine.specs.Roles.{has_turn, in_no_writer, in_no_readers, fits_turn}
 use Rattle.rwlock_machine.specs.Machine.{RwLock, place_at}
 use Rattle.rwlock_machine.specs.Acts.{IsRwLock}
-use Rattle.rwlock_world.specs.declared.world.table.Sought.{Sought}
-use Rattle.rwlock_world.specs.declared.world.table.Sought.TheVariants as sought
 use Rattle.rwlock_world.specs.State as state
 use Rattle.rwlock_world.specs.State.{Turn, nobody, passes, is_upgradable, waits_to_write, writes, World, standing_of, sought_by, is_upgrader, HasTurn, IsClear, entries_in}
 use Rattle.rwlock_world.specs.Legal.{HasSought, HasNothing, HasItsOwn}
-use Rattle.rwlock_world.specs.Plans.{Course, downgrades, course_of, course_until, is_on_course, stage_at, seeking, sought_at, same_sought, agrees, is_inside, goes_with}
-use Rattle.rwlock_world.specs.Plans as plans
-use Rattle.rwlock_world.specs.Table.{IsTable}
-use Rattle.rwlock_world.specs.View.{Share, passing, upgrading, waiting, writing, turn_as, share_of, turn_by, is_reading, is_upgrade, right_of, verdict, verdict_until, refused_by, stands_as, seen}
+use Rattle.lock_table.specs.Stages.{stage_at}
+use Rattle.rwlock_world.specs.Stages.{Course, downgrades, course_of, course_until, is_on_course, sought_at, is_inside, goes_with}
+use Rattle.rwlock_world.specs.Stages as plans
+use Rattle.rwlock_world.specs.View.{verdict_of, Share, passing, upgrading, waiting, writing, turn_as, share_of, turn_by, is_reading, is_upgrade, verdict, verdict_until, refused_by, standing_at, seen}
 use Rattle.rwlock_world.proofs.Begun.{at_out, at_future, at_guard}
+use Rattle.lock_table.proofs.Views.{standings_at}
+use Rattle.lock_table.proofs.Past.{inside_or_past}
 use Rattle.rwlock_world.proofs.Views as view
+use Rattle.rwlock_world.proofs.Views.{Fits}
 
 -- ---- the turn
 
@@ -60,19 +62,6 @@ holds_one : (b : Bool) (n : ℕ) → Rattle.mutex_machine.specs.Course.bit b ≡
 holds_one true n e h = sym e
 holds_one false n e h = absurd (omega (arith, e, h))
 
-pub same_is : (o p : Option Sought) → same_sought o p ≡ true → p ≡ o
-same_is None None h = refl
-same_is None (Some s) h = absurd (cc)
-same_is (Some sought.Read) None h = absurd (cc)
-same_is (Some sought.Upgradable) None h = absurd (cc)
-same_is (Some sought.Write) None h = absurd (cc)
-same_is (Some sought.Read) (Some sought.Read) h = refl
-same_is (Some sought.Upgradable) (Some sought.Upgradable) h = refl
-same_is (Some sought.Write) (Some sought.Write) h = refl
-same_is (Some sought.Read) (Some _) h = absurd (cc)
-same_is (Some sought.Upgradable) (Some _) h = absurd (cc)
-same_is (Some sought.Write) (Some _) h = absurd (cc)
-
 apart_up : (t : Turn) (p : ℕ) (s : Share) → t ≡ turn_as p s → (s ≡ upgrading → ⊥) → t ≢ is_upgradable p
 apart_up t p passing e n h = cc
 apart_up t p upgrading e n h = n refl
@@ -95,7 +84,7 @@ waits_as t p writing e h = absurd (cc)
 downgraded_until : (e : Ending) → course_until e ≡ downgrades → is_reading (place.ReleaseTurn e) ≡ true
 downgraded_until ending.Reading c = refl
 downgraded_until ending.GivenBack c = absurd (cc)
-downgraded_until ending.NotFree c = absurd (cc)
+downgraded_until (ending.NotFree q) c = absurd (cc)
 downgraded_until ending.RefuseReaders c = absurd (cc)
 downgraded_until ending.RefuseMemory c = absurd (cc)
 downgraded_until ending.NotifyReaders c = refl
@@ -132,12 +121,12 @@ downgrade_course _ _ _ h e = absurd (cc)
 pub record IsUndecided (x : Place) : Type 0 where
   pub reads : is_reading x ≡ false
   pub share : (share_of x ≡ upgrading → ⊥) × (share_of x ≡ writing → ⊥)
-  pub seeks : share_of x ≡ waiting → sought_at x ≡ Some (Some sought.Write)
+  pub seeks : share_of x ≡ waiting → sought_at x ≡ Some write
 
 -- no call is decided on Pending before that answer
 until_not_pending : (e : Ending) → Some (verdict_until e) ≡ Some answer.Pending → ⊥
 until_not_pending ending.GivenBack h = absurd (cc)
-until_not_pending ending.NotFree h = absurd (cc)
+until_not_pending (ending.NotFree q) h = absurd (cc)
 until_not_pending ending.RefuseReaders h = absurd (cc)
 until_not_pending ending.RefuseMemory h = absurd (cc)
 until_not_pending ending.Reading h = absurd (cc)
@@ -160,14 +149,14 @@ pending_undecided v _ t h = absurd (cc)
 decided_as : (w u : Within) (o p : Option Answer) → inside w o ≡ inside u p → o ≡ p
 decided_as w u o p e = cc
 
-module _ (l : RwLock) (ss : List Stage) (os : List (Option Sought)) (v : ℕ) (laws : IsRwLock l) (fits : IsTable l ss os) where
+module _ (l : RwLock) (ss : List Stage) (opening : ℕ) (v : ℕ) (laws : IsRwLock l) (fits : Fits l ss v) where
   abbrev w : World
-  w = seen l ss os v
+  w = seen l ss opening v
 
-  pub stood : (q : ℕ) → standing_of w q ≡ stands_as v (stage_at ss q) (place_at l.places q) (turn_at l.turn.courses q)
-  stood q = view.standings_at v ss l.places l.turn.courses fits.as_many q
+  pub stood : (q : ℕ) → standing_of w q ≡ standing_at v (stage_at ss q) (place_at l.places q) (turn_at l.turn.courses q)
+  stood q = standings_at (verdict_of (record { lock = l; value = v })) ss q
 
-  stands_pending : (s : Stage) (x : Place) (t : TurnCourse) (u : Within) → stands_as v s x t ≢ inside u (Some answer.Pending)
+  stands_pending : (s : Stage) (x : Place) (t : TurnCourse) (u : Within) → standing_at v s x t ≢ inside u (Some answer.Pending)
   stands_pending (Outside r) x t u e = absurd (cc)
   stands_pending (Inside w) x t u e = pending_undecided v x t (decided_as w u (verdict v x t) (Some answer.Pending) e)
   stands_pending Forgotten x t u e = absurd (cc)
@@ -181,8 +170,8 @@ module _ (l : RwLock) (ss : List Stage) (os : List (Option Sought)) (v : ℕ) (l
   pub upgrades_as : (q : ℕ) → is_upgrader w q ≡ is_upgrade (place_at l.places q)
   upgrades_as q = view.upgrades_at l.places q
 
-  pub seeks_as : (q : ℕ) → sought_by w q ≡ right_of (seeking os q)
-  seeks_as q = view.seeks_at os q
+  pub seeks_as : (q : ℕ) → sought_by w q ≡ sought_at (place_at l.places q)
+  seeks_as q = view.seeks_at l.places q
 
   -- who has the turn where it stands has it
   pub holder_is : (q : ℕ) → has_turn (place_at l.places q) ≡ 1 → holder_of l.turn ≡ Some q
@@ -218,40 +207,37 @@ module _ (l : RwLock) (ss : List Stage) (os : List (Option Sought)) (v : ℕ) (l
   pub holding_clear : (q : ℕ) (x : Place) → place_at l.places q ≡ x → in_no_writer x ≡ 0 → in_no_readers x ≡ 0 → is_holding (turn_at l.turn.courses q) ≡ true → IsClear w q
   holding_clear q x e nw nr o = clear_at q x e nw nr (holding_unlisted (turn_at l.turn.courses q) o) (holding_unstarved (turn_at l.turn.courses q) o)
 
-  pub seeks_just : (q : ℕ) (s : Option Sought) (r : Right) → right_of s ≡ Some r → same_sought s (seeking os q) ≡ true → sought_by w q ≡ Some r
-  seeks_just q s r e h = seeks_as q ∙ (ap right_of (same_is s (seeking os q) h) ∙ e)
+  pub seeks_just : (q : ℕ) (x : Place) (r : Right) → place_at l.places q ≡ x → sought_at x ≡ Some r → sought_by w q ≡ Some r
+  seeks_just q x r e h = seeks_as q ∙ (ap sought_at e ∙ h)
 
   -- ---- a party has just the right that its guard is for
 
-  pub reading : (q : ℕ) (x : Place) → place_at l.places q ≡ x → is_reading x ≡ true → is_out (turn_at l.turn.courses q) ≡ true → agrees (sought_at x) (seeking os q) ≡ true → sought_at x ≡ Some (Some sought.Read) → HasSought w q
-  reading q x e r o a s = let P : Option (Option Sought) → Type 0 = λ k. agrees k (seeking os q) ≡ true in
-      (read, seeks_just q (Some sought.Read) read refl (subst P s a), (reads_at q x e ∙ r, no_turn q (out_free (turn_at l.turn.courses q) o)))
+  pub reading : (q : ℕ) (x : Place) → place_at l.places q ≡ x → is_reading x ≡ true → is_out (turn_at l.turn.courses q) ≡ true → sought_at x ≡ Some read → HasSought w q
+  reading q x e r o s = (read, seeks_just q x read e s, (reads_at q x e ∙ r, no_turn q (out_free (turn_at l.turn.courses q) o)))
 
-  pub upgradable_has : (q : ℕ) (x : Place) → place_at l.places q ≡ x → is_reading x ≡ true → has_turn x ≡ 1 → share_of x ≡ upgrading → agrees (sought_at x) (seeking os q) ≡ true → sought_at x ≡ Some (Some sought.Upgradable) → HasSought w q
-  upgradable_has q x e r h u a s = let P : Option (Option Sought) → Type 0 = λ k. agrees k (seeking os q) ≡ true in
-      (upgradable, seeks_just q (Some sought.Upgradable) upgradable refl (subst P s a), (reads_at q x e ∙ r, turn_at_place q x e h ∙ ap (turn_as q) u))
+  pub upgradable_has : (q : ℕ) (x : Place) → place_at l.places q ≡ x → is_reading x ≡ true → has_turn x ≡ 1 → share_of x ≡ upgrading → sought_at x ≡ Some upgradable → HasSought w q
+  upgradable_has q x e r h u s = (upgradable, seeks_just q x upgradable e s, (reads_at q x e ∙ r, turn_at_place q x e h ∙ ap (turn_as q) u))
 
-  pub writing_has : (q : ℕ) (x : Place) → place_at l.places q ≡ x → is_reading x ≡ false → has_turn x ≡ 1 → share_of x ≡ writing → agrees (sought_at x) (seeking os q) ≡ true → sought_at x ≡ Some (Some sought.Write) → HasSought w q
-  writing_has q x e r h u a s = let P : Option (Option Sought) → Type 0 = λ k. agrees k (seeking os q) ≡ true in
-      (write, seeks_just q (Some sought.Write) write refl (subst P s a), (reads_at q x e ∙ r, turn_at_place q x e h ∙ ap (turn_as q) u))
+  pub writing_has : (q : ℕ) (x : Place) → place_at l.places q ≡ x → is_reading x ≡ false → has_turn x ≡ 1 → share_of x ≡ writing → sought_at x ≡ Some write → HasSought w q
+  writing_has q x e r h u s = (write, seeks_just q x write e s, (reads_at q x e ∙ r, turn_at_place q x e h ∙ ap (turn_as q) u))
 
-  guard_has : (q : ℕ) (x : Place) → plans.is_guard x ≡ true → place_at l.places q ≡ x → agrees (sought_at x) (seeking os q) ≡ true → IsClear w q × HasSought w q × (is_upgrader w q ≡ false)
-  guard_has q = at_guard (λ x. place_at l.places q ≡ x → agrees (sought_at x) (seeking os q) ≡ true → IsClear w q × HasSought w q × (is_upgrader w q ≡ false)) (record {
-    reading = λ e a. let o = fit_at q place.Reading e in (out_clear q place.Reading e refl refl o, reading q place.Reading e refl o a refl, upgrades_as q ∙ ap is_upgrade e);
-    upgradable = λ e a. let o = fit_at q place.Upgradable e in (holding_clear q place.Upgradable e refl refl o, upgradable_has q place.Upgradable e refl refl refl a refl, upgrades_as q ∙ ap is_upgrade e);
-    writing = λ e a. let o = fit_at q place.Writing e in (holding_clear q place.Writing e refl refl o, writing_has q place.Writing e refl refl refl a refl, upgrades_as q ∙ ap is_upgrade e);
+  guard_has : (q : ℕ) (x : Place) → plans.is_guard x ≡ true → place_at l.places q ≡ x → IsClear w q × HasSought w q × (is_upgrader w q ≡ false)
+  guard_has q = at_guard (λ x. place_at l.places q ≡ x → IsClear w q × HasSought w q × (is_upgrader w q ≡ false)) (record {
+    reading = λ e. let o = fit_at q place.Reading e in (out_clear q place.Reading e refl refl o, reading q place.Reading e refl o refl, upgrades_as q ∙ ap is_upgrade e);
+    upgradable = λ e. let o = fit_at q place.Upgradable e in (holding_clear q place.Upgradable e refl refl o, upgradable_has q place.Upgradable e refl refl refl refl, upgrades_as q ∙ ap is_upgrade e);
+    writing = λ e. let o = fit_at q place.Writing e in (holding_clear q place.Writing e refl refl o, writing_has q place.Writing e refl refl refl refl, upgrades_as q ∙ ap is_upgrade e);
   })
 
   abbrev IsFuture : ℕ → Type 0
   IsFuture q = (state.reads w q ≡ false) × (((w.state.turn ≡ waits_to_write q) × (sought_by w q ≡ Some write)) ⊎ ((HasTurn w.state.turn q → ⊥) × (is_upgrader w q ≡ false)))
 
-  future_has : (q : ℕ) (x : Place) → plans.is_future x ≡ true → place_at l.places q ≡ x → agrees (sought_at x) (seeking os q) ≡ true → IsFuture q
-  future_has q = at_future (λ x. place_at l.places q ≡ x → agrees (sought_at x) (seeking os q) ≡ true → IsFuture q) (record {
-    made = λ m e a. (reads_at q (place.Made m) e, inr (no_turn q (out_free (turn_at l.turn.courses q) (fit_at q (place.Made m) e)), upgrades_as q ∙ ap is_upgrade e));
-    no_writer = λ e a. (reads_at q place.AskNoWriter e, inr (no_turn q (out_free (turn_at l.turn.courses q) (fit_at q place.AskNoWriter e)), upgrades_as q ∙ ap is_upgrade e));
-    turn = λ p e a. (reads_at q (place.WaitTurn p) e, inr (no_turn q (waiting_free (turn_at l.turn.courses q) (fit_at q (place.WaitTurn p) e)), upgrades_as q ∙ ap is_upgrade e));
-    no_readers = λ u e a. (reads_at q (place.AwaitNoReaders u) e, inl (turn_at_place q (place.AwaitNoReaders u) e refl, seeks_just q (Some sought.Write) write refl a));
-    upgrade = λ e a. (reads_at q (place.LookUnlisted true) e, inl (turn_at_place q (place.LookUnlisted true) e refl, seeks_just q (Some sought.Write) write refl a));
+  future_has : (q : ℕ) (x : Place) → plans.is_future x ≡ true → place_at l.places q ≡ x → IsFuture q
+  future_has q = at_future (λ x. place_at l.places q ≡ x → IsFuture q) (record {
+    made = λ m e. (reads_at q (place.Made m) e, inr (no_turn q (out_free (turn_at l.turn.courses q) (fit_at q (place.Made m) e)), upgrades_as q ∙ ap is_upgrade e));
+    no_writer = λ e. (reads_at q place.AskNoWriter e, inr (no_turn q (out_free (turn_at l.turn.courses q) (fit_at q place.AskNoWriter e)), upgrades_as q ∙ ap is_upgrade e));
+    turn = λ p e. (reads_at q (place.WaitTurn p) e, inr (no_turn q (waiting_free (turn_at l.turn.courses q) (fit_at q (place.WaitTurn p) e)), upgrades_as q ∙ ap is_upgrade e));
+    no_readers = λ u e. (reads_at q (place.AwaitNoReaders u) e, inl (turn_at_place q (place.AwaitNoReaders u) e refl, seeks_just q (place.AwaitNoReaders u) write e refl));
+    upgrade = λ e. (reads_at q (place.LookUnlisted true) e, inl (turn_at_place q (place.LookUnlisted true) e refl, seeks_just q (place.LookUnlisted true) write e refl));
   })
 
   out_has : (q : ℕ) (x : Place) → plans.is_out x ≡ true → place_at l.places q ≡ x → IsClear w q × HasNothing w q × (is_upgrader w q ≡ false)
@@ -264,15 +250,14 @@ module _ (l : RwLock) (ss : List Stage) (os : List (Option Sought)) (v : ℕ) (l
   turn_only : (q : ℕ) → HasTurn w.state.turn q → w.state.turn ≡ turn_as q (share_of (place_at l.places q))
   turn_only q h = ap (λ o. turn_by o l.places) (holder_has (holder_of l.turn) l.places q h)
 
-  undecided_has : (q : ℕ) (x : Place) → place_at l.places q ≡ x → IsUndecided x → agrees (sought_at x) (seeking os q) ≡ true → (state.reads w q ≡ false) × (w.state.turn ≢ is_upgradable q) × (w.state.turn ≢ writes q) × (w.state.turn ≡ waits_to_write q → sought_by w q ≡ Some write)
-  undecided_has q x e u a = (
+  undecided_has : (q : ℕ) (x : Place) → place_at l.places q ≡ x → IsUndecided x → (state.reads w q ≡ false) × (w.state.turn ≢ is_upgradable q) × (w.state.turn ≢ writes q) × (w.state.turn ≡ waits_to_write q → sought_by w q ≡ Some write)
+  undecided_has q x e u = (
     reads_at q x e ∙ u.reads,
     (λ h. apart_up w.state.turn q (share_of (place_at l.places q)) (turn_only q (has_as w.state.turn q upgrading h)) (λ k. u.share.0 (ap share_of (sym e) ∙ k)) h),
     (λ h. apart_write w.state.turn q (share_of (place_at l.places q)) (turn_only q (has_as w.state.turn q writing h)) (λ k. u.share.1 (ap share_of (sym e) ∙ k)) h),
     (λ h.
         let here = waits_as w.state.turn q (share_of (place_at l.places q)) (turn_only q (has_as w.state.turn q waiting h)) h in
-        let P : Option (Option Sought) → Type 0 = λ o. agrees o (seeking os q) ≡ true in
-        seeks_just q (Some sought.Write) write refl (subst P (u.seeks (ap share_of (sym e) ∙ here)) a)),
+        seeks_just q x write e (u.seeks (ap share_of (sym e) ∙ here))),
   )
 
   pub undecided : (x : Place) (t : TurnCourse) → is_inside x ≡ true → verdict v x t ≡ None → IsUndecided x
@@ -301,30 +286,22 @@ module _ (l : RwLock) (ss : List Stage) (os : List (Option Sought)) (v : ℕ) (l
   undecided (place.Unmark false) t i n = absurd (cc)
   undecided _ t i n = record { reads = refl; share = ((λ e. cc), (λ e. cc)); seeks = λ e. absurd (cc) }
 
-  second : (a b : Bool) → Rattle.std.specs.Prelude.◌&&◌ a b ≡ true → b ≡ true
-  second true b h = h
-  second false b h = absurd (cc)
-
-  first : (a b : Bool) → Rattle.std.specs.Prelude.◌&&◌ a b ≡ true → a ≡ true
-  first true b h = refl
-  first false b h = absurd (cc)
-
-  has : (q : ℕ) (s : Stage) (x : Place) → place_at l.places q ≡ x → goes_with s x ≡ true → agrees (sought_at x) (seeking os q) ≡ true → HasItsOwn w q (stands_as v s x (turn_at l.turn.courses q))
-  has q (Outside rest.Idle) x at g a = out_has q x g at
-  has q (Outside rest.Pending) x at g a = future_has q x g at a
-  has q (Outside rest.Holding) x at g a = guard_has q x g at a
-  has q (Outside rest.Finished) x at g a = absurd (cc)
-  has q (Inside u) x at g a = inside_has (verdict v x (turn_at l.turn.courses q)) refl where
+  has : (q : ℕ) (s : Stage) (x : Place) → place_at l.places q ≡ x → goes_with s x ≡ true → HasItsOwn w q (standing_at v s x (turn_at l.turn.courses q))
+  has q (Outside rest.Idle) x at g = out_has q x g at
+  has q (Outside rest.Pending) x at g = future_has q x g at
+  has q (Outside rest.Holding) x at g = guard_has q x g at
+  has q (Outside rest.Finished) x at g = absurd (cc)
+  has q (Inside u) x at g = inside_has (verdict v x (turn_at l.turn.courses q)) refl where
     here : is_inside x ≡ true
-    here = first (is_inside x) (is_on_course u.kind u.was (course_of x)) g
+    here = (and_parts (is_inside x) (is_on_course u.kind u.was (course_of x)) g).0
 
     inside_has : (o : Option Answer) → verdict v x (turn_at l.turn.courses q) ≡ o → HasItsOwn w q (inside u o)
-    inside_has None e = undecided_has q x at (undecided x (turn_at l.turn.courses q) here e) a
-    inside_has (Some b) e = λ d. reads_at q x at ∙ downgraded_reads x here (downgrade_course u.kind u.was (course_of x) (second (is_inside x) (is_on_course u.kind u.was (course_of x)) g) d)
-  has q Forgotten x at g a = tt
+    inside_has None e = undecided_has q x at (undecided x (turn_at l.turn.courses q) here e)
+    inside_has (Some b) e = λ d. reads_at q x at ∙ downgraded_reads x here (downgrade_course u.kind u.was (course_of x) (and_parts (is_inside x) (is_on_course u.kind u.was (course_of x)) g).1 d)
+  has q Forgotten x at g = tt
 
   pub each : (q : ℕ) → HasItsOwn w q (standing_of w q)
-  each q = elim (view.in_or_past ss q) as (λ _. HasItsOwn w q (standing_of w q)) [
-    | inl known ↦ rw (stood q) (has q (stage_at ss q) (place_at l.places q) refl (fits.fits q known) (fits.seeks q known))
-    | inr past ↦ rw (stood q, past) tt
+  each q = elim (inside_or_past ss q) as (λ _. HasItsOwn w q (standing_of w q)) [
+    | inl known ↦ rw (stood q) (has q (stage_at ss q) (place_at l.places q) refl (fits.stands q known))
+    | inr past ↦ rw (stood q, past.1) tt
   ]

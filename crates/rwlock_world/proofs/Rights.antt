@@ -1,6 +1,5 @@
 -- After each step the rights by the answers are the state's.
-use Rattle.std.proofs.Common.{◌≡◌, ◌≢◌, ℕ, ◌<◌, ◌==◌, if◌then◌else◌, Bool, true, false, List, [], ◌∷◌, Option, Some, None, is_some, zero, suc, length, refl, arith, ap, sym, ◌∙◌, subst, get_or}
-use Rattle.std.proofs.Math.Decide.{ℕ_discrete}
+use Rattle.std.proofs.Common.{◌≡◌, ◌≢◌, ℕ, ◌<◌, Bool, true, false, List, [], ◌∷◌, Option, Some, None, is_some, zero, suc, length, refl, arith, ap, sym, ◌∙◌, subst, get_or}
 use Rattle.std.proofs.lemmas.List.{get_or-set_same}
 use Rattle.lock_world.specs.declared.moves.Answer.{Answer}
 use Rattle.lock_world.specs.declared.moves.Answer.TheVariants as answer
@@ -20,10 +19,12 @@ use Rattle.lock_world.specs.Standings.{Standing, outside, inside, forgotten, cal
 use Rattle.rwlock_world.specs.State.{World, standing_of, sought_by}
 use Rattle.rwlock_world.specs.Legal.{knows, call_of, HasItsOwn, Legal}
 use Rattle.rwlock_world.specs.Laws.{IsSound, IsAwake, is_at_rest}
-use Rattle.rwlock_world.specs.Runs.{right_in, account_by, accounts_of, HasJustItsRights, HasItsRights, HoldsWell}
-use Rattle.rwlock_world.proofs.RightsHeld.{same_test, state_rights, holds_by}
+use Rattle.lock_table.specs.Rights.{account_by, TellsAccounts}
+use Rattle.lock_table.proofs.Rights.{tells_on}
+use Rattle.rwlock_world.specs.Runs.{right_in, accounts_of, HasJustItsRights, HasItsRights, HoldsWell}
+use Rattle.rwlock_world.proofs.RightsHeld.{state_rights, holds_by}
 use Rattle.rwlock_world.proofs.RightsMoved.{has_standing, account, Beginning, begun, from_outside, from_inside}
-use Rattle.rwlock_world.proofs.RightsOthers.{other_test, others}
+use Rattle.rwlock_world.proofs.RightsOthers.{others}
 
 -- a party that isn't forgotten is in the table
 in_table : (ss : List Standing) (p : ℕ) → get_or ss p forgotten ≢ forgotten → p < length ss
@@ -113,16 +114,8 @@ module _ (w : World) (m : Move) (a : Answer) (v : World) (sound : IsSound w) (le
   own_by forgotten (Begin c i) se we (Some x) e = absurd (cc)
   own_by forgotten (Go i) se we (Some x) e = absurd (cc)
 
-  own : accounts_of v m.party ≡ account_after (accounts_of w m.party) m.what a
+  pub own : accounts_of v m.party ≡ account_after (accounts_of w m.party) m.what a
   own = own_by (standing_of w m.party) m.what refl refl (call_of w m) refl
-
-  -- what is known by the answers goes on to be the World's
-  pub accounts_step : (p : ℕ) → accounts_after (accounts_of w) m a p ≡ accounts_of v p
-  accounts_step p = elim (ℕ_discrete p m.party) as (λ _. accounts_after (accounts_of w) m a p ≡ accounts_of v p) [
-    | yes e ↦ (let P : ℕ → Type 0 = λ q. accounts_after (accounts_of w) m a q ≡ accounts_of v q in
-        subst P (sym e) (rw (same_test m.party m.party refl) (sym own)))
-    | no apart ↦ rw (other_test m.party p apart) (sym (others w m a v legal p apart))
-  ]
 
 moved_rights : (known found : ℕ → Account) (w : World) → ((p : ℕ) → known p ≡ found p) → HasItsRights found w → HasItsRights known w
 moved_rights known found w same rights p out = let P : Account → Type 0 = λ k. HasJustItsRights k w p in subst P (sym (same p)) (rights p out)
@@ -131,10 +124,10 @@ moved_has : (k l : Account) (r : Right) → k ≡ l → HasByAnswers k r → Has
 moved_has k l r e h = let P : Account → Type 0 = λ x. HasByAnswers x r in subst P e h
 
 -- all is well after a step from a World of which just this is known
-pub holds_well : (known : ℕ → Account) (w : World) (m : Move) (a : Answer) (v : World) → ((p : ℕ) → known p ≡ accounts_of w p) → IsSound w → Legal w m a v → IsSound v → (is_at_rest v ≡ true → IsAwake v)
-    → ((p : ℕ) → accounts_after known m a p ≡ accounts_of v p) × HoldsWell (accounts_after known m a) v
+pub holds_well : (known : ℕ → Account) (w : World) (m : Move) (a : Answer) (v : World) → TellsAccounts accounts_of known w → IsSound w → Legal w m a v → IsSound v → (is_at_rest v ≡ true → IsAwake v)
+    → TellsAccounts accounts_of (accounts_after known m a) v × HoldsWell (accounts_after known m a) v
 holds_well known w m a v same sound legal then_sound then_awake =
-    let after : (p : ℕ) → accounts_after known m a p ≡ accounts_of v p = λ p. same_after (m.party == p) (known p) (accounts_of w p) (same p) ∙ accounts_step w m a v sound legal then_sound p in (
+    let after : TellsAccounts accounts_of (accounts_after known m a) v = tells_on accounts_of known w m a v same (sym (own w m a v sound legal then_sound)) (others w m a v legal) in (
       after,
       record {
         rights = moved_rights (accounts_after known m a) (accounts_of v) v after (state_rights v then_sound);
@@ -143,6 +136,3 @@ holds_well known w m a v same sound legal then_sound then_awake =
         awake = then_awake;
       },
     )
-  where
-    same_after : (b : Bool) (x y : Account) → x ≡ y → (if b then account_after x m.what a else x) ≡ (if b then account_after y m.what a else y)
-    same_after b x y e = ap (λ z. if b then account_after z m.what a else z) e

@@ -9,7 +9,8 @@ use Rattle.lock_world.specs.Standings.{is_outside, Standing, outside, inside, fo
 use Rattle.rwlock_world.specs.State.{Turn, nobody, passes, is_upgradable, waits_to_write, writes, World, standing_of, sought_by, reads, HasTurn}
 use Rattle.rwlock_world.specs.Legal.{HasJust, HasItsOwn}
 use Rattle.rwlock_world.specs.Laws.{HasRight, IsSound}
-use Rattle.rwlock_world.specs.Runs.{right_by, right_in, account_by, accounts_of, HasJustItsRights, HasItsRights}
+use Rattle.lock_table.specs.Rights.{account_by}
+use Rattle.rwlock_world.specs.Runs.{right_by, right_in, accounts_of, HasJustItsRights, HasItsRights}
 
 is_same : (p q : ℕ) → (p == q) ≡ true → p ≡ q
 is_same p q e = grind (arith, nat_tests)

@@ -1,6 +1,7 @@
 -- In which calls a party may be, and what it seeks there.
-use Rattle.std.proofs.Common.{◌≡◌, ℕ, ◌<◌, ◌&&◌, inl, inr, Bool, true, false, List, length, Option, Some, None, refl, ap, sym, ◌∙◌, subst}
+use Rattle.std.proofs.Common.{◌≡◌, ℕ, ◌<◌, inl, inr, Bool, true, false, List, length, Option, None, refl, ap, sym, ◌∙◌, subst}
 use Rattle.std.proofs.lemmas.List.{length-map}
+use Rattle.std.proofs.lemmas.Bool.{and_parts}
 use Rattle.lock_world.specs.declared.moves.Answer.{Answer}
 use Rattle.lock_world.specs.declared.refusal.Refusal.TheVariants as refusal
 use Rattle.lock_world.specs.declared.standing.Kind.{Kind}
@@ -16,13 +17,15 @@ use Rattle.rwlock_machine.specs.declared.program.Ending.TheVariants as ending
 use Rattle.rwlock_machine.specs.declared.program.Place.{Place}
 use Rattle.rwlock_machine.specs.declared.program.Place.TheVariants as place
 use Rattle.rwlock_machine.specs.Machine.{RwLock, place_at}
-use Rattle.rwlock_world.specs.declared.world.table.Sought.{Sought}
-use Rattle.rwlock_world.specs.Plans.{Course, drops, upgrades, tries_upgrade, course_of, is_on_course, is_inside, goes_with, stage_at, seeking, sought_at, same_sought, agrees}
+use Rattle.lock_table.specs.Stages.{stage_at}
+use Rattle.rwlock_world.specs.Stages.{Course, drops, upgrades, tries_upgrade, course_of, is_on_course, is_inside, goes_with, sought_at}
 use Rattle.rwlock_world.specs.State.{World, standing_of, sought_by}
 use Rattle.rwlock_world.specs.Laws.{is_long_call}
-use Rattle.rwlock_world.specs.Table.{IsTable}
-use Rattle.rwlock_world.specs.View.{right_of, stands_as, seen}
+use Rattle.rwlock_world.specs.View.{verdict_of, standing_at, seen}
+use Rattle.lock_table.proofs.Views.{standings_at, length-standings}
+use Rattle.lock_table.proofs.Past.{inside_or_past}
 use Rattle.rwlock_world.proofs.Views as view
+use Rattle.rwlock_world.proofs.Views.{Fits}
 
 -- a course whose calls take one step
 abbrev is_short : Course → Bool
@@ -66,7 +69,7 @@ on_drops rest.Holding drops on = refl
 on_drops _ _ on = absurd (cc)
 
 -- a drop's places seek nothing
-drop_seeks : (x : Place) → course_of x ≡ drops → sought_at x ≡ Some None
+drop_seeks : (x : Place) → course_of x ≡ drops → sought_at x ≡ None
 drop_seeks place.Out e = refl
 drop_seeks place.CancelRead e = refl
 drop_seeks place.CancelTurn e = refl
@@ -92,34 +95,26 @@ drop_seeks (place.Add true) e = absurd (cc)
 drop_seeks (place.Add false) e = absurd (cc)
 drop_seeks _ e = absurd (cc)
 
-none_sought : (o : Option Sought) → same_sought None o ≡ true → o ≡ None
-none_sought None h = refl
-none_sought (Some s) h = absurd (cc)
-
-both : (a b : Bool) → a && b ≡ true → (a ≡ true) × (b ≡ true)
-both true b h = (refl, h)
-both false b h = absurd (cc)
-
 same_within : (u x : Within) (d e : Option Answer) → inside x e ≡ inside u d → x ≡ u
 same_within u x d e h = cc
 
-module _ (l : RwLock) (ss : List Stage) (os : List (Option Sought)) (v : ℕ) (fits : IsTable l ss os) where
+module _ (l : RwLock) (ss : List Stage) (opening : ℕ) (v : ℕ) (fits : Fits l ss v) where
   abbrev w : World
-  w = seen l ss os v
+  w = seen l ss opening v
 
   -- a party that is inside a call is in the table, at that stage
   staged : (p : ℕ) (u : Within) (d : Option Answer) → standing_of w p ≡ inside u d → (stage_at ss p ≡ Inside u) × (p < length ss)
   staged p u d e =
-      let stood : stands_as v (stage_at ss p) (place_at l.places p) (turn_at l.turn.courses p) ≡ inside u d = sym (view.standings_at v ss l.places l.turn.courses fits.as_many p) ∙ e in
+      let stood : standing_at v (stage_at ss p) (place_at l.places p) (turn_at l.turn.courses p) ≡ inside u d = sym (standings_at (verdict_of (record { lock = l; value = v })) ss p) ∙ e in
       let stage = by_stage (stage_at ss p) stood in (
         stage,
-        elim (view.in_or_past ss p) as (λ _. p < length ss) [
+        elim (inside_or_past ss p) as (λ _. p < length ss) [
           | inl known ↦ known
-          | inr past ↦ absurd (cc (sym stage ∙ past))
+          | inr past ↦ absurd (cc (sym stage ∙ past.1))
         ],
       )
     where
-      by_stage : (s : Stage) → stands_as v s (place_at l.places p) (turn_at l.turn.courses p) ≡ inside u d → s ≡ Inside u
+      by_stage : (s : Stage) → standing_at v s (place_at l.places p) (turn_at l.turn.courses p) ≡ inside u d → s ≡ Inside u
       by_stage (Outside r) h = absurd (cc)
       by_stage (Inside x) h = ap Inside (same_within u x d _ h)
       by_stage Forgotten h = absurd (cc)
@@ -128,7 +123,7 @@ module _ (l : RwLock) (ss : List Stage) (os : List (Option Sought)) (v : ℕ) (f
   fitting p u d e =
       let at = staged p u d e in
       let P : Stage → Type 0 = λ s. goes_with s (place_at l.places p) ≡ true in
-      both (is_inside (place_at l.places p)) (is_on_course u.kind u.was (course_of (place_at l.places p))) (subst P at.0 (fits.fits p at.1))
+      and_parts (is_inside (place_at l.places p)) (is_on_course u.kind u.was (course_of (place_at l.places p))) (subst P at.0 (fits.stands p at.1))
 
   pub inside_calls : (p : ℕ) (u : Within) (d : Option Answer) → standing_of w p ≡ inside u d → is_long_call u.kind u.was ≡ true
   inside_calls p u d e =
@@ -139,9 +134,7 @@ module _ (l : RwLock) (ss : List Stage) (os : List (Option Sought)) (v : ℕ) (f
   drops_seek_nothing p u d e k =
       let C : Kind → Type 0 = λ k. is_on_course k u.was (course_of (place_at l.places p)) ≡ true in
       let course = on_drops u.was (course_of (place_at l.places p)) (subst C k (fitting p u d e).1) in
-      let A : Option (Option Sought) → Type 0 = λ o. agrees o (seeking os p) ≡ true in
-      let seeks = subst A (drop_seeks (place_at l.places p) course) (fits.seeks p (staged p u d e).1) in
-      view.seeks_at os p ∙ ap right_of (none_sought (seeking os p) seeks)
+      view.seeks_at l.places p ∙ drop_seeks (place_at l.places p) course
 
   pub as_many_seek : length w.sought ≡ length w.standings
-  as_many_seek = length-map os right_of ∙ (fits.as_many_seek ∙ sym (view.length-standings v ss l.places l.turn.courses fits.as_many))
+  as_many_seek = length-map l.places sought_at ∙ (sym fits.as_many ∙ sym (length-standings (verdict_of (record { lock = l; value = v })) ss))

@@ -10,9 +10,11 @@ use Rattle.lock_world.specs.Rosters.{is_on}
 use Rattle.lock_world.specs.Steps.{Deed, changes}
 use Rattle.rwlock_world.specs.State.{Turn, nobody, passes, is_upgradable, waits_to_write, writes, World, standing_of, sought_by, reads, HasTurn}
 use Rattle.rwlock_world.specs.Changes
-use Rattle.rwlock_world.specs.Changes.{ListName, turn_after, readers_after, IsAllowed}
+use Rattle.rwlock_world.specs.Changes.{turn_after, readers_after, IsAllowed}
+use Rattle.rwlock_world.specs.State.{ListName}
 use Rattle.rwlock_world.specs.Legal.{Legal}
-use Rattle.rwlock_world.specs.Runs.{right_by, right_in, account_by, accounts_of}
+use Rattle.lock_table.specs.Rights.{account_by}
+use Rattle.rwlock_world.specs.Runs.{right_by, right_in, accounts_of}
 
 pub other_test : (p q : ℕ) → q ≢ p → (p == q) ≡ false
 other_test p q e = grind (arith, nat_tests)

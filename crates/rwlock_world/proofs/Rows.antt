@@ -9,12 +9,11 @@ use Rattle.lock_world.specs.declared.moves.Got.TheVariants.{Value}
 use Rattle.lock_world.specs.declared.refusal.Refusal.{Refusal}
 use Rattle.lock_world.specs.declared.refusal.Refusal.TheVariants as refusal
 use Rattle.lock_world.specs.Refusals.{number_of}
-use Rattle.lock_world.specs.Standings.{refused}
 use Rattle.lock_world.specs.Steps.{Deed, nothing, changes, does, joins, asks, leaves, notifies}
 use Rattle.mutex_machine.specs.Course.{Course as TurnCourse, is_out as is_out_there, is_holding}
 use Rattle.rwlock_machine.specs.declared.program.Action.{Action}
 use Rattle.rwlock_machine.specs.declared.program.Action.TheVariants as act
-use Rattle.rwlock_machine.specs.declared.program.End.TheVariants.{Got, Pending, Waiting, NotFree, GivenBack, Refused}
+use Rattle.lock_table.specs.declared.end.End.TheVariants.{Pending, Refused}
 use Rattle.rwlock_machine.specs.declared.program.Next.{Next}
 use Rattle.rwlock_machine.specs.declared.program.Next.TheVariants as next
 use Rattle.rwlock_machine.specs.declared.program.Found.{Found}
@@ -32,12 +31,14 @@ use Rattle.rwlock_machine.specs.Parties.{OnNoWriter, OnNoReaders}
 use Rattle.rwlock_machine.specs.Machine.{RwLock}
 use Rattle.rwlock_machine.specs.Acts.{Finds, readers, marked}
 use Rattle.rwlock_machine.proofs.Leads.{Led, steps_in_turn}
-use Rattle.rwlock_world.specs.Changes.{Change, ListName, begins_to_read, stops_reading, becomes_upgradable, stops_upgradable, begins_to_wait, begins_to_write, upgrades, upgrades_at_once, unmarks, downgrades, downgrades_to_upgradable, for_no_readers, for_no_writer, turn_after, starved_after, value_after, turn_list_after, no_readers_after, no_writer_after, gives_back, gives_up}
+use Rattle.rwlock_world.specs.Changes.{Change, begins_to_read, stops_reading, becomes_upgradable, stops_upgradable, begins_to_wait, begins_to_write, upgrades, upgrades_at_once, unmarks, downgrades, downgrades_to_upgradable, turn_after, starved_after, value_after, entries_after, gives_back, gives_up}
 use Rattle.rwlock_world.specs.State as state
-use Rattle.rwlock_world.specs.declared.world.table.Sought.{Sought}
+use Rattle.rwlock_world.specs.State.{ListName, for_the_turn, for_no_readers, for_no_writer}
+use Rattle.lock_table.proofs.Calls.{decided_after}
 use Rattle.rwlock_world.specs.Legal.{may_meet}
-use Rattle.rwlock_world.specs.Plans.{Course, tries, tries_upgrade, strays, course_of, sought_at}
-use Rattle.rwlock_world.specs.View.{passing, upgrading, waiting, writing, turn_as, share_of, is_reading, is_upgrade, right_of, verdict}
+use Rattle.rwlock_world.specs.Number.{answer_by}
+use Rattle.rwlock_world.specs.Stages.{strays, course_of, sought_at}
+use Rattle.rwlock_world.specs.View.{passing, upgrading, waiting, writing, turn_as, share_of, is_reading, is_upgrade, verdict}
 
 -- what an action changes that found this
 abbrev pub deed_of : Action → Found → Deed Change ListName
@@ -68,24 +69,9 @@ deed_at DropUpgradable f = changes stops_upgradable
 deed_at (Down true) f = changes downgrades_to_upgradable
 deed_at x f = deed_of (action_of x) f
 
--- the answer of a call on this course
-abbrev pub got_at : Course → ℕ → Answer
-got_at tries v = answer.Granted (Value v)
-got_at tries_upgrade v = answer.Granted (Value v)
-got_at c v = answer.Ready (Value v)
-
-abbrev pub answer_at : Course → ℕ → Next → Answer
-answer_at c v (next.Do a q) = answer.Stepped
-answer_at c v (next.End Got q) = got_at c v
-answer_at c v (next.End Pending q) = answer.Pending
-answer_at c v (next.End Waiting q) = answer.Waiting
-answer_at c v (next.End NotFree q) = answer.None
-answer_at c v (next.End GivenBack q) = answer.GivenBack
-answer_at c v (next.End (Refused r) q) = refused r
-
-abbrev pub verdict_then : ℕ → Course → TurnCourse → Next → Option Answer
-verdict_then v c t (next.Do a q) = verdict v q t
-verdict_then v c t (next.End e q) = Some (answer_at c v (next.End e q))
+-- what the call is decided on then
+abbrev pub verdict_then : ℕ → TurnCourse → Next → Option Answer
+verdict_then v t n = decided_after (answer_by v n) (verdict v (place_after n) t)
 
 abbrev pub is_after_ready : Answer → Bool
 is_after_ready (answer.Refused n) = n == number_of refusal.Finished
@@ -142,11 +128,6 @@ WaitsAt AskNoWriter f = f ≡ No
 WaitsAt (AskNoReaders u) f = f ≡ No
 WaitsAt _ f = ⊥
 
--- what is sought where a party stands may meet this limit
-abbrev pub meets : Option (Option Sought) → Refusal → Bool
-meets (Some s) r = may_meet (right_of s) r
-meets None r = false
-
 -- where a call may be refused for want of memory
 abbrev pub lacks_memory : Place → Bool
 lacks_memory (JoinNoWriter told) = true
@@ -157,7 +138,7 @@ lacks_memory _ = false
 -- why a step refuses its call
 abbrev pub Refuses : Bool → RwLock → Place → Found → Refusal → Type 0
 Refuses memory l x f refusal.Memory = (memory ≡ false) × (in_no_writer x + in_no_readers x ≡ 0) × (deed_at x f ≡ nothing) × ((t : TurnCourse) → fits_turn x t ≡ true → (is_out_there t ≡ true) ⊎ (is_holding t ≡ true)) × (lacks_memory x ≡ true)
-Refuses memory l x f refusal.Readers = (l.limit ≤ readers l) × (meets (sought_at (place_after (next_of x f))) refusal.Readers ≡ true)
+Refuses memory l x f refusal.Readers = (l.limit ≤ readers l) × (may_meet (sought_at (place_after (next_of x f))) refusal.Readers ≡ true)
 Refuses memory l x f _ = ⊥
 
 -- why a step decides its call on an answer
@@ -188,7 +169,7 @@ keeps_what_it_has o d = not (gives_up d) || is_judged o
 -- an upgrade's future stays one while its call is undecided or pending
 abbrev pub KeepsUpgrade : ℕ → Place → Next → Type 0
 KeepsUpgrade v x (next.Do a q) = (t : TurnCourse) → verdict v q t ≡ None → is_upgrade q ≡ is_upgrade x
-KeepsUpgrade v x (next.End Waiting q) = is_upgrade q ≡ true
+KeepsUpgrade v x (next.Wait q) = is_upgrade q ≡ true
 KeepsUpgrade v x (next.End Pending q) = is_upgrade q ≡ is_upgrade x
 KeepsUpgrade v x (next.End (Refused r) q) = is_upgrade q ≡ is_upgrade x
 KeepsUpgrade v x (next.End _ q) = Unit {0}
@@ -203,14 +184,14 @@ pub record Row (memory : Bool) (l : RwLock) (v : ℕ) (x : Place) (f : Found) : 
   pub sharing : Shares (deed_at x f) x (place_after (next_of x f))
   pub starving : (p : ℕ) (s : List Bool) → starved_after p (deed_at x f) s ≡ s
   pub valued : (u : ℕ) → value_after (deed_at x f) u ≡ u
-  pub unturned : (p : ℕ) (a : List (Entry ℕ)) → turn_list_after p (deed_at x f) a ≡ a
-  pub no_writer : (p : ℕ) (a b : List (Entry ℕ)) → OnNoWriter p (action_of x) f a b → b ≡ no_writer_after p (deed_at x f) a
-  pub no_readers : (p : ℕ) (a b : List (Entry ℕ)) → OnNoReaders p (action_of x) f a b → b ≡ no_readers_after p (deed_at x f) a
+  pub unturned : (p : ℕ) (a : List (Entry ℕ)) → entries_after p (deed_at x f) for_the_turn a ≡ a
+  pub no_writer : (p : ℕ) (a b : List (Entry ℕ)) → OnNoWriter p (action_of x) f a b → b ≡ entries_after p (deed_at x f) for_no_writer a
+  pub no_readers : (p : ℕ) (a b : List (Entry ℕ)) → OnNoReaders p (action_of x) f a b → b ≡ entries_after p (deed_at x f) for_no_readers a
   pub finding : Finding (deed_at x f) l x
-  pub judged : (t u : TurnCourse) → Judged memory l v x f (verdict v x t) (verdict_then v (course_of x) u (next_of x f))
+  pub judged : (t u : TurnCourse) → Judged memory l v x f (verdict v x t) (verdict_then v u (next_of x f))
   pub room : Room memory (deed_at x f)
   pub holds_on : (t : TurnCourse) → keeps_what_it_has (verdict v x t) (deed_at x f) ≡ true
-  pub over : is_after_ready (answer_at (course_of x) v (next_of x f)) ≡ false
+  pub over : is_after_ready (answer_by v (next_of x f)) ≡ false
   pub upgrade : KeepsUpgrade v x (next_of x f)
   pub refused : RefusedAt x (next_of x f)
 
@@ -353,7 +334,7 @@ module _ (memory : Bool) (l : RwLock) (v : ℕ) where
 pub record TurnRow (v : ℕ) (x : Place) (f : Found) : Type 0 where
   pub reading : is_reading (place_after (next_of x f)) ≡ is_reading x
   pub sharing : share_of (place_after (next_of x f)) ≡ passing
-  pub over : is_after_ready (answer_at (course_of x) v (next_of x f)) ≡ false
+  pub over : is_after_ready (answer_by v (next_of x f)) ≡ false
   pub upgrade : KeepsUpgrade v x (next_of x f)
   pub refused : RefusedAt x (next_of x f)
 
@@ -423,13 +404,13 @@ turn_row v u (ReleaseTurn ending.GivenBack) _ t e = absurd e
 turn_row v u (ReleasingTurn ending.GivenBack) (Turn (turn_step.End turn_end.GivenBack)) t e = record { reading = refl; sharing = refl; over = refl; upgrade = tt; refused = tt }
 turn_row v u (ReleasingTurn ending.GivenBack) (Turn _) t e = absurd e
 turn_row v u (ReleasingTurn ending.GivenBack) _ t e = absurd e
-turn_row v u (ReleaseTurn ending.NotFree) (Turn turn_step.More) t e = record { reading = refl; sharing = refl; over = refl; upgrade = λ t h. refl; refused = tt }
-turn_row v u (ReleaseTurn ending.NotFree) (Turn (turn_step.End turn_end.GivenBack)) t e = record { reading = refl; sharing = refl; over = refl; upgrade = tt; refused = tt }
-turn_row v u (ReleaseTurn ending.NotFree) (Turn _) t e = absurd e
-turn_row v u (ReleaseTurn ending.NotFree) _ t e = absurd e
-turn_row v u (ReleasingTurn ending.NotFree) (Turn (turn_step.End turn_end.GivenBack)) t e = record { reading = refl; sharing = refl; over = refl; upgrade = tt; refused = tt }
-turn_row v u (ReleasingTurn ending.NotFree) (Turn _) t e = absurd e
-turn_row v u (ReleasingTurn ending.NotFree) _ t e = absurd e
+turn_row v u (ReleaseTurn (ending.NotFree p)) (Turn turn_step.More) t e = record { reading = refl; sharing = refl; over = refl; upgrade = λ t h. refl; refused = tt }
+turn_row v u (ReleaseTurn (ending.NotFree p)) (Turn (turn_step.End turn_end.GivenBack)) t e = record { reading = refl; sharing = refl; over = refl; upgrade = tt; refused = tt }
+turn_row v u (ReleaseTurn (ending.NotFree p)) (Turn _) t e = absurd e
+turn_row v u (ReleaseTurn (ending.NotFree p)) _ t e = absurd e
+turn_row v u (ReleasingTurn (ending.NotFree p)) (Turn (turn_step.End turn_end.GivenBack)) t e = record { reading = refl; sharing = refl; over = refl; upgrade = tt; refused = tt }
+turn_row v u (ReleasingTurn (ending.NotFree p)) (Turn _) t e = absurd e
+turn_row v u (ReleasingTurn (ending.NotFree p)) _ t e = absurd e
 turn_row v u (ReleaseTurn ending.RefuseReaders) (Turn turn_step.More) t e = record { reading = refl; sharing = refl; over = refl; upgrade = λ t h. refl; refused = tt }
 turn_row v u (ReleaseTurn ending.RefuseReaders) (Turn (turn_step.End turn_end.GivenBack)) t e = record { reading = refl; sharing = refl; over = refl; upgrade = refl; refused = inl (refl, refl) }
 turn_row v u (ReleaseTurn ending.RefuseReaders) (Turn _) t e = absurd e

@@ -1,15 +1,15 @@
 -- What always holds of a read-write lock's World, and that no notification is lost at rest.
-use Rattle.std.proofs.Common.{◌≡◌, ℕ, ◌<◌, ◌≤◌, ◌⊎◌, ◌&&◌, inl, inr, Bool, true, false, List, [], ◌∷◌, length, map, zero, suc, Option, Some, None, refl, arith, ap, sym, ◌∙◌, subst}
+use Rattle.std.proofs.Common.{◌≡◌, ℕ, ◌<◌, ◌≤◌, ◌⊎◌, inl, inr, Bool, true, false, List, [], ◌∷◌, length, zero, suc, Option, Some, None, refl, arith, ap, sym, ◌∙◌, subst}
 use Rattle.std.specs.List.{list_all, sum_by}
-use Rattle.std.proofs.lemmas.List.{length-map}
 use Rattle.std.proofs.lemmas.List.Sums.{sum_by-cons}
+use Rattle.lock_event.specs.Lists.{IsMarkedFirst}
 use Rattle.lock_queue.specs.Parties.{entries_of}
 use Rattle.lock_world.specs.declared.standing.Rest.TheVariants as rest
 use Rattle.lock_world.specs.declared.standing.Stage.{Stage}
 use Rattle.lock_world.specs.declared.standing.Stage.TheVariants.{Outside, Inside, Forgotten}
-use Rattle.lock_world.specs.Standings.{is_outside, outside, forgotten, is_outside_stage, forgets}
+use Rattle.lock_world.specs.Standings.{outside, forgotten, is_outside_stage}
 use Rattle.lock_world.specs.Rights.{Right, read, upgradable, write, wait_to_write, excludes}
-use Rattle.mutex_machine.specs.Course.{Course as TurnCourse, counted, holds, listed, is_resting as rests_in_turn}
+use Rattle.mutex_machine.specs.Course.{Course as TurnCourse, counted, is_resting as rests_in_turn}
 use Rattle.mutex_machine.specs.Mutex.{course_at as turn_at, is_counted, holder_of}
 use Rattle.mutex_machine.specs.Mutex as lock
 use Rattle.mutex_machine.proofs.Callers.{out_rests, holding_rests, waiting_rests}
@@ -22,17 +22,25 @@ use Rattle.rwlock_machine.specs.Roles as roles
 use Rattle.rwlock_machine.specs.Machine.{RwLock, place_at}
 use Rattle.rwlock_machine.specs.Acts.{IsRwLock, IsAtRest, writers, marked}
 use Rattle.rwlock_machine.proofs.Places.{share as share_in}
-use Rattle.rwlock_world.specs.Plans.{stage_at, is_future, is_guard, goes_with}
-use Rattle.rwlock_world.specs.Table.{Table, IsTable}
+use Rattle.lock_table.specs.Stages.{stage_at}
+use Rattle.rwlock_world.specs.Stages.{goes_with}
+use Rattle.lock_table.specs.Tables.{Table}
 use Rattle.rwlock_world.specs.State as state
-use Rattle.rwlock_world.specs.State.{Turn, nobody, passes, is_upgradable, waits_to_write, writes, World, standing_of, is_marked, entries_in, HasTurn}
+use Rattle.rwlock_world.specs.State.{ListName, for_the_turn, for_no_readers, for_no_writer, list_of, Turn, nobody, passes, is_upgradable, waits_to_write, writes, World, standing_of, is_marked, entries_in, HasTurn}
 use Rattle.rwlock_world.specs.Legal.{HasItsOwn}
 use Rattle.rwlock_world.specs.Laws.{HasRight, IsSound, is_at_rest, IsAwake}
-use Rattle.rwlock_world.specs.Lending.{is_forgotten_then, world_with}
-use Rattle.rwlock_world.specs.Table.{table_with}
-use Rattle.rwlock_world.specs.View.{Share, passing, upgrading, waiting, writing, turn_as, share_of, turn_by, is_reading, stands_as, rest as others, standings, view_of}
-use Rattle.rwlock_world.proofs.Begun.{at_out, at_future, at_guard}
+use Rattle.rwlock_world.specs.Lending.{world_with}
+use Rattle.lock_table.specs.Lending.{table_with}
+use Rattle.rwlock_world.specs.Lent.{future_rests, guard_rests}
+use Rattle.rwlock_world.specs.Number.{LockedNumber, number_with}
+use Rattle.rwlock_world.specs.Steps.{IsNumberTable}
+use Rattle.rwlock_world.specs.View.{verdict_of, Share, passing, upgrading, waiting, writing, turn_as, share_of, turn_by, is_reading, standing_at, view_of}
+use Rattle.rwlock_world.proofs.Begun.{at_out}
+use Rattle.lock_table.proofs.Lending.{lent_seen}
+use Rattle.lock_table.proofs.Views.{rest_seen, outside_at}
+use Rattle.lock_table.proofs.Past.{inside_or_past}
 use Rattle.rwlock_world.proofs.Views as view
+use Rattle.rwlock_world.proofs.Views.{Fits}
 use Rattle.rwlock_world.proofs.Owns as owns
 use Rattle.rwlock_world.proofs.RightsInside as calls
 
@@ -144,43 +152,39 @@ excluded w alone p q _ s a b e = absurd a
 true_one : (b : Bool) (n : ℕ) → bit b ≡ n → b ≡ true → n ≡ 1
 true_one b n e h = sym e ∙ ap bit h
 
-module _ (t : Table) (laws : IsRwLock t.lock) (fits : IsTable t.lock t.stages t.sought) where
+module _ (t : Table LockedNumber) (laws : IsRwLock t.machine.lock) (fits : IsNumberTable t) where
   abbrev w : World
   w = view_of t
 
   alone : (p q : ℕ) → w.state.turn ≡ writes p → state.reads w q ≡ true → ⊥
   alone p q a b =
-      let there = writes_there (place_at t.lock.places p) (writes_at (holder_of t.lock.turn) t.lock.places p a) in
-      let none : reads (place_at t.lock.places q) ≡ 0 = laws.writes_apart p q there in
-      let one : reads (place_at t.lock.places q) ≡ 1 = true_one (is_reading (place_at t.lock.places q)) (reads (place_at t.lock.places q)) (view.reading_bit (place_at t.lock.places q)) (sym (view.reads_at t.lock.places q) ∙ b) in
+      let there = writes_there (place_at t.machine.lock.places p) (writes_at (holder_of t.machine.lock.turn) t.machine.lock.places p a) in
+      let none : reads (place_at t.machine.lock.places q) ≡ 0 = laws.writes_apart p q there in
+      let one : reads (place_at t.machine.lock.places q) ≡ 1 = true_one (is_reading (place_at t.machine.lock.places q)) (reads (place_at t.machine.lock.places q)) (view.reading_bit (place_at t.machine.lock.places q)) (sym (view.reads_at t.machine.lock.places q) ∙ b) in
       omega arith
 
   pub sound : IsSound w
   sound = record {
     exclusion = excluded w alone;
-    upgradable_reads = λ p e. view.reads_at t.lock.places p ∙ upgrades_there (place_at t.lock.places p) (up_at (holder_of t.lock.turn) t.lock.places p e);
+    upgradable_reads = λ p e. view.reads_at t.machine.lock.places p ∙ upgrades_there (place_at t.machine.lock.places p) (up_at (holder_of t.machine.lock.turn) t.machine.lock.places p e);
     none_while_writing = λ p e.
-        let there = writes_there (place_at t.lock.places p) (writes_at (holder_of t.lock.turn) t.lock.places p e) in
-        let some : 0 < writers t.lock = omega (arith, share_in roles.writes refl t.lock.places p, there) in
-        view.how_many-read t.lock.places ∙ laws.alone some;
-    each = owns.each t.lock t.stages t.sought t.value laws fits;
-    inside_calls = calls.inside_calls t.lock t.stages t.sought t.value fits;
-    drops_seek_nothing = calls.drops_seek_nothing t.lock t.stages t.sought t.value fits;
-    as_many_seek = calls.as_many_seek t.lock t.stages t.sought t.value fits;
-    few_starved = rw (view.how_many-starved) laws.turn.few_starved;
+        let there = writes_there (place_at t.machine.lock.places p) (writes_at (holder_of t.machine.lock.turn) t.machine.lock.places p e) in
+        let some : 0 < writers t.machine.lock = omega (arith, share_in roles.writes refl t.machine.lock.places p, there) in
+        view.how_many-read t.machine.lock.places ∙ laws.alone some;
+    each = owns.each t.machine.lock t.stages t.opening t.machine.value laws fits;
+    inside_calls = calls.inside_calls t.machine.lock t.stages t.opening t.machine.value fits;
+    drops_seek_nothing = calls.drops_seek_nothing t.machine.lock t.stages t.opening t.machine.value fits;
+    as_many_seek = calls.as_many_seek t.machine.lock t.stages t.opening t.machine.value fits;
+    few_starved = rw (sees.how_many_counted) laws.turn.few_starved;
     once = λ p. omega (arith, laws.one_entry p);
-    turn_in_order = laws.turn.in_order;
-    no_readers_in_order = laws.in_order_no_readers;
-    no_writer_in_order = laws.in_order_no_writer;
-  }
+    in_order = by_list;
+  } where
+    by_list : (list : ListName) → IsMarkedFirst (list_of w list)
+    by_list for_the_turn = laws.turn.in_order
+    by_list for_no_readers = laws.in_order_no_readers
+    by_list for_no_writer = laws.in_order_no_writer
 
 -- ---- at rest
-
-future_rests : (x : Place) → is_future x ≡ true → is_resting x ≡ true
-future_rests = at_future (λ x. is_resting x ≡ true) (record { made = λ m. refl; no_writer = refl; turn = λ p. refl; no_readers = λ u. refl; upgrade = refl })
-
-guard_rests : (x : Place) → is_guard x ≡ true → is_resting x ≡ true
-guard_rests = at_guard (λ x. is_resting x ≡ true) (record { reading = refl; upgradable = refl; writing = refl })
 
 -- a party that is outside every call rests
 rests : (s : Stage) (x : Place) → goes_with s x ≡ true → is_outside_stage s ≡ true → is_resting x ≡ true
@@ -191,34 +195,14 @@ rests (Outside rest.Finished) x g o = absurd (cc)
 rests (Inside u) x g o = absurd (cc)
 rests Forgotten x g o = g
 
-split : (a b : Bool) → a && b ≡ true → (a ≡ true) × (b ≡ true)
-split true b h = (refl, h)
-split false b h = absurd (cc)
-
-same_outside : (v : ℕ) (s : Stage) (x : Place) (t : TurnCourse) → is_outside (stands_as v s x t) ≡ is_outside_stage s
-same_outside v (Outside r) x t = refl
-same_outside v (Inside u) x t = refl
-same_outside v Forgotten x t = refl
-
--- the World is at rest where its table is
-pub rest_seen : (v : ℕ) (ss : List Stage) (xs : List Place) (ts : List TurnCourse) → length ss ≡ length xs → list_all is_outside (standings v ss xs ts) ≡ list_all is_outside_stage ss
-rest_seen v [] xs ts e = refl
-rest_seen v (s ∷ ss) [] ts e = absurd (omega arith)
-rest_seen v (s ∷ ss) (x ∷ xs) ts e = let more = rest_seen v ss xs (others ts) (omega arith) in let one = same_outside v s x (turn_at ts 0) in cc
-
-pub every : (ss : List Stage) (p : ℕ) → list_all is_outside_stage ss ≡ true → p < length ss → is_outside_stage (stage_at ss p) ≡ true
-every [] p h k = absurd (omega arith)
-every (s ∷ ss) zero h k = (split (is_outside_stage s) (list_all is_outside_stage ss) h).0
-every (s ∷ ss) (suc p) h k = every ss p (split (is_outside_stage s) (list_all is_outside_stage ss) h).1 (omega arith)
-
 past_out : (xs : List Place) (p : ℕ) → (p < length xs) ⊎ (place_at xs p ≡ place.Out)
 past_out [] p = inr refl
 past_out (x ∷ xs) zero = inl (omega arith)
 past_out (x ∷ xs) (suc p) = elim (past_out xs p) as (λ _. (suc p < length (x ∷ xs)) ⊎ (place_at xs p ≡ place.Out)) [ inl h ↦ inl (omega arith) | inr h ↦ inr h ]
 
-pub all_rest : (l : RwLock) (ss : List Stage) (os : _) → IsTable l ss os → list_all is_outside_stage ss ≡ true → IsAtRest l
-all_rest l ss os fits resting p = elim (past_out l.places p) as (λ _. is_resting (place_at l.places p) ≡ true) [
-  | inl h ↦ (let known : p < length ss = omega (arith, fits.as_many, h) in rests (stage_at ss p) (place_at l.places p) (fits.fits p known) (every ss p resting known))
+pub all_rest : (l : RwLock) (ss : List Stage) (v : ℕ) → Fits l ss v → list_all is_outside_stage ss ≡ true → IsAtRest l
+all_rest l ss v fits resting p = elim (past_out l.places p) as (λ _. is_resting (place_at l.places p) ≡ true) [
+  | inl h ↦ (let known : p < length ss = omega (arith, fits.as_many, h) in rests (stage_at ss p) (place_at l.places p) (fits.stands p known) (outside_at ss resting p))
   | inr e ↦ rw e refl
 ]
 
@@ -295,11 +279,11 @@ zero_or zero = inl refl
 zero_or (suc n) = inr (omega arith)
 
 -- the bit is set exactly where a party is seen to wait to write, or to write
-pub bit_seen : (l : RwLock) (ss : List Stage) (os : _) (v : ℕ) (laws : IsRwLock l) (fits : IsTable l ss os) → is_marked (turn_by (holder_of l.turn) l.places) ≡ false → marked l ≡ 0
-bit_seen l ss os v laws fits none = elim (zero_or (marked l)) as (λ _. marked l ≡ 0) [
+pub bit_seen : (l : RwLock) (ss : List Stage) (opening v : ℕ) (laws : IsRwLock l) (fits : Fits l ss v) → is_marked (turn_by (holder_of l.turn) l.places) ≡ false → marked l ≡ 0
+bit_seen l ss opening v laws fits none = elim (zero_or (marked l)) as (λ _. marked l ≡ 0) [
   | inl e ↦ e
   | inr some ↦ (let m = marking_place l.places some in
-      let turn = owns.turn_is l ss os v laws fits m.0 (has_marks (place_at l.places m.0) m.1) in
+      let turn = owns.turn_is l ss opening v laws fits m.0 (has_marks (place_at l.places m.0) m.1) in
       let set : is_marked (turn_by (holder_of l.turn) l.places) ≡ true = ap is_marked turn ∙ marked_as m.0 (share_of (place_at l.places m.0)) (marks_share (place_at l.places m.0) m.1) in
       absurd (cc))
 ]
@@ -323,15 +307,12 @@ nobody_holds (Some p) xs e = absurd (by_share (share_of (place_at xs p)) e) wher
   by_share waiting e = cc
   by_share writing e = cc
 
-one_counted : (b : Bool) (n : ℕ) → Rattle.mutex_machine.specs.Course.bit b ≡ n → b ≡ true → n ≡ 1
-one_counted b n e h = sym e ∙ ap Rattle.mutex_machine.specs.Course.bit h
-
-module _ (t : Table) (laws : IsRwLock t.lock) (fits : IsTable t.lock t.stages t.sought) where
+module _ (t : Table LockedNumber) (laws : IsRwLock t.machine.lock) (fits : IsNumberTable t) where
   abbrev seen_as : World
   seen_as = view_of t
 
   -- a listed party that is outside every call is pending, or was
-  pends : (p : ℕ) (s : Stage) → standing_of seen_as p ≡ stands_as t.value s (place_at t.lock.places p) (turn_at t.lock.turn.courses p) → is_outside_stage s ≡ true → 0 < entries_in seen_as p → HasItsOwn seen_as p (standing_of seen_as p)
+  pends : (p : ℕ) (s : Stage) → standing_of seen_as p ≡ standing_at t.machine.value s (place_at t.machine.lock.places p) (turn_at t.machine.lock.turn.courses p) → is_outside_stage s ≡ true → 0 < entries_in seen_as p → HasItsOwn seen_as p (standing_of seen_as p)
       → (standing_of seen_as p ≡ outside rest.Pending) ⊎ (standing_of seen_as p ≡ forgotten)
   pends p (Outside rest.Idle) e o some own = let k : HasItsOwn seen_as p (outside rest.Idle) = rw e at own in absurd (omega (arith, k.0.0, some))
   pends p (Outside rest.Pending) e o some own = inl e
@@ -342,70 +323,30 @@ module _ (t : Table) (laws : IsRwLock t.lock) (fits : IsTable t.lock t.stages t.
 
   pub awake : is_at_rest seen_as ≡ true → IsAwake seen_as
   awake resting =
-      let out : list_all is_outside_stage t.stages ≡ true = sym (rest_seen t.value t.stages t.lock.places t.lock.turn.courses fits.as_many) ∙ resting in
-      let quiet : IsAtRest t.lock = all_rest t.lock t.stages t.sought fits out in
-      let stood = owns.stood t.lock t.stages t.sought t.value laws fits in
-      let each = owns.each t.lock t.stages t.sought t.value laws fits in
+      let out : list_all is_outside_stage t.stages ≡ true = sym (rest_seen (verdict_of t.machine) t.stages) ∙ resting in
+      let quiet : IsAtRest t.machine.lock = all_rest t.machine.lock t.stages t.machine.value fits out in
+      let stood = owns.stood t.machine.lock t.stages t.opening t.machine.value laws fits in
+      let each = owns.each t.machine.lock t.stages t.opening t.machine.value laws fits in
       record {
-        turn_marked = λ free. laws.wakes_turn quiet (sees.none_holds 0 t.lock.turn.courses (nobody_holds (holder_of t.lock.turn) t.lock.places free.0)) free.1;
-        reading_marked = λ free. laws.wakes_no_writer quiet (bit_seen t.lock t.stages t.sought t.value laws fits free.0) free.1;
-        writing_marked = λ free. laws.wakes_no_readers quiet (sym (view.how_many-read t.lock.places) ∙ free.0) free.1;
-        pending = λ p some. elim (view.in_or_past t.stages p) as (λ _. (standing_of seen_as p ≡ outside rest.Pending) ⊎ (standing_of seen_as p ≡ forgotten)) [
-          | inl known ↦ pends p (stage_at t.stages p) (stood p) (every t.stages p out known) some (each p)
-          | inr past ↦ inr (stood p ∙ ap (λ s. stands_as t.value s (place_at t.lock.places p) (turn_at t.lock.turn.courses p)) past)
+        turn_marked = λ free. laws.wakes_turn quiet (sees.none_holds 0 t.machine.lock.turn.courses (nobody_holds (holder_of t.machine.lock.turn) t.machine.lock.places free.0)) free.1;
+        reading_marked = λ free. laws.wakes_no_writer quiet (bit_seen t.machine.lock t.stages t.opening t.machine.value laws fits free.0) free.1;
+        writing_marked = λ free. laws.wakes_no_readers quiet (sym (view.how_many-read t.machine.lock.places) ∙ free.0) free.1;
+        pending = λ p some. elim (inside_or_past t.stages p) as (λ _. (standing_of seen_as p ≡ outside rest.Pending) ⊎ (standing_of seen_as p ≡ forgotten)) [
+          | inl known ↦ pends p (stage_at t.stages p) (stood p) (outside_at t.stages out p) some (each p)
+          | inr past ↦ inr (stood p ∙ ap (λ s. standing_at t.machine.value s (place_at t.machine.lock.places p) (turn_at t.machine.lock.turn.courses p)) past.1)
         ];
         starved = λ p counts.
-            let ts = t.lock.turn.courses in
-            let one : counted (turn_at ts p) ≡ 1 = one_counted (is_counted (turn_at ts p)) (counted (turn_at ts p)) (sees.counted_bit (turn_at ts p)) (sym (sees.starved_at ts p) ∙ counts) in
-            let listed_once : entries_of p t.lock.turn.entries ≡ 1 = laws.turn.starved_listed (turns_rest ts (λ q. rests_there (place_at t.lock.places q) (turn_at ts q) (quiet q) (laws.in_turn q))) p one in
+            let ts = t.machine.lock.turn.courses in
+            let one : counted (turn_at ts p) ≡ 1 = true_one (is_counted (turn_at ts p)) (counted (turn_at ts p)) (sees.counted_bit (turn_at ts p)) (sym (sees.starved_at ts p) ∙ counts) in
+            let listed_once : entries_of p t.machine.lock.turn.entries ≡ 1 = laws.turn.starved_listed (turns_rest ts (λ q. rests_there (place_at t.machine.lock.places q) (turn_at ts q) (quiet q) (laws.in_turn q))) p one in
             omega (arith, listed_once);
       }
 
 -- ---- a value put at rest
 
-forgets_at : (ss : List Stage) (p : ℕ) → stage_at (map forgets ss) p ≡ forgets (stage_at ss p)
-forgets_at [] p = refl
-forgets_at (s ∷ ss) zero = refl
-forgets_at (s ∷ ss) (suc p) = forgets_at ss p
-
-still_fits : (s : Stage) (x : Place) → is_outside_stage s ≡ true → goes_with s x ≡ true → goes_with (forgets s) x ≡ true
-still_fits (Outside rest.Idle) x h g = g
-still_fits (Outside rest.Pending) x h g = future_rests x g
-still_fits (Outside rest.Holding) x h g = guard_rests x g
-still_fits (Outside rest.Finished) x h g = g
-still_fits (Inside u) x h g = absurd (cc)
-still_fits Forgotten x h g = g
-
-pub forgotten_fits : (l : RwLock) (ss : List Stage) (os : _) → IsTable l ss os → list_all is_outside_stage ss ≡ true → IsTable l (map forgets ss) os
-forgotten_fits l ss os fits resting =
-    record {
-      as_many = length-map ss forgets ∙ fits.as_many;
-      as_many_seek = fits.as_many_seek ∙ sym (length-map ss forgets);
-      fits = λ p h.
-          let k : p < length ss = omega (arith, length-map ss forgets) in
-          rw forgets_at (still_fits (stage_at ss p) (place_at l.places p) (every ss p resting k) (fits.fits p k));
-      seeks = λ p h. fits.seeks p (omega (arith, length-map ss forgets));
-    }
-
-forgets_one : (v u : ℕ) (s : Stage) (x : Place) (t : TurnCourse) → is_outside_stage s ≡ true → stands_as u (forgets s) x t ≡ is_forgotten_then (stands_as v s x t)
-forgets_one v u (Outside rest.Idle) x t h = refl
-forgets_one v u (Outside rest.Pending) x t h = refl
-forgets_one v u (Outside rest.Holding) x t h = refl
-forgets_one v u (Outside rest.Finished) x t h = refl
-forgets_one v u (Inside w) x t h = absurd (cc)
-forgets_one v u Forgotten x t h = refl
-
-forgets_seen : (v u : ℕ) (ss : List Stage) (xs : List Place) (ts : List TurnCourse) → list_all is_outside_stage ss ≡ true → standings u (map forgets ss) xs ts ≡ map is_forgotten_then (standings v ss xs ts)
-forgets_seen v u [] xs ts h = refl
-forgets_seen v u (s ∷ ss) [] ts h = refl
-forgets_seen v u (s ∷ ss) (x ∷ xs) ts h =
-    let both = split (is_outside_stage s) (list_all is_outside_stage ss) h in
-    let more = forgets_seen v u ss xs (others ts) both.1 in
-    let one = forgets_one v u s x (turn_at ts 0) both.0 in cc
-
 -- a table whose value was put is seen as the World in which it was
-pub put_seen : (t : Table) (v : ℕ) → list_all is_outside_stage t.stages ≡ true → view_of (table_with t v) ≡ world_with (view_of t) v
-put_seen t v resting = let all = forgets_seen t.value v t.stages t.lock.places t.lock.turn.courses resting in cc
+pub put_seen : (t : Table LockedNumber) (v : ℕ) → list_all is_outside_stage t.stages ≡ true → view_of (table_with number_with t v) ≡ world_with (view_of t) v
+put_seen t v resting = let all = lent_seen (verdict_of t.machine) (verdict_of (number_with t.machine v)) t.stages resting in cc
 
 -- ---- the words
 
@@ -416,8 +357,8 @@ bit_is true false h k = absurd (omega (arith, h refl))
 bit_is false true h k = sym (k refl)
 
 -- the writer's bit
-pub marked_seen : (l : RwLock) (ss : List Stage) (os : _) (v : ℕ) (laws : IsRwLock l) (fits : IsTable l ss os) (b : Bool) → bit b ≡ marked l → b ≡ is_marked (turn_by (holder_of l.turn) l.places)
-marked_seen l ss os v laws fits b e = bit_is b (is_marked (turn_by (holder_of l.turn) l.places)) (λ n. e ∙ bit_seen l ss os v laws fits n) (λ n. none_marked l (sym e ∙ n))
+pub marked_seen : (l : RwLock) (ss : List Stage) (opening v : ℕ) (laws : IsRwLock l) (fits : Fits l ss v) (b : Bool) → bit b ≡ marked l → b ≡ is_marked (turn_by (holder_of l.turn) l.places)
+marked_seen l ss opening v laws fits b e = bit_is b (is_marked (turn_by (holder_of l.turn) l.places)) (λ n. e ∙ bit_seen l ss opening v laws fits n) (λ n. none_marked l (sym e ∙ n))
 
 nobody_test : (h : Option ℕ) (xs : List Place) → state.is_nobody (turn_by h xs) ≡ Rattle.std.specs.Prelude.is_none h
 nobody_test None xs = refl
@@ -433,5 +374,5 @@ none_test None = refl
 none_test (Some p) = refl
 
 -- the turn's word
-pub held_seen : (l : RwLock) (b : Bool) → Rattle.mutex_machine.specs.Course.bit b ≡ lock.holders l.turn → Rattle.std.specs.Prelude.not b ≡ state.is_nobody (turn_by (holder_of l.turn) l.places)
+pub held_seen : (l : RwLock) (b : Bool) → bit b ≡ lock.holders l.turn → Rattle.std.specs.Prelude.not b ≡ state.is_nobody (turn_by (holder_of l.turn) l.places)
 held_seen l b e = ap Rattle.std.specs.Prelude.not (sees.held_seen b l.turn.courses e) ∙ (none_test (holder_of l.turn) ∙ sym (nobody_test (holder_of l.turn) l.places))

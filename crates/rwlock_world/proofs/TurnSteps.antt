@@ -2,6 +2,7 @@
 use Rattle.std.proofs.Common.{◌≡◌, ◌≢◌, ℕ, zero, suc, ◌+◌, ◌<◌, ◌⊎◌, inl, inr, Bool, true, false, List, [], ◌∷◌, length, Option, Some, None, refl, arith, ap, sym, ◌∙◌, get_or, get_or-set_same}
 use Rattle.std.proofs.Math.ListN.{set}
 use Rattle.std.proofs.Math.Decide.{ℕ_discrete}
+use Rattle.std.proofs.lemmas.Bool.{cases_Bool}
 use Rattle.lock_event.specs.declared.event.Entry.{Entry}
 use Rattle.lock_world.specs.declared.moves.Move.{Move}
 use Rattle.lock_world.specs.declared.standing.Stage.{Stage}
@@ -23,13 +24,12 @@ use Rattle.rwlock_machine.specs.declared.program.Place.TheVariants as place
 use Rattle.rwlock_machine.specs.Program.{next_of, place_after}
 use Rattle.rwlock_machine.specs.Machine.{RwLock, place_at}
 use Rattle.rwlock_machine.specs.Acts.{IsRwLock}
-use Rattle.rwlock_world.specs.declared.world.table.Sought.{Sought}
-use Rattle.rwlock_world.specs.Changes.{Change, ListName, takes_turn, leaves_turn, starves, recovers, for_the_turn, turn_after, readers_after, starved_after, value_after, turn_list_after, no_readers_after, no_writer_after, IsAllowed, gives_back, gives_up}
+use Rattle.rwlock_world.specs.Changes.{Change, takes_turn, leaves_turn, starves, recovers, turn_after, readers_after, starved_after, value_after, IsAllowed, gives_back, gives_up, entries_after}
+use Rattle.rwlock_world.specs.State.{ListName, for_the_turn, for_no_readers, for_no_writer}
 use Rattle.rwlock_world.specs.State as state
 use Rattle.rwlock_world.specs.State.{World, told_in, entries_in}
 use Rattle.rwlock_world.specs.View.{passing, upgrading, turn_as, share_of, turn_by, seen}
 use Rattle.rwlock_world.proofs.Facts.{Known, turn_kept, there}
-use Rattle.rwlock_world.proofs.Views as view
 
 -- ---- rosters
 
@@ -68,22 +68,18 @@ pub record TurnMoved (p : ℕ) (l k : RwLock) (w : World) (mutex_deed : Deed mut
   pub starved : starved_of k.turn ≡ starved_after p deed (starved_of l.turn)
   pub valued : (u : ℕ) → value_after deed u ≡ u
   pub allowed : IsAllowed p deed w
-  pub turn_list : k.turn.entries ≡ turn_list_after p deed l.turn.entries
-  pub no_readers : (es : List (Entry ℕ)) → no_readers_after p deed es ≡ es
-  pub no_writer : (es : List (Entry ℕ)) → no_writer_after p deed es ≡ es
+  pub turn_list : k.turn.entries ≡ entries_after p deed for_the_turn l.turn.entries
+  pub no_readers : (es : List (Entry ℕ)) → entries_after p deed for_no_readers es ≡ es
+  pub no_writer : (es : List (Entry ℕ)) → entries_after p deed for_no_writer es ≡ es
   pub parting : mutex.gives_back mutex_deed ≡ true → gives_back deed ≡ true
   pub giving_up : gives_up deed ≡ true → mutex.is_release mutex_deed ≡ true
   pub joining : (list : ListName) → deed ≡ does list joins → mutex_deed ≡ does mutex.for_the_lock joins
   pub idle : mutex_deed ≡ nothing → deed ≡ nothing
 
-bool_or : (b : Bool) → (b ≡ true) ⊎ (b ≡ false)
-bool_or true = inl refl
-bool_or false = inr refl
-
 joins_there : (g : ListFunction) (list : ListName) → Path (Deed Change ListName) (does for_the_turn g) (does list joins) → Path (Deed mutex.Change mutex.ListName) (does mutex.for_the_lock g) (does mutex.for_the_lock joins)
 joins_there g list e = cc
 
-module _ (m : Move) (l k : RwLock) (ss : List Stage) (os : List (Option Sought)) (ts : List Stage) (ps : List (Option Sought)) (v : ℕ) (x : Place) (f : Found) (c : Known m l k ss os x f) (afterwards : IsRwLock k)
+module _ (m : Move) (l k : RwLock) (ss : List Stage) (opening : ℕ) (ts : List Stage) (v : ℕ) (x : Place) (f : Found) (c : Known m l k ss v x f) (afterwards : IsRwLock k)
     (passes_on : share_of (place_after (next_of x f)) ≡ passing) where
   abbrev p : ℕ
   p = m.party
@@ -104,10 +100,10 @@ module _ (m : Move) (l k : RwLock) (ss : List Stage) (os : List (Option Sought))
   memory = (inputs_of m.what).memory
 
   abbrev w : World
-  w = seen l ss os v
+  w = seen l ss opening v
 
   known_place : p < length l.places
-  known_place = there m l k ss os ts ps v x f c
+  known_place = there m l k ss opening ts v x f c
 
   held_by : (h : Bool) → is_holder t ≡ h → h ≡ true → holder_of l.turn ≡ Some p
   held_by h e y = sees.holds_it l.turn.courses p c.laws.turn.one_holder (sym (sees.holds_bit t) ∙ ap turn_roles.bit (e ∙ y))
@@ -142,7 +138,7 @@ module _ (m : Move) (l k : RwLock) (ss : List Stage) (os : List (Option Sought))
         let free = did.fair p none (sees.is_held_by k.turn.courses p e) in (
           turn_none (holder_of l.turn) l.places (sees.none_held 0 l.turn.courses free.0),
           elim free.1 as (λ _. (how_many (starved_of l.turn) ≡ 0) ⊎ (get_or (starved_of l.turn) p false ≡ true)) [
-            | inl e0 ↦ inl (view.how_many-starved l.turn.courses ∙ e0)
+            | inl e0 ↦ inl (sees.how_many_counted l.turn.courses ∙ e0)
             | inr own ↦ inr (sees.starved_at l.turn.courses p ∙ sees.is_one (is_counted t) (sees.counted_bit t ∙ own))
           ],
         )
@@ -152,17 +148,17 @@ module _ (m : Move) (l k : RwLock) (ss : List Stage) (os : List (Option Sought))
         → share_of x ≡ passing → TurnMoved p l k w d
     moved_by nothing h s e own = record { deed = nothing; readers = λ rs. refl; turn = stays own h; starved = s; valued = λ n. refl; allowed = tt; turn_list = e; no_readers = λ es. refl; no_writer = λ es. refl; parting = λ g. refl; giving_up = λ g. absurd (cc); joining = λ list j. absurd (cc); idle = λ i. refl }
     moved_by (does mutex.for_the_lock g) h s e own = record { deed = does for_the_turn g; readers = λ rs. refl; turn = stays own h; starved = s; valued = λ n. refl; allowed = tt; turn_list = e; no_readers = λ es. refl; no_writer = λ es. refl; parting = λ b. b; giving_up = λ g. absurd (cc); joining = λ list j. joins_there g list j; idle = λ i. absurd (cc) }
-    moved_by (changes mutex.takes) h s e own = elim (bool_or (is_holder t)) as (λ _. TurnMoved p l k w (changes mutex.takes)) [
+    moved_by (changes mutex.takes) h s e own = elim (cases_Bool (is_holder t)) as (λ _. TurnMoved p l k w (changes mutex.takes)) [
       | inl held ↦ record { deed = nothing; readers = λ rs. refl; turn = stays own (h ∙ sym (held_by (is_holder t) refl held)); starved = s; valued = λ n. refl; allowed = tt; turn_list = e; no_readers = λ es. refl; no_writer = λ es. refl; parting = λ g. refl; giving_up = λ g. absurd (cc); joining = λ list j. absurd (cc); idle = λ i. refl }
       | inr out ↦ record { deed = changes takes_turn; readers = λ rs. refl; turn = turn_own (holder_of k.turn) h; starved = s; valued = λ n. refl; allowed = took_free out h; turn_list = e; no_readers = λ es. refl; no_writer = λ es. refl; parting = λ g. absurd (cc); giving_up = λ g. absurd (cc); joining = λ list j. absurd (cc); idle = λ i. absurd (cc) }
     ]
-    moved_by (changes mutex.releases) h s e own = elim (bool_or (is_holder t)) as (λ _. TurnMoved p l k w (changes mutex.releases)) [
+    moved_by (changes mutex.releases) h s e own = elim (cases_Bool (is_holder t)) as (λ _. TurnMoved p l k w (changes mutex.releases)) [
       | inl held ↦ record { deed = changes leaves_turn; readers = λ rs. refl; turn = turn_none (holder_of k.turn) k.places h; starved = s; valued = λ n. refl; allowed = inl (ap (λ o. turn_by o l.places) (held_by (is_holder t) refl held) ∙ ap (turn_as p) (sym c.share ∙ own)); turn_list = e; no_readers = λ es. refl; no_writer = λ es. refl; parting = λ g. refl; giving_up = λ g. refl; joining = λ list j. absurd (cc); idle = λ i. absurd (cc) }
       | inr out ↦ record { deed = nothing; readers = λ rs. refl; turn = stays own (h ∙ sym (left_nobody (holder_of l.turn) refl h out)); starved = s; valued = λ n. refl; allowed = tt; turn_list = e; no_readers = λ es. refl; no_writer = λ es. refl; parting = λ g. refl; giving_up = λ g. absurd (cc); joining = λ list j. absurd (cc); idle = λ i. refl }
     ]
     moved_by (changes mutex.starves) h s e own = elim (put_on (starved_of l.turn) (starved_of k.turn) p s) as (λ _. TurnMoved p l k w (changes mutex.starves)) [
       | inl same ↦ record { deed = nothing; readers = λ rs. refl; turn = stays own h; starved = same; valued = λ n. refl; allowed = tt; turn_list = e; no_readers = λ es. refl; no_writer = λ es. refl; parting = λ g. absurd (cc); giving_up = λ g. absurd (cc); joining = λ list j. absurd (cc); idle = λ i. refl }
-      | inr one ↦ record { deed = changes starves; readers = λ rs. refl; turn = stays own h; starved = s; valued = λ n. refl; allowed = (one.0, omega (arith, one.1, view.how_many-starved k.turn.courses, afterwards.turn.few_starved, did.legal.limit)); turn_list = e; no_readers = λ es. refl; no_writer = λ es. refl; parting = λ g. absurd (cc); giving_up = λ g. absurd (cc); joining = λ list j. absurd (cc); idle = λ i. absurd (cc) }
+      | inr one ↦ record { deed = changes starves; readers = λ rs. refl; turn = stays own h; starved = s; valued = λ n. refl; allowed = (one.0, omega (arith, one.1, sees.how_many_counted k.turn.courses, afterwards.turn.few_starved, did.legal.limit)); turn_list = e; no_readers = λ es. refl; no_writer = λ es. refl; parting = λ g. absurd (cc); giving_up = λ g. absurd (cc); joining = λ list j. absurd (cc); idle = λ i. absurd (cc) }
     ]
     moved_by (changes mutex.recovers) h s e own = elim (put_off (starved_of l.turn) (starved_of k.turn) p s) as (λ _. TurnMoved p l k w (changes mutex.recovers)) [
       | inl same ↦ record { deed = nothing; readers = λ rs. refl; turn = stays own h; starved = same; valued = λ n. refl; allowed = tt; turn_list = e; no_readers = λ es. refl; no_writer = λ es. refl; parting = λ g. refl; giving_up = λ g. absurd (cc); joining = λ list j. absurd (cc); idle = λ i. refl }

@@ -1,66 +1,34 @@
 -- What callers see of a read-write lock's table, party by party.
-use Rattle.std.proofs.Common.{◌≡◌, ℕ, ◌<◌, ◌⊎◌, inl, inr, Bool, true, false, List, [], ◌∷◌, map, length, get_or, zero, suc, Option, None, refl, arith, ap, ◌∙◌, if◌then◌else◌}
+use Rattle.std.proofs.Common.{◌≡◌, ℕ, false, List, map, get_or, None, refl}
 use Rattle.std.specs.List.{sum_by}
-use Rattle.std.proofs.lemmas.List.Sums.{sum_by-cons}
 use Rattle.lock_world.specs.declared.standing.Stage.{Stage}
-use Rattle.lock_world.specs.declared.standing.Stage.TheVariants.{Forgotten}
-use Rattle.lock_world.specs.Standings.{forgotten}
 use Rattle.lock_world.specs.Rosters.{how_many}
-use Rattle.mutex_machine.specs.Course.{Course as TurnCourse, counted}
-use Rattle.mutex_machine.specs.Mutex.{course_at as turn_at, is_counted}
-use Rattle.mutex_machine.proofs.Holders as sees
+use Rattle.lock_table.specs.Tables.{IsTable}
+use Rattle.lock_table.proofs.Mapped.{mapped_at}
+use Rattle.mutex_machine.proofs.Rosters as rosters
 use Rattle.rwlock_machine.specs.declared.program.Place.{Place}
 use Rattle.rwlock_machine.specs.declared.program.Place.TheVariants as place
 use Rattle.rwlock_machine.specs.declared.program.Ending.TheVariants as ending
 use Rattle.rwlock_machine.specs.Roles.{bit, reads}
-use Rattle.rwlock_machine.specs.Machine.{place_at}
-use Rattle.rwlock_world.specs.declared.world.table.Sought.{Sought}
-use Rattle.rwlock_world.specs.Plans.{stage_at, seeking}
-use Rattle.rwlock_world.specs.View.{is_reading, is_upgrade, right_of, stands_as, rest, standings}
+use Rattle.rwlock_machine.specs.Machine.{RwLock, place_at}
+use Rattle.rwlock_world.specs.Number.{parties, Stands}
+use Rattle.rwlock_world.specs.Stages.{sought_at}
+use Rattle.rwlock_world.specs.View.{is_reading, is_upgrade}
 
-turn_rest : (ts : List TurnCourse) (p : ℕ) → turn_at (rest ts) p ≡ turn_at ts (suc p)
-turn_rest [] p = refl
-turn_rest (t ∷ ts) p = refl
-
-pub standings_at : (v : ℕ) (ss : List Stage) (xs : List Place) (ts : List TurnCourse) → length ss ≡ length xs → (p : ℕ)
-    → get_or (standings v ss xs ts) p forgotten ≡ stands_as v (stage_at ss p) (place_at xs p) (turn_at ts p)
-standings_at v [] xs ts e p = refl
-standings_at v (s ∷ ss) [] ts e p = absurd (omega arith)
-standings_at v (s ∷ ss) (x ∷ xs) ts e zero = refl
-standings_at v (s ∷ ss) (x ∷ xs) ts e (suc p) = standings_at v ss xs (rest ts) (omega arith) p ∙ ap (stands_as v (stage_at ss p) (place_at xs p)) (turn_rest ts p)
-
-pub length-standings : (v : ℕ) (ss : List Stage) (xs : List Place) (ts : List TurnCourse) → length ss ≡ length xs → length (standings v ss xs ts) ≡ length ss
-length-standings v [] xs ts e = refl
-length-standings v (s ∷ ss) [] ts e = absurd (omega arith)
-length-standings v (s ∷ ss) (x ∷ xs) ts e = ap suc (length-standings v ss xs (rest ts) (omega arith))
+-- each party may stand where it does
+abbrev pub Fits : RwLock → List Stage → ℕ → Type 0
+Fits l ss v = IsTable parties Stands (record { lock = l; value = v }) ss
 
 -- ---- rosters
 
 pub reads_at : (xs : List Place) (p : ℕ) → get_or (map is_reading xs) p false ≡ is_reading (place_at xs p)
-reads_at [] p = refl
-reads_at (x ∷ xs) zero = refl
-reads_at (x ∷ xs) (suc p) = reads_at xs p
+reads_at xs p = mapped_at is_reading xs p place.Out
 
 pub upgrades_at : (xs : List Place) (p : ℕ) → get_or (map is_upgrade xs) p false ≡ is_upgrade (place_at xs p)
-upgrades_at [] p = refl
-upgrades_at (x ∷ xs) zero = refl
-upgrades_at (x ∷ xs) (suc p) = upgrades_at xs p
+upgrades_at xs p = mapped_at is_upgrade xs p place.Out
 
-pub seeks_at : (os : List (Option Sought)) (p : ℕ) → get_or (map right_of os) p None ≡ right_of (seeking os p)
-seeks_at [] p = refl
-seeks_at (o ∷ os) zero = refl
-seeks_at (o ∷ os) (suc p) = seeks_at os p
-
-one_if : (b : Bool) → (if b then 1 else 0) ≡ bit b
-one_if true = refl
-one_if false = refl
-
-pub how_many-starved : (ts : List TurnCourse) → how_many (map is_counted ts) ≡ sum_by counted ts
-how_many-starved [] = refl
-how_many-starved (t ∷ ts) = omega (arith, one_starved (is_counted t), sum_by-cons counted t ts, sees.counted_bit t, how_many-starved ts) where
-  one_starved : (b : Bool) → (if b then 1 else 0) ≡ Rattle.mutex_machine.specs.Course.bit b
-  one_starved true = refl
-  one_starved false = refl
+pub seeks_at : (xs : List Place) (p : ℕ) → get_or (map sought_at xs) p None ≡ sought_at (place_at xs p)
+seeks_at xs p = mapped_at sought_at xs p place.Out
 
 pub reading_bit : (x : Place) → bit (is_reading x) ≡ reads x
 reading_bit place.Out = refl
@@ -85,13 +53,13 @@ reading_bit (place.TryTurn p) = refl
 reading_bit place.CancelTurn = refl
 reading_bit place.CancellingTurn = refl
 reading_bit (place.ReleaseTurn ending.GivenBack) = refl
-reading_bit (place.ReleaseTurn ending.NotFree) = refl
+reading_bit (place.ReleaseTurn (ending.NotFree q)) = refl
 reading_bit (place.ReleaseTurn ending.RefuseReaders) = refl
 reading_bit (place.ReleaseTurn ending.RefuseMemory) = refl
 reading_bit (place.ReleaseTurn ending.Reading) = refl
 reading_bit (place.ReleaseTurn ending.NotifyReaders) = refl
 reading_bit (place.ReleasingTurn ending.GivenBack) = refl
-reading_bit (place.ReleasingTurn ending.NotFree) = refl
+reading_bit (place.ReleasingTurn (ending.NotFree q)) = refl
 reading_bit (place.ReleasingTurn ending.RefuseReaders) = refl
 reading_bit (place.ReleasingTurn ending.RefuseMemory) = refl
 reading_bit (place.ReleasingTurn ending.Reading) = refl
@@ -120,10 +88,4 @@ reading_bit place.DownNotify = refl
 reading_bit place.DowngradeNotify = refl
 
 pub how_many-read : (xs : List Place) → how_many (map is_reading xs) ≡ sum_by reads xs
-how_many-read [] = refl
-how_many-read (x ∷ xs) = omega (arith, one_if (is_reading x), sum_by-cons reads x xs, reading_bit x, how_many-read xs)
-
-pub in_or_past : (ss : List Stage) (q : ℕ) → (q < length ss) ⊎ (stage_at ss q ≡ Forgotten)
-in_or_past [] q = inr refl
-in_or_past (s ∷ ss) zero = inl (omega arith)
-in_or_past (s ∷ ss) (suc q) = elim (in_or_past ss q) as (λ _. (suc q < length (s ∷ ss)) ⊎ (stage_at ss q ≡ Forgotten)) [ inl h ↦ inl (omega arith) | inr h ↦ inr h ]
+how_many-read = rosters.how_many_on reads place.Out reading_bit refl

@@ -13,27 +13,27 @@ use Rattle.lock_frame.specs.Steps.{StepsWell, left_by, beginning}
 use Rattle.lock_frame.proofs.Endings.{ends_outside as outside_at_end}
 use Rattle.rwlock_world.specs.State.{World, standing_of}
 use Rattle.rwlock_world.specs.Steps.{Stands, Steps}
-use Rattle.rwlock_world.specs.Table.{plan_in}
-use Rattle.rwlock_world.specs.View.{view_of}
 use Rattle.rwlock_world.specs.Laws.{IsSound, IsAwake, is_at_rest}
 use Rattle.rwlock_world.specs.Legal.{knows_of}
 use Rattle.rwlock_world.specs.Runs.{Runs, HoldsWell, TellsRights, accounts_of}
 use Rattle.rwlock_world.specs.Whole.{most_steps_of, steps_left_of}
 use Rattle.rwlock_world.specs.Bound.{Promises}
-use Rattle.rwlock_world.proofs.Opened.{sound_opened, awake_opened}
+use Rattle.rwlock_world.proofs.Acting.{Way, way}
+use Rattle.rwlock_world.proofs.BoundRuns.{laws}
 use Rattle.rwlock_world.proofs.Sound.{sound, awake}
 use Rattle.rwlock_world.proofs.Rights.{holds_well}
 use Rattle.rwlock_world.proofs.Whole as whole
+use Rattle.rwlock_world.proofs.Handing.{hands_on}
 use Rattle.rwlock_world.proofs.FirstPolls.{upgradable_ready, write_ready}
 use Rattle.rwlock_world.proofs.Promises.{unstarved_at_end}
 use Rattle.rwlock_world.proofs.BoundSeen.{turn_seen_polled, reading_seen_polled, writing_seen_polled}
 
 sound_now : (w : World) → Stands w → IsSound w
-sound_now w s = subst IsSound (sym s.seen) (sound_opened w.opening_value (view_of w.behind) (sound w.behind s.lock s.fits))
+sound_now w s = subst IsSound (sym s.seen) (sound w.behind s.lock s.fits)
 
 awake_now : (w : World) → Stands w → is_at_rest w ≡ true → IsAwake w
 awake_now w s = let A : World → Type 0 = λ x. is_at_rest x ≡ true → IsAwake x in
-    subst A (sym s.seen) (λ rest. awake_opened w.opening_value (view_of w.behind) (awake w.behind s.lock s.fits rest))
+    subst A (sym s.seen) (awake w.behind s.lock s.fits)
 
 pub told_at_first : (w : World) → TellsRights (accounts_of w) w
 told_at_first w p = refl
@@ -43,11 +43,14 @@ goes_well known w m a v tells s =
     let both = holds_well known w m a v tells (sound_now w s.did.stood) s.legal (sound_now v s.did.stands) (awake_now v s.did.stands) in
     record { tells = both.0; well = both.1 }
 
+way_of : (w : World) (m : Move) (a : Answer) (v : World) → Steps w m a v → Way w.behind v.behind m a
+way_of w m a v s = way w.behind v.behind m a (laws w s.did.stood) (laws v s.did.stands) s.did.step
+
 pub begins : (w : World) (p : ℕ) (c : Call) (i : Inputs) (a : Answer) (v : World) → Steps w (beginning p c i) a v → 1 + left_by a (steps_left_of v p) ≤ most_steps_of c
-begins w p c i a v s = whole.first w.behind v.behind p s.did.stood.lock s.did.stood.fits c i a (plan_in w.behind (beginning p c i)) refl s.did.step
+begins w p c i a v s = whole.first w.behind v.behind p c i a (way_of w (beginning p c i) a v s)
 
 pub falls : (w : World) (p : ℕ) (i : Inputs) (a : Answer) (v : World) → Steps w (going_on p i) a v → left_by a (steps_left_of v p) < steps_left_of w p
-falls w p i a v s = whole.onward w.behind v.behind p s.did.stood.lock s.did.stood.fits i a (plan_in w.behind (going_on p i)) refl s.did.step
+falls w p i a v s = whole.onward w.behind v.behind p i a s.did.stood.lock (way_of w (going_on p i) a v s)
 
 pub ends_outside : (w : World) (m : Move) (a : Answer) (v : World) → Steps w m a v → a ≢ answer.Stepped → is_possible a ≡ true → is_outside (standing_of v m.party) ≡ true
 ends_outside w m a v s = outside_at_end standing_of knows_of Holding w m a v s.legal.possible s.legal.ends_properly
@@ -67,4 +70,5 @@ keeps_promise known w p c i n a v runs ended =
       unstarved = λ patient none. unstarved_at_end known w p c i n a v stood patient none runs ended;
       first_upgradable = upgradable_ready known w p c i n a v stood runs ended;
       first_write = write_ready known w p c i n a v stood runs ended;
+      hands_on = hands_on known w p c i n a v stood runs ended;
     }

@@ -1,6 +1,7 @@
 -- How often what is free may be passed over: whole polls of notified parties, one after the other, each carried out while the others stand still.
-use Rattle.std.specs.Prelude.{◌≡◌, ◌≢◌, ℕ, ◌<◌, ◌⊎◌, true, false, List}
+use Rattle.std.specs.Prelude.{◌≡◌, ◌≢◌, ℕ, ◌<◌, ◌⊎◌, true, false, List, length}
 use Rattle.lock_event.specs.declared.event.Entry.{Entry}
+use Rattle.lock_event.specs.Lists.{marked_count}
 use Rattle.lock_queue.specs.Parties.{entries_of}
 use Rattle.lock_world.specs.declared.moves.Answer.{Answer}
 use Rattle.lock_world.specs.declared.moves.Answer.TheVariants as answer
@@ -10,11 +11,12 @@ use Rattle.lock_world.specs.declared.moves.Got.TheVariants.{Value}
 use Rattle.lock_world.specs.declared.moves.Inputs.{Inputs}
 use Rattle.lock_world.specs.declared.moves.What.TheVariants.{Begin}
 use Rattle.lock_world.specs.declared.standing.Rest.TheVariants.{Pending}
+use Rattle.lock_world.specs.Frame.{is_refusal}
 use Rattle.lock_world.specs.Rights.{upgradable, write}
 use Rattle.lock_world.specs.Rosters.{how_many}
 use Rattle.lock_world.specs.Standings.{outside}
 use Rattle.lock_world.specs.Bounds as bounds
-use Rattle.rwlock_world.specs.State.{nobody, is_upgradable, waits_to_write, writes, World, standing_of, reads, is_starved, how_many_read, is_marked, is_turn_free, is_upgrader, HasTurn}
+use Rattle.rwlock_world.specs.State.{ListName, list_of, nobody, is_upgradable, waits_to_write, writes, World, standing_of, reads, is_starved, how_many_read, is_marked, is_turn_free, is_upgrader, HasTurn}
 use Rattle.rwlock_world.specs.Laws.{is_at_rest}
 use Rattle.rwlock_world.specs.Legal.{is_first}
 use Rattle.rwlock_world.specs.Whole.{IsWholeCall}
@@ -67,7 +69,7 @@ pub record TakesToWrite (w : World) (p : ℕ) (a : Answer) (v : World) : Type 0 
   pub kept : v.state.value ≡ w.state.value
   pub writes : v.state.turn ≡ writes p
 
--- What a whole call promises: a solo poll of a free turn takes it or gives way; one to read or to write, where that is free, takes it; where nobody is starved, a party isn't starved at the end that hasn't waited for too long; and a first poll of what is free is ready.
+-- What a whole call promises: a solo poll of a free turn takes it or gives way; one to read or to write, where that is free, takes it; where nobody is starved, a party isn't starved at the end that hasn't waited for too long; a first poll of what is free is ready; and a refused poll hands on.
 pub record Promises (w : World) (p : ℕ) (c : Call) (inputs : Inputs) (a : Answer) (v : World) : Type 0 where
   pub turn : c ≡ call.Poll → IsSoloForTurn w p inputs → w.state.turn ≡ nobody → how_many_read w < w.readers_limit → SoloPollForTurn w p a v
   pub reading : c ≡ call.Poll → IsSoloToRead w p inputs → is_marked w.state.turn ≡ false → how_many_read w < w.readers_limit → TakesToRead w p a v
@@ -76,6 +78,8 @@ pub record Promises (w : World) (p : ℕ) (c : Call) (inputs : Inputs) (a : Answ
   -- a first poll that finds the turn free is ready: of an upgradable read where readers are below their limit, of a write where nobody reads
   pub first_upgradable : is_first w (record { party = p; what = Begin c inputs }) upgradable ≡ true → is_turn_free w.state ≡ true → how_many_read w < w.readers_limit → a ≡ answer.Ready (Value w.state.value)
   pub first_write : is_first w (record { party = p; what = Begin c inputs }) write ≡ true → is_upgrader w p ≡ false → is_turn_free w.state ≡ true → how_many_read w ≡ 0 → a ≡ answer.Ready (Value w.state.value)
+  -- A refused poll of a party that stood in a list hands on what it was told there: some entry of that list is marked, if there is any.
+  pub hands_on : (list : ListName) → c ≡ call.Poll → standing_of w p ≡ outside Pending → 0 < entries_of p (list_of w list) → is_refusal a ≡ true → 0 < length (list_of v list) → 0 < marked_count (list_of v list)
 
 -- ---- Polls that pass over what is free
 

@@ -3,7 +3,7 @@ use Rattle.std.specs.Prelude.{◌≡◌, ℕ, ◌<◌, ◌⊎◌, Bool, true, fa
 use Rattle.lock_event.specs.declared.event.Entry.{Entry}
 use Rattle.lock_world.specs.Rosters.{how_many}
 use Rattle.lock_world.specs.Steps.{Deed, nothing, changes, does, leaves, list_after, is_parting}
-use Rattle.rwlock_world.specs.State.{Turn, nobody, passes, is_upgradable, waits_to_write, writes, State, World, reads, is_starved, is_marked, how_many_read}
+use Rattle.rwlock_world.specs.State.{ListName, for_the_turn, for_no_readers, for_no_writer, Turn, nobody, passes, is_upgradable, waits_to_write, writes, State, World, reads, is_starved, is_marked, how_many_read}
 
 -- The changes of the state, each the moving party's own.
 pub data Change : Type 0 where
@@ -32,12 +32,6 @@ pub data Change : Type 0 where
   downgrades_to_upgradable : Change
   -- a writer leaves a value
   puts : ℕ → Change
-
--- The lists: of those that wait for the turn, of the one that waits until no reader is left, and of readers that wait until no writer is.
-pub data ListName : Type 0 where
-  for_the_turn : ListName
-  for_no_readers : ListName
-  for_no_writer : ListName
 
 abbrev pub turn_after : ℕ → Deed Change ListName → Turn → Turn
 turn_after p (changes takes_turn) t = passes p
@@ -76,17 +70,12 @@ value_after _ old = old
 abbrev pub state_after : ℕ → Deed Change ListName → State → State
 state_after p d s = record { readers = readers_after p d s.readers; turn = turn_after p d s.turn; starved = starved_after p d s.starved; value = value_after d s.value }
 
-abbrev pub turn_list_after : ℕ → Deed Change ListName → List (Entry ℕ) → List (Entry ℕ)
-turn_list_after p (does for_the_turn f) l = list_after p f l
-turn_list_after p _ l = l
-
-abbrev pub no_readers_after : ℕ → Deed Change ListName → List (Entry ℕ) → List (Entry ℕ)
-no_readers_after p (does for_no_readers f) l = list_after p f l
-no_readers_after p _ l = l
-
-abbrev pub no_writer_after : ℕ → Deed Change ListName → List (Entry ℕ) → List (Entry ℕ)
-no_writer_after p (does for_no_writer f) l = list_after p f l
-no_writer_after p _ l = l
+-- A list function changes its own list alone.
+abbrev pub entries_after : ℕ → Deed Change ListName → ListName → List (Entry ℕ) → List (Entry ℕ)
+entries_after p (does for_the_turn f) for_the_turn l = list_after p f l
+entries_after p (does for_no_readers f) for_no_readers l = list_after p f l
+entries_after p (does for_no_writer f) for_no_writer l = list_after p f l
+entries_after p d list l = l
 
 -- Where a change may be made. The turn is taken where nobody has it, and nobody is starved for it or the taker is; reading begins beside no writer and below the limit, or by a writer's own downgrade; and writing begins where no reader is left, or the writer was the only one.
 abbrev pub May : ℕ → Change → World → Type 0

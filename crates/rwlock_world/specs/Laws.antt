@@ -12,7 +12,7 @@ use Rattle.lock_world.specs.declared.standing.Within.{Within}
 use Rattle.lock_world.specs.Rights.{Right, read, upgradable, write, wait_to_write, excludes}
 use Rattle.lock_world.specs.Rosters.{how_many}
 use Rattle.lock_world.specs.Standings.{outside, inside, forgotten, is_outside}
-use Rattle.rwlock_world.specs.State.{nobody, is_upgradable, waits_to_write, writes, World, standing_of, sought_by, reads, is_starved, is_marked, how_many_read, entries_in}
+use Rattle.rwlock_world.specs.State.{ListName, list_of, nobody, is_upgradable, waits_to_write, writes, World, standing_of, sought_by, reads, is_starved, is_marked, how_many_read, entries_in}
 use Rattle.rwlock_world.specs.Legal.{HasItsOwn}
 
 -- The rights in the state.
@@ -49,9 +49,7 @@ pub record IsSound (w : World) : Type 0 where
   pub few_starved : how_many w.state.starved ≤ w.starved_limit
   -- No party stands in the lists twice, and in each the marked entries stand before the waiting ones.
   pub once : (p : ℕ) → entries_in w p ≤ 1
-  pub turn_in_order : IsMarkedFirst w.turn_list
-  pub no_readers_in_order : IsMarkedFirst w.no_readers
-  pub no_writer_in_order : IsMarkedFirst w.no_writer
+  pub in_order : (list : ListName) → IsMarkedFirst (list_of w list)
 
 -- Nobody is inside a call.
 abbrev pub is_at_rest : World → Bool

@@ -22,8 +22,8 @@ use Rattle.lock_world.specs.Rights.{Right, read, upgradable, write}
 use Rattle.lock_world.specs.Rosters.{how_many}
 use Rattle.lock_world.specs.Standings.{Standing, outside, inside, forgotten, inputs_of, is_possible, is_decided, decision, refused}
 use Rattle.lock_world.specs.Steps.{Deed, nothing, does, joins}
-use Rattle.rwlock_world.specs.State.{Turn, passes, is_upgradable, waits_to_write, writes, World, standing_of, sought_by, reads, how_many_read, is_marked, is_turn_free, HasTurn, entries_in, told_in, is_upgrader, IsClear}
-use Rattle.rwlock_world.specs.Changes.{Change, ListName, state_after, turn_list_after, no_readers_after, no_writer_after, IsAllowed, gives_back, gives_up}
+use Rattle.rwlock_world.specs.State.{ListName, list_of, Turn, passes, is_upgradable, waits_to_write, writes, World, standing_of, sought_by, reads, how_many_read, is_marked, is_turn_free, HasTurn, entries_in, told_in, is_upgrader, IsClear}
+use Rattle.rwlock_world.specs.Changes.{Change, state_after, entries_after, IsAllowed, gives_back, gives_up}
 
 -- The calls of a read-write lock, by the right that the party's guard is for: a guard's own calls are known of that guard alone.
 abbrev pub knows : Option Right → Call → Bool
@@ -66,9 +66,7 @@ pub record ChangesOneThing (old : World) (m : Move) (a : Answer) (new : World) :
   pub deed : Deed Change ListName
   pub state : new.state ≡ state_after m.party deed old.state
   pub allowed : IsAllowed m.party deed old
-  pub turn_list : new.turn_list ≡ turn_list_after m.party deed old.turn_list
-  pub no_readers : new.no_readers ≡ no_readers_after m.party deed old.no_readers
-  pub no_writer : new.no_writer ≡ no_writer_after m.party deed old.no_writer
+  pub lists : (list : ListName) → list_of new list ≡ entries_after m.party deed list (list_of old list)
   pub starved_limit : new.starved_limit ≡ old.starved_limit
   pub readers_limit : new.readers_limit ≡ old.readers_limit
   pub opening_value : new.opening_value ≡ old.opening_value
@@ -141,7 +139,7 @@ may_meet s r = false
 
 -- Why a call may be refused: a join found no memory, for the move's input said so; it seeks what there is a limit for, and there are as many starved parties, or readers, as there may be; or the future had been ready before.
 abbrev pub IsCause : World → Move → World → Refusal → Type 0
-IsCause old m new refusal.Memory = ((inputs_of m.what).memory ≡ false) × (entries_in old m.party ≡ 0) × (new.turn_list ≡ old.turn_list) × (new.no_readers ≡ old.no_readers) × (new.no_writer ≡ old.no_writer)
+IsCause old m new refusal.Memory = ((inputs_of m.what).memory ≡ false) × (entries_in old m.party ≡ 0) × ((list : ListName) → list_of new list ≡ list_of old list)
 IsCause old m new refusal.Starved = (how_many old.state.starved ≡ old.starved_limit) × (may_meet (sought_by new m.party) refusal.Starved ≡ true)
 IsCause old m new refusal.Readers = (old.readers_limit ≤ how_many_read old) × (may_meet (sought_by new m.party) refusal.Readers ≡ true)
 IsCause old m new refusal.Finished = new ≡ old

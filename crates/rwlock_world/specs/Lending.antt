@@ -2,23 +2,16 @@
 use Rattle.std.specs.Prelude.{ℕ, map}
 use Rattle.std.specs.Borrow.{Lends, MutBor, Fml, u64}
 use Rattle.rwlock_world.specs.contracts.world.World.{the_row}
-use Rattle.lock_world.specs.declared.standing.Rest.TheVariants.{Pending, Holding}
-use Rattle.lock_world.specs.Standings.{Standing, outside, forgotten}
 use Rattle.rwlock_world.specs.State.{World}
-use Rattle.rwlock_world.specs.Table.{table_with}
-
--- Whoever is pending or has a guard is forgotten.
-abbrev pub is_forgotten_then : Standing → Standing
-is_forgotten_then (outside Pending) = forgotten
-is_forgotten_then (outside Holding) = forgotten
-is_forgotten_then s = s
+use Rattle.lock_table.specs.Lending.{table_with, forgotten_then}
+use Rattle.rwlock_world.specs.Number.{number_with}
 
 -- The World once a value was put from outside every call: the state keeps its readers, its turn and its starved set, and whoever was pending or had a guard is forgotten.
 abbrev pub world_with : World → ℕ → World
 world_with w v = record w {
   state = record w.state { value = v };
-  standings = map is_forgotten_then w.standings;
-  behind = table_with w.behind v;
+  standings = map forgotten_then w.standings;
+  behind = table_with number_with w.behind v;
 }
 
 -- The World ends with the last value that was left behind the reference.

@@ -2,13 +2,13 @@ pub mod State
 pub mod Changes
 pub mod Legal
 pub mod Laws
-pub mod Plans
-pub mod Table
+pub mod Stages
+pub mod Number
+pub mod Lent
 pub mod View
 pub mod Runs
 pub mod Whole
 pub mod Openings
 pub mod Lending
-pub mod TableCalls
 pub mod Bound
 pub mod Steps

@@ -1,12 +1,12 @@
 -- Whole runs of a read-write lock's World, and the rights that the answers alone tell of.
-use Rattle.std.specs.Prelude.{◌≡◌, ℕ, ◌==◌, ◌↔◌, ◌⊎◌, if◌then◌else◌, Bool, true, false, List, Option, Some, None, is_some}
+use Rattle.std.specs.Prelude.{◌≡◌, ℕ, ◌==◌, ◌↔◌, ◌⊎◌, if◌then◌else◌, Bool, true, List, Option, Some, None}
 use Rattle.lock_world.specs.declared.moves.Answer.{Answer}
 use Rattle.lock_world.specs.declared.moves.Move.{Move}
-use Rattle.lock_world.specs.declared.standing.Rest.TheVariants.{Holding}
 use Rattle.lock_world.specs.Accounts.{Account, accounts_after, HasByAnswers}
 use Rattle.lock_world.specs.Rights.{Right, read, upgradable, write, excludes}
 use Rattle.lock_world.specs.Runs as runs
-use Rattle.lock_world.specs.Standings.{Standing, outside, forgotten, is_outside}
+use Rattle.lock_world.specs.Standings.{is_outside}
+use Rattle.lock_table.specs.Rights.{account_by, TellsAccounts}
 use Rattle.rwlock_world.specs.State.{Turn, is_upgradable, writes, World, standing_of, sought_by, reads}
 use Rattle.rwlock_world.specs.Steps.{Steps}
 use Rattle.rwlock_world.specs.Laws.{HasRight, IsSound, IsAwake, is_at_rest}
@@ -21,12 +21,6 @@ right_by t reading p = if reading then Some read else None
 
 abbrev pub right_in : World → ℕ → Option Right
 right_in w p = right_by w.state.turn (reads w p) p
-
--- What is known of a party that stands so, seeks this right and has that one in the state: a guard has the right that it is for; and whoever is forgotten, what it has in the state. Nobody else has a right by answers: inside a call its answer is still to come.
-abbrev pub account_by : Standing → Option Right → Option Right → Account
-account_by (outside Holding) seeks right = record { seeks = seeks; has = true }
-account_by forgotten seeks right = record { seeks = right; has = is_some right }
-account_by s seeks right = record { seeks = seeks; has = false }
 
 -- What is known of all parties where a run begins.
 abbrev pub accounts_of : World → ℕ → Account
@@ -58,7 +52,7 @@ Runs = runs.Runs Steps accounts_after HoldsWell
 
 -- What is known tells each party's right.
 abbrev pub TellsRights : (ℕ → Account) → World → Type 0
-TellsRights known w = (p : ℕ) → known p ≡ accounts_of w p
+TellsRights = TellsAccounts accounts_of
 
 -- A run in which the rights are known as the World has them where it begins.
 abbrev pub RunsOn : World → List Move → List Answer → World → Type 0

@@ -8,7 +8,8 @@ use Rattle.lock_world.specs.declared.standing.Rest.TheVariants.{Idle}
 use Rattle.lock_world.specs.Rights.{Right}
 use Rattle.lock_world.specs.Rosters.{how_many, is_on}
 use Rattle.lock_world.specs.Standings.{Standing, outside, forgotten}
-use Rattle.rwlock_world.specs.Table.{Table, new_table}
+use Rattle.lock_table.specs.Tables.{Table, new_table}
+use Rattle.rwlock_world.specs.Number.{LockedNumber, new_number}
 
 -- The turn: nobody has it, or one party that takes or leaves it, is upgradable, waits to write, or writes.
 pub data Turn : Type 0 where
@@ -37,7 +38,18 @@ pub record World : Type 0 where
   pub starved_limit : ℕ
   pub readers_limit : ℕ
   pub opening_value : ℕ
-  pub behind : Table
+  pub behind : Table LockedNumber
+
+-- The lists: of those that wait for the turn, of the one that waits until no reader is left, and of readers that wait until no writer is.
+pub data ListName : Type 0 where
+  for_the_turn : ListName
+  for_no_readers : ListName
+  for_no_writer : ListName
+
+abbrev pub list_of : World → ListName → List (Entry ℕ)
+list_of w for_the_turn = w.turn_list
+list_of w for_no_readers = w.no_readers
+list_of w for_no_writer = w.no_writer
 
 -- A party past the table stands as one that is forgotten, and seeks nothing.
 abbrev pub standing_of : World → ℕ → Standing
@@ -105,7 +117,7 @@ new_world parties starved readers value = record {
   starved_limit = starved;
   readers_limit = readers;
   opening_value = value;
-  behind = new_table parties starved readers value;
+  behind = new_table (new_number parties starved readers value) parties value;
 }
 
 -- The World as it was made, by the numbers that it keeps: how many parties, the limits, and the value.

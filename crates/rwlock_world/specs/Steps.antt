@@ -2,22 +2,30 @@
 use Rattle.std.specs.Prelude.{◌≡◌}
 use Rattle.lock_world.specs.declared.moves.Answer.{Answer}
 use Rattle.lock_world.specs.declared.moves.Move.{Move}
+use Rattle.lock_world.specs.declared.standing.Rest.TheVariants.{Holding}
+use Rattle.lock_table.specs.Tables.{Table, IsTable, IsStep}
 use Rattle.rwlock_machine.specs.Acts.{IsRwLock}
+use Rattle.rwlock_world.specs.Number.{LockedNumber, parties, knows, Stands as StandsThere, Moves}
 use Rattle.rwlock_world.specs.State.{World}
-use Rattle.rwlock_world.specs.Table.{IsStep, IsTable}
-use Rattle.rwlock_world.specs.View.{opened, view_of}
+use Rattle.rwlock_world.specs.View.{view_of}
 use Rattle.rwlock_world.specs.Legal.{Legal, AnswersAtOnce}
+
+abbrev pub IsNumberTable : Table LockedNumber → Type 0
+IsNumberTable t = IsTable parties StandsThere t.machine t.stages
+
+abbrev pub TableSteps : Table LockedNumber → Move → Answer → Table LockedNumber → Type 0
+TableSteps = IsStep knows Holding Moves
 
 -- the World is seen as what stands behind it
 pub record Stands (w : World) : Type 0 where
-  pub seen : w ≡ opened w.opening_value (view_of w.behind)
-  pub lock : IsRwLock w.behind.lock
-  pub fits : IsTable w.behind.lock w.behind.stages w.behind.sought
+  pub seen : w ≡ view_of w.behind
+  pub lock : IsRwLock w.behind.machine.lock
+  pub fits : IsNumberTable w.behind
 
 -- what the table did
 pub record Did (old : World) (m : Move) (a : Answer) (new : World) : Type 0 where
   pub stood : Stands old
-  pub step : IsStep old.behind m a new.behind
+  pub step : TableSteps old.behind m a new.behind
   pub stands : Stands new
 
 -- From the old World the move may be answered so, and lead to the new World: a legal step, whose immediate answers are right, and which its table did.

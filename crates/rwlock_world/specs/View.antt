@@ -1,13 +1,14 @@
 -- How callers see what stands behind a read-write lock's World.
-use Rattle.std.specs.Prelude.{ℕ, ◌==◌, Bool, true, false, List, [], ◌∷◌, map, Option, Some, None}
+use Rattle.std.specs.Prelude.{ℕ, ◌==◌, Bool, true, false, List, map, Option, Some, None}
 use Rattle.lock_world.specs.declared.refusal.Refusal.TheVariants.{Memory, Readers}
 use Rattle.lock_world.specs.declared.moves.Answer.{Answer}
 use Rattle.lock_world.specs.declared.moves.Answer.TheVariants as answer
 use Rattle.lock_world.specs.declared.moves.Got.TheVariants.{Value}
 use Rattle.lock_world.specs.declared.standing.Stage.{Stage}
-use Rattle.lock_world.specs.declared.standing.Stage.TheVariants.{Outside, Inside, Forgotten}
-use Rattle.lock_world.specs.Rights.{Right, read, upgradable, write}
-use Rattle.lock_world.specs.Standings.{Standing, outside, inside, forgotten, refused}
+use Rattle.lock_world.specs.Standings.{Standing, refused}
+use Rattle.lock_table.specs.Stages.{stands_as}
+use Rattle.lock_table.specs.Tables.{Table}
+use Rattle.lock_table.specs.Views.{standings}
 use Rattle.mutex_machine.specs.Course.{Course as TurnCourse, decision}
 use Rattle.mutex_machine.specs.declared.program.End.{End as TurnEnd}
 use Rattle.mutex_machine.specs.declared.program.End.TheVariants as turn_end
@@ -18,9 +19,8 @@ use Rattle.rwlock_machine.specs.declared.program.Place.{Place}
 use Rattle.rwlock_machine.specs.declared.program.Place.TheVariants as place
 use Rattle.rwlock_machine.specs.Roles as roles
 use Rattle.rwlock_machine.specs.Machine.{RwLock, place_at}
-use Rattle.rwlock_world.specs.declared.world.table.Sought.{Sought}
-use Rattle.rwlock_world.specs.declared.world.table.Sought.TheVariants as sought
-use Rattle.rwlock_world.specs.Table.{Table}
+use Rattle.rwlock_world.specs.Number.{LockedNumber}
+use Rattle.rwlock_world.specs.Stages.{sought_at}
 use Rattle.rwlock_world.specs.State.{Turn, nobody, passes, is_upgradable, waits_to_write, writes, World}
 
 -- ---- The state
@@ -75,12 +75,6 @@ is_upgrade (place.AwaitNoReaders upgrade) = upgrade
 is_upgrade (place.LookUnlisted upgrade) = upgrade
 is_upgrade _ = false
 
-abbrev pub right_of : Option Sought → Option Right
-right_of None = None
-right_of (Some sought.Read) = Some read
-right_of (Some sought.Upgradable) = Some upgradable
-right_of (Some sought.Write) = Some write
-
 -- ---- The standings
 
 -- a refusal that is decided in the turn's program decides the call; that the turn was got there doesn't
@@ -90,7 +84,7 @@ refused_by _ = None
 
 abbrev pub verdict_until : Ending → Answer
 verdict_until ending.GivenBack = answer.GivenBack
-verdict_until ending.NotFree = answer.None
+verdict_until (ending.NotFree p) = answer.None
 verdict_until ending.RefuseReaders = refused Readers
 verdict_until ending.RefuseMemory = refused Memory
 verdict_until ending.Reading = answer.GivenBack
@@ -123,39 +117,29 @@ verdict v place.DownNotify t = Some answer.GivenBack
 verdict v place.DowngradeNotify t = Some answer.GivenBack
 verdict v _ t = None
 
-abbrev pub stands_as : ℕ → Stage → Place → TurnCourse → Standing
-stands_as v (Outside r) x t = outside r
-stands_as v (Inside w) x t = inside w (verdict v x t)
-stands_as v Forgotten x t = forgotten
+-- how a party stands at this stage that is here, and so in the turn
+abbrev pub standing_at : ℕ → Stage → Place → TurnCourse → Standing
+standing_at v s x t = stands_as (verdict v x t) s
 
-abbrev pub rest : List TurnCourse → List TurnCourse
-rest [] = []
-rest (t ∷ ts) = ts
+-- by party
+abbrev pub verdict_of : LockedNumber → ℕ → Option Answer
+verdict_of x p = verdict x.value (place_at x.lock.places p) (turn_at x.lock.turn.courses p)
 
-abbrev pub standings : ℕ → List Stage → List Place → List TurnCourse → List Standing
-standings v [] xs ts = []
-standings v (s ∷ ss) [] ts = []
-standings v (s ∷ ss) (x ∷ xs) ts = stands_as v s x (turn_at ts 0) ∷ standings v ss xs (rest ts)
-
-abbrev pub seen : RwLock → List Stage → List (Option Sought) → ℕ → World
-seen l ss os v = record {
+abbrev pub seen : RwLock → List Stage → ℕ → ℕ → World
+seen l ss opening v = record {
   state = record { readers = map is_reading l.places; turn = turn_by (holder_of l.turn) l.places; starved = starved_of l.turn; value = v };
   turn_list = l.turn.entries;
   no_readers = l.no_readers;
   no_writer = l.no_writer;
-  standings = standings v ss l.places l.turn.courses;
-  sought = map right_of os;
+  standings = standings (verdict_of (record { lock = l; value = v })) ss;
+  sought = map sought_at l.places;
   upgraders = map is_upgrade l.places;
   starved_limit = l.turn.limit;
   readers_limit = l.limit;
-  opening_value = 0;
-  behind = record { lock = l; stages = ss; sought = os; value = v };
+  opening_value = opening;
+  behind = record { machine = record { lock = l; value = v }; stages = ss; opening = opening };
 }
 
--- a World that was made with this value
-abbrev pub opened : ℕ → World → World
-opened n w = record w { opening_value = n }
-
--- a table as it is seen, but for the value that its World was made with
-abbrev pub view_of : Table → World
-view_of t = seen t.lock t.stages t.sought t.value
+-- a table as callers see it
+abbrev pub view_of : Table LockedNumber → World
+view_of t = seen t.machine.lock t.stages t.opening t.machine.value

@@ -2,25 +2,15 @@
 use Rattle.std.specs.Prelude.{ℕ}
 use Rattle.lock_world.specs.declared.moves.Answer.{Answer}
 use Rattle.lock_world.specs.declared.moves.Call.{Call}
-use Rattle.lock_world.specs.declared.moves.Call.TheVariants as call
 use Rattle.lock_world.specs.declared.moves.Inputs.{Inputs}
 use Rattle.lock_world.specs.Whole as whole
-use Rattle.rwlock_machine.specs.Ranks.{steps_left}
+use Rattle.rwlock_machine.specs.Ranks.{steps_left, most_steps}
 use Rattle.rwlock_world.specs.State.{World, standing_of}
 use Rattle.rwlock_world.specs.Runs.{RunsOn}
 
--- The greatest number of steps that a call of a read-write lock takes if its party moves alone.
+-- The greatest number of steps that a call of a read-write lock takes if its party moves alone: 4 for a read, 15 for an upgradable read, 18 for a write and for a later poll, 4 for a try that takes the turn, 5 for a drop, 4 for a downgrade, 2 for one to an upgradable read, 1 for any other.
 abbrev pub most_steps_of : Call → ℕ
-most_steps_of call.Read = 4
-most_steps_of call.UpgradableRead = 15
-most_steps_of call.Write = 18
-most_steps_of call.TryUpgradableRead = 4
-most_steps_of call.TryWrite = 4
-most_steps_of call.Poll = 18
-most_steps_of call.Drop = 5
-most_steps_of call.Downgrade = 4
-most_steps_of call.DowngradeToUpgradable = 2
-most_steps_of _ = 1
+most_steps_of = most_steps
 
 -- The call is begun and carried out to its end, whose answer this is.
 abbrev pub IsWholeCall : World → ℕ → Call → Inputs → Answer → World → Type 0
@@ -28,4 +18,4 @@ IsWholeCall = whole.IsWholeCall RunsOn standing_of most_steps_of
 
 -- How many steps are left at most of the call that a party is in.
 abbrev pub steps_left_of : World → ℕ → ℕ
-steps_left_of w p = steps_left w.behind.lock p
+steps_left_of w p = steps_left w.behind.machine.lock p

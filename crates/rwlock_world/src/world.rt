@@ -5,8 +5,6 @@
 //! a guard is a party that has a right, and one step is one call, so that contracts can speak of every
 //! interleaving: specs/State says what is seen, specs/Legal what a step may do.
 
-mod table;
-
 ghost use Rattle.std.specs.Prelude.{◌≡◌, ◌<◌, ℕ, true, false, not, IfOk, IfErr, OnErr, length, min, slice_get};
 ghost use Rattle.rwlock_world.specs.State.{new_world, how_many_read, is_nobody, is_marked, nobody};
 ghost use Rattle.lock_world.specs.Rosters.{how_many};
@@ -14,12 +12,13 @@ ghost use Rattle.rwlock_world.specs.Steps.{Steps};
 ghost use Rattle.rwlock_world.specs.Laws.{IsSound, IsAwake, IsTurnWanted, IsReadingWanted, IsWritingWanted, is_at_rest};
 ghost use Rattle.rwlock_world.specs.Bound.{IsTurnBounded, IsReadingBounded, IsWritingBounded};
 
+use crate::number::LockedNumber;
 use lock_event::Entry;
 use lock_frame::AnyWorld;
+use lock_table::Table;
 use lock_world::{Answer, Move, Refusal};
 use std::alloc::Global;
 use std::marker::Model;
-use table::Table;
 
 /// The greatest number of parties that may be starved for the turn. The Rust crate aborts where this
 /// project refuses.
@@ -31,21 +30,20 @@ pub const MOST_READERS: u32 = 1_073_741_823;
 /// A read-write lock over a number, its parties, and their calls.
 #[derive(Drop)]
 pub struct World {
-    table: Table,
-    opening_value: u64,
+    table: Table<LockedNumber>,
 }
 
 impl Model for World {
     ghost use Rattle.std.specs.Coded.{codes};
     ghost use Rattle.mutex_machine.specs.Behind.{behind_coded};
     ghost use Rattle.rwlock_world.specs.State.{World};
-    ghost use Rattle.rwlock_world.specs.View.{opened, view_of};
+    ghost use Rattle.rwlock_world.specs.View.{view_of};
 
     ghost Value = { World };
 
     ghost coded = { Prim.hlevel (codes, behind_coded) };
 
-    ghost view = { λ w. opened w.opening_value (view_of w.table) };
+    ghost view = { λ w. view_of w.table };
 }
 
 ghost use Rattle.std.specs.Borrow.{sem};
@@ -84,11 +82,11 @@ impl World {
     {
         let starved = starved.min(MOST_STARVED_FOR_THE_TURN);
         let readers = readers.min(MOST_READERS);
-        match Table::new(alloc, parties, value, starved, readers) {
-            Ok(table) => Ok(World {
-                table,
-                opening_value: value,
-            }),
+        let Ok(number) = LockedNumber::new(alloc, parties, value, starved, readers) else {
+            return Err(Refusal::Memory);
+        };
+        match Table::new(alloc, number, parties, value) {
+            Ok(table) => Ok(World { table }),
             Err(_) => Err(Refusal::Memory),
         }
     }
@@ -106,8 +104,10 @@ impl World {
         ensures { Steps self.old m.now result self.new }
     {
         self.table.laws();
+        self.table.machine().laws();
         let answer = self.table.step(m);
         self.table.laws();
+        self.table.machine().laws();
         answer
     }
 
@@ -115,7 +115,6 @@ impl World {
     pub fn at_rest(&self) -> bool
         ensures { result ≡ is_at_rest self.now }
     {
-        self.table.laws();
         self.table.at_rest()
     }
 
@@ -126,6 +125,7 @@ impl World {
         ensures awake { is_at_rest self.now ≡ true → IsAwake self.now }
     {
         self.table.laws();
+        self.table.machine().laws();
     }
 
     /// How often what is free, at rest, may be passed over while parties wait for it, list by list. It does
@@ -150,15 +150,14 @@ impl World {
     pub fn is_turn_held(&self) -> bool
         ensures { not result ≡ is_nobody self.now.state.turn }
     {
-        self.table.laws();
-        self.table.lock().turn().is_held()
+        self.table.machine().lock().turn().is_held()
     }
 
     /// How many parties are starved for the turn, as its word says.
     pub fn starved(&self) -> u32
         ensures { result ≡ how_many self.now.state.starved }
     {
-        self.table.lock().turn().starved()
+        self.table.machine().lock().turn().starved()
     }
 
     /// Whether a party waits to write or writes, as the lock's word says.
@@ -166,21 +165,22 @@ impl World {
         ensures { result ≡ is_marked self.now.state.turn }
     {
         self.table.laws();
-        self.table.lock().is_writer_marked()
+        self.table.machine().laws();
+        self.table.machine().lock().is_writer_marked()
     }
 
     /// How many parties read, as the lock's word says.
     pub fn readers(&self) -> u32
         ensures { result ≡ how_many_read self.now }
     {
-        self.table.lock().readers()
+        self.table.machine().lock().readers()
     }
 
     /// How many entries the list has of those that wait for the turn.
     pub fn turn_waiting(&self) -> usize
         ensures { result ≡ length self.now.turn_list }
     {
-        self.table.lock().turn().waiting()
+        self.table.machine().lock().turn().waiting()
     }
 
     /// The entry at this place of that list, counted from the front: its key is the party, and its mark
@@ -188,42 +188,42 @@ impl World {
     pub fn turn_entry(&self, index: usize) -> Option<Entry<u32>>
         ensures { result ≡ slice_get self.now.turn_list index }
     {
-        self.table.lock().turn().entry(index)
+        self.table.machine().lock().turn().entry(index)
     }
 
     /// How many entries the list has of those that wait until no reader is left.
     pub fn no_readers_waiting(&self) -> usize
         ensures { result ≡ length self.now.no_readers }
     {
-        self.table.lock().no_readers_len()
+        self.table.machine().lock().no_readers_len()
     }
 
     /// The entry at this place of that list, as [`World::turn_entry`] gives one.
     pub fn no_readers_entry(&self, index: usize) -> Option<Entry<u32>>
         ensures { result ≡ slice_get self.now.no_readers index }
     {
-        self.table.lock().no_readers_entry(index)
+        self.table.machine().lock().no_readers_entry(index)
     }
 
     /// How many entries the list has of those that wait until no writer is left.
     pub fn no_writer_waiting(&self) -> usize
         ensures { result ≡ length self.now.no_writer }
     {
-        self.table.lock().no_writer_len()
+        self.table.machine().lock().no_writer_len()
     }
 
     /// The entry at this place of that list, as [`World::turn_entry`] gives one.
     pub fn no_writer_entry(&self, index: usize) -> Option<Entry<u32>>
         ensures { result ≡ slice_get self.now.no_writer index }
     {
-        self.table.lock().no_writer_entry(index)
+        self.table.machine().lock().no_writer_entry(index)
     }
 
     /// The value that the last put left, or that the World was made with.
     pub fn value(&self) -> u64
         ensures { result ≡ self.now.state.value }
     {
-        self.table.value()
+        self.table.machine().value()
     }
 
     /// Lends the value, of a World at rest. Whoever was pending or had a guard is forgotten: from then on
@@ -237,7 +237,6 @@ impl World {
         ensures* lends { sem 𝓛 (LendsValue self.entry result) }
         ensures value { result.now ≡ self.old.state.value }
     {
-        self.table.laws();
         self.table.value_mut()
     }
 
@@ -245,7 +244,7 @@ impl World {
     pub fn into_inner(self) -> u64
         ensures { result ≡ self.state.value }
     {
-        Table::value(&self.table)
+        World::value(&self)
     }
 }
 

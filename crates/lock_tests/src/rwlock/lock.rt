@@ -1,9 +1,10 @@
 //! A read-write lock's machine through its public calls.
 
 use lock_event::{Entry, Mark};
-use lock_world::Refusal;
+use lock_table::End;
+use lock_world::{Call, Refusal};
 use rwlock_machine::RwLock;
-use rwlock_machine::program::{End, Next, Place, Purpose, RwCall, Wanted, start};
+use rwlock_machine::program::{Next, Place, Purpose, Wanted, start};
 use std::alloc::{AllocError, Global};
 use std::process::Abort;
 
@@ -18,7 +19,7 @@ fn of_parties(alloc: Global, parties: u32, readers: u32) -> Result<RwLock, Alloc
 
 /// The call, carried out to its end by its party alone; None where it may not begin, or takes more than
 /// 32 steps.
-fn whole(lock: &mut RwLock, party: u32, call: RwCall, memory: bool) -> Option<End> {
+fn whole(lock: &mut RwLock, party: u32, call: Call, memory: bool) -> Option<End> {
     if party as usize >= lock.parties() {
         return None;
     }
@@ -30,9 +31,24 @@ fn whole(lock: &mut RwLock, party: u32, call: RwCall, memory: bool) -> Option<En
         }
     }
     match next {
-        Next::Do(..) => None,
+        Next::Do(..) | Next::Wait(_) => None,
         Next::End(end, _) => Some(end),
     }
+}
+
+/// How an upgrade begins; None where it may not.
+fn upgrade(lock: &mut RwLock, party: u32) -> Option<Next> {
+    if party as usize >= lock.parties() {
+        return None;
+    }
+    start(Call::Upgrade, lock.place(party))?;
+    Some(lock.begin(party, Call::Upgrade, true, false))
+}
+
+/// The party's upgrade has begun, and waits to be polled.
+fn assert_upgrades(rt: &impl Abort, lock: &mut RwLock, party: u32) {
+    let waits = Next::Wait(Place::LookUnlisted { upgrade: true });
+    assert_eq!(rt; upgrade(lock, party), Some(waits));
 }
 
 /// Where the party stands; None past the last.
@@ -45,7 +61,7 @@ fn standing(lock: &RwLock, party: u32) -> Option<Place> {
 }
 
 /// Each call in turn, carried out whole by its party, ends so.
-fn expect(rt: &impl Abort, lock: &mut RwLock, memory: bool, calls: &[(u32, RwCall, End)]) {
+fn expect(rt: &impl Abort, lock: &mut RwLock, memory: bool, calls: &[(u32, Call, End)]) {
     for (party, call, end) in calls {
         let ended = whole(lock, *party, *call, memory);
         assert_eq!(rt; ended, Some(*end), "{call:?} of {party}");
@@ -98,22 +114,22 @@ fn a_new_lock_is_free(rt: HostRuntime) -> Result<(), AllocError> {
 fn readers_wait_for_a_writer_and_it_for_them(rt: HostRuntime) -> Result<(), AllocError> {
     let mut lock = of_parties(rt.alloc(), 3, 10)?;
     let calls = [
-        (0, RwCall::Read, End::Got),
-        (1, RwCall::Write, End::Pending),
-        (2, RwCall::Read, End::Pending),
+        (0, Call::Read, End::Got),
+        (1, Call::Write, End::Pending),
+        (2, Call::Read, End::Pending),
     ];
     expect(&rt, &mut lock, true, &calls);
     assert_state(&rt, &lock, (true, true, 1));
     assert_waiting(&rt, &lock, (1, 1));
     assert_told(&rt, lock.no_writer_entry(0), Some((2, Mark::Waiting)));
-    expect(&rt, &mut lock, true, &[(0, RwCall::Drop, End::GivenBack)]);
+    expect(&rt, &mut lock, true, &[(0, Call::Drop, End::GivenBack)]);
     assert_told(&rt, lock.no_readers_entry(0), Some((1, Mark::Notified)));
     assert!(rt; lock.no_readers_entry(1).is_none());
-    expect(&rt, &mut lock, true, &[(1, RwCall::Poll, End::Got)]);
+    expect(&rt, &mut lock, true, &[(1, Call::Poll, End::Got)]);
     assert_standing(&rt, &lock, 1, Some(Place::Writing));
     let calls = [
-        (1, RwCall::Drop, End::GivenBack),
-        (2, RwCall::Poll, End::Got),
+        (1, Call::Drop, End::GivenBack),
+        (2, Call::Poll, End::Got),
     ];
     expect(&rt, &mut lock, true, &calls);
     Ok(())
@@ -123,10 +139,10 @@ fn readers_wait_for_a_writer_and_it_for_them(rt: HostRuntime) -> Result<(), Allo
 fn a_reader_goes_on_after_to_upgradable(rt: HostRuntime) -> Result<(), AllocError> {
     let mut lock = of_parties(rt.alloc(), 2, 10)?;
     let calls = [
-        (0, RwCall::Write, End::Got),
-        (1, RwCall::Read, End::Pending),
-        (0, RwCall::ToUpgradable, End::GivenBack),
-        (1, RwCall::Poll, End::Got),
+        (0, Call::Write, End::Got),
+        (1, Call::Read, End::Pending),
+        (0, Call::DowngradeToUpgradable, End::GivenBack),
+        (1, Call::Poll, End::Got),
     ];
     expect(&rt, &mut lock, true, &calls);
     assert_standing(&rt, &lock, 0, Some(Place::Upgradable));
@@ -138,16 +154,16 @@ fn a_reader_goes_on_after_to_upgradable(rt: HostRuntime) -> Result<(), AllocErro
 fn a_dropped_waiting_write_unlocks(rt: HostRuntime) -> Result<(), AllocError> {
     let mut lock = of_parties(rt.alloc(), 4, 10)?;
     let calls = [
-        (0, RwCall::Read, End::Got),
-        (1, RwCall::Write, End::Pending),
-        (2, RwCall::TryRead, End::NotFree),
-        (1, RwCall::Drop, End::GivenBack),
+        (0, Call::Read, End::Got),
+        (1, Call::Write, End::Pending),
+        (2, Call::TryRead, End::NotFree),
+        (1, Call::Drop, End::GivenBack),
     ];
     expect(&rt, &mut lock, true, &calls);
     assert!(rt; !lock.is_writer_marked());
     let calls = [
-        (2, RwCall::TryRead, End::Got),
-        (3, RwCall::TryUpgradableRead, End::Got),
+        (2, Call::TryRead, End::Granted),
+        (3, Call::TryUpgradableRead, End::Granted),
     ];
     expect(&rt, &mut lock, true, &calls);
     assert_standing(&rt, &lock, 3, Some(Place::Upgradable));
@@ -157,11 +173,12 @@ fn a_dropped_waiting_write_unlocks(rt: HostRuntime) -> Result<(), AllocError> {
 #[test]
 fn a_dropped_upgrade_unlocks(rt: HostRuntime) -> Result<(), AllocError> {
     let mut lock = of_parties(rt.alloc(), 2, 10)?;
+    let taken = [(0, Call::UpgradableRead, End::Got)];
+    expect(&rt, &mut lock, true, &taken);
+    assert_upgrades(&rt, &mut lock, 0);
     let calls = [
-        (0, RwCall::UpgradableRead, End::Got),
-        (0, RwCall::Upgrade, End::Waiting),
-        (0, RwCall::Drop, End::GivenBack),
-        (1, RwCall::TryWrite, End::Got),
+        (0, Call::Drop, End::GivenBack),
+        (1, Call::TryWrite, End::Granted),
     ];
     expect(&rt, &mut lock, true, &calls);
     Ok(())
@@ -171,11 +188,11 @@ fn a_dropped_upgrade_unlocks(rt: HostRuntime) -> Result<(), AllocError> {
 fn try_upgrade_wants_to_be_alone(rt: HostRuntime) -> Result<(), AllocError> {
     let mut lock = of_parties(rt.alloc(), 2, 10)?;
     let calls = [
-        (0, RwCall::UpgradableRead, End::Got),
-        (1, RwCall::Read, End::Got),
-        (0, RwCall::TryUpgrade, End::NotFree),
-        (1, RwCall::Drop, End::GivenBack),
-        (0, RwCall::TryUpgrade, End::Got),
+        (0, Call::UpgradableRead, End::Got),
+        (1, Call::Read, End::Got),
+        (0, Call::TryUpgrade, End::NotFree),
+        (1, Call::Drop, End::GivenBack),
+        (0, Call::TryUpgrade, End::Granted),
     ];
     expect(&rt, &mut lock, true, &calls);
     Ok(())
@@ -185,9 +202,9 @@ fn try_upgrade_wants_to_be_alone(rt: HostRuntime) -> Result<(), AllocError> {
 fn a_writer_waits_for_the_turn(rt: HostRuntime) -> Result<(), AllocError> {
     let mut lock = of_parties(rt.alloc(), 3, 10)?;
     let calls = [
-        (0, RwCall::Write, End::Got),
-        (1, RwCall::Read, End::Pending),
-        (2, RwCall::Write, End::Pending),
+        (0, Call::Write, End::Got),
+        (1, Call::Read, End::Pending),
+        (2, Call::Write, End::Pending),
     ];
     expect(&rt, &mut lock, true, &calls);
     let waits = Place::WaitTurn {
@@ -195,12 +212,12 @@ fn a_writer_waits_for_the_turn(rt: HostRuntime) -> Result<(), AllocError> {
     };
     assert_standing(&rt, &lock, 2, Some(waits));
     let calls = [
-        (0, RwCall::Downgrade, End::GivenBack),
-        (1, RwCall::Poll, End::Got),
-        (2, RwCall::Poll, End::Pending),
-        (0, RwCall::Drop, End::GivenBack),
-        (1, RwCall::Drop, End::GivenBack),
-        (2, RwCall::Poll, End::Got),
+        (0, Call::Downgrade, End::GivenBack),
+        (1, Call::Poll, End::Got),
+        (2, Call::Poll, End::Pending),
+        (0, Call::Drop, End::GivenBack),
+        (1, Call::Drop, End::GivenBack),
+        (2, Call::Poll, End::Got),
     ];
     expect(&rt, &mut lock, true, &calls);
     Ok(())
@@ -210,17 +227,17 @@ fn a_writer_waits_for_the_turn(rt: HostRuntime) -> Result<(), AllocError> {
 fn a_refused_upgrade_keeps_its_right(rt: HostRuntime) -> Result<(), AllocError> {
     let mut lock = of_parties(rt.alloc(), 2, 2)?;
     let calls = [
-        (0, RwCall::UpgradableRead, End::Got),
-        (1, RwCall::Read, End::Got),
-        (0, RwCall::Upgrade, End::Waiting),
+        (0, Call::UpgradableRead, End::Got),
+        (1, Call::Read, End::Got),
     ];
     expect(&rt, &mut lock, true, &calls);
-    let refused = [(0, RwCall::Poll, End::Refused(Refusal::Memory))];
+    assert_upgrades(&rt, &mut lock, 0);
+    let refused = [(0, Call::Poll, End::Refused(Refusal::Memory))];
     expect(&rt, &mut lock, false, &refused);
     assert_state(&rt, &lock, (true, true, 1));
     let calls = [
-        (1, RwCall::Drop, End::GivenBack),
-        (0, RwCall::Poll, End::Got),
+        (1, Call::Drop, End::GivenBack),
+        (0, Call::Poll, End::Got),
     ];
     expect(&rt, &mut lock, false, &calls);
     Ok(())
@@ -231,9 +248,9 @@ fn refused_futures_are_as_they_were_made(rt: HostRuntime) -> Result<(), AllocErr
     let mut lock = of_parties(rt.alloc(), 3, 1)?;
     let readers = End::Refused(Refusal::Readers);
     let calls = [
-        (0, RwCall::Read, End::Got),
-        (1, RwCall::Read, readers),
-        (1, RwCall::Drop, End::GivenBack),
+        (0, Call::Read, End::Got),
+        (1, Call::Read, readers),
+        (1, Call::Drop, End::GivenBack),
     ];
     expect(&rt, &mut lock, true, &calls);
     assert_standing(&rt, &lock, 1, Some(Place::Out));
@@ -241,15 +258,15 @@ fn refused_futures_are_as_they_were_made(rt: HostRuntime) -> Result<(), AllocErr
         &rt,
         &mut lock,
         true,
-        &[(1, RwCall::UpgradableRead, readers)],
+        &[(1, Call::UpgradableRead, readers)],
     );
-    let refused = [(2, RwCall::Write, End::Refused(Refusal::Memory))];
+    let refused = [(2, Call::Write, End::Refused(Refusal::Memory))];
     expect(&rt, &mut lock, false, &refused);
     let made = Place::Made {
         wanted: Wanted::Write,
     };
     assert_standing(&rt, &lock, 2, Some(made));
     assert_state(&rt, &lock, (false, false, 1));
-    expect(&rt, &mut lock, true, &[(2, RwCall::Poll, End::Pending)]);
+    expect(&rt, &mut lock, true, &[(2, Call::Poll, End::Pending)]);
     Ok(())
 }

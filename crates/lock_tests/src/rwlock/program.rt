@@ -1,11 +1,12 @@
 //! The programs against the table that they were taken from: each place, its action, and what follows
 //! each finding that the action can make.
 
-use lock_world::Refusal;
+use lock_table::End;
+use lock_world::{Call, Refusal};
 use mutex_machine::Step as TurnStep;
 use mutex_machine::program::{End as TurnEnd, LockCall};
 use rwlock_machine::program::{
-    Action, End, Ending, Found, Next, Place, Purpose, RwCall, Wanted, action_at, decide, start,
+    Action, Ending, Found, Next, Place, Purpose, Wanted, action_at, decide, start,
 };
 use std::process::Abort;
 
@@ -31,6 +32,14 @@ const MADE_UPGRADABLE: Place = Place::Made {
 
 const MADE_WRITE: Place = Place::Made {
     wanted: Wanted::Write,
+};
+
+const UPGRADABLE_IN_VAIN: Ending = Ending::NotFree {
+    purpose: Purpose::UpgradableRead,
+};
+
+const WRITE_IN_VAIN: Ending = Ending::NotFree {
+    purpose: Purpose::Write,
 };
 
 const ENTER_UPGRADABLE: Place = Place::EnterTurn {
@@ -60,7 +69,7 @@ fn ends(rt: &impl Abort, from: Place, found: Found, end: End, to: Place) {
 }
 
 /// A call of a party that stands here begins there, with this action.
-fn begins(rt: &impl Abort, call: RwCall, at: Place, action: Action, to: Place) {
+fn begins(rt: &impl Abort, call: Call, at: Place, action: Action, to: Place) {
     assert_eq!(rt; start(call, at), Some(to), "{call:?} at {at:?}");
     assert_eq!(rt; action_at(to), action, "at {to:?}");
 }
@@ -73,78 +82,78 @@ fn release(ending: Ending) -> Place {
 fn calls_begin_where_their_party_stands(rt: HostRuntime) {
     let lock = Action::Begin(LockCall::Lock);
     let enter = Place::EnterRead { told: false };
-    begins(&rt, RwCall::Read, Place::Out, Action::Read, enter);
+    begins(&rt, Call::Read, Place::Out, Action::Read, enter);
     begins(
         &rt,
-        RwCall::UpgradableRead,
+        Call::UpgradableRead,
         Place::Out,
         lock,
         ENTER_UPGRADABLE,
     );
-    begins(&rt, RwCall::Write, Place::Out, lock, ENTER_WRITE);
+    begins(&rt, Call::Write, Place::Out, lock, ENTER_WRITE);
     begins(
         &rt,
-        RwCall::TryRead,
+        Call::TryRead,
         Place::Out,
         Action::Read,
         Place::TryRead,
     );
     for (call, purpose) in [
-        (RwCall::TryUpgradableRead, Purpose::UpgradableRead),
-        (RwCall::TryWrite, Purpose::Write),
+        (Call::TryUpgradableRead, Purpose::UpgradableRead),
+        (Call::TryWrite, Purpose::Write),
     ] {
         let action = Action::Begin(LockCall::Try);
         begins(&rt, call, Place::Out, action, Place::TryTurn { purpose });
     }
-    begins(&rt, RwCall::Poll, MADE_READ, Action::Read, enter);
-    begins(&rt, RwCall::Poll, MADE_UPGRADABLE, lock, ENTER_UPGRADABLE);
-    begins(&rt, RwCall::Poll, MADE_WRITE, lock, ENTER_WRITE);
+    begins(&rt, Call::Poll, MADE_READ, Action::Read, enter);
+    begins(&rt, Call::Poll, MADE_UPGRADABLE, lock, ENTER_UPGRADABLE);
+    begins(&rt, Call::Poll, MADE_WRITE, lock, ENTER_WRITE);
     let asks = Place::AskNoWriter;
-    begins(&rt, RwCall::Poll, asks, Action::AskNoWriter, asks);
+    begins(&rt, Call::Poll, asks, Action::AskNoWriter, asks);
     for purpose in [Purpose::UpgradableRead, Purpose::Write] {
         let waits = Place::WaitTurn { purpose };
         begins(
             &rt,
-            RwCall::Poll,
+            Call::Poll,
             waits,
             Action::Begin(LockCall::Poll),
             waits,
         );
         let cancel = Action::Begin(LockCall::Cancel);
-        begins(&rt, RwCall::Drop, waits, cancel, Place::CancelTurn);
+        begins(&rt, Call::Drop, waits, cancel, Place::CancelTurn);
     }
     for upgrade in [false, true] {
         let waits = Place::AwaitNoReaders { upgrade };
-        begins(&rt, RwCall::Poll, waits, Action::Load, waits);
+        begins(&rt, Call::Poll, waits, Action::Load, waits);
         let leave = Action::LeaveNoReaders;
-        begins(&rt, RwCall::Drop, waits, leave, Place::CancelAwait);
+        begins(&rt, Call::Drop, waits, leave, Place::CancelAwait);
     }
     let upgrading = Place::LookUnlisted { upgrade: true };
-    begins(&rt, RwCall::Poll, upgrading, Action::Load, upgrading);
+    begins(&rt, Call::Poll, upgrading, Action::Load, upgrading);
     let unmark = Place::Unmark { refused: false };
-    begins(&rt, RwCall::Drop, upgrading, Action::Unmark, unmark);
+    begins(&rt, Call::Drop, upgrading, Action::Unmark, unmark);
     let writing = Place::LookUnlisted { upgrade: false };
-    assert_eq!(rt; start(RwCall::Poll, writing), None);
-    assert_eq!(rt; start(RwCall::Poll, Place::Out), None);
-    assert_eq!(rt; start(RwCall::Read, Place::Reading), None);
+    assert_eq!(rt; start(Call::Poll, writing), None);
+    assert_eq!(rt; start(Call::Poll, Place::Out), None);
+    assert_eq!(rt; start(Call::Read, Place::Reading), None);
 }
 
 #[test]
 fn guards_calls_begin_where_their_party_stands(rt: HostRuntime) {
     for made in [MADE_READ, MADE_UPGRADABLE, MADE_WRITE] {
-        begins(&rt, RwCall::Drop, made, Action::Nothing, Place::Out);
+        begins(&rt, Call::Drop, made, Action::Nothing, Place::Out);
     }
     let leave = Action::LeaveNoWriter;
     begins(
         &rt,
-        RwCall::Drop,
+        Call::Drop,
         Place::AskNoWriter,
         leave,
         Place::CancelRead,
     );
     begins(
         &rt,
-        RwCall::Drop,
+        Call::Drop,
         Place::Reading,
         Action::Off,
         Place::DropRead,
@@ -152,16 +161,16 @@ fn guards_calls_begin_where_their_party_stands(rt: HostRuntime) {
     let upgradable = Place::Upgradable;
     begins(
         &rt,
-        RwCall::Drop,
+        Call::Drop,
         upgradable,
         Action::Off,
         Place::DropUpgradable,
     );
     let writing = Place::Writing;
-    begins(&rt, RwCall::Drop, writing, Action::Unmark, Place::DropWrite);
+    begins(&rt, Call::Drop, writing, Action::Unmark, Place::DropWrite);
     begins(
         &rt,
-        RwCall::Upgrade,
+        Call::Upgrade,
         upgradable,
         Action::Upgrade,
         Place::Upgrade,
@@ -169,7 +178,7 @@ fn guards_calls_begin_where_their_party_stands(rt: HostRuntime) {
     let tries = Action::TryUpgrade;
     begins(
         &rt,
-        RwCall::TryUpgrade,
+        Call::TryUpgrade,
         upgradable,
         tries,
         Place::TryUpgrade,
@@ -177,17 +186,17 @@ fn guards_calls_begin_where_their_party_stands(rt: HostRuntime) {
     let releases = Action::Begin(LockCall::Release);
     begins(
         &rt,
-        RwCall::Downgrade,
+        Call::Downgrade,
         upgradable,
         releases,
         release(Ending::Reading),
     );
     let down = Place::Down { keeps_turn: false };
-    begins(&rt, RwCall::Downgrade, writing, Action::Down, down);
+    begins(&rt, Call::Downgrade, writing, Action::Down, down);
     let keeps = Place::Down { keeps_turn: true };
-    begins(&rt, RwCall::ToUpgradable, writing, Action::Down, keeps);
-    assert_eq!(rt; start(RwCall::Upgrade, writing), None);
-    assert_eq!(rt; start(RwCall::ToUpgradable, upgradable), None);
+    begins(&rt, Call::DowngradeToUpgradable, writing, Action::Down, keeps);
+    assert_eq!(rt; start(Call::Upgrade, writing), None);
+    assert_eq!(rt; start(Call::DowngradeToUpgradable, upgradable), None);
 }
 
 #[test]
@@ -235,7 +244,7 @@ fn a_reader_joins_behind_a_writer(rt: HostRuntime) {
         End::GivenBack,
         Place::Out,
     );
-    ends(&rt, Place::TryRead, Found::Done, End::Got, Place::Reading);
+    ends(&rt, Place::TryRead, Found::Done, End::Granted, Place::Reading);
     ends(&rt, Place::TryRead, Found::Writer, End::NotFree, Place::Out);
     ends(&rt, Place::TryRead, Found::Full, End::NotFree, Place::Out);
 }
@@ -309,7 +318,8 @@ fn the_turn_comes_first(rt: HostRuntime) {
 fn a_released_turn_ends_the_call(rt: HostRuntime) {
     for (ending, end, to) in [
         (Ending::GivenBack, End::GivenBack, Place::Out),
-        (Ending::NotFree, End::NotFree, Place::Out),
+        (UPGRADABLE_IN_VAIN, End::NotFree, Place::Out),
+        (WRITE_IN_VAIN, End::NotFree, Place::Out),
         (
             Ending::RefuseReaders,
             End::Refused(Refusal::Readers),
@@ -351,9 +361,9 @@ fn a_released_turn_ends_the_call(rt: HostRuntime) {
 #[test]
 fn upgradable_readers_count_themselves(rt: HostRuntime) {
     let releases = Action::Begin(LockCall::Release);
-    for trying in [false, true] {
+    for (trying, end) in [(false, End::Got), (true, End::Granted)] {
         let add = Place::Add { trying };
-        ends(&rt, add, Found::Done, End::Got, Place::Upgradable);
+        ends(&rt, add, Found::Done, end, Place::Upgradable);
     }
     let first = Place::Add { trying: false };
     leads(
@@ -364,18 +374,24 @@ fn upgradable_readers_count_themselves(rt: HostRuntime) {
         release(Ending::RefuseReaders),
     );
     let tried = Place::Add { trying: true };
-    leads(&rt, tried, Found::Full, releases, release(Ending::NotFree));
+    leads(
+        &rt,
+        tried,
+        Found::Full,
+        releases,
+        release(UPGRADABLE_IN_VAIN),
+    );
     ends(
         &rt,
         Place::TryUpgrade,
         Found::Done,
-        End::Got,
+        End::Granted,
         Place::Writing,
     );
     let kept = Place::Upgradable;
     ends(&rt, Place::TryUpgrade, Found::NotFree, End::NotFree, kept);
     let upgrading = Place::LookUnlisted { upgrade: true };
-    ends(&rt, Place::Upgrade, Found::Done, End::Waiting, upgrading);
+    assert_eq!(rt; decide(Place::Upgrade, Found::Done), Next::Wait(upgrading));
 }
 
 #[test]
@@ -390,8 +406,8 @@ fn a_writer_waits_for_the_last_reader(rt: HostRuntime) {
         Action::JoinNoReaders,
         joins,
     );
-    ends(&rt, Place::TryWrite, Found::Done, End::Got, Place::Writing);
-    let not_free = release(Ending::NotFree);
+    ends(&rt, Place::TryWrite, Found::Done, End::Granted, Place::Writing);
+    let not_free = release(WRITE_IN_VAIN);
     leads(&rt, Place::TryWrite, Found::NotFree, releases, not_free);
     for upgrade in [false, true] {
         let join = Place::JoinNoReaders { upgrade };

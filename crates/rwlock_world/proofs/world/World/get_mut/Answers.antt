@@ -2,20 +2,20 @@
 use Rattle.std.proofs.Common.{◌≡◌, true, refl, ap, sym, ◌∙◌}
 use Rattle.std.specs.List.{list_all}
 use Rattle.lock_world.specs.Standings.{is_outside_stage}
+use Rattle.lock_table.proofs.Views.{rest_seen}
 use Rattle.rwlock_world.specs.Laws.{is_at_rest}
 use Rattle.rwlock_world.specs.Lending.{world_with}
-use Rattle.rwlock_world.specs.View.{opened}
-use Rattle.rwlock_world.proofs.Sound.{rest_seen, put_seen}
+use Rattle.rwlock_world.specs.View.{verdict_of}
+use Rattle.rwlock_world.proofs.Sound.{put_seen}
 use Rattle.rwlock_world.proofs.world.World.get_mut.Goals as goal
 
 pub value_mut-requires : goal.value_mut-requires
 value_mut-requires c =
-    sym (rest_seen c.self.inside.table.value c.self.inside.table.stages c.self.inside.table.lock.places c.self.inside.table.lock.turn.courses c.laws.ensures.fits.as_many)
-    ∙ (ap is_at_rest c.self.view_is ∙ c.requires)
+    let t = c.self.inside.table in
+    sym (rest_seen (verdict_of t.machine) t.stages) ∙ (ap is_at_rest c.self.view_is ∙ c.requires)
 
 pub returns : goal.returns
 returns c =
-    let resting : list_all is_outside_stage c.self.inside.table.stages ≡ true =
-    sym (rest_seen c.self.inside.table.value c.self.inside.table.stages c.self.inside.table.lock.places c.self.inside.table.lock.turn.courses c.laws.ensures.fits.as_many)
-    ∙ (ap is_at_rest c.self.view_is ∙ c.requires) in
-    ((refl, λ v. ap (opened c.self.inside.opening_value) (put_seen c.self.inside.table v resting) ∙ ap (λ w. world_with w v) c.self.view_is), record { lends = tt; value = c.value_mut.ensures.value ∙ ap (λ w. w.state.value) c.self.view_is })
+    let t = c.self.inside.table in
+    let resting : list_all is_outside_stage t.stages ≡ true = sym (rest_seen (verdict_of t.machine) t.stages) ∙ (ap is_at_rest c.self.view_is ∙ c.requires) in
+    ((refl, λ v. put_seen t v resting ∙ ap (λ w. world_with w v) c.self.view_is), record { lends = tt; value = c.value_mut.ensures.value ∙ ap (λ w. w.state.value) c.self.view_is })

@@ -1,9 +1,13 @@
 -- The turn's word is held exactly where a party has the turn.
 use Rattle.std.proofs.Common.{ap, ◌∙◌}
 use Rattle.mutex_machine.specs.Mutex.{holders}
+use Rattle.rwlock_machine.specs.Machine.{RwLock}
+use Rattle.rwlock_world.specs.Number.{LockedNumber}
 use Rattle.rwlock_world.specs.State.{is_nobody}
 use Rattle.rwlock_world.proofs.Sound.{held_seen}
 use Rattle.rwlock_world.proofs.world.World.is_turn_held.Goals as goal
 
 pub returns : goal.returns
-returns c = held_seen c.self.inside.table.lock c.is_held.result (c.is_held.ensures ∙ ap holders (c.turn.ensures ∙ ap (λ l. l.turn) c.lock.ensures)) ∙ ap (λ w. is_nobody w.state.turn) c.self.view_is
+returns c =
+    held_seen c.self.inside.table.machine.lock c.is_held.result (c.is_held.ensures ∙ ap holders (c.turn.ensures ∙ ap (λ (l : RwLock). l.turn) (c.lock.ensures ∙ ap (λ (x : LockedNumber). x.lock) c.machine.ensures)))
+    ∙ ap (λ w. is_nobody w.state.turn) c.self.view_is
