@@ -1,5 +1,5 @@
--- The text of a once-cell's state, and what is put in it.
-use Rattle.std.proofs.Common.{◌≡◌, ℕ, List, ◌++◌, append_assoc, ap, ◌∙◌}
+-- The text of a once-cell's state.
+use Rattle.std.proofs.Common.{◌≡◌, ℕ, List, ◌++◌, refl, ap, ◌∙◌}
 use Rattle.std.specs.Prelude.{codes}
 use Rattle.lock_event.specs.declared.event.Entry.{Entry}
 use Rattle.cell_machine.specs.declared.program.ListName.{ListName}
@@ -12,10 +12,7 @@ use Rattle.lock_play.specs.Cell.{content_text, text_of}
 pub listed : (w v : World) (k j : ListName) → v ≡ w → k ≡ j → list_in k v ≡ list_in j w
 listed w v k j e f = ap (list_in k) e ∙ ap (λ n. list_in n w) f
 
-grouped : (c a l p m : List ℕ) → ((((c ++ a) ++ l) ++ p) ++ m) ≡ c ++ (a ++ (l ++ (p ++ m)))
-grouped c a l p m = simp append_assoc
-
 -- what is in the cell, and the lists with what stands between them
 pub state_text : (w : World) (content : Content) (first second : List (Entry ℕ)) → content ≡ w.cell → first ≡ w.active → second ≡ w.passive → ((((content_text content ++ codes " active=") ++ list_text first) ++ codes " passive=") ++ list_text second) ≡ text_of w
 state_text w content first second c f s =
-    rw c (rw f (rw s (grouped (content_text w.cell) (codes " active=") (list_text w.active) (codes " passive=") (list_text w.passive))))
+    rw c (rw f (rw s refl))
