@@ -1,5 +1,5 @@
 -- What the first step of a call decides at once.
-use Rattle.std.specs.Prelude.{◌≡◌, ℕ, ◌==◌, ◌&&◌, if◌then◌else◌, Bool, true, false, Option, Some, None}
+use Rattle.std.specs.Prelude.{◌≡◌, ℕ, ◌==◌, ◌&&◌, if◌then◌else◌, Bool, true, false, Some}
 use Rattle.lock_queue.specs.Parties.{entries_of}
 use Rattle.lock_world.specs.declared.moves.Answer.{Answer}
 use Rattle.lock_world.specs.declared.moves.Answer.TheVariants as answer
@@ -19,7 +19,7 @@ use Rattle.cell_machine.specs.declared.words.Content.TheVariants.{Empty, BeingMa
 use Rattle.cell_machine.specs.Seats.{Task, initializes, sets, waits_only}
 use Rattle.cell_machine.specs.Machine.{is_maker}
 use Rattle.cell_world.specs.State.{World, is_empty, standing_of, task_of}
-use Rattle.cell_world.specs.Tasks.{task_then, given, list_for}
+use Rattle.cell_world.specs.Tasks.{task_then, given}
 
 abbrev pub is_try : What → Bool
 is_try (Begin (call.TrySet v) inputs) = true

@@ -1,6 +1,5 @@
 -- What whole calls promise, and how often an empty cell may be passed over: whole polls of notified parties, one after the other, each carried out while the others stand still.
 use Rattle.std.specs.Prelude.{◌≡◌, ℕ, ◌<◌, true, length}
-use Rattle.lock_event.specs.declared.event.Entry.{Entry}
 use Rattle.lock_event.specs.Lists.{marked_count}
 use Rattle.lock_queue.specs.Parties.{entries_of}
 use Rattle.lock_world.specs.declared.moves.Answer.{Answer}
@@ -16,7 +15,7 @@ use Rattle.lock_world.specs.Frame.{is_refusal}
 use Rattle.lock_world.specs.Bounds as bounds
 use Rattle.cell_machine.specs.declared.program.ListName.{ListName}
 use Rattle.cell_machine.specs.declared.words.Content.TheVariants.{Empty, BeingMade, Full}
-use Rattle.cell_machine.specs.Seats.{Task, no_task, initializes, sets, waits_only, fills_with, failed}
+use Rattle.cell_machine.specs.Seats.{Task, no_task, fills_with, failed}
 use Rattle.cell_machine.specs.Machine.{is_maker}
 use Rattle.cell_world.specs.State.{World, list_in, standing_of, task_of}
 use Rattle.cell_world.specs.Tasks.{task_then, given}

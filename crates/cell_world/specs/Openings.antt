@@ -1,5 +1,5 @@
 -- A step of a once-cell keeps the number that its World was made with.
-use Rattle.std.specs.Prelude.{◌≡◌, length}
+use Rattle.std.specs.Prelude.{◌≡◌}
 use Rattle.std.proofs.Common.{ap}
 use Rattle.lock_world.specs.declared.moves.Answer.{Answer}
 use Rattle.lock_world.specs.declared.moves.Move.{Move}

@@ -1,5 +1,5 @@
 -- What callers see of a once-cell's World: what is in the cell, its lists, and how each party stands.
-use Rattle.std.specs.Prelude.{◌≡◌, ℕ, Bool, true, false, List, [], slice_index_or, replicate, length}
+use Rattle.std.specs.Prelude.{ℕ, Bool, true, false, List, [], slice_index_or, replicate, length}
 use Rattle.lock_event.specs.declared.event.Entry.{Entry}
 use Rattle.lock_world.specs.declared.standing.Rest.TheVariants.{Idle}
 use Rattle.lock_world.specs.Standings.{Standing, outside, forgotten}

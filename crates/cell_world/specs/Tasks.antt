@@ -1,5 +1,5 @@
 -- What a party's future is for, and what its maker makes of it.
-use Rattle.std.specs.Prelude.{◌≡◌, ℕ, Bool, true, false, Option, Some, None}
+use Rattle.std.specs.Prelude.{Bool, true, false, Option, Some, None}
 use Rattle.lock_world.specs.declared.moves.Call.TheVariants as call
 use Rattle.lock_world.specs.declared.moves.Made.{Made}
 use Rattle.lock_world.specs.declared.moves.Made.TheVariants as made

@@ -1,5 +1,5 @@
 -- How callers see what stands behind a once-cell's World.
-use Rattle.std.specs.Prelude.{ℕ, map}
+use Rattle.std.specs.Prelude.{map}
 use Rattle.lock_table.specs.Tables.{Table}
 use Rattle.lock_table.specs.Views.{standings}
 use Rattle.cell_machine.specs.Seats.{task_at, verdict}

@@ -113,8 +113,7 @@ impl World {
     pub fn values(&self)
         ensures one_at_most { (k : Known) (w : WorldOf) (ms : List MoveOf) (answers : List AnswerOf) (v : WorldOf) (run : Runs k w ms answers v) → entered k w ms answers v run ≤ 1 }
         ensures none_more { (k : Known) (w : WorldOf) (ms : List MoveOf) (answers : List AnswerOf) (v : WorldOf) (run : Runs k w ms answers v) → is_full w.cell ≡ true → entered k w ms answers v run ≡ 0 }
-    {
-    }
+    {}
 
     /// What is in the cell: nothing, nothing yet, or its value.
     pub fn content(&self) -> Content

@@ -1,5 +1,5 @@
 -- The value is lent by the World as by its table.
-use Rattle.std.proofs.Common.{ap, sym, ◌∙◌, Some}
+use Rattle.std.proofs.Common.{ap, ◌∙◌, Some}
 use borrow.Follows.Closed.{read_of}
 use Rattle.std.specs.Option.{ghost_name_of}
 use Rattle.lock_table.specs.Lending.{table_with}
