@@ -23,7 +23,7 @@ use Rattle.lock_world.specs.Rights.{Right, hold}
 use Rattle.lock_world.specs.Standings.{Standing, outside, inside, forgotten, is_outside}
 use Rattle.lock_world.proofs.Equations.{some_eq, none_some, same_test, other_test}
 use Rattle.lock_frame.specs.Steps.{StepsWell}
-use Rattle.lock_table.specs.Rights.{account_by}
+use Rattle.lock_table.specs.Rights.{account_by, sought_by}
 use Rattle.lock_table.specs.Stages.{stage_at, stands_as, call_at, polls_again, stage_after}
 use Rattle.lock_table.specs.Tables.{Table, Acted}
 use Rattle.lock_table.proofs.Acting.{stands}
@@ -43,7 +43,7 @@ use Rattle.mutex_machine.proofs.Courses.{begins, goes}
 use Rattle.mutex_world.specs.Guarded.{Guarded, knows, Moves, MovesBy, is_within, is_try_kind, answer_by, place_of, goes_with}
 use Rattle.mutex_world.specs.Laws.{HasRight, IsSound, IsAwake, is_at_rest}
 use Rattle.mutex_world.specs.Legal.{HasItsOwn, Legal}
-use Rattle.mutex_world.specs.Runs.{accounts_of, sought_by, right_by, TellsRights, HoldsWell}
+use Rattle.mutex_world.specs.Runs.{accounts_of, right_by, TellsRights, HoldsWell}
 use Rattle.mutex_world.specs.State.{World, standing_of}
 use Rattle.mutex_world.specs.Steps.{IsMutexTable, TableSteps}
 use Rattle.mutex_world.specs.View.{verdict, view_of}
@@ -53,7 +53,7 @@ use Rattle.mutex_world.proofs.step.Stepping.{known_calls, carried}
 use Rattle.mutex_world.proofs.table.Turns.{within, Turn, turn, Puts, puts}
 
 abbrev account_at : Standing → Option Right → Account
-account_at s r = account_by s (sought_by s) r
+account_at s r = account_by s (sought_by hold s) r
 
 -- ---- an action keeps its party's account
 
