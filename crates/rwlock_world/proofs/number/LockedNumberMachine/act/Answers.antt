@@ -5,7 +5,7 @@ use Rattle.lock_world.specs.declared.standing.Rest.TheVariants.{Holding}
 use Rattle.lock_table.specs.Stages.{stage_after}
 use Rattle.lock_table.specs.Tables.{Keeps, Called}
 use Rattle.rwlock_world.specs.Number.{LockedNumber, parties, knows, Stands, Moves}
-use Rattle.rwlock_world.proofs.Kept.{acted, kept}
+use Rattle.rwlock_world.proofs.table.Kept.{acted, kept}
 use Rattle.rwlock_world.proofs.number.LockedNumberMachine.act.Goals as goal
 
 pub returns-in-None-clause-acts : goal.returns-in-None-clause-acts

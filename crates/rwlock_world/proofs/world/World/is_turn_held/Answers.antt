@@ -4,7 +4,7 @@ use Rattle.mutex_machine.specs.Mutex.{holders}
 use Rattle.rwlock_machine.specs.Machine.{RwLock}
 use Rattle.rwlock_world.specs.Number.{LockedNumber}
 use Rattle.rwlock_world.specs.State.{is_nobody}
-use Rattle.rwlock_world.proofs.Sound.{held_seen}
+use Rattle.rwlock_world.proofs.laws.Sound.{held_seen}
 use Rattle.rwlock_world.proofs.world.World.is_turn_held.Goals as goal
 
 pub returns : goal.returns

@@ -3,7 +3,7 @@ use Rattle.std.proofs.Common.{ap, ◌∙◌}
 use Rattle.rwlock_machine.specs.Acts.{marked}
 use Rattle.rwlock_world.specs.Number.{LockedNumber}
 use Rattle.rwlock_world.specs.State.{is_marked}
-use Rattle.rwlock_world.proofs.Sound.{marked_seen}
+use Rattle.rwlock_world.proofs.laws.Sound.{marked_seen}
 use Rattle.rwlock_world.proofs.world.World.is_writer_marked.Goals as goal
 
 pub returns : goal.returns

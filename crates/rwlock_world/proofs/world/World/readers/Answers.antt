@@ -3,7 +3,7 @@ use Rattle.std.proofs.Common.{ap, sym, ◌∙◌}
 use Rattle.rwlock_machine.specs.Acts.{readers}
 use Rattle.rwlock_world.specs.Number.{LockedNumber}
 use Rattle.rwlock_world.specs.State.{how_many_read}
-use Rattle.rwlock_world.proofs.Views.{how_many-read}
+use Rattle.rwlock_world.proofs.table.Views.{how_many-read}
 use Rattle.rwlock_world.proofs.world.World.readers.Goals as goal
 
 pub returns : goal.returns

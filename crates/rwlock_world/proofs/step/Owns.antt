@@ -33,11 +33,11 @@ use Rattle.lock_table.specs.Stages.{stage_at}
 use Rattle.rwlock_world.specs.Stages.{Course, downgrades, course_of, course_until, is_on_course, sought_at, is_inside, goes_with}
 use Rattle.rwlock_world.specs.Stages as plans
 use Rattle.rwlock_world.specs.View.{verdict_of, Share, passing, upgrading, waiting, writing, turn_as, share_of, turn_by, is_reading, is_upgrade, verdict, verdict_until, refused_by, standing_at, seen}
-use Rattle.rwlock_world.proofs.Begun.{at_out, at_future, at_guard}
+use Rattle.rwlock_world.proofs.table.Begun.{at_out, at_future, at_guard}
 use Rattle.lock_table.proofs.Views.{standings_at}
 use Rattle.lock_table.proofs.Past.{inside_or_past}
-use Rattle.rwlock_world.proofs.Views as view
-use Rattle.rwlock_world.proofs.Views.{Fits}
+use Rattle.rwlock_world.proofs.table.Views as view
+use Rattle.rwlock_world.proofs.table.Views.{Fits}
 
 -- ---- the turn
 

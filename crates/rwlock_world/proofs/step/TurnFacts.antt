@@ -43,9 +43,9 @@ use Rattle.rwlock_world.specs.Legal.{may_meet}
 use Rattle.rwlock_world.specs.State.{World, list_of, told_in}
 use Rattle.rwlock_world.specs.Stages.{sought_at}
 use Rattle.rwlock_world.specs.View.{is_reading, verdict, verdict_until, refused_by, seen}
-use Rattle.rwlock_world.proofs.Rows.{verdict_then, Room, keeps_what_it_has, TurnRow, turn_row}
-use Rattle.rwlock_world.proofs.Facts.{WaitsIn, CauseAs, Fitting, JudgedAs, Facts, Known}
-use Rattle.rwlock_world.proofs.TurnSteps.{TurnDid, TurnMoved, moved, left}
+use Rattle.rwlock_world.proofs.step.Rows.{verdict_then, Room, keeps_what_it_has, TurnRow, turn_row}
+use Rattle.rwlock_world.proofs.step.Facts.{WaitsIn, CauseAs, Fitting, JudgedAs, Facts, Known}
+use Rattle.rwlock_world.proofs.step.TurnSteps.{TurnDid, TurnMoved, moved, left}
 
 -- ---- what a step of a poll decides there decides the call, but that the turn was got
 

@@ -34,12 +34,12 @@ use Rattle.rwlock_world.specs.Stages.{Course, upgrades, course_of, is_on_course}
 use Rattle.rwlock_world.specs.State.{World}
 use Rattle.rwlock_world.specs.Steps.{Stands, Steps as Moved}
 use Rattle.rwlock_world.specs.Runs.{Runs}
-use Rattle.rwlock_world.proofs.Acting.{Acting, acting, fit}
-use Rattle.rwlock_world.proofs.Begun.{within}
-use Rattle.rwlock_world.proofs.Idle.{Laws}
-use Rattle.rwlock_world.proofs.Kept.{walks}
-use Rattle.rwlock_world.proofs.Paths.{Keeps}
-use Rattle.rwlock_world.proofs.Stages.{stage_then}
+use Rattle.rwlock_world.proofs.step.Acting.{Acting, acting, fit}
+use Rattle.rwlock_world.proofs.table.Begun.{within}
+use Rattle.rwlock_world.proofs.step.Idle.{Laws}
+use Rattle.rwlock_world.proofs.table.Kept.{walks}
+use Rattle.rwlock_world.proofs.step.Paths.{Keeps}
+use Rattle.rwlock_world.proofs.table.Stages.{stage_then}
 
 -- a later poll
 abbrev later : Within

@@ -18,8 +18,8 @@ use Rattle.rwlock_machine.specs.declared.program.Place.{Place}
 use Rattle.rwlock_machine.specs.Program.{place_after}
 use Rattle.rwlock_world.specs.Number.{answer_by}
 use Rattle.rwlock_world.specs.Stages.{Course, polls, tries, drops, downgrades, upgrades, tries_upgrade, strays, course_of, is_on_course, is_future, goes_with}
-use Rattle.rwlock_world.proofs.Begun.{within}
-use Rattle.rwlock_world.proofs.Paths.{ends_in, Keeps}
+use Rattle.rwlock_world.proofs.table.Begun.{within}
+use Rattle.rwlock_world.proofs.step.Paths.{ends_in, Keeps}
 
 -- ---- the calls of each course
 

@@ -20,10 +20,10 @@ use Rattle.rwlock_machine.specs.Program.{place_after}
 use Rattle.rwlock_world.specs.Number.{answer_by}
 use Rattle.rwlock_world.specs.Stages.{Course, polls, tries, drops, downgrades, upgrades, tries_upgrade, course_of, is_on_course}
 use Rattle.rwlock_world.specs.View.{is_upgrade, verdict, standing_at}
-use Rattle.rwlock_world.proofs.Begun.{within}
-use Rattle.rwlock_world.proofs.Paths.{ends_in, Keeps}
-use Rattle.rwlock_world.proofs.Rows.{verdict_then, KeepsUpgrade, RefusedAt, is_made}
-use Rattle.rwlock_world.proofs.Stages.{on_course, stage_then}
+use Rattle.rwlock_world.proofs.table.Begun.{within}
+use Rattle.rwlock_world.proofs.step.Paths.{ends_in, Keeps}
+use Rattle.rwlock_world.proofs.step.Rows.{verdict_then, KeepsUpgrade, RefusedAt, is_made}
+use Rattle.rwlock_world.proofs.table.Stages.{on_course, stage_then}
 
 -- ---- refusals
 

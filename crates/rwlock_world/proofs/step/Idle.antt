@@ -43,9 +43,9 @@ use Rattle.rwlock_world.specs.Stages.{sought_at, goes_with}
 use Rattle.rwlock_world.specs.State.{World, standing_of, sought_by}
 use Rattle.rwlock_world.specs.Steps.{IsNumberTable}
 use Rattle.rwlock_world.specs.View.{verdict_of, verdict, standing_at, view_of}
-use Rattle.rwlock_world.proofs.Begun.{within}
-use Rattle.rwlock_world.proofs.Owns as owns
-use Rattle.rwlock_world.proofs.Views as view
+use Rattle.rwlock_world.proofs.table.Begun.{within}
+use Rattle.rwlock_world.proofs.step.Owns as owns
+use Rattle.rwlock_world.proofs.table.Views as view
 
 -- what holds of a table before and after a move
 pub record Laws (t : Table LockedNumber) : Type 0 where

@@ -29,7 +29,7 @@ use Rattle.rwlock_world.specs.State.{ListName, for_the_turn, for_no_readers, for
 use Rattle.rwlock_world.specs.State as state
 use Rattle.rwlock_world.specs.State.{World, told_in, entries_in}
 use Rattle.rwlock_world.specs.View.{passing, upgrading, turn_as, share_of, turn_by, seen}
-use Rattle.rwlock_world.proofs.Facts.{Known, turn_kept, there}
+use Rattle.rwlock_world.proofs.step.Facts.{Known, turn_kept, there}
 
 -- ---- rosters
 

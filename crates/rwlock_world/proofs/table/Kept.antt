@@ -28,10 +28,10 @@ use Rattle.rwlock_machine.specs.Acts.{Acts, IsRwLock}
 use Rattle.rwlock_machine.proofs.Leads.{led}
 use Rattle.rwlock_world.specs.Number.{LockedNumber, parties, place_of, knows, knows_at, may_put, Stands, answer_by, place_for, Acted, Does, Moves as MovesThere}
 use Rattle.rwlock_world.specs.Stages.{course_of, is_on_course}
-use Rattle.rwlock_world.proofs.Begun.{within}
-use Rattle.rwlock_world.proofs.Paths.{Path, Keeps, Seeks, path}
-use Rattle.rwlock_world.proofs.Stages.{strays_not, stage_fits}
-use Rattle.rwlock_world.proofs.Calls.{Moves, moving}
+use Rattle.rwlock_world.proofs.table.Begun.{within}
+use Rattle.rwlock_world.proofs.step.Paths.{Path, Keeps, Seeks, path}
+use Rattle.rwlock_world.proofs.table.Stages.{strays_not, stage_fits}
+use Rattle.rwlock_world.proofs.table.Calls.{Moves, moving}
 
 -- ---- the path of a step
 

@@ -29,7 +29,7 @@ use Rattle.rwlock_machine.proofs.Alone.{fewer, begun_within}
 use Rattle.lock_table.specs.Tables.{Table}
 use Rattle.rwlock_world.specs.Number.{LockedNumber, answer_by}
 use Rattle.rwlock_world.specs.Whole.{most_steps_of}
-use Rattle.rwlock_world.proofs.Acting.{Acting, Way, impossible, over, puts, acts}
+use Rattle.rwlock_world.proofs.step.Acting.{Acting, Way, impossible, over, puts, acts}
 
 -- how many steps are left after this answer
 abbrev pub left_by : Answer → Table LockedNumber → ℕ → ℕ

@@ -18,15 +18,15 @@ use Rattle.rwlock_world.specs.Legal.{knows_of}
 use Rattle.rwlock_world.specs.Runs.{Runs, HoldsWell, TellsRights, accounts_of}
 use Rattle.rwlock_world.specs.Whole.{most_steps_of, steps_left_of}
 use Rattle.rwlock_world.specs.Bound.{Promises}
-use Rattle.rwlock_world.proofs.Acting.{Way, way}
-use Rattle.rwlock_world.proofs.BoundRuns.{laws}
-use Rattle.rwlock_world.proofs.Sound.{sound, awake}
-use Rattle.rwlock_world.proofs.Rights.{holds_well}
-use Rattle.rwlock_world.proofs.Whole as whole
-use Rattle.rwlock_world.proofs.Handing.{hands_on}
-use Rattle.rwlock_world.proofs.FirstPolls.{upgradable_ready, write_ready}
-use Rattle.rwlock_world.proofs.Promises.{unstarved_at_end}
-use Rattle.rwlock_world.proofs.BoundSeen.{turn_seen_polled, reading_seen_polled, writing_seen_polled}
+use Rattle.rwlock_world.proofs.step.Acting.{Way, way}
+use Rattle.rwlock_world.proofs.bound.Alone.{laws}
+use Rattle.rwlock_world.proofs.laws.Sound.{sound, awake}
+use Rattle.rwlock_world.proofs.rights.Rights.{holds_well}
+use Rattle.rwlock_world.proofs.whole.Whole as whole
+use Rattle.rwlock_world.proofs.whole.Handing.{hands_on}
+use Rattle.rwlock_world.proofs.whole.FirstPolls.{upgradable_ready, write_ready}
+use Rattle.rwlock_world.proofs.whole.Promises.{unstarved_at_end}
+use Rattle.rwlock_world.proofs.bound.AloneSeen.{turn_seen_polled, reading_seen_polled, writing_seen_polled}
 
 sound_now : (w : World) → Stands w → IsSound w
 sound_now w s = subst IsSound (sym s.seen) (sound w.behind s.lock s.fits)

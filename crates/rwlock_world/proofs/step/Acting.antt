@@ -38,18 +38,18 @@ use Rattle.rwlock_world.specs.Stages.{sought_at}
 use Rattle.rwlock_world.specs.State.{standing_of}
 use Rattle.rwlock_world.specs.Steps.{TableSteps}
 use Rattle.rwlock_world.specs.View.{verdict, view_of}
-use Rattle.rwlock_world.proofs.Begun.{within, known_at}
-use Rattle.rwlock_world.proofs.Calls.{Moves, moving}
-use Rattle.rwlock_world.proofs.Facts as word
-use Rattle.rwlock_world.proofs.Facts.{Facts}
-use Rattle.rwlock_world.proofs.Idle.{Laws, stood, sought_is}
-use Rattle.rwlock_world.proofs.Kept.{walks, put_is}
-use Rattle.rwlock_world.proofs.Legals as legals
-use Rattle.rwlock_world.proofs.Stages.{strays_not, stage_then}
-use Rattle.rwlock_world.proofs.TurnFacts.{on_turn}
+use Rattle.rwlock_world.proofs.table.Begun.{within, known_at}
+use Rattle.rwlock_world.proofs.table.Calls.{Moves, moving}
+use Rattle.rwlock_world.proofs.step.Facts as word
+use Rattle.rwlock_world.proofs.step.Facts.{Facts}
+use Rattle.rwlock_world.proofs.step.Idle.{Laws, stood, sought_is}
+use Rattle.rwlock_world.proofs.table.Kept.{walks, put_is}
+use Rattle.rwlock_world.proofs.step.Legals as legals
+use Rattle.rwlock_world.proofs.table.Stages.{strays_not, stage_then}
+use Rattle.rwlock_world.proofs.step.TurnFacts.{on_turn}
 use Rattle.lock_table.proofs.Mapped.{set_same}
 use Rattle.lock_table.proofs.Past.{inside_or_past}
-use Rattle.rwlock_world.proofs.Views.{Fits}
+use Rattle.rwlock_world.proofs.table.Views.{Fits}
 
 module _ (t u : Table LockedNumber) (m : Move) (a : Answer) (w : Within) where
   abbrev p : ℕ

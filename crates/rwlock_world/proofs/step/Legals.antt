@@ -42,18 +42,18 @@ use Rattle.lock_table.specs.Stages.{stage_at}
 use Rattle.rwlock_world.specs.Stages.{sought_at}
 use Rattle.rwlock_world.specs.Number.{LockedNumber, answer_by}
 use Rattle.rwlock_world.specs.View.{is_upgrade, verdict, verdict_of, standing_at, seen}
-use Rattle.rwlock_world.proofs.Kept.{Walks}
-use Rattle.rwlock_world.proofs.Stages.{stage_then, always_possible, may_end_so}
-use Rattle.rwlock_world.proofs.Rows.{Room, keeps_what_it_has, lacks_memory, verdict_then, is_after_ready, is_got, is_made}
-use Rattle.rwlock_world.proofs.Facts.{WaitsIn, CauseAs, Fitting, ReasonAs, JudgedAs, Facts}
-use Rattle.rwlock_world.proofs.Calls.{Moves}
-use Rattle.rwlock_world.proofs.Endings as ends
-use Rattle.rwlock_world.proofs.Owns as owns
+use Rattle.rwlock_world.proofs.table.Kept.{Walks}
+use Rattle.rwlock_world.proofs.table.Stages.{stage_then, always_possible, may_end_so}
+use Rattle.rwlock_world.proofs.step.Rows.{Room, keeps_what_it_has, lacks_memory, verdict_then, is_after_ready, is_got, is_made}
+use Rattle.rwlock_world.proofs.step.Facts.{WaitsIn, CauseAs, Fitting, ReasonAs, JudgedAs, Facts}
+use Rattle.rwlock_world.proofs.table.Calls.{Moves}
+use Rattle.rwlock_world.proofs.step.Endings as ends
+use Rattle.rwlock_world.proofs.step.Owns as owns
 use Rattle.lock_table.specs.Tables.{Table}
 use Rattle.lock_table.proofs.Acting as acting
 use Rattle.lock_table.proofs.Calls.{decided_after, stands_seen}
-use Rattle.rwlock_world.proofs.Views as view
-use Rattle.rwlock_world.proofs.Views.{Fits}
+use Rattle.rwlock_world.proofs.table.Views as view
+use Rattle.rwlock_world.proofs.table.Views.{Fits}
 
 -- a step keeps what was decided
 keep : (m : Move) (old : World) (k : RwLock) (new : World) (v : ℕ) (x to : Place) (d : Deed Change ListName) (was now : Option Answer) (b : Answer) → JudgedAs m old k new v x to d was now → was ≡ Some b → (now ≡ Some b) × (gives_back d ≡ true)

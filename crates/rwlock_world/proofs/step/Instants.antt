@@ -46,12 +46,12 @@ use Rattle.rwlock_world.specs.Stages.{sought_at}
 use Rattle.lock_table.specs.Tables.{Table}
 use Rattle.rwlock_world.specs.Number.{LockedNumber, answer_by}
 use Rattle.rwlock_world.specs.View.{Share, passing, upgrading, waiting, writing, turn_as, share_of, turn_by, is_reading, verdict, standing_at, view_of}
-use Rattle.rwlock_world.proofs.Rows.{verdict_then, turn_row}
-use Rattle.rwlock_world.proofs.Sound.{none_marked, nobody_holds, bit_seen}
-use Rattle.rwlock_world.proofs.Acting.{Acting, fit, says}
-use Rattle.rwlock_world.proofs.Idle.{Laws, stood, sought_is}
-use Rattle.rwlock_world.proofs.AtOnce.{waits_for_turn, is_try_turn, Lists, Firsts, firsts, try_reads, first_reads, first_readies, try_upgrades, try_adds, added, try_writes, try_written, turn_tries, turn_enters}
-use Rattle.rwlock_world.proofs.Views as view
+use Rattle.rwlock_world.proofs.step.Rows.{verdict_then, turn_row}
+use Rattle.rwlock_world.proofs.laws.Sound.{none_marked, nobody_holds, bit_seen}
+use Rattle.rwlock_world.proofs.step.Acting.{Acting, fit, says}
+use Rattle.rwlock_world.proofs.step.Idle.{Laws, stood, sought_is}
+use Rattle.rwlock_world.proofs.step.AtOnce.{waits_for_turn, is_try_turn, Lists, Firsts, firsts, try_reads, first_reads, first_readies, try_upgrades, try_adds, added, try_writes, try_written, turn_tries, turn_enters}
+use Rattle.rwlock_world.proofs.table.Views as view
 
 -- ---- tests
 

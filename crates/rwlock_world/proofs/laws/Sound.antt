@@ -35,14 +35,14 @@ use Rattle.rwlock_world.specs.Lent.{future_rests, guard_rests}
 use Rattle.rwlock_world.specs.Number.{LockedNumber, number_with}
 use Rattle.rwlock_world.specs.Steps.{IsNumberTable}
 use Rattle.rwlock_world.specs.View.{verdict_of, Share, passing, upgrading, waiting, writing, turn_as, share_of, turn_by, is_reading, standing_at, view_of}
-use Rattle.rwlock_world.proofs.Begun.{at_out}
+use Rattle.rwlock_world.proofs.table.Begun.{at_out}
 use Rattle.lock_table.proofs.Lending.{lent_seen}
 use Rattle.lock_table.proofs.Views.{rest_seen, outside_at}
 use Rattle.lock_table.proofs.Past.{inside_or_past}
-use Rattle.rwlock_world.proofs.Views as view
-use Rattle.rwlock_world.proofs.Views.{Fits}
-use Rattle.rwlock_world.proofs.Owns as owns
-use Rattle.rwlock_world.proofs.RightsInside as calls
+use Rattle.rwlock_world.proofs.table.Views as view
+use Rattle.rwlock_world.proofs.table.Views.{Fits}
+use Rattle.rwlock_world.proofs.step.Owns as owns
+use Rattle.rwlock_world.proofs.rights.Inside as calls
 
 -- ---- rights
 

@@ -22,9 +22,9 @@ use Rattle.rwlock_world.specs.Laws.{IsSound, IsAwake, is_at_rest}
 use Rattle.lock_table.specs.Rights.{account_by, TellsAccounts}
 use Rattle.lock_table.proofs.Rights.{tells_on}
 use Rattle.rwlock_world.specs.Runs.{right_in, accounts_of, HasJustItsRights, HasItsRights, HoldsWell}
-use Rattle.rwlock_world.proofs.RightsHeld.{state_rights, holds_by}
-use Rattle.rwlock_world.proofs.RightsMoved.{has_standing, account, Beginning, begun, from_outside, from_inside}
-use Rattle.rwlock_world.proofs.RightsOthers.{others}
+use Rattle.rwlock_world.proofs.rights.Held.{state_rights, holds_by}
+use Rattle.rwlock_world.proofs.rights.Moved.{has_standing, account, Beginning, begun, from_outside, from_inside}
+use Rattle.rwlock_world.proofs.rights.Others.{others}
 
 -- a party that isn't forgotten is in the table
 in_table : (ss : List Standing) (p : ℕ) → get_or ss p forgotten ≢ forgotten → p < length ss

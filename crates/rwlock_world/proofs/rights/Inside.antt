@@ -24,8 +24,8 @@ use Rattle.rwlock_world.specs.Laws.{is_long_call}
 use Rattle.rwlock_world.specs.View.{verdict_of, standing_at, seen}
 use Rattle.lock_table.proofs.Views.{standings_at, length-standings}
 use Rattle.lock_table.proofs.Past.{inside_or_past}
-use Rattle.rwlock_world.proofs.Views as view
-use Rattle.rwlock_world.proofs.Views.{Fits}
+use Rattle.rwlock_world.proofs.table.Views as view
+use Rattle.rwlock_world.proofs.table.Views.{Fits}
 
 -- a course whose calls take one step
 abbrev is_short : Course → Bool

@@ -42,10 +42,10 @@ use Rattle.rwlock_world.specs.State.{World, is_turn_free, is_upgrader, how_many_
 use Rattle.rwlock_world.specs.Steps.{Stands, Steps as Moved}
 use Rattle.rwlock_world.specs.Number.{knows_at, answer_by}
 use Rattle.rwlock_world.specs.View.{view_of}
-use Rattle.rwlock_world.proofs.Acting.{Acting, Way, impossible, over, puts, acts, way, acting}
-use Rattle.rwlock_world.proofs.BoundRuns.{laws}
-use Rattle.rwlock_world.proofs.Instants.{begins, passer_holds, turn_is_free}
-use Rattle.rwlock_world.proofs.Views as view
+use Rattle.rwlock_world.proofs.step.Acting.{Acting, Way, impossible, over, puts, acts, way, acting}
+use Rattle.rwlock_world.proofs.bound.Alone.{laws}
+use Rattle.rwlock_world.proofs.step.Instants.{begins, passer_holds, turn_is_free}
+use Rattle.rwlock_world.proofs.table.Views as view
 
 -- what the turn is taken for: whether it is free, and where its party stands then
 abbrev IsFreeFor : Purpose → RwLock → Type 0

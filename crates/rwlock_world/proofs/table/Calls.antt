@@ -35,9 +35,9 @@ use Rattle.rwlock_machine.proofs.Starts.{start_same}
 use Rattle.rwlock_world.specs.Number.{knows_at, answer_by}
 use Rattle.rwlock_world.specs.Stages.{sought_at, Course, tries_upgrade, course_of, is_on_course, is_inside, goes_with}
 use Rattle.rwlock_world.specs.View.{share_of, is_upgrade, verdict, standing_at}
-use Rattle.rwlock_world.proofs.Begun.{within, Turn, turn}
-use Rattle.rwlock_world.proofs.Paths.{InVain, Seeks}
-use Rattle.rwlock_world.proofs.Rows.{lacks_memory}
+use Rattle.rwlock_world.proofs.table.Begun.{within, Turn, turn}
+use Rattle.rwlock_world.proofs.step.Paths.{InVain, Seeks}
+use Rattle.rwlock_world.proofs.step.Rows.{lacks_memory}
 
 -- ---- what is sought after an action
 

@@ -19,11 +19,11 @@ use Rattle.rwlock_world.specs.Legal.{Legal, AnswersAtOnce}
 use Rattle.rwlock_world.specs.Number.{LockedNumber}
 use Rattle.rwlock_world.specs.Steps.{TableSteps, Stands, Steps}
 use Rattle.rwlock_world.specs.View.{view_of}
-use Rattle.rwlock_world.proofs.Acting.{Way, impossible, over, puts, acts, way, legal}
-use Rattle.rwlock_world.proofs.Idle as idle
-use Rattle.rwlock_world.proofs.Idle.{Laws}
-use Rattle.rwlock_world.proofs.Instants.{at_once, still_at_once, impossible_at_once}
-use Rattle.rwlock_world.proofs.Kept.{put_is}
+use Rattle.rwlock_world.proofs.step.Acting.{Way, impossible, over, puts, acts, way, legal}
+use Rattle.rwlock_world.proofs.step.Idle as idle
+use Rattle.rwlock_world.proofs.step.Idle.{Laws}
+use Rattle.rwlock_world.proofs.step.Instants.{at_once, still_at_once, impossible_at_once}
+use Rattle.rwlock_world.proofs.table.Kept.{put_is}
 use Rattle.lock_table.proofs.Past.{inside_or_past}
 
 -- the call that puts a value

@@ -13,7 +13,7 @@ use Rattle.rwlock_world.specs.Laws.{IsSound, IsAwake, IsTurnWanted, IsReadingWan
 use Rattle.lock_world.specs.declared.moves.Call.TheVariants as call
 use Rattle.rwlock_world.specs.Whole.{IsWholeCall}
 use Rattle.rwlock_world.specs.Runs.{accounts_of}
-use Rattle.rwlock_world.proofs.WorldLaws.{keeps_promise}
+use Rattle.rwlock_world.proofs.laws.WorldLaws.{keeps_promise}
 use Rattle.rwlock_world.specs.Bound.{Promises, TakesTurn, GivesTurnWay, PassesTurnOver, IsTurnBounded, IsReadingBounded, IsWritingBounded}
 
 -- the first entry of a list with marked ones, whose party is pending or was

@@ -42,13 +42,13 @@ use Rattle.rwlock_world.specs.State.{nobody, is_upgradable, waits_to_write as wa
 use Rattle.rwlock_world.specs.Laws.{is_at_rest}
 use Rattle.rwlock_world.specs.View.{upgrading, waiting, writing, turn_as, share_of, turn_by, is_reading, verdict, standing_at, view_of}
 use Rattle.rwlock_world.specs.Bound.{IsSoloForTurn, IsSoloToRead, IsSoloToWrite, TakesTurn, GivesTurnWay, SoloPollForTurn, TakesToRead, TakesToWrite}
-use Rattle.rwlock_world.proofs.Begun.{at_future}
-use Rattle.rwlock_world.proofs.BoundRuns.{Ended, polls_alone}
-use Rattle.rwlock_world.proofs.Sound.{nobody_holds, bit_seen}
+use Rattle.rwlock_world.proofs.table.Begun.{at_future}
+use Rattle.rwlock_world.proofs.bound.Alone.{Ended, polls_alone}
+use Rattle.rwlock_world.proofs.laws.Sound.{nobody_holds, bit_seen}
 use Rattle.lock_table.proofs.Views.{rest_seen, outside_stage}
-use Rattle.rwlock_world.proofs.Owns as owns
+use Rattle.rwlock_world.proofs.step.Owns as owns
 use Rattle.lock_table.proofs.Past.{inside_or_past}
-use Rattle.rwlock_world.proofs.Views as view
+use Rattle.rwlock_world.proofs.table.Views as view
 
 -- ---- where a pending party stands that is listed
 

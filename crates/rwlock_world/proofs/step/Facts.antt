@@ -39,11 +39,11 @@ use Rattle.rwlock_world.specs.Legal.{may_meet, IsCause}
 use Rattle.rwlock_world.specs.Number.{answer_by}
 use Rattle.rwlock_world.specs.Stages.{strays, course_of, sought_at}
 use Rattle.rwlock_world.specs.View.{Share, passing, upgrading, waiting, writing, turn_as, share_of, turn_by, is_reading, verdict, seen}
-use Rattle.rwlock_world.proofs.Rows.{deed_at, verdict_then, is_after_ready, Reads, Shares, Finding, is_got, WaitsAt, Refuses, Reason, Judged, Room, keeps_what_it_has, lacks_memory, KeepsUpgrade, RefusedAt, Row, row}
-use Rattle.rwlock_world.proofs.Owns as owns
-use Rattle.rwlock_world.proofs.Sound.{none_marked}
-use Rattle.rwlock_world.proofs.Views as view
-use Rattle.rwlock_world.proofs.Views.{Fits}
+use Rattle.rwlock_world.proofs.step.Rows.{deed_at, verdict_then, is_after_ready, Reads, Shares, Finding, is_got, WaitsAt, Refuses, Reason, Judged, Room, keeps_what_it_has, lacks_memory, KeepsUpgrade, RefusedAt, Row, row}
+use Rattle.rwlock_world.proofs.step.Owns as owns
+use Rattle.rwlock_world.proofs.laws.Sound.{none_marked}
+use Rattle.rwlock_world.proofs.table.Views as view
+use Rattle.rwlock_world.proofs.table.Views.{Fits}
 
 -- a party waits in the list of the place where it stands
 abbrev pub WaitsIn : RwLock → ℕ → Place → Type 0

@@ -59,10 +59,10 @@ use Rattle.rwlock_world.specs.Stages.{is_future}
 use Rattle.rwlock_world.specs.State.{ListName, for_the_turn, for_no_readers, for_no_writer, World, list_of, standing_of}
 use Rattle.rwlock_world.specs.Steps.{Stands, Steps as Moved}
 use Rattle.rwlock_world.specs.View.{view_of}
-use Rattle.rwlock_world.proofs.Acting.{Acting, Way, impossible, over, puts, acts, way, acting, fit}
-use Rattle.rwlock_world.proofs.Begun.{within, at_future}
-use Rattle.rwlock_world.proofs.BoundRuns.{laws}
-use Rattle.rwlock_world.proofs.BoundSeen.{at_stage, future}
+use Rattle.rwlock_world.proofs.step.Acting.{Acting, Way, impossible, over, puts, acts, way, acting, fit}
+use Rattle.rwlock_world.proofs.table.Begun.{within, at_future}
+use Rattle.rwlock_world.proofs.bound.Alone.{laws}
+use Rattle.rwlock_world.proofs.bound.AloneSeen.{at_stage, future}
 
 -- some entry is marked, unless the list is empty
 abbrev IsHanded : List (Entry ℕ) → Type 0

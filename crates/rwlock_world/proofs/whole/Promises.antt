@@ -35,9 +35,9 @@ use Rattle.lock_table.specs.Stages.{stage_at}
 use Rattle.rwlock_world.specs.Runs.{Runs, HoldsWell}
 use Rattle.rwlock_world.specs.State.{World, is_starved}
 use Rattle.rwlock_world.specs.Steps.{Stands, Steps as Moved}
-use Rattle.rwlock_world.proofs.Acting.{Acting, Way, impossible, over, puts, acts, way}
-use Rattle.rwlock_world.proofs.Begun.{ForMoves, turn}
-use Rattle.rwlock_world.proofs.BoundRuns.{laws}
+use Rattle.rwlock_world.proofs.step.Acting.{Acting, Way, impossible, over, puts, acts, way}
+use Rattle.rwlock_world.proofs.table.Begun.{ForMoves, turn}
+use Rattle.rwlock_world.proofs.bound.Alone.{laws}
 
 -- ---- whoever begins a call isn't about to be counted
 

@@ -45,9 +45,9 @@ use Rattle.rwlock_world.specs.Number.{knows_at, answer_by}
 use Rattle.rwlock_world.specs.Stages.{right_for, sought_at, Course, tries, course_of, is_on_course, is_inside, goes_with}
 use Rattle.rwlock_world.specs.View.{is_reading, is_upgrade, verdict, standing_at}
 use Rattle.lock_table.specs.Stages.{call_at, polls_again}
-use Rattle.rwlock_world.proofs.Begun.{Turn, turn}
-use Rattle.rwlock_world.proofs.Stages.{on_course}
-use Rattle.rwlock_world.proofs.Rows.{verdict_then}
+use Rattle.rwlock_world.proofs.table.Begun.{Turn, turn}
+use Rattle.rwlock_world.proofs.table.Stages.{on_course}
+use Rattle.rwlock_world.proofs.step.Rows.{verdict_then}
 
 -- ---- where tries and first polls begin
 
