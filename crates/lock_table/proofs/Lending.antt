@@ -1,11 +1,12 @@
 -- Each party may stand where it does once a value was lent.
-use Rattle.std.proofs.Common.{◌≡◌, true, false, Bool, ◌&&◌, ℕ, zero, suc, ◌+◌, ◌<◌, List, [], ◌∷◌, length, map, Option, refl, ap, sym, ◌∙◌, subst}
+use Rattle.std.proofs.Common.{◌≡◌, true, ℕ, zero, suc, ◌+◌, ◌<◌, List, [], ◌∷◌, length, map, Option, refl, ap, sym, ◌∙◌, subst}
 use Rattle.lock_world.specs.declared.moves.Answer.{Answer}
 use Rattle.lock_world.specs.declared.standing.Rest.TheVariants.{Idle, Pending, Holding, Finished}
 use Rattle.lock_world.specs.declared.standing.Stage.{Stage}
 use Rattle.lock_world.specs.declared.standing.Stage.TheVariants.{Outside, Inside, Forgotten}
 use Rattle.lock_world.specs.Standings.{forgets, is_outside_stage}
 use Rattle.std.specs.List.{list_all}
+use Rattle.lock_world.proofs.Equations.{both}
 use Rattle.lock_table.specs.Lending.{forgotten_then}
 use Rattle.lock_table.specs.Stages.{stage_at, stands_as}
 use Rattle.lock_table.specs.Views.{standings_from, standings}
@@ -38,15 +39,11 @@ forgets_one d e (Outside Finished) h = refl
 forgets_one d e (Inside w) h = absurd (cc)
 forgets_one d e Forgotten h = refl
 
-split : (a b : Bool) → a && b ≡ true → (a ≡ true) × (b ≡ true)
-split true b h = (refl, h)
-split false b h = absurd (cc)
-
 from_lent : (n : ℕ) (verdict verdict' : ℕ → Option Answer) (ss : List Stage) → list_all is_outside_stage ss ≡ true → standings_from n verdict' (map forgets ss) ≡ map forgotten_then (standings_from n verdict ss)
 from_lent n verdict verdict' [] h = refl
 from_lent n verdict verdict' (s ∷ ss) h =
-    let both = split (is_outside_stage s) (list_all is_outside_stage ss) h in
-    ap (λ z. z ∷ standings_from (n + 1) verdict' (map forgets ss)) (forgets_one (verdict n) (verdict' n) s both.0) ∙ ap (λ l. forgotten_then (stands_as (verdict n) s) ∷ l) (from_lent (n + 1) verdict verdict' ss both.1)
+    let two = both (is_outside_stage s) (list_all is_outside_stage ss) h in
+    ap (λ z. z ∷ standings_from (n + 1) verdict' (map forgets ss)) (forgets_one (verdict n) (verdict' n) s two.0) ∙ ap (λ l. forgotten_then (stands_as (verdict n) s) ∷ l) (from_lent (n + 1) verdict verdict' ss two.1)
 
 pub lent_seen : (verdict verdict' : ℕ → Option Answer) (ss : List Stage) → list_all is_outside_stage ss ≡ true → standings verdict' (map forgets ss) ≡ map forgotten_then (standings verdict ss)
 lent_seen verdict verdict' ss h = from_lent 0 verdict verdict' ss h

@@ -1,7 +1,6 @@
 -- After each step what is known tells the rights, if the party that moves keeps its account and the others theirs.
-use Rattle.std.proofs.Common.{◌≡◌, ◌≢◌, ℕ, ◌==◌, if◌then◌else◌, Bool, true, false, refl, arith, ap, sym, ◌∙◌, subst}
+use Rattle.std.proofs.Common.{◌≡◌, ◌≢◌, ℕ, ◌==◌, true, refl, ap, sym, ◌∙◌, subst}
 use Rattle.std.proofs.Math.Decide.{ℕ_discrete}
-use Rattle.std.proofs.lemmas.Bool.Decides.{nat_tests}
 use Rattle.lock_world.specs.declared.moves.Answer.{Answer}
 use Rattle.lock_world.specs.declared.moves.Answer.TheVariants as answer
 use Rattle.lock_world.specs.declared.moves.Call.TheVariants as call
@@ -13,31 +12,18 @@ use Rattle.lock_world.specs.declared.standing.Rest.TheVariants.{Holding, Finishe
 use Rattle.lock_world.specs.declared.standing.Stage.{Stage}
 use Rattle.lock_world.specs.declared.standing.Stage.TheVariants.{Outside}
 use Rattle.lock_world.specs.Standings.{refused}
+use Rattle.lock_world.proofs.Equations.{chosen, otherwise, same_test, other_test}
 use Rattle.lock_table.specs.Stages.{polls_again}
 use Rattle.lock_world.specs.Accounts.{Account, account_after, accounts_after}
 use Rattle.lock_table.specs.Rights.{TellsAccounts}
-
-chosen : (b : Bool) (x y : Account) → b ≡ true → (if b then x else y) ≡ x
-chosen true x y e = refl
-chosen false x y e = absurd (cc)
-
-other : (b : Bool) (x y : Account) → b ≡ false → (if b then x else y) ≡ y
-other false x y e = refl
-other true x y e = absurd (cc)
-
-same_test : (p q : ℕ) → q ≡ p → (p == q) ≡ true
-same_test p q e = grind (arith, nat_tests)
-
-other_test : (p q : ℕ) → q ≢ p → (p == q) ≡ false
-other_test p q e = grind (arith, nat_tests)
 
 module _ {W : Type 0} (accounts_of : W → ℕ → Account) where
   pub tells_on : (known : ℕ → Account) (w : W) (m : Move) (a : Answer) (v : W) → TellsAccounts accounts_of known w
       → account_after (accounts_of w m.party) m.what a ≡ accounts_of v m.party → ((q : ℕ) → q ≢ m.party → accounts_of v q ≡ accounts_of w q) → TellsAccounts accounts_of (accounts_after known m a) v
   tells_on known w m a v tells own others q = elim (ℕ_discrete q m.party) as (λ _. accounts_after known m a q ≡ accounts_of v q) [
-    | yes e ↦ chosen (m.party == q) (account_after (known q) m.what a) (known q) (same_test m.party q e)
+    | yes e ↦ chosen (m.party == q) (account_after (known q) m.what a) (known q) (same_test m.party q (sym e))
         ∙ (ap (λ k. account_after k m.what a) (tells q) ∙ (let P : ℕ → Type 0 = λ k. account_after (accounts_of w k) m.what a ≡ accounts_of v k in subst P (sym e) own))
-    | no apart ↦ other (m.party == q) (account_after (known q) m.what a) (known q) (other_test m.party q apart) ∙ (tells q ∙ sym (others q apart))
+    | no apart ↦ otherwise (m.party == q) (account_after (known q) m.what a) (known q) (other_test m.party q (λ e. apart (sym e))) ∙ (tells q ∙ sym (others q apart))
   ]
 
 -- a move that isn't possible changes no account, and nor does a poll after ready

@@ -1,5 +1,5 @@
 -- How callers see the parties of a table, one by one.
-use Rattle.std.proofs.Common.{◌≡◌, ℕ, zero, suc, ◌+◌, ◌&&◌, Bool, true, false, List, [], ◌∷◌, length, get_or, replicate, Option, refl, arith, ap, ◌∙◌}
+use Rattle.std.proofs.Common.{◌≡◌, ℕ, zero, suc, ◌+◌, ◌&&◌, true, List, [], ◌∷◌, length, get_or, replicate, Option, refl, arith, ap, ◌∙◌}
 use Rattle.std.specs.List.{list_all}
 use Rattle.lock_world.specs.declared.moves.Answer.{Answer}
 use Rattle.lock_world.specs.declared.standing.Stage.{Stage}
@@ -7,6 +7,7 @@ use Rattle.lock_world.specs.declared.standing.Stage.TheVariants.{Outside, Inside
 use Rattle.lock_world.specs.declared.standing.Rest.{Rest}
 use Rattle.lock_world.specs.declared.standing.Rest.TheVariants.{Idle}
 use Rattle.lock_world.specs.Standings.{outside, forgotten, is_outside, is_outside_stage}
+use Rattle.lock_world.proofs.Equations.{both}
 use Rattle.lock_table.specs.Stages.{stage_at, stands_as}
 use Rattle.lock_table.specs.Views.{standings_from, standings}
 
@@ -47,14 +48,10 @@ from_rest n verdict (s ∷ ss) = ap (λ b. b && list_all is_outside (standings_f
 pub rest_seen : (verdict : ℕ → Option Answer) (ss : List Stage) → list_all is_outside (standings verdict ss) ≡ list_all is_outside_stage ss
 rest_seen verdict ss = from_rest 0 verdict ss
 
-split : (a b : Bool) → a && b ≡ true → (a ≡ true) × (b ≡ true)
-split true b h = (refl, h)
-split false b h = absurd (cc)
-
 pub outside_at : (ss : List Stage) → list_all is_outside_stage ss ≡ true → (p : ℕ) → is_outside_stage (stage_at ss p) ≡ true
 outside_at [] all p = refl
-outside_at (s ∷ ss) all zero = (split (is_outside_stage s) (list_all is_outside_stage ss) all).0
-outside_at (s ∷ ss) all (suc p) = outside_at ss (split (is_outside_stage s) (list_all is_outside_stage ss) all).1 p
+outside_at (s ∷ ss) all zero = (both (is_outside_stage s) (list_all is_outside_stage ss) all).0
+outside_at (s ∷ ss) all (suc p) = outside_at ss (both (is_outside_stage s) (list_all is_outside_stage ss) all).1 p
 
 -- a party that stands outside is at that stage
 pub outside_stage : (d : Option Answer) (s : Stage) (r : Rest) → stands_as d s ≡ outside r → s ≡ Outside r

@@ -1,5 +1,6 @@
--- What equations of options and of standings say. `cc` finds this too, but reads all that is in scope first, in each case of a long function.
-use Rattle.std.proofs.Common.{◌≡◌, Bool, true, false, Option, Some, None, sym}
+-- What equations of options, of standings and of tests say. `cc` finds this too, but reads all that is in scope first, in each case of a long function.
+use Rattle.std.proofs.Common.{◌≡◌, ℕ, ◌==◌, ◌&&◌, if◌then◌else◌, Bool, true, false, Option, Some, None, refl, arith, sym}
+use Rattle.std.proofs.lemmas.Bool.Decides.{nat_tests}
 use Rattle.std.proofs.lemmas.Option.{none-some, same_Some}
 use Rattle.lock_world.specs.declared.moves.Answer.{Answer}
 use Rattle.lock_world.specs.declared.moves.Answer.TheVariants as answer
@@ -27,3 +28,27 @@ is_refused _ = false
 abbrev pub is_granted : Answer → Bool
 is_granted (answer.Granted got) = true
 is_granted _ = false
+
+-- both of a conjunction
+pub both : (a b : Bool) → a && b ≡ true → (a ≡ true) × (b ≡ true)
+both true b h = (refl, h)
+both false b h = absurd (cc)
+
+-- what a test chooses
+pub chosen : {A : Type 0} (b : Bool) (x y : A) → b ≡ true → (if b then x else y) ≡ x
+chosen true x y e = refl
+chosen false x y e = absurd (cc)
+
+pub otherwise : {A : Type 0} (b : Bool) (x y : A) → b ≡ false → (if b then x else y) ≡ y
+otherwise false x y e = refl
+otherwise true x y e = absurd (cc)
+
+-- numbers told apart
+pub same_test : (p q : ℕ) → p ≡ q → (p == q) ≡ true
+same_test p q e = grind (arith, nat_tests)
+
+pub other_test : (p q : ℕ) → (p ≡ q → ⊥) → (p == q) ≡ false
+other_test p q e = grind (arith, nat_tests)
+
+pub not_one : (n : ℕ) → (n == 0) ≡ true → n ≡ 1 → ⊥
+not_one n h e = grind (arith, nat_tests)

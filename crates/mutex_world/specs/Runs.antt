@@ -2,33 +2,16 @@
 use Rattle.std.specs.Prelude.{◌≡◌, ℕ, ◌==◌, ◌↔◌, if◌then◌else◌, true, List, Option, Some, None}
 use Rattle.lock_world.specs.declared.moves.Answer.{Answer}
 use Rattle.lock_world.specs.declared.moves.Move.{Move}
-use Rattle.lock_world.specs.declared.standing.Kind.{Kind}
-use Rattle.lock_world.specs.declared.standing.Kind.TheVariants as kind
-use Rattle.lock_world.specs.declared.standing.Rest.TheVariants.{Pending, Holding}
 use Rattle.lock_world.specs.Accounts.{Account, accounts_after, HasByAnswers}
 use Rattle.lock_world.specs.Rights.{Right, hold, excludes}
 use Rattle.lock_world.specs.Runs as runs
-use Rattle.lock_world.specs.Standings.{Standing, outside, inside, is_outside}
-use Rattle.lock_table.specs.Rights.{account_by, TellsAccounts}
+use Rattle.lock_world.specs.Standings.{is_outside}
+use Rattle.lock_table.specs.Rights.{account_by, sought_by, TellsAccounts}
 use Rattle.mutex_world.specs.State.{World, standing_of}
 use Rattle.mutex_world.specs.Steps.{Steps}
 use Rattle.mutex_world.specs.Laws.{HasRight, IsSound, IsAwake, is_at_rest}
 
 -- ---- Rights by answers
-
--- What a call is for: a poll and a try are for the lock.
-abbrev pub sought_in : Kind → Option Right
-sought_in kind.FirstPoll = Some hold
-sought_in kind.LaterPoll = Some hold
-sought_in kind.Try = Some hold
-sought_in _ = None
-
--- What a party seeks that stands so, or has.
-abbrev pub sought_by : Standing → Option Right
-sought_by (outside Pending) = Some hold
-sought_by (outside Holding) = Some hold
-sought_by (inside w decided) = sought_in w.kind
-sought_by _ = None
 
 -- The right that a party has in the state, by who the holder is.
 abbrev pub right_by : Option ℕ → ℕ → Option Right
@@ -37,7 +20,7 @@ right_by (Some q) p = if q == p then Some hold else None
 
 -- What is known of all parties where a run begins.
 abbrev pub accounts_of : World → ℕ → Account
-accounts_of w p = account_by (standing_of w p) (sought_by (standing_of w p)) (right_by w.state.holder p)
+accounts_of w p = account_by (standing_of w p) (sought_by hold (standing_of w p)) (right_by w.state.holder p)
 
 -- ---- What holds after each step
 

@@ -1,41 +1,25 @@
 -- Whole runs of a semaphore's World, and what the moves and answers alone tell.
-use Rattle.std.specs.Prelude.{◌≡◌, ℕ, ◌+◌, ◌↔◌, true, List, Option, Some, None}
+use Rattle.std.specs.Prelude.{◌≡◌, ℕ, ◌+◌, ◌↔◌, true, List, None}
 use Rattle.lock_world.specs.declared.moves.Answer.{Answer}
 use Rattle.lock_world.specs.declared.moves.Answer.TheVariants as answer
 use Rattle.lock_world.specs.declared.moves.Call.TheVariants as call
 use Rattle.lock_world.specs.declared.moves.Move.{Move}
 use Rattle.lock_world.specs.declared.moves.What.{What}
 use Rattle.lock_world.specs.declared.moves.What.TheVariants.{Begin}
-use Rattle.lock_world.specs.declared.standing.Kind.{Kind}
-use Rattle.lock_world.specs.declared.standing.Kind.TheVariants as kind
-use Rattle.lock_world.specs.declared.standing.Rest.TheVariants.{Pending, Holding}
 use Rattle.lock_world.specs.Accounts.{Account, accounts_after, HasByAnswers}
 use Rattle.lock_world.specs.Rights.{Right, permit}
 use Rattle.lock_world.specs.Runs as runs
-use Rattle.lock_world.specs.Standings.{Standing, outside, inside, is_outside}
-use Rattle.lock_table.specs.Rights.{account_by, TellsAccounts}
+use Rattle.lock_world.specs.Standings.{is_outside}
+use Rattle.lock_table.specs.Rights.{account_by, sought_by, TellsAccounts}
 use Rattle.semaphore_world.specs.State.{World, has_permit, standing_of}
 use Rattle.semaphore_world.specs.Steps.{Steps}
 use Rattle.semaphore_world.specs.Laws.{IsSound, IsAwake, is_at_rest}
 
 -- ---- Rights by answers
 
--- What a call is for: a poll and a try are for a permit.
-abbrev pub sought_in : Kind → Option Right
-sought_in kind.FirstPoll = Some permit
-sought_in kind.LaterPoll = Some permit
-sought_in kind.Try = Some permit
-sought_in _ = None
-
--- What a party seeks that stands so, or has.
-abbrev pub sought_by : Standing → Option Right
-sought_by (outside Pending) = Some permit
-sought_by (outside Holding) = Some permit
-sought_by (inside w decided) = sought_in w.kind
-sought_by _ = None
-
+-- What is known of all parties where a run begins.
 abbrev pub accounts_of : World → ℕ → Account
-accounts_of w p = account_by (standing_of w p) (sought_by (standing_of w p)) None
+accounts_of w p = account_by (standing_of w p) (sought_by permit (standing_of w p)) None
 
 -- ---- What is known by moves and answers
 

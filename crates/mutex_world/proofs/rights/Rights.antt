@@ -1,7 +1,6 @@
 -- After each step what is known tells the rights.
-use Rattle.std.proofs.Common.{◌≡◌, ◌≢◌, ℕ, ◌==◌, ◌↔◌, true, false, Option, Some, None, is_some, refl, arith, ap, sym, ◌∙◌, subst}
+use Rattle.std.proofs.Common.{◌≡◌, ◌≢◌, ℕ, ◌↔◌, true, false, Option, Some, None, is_some, refl, ap, sym, ◌∙◌, subst}
 use Rattle.std.proofs.Math.Decide.{ℕ_discrete}
-use Rattle.std.proofs.lemmas.Bool.Decides.{nat_tests}
 use Rattle.lock_world.specs.declared.moves.Answer.{Answer}
 use Rattle.lock_world.specs.declared.moves.Answer.TheVariants as answer
 use Rattle.lock_world.specs.declared.moves.Call.TheVariants as call
@@ -22,9 +21,9 @@ use Rattle.lock_world.specs.Accounts.{Account, account_after, accounts_after, Ha
 use Rattle.lock_world.specs.Frame.{put_in}
 use Rattle.lock_world.specs.Rights.{Right, hold}
 use Rattle.lock_world.specs.Standings.{Standing, outside, inside, forgotten, is_outside}
-use Rattle.lock_world.proofs.Equations.{some_eq, none_some}
+use Rattle.lock_world.proofs.Equations.{some_eq, none_some, same_test, other_test}
 use Rattle.lock_frame.specs.Steps.{StepsWell}
-use Rattle.lock_table.specs.Rights.{account_by}
+use Rattle.lock_table.specs.Rights.{account_by, sought_by}
 use Rattle.lock_table.specs.Stages.{stage_at, stands_as, call_at, polls_again, stage_after}
 use Rattle.lock_table.specs.Tables.{Table, Acted}
 use Rattle.lock_table.proofs.Acting.{stands}
@@ -44,7 +43,7 @@ use Rattle.mutex_machine.proofs.Courses.{begins, goes}
 use Rattle.mutex_world.specs.Guarded.{Guarded, knows, Moves, MovesBy, is_within, is_try_kind, answer_by, place_of, goes_with}
 use Rattle.mutex_world.specs.Laws.{HasRight, IsSound, IsAwake, is_at_rest}
 use Rattle.mutex_world.specs.Legal.{HasItsOwn, Legal}
-use Rattle.mutex_world.specs.Runs.{accounts_of, sought_by, right_by, TellsRights, HoldsWell}
+use Rattle.mutex_world.specs.Runs.{accounts_of, right_by, TellsRights, HoldsWell}
 use Rattle.mutex_world.specs.State.{World, standing_of}
 use Rattle.mutex_world.specs.Steps.{IsMutexTable, TableSteps}
 use Rattle.mutex_world.specs.View.{verdict, view_of}
@@ -54,7 +53,7 @@ use Rattle.mutex_world.proofs.step.Stepping.{known_calls, carried}
 use Rattle.mutex_world.proofs.table.Turns.{within, Turn, turn, Puts, puts}
 
 abbrev account_at : Standing → Option Right → Account
-account_at s r = account_by s (sought_by s) r
+account_at s r = account_by s (sought_by hold s) r
 
 -- ---- an action keeps its party's account
 
@@ -139,12 +138,6 @@ accounted = turn Accounted (record {
 })
 
 -- ---- the right in the state
-
-same_test : (p q : ℕ) → p ≡ q → (p == q) ≡ true
-same_test p q e = grind (arith, nat_tests)
-
-other_test : (p q : ℕ) → (p ≡ q → ⊥) → (p == q) ≡ false
-other_test p q e = grind (arith, nat_tests)
 
 right_is : (h : Option ℕ) (q : ℕ) → h ≡ Some q → right_by h q ≡ Some hold
 right_is None q e = absurd (none_some e)

@@ -1,6 +1,5 @@
 -- What is so where a move begins or goes on.
-use Rattle.std.proofs.Common.{◌≡◌, ℕ, ◌||◌, ◌==◌, ◌⊎◌, inl, inr, true, false, Option, Some, None, is_some, refl, arith, sym}
-use Rattle.std.proofs.lemmas.Bool.Decides.{nat_tests}
+use Rattle.std.proofs.Common.{◌≡◌, ℕ, ◌||◌, ◌⊎◌, inl, inr, true, false, Option, Some, None, is_some, refl, sym}
 use Rattle.lock_world.specs.declared.moves.Answer.{Answer}
 use Rattle.lock_world.specs.declared.moves.What.{What}
 use Rattle.lock_world.specs.declared.standing.Kind.{Kind}
@@ -11,7 +10,7 @@ use Rattle.lock_world.specs.declared.standing.Stage.TheVariants.{Inside}
 use Rattle.lock_world.specs.declared.standing.Within.{Within}
 use Rattle.lock_world.specs.Frame.{is_drop, put_in}
 use Rattle.lock_world.specs.Standings.{Standing, inside, is_decided}
-use Rattle.lock_world.proofs.Equations.{some_eq}
+use Rattle.lock_world.proofs.Equations.{some_eq, not_one}
 use Rattle.lock_table.specs.Stages.{stands_as, call_at, polls_again}
 use Rattle.mutex_machine.specs.declared.program.End.{End}
 use Rattle.mutex_machine.specs.declared.program.End.TheVariants as «end»
@@ -44,9 +43,6 @@ pub record Here (s : Stage) (what : What) (w : Within) (x from : Place) : Type 0
   pub undecided : (v : ℕ) → is_decided (standing_at v s x) ≡ false → (e : End) → decision from ≡ Some e → e ≡ «end».GivenBack
   pub first : (v n : ℕ) → is_first_poll (standing_at v s x) what n ≡ true → n ≡ listed x → (from ≡ Enter) × (is_try_kind w.kind ≡ false)
   pub tries : is_try what ≡ true → (from ≡ Try) × (is_try_kind w.kind ≡ true)
-
-not_one : (n : ℕ) → (n == 0) ≡ true → n ≡ 1 → ⊥
-not_one n h e = grind (arith, nat_tests)
 
 decides_so : (v : ℕ) (w : Within) (o : Option End) → is_decided (inside w (answer_on v o)) || false ≡ is_some o
 decides_so v w None = refl

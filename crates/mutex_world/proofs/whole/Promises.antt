@@ -1,5 +1,5 @@
 -- What a whole call promises beside its end, and beside what a solo poll does: by what each of its steps does to the machine.
-use Rattle.std.proofs.Common.{◌≡◌, ◌≢◌, ℕ, ◌<◌, inl, inr, if◌then◌else◌, Bool, true, false, zero, suc, List, [], ◌∷◌, length, Some, refl, arith, ap, sym, ◌∙◌, subst}
+use Rattle.std.proofs.Common.{◌≡◌, ◌≢◌, ℕ, ◌<◌, inl, inr, Bool, true, false, zero, suc, List, [], ◌∷◌, length, Some, refl, arith, ap, sym, ◌∙◌, subst}
 use Rattle.std.specs.List.{sum_by}
 use Rattle.std.proofs.lemmas.List.Sums.{sum_by-cons}
 use Rattle.lock_event.specs.declared.event.Entry.{Entry}
@@ -24,7 +24,7 @@ use Rattle.lock_world.specs.Frame.{is_refusal}
 use Rattle.lock_world.specs.Rosters.{how_many}
 use Rattle.lock_world.specs.Standings.{outside, inputs_of}
 use Rattle.lock_world.specs.Whole.{going_on, moves_of, answers_of}
-use Rattle.lock_world.proofs.Equations.{some_eq, none_some}
+use Rattle.lock_world.proofs.Equations.{some_eq, none_some, chosen}
 use Rattle.lock_frame.specs.Steps.{beginning}
 use Rattle.lock_frame.proofs.Runs.{along, at_first, Onward}
 use Rattle.lock_table.specs.Stages.{stage_at, call_at}
@@ -172,10 +172,6 @@ not_counted w p s none = ap (λ x. is_starved x.state p) s.seen ∙ (sees.starve
   none_at (x ∷ xs) (suc q) e = none_at xs q (omega (arith, sum_by-cons counted x xs, e))
 
 -- ---- the promises
-
-chosen : (b : Bool) (x y : Answer) → b ≡ true → (if b then x else y) ≡ x
-chosen true x y e = refl
-chosen false x y e = absurd (cc)
 
 module _ (known : ℕ → Account) (w : World) (p : ℕ) (c : Call) (i : Inputs) (n : ℕ) (a : Answer) (v : World) (stood : Stands w) (stands : Stands v) (runs : Runs known w (moves_of p c i n) (answers_of n a) v) (ended : a ≢ answer.Stepped) where
   first : is_first_poll (standing_of w p) (Begin c i) (entries_of p w.entries) ≡ true → is_free w.state ≡ true → a ≡ answer.Ready (Value w.state.value)

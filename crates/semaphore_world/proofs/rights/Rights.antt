@@ -23,7 +23,7 @@ use Rattle.lock_world.specs.Standings.{Standing, outside, inside, forgotten, is_
 use Rattle.lock_world.specs.Steps.{Deed, nothing, changes, does}
 use Rattle.lock_world.proofs.Equations.{some_eq}
 use Rattle.lock_frame.specs.Steps.{StepsWell}
-use Rattle.lock_table.specs.Rights.{account_by, TellsAccounts}
+use Rattle.lock_table.specs.Rights.{account_by, sought_by, TellsAccounts}
 use Rattle.lock_table.specs.Stages.{stage_at, stands_as, call_at, polls_again, stage_after}
 use Rattle.lock_table.specs.Tables.{Table}
 use Rattle.lock_table.proofs.Mapped.{past_last}
@@ -48,14 +48,14 @@ use Rattle.semaphore_world.specs.View.{view_of}
 use Rattle.semaphore_world.specs.Legal.{HasItsOwn}
 use Rattle.semaphore_world.specs.Laws.{IsSound, IsAwake, is_at_rest}
 use Rattle.semaphore_world.specs.Steps.{IsSemaphoreTable, TableSteps}
-use Rattle.semaphore_world.specs.Runs.{Known, Tells, HoldsWell, accounts_of, sought_by, learn, added_by, forgotten_by}
+use Rattle.semaphore_world.specs.Runs.{Known, Tells, HoldsWell, accounts_of, learn, added_by, forgotten_by}
 use Rattle.semaphore_world.proofs.table.Seen as seen
 use Rattle.semaphore_world.proofs.step.Acting.{Acting}
 use Rattle.semaphore_world.proofs.step.Acting as acting
 use Rattle.semaphore_world.proofs.step.Stepping.{by_step}
 
 abbrev account_at : Standing → Account
-account_at s = account_by s (sought_by s) None
+account_at s = account_by s (sought_by permit s) None
 
 -- an action keeps its party's account
 abbrev Kept_at : Stage → What → Within → Position → Place → Found → Type 0

@@ -1,6 +1,5 @@
 -- What the first step of a call decides at once.
-use Rattle.std.proofs.Common.{◌≡◌, ℕ, ◌⊎◌, inl, inr, Bool, true, false, Some, nat_lt, if◌then◌else◌, ◌==◌, refl, arith, ap, sym, ◌∙◌, subst}
-use Rattle.std.proofs.lemmas.Bool.Decides.{nat_tests}
+use Rattle.std.proofs.Common.{◌≡◌, ℕ, ◌⊎◌, inl, inr, Bool, true, false, Some, nat_lt, if◌then◌else◌, refl, arith, ap, sym, ◌∙◌, subst}
 use Rattle.lock_queue.specs.Parties.{entries_of}
 use Rattle.lock_world.specs.declared.moves.Answer.{Answer}
 use Rattle.lock_world.specs.declared.moves.Answer.TheVariants as answer
@@ -13,7 +12,7 @@ use Rattle.lock_world.specs.declared.standing.Within.{Within}
 use Rattle.lock_world.specs.Standings.{Standing, outside, inputs_of, decision}
 use Rattle.lock_world.specs.Frame.{is_drop}
 use Rattle.lock_world.specs.Steps.{Deed, changes}
-use Rattle.lock_world.proofs.Equations.{some_eq}
+use Rattle.lock_world.proofs.Equations.{some_eq, not_one}
 use Rattle.lock_table.specs.Stages.{stage_at, stands_as, call_at, polls_again}
 use Rattle.lock_table.specs.Tables.{Table}
 use Rattle.semaphore_machine.specs.declared.program.Action.TheVariants as act
@@ -50,9 +49,6 @@ pub record EntranceAt (s : Standing) (what : What) (x : Position) (from : Place)
 
 abbrev pub Entrance : Stage → What → Within → Position → Place → Type 0
 Entrance s what w x from = EntranceAt (stands_as (verdict x) s) what x from
-
-not_one : (n : ℕ) → (n == 0) ≡ true → n ≡ 1 → ⊥
-not_one n h e = grind (arith, nat_tests)
 
 pub entrance : (s : Stage) (what : What) (w : Within) (x : Position) → goes_with s x ≡ true → call_at knows s what ≡ Some w → polls_again s what ≡ false → Turn Entrance s what w x
 entrance = turn Entrance (record {

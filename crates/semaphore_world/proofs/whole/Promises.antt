@@ -1,5 +1,5 @@
 -- What whole calls promise.
-use Rattle.std.proofs.Common.{◌≡◌, ◌≢◌, ℕ, ◌-◌, ◌<◌, ◌⊎◌, inl, inr, ◌&&◌, if◌then◌else◌, Bool, true, false, List, length, Some, refl, arith, ap, sym, ◌∙◌, subst}
+use Rattle.std.proofs.Common.{◌≡◌, ◌≢◌, ℕ, ◌-◌, ◌<◌, ◌⊎◌, inl, inr, ◌&&◌, Bool, true, false, List, length, Some, refl, arith, ap, sym, ◌∙◌, subst}
 use Rattle.lock_event.specs.declared.event.Entry.{Entry}
 use Rattle.lock_event.specs.declared.event.Mark.TheVariants.{Notified}
 use Rattle.lock_event.specs.Lists.{marked_count}
@@ -24,6 +24,7 @@ use Rattle.lock_world.specs.Whole.{going_on, moves_of, answers_of}
 use Rattle.lock_frame.specs.Steps.{beginning}
 use Rattle.lock_frame.proofs.Endings.{ends_on}
 use Rattle.lock_frame.proofs.Runs.{Onward, along, at_first, last_of}
+use Rattle.lock_world.proofs.Equations.{chosen}
 use Rattle.lock_table.specs.Tables.{Table}
 use Rattle.semaphore_machine.specs.declared.program.Action.TheVariants as act
 use Rattle.semaphore_machine.specs.declared.program.Found.{Found}
@@ -48,10 +49,6 @@ use Rattle.semaphore_world.proofs.step.Acting.{Acting}
 use Rattle.semaphore_world.proofs.step.Acting as acting
 use Rattle.semaphore_world.proofs.step.Stepping.{by_step, door}
 use Rattle.semaphore_world.proofs.whole.Whole.{from_turn}
-
-chosen : (b : Bool) (x y : Answer) → b ≡ true → (if b then x else y) ≡ x
-chosen true x y e = refl
-chosen false x y e = absurd (cc)
 
 -- a first poll of a semaphore with a permit is ready at its first step
 first_ready : (known : Known) (w : World) (p : ℕ) (c : Call) (i : Inputs) (n : ℕ) (a : Answer) (v : World) → Runs known w (moves_of p c i n) (answers_of n a) v → a ≢ answer.Stepped
