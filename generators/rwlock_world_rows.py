@@ -253,7 +253,7 @@ use Rattle.rwlock_world.specs.State as state
 use Rattle.rwlock_world.specs.State.{{ListName, for_the_turn, for_no_readers, for_no_writer}}
 use Rattle.lock_table.proofs.Calls.{{decided_after}}
 use Rattle.rwlock_world.specs.Legal.{{may_meet}}
-use Rattle.rwlock_world.specs.Number.{{answer_by}}
+use Rattle.rwlock_world.specs.Guarded.{{answer_by}}
 use Rattle.rwlock_world.specs.Stages.{{strays, course_of, sought_at}}
 use Rattle.rwlock_world.specs.View.{{passing, upgrading, waiting, writing, turn_as, share_of, is_reading, is_upgrade, verdict}}
 

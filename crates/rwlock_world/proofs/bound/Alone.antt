@@ -29,7 +29,7 @@ use Rattle.rwlock_machine.specs.Program.{start_of}
 use Rattle.rwlock_machine.specs.Machine.{place_at}
 use Rattle.rwlock_machine.specs.Acts.{Acts}
 use Rattle.rwlock_machine.specs.Solo.{GoesOnAlone, last, step, PollsAlone, at_once, begun, BeginsPoll}
-use Rattle.rwlock_world.specs.Number.{LockedNumber, knows_at, answer_by}
+use Rattle.rwlock_world.specs.Guarded.{Guarded, knows_at, answer_by}
 use Rattle.rwlock_world.specs.Stages.{Course, upgrades, course_of, is_on_course}
 use Rattle.rwlock_world.specs.State.{World}
 use Rattle.rwlock_world.specs.Steps.{Stands, Steps as Moved}
@@ -73,7 +73,7 @@ pub record Ended (w : World) (p : ℕ) (a : Answer) (v : World) (e : End) : Type
   pub stands : Stands v
 
 -- a step that goes on
-record Onward (starving : Bool) (t : Table LockedNumber) (p : ℕ) (from : Place) (u : Table LockedNumber) : Type 0 where
+record Onward (starving : Bool) (t : Table Guarded) (p : ℕ) (from : Place) (u : Table Guarded) : Type 0 where
   pub action : Action
   pub to : Place
   pub acts : Acts true starving p from (next.Do action to) t.machine.lock u.machine.lock
@@ -88,7 +88,7 @@ laws w s = record { lock = s.lock; fits = s.fits }
 
 module _ (p : ℕ) (i : Inputs) (memory : i.memory ≡ true) where
   -- one step of the poll, which found memory
-  found_memory : (what : What) (from : Place) (n k : Next) (t u : Table LockedNumber) → inputs_of what ≡ i → n ≡ k → Acts (inputs_of what).memory (inputs_of what).starving p from n t.machine.lock u.machine.lock → Acts true i.starving p from k t.machine.lock u.machine.lock
+  found_memory : (what : What) (from : Place) (n k : Next) (t u : Table Guarded) → inputs_of what ≡ i → n ≡ k → Acts (inputs_of what).memory (inputs_of what).starving p from n t.machine.lock u.machine.lock → Acts true i.starving p from k t.machine.lock u.machine.lock
   found_memory what from n k t u are is h =
       let A : Inputs → Type 0 = λ j. Acts j.memory j.starving p from k t.machine.lock u.machine.lock in
       let M : Bool → Type 0 = λ b. Acts b i.starving p from k t.machine.lock u.machine.lock in
@@ -110,7 +110,7 @@ module _ (p : ℕ) (i : Inputs) (memory : i.memory ≡ true) where
         record { to = n.1; answer = said; stages = c.stages ∙ ap (λ b. set t.stages p (stage_after rest.Holding later b)) said; value = c.value; stands = did.did.stands },
       )
 
-  goes_so : (t u : Table LockedNumber) (what : What) → inputs_of what ≡ i → (c : Acting t u (record { party = p; what = what }) answer.Stepped later) → Onward i.starving t p c.from u
+  goes_so : (t u : Table Guarded) (what : What) → inputs_of what ≡ i → (c : Acting t u (record { party = p; what = what }) answer.Stepped later) → Onward i.starving t p c.from u
   goes_so t u what are c =
       let n = goes t.machine.value c.next (sym c.answer) in
       record { action = n.0; to = n.1; acts = found_memory what c.from c.next (next.Do n.0 n.1) t u are n.2 c.acts; stages = c.stages; value = c.value }
@@ -126,7 +126,7 @@ module _ (p : ℕ) (i : Inputs) (memory : i.memory ≡ true) where
     stands = k.stands;
   }
 
-  still_inside : (t mid : Table LockedNumber) → p < length t.stages → mid.stages ≡ set t.stages p (Inside later) → (p < length mid.stages) × (stage_at mid.stages p ≡ Inside later)
+  still_inside : (t mid : Table Guarded) → p < length t.stages → mid.stages ≡ set t.stages p (Inside later) → (p < length mid.stages) × (stage_at mid.stages p ≡ Inside later)
   still_inside t mid known is =
       (omega (arith, ap length is, length-set t.stages p (Inside later)), ap (λ ss. stage_at ss p) is ∙ get_or-set_same t.stages p (Inside later) Forgotten known)
 

@@ -33,11 +33,11 @@ use Rattle.rwlock_machine.proofs.Solo.{writer_at, solo_polls}
 use Rattle.lock_table.specs.Stages.{stage_at}
 use Rattle.rwlock_world.specs.Stages.{is_future, goes_with}
 use Rattle.lock_table.specs.Tables.{Table}
-use Rattle.rwlock_world.specs.Number.{LockedNumber, answer_by}
+use Rattle.rwlock_world.specs.Guarded.{Guarded, answer_by}
 use Rattle.lock_world.specs.Accounts.{Account}
 use Rattle.lock_world.specs.Whole.{moves_of, answers_of}
 use Rattle.rwlock_world.specs.Runs.{Runs}
-use Rattle.rwlock_world.specs.Steps.{IsNumberTable, Stands}
+use Rattle.rwlock_world.specs.Steps.{IsRwLockTable, Stands}
 use Rattle.rwlock_world.specs.State.{nobody, is_upgradable, waits_to_write as waits, writes, World, standing_of, is_starved, how_many_read, is_marked}
 use Rattle.rwlock_world.specs.Laws.{is_at_rest}
 use Rattle.rwlock_world.specs.View.{upgrading, waiting, writing, turn_as, share_of, turn_by, is_reading, verdict, standing_at, view_of}
@@ -80,7 +80,7 @@ in_no_readers_list = at_future (λ x. 0 < in_no_readers x → waits_to_write x �
 })
 
 -- what each party's call is decided on
-abbrev verdicts : Table LockedNumber → ℕ → Option Answer
+abbrev verdicts : Table Guarded → ℕ → Option Answer
 verdicts t q = verdict t.machine.value (place_at t.machine.lock.places q) (turn_at t.machine.lock.turn.courses q)
 
 -- a World as it is seen
@@ -108,14 +108,14 @@ module _ (w v : World) (p : ℕ) (a : Answer) where
       record { has_turn = owns.has_as (shown v).state.turn p waiting turn; kept = k.value; answered = inr (k.answer, turn) }
   takes_turn_seen _ here k = absurd here
 
-  rests_seen : IsNumberTable w.behind → IsNumberTable v.behind → v.behind.stages ≡ set w.behind.stages p (Outside rest.Pending) → is_at_rest (shown w) ≡ true → is_at_rest (shown v) ≡ true
+  rests_seen : IsRwLockTable w.behind → IsRwLockTable v.behind → v.behind.stages ≡ set w.behind.stages p (Outside rest.Pending) → is_at_rest (shown w) ≡ true → is_at_rest (shown v) ≡ true
   rests_seen tf uf is resting =
       let t = w.behind in
       let u = v.behind in
       let before : list_all is_outside_stage t.stages ≡ true = sym (rest_seen (verdicts t) t.stages) ∙ resting in
       rest_seen (verdicts u) u.stages ∙ (ap (list_all is_outside_stage) is ∙ still_outside t.stages p (Outside rest.Pending) refl before)
 
-  gives_way_seen : (e : End) → IsNumberTable w.behind → 0 < entries_of p w.behind.machine.lock.turn.entries → starved w.behind.machine.lock.turn < w.behind.machine.lock.turn.limit → GaveTurnWay p w.behind.machine.lock e v.behind.machine.lock → StandsBack p w.behind.machine.lock e v.behind.machine.lock → Ended w p a v e → GivesTurnWay (shown w) p a (shown v)
+  gives_way_seen : (e : End) → IsRwLockTable w.behind → 0 < entries_of p w.behind.machine.lock.turn.entries → starved w.behind.machine.lock.turn < w.behind.machine.lock.turn.limit → GaveTurnWay p w.behind.machine.lock e v.behind.machine.lock → StandsBack p w.behind.machine.lock e v.behind.machine.lock → Ended w p a v e → GivesTurnWay (shown w) p a (shown v)
   gives_way_seen «end».Pending tf there below g back k =
       let t = w.behind in
       let u = v.behind in
@@ -145,8 +145,8 @@ module _ (w v : World) (p : ℕ) (a : Answer) where
     writes = turn_seen e place.Writing k took.1 refl;
   }
 
-module _ (w : World) (p : ℕ) (i : Inputs) (laws : IsRwLock w.behind.machine.lock) (tf : IsNumberTable w.behind) (pending : standing_of (shown w) p ≡ outside rest.Pending) where
-  abbrev t : Table LockedNumber
+module _ (w : World) (p : ℕ) (i : Inputs) (laws : IsRwLock w.behind.machine.lock) (tf : IsRwLockTable w.behind) (pending : standing_of (shown w) p ≡ outside rest.Pending) where
+  abbrev t : Table Guarded
   t = w.behind
 
   -- the party stands pending in the table

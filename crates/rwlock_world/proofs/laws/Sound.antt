@@ -31,9 +31,9 @@ use Rattle.rwlock_world.specs.Legal.{HasItsOwn}
 use Rattle.rwlock_world.specs.Laws.{HasRight, IsSound, is_at_rest, IsAwake}
 use Rattle.rwlock_world.specs.Lending.{world_with}
 use Rattle.lock_table.specs.Lending.{table_with}
-use Rattle.rwlock_world.specs.Lent.{future_rests, guard_rests}
-use Rattle.rwlock_world.specs.Number.{LockedNumber, number_with}
-use Rattle.rwlock_world.specs.Steps.{IsNumberTable}
+use Rattle.rwlock_world.specs.Stays.{future_rests, guard_rests}
+use Rattle.rwlock_world.specs.Guarded.{Guarded, with_value}
+use Rattle.rwlock_world.specs.Steps.{IsRwLockTable}
 use Rattle.rwlock_world.specs.View.{verdict_of, Share, passing, upgrading, waiting, writing, turn_as, share_of, turn_by, is_reading, standing_at, view_of}
 use Rattle.rwlock_world.proofs.table.Begun.{at_out}
 use Rattle.lock_table.proofs.Lending.{lent_seen}
@@ -152,7 +152,7 @@ excluded w alone p q _ s a b e = absurd a
 true_one : (b : Bool) (n : ℕ) → bit b ≡ n → b ≡ true → n ≡ 1
 true_one b n e h = sym e ∙ ap bit h
 
-module _ (t : Table LockedNumber) (laws : IsRwLock t.machine.lock) (fits : IsNumberTable t) where
+module _ (t : Table Guarded) (laws : IsRwLock t.machine.lock) (fits : IsRwLockTable t) where
   abbrev w : World
   w = view_of t
 
@@ -307,7 +307,7 @@ nobody_holds (Some p) xs e = absurd (by_share (share_of (place_at xs p)) e) wher
   by_share waiting e = cc
   by_share writing e = cc
 
-module _ (t : Table LockedNumber) (laws : IsRwLock t.machine.lock) (fits : IsNumberTable t) where
+module _ (t : Table Guarded) (laws : IsRwLock t.machine.lock) (fits : IsRwLockTable t) where
   abbrev seen_as : World
   seen_as = view_of t
 
@@ -345,8 +345,8 @@ module _ (t : Table LockedNumber) (laws : IsRwLock t.machine.lock) (fits : IsNum
 -- ---- a value put at rest
 
 -- a table whose value was put is seen as the World in which it was
-pub put_seen : (t : Table LockedNumber) (v : ℕ) → list_all is_outside_stage t.stages ≡ true → view_of (table_with number_with t v) ≡ world_with (view_of t) v
-put_seen t v resting = let all = lent_seen (verdict_of t.machine) (verdict_of (number_with t.machine v)) t.stages resting in cc
+pub put_seen : (t : Table Guarded) (v : ℕ) → list_all is_outside_stage t.stages ≡ true → view_of (table_with with_value t v) ≡ world_with (view_of t) v
+put_seen t v resting = let all = lent_seen (verdict_of t.machine) (verdict_of (with_value t.machine v)) t.stages resting in cc
 
 -- ---- the words
 

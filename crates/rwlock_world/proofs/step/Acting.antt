@@ -33,7 +33,7 @@ use Rattle.rwlock_machine.specs.Machine.{RwLock, place_at}
 use Rattle.rwlock_machine.specs.Acts.{Acts}
 use Rattle.rwlock_machine.proofs.Leads.{led, steps_in_turn}
 use Rattle.rwlock_world.specs.Legal.{knows, call_of, Legal}
-use Rattle.rwlock_world.specs.Number.{LockedNumber, number_with, knows as knows_there, knows_at, answer_by, place_for, Does, Moves as MovesThere}
+use Rattle.rwlock_world.specs.Guarded.{Guarded, with_value, knows as knows_there, knows_at, answer_by, place_for, Does, Moves as MovesThere}
 use Rattle.rwlock_world.specs.Stages.{sought_at}
 use Rattle.rwlock_world.specs.State.{standing_of}
 use Rattle.rwlock_world.specs.Steps.{TableSteps}
@@ -51,7 +51,7 @@ use Rattle.lock_table.proofs.Mapped.{set_same}
 use Rattle.lock_table.proofs.Past.{inside_or_past}
 use Rattle.rwlock_world.proofs.table.Views.{Fits}
 
-module _ (t u : Table LockedNumber) (m : Move) (a : Answer) (w : Within) where
+module _ (t u : Table Guarded) (m : Move) (a : Answer) (w : Within) where
   abbrev p : ℕ
   p = m.party
 
@@ -83,23 +83,23 @@ module _ (t u : Table LockedNumber) (m : Move) (a : Answer) (w : Within) where
     pub moves : Moves t.machine.value y s m.what x w from
 
 -- How a move came about: it isn't possible, polls a future that has been ready, puts a value, or is carried out by the lock.
-pub data Way (t u : Table LockedNumber) (m : Move) (a : Answer) : Type 0 where
+pub data Way (t u : Table Guarded) (m : Move) (a : Answer) : Type 0 where
   impossible : call_of (view_of t) m ≡ None → a ≡ answer.NotPossible → u ≡ t → Way t u m a
   over : (w : Within) → call_of (view_of t) m ≡ Some w → polls_again (stage_at t.stages m.party) m.what ≡ true → a ≡ refused refusal.Finished → u ≡ t → Way t u m a
   puts : (w : Within) (v : ℕ) → m.party < length t.stages → put_in m.what ≡ Some v → call_at (knows_at (place_at t.machine.lock.places m.party)) (stage_at t.stages m.party) m.what ≡ Some w → a ≡ answer.Granted (Value v)
-      → u ≡ record { machine = number_with t.machine v; stages = t.stages; opening = t.opening } → Way t u m a
+      → u ≡ record { machine = with_value t.machine v; stages = t.stages; opening = t.opening } → Way t u m a
   acts : (w : Within) → Acting t u m a w → Way t u m a
 
 past_at : (f g : Call → Bool) (s : Stage) (what : What) → s ≡ Forgotten → call_at f s what ≡ call_at g s what
 past_at f g s (Begin c i) e = rw e refl
 past_at f g s (Go i) e = rw e refl
 
-table_eq : (x y : LockedNumber) (ss ts : List Stage) (n k : ℕ) → x ≡ y → ss ≡ ts → n ≡ k → Path (Table LockedNumber) (record { machine = x; stages = ss; opening = n }) (record { machine = y; stages = ts; opening = k })
+table_eq : (x y : Guarded) (ss ts : List Stage) (n k : ℕ) → x ≡ y → ss ≡ ts → n ≡ k → Path (Table Guarded) (record { machine = x; stages = ss; opening = n }) (record { machine = y; stages = ts; opening = k })
 table_eq x y ss ts n k e d g = cc
 
 -- ---- which way a move came about
 
-module _ (t u : Table LockedNumber) (m : Move) (a : Answer) (old : Laws t) (new : Laws u) where
+module _ (t u : Table Guarded) (m : Move) (a : Answer) (old : Laws t) (new : Laws u) where
   abbrev here : Place
   here = place_at t.machine.lock.places m.party
 
@@ -177,7 +177,7 @@ still memory starving p (place.ReleaseTurn q) f l k e h = absurd (cc)
 still memory starving p (place.ReleasingTurn q) f l k e h = absurd (cc)
 still memory starving p _ f l k e h = e
 
-module _ (t u : Table LockedNumber) (m : Move) (a : Answer) (w : Within) (c : Acting t u m a w) where
+module _ (t u : Table Guarded) (m : Move) (a : Answer) (w : Within) (c : Acting t u m a w) where
   abbrev l : RwLock
   l = t.machine.lock
 

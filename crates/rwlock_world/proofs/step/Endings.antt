@@ -17,7 +17,7 @@ use Rattle.rwlock_machine.specs.declared.program.Next.TheVariants as next
 use Rattle.rwlock_machine.specs.declared.program.Place.{Place}
 use Rattle.rwlock_machine.specs.declared.program.Place.TheVariants.{LookUnlisted}
 use Rattle.rwlock_machine.specs.Program.{place_after}
-use Rattle.rwlock_world.specs.Number.{answer_by}
+use Rattle.rwlock_world.specs.Guarded.{answer_by}
 use Rattle.rwlock_world.specs.Stages.{Course, polls, tries, drops, downgrades, upgrades, tries_upgrade, course_of, is_on_course}
 use Rattle.rwlock_world.specs.View.{is_upgrade, verdict, standing_at}
 use Rattle.rwlock_world.proofs.table.Begun.{within}

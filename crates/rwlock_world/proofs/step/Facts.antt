@@ -36,7 +36,7 @@ use Rattle.rwlock_world.specs.Changes.{Change, takes_turn, leaves_turn, starves,
 use Rattle.rwlock_world.specs.State.{ListName, for_the_turn, for_no_readers, for_no_writer}
 use Rattle.rwlock_world.specs.State.{World, list_of, told_in, entries_in, how_many_read}
 use Rattle.rwlock_world.specs.Legal.{may_meet, IsCause}
-use Rattle.rwlock_world.specs.Number.{answer_by}
+use Rattle.rwlock_world.specs.Guarded.{answer_by}
 use Rattle.rwlock_world.specs.Stages.{strays, course_of, sought_at}
 use Rattle.rwlock_world.specs.View.{Share, passing, upgrading, waiting, writing, turn_as, share_of, turn_by, is_reading, verdict, seen}
 use Rattle.rwlock_world.proofs.step.Rows.{deed_at, verdict_then, is_after_ready, Reads, Shares, Finding, is_got, WaitsAt, Refuses, Reason, Judged, Room, keeps_what_it_has, lacks_memory, KeepsUpgrade, RefusedAt, Row, row}

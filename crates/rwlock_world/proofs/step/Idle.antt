@@ -38,31 +38,31 @@ use Rattle.rwlock_machine.specs.Machine.{place_at}
 use Rattle.rwlock_machine.specs.Acts.{IsRwLock}
 use Rattle.rwlock_world.specs.Changes.{puts}
 use Rattle.rwlock_world.specs.Legal.{knows, knows_of, call_of, IsCause, HasItsOwn, HasSought, HasJust, Legal}
-use Rattle.rwlock_world.specs.Number.{LockedNumber, number_with}
+use Rattle.rwlock_world.specs.Guarded.{Guarded, with_value}
 use Rattle.rwlock_world.specs.Stages.{sought_at, goes_with}
 use Rattle.rwlock_world.specs.State.{World, standing_of, sought_by}
-use Rattle.rwlock_world.specs.Steps.{IsNumberTable}
+use Rattle.rwlock_world.specs.Steps.{IsRwLockTable}
 use Rattle.rwlock_world.specs.View.{verdict_of, verdict, standing_at, view_of}
 use Rattle.rwlock_world.proofs.table.Begun.{within}
 use Rattle.rwlock_world.proofs.step.Owns as owns
 use Rattle.rwlock_world.proofs.table.Views as view
 
 -- what holds of a table before and after a move
-pub record Laws (t : Table LockedNumber) : Type 0 where
+pub record Laws (t : Table Guarded) : Type 0 where
   pub lock : IsRwLock t.machine.lock
-  pub fits : IsNumberTable t
+  pub fits : IsRwLockTable t
 
 -- the party's standing
-pub stood : (t : Table LockedNumber) (p : ℕ) → Laws t → standing_of (view_of t) p ≡ standing_at t.machine.value (stage_at t.stages p) (place_at t.machine.lock.places p) (turn_at t.machine.lock.turn.courses p)
+pub stood : (t : Table Guarded) (p : ℕ) → Laws t → standing_of (view_of t) p ≡ standing_at t.machine.value (stage_at t.stages p) (place_at t.machine.lock.places p) (turn_at t.machine.lock.turn.courses p)
 stood t p k = owns.stood t.machine.lock t.stages t.opening t.machine.value k.lock k.fits p
 
-each : (t : Table LockedNumber) → Laws t → (p : ℕ) → HasItsOwn (view_of t) p (standing_of (view_of t) p)
+each : (t : Table Guarded) → Laws t → (p : ℕ) → HasItsOwn (view_of t) p (standing_of (view_of t) p)
 each t k p = owns.each t.machine.lock t.stages t.opening t.machine.value k.lock k.fits p
 
-not_pending : (t : Table LockedNumber) (p : ℕ) → Laws t → (u : Within) → standing_of (view_of t) p ≢ inside u (Some answer.Pending)
+not_pending : (t : Table Guarded) (p : ℕ) → Laws t → (u : Within) → standing_of (view_of t) p ≢ inside u (Some answer.Pending)
 not_pending t p k u e = owns.not_pending t.machine.lock t.stages t.opening t.machine.value k.lock k.fits p u e
 
-pub sought_is : (t : Table LockedNumber) (p : ℕ) → sought_by (view_of t) p ≡ sought_at (place_at t.machine.lock.places p)
+pub sought_is : (t : Table Guarded) (p : ℕ) → sought_by (view_of t) p ≡ sought_at (place_at t.machine.lock.places p)
 sought_is t p = view.seeks_at t.machine.lock.places p
 
 -- what is written back changes nothing
@@ -85,7 +85,7 @@ record Quiet (what : What) (a : Answer) : Type 0 where
   pub sought : (o : Option Right) → sought_after o what a ≡ o
   pub put : (v : ℕ) → put_in what ≡ Some v → is_possible a ≡ true → ⊥
 
-idle_legal : (t : Table LockedNumber) (m : Move) (a : Answer) → Laws t → Quiet m.what a → Idle standing_of knows_of rest.Holding IsCause (view_of t) m refl a → Legal (view_of t) m a (view_of t)
+idle_legal : (t : Table Guarded) (m : Move) (a : Answer) → Laws t → Quiet m.what a → Idle standing_of knows_of rest.Holding IsCause (view_of t) m refl a → Legal (view_of t) m a (view_of t)
 idle_legal t m a k q i =
     let w = view_of t in
     let s : Standing = standing_of w m.party in
@@ -101,7 +101,7 @@ idle_legal t m a k q i =
       keeps_upgrades = record { begins = λ e. absurd (q.waiting e); pending = λ e h. refl; undecided = λ u h. refl; others = λ p apart. refl };
     }
 
-pub impossible : (t : Table LockedNumber) (m : Move) → Laws t → call_of (view_of t) m ≡ None → Legal (view_of t) m answer.NotPossible (view_of t)
+pub impossible : (t : Table Guarded) (m : Move) → Laws t → call_of (view_of t) m ≡ None → Legal (view_of t) m answer.NotPossible (view_of t)
 impossible t m k none =
     idle_legal t m answer.NotPossible k (record { ready = λ got e. cc; granted = λ got e. cc; waiting = λ e. cc; pending = λ e. cc; refusal = refl; sought = λ o. refl; put = λ v e h. cc })
     (frame.impossible standing_of knows_of rest.Holding IsCause (view_of t) m refl none)
@@ -114,7 +114,7 @@ again_is (Outside rest.Holding) (Begin call.Poll i) x h g = (i, refl, refl)
 again_is (Outside rest.Finished) (Begin call.Poll i) x h g = absurd (false≢true g)
 again_is _ _ x h g = absurd (false≢true h)
 
-pub polled_again : (t : Table LockedNumber) (p : ℕ) (i : Inputs) → Laws t → stage_at t.stages p ≡ Outside rest.Holding → Legal (view_of t) (record { party = p; what = Begin call.Poll i }) (refused refusal.Finished) (view_of t)
+pub polled_again : (t : Table Guarded) (p : ℕ) (i : Inputs) → Laws t → stage_at t.stages p ≡ Outside rest.Holding → Legal (view_of t) (record { party = p; what = Begin call.Poll i }) (refused refusal.Finished) (view_of t)
 polled_again t p i k at =
     let is : standing_of (view_of t) p ≡ outside rest.Holding = stood t p k ∙ ap (λ s. standing_at t.machine.value s (place_at t.machine.lock.places p) (turn_at t.machine.lock.turn.courses p)) at in
     let m : Move = record { party = p; what = Begin call.Poll i } in
@@ -144,12 +144,12 @@ unvalued v u (Outside r) x t h = refl
 unvalued v u (Inside w) x t h = ap (inside w) h
 unvalued v u Forgotten x t h = refl
 
-module _ (t : Table LockedNumber) (n : ℕ) (p : ℕ) (i : Inputs) where
+module _ (t : Table Guarded) (n : ℕ) (p : ℕ) (i : Inputs) where
   abbrev pub the_move : Move
   the_move = record { party = p; what = Begin (call.Put n) i }
 
-  abbrev pub left : Table LockedNumber
-  left = record { machine = number_with t.machine n; stages = t.stages; opening = t.opening }
+  abbrev pub left : Table Guarded
+  left = record { machine = with_value t.machine n; stages = t.stages; opening = t.opening }
 
   pub putting : Laws t → p < length t.stages → stage_at t.stages p ≡ Outside rest.Holding → place_at t.machine.lock.places p ≡ place.Writing → Legal (view_of t) the_move (answer.Granted (Value n)) (view_of left)
   putting k known at writing =
@@ -180,7 +180,7 @@ module _ (t : Table LockedNumber) (n : ℕ) (p : ℕ) (i : Inputs) where
           opening_value = refl;
           sought = set_back (view_of t).sought p;
           others = λ q apart. stood left q k2 ∙ (unvalued t.machine.value n (stage_at t.stages q) (place_at t.machine.lock.places q) (turn_at t.machine.lock.turn.courses q) (apart_from q apart) ∙ sym (stood t q k));
-          parties = length-standings (verdict_of (number_with t.machine n)) t.stages ∙ sym (length-standings (verdict_of t.machine) t.stages);
+          parties = length-standings (verdict_of (with_value t.machine n)) t.stages ∙ sym (length-standings (verdict_of t.machine) t.stages);
           found_memory = λ list e. absurd (cc);
           refused_idly = λ d. absurd (unlike (refused refusal.Memory) d.1 refl);
           giving_up = λ g. absurd (cc);

@@ -44,7 +44,7 @@ use Rattle.lock_table.specs.Stages.{stage_at, stage_after, stands_as}
 use Rattle.lock_table.proofs.Calls.{decided_after, decision_seen}
 use Rattle.rwlock_world.specs.Stages.{sought_at}
 use Rattle.lock_table.specs.Tables.{Table}
-use Rattle.rwlock_world.specs.Number.{LockedNumber, answer_by}
+use Rattle.rwlock_world.specs.Guarded.{Guarded, answer_by}
 use Rattle.rwlock_world.specs.View.{Share, passing, upgrading, waiting, writing, turn_as, share_of, turn_by, is_reading, verdict, standing_at, view_of}
 use Rattle.rwlock_world.proofs.step.Rows.{verdict_then, turn_row}
 use Rattle.rwlock_world.proofs.laws.Sound.{none_marked, nobody_holds, bit_seen}
@@ -86,7 +86,7 @@ passer_holds None xs p e = absurd (cc)
 passer_holds (Some q) xs p e = ap Some (passer q p (share_of (place_at xs q)) e)
 
 -- nobody has a free turn, and nobody is starved for it
-pub turn_is_free : (t : Table LockedNumber) → is_turn_free (view_of t).state ≡ true → (holders t.machine.lock.turn ≡ 0) × (starved t.machine.lock.turn ≡ 0)
+pub turn_is_free : (t : Table Guarded) → is_turn_free (view_of t).state ≡ true → (holders t.machine.lock.turn ≡ 0) × (starved t.machine.lock.turn ≡ 0)
 turn_is_free t h =
     let b = free_means (view_of t).state.turn (how_many (view_of t).state.starved) h in
     (sees.none_holds 0 t.machine.lock.turn.courses (nobody_holds (holder_of t.machine.lock.turn) t.machine.lock.places b.0), sym (sees.how_many_counted t.machine.lock.turn.courses) ∙ b.1)
@@ -94,7 +94,7 @@ turn_is_free t h =
 -- ---- one action
 
 -- a party's action at a place, and how it was answered
-pub record Acted (t u : Table LockedNumber) (m : Move) (a : Answer) (from : Place) : Type 0 where
+pub record Acted (t u : Table Guarded) (m : Move) (a : Answer) (from : Place) : Type 0 where
   pub laws : Laws t
   pub known : m.party < length t.machine.lock.places
   pub found : Found
@@ -106,7 +106,7 @@ pub record Acted (t u : Table LockedNumber) (m : Move) (a : Answer) (from : Plac
   pub answer : a ≡ answer_by t.machine.value (next_of from found)
   pub decides : decision a (standing_of (view_of u) m.party) ≡ verdict_then t.machine.value (turn_at u.machine.lock.turn.courses m.party) (next_of from found)
 
-module _ (t u : Table LockedNumber) (m : Move) (a : Answer) where
+module _ (t u : Table Guarded) (m : Move) (a : Answer) where
   abbrev p : ℕ
   p = m.party
 
@@ -222,7 +222,7 @@ module _ (t u : Table LockedNumber) (m : Move) (a : Answer) where
 abbrev pub Begins : World → Move → Place → Type 0
 Begins old m from = Firsts (standing_of old m.party) (sought_by old m.party) m.what (entries_in old m.party) (is_upgrader old m.party) from
 
-acted_at_once : (t u : Table LockedNumber) (m : Move) (a : Answer) (from : Place) → Acted t u m a from → Begins (view_of t) m from → AnswersAtOnce (view_of t) m a (view_of u)
+acted_at_once : (t u : Table Guarded) (m : Move) (a : Answer) (from : Place) → Acted t u m a from → Begins (view_of t) m from → AnswersAtOnce (view_of t) m a (view_of u)
 acted_at_once t u m a from y b =
     let P : Place → Type 0 = λ x. Acted t u m a x in
     record {
@@ -245,7 +245,7 @@ turn_waits : (x : Place) (t : TurnCourse) → fits_turn x t ≡ true → listed 
 turn_waits (place.WaitTurn q) t h e = absurd (omega (arith, waiting_listed t h, e))
 turn_waits _ t h e = refl
 
-lists : (t : Table LockedNumber) (p : ℕ) → Laws t → Lists (entries_in (view_of t) p) (is_upgrader (view_of t) p) (place_at t.machine.lock.places p)
+lists : (t : Table Guarded) (p : ℕ) → Laws t → Lists (entries_in (view_of t) p) (is_upgrader (view_of t) p) (place_at t.machine.lock.places p)
 lists t p k = record {
   no_writer = λ e. omega (arith, e, k.lock.owners_no_writer p);
   no_readers = λ e. omega (arith, e, k.lock.owners_no_readers p);
@@ -253,7 +253,7 @@ lists t p k = record {
   upgrade = view.upgrades_at t.machine.lock.places p;
 }
 
-module _ (t u : Table LockedNumber) (m : Move) (a : Answer) (w : Within) (c : Acting t u m a w) where
+module _ (t u : Table Guarded) (m : Move) (a : Answer) (w : Within) (c : Acting t u m a w) where
   pub begins : Begins (view_of t) m c.from
   begins =
       let x = place_at t.machine.lock.places m.party in
@@ -322,7 +322,7 @@ apart_from_upgrade what i h e = let no : holds_on (Begin call.TryUpgrade i) ≡ 
 outside_apart : (s : Standing) (r : Rest) (w : Within) (d : Option Answer) → s ≡ outside r → s ≡ inside w d → ⊥
 outside_apart s r w d e h = absurd (cc)
 
-pub still_at_once : (t : Table LockedNumber) (m : Move) (a : Answer) (after : World) → Laws t → stage_at t.stages m.party ≡ Outside rest.Holding → holds_on m.what ≡ true → AnswersAtOnce (view_of t) m a after
+pub still_at_once : (t : Table Guarded) (m : Move) (a : Answer) (after : World) → Laws t → stage_at t.stages m.party ≡ Outside rest.Holding → holds_on m.what ≡ true → AnswersAtOnce (view_of t) m a after
 still_at_once t m a after k at holds =
     let s : Standing = standing_of (view_of t) m.party in
     let o : Option Right = sought_by (view_of t) m.party in

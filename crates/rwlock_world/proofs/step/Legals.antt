@@ -40,7 +40,7 @@ use Rattle.rwlock_world.specs.State.{State, World, standing_of, sought_by, is_up
 use Rattle.rwlock_world.specs.Legal.{knows_of, call_of, DecidesOn, IsPossible, ChangesOneThing, HasSought, LeavesClear, Carries, Waits, list_for, may_meet, IsCause, IsRefusedForCause, IsValueKept, EndsProperly, KeepsUpgrades, Legal}
 use Rattle.lock_table.specs.Stages.{stage_at}
 use Rattle.rwlock_world.specs.Stages.{sought_at}
-use Rattle.rwlock_world.specs.Number.{LockedNumber, answer_by}
+use Rattle.rwlock_world.specs.Guarded.{Guarded, answer_by}
 use Rattle.rwlock_world.specs.View.{is_upgrade, verdict, verdict_of, standing_at, seen}
 use Rattle.rwlock_world.proofs.table.Kept.{Walks}
 use Rattle.rwlock_world.proofs.table.Stages.{stage_then, always_possible, may_end_so}
@@ -146,10 +146,10 @@ module _ (m : Move) (l k : RwLock) (ss : List Stage) (opening : ℕ) (v : ℕ) (
   abbrev ts : List Stage
   ts = set ss p (stage_then w v n)
 
-  abbrev before : Table LockedNumber
+  abbrev before : Table Guarded
   before = record { machine = record { lock = l; value = v }; stages = ss; opening = opening }
 
-  abbrev after : Table LockedNumber
+  abbrev after : Table Guarded
   after = record { machine = record { lock = k; value = v }; stages = ts; opening = opening }
 
   abbrev old : World

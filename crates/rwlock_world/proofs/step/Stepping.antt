@@ -16,7 +16,7 @@ use Rattle.lock_table.specs.Stages.{stage_at, polls_again}
 use Rattle.lock_table.specs.Tables.{Table}
 use Rattle.rwlock_machine.specs.Machine.{place_at}
 use Rattle.rwlock_world.specs.Legal.{Legal, AnswersAtOnce}
-use Rattle.rwlock_world.specs.Number.{LockedNumber}
+use Rattle.rwlock_world.specs.Guarded.{Guarded}
 use Rattle.rwlock_world.specs.Steps.{TableSteps, Stands, Steps}
 use Rattle.rwlock_world.specs.View.{view_of}
 use Rattle.rwlock_world.proofs.step.Acting.{Way, impossible, over, puts, acts, way, legal}
@@ -31,14 +31,14 @@ put_call : (what : What) (v : ℕ) → put_in what ≡ Some v → (i : Inputs) �
 put_call (Begin (call.Put k) i) v e = (i, ap (λ n. Begin (call.Put n) i) (some_eq e))
 put_call _ v e = absurd (none_some e)
 
-stands : (t : Table LockedNumber) → Laws t → Stands (view_of t)
+stands : (t : Table Guarded) → Laws t → Stands (view_of t)
 stands t k = record { seen = refl; lock = k.lock; fits = k.fits }
 
-module _ (t u : Table LockedNumber) (m : Move) (a : Answer) (old : Laws t) (new : Laws u) where
-  abbrev Good : Move → Answer → Table LockedNumber → Type 0
+module _ (t u : Table Guarded) (m : Move) (a : Answer) (old : Laws t) (new : Laws u) where
+  abbrev Good : Move → Answer → Table Guarded → Type 0
   Good k b x = Legal (view_of t) k b (view_of x) × AnswersAtOnce (view_of t) k b (view_of x)
 
-  moved : (b : Answer) (x : Table LockedNumber) (what : What) → a ≡ b → u ≡ x → m.what ≡ what → Good (record { party = m.party; what = what }) b x → Good m a u
+  moved : (b : Answer) (x : Table Guarded) (what : What) → a ≡ b → u ≡ x → m.what ≡ what → Good (record { party = m.party; what = what }) b x → Good m a u
   moved b x what ea eu ew g =
       let W : What → Type 0 = λ z. Good (record { party = m.party; what = z }) b x in
       let A : Answer → Type 0 = λ z. Good m z x in

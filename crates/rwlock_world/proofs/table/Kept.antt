@@ -26,7 +26,7 @@ use Rattle.rwlock_machine.specs.Roles.{fits_turn}
 use Rattle.rwlock_machine.specs.Machine.{RwLock, place_at}
 use Rattle.rwlock_machine.specs.Acts.{Acts, IsRwLock}
 use Rattle.rwlock_machine.proofs.Leads.{led}
-use Rattle.rwlock_world.specs.Number.{LockedNumber, parties, place_of, knows, knows_at, may_put, Stands, answer_by, place_for, Acted, Does, Moves as MovesThere}
+use Rattle.rwlock_world.specs.Guarded.{Guarded, parties, place_of, knows, knows_at, may_put, Stands, answer_by, place_for, Acted, Does, Moves as MovesThere}
 use Rattle.rwlock_world.specs.Stages.{course_of, is_on_course}
 use Rattle.rwlock_world.proofs.table.Begun.{within}
 use Rattle.rwlock_world.proofs.step.Paths.{Path, Keeps, Seeks, path}
@@ -72,7 +72,7 @@ put_is s _ v w x e h = absurd (none_some e)
 
 -- ---- any action
 
-module _ (x y : LockedNumber) (p : ℕ) (w : Within) (what : What) (a : Answer) (laws : IsRwLock x.lock) (known : p < parties x) (c : Called knows Stands x p w what) where
+module _ (x y : Guarded) (p : ℕ) (w : Within) (what : What) (a : Answer) (laws : IsRwLock x.lock) (known : p < parties x) (c : Called knows Stands x p w what) where
   acts_kept : put_in what ≡ None → Acted x p what a y → KeepsStanding parties Stands x p (stage_after rest.Holding w a) y
   acts_kept none d =
       let t = turn_at x.lock.turn.courses p in
@@ -108,7 +108,7 @@ began None h = absurd h
 began (Some from) h = (from, refl, h)
 
 -- what the code does, but for a put
-pub acted : (x y : LockedNumber) (p : ℕ) (w : Within) (what : What) (a : Answer) (n : Next) → put_in what ≡ None → IsSomeAnd (place_for what (place_of x p)) (λ from. Acts (inputs_of what).memory (inputs_of what).starving p from n x.lock y.lock) → a ≡ answer_by x.value n → y.value ≡ x.value → MovesThere x p w what a y
+pub acted : (x y : Guarded) (p : ℕ) (w : Within) (what : What) (a : Answer) (n : Next) → put_in what ≡ None → IsSomeAnd (place_for what (place_of x p)) (λ from. Acts (inputs_of what).memory (inputs_of what).starving p from n x.lock y.lock) → a ≡ answer_by x.value n → y.value ≡ x.value → MovesThere x p w what a y
 acted x y p w what a n none acts answer value =
     let b = began (place_for what (place_of x p)) acts in
     let D : Option ℕ → Type 0 = λ o. Does o x p what a y in
@@ -118,5 +118,5 @@ some_is : {A : Type 0} (o : Option A) (x : A) → o ≡ Some x → IsSome o
 some_is o x e = rw e refl
 
 -- a move that isn't a put begins where its party stands
-pub can_act : (x : LockedNumber) (p : ℕ) (w : Within) (what : What) → Called knows Stands x p w what → put_in what ≡ None → IsSome (place_for what (place_of x p))
+pub can_act : (x : Guarded) (p : ℕ) (w : Within) (what : What) → Called knows Stands x p w what → put_in what ≡ None → IsSome (place_for what (place_of x p))
 can_act x p w what c none = let it = moving x.value (turn_at x.lock.turn.courses p) c.stage what (place_of x p) w c.stands c.call c.first none in some_is (place_for what (place_of x p)) it.from it.starts

@@ -16,7 +16,7 @@ use Rattle.rwlock_machine.specs.declared.program.Next.{Next}
 use Rattle.rwlock_machine.specs.declared.program.Next.TheVariants as next
 use Rattle.rwlock_machine.specs.declared.program.Place.{Place}
 use Rattle.rwlock_machine.specs.Program.{place_after}
-use Rattle.rwlock_world.specs.Number.{answer_by}
+use Rattle.rwlock_world.specs.Guarded.{answer_by}
 use Rattle.rwlock_world.specs.Stages.{Course, polls, tries, drops, downgrades, upgrades, tries_upgrade, strays, course_of, is_on_course, is_future, goes_with}
 use Rattle.rwlock_world.proofs.table.Begun.{within}
 use Rattle.rwlock_world.proofs.step.Paths.{ends_in, Keeps}

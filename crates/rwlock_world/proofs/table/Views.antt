@@ -11,7 +11,7 @@ use Rattle.rwlock_machine.specs.declared.program.Place.TheVariants as place
 use Rattle.rwlock_machine.specs.declared.program.Ending.TheVariants as ending
 use Rattle.rwlock_machine.specs.Roles.{bit, reads}
 use Rattle.rwlock_machine.specs.Machine.{RwLock, place_at}
-use Rattle.rwlock_world.specs.Number.{parties, Stands}
+use Rattle.rwlock_world.specs.Guarded.{parties, Stands}
 use Rattle.rwlock_world.specs.Stages.{sought_at}
 use Rattle.rwlock_world.specs.View.{is_reading, is_upgrade}
 

@@ -27,12 +27,12 @@ use Rattle.rwlock_machine.specs.Machine.{RwLock, place_at}
 use Rattle.rwlock_machine.specs.Ranks.{left, left_from, steps_left, left_after}
 use Rattle.rwlock_machine.proofs.Alone.{fewer, begun_within}
 use Rattle.lock_table.specs.Tables.{Table}
-use Rattle.rwlock_world.specs.Number.{LockedNumber, answer_by}
+use Rattle.rwlock_world.specs.Guarded.{Guarded, answer_by}
 use Rattle.rwlock_world.specs.Whole.{most_steps_of}
 use Rattle.rwlock_world.proofs.step.Acting.{Acting, Way, impossible, over, puts, acts}
 
 -- how many steps are left after this answer
-abbrev pub left_by : Answer → Table LockedNumber → ℕ → ℕ
+abbrev pub left_by : Answer → Table Guarded → ℕ → ℕ
 left_by a t p = left_of a (steps_left t.machine.lock p)
 
 -- ---- no place has no steps left
@@ -60,7 +60,7 @@ steps_some v p laws = some_left (place_at v.places p) (is_marked_at (is_party p)
 -- ---- a step
 
 -- a step's answer says what is left
-left_said : (v : ℕ) (n : Next) (t : Table LockedNumber) (p : ℕ) → left_by (answer_by v n) t p ≡ left_after n t.machine.lock p
+left_said : (v : ℕ) (n : Next) (t : Table Guarded) (p : ℕ) → left_by (answer_by v n) t p ≡ left_after n t.machine.lock p
 left_said v (next.Do a q) t p = refl
 left_said v (next.Wait q) t p = refl
 left_said v (next.End «end».Got q) t p = refl
@@ -82,10 +82,10 @@ one_at_least call.Downgrade = omega arith
 one_at_least call.DowngradeToUpgradable = omega arith
 one_at_least _ = omega arith
 
-nothing_left : (a b : Answer) (u : Table LockedNumber) (p : ℕ) → a ≡ b → left_by b u p ≡ 0 → left_by a u p ≡ 0
+nothing_left : (a b : Answer) (u : Table Guarded) (p : ℕ) → a ≡ b → left_by b u p ≡ 0 → left_by a u p ≡ 0
 nothing_left a b u p e z = ap (λ x. left_by x u p) e ∙ z
 
-module _ (t u : Table LockedNumber) (p : ℕ) where
+module _ (t u : Table Guarded) (p : ℕ) where
   -- one step of the party leaves less to do than there was at its place
   less : (what : What) (a : Answer) (w : Within) (c : Acting t u (record { party = p; what = what }) a w) → left_by a u p < left_from c.from t.machine.lock p
   less what a w c =

@@ -22,23 +22,23 @@ use Rattle.rwlock_machine.specs.Acts.{Acts}
 use Rattle.rwlock_world.specs.Stages.{goes_with}
 
 -- a lock, and the number that it guards
-pub record LockedNumber : Type 0 where
+pub record Guarded : Type 0 where
   pub lock : RwLock
   pub value : ℕ
 
 -- free, with every party out
-abbrev pub new_number : ℕ → ℕ → ℕ → ℕ → LockedNumber
-new_number parties starved readers value = record { lock = new_rwlock parties starved readers; value = value }
+abbrev pub new_guarded : ℕ → ℕ → ℕ → ℕ → Guarded
+new_guarded parties starved readers value = record { lock = new_rwlock parties starved readers; value = value }
 
-abbrev pub parties : LockedNumber → ℕ
+abbrev pub parties : Guarded → ℕ
 parties x = length x.lock.places
 
-abbrev pub place_of : LockedNumber → ℕ → Place
+abbrev pub place_of : Guarded → ℕ → Place
 place_of x p = place_at x.lock.places p
 
 -- the lock with another number
-abbrev pub number_with : LockedNumber → ℕ → LockedNumber
-number_with x v = record { lock = x.lock; value = v }
+abbrev pub with_value : Guarded → ℕ → Guarded
+with_value x v = record { lock = x.lock; value = v }
 
 -- ---- calls
 
@@ -72,11 +72,11 @@ knows_at x call.DowngradeToUpgradable = may_put x
 knows_at x (call.Put v) = may_put x
 knows_at x _ = false
 
-abbrev pub knows : LockedNumber → ℕ → Call → Bool
+abbrev pub knows : Guarded → ℕ → Call → Bool
 knows x p = knows_at (place_of x p)
 
 -- a party at this stage may stand where it does
-abbrev pub Stands : LockedNumber → ℕ → Stage → Type 0
+abbrev pub Stands : Guarded → ℕ → Stage → Type 0
 Stands x p s = goes_with s (place_of x p) ≡ true
 
 -- ---- actions
@@ -93,7 +93,7 @@ place_for (Begin c inputs) x = start_of c x
 place_for (Go inputs) x = Some x
 
 -- the lock does one action of the party's program, and the number stays
-pub record Acted (x : LockedNumber) (p : ℕ) (what : What) (a : Answer) (y : LockedNumber) : Type 0 where
+pub record Acted (x : Guarded) (p : ℕ) (what : What) (a : Answer) (y : Guarded) : Type 0 where
   pub from : Place
   pub next : Next
   pub starts : place_for what (place_of x p) ≡ Some from
@@ -102,9 +102,9 @@ pub record Acted (x : LockedNumber) (p : ℕ) (what : What) (a : Answer) (y : Lo
   pub value : y.value ≡ x.value
 
 -- a put leaves its number, and any other call acts on the lock
-abbrev pub Does : Option ℕ → LockedNumber → ℕ → What → Answer → LockedNumber → Type 0
-Does (Some v) x p what a y = (a ≡ Granted (Value v)) × (y ≡ number_with x v)
+abbrev pub Does : Option ℕ → Guarded → ℕ → What → Answer → Guarded → Type 0
+Does (Some v) x p what a y = (a ≡ Granted (Value v)) × (y ≡ with_value x v)
 Does None x p what a y = Acted x p what a y
 
-abbrev pub Moves : LockedNumber → ℕ → Within → What → Answer → LockedNumber → Type 0
+abbrev pub Moves : Guarded → ℕ → Within → What → Answer → Guarded → Type 0
 Moves x p w what a y = Does (put_in what) x p what a y

@@ -5,7 +5,7 @@ ghost use Rattle.lock_world.specs.Frame.{put_in};
 ghost use Rattle.lock_world.specs.Standings.{inputs_of};
 ghost use Rattle.rwlock_machine.specs.Machine.{place_at};
 ghost use Rattle.rwlock_machine.specs.Acts.{Acts, IsRwLock};
-ghost use Rattle.rwlock_world.specs.Number.{new_number, knows_at, answer_by, place_for};
+ghost use Rattle.rwlock_world.specs.Guarded.{new_guarded, knows_at, answer_by, place_for};
 
 use lock_table::{Machine, Valued};
 use lock_world::standing::{Rest, Within};
@@ -17,17 +17,17 @@ use std::marker::Model;
 
 /// A read-write lock, and the number that it guards.
 #[derive(Drop)]
-pub(crate) struct LockedNumber {
+pub(crate) struct Guarded {
     lock: RwLock,
     value: u64,
 }
 
-impl Model for LockedNumber {
+impl Model for Guarded {
     ghost use Rattle.std.specs.Coded.{codes};
     ghost use Rattle.mutex_machine.specs.Behind.{behind_coded};
-    ghost use Rattle.rwlock_world.specs.Number.{LockedNumber};
+    ghost use Rattle.rwlock_world.specs.Guarded.{Guarded};
 
-    ghost Value = { LockedNumber };
+    ghost Value = { Guarded };
 
     ghost coded = { Prim.hlevel (codes, behind_coded) };
 
@@ -89,7 +89,7 @@ fn carry_out(lock: &mut RwLock, party: u32, what: What) -> Next
     }
 }
 
-impl LockedNumber {
+impl Guarded {
     /// This number behind a free lock for so many parties, of which at most `starved` may be starved for
     /// the turn, and at most `readers` may read.
     pub(crate) fn new(
@@ -98,11 +98,11 @@ impl LockedNumber {
         value: u64,
         starved: u32,
         readers: u32,
-    ) -> Result<LockedNumber, AllocError>
-        ensures { IfOk result (λ x. x ≡ new_number parties starved readers value) }
+    ) -> Result<Guarded, AllocError>
+        ensures { IfOk result (λ x. x ≡ new_guarded parties starved readers value) }
     {
         let lock = RwLock::new(alloc, parties, starved, readers)?;
-        Ok(LockedNumber { lock, value })
+        Ok(Guarded { lock, value })
     }
 
     /// What always holds of the lock. It does nothing.
@@ -127,20 +127,20 @@ impl LockedNumber {
     }
 }
 
-impl Machine for LockedNumber {
+impl Machine for Guarded {
     ghost use Rattle.std.specs.Prelude.{length};
-    ghost use Rattle.rwlock_world.specs.Number as number;
+    ghost use Rattle.rwlock_world.specs.Guarded as guarded;
     ghost use Rattle.lock_world.specs.declared.standing.Rest.TheVariants.{Holding};
 
-    ghost parties = { number.parties };
+    ghost parties = { guarded.parties };
 
-    ghost knows = { number.knows };
+    ghost knows = { guarded.knows };
 
     ghost ready = { Holding };
 
-    ghost stands = { number.Stands };
+    ghost stands = { guarded.Stands };
 
-    ghost acts = { number.Moves };
+    ghost acts = { guarded.Moves };
 
     fn knows(&self, party: u32, call: Call) -> bool {
         is_known(self.lock.place(party), call)
@@ -165,19 +165,19 @@ impl Machine for LockedNumber {
     }
 }
 
-impl Valued for LockedNumber {
-    ghost use Rattle.rwlock_world.specs.Number as number;
-    ghost use Rattle.rwlock_world.specs.Lent as lent;
+impl Valued for Guarded {
+    ghost use Rattle.rwlock_world.specs.Guarded as guarded;
+    ghost use Rattle.rwlock_world.specs.Stays as stays;
 
     type Value = u64;
 
     ghost value_of = { λ x. x.value };
 
-    ghost with_value = { number.number_with };
+    ghost with_value = { guarded.with_value };
 
-    ghost as_many = { lent.as_many };
+    ghost as_many = { stays.as_many };
 
-    ghost stays = { lent.stays };
+    ghost stays = { stays.stays };
 
     fn value_mut(&mut self) -> &mut u64 {
         &mut self.value

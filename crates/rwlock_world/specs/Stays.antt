@@ -9,7 +9,7 @@ use Rattle.lock_world.specs.Standings.{forgets, is_outside_stage}
 use Rattle.rwlock_machine.specs.declared.program.Place.{Place}
 use Rattle.rwlock_machine.specs.declared.program.Place.TheVariants as place
 use Rattle.rwlock_machine.specs.Roles.{is_resting}
-use Rattle.rwlock_world.specs.Number.{LockedNumber, parties, place_of, number_with, Stands}
+use Rattle.rwlock_world.specs.Guarded.{Guarded, parties, place_of, with_value, Stands}
 use Rattle.rwlock_world.specs.Stages.{is_future, is_guard}
 
 pub future_rests : (x : Place) → is_future x ≡ true → is_resting x ≡ true
@@ -26,10 +26,10 @@ guard_rests place.Upgradable h = refl
 guard_rests place.Writing h = refl
 guard_rests _ h = absurd (false≢true h)
 
-pub as_many : (x : LockedNumber) (v : ℕ) → parties (number_with x v) ≡ parties x
+pub as_many : (x : Guarded) (v : ℕ) → parties (with_value x v) ≡ parties x
 as_many x v = refl
 
-pub stays : (x : LockedNumber) (v p : ℕ) (s : Stage) → is_outside_stage s ≡ true → Stands x p s → Stands (number_with x v) p (forgets s)
+pub stays : (x : Guarded) (v p : ℕ) (s : Stage) → is_outside_stage s ≡ true → Stands x p s → Stands (with_value x v) p (forgets s)
 stays x v p (Outside Idle) out h = h
 stays x v p (Outside Pending) out h = future_rests (place_of x p) h
 stays x v p (Outside Holding) out h = guard_rests (place_of x p) h
