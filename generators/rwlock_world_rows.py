@@ -1,5 +1,5 @@
 #!/usr/bin/env python3
-"""Writes the case tables of a read-write lock's World: crates/rwlock_world/proofs/Paths.antt,
+"""Writes the case tables of a read-write lock's World: crates/rwlock_world/proofs/step/Paths.antt,
 where each action leads, and Rows.antt beside it, what each action on the word or on a list changes and
 decides.
 
@@ -14,7 +14,7 @@ PLACES = ('Out, Made, Reading, Upgradable, Writing, EnterRead, JoinNoWriter, Loo
           'CancelAwait, Unmark, UnmarkNotify, Down, DownNotify, DowngradeNotify')
 
 PATHS_HEAD = f'''-- Where each action leads, place by place. Written by generators/rwlock_world_rows.py.
-use Rattle.std.proofs.Common.{{◌≡◌, ◌&&◌, Bool, true, false, Option, refl}}
+use Rattle.std.proofs.Common.{{◌≡◌, ◌&&◌, Bool, true, false, refl}}
 use Rattle.lock_world.specs.declared.refusal.Refusal.{{Refusal}}
 use Rattle.lock_world.specs.declared.refusal.Refusal.TheVariants as refusal
 use Rattle.mutex_machine.specs.Course.{{Course as TurnCourse}}
@@ -211,7 +211,7 @@ for k in ('true', 'false'):
 word('DownNotify', 'Done')
 word('DowngradeNotify', 'Done')
 
-with open('crates/rwlock_world/proofs/Paths.antt', 'w', encoding='utf-8') as out:
+with open('crates/rwlock_world/proofs/step/Paths.antt', 'w', encoding='utf-8') as out:
     out.write(PATHS_HEAD + '\n'.join(paths) + '\n')
 
 
@@ -226,12 +226,11 @@ use Rattle.lock_world.specs.declared.moves.Got.TheVariants.{{Value}}
 use Rattle.lock_world.specs.declared.refusal.Refusal.{{Refusal}}
 use Rattle.lock_world.specs.declared.refusal.Refusal.TheVariants as refusal
 use Rattle.lock_world.specs.Refusals.{{number_of}}
-use Rattle.lock_world.specs.Standings.{{refused}}
 use Rattle.lock_world.specs.Steps.{{Deed, nothing, changes, does, joins, asks, leaves, notifies}}
 use Rattle.mutex_machine.specs.Course.{{Course as TurnCourse, is_out as is_out_there, is_holding}}
 use Rattle.rwlock_machine.specs.declared.program.Action.{{Action}}
 use Rattle.rwlock_machine.specs.declared.program.Action.TheVariants as act
-use Rattle.lock_table.specs.declared.end.End.TheVariants.{{Got, Granted, Pending, NotFree, GivenBack, Refused}}
+use Rattle.lock_table.specs.declared.end.End.TheVariants.{{Pending, Refused}}
 use Rattle.rwlock_machine.specs.declared.program.Next.{{Next}}
 use Rattle.rwlock_machine.specs.declared.program.Next.TheVariants as next
 use Rattle.rwlock_machine.specs.declared.program.Found.{{Found}}
@@ -254,7 +253,7 @@ use Rattle.rwlock_world.specs.State as state
 use Rattle.rwlock_world.specs.State.{{ListName, for_the_turn, for_no_readers, for_no_writer}}
 use Rattle.lock_table.proofs.Calls.{{decided_after}}
 use Rattle.rwlock_world.specs.Legal.{{may_meet}}
-use Rattle.rwlock_world.specs.Number.{{answer_by}}
+use Rattle.rwlock_world.specs.Guarded.{{answer_by}}
 use Rattle.rwlock_world.specs.Stages.{{strays, course_of, sought_at}}
 use Rattle.rwlock_world.specs.View.{{passing, upgrading, waiting, writing, turn_as, share_of, is_reading, is_upgrade, verdict}}
 
@@ -626,5 +625,5 @@ for k in ENDINGS:
     turn_rest(f'(ReleasingTurn {k})')
 turn_rows.append('turn_row v u _ f t e = absurd (cc)')
 
-with open('crates/rwlock_world/proofs/Rows.antt', 'w', encoding='utf-8') as out:
+with open('crates/rwlock_world/proofs/step/Rows.antt', 'w', encoding='utf-8') as out:
     out.write(ROWS_HEAD + '\n'.join(rows) + '\n' + TURN_ROWS + '\n'.join(turn_rows) + '\n')

@@ -4,14 +4,14 @@ use Rattle.std.specs.Borrow.{Lends, MutBor, Fml, u64}
 use Rattle.rwlock_world.specs.contracts.world.World.{the_row}
 use Rattle.rwlock_world.specs.State.{World}
 use Rattle.lock_table.specs.Lending.{table_with, forgotten_then}
-use Rattle.rwlock_world.specs.Number.{number_with}
+use Rattle.rwlock_world.specs.Guarded.{with_value}
 
 -- The World once a value was put from outside every call: the state keeps its readers, its turn and its starved set, and whoever was pending or had a guard is forgotten.
 abbrev pub world_with : World → ℕ → World
 world_with w v = record w {
   state = record w.state { value = v };
   standings = map forgotten_then w.standings;
-  behind = table_with number_with w.behind v;
+  behind = table_with with_value w.behind v;
 }
 
 -- The World ends with the last value that was left behind the reference.

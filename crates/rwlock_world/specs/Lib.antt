@@ -3,8 +3,8 @@ pub mod Changes
 pub mod Legal
 pub mod Laws
 pub mod Stages
-pub mod Number
-pub mod Lent
+pub mod Guarded
+pub mod Stays
 pub mod View
 pub mod Runs
 pub mod Whole

@@ -9,7 +9,7 @@ use Rattle.lock_world.specs.Rights.{Right}
 use Rattle.lock_world.specs.Rosters.{how_many, is_on}
 use Rattle.lock_world.specs.Standings.{Standing, outside, forgotten}
 use Rattle.lock_table.specs.Tables.{Table, new_table}
-use Rattle.rwlock_world.specs.Number.{LockedNumber, new_number}
+use Rattle.rwlock_world.specs.Guarded.{Guarded, new_guarded}
 
 -- The turn: nobody has it, or one party that takes or leaves it, is upgradable, waits to write, or writes.
 pub data Turn : Type 0 where
@@ -38,7 +38,7 @@ pub record World : Type 0 where
   pub starved_limit : ℕ
   pub readers_limit : ℕ
   pub opening_value : ℕ
-  pub behind : Table LockedNumber
+  pub behind : Table Guarded
 
 -- The lists: of those that wait for the turn, of the one that waits until no reader is left, and of readers that wait until no writer is.
 pub data ListName : Type 0 where
@@ -117,7 +117,7 @@ new_world parties starved readers value = record {
   starved_limit = starved;
   readers_limit = readers;
   opening_value = value;
-  behind = new_table (new_number parties starved readers value) parties value;
+  behind = new_table (new_guarded parties starved readers value) parties value;
 }
 
 -- The World as it was made, by the numbers that it keeps: how many parties, the limits, and the value.

@@ -5,22 +5,22 @@ use Rattle.lock_world.specs.declared.moves.Move.{Move}
 use Rattle.lock_world.specs.declared.standing.Rest.TheVariants.{Holding}
 use Rattle.lock_table.specs.Tables.{Table, IsTable, IsStep}
 use Rattle.rwlock_machine.specs.Acts.{IsRwLock}
-use Rattle.rwlock_world.specs.Number.{LockedNumber, parties, knows, Stands as StandsThere, Moves}
+use Rattle.rwlock_world.specs.Guarded.{Guarded, parties, knows, Stands as StandsThere, Moves}
 use Rattle.rwlock_world.specs.State.{World}
 use Rattle.rwlock_world.specs.View.{view_of}
 use Rattle.rwlock_world.specs.Legal.{Legal, AnswersAtOnce}
 
-abbrev pub IsNumberTable : Table LockedNumber → Type 0
-IsNumberTable t = IsTable parties StandsThere t.machine t.stages
+abbrev pub IsRwLockTable : Table Guarded → Type 0
+IsRwLockTable t = IsTable parties StandsThere t.machine t.stages
 
-abbrev pub TableSteps : Table LockedNumber → Move → Answer → Table LockedNumber → Type 0
+abbrev pub TableSteps : Table Guarded → Move → Answer → Table Guarded → Type 0
 TableSteps = IsStep knows Holding Moves
 
 -- the World is seen as what stands behind it
 pub record Stands (w : World) : Type 0 where
   pub seen : w ≡ view_of w.behind
   pub lock : IsRwLock w.behind.machine.lock
-  pub fits : IsNumberTable w.behind
+  pub fits : IsRwLockTable w.behind
 
 -- what the table did
 pub record Did (old : World) (m : Move) (a : Answer) (new : World) : Type 0 where

@@ -19,7 +19,7 @@ use Rattle.rwlock_machine.specs.declared.program.Place.{Place}
 use Rattle.rwlock_machine.specs.declared.program.Place.TheVariants as place
 use Rattle.rwlock_machine.specs.Roles as roles
 use Rattle.rwlock_machine.specs.Machine.{RwLock, place_at}
-use Rattle.rwlock_world.specs.Number.{LockedNumber}
+use Rattle.rwlock_world.specs.Guarded.{Guarded}
 use Rattle.rwlock_world.specs.Stages.{sought_at}
 use Rattle.rwlock_world.specs.State.{Turn, nobody, passes, is_upgradable, waits_to_write, writes, World}
 
@@ -122,7 +122,7 @@ abbrev pub standing_at : ℕ → Stage → Place → TurnCourse → Standing
 standing_at v s x t = stands_as (verdict v x t) s
 
 -- by party
-abbrev pub verdict_of : LockedNumber → ℕ → Option Answer
+abbrev pub verdict_of : Guarded → ℕ → Option Answer
 verdict_of x p = verdict x.value (place_at x.lock.places p) (turn_at x.lock.turn.courses p)
 
 abbrev pub seen : RwLock → List Stage → ℕ → ℕ → World
@@ -141,5 +141,5 @@ seen l ss opening v = record {
 }
 
 -- a table as callers see it
-abbrev pub view_of : Table LockedNumber → World
+abbrev pub view_of : Table Guarded → World
 view_of t = seen t.machine.lock t.stages t.opening t.machine.value

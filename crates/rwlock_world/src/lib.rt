@@ -2,7 +2,7 @@
 //! of their steps.
 #![tactic(auto)]
 
-mod number;
+mod guarded;
 mod world;
 
 pub use world::{MOST_READERS, MOST_STARVED_FOR_THE_TURN, World};

@@ -12,7 +12,7 @@ ghost use Rattle.rwlock_world.specs.Steps.{Steps};
 ghost use Rattle.rwlock_world.specs.Laws.{IsSound, IsAwake, IsTurnWanted, IsReadingWanted, IsWritingWanted, is_at_rest};
 ghost use Rattle.rwlock_world.specs.Bound.{IsTurnBounded, IsReadingBounded, IsWritingBounded};
 
-use crate::number::LockedNumber;
+use crate::guarded::Guarded;
 use lock_event::Entry;
 use lock_frame::AnyWorld;
 use lock_table::Table;
@@ -30,7 +30,7 @@ pub const MOST_READERS: u32 = 1_073_741_823;
 /// A read-write lock over a number, its parties, and their calls.
 #[derive(Drop)]
 pub struct World {
-    table: Table<LockedNumber>,
+    table: Table<Guarded>,
 }
 
 impl Model for World {
@@ -82,10 +82,10 @@ impl World {
     {
         let starved = starved.min(MOST_STARVED_FOR_THE_TURN);
         let readers = readers.min(MOST_READERS);
-        let Ok(number) = LockedNumber::new(alloc, parties, value, starved, readers) else {
+        let Ok(guarded) = Guarded::new(alloc, parties, value, starved, readers) else {
             return Err(Refusal::Memory);
         };
-        match Table::new(alloc, number, parties, value) {
+        match Table::new(alloc, guarded, parties, value) {
             Ok(table) => Ok(World { table }),
             Err(_) => Err(Refusal::Memory),
         }

@@ -6,7 +6,7 @@ use Rattle.lock_table.proofs.Views.{rest_seen}
 use Rattle.rwlock_world.specs.Laws.{is_at_rest}
 use Rattle.rwlock_world.specs.Lending.{world_with}
 use Rattle.rwlock_world.specs.View.{verdict_of}
-use Rattle.rwlock_world.proofs.Sound.{put_seen}
+use Rattle.rwlock_world.proofs.laws.Sound.{put_seen}
 use Rattle.rwlock_world.proofs.world.World.get_mut.Goals as goal
 
 pub value_mut-requires : goal.value_mut-requires

@@ -2,12 +2,12 @@
 use Rattle.std.proofs.Common.{ap, ◌∙◌}
 use Rattle.mutex_machine.specs.Mutex.{holders}
 use Rattle.rwlock_machine.specs.Machine.{RwLock}
-use Rattle.rwlock_world.specs.Number.{LockedNumber}
+use Rattle.rwlock_world.specs.Guarded.{Guarded}
 use Rattle.rwlock_world.specs.State.{is_nobody}
-use Rattle.rwlock_world.proofs.Sound.{held_seen}
+use Rattle.rwlock_world.proofs.laws.Sound.{held_seen}
 use Rattle.rwlock_world.proofs.world.World.is_turn_held.Goals as goal
 
 pub returns : goal.returns
 returns c =
-    held_seen c.self.inside.table.machine.lock c.is_held.result (c.is_held.ensures ∙ ap holders (c.turn.ensures ∙ ap (λ (l : RwLock). l.turn) (c.lock.ensures ∙ ap (λ (x : LockedNumber). x.lock) c.machine.ensures)))
+    held_seen c.self.inside.table.machine.lock c.is_held.result (c.is_held.ensures ∙ ap holders (c.turn.ensures ∙ ap (λ (l : RwLock). l.turn) (c.lock.ensures ∙ ap (λ (x : Guarded). x.lock) c.machine.ensures)))
     ∙ ap (λ w. is_nobody w.state.turn) c.self.view_is

@@ -1,5 +1,5 @@
 -- Solo polls in turn.
-use Rattle.rwlock_world.proofs.Bound.{turn_bounded, reading_bounded, writing_bounded}
+use Rattle.rwlock_world.proofs.bound.Bound.{turn_bounded, reading_bounded, writing_bounded}
 use Rattle.rwlock_world.proofs.world.World.solo_polls.Goals as goal
 
 pub returns : goal.returns

@@ -3,11 +3,11 @@ use Rattle.std.proofs.Common.{ap, sym, ◌∙◌}
 use Rattle.mutex_machine.specs.Mutex.{starved}
 use Rattle.lock_world.specs.Rosters.{how_many}
 use Rattle.rwlock_machine.specs.Machine.{RwLock}
-use Rattle.rwlock_world.specs.Number.{LockedNumber}
+use Rattle.rwlock_world.specs.Guarded.{Guarded}
 use Rattle.mutex_machine.proofs.Holders.{how_many_counted}
 use Rattle.rwlock_world.proofs.world.World.starved.Goals as goal
 
 pub returns : goal.returns
 returns c =
     c.starved.ensures
-    ∙ (ap starved (c.turn.ensures ∙ ap (λ (l : RwLock). l.turn) (c.lock.ensures ∙ ap (λ (x : LockedNumber). x.lock) c.machine.ensures)) ∙ (sym (how_many_counted c.self.inside.table.machine.lock.turn.courses) ∙ ap (λ w. how_many w.state.starved) c.self.view_is))
+    ∙ (ap starved (c.turn.ensures ∙ ap (λ (l : RwLock). l.turn) (c.lock.ensures ∙ ap (λ (x : Guarded). x.lock) c.machine.ensures)) ∙ (sym (how_many_counted c.self.inside.table.machine.lock.turn.courses) ∙ ap (λ w. how_many w.state.starved) c.self.view_is))

@@ -1,5 +1,5 @@
 -- The table's step is legal, and answered at once where it should be, as callers see it.
-use Rattle.rwlock_world.proofs.Stepping.{stepped}
+use Rattle.rwlock_world.proofs.step.Stepping.{stepped}
 use Rattle.rwlock_world.proofs.world.World.step.Goals as goal
 
 pub returns : goal.returns

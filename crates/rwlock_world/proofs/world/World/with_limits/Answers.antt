@@ -3,7 +3,7 @@ use Rattle.std.proofs.Common.{◌≡◌, ℕ, ap, ◌∙◌}
 use Rattle.lock_table.specs.Tables.{new_table}
 use Rattle.rwlock_world.specs.State.{new_world}
 use Rattle.rwlock_world.specs.View.{view_of}
-use Rattle.rwlock_world.proofs.Opening.{starts_new}
+use Rattle.rwlock_world.proofs.table.Opening.{starts_new}
 use Rattle.rwlock_world.proofs.world.World.with_limits.Goals as goal
 
 same_limits : (parties value s t r q : ℕ) → s ≡ t → r ≡ q → new_world parties s r value ≡ new_world parties t q value

@@ -1,5 +1,5 @@
 -- What follows from a step of the World.
-use Rattle.rwlock_world.proofs.WorldLaws as law
+use Rattle.rwlock_world.proofs.laws.WorldLaws as law
 use Rattle.rwlock_world.proofs.world.WorldAnyWorld.step_laws.Goals as goal
 
 pub returns : goal.returns

@@ -1,0 +1,4 @@
+-- Solo polls in turn.
+pub mod Alone
+pub mod AloneSeen
+pub mod Bound

@@ -1,0 +1,25 @@
+-- An action of one party is one of its program, and leaves each party where it may stand.
+use Rattle.std.proofs.Common.{◌≡◌, ◌<◌, None, sym, ◌∙◌, refl, subst}
+use Rattle.lock_world.specs.Frame.{put_in}
+use Rattle.lock_world.specs.declared.standing.Rest.TheVariants.{Holding}
+use Rattle.lock_table.specs.Stages.{stage_after}
+use Rattle.lock_table.specs.Tables.{Keeps, Called}
+use Rattle.rwlock_world.specs.Guarded.{Guarded, parties, knows, Stands, Moves}
+use Rattle.rwlock_world.proofs.table.Kept.{acted, kept}
+use Rattle.rwlock_world.proofs.guarded.GuardedMachine.act.Goals as goal
+
+pub returns-in-None-clause-acts : goal.returns-in-None-clause-acts
+returns-in-None-clause-acts c =
+    let none : put_in c.args.what ≡ None = sym c.put_by.ensures ∙ c.in-None.is in
+    let x : Guarded = record { lock = c.self.inside.lock; value = c.self.inside.value } in
+    let y : Guarded = record { lock = c.carry_out-next.new.lock; value = c.self.inside.value } in
+    rw (← c.self.view_is) (acted x y c.args.party c.args._within c.args.what c.answer_to.result c.carry_out-next.result none c.carry_out-next.ensures.acts c.answer_to.ensures refl)
+
+pub returns-in-None-clause-keeps : goal.returns-in-None-clause-keeps
+returns-in-None-clause-keeps c =
+    let x : Guarded = record { lock = c.self.inside.lock; value = c.self.inside.value } in
+    let y : Guarded = record { lock = c.carry_out-next.new.lock; value = c.self.inside.value } in
+    let Q : Guarded → Type 0 = λ z. c.args.party < parties z → Called knows Stands z c.args.party c.args._within c.args.what → Moves z c.args.party c.args._within c.args.what c.answer_to.result y
+    → Keeps parties Stands z c.args.party (stage_after Holding c.args._within c.answer_to.result) y in
+    let q : Q x = kept x y c.args.party c.args._within c.args.what c.answer_to.result c.laws.ensures in
+    subst Q c.self.view_is q c.requires.known c.requires.called (returns-in-None-clause-acts c)

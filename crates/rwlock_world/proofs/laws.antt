@@ -1,0 +1,3 @@
+-- What always holds.
+pub mod Sound
+pub mod WorldLaws

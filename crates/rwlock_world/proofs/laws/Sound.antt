@@ -1,0 +1,378 @@
+-- What always holds of a read-write lock's World, and that no notification is lost at rest.
+use Rattle.std.proofs.Common.{◌≡◌, ℕ, ◌<◌, ◌≤◌, ◌⊎◌, inl, inr, Bool, true, false, List, [], ◌∷◌, length, zero, suc, Option, Some, None, refl, arith, ap, sym, ◌∙◌, subst}
+use Rattle.std.specs.List.{list_all, sum_by}
+use Rattle.std.proofs.lemmas.List.Sums.{sum_by-cons}
+use Rattle.lock_event.specs.Lists.{IsMarkedFirst}
+use Rattle.lock_queue.specs.Parties.{entries_of}
+use Rattle.lock_world.specs.declared.standing.Rest.TheVariants as rest
+use Rattle.lock_world.specs.declared.standing.Stage.{Stage}
+use Rattle.lock_world.specs.declared.standing.Stage.TheVariants.{Outside, Inside, Forgotten}
+use Rattle.lock_world.specs.Standings.{outside, forgotten, is_outside_stage}
+use Rattle.lock_world.specs.Rights.{Right, read, upgradable, write, wait_to_write, excludes}
+use Rattle.mutex_machine.specs.Course.{Course as TurnCourse, counted, is_resting as rests_in_turn}
+use Rattle.mutex_machine.specs.Mutex.{course_at as turn_at, is_counted, holder_of}
+use Rattle.mutex_machine.specs.Mutex as lock
+use Rattle.mutex_machine.proofs.Callers.{out_rests, holding_rests, waiting_rests}
+use Rattle.mutex_machine.proofs.Holders as sees
+use Rattle.rwlock_machine.specs.declared.program.Ending.TheVariants as ending
+use Rattle.rwlock_machine.specs.declared.program.Place.{Place}
+use Rattle.rwlock_machine.specs.declared.program.Place.TheVariants as place
+use Rattle.rwlock_machine.specs.Roles.{bit, reads, marks, has_turn, fits_turn, is_resting}
+use Rattle.rwlock_machine.specs.Roles as roles
+use Rattle.rwlock_machine.specs.Machine.{RwLock, place_at}
+use Rattle.rwlock_machine.specs.Acts.{IsRwLock, IsAtRest, writers, marked}
+use Rattle.rwlock_machine.proofs.Places.{share as share_in}
+use Rattle.lock_table.specs.Stages.{stage_at}
+use Rattle.rwlock_world.specs.Stages.{goes_with}
+use Rattle.lock_table.specs.Tables.{Table}
+use Rattle.rwlock_world.specs.State as state
+use Rattle.rwlock_world.specs.State.{ListName, for_the_turn, for_no_readers, for_no_writer, list_of, Turn, nobody, passes, is_upgradable, waits_to_write, writes, World, standing_of, is_marked, entries_in, HasTurn}
+use Rattle.rwlock_world.specs.Legal.{HasItsOwn}
+use Rattle.rwlock_world.specs.Laws.{HasRight, IsSound, is_at_rest, IsAwake}
+use Rattle.rwlock_world.specs.Lending.{world_with}
+use Rattle.lock_table.specs.Lending.{table_with}
+use Rattle.rwlock_world.specs.Stays.{future_rests, guard_rests}
+use Rattle.rwlock_world.specs.Guarded.{Guarded, with_value}
+use Rattle.rwlock_world.specs.Steps.{IsRwLockTable}
+use Rattle.rwlock_world.specs.View.{verdict_of, Share, passing, upgrading, waiting, writing, turn_as, share_of, turn_by, is_reading, standing_at, view_of}
+use Rattle.rwlock_world.proofs.table.Begun.{at_out}
+use Rattle.lock_table.proofs.Lending.{lent_seen}
+use Rattle.lock_table.proofs.Views.{rest_seen, outside_at}
+use Rattle.lock_table.proofs.Past.{inside_or_past}
+use Rattle.rwlock_world.proofs.table.Views as view
+use Rattle.rwlock_world.proofs.table.Views.{Fits}
+use Rattle.rwlock_world.proofs.step.Owns as owns
+use Rattle.rwlock_world.proofs.rights.Inside as calls
+
+-- ---- rights
+
+turn_eq : (a b : ℕ) → passes a ≡ passes b → a ≡ b
+turn_eq a b e = cc
+
+-- a party with the turn for a right, and what its place says then
+upgrades_there : (x : Place) → share_of x ≡ upgrading → is_reading x ≡ true
+upgrades_there place.Upgradable e = refl
+upgrades_there place.TryUpgrade e = refl
+upgrades_there place.Upgrade e = refl
+upgrades_there place.DropUpgradable e = refl
+upgrades_there (place.ReleaseTurn ending.Reading) e = refl
+upgrades_there place.DownNotify e = refl
+upgrades_there _ e = absurd (cc)
+
+writes_there : (x : Place) → share_of x ≡ writing → roles.writes x ≡ 1
+writes_there place.Writing e = refl
+writes_there place.LeaveNoReaders e = refl
+writes_there place.DropWrite e = refl
+writes_there (place.Down keeps) e = refl
+writes_there (place.ReleaseTurn ending.Reading) e = absurd (cc)
+writes_there _ e = absurd (cc)
+
+pub marks_there : (x : Place) → (share_of x ≡ waiting) ⊎ (share_of x ≡ writing) → marks x ≡ 1
+marks_there x (inl e) = waits_mark x e where
+  waits_mark : (x : Place) → share_of x ≡ waiting → marks x ≡ 1
+  waits_mark (place.JoinNoReaders u) e = refl
+  waits_mark (place.LookNoReaders u) e = refl
+  waits_mark (place.AskNoReaders u) e = refl
+  waits_mark (place.AwaitNoReaders u) e = refl
+  waits_mark (place.LookUnlisted u) e = refl
+  waits_mark place.CancelAwait e = refl
+  waits_mark (place.Unmark r) e = refl
+  waits_mark (place.ReleaseTurn ending.Reading) e = absurd (cc)
+  waits_mark _ e = absurd (cc)
+marks_there x (inr e) = writes_mark x e where
+  writes_mark : (x : Place) → share_of x ≡ writing → marks x ≡ 1
+  writes_mark place.Writing e = refl
+  writes_mark place.LeaveNoReaders e = refl
+  writes_mark place.DropWrite e = refl
+  writes_mark (place.Down keeps) e = refl
+  writes_mark (place.ReleaseTurn ending.Reading) e = absurd (cc)
+  writes_mark _ e = absurd (cc)
+
+as_up : (q p : ℕ) (s : Share) → turn_as q s ≡ is_upgradable p → (q ≡ p) × (s ≡ upgrading)
+as_up q p passing e = absurd (cc)
+as_up q p upgrading e = (cc, refl)
+as_up q p waiting e = absurd (cc)
+as_up q p writing e = absurd (cc)
+
+as_writes : (q p : ℕ) (s : Share) → turn_as q s ≡ writes p → (q ≡ p) × (s ≡ writing)
+as_writes q p passing e = absurd (cc)
+as_writes q p upgrading e = absurd (cc)
+as_writes q p waiting e = absurd (cc)
+as_writes q p writing e = (cc, refl)
+
+up_at : (h : Option ℕ) (xs : List Place) (p : ℕ) → turn_by h xs ≡ is_upgradable p → share_of (place_at xs p) ≡ upgrading
+up_at None xs p e = absurd (cc)
+up_at (Some q) xs p e = let b = as_up q p (share_of (place_at xs q)) e in subst (λ (j : ℕ). share_of (place_at xs j) ≡ upgrading) b.0 b.1
+
+writes_at : (h : Option ℕ) (xs : List Place) (p : ℕ) → turn_by h xs ≡ writes p → share_of (place_at xs p) ≡ writing
+writes_at None xs p e = absurd (cc)
+writes_at (Some q) xs p e = let b = as_writes q p (share_of (place_at xs q)) e in subst (λ (j : ℕ). share_of (place_at xs j) ≡ writing) b.0 b.1
+
+-- whoever has the turn has it alone
+same_turn : (t : Turn) (p q : ℕ) → HasTurn t p → HasTurn t q → p ≡ q
+same_turn nobody p q h k = absurd h
+same_turn (passes r) p q h k = sym h ∙ k
+same_turn (is_upgradable r) p q h k = sym h ∙ k
+same_turn (waits_to_write r) p q h k = sym h ∙ k
+same_turn (writes r) p q h k = sym h ∙ k
+
+up_has : (t : Turn) (p : ℕ) → t ≡ is_upgradable p → HasTurn t p
+up_has t p e = rw e refl
+
+waits_has : (t : Turn) (p : ℕ) → t ≡ waits_to_write p → HasTurn t p
+waits_has t p e = rw e refl
+
+writes_has : (t : Turn) (p : ℕ) → t ≡ writes p → HasTurn t p
+writes_has t p e = rw e refl
+
+-- a reader beside a writer there is none
+excluded : (w : World) → ((p q : ℕ) → w.state.turn ≡ writes p → state.reads w q ≡ true → ⊥) → (p q : ℕ) (r s : Right) → HasRight w p r → HasRight w q s → excludes r s ≡ true → p ≡ q
+excluded w alone p q write read a b e = absurd (alone p q a b)
+excluded w alone p q read write a b e = absurd (alone q p b a)
+excluded w alone p q write write a b e = same_turn w.state.turn p q (writes_has w.state.turn p a) (writes_has w.state.turn q b)
+excluded w alone p q write upgradable a b e = same_turn w.state.turn p q (writes_has w.state.turn p a) (up_has w.state.turn q b)
+excluded w alone p q upgradable write a b e = same_turn w.state.turn p q (up_has w.state.turn p a) (writes_has w.state.turn q b)
+excluded w alone p q upgradable upgradable a b e = same_turn w.state.turn p q (up_has w.state.turn p a) (up_has w.state.turn q b)
+excluded w alone p q upgradable wait_to_write a b e = same_turn w.state.turn p q (up_has w.state.turn p a) (waits_has w.state.turn q b)
+excluded w alone p q wait_to_write upgradable a b e = same_turn w.state.turn p q (waits_has w.state.turn p a) (up_has w.state.turn q b)
+excluded w alone p q wait_to_write wait_to_write a b e = same_turn w.state.turn p q (waits_has w.state.turn p a) (waits_has w.state.turn q b)
+excluded w alone p q wait_to_write write a b e = same_turn w.state.turn p q (waits_has w.state.turn p a) (writes_has w.state.turn q b)
+excluded w alone p q write wait_to_write a b e = same_turn w.state.turn p q (writes_has w.state.turn p a) (waits_has w.state.turn q b)
+excluded w alone p q read read a b e = absurd (cc)
+excluded w alone p q read upgradable a b e = absurd (cc)
+excluded w alone p q read wait_to_write a b e = absurd (cc)
+excluded w alone p q upgradable read a b e = absurd (cc)
+excluded w alone p q wait_to_write read a b e = absurd (cc)
+excluded w alone p q read _ a b e = absurd b
+excluded w alone p q write _ a b e = absurd b
+excluded w alone p q upgradable _ a b e = absurd b
+excluded w alone p q wait_to_write _ a b e = absurd b
+excluded w alone p q _ s a b e = absurd a
+
+true_one : (b : Bool) (n : ℕ) → bit b ≡ n → b ≡ true → n ≡ 1
+true_one b n e h = sym e ∙ ap bit h
+
+module _ (t : Table Guarded) (laws : IsRwLock t.machine.lock) (fits : IsRwLockTable t) where
+  abbrev w : World
+  w = view_of t
+
+  alone : (p q : ℕ) → w.state.turn ≡ writes p → state.reads w q ≡ true → ⊥
+  alone p q a b =
+      let there = writes_there (place_at t.machine.lock.places p) (writes_at (holder_of t.machine.lock.turn) t.machine.lock.places p a) in
+      let none : reads (place_at t.machine.lock.places q) ≡ 0 = laws.writes_apart p q there in
+      let one : reads (place_at t.machine.lock.places q) ≡ 1 = true_one (is_reading (place_at t.machine.lock.places q)) (reads (place_at t.machine.lock.places q)) (view.reading_bit (place_at t.machine.lock.places q)) (sym (view.reads_at t.machine.lock.places q) ∙ b) in
+      omega arith
+
+  pub sound : IsSound w
+  sound = record {
+    exclusion = excluded w alone;
+    upgradable_reads = λ p e. view.reads_at t.machine.lock.places p ∙ upgrades_there (place_at t.machine.lock.places p) (up_at (holder_of t.machine.lock.turn) t.machine.lock.places p e);
+    none_while_writing = λ p e.
+        let there = writes_there (place_at t.machine.lock.places p) (writes_at (holder_of t.machine.lock.turn) t.machine.lock.places p e) in
+        let some : 0 < writers t.machine.lock = omega (arith, share_in roles.writes refl t.machine.lock.places p, there) in
+        view.how_many-read t.machine.lock.places ∙ laws.alone some;
+    each = owns.each t.machine.lock t.stages t.opening t.machine.value laws fits;
+    inside_calls = calls.inside_calls t.machine.lock t.stages t.opening t.machine.value fits;
+    drops_seek_nothing = calls.drops_seek_nothing t.machine.lock t.stages t.opening t.machine.value fits;
+    as_many_seek = calls.as_many_seek t.machine.lock t.stages t.opening t.machine.value fits;
+    few_starved = rw (sees.how_many_counted) laws.turn.few_starved;
+    once = λ p. omega (arith, laws.one_entry p);
+    in_order = by_list;
+  } where
+    by_list : (list : ListName) → IsMarkedFirst (list_of w list)
+    by_list for_the_turn = laws.turn.in_order
+    by_list for_no_readers = laws.in_order_no_readers
+    by_list for_no_writer = laws.in_order_no_writer
+
+-- ---- at rest
+
+-- a party that is outside every call rests
+rests : (s : Stage) (x : Place) → goes_with s x ≡ true → is_outside_stage s ≡ true → is_resting x ≡ true
+rests (Outside rest.Idle) x g o = at_out (λ x. is_resting x ≡ true) refl x g
+rests (Outside rest.Pending) x g o = future_rests x g
+rests (Outside rest.Holding) x g o = guard_rests x g
+rests (Outside rest.Finished) x g o = absurd (cc)
+rests (Inside u) x g o = absurd (cc)
+rests Forgotten x g o = g
+
+past_out : (xs : List Place) (p : ℕ) → (p < length xs) ⊎ (place_at xs p ≡ place.Out)
+past_out [] p = inr refl
+past_out (x ∷ xs) zero = inl (omega arith)
+past_out (x ∷ xs) (suc p) = elim (past_out xs p) as (λ _. (suc p < length (x ∷ xs)) ⊎ (place_at xs p ≡ place.Out)) [ inl h ↦ inl (omega arith) | inr h ↦ inr h ]
+
+pub all_rest : (l : RwLock) (ss : List Stage) (v : ℕ) → Fits l ss v → list_all is_outside_stage ss ≡ true → IsAtRest l
+all_rest l ss v fits resting p = elim (past_out l.places p) as (λ _. is_resting (place_at l.places p) ≡ true) [
+  | inl h ↦ (let known : p < length ss = omega (arith, fits.as_many, h) in rests (stage_at ss p) (place_at l.places p) (fits.stands p known) (outside_at ss resting p))
+  | inr e ↦ rw e refl
+]
+
+-- and in the turn
+rests_there : (x : Place) (t : TurnCourse) → is_resting x ≡ true → fits_turn x t ≡ true → rests_in_turn t ≡ true
+rests_there place.Out t h e = out_rests t e
+rests_there (place.Made w) t h e = out_rests t e
+rests_there place.Reading t h e = out_rests t e
+rests_there place.Upgradable t h e = holding_rests t e
+rests_there place.Writing t h e = holding_rests t e
+rests_there place.AskNoWriter t h e = out_rests t e
+rests_there (place.WaitTurn p) t h e = waiting_rests t e
+rests_there (place.AwaitNoReaders u) t h e = holding_rests t e
+rests_there (place.LookUnlisted u) t h e = holding_rests t e
+rests_there _ t h e = absurd (cc)
+
+turns_rest : (ts : List TurnCourse) → ((p : ℕ) → rests_in_turn (turn_at ts p) ≡ true) → lock.IsAtRest ts
+turns_rest [] h = tt
+turns_rest (t ∷ ts) h = (h 0, turns_rest ts (λ p. h (suc p)))
+
+-- nobody waits to write or writes where nobody is seen to
+marks_bit : (x : Place) → marks x ≤ 1
+marks_bit place.Writing = omega arith
+marks_bit _ = omega arith
+
+first_or_more : (x : Place) (xs : List Place) (n : ℕ) → marks x ≡ n → 0 < sum_by marks (x ∷ xs) → (0 < sum_by marks xs → (p : ℕ) × (marks (place_at xs p) ≡ 1)) → (p : ℕ) × (marks (place_at (x ∷ xs) p) ≡ 1)
+first_or_more x xs zero e h more = let it = more (omega (arith, sum_by-cons marks x xs, e, h)) in (suc it.0, it.1)
+first_or_more x xs (suc n) e h more = (0, omega (arith, marks_bit x, e))
+
+marking_place : (xs : List Place) → (0 < sum_by marks xs) → (p : ℕ) × (marks (place_at xs p) ≡ 1)
+marking_place [] h = absurd (omega arith)
+marking_place (x ∷ xs) h = first_or_more x xs (marks x) refl h (marking_place xs)
+
+marks_share : (x : Place) → marks x ≡ 1 → (share_of x ≡ waiting) ⊎ (share_of x ≡ writing)
+marks_share (place.JoinNoReaders u) e = inl refl
+marks_share (place.LookNoReaders u) e = inl refl
+marks_share (place.AskNoReaders u) e = inl refl
+marks_share (place.AwaitNoReaders u) e = inl refl
+marks_share (place.LookUnlisted u) e = inl refl
+marks_share place.CancelAwait e = inl refl
+marks_share (place.Unmark r) e = inl refl
+marks_share place.Writing e = inr refl
+marks_share place.LeaveNoReaders e = inr refl
+marks_share place.DropWrite e = inr refl
+marks_share (place.Down keeps) e = inr refl
+marks_share _ e = absurd (omega arith)
+
+marked_as : (p : ℕ) (s : Share) → (s ≡ waiting) ⊎ (s ≡ writing) → is_marked (turn_as p s) ≡ true
+marked_as p s (inl e) = rw e refl
+marked_as p s (inr e) = rw e refl
+
+as_marked : (p : ℕ) (s : Share) → is_marked (turn_as p s) ≡ true → (s ≡ waiting) ⊎ (s ≡ writing)
+as_marked p passing e = absurd (cc)
+as_marked p upgrading e = absurd (cc)
+as_marked p waiting e = inl refl
+as_marked p writing e = inr refl
+
+has_marks : (x : Place) → marks x ≡ 1 → has_turn x ≡ 1
+has_marks (place.JoinNoReaders u) e = refl
+has_marks (place.LookNoReaders u) e = refl
+has_marks (place.AskNoReaders u) e = refl
+has_marks (place.AwaitNoReaders u) e = refl
+has_marks (place.LookUnlisted u) e = refl
+has_marks place.CancelAwait e = refl
+has_marks (place.Unmark r) e = refl
+has_marks place.Writing e = refl
+has_marks place.LeaveNoReaders e = refl
+has_marks place.DropWrite e = refl
+has_marks (place.Down keeps) e = refl
+has_marks _ e = absurd (omega arith)
+
+zero_or : (n : ℕ) → (n ≡ 0) ⊎ (0 < n)
+zero_or zero = inl refl
+zero_or (suc n) = inr (omega arith)
+
+-- the bit is set exactly where a party is seen to wait to write, or to write
+pub bit_seen : (l : RwLock) (ss : List Stage) (opening v : ℕ) (laws : IsRwLock l) (fits : Fits l ss v) → is_marked (turn_by (holder_of l.turn) l.places) ≡ false → marked l ≡ 0
+bit_seen l ss opening v laws fits none = elim (zero_or (marked l)) as (λ _. marked l ≡ 0) [
+  | inl e ↦ e
+  | inr some ↦ (let m = marking_place l.places some in
+      let turn = owns.turn_is l ss opening v laws fits m.0 (has_marks (place_at l.places m.0) m.1) in
+      let set : is_marked (turn_by (holder_of l.turn) l.places) ≡ true = ap is_marked turn ∙ marked_as m.0 (share_of (place_at l.places m.0)) (marks_share (place_at l.places m.0) m.1) in
+      absurd (cc))
+]
+
+unmarked_by : (h : Option ℕ) (xs : List Place) → sum_by marks xs ≡ 0 → is_marked (turn_by h xs) ≡ false
+unmarked_by None xs e = refl
+unmarked_by (Some p) xs e = by_test (is_marked (turn_as p (share_of (place_at xs p)))) refl where
+  by_test : (b : Bool) → is_marked (turn_as p (share_of (place_at xs p))) ≡ b → is_marked (turn_as p (share_of (place_at xs p))) ≡ false
+  by_test false h = h
+  by_test true h = let one = marks_there (place_at xs p) (as_marked p (share_of (place_at xs p)) h) in absurd (omega (arith, one, e, share_in marks refl xs p))
+
+pub none_marked : (l : RwLock) → marked l ≡ 0 → is_marked (turn_by (holder_of l.turn) l.places) ≡ false
+none_marked l e = unmarked_by (holder_of l.turn) l.places e
+
+pub nobody_holds : (h : Option ℕ) (xs : List Place) → turn_by h xs ≡ nobody → h ≡ None
+nobody_holds None xs e = refl
+nobody_holds (Some p) xs e = absurd (by_share (share_of (place_at xs p)) e) where
+  by_share : (s : Share) → turn_as p s ≡ nobody → ⊥
+  by_share passing e = cc
+  by_share upgrading e = cc
+  by_share waiting e = cc
+  by_share writing e = cc
+
+module _ (t : Table Guarded) (laws : IsRwLock t.machine.lock) (fits : IsRwLockTable t) where
+  abbrev seen_as : World
+  seen_as = view_of t
+
+  -- a listed party that is outside every call is pending, or was
+  pends : (p : ℕ) (s : Stage) → standing_of seen_as p ≡ standing_at t.machine.value s (place_at t.machine.lock.places p) (turn_at t.machine.lock.turn.courses p) → is_outside_stage s ≡ true → 0 < entries_in seen_as p → HasItsOwn seen_as p (standing_of seen_as p)
+      → (standing_of seen_as p ≡ outside rest.Pending) ⊎ (standing_of seen_as p ≡ forgotten)
+  pends p (Outside rest.Idle) e o some own = let k : HasItsOwn seen_as p (outside rest.Idle) = rw e at own in absurd (omega (arith, k.0.0, some))
+  pends p (Outside rest.Pending) e o some own = inl e
+  pends p (Outside rest.Holding) e o some own = let k : HasItsOwn seen_as p (outside rest.Holding) = rw e at own in absurd (omega (arith, k.0.0, some))
+  pends p (Outside rest.Finished) e o some own = let k : HasItsOwn seen_as p (outside rest.Finished) = rw e at own in absurd (omega (arith, k.0.0, some))
+  pends p (Inside u) e o some own = absurd (cc)
+  pends p Forgotten e o some own = inr e
+
+  pub awake : is_at_rest seen_as ≡ true → IsAwake seen_as
+  awake resting =
+      let out : list_all is_outside_stage t.stages ≡ true = sym (rest_seen (verdict_of t.machine) t.stages) ∙ resting in
+      let quiet : IsAtRest t.machine.lock = all_rest t.machine.lock t.stages t.machine.value fits out in
+      let stood = owns.stood t.machine.lock t.stages t.opening t.machine.value laws fits in
+      let each = owns.each t.machine.lock t.stages t.opening t.machine.value laws fits in
+      record {
+        turn_marked = λ free. laws.wakes_turn quiet (sees.none_holds 0 t.machine.lock.turn.courses (nobody_holds (holder_of t.machine.lock.turn) t.machine.lock.places free.0)) free.1;
+        reading_marked = λ free. laws.wakes_no_writer quiet (bit_seen t.machine.lock t.stages t.opening t.machine.value laws fits free.0) free.1;
+        writing_marked = λ free. laws.wakes_no_readers quiet (sym (view.how_many-read t.machine.lock.places) ∙ free.0) free.1;
+        pending = λ p some. elim (inside_or_past t.stages p) as (λ _. (standing_of seen_as p ≡ outside rest.Pending) ⊎ (standing_of seen_as p ≡ forgotten)) [
+          | inl known ↦ pends p (stage_at t.stages p) (stood p) (outside_at t.stages out p) some (each p)
+          | inr past ↦ inr (stood p ∙ ap (λ s. standing_at t.machine.value s (place_at t.machine.lock.places p) (turn_at t.machine.lock.turn.courses p)) past.1)
+        ];
+        starved = λ p counts.
+            let ts = t.machine.lock.turn.courses in
+            let one : counted (turn_at ts p) ≡ 1 = true_one (is_counted (turn_at ts p)) (counted (turn_at ts p)) (sees.counted_bit (turn_at ts p)) (sym (sees.starved_at ts p) ∙ counts) in
+            let listed_once : entries_of p t.machine.lock.turn.entries ≡ 1 = laws.turn.starved_listed (turns_rest ts (λ q. rests_there (place_at t.machine.lock.places q) (turn_at ts q) (quiet q) (laws.in_turn q))) p one in
+            omega (arith, listed_once);
+      }
+
+-- ---- a value put at rest
+
+-- a table whose value was put is seen as the World in which it was
+pub put_seen : (t : Table Guarded) (v : ℕ) → list_all is_outside_stage t.stages ≡ true → view_of (table_with with_value t v) ≡ world_with (view_of t) v
+put_seen t v resting = let all = lent_seen (verdict_of t.machine) (verdict_of (with_value t.machine v)) t.stages resting in cc
+
+-- ---- the words
+
+bit_is : (b c : Bool) → (c ≡ false → bit b ≡ 0) → (bit b ≡ 0 → c ≡ false) → b ≡ c
+bit_is true true h k = refl
+bit_is false false h k = refl
+bit_is true false h k = absurd (omega (arith, h refl))
+bit_is false true h k = sym (k refl)
+
+-- the writer's bit
+pub marked_seen : (l : RwLock) (ss : List Stage) (opening v : ℕ) (laws : IsRwLock l) (fits : Fits l ss v) (b : Bool) → bit b ≡ marked l → b ≡ is_marked (turn_by (holder_of l.turn) l.places)
+marked_seen l ss opening v laws fits b e = bit_is b (is_marked (turn_by (holder_of l.turn) l.places)) (λ n. e ∙ bit_seen l ss opening v laws fits n) (λ n. none_marked l (sym e ∙ n))
+
+nobody_test : (h : Option ℕ) (xs : List Place) → state.is_nobody (turn_by h xs) ≡ Rattle.std.specs.Prelude.is_none h
+nobody_test None xs = refl
+nobody_test (Some p) xs = by_share (share_of (place_at xs p)) where
+  by_share : (s : Share) → state.is_nobody (turn_as p s) ≡ false
+  by_share passing = refl
+  by_share upgrading = refl
+  by_share waiting = refl
+  by_share writing = refl
+
+none_test : (h : Option ℕ) → Rattle.std.specs.Prelude.not (Rattle.std.specs.Prelude.is_some h) ≡ Rattle.std.specs.Prelude.is_none h
+none_test None = refl
+none_test (Some p) = refl
+
+-- the turn's word
+pub held_seen : (l : RwLock) (b : Bool) → bit b ≡ lock.holders l.turn → Rattle.std.specs.Prelude.not b ≡ state.is_nobody (turn_by (holder_of l.turn) l.places)
+held_seen l b e = ap Rattle.std.specs.Prelude.not (sees.held_seen b l.turn.courses e) ∙ (none_test (holder_of l.turn) ∙ sym (nobody_test (holder_of l.turn) l.places))

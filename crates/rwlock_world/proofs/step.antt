@@ -1,0 +1,14 @@
+-- Each move is a legal step.
+pub mod Paths
+pub mod Rows
+pub mod Owns
+pub mod Facts
+pub mod TurnSteps
+pub mod TurnFacts
+pub mod Endings
+pub mod Legals
+pub mod Idle
+pub mod Acting
+pub mod AtOnce
+pub mod Instants
+pub mod Stepping

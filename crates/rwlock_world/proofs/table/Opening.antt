@@ -1,0 +1,21 @@
+-- A new table is seen as a new World.
+use Rattle.std.proofs.Common.{◌≡◌, ℕ, refl}
+use Rattle.lock_table.specs.Tables.{new_table}
+use Rattle.lock_table.proofs.Mapped.{mapped_alike}
+use Rattle.lock_table.proofs.Views.{all_idle}
+use Rattle.mutex_machine.proofs.Callers.{new_has_no_holder, new_has_none_starved}
+use Rattle.rwlock_machine.specs.declared.program.Place.TheVariants as place
+use Rattle.rwlock_world.specs.Guarded.{new_guarded}
+use Rattle.rwlock_world.specs.Stages.{sought_at}
+use Rattle.rwlock_world.specs.State.{new_world}
+use Rattle.rwlock_world.specs.View.{is_reading, is_upgrade, verdict_of, view_of}
+
+pub starts_new : (parties starved readers value : ℕ) → view_of (new_table (new_guarded parties starved readers value) parties value) ≡ new_world parties starved readers value
+starts_new parties starved readers value =
+    let r = mapped_alike is_reading parties place.Out in
+    let u = mapped_alike is_upgrade parties place.Out in
+    let s = mapped_alike sought_at parties place.Out in
+    let h = new_has_no_holder parties starved in
+    let c = new_has_none_starved parties starved in
+    let i = all_idle parties (verdict_of (new_guarded parties starved readers value)) in
+    rw (r, u, s, h, c, i) refl
