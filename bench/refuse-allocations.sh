@@ -2,7 +2,7 @@
 # Refuses each allocation of `lockrun script` in turn, in all scripts of a folder at a time, and checks what
 # each run prints: the script's answers and status 0, or a beginning of them in whole lines,
 # `lockrun: no memory` and status 3. It stops once no script asks for so many allocations, or, with status 1,
-# at the first run that does otherwise.
+# at the first run that does otherwise. Then the same of `lockrun threads 4`.
 #
 # Run it at the top of the repository, with `rt` on the PATH: bench/refuse-allocations.sh [FOLDER].
 # FOLDER, with files NAME.script and NAME.answers, is scripts if left out, which takes some five minutes.
@@ -61,3 +61,21 @@ while [ "$refused" -gt 0 ]; do
     [ "$told" = "$refused" ] || fail "$refused scripts refused, and $told told of it"
     echo "allocation $count: refused in $refused of $total scripts"
 done
+
+# The same of `lockrun threads 4`: `4` and status 0, or nothing, what was refused, and status 3.
+count=0
+status=3
+while [ "$status" = 3 ]; do
+    count=$((count + 1))
+    rt try --fail-alloc "$count" -- threads 4 >"$work/output" 2>"$work/log" || true
+    status=$(sed -n 's/^run=ended status=\([0-9]*\) .*/\1/p' "$work/log")
+    case $status in
+    0) [ "$(cat "$work/output")" = 4 ] || fail "threads 4: another number" ;;
+    3)
+        [ ! -s "$work/output" ] || fail "threads 4: a number beside a fault"
+        grep -q '^lockrun: no memory$\|^lockrun: thread failed$' "$work/log" || fail "threads 4: no fault told"
+        ;;
+    *) fail "threads 4: ${status:+status }${status:-not run}" ;;
+    esac
+done
+echo "threads 4: each of $((count - 1)) allocations refused"
