@@ -46,9 +46,6 @@ use Rattle.rwlock_world.proofs.rights.Inside as calls
 
 -- ---- rights
 
-turn_eq : (a b : ℕ) → passes a ≡ passes b → a ≡ b
-turn_eq a b e = cc
-
 -- a party with the turn for a right, and what its place says then
 upgrades_there : (x : Place) → share_of x ≡ upgrading → is_reading x ≡ true
 upgrades_there place.Upgradable e = refl

@@ -123,10 +123,6 @@ out_of_turn w p (state.waits_to_write q) n = by_test (q == p) refl where
   by_test true h = absurd (n (same_is p q h))
   by_test false h = refl
 
-not_inside : (b : Bool) (c : Bool) → (b ≡ true → c ≡ true) → c ≡ false → b ≡ false
-not_inside true c h e = absurd (cc (h refl))
-not_inside false c h e = refl
-
 module _ (m : Move) (l k : RwLock) (ss : List Stage) (opening : ℕ) (v : ℕ) (x : Place) (n : Next) (w : Within) where
   abbrev p : ℕ
   p = m.party

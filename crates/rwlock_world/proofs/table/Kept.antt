@@ -1,5 +1,5 @@
 -- Each party may stand where it does after each action of one.
-use Rattle.std.proofs.Common.{◌≡◌, ℕ, ◌<◌, ◌&&◌, if◌then◌else◌, Bool, true, false, length, Option, Some, None, IsSome, IsSomeAnd, refl, sym, ap, subst, ◌∙◌, get_or-set_same, get_or-set_other, length-set}
+use Rattle.std.proofs.Common.{◌≡◌, ℕ, ◌<◌, ◌&&◌, if◌then◌else◌, Bool, true, false, length, Option, Some, None, IsSomeAnd, refl, sym, ap, subst, ◌∙◌, get_or-set_same, get_or-set_other, length-set}
 use Rattle.lock_world.specs.declared.moves.Answer.{Answer}
 use Rattle.lock_world.specs.declared.moves.Answer.TheVariants.{Granted}
 use Rattle.lock_world.specs.declared.moves.Call.TheVariants as call
@@ -113,10 +113,3 @@ acted x y p w what a n none acts answer value =
     let b = began (place_for what (place_of x p)) acts in
     let D : Option ℕ → Type 0 = λ o. Does o x p what a y in
     subst D (sym none) (record { from = b.0; next = n; starts = b.1; acts = b.2; answer = answer; value = value })
-
-some_is : {A : Type 0} (o : Option A) (x : A) → o ≡ Some x → IsSome o
-some_is o x e = rw e refl
-
--- a move that isn't a put begins where its party stands
-pub can_act : (x : Guarded) (p : ℕ) (w : Within) (what : What) → Called knows Stands x p w what → put_in what ≡ None → IsSome (place_for what (place_of x p))
-can_act x p w what c none = let it = moving x.value (turn_at x.lock.turn.courses p) c.stage what (place_of x p) w c.stands c.call c.first none in some_is (place_for what (place_of x p)) it.from it.starts

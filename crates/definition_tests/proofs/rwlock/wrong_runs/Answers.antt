@@ -16,9 +16,9 @@ use Rattle.lock_world.specs.Rights.{Right, read, write}
 use Rattle.lock_world.specs.Standings.{Standing, outside, inside, is_decided, is_possible}
 use Rattle.lock_world.specs.Steps.{Deed, nothing, changes, does}
 use Rattle.lock_world.proofs.Equations.{none_some, outside_inside}
-use Rattle.rwlock_world.specs.Changes.{Change, ListName, takes_turn, leaves_turn, starves, recovers, begins_to_read, stops_reading, becomes_upgradable, stops_upgradable, begins_to_wait, begins_to_write, upgrades, upgrades_at_once, unmarks, downgrades, downgrades_to_upgradable, puts, turn_after, gives_up}
+use Rattle.rwlock_world.specs.Changes.{Change, takes_turn, leaves_turn, starves, recovers, begins_to_read, stops_reading, becomes_upgradable, stops_upgradable, begins_to_wait, begins_to_write, upgrades, upgrades_at_once, unmarks, downgrades, downgrades_to_upgradable, puts, turn_after, gives_up}
 use Rattle.rwlock_world.specs.Legal.{may_meet, HasItsOwn, IsCause}
-use Rattle.rwlock_world.specs.State.{Turn, nobody, passes, waits_to_write, HasTurn, State, World, standing_of, sought_by}
+use Rattle.rwlock_world.specs.State.{ListName, Turn, nobody, passes, waits_to_write, HasTurn, State, World, standing_of, sought_by}
 use Rattle.definition_tests.proofs.rwlock.wrong_runs.Goals as goal
 
 none_possible : (a : Answer) → a ≡ answer.None → is_possible a ≡ true
