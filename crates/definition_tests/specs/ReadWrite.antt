@@ -1,5 +1,7 @@
 -- Runs of a read-write lock that no user would accept. Each record is one wrong run: what its step would be, if it were legal.
-use Rattle.std.specs.Prelude.{◌≡◌, ◌≢◌, ℕ, true, false, Some, None}
+use Rattle.std.specs.Prelude.{◌≡◌, ◌≢◌, ℕ, ◌<◌, true, false, length, Some, None}
+use Rattle.lock_event.specs.Lists.{marked_count}
+use Rattle.lock_queue.specs.Parties.{entries_of}
 use Rattle.lock_world.specs.declared.moves.Answer.{Answer}
 use Rattle.lock_world.specs.declared.moves.Answer.TheVariants as answer
 use Rattle.lock_world.specs.declared.moves.Call.{Call}
@@ -12,12 +14,13 @@ use Rattle.lock_world.specs.declared.standing.Kind.TheVariants.{Downgrade}
 use Rattle.lock_world.specs.declared.standing.Rest.{Rest}
 use Rattle.lock_world.specs.declared.standing.Rest.TheVariants.{Pending, Holding}
 use Rattle.lock_world.specs.declared.standing.Within.{Within}
+use Rattle.lock_world.specs.Frame.{is_refusal}
 use Rattle.lock_world.specs.Rights.{read, write}
 use Rattle.lock_world.specs.Standings.{outside, inside, decision, is_possible, refused}
 use Rattle.lock_world.specs.Rosters.{how_many}
 use Rattle.rwlock_world.specs.Bound.{Promises}
 use Rattle.rwlock_world.specs.Legal.{DecidesOn, list_for, may_read, is_first, IsTryWithTurn, Legal, AnswersAtOnce}
-use Rattle.rwlock_world.specs.State.{nobody, passes, waits_to_write, World, standing_of, sought_by, reads, told_in, is_starved, is_upgrader}
+use Rattle.rwlock_world.specs.State.{ListName, list_of, nobody, passes, waits_to_write, World, standing_of, sought_by, reads, told_in, is_starved, is_upgrader}
 
 -- A move of a party, and what it leads to.
 pub record Step : Type 0 where
@@ -148,3 +151,18 @@ pub record StarvesUnasked : Type 0 where
   pub unstarved : how_many old.state.starved ≡ 0
   pub starved : is_starved new party ≡ true
   pub kept : Promises old party call inputs answer new
+
+-- A listed party's poll is refused, and nobody else in its list is told: what it was told is lost.
+pub record KeepsItsTold : Type 0 where
+  pub list : ListName
+  pub old : World
+  pub party : ℕ
+  pub inputs : Inputs
+  pub answer : Answer
+  pub new : World
+  pub pending : standing_of old party ≡ outside Pending
+  pub listed : 0 < entries_of party (list_of old list)
+  pub refused : is_refusal answer ≡ true
+  pub some : 0 < length (list_of new list)
+  pub none_told : marked_count (list_of new list) ≡ 0
+  pub kept : Promises old party call.Poll inputs answer new

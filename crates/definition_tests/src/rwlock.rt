@@ -1,7 +1,7 @@
 //! Wrong runs of a read-write lock.
 
 ghost use Rattle.definition_tests.specs.Never.{Never};
-ghost use Rattle.definition_tests.specs.ReadWrite.{TriesInVain, ReadsUnready, WaitsUnlisted, PendsTooEarly, RefusedAtFirst, RefusedHavingMoved, ReadsWithTheBit, LetsGoUndecided, DowngradesThroughNothing, WriterIsUpgrade, TriesOn, WriteMeetsReaders, ReadMeetsStarved, StarvesUnasked};
+ghost use Rattle.definition_tests.specs.ReadWrite.{TriesInVain, ReadsUnready, WaitsUnlisted, PendsTooEarly, RefusedAtFirst, RefusedHavingMoved, ReadsWithTheBit, LetsGoUndecided, DowngradesThroughNothing, WriterIsUpgrade, TriesOn, WriteMeetsReaders, ReadMeetsStarved, StarvesUnasked, KeepsItsTold};
 
 /// Each clause says of one wrong run that it isn't legal.
 fn wrong_runs()
@@ -19,4 +19,5 @@ fn wrong_runs()
     ensures write_meets_readers { Never (WriteMeetsReaders) }
     ensures read_meets_starved { Never (ReadMeetsStarved) }
     ensures starves_unasked { Never (StarvesUnasked) }
+    ensures keeps_its_told { Never (KeepsItsTold) }
 {}

@@ -1,5 +1,5 @@
 -- No wrong run of a read-write lock is legal.
-use Rattle.std.proofs.Common.{◌≡◌, ℕ, ◌||◌, true, false, Option, Some, None, refl, ap, sym, ◌∙◌, subst, inl, inr}
+use Rattle.std.proofs.Common.{◌≡◌, ℕ, ◌||◌, true, false, Option, Some, None, refl, ap, sym, ◌∙◌, subst, inl, inr, arith}
 use Rattle.std.proofs.lemmas.Bool.{false≢true, true≢false}
 use Rattle.lock_world.specs.declared.moves.Answer.{Answer}
 use Rattle.lock_world.specs.declared.moves.Answer.TheVariants as answer
@@ -123,3 +123,6 @@ returns-clause-read_meets_starved c = λ r.
 
 pub returns-clause-starves_unasked : goal.returns-clause-starves_unasked
 returns-clause-starves_unasked c = λ r. true≢false (sym r.starved ∙ r.kept.unstarved r.patient r.unstarved)
+
+pub returns-clause-keeps_its_told : goal.returns-clause-keeps_its_told
+returns-clause-keeps_its_told c = λ r. let some = r.kept.hands_on r.list refl r.pending r.listed r.refused r.some in absurd (omega (arith, some, r.none_told))
