@@ -127,10 +127,7 @@ fn readers_wait_for_a_writer_and_it_for_them(rt: HostRuntime) -> Result<(), Allo
     assert!(rt; lock.no_readers_entry(1).is_none());
     expect(&rt, &mut lock, true, &[(1, Call::Poll, End::Got)]);
     assert_standing(&rt, &lock, 1, Some(Place::Writing));
-    let calls = [
-        (1, Call::Drop, End::GivenBack),
-        (2, Call::Poll, End::Got),
-    ];
+    let calls = [(1, Call::Drop, End::GivenBack), (2, Call::Poll, End::Got)];
     expect(&rt, &mut lock, true, &calls);
     Ok(())
 }
@@ -235,10 +232,7 @@ fn a_refused_upgrade_keeps_its_right(rt: HostRuntime) -> Result<(), AllocError> 
     let refused = [(0, Call::Poll, End::Refused(Refusal::Memory))];
     expect(&rt, &mut lock, false, &refused);
     assert_state(&rt, &lock, (true, true, 1));
-    let calls = [
-        (1, Call::Drop, End::GivenBack),
-        (0, Call::Poll, End::Got),
-    ];
+    let calls = [(1, Call::Drop, End::GivenBack), (0, Call::Poll, End::Got)];
     expect(&rt, &mut lock, false, &calls);
     Ok(())
 }
@@ -254,12 +248,7 @@ fn refused_futures_are_as_they_were_made(rt: HostRuntime) -> Result<(), AllocErr
     ];
     expect(&rt, &mut lock, true, &calls);
     assert_standing(&rt, &lock, 1, Some(Place::Out));
-    expect(
-        &rt,
-        &mut lock,
-        true,
-        &[(1, Call::UpgradableRead, readers)],
-    );
+    expect(&rt, &mut lock, true, &[(1, Call::UpgradableRead, readers)]);
     let refused = [(2, Call::Write, End::Refused(Refusal::Memory))];
     expect(&rt, &mut lock, false, &refused);
     let made = Place::Made {

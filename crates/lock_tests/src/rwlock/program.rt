@@ -91,13 +91,7 @@ fn calls_begin_where_their_party_stands(rt: HostRuntime) {
         ENTER_UPGRADABLE,
     );
     begins(&rt, Call::Write, Place::Out, lock, ENTER_WRITE);
-    begins(
-        &rt,
-        Call::TryRead,
-        Place::Out,
-        Action::Read,
-        Place::TryRead,
-    );
+    begins(&rt, Call::TryRead, Place::Out, Action::Read, Place::TryRead);
     for (call, purpose) in [
         (Call::TryUpgradableRead, Purpose::UpgradableRead),
         (Call::TryWrite, Purpose::Write),
@@ -112,13 +106,7 @@ fn calls_begin_where_their_party_stands(rt: HostRuntime) {
     begins(&rt, Call::Poll, asks, Action::AskNoWriter, asks);
     for purpose in [Purpose::UpgradableRead, Purpose::Write] {
         let waits = Place::WaitTurn { purpose };
-        begins(
-            &rt,
-            Call::Poll,
-            waits,
-            Action::Begin(LockCall::Poll),
-            waits,
-        );
+        begins(&rt, Call::Poll, waits, Action::Begin(LockCall::Poll), waits);
         let cancel = Action::Begin(LockCall::Cancel);
         begins(&rt, Call::Drop, waits, cancel, Place::CancelTurn);
     }
@@ -176,13 +164,7 @@ fn guards_calls_begin_where_their_party_stands(rt: HostRuntime) {
         Place::Upgrade,
     );
     let tries = Action::TryUpgrade;
-    begins(
-        &rt,
-        Call::TryUpgrade,
-        upgradable,
-        tries,
-        Place::TryUpgrade,
-    );
+    begins(&rt, Call::TryUpgrade, upgradable, tries, Place::TryUpgrade);
     let releases = Action::Begin(LockCall::Release);
     begins(
         &rt,
@@ -194,7 +176,13 @@ fn guards_calls_begin_where_their_party_stands(rt: HostRuntime) {
     let down = Place::Down { keeps_turn: false };
     begins(&rt, Call::Downgrade, writing, Action::Down, down);
     let keeps = Place::Down { keeps_turn: true };
-    begins(&rt, Call::DowngradeToUpgradable, writing, Action::Down, keeps);
+    begins(
+        &rt,
+        Call::DowngradeToUpgradable,
+        writing,
+        Action::Down,
+        keeps,
+    );
     assert_eq!(rt; start(Call::Upgrade, writing), None);
     assert_eq!(rt; start(Call::DowngradeToUpgradable, upgradable), None);
 }
@@ -244,7 +232,13 @@ fn a_reader_joins_behind_a_writer(rt: HostRuntime) {
         End::GivenBack,
         Place::Out,
     );
-    ends(&rt, Place::TryRead, Found::Done, End::Granted, Place::Reading);
+    ends(
+        &rt,
+        Place::TryRead,
+        Found::Done,
+        End::Granted,
+        Place::Reading,
+    );
     ends(&rt, Place::TryRead, Found::Writer, End::NotFree, Place::Out);
     ends(&rt, Place::TryRead, Found::Full, End::NotFree, Place::Out);
 }
@@ -406,7 +400,13 @@ fn a_writer_waits_for_the_last_reader(rt: HostRuntime) {
         Action::JoinNoReaders,
         joins,
     );
-    ends(&rt, Place::TryWrite, Found::Done, End::Granted, Place::Writing);
+    ends(
+        &rt,
+        Place::TryWrite,
+        Found::Done,
+        End::Granted,
+        Place::Writing,
+    );
     let not_free = release(WRITE_IN_VAIN);
     leads(&rt, Place::TryWrite, Found::NotFree, releases, not_free);
     for upgrade in [false, true] {
