@@ -24,6 +24,8 @@ use Rattle.lock_world.proofs.Equations.{some_none}
 use Rattle.lock_table.specs.Stages.{stage_at, stands_as, call_at, polls_again}
 use Rattle.lock_table.specs.Tables.{Table}
 use Rattle.lock_table.proofs.Calls.{call_seen, again_seen}
+use Rattle.lock_table.proofs.Mapped.{past_last}
+use Rattle.lock_table.proofs.Past.{by_stage_or_past}
 use Rattle.cell_machine.specs.declared.program.Action.{Action}
 use Rattle.cell_machine.specs.declared.program.Action.TheVariants as act
 use Rattle.cell_machine.specs.declared.program.Found.{Found}
@@ -94,8 +96,8 @@ again_goes i (Inside v) h = cc h
 again_goes i Forgotten h = cc h
 
 may_go : (t : Table OnceCell) (p : ℕ) (i : Inputs) (y : Place) → IsCellTable t → position_at t.machine.positions p ≡ At y → call_at knows (stage_at t.stages p) (Go i) ≡ None → ⊥
-may_go t p i y fits at none = seen.by_stage_or_past t.stages p ⊥
-    (λ past. (let out : position_at t.machine.positions p ≡ Out = seen.past_out t.machine.positions p (omega (arith, past, fits.as_many)) in let never : At y ≡ Out = sym at ∙ out in cc never))
+may_go t p i y fits at none = by_stage_or_past t.stages p ⊥
+    (λ past. (let out : position_at t.machine.positions p ≡ Out = past_last t.machine.positions p Out (omega (arith, past, fits.as_many)) in let never : At y ≡ Out = sym at ∙ out in cc never))
     (λ inside. (let P : Position → Type 0 = λ x. goes_with (stage_at t.stages p) x ≡ true in stage_goes i y (stage_at t.stages p) (subst P at (fits.stands p inside).goes) none))
 
 -- ---- who makes comes to what its maker gives
