@@ -27,13 +27,13 @@ use Rattle.cell_world.specs.State.{World, standing_of}
 use Rattle.cell_world.specs.View.{view_of}
 use Rattle.cell_world.specs.Legal.{call_of, HasItsOwn, Legal}
 use Rattle.cell_world.specs.Laws.{IsSound, IsAwake, is_at_rest}
-use Rattle.cell_world.specs.Steps.{IsCellTable}
+use Rattle.cell_world.specs.Steps.{IsCellTable, TableSteps}
 use Rattle.lock_world.specs.Accounts.{Account, account_after, accounts_after}
 use Rattle.lock_frame.specs.Steps.{StepsWell}
 use Rattle.cell_world.specs.Runs.{Known, Tells, HoldsWell, no_account, learn, value_after}
 use Rattle.cell_world.proofs.Legals.{each_has}
 use Rattle.cell_world.proofs.Values.{stays_full}
-use Rattle.cell_world.proofs.Stepping.{Way, impossible, over, acts}
+use Rattle.cell_world.proofs.Stepping.{by_step}
 
 -- ---- no answer of a cell gives a right
 
@@ -100,10 +100,9 @@ quiet_again (Outside rest.Holding) (Begin call.Poll i) h = refl
 quiet_again (Outside rest.Finished) (Begin call.Poll i) h = refl
 quiet_again _ _ h = absurd (cc h)
 
-pub quiet : (t u : Table OnceCell) (m : Move) (a : Answer) → Way t u m a → Quiet m.what a
-quiet t u m a (impossible e ea eu) = let P : Answer → Type 0 = Quiet m.what in subst P (sym ea) (quiet_impossible m.what)
-quiet t u m a (over w e f ea eu) = let P : Answer → Type 0 = Quiet m.what in subst P (sym ea) (quiet_again (stage_at t.stages m.party) m.what f)
-quiet t u m a (acts w k) = (quietly (stage_at t.stages m.party) m.what w (position_at t.machine.positions m.party) (k.old_fits.stands m.party k.inside).goes k.call k.first).holds a
+pub quiet : (t u : Table OnceCell) (m : Move) (a : Answer) → IsCell t.machine → IsCellTable t → IsCell u.machine → IsCellTable u → TableSteps t m a u → Quiet m.what a
+quiet t u m a tl tf ul uf step = by_step t u m a tl tf ul uf (λ b x. Quiet m.what b) (λ e. quiet_impossible m.what) (λ w e f. quiet_again (stage_at t.stages m.party) m.what f)
+    (λ w k. (quietly (stage_at t.stages m.party) m.what w (position_at t.machine.positions m.party) (k.old_fits.stands m.party k.inside).goes k.call k.first).holds a) step
 
 -- ---- the value that an answer tells is in the cell
 
@@ -147,9 +146,8 @@ chosen true x e = e
 chosen false x e = refl
 
 module _ (k : Known) (t u : Table OnceCell) (m : Move) (a : Answer) where
-  pub holds_well : IsCell t.machine → IsCellTable t → Legal (view_of t) m a (view_of u) → Way t u m a → Tells k (view_of t) → IsSound (view_of u) → (is_at_rest (view_of u) ≡ true → IsAwake (view_of u)) → StepsWell Tells HoldsWell (learn k m a) (view_of u)
-  holds_well laws fits l way tells sound awake = (
-      let quietly : Quiet m.what a = quiet t u m a way in
+  pub holds_well : IsCell t.machine → IsCellTable t → Legal (view_of t) m a (view_of u) → Quiet m.what a → Tells k (view_of t) → IsSound (view_of u) → (is_at_rest (view_of u) ≡ true → IsAwake (view_of u)) → StepsWell Tells HoldsWell (learn k m a) (view_of u)
+  holds_well laws fits l quietly tells sound awake = (
       let rights : (q : ℕ) → accounts_after k.accounts m a q ≡ no_account = λ q. rw (tells.rights q) (chosen (m.party == q) (account_after no_account m.what a) quietly) in
       let value : (v : ℕ) → value_after k.value a ≡ Some v → (view_of u).cell ≡ Full v = λ v e. value_on k.value a (view_of u).cell v e (λ z is. told_value (view_of t) m a (view_of u) l (each_has t laws fits m.party) z is) (λ z is. stays_full (view_of t) m a (view_of u) l z (tells.value z is)) in
       record {

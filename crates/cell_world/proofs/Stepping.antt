@@ -1,7 +1,8 @@
 -- A table's step as callers see it.
-use Rattle.std.proofs.Common.{◌≡◌, Bool, true, false, Option, Some, None, refl, ap, sym, ◌∙◌, subst}
+use Rattle.std.proofs.Common.{◌≡◌, ℕ, Bool, true, false, Some, None, refl, ap, sym, ◌∙◌, subst}
 use Rattle.lock_world.specs.declared.moves.Answer.{Answer}
 use Rattle.lock_world.specs.declared.moves.Answer.TheVariants as answer
+use Rattle.lock_world.specs.declared.moves.Call.{Call}
 use Rattle.lock_world.specs.declared.moves.Move.{Move}
 use Rattle.lock_world.specs.declared.refusal.Refusal.TheVariants as refusal
 use Rattle.lock_world.specs.declared.standing.Rest.TheVariants as rest
@@ -10,59 +11,57 @@ use Rattle.lock_world.specs.Standings.{call_in, refused}
 use Rattle.lock_world.specs.Frame.{is_poll_after_ready}
 use Rattle.lock_world.proofs.Equations.{some_eq, none_some}
 use Rattle.lock_table.specs.Stages.{stage_at, call_at, polls_again}
-use Rattle.lock_table.specs.Tables.{Table}
+use Rattle.lock_table.specs.Tables.{Table, Acted}
 use Rattle.lock_table.proofs.Calls.{call_seen, again_seen}
+use Rattle.lock_table.proofs.Ways.{way, by_way}
 use Rattle.cell_machine.specs.declared.program.Place.{Place}
 use Rattle.cell_machine.specs.Seats.{verdict}
-use Rattle.cell_machine.specs.Machine.{OnceCell, IsCell, Moves as MovesOf, knows, position_at}
-use Rattle.cell_machine.proofs.Turns.{fits}
+use Rattle.cell_machine.specs.Machine.{OnceCell, IsCell, Moves, knows, position_at}
 use Rattle.cell_world.specs.State.{standing_of}
 use Rattle.cell_world.specs.View.{view_of}
 use Rattle.cell_world.specs.Legal.{call_of, Legal}
 use Rattle.cell_world.specs.AtOnce.{AnswersAtOnce}
 use Rattle.cell_world.specs.Steps.{IsCellTable, TableSteps, Stands, Steps}
 use Rattle.cell_world.proofs.Seen as seen
-use Rattle.lock_table.specs.Tables.{Does}
 use Rattle.cell_world.proofs.Idle as idle
 use Rattle.cell_world.proofs.Legals.{well}
 use Rattle.cell_world.proofs.Turns.{Here, here}
 use Rattle.cell_world.proofs.Acting.{Acting, legal}
 use Rattle.cell_world.proofs.AtOnce.{Entrance, entrance, at_once}
 
--- How a move came about: it isn't possible, polls a future that has been ready, or is carried out.
-pub data Way (t u : Table OnceCell) (m : Move) (a : Answer) : Type 0 where
-  impossible : call_at knows (stage_at t.stages m.party) m.what ≡ None → a ≡ answer.NotPossible → u ≡ t → Way t u m a
-  over : (w : Within) → call_at knows (stage_at t.stages m.party) m.what ≡ Some w → polls_again (stage_at t.stages m.party) m.what ≡ true → a ≡ refused refusal.Finished → u ≡ t → Way t u m a
-  acts : (w : Within) → Acting t u m a w → Way t u m a
+abbrev pub known_calls : OnceCell → ℕ → Call → Bool
+known_calls s p = knows
 
 module _ (t u : Table OnceCell) (m : Move) (a : Answer) (tl : IsCell t.machine) (tf : IsCellTable t) (ul : IsCell u.machine) (uf : IsCellTable u) where
-  pub way : TableSteps t m a u → Way t u m a
-  way step = by_call (call_at knows (stage_at t.stages m.party) m.what) (polls_again (stage_at t.stages m.party) m.what) refl refl step where
-    by_call : (o : Option Within) (b : Bool) → call_at knows (stage_at t.stages m.party) m.what ≡ o → polls_again (stage_at t.stages m.party) m.what ≡ b → Does (λ (s : OnceCell) p. knows) rest.Finished MovesOf o b t m a u → Way t u m a
-    by_call None b e f d = impossible e d.0 d.1
-    by_call (Some w) true e f d = over w e f d.0 d.1
-    by_call (Some w) false e f d =
-        let turn = here (stage_at t.stages m.party) m.what w (position_at t.machine.positions m.party) (tf.stands m.party d.inside).goes e f in
-        let same : turn.from ≡ d.acts.from = some_eq (sym turn.starts ∙ d.acts.starts) in
-        let P : Place → Type 0 = Here (stage_at t.stages m.party) m.what w (position_at t.machine.positions m.party) in
-        acts w (record {
-          inside = d.inside;
-          old_laws = tl;
-          old_fits = tf;
-          new_laws = ul;
-          new_fits = uf;
-          call = e;
-          first = f;
-          from = d.acts.from;
-          found = d.acts.found;
-          here = subst P same turn.holds;
-          starts = d.acts.starts;
-          runs = d.acts.runs;
-          acts = d.acts.acts;
-          answer = d.acts.answer;
-          stages = d.stages;
-          opening = d.opening;
-        })
+  carried : (w : Within) → call_at knows (stage_at t.stages m.party) m.what ≡ Some w → polls_again (stage_at t.stages m.party) m.what ≡ false → Acted known_calls rest.Finished Moves w t m a u → Acting t u m a w
+  carried w e f d =
+      let turn = here (stage_at t.stages m.party) m.what w (position_at t.machine.positions m.party) (tf.stands m.party d.inside).goes e f in
+      let same : turn.from ≡ d.acts.from = some_eq (sym turn.starts ∙ d.acts.starts) in
+      let P : Place → Type 0 = Here (stage_at t.stages m.party) m.what w (position_at t.machine.positions m.party) in
+      record {
+        inside = d.inside;
+        old_laws = tl;
+        old_fits = tf;
+        new_laws = ul;
+        new_fits = uf;
+        call = e;
+        first = f;
+        from = d.acts.from;
+        found = d.acts.found;
+        here = subst P same turn.holds;
+        starts = d.acts.starts;
+        runs = d.acts.runs;
+        acts = d.acts.acts;
+        answer = d.acts.answer;
+        stages = d.stages;
+        opening = d.opening;
+      }
+
+  -- what holds where nothing is done, and where the machine acted, holds of each step
+  pub by_step : (P : Answer → Table OnceCell → Type 0) → (call_at knows (stage_at t.stages m.party) m.what ≡ None → P answer.NotPossible t)
+      → ((w : Within) → call_at knows (stage_at t.stages m.party) m.what ≡ Some w → polls_again (stage_at t.stages m.party) m.what ≡ true → P (refused refusal.Finished) t)
+      → ((w : Within) → Acting t u m a w → P a u) → TableSteps t m a u → P a u
+  by_step P none again act step = by_way known_calls rest.Finished Moves t u m a P none again (λ w e f d. act w (carried w e f d)) (way known_calls rest.Finished Moves t u m a step)
 
   stands : (x : Table OnceCell) → IsCell x.machine → IsCellTable x → Stands (view_of x)
   stands x laws fits = record { seen = refl; cell = laws; fits = fits }
@@ -84,20 +83,13 @@ module _ (t u : Table OnceCell) (m : Move) (a : Answer) (tl : IsCell t.machine) 
   abbrev Good : Answer → Table OnceCell → Type 0
   Good b x = Legal (view_of t) m b (view_of x) × AnswersAtOnce (view_of t) m b (view_of x)
 
-  good : Way t u m a → Good a u
-  good (impossible e ea eu) =
-      let none : call_of (view_of t) m ≡ None = call_is ∙ e in
-      let base : Good answer.NotPossible t = (idle.impossible (view_of t) m (well t tl tf) none, idle.impossible_at_once (view_of t) m (well t tl tf) none) in
-      let P : Answer → Type 0 = λ b. Good b t in
-      subst (Good a) (sym eu) (subst P (sym ea) base)
-  good (over w e f ea eu) =
-      let again : is_poll_after_ready (standing_of (view_of t) m.party) m.what ≡ true = again_is ∙ f in
-      let base : Good (refused refusal.Finished) t = (idle.over (view_of t) m (well t tl tf) again (λ none. none_some (sym none ∙ (call_is ∙ e))), idle.over_at_once (view_of t) m (well t tl tf) again) in
-      let P : Answer → Type 0 = λ b. Good b t in
-      subst (Good a) (sym eu) (subst P (sym ea) base)
-  good (acts w k) = (legal t u m a w k, at_once t u m a w k (door w k))
+  good : TableSteps t m a u → Good a u
+  good step = by_step Good
+      (λ e. (idle.impossible (view_of t) m (well t tl tf) (call_is ∙ e), idle.impossible_at_once (view_of t) m (well t tl tf) (call_is ∙ e)))
+      (λ w e f. (idle.over (view_of t) m (well t tl tf) (again_is ∙ f) (λ none. none_some (sym none ∙ (call_is ∙ e))), idle.over_at_once (view_of t) m (well t tl tf) (again_is ∙ f)))
+      (λ w k. (legal t u m a w k, at_once t u m a w k (door w k))) step
 
   pub stepped : TableSteps t m a u → Steps (view_of t) m a (view_of u)
   stepped step =
-      let both = good (way step) in
+      let both = good step in
       record { legal = both.0; at_once = both.1; did = record { stood = stands t tl tf; step = step; stands = stands u ul uf } }
