@@ -9,7 +9,7 @@ use Rattle.lock_world.specs.declared.standing.Rest.TheVariants as rest
 use Rattle.lock_world.specs.declared.standing.Within.{Within}
 use Rattle.lock_world.specs.Standings.{call_in, refused}
 use Rattle.lock_world.specs.Frame.{is_poll_after_ready}
-use Rattle.lock_world.proofs.Equations.{some_eq, none_some}
+use Rattle.lock_world.proofs.Equations.{some_eq}
 use Rattle.lock_table.specs.Stages.{stage_at, call_at, polls_again}
 use Rattle.lock_table.specs.Tables.{Table, Acted}
 use Rattle.lock_table.proofs.Calls.{call_seen, again_seen}
@@ -86,7 +86,7 @@ module _ (t u : Table OnceCell) (m : Move) (a : Answer) (tl : IsCell t.machine) 
   good : TableSteps t m a u → Good a u
   good step = by_step Good
       (λ e. (idle.impossible (view_of t) m (well t tl tf) (call_is ∙ e), idle.impossible_at_once (view_of t) m (well t tl tf) (call_is ∙ e)))
-      (λ w e f. (idle.over (view_of t) m (well t tl tf) (again_is ∙ f) (λ none. none_some (sym none ∙ (call_is ∙ e))), idle.over_at_once (view_of t) m (well t tl tf) (again_is ∙ f)))
+      (λ w e f. (idle.over (view_of t) m (well t tl tf) (again_is ∙ f), idle.over_at_once (view_of t) m (well t tl tf) (again_is ∙ f)))
       (λ w k. (legal t u m a w k, at_once t u m a w k (door w k))) step
 
   pub stepped : TableSteps t m a u → Steps (view_of t) m a (view_of u)
