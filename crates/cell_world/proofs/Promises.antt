@@ -221,14 +221,14 @@ module _ (p : ℕ) (i : Inputs) (t : Task) where
   comes_on : (x : World) (b : Answer) (y : World) → IsComing x → Steps x (going_on p i) b y → Onwards b y
   comes_on x b y g s = subst (λ z. Onwards b z) (sym s.did.stands.seen) (by_step x.behind y.behind (going_on p i) b s.did.stood.cell s.did.stood.fits s.did.stands.cell s.did.stands.fits (λ c z. Onwards c (view_of z))
       (λ e. absurd (may_go x.behind p i g.0 s.did.stood.fits g.1 e)) (λ w e f. absurd (again_goes i (stage_at x.behind.stages p) f)) goes_there s.did.step) where
-    seen_so : (y : Place) → Coming y x.cell x.active → Coming y x.behind.machine.content x.behind.machine.active
-    seen_so y h = let P : World → Type 0 = λ z. Coming y z.cell z.active in subst P s.did.stood.seen h
+        seen_so : (y : Place) → Coming y x.cell x.active → Coming y x.behind.machine.content x.behind.machine.active
+        seen_so y h = let P : World → Type 0 = λ z. Coming y z.cell z.active in subst P s.did.stood.seen h
 
-    goes_there : (w : Within) → Acting x.behind y.behind (going_on p i) b w → Onwards b (view_of y.behind)
-    goes_there w k =
-        let at : g.0 ≡ k.from = at_same g.0 k.from (sym g.1 ∙ from_turn x.behind y.behind (going_on p i) b w k) in
-        let Q : Place → Type 0 = λ y. Coming y x.behind.machine.content x.behind.machine.active in
-        acted x.behind y.behind (Go i) b w k refl (subst Q at (seen_so g.0 g.2))
+        goes_there : (w : Within) → Acting x.behind y.behind (going_on p i) b w → Onwards b (view_of y.behind)
+        goes_there w k =
+            let at : g.0 ≡ k.from = at_same g.0 k.from (sym g.1 ∙ from_turn x.behind y.behind (going_on p i) b w k) in
+            let Q : Place → Type 0 = λ y. Coming y x.behind.machine.content x.behind.machine.active in
+            acted x.behind y.behind (Go i) b w k refl (subst Q at (seen_so g.0 g.2))
 
   -- where a call begins that comes to this
   pub record Begins (w : World) (c : Call) : Type 0 where
@@ -239,14 +239,14 @@ module _ (p : ℕ) (i : Inputs) (t : Task) where
   comes_begun : (w : World) (c : Call) (b : Answer) (y : World) → Begins w c → Steps w (beginning p c i) b y → Onwards b y
   comes_begun w c b y g s = subst (λ z. Onwards b z) (sym s.did.stands.seen) (by_step w.behind y.behind (beginning p c i) b s.did.stood.cell s.did.stood.fits s.did.stands.cell s.did.stands.fits (λ d z. Onwards d (view_of z))
       (λ e. absurd (g.possible (called_here ∙ e))) (λ z e f. absurd (g.first (again_here ∙ f))) (λ z k. acted w.behind y.behind (Begin c i) b z k refl (g.from b y s z k)) s.did.step) where
-    standing_here : standing_of w p ≡ stands_as (verdict (position_at w.behind.machine.positions p)) (stage_at w.behind.stages p)
-    standing_here = ap (λ z. standing_of z p) s.did.stood.seen ∙ seen.standing_seen w.behind p
+        standing_here : standing_of w p ≡ stands_as (verdict (position_at w.behind.machine.positions p)) (stage_at w.behind.stages p)
+        standing_here = ap (λ z. standing_of z p) s.did.stood.seen ∙ seen.standing_seen w.behind p
 
-    called_here : call_of w (beginning p c i) ≡ call_at knows (stage_at w.behind.stages p) (Begin c i)
-    called_here = ap (λ z. call_in knows z (Begin c i)) standing_here ∙ call_seen knows (verdict (position_at w.behind.machine.positions p)) (stage_at w.behind.stages p) (Begin c i)
+        called_here : call_of w (beginning p c i) ≡ call_at knows (stage_at w.behind.stages p) (Begin c i)
+        called_here = ap (λ z. call_in knows z (Begin c i)) standing_here ∙ call_seen knows (verdict (position_at w.behind.machine.positions p)) (stage_at w.behind.stages p) (Begin c i)
 
-    again_here : is_poll_after_ready (standing_of w p) (Begin c i) ≡ polls_again (stage_at w.behind.stages p) (Begin c i)
-    again_here = ap (λ z. is_poll_after_ready z (Begin c i)) standing_here ∙ again_seen (verdict (position_at w.behind.machine.positions p)) (stage_at w.behind.stages p) (Begin c i)
+        again_here : is_poll_after_ready (standing_of w p) (Begin c i) ≡ polls_again (stage_at w.behind.stages p) (Begin c i)
+        again_here = ap (λ z. is_poll_after_ready z (Begin c i)) standing_here ∙ again_seen (verdict (position_at w.behind.machine.positions p)) (stage_at w.behind.stages p) (Begin c i)
 
   pub comes_to : (known : Known) (w : World) (c : Call) (n : ℕ) (a : Answer) (v : World) → Runs known w (moves_of p c i n) (answers_of n a) v → a ≢ answer.Stepped → Begins w c → ComesTo t p a v
   comes_to known w c n a v runs ended g = along Steps learn HoldsWell p i IsComing (ComesTo t p) comes_on known n w (beginning p c i) a v (λ b x s. comes_begun w c b x g s) ended runs
