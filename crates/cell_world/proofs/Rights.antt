@@ -8,15 +8,13 @@ use Rattle.lock_world.specs.declared.moves.Inputs.{Inputs}
 use Rattle.lock_world.specs.declared.moves.Move.{Move}
 use Rattle.lock_world.specs.declared.moves.What.{What}
 use Rattle.lock_world.specs.declared.moves.What.TheVariants.{Begin, Go}
-use Rattle.lock_world.specs.declared.refusal.Refusal.TheVariants as refusal
-use Rattle.lock_world.specs.declared.standing.Rest.TheVariants as rest
 use Rattle.lock_world.specs.declared.standing.Stage.{Stage}
-use Rattle.lock_world.specs.declared.standing.Stage.TheVariants.{Outside}
 use Rattle.lock_world.specs.declared.standing.Within.{Within}
-use Rattle.lock_world.specs.Standings.{Standing, outside, inside, forgotten, is_decided, decision, refused}
+use Rattle.lock_world.specs.Standings.{Standing, outside, inside, forgotten, is_decided, decision}
 use Rattle.lock_world.proofs.Equations.{some_eq}
 use Rattle.lock_table.specs.Stages.{stage_at, call_at, polls_again}
 use Rattle.lock_table.specs.Tables.{Table}
+use Rattle.lock_table.proofs.Rights.{idle_account, again_account}
 use Rattle.cell_machine.specs.declared.program.Place.{Place}
 use Rattle.cell_machine.specs.declared.program.Position.{Position}
 use Rattle.cell_machine.specs.declared.words.Content.{Content}
@@ -91,17 +89,8 @@ quietly = turn Quietly (record {
   go = λ w x i begun here. quiet_go i;
 })
 
-quiet_impossible : (what : What) → Quiet what answer.NotPossible
-quiet_impossible (Begin call.TryUpgrade i) = refl
-quiet_impossible _ = refl
-
-quiet_again : (s : Stage) (what : What) → polls_again s what ≡ true → Quiet what (refused refusal.Finished)
-quiet_again (Outside rest.Holding) (Begin call.Poll i) h = refl
-quiet_again (Outside rest.Finished) (Begin call.Poll i) h = refl
-quiet_again _ _ h = absurd (cc h)
-
 pub quiet : (t u : Table OnceCell) (m : Move) (a : Answer) → IsCell t.machine → IsCellTable t → IsCell u.machine → IsCellTable u → TableSteps t m a u → Quiet m.what a
-quiet t u m a tl tf ul uf step = by_step t u m a tl tf ul uf (λ b x. Quiet m.what b) (λ e. quiet_impossible m.what) (λ w e f. quiet_again (stage_at t.stages m.party) m.what f)
+quiet t u m a tl tf ul uf step = by_step t u m a tl tf ul uf (λ b x. Quiet m.what b) (λ e. idle_account no_account m.what) (λ w e f. again_account no_account (stage_at t.stages m.party) m.what f)
     (λ w k. (quietly (stage_at t.stages m.party) m.what w (position_at t.machine.positions m.party) (k.old_fits.stands m.party k.inside).goes k.call k.first).holds a) step
 
 -- ---- the value that an answer tells is in the cell
