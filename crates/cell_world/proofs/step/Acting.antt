@@ -63,11 +63,11 @@ use Rattle.cell_world.specs.View.{view_of}
 use Rattle.cell_world.specs.Tasks.{task_in, or_before, task_then, makes, list_for, given, is_open}
 use Rattle.cell_world.specs.Legal.{call_of, DecidesOn, gives_something_back, IsItsList, IsAllowed, ChangesOneThing, KnowsTask, Carried, IsGranted, Carries, IsPendingMaker, WaitsInList, Waits, IsCause, IsRefusedForCause, LeavesClear, EndsProperly, Legal}
 use Rattle.cell_world.specs.Steps.{IsCellTable}
-use Rattle.cell_world.proofs.Seen as seen
-use Rattle.cell_world.proofs.Legals as legals
-use Rattle.cell_world.proofs.Legals.{each_has, never_pending, in_list, Standing_well}
-use Rattle.cell_world.proofs.Rows.{said, open_at, is_join, content_then, AllowedAt, Refuses, Reason, Judged, Room, Row, row}
-use Rattle.cell_world.proofs.Turns.{Here, TaskFits}
+use Rattle.cell_world.proofs.table.Seen as seen
+use Rattle.cell_world.proofs.step.Owns as legals
+use Rattle.cell_world.proofs.step.Owns.{each_has, never_pending, in_list, Standing_well}
+use Rattle.cell_world.proofs.step.Rows.{said, open_at, is_join, content_then, AllowedAt, Refuses, Reason, Judged, Room, Row, row}
+use Rattle.cell_world.proofs.step.Here.{Here, TaskFits}
 
 -- ---- Answers
 

@@ -32,8 +32,8 @@ use Rattle.cell_world.specs.State.{list_in, standing_of}
 use Rattle.cell_world.specs.View.{view_of}
 use Rattle.cell_world.specs.Laws.{IsSound, IsAwake, IsStillThere, is_at_rest, is_long_call, may_be_maker}
 use Rattle.cell_world.specs.Steps.{IsCellTable}
-use Rattle.cell_world.proofs.Seen as seen
-use Rattle.cell_world.proofs.Legals.{each_has, in_list}
+use Rattle.cell_world.proofs.table.Seen as seen
+use Rattle.cell_world.proofs.step.Owns.{each_has, in_list}
 
 -- a call that is begun may take more than one step
 abandon_unbegun : (x : Place) → is_abandoning x ≡ true → is_begun x ≡ true → ⊥

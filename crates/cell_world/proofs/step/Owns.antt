@@ -29,7 +29,7 @@ use Rattle.cell_world.specs.View.{view_of}
 use Rattle.cell_world.specs.Tasks.{makes, list_for}
 use Rattle.cell_world.specs.Legal.{HasByTask, HasItsOwn}
 use Rattle.cell_world.specs.Steps.{IsCellTable}
-use Rattle.cell_world.proofs.Seen as seen
+use Rattle.cell_world.proofs.table.Seen as seen
 
 -- what a party's position says of it
 pub record Facts (w : World) (p : ℕ) (x : Position) : Type 0 where

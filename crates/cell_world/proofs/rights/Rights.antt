@@ -29,9 +29,9 @@ use Rattle.cell_world.specs.Steps.{IsCellTable, TableSteps}
 use Rattle.lock_world.specs.Accounts.{Account, account_after, accounts_after}
 use Rattle.lock_frame.specs.Steps.{StepsWell}
 use Rattle.cell_world.specs.Runs.{Known, Tells, HoldsWell, no_account, learn, value_after}
-use Rattle.cell_world.proofs.Legals.{each_has}
+use Rattle.cell_world.proofs.step.Owns.{each_has}
 use Rattle.cell_world.proofs.Values.{stays_full}
-use Rattle.cell_world.proofs.Stepping.{by_step}
+use Rattle.cell_world.proofs.step.Stepping.{by_step}
 
 -- ---- no answer of a cell gives a right
 

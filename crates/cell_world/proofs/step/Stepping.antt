@@ -22,12 +22,12 @@ use Rattle.cell_world.specs.View.{view_of}
 use Rattle.cell_world.specs.Legal.{call_of, Legal}
 use Rattle.cell_world.specs.AtOnce.{AnswersAtOnce}
 use Rattle.cell_world.specs.Steps.{IsCellTable, TableSteps, Stands, Steps}
-use Rattle.cell_world.proofs.Seen as seen
-use Rattle.cell_world.proofs.Idle as idle
-use Rattle.cell_world.proofs.Legals.{well}
-use Rattle.cell_world.proofs.Turns.{Here, here}
-use Rattle.cell_world.proofs.Acting.{Acting, legal}
-use Rattle.cell_world.proofs.AtOnce.{Entrance, entrance, at_once}
+use Rattle.cell_world.proofs.table.Seen as seen
+use Rattle.cell_world.proofs.step.Idle as idle
+use Rattle.cell_world.proofs.step.Owns.{well}
+use Rattle.cell_world.proofs.step.Here.{Here, here}
+use Rattle.cell_world.proofs.step.Acting.{Acting, legal}
+use Rattle.cell_world.proofs.step.AtOnce.{Entrance, entrance, at_once}
 
 abbrev pub known_calls : OnceCell → ℕ → Call → Bool
 known_calls s p = knows

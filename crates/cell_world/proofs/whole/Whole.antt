@@ -35,9 +35,9 @@ use Rattle.lock_table.proofs.Lists.{joined_unmarked}
 use Rattle.cell_machine.specs.Ranks.{left, left_at, active_marked, passive_marked, steps_left}
 use Rattle.cell_world.specs.Steps.{IsCellTable, TableSteps}
 use Rattle.cell_world.specs.Whole.{most_steps_of}
-use Rattle.cell_world.proofs.Acting.{Acting}
-use Rattle.cell_world.proofs.Acting as acting
-use Rattle.cell_world.proofs.Stepping.{by_step}
+use Rattle.cell_world.proofs.step.Acting.{Acting}
+use Rattle.cell_world.proofs.step.Acting as acting
+use Rattle.cell_world.proofs.step.Stepping.{by_step}
 
 -- how many steps are left once this was found, by whether the party's own entries are marked then
 abbrev pub Left : Place → Found → Bool → Bool → ℕ

@@ -21,9 +21,9 @@ use Rattle.lock_frame.specs.Steps.{StepsWell, left_by, beginning}
 use Rattle.lock_frame.proofs.Endings.{ends_outside as outside_at_end}
 use Rattle.cell_world.specs.Runs.{Known, Tells, HoldsWell, known_of, learn}
 use Rattle.cell_world.specs.Whole.{most_steps_of, steps_left_of}
-use Rattle.cell_world.proofs.Sound.{sound, awake}
-use Rattle.cell_world.proofs.Rights.{quiet, holds_well}
-use Rattle.cell_world.proofs.Whole as whole
+use Rattle.cell_world.proofs.laws.Sound.{sound, awake}
+use Rattle.cell_world.proofs.rights.Rights.{quiet, holds_well}
+use Rattle.cell_world.proofs.whole.Whole as whole
 
 value_full : (c : Content) (v : ℕ) → value_in c ≡ Some v → c ≡ Full v
 value_full Empty v e = absurd (none_some e)

@@ -22,7 +22,7 @@ use Rattle.cell_world.specs.State.{World, standing_of, task_of}
 use Rattle.cell_world.specs.Tasks.{task_in}
 use Rattle.cell_world.specs.Legal.{call_of, IsCause, ChangesOneThing, Legal}
 use Rattle.cell_world.specs.AtOnce.{AnswersAtOnce, is_try, is_poll, is_first_making, is_first_wait}
-use Rattle.cell_world.proofs.Legals.{Standing_well}
+use Rattle.cell_world.proofs.step.Owns.{Standing_well}
 
 -- which moves are possible
 module _ (t : Task) (n : ℕ) (b : Bool) where

@@ -52,7 +52,7 @@ use Rattle.cell_world.specs.Tasks.{or_before, task_then, given}
 use Rattle.cell_world.specs.Legal.{call_of}
 use Rattle.cell_world.specs.AtOnce.{is_first_making}
 use Rattle.cell_world.specs.Steps.{IsCellTable, TableSteps, Stands, Steps}
-use Rattle.cell_world.proofs.Seen as seen
+use Rattle.cell_world.proofs.table.Seen as seen
 use Rattle.std.proofs.Common.{◌-◌}
 use Rattle.lock_event.proofs.Marks.{length-mark_waiting}
 use Rattle.lock_event.proofs.Counts.{marked_count-notified}
@@ -63,13 +63,13 @@ use Rattle.lock_frame.specs.Steps.{beginning}
 use Rattle.lock_frame.proofs.Runs.{Onward, along}
 use Rattle.cell_world.specs.Runs.{Known, HoldsWell, learn, Runs}
 use Rattle.cell_world.specs.Bound.{IsSolo, ComesTo, Promises}
-use Rattle.cell_world.proofs.Rows.{content_then, gave, gave_failure, pends, never_found}
-use Rattle.cell_world.proofs.Idle.{again, making_possible}
-use Rattle.cell_world.proofs.Acting.{Acting}
-use Rattle.cell_world.proofs.Acting as acting
-use Rattle.cell_world.proofs.Stepping.{by_step, door}
-use Rattle.cell_world.proofs.AtOnce.{Entrance}
-use Rattle.cell_world.proofs.Whole.{from_turn}
+use Rattle.cell_world.proofs.step.Rows.{content_then, gave, gave_failure, pends, never_found}
+use Rattle.cell_world.proofs.step.Idle.{again, making_possible}
+use Rattle.cell_world.proofs.step.Acting.{Acting}
+use Rattle.cell_world.proofs.step.Acting as acting
+use Rattle.cell_world.proofs.step.Stepping.{by_step, door}
+use Rattle.cell_world.proofs.step.AtOnce.{Entrance}
+use Rattle.cell_world.proofs.whole.Whole.{from_turn}
 
 at_same : (x y : Place) → At x ≡ At y → x ≡ y
 at_same x y e = cc
