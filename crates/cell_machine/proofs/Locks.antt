@@ -1,5 +1,5 @@
 -- An action of one party keeps what always holds of a cell.
-use Rattle.std.proofs.Common.{◌≡◌, ◌≢◌, ℕ, zero, suc, ◌+◌, ◌*◌, ◌<◌, ◌≤◌, true, false, List, [], ◌∷◌, length, get_or, Some, refl, arith, ap, sym, subst, ◌∙◌, length-set, get_or-set_same, get_or-set_other}
+use Rattle.std.proofs.Common.{◌≡◌, ◌≢◌, ℕ, ◌+◌, ◌*◌, ◌<◌, ◌≤◌, true, false, List, length, get_or, Some, refl, arith, ap, sym, subst, ◌∙◌, length-set, get_or-set_same, get_or-set_other}
 use Rattle.std.proofs.Math.ListN.{set}
 use Rattle.std.proofs.Math.Decide.{ℕ_discrete}
 use Rattle.std.specs.List.{sum_by}
@@ -19,6 +19,7 @@ use Rattle.lock_table.specs.Stages.{call_at, polls_again, stage_after}
 use Rattle.lock_table.specs.Tables.{Keeps}
 use Rattle.lock_table.proofs.Lists as lists
 use Rattle.lock_table.proofs.Lists.{CanList}
+use Rattle.lock_table.proofs.Mapped.{any_default}
 use Rattle.cell_machine.specs.declared.program.Action.{Action}
 use Rattle.cell_machine.specs.declared.program.Action.TheVariants as act
 use Rattle.cell_machine.specs.declared.program.Found.{Found}
@@ -402,11 +403,6 @@ module _ (p : ℕ) (c : Content) (xs : List Position) (q r : Queue) (i : Inputs)
       }
 
 -- ---- as the machine's call says it
-
-any_default : {A : Type 0} (xs : List A) (i : ℕ) (d e : A) → i < length xs → get_or xs i d ≡ get_or xs i e
-any_default [] i d e h = absurd (omega arith)
-any_default (x ∷ xs) zero d e h = refl
-any_default (x ∷ xs) (suc i) d e h = any_default xs i d e (omega arith)
 
 -- where the party's call begins or goes on
 pub record Began (xs : List Position) (p : ℕ) (w : Within) (what : What) (from : Place) : Type 0 where

@@ -6,7 +6,7 @@ use Rattle.lock_table.specs.Lending.{table_with}
 use Rattle.cell_machine.specs.Words.{value_in}
 use Rattle.cell_machine.specs.Machine.{with_value}
 use Rattle.cell_world.specs.View.{view_of}
-use Rattle.cell_world.proofs.Lent.{rests_there, put_here}
+use Rattle.cell_world.proofs.table.Lent.{rests_there, put_here}
 use Rattle.cell_world.proofs.world.World.get_mut.Goals as goal
 
 pub value_mut-value-requires : goal.value_mut-value-requires

@@ -1,5 +1,5 @@
 -- What holds of the table holds as callers see it.
-use Rattle.cell_world.proofs.Sound.{sound, awake}
+use Rattle.cell_world.proofs.laws.Sound.{sound, awake}
 use Rattle.cell_world.proofs.world.World.laws.Goals as goal
 
 pub returns-clause-sound : goal.returns-clause-sound

@@ -2,7 +2,7 @@
 use Rattle.std.proofs.Common.{ap, ◌∙◌}
 use Rattle.lock_table.specs.Tables.{new_table}
 use Rattle.cell_world.specs.View.{view_of}
-use Rattle.cell_world.proofs.Opening.{starts_new}
+use Rattle.cell_world.proofs.table.Opening.{starts_new}
 use Rattle.cell_world.proofs.world.World.new.Goals as goal
 
 pub returns-in-Ok-new-clause-opening : goal.returns-in-Ok-new-clause-opening

@@ -1,5 +1,5 @@
 -- The first solo poll takes.
-use Rattle.cell_world.proofs.Bound.{bounded as law}
+use Rattle.cell_world.proofs.bound.Bound.{bounded as law}
 use Rattle.cell_world.proofs.world.World.solo_polls.Goals as goal
 
 pub returns : goal.returns

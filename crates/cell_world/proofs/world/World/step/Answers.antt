@@ -1,5 +1,5 @@
 -- The table's step is legal, as callers see it.
-use Rattle.cell_world.proofs.Stepping.{stepped}
+use Rattle.cell_world.proofs.step.Stepping.{stepped}
 use Rattle.cell_world.proofs.world.World.step.Goals as goal
 
 pub returns : goal.returns

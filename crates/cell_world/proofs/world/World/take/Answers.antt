@@ -3,7 +3,7 @@ use Rattle.std.proofs.Common.{ap, ◌∙◌, None}
 use Rattle.lock_table.specs.Lending.{table_with}
 use Rattle.cell_machine.specs.Machine.{with_value}
 use Rattle.cell_world.specs.View.{view_of}
-use Rattle.cell_world.proofs.Lent.{rests_there, put_here}
+use Rattle.cell_world.proofs.table.Lent.{rests_there, put_here}
 use Rattle.cell_world.proofs.world.World.take.Goals as goal
 
 pub value_mut-requires : goal.value_mut-requires

@@ -1,6 +1,6 @@
 -- What follows from a step of the World.
-use Rattle.cell_world.proofs.WorldLaws as law
-use Rattle.cell_world.proofs.Promises.{keeps_promises}
+use Rattle.cell_world.proofs.laws.WorldLaws as law
+use Rattle.cell_world.proofs.whole.Promises.{keeps_promises}
 use Rattle.cell_world.proofs.world.WorldAnyWorld.step_laws.Goals as goal
 
 pub returns : goal.returns

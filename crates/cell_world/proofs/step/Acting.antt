@@ -1,5 +1,5 @@
 -- An action of a party is a legal step, as callers see it.
-use Rattle.std.proofs.Common.{◌≡◌, ◌≢◌, ℕ, ◌<◌, ◌||◌, ◌⊎◌, inl, inr, true, false, List, length, Option, Some, None, is_some, refl, arith, ap, sym, ◌∙◌, subst, get_or-set_same, get_or-set_other, length-set}
+use Rattle.std.proofs.Common.{◌≡◌, ◌≢◌, ℕ, ◌<◌, ◌||◌, ◌⊎◌, inl, inr, true, false, List, length, Option, Some, None, is_some, refl, arith, ap, sym, ◌∙◌, subst, get_or-set_same, get_or-set_other}
 use Rattle.std.proofs.Math.ListN.{set}
 use Rattle.lock_event.specs.declared.event.Entry.{Entry}
 use Rattle.lock_event.specs.declared.event.Mark.TheVariants.{Waiting as Waits_unmarked}
@@ -25,7 +25,7 @@ use Rattle.lock_world.specs.declared.standing.Rest.TheVariants as rest
 use Rattle.lock_world.specs.declared.standing.Stage.{Stage}
 use Rattle.lock_world.specs.declared.standing.Stage.TheVariants.{Outside, Inside, Forgotten}
 use Rattle.lock_world.specs.declared.standing.Within.{Within}
-use Rattle.lock_world.specs.Standings.{inputs_of, call_in, is_possible, is_stepped, is_decided, may_end, decision, refused, IsUndecided, StandsAfter}
+use Rattle.lock_world.specs.Standings.{inputs_of, call_in, is_possible, is_stepped, is_decided, may_end, decision, refused, IsUndecided}
 use Rattle.lock_world.specs.Frame.{is_drop, is_giving_back, is_poll_after_ready, is_refusal}
 use Rattle.lock_world.specs.Refusals.{number_of}
 use Rattle.lock_world.specs.Steps.{Deed, nothing, changes, does, joins, asks, leaves, notifies, notifies_additionally, list_after}
@@ -33,8 +33,8 @@ use Rattle.lock_world.proofs.Equations.{some_eq, none_some}
 use Rattle.lock_table.specs.Stages.{stage_at, stands_as, call_at, polls_again, stage_after}
 use Rattle.lock_table.specs.Tables.{Table}
 use Rattle.lock_table.specs.declared.end.End.TheVariants as «end»
+use Rattle.lock_table.proofs.Acting as acting
 use Rattle.lock_table.proofs.Calls.{call_seen, again_seen, stands_seen, decided_after, decision_seen}
-use Rattle.lock_table.proofs.Views.{length-standings}
 use Rattle.cell_machine.specs.declared.program.Action.{Action}
 use Rattle.cell_machine.specs.declared.program.Action.TheVariants as act
 use Rattle.cell_machine.specs.declared.program.Found.{Found}
@@ -61,13 +61,13 @@ use Rattle.cell_machine.proofs.Contents as contents
 use Rattle.cell_world.specs.State.{World, list_in, standing_of, task_of}
 use Rattle.cell_world.specs.View.{view_of}
 use Rattle.cell_world.specs.Tasks.{task_in, or_before, task_then, makes, list_for, given, is_open}
-use Rattle.cell_world.specs.Legal.{call_of, DecidesOn, IsPossible, gives_something_back, IsItsList, IsAllowed, ChangesOneThing, KnowsTask, Carried, IsGranted, Carries, IsPendingMaker, WaitsInList, Waits, IsCause, IsRefusedForCause, LeavesClear, EndsProperly, Legal}
+use Rattle.cell_world.specs.Legal.{call_of, DecidesOn, gives_something_back, IsItsList, IsAllowed, ChangesOneThing, KnowsTask, Carried, IsGranted, Carries, IsPendingMaker, WaitsInList, Waits, IsCause, IsRefusedForCause, LeavesClear, EndsProperly, Legal}
 use Rattle.cell_world.specs.Steps.{IsCellTable}
-use Rattle.cell_world.proofs.Seen as seen
-use Rattle.cell_world.proofs.Legals as legals
-use Rattle.cell_world.proofs.Legals.{each_has, never_pending, in_list, Standing_well}
-use Rattle.cell_world.proofs.Rows.{said, open_at, is_join, content_then, AllowedAt, Refuses, Reason, Judged, Room, Row, row}
-use Rattle.cell_world.proofs.Turns.{Here, TaskFits}
+use Rattle.cell_world.proofs.table.Seen as seen
+use Rattle.cell_world.proofs.step.Owns as legals
+use Rattle.cell_world.proofs.step.Owns.{each_has, never_pending, in_list, Standing_well}
+use Rattle.cell_world.proofs.step.Rows.{said, open_at, is_join, content_then, AllowedAt, Refuses, Reason, Judged, Room, Row, row}
+use Rattle.cell_world.proofs.step.Here.{Here, TaskFits}
 
 -- ---- Answers
 
@@ -248,6 +248,10 @@ asks_task Active (AskActive z) e = legals.active_for z
 asks_task Passive AskPassive e = refl
 asks_task _ _ e = absurd (cc e)
 
+-- the answer on which the call is decided that a party is in
+abbrev verdict_in : OnceCell → ℕ → Option Answer
+verdict_in s q = verdict (position_at s.positions q)
+
 module _ (t u : Table OnceCell) (m : Move) (a : Answer) (w : Within) where
   abbrev p : ℕ
   p = m.party
@@ -320,15 +324,11 @@ module _ (t u : Table OnceCell) (m : Move) (a : Answer) (w : Within) where
     pub stood : standing_of old p ≡ stands_as (verdict x) s
     stood = seen.standing_seen t p
 
-    stage_new : stage_at u.stages p ≡ stage_after rest.Finished w a
-    stage_new = ap (λ ss. stage_at ss p) k.stages ∙ get_or-set_same t.stages p (stage_after rest.Finished w a) Forgotten k.inside
-
     pub stands : standing_of new p ≡ stands_as (verdict to) (stage_after rest.Finished w a)
-    stands = seen.standing_seen u p ∙ (ap (λ y. stands_as (verdict y) (stage_at u.stages p)) lands_at ∙ ap (stands_as (verdict to)) stage_new)
+    stands = acting.stands verdict_in rest.Finished t u p w a k.inside k.stages ∙ ap (λ y. stands_as (verdict y) (stage_after rest.Finished w a)) lands_at
 
     pub others_stand : (q : ℕ) → q ≢ p → standing_of new q ≡ standing_of old q
-    others_stand q apart = seen.standing_seen u q ∙ (ap (λ y. stands_as (verdict y) (stage_at u.stages q)) (stays q apart)
-        ∙ (ap (stands_as (verdict (position_at xs q))) (ap (λ ss. stage_at ss q) k.stages ∙ get_or-set_other t.stages p q (stage_after rest.Finished w a) Forgotten apart) ∙ sym (seen.standing_seen t q)))
+    others_stand q apart = acting.others_stand verdict_in rest.Finished t u p w a k.inside k.stages q apart (ap verdict (stays q apart))
 
     pub decides : decision a (standing_of new p) ≡ said (next_of from fnd)
     decides = ap (decision a) stands ∙ (decision_seen rest.Finished w a (verdict to) ∙ (ap (λ b. decided_after b (verdict to)) k.answer ∙ said_so from (next_of from fnd)))
@@ -379,7 +379,7 @@ module _ (t u : Table OnceCell) (m : Move) (a : Answer) (w : Within) where
       active = k.acts.active;
       passive = k.acts.passive;
       others = others_stand;
-      parties = length-standings (λ q. verdict (position_at u.machine.positions q)) u.stages ∙ (ap length k.stages ∙ (length-set t.stages p (stage_after rest.Finished w a) ∙ sym (length-standings (λ q. verdict (position_at xs q)) t.stages)));
+      parties = acting.as_many verdict_in rest.Finished t u p w a k.inside k.stages;
       found_memory = λ list e. room_found i p c deed list r.room e;
       parting = λ h. parted i p c from fnd (verdict_of from) (said (next_of from fnd)) r.judged (sym decided_there ∙ h);
       giving_up = λ h. ap (λ b. b || is_maker c p) decided_there ∙ (ap (λ b. is_some (verdict_of from) || b) (sym makes_seen) ∙ r.held_on h);
@@ -539,20 +539,12 @@ module _ (t u : Table OnceCell) (m : Move) (a : Answer) (w : Within) where
     may_end_so h = ap (may_end w.kind) k.answer ∙ ends_by w.kind w.was from fnd k.runs (sym (ap is_stepped k.answer) ∙ h)
 
     ends_properly : EndsProperly old m a new
-    ends_properly = record {
-      stands = λ v e. (let P : Within → Type 0 = λ v. StandsAfter rest.Finished v a (standing_of new p) in subst P (some_eq (sym called ∙ e)) (rw stands (stands_seen rest.Finished w a (verdict to) is_possible_now may_end_so)));
-      as_decided = λ v b e h. decides ∙ kept_on i p c from fnd (verdict_of from) (said (next_of from fnd)) b r.judged (k.here.kept v b (sym stood ∙ e));
-    }
-
-    possible_so : IsPossible old m a new
-    possible_so = record {
-      exactly = ((λ e. let never : is_possible answer.NotPossible ≡ true = ap is_possible (sym e) ∙ is_possible_now in absurd (cc (never))), (λ e. absurd (none_some (sym e ∙ called))));
-      unchanged = λ e. (let never : is_possible answer.NotPossible ≡ true = ap is_possible (sym e) ∙ is_possible_now in absurd (cc (never)));
-    }
+    ends_properly = acting.ends_so standing_of (λ y q. knows) rest.Finished old m a new w called is_possible_now (rw stands (stands_seen rest.Finished w a (verdict to) is_possible_now may_end_so))
+        (λ v b e. decides ∙ kept_on i p c from fnd (verdict_of from) (said (next_of from fnd)) b r.judged (k.here.kept v b (sym stood ∙ e)))
 
     pub legal : Legal old m a new
     legal = record {
-      possible = possible_so;
+      possible = acting.possible_so standing_of (λ y q. knows) rest.Finished old m a new w called is_possible_now;
       one_change = one_change;
       knows_task = knows_task;
       carries = carries;

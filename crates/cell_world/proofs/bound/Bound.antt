@@ -9,7 +9,7 @@ use Rattle.cell_world.specs.Laws.{IsSound, IsAwake, IsFreeAndWanted}
 use Rattle.lock_table.proofs.Bounds.{first_takes, first_marked}
 use Rattle.cell_world.specs.Runs.{known_of}
 use Rattle.cell_world.specs.Bound.{PassesOver, IsBounded}
-use Rattle.cell_world.proofs.Promises.{keeps_promises}
+use Rattle.cell_world.proofs.whole.Promises.{keeps_promises}
 
 never_passed : (w : World) (p : ℕ) (i : Inputs) (a : Answer) (v : World) → PassesOver w p i a v → ⊥
 never_passed w p i a v o =

@@ -1,5 +1,5 @@
 -- What always holds of a once-cell's World, as callers see it.
-use Rattle.std.proofs.Common.{◌≡◌, ℕ, suc, ◌+◌, ◌<◌, ◌≤◌, ◌&&◌, inl, inr, Bool, true, false, List, [], ◌∷◌, length, Option, refl, arith, ap, sym, ◌∙◌, subst}
+use Rattle.std.proofs.Common.{◌≡◌, ℕ, suc, ◌+◌, ◌<◌, ◌≤◌, inl, inr, true, false, List, [], ◌∷◌, length, Option, refl, arith, ap, sym, ◌∙◌, subst}
 use Rattle.std.specs.List.{list_all}
 use Rattle.lock_event.specs.Lists.{is_marked_at}
 use Rattle.lock_queue.specs.Parties.{is_party, entries_of}
@@ -12,8 +12,11 @@ use Rattle.lock_world.specs.declared.standing.Stage.{Stage}
 use Rattle.lock_world.specs.declared.standing.Stage.TheVariants.{Outside, Inside, Forgotten}
 use Rattle.lock_world.specs.declared.standing.Within.{Within}
 use Rattle.lock_world.specs.Standings.{inside, is_outside_stage}
+use Rattle.lock_world.proofs.Equations.{both}
 use Rattle.lock_table.specs.Stages.{stage_at, stands_as}
 use Rattle.lock_table.specs.Tables.{Table}
+use Rattle.lock_table.proofs.Mapped.{past_last}
+use Rattle.lock_table.proofs.Past.{by_stage_or_past, by_stage_or_past_at}
 use Rattle.lock_table.proofs.Views.{rest_seen, outside_at}
 use Rattle.cell_machine.specs.declared.program.ListName.{ListName}
 use Rattle.cell_machine.specs.declared.program.ListName.TheVariants.{Active, Passive}
@@ -29,12 +32,8 @@ use Rattle.cell_world.specs.State.{list_in, standing_of}
 use Rattle.cell_world.specs.View.{view_of}
 use Rattle.cell_world.specs.Laws.{IsSound, IsAwake, IsStillThere, is_at_rest, is_long_call, may_be_maker}
 use Rattle.cell_world.specs.Steps.{IsCellTable}
-use Rattle.cell_world.proofs.Seen as seen
-use Rattle.cell_world.proofs.Legals.{each_has, in_list}
-
-both : (a b : Bool) → a && b ≡ true → (a ≡ true) × (b ≡ true)
-both true b h = (refl, h)
-both false b h = absurd (cc h)
+use Rattle.cell_world.proofs.table.Seen as seen
+use Rattle.cell_world.proofs.step.Owns.{each_has, in_list}
 
 -- a call that is begun may take more than one step
 abandon_unbegun : (x : Place) → is_abandoning x ≡ true → is_begun x ≡ true → ⊥
@@ -124,10 +123,10 @@ module _ (t : Table OnceCell) (laws : IsCell t.machine) (fits : IsCellTable t) w
   pub sound : IsSound (view_of t)
   sound = record {
     each = each_has t laws fits;
-    maker = λ q h. seen.by_stage_or_past_at t.stages q (may_be_maker (standing_of (view_of t) q) ≡ true)
+    maker = λ q h. by_stage_or_past_at t.stages q (may_be_maker (standing_of (view_of t) q) ≡ true)
         (λ past. ap may_be_maker (seen.standing_seen t q ∙ ap (stands_as (verdict (position_at xs q))) past))
         (λ inside. ap may_be_maker (seen.standing_seen t q) ∙ makes_so (stage_at t.stages q) (position_at xs q) (verdict (position_at xs q)) (fits.stands q inside).goes (laws.makers q ∙ h));
-    inside_calls = λ q u d e. seen.by_stage_or_past_at t.stages q (is_long_call u.kind u.was ≡ true)
+    inside_calls = λ q u d e. by_stage_or_past_at t.stages q (is_long_call u.kind u.was ≡ true)
         (λ past. (let h : stands_as (verdict (position_at xs q)) Forgotten ≡ inside u d = ap (stands_as (verdict (position_at xs q))) (sym past) ∙ (sym (seen.standing_seen t q) ∙ e) in absurd (cc (h))))
         (λ inside. long_at (stage_at t.stages q) (position_at xs q) (verdict (position_at xs q)) u d (fits.stands q inside).goes (sym (seen.standing_seen t q) ∙ e));
     once = λ q. omega (arith, laws.active_owners q, laws.passive_owners q, one_listed (position_at xs q));
@@ -151,8 +150,8 @@ module _ (t : Table OnceCell) (laws : IsCell t.machine) (fits : IsCellTable t) w
     positions_rest = all_rest xs (λ q j. resting (stage_at t.stages q) (position_at xs q) (fits.stands q (omega (arith, j, fits.as_many))).goes (outside_at t.stages stages_rest q))
 
     there : (q : ℕ) → (position_at xs q ≡ Out → ⊥) → IsStillThere (standing_of (view_of t) q)
-    there q some = seen.by_stage_or_past t.stages q (IsStillThere (standing_of (view_of t) q))
-        (λ past. absurd (some (seen.past_out xs q (omega (arith, past, fits.as_many)))))
+    there q some = by_stage_or_past t.stages q (IsStillThere (standing_of (view_of t) q))
+        (λ past. absurd (some (past_last xs q Out (omega (arith, past, fits.as_many)))))
         (λ inside. subst IsStillThere (sym (seen.standing_seen t q)) (still_there (stage_at t.stages q) (position_at xs q) (verdict (position_at xs q)) (fits.stands q inside).goes (outside_at t.stages stages_rest q) some))
 
     told : (list : ListName) (v : ℕ) → t.machine.content ≡ Full v → (q : ℕ) → 0 < entries_of q (list_in list (view_of t)) → is_marked_at (is_party q) (list_in list (view_of t)) ≡ true

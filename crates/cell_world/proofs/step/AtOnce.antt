@@ -41,9 +41,9 @@ use Rattle.cell_world.specs.State.{World, is_empty, standing_of, task_of}
 use Rattle.cell_world.specs.View.{view_of}
 use Rattle.cell_world.specs.Tasks.{task_in, or_before, task_then, given}
 use Rattle.cell_world.specs.AtOnce.{AnswersAtOnce, TriesAtOnce, MakesAtOnce, PollsMaker, DropsMaker, is_try, is_poll, would_make, is_first_making, waits_for, is_first_wait, first_answer, maker_answer}
-use Rattle.cell_world.proofs.Rows.{said, content_then}
-use Rattle.cell_world.proofs.Acting.{Acting}
-use Rattle.cell_world.proofs.Acting as acting
+use Rattle.cell_world.proofs.step.Rows.{said, content_then}
+use Rattle.cell_world.proofs.step.Acting.{Acting}
+use Rattle.cell_world.proofs.step.Acting as acting
 
 -- ---- Where calls begin
 

@@ -10,6 +10,8 @@ use Rattle.lock_world.specs.Standings.{inside}
 use Rattle.lock_world.proofs.Equations.{none_some}
 use Rattle.lock_table.specs.Stages.{stage_at, stands_as}
 use Rattle.lock_table.specs.Tables.{Table}
+use Rattle.lock_table.proofs.Mapped.{past_last}
+use Rattle.lock_table.proofs.Past.{by_stage, by_stage_or_past}
 use Rattle.cell_machine.specs.declared.program.ListName.{ListName}
 use Rattle.cell_machine.specs.declared.program.ListName.TheVariants.{Active, Passive}
 use Rattle.cell_machine.specs.declared.program.Maker.{Maker}
@@ -27,7 +29,7 @@ use Rattle.cell_world.specs.View.{view_of}
 use Rattle.cell_world.specs.Tasks.{makes, list_for}
 use Rattle.cell_world.specs.Legal.{HasByTask, HasItsOwn}
 use Rattle.cell_world.specs.Steps.{IsCellTable}
-use Rattle.cell_world.proofs.Seen as seen
+use Rattle.cell_world.proofs.table.Seen as seen
 
 -- what a party's position says of it
 pub record Facts (w : World) (p : ℕ) (x : Position) : Type 0 where
@@ -122,15 +124,15 @@ pub record Standing_well (w : World) : Type 0 where
 
 module _ (t : Table OnceCell) (laws : IsCell t.machine) (fits : IsCellTable t) where
   known : (q v : ℕ) → value_known (position_at t.machine.positions q) ≡ Some v → t.machine.content ≡ Full v
-  known q v e = seen.by_stage_or_past t.stages q (t.machine.content ≡ Full v)
-      (λ past. (let out : value_known (position_at t.machine.positions q) ≡ None = ap value_known (seen.past_out t.machine.positions q (omega (arith, past, fits.as_many))) in absurd (none_some (sym out ∙ e))))
+  known q v e = by_stage_or_past t.stages q (t.machine.content ≡ Full v)
+      (λ past. (let out : value_known (position_at t.machine.positions q) ≡ None = ap value_known (past_last t.machine.positions q Out (omega (arith, past, fits.as_many))) in absurd (none_some (sym out ∙ e))))
       (λ inside. (fits.stands q inside).value v e)
 
   pub facts : (q : ℕ) → Facts (view_of t) q (position_at t.machine.positions q)
   facts q = record { active = laws.active_owners q; passive = laws.passive_owners q; makes = laws.makers q; task = seen.task_seen t q; value = known q }
 
   pub each_has : (q : ℕ) → HasItsOwn (view_of t) q (standing_of (view_of t) q)
-  each_has q = subst (HasItsOwn (view_of t) q) (sym (seen.standing_seen t q)) (seen.by_stage t.stages q (λ s. HasItsOwn (view_of t) q (stands_as (verdict (position_at t.machine.positions q)) s)) tt
+  each_has q = subst (HasItsOwn (view_of t) q) (sym (seen.standing_seen t q)) (by_stage t.stages q (λ s. HasItsOwn (view_of t) q (stands_as (verdict (position_at t.machine.positions q)) s)) tt
       (λ inside. own_by (view_of t) q (stage_at t.stages q) (position_at t.machine.positions q) (fits.stands q inside).goes (facts q)))
 
   pub well : Standing_well (view_of t)

@@ -8,15 +8,13 @@ use Rattle.lock_world.specs.declared.moves.Inputs.{Inputs}
 use Rattle.lock_world.specs.declared.moves.Move.{Move}
 use Rattle.lock_world.specs.declared.moves.What.{What}
 use Rattle.lock_world.specs.declared.moves.What.TheVariants.{Begin, Go}
-use Rattle.lock_world.specs.declared.refusal.Refusal.TheVariants as refusal
-use Rattle.lock_world.specs.declared.standing.Rest.TheVariants as rest
 use Rattle.lock_world.specs.declared.standing.Stage.{Stage}
-use Rattle.lock_world.specs.declared.standing.Stage.TheVariants.{Outside}
 use Rattle.lock_world.specs.declared.standing.Within.{Within}
-use Rattle.lock_world.specs.Standings.{Standing, outside, inside, forgotten, is_decided, decision, refused}
+use Rattle.lock_world.specs.Standings.{Standing, outside, inside, forgotten, is_decided, decision}
 use Rattle.lock_world.proofs.Equations.{some_eq}
 use Rattle.lock_table.specs.Stages.{stage_at, call_at, polls_again}
 use Rattle.lock_table.specs.Tables.{Table}
+use Rattle.lock_table.proofs.Rights.{idle_account, again_account}
 use Rattle.cell_machine.specs.declared.program.Place.{Place}
 use Rattle.cell_machine.specs.declared.program.Position.{Position}
 use Rattle.cell_machine.specs.declared.words.Content.{Content}
@@ -27,13 +25,13 @@ use Rattle.cell_world.specs.State.{World, standing_of}
 use Rattle.cell_world.specs.View.{view_of}
 use Rattle.cell_world.specs.Legal.{call_of, HasItsOwn, Legal}
 use Rattle.cell_world.specs.Laws.{IsSound, IsAwake, is_at_rest}
-use Rattle.cell_world.specs.Steps.{IsCellTable}
+use Rattle.cell_world.specs.Steps.{IsCellTable, TableSteps}
 use Rattle.lock_world.specs.Accounts.{Account, account_after, accounts_after}
 use Rattle.lock_frame.specs.Steps.{StepsWell}
 use Rattle.cell_world.specs.Runs.{Known, Tells, HoldsWell, no_account, learn, value_after}
-use Rattle.cell_world.proofs.Legals.{each_has}
+use Rattle.cell_world.proofs.step.Owns.{each_has}
 use Rattle.cell_world.proofs.Values.{stays_full}
-use Rattle.cell_world.proofs.Stepping.{Way, impossible, over, acts}
+use Rattle.cell_world.proofs.step.Stepping.{by_step}
 
 -- ---- no answer of a cell gives a right
 
@@ -91,19 +89,9 @@ quietly = turn Quietly (record {
   go = λ w x i begun here. quiet_go i;
 })
 
-quiet_impossible : (what : What) → Quiet what answer.NotPossible
-quiet_impossible (Begin call.TryUpgrade i) = refl
-quiet_impossible _ = refl
-
-quiet_again : (s : Stage) (what : What) → polls_again s what ≡ true → Quiet what (refused refusal.Finished)
-quiet_again (Outside rest.Holding) (Begin call.Poll i) h = refl
-quiet_again (Outside rest.Finished) (Begin call.Poll i) h = refl
-quiet_again _ _ h = absurd (cc h)
-
-pub quiet : (t u : Table OnceCell) (m : Move) (a : Answer) → Way t u m a → Quiet m.what a
-quiet t u m a (impossible e ea eu) = let P : Answer → Type 0 = Quiet m.what in subst P (sym ea) (quiet_impossible m.what)
-quiet t u m a (over w e f ea eu) = let P : Answer → Type 0 = Quiet m.what in subst P (sym ea) (quiet_again (stage_at t.stages m.party) m.what f)
-quiet t u m a (acts w k) = (quietly (stage_at t.stages m.party) m.what w (position_at t.machine.positions m.party) (k.old_fits.stands m.party k.inside).goes k.call k.first).holds a
+pub quiet : (t u : Table OnceCell) (m : Move) (a : Answer) → IsCell t.machine → IsCellTable t → IsCell u.machine → IsCellTable u → TableSteps t m a u → Quiet m.what a
+quiet t u m a tl tf ul uf step = by_step t u m a tl tf ul uf (λ b x. Quiet m.what b) (λ e. idle_account no_account m.what) (λ w e f. again_account no_account (stage_at t.stages m.party) m.what f)
+    (λ w k. (quietly (stage_at t.stages m.party) m.what w (position_at t.machine.positions m.party) (k.old_fits.stands m.party k.inside).goes k.call k.first).holds a) step
 
 -- ---- the value that an answer tells is in the cell
 
@@ -147,9 +135,8 @@ chosen true x e = e
 chosen false x e = refl
 
 module _ (k : Known) (t u : Table OnceCell) (m : Move) (a : Answer) where
-  pub holds_well : IsCell t.machine → IsCellTable t → Legal (view_of t) m a (view_of u) → Way t u m a → Tells k (view_of t) → IsSound (view_of u) → (is_at_rest (view_of u) ≡ true → IsAwake (view_of u)) → StepsWell Tells HoldsWell (learn k m a) (view_of u)
-  holds_well laws fits l way tells sound awake = (
-      let quietly : Quiet m.what a = quiet t u m a way in
+  pub holds_well : IsCell t.machine → IsCellTable t → Legal (view_of t) m a (view_of u) → Quiet m.what a → Tells k (view_of t) → IsSound (view_of u) → (is_at_rest (view_of u) ≡ true → IsAwake (view_of u)) → StepsWell Tells HoldsWell (learn k m a) (view_of u)
+  holds_well laws fits l quietly tells sound awake = (
       let rights : (q : ℕ) → accounts_after k.accounts m a q ≡ no_account = λ q. rw (tells.rights q) (chosen (m.party == q) (account_after no_account m.what a) quietly) in
       let value : (v : ℕ) → value_after k.value a ≡ Some v → (view_of u).cell ≡ Full v = λ v e. value_on k.value a (view_of u).cell v e (λ z is. told_value (view_of t) m a (view_of u) l (each_has t laws fits m.party) z is) (λ z is. stays_full (view_of t) m a (view_of u) l z (tells.value z is)) in
       record {

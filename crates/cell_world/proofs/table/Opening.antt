@@ -1,5 +1,5 @@
 -- A new table is seen as a new World.
-use Rattle.std.proofs.Common.{◌≡◌, ℕ, zero, suc, List, ◌∷◌, map, refl, ap}
+use Rattle.std.proofs.Common.{◌≡◌, ℕ, List}
 use Rattle.lock_event.specs.declared.event.Entry.{Entry}
 use Rattle.lock_world.specs.Standings.{Standing}
 use Rattle.lock_table.specs.Tables.{Table}
@@ -12,17 +12,14 @@ use Rattle.cell_world.specs.State.{World}
 use Rattle.cell_world.specs.View.{view_of}
 use Rattle.std.proofs.Common.{replicate}
 use Rattle.lock_table.specs.Tables.{new_table}
+use Rattle.lock_table.proofs.Mapped.{mapped_alike}
 use Rattle.lock_table.proofs.Views.{all_idle}
 use Rattle.cell_machine.specs.Machine.{new_cell}
 use Rattle.cell_world.specs.State.{new_world}
-
-mapped : {A B : Type 0} (f : A → B) (n : ℕ) (x : A) → map f (replicate n x) ≡ replicate n (f x)
-mapped f zero x = refl
-mapped f (suc n) x = ap (λ l. f x ∷ l) (mapped f n x)
 
 made_so : (c : Content) (es fs : List (Entry ℕ)) (ts ts' : List Standing) (ns ns' : List Task) (t : Table OnceCell) → ts ≡ ts' → ns ≡ ns'
     → Path World (record { cell = c; active = es; passive = fs; standings = ts; tasks = ns; behind = t }) (record { cell = c; active = es; passive = fs; standings = ts'; tasks = ns'; behind = t })
 made_so c es fs ts ts' ns ns' t e d = cc
 
 pub starts_new : (parties : ℕ) → view_of (new_table (new_cell parties) parties 0) ≡ new_world parties
-starts_new parties = made_so Empty _ _ _ _ _ _ _ (all_idle parties (λ p. verdict (position_at (replicate parties Out) p))) (mapped task_at parties Out)
+starts_new parties = made_so Empty _ _ _ _ _ _ _ (all_idle parties (λ p. verdict (position_at (replicate parties Out) p))) (mapped_alike task_at parties Out)

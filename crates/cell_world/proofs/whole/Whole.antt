@@ -4,17 +4,15 @@ use Rattle.lock_event.specs.declared.event.Entry.{Entry}
 use Rattle.lock_event.specs.Lists.{is_marked_at}
 use Rattle.lock_queue.specs.Parties.{is_party, entries_of}
 use Rattle.lock_world.specs.declared.moves.Answer.{Answer}
-use Rattle.lock_world.specs.declared.moves.Answer.TheVariants as answer
 use Rattle.lock_world.specs.declared.moves.Call.{Call}
 use Rattle.lock_world.specs.declared.moves.Call.TheVariants as call
 use Rattle.lock_world.specs.declared.moves.Inputs.{Inputs}
 use Rattle.lock_world.specs.declared.moves.Move.{Move}
 use Rattle.lock_world.specs.declared.moves.What.{What}
 use Rattle.lock_world.specs.declared.moves.What.TheVariants.{Begin, Go}
-use Rattle.lock_world.specs.declared.refusal.Refusal.TheVariants as refusal
 use Rattle.lock_world.specs.declared.standing.Stage.{Stage}
 use Rattle.lock_world.specs.declared.standing.Within.{Within}
-use Rattle.lock_world.specs.Standings.{inputs_of, refused}
+use Rattle.lock_world.specs.Standings.{inputs_of}
 use Rattle.lock_world.proofs.Equations.{some_eq}
 use Rattle.lock_table.specs.Stages.{stage_at, call_at, polls_again}
 use Rattle.lock_table.specs.Tables.{Table}
@@ -28,17 +26,18 @@ use Rattle.cell_machine.specs.declared.words.Content.{Content}
 use Rattle.cell_machine.specs.Program.{action_of, next_of}
 use Rattle.cell_machine.specs.Seats.{in_active, in_passive_at}
 use Rattle.cell_machine.specs.Deeds.{deed_of, active_after, passive_after, Finds}
-use Rattle.cell_machine.specs.Machine.{OnceCell, knows, goes_with, position_at, answer_by}
+use Rattle.cell_machine.specs.Machine.{OnceCell, IsCell, knows, goes_with, position_at, answer_by}
 use Rattle.cell_machine.proofs.Kept.{after}
 use Rattle.cell_machine.proofs.Turns.{Turn, turn}
 use Rattle.lock_world.specs.Whole.{going_on}
 use Rattle.lock_frame.specs.Steps.{left_by, beginning}
 use Rattle.lock_table.proofs.Lists.{joined_unmarked}
 use Rattle.cell_machine.specs.Ranks.{left, left_at, active_marked, passive_marked, steps_left}
+use Rattle.cell_world.specs.Steps.{IsCellTable, TableSteps}
 use Rattle.cell_world.specs.Whole.{most_steps_of}
-use Rattle.cell_world.proofs.Acting.{Acting}
-use Rattle.cell_world.proofs.Acting as acting
-use Rattle.cell_world.proofs.Stepping.{Way, impossible, over, acts}
+use Rattle.cell_world.proofs.step.Acting.{Acting}
+use Rattle.cell_world.proofs.step.Acting as acting
+use Rattle.cell_world.proofs.step.Stepping.{by_step}
 
 -- how many steps are left once this was found, by whether the party's own entries are marked then
 abbrev pub Left : Place → Found → Bool → Bool → ℕ
@@ -196,9 +195,6 @@ module _ (t u : Table OnceCell) (m : Move) (a : Answer) where
       ∙ (ap (λ b. Left k.from k.found b (passive_marked u.machine p)) marks ∙ ap (λ b. Left k.from k.found (is_marked_at (is_party p) (active_after p (deed_of (action_of k.from) k.found) t.machine.active)) b) marks')) in
       rw same here
 
-  nothing_left : (b : Answer) → a ≡ b → (n : ℕ) → left_by b n ≡ 0 → left_by a n ≡ 0
-  nothing_left b e n z = ap (λ x. left_by x n) e ∙ z
-
   pub from_turn : (w : Within) (k : Acting t u m a w) → Within_most (stage_at t.stages p) m.what w (position_at t.machine.positions p) k.from
   from_turn w k =
       let turned = within_most (stage_at t.stages p) m.what w (position_at t.machine.positions p) (k.old_fits.stands p k.inside).goes k.call k.first in
@@ -206,18 +202,13 @@ module _ (t u : Table OnceCell) (m : Move) (a : Answer) where
       let P : Place → Type 0 = λ y. Within_most (stage_at t.stages p) m.what w (position_at t.machine.positions p) y in
       subst P same turned.holds
 
-  some_here : 0 < steps_left t.machine p
-  some_here = some_at (position_at t.machine.positions p) (active_marked t.machine p) (passive_marked t.machine p)
+module _ (t u : Table OnceCell) (tl : IsCell t.machine) (tf : IsCellTable t) (ul : IsCell u.machine) (uf : IsCellTable u) (p : ℕ) (i : Inputs) (a : Answer) where
+  pub begins_few : (c : Call) → TableSteps t (beginning p c i) a u → 1 + left_by a (steps_left u.machine p) ≤ most_steps_of c
+  begins_few c step = by_step t u (beginning p c i) a tl tf ul uf (λ b x. 1 + left_by b (steps_left x.machine p) ≤ most_steps_of c) (λ e. one_at_least c) (λ w e f. one_at_least c)
+      (λ w k. let few = from_turn t u (beginning p c i) a w k (active_marked t.machine p) (passive_marked t.machine p) in omega (arith, less t u (beginning p c i) a w k, few)) step
 
-pub begins_few : (t u : Table OnceCell) (p : ℕ) (c : Call) (i : Inputs) (a : Answer) → Way t u (beginning p c i) a → 1 + left_by a (steps_left u.machine p) ≤ most_steps_of c
-begins_few t u p c i a (impossible e ea eu) = let none = nothing_left t u (beginning p c i) a answer.NotPossible ea (steps_left u.machine p) refl in omega (arith, one_at_least c)
-begins_few t u p c i a (over w e f ea eu) = let none = nothing_left t u (beginning p c i) a (refused refusal.Finished) ea (steps_left u.machine p) refl in omega (arith, one_at_least c)
-begins_few t u p c i a (acts w k) = let few = from_turn t u (beginning p c i) a w k (active_marked t.machine p) (passive_marked t.machine p) in omega (arith, less t u (beginning p c i) a w k, few)
-
-pub falls : (t u : Table OnceCell) (p : ℕ) (i : Inputs) (a : Answer) → Way t u (going_on p i) a → left_by a (steps_left u.machine p) < steps_left t.machine p
-falls t u p i a (impossible e ea eu) = let none = nothing_left t u (going_on p i) a answer.NotPossible ea (steps_left u.machine p) refl in omega (arith, some_here t u (going_on p i) a)
-falls t u p i a (over w e f ea eu) = let none = nothing_left t u (going_on p i) a (refused refusal.Finished) ea (steps_left u.machine p) refl in omega (arith, some_here t u (going_on p i) a)
-falls t u p i a (acts w k) =
-    let at : position_at t.machine.positions p ≡ At k.from = from_turn t u (going_on p i) a w k in
-    let same : steps_left t.machine p ≡ left k.from (active_marked t.machine p) (passive_marked t.machine p) = ap (λ x. left_at x (active_marked t.machine p) (passive_marked t.machine p)) at in
-    rw same (less t u (going_on p i) a w k)
+  pub falls : TableSteps t (going_on p i) a u → left_by a (steps_left u.machine p) < steps_left t.machine p
+  falls step =
+      let some = some_at (position_at t.machine.positions p) (active_marked t.machine p) (passive_marked t.machine p) in
+      by_step t u (going_on p i) a tl tf ul uf (λ b x. left_by b (steps_left x.machine p) < steps_left t.machine p) (λ e. some) (λ w e f. some)
+      (λ w k. let P : Position → Type 0 = λ x. left_by a (steps_left u.machine p) < left_at x (active_marked t.machine p) (passive_marked t.machine p) in subst P (sym (from_turn t u (going_on p i) a w k)) (less t u (going_on p i) a w k)) step

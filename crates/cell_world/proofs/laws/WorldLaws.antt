@@ -21,10 +21,9 @@ use Rattle.lock_frame.specs.Steps.{StepsWell, left_by, beginning}
 use Rattle.lock_frame.proofs.Endings.{ends_outside as outside_at_end}
 use Rattle.cell_world.specs.Runs.{Known, Tells, HoldsWell, known_of, learn}
 use Rattle.cell_world.specs.Whole.{most_steps_of, steps_left_of}
-use Rattle.cell_world.proofs.Sound.{sound, awake}
-use Rattle.cell_world.proofs.Stepping.{Way, way}
-use Rattle.cell_world.proofs.Rights.{holds_well}
-use Rattle.cell_world.proofs.Whole as whole
+use Rattle.cell_world.proofs.laws.Sound.{sound, awake}
+use Rattle.cell_world.proofs.rights.Rights.{quiet, holds_well}
+use Rattle.cell_world.proofs.whole.Whole as whole
 
 value_full : (c : Content) (v : ℕ) → value_in c ≡ Some v → c ≡ Full v
 value_full Empty v e = absurd (none_some e)
@@ -34,23 +33,20 @@ value_full (Full u) v e = ap Full (some_eq e)
 pub told_at_first : (w : World) → Tells (known_of w) w
 told_at_first w = record { rights = λ p. refl; value = λ v e. value_full w.cell v e }
 
-way_of : (w : World) (m : Move) (a : Answer) (v : World) → Steps w m a v → Way w.behind v.behind m a
-way_of w m a v s = way w.behind v.behind m a s.did.stood.cell s.did.stood.fits s.did.stands.cell s.did.stands.fits s.did.step
-
 pub goes_well : (k : Known) (w : World) (m : Move) (a : Answer) (v : World) → Tells k w → Steps w m a v → StepsWell Tells HoldsWell (learn k m a) v
 goes_well k w m a v tells s =
     let P : World → Type 0 = StepsWell Tells HoldsWell (learn k m a) in
     let Q : World → Type 0 = Tells k in
     let L : World → World → Type 0 = λ x y. Legal x m a y in
     let R : World → Type 0 = λ x. L x v in
-    subst P (sym s.did.stands.seen) (holds_well k w.behind v.behind m a s.did.stood.cell s.did.stood.fits (subst (L (view_of w.behind)) s.did.stands.seen (subst R s.did.stood.seen s.legal)) (way_of w m a v s) (subst Q s.did.stood.seen tells)
+    subst P (sym s.did.stands.seen) (holds_well k w.behind v.behind m a s.did.stood.cell s.did.stood.fits (subst (L (view_of w.behind)) s.did.stands.seen (subst R s.did.stood.seen s.legal)) (quiet w.behind v.behind m a s.did.stood.cell s.did.stood.fits s.did.stands.cell s.did.stands.fits s.did.step) (subst Q s.did.stood.seen tells)
     (sound v.behind s.did.stands.cell s.did.stands.fits) (awake v.behind s.did.stands.cell s.did.stands.fits))
 
 pub begins_few : (w : World) (p : ℕ) (c : Call) (i : Inputs) (a : Answer) (v : World) → Steps w (beginning p c i) a v → 1 + left_by a (steps_left_of v p) ≤ most_steps_of c
-begins_few w p c i a v s = whole.begins_few w.behind v.behind p c i a (way_of w (beginning p c i) a v s)
+begins_few w p c i a v s = whole.begins_few w.behind v.behind s.did.stood.cell s.did.stood.fits s.did.stands.cell s.did.stands.fits p i a c s.did.step
 
 pub falls : (w : World) (p : ℕ) (i : Inputs) (a : Answer) (v : World) → Steps w (going_on p i) a v → left_by a (steps_left_of v p) < steps_left_of w p
-falls w p i a v s = whole.falls w.behind v.behind p i a (way_of w (going_on p i) a v s)
+falls w p i a v s = whole.falls w.behind v.behind s.did.stood.cell s.did.stood.fits s.did.stands.cell s.did.stands.fits p i a s.did.step
 
 pub ends_outside : (w : World) (m : Move) (a : Answer) (v : World) → Steps w m a v → a ≢ answer.Stepped → is_possible a ≡ true → is_outside (standing_of v m.party) ≡ true
 ends_outside w m a v s = outside_at_end standing_of (λ x p. knows) rest.Finished w m a v s.legal.possible s.legal.ends_properly

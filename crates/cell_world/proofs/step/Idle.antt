@@ -1,5 +1,5 @@
 -- A move that does nothing is a legal step: one that its party may not make, and a poll of a future that has been ready.
-use Rattle.std.proofs.Common.{◌≡◌, ℕ, inl, Bool, true, false, Some, None, refl, arith, sym, ◌∙◌, subst}
+use Rattle.std.proofs.Common.{◌≡◌, ℕ, inl, Bool, true, false, None, refl, sym, ◌∙◌, subst}
 use Rattle.lock_queue.specs.Parties.{entries_of}
 use Rattle.lock_world.specs.declared.moves.Answer.{Answer}
 use Rattle.lock_world.specs.declared.moves.Answer.TheVariants as answer
@@ -9,33 +9,22 @@ use Rattle.lock_world.specs.declared.moves.What.{What}
 use Rattle.lock_world.specs.declared.moves.What.TheVariants.{Begin}
 use Rattle.lock_world.specs.declared.refusal.Refusal.TheVariants as refusal
 use Rattle.lock_world.specs.declared.standing.Rest.TheVariants as rest
-use Rattle.lock_world.specs.declared.standing.Within.{Within}
-use Rattle.lock_world.specs.Standings.{Standing, outside, inside, forgotten, call_in, refused, Decides, StandsAfter}
+use Rattle.lock_world.specs.Standings.{Standing, outside, call_in, refused}
 use Rattle.lock_world.specs.Frame.{is_drop, is_poll_after_ready}
 use Rattle.lock_world.specs.Steps.{nothing}
-use Rattle.lock_world.proofs.Equations.{some_eq, none_some}
+use Rattle.lock_world.proofs.Equations.{none_some}
+use Rattle.lock_table.proofs.Idle as idle
+use Rattle.lock_table.proofs.Idle.{Idle, same_decides}
 use Rattle.cell_machine.specs.declared.words.Content.TheVariants.{Empty, BeingMade, Full}
 use Rattle.cell_machine.specs.Seats.{Task}
 use Rattle.cell_machine.specs.Machine.{knows, is_maker}
 use Rattle.cell_world.specs.State.{World, standing_of, task_of}
-use Rattle.cell_world.specs.Tasks.{task_in, is_open}
-use Rattle.cell_world.specs.Legal.{call_of, ChangesOneThing, Legal}
+use Rattle.cell_world.specs.Tasks.{task_in}
+use Rattle.cell_world.specs.Legal.{call_of, IsCause, ChangesOneThing, Legal}
 use Rattle.cell_world.specs.AtOnce.{AnswersAtOnce, is_try, is_poll, is_first_making, is_first_wait}
-use Rattle.cell_world.proofs.Legals.{Standing_well}
-
--- where nothing moves, nothing is decided but the answer
-same_decides : (s : Standing) (a b : Answer) → Decides s a s b → b ≡ a
-same_decides (outside r) a b d = sym (some_eq d.1)
-same_decides (inside w None) a b d = absurd (none_some d.1)
-same_decides (inside w (Some c)) a b d = absurd (cc (d.0))
-same_decides forgotten a b d = sym (some_eq d.1)
+use Rattle.cell_world.proofs.step.Owns.{Standing_well}
 
 -- which moves are possible
-again_possible : (s : Standing) (what : What) → is_poll_after_ready s what ≡ true → call_in knows s what ≡ None → ⊥
-again_possible (outside rest.Holding) (Begin call.Poll i) h e = cc
-again_possible (outside rest.Finished) (Begin call.Poll i) h e = cc
-again_possible _ _ h e = cc
-
 module _ (t : Task) (n : ℕ) (b : Bool) where
   pub making_possible : (s : Standing) (what : What) → is_first_making s what t n b ≡ true → call_in knows s what ≡ None → ⊥
   making_possible (outside rest.Idle) (Begin call.Initialize i) h e = cc
@@ -63,13 +52,10 @@ pub record Again (s : Standing) (what : What) : Type 0 where
   pub pending : s ≡ outside rest.Pending → ⊥
   pub drop : is_drop what ≡ false
   pub task : task_in what ≡ None
-  pub shut : is_open s ≡ false
-  pub stands : (w : Within) → call_in knows s what ≡ Some w → StandsAfter rest.Finished w (refused refusal.Finished) s
-  pub out : (w : Within) (b : Answer) → s ≡ inside w (Some b) → ⊥
 
 pub again : (s : Standing) (what : What) → is_poll_after_ready s what ≡ true → Again s what
-again (outside rest.Holding) (Begin call.Poll i) h = record { try = refl; making = λ t n b. refl; waiting = λ t n. refl; pending = λ e. cc; drop = refl; task = refl; shut = refl; stands = λ w e. (let P : Within → Type 0 = λ w. StandsAfter rest.Finished w (refused refusal.Finished) (outside rest.Holding) in subst P (some_eq e) (refl, refl)); out = λ w b e. cc }
-again (outside rest.Finished) (Begin call.Poll i) h = record { try = refl; making = λ t n b. refl; waiting = λ t n. refl; pending = λ e. cc; drop = refl; task = refl; shut = refl; stands = λ w e. (let P : Within → Type 0 = λ w. StandsAfter rest.Finished w (refused refusal.Finished) (outside rest.Finished) in subst P (some_eq e) (refl, refl)); out = λ w b e. cc }
+again (outside rest.Holding) (Begin call.Poll i) h = record { try = refl; making = λ t n b. refl; waiting = λ t n. refl; pending = λ e. cc; drop = refl; task = refl }
+again (outside rest.Finished) (Begin call.Poll i) h = record { try = refl; making = λ t n b. refl; waiting = λ t n. refl; pending = λ e. cc; drop = refl; task = refl }
 again _ _ h = absurd (cc)
 
 module _ (w : World) (m : Move) (well : Standing_well w) where
@@ -85,9 +71,12 @@ module _ (w : World) (m : Move) (well : Standing_well w) where
   still_one : ChangesOneThing w m w
   still_one = record { deed = nothing; allowed = tt; cell = refl; active = refl; passive = refl; others = λ q apart. refl; parties = refl; found_memory = λ list e. absurd (cc); parting = λ h. refl; giving_up = λ h. absurd (cc) }
 
+  abbrev Still : Answer → Type 0
+  Still = Idle standing_of (λ x p. knows) rest.Finished IsCause w m refl
+
   pub impossible : call_of w m ≡ None → Legal w m answer.NotPossible w
-  impossible none = record {
-    possible = record { exactly = ((λ e. none), (λ e. refl)); unchanged = λ e. refl };
+  impossible none = let still : Still answer.NotPossible = idle.impossible standing_of (λ x p. knows) rest.Finished IsCause w m refl none in record {
+    possible = still.possible;
     one_change = still_one;
     knows_task = record { begun = λ t e h o. absurd (cc h); going = λ e h o. inl refl; others = λ q apart. refl };
     carries = record {
@@ -97,13 +86,9 @@ module _ (w : World) (m : Move) (well : Standing_well w) where
       emptied = λ made empty. absurd (not_both made empty);
     };
     waits = record { waiting = λ e. absurd (cc); not_before = well.never_pending m.party };
-    refused_for_cause = record {
-      cause = λ n d. (let e = same_decides s answer.NotPossible (answer.Refused n) d in absurd (cc));
-      memory = λ d. (let e = same_decides s answer.NotPossible (refused refusal.Memory) d in absurd (cc));
-      after_ready = ((λ e. absurd (cc)), (λ e. absurd (again_possible s m.what e none)));
-    };
+    refused_for_cause = still.refused_for_cause;
     leaves_clear = record { each = well.each; refused = λ h. absurd (cc); refused_maker = λ h. absurd (cc) };
-    ends_properly = record { stands = λ u e. absurd (none_some (sym none ∙ e)); as_decided = λ u b e h. absurd (cc) };
+    ends_properly = still.ends_properly;
   }
 
   pub impossible_at_once : call_of w m ≡ None → AnswersAtOnce w m answer.NotPossible w
@@ -119,12 +104,9 @@ module _ (w : World) (m : Move) (well : Standing_well w) where
     abbrev so : Again s m.what
     so = again s m.what h
 
-    refused_so : (n : ℕ) → answer.Refused n ≡ refused refusal.Finished → n ≡ 6
-    refused_so n e = cc
-
-    pub over : (call_of w m ≡ None → ⊥) → Legal w m (refused refusal.Finished) w
-    over some = record {
-      possible = record { exactly = ((λ e. absurd (cc)), (λ e. absurd (some e))); unchanged = λ e. refl };
+    pub over : Legal w m (refused refusal.Finished) w
+    over = let still : Still (refused refusal.Finished) = idle.over standing_of (λ x p. knows) rest.Finished IsCause w m refl h refl in record {
+      possible = still.possible;
       one_change = still_one;
       knows_task = record { begun = λ t e h o. absurd (none_some (sym so.task ∙ e)); going = λ e h o. inl refl; others = λ q apart. refl };
       carries = record {
@@ -134,13 +116,9 @@ module _ (w : World) (m : Move) (well : Standing_well w) where
         emptied = λ made empty. absurd (not_both made empty);
       };
       waits = record { waiting = λ e. absurd (cc); not_before = well.never_pending m.party };
-      refused_for_cause = record {
-        cause = λ n d. (refusal.Finished, refused_so n (same_decides s (refused refusal.Finished) (answer.Refused n) d), refl);
-        memory = λ d. (let e : 1 ≡ 6 = refused_so 1 (same_decides s (refused refusal.Finished) (refused refusal.Memory) d) in absurd (omega arith));
-        after_ready = ((λ e. h), (λ e. refl));
-      };
+      refused_for_cause = still.refused_for_cause;
       leaves_clear = record { each = well.each; refused = λ h. absurd (cc); refused_maker = λ h. absurd (cc) };
-      ends_properly = record { stands = λ u e. so.stands u e; as_decided = λ u b e h. absurd (so.out u b e) };
+      ends_properly = still.ends_properly;
     }
 
     pub over_at_once : AnswersAtOnce w m (refused refusal.Finished) w

@@ -22,8 +22,8 @@ use Rattle.cell_machine.specs.Seats.{Task, fills_with, failed, task_at, task_of 
 use Rattle.cell_machine.specs.Machine.{knows, goes_with, is_begun}
 use Rattle.cell_machine.proofs.Turns.{Turn, turn}
 use Rattle.cell_world.specs.Tasks.{task_in, or_before, list_for}
-use Rattle.cell_world.proofs.Rows.{is_join}
-use Rattle.cell_world.proofs.Legals.{active_for}
+use Rattle.cell_world.proofs.step.Rows.{is_join}
+use Rattle.cell_world.proofs.step.Owns.{active_for}
 
 -- what an action needs of the party's task: who joins, asks or leaves does so in the list of its future; who fills has the value; who empties drops, or its maker failed; who tells all knows what the cell has
 abbrev pub TaskFits : Action → What → Position → Type 0

@@ -24,6 +24,8 @@ use Rattle.lock_world.proofs.Equations.{some_none}
 use Rattle.lock_table.specs.Stages.{stage_at, stands_as, call_at, polls_again}
 use Rattle.lock_table.specs.Tables.{Table}
 use Rattle.lock_table.proofs.Calls.{call_seen, again_seen}
+use Rattle.lock_table.proofs.Mapped.{past_last}
+use Rattle.lock_table.proofs.Past.{by_stage_or_past}
 use Rattle.cell_machine.specs.declared.program.Action.{Action}
 use Rattle.cell_machine.specs.declared.program.Action.TheVariants as act
 use Rattle.cell_machine.specs.declared.program.Found.{Found}
@@ -40,7 +42,7 @@ use Rattle.cell_machine.specs.declared.words.Content.TheVariants.{Empty, BeingMa
 use Rattle.cell_machine.specs.Program.{action_of, next_of}
 use Rattle.cell_machine.specs.Seats.{Task, no_task, initializes, sets, waits_only, fills_with, failed, task_by, task_at, task_of as place_task, in_active, verdict}
 use Rattle.cell_machine.specs.Deeds.{list_of, deed_of, content_after, active_after, passive_after, Finds}
-use Rattle.cell_machine.specs.Machine.{OnceCell, knows, goes_with, runs, is_maker, position_at, answer_by}
+use Rattle.cell_machine.specs.Machine.{OnceCell, IsCell, knows, goes_with, runs, is_maker, position_at, answer_by}
 use Rattle.cell_machine.proofs.Kept.{after}
 use Rattle.cell_machine.proofs.Turns.{fits}
 use Rattle.cell_machine.proofs.Contents as contents
@@ -49,8 +51,8 @@ use Rattle.cell_world.specs.View.{view_of}
 use Rattle.cell_world.specs.Tasks.{or_before, task_then, given}
 use Rattle.cell_world.specs.Legal.{call_of}
 use Rattle.cell_world.specs.AtOnce.{is_first_making}
-use Rattle.cell_world.specs.Steps.{IsCellTable, Stands, Steps}
-use Rattle.cell_world.proofs.Seen as seen
+use Rattle.cell_world.specs.Steps.{IsCellTable, TableSteps, Stands, Steps}
+use Rattle.cell_world.proofs.table.Seen as seen
 use Rattle.std.proofs.Common.{◌-◌}
 use Rattle.lock_event.proofs.Marks.{length-mark_waiting}
 use Rattle.lock_event.proofs.Counts.{marked_count-notified}
@@ -61,13 +63,13 @@ use Rattle.lock_frame.specs.Steps.{beginning}
 use Rattle.lock_frame.proofs.Runs.{Onward, along}
 use Rattle.cell_world.specs.Runs.{Known, HoldsWell, learn, Runs}
 use Rattle.cell_world.specs.Bound.{IsSolo, ComesTo, Promises}
-use Rattle.cell_world.proofs.Rows.{content_then, gave, gave_failure, pends, never_found}
-use Rattle.cell_world.proofs.Idle.{again, making_possible}
-use Rattle.cell_world.proofs.Acting.{Acting}
-use Rattle.cell_world.proofs.Acting as acting
-use Rattle.cell_world.proofs.Stepping.{Way, impossible, over, acts, way, door}
-use Rattle.cell_world.proofs.AtOnce.{Entrance}
-use Rattle.cell_world.proofs.Whole.{from_turn}
+use Rattle.cell_world.proofs.step.Rows.{content_then, gave, gave_failure, pends, never_found}
+use Rattle.cell_world.proofs.step.Idle.{again, making_possible}
+use Rattle.cell_world.proofs.step.Acting.{Acting}
+use Rattle.cell_world.proofs.step.Acting as acting
+use Rattle.cell_world.proofs.step.Stepping.{by_step, door}
+use Rattle.cell_world.proofs.step.AtOnce.{Entrance}
+use Rattle.cell_world.proofs.whole.Whole.{from_turn}
 
 at_same : (x y : Place) → At x ≡ At y → x ≡ y
 at_same x y e = cc
@@ -94,8 +96,8 @@ again_goes i (Inside v) h = cc h
 again_goes i Forgotten h = cc h
 
 may_go : (t : Table OnceCell) (p : ℕ) (i : Inputs) (y : Place) → IsCellTable t → position_at t.machine.positions p ≡ At y → call_at knows (stage_at t.stages p) (Go i) ≡ None → ⊥
-may_go t p i y fits at none = seen.by_stage_or_past t.stages p ⊥
-    (λ past. (let out : position_at t.machine.positions p ≡ Out = seen.past_out t.machine.positions p (omega (arith, past, fits.as_many)) in let never : At y ≡ Out = sym at ∙ out in cc never))
+may_go t p i y fits at none = by_stage_or_past t.stages p ⊥
+    (λ past. (let out : position_at t.machine.positions p ≡ Out = past_last t.machine.positions p Out (omega (arith, past, fits.as_many)) in let never : At y ≡ Out = sym at ∙ out in cc never))
     (λ inside. (let P : Position → Type 0 = λ x. goes_with (stage_at t.stages p) x ≡ true in stage_goes i y (stage_at t.stages p) (subst P at (fits.stands p inside).goes) none))
 
 -- ---- who makes comes to what its maker gives
@@ -217,17 +219,16 @@ module _ (p : ℕ) (i : Inputs) (t : Task) where
       )
 
   comes_on : (x : World) (b : Answer) (y : World) → IsComing x → Steps x (going_on p i) b y → Onwards b y
-  comes_on x b y g s = subst (λ z. Onwards b z) (sym s.did.stands.seen) (by_way (way x.behind y.behind (going_on p i) b s.did.stood.cell s.did.stood.fits s.did.stands.cell s.did.stands.fits s.did.step)) where
-    seen_so : (y : Place) → Coming y x.cell x.active → Coming y x.behind.machine.content x.behind.machine.active
-    seen_so y h = let P : World → Type 0 = λ z. Coming y z.cell z.active in subst P s.did.stood.seen h
+  comes_on x b y g s = subst (λ z. Onwards b z) (sym s.did.stands.seen) (by_step x.behind y.behind (going_on p i) b s.did.stood.cell s.did.stood.fits s.did.stands.cell s.did.stands.fits (λ c z. Onwards c (view_of z))
+      (λ e. absurd (may_go x.behind p i g.0 s.did.stood.fits g.1 e)) (λ w e f. absurd (again_goes i (stage_at x.behind.stages p) f)) goes_there s.did.step) where
+        seen_so : (y : Place) → Coming y x.cell x.active → Coming y x.behind.machine.content x.behind.machine.active
+        seen_so y h = let P : World → Type 0 = λ z. Coming y z.cell z.active in subst P s.did.stood.seen h
 
-    by_way : Way x.behind y.behind (going_on p i) b → Onwards b (view_of y.behind)
-    by_way (impossible e ea eu) = absurd (may_go x.behind p i g.0 s.did.stood.fits g.1 e)
-    by_way (over w e f ea eu) = absurd (again_goes i (stage_at x.behind.stages p) f)
-    by_way (acts w k) =
-        let at : g.0 ≡ k.from = at_same g.0 k.from (sym g.1 ∙ from_turn x.behind y.behind (going_on p i) b w k) in
-        let Q : Place → Type 0 = λ y. Coming y x.behind.machine.content x.behind.machine.active in
-        acted x.behind y.behind (Go i) b w k refl (subst Q at (seen_so g.0 g.2))
+        goes_there : (w : Within) → Acting x.behind y.behind (going_on p i) b w → Onwards b (view_of y.behind)
+        goes_there w k =
+            let at : g.0 ≡ k.from = at_same g.0 k.from (sym g.1 ∙ from_turn x.behind y.behind (going_on p i) b w k) in
+            let Q : Place → Type 0 = λ y. Coming y x.behind.machine.content x.behind.machine.active in
+            acted x.behind y.behind (Go i) b w k refl (subst Q at (seen_so g.0 g.2))
 
   -- where a call begins that comes to this
   pub record Begins (w : World) (c : Call) : Type 0 where
@@ -236,20 +237,16 @@ module _ (p : ℕ) (i : Inputs) (t : Task) where
     pub from : (b : Answer) (y : World) (s : Steps w (beginning p c i) b y) (z : Within) (k : Acting w.behind y.behind (beginning p c i) b z) → Coming k.from w.behind.machine.content w.behind.machine.active
 
   comes_begun : (w : World) (c : Call) (b : Answer) (y : World) → Begins w c → Steps w (beginning p c i) b y → Onwards b y
-  comes_begun w c b y g s = subst (λ z. Onwards b z) (sym s.did.stands.seen) (by_way (way w.behind y.behind (beginning p c i) b s.did.stood.cell s.did.stood.fits s.did.stands.cell s.did.stands.fits s.did.step)) where
-    standing_here : standing_of w p ≡ stands_as (verdict (position_at w.behind.machine.positions p)) (stage_at w.behind.stages p)
-    standing_here = ap (λ z. standing_of z p) s.did.stood.seen ∙ seen.standing_seen w.behind p
+  comes_begun w c b y g s = subst (λ z. Onwards b z) (sym s.did.stands.seen) (by_step w.behind y.behind (beginning p c i) b s.did.stood.cell s.did.stood.fits s.did.stands.cell s.did.stands.fits (λ d z. Onwards d (view_of z))
+      (λ e. absurd (g.possible (called_here ∙ e))) (λ z e f. absurd (g.first (again_here ∙ f))) (λ z k. acted w.behind y.behind (Begin c i) b z k refl (g.from b y s z k)) s.did.step) where
+        standing_here : standing_of w p ≡ stands_as (verdict (position_at w.behind.machine.positions p)) (stage_at w.behind.stages p)
+        standing_here = ap (λ z. standing_of z p) s.did.stood.seen ∙ seen.standing_seen w.behind p
 
-    called_here : call_of w (beginning p c i) ≡ call_at knows (stage_at w.behind.stages p) (Begin c i)
-    called_here = ap (λ z. call_in knows z (Begin c i)) standing_here ∙ call_seen knows (verdict (position_at w.behind.machine.positions p)) (stage_at w.behind.stages p) (Begin c i)
+        called_here : call_of w (beginning p c i) ≡ call_at knows (stage_at w.behind.stages p) (Begin c i)
+        called_here = ap (λ z. call_in knows z (Begin c i)) standing_here ∙ call_seen knows (verdict (position_at w.behind.machine.positions p)) (stage_at w.behind.stages p) (Begin c i)
 
-    again_here : is_poll_after_ready (standing_of w p) (Begin c i) ≡ polls_again (stage_at w.behind.stages p) (Begin c i)
-    again_here = ap (λ z. is_poll_after_ready z (Begin c i)) standing_here ∙ again_seen (verdict (position_at w.behind.machine.positions p)) (stage_at w.behind.stages p) (Begin c i)
-
-    by_way : Way w.behind y.behind (beginning p c i) b → Onwards b (view_of y.behind)
-    by_way (impossible e ea eu) = absurd (g.possible (called_here ∙ e))
-    by_way (over z e f ea eu) = absurd (g.first (again_here ∙ f))
-    by_way (acts z k) = acted w.behind y.behind (Begin c i) b z k refl (g.from b y s z k)
+        again_here : is_poll_after_ready (standing_of w p) (Begin c i) ≡ polls_again (stage_at w.behind.stages p) (Begin c i)
+        again_here = ap (λ z. is_poll_after_ready z (Begin c i)) standing_here ∙ again_seen (verdict (position_at w.behind.machine.positions p)) (stage_at w.behind.stages p) (Begin c i)
 
   pub comes_to : (known : Known) (w : World) (c : Call) (n : ℕ) (a : Answer) (v : World) → Runs known w (moves_of p c i n) (answers_of n a) v → a ≢ answer.Stepped → Begins w c → ComesTo t p a v
   comes_to known w c n a v runs ended g = along Steps learn HoldsWell p i IsComing (ComesTo t p) comes_on known n w (beginning p c i) a v (λ b x s. comes_begun w c b x g s) ended runs
@@ -457,18 +454,17 @@ module _ (p : ℕ) (i : Inputs) (list : ListName) where
       }
       )
 
-  hands_quiet : (a b : Answer) (v : World) → a ≡ b → is_refusal b ≡ false → (b ≡ answer.Stepped → ⊥) → Hands a v
-  hands_quiet a b v e r n = record { going = λ s. absurd (n (sym e ∙ s)); ended = λ _ h some. absurd (cc (ap is_refusal e, r, h)) }
+  hands_quiet : (b : Answer) (v : World) → is_refusal b ≡ false → (b ≡ answer.Stepped → ⊥) → Hands b v
+  hands_quiet b v r n = record { going = λ s. absurd (n s); ended = λ _ h some. absurd (cc (r, h)) }
 
-  hands_by : (t u : Table OnceCell) (what : What) (a : Answer) → inputs_of what ≡ i → Way t u (record { party = p; what = what }) a → ((w : Within) (k : Acting t u (record { party = p; what = what }) a w) → is_handing list k.from ≡ true) → Hands a (view_of u)
-  hands_by t u what a same (impossible e ea eu) hands = hands_quiet a answer.NotPossible (view_of u) ea refl (λ s. cc s)
-  hands_by t u what a same (over w e f ea eu) hands = hands_quiet a (refused refusal.Finished) (view_of u) ea refl (λ s. cc s)
-  hands_by t u what a same (acts w k) hands = hands_acted t u what a w k same (hands w k)
+  hands_by : (t u : Table OnceCell) (what : What) (a : Answer) (tl : IsCell t.machine) (tf : IsCellTable t) (ul : IsCell u.machine) (uf : IsCellTable u) → inputs_of what ≡ i → ((w : Within) (k : Acting t u (record { party = p; what = what }) a w) → is_handing list k.from ≡ true) → TableSteps t (record { party = p; what = what }) a u → Hands a (view_of u)
+  hands_by t u what a tl tf ul uf same hands step = by_step t u (record { party = p; what = what }) a tl tf ul uf (λ b x. Hands b (view_of x))
+      (λ e. hands_quiet answer.NotPossible (view_of t) refl (λ s. cc s)) (λ w e f. hands_quiet (refused refusal.Finished) (view_of t) refl (λ s. cc s))
+      (λ w k. hands_acted t u what a w k same (hands w k)) step
 
   hands_going : (x : World) (b : Answer) (y : World) → IsHanding x → Steps x (going_on p i) b y → Hands b y
-  hands_going x b y g s = subst (λ z. Hands b z) (sym s.did.stands.seen) (hands_by x.behind y.behind (Go i) b refl
-      (way x.behind y.behind (going_on p i) b s.did.stood.cell s.did.stood.fits s.did.stands.cell s.did.stands.fits s.did.step)
-      (λ w k. ap (is_handing list) (at_same k.from g.0 (sym (from_turn x.behind y.behind (going_on p i) b w k) ∙ g.1)) ∙ g.2))
+  hands_going x b y g s = subst (λ z. Hands b z) (sym s.did.stands.seen) (hands_by x.behind y.behind (Go i) b s.did.stood.cell s.did.stood.fits s.did.stands.cell s.did.stands.fits refl
+      (λ w k. ap (is_handing list) (at_same k.from g.0 (sym (from_turn x.behind y.behind (going_on p i) b w k) ∙ g.1)) ∙ g.2) s.did.step)
 
   listed_hands : (w : World) (st : Stands w) (from : Place) (z : Within) → Entrance (stage_at w.behind.stages p) (Begin call.Poll i) z (position_at w.behind.machine.positions p) from → standing_of w p ≡ outside rest.Pending → 0 < entries_of p (list_in list w) → is_handing list from ≡ true
   listed_hands w st from z d pending listed = by_list list listed where
@@ -477,9 +473,8 @@ module _ (p : ℕ) (i : Inputs) (list : ListName) where
     by_list Passive some = ap (is_handing Passive) (d.in_passive refl (standing_at w p st ∙ pending) (rw (sym (ap (entries_of p) (passive_is w st) ∙ st.cell.passive_owners p)) some))
 
   hands_begun : (w : World) (b : Answer) (y : World) → standing_of w p ≡ outside rest.Pending → 0 < entries_of p (list_in list w) → Steps w (beginning p call.Poll i) b y → Hands b y
-  hands_begun w b y pending listed s = subst (λ z. Hands b z) (sym s.did.stands.seen) (hands_by w.behind y.behind (Begin call.Poll i) b refl
-      (way w.behind y.behind (beginning p call.Poll i) b s.did.stood.cell s.did.stood.fits s.did.stands.cell s.did.stands.fits s.did.step)
-      (λ z k. listed_hands w s.did.stood k.from z (entered_at w (beginning p call.Poll i) b y s z k) pending listed))
+  hands_begun w b y pending listed s = subst (λ z. Hands b z) (sym s.did.stands.seen) (hands_by w.behind y.behind (Begin call.Poll i) b s.did.stood.cell s.did.stood.fits s.did.stands.cell s.did.stands.fits refl
+      (λ z k. listed_hands w s.did.stood k.from z (entered_at w (beginning p call.Poll i) b y s z k) pending listed) s.did.step)
 
   pub hands_on : (known : Known) (w : World) (n : ℕ) (a : Answer) (v : World) → Runs known w (moves_of p call.Poll i n) (answers_of n a) v → a ≢ answer.Stepped → standing_of w p ≡ outside rest.Pending → 0 < entries_of p (list_in list w) → HandsOn a v
   hands_on known w n a v runs ended pending listed = along Steps learn HoldsWell p i IsHanding HandsOn hands_going known n w (beginning p call.Poll i) a v (λ b x s. hands_begun w b x pending listed s) ended runs

@@ -1,0 +1,4 @@
+-- What stands behind the World, as callers see it.
+pub mod Seen
+pub mod Opening
+pub mod Lent

@@ -1,0 +1,22 @@
+-- What callers see of a machine, party by party.
+use Rattle.std.proofs.Common.{◌≡◌, ℕ, List}
+use Rattle.lock_table.specs.Stages.{stage_at, stands_as}
+use Rattle.lock_table.specs.Tables.{Table}
+use Rattle.lock_table.proofs.Mapped.{mapped_at}
+use Rattle.lock_table.proofs.Views.{standings_at}
+use Rattle.cell_machine.specs.declared.program.Position.{Position}
+use Rattle.cell_machine.specs.declared.program.Position.TheVariants.{Out}
+use Rattle.cell_machine.specs.Seats.{task_at, verdict}
+use Rattle.cell_machine.specs.Machine.{OnceCell, position_at}
+use Rattle.cell_world.specs.State.{standing_of, task_of}
+use Rattle.cell_world.specs.View.{view_of}
+
+module _ (t : Table OnceCell) where
+  abbrev xs : List Position
+  xs = t.machine.positions
+
+  pub task_seen : (q : ℕ) → task_of (view_of t) q ≡ task_at (position_at xs q)
+  task_seen q = mapped_at task_at xs q Out
+
+  pub standing_seen : (q : ℕ) → standing_of (view_of t) q ≡ stands_as (verdict (position_at xs q)) (stage_at t.stages q)
+  standing_seen q = standings_at (λ p. verdict (position_at xs p)) t.stages q

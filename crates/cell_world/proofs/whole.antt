@@ -1,0 +1,3 @@
+-- Whole calls: how many steps they take, and what they promise.
+pub mod Whole
+pub mod Promises
