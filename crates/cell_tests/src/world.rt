@@ -132,8 +132,10 @@ fn a_wait_is_told_once_the_cell_is_full(rt: HostRuntime) -> Result<(), Fail> {
     assert_eq!(rt; told(&world, PASSIVE, 0), Some((0, Mark::Additional)));
     expect(&rt, &mut world, &[(0, Call::Poll, INPUTS, ready(5))]);
     assert_state(&rt, &world, (Content::Full(5), 0, 0));
+    assert!(rt; world.at_rest());
     assert_eq!(rt; world.take(), Some(5));
     assert_state(&rt, &world, (Content::Empty, 0, 0));
+    assert!(rt; world.at_rest());
     assert_eq!(rt; world.take(), None);
     Ok(())
 }
@@ -149,10 +151,12 @@ fn another_value_enters_once_one_was_taken(rt: HostRuntime) -> Result<(), Fail> 
             (1, Call::Wait, INPUTS, ready(5)),
         ],
     );
+    assert!(rt; world.at_rest());
     if let Some(value) = world.get_mut() {
         *value = 6;
     }
     assert_eq!(rt; world.value(), Some(6));
+    assert!(rt; world.at_rest());
     assert_eq!(rt; world.take(), Some(6));
     expect(
         &rt,
@@ -178,6 +182,7 @@ fn who_was_pending_is_forgotten_once_the_value_was_taken(rt: HostRuntime) -> Res
             (1, Call::Wait, INPUTS, Answer::Pending),
         ],
     );
+    assert!(rt; world.at_rest());
     assert!(rt; world.get_mut().is_none());
     assert_state(&rt, &world, (Content::BeingMade(0), 0, 1));
     expect(
