@@ -1,0 +1,6 @@
+pub mod Words
+pub mod Program
+pub mod Locks
+pub mod Deeds
+pub mod Roles
+pub mod Machine
