@@ -8,3 +8,4 @@ pub mod Told
 pub mod Kept
 pub mod Laws
 pub mod New
+pub mod Falls

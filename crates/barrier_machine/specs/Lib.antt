@@ -3,4 +3,5 @@ pub mod Program
 pub mod Locks
 pub mod Deeds
 pub mod Roles
+pub mod Ranks
 pub mod Machine

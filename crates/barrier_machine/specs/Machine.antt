@@ -21,7 +21,7 @@ use Rattle.lock_world.specs.declared.standing.Stage.TheVariants.{Outside, Inside
 use Rattle.lock_world.specs.declared.standing.Within.{Within}
 use Rattle.lock_world.specs.Standings.{inputs_of}
 use Rattle.lock_table.specs.Ends.{answer_of}
-use Rattle.mutex_machine.specs.Mutex.{Mutex, new_mutex, course_at, IsMutex, holders}
+use Rattle.mutex_machine.specs.Mutex.{Mutex, new_mutex, course_at, IsMutex, holders, steps_left as lock_steps_left}
 use Rattle.barrier_machine.specs.declared.program.Found.{Found}
 use Rattle.barrier_machine.specs.declared.program.Next.{Next}
 use Rattle.barrier_machine.specs.declared.program.Next.TheVariants as next
@@ -35,6 +35,7 @@ use Rattle.barrier_machine.specs.Words.{progress, new_words, IsSound, IsPast, Is
 use Rattle.barrier_machine.specs.Program.{place_for, action_of, next_of, position_after}
 use Rattle.barrier_machine.specs.Deeds.{Finds, words_after, arrival_after, entries_after}
 use Rattle.barrier_machine.specs.Locks.{OnLock}
+use Rattle.barrier_machine.specs.Ranks.{left, left_at, left_then}
 use Rattle.barrier_machine.specs.Roles.{fits_lock, listed, in_lock, follows, is_late, will_tell, Sure, is_resting}
 
 -- what contracts see of a barrier
@@ -163,6 +164,24 @@ goes_with _ _ = false
 abbrev pub Stands : Barrier → ℕ → Stage → Type 0
 Stands s p stage = goes_with stage (position_at s.positions p) ≡ true
 
+-- ---- How long a call takes
+
+-- The party's own entry is marked.
+abbrev pub is_own_marked : Barrier → ℕ → Bool
+is_own_marked s p = is_marked_at (is_party p) s.entries
+
+-- How many steps are left from a place to this party of this barrier, if the others stand still.
+abbrev pub left_from : Place → Barrier → ℕ → ℕ
+left_from x s p = left x (is_own_marked s p) (lock_steps_left s.lock p)
+
+-- How many steps the party's call still takes at most if only this party moves, whatever the count, the list and the inner lock are.
+abbrev pub steps_left : Barrier → ℕ → ℕ
+steps_left s p = left_at (position_at s.positions p) (is_own_marked s p) (lock_steps_left s.lock p)
+
+-- How many steps are left after a step that has decided this.
+abbrev pub left_after : Next → Barrier → ℕ → ℕ
+left_after n s p = left_then n (is_own_marked s p) (lock_steps_left s.lock p)
+
 -- ---- One action
 
 -- what a call's next is answered
@@ -187,4 +206,6 @@ pub record Moves (s : Barrier) (p : ℕ) (w : Within) (what : What) (a : Answer)
   pub runs : runs w.kind w.was from ≡ true
   pub found : Found
   pub acts : Acts (inputs_of what) p from found s t
+  -- it leaves fewer steps of the call, so that a party that moves alone ends it
+  pub falls : left_after (next_of from found) t p < left_from from s p
   pub answer : a ≡ answer_by (next_of from found)

@@ -9,6 +9,8 @@ use Rattle.barrier_machine.specs.Deeds.{Finds, words_after, arrival_after, entri
 use Rattle.barrier_machine.specs.Machine.{answer_by, goes_with, position_at, arrival_at}
 use Rattle.barrier_machine.proofs.Rows.{after}
 use Rattle.barrier_machine.proofs.Starts.{Began, began, read_at}
+use Rattle.barrier_machine.proofs.CanDo.{entries_are}
+use Rattle.barrier_machine.proofs.Falls.{falls}
 use Rattle.barrier_machine.proofs.Kept.{kept, keeps}
 use Rattle.barrier_machine.proofs.barrier.BarrierMachine.act.Goals as goal
 
@@ -66,6 +68,8 @@ returns-clause-acts c =
         lock = rw c.inputs.ensures at d.lock;
         positions = ap (set c.self.inside.positions.items c.args.party) d.to;
       };
+      falls = rw d.list (falls c.inputs.result c.args.party c.self.inside.words (arrival_at c.self.inside.arrivals.items c.args.party) c.self.inside.list.entries c.self.inside.lock c.carry_out-found.new.lock c.in-Some.from c.carry_out-found.result d.finds d.lock
+          (entries_are c.args.party c.self.inside.words c.self.inside.positions.items c.self.inside.arrivals.items c.self.inside.list c.self.inside.lock c.self.invariant d.known c.args._within c.in-Some.from d.start.fits));
       answer = c.answer_to.ensures ∙ ap answer_by c.decide-next.ensures;
     })
 
