@@ -1,0 +1,11 @@
+pub mod Starts
+pub mod Links
+pub mod CanDo
+pub mod Rows
+pub mod Marks
+pub mod Listed
+pub mod Told
+pub mod Kept
+pub mod Laws
+pub mod New
+pub mod Falls

@@ -1,0 +1,7 @@
+pub mod Words
+pub mod Program
+pub mod Locks
+pub mod Deeds
+pub mod Roles
+pub mod Ranks
+pub mod Machine

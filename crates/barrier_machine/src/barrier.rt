@@ -1,0 +1,298 @@
+//! The barrier's machine: how far it is, its list, the inner lock, and where each party stands in its program.
+
+ghost use Rattle.std.specs.Prelude.{◌≡◌, ◌<◌, length, slice_get, replicate, IfOk};
+ghost use Rattle.lock_queue.specs.Queues.{queue};
+ghost use Rattle.lock_queue.specs.Parties.{entries_of};
+ghost use Rattle.barrier_machine.specs.declared.program.Action.TheVariants as acts;
+ghost use Rattle.barrier_machine.specs.Program.{place_for as place_for_lem, position_after};
+ghost use Rattle.barrier_machine.specs.Deeds.{CanDo, Finds, FindsJoin, FindsAsk, words_after, arrival_after, entries_after};
+ghost use Rattle.barrier_machine.specs.declared.program.Position.TheVariants.{Out};
+ghost use Rattle.barrier_machine.specs.Words.{progress};
+ghost use Rattle.barrier_machine.specs.Locks.{OnLock};
+ghost use Rattle.barrier_machine.specs.Machine.{new_barrier, IsBarrier, answer_by, arrival_at};
+
+use crate::program::{Action, Found, Next, Place, Position, action_at, decide, start};
+use crate::words::{Progress, Words};
+use lock_event::Entry;
+use lock_queue::WaitQueue;
+use lock_table::Machine;
+use lock_world::standing::{Rest, Within};
+use lock_world::{Answer, Call, Got, Inputs, What};
+use mutex_machine::Mutex;
+use std::alloc::{AllocError, Global};
+use std::marker::Model;
+
+/// A barrier, and where each of its parties stands.
+///
+/// The Rust crate keeps the count and the generation in its mutex, and the list in an event; a waiting party
+/// remembers its generation. Here one step is one call, and each party's last arrival is kept.
+#[derive(Drop)]
+pub struct Barrier {
+    words: Words,
+    positions: Vec<Position>,
+    arrivals: Vec<Progress>,
+    list: WaitQueue,
+    lock: Mutex,
+}
+
+impl Model for Barrier {
+    ghost use Rattle.std.specs.Coded.{codes};
+    ghost use Rattle.mutex_machine.specs.Behind.{behind_coded};
+    ghost use Rattle.barrier_machine.specs.Machine.{Barrier, IsKept};
+
+    ghost Value = { Barrier };
+
+    ghost coded = { Prim.hlevel (codes, behind_coded) };
+
+    ghost view = { λ s. record { words = s.words; positions = s.positions.items; arrivals = s.arrivals.items; entries = s.list.entries; lock = s.lock } };
+
+    ghost invariant = { λ s. IsKept s.words s.positions.items s.arrivals.items s.list s.lock };
+}
+
+/// A party joins the list, where there is memory.
+fn join_in(list: &mut WaitQueue, party: u32, memory: bool) -> Found
+    requires known { party < list.old.parties }
+    requires out { entries_of party list.old.entries ≡ 0 }
+    ensures finds { FindsJoin memory result }
+    ensures list { list.new ≡ queue list.old.parties (entries_after party acts.Join result list.old.entries) }
+{
+    if memory {
+        list.join(party);
+        Found::Done
+    } else {
+        Found::NoMemory
+    }
+}
+
+/// A party asks for its notification in the list.
+fn ask_in(list: &mut WaitQueue, party: u32) -> Found
+    requires known { party < list.old.parties }
+    requires listed { 0 < entries_of party list.old.entries }
+    ensures finds { FindsAsk party result list.old.entries }
+    ensures list { list.new ≡ queue list.old.parties (entries_after party acts.Ask result list.old.entries) }
+{
+    if list.ask(party) {
+        Found::Yes
+    } else {
+        Found::No
+    }
+}
+
+/// Carries out one action for a party. Its arrival is how far the barrier is once it is counted.
+fn carry_out(
+    words: &mut Words,
+    arrival: &mut Progress,
+    list: &mut WaitQueue,
+    lock: &mut Mutex,
+    party: u32,
+    action: Action,
+    inputs: Inputs,
+) -> Found
+    requires { CanDo party action words.old list.old lock.old }
+    ensures finds { Finds inputs party action result words.old arrival.old list.old.entries }
+    ensures words { words.new ≡ words_after action words.old }
+    ensures arrival { arrival.new ≡ arrival_after action words.old arrival.old }
+    ensures list { list.new ≡ queue list.old.parties (entries_after party action result list.old.entries) }
+    ensures lock { OnLock inputs party action result lock.old lock.new }
+{
+    match action {
+        Action::Look => return words.look(),
+        Action::Check => return words.check(*arrival),
+        Action::Join => return join_in(list, party, inputs.memory),
+        Action::Ask => return ask_in(list, party),
+        Action::Begin(call) => {
+            return Found::Lock(lock.begin(party, call, inputs.memory, inputs.starving));
+        }
+        Action::Go => return Found::Lock(lock.go(party, inputs.memory, inputs.starving)),
+        Action::Nothing => (),
+        Action::Arrive => {
+            words.arrive();
+            *arrival = words.progress;
+        }
+        Action::Complete => {
+            words.complete();
+            *arrival = words.progress;
+        }
+        Action::Leave => list.leave(party),
+        Action::NotifyAll => list.notify(usize::MAX),
+    }
+    Found::Done
+}
+
+/// Where a party stands after this.
+fn after(next: Next) -> Position
+    ensures { result ≡ position_after next }
+{
+    match next {
+        Next::Do(place) => Position::At(place),
+        Next::Ready(_) => Position::Out,
+        Next::End(_, position) => position,
+    }
+}
+
+/// The place whose action a move carries out.
+fn place_for(what: What, at: Position) -> Option<Place>
+    ensures { result ≡ place_for_lem what at }
+{
+    match what {
+        What::Begin(call, _) => start(call, at),
+        What::Go(_) => match at {
+            Position::At(place) => Some(place),
+            _ => None,
+        },
+    }
+}
+
+/// So many parties, each of which is out.
+fn all_out(alloc: Global, parties: u32) -> Result<Vec<Position>, AllocError>
+    ensures { IfOk result (λ v. v.items ≡ replicate parties Out) }
+{
+    let mut positions = Vec::new(alloc);
+    positions.resize(parties as usize, Position::Out)?;
+    Ok(positions)
+}
+
+/// So many parties, none of which has arrived.
+fn none_arrived(alloc: Global, parties: u32) -> Result<Vec<Progress>, AllocError>
+    ensures { IfOk result (λ v. v.items ≡ replicate parties (progress 0 0)) }
+{
+    let mut arrivals = Vec::new(alloc);
+    arrivals.resize(
+        parties as usize,
+        Progress {
+            generation: 0,
+            count: 0,
+        },
+    )?;
+    Ok(arrivals)
+}
+
+impl Barrier {
+    /// A barrier that waits for `size` parties, for so many parties, numbered from 0, none of which has called
+    /// yet; at most `starved` of them may be starved for its inner lock at a time, and it finishes at most
+    /// `most` generations. Refused for memory alone; afterwards no step needs any.
+    pub fn new(
+        alloc: Global,
+        parties: u32,
+        size: u64,
+        starved: u32,
+        most: u64,
+    ) -> Result<Barrier, AllocError>
+        ensures { IfOk result (λ s. s ≡ new_barrier parties size starved most) }
+    {
+        let positions = all_out(alloc, parties)?;
+        let arrivals = none_arrived(alloc, parties)?;
+        let list = WaitQueue::new(alloc, parties)?;
+        let lock = Mutex::new(alloc, parties, starved)?;
+        Ok(Barrier {
+            words: Words::new(size, most),
+            positions,
+            arrivals,
+            list,
+            lock,
+        })
+    }
+
+    /// How many generations are finished, and how many arrivals are counted towards the next one.
+    pub fn progress(&self) -> Progress
+        ensures { result ≡ self.now.words.progress }
+    {
+        self.words.progress
+    }
+
+    /// How far the barrier was just after the party's last arrival: that arrival's number. All 0 before the
+    /// first.
+    pub fn arrival(&self, party: u32) -> Progress
+        requires { party < length self.now.arrivals }
+        ensures { result ≡ arrival_at self.now.arrivals party }
+    {
+        self.arrivals[party as usize]
+    }
+
+    /// The inner lock.
+    pub fn lock(&self) -> &Mutex
+        ensures { result.now ≡ self.now.lock }
+    {
+        &self.lock
+    }
+
+    /// How many entries the barrier's list has.
+    pub fn waiting(&self) -> usize
+        ensures { result ≡ length self.now.entries }
+    {
+        self.list.len()
+    }
+
+    /// The entry at this place of the barrier's list, counted from the front: the party, and what it has been
+    /// told. None past the last.
+    pub fn entry(&self, index: usize) -> Option<Entry<u32>>
+        ensures { result ≡ slice_get self.now.entries index }
+    {
+        self.list.entry(index)
+    }
+
+    /// What always holds of a barrier. It does nothing.
+    pub fn laws(&self)
+        ensures { IsBarrier self.now }
+    {
+        self.lock.laws();
+        self.list.laws();
+    }
+}
+
+/// What a call's next is answered.
+fn answer_to(next: Next) -> Answer
+    ensures { result ≡ answer_by next }
+{
+    match next {
+        Next::Do(_) => Answer::Stepped,
+        Next::Ready(got) => Answer::Ready(got),
+        Next::End(end, _) => end.answer(Got::Plain),
+    }
+}
+
+impl Machine for Barrier {
+    ghost use Rattle.std.specs.Prelude.{length};
+    ghost use Rattle.barrier_machine.specs.Machine as machine;
+    ghost use Rattle.lock_world.specs.declared.standing.Rest.TheVariants.{Finished};
+
+    ghost parties = { λ s. length s.positions };
+
+    ghost knows = { λ s p. machine.knows };
+
+    ghost ready = { Finished };
+
+    ghost stands = { machine.Stands };
+
+    ghost acts = { machine.Moves };
+
+    fn knows(&self, _party: u32, call: Call) -> bool {
+        matches!(call, Call::Wait | Call::Poll | Call::Drop)
+    }
+
+    fn ready(&self) -> Rest {
+        Rest::Finished
+    }
+
+    fn act(&mut self, party: u32, _within: Within, what: What) -> Answer {
+        let at = party as usize;
+        let Some(from) = place_for(what, self.positions[at]) else {
+            unreachable!()
+        };
+        self.lock.laws();
+        let mut arrival = self.arrivals[at];
+        let found = carry_out(
+            &mut self.words,
+            &mut arrival,
+            &mut self.list,
+            &mut self.lock,
+            party,
+            action_at(from),
+            what.inputs(),
+        );
+        let next = decide(from, found);
+        self.positions[at] = after(next);
+        self.arrivals[at] = arrival;
+        answer_to(next)
+    }
+}
