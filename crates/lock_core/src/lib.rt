@@ -26,6 +26,11 @@ pub mod cell {
     pub use cell_world::World;
 }
 
+/// A barrier, from the crate `barrier_world`.
+pub mod barrier {
+    pub use barrier_world::{ListName, World};
+}
+
 pub use lock_event::{Entry, Mark, Memory};
 pub use lock_frame::AnyWorld;
 pub use lock_world::{Answer, Call, Got, Inputs, Made, Move, Refusal, What};

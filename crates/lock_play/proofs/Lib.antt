@@ -3,3 +3,4 @@ pub mod Mutex
 pub mod RwLock
 pub mod Semaphore
 pub mod Cell
+pub mod Barrier

@@ -5,4 +5,5 @@ pub mod Mutex
 pub mod RwLock
 pub mod Semaphore
 pub mod Cell
+pub mod Barrier
 pub mod Worlds

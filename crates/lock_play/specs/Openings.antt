@@ -6,12 +6,13 @@ use Rattle.mutex_world.specs.State as mutex
 use Rattle.rwlock_world.specs.State as rwlock
 use Rattle.semaphore_world.specs.State as semaphore
 use Rattle.cell_world.specs.State as cell
+use Rattle.barrier_world.specs.State as barrier
 use Rattle.lock_world.specs.declared.refusal.Refusal.{Refusal}
 use Rattle.lock_world.specs.declared.refusal.Refusal.TheVariants.{Memory, Permits}
 use Rattle.lock_script.specs.declared.command.Model.{Model}
 use Rattle.lock_script.specs.declared.command.Model.TheVariants as model
 use Rattle.lock_play.specs.declared.world.World.{World}
-use Rattle.lock_play.specs.declared.world.World.TheVariants.{Mutex, RwLock, Semaphore, Cell}
+use Rattle.lock_play.specs.declared.world.World.TheVariants.{Mutex, RwLock, Semaphore, Cell, Barrier}
 
 -- a limit: the number that is given, or the greatest where that is less or none is given
 abbrev pub limit_of : Option ℕ → ℕ → ℕ
@@ -23,6 +24,7 @@ abbrev pub world_of : Model → World
 world_of (model.Mutex parties value starved) = Mutex (mutex.new_world parties (limit_of starved MOST_STARVED) value)
 world_of (model.RwLock parties value starved readers) = RwLock (rwlock.new_world parties (limit_of starved MOST_STARVED_FOR_THE_TURN) (limit_of readers MOST_READERS) value)
 world_of (model.Cell parties) = Cell (cell.new_world parties)
+world_of (model.Barrier parties size starved generations) = Barrier (barrier.new_world parties size (limit_of starved MOST_STARVED) (unwrap_or generations (2 ^ 64 - 1)))
 world_of (model.Semaphore parties permits most) = Semaphore (semaphore.new_world parties permits (unwrap_or most (2 ^ 64 - 1)))
 
 -- the numbers describe a semaphore with more permits than its limit may be: no World is made of them

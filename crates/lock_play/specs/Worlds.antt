@@ -16,13 +16,18 @@ use Rattle.cell_world.specs.State as cell
 use Rattle.cell_world.specs.Steps as cell_steps
 use Rattle.cell_world.specs.Whole as cell_whole
 use Rattle.cell_world.specs.Bound as cell_bound
+use Rattle.barrier_world.specs.State as barrier
+use Rattle.barrier_world.specs.Steps as barrier_steps
+use Rattle.barrier_world.specs.Whole as barrier_whole
+use Rattle.barrier_world.specs.Bound as barrier_bound
 use Rattle.lock_script.specs.declared.command.Request.{Request}
 use Rattle.lock_play.specs.declared.world.World.{World}
-use Rattle.lock_play.specs.declared.world.World.TheVariants.{Mutex, RwLock, Semaphore, Cell}
+use Rattle.lock_play.specs.declared.world.World.TheVariants.{Mutex, RwLock, Semaphore, Cell, Barrier}
 use Rattle.lock_play.specs.Mutex as mutex_played
 use Rattle.lock_play.specs.RwLock as rwlock_played
 use Rattle.lock_play.specs.Semaphore as semaphore_played
 use Rattle.lock_play.specs.Cell as cell_played
+use Rattle.lock_play.specs.Barrier as barrier_played
 use Rattle.lock_play.specs.Requests.{Does}
 
 -- what is asked for leads to a World of the same lock, and is answered by this text
@@ -31,3 +36,4 @@ CarriesOut request (Mutex old) new text = (v : mutex.World) × (new ≡ Mutex v)
 CarriesOut request (RwLock old) new text = (v : rwlock.World) × (new ≡ RwLock v) × Does rwlock_steps.Steps rwlock_whole.IsWholeCall rwlock_bound.Promises rwlock_played.put_gives rwlock_played.take_gives rwlock_played.text_of request old v text
 CarriesOut request (Semaphore old) new text = (v : semaphore.World) × (new ≡ Semaphore v) × Does semaphore_steps.Steps semaphore_whole.IsWholeCall semaphore_bound.Promises semaphore_played.put_gives semaphore_played.take_gives semaphore_played.text_of request old v text
 CarriesOut request (Cell old) new text = (v : cell.World) × (new ≡ Cell v) × Does cell_steps.Steps cell_whole.IsWholeCall cell_bound.Promises cell_played.put_gives cell_played.take_gives cell_played.text_of request old v text
+CarriesOut request (Barrier old) new text = (v : barrier.World) × (new ≡ Barrier v) × Does barrier_steps.Steps barrier_whole.IsWholeCall barrier_bound.Promises barrier_played.put_gives barrier_played.take_gives barrier_played.text_of request old v text

@@ -1,5 +1,6 @@
 //! What a script asks of a World of any lock, and the text of its answer.
 
+mod barrier;
 mod cell;
 mod mutex;
 mod rwlock;

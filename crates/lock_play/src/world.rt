@@ -8,7 +8,7 @@ ghost use Rattle.lock_play.specs.Worlds.{CarriesOut};
 use crate::played;
 use lock_core::mutex::MOST_STARVED;
 use lock_core::rwlock::{MOST_READERS, MOST_STARVED_FOR_THE_TURN};
-use lock_core::{Refusal, cell, mutex, rwlock, semaphore};
+use lock_core::{Refusal, barrier, cell, mutex, rwlock, semaphore};
 use lock_script::command::{Model, Request};
 use std::alloc::Global;
 use std::io;
@@ -21,6 +21,7 @@ pub enum World {
     RwLock(rwlock::World),
     Semaphore(semaphore::World),
     Cell(cell::World),
+    Barrier(barrier::World),
 }
 
 impl World {
@@ -62,6 +63,17 @@ impl World {
                 Ok(World::Semaphore(made))
             }
             Model::Cell { parties } => Ok(World::Cell(cell::World::new(alloc, parties)?)),
+            Model::Barrier {
+                parties,
+                size,
+                starved,
+                generations,
+            } => {
+                let starved = limit(starved, MOST_STARVED);
+                let most = generations.unwrap_or(u64::MAX);
+                let made = barrier::World::with_limits(alloc, parties, size, starved, most)?;
+                Ok(World::Barrier(made))
+            }
         }
     }
 
@@ -76,6 +88,7 @@ impl World {
             World::RwLock(world) => played::carry_out(request, world, output),
             World::Semaphore(world) => played::carry_out(request, world, output),
             World::Cell(world) => played::carry_out(request, world, output),
+            World::Barrier(world) => played::carry_out(request, world, output),
         }
     }
 }

@@ -1,12 +1,5 @@
 //! A whole run, from its arguments to its status, over any reader and writers.
 
-#[cfg(test)]
-mod bad_lines;
-#[cfg(test)]
-mod rows;
-#[cfg(test)]
-mod tests;
-
 ghost use Rattle.std.specs.Prelude.{◌≡◌, ◌≢◌, ◌⊎◌, ◌+◌, ◌<◌, ◌≤◌, ◌↔◌, ◌++◌, ℕ, List, [], ◌∷◌, All, codes, length, map, vec_len, string_bytes, Some, None, Ok, Err, IsOk, IsErr, IsTrue, IfOk, IfErr, OnOk, OnErr, IfSome};
 ghost use Rattle.std.specs.Io.{StartsWith, appended_bytes};
 ghost use Rattle.std.specs.Io.KnownBytes.{Appends, Consumes, IsAtEnd, Keeps};

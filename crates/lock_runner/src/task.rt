@@ -54,6 +54,3 @@ fn workers(word: &[u8]) -> Option<u32>
         _ => None,
     }
 }
-
-#[cfg(test)]
-mod tests;

@@ -10,7 +10,7 @@ use Rattle.lock_script.specs.declared.command.Verb.{Verb}
 use Rattle.lock_script.specs.declared.command.Verb.TheVariants as verb
 use Rattle.lock_script.specs.declared.command.Command.{Command}
 use Rattle.lock_script.specs.declared.command.Command.TheVariants.{New, On}
-use Rattle.lock_script.specs.declared.command.Model.TheVariants.{Mutex, RwLock, Semaphore, Cell}
+use Rattle.lock_script.specs.declared.command.Model.TheVariants.{Mutex, RwLock, Semaphore, Cell, Barrier}
 use Rattle.lock_script.specs.declared.command.Request.TheVariants.{Step, Whole, Put, Take, Show}
 use Rattle.lock_script.specs.Lines.{Writes}
 
@@ -20,6 +20,7 @@ name_of verb.Mutex = codes "mutex"
 name_of verb.RwLock = codes "rwlock"
 name_of verb.Semaphore = codes "semaphore"
 name_of verb.Cell = codes "cell"
+name_of verb.Barrier = codes "barrier"
 name_of verb.Begin = codes "begin"
 name_of verb.Go = codes "go"
 name_of verb.Do = codes "do"
@@ -49,15 +50,15 @@ pub record AreNumbersAndLimit (words : List (List ℕ)) (parties value : ℕ) (l
   pub least : 1 ≤ parties
   pub most : parties ≤ 64
 
--- the numbers of a read-write lock: of parties, from 1 to 64, the value, how many parties may be starved for the turn, and how many may read
-pub record AreRwLockNumbers (words : List (List ℕ)) (parties value : ℕ) (starved readers : Option ℕ) : Type 0 where
+-- the number of parties, from 1 to 64, one more number, and two limits: of a read-write lock the value, how many parties may be starved for the turn, and how many may read; of a barrier for how many parties it waits, how many may be starved for its inner lock, and how many generations it may finish
+pub record AreNumbersAndLimits (words : List (List ℕ)) (parties value : ℕ) (limit further : Option ℕ) : Type 0 where
   pub first : List ℕ
   pub second : List ℕ
   pub others : List (List ℕ)
   pub are : words ≡ first ∷ second ∷ others
   pub counts : Writes first parties
   pub values : Writes second value
-  pub limits : WritesLimits others starved readers
+  pub limits : WritesLimits others limit further
   pub least : 1 ≤ parties
   pub most : parties ≤ 64
 
@@ -137,6 +138,7 @@ verb_of (New (Mutex parties value starved)) = verb.Mutex
 verb_of (New (RwLock parties value starved readers)) = verb.RwLock
 verb_of (New (Semaphore parties permits most)) = verb.Semaphore
 verb_of (New (Cell parties)) = verb.Cell
+verb_of (New (Barrier parties size starved generations)) = verb.Barrier
 verb_of (On (Step party (Begin call inputs))) = verb.Begin
 verb_of (On (Step party (Go inputs))) = verb.Go
 verb_of (On (Whole party call inputs)) = verb.Do
@@ -147,9 +149,10 @@ verb_of (On Show) = verb.Show
 -- the words after the first one write what the command takes
 abbrev pub Details : List (List ℕ) → Command → Type 0
 Details words (New (Mutex parties value starved)) = AreNumbersAndLimit words parties value starved
-Details words (New (RwLock parties value starved readers)) = AreRwLockNumbers words parties value starved readers
+Details words (New (RwLock parties value starved readers)) = AreNumbersAndLimits words parties value starved readers
 Details words (New (Semaphore parties permits most)) = AreNumbersAndLimit words parties permits most
 Details words (New (Cell parties)) = (word : List ℕ) × (words ≡ word ∷ []) × Writes word parties × (1 ≤ parties) × (parties ≤ 64)
+Details words (New (Barrier parties size starved generations)) = AreNumbersAndLimits words parties size starved generations
 Details words (On (Step party (Begin call inputs))) = AreOfCall words party call inputs
 Details words (On (Step party (Go inputs))) = AreOfGo words party inputs
 Details words (On (Whole party call inputs)) = AreOfCall words party call inputs

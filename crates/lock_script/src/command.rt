@@ -4,7 +4,7 @@ ghost use Rattle.std.specs.Prelude.{◌≡◌, ◌≢◌, ◌↔◌, ◌≤◌, 
 ghost use Rattle.lock_world.specs.declared.moves.Call.{Call};
 ghost use Rattle.lock_world.specs.declared.moves.Inputs.{Inputs};
 ghost use Rattle.lock_world.specs.declared.moves.Made.{Made};
-ghost use Rattle.lock_script.specs.Commands.{name_of, verb_of, AreNumbersAndLimit, AreOfCall, Asks, BeginsWithCall, Details, IsWordOf};
+ghost use Rattle.lock_script.specs.Commands.{name_of, verb_of, AreNumbersAndLimit, AreNumbersAndLimits, AreOfCall, Asks, BeginsWithCall, Details, IsWordOf};
 ghost use Rattle.lock_script.specs.Commands.{is_of_maker, WritesInputs, WritesLimit, WritesLimits, WritesMade};
 ghost use Rattle.lock_script.specs.declared.command.Command.{Command};
 ghost use Rattle.lock_script.specs.declared.command.Verb.{Verb};
@@ -51,6 +51,15 @@ pub enum Model {
     /// A once-cell that is empty, with so many parties.
     Cell {
         parties: u32,
+    },
+    /// A barrier that waits for `size` parties, with so many parties, of which at most so many may be starved
+    /// for its inner lock at a time, and which finishes at most so many generations: as many as a barrier
+    /// allows, where no number is given.
+    Barrier {
+        parties: u32,
+        size: u64,
+        starved: Option<u64>,
+        generations: Option<u64>,
     },
 }
 
@@ -102,6 +111,7 @@ enum Verb {
     RwLock,
     Semaphore,
     Cell,
+    Barrier,
     Begin,
     Go,
     Do,
@@ -120,6 +130,7 @@ fn named(word: &[u8]) -> Option<Verb>
         _ if is(word, b"rwlock") => Some(Verb::RwLock),
         _ if is(word, b"semaphore") => Some(Verb::Semaphore),
         _ if is(word, b"cell") => Some(Verb::Cell),
+        _ if is(word, b"barrier") => Some(Verb::Barrier),
         _ if is(word, b"begin") => Some(Verb::Begin),
         _ if is(word, b"go") => Some(Verb::Go),
         _ if is(word, b"do") => Some(Verb::Do),
@@ -148,6 +159,7 @@ fn whole(words: &mut Words<'_>) -> Option<Command>
         Verb::RwLock => rwlock(words),
         Verb::Semaphore => semaphore(words),
         Verb::Cell => cell(words),
+        Verb::Barrier => barrier(words),
         Verb::Begin => begin(words),
         Verb::Go => go(words),
         Verb::Do => poll_whole(words),
@@ -210,9 +222,7 @@ fn rwlock(words: &mut Words<'_>) -> Option<Command>
     ensures words { IfSome result (λ c. (verb_of c ≡ Verb.RwLock) × Details words.old c) }
     ensures asked { (c : Command) → verb_of c ≡ Verb.RwLock → Details words.old c → result ≡ Some c }
 {
-    let parties = parties(words)?;
-    let value = number(words)?;
-    let (starved, readers) = limits(words)?;
+    let ((parties, value), (starved, readers)) = numbers_and_limits(words)?;
     Some(Command::New(Model::RwLock {
         parties,
         value,
@@ -221,9 +231,39 @@ fn rwlock(words: &mut Words<'_>) -> Option<Command>
     }))
 }
 
+/// A barrier, by the words after its name.
+fn barrier(words: &mut Words<'_>) -> Option<Command>
+    ensures words { IfSome result (λ c. (verb_of c ≡ Verb.Barrier) × Details words.old c) }
+    ensures asked { (c : Command) → verb_of c ≡ Verb.Barrier → Details words.old c → result ≡ Some c }
+{
+    let ((parties, size), (starved, generations)) = numbers_and_limits(words)?;
+    Some(Command::New(Model::Barrier {
+        parties,
+        size,
+        starved,
+        generations,
+    }))
+}
+
+/// Two limits, each of which a line may leave out.
+type Limits = (Option<u64>, Option<u64>);
+
+/// The number of parties, the number after it, and the two limits that the words left write, all of them.
+fn numbers_and_limits(words: &mut Words<'_>) -> Option<((u32, u64), Limits)>
+    ensures words { IfSome result (λ n. AreNumbersAndLimits words.old n.0.0 n.0.1 n.1.0 n.1.1) }
+    ensures asked { (parties first : ℕ) (limit further : Option ℕ)
+        → AreNumbersAndLimits words.old parties first limit further
+        → result ≡ Some ((parties, first), (limit, further)) }
+{
+    let parties = parties(words)?;
+    let first = number(words)?;
+    let limits = limits(words)?;
+    Some(((parties, first), limits))
+}
+
 /// The two limits that the words left write, all of them: none where no word is left, and the first alone
 /// where one is.
-fn limits(words: &mut Words<'_>) -> Option<(Option<u64>, Option<u64>)>
+fn limits(words: &mut Words<'_>) -> Option<Limits>
     ensures words { IfSome result (λ l. WritesLimits words.old l.0 l.1) }
     ensures asked { (first second : Option ℕ) → WritesLimits words.old first second
         → result ≡ Some (first, second) }

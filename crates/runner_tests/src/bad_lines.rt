@@ -1,7 +1,7 @@
 //! Lines that no script may have, also where a World stands.
 
 /// Lines that are bad though a World stands.
-pub const BAD_LINES: [&[u8]; 142] = [
+pub const BAD_LINES: [&[u8]; 156] = [
     // Spaces at an end.
     b" ",
     b"  ",
@@ -20,7 +20,8 @@ pub const BAD_LINES: [&[u8]; 142] = [
     b"sem 1 1",
     b"Cell 1",
     b"once 1",
-    b"barrier 1 1",
+    b"Barrier 1 1",
+    b"barriers 1 1",
     b"begin 0 Lock",
     b"begin 0 Read",
     b"do 0 downgrade_to_upgradable",
@@ -44,6 +45,10 @@ pub const BAD_LINES: [&[u8]; 142] = [
     b"semaphore 1",
     b"semaphore 1 1 1 1",
     b"semaphore 1 1 nomem",
+    b"barrier",
+    b"barrier 1",
+    b"barrier 1 1 1 1 1",
+    b"barrier 1 1 nomem",
     b"cell",
     b"cell 1 1",
     b"cell 1 nomem",
@@ -106,6 +111,13 @@ pub const BAD_LINES: [&[u8]; 142] = [
     b"semaphore 1 1 18446744073709551616",
     b"do 0 add x",
     b"do 0 add 18446744073709551616",
+    b"barrier x 1",
+    b"barrier 1 x",
+    b"barrier 1 1 x",
+    b"barrier 1 1 1 x",
+    b"barrier 1 18446744073709551616",
+    b"barrier 1 1 18446744073709551616",
+    b"barrier 1 1 1 18446744073709551616",
     b"cell x",
     b"do 0 set x",
     b"do 0 tryset 18446744073709551616",
@@ -120,6 +132,8 @@ pub const BAD_LINES: [&[u8]; 142] = [
     b"rwlock 65 0 1 1",
     b"semaphore 0 1",
     b"semaphore 65 1",
+    b"barrier 0 1",
+    b"barrier 65 1",
     b"cell 0",
     b"cell 65",
     // Inputs given twice, and what is no input.

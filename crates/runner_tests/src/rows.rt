@@ -1,7 +1,7 @@
 //! The stored rows: each script with its answers, as they stand in scripts/.
 
 /// Each script, and what the program prints for it.
-pub const ROWS: [(&str, &str); 37] = [
+pub const ROWS: [(&str, &str); 42] = [
     // acquire-hands-on-what-is-left
     (
         "semaphore 4 2\ndo 0 tryacquire\ndo 1 tryacquire\ndo 2 acquire\ndo 3 acquire\nbegin 2 poll\ndo 0 drop\ndo 1 drop\ngo 2\ngo 2\ngo 2\nshow\n",
@@ -17,6 +17,21 @@ pub const ROWS: [(&str, &str); 37] = [
         "semaphore 3 0\ndo 0 acquire\ndo 1 acquire\ndo 2 add 1\ndo 0 poll\ndo 1 poll\nshow\n",
         "ok\npending\npending\ngranted\nready\npending\nsemaphore available=0 limit=1 list=[1w]\n",
     ),
+    // barrier-generations
+    (
+        "barrier 7 3\ndo 0 wait\ndo 1 wait\ndo 2 wait\ndo 3 wait\ndo 4 wait\ndo 5 wait\ndo 6 wait\nshow\ndo 0 poll\ndo 1 drop\ndo 3 drop\ndo 4 drop\nshow\ndo 6 poll\n",
+        "ok\npending\npending\nready leader\npending\npending\nready leader\npending\nbarrier count=1 generation=2 locked=0 starved=0 lock=[] list=[0n 1n 3n 4n 6w]\nready follower\ngiven back\ngiven back\ngiven back\nbarrier count=1 generation=2 locked=0 starved=0 lock=[] list=[6n]\npending\n",
+    ),
+    // barrier-of-none
+    (
+        "barrier 2 0\ndo 0 wait\ndo 1 wait\n",
+        "ok\nready leader\nready leader\n",
+    ),
+    // barrier-refused-memory
+    (
+        "barrier 3 2 10 5\ndo 0 wait nomem\nshow\ndo 0 poll\ndo 1 wait\ndo 0 poll\n",
+        "ok\nrefused 1\nbarrier count=0 generation=0 locked=0 starved=0 lock=[] list=[]\npending\nready leader\nready follower\n",
+    ),
     // cell-wait-and-take
     (
         "cell 3\ndo 0 wait\ndo 1 init\ndo 1 poll made=5\nshow\ndo 0 poll\ntake\nshow\n",
@@ -31,6 +46,11 @@ pub const ROWS: [(&str, &str); 37] = [
     (
         "rwlock 2 1\ndo 0 write\ndo 1 read\ndo 0 toupgradable\nshow\ndo 1 poll\n",
         "ok\nready 1\npending\ngiven back\nrwlock turn=1 starved=0 writer=0 readers=1 value=1 turnlist=[] noreaders=[] nowriter=[1n]\nready 1\n",
+    ),
+    // dropped-arrival-stays-counted
+    (
+        "barrier 3 2\ndo 0 wait\ndo 0 drop\nshow\ndo 1 wait\n",
+        "ok\npending\ngiven back\nbarrier count=1 generation=0 locked=0 starved=0 lock=[] list=[]\nready leader\n",
     ),
     // dropped-initializer-passes-on
     (
@@ -81,6 +101,11 @@ pub const ROWS: [(&str, &str); 37] = [
     (
         "mutex 3 0\ndo 0 lock\ndo 1 lock\ndo 2 lock\ndo 0 drop\ndo 2 poll\ndo 2 drop\ndo 2 trylock\n",
         "ok\nready 0\npending\npending\ngiven back\npending\ngiven back\ngranted 0\n",
+    ),
+    // generations-limit
+    (
+        "barrier 2 1 10 1\ndo 0 wait\ndo 1 wait\nshow\n",
+        "ok\nready leader\nrefused 5\nbarrier count=0 generation=1 locked=0 starved=0 lock=[] list=[]\n",
     ),
     // last-reader-wakes-the-writer
     (

@@ -1,0 +1,14 @@
+use Rattle.std.proofs.Common.{rules, refl}
+use Rattle.lock_play.proofs.Texts.{Appends-more, Appends-both}
+use Rattle.lock_play.proofs.Barrier.{listed, state_text}
+use Rattle.lock_play.proofs.played.barrier.WorldPlayed.show.Goals as goal
+
+pub returns : goal.returns
+returns g c =
+    let first = listed c.args.self.now c.list.result.world.now c.list.result.name _ c.list.ensures.world c.list.ensures.name in
+    let second = listed c.args.self.now c.list-2.result.world.now c.list-2.result.name _ c.list-2.ensures.world c.list-2.ensures.name in
+    let text = state_text c.args.self.now c.count-count.result c.generation-generation.result c.from-locked.result c.starved-starved.result _ _ (search rules) (search rules) (search rules) (search rules) first second in
+    let lock = Appends-more _ _ _ _ _ _ c.in_ok-write.ensures.bytes c.in_ok-write_list.ensures refl in
+    let after_lock = Appends-more _ _ _ _ _ _ lock c.in_ok-write-2.ensures.bytes refl in
+    let state = Appends-more _ _ _ _ _ _ after_lock c.in_ok-write_list-2.ensures text in
+    Appends-both _ _ _ _ _ _ _ state c.writeln.ensures.bytes refl

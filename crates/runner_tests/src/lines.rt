@@ -1,0 +1,63 @@
+//! Bad lines, and where a run stops at one.
+
+use crate::bad_lines::BAD_LINES;
+use crate::runs::{Runs, expect};
+use std::test::Fail;
+
+/// Runs a script with this line between two good ones, which stops at it.
+fn expect_bad<R: Runs>(rt: &R, line: &[u8]) -> Result<(), Fail> {
+    let mut script = Vec::new(rt.alloc());
+    for part in [b"mutex 1 0\n".as_slice(), line, b"\nshow\n".as_slice()] {
+        script.extend_from_slice(part)?;
+    }
+    expect(rt, script.as_slice(), "ok\n", "lockrun: line 2: bad\n", 1)
+}
+
+#[test]
+fn stops_at_a_bad_line(rt: HostRuntime) -> Result<(), Fail> {
+    for line in BAD_LINES {
+        expect_bad(&rt, line)?;
+    }
+    Ok(())
+}
+
+#[test]
+fn stops_at_a_line_that_is_no_text(rt: HostRuntime) -> Result<(), Fail> {
+    for script in [
+        b"mutex 1 0\n# \x80\nshow\n".as_slice(),
+        b"mutex 1 0\n\xffshow".as_slice(),
+    ] {
+        expect(&rt, script, "ok\n", "lockrun: line 2: bad\n", 1)?;
+    }
+    Ok(())
+}
+
+#[test]
+fn counts_lines_and_wants_a_world_first(rt: HostRuntime) -> Result<(), Fail> {
+    for (script, answers, faults) in [
+        ("show\n", "", "lockrun: line 1: bad\n"),
+        ("\n\ngo 0\n", "", "lockrun: line 3: bad\n"),
+        ("do 0 lock\n", "", "lockrun: line 1: bad\n"),
+        ("getmut 1\n", "", "lockrun: line 1: bad\n"),
+        ("take\n", "", "lockrun: line 1: bad\n"),
+        (
+            "mutex 2 0\ndo 1 poll\nfoo\n",
+            "ok\nnot possible\n",
+            "lockrun: line 3: bad\n",
+        ),
+        (
+            "# a note\nbegin 4294967296 lock\nmutex 1 0\n",
+            "",
+            "lockrun: line 2: bad\n",
+        ),
+        (
+            "# a note\n\nmutex 1 0\n\n# more\nfoo\nshow\n",
+            "ok\n",
+            "lockrun: line 6: bad\n",
+        ),
+        ("mutex 1 0\nmutex 0 0", "ok\n", "lockrun: line 2: bad\n"),
+    ] {
+        expect(&rt, script.as_bytes(), answers, faults, 1)?;
+    }
+    Ok(())
+}
