@@ -7,7 +7,9 @@ ghost use Rattle.lock_audit.specs.Numbers.{Numbers, nothing, plus, counted, numb
 use crate::book::Book;
 use crate::ledgers::{Blanks, Ledgers};
 use crate::tokens::{self, Tokens, Totals};
-use lock_core::{Answer, AnyWorld, Memory, Move};
+use lock_event::Memory;
+use lock_frame::AnyWorld;
+use lock_world::{Answer, Move};
 use std::alloc::Global;
 use std::marker::Model;
 use std::sync::{Mutex, Wait};
@@ -130,6 +132,3 @@ impl<W: AnyWorld + Drop, L: Ledgers> Audited<W, L> {
         book
     }
 }
-
-#[cfg(test)]
-mod tests;

@@ -2,7 +2,9 @@
 
 ghost use Rattle.std.specs.Prelude.{◌≡◌, ◌+◌, ◌<◌, ◌≤◌, [], ◌∷◌, ◌++◌, length, IsOk, IfOk, OnOk, OnErr};
 
-use lock_core::{Answer, AnyWorld, Memory, Move};
+use lock_event::Memory;
+use lock_frame::AnyWorld;
+use lock_world::{Answer, Move};
 use std::alloc::Global;
 use std::marker::Model;
 
@@ -103,6 +105,3 @@ impl<W: AnyWorld> Book<W> {
         let _ = &self.world;
     }
 }
-
-#[cfg(test)]
-mod tests;

@@ -6,11 +6,7 @@
 mod audited;
 mod book;
 mod ledgers;
-#[cfg(test)]
-mod rows;
 mod tokens;
-#[cfg(test)]
-mod worlds;
 
 pub use audited::{Audited, Share};
 pub use book::Book;

@@ -5,7 +5,7 @@ ghost use Rattle.lock_audit.specs.Ledgers.{Cut};
 ghost use Rattle.lock_audit.specs.Numbers.{Numbers, nothing, plus, counted, calls_of, grants_of, granted_of, refusals_of, gives_back_of};
 
 use crate::ledgers::{Blanks, Calls, GivesBack, Granted, Grants, Ledgers, Moves, Refusals};
-use lock_core::{Answer, Got, Move, What};
+use lock_world::{Answer, Got, Move, What};
 use std::marker::Model;
 use std::sync::ledger::{Book, Share};
 

@@ -1,7 +1,7 @@
 -- What a script asks of a barrier beyond its moves.
 use Rattle.std.specs.Prelude.{ℕ, List, ◌++◌, codes, decimal, is_some, if◌then◌else◌}
 use Rattle.lock_world.specs.Rosters.{how_many}
-use Rattle.barrier_world.specs.Numbers.{finished, count_of}
+use Rattle.barrier_world.specs.Numbers.{generations_of, count_of}
 use Rattle.barrier_world.specs.State.{World}
 use Rattle.lock_play.specs.declared.played.Reply.{Reply}
 use Rattle.lock_play.specs.declared.played.Reply.TheVariants.{NotPossible}
@@ -17,7 +17,7 @@ take_gives w = (NotPossible, w)
 -- the state
 abbrev pub text_of : World → List ℕ
 text_of w = codes "barrier count=" ++ decimal (count_of w.size w.arrivals)
-    ++ codes " generation=" ++ decimal (finished w.size w.arrivals)
+    ++ codes " generation=" ++ decimal (generations_of w.size w.arrivals)
     ++ codes " locked=" ++ decimal (if is_some w.lock.holder then 1 else 0)
     ++ codes " starved=" ++ decimal (how_many w.lock.starved)
     ++ codes " lock=" ++ list_text w.lock_list

@@ -1,11 +1,16 @@
+//! A book of the moves of a World of each lock, and runs of them.
+
 ghost use Rattle.std.specs.Prelude.{◌≡◌};
 ghost use Rattle.rwlock_world.specs.State.{opening_of as rwlock_opening_of};
 ghost use Rattle.semaphore_world.specs.State.{opening_of as semaphore_opening_of};
+ghost use Rattle.cell_world.specs.State.{opening_of as cell_opening_of};
 
-use super::*;
-use crate::rows::{INPUTS, STARVING, begin, dropped_waiter, go, world};
+use crate::rows::{INPUTS, STARVING, barrier_world, begin, dropped_waiter, go, world};
+use lock_audit::Book;
 use lock_core::mutex::World;
-use lock_core::{Call, Got, Inputs, Mark, What, rwlock, semaphore};
+use lock_core::{
+    Answer, AnyWorld, Call, Got, Inputs, Mark, Memory, Move, What, cell, rwlock, semaphore,
+};
 use std::process::Abort;
 
 /// Records a move, once more where memory was refused; then nothing had changed.
@@ -142,6 +147,41 @@ fn a_book_takes_a_semaphore(rt: HostRuntime) {
     assert_eq!(rt; (book.world().available(), book.world().limit()), (0, 0));
 }
 
+/// A once-cell's World, made again once where memory was refused.
+fn cell_world(rt: &(impl AllocGlobal + Abort)) -> cell::World
+    ensures { result ≡ cell_opening_of result }
+{
+    match cell::World::new(rt.alloc(), 2) {
+        Ok(world) => world,
+        Err(_) => cell::World::new(rt.alloc(), 2).expect(rt, "only one allocation is refused"),
+    }
+}
+
+#[test]
+fn a_book_takes_a_once_cell(rt: HostRuntime) {
+    let mut book = Book::new(rt.alloc(), cell_world(&rt));
+    let rows = [
+        (0, Call::Wait, INPUTS, Answer::Pending),
+        (1, Call::TrySet(5), INPUTS, Answer::Granted(Got::Plain)),
+        (0, Call::Poll, INPUTS, Answer::Ready(Got::Value(5))),
+    ];
+    expect_whole(&rt, &mut book, &rows);
+    assert_eq!(rt; book.world().value(), Some(5));
+}
+
+#[test]
+fn a_book_takes_a_barrier(rt: HostRuntime) {
+    let mut book = Book::new(rt.alloc(), barrier_world(&rt));
+    let rows = [
+        (0, Call::Wait, INPUTS, Answer::Pending),
+        (1, Call::Wait, INPUTS, Answer::Ready(Got::Leader(true))),
+        (0, Call::Poll, INPUTS, Answer::Ready(Got::Leader(false))),
+    ];
+    expect_whole(&rt, &mut book, &rows);
+    let world = book.world();
+    assert_eq!(rt; (world.count(), world.generation()), (0, 1));
+}
+
 /// Two parties wait for a free lock, the second one notified and the first one starved by a try that came
 /// between. Of as many polls of a notified party as the list has entries, the second one takes the lock.
 const SOLO_POLLS: [(u32, Call, Inputs, Answer); 9] = [
@@ -157,9 +197,9 @@ const SOLO_POLLS: [(u32, Call, Inputs, Answer); 9] = [
 ];
 
 /// Records a whole call, step by step, and gives its last answer.
-fn record_whole(
+fn record_whole<W: AnyWorld>(
     rt: &impl Abort,
-    book: &mut Book<World>,
+    book: &mut Book<W>,
     party: u32,
     call: Call,
     inputs: Inputs,
@@ -172,6 +212,18 @@ fn record_whole(
         }
     }
     Answer::Stepped
+}
+
+/// Records these whole calls in turn. Each is answered as it stands beside it.
+fn expect_whole<W: AnyWorld>(
+    rt: &impl Abort,
+    book: &mut Book<W>,
+    rows: &[(u32, Call, Inputs, Answer)],
+) {
+    for (party, call, inputs, answer) in rows {
+        let given = record_whole(rt, book, *party, *call, *inputs);
+        assert_eq!(rt; given, *answer, "{call:?} of {party}");
+    }
 }
 
 /// The moves of a history.
@@ -207,10 +259,7 @@ fn expect_same_run(rt: &(impl AllocGlobal + Abort), world: &mut World, history: 
 #[test]
 fn a_try_and_solo_polls_are_recorded_and_run(rt: HostRuntime) {
     let mut book = Book::new(rt.alloc(), world(&rt));
-    for (party, call, inputs, answer) in SOLO_POLLS {
-        let given = record_whole(&rt, &mut book, party, call, inputs);
-        assert_eq!(rt; given, answer, "{call:?} of {party}");
-    }
+    expect_whole(&rt, &mut book, &SOLO_POLLS);
     assert_world(&rt, book.world(), (true, 1));
     let mut run = world(&rt);
     expect_same_run(&rt, &mut run, book.history());

@@ -2,33 +2,34 @@
 
 ghost use Rattle.std.specs.Prelude.{◌≡◌};
 ghost use Rattle.mutex_world.specs.State.{opening_of};
+ghost use Rattle.barrier_world.specs.State.{opening_of as barrier_opening_of};
 
 use lock_core::mutex::World;
-use lock_core::{Answer, Call, Got, Inputs, Made, Move, What};
+use lock_core::{Answer, Call, Got, Inputs, Made, Move, What, barrier};
 use std::process::Abort;
 
-pub const INPUTS: Inputs = Inputs {
+pub(crate) const INPUTS: Inputs = Inputs {
     memory: true,
     starving: false,
     made: Made::Pending,
 };
 
-pub const STARVING: Inputs = Inputs {
+pub(crate) const STARVING: Inputs = Inputs {
     starving: true,
     ..INPUTS
 };
 
 /// The value that the World is made with.
-pub const SEVEN: Got = Got::Value(7);
+pub(crate) const SEVEN: Got = Got::Value(7);
 
-pub fn begin(party: u32, call: Call) -> Move {
+pub(crate) fn begin(party: u32, call: Call) -> Move {
     Move {
         party,
         what: What::Begin(call, INPUTS),
     }
 }
 
-pub fn go(party: u32) -> Move {
+pub(crate) fn go(party: u32) -> Move {
     Move {
         party,
         what: What::Go(INPUTS),
@@ -36,7 +37,7 @@ pub fn go(party: u32) -> Move {
 }
 
 /// Two parties wait for a lock. It is released, the first one is dropped, and the second one takes it.
-pub fn dropped_waiter() -> [(Move, Answer); 14] {
+pub(crate) fn dropped_waiter() -> [(Move, Answer); 14] {
     [
         (begin(0, Call::Lock), Answer::Ready(SEVEN)),
         (begin(1, Call::Lock), Answer::Stepped),
@@ -56,11 +57,23 @@ pub fn dropped_waiter() -> [(Move, Answer); 14] {
 }
 
 /// A World, made again once where memory was refused.
-pub fn world(rt: &(impl AllocGlobal + Abort)) -> World
+pub(crate) fn world(rt: &(impl AllocGlobal + Abort)) -> World
     ensures { result ≡ opening_of result }
 {
     match World::new(rt.alloc(), 3, 7) {
         Ok(world) => world,
         Err(_) => World::new(rt.alloc(), 3, 7).expect(rt, "only one allocation is refused"),
+    }
+}
+
+/// A barrier's World of two parties that waits for both, made again once where memory was refused.
+pub(crate) fn barrier_world(rt: &(impl AllocGlobal + Abort)) -> barrier::World
+    ensures { result ≡ barrier_opening_of result }
+{
+    match barrier::World::new(rt.alloc(), 2, 2) {
+        Ok(world) => world,
+        Err(_) => {
+            barrier::World::new(rt.alloc(), 2, 2).expect(rt, "only one allocation is refused")
+        }
     }
 }
