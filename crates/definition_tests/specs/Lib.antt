@@ -1,4 +1,5 @@
 pub mod Never
+pub mod Barrier
 pub mod Cell
 pub mod Mutex
 pub mod ReadWrite

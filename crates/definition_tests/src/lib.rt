@@ -3,6 +3,7 @@
 //! their contracts are the tests. There is nothing else here, and no crate stands on it.
 #![tactic(auto)]
 
+mod barrier;
 mod cell;
 mod mutex;
 mod rwlock;

@@ -1,0 +1,167 @@
+-- No wrong run of a barrier is legal.
+use Rattle.std.proofs.Common.{◌≡◌, ◌≢◌, ℕ, zero, suc, ◌+◌, ◌*◌, ◌/◌, ◌%◌, ◌<◌, ◌≤◌, ◌⊎◌, inl, inr, Bool, true, false, Option, Some, None, refl, arith, ap, sym, ◌∙◌, subst}
+use Rattle.std.proofs.Math.Nat.{mul_comm, div-add-mod}
+use Rattle.std.proofs.lemmas.Bool.{false≢true, true≢false}
+use Rattle.std.proofs.lemmas.Nat.{le-div}
+use Rattle.lock_event.specs.declared.event.Mark.TheVariants.{Waiting}
+use Rattle.lock_queue.specs.Parties.{entries_of}
+use Rattle.lock_world.specs.declared.moves.Answer.{Answer}
+use Rattle.lock_world.specs.declared.moves.Answer.TheVariants as answer
+use Rattle.lock_world.specs.declared.moves.Got.TheVariants as got
+use Rattle.lock_world.specs.declared.moves.Move.{Move}
+use Rattle.lock_world.specs.declared.refusal.Refusal.{Refusal}
+use Rattle.lock_world.specs.declared.refusal.Refusal.TheVariants as refusal
+use Rattle.lock_world.specs.declared.standing.Rest.TheVariants.{Pending}
+use Rattle.lock_world.specs.Refusals.{number_of}
+use Rattle.lock_world.specs.Standings.{outside, Standing}
+use Rattle.lock_world.specs.Steps.{Deed, nothing, changes, does}
+use Rattle.barrier_machine.specs.Waits.{Wait, no_wait, uncounted, counted}
+use Rattle.barrier_world.specs.Bound.{ComesTo}
+use Rattle.barrier_world.specs.Changes.{Change, takes, releases, starves, recovers, arrives, arrivals_after}
+use Rattle.barrier_world.specs.declared.world.ListName.{ListName}
+use Rattle.barrier_world.specs.Legal.{IsAllowed, MayArrive, IsCause, IsOutOfGenerations, HasItsOwn, next_arrival}
+use Rattle.barrier_world.specs.Numbers.{Leads, generations_of}
+use Rattle.barrier_world.specs.State.{World, wait_of}
+use Rattle.barrier_world.proofs.Numbers.{next_generation}
+use Rattle.definition_tests.proofs.barrier.wrong_runs.Goals as goal
+
+-- ---- Arrivals
+
+-- another number of arrivals comes by one that is counted, and may be
+arrives_so : (w : World) (m : Move) (d : Deed Change ListName) (k : ℕ) → IsAllowed w m d → k ≡ arrivals_after d w.arrivals → k ≢ w.arrivals → MayArrive w m.party
+arrives_so w m nothing k ok e other = absurd (other e)
+arrives_so w m (does list f) k ok e other = absurd (other e)
+arrives_so w m (changes takes) k ok e other = absurd (other e)
+arrives_so w m (changes releases) k ok e other = absurd (other e)
+arrives_so w m (changes starves) k ok e other = absurd (other e)
+arrives_so w m (changes recovers) k ok e other = absurd (other e)
+arrives_so w m (changes arrives) k ok e other = ok
+
+never_fewer : (d : Deed Change ListName) (k : ℕ) → k ≤ arrivals_after d k
+never_fewer nothing k = omega arith
+never_fewer (does list f) k = omega arith
+never_fewer (changes takes) k = omega arith
+never_fewer (changes releases) k = omega arith
+never_fewer (changes starves) k = omega arith
+never_fewer (changes recovers) k = omega arith
+never_fewer (changes arrives) k = omega arith
+
+one_more : (j k : ℕ) → j ≡ k + 1 → j ≢ k
+one_more j k e = λ same. absurd (omega (arith, e, same))
+
+-- no generation is finished twice
+in_order : (size j k : ℕ) → j ≤ k → generations_of size j ≤ generations_of size k
+in_order zero j k h = h
+in_order (suc n) j k h =
+    let all : suc n * (j / suc n) + j % suc n ≡ j = div-add-mod j (suc n) (omega arith) in
+    le-div (j / suc n) k (suc n) (omega arith) (omega (arith, all, mul_comm (j / suc n) (suc n), h))
+
+pub returns-clause-two_leaders : goal.returns-clause-two_leaders
+returns-clause-two_leaders c = λ r.
+    let now = r.legal_too.carries.ready _ r.leads_too in
+    let next : generations_of r.second.new.size r.second.new.arrivals ≡ generations_of r.second.new.size r.second.old.arrivals + 1 =
+        ap (generations_of r.second.new.size) now.0.number ∙ next_generation r.second.new.size r.second.old.arrivals (subst (Leads r.second.new.size) now.0.number now.1) in
+    let before : generations_of r.first.new.size r.first.new.arrivals ≤ generations_of r.first.new.size r.second.old.arrivals = in_order r.first.new.size r.first.new.arrivals r.second.old.arrivals r.later in
+    let sizes : generations_of r.second.new.size r.second.old.arrivals ≡ generations_of r.first.new.size r.second.old.arrivals = ap (λ n. generations_of n r.second.old.arrivals) r.one_barrier in
+    absurd (omega (arith, next, before, sizes, r.same))
+
+pub returns-clause-leads_in_the_midst : goal.returns-clause-leads_in_the_midst
+returns-clause-leads_in_the_midst c = λ r. r.unfinished (r.legal.carries.ready _ r.leads).1
+
+pub returns-clause-has_no_leader : goal.returns-clause-has_no_leader
+returns-clause-has_no_leader c = λ r. r.no_leader (r.legal.carries.led r.counted r.finishes)
+
+wait_twice : (a : ℕ) (x : Wait) → x ≡ counted a → x ≡ uncounted → ⊥
+wait_twice a x e f = let never : counted a ≡ uncounted = sym e ∙ f in cc never
+
+pub returns-clause-counted_twice : goal.returns-clause-counted_twice
+returns-clause-counted_twice c = λ r.
+    let one = r.legal.one_change in
+    let may = arrives_so r.step.old r.step.move one.deed r.step.new.arrivals one.allowed one.arrivals r.more in
+    wait_twice r.arrival (wait_of r.step.old r.step.move.party) r.counted may.uncounted
+
+pub returns-clause-taken_back : goal.returns-clause-taken_back
+returns-clause-taken_back c = λ r.
+    let one = r.legal.one_change in
+    let least = never_fewer one.deed r.step.old.arrivals in
+    absurd (omega (arith, least, one.arrivals, r.fewer))
+
+counted_as : (a b : ℕ) (x : Wait) → x ≡ counted a → x ≡ counted b → b ≡ a
+counted_as a b x e f = let same : counted a ≡ counted b = sym e ∙ f in cc same
+
+pub returns-clause-follows_too_soon : goal.returns-clause-follows_too_soon
+returns-clause-follows_too_soon c = λ r.
+    let said = r.legal.carries.ready _ r.follows in
+    let same = counted_as r.arrival said.0 (wait_of r.step.new r.step.move.party) r.counted said.1 in
+    r.unfinished (rw (sym same) said.2.1)
+
+pub returns-clause-counted_unlisted : goal.returns-clause-counted_unlisted
+returns-clause-counted_unlisted c = λ r.
+    let one = r.legal.one_change in
+    let may = arrives_so r.step.old r.step.move one.deed r.step.new.arrivals one.allowed one.arrivals (one_more r.step.new.arrivals r.step.old.arrivals r.counted) in
+    elim may.joined as (λ _. ⊥) [ inl leads ↦ r.waits leads | inr listed ↦ absurd (omega (arith, listed, r.unlisted)) ]
+
+pub returns-clause-counted_without_lock : goal.returns-clause-counted_without_lock
+returns-clause-counted_without_lock c = λ r.
+    let one = r.legal.one_change in
+    let may = arrives_so r.step.old r.step.move one.deed r.step.new.arrivals one.allowed one.arrivals (one_more r.step.new.arrivals r.step.old.arrivals r.counted) in
+    r.without may.holds
+
+pub returns-clause-waits_uncounted : goal.returns-clause-waits_uncounted
+returns-clause-waits_uncounted c = λ r.
+    elim (r.legal.waits.waiting r.pending) as (λ _. ⊥) [
+      | inl there ↦ r.elsewhere there
+      | inr here ↦ wait_twice here.0.0 (wait_of r.step.new r.step.move.party) here.0.1 r.not_counted
+    ]
+
+pub returns-clause-keeps_the_lock : goal.returns-clause-keeps_the_lock
+returns-clause-keeps_the_lock c = λ r.
+    let own : HasItsOwn r.step.new r.party (outside Pending) = subst (HasItsOwn r.step.new r.party) r.pending (r.legal.leaves_clear.each r.party) in
+    own.0 r.holds
+
+-- why a call is refused for generations
+for_generations : (w : World) (m : Move) (v : World) (r : Refusal) → number_of refusal.Generations ≡ number_of r → IsCause w m v r → IsOutOfGenerations w m v
+for_generations w m v refusal.Generations e h = h
+for_generations w m v refusal.Memory e h = absurd (omega (arith, e))
+for_generations w m v refusal.Starved e h = absurd (omega (arith, e))
+for_generations w m v refusal.Finished e h = absurd (omega (arith, e))
+for_generations w m v _ e h = absurd h
+
+pub returns-clause-refused_and_counted : goal.returns-clause-refused_and_counted
+returns-clause-refused_and_counted c = λ r.
+    let cause = r.legal.refused_for_cause.cause _ r.refusal in
+    let out = for_generations r.step.old r.step.move r.step.new cause.0 cause.1 cause.2 in
+    r.counted out.unchanged.arrivals
+
+pub returns-clause-refused_too_soon : goal.returns-clause-refused_too_soon
+returns-clause-refused_too_soon c = λ r.
+    let cause = r.legal.refused_for_cause.cause _ r.refusal in
+    let out = for_generations r.step.old r.step.move r.step.new cause.0 cause.1 cause.2 in
+    absurd (omega (arith, out.limit, r.fewer))
+
+pub returns-clause-left_asleep : goal.returns-clause-left_asleep
+returns-clause-left_asleep c = λ r. false≢true (sym r.unmarked ∙ r.awake.all_marked r.party r.arrival r.counted r.finished r.listed)
+
+-- a wait that wasn't counted, and whose poll got the inner lock, is pending as a counted one
+pends_counted : (w : World) (p : ℕ) (a : Answer) (v : World) (x : Wait) → x ≡ uncounted → ComesTo x w p a v → a ≡ answer.Pending → wait_of v p ≡ uncounted → ⊥
+pends_counted w p a v uncounted e h pending not = elim h as (λ _. ⊥) [
+  | inl led ↦ (let never = sym led.ready ∙ pending in cc never)
+  | inr others ↦ (elim others as (λ _. ⊥) [
+    | inl late ↦ (let never = sym late.refused ∙ pending in cc never)
+    | inr waits ↦ wait_twice (next_arrival w) (wait_of v p) waits.waits.counted not
+  ])
+]
+pends_counted w p a v (counted n) e h pending not = cc e
+pends_counted w p a v no_wait e h pending not = absurd h
+
+pub returns-clause-waits_for_nothing : goal.returns-clause-waits_for_nothing
+returns-clause-waits_for_nothing c = λ r. pends_counted r.whole.old r.whole.party r.whole.answer r.whole.new _ r.new_wait (r.kept.first r.first r.free r.memory).comes_to r.pending r.not_counted
+
+pub returns-clause-passes_over_in_vain : goal.returns-clause-passes_over_in_vain
+returns-clause-passes_over_in_vain c = λ r. pends_counted r.whole.old r.whole.party r.whole.answer r.whole.new _ r.was ((r.kept.solo r.polls r.solo r.free).takes (inr r.none_starved)).comes_to r.pending r.is
+
+pub returns-clause-keeps_its_told : goal.returns-clause-keeps_its_told
+returns-clause-keeps_its_told c = λ r. let some = r.kept.hands_on r.polls r.was_pending r.listed r.is_refused r.some in absurd (omega (arith, some, r.none_told))
+
+pub returns-clause-looks_in_vain : goal.returns-clause-looks_in_vain
+returns-clause-looks_in_vain c = λ r. r.not_taken ((r.legal.first_poll r.first).takes.1 r.free)

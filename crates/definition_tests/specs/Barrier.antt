@@ -1,0 +1,206 @@
+-- Runs of a barrier that no user would accept. Each record is one wrong run: what its steps would be, if it were legal.
+use Rattle.std.specs.Prelude.{◌≡◌, ◌≢◌, ℕ, ◌<◌, ◌≤◌, true, false, length, Some, None}
+use Rattle.lock_event.specs.Lists.{marked_count, is_marked_at}
+use Rattle.lock_event.specs.declared.event.Mark.TheVariants.{Waiting}
+use Rattle.lock_queue.specs.Parties.{is_party, entries_of}
+use Rattle.lock_world.specs.declared.moves.Answer.{Answer}
+use Rattle.lock_world.specs.declared.moves.Answer.TheVariants as answer
+use Rattle.lock_world.specs.declared.moves.Call.{Call}
+use Rattle.lock_world.specs.declared.moves.Call.TheVariants as call
+use Rattle.lock_world.specs.declared.moves.Got.TheVariants as got
+use Rattle.lock_world.specs.declared.moves.Inputs.{Inputs}
+use Rattle.lock_world.specs.declared.moves.Move.{Move}
+use Rattle.lock_world.specs.declared.moves.What.TheVariants.{Begin}
+use Rattle.lock_world.specs.declared.refusal.Refusal.TheVariants as refusal
+use Rattle.lock_world.specs.declared.standing.Rest.TheVariants.{Pending}
+use Rattle.lock_world.specs.Rosters.{how_many}
+use Rattle.lock_world.specs.Standings.{outside, refused}
+use Rattle.barrier_machine.specs.Waits.{uncounted, counted}
+use Rattle.barrier_world.specs.declared.world.ListName.TheVariants.{Lock}
+use Rattle.barrier_world.specs.AtOnce.{AnswersAtOnce, is_first_poll, entries_in}
+use Rattle.barrier_world.specs.Bound.{IsSolo, Promises}
+use Rattle.barrier_world.specs.Changes.{wait_then}
+use Rattle.barrier_world.specs.Laws.{IsAwake}
+use Rattle.barrier_world.specs.Legal.{Legal, DecidesOn, next_arrival}
+use Rattle.barrier_world.specs.Numbers.{Leads, IsFinished, generations_of}
+use Rattle.barrier_world.specs.State.{World, standing_of, wait_of, told_in, is_free}
+
+-- A move of a party, and what it leads to.
+pub record Step : Type 0 where
+  pub old : World
+  pub move : Move
+  pub answer : Answer
+  pub new : World
+
+abbrev pub IsLegal : Step → Type 0
+IsLegal s = Legal s.old s.move s.answer s.new
+
+abbrev pub IsAtOnce : Step → Type 0
+IsAtOnce s = AnswersAtOnce s.old s.move s.answer s.new
+
+-- The step decides that its party's wait is ready as the leader's, or as a follower's.
+abbrev pub DecidesToLead : Step → Type 0
+DecidesToLead s = DecidesOn s.old s.move s.answer s.new (answer.Ready (got.Leader true))
+
+abbrev pub DecidesToFollow : Step → Type 0
+DecidesToFollow s = DecidesOn s.old s.move s.answer s.new (answer.Ready (got.Leader false))
+
+-- A whole call, and where it ends.
+pub record Whole : Type 0 where
+  pub old : World
+  pub party : ℕ
+  pub call : Call
+  pub inputs : Inputs
+  pub answer : Answer
+  pub new : World
+
+abbrev pub Keeps : Whole → Type 0
+Keeps c = Promises c.old c.party c.call c.inputs c.answer c.new
+
+-- Two waits of one generation are to be ready as leaders.
+pub record TwoLeaders : Type 0 where
+  pub first : Step
+  pub second : Step
+  pub one_barrier : second.new.size ≡ first.new.size
+  pub later : first.new.arrivals ≤ second.old.arrivals
+  pub same : generations_of second.new.size second.new.arrivals ≡ generations_of first.new.size first.new.arrivals
+  pub leads : DecidesToLead first
+  pub leads_too : DecidesToLead second
+  pub legal : IsLegal first
+  pub legal_too : IsLegal second
+
+-- A wait leads whose arrival doesn't finish a generation.
+pub record LeadsInTheMidst : Type 0 where
+  pub step : Step
+  pub leads : DecidesToLead step
+  pub unfinished : Leads step.new.size step.new.arrivals → ⊥
+  pub legal : IsLegal step
+
+-- An arrival finishes a generation, and isn't to be its leader.
+pub record HasNoLeader : Type 0 where
+  pub step : Step
+  pub counted : step.new.arrivals ≡ next_arrival step.old
+  pub finishes : Leads step.new.size step.new.arrivals
+  pub no_leader : DecidesToLead step → ⊥
+  pub legal : IsLegal step
+
+-- A wait that is counted already is counted once more.
+pub record CountedTwice : Type 0 where
+  pub step : Step
+  pub arrival : ℕ
+  pub counted : wait_of step.old step.move.party ≡ counted arrival
+  pub more : step.new.arrivals ≢ step.old.arrivals
+  pub legal : IsLegal step
+
+-- An arrival is counted no more.
+pub record TakenBack : Type 0 where
+  pub step : Step
+  pub fewer : step.new.arrivals < step.old.arrivals
+  pub legal : IsLegal step
+
+-- A wait is to follow, and its generation isn't finished.
+pub record FollowsTooSoon : Type 0 where
+  pub step : Step
+  pub arrival : ℕ
+  pub follows : DecidesToFollow step
+  pub counted : wait_of step.new step.move.party ≡ counted arrival
+  pub unfinished : IsFinished step.new.size arrival step.new.arrivals → ⊥
+  pub legal : IsLegal step
+
+-- An arrival that has to wait is counted before its party stands in the list.
+pub record CountedUnlisted : Type 0 where
+  pub step : Step
+  pub counted : step.new.arrivals ≡ next_arrival step.old
+  pub waits : Leads step.old.size (next_arrival step.old) → ⊥
+  pub unlisted : entries_of step.move.party step.old.list ≡ 0
+  pub legal : IsLegal step
+
+-- An arrival is counted by a party that doesn't hold the inner lock.
+pub record CountedWithoutLock : Type 0 where
+  pub step : Step
+  pub counted : step.new.arrivals ≡ next_arrival step.old
+  pub without : step.old.lock.holder ≢ Some step.move.party
+  pub legal : IsLegal step
+
+-- A wait that isn't counted is answered Pending in its generation's list alone.
+pub record WaitsUncounted : Type 0 where
+  pub step : Step
+  pub pending : step.answer ≡ answer.Pending
+  pub not_counted : wait_of step.new step.move.party ≡ uncounted
+  pub elsewhere : told_in Lock step.new step.move.party ≢ Some Waiting
+  pub legal : IsLegal step
+
+-- A pending party keeps the inner lock.
+pub record KeepsTheLock : Type 0 where
+  pub step : Step
+  pub party : ℕ
+  pub pending : standing_of step.new party ≡ outside Pending
+  pub holds : step.new.lock.holder ≡ Some party
+  pub legal : IsLegal step
+
+-- A wait is to be refused, for memory or for generations, and its arrival is counted by that.
+pub record RefusedAndCounted : Type 0 where
+  pub step : Step
+  pub refusal : DecidesOn step.old step.move step.answer step.new (refused refusal.Generations)
+  pub counted : step.new.arrivals ≢ step.old.arrivals
+  pub legal : IsLegal step
+
+-- A wait is to be refused for generations, and fewer are finished than may be.
+pub record RefusedTooSoon : Type 0 where
+  pub step : Step
+  pub refusal : DecidesOn step.old step.move step.answer step.new (refused refusal.Generations)
+  pub fewer : generations_of step.old.size step.old.arrivals < step.old.generations_limit
+  pub legal : IsLegal step
+
+-- At rest a counted wait of a finished generation has not been notified.
+pub record LeftAsleep : Type 0 where
+  pub world : World
+  pub party : ℕ
+  pub arrival : ℕ
+  pub counted : wait_of world party ≡ counted arrival
+  pub finished : IsFinished world.size arrival world.arrivals
+  pub listed : 0 < entries_of party world.list
+  pub unmarked : is_marked_at (is_party party) world.list ≡ false
+  pub awake : IsAwake world
+
+-- A first poll finds the inner lock free, and memory, and is pending without being counted.
+pub record WaitsForNothing : Type 0 where
+  pub whole : Whole
+  pub first : is_first_poll (standing_of whole.old whole.party) (Begin whole.call whole.inputs) (entries_in whole.old whole.party) ≡ true
+  pub free : is_free whole.old.lock ≡ true
+  pub memory : whole.inputs.memory ≡ true
+  pub new_wait : wait_then (Begin whole.call whole.inputs) answer.Stepped (wait_of whole.old whole.party) ≡ uncounted
+  pub pending : whole.answer ≡ answer.Pending
+  pub not_counted : wait_of whole.new whole.party ≡ uncounted
+  pub kept : Keeps whole
+
+-- A notified party polls alone where the inner lock is free and nobody is starved, and waits again as before.
+pub record PassesOverInVain : Type 0 where
+  pub whole : Whole
+  pub polls : whole.call ≡ call.Poll
+  pub solo : IsSolo whole.old whole.party whole.inputs
+  pub free : whole.old.lock.holder ≡ None
+  pub none_starved : how_many whole.old.lock.starved ≡ 0
+  pub was : wait_of whole.old whole.party ≡ uncounted
+  pub pending : whole.answer ≡ answer.Pending
+  pub is : wait_of whole.new whole.party ≡ uncounted
+  pub kept : Keeps whole
+
+-- A poll of a party that waits for the inner lock is refused since too many are starved, and nobody else is told.
+pub record KeepsItsTold : Type 0 where
+  pub whole : Whole
+  pub polls : whole.call ≡ call.Poll
+  pub was_pending : standing_of whole.old whole.party ≡ outside Pending
+  pub listed : 0 < entries_of whole.party whole.old.lock_list
+  pub is_refused : whole.answer ≡ refused refusal.Starved
+  pub some : 0 < length whole.new.lock_list
+  pub none_told : marked_count whole.new.lock_list ≡ 0
+  pub kept : Keeps whole
+
+-- A first poll finds the inner lock free, and its first step doesn't take it.
+pub record LooksInVain : Type 0 where
+  pub step : Step
+  pub first : is_first_poll (standing_of step.old step.move.party) step.move.what (entries_in step.old step.move.party) ≡ true
+  pub free : is_free step.old.lock ≡ true
+  pub not_taken : step.new.lock.holder ≢ Some step.move.party
+  pub legal : IsAtOnce step

@@ -1,0 +1,25 @@
+//! Wrong runs of a barrier.
+
+ghost use Rattle.definition_tests.specs.Never.{Never};
+ghost use Rattle.definition_tests.specs.Barrier.{TwoLeaders, LeadsInTheMidst, HasNoLeader, CountedTwice, TakenBack, FollowsTooSoon, CountedUnlisted, CountedWithoutLock, WaitsUncounted, KeepsTheLock, RefusedAndCounted, RefusedTooSoon, LeftAsleep, WaitsForNothing, PassesOverInVain, KeepsItsTold, LooksInVain};
+
+/// Each clause says of one wrong run that it isn't legal.
+fn wrong_runs()
+    ensures two_leaders { Never (TwoLeaders) }
+    ensures leads_in_the_midst { Never (LeadsInTheMidst) }
+    ensures has_no_leader { Never (HasNoLeader) }
+    ensures counted_twice { Never (CountedTwice) }
+    ensures taken_back { Never (TakenBack) }
+    ensures follows_too_soon { Never (FollowsTooSoon) }
+    ensures counted_unlisted { Never (CountedUnlisted) }
+    ensures counted_without_lock { Never (CountedWithoutLock) }
+    ensures waits_uncounted { Never (WaitsUncounted) }
+    ensures keeps_the_lock { Never (KeepsTheLock) }
+    ensures refused_and_counted { Never (RefusedAndCounted) }
+    ensures refused_too_soon { Never (RefusedTooSoon) }
+    ensures left_asleep { Never (LeftAsleep) }
+    ensures waits_for_nothing { Never (WaitsForNothing) }
+    ensures passes_over_in_vain { Never (PassesOverInVain) }
+    ensures keeps_its_told { Never (KeepsItsTold) }
+    ensures looks_in_vain { Never (LooksInVain) }
+{}
