@@ -1,5 +1,5 @@
-//! Tests of a barrier's programs and of its machine, through their public calls. They stand here and not
-//! beside them, so that neither is proved once more with its tests. There is nothing else here, and no crate
+//! Tests of a barrier's programs, of its machine and of its World, through their public calls. They stand here and not
+//! beside them, so that none is proved once more with its tests. There is nothing else here, and no crate
 //! stands on it.
 #![tactic(auto)]
 
@@ -7,3 +7,5 @@
 mod machine;
 #[cfg(test)]
 mod program;
+#[cfg(test)]
+mod world;

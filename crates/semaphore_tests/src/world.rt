@@ -145,9 +145,11 @@ fn too_many_permits_to_begin_with(rt: HostRuntime) -> Result<(), Fail> {
         Ok(_) => assert!(rt; false, "3 permits under a limit of 2"),
         Err(refusal) => assert_eq!(rt; refusal, Refusal::Permits),
     }
-    if let Ok(world) = World::with_limits(rt.alloc(), 1, 2, 2) {
-        assert_state(&rt, &world, (2, 2, 0));
-    }
+    let world = match World::with_limits(rt.alloc(), 1, 2, 2) {
+        Ok(world) => world,
+        Err(_) => World::with_limits(rt.alloc(), 1, 2, 2)?,
+    };
+    assert_state(&rt, &world, (2, 2, 0));
     Ok(())
 }
 
@@ -239,8 +241,13 @@ fn a_run_answers_each_move(rt: HostRuntime) -> Result<(), Fail> {
             what: What::Begin(Call::TryAcquire, INPUTS),
         },
     ];
-    if let Ok(answers) = world.run(rt.alloc(), &moves) {
-        assert_eq!(rt; answers.as_slice(), &[GRANTED, Answer::None][..]);
-    }
+    let answers = match world.run(rt.alloc(), &moves) {
+        Ok(answers) => answers,
+        Err(_) => {
+            let again = world.run(rt.alloc(), &moves);
+            again.expect(&rt, "only one allocation is refused")
+        }
+    };
+    assert_eq!(rt; answers.as_slice(), &[GRANTED, Answer::None][..]);
     Ok(())
 }
