@@ -2,3 +2,8 @@
 pub mod Here
 pub mod Locks
 pub mod Owns
+pub mod Idle
+pub mod Turns
+pub mod OwnRows
+pub mod LockRows
+pub mod Rows

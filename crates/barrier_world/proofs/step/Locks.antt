@@ -4,10 +4,12 @@ use Rattle.lock_event.specs.declared.event.Entry.{Entry}
 use Rattle.lock_event.specs.Lists.{mark_at, without, passed_on, is_listed}
 use Rattle.std.proofs.lemmas.Bool.Decides.{nat_tests}
 use Rattle.lock_queue.specs.Parties.{is_party, entries_of}
-use Rattle.lock_world.specs.Rosters.{how_many, is_on}
+use Rattle.lock_world.specs.declared.moves.Answer.{Answer}
+use Rattle.lock_world.specs.declared.moves.Answer.TheVariants as answer
+use Rattle.lock_world.specs.declared.refusal.Refusal.{Refusal}
 use Rattle.lock_world.specs.Steps.{Deed, nothing, changes, does, joins, asks, leaves, notifies, notifies_additionally, list_after}
 use Rattle.lock_world.proofs.Equations.{some_eq, none_some}
-use Rattle.mutex_machine.specs.Course.{Course, out, holding, waiting, taking, releasing, cancelling, undecided, called, counting, has_lock, gives_up as giving_up, holds, counted, decision}
+use Rattle.mutex_machine.specs.Course.{Course, out, holding, waiting, taking, releasing, cancelling, undecided, called, counting, has_lock, gives_up as giving_up, holds, counted as starved_there, listed as listed_there, decision, is_releasing, is_cancelling}
 use Rattle.mutex_machine.specs.declared.program.End.{End}
 use Rattle.mutex_machine.specs.declared.program.End.TheVariants.{Got, Pending, GivenBack, Refused}
 use Rattle.mutex_machine.specs.declared.mutex.Step.{Step}
@@ -17,8 +19,9 @@ use Rattle.mutex_machine.specs.Conduct.{IsLegal, IsAllowed as MayDo}
 use Rattle.mutex_machine.proofs.Holders as sees
 use Rattle.barrier_world.specs.declared.world.ListName.{ListName}
 use Rattle.barrier_world.specs.declared.world.ListName.TheVariants.{Lock, Generation}
+use Rattle.barrier_machine.specs.Waits.{Wait, no_wait, counted}
 use Rattle.barrier_world.specs.State.{LockState}
-use Rattle.barrier_world.specs.Changes.{Change, takes, releases, starves, recovers, lock_after, arrivals_after, lock_list_after, generation_list_after, wait_after, wait_then, gives_back, gives_up}
+use Rattle.barrier_world.specs.Changes.{Change, takes, releases, starves, recovers, arrives, lock_after, arrivals_after, lock_list_after, generation_list_after, gives_back, gives_up}
 
 -- the deed on the inner lock is one on the barrier
 abbrev pub deed_of : Deed mutex.Change mutex.ListName → Deed Change ListName
@@ -45,19 +48,28 @@ entries_then p (changes mutex.starves) l = refl
 entries_then p (changes mutex.recovers) l = refl
 entries_then p (does mutex.for_the_lock f) l = refl
 
+-- what becomes of a wait by its answer, and where its arrival is counted
+abbrev pub ends : Answer → Wait → Wait
+ends (answer.Ready g) b = no_wait
+ends a b = b
+
+abbrev pub wait_by : Deed Change ListName → ℕ → Answer → Wait → Wait
+wait_by (changes arrives) k a b = counted (k + 1)
+wait_by _ k a b = ends a b
+
 -- it does nothing else
 pub record IsOfLock (d : Deed Change ListName) : Type 0 where
   pub list : (p : ℕ) (l : List (Entry ℕ)) → generation_list_after p d l ≡ l
   pub arrivals : (k : ℕ) → arrivals_after d k ≡ k
-  pub wait : (k : ℕ) (what : _) (a : _) (b : _) → wait_after d k what a b ≡ wait_then what a b
+  pub ends : (k : ℕ) (a : Answer) (b : Wait) → wait_by d k a b ≡ ends a b
 
 pub is_of_lock : (d : Deed mutex.Change mutex.ListName) → IsOfLock (deed_of d)
-is_of_lock nothing = record { list = λ p l. refl; arrivals = λ k. refl; wait = λ k what a b. refl }
-is_of_lock (changes mutex.takes) = record { list = λ p l. refl; arrivals = λ k. refl; wait = λ k what a b. refl }
-is_of_lock (changes mutex.releases) = record { list = λ p l. refl; arrivals = λ k. refl; wait = λ k what a b. refl }
-is_of_lock (changes mutex.starves) = record { list = λ p l. refl; arrivals = λ k. refl; wait = λ k what a b. refl }
-is_of_lock (changes mutex.recovers) = record { list = λ p l. refl; arrivals = λ k. refl; wait = λ k what a b. refl }
-is_of_lock (does mutex.for_the_lock f) = record { list = λ p l. refl; arrivals = λ k. refl; wait = λ k what a b. refl }
+is_of_lock nothing = record { list = λ p l. refl; arrivals = λ k. refl; ends = λ k a b. refl }
+is_of_lock (changes mutex.takes) = record { list = λ p l. refl; arrivals = λ k. refl; ends = λ k a b. refl }
+is_of_lock (changes mutex.releases) = record { list = λ p l. refl; arrivals = λ k. refl; ends = λ k a b. refl }
+is_of_lock (changes mutex.starves) = record { list = λ p l. refl; arrivals = λ k. refl; ends = λ k a b. refl }
+is_of_lock (changes mutex.recovers) = record { list = λ p l. refl; arrivals = λ k. refl; ends = λ k a b. refl }
+is_of_lock (does mutex.for_the_lock f) = record { list = λ p l. refl; arrivals = λ k. refl; ends = λ k a b. refl }
 
 pub gives_back_so : (d : Deed mutex.Change mutex.ListName) → gives_back (deed_of d) ≡ mutex.gives_back d
 gives_back_so nothing = refl
@@ -112,3 +124,23 @@ got_holds releasing e = absurd (cc (some_eq e))
 got_holds (cancelling b) e = absurd (cc (some_eq e))
 got_holds (taking (giving_up r) a b d) e = absurd (cc (some_eq e))
 got_holds _ e = absurd (none_some e)
+
+pub refused_free : (c : Course) (r : Refusal) → decision c ≡ Some (Refused r) → holds c ≡ 0
+refused_free (taking (giving_up x) a b d) r e = refl
+refused_free (taking has_lock a b d) r e = absurd (cc (some_eq e))
+refused_free out r e = absurd (cc (some_eq e))
+refused_free releasing r e = absurd (cc (some_eq e))
+refused_free (cancelling b) r e = absurd (cc (some_eq e))
+refused_free _ r e = absurd (none_some e)
+
+pub cancelling_free : (c : Course) → is_cancelling c ≡ true → holds c ≡ 0
+cancelling_free (cancelling b) h = refl
+cancelling_free _ h = absurd (cc)
+
+pub releasing_unstarved : (c : Course) → is_releasing c ≡ true → starved_there c ≡ 0
+releasing_unstarved releasing h = refl
+releasing_unstarved _ h = absurd (cc)
+
+pub releasing_unlisted : (c : Course) → is_releasing c ≡ true → listed_there c ≡ 0
+releasing_unlisted releasing h = refl
+releasing_unlisted _ h = absurd (cc)

@@ -40,6 +40,7 @@ use Rattle.barrier_world.specs.View.{view_of}
 use Rattle.barrier_world.specs.Legal.{HasItsOwn, HasNothing, GivesUp}
 use Rattle.barrier_world.specs.Steps.{IsBarrierTable}
 use Rattle.barrier_world.proofs.table.Seen as seen
+use Rattle.barrier_world.proofs.step.Locks.{cancelling_free}
 use Rattle.barrier_world.proofs.Numbers as numbers
 
 -- whoever has a wait has one
@@ -106,10 +107,6 @@ pends_by (Outside r) x c u e = cc
 pends_by (Inside w) (At y) c u e = never_pending y c (cc)
 pends_by (Inside w) _ c u e = cc
 pends_by Forgotten x c u e = cc
-
-cancelling_free : (c : Course) → is_cancelling c ≡ true → holds c ≡ 0
-cancelling_free (cancelling b) h = refl
-cancelling_free _ h = absurd (cc)
 
 -- what holds of any World that stands
 pub record Standing_well (w : World) : Type 0 where
