@@ -7,3 +7,5 @@ pub mod Turns
 pub mod OwnRows
 pub mod LockRows
 pub mod Rows
+pub mod Endings
+pub mod Acting

@@ -255,9 +255,9 @@ module _ (t u : Table Barrier) (m : Move) (w : Within) (laws : IsBarrier t.machi
     -- ---- a poll on the inner lock
 
     module _ (a : Aim) (starts : Bool) where
-      why : (r : Refusal) → IsReason memory p t.machine.lock u.machine.lock (lock_end.Refused r) → entries_of p t.machine.entries ≡ 0 → starts ≡ false → wait_of new p ≡ wait_of old p → turns.Reason t u m w starts (refused r)
-      why refusal.Memory y none at wait = (
-        (refusal.Memory, refl, record { input = y.0; unlisted = lists; unchanged = record { arrivals = same_arrivals; lock = same_state _ _ _ _ y.3 y.4; lists = kept; wait = wait } }),
+      why : (r : Refusal) → IsReason memory p t.machine.lock u.machine.lock (lock_end.Refused r) → (old.lock.holder ≡ Some p → ⊥) → entries_of p t.machine.entries ≡ 0 → starts ≡ false → wait_of new p ≡ wait_of old p → turns.Reason t u m w starts (refused r)
+      why refusal.Memory y free none at wait = (
+        (refusal.Memory, refl, record { input = y.0; needed = λ h. absurd (free h); unlisted = lists; unchanged = record { arrivals = same_arrivals; lock = same_state _ _ _ _ y.3 y.4; lists = kept; wait = wait } }),
         at,
       ) where
         lists : (list : ListName) → entries_of p (list_in list old) ≡ 0
@@ -266,8 +266,8 @@ module _ (t u : Table Barrier) (m : Move) (w : Within) (laws : IsBarrier t.machi
         kept : (list : ListName) → list_in list new ≡ list_in list old
         kept Lock = y.2
         kept Generation = unlisted
-      why refusal.Starved y none at wait = ((refusal.Starved, refl, sees.how_many_counted t.machine.lock.courses ∙ y), at)
-      why _ y none at wait = absurd y
+      why refusal.Starved y free none at wait = ((refusal.Starved, refl, sees.how_many_counted t.machine.lock.courses ∙ y), at)
+      why _ y free none at wait = absurd y
 
       -- what a decision of the poll on the inner lock says of the wait
       abbrev Because : End → Type 0
@@ -302,7 +302,7 @@ module _ (t u : Table Barrier) (m : Move) (w : Within) (laws : IsBarrier t.machi
       judge (Some e) s h k q r = unpolled e q (λ x. cc x) (λ x y. cc y)
 
     module _ (a : Aim) (starts : Bool) (decided : Option End) (s : Step) (l : IsLegal memory p decided s t.machine.lock u.machine.lock) (polls : IsPolls decided) (leads : Takes s d)
-        (got : decided ≡ Some lock_end.Got → holds c ≡ 1) (free : (r : Refusal) → decided ≡ Some (lock_end.Refused r) → holds c ≡ 0) where
+        (got : decided ≡ Some lock_end.Got → holds c ≡ 1) (free : (r : Refusal) → decided ≡ Some (lock_end.Refused r) → holds c ≡ 0) (unheld : decided ≡ None → holds c ≡ 0) where
       up : (o : Option End) → decided ≡ o → IsPolls o → gives_up (deed_of l.deed) ≡ true → is_some (refused_by o) || is_held_by old.lock.holder p ≡ true
       up None e q h = let never = l.holds_on e in let is = gives_up_so l.deed in absurd (cc (h, never, is))
       up (Some lock_end.Got) e q h = ap (λ o. is_held_by o p) (sees.holds_it t.machine.lock.courses p laws.lock.one_holder (got e)) ∙ its_holder p
@@ -336,7 +336,7 @@ module _ (t u : Table Barrier) (m : Move) (w : Within) (laws : IsBarrier t.machi
       }) where
         because : (e : End) → decided ≡ None → decided_then s d ≡ Some e → Because a starts e
         because lock_end.Pending n h = inl (l.reason lock_end.Pending n h)
-        because (lock_end.Refused r) n h = let x = refusable r h in why a starts r (l.reason (lock_end.Refused r) n h) none x.0 (waits_still s refl r h after ∙ sym x.1)
+        because (lock_end.Refused r) n h = let x = refusable r h in why a starts r (l.reason (lock_end.Refused r) n h) (λ e. (let one = sees.is_held_by t.machine.lock.courses p e in let zero_held = unheld n in omega arith)) none x.0 (waits_still s refl r h after ∙ sym x.1)
         because _ n h = tt
 
     -- ---- the drop of a wait in the inner lock's list

@@ -9,7 +9,7 @@ use Rattle.lock_world.specs.declared.moves.Answer.TheVariants as answer
 use Rattle.lock_world.specs.declared.refusal.Refusal.{Refusal}
 use Rattle.lock_world.specs.Steps.{Deed, nothing, changes, does, joins, asks, leaves, notifies, notifies_additionally, list_after}
 use Rattle.lock_world.proofs.Equations.{some_eq, none_some}
-use Rattle.mutex_machine.specs.Course.{Course, out, holding, waiting, taking, releasing, cancelling, undecided, called, counting, has_lock, gives_up as giving_up, holds, counted as starved_there, listed as listed_there, decision, is_releasing, is_cancelling}
+use Rattle.mutex_machine.specs.Course.{Course, out, holding, waiting, taking, releasing, cancelling, undecided, called, counting, has_lock, gives_up as giving_up, holds, counted as starved_there, listed as listed_there, decision, is_taking, is_releasing, is_cancelling}
 use Rattle.mutex_machine.specs.declared.program.End.{End}
 use Rattle.mutex_machine.specs.declared.program.End.TheVariants.{Got, Pending, GivenBack, Refused}
 use Rattle.mutex_machine.specs.declared.mutex.Step.{Step}
@@ -132,6 +132,15 @@ refused_free out r e = absurd (cc (some_eq e))
 refused_free releasing r e = absurd (cc (some_eq e))
 refused_free (cancelling b) r e = absurd (cc (some_eq e))
 refused_free _ r e = absurd (none_some e)
+
+pub undecided_free : (c : Course) → is_taking c ≡ true → decision c ≡ None → holds c ≡ 0
+undecided_free (waiting b) h e = refl
+undecided_free (taking undecided a b d) h e = refl
+undecided_free (taking called a b d) h e = refl
+undecided_free (taking counting a b d) h e = refl
+undecided_free (taking has_lock a b d) h e = absurd (none_some (sym e))
+undecided_free (taking (giving_up r) a b d) h e = refl
+undecided_free _ h e = absurd (cc h)
 
 pub cancelling_free : (c : Course) → is_cancelling c ≡ true → holds c ≡ 0
 cancelling_free (cancelling b) h = refl

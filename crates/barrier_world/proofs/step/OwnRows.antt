@@ -246,7 +246,7 @@ module _ (t u : Table Barrier) (m : Move) (w : Within) (laws : IsBarrier t.machi
     parting = λ h. absurd (cc);
     giving_up = λ h. absurd (cc);
     judged = (
-      (refusal.Memory, refl, record { input = x.finds; unlisted = both_lists x.link x.owner; unchanged = as_before x.lock x.words_then x.entries_then (uncounted) (x.before refl) x.after }),
+      (refusal.Memory, refl, record { input = x.finds; needed = λ h. (let P : Wait → Type 0 = HasToWait old in subst P (sym (x.before refl)) (numbers.next_follows words.size words.progress x.sure)); unlisted = both_lists x.link x.owner; unchanged = as_before x.lock x.words_then x.entries_then (uncounted) (x.before refl) x.after }),
       refl,
     );
     led = λ e leads. absurd (never_more x.lock x.words_then e);
@@ -385,7 +385,7 @@ module _ (t u : Table Barrier) (m : Move) (w : Within) (laws : IsBarrier t.machi
     parting = λ h. absurd (cc);
     giving_up = λ h. absurd (cc);
     judged = (
-      (refusal.Memory, refl, record { input = x.finds; unlisted = both_lists x.link x.owner; unchanged = as_before x.lock x.words_then x.entries_then (counted num) (x.before refl) x.after }),
+      (refusal.Memory, refl, record { input = x.finds; needed = λ h. (let P : Wait → Type 0 = HasToWait old in subst P (sym (x.before refl)) (numbers.is_unfinished words.size mine words.progress (x.follower refl) laws.sound.unfinished x.sure)); unlisted = both_lists x.link x.owner; unchanged = as_before x.lock x.words_then x.entries_then (counted num) (x.before refl) x.after }),
       refl,
     );
     led = λ e leads. absurd (never_more x.lock x.words_then e);

@@ -11,7 +11,7 @@ use Rattle.mutex_machine.specs.Course.{Course, decision}
 use Rattle.mutex_machine.specs.declared.program.End.{End}
 use Rattle.mutex_machine.specs.declared.program.End.TheVariants as lock_end
 use Rattle.mutex_machine.specs.Conduct.{IsLegal}
-use Rattle.mutex_machine.proofs.Callers.{taking_decided, releasing_decided, cancelling_decided, waiting_free}
+use Rattle.mutex_machine.proofs.Callers.{taking_decided, releasing_decided, cancelling_decided, out_free, waiting_free}
 use Rattle.barrier_machine.specs.declared.program.Aim.{Aim}
 use Rattle.barrier_machine.specs.declared.program.Aim.TheVariants as aim
 use Rattle.barrier_machine.specs.declared.program.Ending.{Ending}
@@ -26,7 +26,7 @@ use Rattle.barrier_world.specs.State.{World, standing_of}
 use Rattle.barrier_world.specs.Changes.{releases}
 use Rattle.barrier_world.specs.Legal.{IsAllowed}
 use Rattle.barrier_world.proofs.step.Turns as turns
-use Rattle.barrier_world.proofs.step.Locks.{got_holds, refused_free, cancelling_free}
+use Rattle.barrier_world.proofs.step.Locks.{got_holds, refused_free, undecided_free, cancelling_free}
 use Rattle.barrier_world.proofs.step.OwnRows as own
 use Rattle.barrier_world.proofs.step.LockRows as locks
 
@@ -55,11 +55,11 @@ module _ (t u : Table Barrier) (m : Move) (w : Within) (laws : IsBarrier t.machi
   as_given s o e l = let P : Option End → Type 0 = λ z. IsLegal (turns.i t u m w).memory m.party z s t.machine.lock u.machine.lock in subst P e l
 
   pub row : (y : Place) (f : Found) → Known y f → RowAt y f
-  row (EnterLock a) (found.Lock s) x = locks.taking t u m w laws x.words_then x.entries_then a true None s x.lock.legal (inl refl) x.lock.leads (λ e. absurd (none_some e)) (λ r e. absurd (none_some e)) x.owner (λ r h. absurd (x.lock.unrefused r h)) x.after
+  row (EnterLock a) (found.Lock s) x = locks.taking t u m w laws x.words_then x.entries_then a true None s x.lock.legal (inl refl) x.lock.leads (λ e. absurd (none_some e)) (λ r e. absurd (none_some e)) (λ e. out_free c x.link) x.owner (λ r h. absurd (x.lock.unrefused r h)) x.after
   row (EnterLock a) _ x = absurd x.lock
-  row (WaitLock a) (found.Lock s) x = locks.taking t u m w laws x.words_then x.entries_then a true None s x.lock.legal (inl refl) x.lock.leads (λ e. absurd (none_some e)) (λ r e. absurd (none_some e)) x.owner (λ r h. absurd (x.lock.unrefused r h)) x.after
+  row (WaitLock a) (found.Lock s) x = locks.taking t u m w laws x.words_then x.entries_then a true None s x.lock.legal (inl refl) x.lock.leads (λ e. absurd (none_some e)) (λ r e. absurd (none_some e)) (λ e. waiting_free c x.link) x.owner (λ r h. absurd (x.lock.unrefused r h)) x.after
   row (WaitLock a) _ x = absurd x.lock
-  row (TakeLock a) (found.Lock s) x = locks.taking t u m w laws x.words_then x.entries_then a false (decision c) s x.lock.legal (taking_decided c x.link) (x.lock.leads.takes x.link) (got_holds c) (refused_free c) x.owner (λ r h. (refl, x.before refl)) x.after
+  row (TakeLock a) (found.Lock s) x = locks.taking t u m w laws x.words_then x.entries_then a false (decision c) s x.lock.legal (taking_decided c x.link) (x.lock.leads.takes x.link) (got_holds c) (refused_free c) (undecided_free c x.link) x.owner (λ r h. (refl, x.before refl)) x.after
   row (TakeLock a) _ x = absurd x.lock
   row Look found.MustWait x = own.look_waits t u m w laws x
   row Look found.Leads x = own.look_leads t u m w laws x
