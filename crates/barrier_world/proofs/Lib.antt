@@ -1,3 +1,4 @@
 pub mod Numbers
 pub mod table
 pub mod step
+pub mod laws

@@ -1,0 +1,2 @@
+-- What always holds, and what follows from a step.
+pub mod Sound
