@@ -1,5 +1,5 @@
 -- An action of one party keeps what always holds of a barrier.
-use Rattle.std.proofs.Common.{◌≡◌, ◌≢◌, ℕ, ◌+◌, ◌<◌, ◌≤◌, ◌*◌, true, List, length, get_or, Some, refl, arith, ap, sym, subst, ◌∙◌, length-set, get_or-set_same, get_or-set_other}
+use Rattle.std.proofs.Common.{◌≡◌, ◌≢◌, ℕ, ◌+◌, ◌<◌, ◌≤◌, ◌*◌, inl, inr, true, List, length, get_or, Some, refl, arith, ap, sym, subst, ◌∙◌, length-set, get_or-set_same, get_or-set_other}
 use Rattle.std.proofs.Math.ListN.{set}
 use Rattle.std.proofs.Math.Decide.{ℕ_discrete}
 use Rattle.std.specs.List.{sum_by}
@@ -25,16 +25,16 @@ use Rattle.barrier_machine.specs.declared.program.Position.{Position}
 use Rattle.barrier_machine.specs.declared.program.Position.TheVariants.{Out, At}
 use Rattle.barrier_machine.specs.declared.words.Progress.{Progress}
 use Rattle.barrier_machine.specs.declared.words.Words.{Words}
-use Rattle.barrier_machine.specs.Words.{progress, IsPast, IsFollower}
+use Rattle.barrier_machine.specs.Words.{progress, IsPast, IsWithin, IsFollower}
 use Rattle.barrier_machine.specs.Program.{action_of, next_of}
 use Rattle.barrier_machine.specs.Deeds.{Finds, CanDo, arrival_after, entries_after}
 use Rattle.barrier_machine.specs.Locks.{OnLock}
-use Rattle.barrier_machine.specs.Roles.{InLock, holds, fits_lock, listed, in_lock, follows, Sure}
-use Rattle.barrier_machine.specs.Machine.{Barrier, IsKept, Stands, goes_with, answer_by, position_at, arrival_at}
+use Rattle.barrier_machine.specs.Roles.{InLock, holds, fits_lock, listed, in_lock, follows, Sure, HasOutcome}
+use Rattle.barrier_machine.specs.Machine.{Barrier, IsKept, HasArrived, AreApart, Stands, goes_with, answer_by, position_at, arrival_at}
 use Rattle.barrier_machine.proofs.Starts.{Fits}
 use Rattle.barrier_machine.proofs.Links.{Led, led, links, lands, lock_others, lock_length, lock_stays}
 use Rattle.barrier_machine.proofs.CanDo.{can_do, linked, is_sure, entries_are}
-use Rattle.barrier_machine.proofs.Rows.{then, after, sound_then, past_then, own_past, follower_then, sure_then, sure_others}
+use Rattle.barrier_machine.proofs.Rows.{then, after, sound_then, past_then, own_past, ahead, within_then, follower_then, sure_then, sure_others, outcome_then, outcome_others}
 use Rattle.barrier_machine.proofs.Listed.{others_listed, own_listed, listed_then}
 use Rattle.barrier_machine.proofs.Told.{all_told}
 
@@ -74,6 +74,39 @@ same_size : (x : Place) (w : Words) → (then x w).size ≡ w.size
 same_size Arrive w = refl
 same_size Complete w = refl
 same_size _ w = refl
+
+-- a new arrival is nobody else's
+module _ (x : Place) (w : Words) (rs : List Progress) (p : ℕ) (past : (j : ℕ) → IsPast (arrival_at rs j) w.progress) (apart : AreApart rs) (known : p < length rs) where
+  abbrev news : Progress
+  news = arrival_after (action_of x) w (arrival_at rs p)
+
+  same_party : (k : ℕ) → HasArrived news → news ≡ arrival_at rs k → p ≡ k
+  same_party k some e = elim (ahead x (arrival_at rs p) (arrival_at rs k) w (past k)) as (λ _. p ≡ k) [
+    | inl same ↦ apart p k (subst HasArrived same some) (sym same ∙ e)
+    | inr never ↦ absurd (never (sym e))
+  ]
+
+  pub apart_then : AreApart (set rs p news)
+  apart_then j k some e = elim (ℕ_discrete j p) as (λ _. j ≡ k) [
+    | yes jp ↦ elim (ℕ_discrete k p) as (λ _. j ≡ k) [
+        | yes kp ↦ jp ∙ sym kp
+        | no off ↦ (
+          let mine : arrival_at (set rs p news) j ≡ news = ap (arrival_at (set rs p news)) jp ∙ get_or-set_same rs p news (progress 0 0) known in
+          jp ∙ same_party k (subst HasArrived mine some) (sym mine ∙ (e ∙ get_or-set_other rs p k news (progress 0 0) off))
+          )
+      ]
+    | no away ↦ elim (ℕ_discrete k p) as (λ _. j ≡ k) [
+        | yes kp ↦ (
+          let mine : arrival_at (set rs p news) k ≡ news = ap (arrival_at (set rs p news)) kp ∙ get_or-set_same rs p news (progress 0 0) known in
+          let has : HasArrived news = subst HasArrived (e ∙ mine) some in
+          sym (kp ∙ same_party j has (sym mine ∙ (sym e ∙ get_or-set_other rs p j news (progress 0 0) away)))
+          )
+        | no off ↦ (
+          let here : arrival_at (set rs p news) j ≡ arrival_at rs j = get_or-set_other rs p j news (progress 0 0) away in
+          apart j k (subst HasArrived here some) (sym here ∙ (e ∙ get_or-set_other rs p k news (progress 0 0) off))
+          )
+      ]
+  ]
 
 module _ (i : Inputs) (p : ℕ) (w : Words) (xs : List Position) (rs : List Progress) (q : Queue) (m n : Mutex) (v : Within) (x : Place) (f : Found) where
   abbrev to : Position
@@ -118,6 +151,12 @@ module _ (i : Inputs) (p : ℕ) (w : Words) (xs : List Position) (rs : List Prog
               subst P (sym e) (rw arrived (own_past x mine w (k.past p))))
           | no apart ↦ rw (get_or-set_other rs p j arrival (progress 0 0) apart) (past_then x (arrival_at rs j) w (k.past j))
         ];
+        apart = apart_then x w rs p k.past k.apart many;
+        within = λ j. elim (ℕ_discrete j p) as (λ _. IsWithin (then x w).size (arrival_at (set rs p arrival) j)) [
+          | yes e ↦ (let P : ℕ → Type 0 = λ k. IsWithin (then x w).size (arrival_at (set rs p arrival) k) in
+              subst P (sym e) (rw arrived (within_then x mine w sure (k.within p))))
+          | no apart ↦ rw (get_or-set_other rs p j arrival (progress 0 0) apart) (rw (same_size x w) (k.within j))
+        ];
         followers = λ j. elim (ℕ_discrete j p) as (λ _. follows (position_at (set xs p to) j) ≡ true → IsFollower (then x w).size (arrival_at (set rs p arrival) j)) [
           | yes e ↦ (let P : ℕ → Type 0 = λ k. follows (position_at (set xs p to) k) ≡ true → IsFollower (then x w).size (arrival_at (set rs p arrival) k) in
               subst P (sym e) (rw (landed, arrived) (follower_then x f mine w sure (λ h. k.followers p (fit.counted h)))))
@@ -128,6 +167,11 @@ module _ (i : Inputs) (p : ℕ) (w : Words) (xs : List Position) (rs : List Prog
               subst P (sym e) (rw (landed, arrived) (sure_then i p mine w q.entries x f finds sure)))
           | no apart ↦ rw (get_or-set_other xs p j to Out apart, get_or-set_other rs p j arrival (progress 0 0) apart)
               (sure_others x (position_at xs j) (arrival_at rs j) w (λ hp hj. one_holds m mutex p j apart (has_lock (At x) (course_at m.courses p) link hp) (has_lock (position_at xs j) (course_at m.courses j) (k.links j) hj)) (k.sure j))
+        ];
+        outcomes = λ j. elim (ℕ_discrete j p) as (λ _. HasOutcome (position_at (set xs p to) j) (arrival_at (set rs p arrival) j) (then x w)) [
+          | yes e ↦ (let P : ℕ → Type 0 = λ k. HasOutcome (position_at (set xs p to) k) (arrival_at (set rs p arrival) k) (then x w) in
+              subst P (sym e) (rw (landed, arrived) (outcome_then i p mine w q.entries x f finds (k.past p) (λ h. k.followers p (fit.counted h)) (fit.outcome mine w (k.outcomes p)))))
+          | no apart ↦ rw (get_or-set_other xs p j to Out apart, get_or-set_other rs p j arrival (progress 0 0) apart) (outcome_others x (position_at xs j) (arrival_at rs j) w (k.outcomes j))
         ];
         told = all_told i p w xs rs q.entries x f finds sure known many fit.late fit.tells k.told (fits_all xs (length q.entries) k.in_list k.few) now;
         arrivals = length-set rs p arrival ∙ (k.arrivals ∙ sym (length-set xs p to));

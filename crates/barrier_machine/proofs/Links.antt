@@ -28,7 +28,7 @@ use Rattle.barrier_machine.specs.declared.program.Position.TheVariants.{At}
 use Rattle.barrier_machine.specs.Program.{action_of, next_of, position_after, after_lock, after_cancel, after_release, released}
 use Rattle.barrier_machine.specs.Locks.{OnLock}
 use Rattle.barrier_machine.specs.Roles.{fits_lock, in_lock}
-use Rattle.barrier_machine.specs.Machine.{runs, is_polling, goes_with, answer_by}
+use Rattle.barrier_machine.specs.Machine.{runs, is_polling, is_begun, goes_with, answer_by}
 
 -- the action of this place is a step in the inner lock
 abbrev pub steps_in_lock : Place → Bool
@@ -185,25 +185,25 @@ Lands w x f = goes_with (stage_after rest.Finished w (answer_by (next_of x f))) 
 abbrev pub the : Kind → Rest → Within
 the k r = record { kind = k; was = r }
 
-module _ (w : Within) (inside : (x : Place) → is_polling x ≡ true → goes_with (Inside w) (At x) ≡ true) where
+module _ (w : Within) (inside : (x : Place) → is_begun x ≡ true → is_polling x ≡ true → goes_with (Inside w) (At x) ≡ true) where
   takes_land : (a : Aim) (n : LockStep) (to : Course) → Takes n to → goes_with (stage_after rest.Finished w (answer_by (after_lock a (found.Lock n)))) (position_after (after_lock a (found.Lock n))) ≡ true
-  takes_land a lock_step.More to h = inside (TakeLock a) refl
-  takes_land aim.Arrive (lock_step.End lock_end.Got) to h = inside Look refl
-  takes_land aim.Check (lock_step.End lock_end.Got) to h = inside Check refl
+  takes_land a lock_step.More to h = inside (TakeLock a) refl refl
+  takes_land aim.Arrive (lock_step.End lock_end.Got) to h = inside Look refl refl
+  takes_land aim.Check (lock_step.End lock_end.Got) to h = inside Check refl refl
   takes_land a (lock_step.End lock_end.Pending) to h = refl
   takes_land a (lock_step.End (lock_end.Refused refusal.Memory)) to h = refl
   takes_land a (lock_step.End (lock_end.Refused refusal.Starved)) to h = refl
   takes_land a (lock_step.End _) to h = absurd h
 
   released_land : (e : Ending) → goes_with (stage_after rest.Finished w (answer_by (released e))) (position_after (released e)) ≡ true
-  released_land ending.Wait = inside Ask refl
+  released_land ending.Wait = inside Ask refl refl
   released_land ending.Follow = refl
   released_land ending.Lead = refl
   released_land ending.RefuseGenerations = refl
   released_land (ending.RefuseMemory a) = refl
 
   release_land : (e : Ending) (n : LockStep) → goes_with (stage_after rest.Finished w (answer_by (after_release e (found.Lock n)))) (position_after (after_release e (found.Lock n))) ≡ true
-  release_land e lock_step.More = inside (ReleasingLock e) refl
+  release_land e lock_step.More = inside (ReleasingLock e) refl refl
   release_land e (lock_step.End x) = released_land e
 
   polls : (x : Place) (f : Found) (to : Course) → Led x f to → is_polling x ≡ true → Lands w x f
@@ -217,19 +217,19 @@ module _ (w : Within) (inside : (x : Place) → is_polling x ≡ true → goes_w
   polls (ReleaseLock e) _ to h k = absurd h
   polls (ReleasingLock e) (found.Lock n) to h k = release_land e n
   polls (ReleasingLock e) _ to h k = absurd h
-  polls Look found.MustWait to h k = inside Join refl
-  polls Look found.Leads to h k = inside Complete refl
-  polls Look _ to h k = inside (ReleaseLock ending.RefuseGenerations) refl
-  polls Join found.Done to h k = inside Arrive refl
-  polls Join _ to h k = inside (ReleaseLock (ending.RefuseMemory aim.Arrive)) refl
-  polls Arrive _ to h k = inside (ReleaseLock ending.Wait) refl
-  polls Complete _ to h k = inside NotifyAll refl
-  polls NotifyAll _ to h k = inside (ReleaseLock ending.Lead) refl
-  polls Check found.Finished to h k = inside (ReleaseLock ending.Follow) refl
-  polls Check _ to h k = inside JoinAgain refl
-  polls JoinAgain found.Done to h k = inside (ReleaseLock ending.Wait) refl
-  polls JoinAgain _ to h k = inside (ReleaseLock (ending.RefuseMemory aim.Check)) refl
-  polls Ask found.Yes to h k = inside (EnterLock aim.Check) refl
+  polls Look found.MustWait to h k = inside Join refl refl
+  polls Look found.Leads to h k = inside Complete refl refl
+  polls Look _ to h k = inside (ReleaseLock ending.RefuseGenerations) refl refl
+  polls Join found.Done to h k = inside Arrive refl refl
+  polls Join _ to h k = inside (ReleaseLock (ending.RefuseMemory aim.Arrive)) refl refl
+  polls Arrive _ to h k = inside (ReleaseLock ending.Wait) refl refl
+  polls Complete _ to h k = inside NotifyAll refl refl
+  polls NotifyAll _ to h k = inside (ReleaseLock ending.Lead) refl refl
+  polls Check found.Finished to h k = inside (ReleaseLock ending.Follow) refl refl
+  polls Check _ to h k = inside JoinAgain refl refl
+  polls JoinAgain found.Done to h k = inside (ReleaseLock ending.Wait) refl refl
+  polls JoinAgain _ to h k = inside (ReleaseLock (ending.RefuseMemory aim.Check)) refl refl
+  polls Ask found.Yes to h k = inside (EnterLock aim.Check) refl refl
   polls Ask _ to h k = refl
   polls _ f to h k = absurd (cc)
 
@@ -251,9 +251,9 @@ abandons Abandon f k = refl
 abandons _ f k = absurd (cc)
 
 by_kind : (k : Kind) (r : Rest) (x : Place) (f : Found) (to : Course) → Led x f to → runs k r x ≡ true → Lands (the k r) x f
-by_kind kind.FirstPoll rest.Idle x f to h k = polls (the kind.FirstPoll rest.Idle) (λ y p. p) x f to h k
-by_kind kind.FirstPoll rest.Finished x f to h k = polls (the kind.FirstPoll rest.Finished) (λ y p. p) x f to h k
-by_kind kind.LaterPoll rest.Pending x f to h k = polls (the kind.LaterPoll rest.Pending) (λ y p. p) x f to h k
+by_kind kind.FirstPoll rest.Idle x f to h k = polls (the kind.FirstPoll rest.Idle) (λ y b p. rw b p) x f to h k
+by_kind kind.FirstPoll rest.Finished x f to h k = polls (the kind.FirstPoll rest.Finished) (λ y b p. rw b p) x f to h k
+by_kind kind.LaterPoll rest.Pending x f to h k = polls (the kind.LaterPoll rest.Pending) (λ y b p. rw b p) x f to h k
 by_kind kind.Drop rest.Pending x f to h k = cancels x f to h k
 by_kind kind.Drop rest.Finished x f to h k = abandons x f k
 by_kind _ _ x f to h k = absurd (cc)

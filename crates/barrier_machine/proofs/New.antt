@@ -32,8 +32,11 @@ new_is n many starved most few = record {
   owners = λ p. rw (same_all Out n p) refl;
   in_list = none_listed n;
   past = λ p. rw (same_all (progress 0 0) n p) (record { generation = omega arith; count = λ e. omega arith });
+  apart = λ p q. rw (same_all (progress 0 0) n p) (λ some e. absurd (omega arith));
+  within = λ p. rw (same_all (progress 0 0) n p) (λ h. absurd (omega arith));
   followers = λ p. rw (same_all Out n p) (λ h. absurd (cc h));
   sure = λ p. rw (same_all Out n p) tt;
+  outcomes = λ p. rw (same_all Out n p) tt;
   told = λ none p u. absurd (cc u);
   arrivals = size (progress 0 0) n ∙ sym (size Out n);
   courses = new_parties n starved ∙ sym (size Out n);

@@ -1,5 +1,6 @@
 -- What an action does to how far the barrier is, and to what parties know of it.
-use Rattle.std.proofs.Common.{◌≡◌, ℕ, true, false, List, refl, arith}
+use Rattle.std.proofs.Common.{◌≡◌, ◌≢◌, ℕ, ◌+◌, ◌<◌, ◌≤◌, ◌⊎◌, inl, inr, true, false, List, refl, arith, ap}
+use Rattle.std.proofs.Math.Decide.{ℕ_discrete}
 use Rattle.lock_event.specs.declared.event.Entry.{Entry}
 use Rattle.lock_world.specs.declared.moves.Inputs.{Inputs}
 use Rattle.mutex_machine.specs.declared.mutex.Step.TheVariants as lock_step
@@ -16,10 +17,10 @@ use Rattle.barrier_machine.specs.declared.program.Position.{Position}
 use Rattle.barrier_machine.specs.declared.program.Position.TheVariants.{At}
 use Rattle.barrier_machine.specs.declared.words.Progress.{Progress}
 use Rattle.barrier_machine.specs.declared.words.Words.{Words}
-use Rattle.barrier_machine.specs.Words.{IsSound, IsPast, IsFollower}
+use Rattle.barrier_machine.specs.Words.{IsSound, IsPast, IsWithin, IsFollower}
 use Rattle.barrier_machine.specs.Program.{action_of, next_of, position_after, after_lock, after_cancel, after_release, released}
 use Rattle.barrier_machine.specs.Deeds.{Finds, words_after, arrival_after}
-use Rattle.barrier_machine.specs.Roles.{holds, in_lock, follows, is_counted, ending_follows, will_tell, Sure}
+use Rattle.barrier_machine.specs.Roles.{holds, in_lock, follows, is_counted, ending_follows, will_tell, Sure, Outcome, HasOutcome}
 
 abbrev pub then : Place → Words → Words
 then x w = words_after (action_of x) w
@@ -43,6 +44,26 @@ pub own_past : (x : Place) (a : Progress) (w : Words) → IsPast a w.progress �
 own_past Arrive a w i = record { generation = omega arith; count = λ e. omega arith }
 own_past Complete a w i = record { generation = omega arith; count = λ e. omega arith }
 own_past _ a w i = i
+
+-- a new arrival is ahead of each that was before
+pub ahead : (x : Place) (a b : Progress) (w : Words) → IsPast b w.progress → (arrival_after (action_of x) w a ≡ a) ⊎ (b ≡ arrival_after (action_of x) w a → ⊥)
+ahead Arrive a b w i = inr (λ e. (
+    let same : b.generation ≡ w.progress.generation = ap (λ z. z.generation) e in
+    let more : b.count ≡ w.progress.count + 1 = ap (λ z. z.count) e in
+    let few = i.count same in
+    omega arith
+    ))
+ahead Complete a b w i = inr (λ e. (
+    let more : b.generation ≡ w.progress.generation + 1 = ap (λ z. z.generation) e in
+    let few = i.generation in
+    omega arith
+    ))
+ahead _ a b w i = inl refl
+
+pub within_then : (x : Place) (a : Progress) (w : Words) → Sure (At x) a w → IsWithin w.size a → IsWithin (then x w).size (arrival_after (action_of x) w a)
+within_then Arrive a w s i = λ h. s
+within_then Complete a w s i = λ h. absurd (omega arith)
+within_then _ a w s i = i
 
 -- ---- who follows
 
@@ -146,6 +167,79 @@ module _ (i : Inputs) (p : ℕ) (a : Progress) (w : Words) (l : List (Entry ℕ)
   sure_then Ask _ finds s = tt
   sure_then CancelLeave _ finds s = tt
   sure_then Abandon _ finds s = tt
+
+-- ---- how waits end
+
+lock_outcome : (a : Aim) (f : Found) (b : Progress) (w : Words) → HasOutcome (position_after (after_lock a f)) b w
+lock_outcome a (found.Lock lock_step.More) b w = tt
+lock_outcome aim.Arrive (found.Lock (lock_step.End lock_end.Got)) b w = tt
+lock_outcome aim.Check (found.Lock (lock_step.End lock_end.Got)) b w = tt
+lock_outcome a (found.Lock (lock_step.End (lock_end.Refused r))) b w = tt
+lock_outcome a (found.Lock (lock_step.End _)) b w = tt
+lock_outcome a _ b w = tt
+
+released_outcome : (e : Ending) (b : Progress) (w : Words) → HasOutcome (position_after (released e)) b w
+released_outcome ending.Wait b w = tt
+released_outcome ending.Follow b w = tt
+released_outcome ending.Lead b w = tt
+released_outcome ending.RefuseGenerations b w = tt
+released_outcome (ending.RefuseMemory a) b w = tt
+
+release_outcome : (e : Ending) (f : Found) (b : Progress) (w : Words) → Outcome e b w → HasOutcome (position_after (after_release e f)) b w
+release_outcome e (found.Lock lock_step.More) b w h = h
+release_outcome e (found.Lock (lock_step.End x)) b w h = released_outcome e b w
+release_outcome e _ b w h = released_outcome e b w
+
+cancel_outcome : (f : Found) (b : Progress) (w : Words) → HasOutcome (position_after (after_cancel f)) b w
+cancel_outcome (found.Lock lock_step.More) b w = tt
+cancel_outcome (found.Lock (lock_step.End x)) b w = tt
+cancel_outcome _ b w = tt
+
+module _ (i : Inputs) (p : ℕ) (a : Progress) (w : Words) (l : List (Entry ℕ)) where
+  pub outcome_then : (x : Place) (f : Found) → Finds i p (action_of x) f w a l → IsPast a w.progress → (follows (At x) ≡ true → IsFollower w.size a) → HasOutcome (At x) a w → HasOutcome (after x f) (arrival_after (action_of x) w a) (then x w)
+  outcome_then (EnterLock e) f finds past was h = lock_outcome e f a w
+  outcome_then (WaitLock e) f finds past was h = lock_outcome e f a w
+  outcome_then (TakeLock e) f finds past was h = lock_outcome e f a w
+  outcome_then (ReleaseLock e) f finds past was h = release_outcome e f a w h
+  outcome_then (ReleasingLock e) f finds past was h = release_outcome e f a w h
+  outcome_then CancelLock f finds past was h = cancel_outcome f a w
+  outcome_then CancellingLock f finds past was h = cancel_outcome f a w
+  outcome_then Look found.MustWait finds past was h = tt
+  outcome_then Look found.Leads finds past was h = tt
+  outcome_then Look _ finds past was h = tt
+  outcome_then Join found.Done finds past was h = tt
+  outcome_then Join _ finds past was h = tt
+  outcome_then Arrive _ finds past was h = tt
+  outcome_then Complete _ finds past was h = (refl, omega arith)
+  outcome_then NotifyAll _ finds past was h = h
+  outcome_then Check found.Finished finds past was h = (was refl, less a.generation w.progress.generation past.generation finds) where
+    less : (n m : ℕ) → n ≤ m → n ≢ m → n < m
+    less n m few apart = elim (ℕ_discrete n m) as (λ _. n < m) [
+      | yes e ↦ absurd (apart e)
+      | no off ↦ omega (arith, few, off)
+    ]
+  outcome_then Check found.Unfinished finds past was h = tt
+  outcome_then Check _ finds past was h = absurd finds
+  outcome_then JoinAgain found.Done finds past was h = tt
+  outcome_then JoinAgain _ finds past was h = tt
+  outcome_then Ask found.Yes finds past was h = tt
+  outcome_then Ask _ finds past was h = tt
+  outcome_then CancelLeave _ finds past was h = tt
+  outcome_then Abandon _ finds past was h = tt
+
+outcome_on : (e : Ending) (x : Place) (b : Progress) (w : Words) → Outcome e b w → Outcome e b (then x w)
+outcome_on ending.Lead x b w h = h
+outcome_on ending.Follow Arrive b w h = h
+outcome_on ending.Follow Complete b w h = (let less = h.1 in (h.0, omega arith))
+outcome_on ending.Follow _ b w h = h
+outcome_on _ x b w h = tt
+
+pub outcome_others : (x : Place) (y : Position) (b : Progress) (w : Words) → HasOutcome y b w → HasOutcome y b (then x w)
+outcome_others x (At NotifyAll) b w h = h
+outcome_others x (At (ReleaseLock e)) b w h = outcome_on e x b w h
+outcome_others x (At (ReleasingLock e)) b w h = outcome_on e x b w h
+outcome_others x (At _) b w h = tt
+outcome_others x _ b w h = tt
 
 -- only whoever has the inner lock is sure of anything
 sure_free : (y : Position) (b : Progress) (w : Words) → (in_lock y ≡ holds → ⊥) → Sure y b w

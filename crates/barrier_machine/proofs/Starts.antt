@@ -7,7 +7,7 @@ use Rattle.lock_world.specs.declared.standing.Rest.TheVariants as rest
 use Rattle.lock_world.specs.declared.standing.Stage.{Stage}
 use Rattle.lock_world.specs.declared.standing.Stage.TheVariants.{Outside, Inside, Forgotten}
 use Rattle.lock_world.specs.declared.standing.Within.{Within}
-use Rattle.lock_world.proofs.Equations.{some_eq}
+use Rattle.lock_world.proofs.Equations.{some_eq, both}
 use Rattle.lock_table.specs.Stages.{call_at, polls_again}
 use Rattle.barrier_machine.specs.declared.program.Aim.TheVariants as aim
 use Rattle.barrier_machine.specs.declared.program.Place.{Place}
@@ -17,8 +17,8 @@ use Rattle.barrier_machine.specs.declared.program.Position.TheVariants.{Out, Mad
 use Rattle.barrier_machine.specs.declared.words.Progress.{Progress}
 use Rattle.barrier_machine.specs.declared.words.Words.{Words}
 use Rattle.barrier_machine.specs.Program.{place_for}
-use Rattle.barrier_machine.specs.Roles.{listed, in_lock, follows, is_late, will_tell, Sure}
-use Rattle.barrier_machine.specs.Machine.{knows, runs, goes_with, position_at}
+use Rattle.barrier_machine.specs.Roles.{listed, in_lock, follows, is_late, will_tell, Sure, HasOutcome}
+use Rattle.barrier_machine.specs.Machine.{knows, runs, is_begun, goes_with, position_at}
 
 -- A party has as much where its call begins as where it stood and knows as much, and its place is one of that call's program.
 pub record Fits (w : Within) (x : Position) (from : Place) : Type 0 where
@@ -26,6 +26,7 @@ pub record Fits (w : Within) (x : Position) (from : Place) : Type 0 where
   pub lock : in_lock (At from) ≡ in_lock x
   pub counted : follows (At from) ≡ true → follows x ≡ true
   pub sure : (a : Progress) (v : Words) → Sure x a v → Sure (At from) a v
+  pub outcome : (a : Progress) (v : Words) → HasOutcome x a v → HasOutcome (At from) a v
   pub late : is_late x ≡ is_late (At from)
   pub tells : will_tell x ≡ will_tell (At from)
   pub runs : runs w.kind w.was from ≡ true
@@ -40,21 +41,21 @@ begun : (what : What) (v w : Within) (x : Position) (from : Place) → place_for
 begun what v w x from starts e h = let Q : Within → Type 0 = λ u. Fits u x from in record { from = from; starts = starts; fits = subst Q (some_eq e) h }
 
 pub starts : (s : Stage) (what : What) (w : Within) (x : Position) → goes_with s x ≡ true → call_at knows s what ≡ Some w → polls_again s what ≡ false → Starts what w x
-starts (Outside rest.Idle) (Begin call.Wait i) w Out g e n = begun _ _ w Out (EnterLock aim.Arrive) refl e (record { stands = refl; lock = refl; counted = λ h. h; sure = λ a v h. tt; late = refl; tells = refl; runs = refl })
+starts (Outside rest.Idle) (Begin call.Wait i) w Out g e n = begun _ _ w Out (EnterLock aim.Arrive) refl e (record { stands = refl; lock = refl; counted = λ h. h; sure = λ a v h. tt; outcome = λ a v h. tt; late = refl; tells = refl; runs = refl })
 starts (Outside rest.Idle) (Begin _ i) w Out g e n = absurd (cc)
-starts (Outside rest.Finished) (Begin call.Wait i) w Out g e n = begun _ _ w Out (EnterLock aim.Arrive) refl e (record { stands = refl; lock = refl; counted = λ h. h; sure = λ a v h. tt; late = refl; tells = refl; runs = refl })
-starts (Outside rest.Finished) (Begin call.Drop i) w Out g e n = begun _ _ w Out Abandon refl e (record { stands = refl; lock = refl; counted = λ h. h; sure = λ a v h. tt; late = refl; tells = refl; runs = refl })
+starts (Outside rest.Finished) (Begin call.Wait i) w Out g e n = begun _ _ w Out (EnterLock aim.Arrive) refl e (record { stands = refl; lock = refl; counted = λ h. h; sure = λ a v h. tt; outcome = λ a v h. tt; late = refl; tells = refl; runs = refl })
+starts (Outside rest.Finished) (Begin call.Drop i) w Out g e n = begun _ _ w Out Abandon refl e (record { stands = refl; lock = refl; counted = λ h. h; sure = λ a v h. tt; outcome = λ a v h. tt; late = refl; tells = refl; runs = refl })
 starts (Outside rest.Finished) (Begin _ i) w Out g e n = absurd (cc)
-starts (Outside rest.Pending) (Begin call.Poll i) w (Made m) g e n = begun _ _ w (Made m) (EnterLock m) refl e (record { stands = refl; lock = refl; counted = λ h. h; sure = λ a v h. tt; late = refl; tells = refl; runs = refl })
-starts (Outside rest.Pending) (Begin call.Poll i) w (Locking m) g e n = begun _ _ w (Locking m) (WaitLock m) refl e (record { stands = refl; lock = refl; counted = λ h. h; sure = λ a v h. tt; late = refl; tells = refl; runs = refl })
-starts (Outside rest.Pending) (Begin call.Poll i) w Waiting g e n = begun _ _ w Waiting Ask refl e (record { stands = refl; lock = refl; counted = λ h. h; sure = λ a v h. tt; late = refl; tells = refl; runs = refl })
-starts (Outside rest.Pending) (Begin call.Drop i) w (Made m) g e n = begun _ _ w (Made m) Abandon refl e (record { stands = refl; lock = refl; counted = λ h. absurd (cc h); sure = λ a v h. tt; late = refl; tells = refl; runs = refl })
-starts (Outside rest.Pending) (Begin call.Drop i) w (Locking m) g e n = begun _ _ w (Locking m) CancelLock refl e (record { stands = refl; lock = refl; counted = λ h. absurd (cc h); sure = λ a v h. tt; late = refl; tells = refl; runs = refl })
-starts (Outside rest.Pending) (Begin call.Drop i) w Waiting g e n = begun _ _ w Waiting CancelLeave refl e (record { stands = refl; lock = refl; counted = λ h. h; sure = λ a v h. tt; late = refl; tells = refl; runs = refl })
+starts (Outside rest.Pending) (Begin call.Poll i) w (Made m) g e n = begun _ _ w (Made m) (EnterLock m) refl e (record { stands = refl; lock = refl; counted = λ h. h; sure = λ a v h. tt; outcome = λ a v h. tt; late = refl; tells = refl; runs = refl })
+starts (Outside rest.Pending) (Begin call.Poll i) w (Locking m) g e n = begun _ _ w (Locking m) (WaitLock m) refl e (record { stands = refl; lock = refl; counted = λ h. h; sure = λ a v h. tt; outcome = λ a v h. tt; late = refl; tells = refl; runs = refl })
+starts (Outside rest.Pending) (Begin call.Poll i) w Waiting g e n = begun _ _ w Waiting Ask refl e (record { stands = refl; lock = refl; counted = λ h. h; sure = λ a v h. tt; outcome = λ a v h. tt; late = refl; tells = refl; runs = refl })
+starts (Outside rest.Pending) (Begin call.Drop i) w (Made m) g e n = begun _ _ w (Made m) Abandon refl e (record { stands = refl; lock = refl; counted = λ h. absurd (cc h); sure = λ a v h. tt; outcome = λ a v h. tt; late = refl; tells = refl; runs = refl })
+starts (Outside rest.Pending) (Begin call.Drop i) w (Locking m) g e n = begun _ _ w (Locking m) CancelLock refl e (record { stands = refl; lock = refl; counted = λ h. absurd (cc h); sure = λ a v h. tt; outcome = λ a v h. tt; late = refl; tells = refl; runs = refl })
+starts (Outside rest.Pending) (Begin call.Drop i) w Waiting g e n = begun _ _ w Waiting CancelLeave refl e (record { stands = refl; lock = refl; counted = λ h. h; sure = λ a v h. tt; outcome = λ a v h. tt; late = refl; tells = refl; runs = refl })
 starts (Outside rest.Pending) (Begin _ i) w _ g e n = absurd (cc)
 starts (Outside _) (Begin _ i) w _ g e n = absurd (cc)
 starts (Outside _) (Go i) w x g e n = absurd (cc)
-starts (Inside v) (Go i) w (At x) g e n = begun _ _ w (At x) x refl e (record { stands = refl; lock = refl; counted = λ h. h; sure = λ a v h. h; late = refl; tells = refl; runs = g })
+starts (Inside v) (Go i) w (At x) g e n = begun _ _ w (At x) x refl e (record { stands = refl; lock = refl; counted = λ h. h; sure = λ a v h. h; outcome = λ a v h. h; late = refl; tells = refl; runs = (both (is_begun x) (runs v.kind v.was x) g).1 })
 starts (Inside v) (Go i) w _ g e n = absurd (cc)
 starts (Inside v) (Begin _ i) w x g e n = absurd (cc)
 starts Forgotten what w x g e n = absurd (cc)

@@ -1,5 +1,5 @@
 -- A barrier: how far it is, where each party stands and which arrival it has, who waits in its list, and the inner lock; and what one action does to it.
-use Rattle.std.specs.Prelude.{◌≡◌, ℕ, ◌<◌, ◌≤◌, if◌then◌else◌, Bool, true, false, List, [], ◌∷◌, length, Some, slice_index_or, slice_set, replicate}
+use Rattle.std.specs.Prelude.{◌≡◌, ℕ, ◌+◌, ◌<◌, ◌≤◌, ◌&&◌, if◌then◌else◌, Bool, true, false, List, [], ◌∷◌, length, Some, slice_index_or, slice_set, replicate}
 use Rattle.std.specs.List.{sum_by}
 use Rattle.lock_event.specs.declared.event.Entry.{Entry}
 use Rattle.lock_event.specs.Lists.{is_marked, marked_count, is_marked_at, IsMarkedFirst}
@@ -22,21 +22,22 @@ use Rattle.lock_world.specs.declared.standing.Within.{Within}
 use Rattle.lock_world.specs.Standings.{inputs_of}
 use Rattle.lock_table.specs.Ends.{answer_of}
 use Rattle.mutex_machine.specs.Mutex.{Mutex, new_mutex, course_at, IsMutex, holders, steps_left as lock_steps_left}
+use Rattle.barrier_machine.specs.declared.program.Aim.TheVariants as aim
 use Rattle.barrier_machine.specs.declared.program.Found.{Found}
 use Rattle.barrier_machine.specs.declared.program.Next.{Next}
 use Rattle.barrier_machine.specs.declared.program.Next.TheVariants as next
 use Rattle.barrier_machine.specs.declared.program.Place.{Place}
-use Rattle.barrier_machine.specs.declared.program.Place.TheVariants.{CancelLock, CancellingLock, CancelLeave, Abandon}
+use Rattle.barrier_machine.specs.declared.program.Place.TheVariants.{EnterLock, WaitLock, CancelLock, CancellingLock, CancelLeave, Abandon}
 use Rattle.barrier_machine.specs.declared.program.Position.{Position}
 use Rattle.barrier_machine.specs.declared.program.Position.TheVariants.{Out, Made, Locking, Waiting, At}
 use Rattle.barrier_machine.specs.declared.words.Progress.{Progress}
 use Rattle.barrier_machine.specs.declared.words.Words.{Words}
-use Rattle.barrier_machine.specs.Words.{progress, new_words, IsSound, IsPast, IsFollower}
+use Rattle.barrier_machine.specs.Words.{progress, new_words, IsSound, IsPast, IsWithin, IsFollower}
 use Rattle.barrier_machine.specs.Program.{place_for, action_of, next_of, position_after}
 use Rattle.barrier_machine.specs.Deeds.{Finds, words_after, arrival_after, entries_after}
 use Rattle.barrier_machine.specs.Locks.{OnLock}
 use Rattle.barrier_machine.specs.Ranks.{left, left_at, left_then}
-use Rattle.barrier_machine.specs.Roles.{fits_lock, listed, in_lock, follows, is_late, will_tell, Sure, is_resting}
+use Rattle.barrier_machine.specs.Roles.{fits_lock, listed, in_lock, follows, is_late, will_tell, Sure, HasOutcome, is_resting}
 
 -- what contracts see of a barrier
 pub record Barrier : Type 0 where
@@ -52,6 +53,13 @@ position_at xs p = slice_index_or xs p Out
 -- the party's last arrival; one that never arrived has the number 0
 abbrev pub arrival_at : List Progress → ℕ → Progress
 arrival_at rs p = slice_index_or rs p (progress 0 0)
+
+abbrev pub HasArrived : Progress → Type 0
+HasArrived a = 0 < a.generation + a.count
+
+-- Two parties never have the same arrival, once they have one.
+abbrev pub AreApart : List Progress → Type 0
+AreApart rs = (p q : ℕ) → HasArrived (arrival_at rs p) → arrival_at rs p ≡ arrival_at rs q → p ≡ q
 
 -- nobody has arrived, and every party is out
 abbrev pub new_barrier : ℕ → ℕ → ℕ → ℕ → Barrier
@@ -76,8 +84,11 @@ pub record IsKept (w : Words) (xs : List Position) (rs : List Progress) (q : Que
   pub owners : (p : ℕ) → entries_of p q.entries ≡ listed (position_at xs p)
   pub in_list : sum_by listed xs ≡ length q.entries
   pub past : (p : ℕ) → IsPast (arrival_at rs p) w.progress
+  pub apart : AreApart rs
+  pub within : (p : ℕ) → IsWithin w.size (arrival_at rs p)
   pub followers : (p : ℕ) → follows (position_at xs p) ≡ true → IsFollower w.size (arrival_at rs p)
   pub sure : (p : ℕ) → Sure (position_at xs p) (arrival_at rs p) w
+  pub outcomes : (p : ℕ) → HasOutcome (position_at xs p) (arrival_at rs p) w
   pub told : AllTold w xs rs q.entries
   pub arrivals : length rs ≡ length xs
   pub courses : length m.courses ≡ length xs
@@ -89,16 +100,20 @@ abbrev pub IsAtRest : List Position → Type 0
 IsAtRest [] = Unit {0}
 IsAtRest (x ∷ xs) = (is_resting x ≡ true) × IsAtRest xs
 
--- What callers may rest on: the inner lock is a mutex, in which each party stands as its place says; no arrival is ahead of the barrier, and a follower's didn't finish its generation; a party's entries are told by where it stands. At rest nobody has the inner lock, where somebody is listed there some entry is marked, and in the barrier's list every entry is marked whose party's generation is finished.
+-- What callers may rest on: the inner lock is a mutex, in which each party stands as its place says; no arrival is ahead of the barrier, no two parties have the same one, and a follower's didn't finish its generation; a wait that is over led, or follows one that finished its generation; a party's entries are told by where it stands. At rest nobody has the inner lock, where somebody is listed there some entry is marked, and in the barrier's list every entry is marked whose party's generation is finished.
 pub record IsBarrier (s : Barrier) : Type 0 where
   pub sound : IsSound s.words
   pub lock : IsMutex s.lock
   pub links : (p : ℕ) → fits_lock (in_lock (position_at s.positions p)) (course_at s.lock.courses p) ≡ true
   pub owners : (p : ℕ) → entries_of p s.entries ≡ listed (position_at s.positions p)
   pub in_order : IsMarkedFirst s.entries
+  pub as_many : length s.arrivals ≡ length s.positions
   pub past : (p : ℕ) → IsPast (arrival_at s.arrivals p) s.words.progress
+  pub apart : AreApart s.arrivals
+  pub within : (p : ℕ) → IsWithin s.words.size (arrival_at s.arrivals p)
   pub followers : (p : ℕ) → follows (position_at s.positions p) ≡ true → IsFollower s.words.size (arrival_at s.arrivals p)
   pub sure : (p : ℕ) → Sure (position_at s.positions p) (arrival_at s.arrivals p) s.words
+  pub outcomes : (p : ℕ) → HasOutcome (position_at s.positions p) (arrival_at s.arrivals p) s.words
   pub lock_free : IsAtRest s.positions → holders s.lock ≡ 0
   pub lock_wakes : IsAtRest s.positions → 0 < length s.lock.entries → 0 < marked_count s.lock.entries
   pub told : IsAtRest s.positions → (p : ℕ) → 0 < entries_of p s.entries → (arrival_at s.arrivals p).generation < s.words.progress.generation → is_marked_at (is_party p) s.entries ≡ true
@@ -131,6 +146,15 @@ abbrev pub is_abandoning : Place → Bool
 is_abandoning Abandon = true
 is_abandoning _ = false
 
+-- a place at which a party may stand inside a call, which is begun
+abbrev pub is_begun : Place → Bool
+is_begun (EnterLock aim.Arrive) = false
+is_begun (WaitLock a) = false
+is_begun CancelLock = false
+is_begun CancelLeave = false
+is_begun Abandon = false
+is_begun _ = true
+
 -- a place in the program of a call of this kind, begun by a party that stood so
 abbrev pub runs : Kind → Rest → Place → Bool
 runs kind.FirstPoll rest.Idle x = is_polling x
@@ -156,7 +180,7 @@ abbrev pub goes_with : Stage → Position → Bool
 goes_with (Outside rest.Idle) x = is_out x
 goes_with (Outside rest.Finished) x = is_out x
 goes_with (Outside rest.Pending) x = is_pending x
-goes_with (Inside w) (At x) = runs w.kind w.was x
+goes_with (Inside w) (At x) = is_begun x && runs w.kind w.was x
 goes_with Forgotten x = is_resting x
 goes_with _ _ = false
 

@@ -11,6 +11,7 @@ use Rattle.barrier_machine.specs.declared.program.Position.{Position}
 use Rattle.barrier_machine.specs.declared.program.Position.TheVariants.{Out, Made, Locking, Waiting, At}
 use Rattle.barrier_machine.specs.declared.words.Progress.{Progress}
 use Rattle.barrier_machine.specs.declared.words.Words.{Words}
+use Rattle.barrier_machine.specs.Words.{IsFollower}
 
 -- How a party stands in the inner lock.
 pub data InLock : Type 0 where
@@ -106,6 +107,18 @@ Sure (At Arrive) a w = w.progress.count + 1 < w.size
 Sure (At Complete) a w = (w.size ≤ w.progress.count + 1) × (w.progress.generation < w.most)
 Sure (At JoinAgain) a w = a.generation ≡ w.progress.generation
 Sure x a w = Unit {0}
+
+-- What a party whose wait is over knows of its arrival: it finished its generation, or another that did came since.
+abbrev pub Outcome : Ending → Progress → Words → Type 0
+Outcome ending.Lead a w = (a.count ≡ 0) × (0 < a.generation)
+Outcome ending.Follow a w = IsFollower w.size a × (a.generation < w.progress.generation)
+Outcome e a w = Unit {0}
+
+abbrev pub HasOutcome : Position → Progress → Words → Type 0
+HasOutcome (At NotifyAll) a w = Outcome ending.Lead a w
+HasOutcome (At (ReleaseLock e)) a w = Outcome e a w
+HasOutcome (At (ReleasingLock e)) a w = Outcome e a w
+HasOutcome x a w = Unit {0}
 
 -- outside every program
 abbrev pub is_resting : Position → Bool

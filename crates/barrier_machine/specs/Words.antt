@@ -46,6 +46,10 @@ pub record IsPast (a x : Progress) : Type 0 where
   pub generation : a.generation ≤ x.generation
   pub count : a.generation ≡ x.generation → a.count ≤ x.count
 
+-- What an arrival may be: fewer are counted towards its generation than that needs, at a barrier for so many parties.
+abbrev pub IsWithin : ℕ → Progress → Type 0
+IsWithin size a = 0 < a.count → a.count < size
+
 -- An arrival that didn't finish its generation, at a barrier for so many parties.
 pub record IsFollower (size : ℕ) (a : Progress) : Type 0 where
   pub counted : 0 < a.count

@@ -9,9 +9,12 @@ ghost use Rattle.barrier_machine.specs.Deeds.{CanDo, Finds, FindsJoin, FindsAsk,
 ghost use Rattle.barrier_machine.specs.declared.program.Position.TheVariants.{Out};
 ghost use Rattle.barrier_machine.specs.Words.{progress};
 ghost use Rattle.barrier_machine.specs.Locks.{OnLock};
-ghost use Rattle.barrier_machine.specs.Machine.{new_barrier, IsBarrier, answer_by, arrival_at};
+ghost use Rattle.barrier_machine.specs.Machine.{new_barrier, IsBarrier, answer_by, position_at, arrival_at};
+ghost use Rattle.barrier_machine.specs.Waits.{is_counted, wait_of, wait_at};
 
-use crate::program::{Action, Found, Next, Place, Position, action_at, decide, start};
+use crate::program::{
+    Action, Aim, Ending, Found, Next, Place, Position, action_at, decide, start,
+};
 use crate::words::{Progress, Words};
 use lock_event::Entry;
 use lock_queue::WaitQueue;
@@ -130,6 +133,34 @@ fn after(next: Next) -> Position
     }
 }
 
+/// Whether the wait of a party that stands there is counted.
+fn counted(at: Position) -> bool
+    ensures { result ≡ is_counted (wait_at at 0) }
+{
+    match at {
+        Position::Out => false,
+        Position::Made(aim) | Position::Locking(aim) => aim == Aim::Check,
+        Position::Waiting => true,
+        Position::At(place) => counted_at(place),
+    }
+}
+
+/// As [`counted`], inside a call.
+fn counted_at(place: Place) -> bool
+    ensures { result ≡ is_counted (wait_of place 0) }
+{
+    match place {
+        Place::EnterLock(aim) | Place::WaitLock(aim) | Place::TakeLock(aim) => aim == Aim::Check,
+        Place::ReleaseLock(ending) | Place::ReleasingLock(ending) => match ending {
+            Ending::RefuseGenerations => false,
+            Ending::RefuseMemory(aim) => aim == Aim::Check,
+            _ => true,
+        },
+        Place::NotifyAll | Place::Check | Place::JoinAgain | Place::Ask => true,
+        _ => false,
+    }
+}
+
 /// The place whose action a move carries out.
 fn place_for(what: What, at: Position) -> Option<Place>
     ensures { result ≡ place_for_lem what at }
@@ -193,6 +224,13 @@ impl Barrier {
         })
     }
 
+    /// For how many parties it waits.
+    pub fn size(&self) -> u64
+        ensures { result ≡ self.now.words.size }
+    {
+        self.words.size
+    }
+
     /// How many generations are finished, and how many arrivals are counted towards the next one.
     pub fn progress(&self) -> Progress
         ensures { result ≡ self.now.words.progress }
@@ -201,12 +239,27 @@ impl Barrier {
     }
 
     /// How far the barrier was just after the party's last arrival: that arrival's number. All 0 before the
-    /// first.
+    /// first, and for a party past the last.
     pub fn arrival(&self, party: u32) -> Progress
-        requires { party < length self.now.arrivals }
         ensures { result ≡ arrival_at self.now.arrivals party }
     {
-        self.arrivals[party as usize]
+        match self.arrivals.get(party as usize) {
+            Some(arrival) => *arrival,
+            None => Progress {
+                generation: 0,
+                count: 0,
+            },
+        }
+    }
+
+    /// Whether the party has a wait whose arrival is counted. No party past the last has.
+    pub fn is_counted(&self, party: u32) -> bool
+        ensures { result ≡ is_counted (wait_at (position_at self.now.positions party) 0) }
+    {
+        match self.positions.get(party as usize) {
+            Some(position) => counted(*position),
+            None => false,
+        }
     }
 
     /// The inner lock.
