@@ -1,0 +1,39 @@
+-- What the first step of a poll decides at once.
+use Rattle.std.specs.Prelude.{◌≡◌, ℕ, ◌+◌, ◌<◌, ◌==◌, ◌↔◌, if◌then◌else◌, Bool, true, false, Some}
+use Rattle.lock_event.specs.Lists.{is_marked_at}
+use Rattle.lock_queue.specs.Parties.{is_party, entries_of}
+use Rattle.lock_world.specs.declared.moves.Answer.{Answer}
+use Rattle.lock_world.specs.declared.moves.Answer.TheVariants as answer
+use Rattle.lock_world.specs.declared.moves.Call.TheVariants as call
+use Rattle.lock_world.specs.declared.moves.Move.{Move}
+use Rattle.lock_world.specs.declared.moves.What.{What}
+use Rattle.lock_world.specs.declared.moves.What.TheVariants.{Begin}
+use Rattle.lock_world.specs.declared.standing.Rest.TheVariants.{Idle, Pending, Finished}
+use Rattle.lock_world.specs.Standings.{Standing, outside}
+use Rattle.barrier_world.specs.State.{World, standing_of, is_free}
+
+-- How many entries a party has in both lists.
+abbrev pub entries_in : World → ℕ → ℕ
+entries_in w p = entries_of p w.lock_list + entries_of p w.list
+
+-- The first poll of a wait, or one after a refusal, counted or not: then it has no entry.
+abbrev pub is_first_poll : Standing → What → ℕ → Bool
+is_first_poll (outside Idle) (Begin call.Wait inputs) n = true
+is_first_poll (outside Finished) (Begin call.Wait inputs) n = true
+is_first_poll (outside Pending) (Begin call.Poll inputs) n = n == 0
+is_first_poll s _ n = false
+
+-- The poll of a pending wait.
+abbrev pub is_later_poll : Standing → What → Bool
+is_later_poll (outside Pending) (Begin call.Poll inputs) = true
+is_later_poll s _ = false
+
+-- The first step of a first poll takes the inner lock exactly where nobody holds it and nobody is starved for it, and goes on with it.
+pub record TakesAtOnce (old : World) (m : Move) (a : Answer) (new : World) : Type 0 where
+  pub takes : (new.lock.holder ≡ Some m.party) ↔ (is_free old.lock ≡ true)
+  pub goes_on : is_free old.lock ≡ true → a ≡ answer.Stepped
+
+-- A wait in its generation's list goes on exactly where it has been notified, and else is pending still.
+pub record AnswersAtOnce (old : World) (m : Move) (a : Answer) (new : World) : Type 0 where
+  pub first_poll : is_first_poll (standing_of old m.party) m.what (entries_in old m.party) ≡ true → TakesAtOnce old m a new
+  pub listed : is_later_poll (standing_of old m.party) m.what ≡ true → 0 < entries_of m.party old.list → a ≡ (if is_marked_at (is_party m.party) old.list then answer.Stepped else answer.Pending)

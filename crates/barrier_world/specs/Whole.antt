@@ -1,0 +1,25 @@
+-- How many steps a whole call of a barrier takes.
+use Rattle.std.specs.Prelude.{ℕ}
+use Rattle.lock_world.specs.declared.moves.Answer.{Answer}
+use Rattle.lock_world.specs.declared.moves.Call.{Call}
+use Rattle.lock_world.specs.declared.moves.Call.TheVariants as call
+use Rattle.lock_world.specs.declared.moves.Inputs.{Inputs}
+use Rattle.lock_world.specs.Whole as whole
+use Rattle.barrier_machine.specs.Machine.{steps_left}
+use Rattle.barrier_world.specs.State.{World, standing_of}
+use Rattle.barrier_world.specs.Runs.{RunsOn}
+
+-- The greatest number of steps that a call of a barrier takes if its party moves alone: 18 for a poll, 2 for a drop, 1 for any other.
+abbrev pub most_steps_of : Call → ℕ
+most_steps_of call.Wait = 18
+most_steps_of call.Poll = 18
+most_steps_of call.Drop = 2
+most_steps_of _ = 1
+
+-- The call is begun and carried out to its end, whose answer this is.
+abbrev pub IsWholeCall : World → ℕ → Call → Inputs → Answer → World → Type 0
+IsWholeCall = whole.IsWholeCall RunsOn standing_of most_steps_of
+
+-- How many steps are left at most of the call that a party is in.
+abbrev pub steps_left_of : World → ℕ → ℕ
+steps_left_of w p = steps_left w.behind.machine p
