@@ -1,11 +1,11 @@
 -- What the numbers of arrivals say of how far a barrier is, and the other way round.
-use Rattle.std.proofs.Common.{◌≡◌, ◌≢◌, ℕ, zero, suc, ◌+◌, ◌*◌, ◌/◌, ◌%◌, ◌^◌, ◌<◌, ◌≤◌, ◌⊎◌, inl, inr, refl, sym, ap, ◌∙◌, arith}
-use Rattle.std.proofs.Math.Nat.{mul_comm, mul-suc}
+use Rattle.std.proofs.Common.{◌≡◌, ◌≢◌, ℕ, zero, suc, ◌+◌, ◌*◌, ◌/◌, ◌%◌, ◌^◌, ◌<◌, ◌≤◌, ◌⊎◌, inl, inr, refl, sym, ap, ◌∙◌, subst, arith}
+use Rattle.std.proofs.Math.Nat.{mul_comm, mul-suc, div-add-mod, mod-lt}
 use Rattle.std.proofs.lemmas.Bool.{cases_lt}
 use Rattle.std.proofs.lemmas.Nat.{mul-le, div-mul-add, mod-mul-add}
 use Rattle.barrier_machine.specs.declared.words.Progress.{Progress}
-use Rattle.barrier_machine.specs.Words.{progress, arrivals_at, IsPast, IsFollower}
-use Rattle.barrier_world.specs.Numbers.{Leads, IsFinished, finished, count_of}
+use Rattle.barrier_machine.specs.Words.{progress, arrivals_at, IsPast, IsWithin, IsFollower}
+use Rattle.barrier_world.specs.Numbers.{Leads, IsFinished, generations_of, count_of}
 
 -- ---- multiples
 
@@ -18,17 +18,13 @@ between s g c d q some few from to = by_order (cases_lt g q) where
 
 -- ---- how far a barrier is, by how many arrivals are counted
 
--- Fewer are counted towards a generation than it needs.
-abbrev pub IsShort : ℕ → Progress → Type 0
-IsShort size x = 0 < x.count → x.count < size
-
-none_of_none : (x : Progress) → IsShort 0 x → x.count ≡ 0
+none_of_none : (x : Progress) → IsWithin 0 x → x.count ≡ 0
 none_of_none x h = by_count (cases_lt 0 x.count) where
   by_count : (0 < x.count) ⊎ (x.count ≤ 0) → x.count ≡ 0
   by_count (inl some) = let never = h some in absurd (omega (arith, never))
   by_count (inr none) = omega (arith, none)
 
-fewer : (n : ℕ) (x : Progress) → IsShort (suc n) x → x.count < suc n
+fewer : (n : ℕ) (x : Progress) → IsWithin (suc n) x → x.count < suc n
 fewer n x h = by_count (cases_lt 0 x.count) where
   by_count : (0 < x.count) ⊎ (x.count ≤ 0) → x.count < suc n
   by_count (inl some) = h some
@@ -38,11 +34,11 @@ as_written : (n g c : ℕ) → suc n * g + c ≡ g * suc n + c
 as_written n g c = omega (arith, mul_comm (suc n) g)
 
 -- so many generations are finished, and so many arrivals counted towards the next one
-pub its_finished : (size : ℕ) (x : Progress) → IsShort size x → finished size (arrivals_at size x) ≡ x.generation
-its_finished zero x h = refl
-its_finished (suc n) x h = ap (λ k. k / suc n) (as_written n x.generation x.count) ∙ div-mul-add x.generation (suc n) x.count (fewer n x h)
+pub its_generations : (size : ℕ) (x : Progress) → IsWithin size x → generations_of size (arrivals_at size x) ≡ x.generation
+its_generations zero x h = refl
+its_generations (suc n) x h = ap (λ k. k / suc n) (as_written n x.generation x.count) ∙ div-mul-add x.generation (suc n) x.count (fewer n x h)
 
-pub its_count : (size : ℕ) (x : Progress) → IsShort size x → count_of size (arrivals_at size x) ≡ x.count
+pub its_count : (size : ℕ) (x : Progress) → IsWithin size x → count_of size (arrivals_at size x) ≡ x.count
 its_count zero x h = sym (none_of_none x h)
 its_count (suc n) x h = ap (λ k. k % suc n) (as_written n x.generation x.count) ∙ mod-mul-add x.generation (suc n) x.count (fewer n x h)
 
@@ -54,7 +50,7 @@ arrived zero x h = absurd (omega (arith, h))
 arrived (suc n) x h = omega arith
 
 -- that does
-pub completed : (size : ℕ) (x : Progress) → IsShort size x → size ≤ x.count + 1 → arrivals_at size (progress (x.generation + 1) 0) ≡ arrivals_at size x + 1
+pub completed : (size : ℕ) (x : Progress) → IsWithin size x → size ≤ x.count + 1 → arrivals_at size (progress (x.generation + 1) 0) ≡ arrivals_at size x + 1
 completed zero x few h = refl
 completed (suc n) x few h = let more = mul-suc (suc n) x.generation in let less = fewer n x few in omega (arith, more, less, h)
 
@@ -63,7 +59,7 @@ pub leads : (size : ℕ) (a : Progress) → a.count ≡ 0 → Leads size (arriva
 leads zero a none = inl refl
 leads (suc n) a none = inr (a.generation, omega (arith, none))
 
-pub next_leads : (size : ℕ) (x : Progress) → IsShort size x → size ≤ x.count + 1 → Leads size (arrivals_at size x + 1)
+pub next_leads : (size : ℕ) (x : Progress) → IsWithin size x → size ≤ x.count + 1 → Leads size (arrivals_at size x + 1)
 next_leads zero x few h = inl refl
 next_leads (suc n) x few h = let more = mul-suc (suc n) x.generation in let less = fewer n x few in inr (suc x.generation, omega (arith, more, less, h))
 
@@ -81,12 +77,42 @@ next_follows (suc n) x h (inr (q, e)) = between (suc n) x.generation (x.count + 
 pub follower_follows : (size : ℕ) (a : Progress) → IsFollower size a → Leads size (arrivals_at size a) → ⊥
 follower_follows size a f = doesnt_lead size a f.counted f.unfinished
 
-pub follower_short : (size : ℕ) (a : Progress) → IsFollower size a → IsShort size a
-follower_short size a f some = f.unfinished
+pub follower_within : (size : ℕ) (a : Progress) → IsFollower size a → IsWithin size a
+follower_within size a f some = f.unfinished
+
+-- ---- how many generations one more arrival finishes
+
+split : (n k : ℕ) → suc n * (k / suc n) + k % suc n ≡ k
+split n k = div-add-mod k (suc n)
+
+next_generation_by : (n k : ℕ) → (k % suc n + 1 < suc n) ⊎ (suc n ≤ k % suc n + 1) → Leads (suc n) (k + 1) → (k + 1) / suc n ≡ k / suc n + 1
+next_generation_by n k (inl more) l = absurd (next_follows (suc n) (progress (k / suc n) (k % suc n)) more (subst (λ j. Leads (suc n) (j + 1)) (sym (split n k)) l))
+next_generation_by n k (inr last) l =
+    let below : k % suc n < suc n = mod-lt k (omega arith) in
+    let next = mul-suc (suc n) (k / suc n) in
+    let so : k + 1 ≡ suc (k / suc n) * suc n + 0 = omega (arith, split n k, next, mul_comm (suc n) (suc (k / suc n)), last, below) in
+    let q = div-mul-add (suc (k / suc n)) (suc n) 0 (omega arith) in
+    ap (λ j. j / suc n) so ∙ (q ∙ omega arith)
+
+pub next_generation : (size k : ℕ) → Leads size (k + 1) → generations_of size (k + 1) ≡ generations_of size k + 1
+next_generation zero k l = refl
+next_generation (suc n) k l = next_generation_by n k (cases_lt (k % suc n + 1) (suc n)) l
+
+same_generation_by : (n k : ℕ) → (k % suc n + 1 < suc n) ⊎ (suc n ≤ k % suc n + 1) → (Leads (suc n) (k + 1) → ⊥) → (k + 1) / suc n ≡ k / suc n
+same_generation_by n k (inl more) l =
+    let so : k + 1 ≡ (k / suc n) * suc n + (k % suc n + 1) = omega (arith, split n k, mul_comm (suc n) (k / suc n)) in
+    ap (λ j. j / suc n) so ∙ div-mul-add (k / suc n) (suc n) (k % suc n + 1) more
+same_generation_by n k (inr last) l =
+    let below : k % suc n < suc n = mod-lt k (omega arith) in
+    absurd (l (inr (suc (k / suc n), omega (arith, split n k, mul-suc (suc n) (k / suc n), last, below))))
+
+pub same_generation : (size k : ℕ) → (Leads size (k + 1) → ⊥) → generations_of size (k + 1) ≡ generations_of size k
+same_generation zero k l = absurd (l (inl refl))
+same_generation (suc n) k l = same_generation_by n k (cases_lt (k % suc n + 1) (suc n)) l
 
 -- ---- arrivals that were counted
 
-pub not_ahead : (size : ℕ) (a x : Progress) → IsShort size a → IsPast a x → arrivals_at size a ≤ arrivals_at size x
+pub not_ahead : (size : ℕ) (a x : Progress) → IsWithin size a → IsPast a x → arrivals_at size a ≤ arrivals_at size x
 not_ahead zero a x few past = past.generation
 not_ahead (suc n) a x few past = by_order (cases_lt a.generation x.generation) where
   by_order : (a.generation < x.generation) ⊎ (x.generation ≤ a.generation) → suc n * a.generation + a.count ≤ suc n * x.generation + x.count
@@ -102,7 +128,7 @@ not_ahead (suc n) a x few past = by_order (cases_lt a.generation x.generation) w
       omega (arith, so, no_more)
 
 -- numbers begin at 1
-pub from_one : (size : ℕ) (a : Progress) → IsShort size a → 0 < a.generation + a.count → 0 < arrivals_at size a
+pub from_one : (size : ℕ) (a : Progress) → IsWithin size a → 0 < a.generation + a.count → 0 < arrivals_at size a
 from_one zero a few some = let none = none_of_none a few in omega (arith, none, some)
 from_one (suc n) a few some = by_generation (cases_lt 0 a.generation) where
   by_generation : (0 < a.generation) ⊎ (a.generation ≤ 0) → 0 < suc n * a.generation + a.count
@@ -118,7 +144,7 @@ is_finished (suc n) a x f less =
     (suc a.generation, omega (arith, next, f.unfinished), omega (arith, below))
 
 -- and isn't where as many are
-pub is_unfinished : (size : ℕ) (a x : Progress) → IsFollower size a → IsShort size x → a.generation ≡ x.generation → IsFinished size (arrivals_at size a) (arrivals_at size x) → ⊥
+pub is_unfinished : (size : ℕ) (a x : Progress) → IsFollower size a → IsWithin size x → a.generation ≡ x.generation → IsFinished size (arrivals_at size a) (arrivals_at size x) → ⊥
 is_unfinished zero a x f few same h = omega (arith, f.unfinished)
 is_unfinished (suc n) a x f few same (q, from, to) =
     let so : suc n * a.generation ≡ suc n * x.generation = ap (λ g. suc n * g) same in
@@ -136,7 +162,7 @@ still_its_generation size a x f past not_yet = by_order (cases_lt a.generation x
   by_order (inl less) = absurd (not_yet (is_finished size a x f less))
   by_order (inr least) = omega (arith, past.generation, least)
 
-pub past_its_generation : (size : ℕ) (a x : Progress) → IsFollower size a → IsShort size x → IsPast a x → IsFinished size (arrivals_at size a) (arrivals_at size x) → a.generation < x.generation
+pub past_its_generation : (size : ℕ) (a x : Progress) → IsFollower size a → IsWithin size x → IsPast a x → IsFinished size (arrivals_at size a) (arrivals_at size x) → a.generation < x.generation
 past_its_generation size a x f few past h = by_order (cases_lt a.generation x.generation) where
   by_order : (a.generation < x.generation) ⊎ (x.generation ≤ a.generation) → a.generation < x.generation
   by_order (inl less) = less
@@ -148,9 +174,9 @@ stays_finished n a k more h (q, from, to) = (q, from, omega (arith, to, h))
 
 -- ---- arrivals have numbers of their own
 
-pub same_arrival : (size : ℕ) (a b : Progress) → IsShort size a → IsShort size b → arrivals_at size a ≡ arrivals_at size b → a ≡ b
+pub same_arrival : (size : ℕ) (a b : Progress) → IsWithin size a → IsWithin size b → arrivals_at size a ≡ arrivals_at size b → a ≡ b
 same_arrival size a b f g e =
-    let generations : a.generation ≡ b.generation = sym (its_finished size a f) ∙ (ap (finished size) e ∙ its_finished size b g) in
+    let generations : a.generation ≡ b.generation = sym (its_generations size a f) ∙ (ap (generations_of size) e ∙ its_generations size b g) in
     let counts : a.count ≡ b.count = sym (its_count size a f) ∙ (ap (count_of size) e ∙ its_count size b g) in
     ap (λ g. progress g a.count) generations ∙ ap (λ c. progress b.generation c) counts
 

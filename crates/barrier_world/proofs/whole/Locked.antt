@@ -1,5 +1,7 @@
 -- How a poll that is carried out alone gets the inner lock, or gives way.
-use Rattle.std.proofs.Common.{◌≡◌, ℕ, ◌⊎◌, inl, inr, Bool, true, refl, sym, ◌∙◌, subst}
+use Rattle.std.proofs.Common.{ap, ◌≡◌, ℕ, ◌⊎◌, inl, inr, Bool, true, false, refl, sym, ◌∙◌, subst}
+use Rattle.lock_event.specs.Lists.{is_marked_at}
+use Rattle.lock_queue.specs.Parties.{is_party}
 use Rattle.lock_world.specs.declared.moves.Answer.{Answer}
 use Rattle.lock_world.specs.declared.moves.Inputs.{Inputs}
 use Rattle.lock_world.specs.declared.refusal.Refusal.TheVariants.{Starved}
@@ -16,12 +18,13 @@ use Rattle.barrier_machine.specs.declared.program.Found.{Found}
 use Rattle.barrier_machine.specs.declared.program.Found.TheVariants as found
 use Rattle.barrier_machine.specs.declared.program.Next.{Next}
 use Rattle.barrier_machine.specs.declared.program.Next.TheVariants as next
-use Rattle.barrier_machine.specs.declared.program.Place.TheVariants.{EnterLock, WaitLock, TakeLock}
+use Rattle.barrier_machine.specs.declared.program.Place.{Place}
+use Rattle.barrier_machine.specs.declared.program.Place.TheVariants.{EnterLock, WaitLock, TakeLock, Ask}
 use Rattle.barrier_machine.specs.declared.program.Position.{Position}
 use Rattle.barrier_machine.specs.declared.program.Position.TheVariants.{At}
 use Rattle.barrier_machine.specs.Program.{with_lock, after_lock, next_of, position_after}
 use Rattle.barrier_machine.specs.Machine.{Barrier, answer_by}
-use Rattle.barrier_world.proofs.whole.Served.{Step, Same, Serves, ServesThen}
+use Rattle.barrier_world.proofs.whole.Served.{Step, Same, Then, Came, Serves, ServesThen}
 
 module _ (p : ℕ) (b : Aim) (s : Barrier) where
   -- whoever has the lock goes on with it
@@ -37,6 +40,34 @@ module _ (p : ℕ) (b : Aim) (s : Barrier) where
       let P : LockStep → Type 0 = λ z. ServesThen p b s (after_lock b (found.Lock z)) y in
       subst P (sym got) (gets b y refl (k.words ∙ same.0, k.arrival ∙ same.1))
   gets_at_once i _ x y free unstarved same k = absurd k.lock
+
+  -- so it does where it is about to begin
+  pub record IsFresh (x : Barrier) : Type 0 where
+    pub same : Same p b s x
+    pub free : holders x.lock ≡ 0
+    pub unstarved : starved x.lock ≡ 0
+
+  abbrev pub Enters : Position → Barrier → Type 0
+  Enters (At (EnterLock a)) x = (a ≡ b) × IsFresh x
+  Enters z x = Serves p b s z x
+
+  abbrev pub EntersThen : Next → Barrier → Type 0
+  EntersThen = Then Enters (Came p b s)
+
+  enters_served : (z : Place) (y : Barrier) → Serves p b s (At z) y → Enters (At z) y
+  enters_served (EnterLock a) y h = absurd h
+  enters_served _ y h = h
+
+  pub then_entered : (n : Next) (y : Barrier) → ServesThen p b s n y → EntersThen n y
+  then_entered (next.Do z) y h = enters_served z y h
+  then_entered (next.Ready g) y h = h
+  then_entered (next.End e x) y h = h
+
+  -- a party that was notified enters
+  pub asks : (i : Inputs) (f : Found) (y : Barrier) → is_marked_at (is_party p) s.entries ≡ true → holders s.lock ≡ 0 → starved s.lock ≡ 0 → b ≡ aim.Check → Step i p Ask f s y → EntersThen (next_of Ask f) y
+  asks i found.Yes y marked free unstarved checks k = (sym checks, record { same = (k.words, k.arrival); free = ap holders k.lock ∙ free; unstarved = ap starved k.lock ∙ unstarved })
+  asks i found.No y marked free unstarved checks k = let never : true ≡ false = sym marked ∙ k.finds in absurd (cc never)
+  asks i _ y marked free unstarved checks k = absurd k.finds
 
   -- ---- a poll of a party that waits there
 
@@ -56,13 +87,28 @@ module _ (p : ℕ) (b : Aim) (s : Barrier) where
     pub same : Same p b s y
     pub entries : y.entries ≡ s.entries
 
+  abbrev pub Goes : Position → Barrier → Type 0
+  Goes (At (TakeLock a)) x = (a ≡ b) × IsTaking x
+  Goes z x = Serves p b s z x
+
+  abbrev pub Ends : Answer → Position → Barrier → Type 0
+  Ends a at y = Came p b s a at y ⊎ GaveUp a at y
+
   abbrev pub SoloThen : Next → Barrier → Type 0
-  SoloThen (next.Do (TakeLock a)) y = (a ≡ b) × IsTaking y
-  SoloThen n y = ServesThen p b s n y ⊎ GaveUp (answer_by n) (position_after n) y
+  SoloThen = Then Goes Ends
+
+  goes_served : (z : Place) (y : Barrier) → Serves p b s (At z) y → Goes (At z) y
+  goes_served (TakeLock a) y h = absurd h
+  goes_served _ y h = h
+
+  pub then_served : (n : Next) (y : Barrier) → ServesThen p b s n y → SoloThen n y
+  then_served (next.Do z) y h = goes_served z y h
+  then_served (next.Ready g) y h = inl h
+  then_served (next.End e x) y h = inl h
 
   gets_there : (a : Aim) (y : Barrier) → a ≡ b → Same p b s y → SoloThen (next.Do (with_lock a)) y
-  gets_there aim.Arrive y e same = inl (sym e, same)
-  gets_there aim.Check y e same = inl (sym e, same)
+  gets_there aim.Arrive y e same = (sym e, same)
+  gets_there aim.Check y e same = (sym e, same)
 
   module _ (law : SoloPolls s.lock) (called : IsCalled s.lock p) (i : Inputs) (memory : i.memory ≡ true) (y : Barrier) where
     gives_up : (e : LockEnd) → PollsAlone p e y.lock s.lock → Same p b s y → y.entries ≡ s.entries → GaveWay p s.lock e y.lock → StandsBack p s.lock e y.lock → SoloThen (after_lock b (found.Lock (lock_step.End e))) y

@@ -46,13 +46,17 @@ use Rattle.barrier_machine.specs.Machine.{Barrier, IsBarrier, position_at, arriv
 
 -- what it found and did, party by party
 pub record Step (i : Inputs) (p : ℕ) (from : Place) (f : Found) (x y : Barrier) : Type 0 where
-  pub here : position_at x.positions p ≡ At from
   pub finds : Finds i p (action_of from) f x.words (arrival_at x.arrivals p) x.entries
   pub words : y.words ≡ words_after (action_of from) x.words
   pub arrival : arrival_at y.arrivals p ≡ arrival_after (action_of from) x.words (arrival_at x.arrivals p)
   pub entries : y.entries ≡ entries_after p (action_of from) f x.entries
   pub lock : OnLock i p (action_of from) f x.lock y.lock
   pub to : position_at y.positions p ≡ position_after (next_of from f)
+
+-- what a step leaves that decides this: something while the call goes on, by where the party stands, and something where it ends
+abbrev pub Then : (Position → Barrier → Type 0) → (Answer → Position → Barrier → Type 0) → Next → Barrier → Type 0
+Then Going AtEnd (next.Do place) y = Going (At place) y
+Then Going AtEnd n y = AtEnd (answer_by n) (position_after n) y
 
 -- ---- the inner lock is given back
 
@@ -193,8 +197,7 @@ module _ (p : ℕ) (b : Aim) (s : Barrier) where
   Serves _ x = ⊥
 
   abbrev pub ServesThen : Next → Barrier → Type 0
-  ServesThen (next.Do place) y = Serves (At place) y
-  ServesThen n y = Came (answer_by n) (position_after n) y
+  ServesThen = Then Serves Came
 
   -- what an action leaves that changes none of that
   follows_kept : (x y : Barrier) → y.words ≡ x.words → arrival_at y.arrivals p ≡ arrival_at x.arrivals p → Follows x → Follows y
@@ -243,36 +246,36 @@ module _ (p : ℕ) (b : Aim) (s : Barrier) where
         let releasing : is_releasing (course_at x.lock.courses p) ≡ true = lock_at (ReleasingLock e) here in
         served e (comes_kept e x y k.words k.arrival k.entries so.0) (goes_free i p (lock_step.End z) x.lock y.lock releasing k.lock so.1) (released_marks i.memory p (lock_step.End z) x.lock y.lock releasing k.lock.done)
 
-    pub serves : (from : Place) (f : Found) → Serves (At from) x → Step i p from f x y → ServesThen (next_of from f) y
-    serves Look found.MustWait so k = (so.0, (k.words ∙ so.1.0, k.arrival ∙ so.1.1))
-    serves Look found.Leads so k = (so.0, (k.words ∙ so.1.0, k.arrival ∙ so.1.1))
-    serves Look found.Past so k = record { arrives = so.0; last = rw so.1.0 at k.finds.0; limit = rw so.1.0 at k.finds.1; same = (k.words ∙ so.1.0, k.arrival ∙ so.1.1) }
-    serves Look _ so k = absurd k.finds
-    serves Join found.Done so k = (so.0, (k.words ∙ so.1.0, k.arrival ∙ so.1.1), joined Join k.here refl k.entries)
-    serves Join found.NoMemory so k = let never : true ≡ false = sym memory ∙ k.finds in absurd (cc never)
-    serves Join _ so k = absurd k.finds
-    serves Arrive f so k =
+    pub serves : (from : Place) (f : Found) → position_at x.positions p ≡ At from → Serves (At from) x → Step i p from f x y → ServesThen (next_of from f) y
+    serves Look found.MustWait here so k = (so.0, (k.words ∙ so.1.0, k.arrival ∙ so.1.1))
+    serves Look found.Leads here so k = (so.0, (k.words ∙ so.1.0, k.arrival ∙ so.1.1))
+    serves Look found.Past here so k = record { arrives = so.0; last = rw so.1.0 at k.finds.0; limit = rw so.1.0 at k.finds.1; same = (k.words ∙ so.1.0, k.arrival ∙ so.1.1) }
+    serves Look _ here so k = absurd k.finds
+    serves Join found.Done here so k = (so.0, (k.words ∙ so.1.0, k.arrival ∙ so.1.1), joined Join here refl k.entries)
+    serves Join found.NoMemory here so k = let never : true ≡ false = sym memory ∙ k.finds in absurd (cc never)
+    serves Join _ here so k = absurd k.finds
+    serves Arrive f here so k =
         let counted : AreNow (with_progress s.words (progress s.words.progress.generation (s.words.progress.count + 1))) (progress s.words.progress.generation (s.words.progress.count + 1)) y =
         (k.words ∙ ap (words_after act.Arrive) so.1.0, k.arrival ∙ ap (λ w. (words_after act.Arrive w).progress) so.1.0) in
-        (inl (record { arrives = so.0; more = rw so.1.0 at (sure_at Arrive k.here); counted = counted }), ap (is_marked_at (is_party p)) k.entries ∙ so.2)
-    serves Complete f so k =
-        let sure = sure_at Complete k.here in
+        (inl (record { arrives = so.0; more = rw so.1.0 at (sure_at Arrive here); counted = counted }), ap (is_marked_at (is_party p)) k.entries ∙ so.2)
+    serves Complete f here so k =
+        let sure = sure_at Complete here in
         record { arrives = so.0; last = rw so.1.0 at sure.0; below = rw so.1.0 at sure.1; counted = (k.words ∙ ap (words_after act.Complete) so.1.0, k.arrival ∙ ap (λ w. (words_after act.Complete w).progress) so.1.0) }
-    serves NotifyAll f so k = leads_kept x y k.words k.arrival so
-    serves Check found.Finished so k = record { checks = so.0; finished = (rw (so.1.0, so.1.1) at k.finds); same = (k.words ∙ so.1.0, k.arrival ∙ so.1.1) }
-    serves Check found.Unfinished so k = (so.0, (k.words ∙ so.1.0, k.arrival ∙ so.1.1))
-    serves Check _ so k = absurd k.finds
-    serves JoinAgain found.Done so k =
-        let sure : (arrival_at x.arrivals p).generation ≡ x.words.progress.generation = sure_at JoinAgain k.here in
-        (inr (record { checks = so.0; unfinished = rw (so.1.0, so.1.1) at sure; same = (k.words ∙ so.1.0, k.arrival ∙ so.1.1) }), joined JoinAgain k.here refl k.entries)
-    serves JoinAgain found.NoMemory so k = let never : true ≡ false = sym memory ∙ k.finds in absurd (cc never)
-    serves JoinAgain _ so k = absurd k.finds
-    serves (ReleaseLock e) (found.Lock n) so k = lets_go e n k.here so k
-    serves (ReleaseLock e) _ so k = absurd k.lock
-    serves (ReleasingLock e) (found.Lock n) so k = released_now e n k.here so k
-    serves (ReleasingLock e) _ so k = absurd k.lock
-    serves Ask found.Yes so k = let never : true ≡ false = sym k.finds ∙ so.0.1 in absurd (cc never)
-    serves Ask found.No so k =
+    serves NotifyAll f here so k = leads_kept x y k.words k.arrival so
+    serves Check found.Finished here so k = record { checks = so.0; finished = (rw (so.1.0, so.1.1) at k.finds); same = (k.words ∙ so.1.0, k.arrival ∙ so.1.1) }
+    serves Check found.Unfinished here so k = (so.0, (k.words ∙ so.1.0, k.arrival ∙ so.1.1))
+    serves Check _ here so k = absurd k.finds
+    serves JoinAgain found.Done here so k =
+        let sure : (arrival_at x.arrivals p).generation ≡ x.words.progress.generation = sure_at JoinAgain here in
+        (inr (record { checks = so.0; unfinished = rw (so.1.0, so.1.1) at sure; same = (k.words ∙ so.1.0, k.arrival ∙ so.1.1) }), joined JoinAgain here refl k.entries)
+    serves JoinAgain found.NoMemory here so k = let never : true ≡ false = sym memory ∙ k.finds in absurd (cc never)
+    serves JoinAgain _ here so k = absurd k.finds
+    serves (ReleaseLock e) (found.Lock n) here so k = lets_go e n here so k
+    serves (ReleaseLock e) _ here so k = absurd k.lock
+    serves (ReleasingLock e) (found.Lock n) here so k = released_now e n here so k
+    serves (ReleasingLock e) _ here so k = absurd k.lock
+    serves Ask found.Yes here so k = let never : true ≡ false = sym k.finds ∙ so.0.1 in absurd (cc never)
+    serves Ask found.No here so k =
         let same : y.entries ≡ x.entries = k.entries ∙ ap (λ b. if b then without (is_party p) x.entries else x.entries) k.finds in
         let lock : y.lock ≡ x.lock = k.lock in
         record {
@@ -283,5 +286,5 @@ module _ (p : ℕ) (b : Aim) (s : Barrier) where
           free = ap holder_of lock ∙ so.1;
           woken = subst (λ (m : Mutex). 0 < length m.entries → 0 < marked_count m.entries) (sym lock) so.2;
         }
-    serves Ask _ so k = absurd k.finds
-    serves _ f so k = absurd so
+    serves Ask _ here so k = absurd k.finds
+    serves _ f here so k = absurd so

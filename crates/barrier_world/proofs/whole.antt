@@ -1,0 +1,4 @@
+-- Whole calls: how many steps they take, and what they promise.
+pub mod Served
+pub mod Locked
+pub mod Alone
