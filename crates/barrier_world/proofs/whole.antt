@@ -2,3 +2,4 @@
 pub mod Served
 pub mod Locked
 pub mod Alone
+pub mod Whole
