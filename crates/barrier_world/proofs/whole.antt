@@ -2,4 +2,5 @@
 pub mod Served
 pub mod Locked
 pub mod Alone
+pub mod Walks
 pub mod Whole

@@ -1,5 +1,5 @@
 -- A party's whole call, step by step, as its barrier's machine carries it out.
-use Rattle.std.proofs.Common.{◌≡◌, ◌≢◌, ℕ, zero, suc, ◌<◌, ◌≤◌, inl, inr, Bool, true, false, List, [], ◌∷◌, length, Some, refl, sym, ap, ◌∙◌, subst, arith, get_or-set_same}
+use Rattle.std.proofs.Common.{◌≡◌, ◌≢◌, ℕ, zero, suc, ◌<◌, ◌≤◌, inl, inr, Bool, true, false, List, [], ◌∷◌, length, Some, refl, sym, ap, ◌∙◌, subst, arith, get_or-set_same, get_or-set_other}
 use Rattle.std.proofs.Math.ListN.{set}
 use Rattle.lock_world.specs.declared.moves.Answer.{Answer}
 use Rattle.lock_world.specs.declared.moves.Answer.TheVariants as answer
@@ -14,7 +14,7 @@ use Rattle.lock_world.specs.declared.standing.Stage.{Stage}
 use Rattle.lock_world.specs.declared.standing.Stage.TheVariants.{Outside, Inside, Forgotten}
 use Rattle.lock_world.specs.declared.standing.Within.{Within}
 use Rattle.lock_world.specs.Accounts.{Account, accounts_after}
-use Rattle.lock_world.specs.Standings.{inputs_of}
+use Rattle.lock_world.specs.Standings.{inputs_of, is_outside_stage}
 use Rattle.lock_world.specs.Whole.{going_on, moves_of, answers_of}
 use Rattle.lock_world.proofs.Equations.{some_eq}
 use Rattle.lock_frame.specs.Steps.{beginning}
@@ -121,20 +121,41 @@ ends_not «end».NotFree h = cc h
 ends_not «end».GivenBack h = cc h
 ends_not («end».Refused r) h = cc h
 
--- what goes on so from place to place, and comes to that where the call ends
-module _ (p : ℕ) (i : Inputs) (Going : Position → Barrier → Type 0) (AtEnd : Answer → Position → Barrier → Type 0) where
-  abbrev pub GoesAt : World → Type 0
-  GoesAt x = Going (position_at x.behind.machine.positions p) x.behind.machine
+-- What goes on so from place to place, and comes to that where the call ends; the others stay where they were at this table.
+module _ (t : Table Barrier) (p : ℕ) (i : Inputs) (Going : Position → Barrier → Type 0) (AtEnd : Answer → Position → Barrier → Type 0) where
+  abbrev pub Elsewhere : World → Type 0
+  Elsewhere x = (q : ℕ) → q ≢ p → stage_at x.behind.stages q ≡ stage_at t.stages q
 
-  abbrev pub EndsAt : Answer → World → Type 0
-  EndsAt a x = AtEnd a (position_at x.behind.machine.positions p) x.behind.machine
+  pub record GoesAt (x : World) : Type 0 where
+    pub going : Going (position_at x.behind.machine.positions p) x.behind.machine
+    pub elsewhere : Elsewhere x
 
-  pub on_by : (n : Next) (a : Answer) (v : World) → a ≡ answer_by n → position_at v.behind.machine.positions p ≡ position_after n → Then Going AtEnd n v.behind.machine → Onward GoesAt EndsAt a v
-  on_by (next.Do place) a v is to h = record { going = λ e. (let P : Position → Type 0 = λ z. Going z v.behind.machine in subst P (sym to) h); ended = λ n. absurd (n is) }
-  on_by (next.Ready g) a v is to h = record { going = λ e. (let never : answer.Ready g ≡ answer.Stepped = sym is ∙ e in absurd (cc never)); ended = λ n. (let P : Answer → Position → Type 0 = λ b z. AtEnd b z v.behind.machine in
-      let Q : Answer → Type 0 = λ b. P b (position_at v.behind.machine.positions p) in subst Q (sym is) (subst (P (answer.Ready g)) (sym to) h)) }
-  on_by (next.End e x) a v is to h = record { going = λ s. absurd (ends_not e (sym is ∙ s)); ended = λ n. (let P : Answer → Position → Type 0 = λ b z. AtEnd b z v.behind.machine in
-      let Q : Answer → Type 0 = λ b. P b (position_at v.behind.machine.positions p) in subst Q (sym is) (subst (P (answer_of Plain e)) (sym to) h)) }
+  pub record EndsAt (a : Answer) (x : World) : Type 0 where
+    pub ended : AtEnd a (position_at x.behind.machine.positions p) x.behind.machine
+    pub elsewhere : Elsewhere x
+    pub outside : is_outside_stage (stage_at x.behind.stages p) ≡ true
+
+  ends_at : (n : Next) (a : Answer) (v : World) (e : Answer) (z : Position) → a ≡ e → position_at v.behind.machine.positions p ≡ z → AtEnd e z v.behind.machine → AtEnd a (position_at v.behind.machine.positions p) v.behind.machine
+  ends_at n a v e z is to h = let P : Answer → Type 0 = λ b. AtEnd b (position_at v.behind.machine.positions p) v.behind.machine in let Q : Position → Type 0 = λ y. AtEnd e y v.behind.machine in subst P (sym is) (subst Q (sym to) h)
+
+  outside_then : (w : Within) (e : End) → is_outside_stage (stage_after rest.Finished w (answer_of Plain e)) ≡ true
+  outside_then w «end».Got = refl
+  outside_then w «end».Granted = refl
+  outside_then w «end».Pending = refl
+  outside_then w «end».NotFree = refl
+  outside_then w «end».GivenBack = refl
+  outside_then w («end».Refused r) = refl
+
+  on_by : (n : Next) (a : Answer) (v : World) (w : Within) → a ≡ answer_by n → position_at v.behind.machine.positions p ≡ position_after n → Elsewhere v → stage_at v.behind.stages p ≡ stage_after rest.Finished w a → Then Going AtEnd n v.behind.machine → Onward GoesAt EndsAt a v
+  on_by (next.Do place) a v w is to others own h = record { going = λ e. record { going = (let P : Position → Type 0 = λ z. Going z v.behind.machine in subst P (sym to) h); elsewhere = others }; ended = λ n. absurd (n is) }
+  on_by (next.Ready g) a v w is to others own h = record {
+    going = λ e. (let never : answer.Ready g ≡ answer.Stepped = sym is ∙ e in absurd (cc never));
+    ended = λ n. record { ended = ends_at (next.Ready g) a v (answer.Ready g) Out is to h; elsewhere = others; outside = ap is_outside_stage (own ∙ ap (stage_after rest.Finished w) is) };
+  }
+  on_by (next.End e x) a v w is to others own h = record {
+    going = λ s. absurd (ends_not e (sym is ∙ s));
+    ended = λ n. record { ended = ends_at (next.End e x) a v (answer_of Plain e) x is to h; elsewhere = others; outside = ap is_outside_stage (own ∙ ap (stage_after rest.Finished w) is) ∙ outside_then w e };
+  }
 
   -- each step from inside leads on
   abbrev pub LeadsOn : Type 0
@@ -143,20 +164,25 @@ module _ (p : ℕ) (i : Inputs) (Going : Position → Barrier → Type 0) (AtEnd
   abbrev pub AreInside : Type 0
   AreInside = (z : Position) (x : Barrier) → Going z x → (y : Place) × (z ≡ At y)
 
+  by_step : (x v : World) (what : What) (from : Place) (a : Answer) → Elsewhere x → (d : Did x.behind p what from a v.behind) → Then Going AtEnd (next_of from d.found) v.behind.machine → Onward GoesAt EndsAt a v
+  by_step x v what from a before d h =
+      let others : Elsewhere v = λ q apart. ap (λ ss. stage_at ss q) d.stages ∙ (get_or-set_other x.behind.stages p q (stage_after rest.Finished d.within a) Forgotten apart ∙ before q apart) in
+      on_by (next_of from d.found) a v d.within d.answer d.step.to others (ap (λ ss. stage_at ss p) d.stages ∙ get_or-set_same x.behind.stages p (stage_after rest.Finished d.within a) Forgotten d.known) h
+
   module _ (inside : AreInside) (leads : LeadsOn) where
     onward : (x : World) (a : Answer) (v : World) → GoesAt x → Steps x (going_on p i) a v → Onward GoesAt EndsAt a v
     onward x a v so s =
-        let place = inside (position_at x.behind.machine.positions p) x.behind.machine so in
+        let place = inside (position_at x.behind.machine.positions p) x.behind.machine so.going in
         let d = went x.behind v.behind p a s.did.stood.barrier s.did.stood.fits i place.0 place.1 s.did.step in
         let P : Position → Type 0 = λ z. Going z x.behind.machine in
-        on_by (next_of place.0 d.found) a v d.answer d.step.to (leads x.behind.machine v.behind.machine place.0 d.found s.did.stood.barrier s.did.stands.barrier place.1 (subst P place.1 so) d.step)
+        by_step x v (Go i) place.0 a so.elsewhere d (leads x.behind.machine v.behind.machine place.0 d.found s.did.stood.barrier s.did.stands.barrier place.1 (subst P place.1 so.going) d.step)
 
     -- from its first step, at this place, to its end
-    pub whole : (known : ℕ → Account) (w : World) (c : Call) (n : ℕ) (a : Answer) (v : World) (s : Stage) (within : Within) (from : Place) → stage_at w.behind.stages p ≡ s → call_at knows s (Begin c i) ≡ Some within → polls_again s (Begin c i) ≡ false
+    pub whole : (known : ℕ → Account) (w : World) (c : Call) (n : ℕ) (a : Answer) (v : World) (s : Stage) (within : Within) (from : Place) → w.behind ≡ t → stage_at w.behind.stages p ≡ s → call_at knows s (Begin c i) ≡ Some within → polls_again s (Begin c i) ≡ false
         → place_for (Begin c i) (position_at w.behind.machine.positions p) ≡ Some from → ((f : Found) (y : Barrier) → IsBarrier y → Step i p from f w.behind.machine y → Then Going AtEnd (next_of from f) y)
         → Runs known w (moves_of p c i n) (answers_of n a) v → a ≢ answer.Stepped → EndsAt a v
-    whole known w c n a v s within from at called first starts begins runs ended =
+    whole known w c n a v s within from is at called first starts begins runs ended =
         along Steps accounts_after HoldsWell p i GoesAt EndsAt onward known n w (beginning p c i) a v
         (λ b x step. (let d = did w.behind x.behind p b step.did.stood.barrier step.did.stood.fits (Begin c i) s within from at called first starts step.did.step in
-            on_by (next_of from d.found) b x d.answer d.step.to (begins d.found x.behind.machine step.did.stands.barrier d.step)))
+            by_step w x (Begin c i) from b (λ q apart. ap (λ (y : Table Barrier). stage_at y.stages q) is) d (begins d.found x.behind.machine step.did.stands.barrier d.step)))
         ended runs
