@@ -3,4 +3,5 @@ pub mod Served
 pub mod Locked
 pub mod Alone
 pub mod Walks
+pub mod Comes
 pub mod Whole
