@@ -4,4 +4,7 @@ pub mod Locked
 pub mod Alone
 pub mod Walks
 pub mod Comes
+pub mod Polls
+pub mod Handing
+pub mod Promises
 pub mod Whole
