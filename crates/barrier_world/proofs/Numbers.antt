@@ -110,6 +110,17 @@ pub same_generation : (size k : ℕ) → (Leads size (k + 1) → ⊥) → genera
 same_generation zero k l = absurd (l (inl refl))
 same_generation (suc n) k l = same_generation_by n k (cases_lt (k % suc n + 1) (suc n)) l
 
+-- the next arrival leads or doesn't
+leads_or_follows_by : (n k : ℕ) → (k % suc n + 1 < suc n) ⊎ (suc n ≤ k % suc n + 1) → Leads (suc n) (k + 1) ⊎ (Leads (suc n) (k + 1) → ⊥)
+leads_or_follows_by n k (inl more) = inr (λ l. next_follows (suc n) (progress (k / suc n) (k % suc n)) more (subst (λ j. Leads (suc n) (j + 1)) (sym (split n k)) l))
+leads_or_follows_by n k (inr last) =
+    let below : k % suc n < suc n = mod-lt k (omega arith) in
+    inl (inr (suc (k / suc n), omega (arith, split n k, mul-suc (suc n) (k / suc n), last, below)))
+
+pub leads_or_follows : (size k : ℕ) → Leads size (k + 1) ⊎ (Leads size (k + 1) → ⊥)
+leads_or_follows zero k = inl (inl refl)
+leads_or_follows (suc n) k = leads_or_follows_by n k (cases_lt (k % suc n + 1) (suc n))
+
 -- ---- arrivals that were counted
 
 pub not_ahead : (size : ℕ) (a x : Progress) → IsWithin size a → IsPast a x → arrivals_at size a ≤ arrivals_at size x
