@@ -14,8 +14,8 @@ use Rattle.lock_world.specs.declared.standing.Within.{Within}
 use Rattle.lock_world.specs.Frame as frame
 use Rattle.lock_world.specs.Frame.{is_drop, is_refusal}
 use Rattle.lock_world.specs.Rosters.{how_many}
-use Rattle.lock_world.specs.Standings.{Standing, outside, inside, forgotten, inputs_of, is_decided, decision}
-use Rattle.lock_world.specs.Steps.{Deed, nothing, changes, does, joins, asks, leaves, notifies, notifies_additionally}
+use Rattle.lock_world.specs.Standings.{Standing, outside, inside, forgotten, inputs_of, is_decided}
+use Rattle.lock_world.specs.Steps.{Deed, changes, does, joins, asks, leaves, notifies, notifies_additionally}
 use Rattle.barrier_machine.specs.Deeds.{everyone}
 use Rattle.barrier_machine.specs.Machine.{knows}
 use Rattle.barrier_machine.specs.Waits.{Wait, no_wait, uncounted, counted}
