@@ -66,11 +66,13 @@ pub record Takes (w : World) (p : ℕ) (before : Wait) (a : Answer) (v : World) 
   pub comes_to : ComesTo before w p a v
   pub released : v.lock.holder ≡ None
 
--- The poll left the lock free and gave way to a starved party: it is pending again, with one entry less in the list of a party that isn't starved. A World at rest stays at rest.
+-- The poll left the lock free and gave way to a starved party: it is pending again, its wait as it was, with one entry less in the list of a party that isn't starved. A World at rest stays at rest.
 pub record GivesWay (w : World) (p : ℕ) (a : Answer) (v : World) : Type 0 where
   pub free : v.lock.holder ≡ None
   pub pending : a ≡ answer.Pending
   pub gave_way : bounds.GaveWay p w.lock.starved w.lock_list v.lock.starved v.lock_list
+  pub arrivals : v.arrivals ≡ w.arrivals
+  pub wait : wait_of v p ≡ wait_of w p
   pub rests : is_at_rest w ≡ true → is_at_rest v ≡ true
 
 -- What a solo poll does to a free inner lock: it takes it or gives way, unless the limit of starved parties is met; and whatever the limit, it takes it if its party is starved, or if nobody is.
@@ -82,12 +84,14 @@ pub record SoloPoll (w : World) (p : ℕ) (a : Answer) (v : World) : Type 0 wher
 pub record Promises (w : World) (p : ℕ) (c : Call) (inputs : Inputs) (a : Answer) (v : World) : Type 0 where
   -- A first poll of a free inner lock where nobody is starved takes it, and so ends as its wait has it then.
   pub first : is_first_poll (standing_of w p) (Begin c inputs) (entries_in w p) ≡ true → is_free w.lock ≡ true → inputs.memory ≡ true → Takes w p (wait_then (Begin c inputs) answer.Stepped (wait_of w p)) a v
+  -- So does a poll of a party that was notified in its generation's list.
+  pub notified : c ≡ call.Poll → bounds.IsSolo (standing_of w p) w.list p inputs → is_free w.lock ≡ true → Takes w p (wait_of w p) a v
   -- A solo poll of a free inner lock takes it or gives way.
   pub solo : c ≡ call.Poll → IsSolo w p inputs → w.lock.holder ≡ None → SoloPoll w p a v
   -- Where nobody is starved, a party isn't starved at the end that hasn't waited for too long.
   pub unstarved : inputs.starving ≡ false → how_many w.lock.starved ≡ 0 → is_starved v.lock p ≡ false
-  -- A poll of a party that stood in the inner lock's list, and that is refused there since no more may be starved, hands on what it was told: some entry is marked, if there is any.
-  pub hands_on : c ≡ call.Poll → standing_of w p ≡ outside Pending → 0 < entries_of p w.lock_list → a ≡ refused refusal.Starved → 0 < length v.lock_list → 0 < marked_count v.lock_list
+  -- A refused poll of a party that stood in the inner lock's list hands on what it was told: some entry is marked, if there is any.
+  pub hands_on : c ≡ call.Poll → standing_of w p ≡ outside Pending → 0 < entries_of p w.lock_list → is_refusal a ≡ true → 0 < length v.lock_list → 0 < marked_count v.lock_list
 
 -- A whole solo poll that doesn't take the inner lock, while fewer parties are starved than may be.
 pub record PassesOver (w : World) (p : ℕ) (inputs : Inputs) (a : Answer) (v : World) : Type 0 where

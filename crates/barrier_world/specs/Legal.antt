@@ -14,8 +14,8 @@ use Rattle.lock_world.specs.declared.standing.Within.{Within}
 use Rattle.lock_world.specs.Frame as frame
 use Rattle.lock_world.specs.Frame.{is_drop, is_refusal}
 use Rattle.lock_world.specs.Rosters.{how_many}
-use Rattle.lock_world.specs.Standings.{Standing, outside, inside, forgotten, inputs_of, is_decided, decision}
-use Rattle.lock_world.specs.Steps.{Deed, nothing, changes, does, joins, asks, leaves, notifies, notifies_additionally}
+use Rattle.lock_world.specs.Standings.{Standing, outside, inside, forgotten, inputs_of, is_decided}
+use Rattle.lock_world.specs.Steps.{Deed, changes, does, joins, asks, leaves, notifies, notifies_additionally}
 use Rattle.barrier_machine.specs.Deeds.{everyone}
 use Rattle.barrier_machine.specs.Machine.{knows}
 use Rattle.barrier_machine.specs.Waits.{Wait, no_wait, uncounted, counted}
@@ -154,8 +154,10 @@ pub record IsAsBefore (old : World) (m : Move) (new : World) : Type 0 where
   pub lists : (list : ListName) → list_in list new ≡ list_in list old
   pub wait : wait_of new m.party ≡ wait_of old m.party
 
+-- A join found no memory: the party stood in no list, and if it held the inner lock then it had to wait.
 pub record IsOutOfMemory (old : World) (m : Move) (new : World) : Type 0 where
   pub input : (inputs_of m.what).memory ≡ false
+  pub needed : old.lock.holder ≡ Some m.party → HasToWait old (wait_of old m.party)
   pub unlisted : (list : ListName) → entries_of m.party (list_in list old) ≡ 0
   pub unchanged : IsAsBefore old m new
 

@@ -1,0 +1,2 @@
+-- Solo polls in turn.
+pub mod Bound

@@ -1,0 +1,2 @@
+-- What is known by the answers alone.
+pub mod Rights

@@ -1,0 +1,137 @@
+-- What a whole call of a barrier promises beside its end.
+use Rattle.std.proofs.Common.{◌≡◌, ◌≢◌, ℕ, zero, suc, Bool, true, false, [], ◌∷◌, List, Some, refl, sym, ap, ◌∙◌, subst, arith}
+use Rattle.std.specs.List.{sum_by}
+use Rattle.std.proofs.lemmas.List.Sums.{sum_by-cons}
+use Rattle.lock_world.specs.declared.moves.Answer.{Answer}
+use Rattle.lock_world.specs.declared.moves.Answer.TheVariants as answer
+use Rattle.lock_world.specs.declared.moves.Call.{Call}
+use Rattle.lock_world.specs.declared.moves.Call.TheVariants as call
+use Rattle.lock_world.specs.declared.moves.Inputs.{Inputs}
+use Rattle.lock_world.specs.declared.moves.What.{What}
+use Rattle.lock_world.specs.declared.moves.What.TheVariants.{Begin, Go}
+use Rattle.lock_world.specs.declared.standing.Rest.TheVariants as rest
+use Rattle.lock_world.specs.declared.standing.Within.{Within}
+use Rattle.lock_world.specs.Accounts.{Account, accounts_after}
+use Rattle.lock_world.specs.Rosters.{how_many}
+use Rattle.lock_world.specs.Standings.{inputs_of}
+use Rattle.lock_world.specs.Whole.{going_on, moves_of, answers_of}
+use Rattle.lock_world.proofs.Equations.{none_some}
+use Rattle.lock_frame.specs.Steps.{beginning}
+use Rattle.lock_frame.proofs.Runs.{Onward, along}
+use Rattle.lock_table.specs.Tables.{Table, Acted}
+use Rattle.lock_table.proofs.Ways.{onward}
+use Rattle.mutex_machine.specs.Course.{Course, bit, counted, is_counting}
+use Rattle.mutex_machine.specs.Mutex.{Mutex, course_at, starved, is_counted}
+use Rattle.mutex_machine.proofs.Callers.{out_uncounted, waiting_uncounted}
+use Rattle.mutex_machine.proofs.Holders as sees
+use Rattle.barrier_machine.specs.declared.program.Action.{Action}
+use Rattle.barrier_machine.specs.declared.program.Action.TheVariants as act
+use Rattle.barrier_machine.specs.declared.program.Found.{Found}
+use Rattle.barrier_machine.specs.declared.program.Found.TheVariants as found
+use Rattle.barrier_machine.specs.declared.program.Place.{Place}
+use Rattle.barrier_machine.specs.declared.program.Position.{Position}
+use Rattle.barrier_machine.specs.declared.program.Position.TheVariants.{Out, Made, Locking, Waiting, At}
+use Rattle.barrier_machine.specs.Program.{start_of, action_of}
+use Rattle.barrier_machine.specs.Locks.{OnLock}
+use Rattle.barrier_machine.specs.Roles.{fits_lock, in_lock}
+use Rattle.barrier_machine.specs.Machine.{Barrier, Moves, position_at}
+use Rattle.barrier_world.specs.State.{World, is_starved}
+use Rattle.barrier_world.specs.Bound.{Promises}
+use Rattle.barrier_world.specs.Runs.{Runs, HoldsWell}
+use Rattle.barrier_world.specs.Steps.{Stands, Steps}
+use Rattle.barrier_world.proofs.whole.Alone.{known_calls}
+use Rattle.barrier_world.proofs.whole.Handing.{hands_on}
+use Rattle.barrier_world.proofs.whole.Polls.{nobody_starved, first, notified, solo}
+
+-- ---- nobody is made starved that hasn't waited for too long, while nobody is
+
+-- an action counts nobody
+counts_none : (i : Inputs) (p : ℕ) (action : Action) (f : Found) (m n : Mutex) → i.starving ≡ false → OnLock i p action f m n → starved m ≡ 0 → is_counting (course_at m.courses p) ≡ false → (starved n ≡ 0) × (is_counting (course_at n.courses p) ≡ false)
+counts_none i p (act.Begin c) (found.Lock s) m n patient o none not_next = o.patient patient none not_next
+counts_none i p (act.Begin c) _ m n patient o none not_next = absurd o
+counts_none i p act.Go (found.Lock s) m n patient o none not_next = o.patient patient none not_next
+counts_none i p act.Go _ m n patient o none not_next = absurd o
+counts_none i p _ f m n patient o none not_next = let P : Mutex → Type 0 = λ l. (starved l ≡ 0) × (is_counting (course_at l.courses p) ≡ false) in subst P (sym o) (none, not_next)
+
+-- whoever begins a call isn't about to be counted
+begins_uncounted : (c : Call) (x : Position) (from : Place) (k : Course) → start_of c x ≡ Some from → fits_lock (in_lock x) k ≡ true → is_counting k ≡ false
+begins_uncounted c Out from k e fits = out_uncounted k fits
+begins_uncounted c (Made a) from k e fits = out_uncounted k fits
+begins_uncounted c (Locking a) from k e fits = waiting_uncounted k fits
+begins_uncounted c Waiting from k e fits = out_uncounted k fits
+begins_uncounted call.Wait (At x) from k e fits = absurd (none_some e)
+begins_uncounted call.Poll (At x) from k e fits = absurd (none_some e)
+begins_uncounted call.Drop (At x) from k e fits = absurd (none_some e)
+begins_uncounted _ (At x) from k e fits = absurd (none_some e)
+
+module _ (p : ℕ) (i : Inputs) (patient : i.starving ≡ false) where
+  abbrev Unstarved : Table Barrier → Type 0
+  Unstarved t = starved t.machine.lock ≡ 0
+
+  abbrev Unstarving : Table Barrier → Type 0
+  Unstarving t = Unstarved t × (is_counting (course_at t.machine.lock.courses p) ≡ false)
+
+  abbrev Left : Answer → World → Type 0
+  Left = Onward (λ y. Unstarving y.behind) (λ b y. Unstarved y.behind)
+
+  of_world : (a : Answer) (v : World) → Onward Unstarving (λ b y. Unstarved y) a v.behind → Left a v
+  of_world a v o = record { going = o.going; ended = o.ended }
+
+  acted_unstarved : (t u : Table Barrier) (what : What) (a : Answer) (w : Within) → (inputs_of what).starving ≡ false → (k : Acted known_calls rest.Finished Moves w t (record { party = p; what = what }) a u) → Unstarved t → is_counting (course_at t.machine.lock.courses p) ≡ false → Onward Unstarving (λ b y. Unstarved y) a u
+  acted_unstarved t u what a w quiet k none not_next =
+      let it = counts_none (inputs_of what) p (action_of k.acts.from) k.acts.found t.machine.lock u.machine.lock quiet k.acts.acts.lock none not_next in
+      record { going = λ e. it; ended = λ e. it.0 }
+
+  steps_unstarved : (x : World) (what : What) (a : Answer) (v : World) → (inputs_of what).starving ≡ false → Unstarved x.behind
+      → ((w : Within) → Acted known_calls rest.Finished Moves w x.behind (record { party = p; what = what }) a v.behind → is_counting (course_at x.behind.machine.lock.courses p) ≡ false) → Steps x (record { party = p; what = what }) a v → Left a v
+  steps_unstarved x what a v quiet none not_next s = of_world a v
+      (onward known_calls rest.Finished Moves x.behind v.behind (record { party = p; what = what }) a Unstarving (λ b y. Unstarved y) (λ y. y) none none
+      (λ w e f k. acted_unstarved x.behind v.behind what a w quiet k none (not_next w k)) s.did.step)
+
+  goes_unstarved : (x : World) (a : Answer) (v : World) → Unstarving x.behind → Steps x (going_on p i) a v → Left a v
+  goes_unstarved x a v g s = steps_unstarved x (Go i) a v patient g.0 (λ w k. g.1) s
+
+  first_unstarved : (c : Call) (x : World) → Unstarved x.behind → (a : Answer) (v : World) → Steps x (beginning p c i) a v → Left a v
+  first_unstarved c x none a v s = steps_unstarved x (Begin c i) a v patient none (λ w k. begins_uncounted c (position_at x.behind.machine.positions p) k.acts.from (course_at x.behind.machine.lock.courses p) k.acts.starts (s.did.stood.barrier.links p)) s
+
+by_bit : (b : Bool) (n : ℕ) → bit b ≡ n → n ≡ 0 → b ≡ false
+by_bit true n e z = absurd (omega (arith, e, z))
+by_bit false n e z = refl
+
+none_at : (cs : List Course) (q : ℕ) → sum_by counted cs ≡ 0 → counted (course_at cs q) ≡ 0
+none_at [] q e = refl
+none_at (x ∷ xs) zero e = omega (arith, sum_by-cons counted x xs, e)
+none_at (x ∷ xs) (suc q) e = none_at xs q (omega (arith, sum_by-cons counted x xs, e))
+
+not_counted : (w : World) (p : ℕ) → Stands w → starved w.behind.machine.lock ≡ 0 → is_starved w.lock p ≡ false
+not_counted w p s none =
+    let cs = w.behind.machine.lock.courses in
+    ap (λ x. is_starved x.lock p) s.seen ∙ (sees.starved_at cs p ∙ by_bit (is_counted (course_at cs p)) (counted (course_at cs p)) (sees.counted_bit (course_at cs p)) (none_at cs p none))
+
+-- ---- the promises
+
+module _ (known : ℕ → Account) (w : World) (p : ℕ) (c : Call) (i : Inputs) (n : ℕ) (a : Answer) (v : World) (stood : Stands w) (stands : Stands v) (ended : a ≢ answer.Stepped) (runs : Runs known w (moves_of p c i n) (answers_of n a) v) where
+  unstarved : i.starving ≡ false → how_many w.lock.starved ≡ 0 → is_starved v.lock p ≡ false
+  unstarved patient none =
+      let zero : starved w.behind.machine.lock ≡ 0 = nobody_starved w.behind (subst (λ x. how_many x.lock.starved ≡ 0) stood.seen none) in
+      not_counted v p stands (along Steps accounts_after HoldsWell p i (λ y. Unstarving p i patient y.behind) (λ b y. Unstarved p i patient y.behind) (goes_unstarved p i patient) known n w (beginning p c i) a v (first_unstarved p i patient c w zero) ended runs)
+
+  as_poll : c ≡ call.Poll → Runs known w (moves_of p call.Poll i n) (answers_of n a) v
+  as_poll is = let R : Call → Type 0 = λ x. Runs known w (moves_of p x i n) (answers_of n a) v in subst R is runs
+
+  kept : Promises w p c i a v
+  kept = record {
+    first = λ is free memory. first known w p i n a v stood stands ended memory c runs is free;
+    notified = λ is solo free. notified known w p i n a v stood stands ended solo.memory (as_poll is) solo free;
+    solo = λ is called free. solo known w p i n a v stood stands ended called.memory (as_poll is) called free;
+    unstarved = unstarved;
+    hands_on = λ is. hands_on known w p i n a v stood stands ended (as_poll is);
+  }
+
+-- both Worlds stand as they are seen
+both_stand : (known : ℕ → Account) (w : World) (p : ℕ) (c : Call) (i : Inputs) (n : ℕ) (a : Answer) (v : World) → a ≢ answer.Stepped → Runs known w (moves_of p c i n) (answers_of n a) v → Stands w × Stands v
+both_stand known w p c i n a v ended runs = along Steps accounts_after HoldsWell p i (λ y. Stands w) (λ b y. Stands w × Stands y) (λ x b y g s. record { going = λ e. g; ended = λ e. (g, s.did.stands) })
+    known n w (beginning p c i) a v (λ b y s. record { going = λ e. s.did.stood; ended = λ e. (s.did.stood, s.did.stands) }) ended runs
+
+pub keeps_promise : (known : ℕ → Account) (w : World) (p : ℕ) (c : Call) (i : Inputs) (n : ℕ) (a : Answer) (v : World) → Runs known w (moves_of p c i n) (answers_of n a) v → a ≢ answer.Stepped → Promises w p c i a v
+keeps_promise known w p c i n a v runs ended = let both = both_stand known w p c i n a v ended runs in kept known w p c i n a v both.0 both.1 ended runs

@@ -1,0 +1,11 @@
+-- The World is at rest where its table is.
+use Rattle.std.proofs.Common.{ap, sym, ◌∙◌}
+use Rattle.lock_table.proofs.Views.{rest_seen}
+use Rattle.barrier_world.specs.View.{verdict_in}
+use Rattle.barrier_world.specs.Laws.{is_at_rest}
+use Rattle.barrier_world.proofs.world.World.at_rest.Goals as goal
+
+pub returns : goal.returns
+returns c =
+    c.at_rest.ensures
+    ∙ (sym (rest_seen (verdict_in c.self.inside.table.machine) c.self.inside.table.stages) ∙ ap is_at_rest c.self.view_is)
