@@ -54,9 +54,6 @@ waits_until ending.RefuseGenerations n h = cc h
 waits_until (ending.RefuseMemory a) n h = waits_for a n h
 
 -- a wait that isn't counted stands in the list only to be counted
-listed_for : (a : Aim) (n : ℕ) → wait_until (ending.RefuseMemory a) n ≡ uncounted → listed (At (ReleaseLock (ending.RefuseMemory a))) ≡ 0
-listed_for a n e = refl
-
 listed_until : (e : Ending) (n : ℕ) → wait_until e n ≡ uncounted → listed (At (ReleaseLock e)) ≡ 0
 listed_until ending.Wait n h = absurd (cc h)
 listed_until ending.Follow n h = refl
