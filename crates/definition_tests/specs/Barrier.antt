@@ -13,6 +13,7 @@ use Rattle.lock_world.specs.declared.moves.Move.{Move}
 use Rattle.lock_world.specs.declared.moves.What.TheVariants.{Begin}
 use Rattle.lock_world.specs.declared.refusal.Refusal.TheVariants as refusal
 use Rattle.lock_world.specs.declared.standing.Rest.TheVariants.{Pending}
+use Rattle.lock_world.specs.Frame.{is_refusal}
 use Rattle.lock_world.specs.Rosters.{how_many}
 use Rattle.lock_world.specs.Standings.{outside, refused}
 use Rattle.barrier_machine.specs.Waits.{uncounted, counted}
@@ -186,13 +187,13 @@ pub record PassesOverInVain : Type 0 where
   pub is : wait_of whole.new whole.party ≡ uncounted
   pub kept : Keeps whole
 
--- A poll of a party that waits for the inner lock is refused since too many are starved, and nobody else is told.
+-- A poll of a party that waits for the inner lock is refused, and nobody else is told.
 pub record KeepsItsTold : Type 0 where
   pub whole : Whole
   pub polls : whole.call ≡ call.Poll
   pub was_pending : standing_of whole.old whole.party ≡ outside Pending
   pub listed : 0 < entries_of whole.party whole.old.lock_list
-  pub is_refused : whole.answer ≡ refused refusal.Starved
+  pub is_refused : is_refusal whole.answer ≡ true
   pub some : 0 < length whole.new.lock_list
   pub none_told : marked_count whole.new.lock_list ≡ 0
   pub kept : Keeps whole

@@ -53,7 +53,7 @@ one_more j k e = λ same. absurd (omega (arith, e, same))
 in_order : (size j k : ℕ) → j ≤ k → generations_of size j ≤ generations_of size k
 in_order zero j k h = h
 in_order (suc n) j k h =
-    let all : suc n * (j / suc n) + j % suc n ≡ j = div-add-mod j (suc n) (omega arith) in
+    let all : suc n * (j / suc n) + j % suc n ≡ j = div-add-mod j (suc n) in
     le-div (j / suc n) k (suc n) (omega arith) (omega (arith, all, mul_comm (j / suc n) (suc n), h))
 
 pub returns-clause-two_leaders : goal.returns-clause-two_leaders
