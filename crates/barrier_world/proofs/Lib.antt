@@ -1,8 +1,8 @@
 pub mod Numbers
-pub mod Leaders
-pub mod Counted
 pub mod table
 pub mod step
+pub mod Leaders
+pub mod Counted
 pub mod laws
 pub mod rights
 pub mod whole

@@ -9,3 +9,5 @@ pub mod LockRows
 pub mod Rows
 pub mod Endings
 pub mod Acting
+pub mod AtOnce
+pub mod Stepping

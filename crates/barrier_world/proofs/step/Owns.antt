@@ -78,6 +78,21 @@ unlisted_by (At Ask) n e free = absurd (cc e)
 unlisted_by (At CancelLeave) n e free = absurd (cc e)
 unlisted_by (At _) n e free = refl
 
+-- no party is listed twice
+pub at_most_once : (x : Position) → listed x ≤ 1
+at_most_once (At (ReleaseLock ending.Wait)) = omega arith
+at_most_once (At (ReleaseLock ending.Follow)) = omega arith
+at_most_once (At (ReleaseLock ending.Lead)) = omega arith
+at_most_once (At (ReleaseLock ending.RefuseGenerations)) = omega arith
+at_most_once (At (ReleaseLock (ending.RefuseMemory a))) = omega arith
+at_most_once (At (ReleasingLock ending.Wait)) = omega arith
+at_most_once (At (ReleasingLock ending.Follow)) = omega arith
+at_most_once (At (ReleasingLock ending.Lead)) = omega arith
+at_most_once (At (ReleasingLock ending.RefuseGenerations)) = omega arith
+at_most_once (At (ReleasingLock (ending.RefuseMemory a))) = omega arith
+at_most_once (At _) = omega arith
+at_most_once _ = omega arith
+
 -- no call is decided on Pending
 refused_never : (o : Option End) → refused_by o ≡ Some answer.Pending → ⊥
 refused_never None e = none_some e

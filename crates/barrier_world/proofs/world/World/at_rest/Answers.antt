@@ -3,9 +3,6 @@ use Rattle.std.proofs.Common.{ap, sym, ◌∙◌}
 use Rattle.lock_table.proofs.Views.{rest_seen}
 use Rattle.barrier_world.specs.View.{verdict_in}
 use Rattle.barrier_world.specs.Laws.{is_at_rest}
-use Rattle.barrier_world.proofs.step.Idle as h1
-use Rattle.barrier_world.proofs.step.Acting as h2
-use Rattle.barrier_world.proofs.step.LockRows as h3
 use Rattle.barrier_world.proofs.world.World.at_rest.Goals as goal
 
 pub returns : goal.returns

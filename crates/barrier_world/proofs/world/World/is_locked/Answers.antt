@@ -4,9 +4,6 @@ use Rattle.std.specs.Prelude.{is_some}
 use Rattle.mutex_machine.specs.Mutex.{holders}
 use Rattle.mutex_machine.proofs.Holders.{held_seen}
 use Rattle.barrier_machine.specs.Machine.{Barrier}
-use Rattle.barrier_world.proofs.step.Here as h1
-use Rattle.barrier_world.proofs.step.Locks as h2
-use Rattle.barrier_world.proofs.step.Owns as h3
 use Rattle.barrier_world.proofs.world.World.is_locked.Goals as goal
 
 pub returns : goal.returns

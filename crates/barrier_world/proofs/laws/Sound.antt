@@ -1,0 +1,282 @@
+-- What always holds of a barrier's World, as callers see it.
+use Rattle.std.proofs.Common.{◌≡◌, ◌≢◌, ℕ, zero, suc, ◌+◌, ◌<◌, ◌≤◌, inl, inr, Bool, true, false, List, [], ◌∷◌, length, Option, None, Some, refl, arith, ap, sym, ◌∙◌, subst}
+use Rattle.std.specs.List.{list_all}
+use Rattle.lock_event.specs.Lists.{is_marked_at, IsMarkedFirst}
+use Rattle.lock_queue.specs.Parties.{is_party, entries_of}
+use Rattle.lock_world.specs.declared.moves.Answer.{Answer}
+use Rattle.lock_world.specs.declared.standing.Kind.{Kind}
+use Rattle.lock_world.specs.declared.standing.Kind.TheVariants as kind
+use Rattle.lock_world.specs.declared.standing.Rest.{Rest}
+use Rattle.lock_world.specs.declared.standing.Rest.TheVariants as rest
+use Rattle.lock_world.specs.declared.standing.Stage.{Stage}
+use Rattle.lock_world.specs.declared.standing.Stage.TheVariants.{Outside, Inside, Forgotten}
+use Rattle.lock_world.specs.declared.standing.Within.{Within}
+use Rattle.lock_world.specs.Standings.{Standing, outside, inside, forgotten, is_outside, is_outside_stage}
+use Rattle.lock_world.proofs.Equations.{both, some_eq, none_some}
+use Rattle.lock_table.specs.Stages.{stage_at, stands_as}
+use Rattle.lock_table.specs.Tables.{Table}
+use Rattle.lock_table.proofs.Mapped.{past_last}
+use Rattle.lock_table.proofs.Past.{by_stage_or_past, by_stage_or_past_at}
+use Rattle.lock_table.proofs.Views.{rest_seen, outside_at}
+use Rattle.mutex_machine.specs.Course.{Course, bit, counted as starved_there, listed as listed_there, is_resting as rests_there}
+use Rattle.mutex_machine.specs.Mutex.{course_at, holders, is_counted, IsAtRest as LockAtRest}
+use Rattle.mutex_machine.proofs.Callers.{out_free, waiting_free, out_rests, waiting_rests, out_unlisted, out_unstarved, waiting_listed, holding_unlisted, listed_once}
+use Rattle.mutex_machine.proofs.Holders as sees
+use Rattle.barrier_machine.specs.declared.program.Aim.{Aim}
+use Rattle.barrier_machine.specs.declared.program.Aim.TheVariants as aim
+use Rattle.barrier_machine.specs.declared.program.Ending.{Ending}
+use Rattle.barrier_machine.specs.declared.program.Ending.TheVariants as ending
+use Rattle.barrier_machine.specs.declared.program.Place.{Place}
+use Rattle.barrier_machine.specs.declared.program.Place.TheVariants.{EnterLock, WaitLock, TakeLock, Look, Join, Arrive, Complete, NotifyAll, Check, JoinAgain, ReleaseLock, ReleasingLock, Ask, CancelLock, CancellingLock, CancelLeave, Abandon}
+use Rattle.barrier_machine.specs.declared.program.Position.{Position}
+use Rattle.barrier_machine.specs.declared.program.Position.TheVariants.{Out, Made, Locking, Waiting, At}
+use Rattle.barrier_machine.specs.declared.words.Progress.{Progress}
+use Rattle.barrier_machine.specs.declared.words.Words.{Words}
+use Rattle.barrier_machine.specs.Words.{arrivals_at, IsFollower}
+use Rattle.barrier_machine.specs.Roles.{fits_lock, in_lock, listed, follows, HasOutcome, Outcome, is_resting}
+use Rattle.barrier_machine.specs.Waits.{Wait, no_wait, uncounted, counted, wait_for, wait_until, wait_of as place_wait, wait_at, verdict}
+use Rattle.barrier_machine.specs.Machine.{Barrier, IsBarrier, HasArrived, IsAtRest, goes_with, is_begun, is_abandoning, runs, position_at, arrival_at}
+use Rattle.barrier_world.specs.declared.world.ListName.{ListName}
+use Rattle.barrier_world.specs.declared.world.ListName.TheVariants.{Lock, Generation}
+use Rattle.barrier_world.specs.Numbers.{IsFinished, generations_of}
+use Rattle.barrier_world.specs.State.{World, list_in, standing_of, wait_of, is_starved}
+use Rattle.barrier_world.specs.View.{verdict_in, view_of}
+use Rattle.barrier_world.specs.Legal.{HasItsOwn}
+use Rattle.barrier_world.specs.Laws.{IsSound, IsAwake, IsStillThere, is_at_rest, is_long_call}
+use Rattle.barrier_world.specs.Steps.{IsBarrierTable}
+use Rattle.barrier_world.proofs.table.Seen as seen
+use Rattle.barrier_world.proofs.step.Locks.{releasing_unlisted}
+use Rattle.barrier_world.proofs.step.Owns as owns
+use Rattle.barrier_world.proofs.step.Owns.{at_most_once}
+use Rattle.barrier_world.proofs.Numbers as numbers
+
+-- ---- calls
+
+abandon_unbegun : (x : Place) → is_abandoning x ≡ true → is_begun x ≡ true → ⊥
+abandon_unbegun Abandon h b = cc b
+abandon_unbegun _ h b = cc h
+
+long_by : (k : Kind) (r : Rest) (x : Place) → is_begun x ≡ true → runs k r x ≡ true → is_long_call k r ≡ true
+long_by kind.FirstPoll rest.Idle x b h = refl
+long_by kind.FirstPoll rest.Finished x b h = refl
+long_by kind.LaterPoll rest.Pending x b h = refl
+long_by kind.Drop rest.Pending x b h = refl
+long_by kind.Drop rest.Finished x b h = absurd (abandon_unbegun x h b)
+long_by _ _ x b h = absurd (cc h)
+
+long_at : (s : Stage) (x : Position) (d : Option Answer) (u : Within) (e : Option Answer) → goes_with s x ≡ true → stands_as d s ≡ inside u e → is_long_call u.kind u.was ≡ true
+long_at (Outside r) x d u e g h = absurd (cc h)
+long_at Forgotten x d u e g h = absurd (cc h)
+long_at (Inside w) (At y) d u e g h =
+    let two = both (is_begun y) (runs w.kind w.was y) g in
+    let same : w ≡ u = cc h in
+    let P : Within → Type 0 = λ v. is_long_call v.kind v.was ≡ true in
+    subst P same (long_by w.kind w.was y two.0 two.1)
+long_at (Inside w) _ d u e g h = absurd (cc g)
+
+-- ---- entries in both lists
+
+-- who stands in the barrier's list stands in no other
+unlisted : (x : Position) (c : Course) → fits_lock (in_lock x) c ≡ true → 0 < listed x → listed_there c ≡ 0
+unlisted Waiting c link some = out_unlisted c link
+unlisted (At Arrive) c link some = holding_unlisted c link
+unlisted (At (ReleaseLock e)) c link some = holding_unlisted c link
+unlisted (At (ReleasingLock e)) c link some = releasing_unlisted c link
+unlisted (At Ask) c link some = out_unlisted c link
+unlisted (At CancelLeave) c link some = out_unlisted c link
+unlisted (At _) c link some = absurd (omega arith)
+unlisted _ c link some = absurd (omega arith)
+
+both_lists : (x : Position) (c : Course) → fits_lock (in_lock x) c ≡ true → listed_there c + listed x ≤ 1
+both_lists x c link = by_list (listed x) refl where
+  by_list : (n : ℕ) → listed x ≡ n → listed_there c + listed x ≤ 1
+  by_list zero e = let one = listed_once c in omega arith
+  by_list (suc n) e = let few = at_most_once x in let none = unlisted x c link (omega arith) in omega arith
+
+-- ---- counted waits
+
+same_number : (n a : ℕ) → counted n ≡ counted a → a ≡ n
+same_number n a e = cc
+
+counted_for : (m : Aim) (n a : ℕ) (r : Progress) (v : Words) → wait_for m n ≡ counted a → (follows (Made m) ≡ true → IsFollower v.size r) → (a ≡ n) × HasArrived r
+counted_for aim.Arrive n a r v e f = absurd (cc e)
+counted_for aim.Check n a r v e f = let k = (f refl).counted in (same_number n a e, omega arith)
+
+counted_until : (k : Ending) (n a : ℕ) (r : Progress) (v : Words) → wait_until k n ≡ counted a → (follows (At (ReleaseLock k)) ≡ true → IsFollower v.size r) → Outcome k r v → (a ≡ n) × HasArrived r
+counted_until ending.Wait n a r v e f o = let k = (f refl).counted in (same_number n a e, omega arith)
+counted_until ending.Follow n a r v e f o = let k = o.0.counted in (same_number n a e, omega arith)
+counted_until ending.Lead n a r v e f o = let k = o.1 in (same_number n a e, omega arith)
+counted_until ending.RefuseGenerations n a r v e f o = absurd (cc e)
+counted_until (ending.RefuseMemory m) n a r v e f o = counted_for m n a r v e f
+
+counted_by : (x : Position) (n a : ℕ) (r : Progress) (v : Words) → wait_at x n ≡ counted a → (follows x ≡ true → IsFollower v.size r) → HasOutcome x r v → (a ≡ n) × HasArrived r
+counted_by Out n a r v e f o = absurd (cc e)
+counted_by (Made m) n a r v e f o = counted_for m n a r v e f
+counted_by (Locking m) n a r v e f o = counted_for m n a r v e f
+counted_by Waiting n a r v e f o = let k = (f refl).counted in (same_number n a e, omega arith)
+counted_by (At (EnterLock m)) n a r v e f o = counted_for m n a r v e f
+counted_by (At (WaitLock m)) n a r v e f o = counted_for m n a r v e f
+counted_by (At (TakeLock m)) n a r v e f o = counted_for m n a r v e f
+counted_by (At NotifyAll) n a r v e f o = let k = o.1 in (same_number n a e, omega arith)
+counted_by (At Check) n a r v e f o = let k = (f refl).counted in (same_number n a e, omega arith)
+counted_by (At JoinAgain) n a r v e f o = let k = (f refl).counted in (same_number n a e, omega arith)
+counted_by (At (ReleaseLock k)) n a r v e f o = counted_until k n a r v e f o
+counted_by (At (ReleasingLock k)) n a r v e f o = counted_until k n a r v e f o
+counted_by (At Ask) n a r v e f o = let k = (f refl).counted in (same_number n a e, omega arith)
+counted_by (At _) n a r v e f o = absurd (cc e)
+
+-- ---- outside every call
+
+resting : (s : Stage) (x : Position) → goes_with s x ≡ true → is_outside_stage s ≡ true → is_resting x ≡ true
+resting (Outside r) Out g o = refl
+resting (Outside r) (Made a) g o = refl
+resting (Outside r) (Locking a) g o = refl
+resting (Outside r) Waiting g o = refl
+resting (Outside rest.Idle) (At y) g o = absurd (cc g)
+resting (Outside rest.Pending) (At y) g o = absurd (cc g)
+resting (Outside rest.Holding) (At y) g o = absurd (cc g)
+resting (Outside rest.Finished) (At y) g o = absurd (cc g)
+resting (Inside w) x g o = absurd (cc o)
+resting Forgotten x g o = g
+
+all_rest : (xs : List Position) → ((q : ℕ) → q < length xs → is_resting (position_at xs q) ≡ true) → IsAtRest xs
+all_rest [] h = tt
+all_rest (x ∷ xs) h = (h 0 (omega arith), all_rest xs (λ q j. h (suc q) (omega arith)))
+
+rest_at : (xs : List Position) → IsAtRest xs → (q : ℕ) → is_resting (position_at xs q) ≡ true
+rest_at [] h q = refl
+rest_at (x ∷ xs) h zero = h.0
+rest_at (x ∷ xs) h (suc q) = rest_at xs h.1 q
+
+rests_in_lock : (x : Position) (c : Course) → is_resting x ≡ true → fits_lock (in_lock x) c ≡ true → rests_there c ≡ true
+rests_in_lock (At y) c h link = absurd (cc h)
+rests_in_lock (Locking a) c h link = waiting_rests c link
+rests_in_lock Out c h link = out_rests c link
+rests_in_lock (Made a) c h link = out_rests c link
+rests_in_lock Waiting c h link = out_rests c link
+
+lock_rests : (cs : List Course) → ((q : ℕ) → rests_there (course_at cs q) ≡ true) → LockAtRest cs
+lock_rests [] h = tt
+lock_rests (c ∷ cs) h = (h zero, lock_rests cs (λ q. h (suc q)))
+
+rest_waits : (x : Position) → is_resting x ≡ true → 0 < listed x → x ≡ Waiting
+rest_waits Waiting h some = refl
+rest_waits (At y) h some = absurd (cc h)
+rest_waits _ h some = absurd (omega arith)
+
+-- who stands in a list outside every call is pending, or was when it was forgotten
+still_there : (s : Stage) (x : Position) (d : Option Answer) → goes_with s x ≡ true → is_outside_stage s ≡ true → (x ≡ Out → ⊥) → IsStillThere (stands_as d s)
+still_there (Outside rest.Pending) x d g o h = inl refl
+still_there Forgotten x d g o h = inr refl
+still_there (Outside rest.Idle) Out d g o h = absurd (h refl)
+still_there (Outside rest.Idle) _ d g o h = absurd (cc g)
+still_there (Outside rest.Finished) Out d g o h = absurd (h refl)
+still_there (Outside rest.Finished) _ d g o h = absurd (cc g)
+still_there (Outside rest.Holding) x d g o h = absurd (cc g)
+still_there (Inside w) x d g o h = absurd (cc o)
+
+inside_by : (w : World) (p : ℕ) (s : Standing) → HasItsOwn w p s → w.lock.holder ≡ Some p → is_outside s ≡ false
+inside_by w p (outside rest.Idle) k h = absurd (k.clear.lock h)
+inside_by w p (outside rest.Finished) k h = absurd (k.clear.lock h)
+inside_by w p (outside rest.Pending) k h = absurd (k.0 h)
+inside_by w p (outside rest.Holding) k h = absurd k
+inside_by w p (inside u d) k h = refl
+inside_by w p forgotten k h = absurd (k h)
+
+module _ (t : Table Barrier) (laws : IsBarrier t.machine) (fits : IsBarrierTable t) where
+  abbrev xs : List Position
+  xs = t.machine.positions
+
+  abbrev x_of : ℕ → Position
+  x_of q = position_at xs q
+
+  abbrev c_of : ℕ → Course
+  c_of q = course_at t.machine.lock.courses q
+
+  abbrev a_of : ℕ → Progress
+  a_of q = arrival_at t.machine.arrivals q
+
+  abbrev words : Words
+  words = t.machine.words
+
+  number_at : (q a : ℕ) → wait_of (view_of t) q ≡ counted a → (a ≡ arrivals_at words.size (a_of q)) × HasArrived (a_of q)
+  number_at q a e = counted_by (x_of q) (arrivals_at words.size (a_of q)) a (a_of q) words (sym (seen.wait_seen t q) ∙ e) (laws.followers q) (laws.outcomes q)
+
+  numbered : (q a : ℕ) → wait_of (view_of t) q ≡ counted a → (0 < a) × (a ≤ (view_of t).arrivals)
+  numbered q a e =
+      let n = number_at q a e in
+      let some = numbers.from_one words.size (a_of q) (laws.within q) n.1 in
+      let few = numbers.not_ahead words.size (a_of q) words.progress (laws.within q) (laws.past q) in
+      (omega (arith, n.0), omega (arith, n.0))
+
+  one_each : (p q a : ℕ) → wait_of (view_of t) p ≡ counted a → wait_of (view_of t) q ≡ counted a → p ≡ q
+  one_each p q a e f =
+      let n = number_at p a e in
+      let k = number_at q a f in
+      laws.apart p q n.1 (numbers.same_arrival words.size (a_of p) (a_of q) (laws.within p) (laws.within q) (sym n.0 ∙ k.0))
+
+  pub sound : IsSound (view_of t)
+  sound = record {
+    each = owns.each_has t laws fits;
+    uncounted = owns.unlisted t laws fits;
+    holder_inside = λ q h. inside_by (view_of t) q (standing_of (view_of t) q) (owns.each_has t laws fits q) h;
+    inside_calls = λ q u d e. by_stage_or_past_at t.stages q (is_long_call u.kind u.was ≡ true)
+        (λ past. (let h : stands_as (verdict_in t.machine q) Forgotten ≡ inside u d = ap (stands_as (verdict_in t.machine q)) (sym past) ∙ (sym (seen.standing_seen t q) ∙ e) in absurd (cc (h))))
+        (λ inside. long_at (stage_at t.stages q) (x_of q) (verdict_in t.machine q) u d (fits.stands q inside) (sym (seen.standing_seen t q) ∙ e));
+    numbered = numbered;
+    one_each = one_each;
+    within = (let g = numbers.its_generations words.size words.progress laws.sound.unfinished in let h = laws.sound.within in omega arith);
+    few_starved = (let n = sees.how_many_counted t.machine.lock.courses in let few = laws.lock.few_starved in omega arith);
+    once = λ q. (let l = laws.lock.owners q in let b = laws.owners q in let few = both_lists (x_of q) (c_of q) (laws.links q) in omega arith);
+    in_order = in_order;
+  } where
+    in_order : (list : ListName) → IsMarkedFirst (list_in list (view_of t))
+    in_order Lock = laws.lock.in_order
+    in_order Generation = laws.in_order
+
+  module _ (rests : is_at_rest (view_of t) ≡ true) where
+    stages_rest : list_all is_outside_stage t.stages ≡ true
+    stages_rest = sym (rest_seen (verdict_in t.machine) t.stages) ∙ rests
+
+    positions_rest : IsAtRest xs
+    positions_rest = all_rest xs (λ q j. resting (stage_at t.stages q) (x_of q) (fits.stands q (omega (arith, j, fits.as_many))) (outside_at t.stages stages_rest q))
+
+    courses_rest : LockAtRest t.machine.lock.courses
+    courses_rest = lock_rests t.machine.lock.courses (λ q. rests_in_lock (x_of q) (c_of q) (rest_at xs positions_rest q) (laws.links q))
+
+    waits_there : (q : ℕ) → 0 < entries_of q t.machine.entries → x_of q ≡ Waiting
+    waits_there q some = let own = laws.owners q in rest_waits (x_of q) (rest_at xs positions_rest q) (omega arith)
+
+    all_marked : (q a : ℕ) → wait_of (view_of t) q ≡ counted a → IsFinished words.size a (view_of t).arrivals → 0 < entries_of q t.machine.entries → is_marked_at (is_party q) t.machine.entries ≡ true
+    all_marked q a e finished some =
+        let n = number_at q a e in
+        let P : ℕ → Type 0 = λ z. IsFinished words.size z (view_of t).arrivals in
+        laws.told positions_rest q some (numbers.past_its_generation words.size (a_of q) words.progress (laws.followers q (ap follows (waits_there q some))) laws.sound.unfinished (laws.past q) (subst P n.0 finished))
+
+    is_counted_there : (q : ℕ) → 0 < entries_of q t.machine.entries → (a : ℕ) × (wait_of (view_of t) q ≡ counted a)
+    is_counted_there q some = (arrivals_at words.size (a_of q), seen.wait_seen t q ∙ ap (λ x. wait_at x (arrivals_at words.size (a_of q))) (waits_there q some))
+
+    there : (q : ℕ) → (x_of q ≡ Out → ⊥) → IsStillThere (standing_of (view_of t) q)
+    there q some = by_stage_or_past t.stages q (IsStillThere (standing_of (view_of t) q))
+        (λ past. absurd (some (past_last xs q Out (omega (arith, past, fits.as_many)))))
+        (λ inside. subst IsStillThere (sym (seen.standing_seen t q)) (still_there (stage_at t.stages q) (x_of q) (verdict_in t.machine q) (fits.stands q inside) (outside_at t.stages stages_rest q) some))
+
+    out_there : (q : ℕ) → x_of q ≡ Out → listed_there (c_of q) ≡ 0
+    out_there q e = out_unlisted (c_of q) (let P : Position → Type 0 = λ x. fits_lock (in_lock x) (c_of q) ≡ true in subst P e (laws.links q))
+
+    waiting : (list : ListName) (q : ℕ) → 0 < entries_of q (list_in list (view_of t)) → IsStillThere (standing_of (view_of t) q)
+    waiting Lock q some = there q (λ e. (let none = out_there q e in let own = laws.lock.owners q in omega arith))
+    waiting Generation q some = there q (λ e. (let none : listed (x_of q) ≡ 0 = ap listed e in let own = laws.owners q in omega arith))
+
+    is_one_there : (q : ℕ) → is_starved (view_of t).lock q ≡ true → starved_there (c_of q) ≡ 1
+    is_one_there q e = sym (sees.counted_bit (c_of q)) ∙ ap bit (sym (sees.starved_at t.machine.lock.courses q) ∙ e)
+
+    pub awake : IsAwake (view_of t)
+    awake = record {
+      free = sees.none_held 0 t.machine.lock.courses (laws.lock_free positions_rest);
+      marked = laws.lock_wakes positions_rest;
+      all_marked = all_marked;
+      counted = is_counted_there;
+      waiting = waiting;
+      starved = λ q e. (let one = laws.lock.starved_listed courses_rest q (is_one_there q e) in omega arith);
+    }

@@ -1,0 +1,134 @@
+-- What the first step of a poll decides at once.
+use Rattle.std.proofs.Common.{◌≡◌, ◌≢◌, ℕ, ◌+◌, ◌<◌, ◌==◌, ◌&&◌, ◌↔◌, if◌then◌else◌, Bool, true, false, Option, Some, None, is_none, refl, arith, ap, sym, ◌∙◌, subst}
+use Rattle.std.proofs.lemmas.Bool.Decides.{nat_tests}
+use Rattle.lock_event.specs.Lists.{is_marked_at}
+use Rattle.lock_queue.specs.Parties.{is_party, entries_of}
+use Rattle.lock_world.specs.declared.moves.Answer.{Answer}
+use Rattle.lock_world.specs.declared.moves.Answer.TheVariants as answer
+use Rattle.lock_world.specs.declared.moves.Inputs.{Inputs}
+use Rattle.lock_world.specs.declared.moves.Move.{Move}
+use Rattle.lock_world.specs.declared.standing.Within.{Within}
+use Rattle.lock_world.specs.Rosters.{how_many}
+use Rattle.lock_world.specs.Standings.{inputs_of}
+use Rattle.lock_world.proofs.Equations.{both}
+use Rattle.lock_table.specs.Stages.{stage_at, stands_as}
+use Rattle.lock_table.specs.Tables.{Table}
+use Rattle.mutex_machine.specs.Course.{Course, listed as listed_there}
+use Rattle.mutex_machine.specs.declared.mutex.Step.{Step}
+use Rattle.mutex_machine.specs.declared.mutex.Step.TheVariants as lock_step
+use Rattle.mutex_machine.specs.declared.program.End.{End}
+use Rattle.mutex_machine.specs.declared.program.End.TheVariants as lock_end
+use Rattle.mutex_machine.specs.Mutex.{course_at, holders, starved, holder_of}
+use Rattle.mutex_machine.specs.Conduct.{TakesAtOnce as MutexTakes}
+use Rattle.mutex_machine.specs.declared.program.LockCall.TheVariants as lock_call
+use Rattle.mutex_machine.proofs.Callers.{out_unlisted, waiting_listed}
+use Rattle.mutex_machine.proofs.Holders as sees
+use Rattle.barrier_machine.specs.declared.program.Aim.{Aim}
+use Rattle.barrier_machine.specs.declared.program.Aim.TheVariants as aim
+use Rattle.barrier_machine.specs.declared.program.Found.{Found}
+use Rattle.barrier_machine.specs.declared.program.Found.TheVariants as found
+use Rattle.barrier_machine.specs.declared.program.Place.{Place}
+use Rattle.barrier_machine.specs.declared.program.Place.TheVariants.{EnterLock, Ask}
+use Rattle.barrier_machine.specs.declared.program.Position.{Position}
+use Rattle.barrier_machine.specs.declared.program.Position.TheVariants.{Out, Made, Locking, Waiting, At}
+use Rattle.barrier_machine.specs.declared.words.Progress.{Progress}
+use Rattle.barrier_machine.specs.Program.{action_of, next_of, after_lock}
+use Rattle.barrier_machine.specs.Deeds.{Finds, FindsAsk}
+use Rattle.barrier_machine.specs.Locks.{OnLock}
+use Rattle.barrier_machine.specs.Roles.{fits_lock, in_lock, listed}
+use Rattle.barrier_machine.specs.Waits.{verdict}
+use Rattle.barrier_machine.specs.Machine.{Barrier, position_at, arrival_at, answer_by}
+use Rattle.barrier_world.specs.State.{LockState, World, standing_of, is_free}
+use Rattle.barrier_world.specs.View.{view_of}
+use Rattle.barrier_world.specs.AtOnce.{TakesAtOnce, AnswersAtOnce, entries_in, is_first_poll, is_later_poll}
+use Rattle.barrier_world.proofs.step.Here.{HasEntries, enters_lock}
+use Rattle.barrier_world.proofs.step.Owns.{at_most_once}
+use Rattle.barrier_world.proofs.step.Acting as acting
+use Rattle.barrier_world.proofs.step.Acting.{Acting}
+
+-- a free inner lock
+free_by : (h : Option ℕ) (n : ℕ) → is_none h && (n == 0) ≡ true → (h ≡ None) × (n ≡ 0)
+free_by None n e = (refl, grind (arith, nat_tests))
+free_by (Some q) n e = absurd (cc e)
+
+is_free_by : (h : Option ℕ) (n : ℕ) → h ≡ None → n ≡ 0 → is_none h && (n == 0) ≡ true
+is_free_by h n e f = rw (e, f) refl
+
+some_entries : (x : Position) (c : Course) (e l : ℕ) → fits_lock (in_lock x) c ≡ true → e ≡ listed_there c → l ≡ listed x → HasEntries x (e + l)
+some_entries (Locking a) c e l link is own = let one = waiting_listed c link in omega arith
+some_entries Waiting c e l link is own = let none = out_unlisted c link in omega arith
+some_entries Out c e l link is own = tt
+some_entries (Made a) c e l link is own = tt
+some_entries (At y) c e l link is own = tt
+
+goes_on : (a : Aim) → answer_by (after_lock a (found.Lock (lock_step.End lock_end.Got))) ≡ answer.Stepped
+goes_on aim.Arrive = refl
+goes_on aim.Check = refl
+
+module _ (t u : Table Barrier) (m : Move) (a : Answer) (w : Within) (k : Acting t u m a w) where
+  abbrev p : ℕ
+  p = m.party
+
+  abbrev x : Position
+  x = position_at t.machine.positions p
+
+  abbrev c : Course
+  c = course_at t.machine.lock.courses p
+
+  abbrev i : Inputs
+  i = inputs_of m.what
+
+  abbrev mine : Progress
+  mine = arrival_at t.machine.arrivals p
+
+  abbrev old : World
+  old = view_of t
+
+  abbrev new : World
+  new = view_of u
+
+  counted_so : how_many old.lock.starved ≡ starved t.machine.lock
+  counted_so = sees.how_many_counted t.machine.lock.courses
+
+  free_old : is_free old.lock ≡ true → (holders t.machine.lock ≡ 0) × (starved t.machine.lock ≡ 0)
+  free_old h = let f = free_by old.lock.holder (how_many old.lock.starved) h in (sees.none_holds 0 t.machine.lock.courses f.0, sym counted_so ∙ f.1)
+
+  old_free : (holders t.machine.lock ≡ 0) × (starved t.machine.lock ≡ 0) → is_free old.lock ≡ true
+  old_free h = is_free_by old.lock.holder (how_many old.lock.starved) (sees.none_held 0 t.machine.lock.courses h.0) (counted_so ∙ h.1)
+
+  by_step : (b : Aim) (f : Found) → OnLock i p (action_of (EnterLock b)) f t.machine.lock u.machine.lock → a ≡ answer_by (next_of (EnterLock b) f) → TakesAtOnce old m a new
+  by_step b (found.Lock s) l e = record {
+    takes = ((λ h. old_free ((l.at_once.takes refl).0 h)), (λ h. (l.at_once.takes refl).1 (free_old h)));
+    goes_on = λ h. (let f = free_old h in e ∙ (ap (λ s. answer_by (after_lock b (found.Lock s))) (l.at_once.ends refl f.0 f.1) ∙ goes_on b));
+  }
+  by_step b _ l e = absurd l
+
+  by_place : (y : Place) → enters_lock y ≡ true → k.from ≡ y → TakesAtOnce old m a new
+  by_place (EnterLock b) h e =
+      let P : Place → Type 0 = λ y. OnLock i p (action_of y) k.found t.machine.lock u.machine.lock in
+      by_step b k.found (subst P e k.acts.lock) (k.answer ∙ ap (λ y. answer_by (next_of y k.found)) e)
+  by_place _ h e = absurd (cc h)
+
+  entries_so : HasEntries x (entries_in old p)
+  entries_so = some_entries x c (entries_of p t.machine.lock.entries) (entries_of p t.machine.entries) (k.old_laws.links p) (k.old_laws.lock.owners p) (k.old_laws.owners p)
+
+  first : is_first_poll (standing_of old p) m.what (entries_in old p) ≡ true → TakesAtOnce old m a new
+  first h = by_place k.from (k.here.first c (entries_in old p) (ap (λ z. is_first_poll z m.what (entries_in old p)) (sym (acting.stood t u m a w k)) ∙ h) entries_so) refl
+
+  asked : (f : Found) → FindsAsk p f t.machine.entries → answer_by (next_of Ask f) ≡ (if is_marked_at (is_party p) t.machine.entries then answer.Stepped else answer.Pending)
+  asked found.Yes e = rw e refl
+  asked found.No e = rw e refl
+  asked _ e = absurd e
+
+  listed_once : 0 < entries_of p t.machine.entries → listed x ≡ 1
+  listed_once some = let few = at_most_once x in let own = k.old_laws.owners p in omega arith
+
+  listed_so : is_later_poll (standing_of old p) m.what ≡ true → 0 < entries_of p old.list → a ≡ (if is_marked_at (is_party p) old.list then answer.Stepped else answer.Pending)
+  listed_so h some =
+      let h' : is_later_poll (stands_as (verdict x c) (stage_at t.stages p)) m.what ≡ true = ap (λ z. is_later_poll z m.what) (sym (acting.stood t u m a w k)) ∙ h in
+      let at : k.from ≡ Ask = k.here.later c h' (listed_once some) in
+      let P : Place → Type 0 = λ y. Finds i p (action_of y) k.found (t.machine.words) mine t.machine.entries in
+      k.answer ∙ (ap (λ y. answer_by (next_of y k.found)) at ∙ asked k.found (subst P at k.acts.finds))
+
+  pub at_once : AnswersAtOnce old m a new
+  at_once = record { first_poll = first; listed = listed_so }
