@@ -89,23 +89,23 @@ module _ (x : Place) (w : Words) (rs : List Progress) (p : ℕ) (past : (j : ℕ
   pub apart_then : AreApart (set rs p news)
   apart_then j k some e = elim (ℕ_discrete j p) as (λ _. j ≡ k) [
     | yes jp ↦ elim (ℕ_discrete k p) as (λ _. j ≡ k) [
-        | yes kp ↦ jp ∙ sym kp
-        | no off ↦ (
+      | yes kp ↦ jp ∙ sym kp
+      | no off ↦ (
           let mine : arrival_at (set rs p news) j ≡ news = ap (arrival_at (set rs p news)) jp ∙ get_or-set_same rs p news (progress 0 0) known in
           jp ∙ same_party k (subst HasArrived mine some) (sym mine ∙ (e ∙ get_or-set_other rs p k news (progress 0 0) off))
           )
-      ]
+    ]
     | no away ↦ elim (ℕ_discrete k p) as (λ _. j ≡ k) [
-        | yes kp ↦ (
+      | yes kp ↦ (
           let mine : arrival_at (set rs p news) k ≡ news = ap (arrival_at (set rs p news)) kp ∙ get_or-set_same rs p news (progress 0 0) known in
           let has : HasArrived news = subst HasArrived (e ∙ mine) some in
           sym (kp ∙ same_party j has (sym mine ∙ (sym e ∙ get_or-set_other rs p j news (progress 0 0) away)))
           )
-        | no off ↦ (
+      | no off ↦ (
           let here : arrival_at (set rs p news) j ≡ arrival_at rs j = get_or-set_other rs p j news (progress 0 0) away in
           apart j k (subst HasArrived here some) (sym here ∙ (e ∙ get_or-set_other rs p k news (progress 0 0) off))
           )
-      ]
+    ]
   ]
 
 module _ (i : Inputs) (p : ℕ) (w : Words) (xs : List Position) (rs : List Progress) (q : Queue) (m n : Mutex) (v : Within) (x : Place) (f : Found) where

@@ -12,9 +12,7 @@ ghost use Rattle.barrier_machine.specs.Locks.{OnLock};
 ghost use Rattle.barrier_machine.specs.Machine.{new_barrier, IsBarrier, answer_by, position_at, arrival_at};
 ghost use Rattle.barrier_machine.specs.Waits.{is_counted, wait_of, wait_at};
 
-use crate::program::{
-    Action, Aim, Ending, Found, Next, Place, Position, action_at, decide, start,
-};
+use crate::program::{Action, Aim, Ending, Found, Next, Place, Position, action_at, decide, start};
 use crate::words::{Progress, Words};
 use lock_event::Entry;
 use lock_queue::WaitQueue;

@@ -5,7 +5,7 @@ use Rattle.barrier_machine.specs.declared.program.Aim.TheVariants as aim
 use Rattle.barrier_machine.specs.declared.program.Ending.{Ending}
 use Rattle.barrier_machine.specs.declared.program.Ending.TheVariants as ending
 use Rattle.barrier_machine.specs.declared.program.Place.{Place}
-use Rattle.barrier_machine.specs.declared.program.Place.TheVariants.{EnterLock, WaitLock, TakeLock, Look, Join, Arrive, Complete, NotifyAll, Check, JoinAgain, ReleaseLock, ReleasingLock, Ask, CancelLock, CancellingLock, CancelLeave, Abandon}
+use Rattle.barrier_machine.specs.declared.program.Place.TheVariants.{EnterLock, WaitLock, TakeLock, Look, Join, Arrive, Complete, ReleaseLock, ReleasingLock, CancelLock, CancellingLock, CancelLeave, Abandon}
 use Rattle.barrier_machine.specs.declared.program.Position.{Position}
 use Rattle.barrier_machine.specs.declared.program.Position.TheVariants.{Out, Made, Locking, Waiting, At}
 use Rattle.barrier_machine.specs.Waits.{Wait, no_wait, uncounted, counted, number_of, is_counted, wait_for, wait_until, wait_of, wait_at}

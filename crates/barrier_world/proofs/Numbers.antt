@@ -77,9 +77,6 @@ next_follows (suc n) x h (inr (q, e)) = between (suc n) x.generation (x.count + 
 pub follower_follows : (size : ℕ) (a : Progress) → IsFollower size a → Leads size (arrivals_at size a) → ⊥
 follower_follows size a f = doesnt_lead size a f.counted f.unfinished
 
-pub follower_within : (size : ℕ) (a : Progress) → IsFollower size a → IsWithin size a
-follower_within size a f some = f.unfinished
-
 -- ---- how many generations one more arrival finishes
 
 split : (n k : ℕ) → suc n * (k / suc n) + k % suc n ≡ k
@@ -167,21 +164,11 @@ is_finished_apart size a x f past apart = by_order (cases_lt a.generation x.gene
   by_order (inl less) = is_finished size a x f less
   by_order (inr least) = absurd (apart (omega (arith, past.generation, least)))
 
-pub still_its_generation : (size : ℕ) (a x : Progress) → IsFollower size a → IsPast a x → (IsFinished size (arrivals_at size a) (arrivals_at size x) → ⊥) → a.generation ≡ x.generation
-still_its_generation size a x f past not_yet = by_order (cases_lt a.generation x.generation) where
-  by_order : (a.generation < x.generation) ⊎ (x.generation ≤ a.generation) → a.generation ≡ x.generation
-  by_order (inl less) = absurd (not_yet (is_finished size a x f less))
-  by_order (inr least) = omega (arith, past.generation, least)
-
 pub past_its_generation : (size : ℕ) (a x : Progress) → IsFollower size a → IsWithin size x → IsPast a x → IsFinished size (arrivals_at size a) (arrivals_at size x) → a.generation < x.generation
 past_its_generation size a x f few past h = by_order (cases_lt a.generation x.generation) where
   by_order : (a.generation < x.generation) ⊎ (x.generation ≤ a.generation) → a.generation < x.generation
   by_order (inl less) = less
   by_order (inr least) = absurd (is_unfinished size a x f few (omega (arith, past.generation, least)) h)
-
--- a generation once finished stays so
-pub stays_finished : (n a k more : ℕ) → k ≤ more → IsFinished n a k → IsFinished n a more
-stays_finished n a k more h (q, from, to) = (q, from, omega (arith, to, h))
 
 -- ---- arrivals have numbers of their own
 

@@ -96,8 +96,7 @@ impl World {
         ensures opening { IfOk result (λ w. w ≡ new_world parties size (min starved MOST_STARVED) generations) }
         ensures refused { IfErr result (λ r. r ≡ Refusal.Memory) }
     {
-        let Ok(barrier) =
-            Barrier::new(alloc, parties, size, starved.min(MOST_STARVED), generations)
+        let Ok(barrier) = Barrier::new(alloc, parties, size, starved.min(MOST_STARVED), generations)
         else {
             return Err(Refusal::Memory);
         };

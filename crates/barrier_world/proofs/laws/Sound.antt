@@ -1,5 +1,5 @@
 -- What always holds of a barrier's World, as callers see it.
-use Rattle.std.proofs.Common.{◌≡◌, ◌≢◌, ℕ, zero, suc, ◌+◌, ◌<◌, ◌≤◌, inl, inr, Bool, true, false, List, [], ◌∷◌, length, Option, None, Some, refl, arith, ap, sym, ◌∙◌, subst}
+use Rattle.std.proofs.Common.{◌≡◌, ℕ, zero, suc, ◌+◌, ◌<◌, ◌≤◌, inl, inr, true, false, List, [], ◌∷◌, length, Option, Some, refl, arith, ap, sym, ◌∙◌, subst}
 use Rattle.std.specs.List.{list_all}
 use Rattle.lock_event.specs.Lists.{is_marked_at, IsMarkedFirst}
 use Rattle.lock_queue.specs.Parties.{is_party, entries_of}
@@ -12,33 +12,33 @@ use Rattle.lock_world.specs.declared.standing.Stage.{Stage}
 use Rattle.lock_world.specs.declared.standing.Stage.TheVariants.{Outside, Inside, Forgotten}
 use Rattle.lock_world.specs.declared.standing.Within.{Within}
 use Rattle.lock_world.specs.Standings.{Standing, outside, inside, forgotten, is_outside, is_outside_stage}
-use Rattle.lock_world.proofs.Equations.{both, some_eq, none_some}
+use Rattle.lock_world.proofs.Equations.{both}
 use Rattle.lock_table.specs.Stages.{stage_at, stands_as}
 use Rattle.lock_table.specs.Tables.{Table}
 use Rattle.lock_table.proofs.Mapped.{past_last}
 use Rattle.lock_table.proofs.Past.{by_stage_or_past, by_stage_or_past_at}
 use Rattle.lock_table.proofs.Views.{rest_seen, outside_at}
 use Rattle.mutex_machine.specs.Course.{Course, bit, counted as starved_there, listed as listed_there, is_resting as rests_there}
-use Rattle.mutex_machine.specs.Mutex.{course_at, holders, is_counted, IsAtRest as LockAtRest}
-use Rattle.mutex_machine.proofs.Callers.{out_free, waiting_free, out_rests, waiting_rests, out_unlisted, out_unstarved, waiting_listed, holding_unlisted, listed_once}
+use Rattle.mutex_machine.specs.Mutex.{course_at, IsAtRest as LockAtRest}
+use Rattle.mutex_machine.proofs.Callers.{out_rests, waiting_rests, out_unlisted, holding_unlisted, listed_once}
 use Rattle.mutex_machine.proofs.Holders as sees
 use Rattle.barrier_machine.specs.declared.program.Aim.{Aim}
 use Rattle.barrier_machine.specs.declared.program.Aim.TheVariants as aim
 use Rattle.barrier_machine.specs.declared.program.Ending.{Ending}
 use Rattle.barrier_machine.specs.declared.program.Ending.TheVariants as ending
 use Rattle.barrier_machine.specs.declared.program.Place.{Place}
-use Rattle.barrier_machine.specs.declared.program.Place.TheVariants.{EnterLock, WaitLock, TakeLock, Look, Join, Arrive, Complete, NotifyAll, Check, JoinAgain, ReleaseLock, ReleasingLock, Ask, CancelLock, CancellingLock, CancelLeave, Abandon}
+use Rattle.barrier_machine.specs.declared.program.Place.TheVariants.{EnterLock, WaitLock, TakeLock, Arrive, NotifyAll, Check, JoinAgain, ReleaseLock, ReleasingLock, Ask, CancelLeave, Abandon}
 use Rattle.barrier_machine.specs.declared.program.Position.{Position}
 use Rattle.barrier_machine.specs.declared.program.Position.TheVariants.{Out, Made, Locking, Waiting, At}
 use Rattle.barrier_machine.specs.declared.words.Progress.{Progress}
 use Rattle.barrier_machine.specs.declared.words.Words.{Words}
 use Rattle.barrier_machine.specs.Words.{arrivals_at, IsFollower}
 use Rattle.barrier_machine.specs.Roles.{fits_lock, in_lock, listed, follows, HasOutcome, Outcome, is_resting}
-use Rattle.barrier_machine.specs.Waits.{Wait, no_wait, uncounted, counted, wait_for, wait_until, wait_of as place_wait, wait_at, verdict}
+use Rattle.barrier_machine.specs.Waits.{counted, wait_for, wait_until, wait_at}
 use Rattle.barrier_machine.specs.Machine.{Barrier, IsBarrier, HasArrived, IsAtRest, goes_with, is_begun, is_abandoning, runs, position_at, arrival_at}
 use Rattle.barrier_world.specs.declared.world.ListName.{ListName}
 use Rattle.barrier_world.specs.declared.world.ListName.TheVariants.{Lock, Generation}
-use Rattle.barrier_world.specs.Numbers.{IsFinished, generations_of}
+use Rattle.barrier_world.specs.Numbers.{IsFinished}
 use Rattle.barrier_world.specs.State.{World, list_in, standing_of, wait_of, is_starved}
 use Rattle.barrier_world.specs.View.{verdict_in, view_of}
 use Rattle.barrier_world.specs.Legal.{HasItsOwn}

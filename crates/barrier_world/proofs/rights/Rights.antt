@@ -1,5 +1,5 @@
 -- After each step what is known by the answers goes on to be so.
-use Rattle.std.proofs.Common.{◌≡◌, ℕ, ◌==◌, if◌then◌else◌, Bool, true, false, Option, Some, None, refl, ap, sym, ◌∙◌}
+use Rattle.std.proofs.Common.{◌≡◌, ℕ, ◌==◌, if◌then◌else◌, Bool, true, false, Some, refl, ap, sym, ◌∙◌}
 use Rattle.lock_world.specs.declared.moves.Answer.{Answer}
 use Rattle.lock_world.specs.declared.moves.Answer.TheVariants as answer
 use Rattle.lock_world.specs.declared.moves.Call.TheVariants as call
@@ -17,7 +17,6 @@ use Rattle.lock_table.proofs.Rights.{idle_account, again_account}
 use Rattle.lock_table.proofs.Ways.{way, by_way}
 use Rattle.barrier_machine.specs.declared.program.Place.{Place}
 use Rattle.barrier_machine.specs.declared.program.Position.{Position}
-use Rattle.barrier_machine.specs.declared.program.Position.TheVariants.{Out, Made, Locking, Waiting}
 use Rattle.barrier_machine.specs.Program.{place_for}
 use Rattle.barrier_machine.specs.Machine.{Barrier, Moves, position_at}
 use Rattle.barrier_world.specs.State.{World}

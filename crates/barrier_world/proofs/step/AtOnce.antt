@@ -1,5 +1,5 @@
 -- What the first step of a poll decides at once.
-use Rattle.std.proofs.Common.{◌≡◌, ◌≢◌, ℕ, ◌+◌, ◌<◌, ◌==◌, ◌&&◌, ◌↔◌, if◌then◌else◌, Bool, true, false, Option, Some, None, is_none, refl, arith, ap, sym, ◌∙◌, subst}
+use Rattle.std.proofs.Common.{◌≡◌, ℕ, ◌+◌, ◌<◌, ◌==◌, ◌&&◌, if◌then◌else◌, true, Option, Some, None, is_none, refl, arith, ap, sym, ◌∙◌, subst}
 use Rattle.std.proofs.lemmas.Bool.Decides.{nat_tests}
 use Rattle.lock_event.specs.Lists.{is_marked_at}
 use Rattle.lock_queue.specs.Parties.{is_party, entries_of}
@@ -10,17 +10,12 @@ use Rattle.lock_world.specs.declared.moves.Move.{Move}
 use Rattle.lock_world.specs.declared.standing.Within.{Within}
 use Rattle.lock_world.specs.Rosters.{how_many}
 use Rattle.lock_world.specs.Standings.{inputs_of}
-use Rattle.lock_world.proofs.Equations.{both}
 use Rattle.lock_table.specs.Stages.{stage_at, stands_as}
 use Rattle.lock_table.specs.Tables.{Table}
 use Rattle.mutex_machine.specs.Course.{Course, listed as listed_there}
-use Rattle.mutex_machine.specs.declared.mutex.Step.{Step}
 use Rattle.mutex_machine.specs.declared.mutex.Step.TheVariants as lock_step
-use Rattle.mutex_machine.specs.declared.program.End.{End}
 use Rattle.mutex_machine.specs.declared.program.End.TheVariants as lock_end
-use Rattle.mutex_machine.specs.Mutex.{course_at, holders, starved, holder_of}
-use Rattle.mutex_machine.specs.Conduct.{TakesAtOnce as MutexTakes}
-use Rattle.mutex_machine.specs.declared.program.LockCall.TheVariants as lock_call
+use Rattle.mutex_machine.specs.Mutex.{course_at, holders, starved}
 use Rattle.mutex_machine.proofs.Callers.{out_unlisted, waiting_listed}
 use Rattle.mutex_machine.proofs.Holders as sees
 use Rattle.barrier_machine.specs.declared.program.Aim.{Aim}
@@ -38,7 +33,7 @@ use Rattle.barrier_machine.specs.Locks.{OnLock}
 use Rattle.barrier_machine.specs.Roles.{fits_lock, in_lock, listed}
 use Rattle.barrier_machine.specs.Waits.{verdict}
 use Rattle.barrier_machine.specs.Machine.{Barrier, position_at, arrival_at, answer_by}
-use Rattle.barrier_world.specs.State.{LockState, World, standing_of, is_free}
+use Rattle.barrier_world.specs.State.{World, standing_of, is_free}
 use Rattle.barrier_world.specs.View.{view_of}
 use Rattle.barrier_world.specs.AtOnce.{TakesAtOnce, AnswersAtOnce, entries_in, is_first_poll, is_later_poll}
 use Rattle.barrier_world.proofs.step.Here.{HasEntries, enters_lock}

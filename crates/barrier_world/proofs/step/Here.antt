@@ -1,5 +1,5 @@
 -- What is so where a move begins or goes on.
-use Rattle.std.proofs.Common.{◌≡◌, ℕ, ◌||◌, Bool, true, false, Option, Some, None, is_some, refl, arith, sym, ap, subst, ◌∙◌}
+use Rattle.std.proofs.Common.{◌≡◌, ℕ, ◌||◌, Bool, true, false, Option, Some, None, is_some, refl, arith, subst}
 use Rattle.lock_world.specs.declared.moves.Answer.{Answer}
 use Rattle.lock_world.specs.declared.moves.Answer.TheVariants as answer
 use Rattle.lock_world.specs.declared.moves.Call.TheVariants as call
@@ -13,7 +13,7 @@ use Rattle.lock_world.specs.declared.standing.Rest.TheVariants as rest
 use Rattle.lock_world.specs.declared.standing.Stage.{Stage}
 use Rattle.lock_world.specs.declared.standing.Stage.TheVariants.{Outside, Inside, Forgotten}
 use Rattle.lock_world.specs.declared.standing.Within.{Within}
-use Rattle.lock_world.specs.Standings.{Standing, outside, inside, is_decided}
+use Rattle.lock_world.specs.Standings.{inside, is_decided}
 use Rattle.lock_world.specs.Frame.{is_drop}
 use Rattle.lock_world.proofs.Equations.{some_eq, both, not_one}
 use Rattle.lock_table.specs.Stages.{stands_as, call_at, polls_again}
@@ -26,7 +26,7 @@ use Rattle.barrier_machine.specs.declared.program.Position.{Position}
 use Rattle.barrier_machine.specs.declared.program.Position.TheVariants.{Out, Made, Locking, Waiting, At}
 use Rattle.barrier_machine.specs.Program.{place_for}
 use Rattle.barrier_machine.specs.Roles.{listed}
-use Rattle.barrier_machine.specs.Waits.{Wait, wait_at, wait_of as place_wait, verdict, verdict_of}
+use Rattle.barrier_machine.specs.Waits.{wait_at, wait_of as place_wait, verdict, verdict_of}
 use Rattle.barrier_machine.specs.Machine.{knows, runs, is_begun, goes_with}
 use Rattle.barrier_machine.proofs.Starts.{Fits}
 use Rattle.barrier_world.specs.Changes.{wait_then}

@@ -1,29 +1,26 @@
 -- What each place's step in the inner lock does, by what it comes to there.
-use Rattle.std.proofs.Common.{◌≡◌, ◌≢◌, ℕ, ◌+◌, ◌<◌, ◌≤◌, ◌||◌, ◌⊎◌, inl, inr, Bool, true, false, List, Option, Some, None, is_some, refl, arith, ap, sym, ◌∙◌, subst}
-use Rattle.lock_event.specs.declared.event.Entry.{Entry}
+use Rattle.std.proofs.Common.{◌≡◌, ◌≢◌, ℕ, ◌+◌, ◌||◌, ◌⊎◌, inl, inr, Bool, true, false, List, Option, Some, None, is_some, refl, arith, ap, sym, ◌∙◌, subst}
 use Rattle.lock_queue.specs.Parties.{entries_of}
 use Rattle.lock_world.specs.declared.moves.Answer.{Answer}
 use Rattle.lock_world.specs.declared.moves.Answer.TheVariants as answer
-use Rattle.lock_world.specs.declared.moves.Got.TheVariants as got
 use Rattle.lock_world.specs.declared.moves.Move.{Move}
 use Rattle.lock_world.specs.declared.refusal.Refusal.{Refusal}
 use Rattle.lock_world.specs.declared.refusal.Refusal.TheVariants as refusal
 use Rattle.lock_world.specs.declared.standing.Within.{Within}
 use Rattle.lock_world.specs.Frame.{is_refusal}
-use Rattle.lock_world.specs.Rosters.{how_many}
-use Rattle.lock_world.specs.Standings.{inside, is_decided, refused}
+use Rattle.lock_world.specs.Standings.{refused}
 use Rattle.lock_world.specs.Steps.{Deed, nothing, changes, does, joins, asks, leaves, notifies, notifies_additionally}
 use Rattle.lock_world.proofs.Equations.{some_eq, none_some}
 use Rattle.lock_table.specs.Tables.{Table}
-use Rattle.mutex_machine.specs.Course.{Course, out, releasing, holds, counted as starved_there, decision, is_out, is_holding, is_waiting, is_taking, is_releasing, is_cancelling, Takes, Releases, Cancels}
+use Rattle.mutex_machine.specs.Course.{Course, holds, counted as starved_there, decision, is_holding, is_releasing, Takes, Releases}
 use Rattle.mutex_machine.specs.declared.program.End.{End}
 use Rattle.mutex_machine.specs.declared.program.End.TheVariants as lock_end
 use Rattle.mutex_machine.specs.declared.mutex.Step.{Step}
 use Rattle.mutex_machine.specs.declared.mutex.Step.TheVariants as lock_step
 use Rattle.mutex_machine.specs.Deeds as mutex
-use Rattle.mutex_machine.specs.Mutex.{Mutex, course_at, is_counted, holders, starved, holder_of, starved_of}
+use Rattle.mutex_machine.specs.Mutex.{is_counted, holders, starved, holder_of, starved_of}
 use Rattle.mutex_machine.specs.Conduct.{IsLegal, IsReason, decided_then, IsAllowed as MayDo}
-use Rattle.mutex_machine.proofs.Callers.{IsPolls, taking_decided, releasing_decided, cancelling_decided, holding_holds, out_free, waiting_free, releasing_free}
+use Rattle.mutex_machine.proofs.Callers.{IsPolls, holding_holds, releasing_free}
 use Rattle.mutex_machine.proofs.Holders as sees
 use Rattle.mutex_machine.proofs.Rosters.{is_zero}
 use Rattle.barrier_machine.specs.declared.program.Aim.{Aim}
@@ -41,13 +38,13 @@ use Rattle.barrier_machine.specs.Waits.{Wait, no_wait, wait_for, wait_until, wai
 use Rattle.barrier_machine.specs.Machine.{Barrier, IsBarrier, answer_by}
 use Rattle.barrier_world.specs.declared.world.ListName.{ListName}
 use Rattle.barrier_world.specs.declared.world.ListName.TheVariants.{Lock, Generation}
-use Rattle.barrier_world.specs.State.{LockState, World, list_in, standing_of, wait_of, is_held_by, is_starved}
-use Rattle.barrier_world.specs.Changes.{Change, takes, releases, starves, recovers, lock_after, arrivals_after, lock_list_after, generation_list_after, gives_back, gives_up}
-use Rattle.barrier_world.specs.Legal.{IsAllowed, IsCounted, IsInList, IsAsBefore, IsOutOfMemory}
+use Rattle.barrier_world.specs.State.{LockState, World, list_in, wait_of, is_held_by, is_starved}
+use Rattle.barrier_world.specs.Changes.{Change, takes, releases, lock_after, lock_list_after, gives_back, gives_up}
+use Rattle.barrier_world.specs.Legal.{IsAllowed}
 use Rattle.barrier_world.proofs.table.Seen.{its_holder}
 use Rattle.barrier_world.proofs.step.Turns as turns
 use Rattle.barrier_world.proofs.step.Turns.{said}
-use Rattle.barrier_world.proofs.step.Locks.{ends, wait_by, deed_of, lock_then, entries_then, IsOfLock, is_of_lock, gives_back_so, gives_up_so, joins_so, leaves_none, got_holds, refused_free, cancelling_free, releasing_unstarved, releasing_unlisted}
+use Rattle.barrier_world.proofs.step.Locks.{ends, deed_of, lock_then, entries_then, IsOfLock, is_of_lock, gives_back_so, gives_up_so, joins_so, leaves_none, releasing_unstarved, releasing_unlisted}
 
 -- ---- what is told by where a step leads
 
@@ -263,10 +260,11 @@ module _ (t u : Table Barrier) (m : Move) (w : Within) (laws : IsBarrier t.machi
         lists : (list : ListName) → entries_of p (list_in list old) ≡ 0
         lists Lock = y.1
         lists Generation = none
+
         kept : (list : ListName) → list_in list new ≡ list_in list old
         kept Lock = y.2
         kept Generation = unlisted
-      why refusal.Starved y free none at wait = ((refusal.Starved, refl, sees.how_many_counted t.machine.lock.courses ∙ y), at)
+      why refusal.Starved y free none at wait = ((refusal.Starved, refl, record { limit = sees.how_many_counted t.machine.lock.courses ∙ y; without_lock = free }), at)
       why _ y free none at wait = absurd y
 
       -- what a decision of the poll on the inner lock says of the wait

@@ -1,7 +1,7 @@
 -- A step in the inner lock, as a deed on the barrier.
-use Rattle.std.proofs.Common.{◌≡◌, ◌≢◌, ℕ, ◌+◌, ◌<◌, ◌||◌, ◌⊎◌, inl, inr, Bool, true, false, List, [], ◌∷◌, Option, Some, None, is_some, refl, arith, ap, sym, ◌∙◌, subst}
+use Rattle.std.proofs.Common.{◌≡◌, ℕ, ◌+◌, Bool, true, List, [], ◌∷◌, Option, Some, None, refl, arith, sym}
 use Rattle.lock_event.specs.declared.event.Entry.{Entry}
-use Rattle.lock_event.specs.Lists.{mark_at, without, passed_on, is_listed}
+use Rattle.lock_event.specs.Lists.{mark_at, without}
 use Rattle.std.proofs.lemmas.Bool.Decides.{nat_tests}
 use Rattle.lock_queue.specs.Parties.{is_party, entries_of}
 use Rattle.lock_world.specs.declared.moves.Answer.{Answer}
@@ -9,16 +9,11 @@ use Rattle.lock_world.specs.declared.moves.Answer.TheVariants as answer
 use Rattle.lock_world.specs.declared.refusal.Refusal.{Refusal}
 use Rattle.lock_world.specs.Steps.{Deed, nothing, changes, does, joins, asks, leaves, notifies, notifies_additionally, list_after}
 use Rattle.lock_world.proofs.Equations.{some_eq, none_some}
-use Rattle.mutex_machine.specs.Course.{Course, out, holding, waiting, taking, releasing, cancelling, undecided, called, counting, has_lock, gives_up as giving_up, holds, counted as starved_there, listed as listed_there, decision, is_taking, is_releasing, is_cancelling}
-use Rattle.mutex_machine.specs.declared.program.End.{End}
-use Rattle.mutex_machine.specs.declared.program.End.TheVariants.{Got, Pending, GivenBack, Refused}
-use Rattle.mutex_machine.specs.declared.mutex.Step.{Step}
+use Rattle.mutex_machine.specs.Course.{Course, out, waiting, taking, releasing, cancelling, undecided, called, counting, has_lock, gives_up as giving_up, holds, counted as starved_there, listed as listed_there, decision, is_taking, is_releasing, is_cancelling}
+use Rattle.mutex_machine.specs.declared.program.End.TheVariants.{Got, Pending, Refused}
 use Rattle.mutex_machine.specs.Deeds as mutex
-use Rattle.mutex_machine.specs.Mutex.{Mutex, course_at, IsMutex, holders, starved, holder_of, starved_of}
-use Rattle.mutex_machine.specs.Conduct.{IsLegal, IsAllowed as MayDo}
-use Rattle.mutex_machine.proofs.Holders as sees
 use Rattle.barrier_world.specs.declared.world.ListName.{ListName}
-use Rattle.barrier_world.specs.declared.world.ListName.TheVariants.{Lock, Generation}
+use Rattle.barrier_world.specs.declared.world.ListName.TheVariants.{Lock}
 use Rattle.barrier_machine.specs.Waits.{Wait, no_wait, counted}
 use Rattle.barrier_world.specs.State.{LockState}
 use Rattle.barrier_world.specs.Changes.{Change, takes, releases, starves, recovers, arrives, lock_after, arrivals_after, lock_list_after, generation_list_after, gives_back, gives_up}

@@ -1,48 +1,37 @@
 -- What each place's action does that is no step in the inner lock, finding by finding.
-use Rattle.std.proofs.Common.{◌≡◌, ◌≢◌, ℕ, ◌+◌, ◌<◌, ◌≤◌, ◌||◌, ◌⊎◌, inl, inr, Bool, true, false, List, Option, Some, None, is_some, refl, arith, ap, sym, ◌∙◌, subst}
+use Rattle.std.proofs.Common.{◌≡◌, ℕ, ◌+◌, ◌≤◌, inl, inr, true, false, List, Some, None, refl, arith, ap, sym, ◌∙◌, subst}
 use Rattle.lock_event.specs.declared.event.Entry.{Entry}
 use Rattle.lock_event.specs.declared.event.Mark.TheVariants.{Waiting as Waits_unmarked}
 use Rattle.lock_event.specs.Lists.{is_marked_at, mark_at}
 use Rattle.lock_queue.specs.Parties.{is_party, entries_of}
 use Rattle.lock_queue.proofs.Told.{waits_at}
-use Rattle.lock_world.specs.declared.moves.Answer.{Answer}
 use Rattle.lock_world.specs.declared.moves.Answer.TheVariants as answer
 use Rattle.lock_world.specs.declared.moves.Got.TheVariants as got
 use Rattle.lock_world.specs.declared.moves.Move.{Move}
 use Rattle.lock_world.specs.declared.refusal.Refusal.TheVariants as refusal
 use Rattle.lock_world.specs.declared.standing.Within.{Within}
-use Rattle.lock_world.specs.Frame.{is_drop, is_refusal}
-use Rattle.lock_world.specs.Standings.{refused}
-use Rattle.lock_world.specs.Steps.{Deed, nothing, changes, does, joins, asks, leaves, notifies, list_after}
+use Rattle.lock_world.specs.Steps.{nothing, changes, does, joins, asks, leaves, notifies, list_after}
 use Rattle.lock_table.specs.Tables.{Table}
 use Rattle.mutex_machine.specs.Course.{is_holding}
 use Rattle.mutex_machine.specs.Mutex.{Mutex, holder_of, starved_of}
 use Rattle.mutex_machine.proofs.Callers.{holding_holds, holding_unlisted}
 use Rattle.mutex_machine.proofs.Holders as sees
-use Rattle.barrier_machine.specs.declared.program.Action.TheVariants as act
-use Rattle.barrier_machine.specs.declared.program.Aim.{Aim}
-use Rattle.barrier_machine.specs.declared.program.Aim.TheVariants as aim
-use Rattle.barrier_machine.specs.declared.program.Ending.TheVariants as ending
 use Rattle.barrier_machine.specs.declared.program.Found.{Found}
 use Rattle.barrier_machine.specs.declared.program.Found.TheVariants as found
-use Rattle.barrier_machine.specs.declared.program.Next.{Next}
-use Rattle.barrier_machine.specs.declared.program.Next.TheVariants as next
 use Rattle.barrier_machine.specs.declared.program.Place.{Place}
-use Rattle.barrier_machine.specs.declared.program.Place.TheVariants.{EnterLock, Look, Join, Arrive, Complete, NotifyAll, Check, JoinAgain, ReleaseLock, Ask, CancelLeave, Abandon}
-use Rattle.barrier_machine.specs.declared.program.Position.TheVariants.{Made}
+use Rattle.barrier_machine.specs.declared.program.Place.TheVariants.{Look, Join, Arrive, Complete, NotifyAll, Check, JoinAgain, Ask, CancelLeave, Abandon}
 use Rattle.barrier_machine.specs.declared.words.Progress.{Progress}
 use Rattle.barrier_machine.specs.declared.words.Words.{Words}
-use Rattle.barrier_machine.specs.Words.{progress, with_progress, arrivals_at}
-use Rattle.barrier_machine.specs.Program.{position_after}
+use Rattle.barrier_machine.specs.Words.{arrivals_at}
 use Rattle.barrier_machine.specs.Deeds.{everyone}
-use Rattle.barrier_machine.specs.Waits.{Wait, no_wait, uncounted, counted, wait_of as place_wait, verdict_of}
-use Rattle.barrier_machine.specs.Machine.{Barrier, IsBarrier, answer_by}
+use Rattle.barrier_machine.specs.Waits.{Wait, uncounted, counted}
+use Rattle.barrier_machine.specs.Machine.{Barrier, IsBarrier}
 use Rattle.barrier_world.specs.declared.world.ListName.{ListName}
 use Rattle.barrier_world.specs.declared.world.ListName.TheVariants.{Lock, Generation}
-use Rattle.barrier_world.specs.Numbers.{Leads, IsFinished, generations_of}
-use Rattle.barrier_world.specs.State.{LockState, World, list_in, wait_of, is_held_by, told_in}
-use Rattle.barrier_world.specs.Changes.{Change, arrives, lock_after, arrivals_after, lock_list_after, generation_list_after, gives_back, gives_up}
-use Rattle.barrier_world.specs.Legal.{IsAllowed, HasToWait, IsLeader, MayArrive, IsAnswered, IsAsBefore, IsOutOfMemory, IsOutOfGenerations}
+use Rattle.barrier_world.specs.Numbers.{Leads, generations_of}
+use Rattle.barrier_world.specs.State.{LockState, World, list_in, wait_of, told_in}
+use Rattle.barrier_world.specs.Changes.{arrives}
+use Rattle.barrier_world.specs.Legal.{HasToWait, IsAnswered, IsAsBefore}
 use Rattle.barrier_world.proofs.step.Turns as turns
 use Rattle.barrier_world.proofs.step.Turns.{said}
 use Rattle.barrier_world.proofs.Numbers as numbers

@@ -1,23 +1,21 @@
 -- What parties have, by where they stand.
-use Rattle.std.proofs.Common.{◌≡◌, ◌≢◌, ℕ, ◌+◌, ◌<◌, ◌≤◌, Bool, true, false, Option, Some, None, refl, arith, ap, sym, ◌∙◌, subst}
+use Rattle.std.proofs.Common.{◌≡◌, ◌≢◌, ℕ, ◌≤◌, true, Option, Some, None, refl, arith, ap, sym, ◌∙◌, subst}
 use Rattle.lock_queue.specs.Parties.{entries_of}
-use Rattle.lock_world.specs.declared.moves.Answer.{Answer}
 use Rattle.lock_world.specs.declared.moves.Answer.TheVariants as answer
-use Rattle.lock_world.specs.declared.refusal.Refusal.TheVariants.{Memory, Generations}
 use Rattle.lock_world.specs.declared.standing.Rest.TheVariants as rest
 use Rattle.lock_world.specs.declared.standing.Stage.{Stage}
 use Rattle.lock_world.specs.declared.standing.Stage.TheVariants.{Outside, Inside, Forgotten}
 use Rattle.lock_world.specs.declared.standing.Within.{Within}
-use Rattle.lock_world.specs.Standings.{inside, forgotten}
+use Rattle.lock_world.specs.Standings.{inside}
 use Rattle.lock_world.proofs.Equations.{some_eq, none_some, both}
 use Rattle.lock_table.specs.Stages.{stage_at, stands_as}
 use Rattle.lock_table.specs.Tables.{Table}
 use Rattle.lock_table.proofs.Mapped.{past_last}
 use Rattle.lock_table.proofs.Past.{by_stage_or_past_at, by_stage_or_past}
-use Rattle.mutex_machine.specs.Course.{Course, cancelling, holds, is_out, is_cancelling, is_holding, decision}
+use Rattle.mutex_machine.specs.Course.{Course, holds, is_out, decision}
 use Rattle.mutex_machine.specs.declared.program.End.{End}
 use Rattle.mutex_machine.specs.declared.program.End.TheVariants as lock_end
-use Rattle.mutex_machine.specs.Mutex.{course_at, holder_of, is_counted}
+use Rattle.mutex_machine.specs.Mutex.{course_at}
 use Rattle.mutex_machine.proofs.Callers.{out_unlisted, out_free, out_unstarved, waiting_free, holding_holds}
 use Rattle.mutex_machine.proofs.Holders as sees
 use Rattle.barrier_machine.specs.declared.program.Aim.{Aim}
@@ -29,15 +27,15 @@ use Rattle.barrier_machine.specs.declared.program.Place.TheVariants.{EnterLock, 
 use Rattle.barrier_machine.specs.declared.program.Position.{Position}
 use Rattle.barrier_machine.specs.declared.program.Position.TheVariants.{Out, Made, Locking, Waiting, At}
 use Rattle.barrier_machine.specs.declared.words.Progress.{Progress}
-use Rattle.barrier_machine.specs.Words.{arrivals_at, IsFollower}
+use Rattle.barrier_machine.specs.Words.{arrivals_at}
 use Rattle.barrier_machine.specs.Roles.{fits_lock, in_lock, InLock, listed, HasOutcome, Outcome, holds as holds_there}
-use Rattle.barrier_machine.specs.Waits.{Wait, no_wait, uncounted, counted, wait_for, wait_until, wait_of as place_wait, wait_at, refused_by, verdict_until, verdict_of, verdict}
+use Rattle.barrier_machine.specs.Waits.{Wait, no_wait, uncounted, counted, wait_for, wait_until, wait_at, refused_by, verdict_until, verdict_of, verdict}
 use Rattle.barrier_machine.specs.Machine.{Barrier, IsBarrier, goes_with, is_begun, runs, position_at, arrival_at}
 use Rattle.barrier_world.specs.declared.world.ListName.{ListName}
 use Rattle.barrier_world.specs.declared.world.ListName.TheVariants.{Lock, Generation}
-use Rattle.barrier_world.specs.State.{World, list_in, standing_of, wait_of, is_starved, IsClear}
+use Rattle.barrier_world.specs.State.{World, list_in, standing_of, wait_of, IsClear}
 use Rattle.barrier_world.specs.View.{view_of}
-use Rattle.barrier_world.specs.Legal.{HasItsOwn, HasNothing, GivesUp}
+use Rattle.barrier_world.specs.Legal.{HasItsOwn}
 use Rattle.barrier_world.specs.Steps.{IsBarrierTable}
 use Rattle.barrier_world.proofs.table.Seen as seen
 use Rattle.barrier_world.proofs.step.Locks.{cancelling_free}
@@ -56,9 +54,6 @@ waits_until ending.RefuseGenerations n h = cc h
 waits_until (ending.RefuseMemory a) n h = waits_for a n h
 
 -- a wait that isn't counted stands in the list only to be counted
-listed_for : (a : Aim) (n : ℕ) → wait_until (ending.RefuseMemory a) n ≡ uncounted → listed (At (ReleaseLock (ending.RefuseMemory a))) ≡ 0
-listed_for a n e = refl
-
 listed_until : (e : Ending) (n : ℕ) → wait_until e n ≡ uncounted → listed (At (ReleaseLock e)) ≡ 0
 listed_until ending.Wait n h = absurd (cc h)
 listed_until ending.Follow n h = refl

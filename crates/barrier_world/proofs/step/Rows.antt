@@ -1,9 +1,8 @@
 -- What each place's action does, finding by finding.
-use Rattle.std.proofs.Common.{◌≡◌, ℕ, ◌⊎◌, inl, inr, Bool, true, false, Option, Some, None, refl, ap, sym, ◌∙◌, subst}
-use Rattle.lock_queue.specs.Parties.{entries_of}
+use Rattle.std.proofs.Common.{◌≡◌, inl, inr, true, false, Option, Some, None, refl, ap, subst}
 use Rattle.lock_world.specs.declared.moves.Move.{Move}
 use Rattle.lock_world.specs.declared.standing.Within.{Within}
-use Rattle.lock_world.specs.Standings.{inside, is_decided}
+use Rattle.lock_world.specs.Standings.{is_decided}
 use Rattle.lock_world.proofs.Equations.{none_some}
 use Rattle.lock_world.specs.Steps.{changes}
 use Rattle.lock_table.specs.Tables.{Table}
@@ -12,17 +11,14 @@ use Rattle.mutex_machine.specs.declared.program.End.{End}
 use Rattle.mutex_machine.specs.declared.program.End.TheVariants as lock_end
 use Rattle.mutex_machine.specs.Conduct.{IsLegal}
 use Rattle.mutex_machine.proofs.Callers.{taking_decided, releasing_decided, cancelling_decided, out_free, waiting_free}
-use Rattle.barrier_machine.specs.declared.program.Aim.{Aim}
-use Rattle.barrier_machine.specs.declared.program.Aim.TheVariants as aim
 use Rattle.barrier_machine.specs.declared.program.Ending.{Ending}
 use Rattle.barrier_machine.specs.declared.program.Ending.TheVariants as ending
 use Rattle.barrier_machine.specs.declared.program.Found.{Found}
 use Rattle.barrier_machine.specs.declared.program.Found.TheVariants as found
 use Rattle.barrier_machine.specs.declared.program.Place.{Place}
 use Rattle.barrier_machine.specs.declared.program.Place.TheVariants.{EnterLock, WaitLock, TakeLock, Look, Join, Arrive, Complete, NotifyAll, Check, JoinAgain, ReleaseLock, ReleasingLock, Ask, CancelLock, CancellingLock, CancelLeave, Abandon}
-use Rattle.barrier_machine.specs.Waits.{verdict_until}
 use Rattle.barrier_machine.specs.Machine.{Barrier, IsBarrier}
-use Rattle.barrier_world.specs.State.{World, standing_of}
+use Rattle.barrier_world.specs.State.{World}
 use Rattle.barrier_world.specs.Changes.{releases}
 use Rattle.barrier_world.specs.Legal.{IsAllowed}
 use Rattle.barrier_world.proofs.step.Turns as turns

@@ -1,6 +1,5 @@
 -- What a step is to show at its place, and what is known of it.
-use Rattle.std.proofs.Common.{◌≡◌, ◌≢◌, ℕ, ◌+◌, ◌||◌, ◌⊎◌, Bool, true, false, List, Option, Some, None, is_some, refl, arith, ap, sym, ◌∙◌, subst}
-use Rattle.lock_event.specs.declared.event.Entry.{Entry}
+use Rattle.std.proofs.Common.{◌≡◌, ◌≢◌, ℕ, ◌+◌, ◌||◌, ◌⊎◌, Bool, true, false, Option, Some, None, is_some}
 use Rattle.lock_event.specs.declared.event.Mark.TheVariants.{Waiting}
 use Rattle.lock_queue.specs.Parties.{entries_of}
 use Rattle.lock_world.specs.declared.moves.Answer.{Answer}
@@ -14,7 +13,7 @@ use Rattle.lock_world.specs.declared.standing.Within.{Within}
 use Rattle.lock_world.specs.Frame.{is_drop, is_refusal}
 use Rattle.lock_world.specs.Refusals.{number_of}
 use Rattle.lock_world.specs.Standings.{inside, inputs_of, refused}
-use Rattle.lock_world.specs.Steps.{Deed, nothing, changes, does, joins}
+use Rattle.lock_world.specs.Steps.{Deed, does, joins}
 use Rattle.lock_table.specs.Ends.{answer_of}
 use Rattle.lock_table.specs.Tables.{Table}
 use Rattle.mutex_machine.specs.Course.{Course}
@@ -24,7 +23,6 @@ use Rattle.barrier_machine.specs.declared.program.Found.{Found}
 use Rattle.barrier_machine.specs.declared.program.Next.{Next}
 use Rattle.barrier_machine.specs.declared.program.Next.TheVariants as next
 use Rattle.barrier_machine.specs.declared.program.Place.{Place}
-use Rattle.barrier_machine.specs.declared.program.Position.{Position}
 use Rattle.barrier_machine.specs.declared.program.Position.TheVariants.{Made, At}
 use Rattle.barrier_machine.specs.declared.words.Progress.{Progress}
 use Rattle.barrier_machine.specs.declared.words.Words.{Words}
@@ -33,14 +31,14 @@ use Rattle.barrier_machine.specs.Program.{action_of, next_of, position_after}
 use Rattle.barrier_machine.specs.Deeds.{Finds, words_after, arrival_after, entries_after}
 use Rattle.barrier_machine.specs.Locks.{OnLock}
 use Rattle.barrier_machine.specs.Roles.{fits_lock, in_lock, listed, follows, Sure, HasOutcome}
-use Rattle.barrier_machine.specs.Waits.{Wait, no_wait, counted, wait_at, wait_of as place_wait, verdict_of}
+use Rattle.barrier_machine.specs.Waits.{Wait, wait_at, wait_of as place_wait, verdict_of}
 use Rattle.barrier_machine.specs.Machine.{Barrier, arrival_at, answer_by}
 use Rattle.barrier_world.specs.declared.world.ListName.{ListName}
 use Rattle.barrier_world.specs.declared.world.ListName.TheVariants.{Lock, Generation}
 use Rattle.barrier_world.specs.Numbers.{Leads}
 use Rattle.barrier_world.specs.State.{World, standing_of, wait_of, is_held_by, told_in}
 use Rattle.barrier_world.specs.View.{view_of}
-use Rattle.barrier_world.specs.Changes.{Change, arrives, lock_after, arrivals_after, lock_list_after, generation_list_after, gives_back, gives_up}
+use Rattle.barrier_world.specs.Changes.{Change, lock_after, arrivals_after, lock_list_after, generation_list_after, gives_back, gives_up}
 use Rattle.barrier_world.specs.Legal.{IsAllowed, IsCounted, IsCause, Carried}
 use Rattle.barrier_world.proofs.step.Here.{may_begin_at, changes_wait, only_drops}
 use Rattle.barrier_world.proofs.step.Locks.{wait_by}

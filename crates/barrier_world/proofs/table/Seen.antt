@@ -1,7 +1,6 @@
 -- What callers see of a machine, party by party.
-use Rattle.std.proofs.Common.{◌≡◌, ℕ, zero, suc, Bool, true, false, List, [], ◌∷◌, get_or, Some, refl, sym, ◌∙◌}
+use Rattle.std.proofs.Common.{◌≡◌, ℕ, zero, suc, true, List, [], ◌∷◌, get_or, Some, refl}
 use Rattle.lock_world.proofs.Equations.{same_test}
-use Rattle.lock_world.specs.Standings.{Standing}
 use Rattle.lock_table.specs.Stages.{stage_at, stands_as}
 use Rattle.lock_table.specs.Tables.{Table}
 use Rattle.lock_table.proofs.Views.{standings_at}

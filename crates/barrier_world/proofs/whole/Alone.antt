@@ -184,5 +184,5 @@ module _ (t : Table Barrier) (p : ℕ) (i : Inputs) (Going : Position → Barrie
     whole known w c n a v s within from is at called first starts begins runs ended =
         along Steps accounts_after HoldsWell p i GoesAt EndsAt onward known n w (beginning p c i) a v
         (λ b x step. (let d = did w.behind x.behind p b step.did.stood.barrier step.did.stood.fits (Begin c i) s within from at called first starts step.did.step in
-            by_step w x (Begin c i) from b (λ q apart. ap (λ (y : Table Barrier). stage_at y.stages q) is) d (begins d.found x.behind.machine step.did.stands.barrier d.step)))
+        by_step w x (Begin c i) from b (λ q apart. ap (λ (y : Table Barrier). stage_at y.stages q) is) d (begins d.found x.behind.machine step.did.stands.barrier d.step)))
         ended runs

@@ -1,8 +1,7 @@
 -- What comes of a poll that is carried out alone, as callers see it.
-use Rattle.std.proofs.Common.{◌≡◌, ◌≢◌, ℕ, zero, suc, ◌+◌, ◌<◌, ◌≤◌, ◌⊎◌, inl, inr, true, false, List, [], ◌∷◌, Some, refl, sym, ap, ◌∙◌, subst, arith}
+use Rattle.std.proofs.Common.{◌≡◌, ◌≢◌, ℕ, zero, suc, ◌+◌, ◌<◌, inl, inr, true, List, [], ◌∷◌, refl, sym, ap, ◌∙◌, subst, arith}
 use Rattle.std.proofs.Math.Decide.{ℕ_discrete}
 use Rattle.std.specs.List.{list_all}
-use Rattle.lock_event.specs.declared.event.Mark.TheVariants.{Waiting as Unmarked}
 use Rattle.lock_queue.specs.Parties.{entries_of}
 use Rattle.lock_queue.proofs.Told.{waits_at}
 use Rattle.lock_world.specs.declared.moves.Answer.{Answer}
@@ -10,7 +9,6 @@ use Rattle.lock_world.specs.declared.moves.Answer.TheVariants as answer
 use Rattle.lock_world.specs.declared.refusal.Refusal.TheVariants as refusal
 use Rattle.lock_world.specs.declared.standing.Stage.{Stage}
 use Rattle.lock_world.specs.Standings.{is_outside_stage}
-use Rattle.lock_world.proofs.Equations.{both}
 use Rattle.lock_table.specs.Stages.{stage_at}
 use Rattle.lock_table.specs.Tables.{Table}
 use Rattle.lock_table.proofs.Views.{rest_seen, outside_at}
@@ -30,16 +28,15 @@ use Rattle.barrier_machine.specs.declared.program.Position.{Position}
 use Rattle.barrier_machine.specs.declared.program.Position.TheVariants.{Locking, Waiting}
 use Rattle.barrier_machine.specs.declared.words.Progress.{Progress}
 use Rattle.barrier_machine.specs.declared.words.Words.{Words}
-use Rattle.barrier_machine.specs.Waits.{Wait, uncounted, counted, wait_for, wait_at}
-use Rattle.barrier_machine.specs.Words.{arrivals_at, progress, with_progress, IsFollower}
+use Rattle.barrier_machine.specs.Waits.{uncounted, counted, wait_for, wait_at}
+use Rattle.barrier_machine.specs.Words.{arrivals_at, progress, IsFollower}
 use Rattle.barrier_machine.specs.Program.{after_lock, position_after}
 use Rattle.barrier_machine.specs.Roles.{listed}
 use Rattle.barrier_machine.specs.Machine.{Barrier, IsBarrier, position_at, arrival_at, answer_by}
-use Rattle.barrier_world.specs.Numbers.{IsFinished}
 use Rattle.barrier_world.specs.State.{World, wait_of}
 use Rattle.barrier_world.specs.View.{view_of, verdict_in}
 use Rattle.barrier_world.specs.Laws.{is_at_rest}
-use Rattle.barrier_world.specs.Bound.{WaitsOn, LeadsNow, IsRefusedToLead, ArrivesToWait, ComesTo, Takes, GivesWay}
+use Rattle.barrier_world.specs.Bound.{WaitsOn, ComesTo, Takes, GivesWay}
 use Rattle.barrier_world.proofs.Numbers as numbers
 use Rattle.barrier_world.proofs.table.Seen.{wait_seen}
 use Rattle.barrier_world.proofs.whole.Served as served

@@ -1,6 +1,6 @@
 -- A refused poll of a party that stood in the inner lock's list hands on what it was told there.
 use Rattle.std.proofs.Common.{◌≡◌, ◌≢◌, ℕ, ◌<◌, true, false, length, refl, sym, ap, ◌∙◌, subst}
-use Rattle.lock_event.specs.Lists.{marked_count, is_marked_at, without}
+use Rattle.lock_event.specs.Lists.{marked_count, is_marked_at}
 use Rattle.lock_queue.specs.Parties.{is_party, entries_of}
 use Rattle.lock_world.specs.declared.moves.Answer.{Answer}
 use Rattle.lock_world.specs.declared.moves.Answer.TheVariants as answer
@@ -18,7 +18,7 @@ use Rattle.mutex_machine.specs.declared.mutex.Step.TheVariants as lock_step
 use Rattle.mutex_machine.specs.declared.program.End.TheVariants as lock_end
 use Rattle.mutex_machine.specs.Conduct.{HandsOn}
 use Rattle.mutex_machine.specs.Course.{is_told, is_waiting}
-use Rattle.mutex_machine.specs.Mutex.{Mutex, course_at}
+use Rattle.mutex_machine.specs.Mutex.{course_at}
 use Rattle.mutex_machine.proofs.Released.{release_goes, released_marks}
 use Rattle.barrier_machine.specs.declared.program.Aim.{Aim}
 use Rattle.barrier_machine.specs.declared.program.Aim.TheVariants as aim
@@ -36,12 +36,11 @@ use Rattle.barrier_machine.specs.Deeds.{entries_after}
 use Rattle.barrier_machine.specs.Roles.{fits_lock, in_lock, listed}
 use Rattle.barrier_machine.specs.Machine.{Barrier, IsBarrier, position_at, is_own_marked}
 use Rattle.barrier_world.specs.State.{World, standing_of}
-use Rattle.barrier_world.specs.View.{view_of}
 use Rattle.barrier_world.specs.Runs.{Runs}
 use Rattle.barrier_world.specs.Steps.{Stands}
 use Rattle.barrier_world.proofs.whole.Served.{Step, Then}
 use Rattle.barrier_world.proofs.whole.Alone.{whole}
-use Rattle.barrier_world.proofs.whole.Polls.{Begins, at_rest_there, stands_at, from_waiting}
+use Rattle.barrier_world.proofs.whole.Polls.{at_rest_there, stands_at, from_waiting}
 
 module _ (p : ℕ) where
   abbrev IsUnmarked : Barrier → Type 0
@@ -157,5 +156,5 @@ module _ (known : ℕ → Account) (w : World) (p : ℕ) (i : Inputs) (n : ℕ) 
       let found = from_waiting t p stood.barrier stood.fits i (position_at t.machine.positions p) refl at (stands_at t p stood.barrier stood.fits rest.Pending at) there in
       let k = found.0 in
       let end = whole t p i (Hands p) (Handed p) (hands_inside p) (λ x y from f laws later here so step. hands p i x y laws from f here so step)
-          known w call.Poll n a v k.stage k.within (WaitLock k.its_aim) refl k.at k.called k.first k.starts (λ f y laws step. begins p i k.its_aim f t.machine y found.2 step) runs ended in
+      known w call.Poll n a v k.stage k.within (WaitLock k.its_aim) refl k.at k.called k.first k.starts (λ f y laws step. begins p i k.its_aim f t.machine y found.2 step) runs ended in
       subst (λ x. 0 < length x.lock_list → 0 < marked_count x.lock_list) (sym stands.seen) (end.ended refused)

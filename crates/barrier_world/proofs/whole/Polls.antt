@@ -1,5 +1,5 @@
 -- Whole polls on a free inner lock: where they begin, and that they take it or give way.
-use Rattle.std.proofs.Common.{◌≡◌, ◌≢◌, ℕ, ◌+◌, ◌<◌, ◌==◌, ◌&&◌, ◌⊎◌, inl, inr, Bool, true, false, Option, Some, None, refl, sym, ap, ◌∙◌, subst, arith}
+use Rattle.std.proofs.Common.{◌≡◌, ◌≢◌, ℕ, ◌+◌, ◌<◌, ◌==◌, ◌⊎◌, inl, inr, true, false, Option, Some, None, refl, sym, ap, ◌∙◌, subst, arith}
 use Rattle.std.specs.Prelude.{is_none}
 use Rattle.std.proofs.lemmas.Bool.Decides.{nat_tests}
 use Rattle.lock_event.specs.Lists.{is_marked_at}
@@ -22,13 +22,13 @@ use Rattle.lock_world.specs.Standings.{outside}
 use Rattle.lock_world.specs.Whole.{moves_of, answers_of}
 use Rattle.lock_world.specs.Bounds as bounds
 use Rattle.lock_world.proofs.Bounds.{marked_listed}
-use Rattle.lock_world.proofs.Equations.{both, some_none}
+use Rattle.lock_world.proofs.Equations.{both}
 use Rattle.lock_table.specs.Stages.{stage_at, stands_as, call_at, polls_again}
 use Rattle.lock_table.specs.Tables.{Table}
 use Rattle.lock_table.proofs.Past.{inside_or_past}
 use Rattle.lock_table.proofs.Views.{outside_stage}
-use Rattle.mutex_machine.specs.Course.{Course, bit, is_waiting, listed as listed_there}
-use Rattle.mutex_machine.specs.Alone.{IsCalled, SoloPolls, StandsBack, Took, GaveWay}
+use Rattle.mutex_machine.specs.Course.{bit, is_waiting}
+use Rattle.mutex_machine.specs.Alone.{IsCalled, SoloPolls, StandsBack}
 use Rattle.mutex_machine.specs.declared.program.End.{End as LockEnd}
 use Rattle.mutex_machine.specs.declared.program.End.TheVariants as lock_end
 use Rattle.mutex_machine.specs.Mutex.{Mutex, course_at, holders, starved, holder_of, starved_of, IsStarved}
@@ -41,21 +41,21 @@ use Rattle.barrier_machine.specs.declared.program.Place.{Place}
 use Rattle.barrier_machine.specs.declared.program.Place.TheVariants.{EnterLock, WaitLock, Ask}
 use Rattle.barrier_machine.specs.declared.program.Position.{Position}
 use Rattle.barrier_machine.specs.declared.program.Position.TheVariants.{Out, Made, Locking, Waiting, At}
-use Rattle.barrier_machine.specs.Program.{start_of, next_of}
+use Rattle.barrier_machine.specs.Program.{start_of}
 use Rattle.barrier_machine.specs.Roles.{fits_lock, in_lock, listed, follows}
-use Rattle.barrier_machine.specs.Waits.{Wait, wait_for, wait_at}
+use Rattle.barrier_machine.specs.Waits.{wait_for, wait_at}
 use Rattle.barrier_machine.specs.Words.{arrivals_at, IsFollower}
 use Rattle.barrier_machine.specs.Machine.{Barrier, IsBarrier, knows, goes_with, is_out, position_at, arrival_at}
 use Rattle.barrier_world.specs.State.{World, standing_of, wait_of, is_free, is_starved}
 use Rattle.barrier_world.specs.View.{view_of, verdict_in}
 use Rattle.barrier_world.specs.AtOnce.{entries_in, is_first_poll}
 use Rattle.barrier_world.specs.Changes.{wait_then}
-use Rattle.barrier_world.specs.Bound.{IsSolo, Takes, GivesWay, SoloPoll}
+use Rattle.barrier_world.specs.Bound.{IsSolo, Takes, SoloPoll}
 use Rattle.barrier_world.specs.Runs.{Runs}
 use Rattle.barrier_world.specs.Steps.{IsBarrierTable, Stands}
 use Rattle.barrier_world.proofs.table.Seen.{wait_seen, standing_seen}
 use Rattle.barrier_world.proofs.whole.Served.{Came, Serves, serves}
-use Rattle.barrier_world.proofs.whole.Locked.{GaveUp, Enters, then_entered, asks, gets_at_once, Goes, Ends, begins}
+use Rattle.barrier_world.proofs.whole.Locked.{GaveUp, Enters, asks, gets_at_once, Goes, Ends, begins}
 use Rattle.barrier_world.proofs.whole.Alone.{EndsAt, whole}
 use Rattle.barrier_world.proofs.whole.Walks.{serves_inside, enters_inside, enters_on, goes_inside, takes_on}
 use Rattle.barrier_world.proofs.whole.Comes.{takes_seen, gives_seen}

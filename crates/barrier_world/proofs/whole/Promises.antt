@@ -1,31 +1,26 @@
 -- What a whole call of a barrier promises beside its end.
-use Rattle.std.proofs.Common.{◌≡◌, ◌≢◌, ℕ, zero, suc, ◌<◌, Bool, true, false, [], ◌∷◌, length, List, Some, refl, sym, ap, ◌∙◌, subst, arith}
+use Rattle.std.proofs.Common.{◌≡◌, ◌≢◌, ℕ, zero, suc, Bool, true, false, [], ◌∷◌, List, Some, refl, sym, ap, ◌∙◌, subst, arith}
 use Rattle.std.specs.List.{sum_by}
 use Rattle.std.proofs.lemmas.List.Sums.{sum_by-cons}
-use Rattle.lock_event.specs.Lists.{marked_count}
-use Rattle.lock_queue.specs.Parties.{entries_of}
 use Rattle.lock_world.specs.declared.moves.Answer.{Answer}
 use Rattle.lock_world.specs.declared.moves.Answer.TheVariants as answer
 use Rattle.lock_world.specs.declared.moves.Call.{Call}
 use Rattle.lock_world.specs.declared.moves.Call.TheVariants as call
 use Rattle.lock_world.specs.declared.moves.Inputs.{Inputs}
-use Rattle.lock_world.specs.declared.moves.Move.{Move}
 use Rattle.lock_world.specs.declared.moves.What.{What}
 use Rattle.lock_world.specs.declared.moves.What.TheVariants.{Begin, Go}
 use Rattle.lock_world.specs.declared.standing.Rest.TheVariants as rest
 use Rattle.lock_world.specs.declared.standing.Within.{Within}
 use Rattle.lock_world.specs.Accounts.{Account, accounts_after}
-use Rattle.lock_world.specs.Bounds as bounds
-use Rattle.lock_world.specs.Frame.{is_refusal}
 use Rattle.lock_world.specs.Rosters.{how_many}
-use Rattle.lock_world.specs.Standings.{outside, inputs_of}
+use Rattle.lock_world.specs.Standings.{inputs_of}
 use Rattle.lock_world.specs.Whole.{going_on, moves_of, answers_of}
 use Rattle.lock_world.proofs.Equations.{none_some}
 use Rattle.lock_frame.specs.Steps.{beginning}
 use Rattle.lock_frame.proofs.Runs.{Onward, along}
 use Rattle.lock_table.specs.Tables.{Table, Acted}
 use Rattle.lock_table.proofs.Ways.{onward}
-use Rattle.mutex_machine.specs.Course.{Course, out, bit, counted, is_counting}
+use Rattle.mutex_machine.specs.Course.{Course, bit, counted, is_counting}
 use Rattle.mutex_machine.specs.Mutex.{Mutex, course_at, starved, is_counted}
 use Rattle.mutex_machine.proofs.Callers.{out_uncounted, waiting_uncounted}
 use Rattle.mutex_machine.proofs.Holders as sees
@@ -39,13 +34,11 @@ use Rattle.barrier_machine.specs.declared.program.Position.TheVariants.{Out, Mad
 use Rattle.barrier_machine.specs.Program.{start_of, action_of}
 use Rattle.barrier_machine.specs.Locks.{OnLock}
 use Rattle.barrier_machine.specs.Roles.{fits_lock, in_lock}
-use Rattle.barrier_machine.specs.Machine.{Barrier, IsBarrier, Moves, position_at}
-use Rattle.barrier_world.specs.State.{World, standing_of, wait_of, is_free, is_starved}
-use Rattle.barrier_world.specs.View.{view_of}
-use Rattle.barrier_world.specs.AtOnce.{entries_in, is_first_poll}
-use Rattle.barrier_world.specs.Bound.{IsSolo, Takes, SoloPoll, Promises}
+use Rattle.barrier_machine.specs.Machine.{Barrier, Moves, position_at}
+use Rattle.barrier_world.specs.State.{World, is_starved}
+use Rattle.barrier_world.specs.Bound.{Promises}
 use Rattle.barrier_world.specs.Runs.{Runs, HoldsWell}
-use Rattle.barrier_world.specs.Steps.{IsBarrierTable, Stands, Steps}
+use Rattle.barrier_world.specs.Steps.{Stands, Steps}
 use Rattle.barrier_world.proofs.whole.Alone.{known_calls}
 use Rattle.barrier_world.proofs.whole.Handing.{hands_on}
 use Rattle.barrier_world.proofs.whole.Polls.{nobody_starved, first, notified, solo}

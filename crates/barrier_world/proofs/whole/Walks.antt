@@ -1,5 +1,5 @@
 -- From place to place: how a poll that is carried out alone goes on that has the inner lock, or is to get it.
-use Rattle.std.proofs.Common.{◌≡◌, ℕ, ◌⊎◌, true, refl, sym, subst}
+use Rattle.std.proofs.Common.{◌≡◌, ℕ, true, refl, sym, subst}
 use Rattle.lock_world.specs.declared.moves.Inputs.{Inputs}
 use Rattle.mutex_machine.specs.Alone.{IsCalled, SoloPolls}
 use Rattle.barrier_machine.specs.declared.program.Aim.{Aim}
@@ -10,7 +10,7 @@ use Rattle.barrier_machine.specs.declared.program.Position.{Position}
 use Rattle.barrier_machine.specs.declared.program.Position.TheVariants.{At}
 use Rattle.barrier_machine.specs.Program.{next_of}
 use Rattle.barrier_machine.specs.Machine.{Barrier, IsBarrier, position_at}
-use Rattle.barrier_world.proofs.whole.Served.{Step, Came, Serves, ServesThen, serves}
+use Rattle.barrier_world.proofs.whole.Served.{Step, Serves, serves}
 use Rattle.barrier_world.proofs.whole.Locked.{IsTaking, IsFresh, Goes, SoloThen, then_served, goes_on, Enters, EntersThen, then_entered, gets_at_once}
 
 module _ (p : ℕ) (b : Aim) (s : Barrier) where

@@ -1,13 +1,12 @@
 -- A call that is carried out alone ends within its number of steps.
-use Rattle.std.proofs.Common.{◌≡◌, ℕ, zero, suc, ◌+◌, ◌<◌, ◌≤◌, Bool, true, false, List, Some, refl, arith, ap, sym, ◌∙◌, subst, get_or-set_same}
+use Rattle.std.proofs.Common.{◌≡◌, ℕ, ◌+◌, ◌<◌, ◌≤◌, Bool, true, false, Some, refl, arith, ap, sym, ◌∙◌, subst, get_or-set_same}
 use Rattle.lock_world.specs.declared.moves.Answer.{Answer}
-use Rattle.lock_world.specs.declared.moves.Answer.TheVariants as answer
 use Rattle.lock_world.specs.declared.moves.Call.{Call}
 use Rattle.lock_world.specs.declared.moves.Call.TheVariants as call
 use Rattle.lock_world.specs.declared.moves.Got.TheVariants.{Plain}
 use Rattle.lock_world.specs.declared.moves.Inputs.{Inputs}
 use Rattle.lock_world.specs.declared.moves.Move.{Move}
-use Rattle.lock_world.specs.declared.moves.What.TheVariants.{Begin, Go}
+use Rattle.lock_world.specs.declared.moves.What.TheVariants.{Go}
 use Rattle.lock_world.specs.declared.standing.Rest.TheVariants as rest
 use Rattle.lock_world.specs.declared.standing.Within.{Within}
 use Rattle.lock_world.specs.Whole.{going_on}
@@ -24,7 +23,7 @@ use Rattle.barrier_machine.specs.declared.program.Aim.TheVariants as aim
 use Rattle.barrier_machine.specs.declared.program.Next.{Next}
 use Rattle.barrier_machine.specs.declared.program.Next.TheVariants as next
 use Rattle.barrier_machine.specs.declared.program.Place.{Place}
-use Rattle.barrier_machine.specs.declared.program.Place.TheVariants.{EnterLock, WaitLock, TakeLock, Arrive, ReleaseLock, ReleasingLock, Ask, CancelLock, CancellingLock, CancelLeave, Abandon}
+use Rattle.barrier_machine.specs.declared.program.Place.TheVariants.{EnterLock, WaitLock, TakeLock, ReleaseLock, ReleasingLock, Ask, CancelLock, CancellingLock}
 use Rattle.barrier_machine.specs.declared.program.Position.{Position}
 use Rattle.barrier_machine.specs.declared.program.Position.TheVariants.{Out, Made, Locking, Waiting, At}
 use Rattle.barrier_machine.specs.Program.{start_of, place_for, next_of, position_after}
@@ -123,7 +122,7 @@ module _ (t u : Table Barrier) (tl : IsBarrier t.machine) (tf : IsBarrierTable t
   pub begins_few : (c : Call) → TableSteps t (beginning p c i) a u → 1 + left_by a (steps_left u.machine p) ≤ most_steps_of c
   begins_few c step = by_way known_calls rest.Finished Moves t u (beginning p c i) a (λ b x. 1 + left_by b (steps_left x.machine p) ≤ most_steps_of c) (λ e. one_at_least c) (λ w e f. one_at_least c)
       (λ w e f k. (let few = few_from (is_own_marked t.machine p) (lock_steps_left t.machine.lock p) c (position_at t.machine.positions p) k.acts.from k.acts.starts in
-          let less = fewer t u (beginning p c i) a tf w k in omega (arith, less, few)))
+      let less = fewer t u (beginning p c i) a tf w k in omega (arith, less, few)))
       (way known_calls rest.Finished Moves t u (beginning p c i) a step)
 
   pub falls : TableSteps t (going_on p i) a u → left_by a (steps_left u.machine p) < steps_left t.machine p
@@ -131,6 +130,6 @@ module _ (t u : Table Barrier) (tl : IsBarrier t.machine) (tf : IsBarrierTable t
       let some = some_at (position_at t.machine.positions p) (is_own_marked t.machine p) (lock_steps_left t.machine.lock p) (tl.lock.some_left p) in
       by_way known_calls rest.Finished Moves t u (going_on p i) a (λ b x. left_by b (steps_left x.machine p) < steps_left t.machine p) (λ e. some) (λ w e f. some)
       (λ w e f k. (let here = place_of i (position_at t.machine.positions p) k.acts.from k.acts.starts in
-          let P : Position → Type 0 = λ x. left_by a (steps_left u.machine p) < left_at x (is_own_marked t.machine p) (lock_steps_left t.machine.lock p) in
-          subst P (sym here) (fewer t u (going_on p i) a tf w k)))
+      let P : Position → Type 0 = λ x. left_by a (steps_left u.machine p) < left_at x (is_own_marked t.machine p) (lock_steps_left t.machine.lock p) in
+      subst P (sym here) (fewer t u (going_on p i) a tf w k)))
       (way known_calls rest.Finished Moves t u (going_on p i) a step)

@@ -1,5 +1,5 @@
 -- The number of a counted wait.
-use Rattle.std.proofs.Common.{◌≡◌, ℕ, true, false, Some, None, ap, sym, ◌∙◌}
+use Rattle.std.proofs.Common.{◌≡◌, true, false, Some, ap, sym, ◌∙◌}
 use Rattle.barrier_machine.specs.Waits.{number_of, is_counted, wait_at}
 use Rattle.barrier_machine.specs.Words.{arrivals_at}
 use Rattle.barrier_machine.specs.Machine.{Barrier, position_at, arrival_at}
