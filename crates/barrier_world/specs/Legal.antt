@@ -161,6 +161,11 @@ pub record IsOutOfMemory (old : World) (m : Move) (new : World) : Type 0 where
   pub unlisted : (list : ListName) → entries_of m.party (list_in list old) ≡ 0
   pub unchanged : IsAsBefore old m new
 
+-- As many parties are starved as may be, and the party hasn't the inner lock.
+pub record IsOutOfStarved (old : World) (m : Move) : Type 0 where
+  pub limit : how_many old.lock.starved ≡ old.starved_limit
+  pub without_lock : old.lock.holder ≢ Some m.party
+
 -- The arrival that isn't counted would lead, where as many generations are finished as may be.
 pub record IsOutOfGenerations (old : World) (m : Move) (new : World) : Type 0 where
   pub uncounted : wait_of old m.party ≡ uncounted
@@ -171,7 +176,7 @@ pub record IsOutOfGenerations (old : World) (m : Move) (new : World) : Type 0 wh
 -- Why a wait may be refused: a join found no memory, for the move's input said so; there are as many starved parties as there may be; its arrival would finish a generation past the limit; or the future had been ready before.
 abbrev pub IsCause : World → Move → World → Refusal → Type 0
 IsCause old m new refusal.Memory = IsOutOfMemory old m new
-IsCause old m new refusal.Starved = how_many old.lock.starved ≡ old.starved_limit
+IsCause old m new refusal.Starved = IsOutOfStarved old m
 IsCause old m new refusal.Generations = IsOutOfGenerations old m new
 IsCause old m new refusal.Finished = new ≡ old
 IsCause old m new _ = ⊥

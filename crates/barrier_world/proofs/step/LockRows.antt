@@ -264,7 +264,7 @@ module _ (t u : Table Barrier) (m : Move) (w : Within) (laws : IsBarrier t.machi
         kept : (list : ListName) → list_in list new ≡ list_in list old
         kept Lock = y.2
         kept Generation = unlisted
-      why refusal.Starved y free none at wait = ((refusal.Starved, refl, sees.how_many_counted t.machine.lock.courses ∙ y), at)
+      why refusal.Starved y free none at wait = ((refusal.Starved, refl, record { limit = sees.how_many_counted t.machine.lock.courses ∙ y; without_lock = free }), at)
       why _ y free none at wait = absurd y
 
       -- what a decision of the poll on the inner lock says of the wait
