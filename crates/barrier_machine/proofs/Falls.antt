@@ -4,7 +4,7 @@ use Rattle.lock_event.specs.declared.event.Entry.{Entry}
 use Rattle.lock_event.specs.Lists.{is_marked_at}
 use Rattle.lock_queue.specs.Parties.{is_party, entries_of}
 use Rattle.lock_world.specs.declared.moves.Inputs.{Inputs}
-use Rattle.lock_table.proofs.Lists.{joined_unmarked}
+use Rattle.lock_world.proofs.Lists.{joined_unmarked}
 use Rattle.mutex_machine.specs.declared.mutex.Step.{Step as LockStep}
 use Rattle.mutex_machine.specs.declared.mutex.Step.TheVariants as lock_step
 use Rattle.mutex_machine.specs.declared.program.End.TheVariants as lock_end

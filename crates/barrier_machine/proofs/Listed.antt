@@ -5,7 +5,8 @@ use Rattle.lock_event.specs.Lists.{is_marked_at}
 use Rattle.lock_queue.specs.Parties.{is_party, entries_of}
 use Rattle.lock_world.specs.declared.moves.Inputs.{Inputs}
 use Rattle.lock_world.specs.Steps.{joins, asks, leaves, notifies, list_after}
-use Rattle.lock_table.proofs.Lists as lists
+use Rattle.lock_world.proofs.Lists as lists
+use Rattle.lock_world.proofs.Lists.{joined_own, asked_own, asked_not, left_own, notified_own}
 use Rattle.mutex_machine.specs.declared.mutex.Step.TheVariants as lock_step
 use Rattle.mutex_machine.specs.declared.program.End.TheVariants as lock_end
 use Rattle.mutex_machine.specs.Mutex.{Mutex}
@@ -64,27 +65,12 @@ module _ (p : ℕ) (l : List (Entry ℕ)) where
 
   -- the list grows and shrinks by the party's own entry
   pub own_listed : (a : Action) (f : Found) (w : Words) (n : ℕ) (m : Mutex) → CanDo p a w (record { parties = n; entries = l }) m → entries_of p (entries_after p a f l) + length l ≡ entries_of p l + length (entries_after p a f l)
-  own_listed act.Join found.Done w n m can = lists.own p l joins can.1
+  own_listed act.Join found.Done w n m can = lists.own p l joins tt
   own_listed act.Join _ w n m can = refl
   own_listed act.Ask f w n m can = lists.own p l asks can.1
   own_listed act.Leave f w n m can = lists.own p l leaves can.1
   own_listed act.NotifyAll f w n m can = lists.own p l (notifies everyone) tt
   own_listed _ f w n m can = refl
-
-  joined_own : entries_of p l ≡ 0 → entries_of p (list_after p joins l) ≡ 1
-  joined_own h = let n = lists.own p l joins h in let m = lists.counted p l joins (is_marked_at (is_party p) l) refl h in omega (arith, n, m.0)
-
-  asked_own : is_marked_at (is_party p) l ≡ true → entries_of p l ≡ 1 → entries_of p (list_after p asks l) ≡ 0
-  asked_own e h = let some : 0 < entries_of p l = omega arith in let n = lists.own p l asks some in let m = lists.counted p l asks true e some in omega (arith, n, m.0)
-
-  asked_not : is_marked_at (is_party p) l ≡ false → entries_of p l ≡ 1 → entries_of p (list_after p asks l) ≡ 1
-  asked_not e h = let some : 0 < entries_of p l = omega arith in let n = lists.own p l asks some in let m = lists.counted p l asks false e some in omega (arith, n, m.0)
-
-  left_own : entries_of p l ≡ 1 → entries_of p (list_after p leaves l) ≡ 0
-  left_own h = let some : 0 < entries_of p l = omega arith in let n = lists.own p l leaves some in let m = lists.counted p l leaves (is_marked_at (is_party p) l) refl some in omega (arith, n, m.0)
-
-  notify_own : (k : ℕ) → entries_of p l ≡ k → entries_of p (list_after p (notifies everyone) l) ≡ k
-  notify_own k h = let n = lists.own p l (notifies everyone) tt in let m = lists.counted p l (notifies everyone) (is_marked_at (is_party p) l) refl tt in omega (arith, n, m.0)
 
   -- the party's entries are told by where it then stands
   pub listed_then : (i : Inputs) (w : Words) (a : Progress) (x : Place) (f : Found) → Finds i p (action_of x) f w a l → entries_of p l ≡ listed (At x) → entries_of p (entries_after p (action_of x) f l) ≡ listed (after x f)
@@ -98,17 +84,17 @@ module _ (p : ℕ) (l : List (Entry ℕ)) where
   listed_then i w a Look found.MustWait finds h = h
   listed_then i w a Look found.Leads finds h = h
   listed_then i w a Look _ finds h = h
-  listed_then i w a Join found.Done finds h = joined_own h
+  listed_then i w a Join found.Done finds h = joined_own p l h
   listed_then i w a Join _ finds h = h
   listed_then i w a Arrive _ finds h = h
   listed_then i w a Complete _ finds h = h
-  listed_then i w a NotifyAll _ finds h = notify_own 0 h
+  listed_then i w a NotifyAll _ finds h = notified_own p l everyone 0 h
   listed_then i w a Check found.Finished finds h = h
   listed_then i w a Check _ finds h = h
-  listed_then i w a JoinAgain found.Done finds h = joined_own h
+  listed_then i w a JoinAgain found.Done finds h = joined_own p l h
   listed_then i w a JoinAgain _ finds h = h
-  listed_then i w a Ask found.Yes finds h = asked_own finds h
-  listed_then i w a Ask found.No finds h = asked_not finds h
+  listed_then i w a Ask found.Yes finds h = asked_own p l finds h
+  listed_then i w a Ask found.No finds h = asked_not p l finds h
   listed_then i w a Ask _ finds h = absurd finds
-  listed_then i w a CancelLeave _ finds h = left_own h
+  listed_then i w a CancelLeave _ finds h = left_own p l h
   listed_then i w a Abandon _ finds h = h

@@ -1,14 +1,13 @@
 -- What an action does, in numbers.
-use Rattle.std.proofs.Common.{ℕ, ◌<◌, Bool, true, false, List, [], ◌∷◌, length, refl, arith, ap}
+use Rattle.std.proofs.Common.{ℕ, ◌<◌, Bool, true, false, List, length, refl, arith, ap}
 use Rattle.lock_event.specs.declared.event.Entry.{Entry}
 use Rattle.lock_event.specs.declared.event.Mark.TheVariants.{Additional}
 use Rattle.lock_event.specs.Lists.{is_marked_at, marked_count, mark_waiting}
-use Rattle.lock_event.proofs.Counts.{marked_count-le-mark_waiting}
 use Rattle.lock_queue.specs.Parties.{is_party}
 use Rattle.lock_queue.specs.Queues.{Queue}
 use Rattle.lock_world.specs.declared.moves.Inputs.{Inputs}
 use Rattle.lock_world.specs.Steps.{joins, asks, leaves, notifies, notifies_additionally}
-use Rattle.lock_table.proofs.Lists.{counted}
+use Rattle.lock_world.proofs.Lists.{counted, mark_some}
 use Rattle.cell_machine.specs.declared.program.Action.{Action}
 use Rattle.cell_machine.specs.declared.program.Action.TheVariants as act
 use Rattle.cell_machine.specs.declared.program.Found.{Found}
@@ -20,12 +19,8 @@ use Rattle.cell_machine.specs.Tally.{tally_of, free_of}
 use Rattle.cell_machine.proofs.Steps.{Effect}
 
 -- where a list isn't empty, telling all marks some entry
-mark_some : (n : ℕ) (l : List (Entry ℕ)) → 0 < n → 0 < length l → 0 < marked_count (mark_waiting Additional n l)
-mark_some n [] h some = absurd (omega arith)
-mark_some n (e ∷ es) h some = grind (arith, marked_count-le-mark_waiting Additional n es)
-
 tell_some : (l : List (Entry ℕ)) → 0 < length l → 0 < marked_count (mark_waiting Additional everyone l)
-tell_some l some = mark_some everyone l (omega arith) some
+tell_some l some = mark_some Additional refl everyone (omega arith) l some
 
 module _ (p : ℕ) (c : Content) (q r : Queue) (i : Inputs) where
   abbrev told : Bool
@@ -42,7 +37,7 @@ module _ (p : ℕ) (c : Content) (q r : Queue) (i : Inputs) where
   numbers (act.Fill v) _ e k = absurd e
   numbers act.Empty found.Done e k = (refl, (refl, refl))
   numbers act.Empty _ e k = absurd e
-  numbers (act.Join Active) found.Done e k = (refl, counted p q.entries joins told refl k.1)
+  numbers (act.Join Active) found.Done e k = (refl, counted p q.entries joins told refl tt)
   numbers (act.Join Active) found.NoMemory e k = (refl, (refl, refl))
   numbers (act.Join Active) _ e k = absurd e
   numbers (act.Join Passive) found.Done e k = (refl, (refl, refl))

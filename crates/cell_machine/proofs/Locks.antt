@@ -17,8 +17,8 @@ use Rattle.lock_world.specs.declared.standing.Stage.{Stage}
 use Rattle.lock_world.specs.declared.standing.Within.{Within}
 use Rattle.lock_table.specs.Stages.{call_at, polls_again, stage_after}
 use Rattle.lock_table.specs.Tables.{Keeps}
-use Rattle.lock_table.proofs.Lists as lists
-use Rattle.lock_table.proofs.Lists.{CanList}
+use Rattle.lock_world.proofs.Lists as lists
+use Rattle.lock_world.proofs.Lists.{CanList, joined_own, asked_own, asked_not, left_own, notified_own, notified_additionally_own}
 use Rattle.lock_table.proofs.Mapped.{any_default}
 use Rattle.cell_machine.specs.declared.program.Action.{Action}
 use Rattle.cell_machine.specs.declared.program.Action.TheVariants as act
@@ -105,24 +105,6 @@ module _ (p : ℕ) (l : List (Entry ℕ)) where
   own_passive (does Passive f) can = lists.own p l f can
   own_passive (does Active f) can = refl
 
-  joined_own : entries_of p l ≡ 0 → entries_of p (list_after p joins l) ≡ 1
-  joined_own h = let n = lists.own p l joins h in let m = lists.counted p l joins (is_marked_at (is_party p) l) refl h in omega (arith, n, m.0)
-
-  asked_own : is_marked_at (is_party p) l ≡ true → entries_of p l ≡ 1 → entries_of p (list_after p asks l) ≡ 0
-  asked_own e h = let some : 0 < entries_of p l = omega arith in let n = lists.own p l asks some in let m = lists.counted p l asks true e some in omega (arith, n, m.0)
-
-  asked_not : is_marked_at (is_party p) l ≡ false → entries_of p l ≡ 1 → entries_of p (list_after p asks l) ≡ 1
-  asked_not e h = let some : 0 < entries_of p l = omega arith in let n = lists.own p l asks some in let m = lists.counted p l asks false e some in omega (arith, n, m.0)
-
-  left_own : entries_of p l ≡ 1 → entries_of p (list_after p leaves l) ≡ 0
-  left_own h = let some : 0 < entries_of p l = omega arith in let n = lists.own p l leaves some in let m = lists.counted p l leaves (is_marked_at (is_party p) l) refl some in omega (arith, n, m.0)
-
-  notify_own : (k : ℕ) → entries_of p l ≡ k → entries_of p (list_after p (notifies 1) l) ≡ k
-  notify_own k h = let n = lists.own p l (notifies 1) tt in let m = lists.counted p l (notifies 1) (is_marked_at (is_party p) l) refl tt in omega (arith, n, m.0)
-
-  notify_all_own : (k : ℕ) → entries_of p l ≡ k → entries_of p (list_after p (notifies_additionally everyone) l) ≡ k
-  notify_all_own k h = let n = lists.own p l (notifies_additionally everyone) tt in let m = lists.counted p l (notifies_additionally everyone) (is_marked_at (is_party p) l) refl tt in omega (arith, n, m.0)
-
 module _ (i : Inputs) (p : ℕ) (c : Content) (q r : List (Entry ℕ)) where
   -- the party's entries are told by where it then stands
   active_then : (x : Place) (f : Found) → Finds i p (action_of x) f c q r → entries_of p q ≡ in_active (At x) → entries_of p (active_after p (deed_of (action_of x) f) q) ≡ in_active (after x f)
@@ -147,17 +129,17 @@ module _ (i : Inputs) (p : ℕ) (c : Content) (q r : List (Entry ℕ)) where
   active_then (Make k) _ e h = h
   active_then (Fill v) found.Done e h = h
   active_then (Fill v) _ e h = absurd e
-  active_then (NotifyActive v) found.Done e h = notify_all_own p q 0 h
+  active_then (NotifyActive v) found.Done e h = notified_additionally_own p q everyone 0 h
   active_then (NotifyActive v) _ e h = absurd e
   active_then (NotifyPassive v) found.Done e h = h
   active_then (NotifyPassive v) _ e h = absurd e
   active_then Fail found.Done e h = h
   active_then Fail _ e h = absurd e
-  active_then FailNotify found.Done e h = notify_own p q 0 h
+  active_then FailNotify found.Done e h = notified_own p q 1 0 h
   active_then FailNotify _ e h = absurd e
   active_then (LeaveFull k v) found.Done e h = left_own p q h
   active_then (LeaveFull k v) _ e h = absurd e
-  active_then (RefuseActive k) found.Done e h = notify_own p q 0 h
+  active_then (RefuseActive k) found.Done e h = notified_own p q 1 0 h
   active_then (RefuseActive k) _ e h = absurd e
   active_then (Look told) (found.Full u) e h = h
   active_then (Look told) _ e h = h
@@ -180,13 +162,13 @@ module _ (i : Inputs) (p : ℕ) (c : Content) (q r : List (Entry ℕ)) where
   active_then (Try v) _ e h = h
   active_then (TryFill v) found.Done e h = h
   active_then (TryFill v) _ e h = absurd e
-  active_then (TryNotifyActive v) found.Done e h = notify_all_own p q 0 h
+  active_then (TryNotifyActive v) found.Done e h = notified_additionally_own p q everyone 0 h
   active_then (TryNotifyActive v) _ e h = absurd e
   active_then (TryNotifyPassive v) found.Done e h = h
   active_then (TryNotifyPassive v) _ e h = absurd e
   active_then CancelMake found.Done e h = h
   active_then CancelMake _ e h = absurd e
-  active_then CancelNotify found.Done e h = notify_own p q 0 h
+  active_then CancelNotify found.Done e h = notified_own p q 1 0 h
   active_then CancelNotify _ e h = absurd e
   active_then (CancelLeave Active) found.Done e h = left_own p q h
   active_then (CancelLeave Active) _ e h = absurd e
@@ -218,7 +200,7 @@ module _ (i : Inputs) (p : ℕ) (c : Content) (q r : List (Entry ℕ)) where
   passive_then (Fill v) _ e h = absurd e
   passive_then (NotifyActive v) found.Done e h = h
   passive_then (NotifyActive v) _ e h = absurd e
-  passive_then (NotifyPassive v) found.Done e h = notify_all_own p r 0 h
+  passive_then (NotifyPassive v) found.Done e h = notified_additionally_own p r everyone 0 h
   passive_then (NotifyPassive v) _ e h = absurd e
   passive_then Fail found.Done e h = h
   passive_then Fail _ e h = absurd e
@@ -243,7 +225,7 @@ module _ (i : Inputs) (p : ℕ) (c : Content) (q r : List (Entry ℕ)) where
   passive_then AskPassive _ e h = absurd e
   passive_then (LeavePassive v) found.Done e h = left_own p r h
   passive_then (LeavePassive v) _ e h = absurd e
-  passive_then RefusePassive found.Done e h = notify_own p r 0 h
+  passive_then RefusePassive found.Done e h = notified_own p r 1 0 h
   passive_then RefusePassive _ e h = absurd e
   passive_then (Try v) found.Empty e h = h
   passive_then (Try v) _ e h = h
@@ -251,7 +233,7 @@ module _ (i : Inputs) (p : ℕ) (c : Content) (q r : List (Entry ℕ)) where
   passive_then (TryFill v) _ e h = absurd e
   passive_then (TryNotifyActive v) found.Done e h = h
   passive_then (TryNotifyActive v) _ e h = absurd e
-  passive_then (TryNotifyPassive v) found.Done e h = notify_all_own p r 0 h
+  passive_then (TryNotifyPassive v) found.Done e h = notified_additionally_own p r everyone 0 h
   passive_then (TryNotifyPassive v) _ e h = absurd e
   passive_then CancelMake found.Done e h = h
   passive_then CancelMake _ e h = absurd e
@@ -264,7 +246,7 @@ module _ (i : Inputs) (p : ℕ) (c : Content) (q r : List (Entry ℕ)) where
   passive_then Abandon f e h = h
 
 can_active : (p : ℕ) (q r : Queue) (a : Action) (f : Found) → CanDo p a q r → CanOf Active p q.entries (deed_of a f)
-can_active p q r (act.Join Active) found.Done k = k.1
+can_active p q r (act.Join Active) found.Done k = tt
 can_active p q r (act.Join Active) _ k = tt
 can_active p q r (act.Join Passive) found.Done k = tt
 can_active p q r (act.Join Passive) _ k = tt
@@ -297,7 +279,7 @@ can_active p q r act.Empty _ k = tt
 can_active p q r act.Nothing f k = tt
 
 can_passive : (p : ℕ) (q r : Queue) (a : Action) (f : Found) → CanDo p a q r → CanOf Passive p r.entries (deed_of a f)
-can_passive p q r (act.Join Passive) found.Done k = k.1
+can_passive p q r (act.Join Passive) found.Done k = tt
 can_passive p q r (act.Join Passive) _ k = tt
 can_passive p q r (act.Join Active) found.Done k = tt
 can_passive p q r (act.Join Active) _ k = tt

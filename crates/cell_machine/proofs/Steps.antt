@@ -1,7 +1,7 @@
 -- What a step does to the numbers.
 use Rattle.std.proofs.Common.{◌≡◌, ◌+◌, ◌<◌, ◌≤◌, Bool, true, false}
 use Rattle.lock_world.specs.Steps.{ListFunction, joins, asks, leaves, notifies, notifies_additionally}
-use Rattle.lock_table.proofs.Lists.{Counted}
+use Rattle.lock_world.proofs.Lists.{Counted}
 use Rattle.cell_machine.specs.declared.program.Action.{Action}
 use Rattle.cell_machine.specs.declared.program.Action.TheVariants as act
 use Rattle.cell_machine.specs.declared.program.Found.{Found}

@@ -1,13 +1,14 @@
 -- Each step of a party that moves alone leaves fewer steps.
-use Rattle.std.proofs.Common.{◌≡◌, ℕ, ◌+◌, ◌==◌, ◌<◌, ◌≤◌, Bool, true, false, Some, List, [], ◌∷◌, length, refl, sym, ap, arith, ◌∙◌, get_or-set_same}
+use Rattle.std.proofs.Common.{◌≡◌, ℕ, ◌+◌, ◌==◌, ◌<◌, ◌≤◌, Bool, true, false, Some, List, length, refl, sym, ap, arith, ◌∙◌, get_or-set_same}
 use Rattle.std.proofs.Math.ListN.{set}
 use Rattle.std.specs.List.{sum_by}
 use Rattle.std.proofs.lemmas.List.Sums.{sum_by-set}
 use Rattle.std.proofs.lemmas.Bool.Decides.{nat_tests}
 use Rattle.lock_event.specs.declared.event.Entry.{Entry}
-use Rattle.lock_event.specs.Lists.{is_marked_at, joined}
+use Rattle.lock_event.specs.Lists.{is_marked_at}
 use Rattle.lock_queue.specs.Parties.{is_party, entries_of}
 use Rattle.lock_world.proofs.Equations.{some_eq}
+use Rattle.lock_world.proofs.Lists.{joined_unmarked}
 use Rattle.mutex_machine.specs.declared.program.Place.{Place}
 use Rattle.mutex_machine.specs.declared.program.Place.TheVariants.{Out, Holding, Enter, Try, Clear, CancelUncount, CancelLeave, Join, Look, Ask, Retry, PassOn, Count, JoinStarved, LookAlone, PassOnListed, AskStarved, Seize, Uncount, Leave, RefuseUncount, RefuseLeave, RefuseNotifyMemory, RefuseNotifyStarved, ReleaseNotify}
 use Rattle.mutex_machine.specs.declared.program.LockCall.{LockCall}
@@ -90,14 +91,9 @@ module _ (memory : Bool) (l : Lock) (m n : Bool) (h : ℕ) where
   falls RefuseNotifyStarved _ e k s = grind (arith, nat_tests)
   falls ReleaseNotify _ e k s = grind (arith, nat_tests)
 
--- a party that joins isn't marked yet
-unmarked : (p : ℕ) (l : List (Entry ℕ)) → entries_of p l ≡ 0 → is_marked_at (is_party p) (joined l p) ≡ false
-unmarked p [] out = grind (arith, nat_tests)
-unmarked p (e ∷ es) out = grind (arith, nat_tests, unmarked p es)
-
 module _ (p : ℕ) (l m : List (Entry ℕ)) where
   marks : (a : Action) (f : Found) → OnParties p a f l m → (a ≡ act.Join → entries_of p l ≡ 0) → Marks a f (is_marked_at (is_party p) l) (is_marked_at (is_party p) m)
-  marks act.Join Done o out = rw o (unmarked p l (out refl))
+  marks act.Join Done o out = rw o (joined_unmarked p l (out refl))
   marks act.Join _ o out = tt
   marks act.Ask Yes o out = o.0
   marks act.Ask _ o out = tt

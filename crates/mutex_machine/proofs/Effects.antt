@@ -1,9 +1,11 @@
 -- What an action does, in numbers.
-use Rattle.std.proofs.Common.{◌≡◌, ℕ, ◌+◌, ◌-◌, Bool, true, false, length, ap, ◌∙◌}
-use Rattle.lock_event.specs.declared.event.Mark.TheVariants.{Notified}
-use Rattle.lock_event.specs.Lists.{marked_count, notified, without, is_listed, mark_at}
-use Rattle.lock_event.proofs.Marks.{marked_count-joined, length-mark_waiting}
-use Rattle.lock_event.proofs.Counts.{length-joined, length-without, marked_count-without_marked, is_listed-marked, marked_count-notified, marked_count-left, length-passed_on}
+use Rattle.std.proofs.Common.{◌≡◌, ℕ, ◌+◌, Bool, true, false, length, refl, ap, sym, ◌∙◌}
+use Rattle.lock_event.specs.Lists.{marked_count, without, is_marked_at}
+use Rattle.lock_queue.specs.Parties.{is_party}
+use Rattle.lock_queue.specs.Queues.{Queue}
+use Rattle.lock_world.specs.Steps.{joins, asks, leaves, notifies}
+use Rattle.lock_world.proofs.Equations.{chosen}
+use Rattle.lock_world.proofs.Lists.{counted_by}
 use Rattle.mutex_machine.specs.declared.program.Action.{Action}
 use Rattle.mutex_machine.specs.declared.program.Action.TheVariants as act
 use Rattle.mutex_machine.specs.declared.program.Found.{Found}
@@ -12,10 +14,7 @@ use Rattle.mutex_machine.specs.declared.word.Word.{Word}
 use Rattle.mutex_machine.specs.Roles.{bit}
 use Rattle.mutex_machine.specs.Effects.{OnWord, word}
 use Rattle.mutex_machine.specs.Seats.{CanDo, OnList}
-use Rattle.lock_queue.specs.Parties.{is_party}
-use Rattle.lock_queue.specs.Queues.{Queue}
 use Rattle.mutex_machine.specs.Tally.{Tally, tally_of}
-use Rattle.mutex_machine.proofs.Owners.{listed_one}
 use Rattle.mutex_machine.proofs.Steps.{Effect, SameWord, SameList}
 
 module _ (v w : Word) (s t : Queue) where
@@ -30,6 +29,9 @@ module _ (v w : Word) (s t : Queue) where
 
   list_kept : t ≡ s → SameList before behind
   list_kept e = (ap (λ s. length s.entries) e, ap (λ s. marked_count s.entries) e)
+
+  abbrev told : ℕ → Bool
+  told p = is_marked_at (is_party p) s.entries
 
   held_is : (h : Bool) (n : ℕ) → w ≡ word h n v.limit → (bit w.held ≡ bit h) × (w.starved ≡ n) × (w.limit ≡ v.limit)
   held_is h n e = (ap (λ w. bit w.held) e, ap (λ w. w.starved) e, ap (λ w. w.limit) e)
@@ -55,23 +57,15 @@ module _ (v w : Word) (s t : Queue) where
   numbers p memory act.Uncount _ e l k = absurd e
   numbers p memory act.Clear Done e l k = let h = held_is false v.starved e.1 in (ap bit e.0, h.0, h.1, h.2, list_kept l)
   numbers p memory act.Clear _ e l k = absurd e
-  numbers p memory act.Join Done e l k = (word_kept e, ap (λ q. length q.entries) l.1 ∙ length-joined s.entries p, ap (λ q. marked_count q.entries) l.1 ∙ marked_count-joined s.entries p)
+  numbers p memory act.Join Done e l k = (word_kept e, counted_by p s.entries t.entries joins (told p) refl tt (ap (λ q. q.entries) l.1))
   numbers p memory act.Join NoMemory e l k = (word_kept e, list_kept l.1)
   numbers p memory act.Join _ e l k = absurd e
-  numbers p memory act.Ask Yes e l k =
-      (word_kept e, rw l.1 (length-without (is_party p) s.entries (is_listed-marked (is_party p) s.entries l.0)), rw l.1 (marked_count-without_marked (is_party p) s.entries l.0))
+  numbers p memory act.Ask Yes e l k = (word_kept e, counted_by p s.entries t.entries asks true l.0 k.1 (ap (λ q. q.entries) l.1 ∙ sym (chosen (told p) (without (is_party p) s.entries) s.entries l.0)))
   numbers p memory act.Ask No e l k = (word_kept e, list_kept l.1)
   numbers p memory act.Ask _ e l k = absurd e
-  numbers p memory act.Leave Done e l k =
-      let there : is_listed (is_party p) s.entries ≡ true = listed_one p s.entries k.1 in
-      let size : length t.entries ≡ length (without (is_party p) s.entries) = ap (λ q. length q.entries) l ∙ length-passed_on (mark_at (is_party p) s.entries) (without (is_party p) s.entries) in
-      let fewer : length (without (is_party p) s.entries) + 1 ≡ length s.entries = length-without (is_party p) s.entries there in
-      let size' : length t.entries + 1 ≡ length s.entries = rw size fewer in
-      (word_kept e, (size', (λ some told. rw (ap (λ q. q.entries) l) (marked_count-left (is_party p) s.entries (rw (← size) some) told))))
+  numbers p memory act.Leave Done e l k = (word_kept e, counted_by p s.entries t.entries leaves (told p) refl k.1 (ap (λ q. q.entries) l))
   numbers p memory act.Leave _ e l k = absurd e
-  numbers p memory act.Notify Done e l k =
-      let told : t.entries ≡ notified s.entries 1 = ap (λ s. s.entries) l in
-      (word_kept e, ap length told ∙ length-mark_waiting Notified (1 - marked_count s.entries) s.entries, λ some. rw told (marked_count-notified s.entries some))
+  numbers p memory act.Notify Done e l k = (word_kept e, counted_by p s.entries t.entries (notifies 1) (told p) refl tt (ap (λ q. q.entries) l))
   numbers p memory act.Notify _ e l k = absurd e
 
 -- no action moves the limit

@@ -4,8 +4,8 @@ use Rattle.std.proofs.Math.ListN.{set}
 use Rattle.std.proofs.Math.Decide.{ℕ_discrete}
 use Rattle.lock_queue.specs.Queues.{Queue}
 use Rattle.lock_queue.specs.Parties.{entries_of}
+use Rattle.lock_world.proofs.Lists.{OneAtMost, own_by, others_by}
 use Rattle.mutex_machine.specs.declared.program.Place.{Place}
-use Rattle.mutex_machine.specs.declared.program.Action.TheVariants as act
 use Rattle.mutex_machine.specs.declared.program.Place.TheVariants.{Out}
 use Rattle.mutex_machine.specs.Roles.{listed}
 use Rattle.mutex_machine.specs.Parties.{OnParties}
@@ -17,7 +17,7 @@ use Rattle.mutex_machine.specs.Seats.{CanDo, OnList}
 use Rattle.mutex_machine.specs.Tally.{tally_of, counts_of}
 use Rattle.mutex_machine.specs.Machine.{IsLock, SameRoles, place_at}
 use Rattle.mutex_machine.proofs.CanDo.{can_do}
-use Rattle.mutex_machine.proofs.Owners.{on_parties, parties_kept, lengths, others}
+use Rattle.mutex_machine.proofs.Owners.{on_parties, parties_kept, one_at_most}
 use Rattle.mutex_machine.proofs.Steps.{Effect, Moves}
 use Rattle.mutex_machine.proofs.Effects.{numbers}
 use Rattle.mutex_machine.proofs.Parties.{moves, counted_all}
@@ -32,17 +32,17 @@ module _ (p : ℕ) (v w : Word) (places : List Place) (list new : Queue) (memory
       let effect : Effect (action_of from) f (tally_of v list.entries) (tally_of w new.entries) = numbers v w list new p memory (action_of from) f word list_did can in
       let move : Moves from to (counts_of places) (counts_of (set places p to)) = moves places p from to known same in
       let follow = follows (tally_of v list.entries) (tally_of w new.entries) (counts_of places) (counts_of (set places p to)) from f effect lock.sound move in
-      let parties : OnParties p (action_of from) f list.entries new.entries = on_parties list new p memory (action_of from) f list_did in
-      let leaving : action_of from ≡ act.Leave → 0 < entries_of p list.entries = λ e. (let seat : CanDo p act.Leave v list = rw e at can in seat.1) in
-      let counts = lengths list.entries new.entries p (action_of from) f parties leaving in
+      let parties : OnParties p (action_of from) f list.entries new.entries = on_parties p memory list new (action_of from) f list_did in
+      let one : OneAtMost p list.entries new.entries = one_at_most p memory list new (action_of from) f v parties can in
+      let counts = own_by p list.entries new.entries one in
       let size : length new.entries + listed from ≡ length list.entries + listed to = follow.in_list in
       let own : entries_of p new.entries ≡ listed to = omega (arith, lock.owners p, same.standing, counts, size) in
       record {
         owners = λ j. elim (ℕ_discrete j p) as (λ _. entries_of j new.entries ≡ listed (place_at (set places p to) j)) [
           | yes e ↦ (let P : ℕ → Type 0 = λ k. entries_of k new.entries ≡ listed (place_at (set places p to) k) in
               subst P (sym e) (rw (get_or-set_same places p to Out known) own))
-          | no apart ↦ rw (get_or-set_other places p j to Out apart) (others list.entries new.entries p (action_of from) f parties j apart ∙ lock.owners j)
+          | no apart ↦ rw (get_or-set_other places p j to Out apart) (others_by p list.entries new.entries one j apart ∙ lock.owners j)
         ];
         sound = kept (tally_of v list.entries) (tally_of w new.entries) (counts_of places) (counts_of (set places p to)) from f effect lock.sound (counted_all places) (counted_all (set places p to)) move;
-        as_many = parties_kept list new p memory (action_of from) f list_did ∙ (lock.as_many ∙ sym (length-set places p to));
+        as_many = parties_kept p memory list new (action_of from) f list_did ∙ (lock.as_many ∙ sym (length-set places p to));
       }

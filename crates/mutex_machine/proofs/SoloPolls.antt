@@ -15,6 +15,7 @@ use Rattle.lock_queue.proofs.Rekeyed.{entries_of-joined, entries_of-mark_waiting
 use Rattle.lock_queue.proofs.Queues.{own_one, other_one}
 use Rattle.lock_world.specs.declared.refusal.Refusal.TheVariants as refusal
 pub use Rattle.lock_world.proofs.Bounds.{first_marked}
+use Rattle.lock_world.proofs.Lists.{is_there}
 use Rattle.mutex_machine.specs.declared.program.Place.{Place}
 use Rattle.mutex_machine.specs.declared.program.Place.TheVariants.{Out, Holding, Ask, AskStarved}
 use Rattle.mutex_machine.specs.declared.program.LockCall.TheVariants as call
@@ -29,7 +30,6 @@ use Rattle.mutex_machine.specs.Machine.{Lock, place_at}
 use Rattle.mutex_machine.specs.Acts.{Acts, IsMutex, IsAtRest, IsStarved, holders, starved}
 use Rattle.mutex_machine.specs.Solo.{GoesOnAlone, last, step, PollsAlone, at_once, begun, IsCalled, unstarved, unstarved_listed, Took, GaveWay, PollsInTurn, SoloPolls}
 use Rattle.mutex_machine.proofs.Laws.{resting_at}
-use Rattle.mutex_machine.proofs.Owners.{listed_one}
 use Rattle.mutex_machine.proofs.Solo.{Reached, Gives, Ends, polls_unstarved, polls_starved}
 
 -- ---- Sums over the entries of a list, by their parties
@@ -109,7 +109,7 @@ module _ (p : ℕ) (l new : Lock) (own : entries_of p l.entries ≡ 1) where
   told_entries q es = entries_of-mark_waiting q Notified (1 - marked_count es) es
 
   gone_length : length gone + 1 ≡ length l.entries
-  gone_length = length-without (is_party p) l.entries (listed_one p l.entries (omega arith))
+  gone_length = length-without (is_party p) l.entries (is_there p l.entries (omega arith))
 
   none_of_it : entries_of p gone ≡ 0
   none_of_it = let one : entries_of p gone + 1 ≡ entries_of p l.entries = entries_of-without_own p l.entries (omega arith) in omega arith

@@ -1,5 +1,7 @@
 -- What a step does to the numbers.
-use Rattle.std.proofs.Common.{◌≡◌, ◌+◌, ◌<◌, ◌≤◌, ◌≢◌}
+use Rattle.std.proofs.Common.{◌≡◌, ◌+◌, ◌<◌, ◌≤◌, ◌≢◌, Bool, true, false}
+use Rattle.lock_world.specs.Steps.{ListFunction, joins, asks, leaves, notifies}
+use Rattle.lock_world.proofs.Lists.{Counted}
 use Rattle.mutex_machine.specs.declared.program.Place.{Place}
 use Rattle.mutex_machine.specs.declared.program.Action.{Action}
 use Rattle.mutex_machine.specs.declared.program.Action.TheVariants as act
@@ -14,9 +16,8 @@ SameWord s t = (t.held ≡ s.held) × (t.starved ≡ s.starved) × (t.limit ≡ 
 abbrev pub SameList : Tally → Tally → Type 0
 SameList s t = (t.size ≡ s.size) × (t.marked ≡ s.marked)
 
--- an entry left, and what it was told went on
-abbrev pub Left : Tally → Tally → Type 0
-Left s t = (t.size + 1 ≡ s.size) × (0 < t.size → 0 < s.marked → 0 < t.marked)
+abbrev pub ListDid : ListFunction → Bool → Tally → Tally → Type 0
+ListDid f told s t = SameWord s t × Counted f told s.size s.marked t.size t.marked
 
 -- what an action does to the numbers where it finds this
 abbrev pub Effect : Action → Found → Tally → Tally → Type 0
@@ -33,12 +34,12 @@ Effect act.Count Done s t = (s.starved < s.limit) × (t.held ≡ s.held) × (t.s
 Effect act.Count AtLimit s t = (s.starved ≡ s.limit) × SameWord s t × SameList s t
 Effect act.Uncount Done s t = (t.held ≡ s.held) × (t.starved + 1 ≡ s.starved) × (t.limit ≡ s.limit) × SameList s t
 Effect act.Clear Done s t = (s.held ≡ 1) × (t.held ≡ 0) × (t.starved ≡ s.starved) × (t.limit ≡ s.limit) × SameList s t
-Effect act.Join Done s t = SameWord s t × (t.size ≡ s.size + 1) × (t.marked ≡ s.marked)
+Effect act.Join Done s t = ListDid joins false s t
 Effect act.Join NoMemory s t = SameWord s t × SameList s t
-Effect act.Ask Yes s t = SameWord s t × (t.size + 1 ≡ s.size) × (t.marked + 1 ≡ s.marked)
+Effect act.Ask Yes s t = ListDid asks true s t
 Effect act.Ask No s t = SameWord s t × SameList s t
-Effect act.Leave Done s t = SameWord s t × Left s t
-Effect act.Notify Done s t = SameWord s t × (t.size ≡ s.size) × (0 < s.size → 0 < t.marked)
+Effect act.Leave Done s t = ListDid leaves false s t
+Effect act.Notify Done s t = ListDid (notifies 1) false s t
 Effect _ _ s t = ⊥
 
 -- what holds of the numbers because it holds of each place

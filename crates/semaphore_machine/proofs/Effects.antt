@@ -4,7 +4,7 @@ use Rattle.lock_event.specs.Lists.{is_marked_at}
 use Rattle.lock_queue.specs.Parties.{is_party}
 use Rattle.lock_queue.specs.Queues.{Queue}
 use Rattle.lock_world.specs.Steps.{joins, asks, leaves, notifies}
-use Rattle.lock_table.proofs.Lists.{Counted, counted}
+use Rattle.lock_world.proofs.Lists.{Counted, counted}
 use Rattle.semaphore_machine.specs.declared.program.Action.{Action}
 use Rattle.semaphore_machine.specs.declared.program.Action.TheVariants as act
 use Rattle.semaphore_machine.specs.declared.program.Found.{Found}
@@ -40,7 +40,7 @@ module _ (p : ℕ) (w : Words) (q : Queue) (memory : Bool) where
   numbers (act.Raise n) _ e k = absurd e
   numbers act.Lower Done e k = (refl, omega arith, refl, (refl, refl))
   numbers act.Lower _ e k = absurd e
-  numbers act.Join Done e k = ((refl, refl, refl), counted p q.entries joins told refl k.1)
+  numbers act.Join Done e k = ((refl, refl, refl), counted p q.entries joins told refl tt)
   numbers act.Join NoMemory e k = ((refl, refl, refl), (refl, refl))
   numbers act.Join _ e k = absurd e
   numbers act.Ask Yes e k = ((refl, refl, refl), counted p q.entries asks true e k.1)

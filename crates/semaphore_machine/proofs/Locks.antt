@@ -16,8 +16,8 @@ use Rattle.lock_world.proofs.Equations.{some_eq}
 use Rattle.lock_table.specs.Stages.{call_at, polls_again, stage_after}
 use Rattle.lock_table.specs.Tables.{Keeps}
 use Rattle.lock_table.proofs.Mapped.{any_default}
-use Rattle.lock_table.proofs.Lists as lists
-use Rattle.lock_table.proofs.Lists.{CanList}
+use Rattle.lock_world.proofs.Lists as lists
+use Rattle.lock_world.proofs.Lists.{CanList}
 use Rattle.semaphore_machine.specs.declared.program.Action.{Action}
 use Rattle.semaphore_machine.specs.declared.program.Action.TheVariants as act
 use Rattle.semaphore_machine.specs.declared.program.Found.{Found}
@@ -98,7 +98,7 @@ can_of p w q (act.Raise n) Done k = tt
 can_of p w q (act.Raise n) _ k = tt
 can_of p w q act.Lower Done k = tt
 can_of p w q act.Lower _ k = tt
-can_of p w q act.Join Done k = k.1
+can_of p w q act.Join Done k = tt
 can_of p w q act.Join _ k = tt
 can_of p w q act.Ask Yes k = k.1
 can_of p w q act.Ask No k = k.1

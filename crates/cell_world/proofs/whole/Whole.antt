@@ -31,7 +31,7 @@ use Rattle.cell_machine.proofs.Kept.{after}
 use Rattle.cell_machine.proofs.Turns.{Turn, turn}
 use Rattle.lock_world.specs.Whole.{going_on}
 use Rattle.lock_frame.specs.Steps.{left_by, beginning}
-use Rattle.lock_table.proofs.Lists.{joined_unmarked}
+use Rattle.lock_world.proofs.Lists.{joined_unmarked}
 use Rattle.cell_machine.specs.Ranks.{left, left_at, active_marked, passive_marked, steps_left}
 use Rattle.cell_world.specs.Steps.{IsCellTable, TableSteps}
 use Rattle.cell_world.specs.Whole.{most_steps_of}

@@ -27,7 +27,7 @@ use Rattle.lock_frame.specs.Steps.{beginning}
 use Rattle.lock_frame.proofs.Runs.{along, Onward}
 use Rattle.lock_table.specs.declared.end.End.TheVariants.{Got, Granted, Pending, NotFree, GivenBack, Refused}
 use Rattle.lock_table.specs.Stages.{call_at, polls_again}
-use Rattle.lock_table.proofs.Lists.{others}
+use Rattle.lock_world.proofs.Lists.{others}
 use Rattle.mutex_machine.specs.Course.{Course as TurnCourse, is_waiting, is_told, listed}
 use Rattle.mutex_machine.specs.declared.mutex.Step.{Step as TurnStep}
 use Rattle.mutex_machine.specs.declared.mutex.Step.TheVariants as turn_step

@@ -18,7 +18,7 @@ use Rattle.lock_world.proofs.Equations.{some_eq}
 use Rattle.lock_frame.specs.Steps.{left_by, beginning}
 use Rattle.lock_table.specs.Stages.{stage_at, call_at, polls_again}
 use Rattle.lock_table.specs.Tables.{Table}
-use Rattle.lock_table.proofs.Lists.{joined_unmarked}
+use Rattle.lock_world.proofs.Lists.{joined_unmarked}
 use Rattle.semaphore_machine.specs.declared.program.Found.{Found}
 use Rattle.semaphore_machine.specs.declared.program.Found.TheVariants.{Done, Taken, NoneLeft, PastLimit, NoMemory, Yes, No}
 use Rattle.semaphore_machine.specs.declared.program.Place.{Place}

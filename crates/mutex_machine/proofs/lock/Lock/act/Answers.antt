@@ -58,7 +58,7 @@ returns-clause-acts c =
       found = c.carry_out-found.result;
       finds = finds c.self.inside.word c.self.inside.places.items c.self.inside.list c.args.party c.args.memory (action_of c.args.from) c.carry_out-found.result c.carry_out-found.new.word c.self.inside.list c.carry_out-found.new.list c.self.invariant word list;
       next_is = c.decide-next.ensures;
-      list = on_parties c.self.inside.list c.carry_out-found.new.list c.args.party c.args.memory (action_of c.args.from) c.carry_out-found.result list;
+      list = on_parties c.args.party c.args.memory c.self.inside.list c.carry_out-found.new.list (action_of c.args.from) c.carry_out-found.result list;
       places = ap (set c.self.inside.places.items c.args.party) c.after.ensures;
       limit = limit;
     })

@@ -2,8 +2,9 @@
 use Rattle.std.proofs.Common.{◌≡◌, ◌≢◌, ℕ, zero, suc, ◌+◌, ◌-◌, ◌<◌, ◌≤◌, if◌then◌else◌, Bool, true, false, List, [], ◌∷◌, length, refl, arith, ap, ◌∙◌}
 use Rattle.std.proofs.lemmas.Bool.Decides.{nat_tests}
 use Rattle.lock_event.specs.declared.event.Entry.{Entry}
+use Rattle.lock_event.specs.declared.event.Mark.{Mark}
 use Rattle.lock_event.specs.declared.event.Mark.TheVariants.{Waiting, Notified, Additional}
-use Rattle.lock_event.specs.Lists.{entry, marked_count, mark_waiting, without, mark_at, is_listed, is_marked_at}
+use Rattle.lock_event.specs.Lists.{entry, is_marked, marked_count, mark_waiting, without, mark_at, is_listed, is_marked_at}
 use Rattle.lock_event.proofs.Marks.{length-mark_waiting, marked_count-joined, mark_waiting-none}
 use Rattle.lock_event.proofs.Counts.{length-joined, length-without, length-passed_on, marked_count-without_marked, marked_count-le-mark_waiting, marked_count-left}
 use Rattle.lock_queue.specs.Parties.{is_party, entries_of}
@@ -16,21 +17,20 @@ pub is_there : (p : ℕ) (l : List (Entry ℕ)) → 0 < entries_of p l → is_li
 is_there p [] h = absurd (omega arith)
 is_there p (e ∷ es) h = grind (arith, nat_tests, is_there p es)
 
--- where a list isn't empty, notifying marks some entry
-mark_some : (n : ℕ) (l : List (Entry ℕ)) → 0 < length l → 0 < marked_count (mark_waiting Notified (suc n) l)
-mark_some n [] some = absurd (omega arith)
-mark_some n (e ∷ es) some = grind (arith, marked_count-le-mark_waiting Notified (suc n) es)
+-- where a list isn't empty, marking marks some entry
+pub mark_some : (m : Mark) → is_marked m ≡ true → (n : ℕ) → 0 < n → (l : List (Entry ℕ)) → 0 < length l → 0 < marked_count (mark_waiting m n l)
+mark_some m told n more [] some = absurd (omega arith)
+mark_some m told n more (e ∷ es) some = grind (arith, marked_count-le-mark_waiting m n es told)
 
 by_count : (n : ℕ) (l : List (Entry ℕ)) → 0 < length l → (k : ℕ) → marked_count l ≡ k → 0 < marked_count (mark_waiting Notified (suc n - k) l)
-by_count n l some zero e = let all : suc n - 0 ≡ suc n = omega arith in rw all (mark_some n l some)
+by_count n l some zero e = mark_some Notified refl (suc n - 0) (omega arith) l some
 by_count n l some (suc k) e = let more : marked_count l ≤ marked_count (mark_waiting Notified (suc n - suc k) l) = marked_count-le-mark_waiting Notified (suc n - suc k) l refl in omega arith
 
 none_more : (k : ℕ) (l : List (Entry ℕ)) → mark_waiting Notified (0 - k) l ≡ l
 none_more k l = let none : 0 - k ≡ 0 = omega arith in rw none (mark_waiting-none Notified l)
 
--- what a list function needs: nobody joins twice, and only a listed party asks or leaves
+-- what a list function needs: only a listed party asks or leaves
 abbrev pub CanList : ℕ → List (Entry ℕ) → ListFunction → Type 0
-CanList p l joins = entries_of p l ≡ 0
 CanList p l asks = 0 < entries_of p l
 CanList p l leaves = 0 < entries_of p l
 CanList p l _ = Unit {0}
@@ -88,7 +88,46 @@ module _ (p : ℕ) (l : List (Entry ℕ)) where
   others (notifies n) j apart = entries_of-mark_waiting j Notified (n - marked_count l) l
   others (notifies_additionally n) j apart = entries_of-mark_waiting j Additional n l
 
--- a marked party is listed, and one that isn't listed isn't marked
+-- how many entries a party with one entry at most has then
+module _ (p : ℕ) (l : List (Entry ℕ)) where
+  pub joined_own : entries_of p l ≡ 0 → entries_of p (list_after p joins l) ≡ 1
+  joined_own none = entries_of-joined p p l ∙ (own_one p l ∙ ap (λ n. 1 + n) none)
+
+  pub asked_own : is_marked_at (is_party p) l ≡ true → entries_of p l ≡ 1 → entries_of p (list_after p asks l) ≡ 0
+  asked_own e one = rw e (omega (arith, one, entries_of-without_own p l (omega (arith, one))))
+
+  pub asked_not : is_marked_at (is_party p) l ≡ false → entries_of p l ≡ 1 → entries_of p (list_after p asks l) ≡ 1
+  asked_not e one = rw e one
+
+  pub left_own : entries_of p l ≡ 1 → entries_of p (list_after p leaves l) ≡ 0
+  left_own one =
+      let mine : entries_of p (list_after p leaves l) ≡ entries_of p (without (is_party p) l) = entries_of-passed_on p (mark_at (is_party p) l) (without (is_party p) l) in
+      omega (arith, one, mine, entries_of-without_own p l (omega (arith, one)))
+
+  pub notified_own : (n k : ℕ) → entries_of p l ≡ k → entries_of p (list_after p (notifies n) l) ≡ k
+  notified_own n k so_many = entries_of-mark_waiting p Notified (n - marked_count l) l ∙ so_many
+
+  pub notified_additionally_own : (n k : ℕ) → entries_of p l ≡ k → entries_of p (list_after p (notifies_additionally n) l) ≡ k
+  notified_additionally_own n k so_many = entries_of-mark_waiting p Additional n l ∙ so_many
+
+-- One list function of this party at most made one list of another.
+pub data OneAtMost (p : ℕ) (l m : List (Entry ℕ)) : Type 0 where
+  unchanged : m ≡ l → OneAtMost p l m
+  done : (f : ListFunction) → CanList p l f → m ≡ list_after p f l → OneAtMost p l m
+
+module _ (p : ℕ) (l m : List (Entry ℕ)) where
+  pub counted_by : (f : ListFunction) (told : Bool) → is_marked_at (is_party p) l ≡ told → CanList p l f → m ≡ list_after p f l → Counted f told (length l) (marked_count l) (length m) (marked_count m)
+  counted_by f told t can e = rw e (counted p l f told t can)
+
+  pub own_by : OneAtMost p l m → entries_of p m + length l ≡ entries_of p l + length m
+  own_by (unchanged e) = rw e refl
+  own_by (done f can e) = rw e (own p l f can)
+
+  pub others_by : OneAtMost p l m → (j : ℕ) → j ≢ p → entries_of j m ≡ entries_of j l
+  others_by (unchanged e) j apart = rw e refl
+  others_by (done f can e) j apart = rw e (others p l f j apart)
+
+-- a party that isn't listed isn't marked
 pub unlisted_unmarked : (p : ℕ) (l : List (Entry ℕ)) → entries_of p l ≡ 0 → is_marked_at (is_party p) l ≡ false
 unlisted_unmarked p [] none = refl
 unlisted_unmarked p (e ∷ es) none = grind (arith, nat_tests, unlisted_unmarked p es)
