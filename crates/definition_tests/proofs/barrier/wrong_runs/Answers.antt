@@ -60,7 +60,7 @@ pub returns-clause-two_leaders : goal.returns-clause-two_leaders
 returns-clause-two_leaders c = λ r.
     let now = r.legal_too.carries.ready _ r.leads_too in
     let next : generations_of r.second.new.size r.second.new.arrivals ≡ generations_of r.second.new.size r.second.old.arrivals + 1 =
-        ap (generations_of r.second.new.size) now.0.number ∙ next_generation r.second.new.size r.second.old.arrivals (subst (Leads r.second.new.size) now.0.number now.1) in
+    ap (generations_of r.second.new.size) now.0.number ∙ next_generation r.second.new.size r.second.old.arrivals (subst (Leads r.second.new.size) now.0.number now.1) in
     let before : generations_of r.first.new.size r.first.new.arrivals ≤ generations_of r.first.new.size r.second.old.arrivals = in_order r.first.new.size r.first.new.arrivals r.second.old.arrivals r.later in
     let sizes : generations_of r.second.new.size r.second.old.arrivals ≡ generations_of r.first.new.size r.second.old.arrivals = ap (λ n. generations_of n r.second.old.arrivals) r.one_barrier in
     absurd (omega (arith, next, before, sizes, r.same))
