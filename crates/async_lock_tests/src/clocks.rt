@@ -14,7 +14,7 @@ use std::time::{Clock, Duration};
 /// A runtime of a test's own: its clock stands where the test puts it, and past the first hour it can't be read.
 /// It has no random numbers.
 #[derive(Drop)]
-pub struct Fake<R> {
+pub(crate) struct Fake<R> {
     rt: R,
     micros: Arc<AtomicU64>,
 }
@@ -23,7 +23,7 @@ const HOUR: u64 = 3_600_000_000;
 
 impl<R> Fake<R> {
     /// A runtime by this clock, in microseconds.
-    pub fn new(rt: R, micros: Arc<AtomicU64>) -> Fake<R> {
+    pub(crate) fn new(rt: R, micros: Arc<AtomicU64>) -> Fake<R> {
         Fake { rt, micros }
     }
 }

@@ -8,7 +8,7 @@ use std::sync::Wait;
 use std::time::Clock;
 
 /// One poll. Where memory is refused, one more: a refused future is as when it was made.
-pub fn poll<'a, T, R: Wait + Clock>(
+pub(crate) fn poll<'a, T, R: Wait + Clock>(
     task: &MockTask,
     future: &mut Settled<Lock<'a, T, R>>,
 ) -> Turn<MutexGuard<'a, T, R>> {
@@ -24,7 +24,7 @@ pub fn poll<'a, T, R: Wait + Clock>(
 }
 
 /// As [`poll`], of an owned future.
-pub fn poll_arc<T: Drop, R: Wait + Clock + Drop>(
+pub(crate) fn poll_arc<T: Drop, R: Wait + Clock + Drop>(
     task: &MockTask,
     future: &mut Settled<LockArc<T, R>>,
 ) -> Turn<MutexGuardArc<T, R>> {
@@ -40,7 +40,7 @@ pub fn poll_arc<T: Drop, R: Wait + Clock + Drop>(
 }
 
 /// Whether this poll is pending.
-pub fn is_pending<T, R: Wait + Clock>(
+pub(crate) fn is_pending<T, R: Wait + Clock>(
     task: &MockTask,
     future: &mut Settled<Lock<'_, T, R>>,
 ) -> bool {
@@ -48,7 +48,7 @@ pub fn is_pending<T, R: Wait + Clock>(
 }
 
 /// Whether this poll is pending, of an owned future.
-pub fn is_pending_arc<T: Drop, R: Wait + Clock + Drop>(
+pub(crate) fn is_pending_arc<T: Drop, R: Wait + Clock + Drop>(
     task: &MockTask,
     future: &mut Settled<LockArc<T, R>>,
 ) -> bool {
@@ -56,7 +56,7 @@ pub fn is_pending_arc<T: Drop, R: Wait + Clock + Drop>(
 }
 
 /// The guard, if this poll is ready.
-pub fn ready<'a, T, R: Wait + Clock>(
+pub(crate) fn ready<'a, T, R: Wait + Clock>(
     task: &MockTask,
     future: &mut Settled<Lock<'a, T, R>>,
 ) -> Option<MutexGuard<'a, T, R>> {
@@ -67,7 +67,7 @@ pub fn ready<'a, T, R: Wait + Clock>(
 }
 
 /// The guard, if this poll is ready, of an owned future.
-pub fn ready_arc<T: Drop, R: Wait + Clock + Drop>(
+pub(crate) fn ready_arc<T: Drop, R: Wait + Clock + Drop>(
     task: &MockTask,
     future: &mut Settled<LockArc<T, R>>,
 ) -> Option<MutexGuardArc<T, R>> {

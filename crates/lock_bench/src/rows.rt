@@ -13,7 +13,7 @@ use std::time::Clock;
 
 /// Lock and unlock of std's mutex.
 #[derive(Drop)]
-pub struct StdPair<'a, 'b, R> {
+pub(crate) struct StdPair<'a, 'b, R> {
     pub rt: &'a R,
     pub mutex: &'b std::sync::Mutex<u64>,
 }
@@ -29,7 +29,7 @@ impl<R: Wait> Row for StdPair<'_, '_, R> {
 
 /// `try_lock` of a free mutex, and the guard's drop.
 #[derive(Drop)]
-pub struct TryPair<'a, R: Wait> {
+pub(crate) struct TryPair<'a, R: Wait> {
     pub mutex: &'a Mutex<u64, R>,
 }
 
@@ -45,7 +45,7 @@ impl<R: Wait> Row for TryPair<'_, R> {
 
 /// `try_lock` of a mutex that is held.
 #[derive(Drop)]
-pub struct HeldTry<'a, R: Wait> {
+pub(crate) struct HeldTry<'a, R: Wait> {
     pub mutex: &'a Mutex<u64, R>,
 }
 
@@ -61,7 +61,7 @@ impl<R: Wait> Row for HeldTry<'_, R> {
 
 /// `try_lock_arc` of a free mutex, and the guard's drop.
 #[derive(Drop)]
-pub struct TryArcPair<'a, R: Wait> {
+pub(crate) struct TryArcPair<'a, R: Wait> {
     pub mutex: &'a Arc<Mutex<u64, R>>,
 }
 
@@ -77,7 +77,7 @@ impl<R: Wait + Drop> Row for TryArcPair<'_, R> {
 
 /// A `lock` that is ready at its first poll, and the guard's drop.
 #[derive(Drop)]
-pub struct LockPair<'a, 'b, R: Wait> {
+pub(crate) struct LockPair<'a, 'b, R: Wait> {
     pub mutex: &'a Mutex<u64, R>,
     pub task: &'b MockTask,
 }
@@ -97,7 +97,7 @@ impl<R: Wait + Clock> Row for LockPair<'_, '_, R> {
 
 /// `lock_blocking` of a free mutex, and the guard's drop.
 #[derive(Drop)]
-pub struct BlockingPair<'a, R: Wait> {
+pub(crate) struct BlockingPair<'a, R: Wait> {
     pub mutex: &'a Mutex<u64, R>,
 }
 
@@ -113,7 +113,7 @@ impl<R: Wait + Clock + RandomSource + AllocGlobal> Row for BlockingPair<'_, R> {
 
 /// A poll of a new future to pending, and the future's drop.
 #[derive(Drop)]
-pub struct PendingPoll<'a, 'b, R: Wait> {
+pub(crate) struct PendingPoll<'a, 'b, R: Wait> {
     pub mutex: &'a Mutex<u64, R>,
     pub task: &'b MockTask,
 }
@@ -134,7 +134,7 @@ impl<R: Wait + Clock> Row for PendingPoll<'_, '_, R> {
 /// Hand-over with so many futures waiting: the guard is dropped, the first future in the list gets the lock, and a new
 /// one joins in its place.
 #[derive(Drop)]
-pub struct HandOver<'a, 'b, R: Wait> {
+pub(crate) struct HandOver<'a, 'b, R: Wait> {
     pub mutex: &'a Mutex<u64, R>,
     pub task: &'b MockTask,
     pub alloc: Global,

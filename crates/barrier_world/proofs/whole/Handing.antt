@@ -12,7 +12,7 @@ use Rattle.lock_world.specs.Frame.{is_refusal}
 use Rattle.lock_world.specs.Standings.{outside}
 use Rattle.lock_world.specs.Whole.{moves_of, answers_of}
 use Rattle.lock_table.specs.Tables.{Table}
-use Rattle.lock_table.proofs.Lists.{joined_unmarked}
+use Rattle.lock_world.proofs.Lists.{joined_unmarked}
 use Rattle.mutex_machine.specs.declared.mutex.Step.{Step as LockStep}
 use Rattle.mutex_machine.specs.declared.mutex.Step.TheVariants as lock_step
 use Rattle.mutex_machine.specs.declared.program.End.TheVariants as lock_end

@@ -9,7 +9,7 @@ use Rattle.lock_world.specs.declared.moves.Inputs.{Inputs}
 use Rattle.lock_world.specs.declared.refusal.Refusal.TheVariants as refusal
 use Rattle.lock_world.specs.Standings.{refused}
 use Rattle.lock_world.specs.Steps.{Deed, nothing, changes, does}
-use Rattle.lock_table.proofs.Lists.{joined_unmarked}
+use Rattle.lock_world.proofs.Lists.{joined_unmarked}
 use Rattle.mutex_machine.specs.declared.mutex.Step.{Step as LockStep}
 use Rattle.mutex_machine.specs.declared.mutex.Step.TheVariants as lock_step
 use Rattle.mutex_machine.specs.declared.program.End.TheVariants as lock_end
