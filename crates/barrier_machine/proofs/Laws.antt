@@ -15,7 +15,7 @@ use Rattle.barrier_machine.specs.declared.words.Progress.{Progress}
 use Rattle.barrier_machine.specs.declared.words.Words.{Words}
 use Rattle.barrier_machine.specs.Roles.{fits_lock, in_lock, is_late, will_tell, is_resting}
 use Rattle.barrier_machine.specs.Machine.{IsKept, IsAtRest, IsBarrier, AllTold, position_at, arrival_at}
-use Rattle.barrier_machine.proofs.Marks.{else_marked}
+use Rattle.lock_queue.proofs.Marks.{else_marked}
 
 -- a resting party is counted if it is listed, is about to tell nobody, and rests in the inner lock without it
 rest_late : (x : Position) → is_resting x ≡ true → is_late x ≡ false

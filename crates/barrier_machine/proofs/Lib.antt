@@ -2,7 +2,6 @@ pub mod Starts
 pub mod Links
 pub mod CanDo
 pub mod Rows
-pub mod Marks
 pub mod Listed
 pub mod Told
 pub mod Kept

@@ -1,10 +1,9 @@
 -- Whose the entries of the barrier's list are, after an action.
-use Rattle.std.proofs.Common.{◌≡◌, ◌≢◌, ℕ, ◌+◌, ◌<◌, true, false, List, length, refl, arith}
+use Rattle.std.proofs.Common.{◌≡◌, ◌≢◌, ℕ, ◌+◌, List, length, refl}
 use Rattle.lock_event.specs.declared.event.Entry.{Entry}
-use Rattle.lock_event.specs.Lists.{is_marked_at}
-use Rattle.lock_queue.specs.Parties.{is_party, entries_of}
+use Rattle.lock_queue.specs.Parties.{entries_of}
 use Rattle.lock_world.specs.declared.moves.Inputs.{Inputs}
-use Rattle.lock_world.specs.Steps.{joins, asks, leaves, notifies, list_after}
+use Rattle.lock_world.specs.Steps.{joins, asks, leaves, notifies}
 use Rattle.lock_world.proofs.Lists as lists
 use Rattle.lock_world.proofs.Lists.{joined_own, asked_own, asked_not, left_own, notified_own}
 use Rattle.mutex_machine.specs.declared.mutex.Step.TheVariants as lock_step

@@ -5,7 +5,9 @@ use Rattle.std.proofs.Math.Decide.{ℕ_discrete}
 use Rattle.lock_event.specs.declared.event.Entry.{Entry}
 use Rattle.lock_event.specs.declared.event.Mark.TheVariants as mark
 use Rattle.lock_event.specs.Lists.{marked_count}
-use Rattle.lock_queue.specs.Parties.{entries_of}
+use Rattle.lock_queue.specs.Parties.{entries_of, is_unmarked}
+use Rattle.lock_queue.proofs.Marks.{never_unlisted, all_marked}
+use Rattle.lock_world.proofs.Lists.{unmarked_before}
 use Rattle.lock_world.specs.declared.moves.Inputs.{Inputs}
 use Rattle.lock_world.specs.Steps.{joins, asks, leaves, notifies}
 use Rattle.barrier_machine.specs.declared.program.Action.{Action}
@@ -22,9 +24,8 @@ use Rattle.barrier_machine.specs.Words.{progress}
 use Rattle.barrier_machine.specs.Program.{action_of}
 use Rattle.barrier_machine.specs.Deeds.{Finds, arrival_after, entries_after, everyone}
 use Rattle.barrier_machine.specs.Roles.{listed, is_late, will_tell, Sure}
-use Rattle.barrier_machine.specs.Machine.{position_at, arrival_at, is_unmarked, AllTold}
+use Rattle.barrier_machine.specs.Machine.{position_at, arrival_at, AllTold}
 use Rattle.barrier_machine.proofs.Rows.{then, after, same_generation}
-use Rattle.barrier_machine.proofs.Marks.{never_unlisted, all_marked, unmarked_before}
 use Rattle.barrier_machine.proofs.Listed.{lock_listed, cancel_listed}
 
 few_marked : (l : List (Entry ℕ)) → marked_count l ≤ length l

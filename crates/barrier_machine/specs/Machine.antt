@@ -2,8 +2,8 @@
 use Rattle.std.specs.Prelude.{◌≡◌, ℕ, ◌+◌, ◌<◌, ◌≤◌, ◌&&◌, if◌then◌else◌, Bool, true, false, List, [], ◌∷◌, length, Some, slice_index_or, slice_set, replicate}
 use Rattle.std.specs.List.{sum_by}
 use Rattle.lock_event.specs.declared.event.Entry.{Entry}
-use Rattle.lock_event.specs.Lists.{is_marked, marked_count, is_marked_at, IsMarkedFirst}
-use Rattle.lock_queue.specs.Parties.{is_party, entries_of}
+use Rattle.lock_event.specs.Lists.{marked_count, is_marked_at, IsMarkedFirst}
+use Rattle.lock_queue.specs.Parties.{is_party, entries_of, is_unmarked}
 use Rattle.lock_queue.specs.Queues.{Queue}
 use Rattle.lock_world.specs.declared.moves.Answer.{Answer}
 use Rattle.lock_world.specs.declared.moves.Answer.TheVariants as answer
@@ -66,11 +66,6 @@ abbrev pub new_barrier : ℕ → ℕ → ℕ → ℕ → Barrier
 new_barrier parties size starved most = record { words = new_words size most; positions = replicate parties Out; arrivals = replicate parties (progress 0 0); entries = []; lock = new_mutex parties starved }
 
 -- ---- What always holds
-
--- Whether the party has an entry there that isn't marked.
-abbrev pub is_unmarked : ℕ → List (Entry ℕ) → Bool
-is_unmarked p [] = false
-is_unmarked p (e ∷ es) = if is_party p e.key then (if is_marked e.mark then false else true) else is_unmarked p es
 
 -- Each entry is marked whose party's generation is finished; unless somebody is about to mark them all, or the party isn't counted yet.
 abbrev pub AllTold : Words → List Position → List Progress → List (Entry ℕ) → Type 0

@@ -15,7 +15,7 @@ use Rattle.cell_machine.specs.declared.words.Content.TheVariants as content
 use Rattle.cell_machine.specs.Seats.{in_active, waits, owes, is_late, will_tell, is_resting}
 use Rattle.cell_machine.specs.Tally.{free_of}
 use Rattle.cell_machine.specs.Machine.{IsKept, IsAtRest, IsCell, AllTold, position_at}
-use Rattle.cell_machine.proofs.Marks.{else_marked}
+use Rattle.lock_queue.proofs.Marks.{else_marked}
 
 abbrev roles : Roles Position
 roles = record { listed = in_active; waits = waits; owes = owes }

@@ -3,12 +3,12 @@ use Rattle.std.proofs.Common.{◌≡◌, ◌≢◌, ℕ, ◌+◌, ◌*◌, ◌<�
 use Rattle.std.proofs.Math.ListN.{set}
 use Rattle.std.proofs.Math.Decide.{ℕ_discrete}
 use Rattle.std.specs.List.{sum_by}
+use Rattle.std.proofs.lemmas.List.{get_or_default}
 use Rattle.std.proofs.lemmas.List.Sums.{sum_by-set, sum_by-le, sum_by-le-sum_by, get_or-le-sum_by}
 use Rattle.lock_event.specs.declared.event.Entry.{Entry}
-use Rattle.lock_event.specs.Lists.{is_marked_at}
-use Rattle.lock_queue.specs.Parties.{is_party, entries_of}
+use Rattle.lock_queue.specs.Parties.{entries_of}
 use Rattle.lock_world.specs.declared.moves.Inputs.{Inputs}
-use Rattle.lock_world.specs.Steps.{Deed, nothing, changes, does, joins, asks, leaves, notifies, notifies_additionally, list_after}
+use Rattle.lock_world.specs.Steps.{Deed, nothing, changes, does}
 use Rattle.lock_world.proofs.Equations.{some_eq}
 use Rattle.lock_queue.specs.Queues.{Queue, queue}
 use Rattle.lock_world.specs.declared.moves.What.{What}
@@ -19,7 +19,6 @@ use Rattle.lock_table.specs.Stages.{call_at, polls_again, stage_after}
 use Rattle.lock_table.specs.Tables.{Keeps}
 use Rattle.lock_world.proofs.Lists as lists
 use Rattle.lock_world.proofs.Lists.{CanList, joined_own, asked_own, asked_not, left_own, notified_own, notified_additionally_own}
-use Rattle.lock_table.proofs.Mapped.{any_default}
 use Rattle.cell_machine.specs.declared.program.Action.{Action}
 use Rattle.cell_machine.specs.declared.program.Action.TheVariants as act
 use Rattle.cell_machine.specs.declared.program.Found.{Found}
@@ -394,7 +393,7 @@ pub record Began (xs : List Position) (p : ℕ) (w : Within) (what : What) (from
 pub began : (xs : List Position) (p : ℕ) (read : Position) (w : Within) (what : What) (s : Stage) (from : Place) → p < length xs → read ≡ get_or xs p read → place_for what read ≡ Some from
     → goes_with s (position_at xs p) ≡ true → call_at knows s what ≡ Some w → polls_again s what ≡ false → Began xs p w what from
 began xs p read w what s from known is starts stands call first =
-    let here : position_at xs p ≡ read = any_default xs p Out read known ∙ sym is in
+    let here : position_at xs p ≡ read = get_or_default xs p Out read known ∙ sym is in
     let t = fits s what w (position_at xs p) stands call first in
     let starts' : place_for what (position_at xs p) ≡ Some from = ap (place_for what) here ∙ starts in
     let same : t.from ≡ from = some_eq (sym t.starts ∙ starts') in

@@ -17,7 +17,7 @@ use Rattle.cell_machine.specs.declared.words.Words.{Words}
 use Rattle.cell_machine.specs.Words.{content_by, kept_by, content_of, kept_of, refilled}
 use Rattle.cell_machine.specs.Seats.{in_active, waits, owes, is_late, will_tell}
 use Rattle.cell_machine.specs.Machine.{IsKept, position_at}
-use Rattle.cell_machine.proofs.Marks.{else_marked}
+use Rattle.lock_queue.proofs.Marks.{else_marked}
 
 -- where some term of a sum isn't nothing, one party has it
 some_term : (f : Position → ℕ) (xs : List Position) → 0 < sum_by f xs → (p : ℕ) × (0 < f (position_at xs p))

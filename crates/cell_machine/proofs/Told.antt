@@ -4,7 +4,9 @@ use Rattle.std.proofs.Math.ListN.{set}
 use Rattle.std.proofs.Math.Decide.{ℕ_discrete}
 use Rattle.lock_event.specs.declared.event.Entry.{Entry}
 use Rattle.lock_event.specs.declared.event.Mark.TheVariants as mark
-use Rattle.lock_queue.specs.Parties.{entries_of}
+use Rattle.lock_queue.specs.Parties.{entries_of, is_unmarked}
+use Rattle.lock_queue.proofs.Marks.{never_unlisted, all_marked}
+use Rattle.lock_world.proofs.Lists.{unmarked_before}
 use Rattle.lock_world.specs.declared.moves.Inputs.{Inputs}
 use Rattle.lock_world.specs.Steps.{Deed, nothing, changes, does}
 use Rattle.cell_machine.specs.declared.program.Found.{Found}
@@ -20,9 +22,8 @@ use Rattle.cell_machine.specs.declared.words.Content.TheVariants as content
 use Rattle.cell_machine.specs.Program.{action_of}
 use Rattle.cell_machine.specs.Seats.{in_active, in_passive_at, is_late, will_tell}
 use Rattle.cell_machine.specs.Deeds.{Finds, deed_of, content_after, active_after, passive_after, list_of, everyone, Change}
-use Rattle.cell_machine.specs.Machine.{position_at, is_unmarked, AllTold}
+use Rattle.cell_machine.specs.Machine.{position_at, AllTold}
 use Rattle.cell_machine.proofs.Kept.{after}
-use Rattle.cell_machine.proofs.Marks.{never_unlisted, all_marked, unmarked_before}
 use Rattle.cell_machine.proofs.Contents.{full_before}
 
 abbrev pub in_list : ListName → Position → ℕ

@@ -1,9 +1,9 @@
 -- A once-cell: what is in it, where each party stands, and who waits in its lists; and what one action does to it.
-use Rattle.std.specs.Prelude.{◌≡◌, ℕ, ◌<◌, ◌≤◌, ◌==◌, ◌&&◌, if◌then◌else◌, Bool, true, false, List, [], ◌∷◌, length, Option, Some, slice_index_or, slice_set, replicate}
+use Rattle.std.specs.Prelude.{◌≡◌, ℕ, ◌<◌, ◌≤◌, ◌==◌, ◌&&◌, Bool, true, false, List, [], ◌∷◌, length, Option, Some, slice_index_or, slice_set, replicate}
 use Rattle.std.specs.List.{sum_by}
 use Rattle.lock_event.specs.declared.event.Entry.{Entry}
-use Rattle.lock_event.specs.Lists.{is_marked, marked_count, is_marked_at, IsMarkedFirst}
-use Rattle.lock_queue.specs.Parties.{is_party, entries_of}
+use Rattle.lock_event.specs.Lists.{marked_count, is_marked_at, IsMarkedFirst}
+use Rattle.lock_queue.specs.Parties.{is_party, entries_of, is_unmarked}
 use Rattle.lock_queue.specs.Queues.{Queue}
 use Rattle.lock_world.specs.declared.moves.Answer.{Answer}
 use Rattle.lock_world.specs.declared.moves.Answer.TheVariants as answer
@@ -58,11 +58,6 @@ new_cell parties = record { content = content.Empty; positions = replicate parti
 abbrev pub is_maker : Content → ℕ → Bool
 is_maker (content.BeingMade q) p = q == p
 is_maker _ p = false
-
--- Whether the party has an entry there that isn't marked.
-abbrev pub is_unmarked : ℕ → List (Entry ℕ) → Bool
-is_unmarked p [] = false
-is_unmarked p (e ∷ es) = if is_party p e.key then (if is_marked e.mark then false else true) else is_unmarked p es
 
 -- Once the cell is full, each entry of this list is marked, but of parties that haven't seen it yet or are about to leave; unless somebody is about to mark them all.
 abbrev pub AllTold : ListName → Content → List Position → List (Entry ℕ) → Type 0

@@ -1,18 +1,19 @@
 -- What a table makes of a move is what callers make of it.
-use Rattle.std.proofs.Common.{◌≡◌, Bool, true, false, Option, Some, refl}
+use Rattle.std.proofs.Common.{◌≡◌, ◌||◌, Bool, true, false, Option, Some, None, is_some, refl}
 use Rattle.lock_world.specs.declared.moves.Answer.{Answer}
 use Rattle.lock_world.specs.declared.moves.Answer.TheVariants as answer
 use Rattle.lock_world.specs.declared.moves.Call.{Call}
 use Rattle.lock_world.specs.declared.moves.Call.TheVariants.{Poll}
 use Rattle.lock_world.specs.declared.moves.What.{What}
 use Rattle.lock_world.specs.declared.moves.What.TheVariants.{Begin, Go}
+use Rattle.lock_world.specs.declared.standing.Kind.TheVariants as kind
 use Rattle.lock_world.specs.declared.standing.Rest.{Rest}
 use Rattle.lock_world.specs.declared.standing.Rest.TheVariants.{Idle, Pending, Holding, Finished}
 use Rattle.lock_world.specs.declared.standing.Stage.{Stage}
 use Rattle.lock_world.specs.declared.standing.Stage.TheVariants.{Outside, Inside, Forgotten}
 use Rattle.lock_world.specs.declared.standing.Within.{Within}
 use Rattle.lock_world.specs.Frame.{is_poll_after_ready}
-use Rattle.lock_world.specs.Standings.{call_in, may_end, is_possible, is_stepped, decision, StandsAfter}
+use Rattle.lock_world.specs.Standings.{inside, is_decided, call_in, may_end, is_possible, is_stepped, decision, StandsAfter}
 use Rattle.lock_table.specs.Stages.{stands_as, call_at, polls_again, stage_after}
 
 -- the call that a move belongs to
@@ -51,3 +52,19 @@ decided_after a d = Some a
 pub decision_seen : (ready : Rest) (w : Within) (a : Answer) (d : Option Answer) → decision a (stands_as d (stage_after ready w a)) ≡ decided_after a d
 decision_seen ready w answer.Stepped d = refl
 decision_seen ready w _ d = refl
+
+-- what ends a first poll ends a later one
+pub later_ends : (a : Answer) → may_end kind.FirstPoll a ≡ true → may_end kind.LaterPoll a ≡ true
+later_ends answer.Pending h = refl
+later_ends (answer.Ready got) h = refl
+later_ends (answer.Refused n) h = refl
+later_ends _ h = absurd (cc)
+
+-- a party inside a call is decided where the call is, and until then on nothing
+pub decides_so : (w : Within) (o : Option Answer) → is_decided (inside w o) || false ≡ is_some o
+decides_so w None = refl
+decides_so w (Some b) = refl
+
+pub undecided_so : (w : Within) (o : Option Answer) (b : Answer) → is_decided (inside w o) ≡ false → o ≡ Some b → b ≡ answer.GivenBack
+undecided_so w None b h e = absurd (cc)
+undecided_so w (Some c) b h e = absurd (cc)

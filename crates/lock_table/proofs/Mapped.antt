@@ -24,12 +24,6 @@ past_last [] q d h = refl
 past_last (x ∷ xs) zero d h = absurd (omega arith)
 past_last (x ∷ xs) (suc q) d h = past_last xs q d (omega arith)
 
--- whatever is read past the last
-pub any_default : {A : Type 0} (xs : List A) (i : ℕ) (d e : A) → i < length xs → get_or xs i d ≡ get_or xs i e
-any_default [] i d e h = absurd (omega arith)
-any_default (x ∷ xs) zero d e h = refl
-any_default (x ∷ xs) (suc i) d e h = any_default xs i d e (omega arith)
-
 -- an element is put where it stands already
 pub set_same : {A : Type 0} (l : List A) (p : ℕ) (d y : A) → get_or l p d ≡ y → p < length l → set l p y ≡ l
 set_same [] p d y e h = refl

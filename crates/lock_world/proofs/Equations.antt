@@ -1,12 +1,16 @@
 -- What equations of options, of standings and of tests say. `cc` finds this too, but reads all that is in scope first, in each case of a long function.
-use Rattle.std.proofs.Common.{◌≡◌, ℕ, ◌==◌, ◌&&◌, if◌then◌else◌, Bool, true, false, Option, Some, None, refl, arith, sym}
+use Rattle.std.proofs.Common.{◌≡◌, ℕ, ◌==◌, if◌then◌else◌, Bool, true, false, Option, Some, None, IsSomeAnd, refl, arith, sym, subst}
+pub use Rattle.std.proofs.lemmas.Bool.{and_parts as both}
 use Rattle.std.proofs.lemmas.Bool.Decides.{nat_tests}
 use Rattle.std.proofs.lemmas.Option.{none-some, same_Some}
 use Rattle.lock_world.specs.declared.moves.Answer.{Answer}
 use Rattle.lock_world.specs.declared.moves.Answer.TheVariants as answer
+use Rattle.lock_world.specs.declared.moves.Got.{Got}
+use Rattle.lock_world.specs.declared.moves.Got.TheVariants.{Value}
+use Rattle.lock_world.specs.declared.refusal.Refusal.TheVariants as refusal
 use Rattle.lock_world.specs.declared.standing.Rest.{Rest}
 use Rattle.lock_world.specs.declared.standing.Within.{Within}
-use Rattle.lock_world.specs.Standings.{outside, inside}
+use Rattle.lock_world.specs.Standings.{outside, inside, refused}
 
 pub some_eq : {A : Type 0} {x y : A} → Some x ≡ Some y → x ≡ y
 some_eq e = same_Some _ _ e
@@ -20,6 +24,14 @@ some_none e = none-some _ (sym e)
 pub outside_inside : {r : Rest} {w : Within} {d : Option Answer} → outside r ≡ inside w d → ⊥
 outside_inside e = cc
 
+-- an option with a value of which something holds
+pub witness : {A : Type 0} {P : A → Type 0} (o : Option A) → IsSomeAnd o P → (x : A) × (o ≡ Some x) × P x
+witness None h = absurd h
+witness (Some x) h = (x, refl, h)
+
+pub is_some_and : {A : Type 0} (P : A → Type 0) (o : Option A) (x : A) → o ≡ Some x → P x → IsSomeAnd o P
+is_some_and {A} P o x e h = let Q : Option A → Type 0 = λ y. IsSomeAnd y P in subst Q (sym e) h
+
 -- answers told apart
 abbrev pub is_refused : Answer → Bool
 is_refused (answer.Refused n) = true
@@ -29,10 +41,11 @@ abbrev pub is_granted : Answer → Bool
 is_granted (answer.Granted got) = true
 is_granted _ = false
 
--- both of a conjunction
-pub both : (a b : Bool) → a && b ≡ true → (a ≡ true) × (b ≡ true)
-both true b h = (refl, h)
-both false b h = absurd (cc)
+pub granted_eq : (n : ℕ) (got : Got) → answer.Granted (Value n) ≡ answer.Granted got → got ≡ Value n
+granted_eq n got e = cc
+
+pub finished_number : (n : ℕ) → answer.Refused n ≡ refused refusal.Finished → n ≡ 6
+finished_number n e = cc
 
 -- what a test chooses
 pub chosen : {A : Type 0} (b : Bool) (x y : A) → b ≡ true → (if b then x else y) ≡ x

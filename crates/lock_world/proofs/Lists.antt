@@ -4,12 +4,13 @@ use Rattle.std.proofs.lemmas.Bool.Decides.{nat_tests}
 use Rattle.lock_event.specs.declared.event.Entry.{Entry}
 use Rattle.lock_event.specs.declared.event.Mark.{Mark}
 use Rattle.lock_event.specs.declared.event.Mark.TheVariants.{Waiting, Notified, Additional}
-use Rattle.lock_event.specs.Lists.{entry, is_marked, marked_count, mark_waiting, without, mark_at, is_listed, is_marked_at}
+use Rattle.lock_event.specs.Lists.{entry, notified, is_marked, marked_count, mark_waiting, without, mark_at, is_listed, is_marked_at}
 use Rattle.lock_event.proofs.Marks.{length-mark_waiting, marked_count-joined, mark_waiting-none}
 use Rattle.lock_event.proofs.Counts.{length-joined, length-without, length-passed_on, marked_count-without_marked, marked_count-le-mark_waiting, marked_count-left}
-use Rattle.lock_queue.specs.Parties.{is_party, entries_of}
+use Rattle.lock_queue.specs.Parties.{is_party, entries_of, is_unmarked}
 use Rattle.lock_queue.proofs.Rekeyed.{entries_of-joined, entries_of-mark_waiting, entries_of-passed_on, entries_of-without_own, entries_of-without_other}
 use Rattle.lock_queue.proofs.Queues.{own_one, other_one}
+use Rattle.lock_queue.proofs.Marks.{join_unmarked, without_unmarked, mark_unmarked, pass_unmarked}
 use Rattle.lock_world.specs.Steps.{ListFunction, joins, asks, leaves, notifies, notifies_additionally, list_after}
 
 -- a listed party's entry is found
@@ -127,6 +128,10 @@ module _ (p : ℕ) (l m : List (Entry ℕ)) where
   others_by (unchanged e) j apart = rw e refl
   others_by (done f can e) j apart = rw e (others p l f j apart)
 
+-- a list that was notified and isn't empty has a marked entry
+pub notified_marked : (l m : List (Entry ℕ)) → m ≡ notified l 1 → 0 < length m → 0 < marked_count m
+notified_marked l m e some = let c = counted_by 0 l m (notifies 1) (is_marked_at (is_party 0) l) refl tt e in c.1 (omega (arith, c.0))
+
 -- a party that isn't listed isn't marked
 pub unlisted_unmarked : (p : ℕ) (l : List (Entry ℕ)) → entries_of p l ≡ 0 → is_marked_at (is_party p) l ≡ false
 unlisted_unmarked p [] none = refl
@@ -136,3 +141,14 @@ unlisted_unmarked p (e ∷ es) none = grind (arith, nat_tests, unlisted_unmarked
 pub joined_unmarked : (p : ℕ) (l : List (Entry ℕ)) → entries_of p l ≡ 0 → is_marked_at (is_party p) (list_after p joins l) ≡ false
 joined_unmarked p [] none = grind (arith, nat_tests)
 joined_unmarked p (e ∷ es) none = grind (arith, nat_tests, joined_unmarked p es)
+
+-- who has an unmarked entry after another party's list function had one before
+pub unmarked_before : (p : ℕ) (f : ListFunction) (l : List (Entry ℕ)) (j : ℕ) → j ≢ p → is_unmarked j (list_after p f l) ≡ true → is_unmarked j l ≡ true
+unmarked_before p joins l j apart h = join_unmarked j p l apart h
+unmarked_before p asks l j apart h = by_told (is_marked_at (is_party p) l) h where
+  by_told : (b : Bool) → is_unmarked j (if b then without (is_party p) l else l) ≡ true → is_unmarked j l ≡ true
+  by_told true h = without_unmarked j p l apart h
+  by_told false h = h
+unmarked_before p leaves l j apart h = without_unmarked j p l apart (pass_unmarked j (mark_at (is_party p) l) (without (is_party p) l) h)
+unmarked_before p (notifies n) l j apart h = mark_unmarked j Notified (n - marked_count l) l refl h
+unmarked_before p (notifies_additionally n) l j apart h = mark_unmarked j Additional n l refl h

@@ -1,6 +1,7 @@
 //! The words that all Worlds share: moves, what a program needs from outside, and answers.
 
 ghost use Rattle.std.specs.Prelude.{◌≡◌};
+ghost use Rattle.lock_world.specs.Frame.{put_in};
 ghost use Rattle.lock_world.specs.Standings.{inputs_of, is_stepped};
 
 /// One event: a party begins a call, or goes on with the one that it is in.
@@ -27,6 +28,16 @@ impl What {
     {
         match self {
             What::Begin(_, inputs) | What::Go(inputs) => inputs,
+        }
+    }
+
+    /// The value that the move puts, if it puts one.
+    pub fn put(self) -> Option<u64>
+        ensures { result ≡ put_in self }
+    {
+        match self {
+            What::Begin(Call::Put(value), _) => Some(value),
+            _ => None,
         }
     }
 }

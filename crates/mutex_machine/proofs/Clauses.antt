@@ -1,5 +1,5 @@
 -- What a machine promises by its places, said of the mutex as those see it who build on one.
-use Rattle.std.proofs.Common.{◌≡◌, ℕ, suc, ◌<◌, ◌⊎◌, inl, inr, Bool, true, false, List, [], ◌∷◌, length, Option, Some, None, IsSomeAnd, refl, sym, ap, arith, subst, ◌∙◌, get_or-set_same}
+use Rattle.std.proofs.Common.{◌≡◌, ℕ, suc, ◌<◌, ◌⊎◌, inl, inr, Bool, true, false, List, [], ◌∷◌, length, Option, Some, refl, sym, ap, arith, subst, ◌∙◌, get_or-set_same}
 use Rattle.lock_event.specs.declared.event.Entry.{Entry}
 use Rattle.lock_queue.specs.Parties.{entries_of}
 use Rattle.lock_world.specs.declared.refusal.Refusal.TheVariants.{Memory, Starved}
@@ -22,8 +22,8 @@ use Rattle.mutex_machine.specs.Acts.{Acts, Finds}
 use Rattle.mutex_machine.specs.Legal as legal
 use Rattle.mutex_machine.specs.Ranks as ranks
 use Rattle.mutex_machine.specs.Machine.{Lock, SameRoles, place_at}
-use Rattle.mutex_machine.specs.Deeds.{Change, takes, releases, starves, recovers, ListName, decided_by, is_fresh}
-use Rattle.mutex_machine.specs.Course.{Course, GoesOn, holds, counted, decision, is_resting, is_waiting, is_counting, is_called, is_told}
+use Rattle.mutex_machine.specs.Deeds.{Change, takes, releases, starves, recovers, ListName}
+use Rattle.mutex_machine.specs.Course.{Course, GoesOn, holds, counted, decision, is_waiting, is_counting, is_called, is_told}
 use Rattle.mutex_machine.specs.Behind.{reveal, conceal, revealed}
 use Rattle.mutex_machine.specs.Mutex.{Mutex, course_at, holders, starved, left_after, IsAtRest, TakenFairly, IsMutex}
 use Rattle.mutex_machine.specs.Conduct.{decided_then, IsUnrefused, IsReason, IsAllowed, IsLegal, TakesAtOnce, HeedsClock, CountsNobody, HandsOn, BeginsToHandOn}
@@ -34,11 +34,6 @@ use Rattle.mutex_machine.proofs.Legal.{begins_fresh}
 use Rattle.mutex_machine.proofs.Promised.{HandsOn as HandsOnThere, begins_uncounted, begins_heedless, none_counted, told_on, begins_told}
 use Rattle.mutex_machine.proofs.Starts.{start_same}
 use Rattle.mutex_machine.proofs.Sights.{goes_so, holds_same, counted_same, listed_same, waiting_same, told_same, counting_same, decision_same, rests_there, rests_here, looks, at_seen, length_seen, holders_seen, starved_seen, holder_seen, roster_seen, steps_seen, some_left}
-
--- the place at which a call begins
-pub began : {P : Place → Type 0} (o : Option Place) → IsSomeAnd o P → (from : Place) × (o ≡ Some from) × P from
-began None h = absurd h
-began (Some from) h = (from, refl, h)
 
 pub same_place : (x : Place) → SameRoles x x
 same_place x = record { holding = refl; starving = refl; standing = refl; waiting = refl; owing = refl }

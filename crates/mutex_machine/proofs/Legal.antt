@@ -1,5 +1,5 @@
 -- An action of one party is a legal step of the mutex.
-use Rattle.std.proofs.Common.{◌≡◌, ℕ, ◌+◌, ◌<◌, ◌≤◌, ◌⊎◌, ◌==◌, ◌↔◌, inl, inr, Bool, true, false, if◌then◌else◌, List, map, length, Option, Some, None, refl, arith, ap, sym, ◌∙◌, subst, get_or-set_same, get_or-set_other, length-set}
+use Rattle.std.proofs.Common.{◌≡◌, ℕ, ◌+◌, ◌<◌, ◌≤◌, ◌⊎◌, ◌==◌, ◌↔◌, inl, inr, Bool, true, false, List, map, length, Option, Some, None, refl, arith, ap, sym, ◌∙◌, subst, get_or-set_same, get_or-set_other, length-set}
 use Rattle.std.proofs.Math.ListN.{set}
 use Rattle.std.proofs.lemmas.Bool.Decides.{nat_tests}
 use Rattle.std.proofs.Math.Seq.{map-set_same}
@@ -13,7 +13,7 @@ use Rattle.lock_queue.specs.Parties.{is_party, entries_of}
 use Rattle.lock_queue.proofs.Told.{waits_at}
 use Rattle.lock_world.specs.declared.refusal.Refusal.TheVariants as refusal
 use Rattle.lock_world.specs.Steps.{Deed, nothing, changes, does, joins}
-use Rattle.lock_world.proofs.Equations.{some_eq}
+use Rattle.lock_world.proofs.Equations.{some_eq, chosen}
 use Rattle.mutex_machine.specs.declared.program.Place.{Place}
 use Rattle.mutex_machine.specs.declared.program.Place.TheVariants.{Out, Holding, Enter, Try, Ask, AskStarved}
 use Rattle.mutex_machine.specs.declared.program.LockCall.{LockCall}
@@ -38,10 +38,6 @@ use Rattle.mutex_machine.proofs.Kept.{after}
 use Rattle.mutex_machine.proofs.Rows.{Row, row, deed_of, decision_by, Holds, Starves, Finding, Room, HoldsOn, Reason, Judged}
 use Rattle.mutex_machine.proofs.Seen as sees
 
-asked_yes : (b : Bool) (l m : List (Entry ℕ)) → b ≡ true → (if b then m else l) ≡ m
-asked_yes true l m h = refl
-asked_yes false l m h = absurd (cc)
-
 -- what an action does to the list is what its deed does
 pub list_is : (memory : Bool) (lock : Lock) (p : ℕ) (a : Action) (f : Found) (l m : List (Entry ℕ)) → Finds memory a f lock → OnParties p a f l m → m ≡ entries_after p (deed_of a f) l
 list_is memory lock p act.Nothing Done l m e o = o
@@ -59,7 +55,7 @@ list_is memory lock p act.Uncount Done l m e o = o
 list_is memory lock p act.Clear Done l m e o = o
 list_is memory lock p act.Join Done l m e o = o
 list_is memory lock p act.Join NoMemory l m e o = o
-list_is memory lock p act.Ask Yes l m e o = o.1 ∙ sym (asked_yes (is_marked_at (is_party p) l) l (without (is_party p) l) o.0)
+list_is memory lock p act.Ask Yes l m e o = o.1 ∙ sym (chosen (is_marked_at (is_party p) l) (without (is_party p) l) l o.0)
 list_is memory lock p act.Ask No l m e o = o.1
 list_is memory lock p act.Leave Done l m e o = o
 list_is memory lock p act.Notify Done l m e o = o

@@ -1,11 +1,10 @@
 -- What the actions of a poll lead to: who isn't starving isn't counted while nobody is, and who was told and is refused notifies.
-use Rattle.std.proofs.Common.{◌≡◌, ℕ, ◌+◌, ◌<◌, ◌≤◌, Bool, true, false, List, [], ◌∷◌, length, refl, arith, ap, sym, ◌∙◌, subst, get_or-set_same}
+use Rattle.std.proofs.Common.{◌≡◌, ℕ, ◌+◌, ◌<◌, ◌≤◌, Bool, true, false, List, length, refl, arith, ap, sym, ◌∙◌, subst, get_or-set_same}
 use Rattle.std.proofs.Math.ListN.{set}
 use Rattle.std.proofs.lemmas.List.Sums.{sum_by-set, get_or-le-sum_by}
 use Rattle.std.specs.List.{sum_by}
 use Rattle.lock_event.specs.declared.event.Entry.{Entry}
-use Rattle.lock_event.specs.Lists.{marked_count, notified}
-use Rattle.lock_event.proofs.Counts.{marked_count-notified}
+use Rattle.lock_event.specs.Lists.{marked_count}
 use Rattle.lock_world.specs.declared.refusal.Refusal.{Refusal}
 use Rattle.mutex_machine.specs.declared.program.Place.{Place}
 use Rattle.mutex_machine.specs.declared.program.Place.TheVariants.{Out, Holding, Enter, Try, Clear, CancelUncount, CancelLeave, Join, Look, Ask, Retry, PassOn, Count, JoinStarved, LookAlone, PassOnListed, AskStarved, Seize, Uncount, Leave, RefuseUncount, RefuseLeave, RefuseNotifyMemory, RefuseNotifyStarved, ReleaseNotify}
@@ -26,6 +25,7 @@ use Rattle.mutex_machine.specs.Machine.{Lock, SameRoles, place_at}
 use Rattle.mutex_machine.specs.Acts.{Acts, Finds, starved}
 use Rattle.mutex_machine.specs.Legal.{decided_then, IsUnrefused}
 use Rattle.mutex_machine.proofs.Kept.{after}
+use Rattle.lock_world.proofs.Lists.{notified_marked}
 
 -- ---- nobody is counted while nobody is starved
 
@@ -186,16 +186,10 @@ HandsOn (next.Do b to) at l = is_told at ≡ true
 HandsOn (next.End (Refused r)) at l = 0 < length l → 0 < marked_count l
 HandsOn (next.End e) at l = Unit {0}
 
-still_some : (l : List (Entry ℕ)) → 0 < length (notified l 1) → 0 < length l
-still_some [] h = h
-still_some (e ∷ es) h = omega arith
-
 pub notified_now : (p : ℕ) (a : Action) (f : Found) (l m : List (Entry ℕ)) → a ≡ act.Notify → OnParties p a f l m → 0 < length m → 0 < marked_count m
 notified_now p a f l m e o some =
     let P : Action → Type 0 = λ b. OnParties p b f l m in
-    let is : m ≡ notified l 1 = subst P e o in
-    let there : 0 < length l = still_some l (subst (λ k. 0 < length k) is some) in
-    subst (λ k. 0 < marked_count k) (sym is) (marked_count-notified l there)
+    notified_marked l m (subst P e o) some
 
 handed : (p : ℕ) (a : Action) (f : Found) (n : Next) (at : Place) (l m : List (Entry ℕ)) → StaysTold a n → ((b : Action) (to : Place) → n ≡ next.Do b to → at ≡ to) → OnParties p a f l m → HandsOn n at m
 handed p a f (next.Do b to) at l m s leads o = ap is_told (leads b to refl) ∙ s

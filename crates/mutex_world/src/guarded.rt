@@ -1,7 +1,6 @@
 //! What stands behind a mutex's World: a lock over a number.
 
 ghost use Rattle.std.specs.Prelude.{◌≡◌, ◌<◌, length, IfOk, IsSome, IsSomeAnd};
-ghost use Rattle.lock_world.specs.Frame.{put_in};
 ghost use Rattle.mutex_machine.specs.Acts.{IsMutex};
 ghost use Rattle.mutex_world.specs.Guarded.{new_guarded, place_of, place_for, lock_call_of, end_of, answer_by, is_try_kind, Carried};
 
@@ -104,16 +103,6 @@ impl Guarded {
     }
 }
 
-/// The value that a move puts.
-fn put_by(what: What) -> Option<u64>
-    ensures { result ≡ put_in what }
-{
-    match what {
-        What::Begin(Call::Put(value), _) => Some(value),
-        _ => None,
-    }
-}
-
 /// What a call's next is answered, over this value.
 fn answer_to(kind: Kind, value: u64, next: Next) -> Answer
     ensures { result ≡ answer_by (is_try_kind kind) value next }
@@ -151,7 +140,7 @@ impl Machine for Guarded {
     }
 
     fn act(&mut self, party: u32, within: Within, what: What) -> Answer {
-        match put_by(what) {
+        match what.put() {
             Some(value) => {
                 self.value = value;
                 Answer::Granted(Got::Value(value))

@@ -43,7 +43,7 @@ rests_r (LookUnlisted upgrade) h = (refl, refl)
 rests_r _ h = absurd (cc)
 
 -- and it rests in the turn
-rests_t : (x : Place) (t : TurnCourse) → is_resting x ≡ true → fits_turn x t ≡ true → rests_in_turn t ≡ true
+pub rests_t : (x : Place) (t : TurnCourse) → is_resting x ≡ true → fits_turn x t ≡ true → rests_in_turn t ≡ true
 rests_t Out t h e = out_rests t e
 rests_t (Made w) t h e = out_rests t e
 rests_t Reading t h e = out_rests t e

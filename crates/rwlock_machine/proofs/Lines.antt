@@ -5,7 +5,7 @@ use Rattle.lock_event.specs.Lists.{marked_count, without, is_marked_at}
 use Rattle.lock_queue.specs.Parties.{is_party, entries_of}
 use Rattle.lock_world.specs.Steps.{ListFunction, joins, asks, leaves, notifies, list_after}
 use Rattle.lock_world.proofs.Equations.{chosen}
-use Rattle.lock_world.proofs.Lists.{CanList, done, counted_by, own_by, others_by}
+use Rattle.lock_world.proofs.Lists.{CanList, done, counted_by, own_by, others_by, notified_marked}
 use Rattle.rwlock_machine.specs.declared.program.Action.{Action}
 use Rattle.rwlock_machine.specs.declared.program.Action.TheVariants as act
 use Rattle.rwlock_machine.specs.declared.program.Found.{Found}
@@ -51,9 +51,7 @@ module _ (p : ℕ) (l m : List (Entry ℕ)) where
 
   -- a list that was notified and isn't empty has a marked entry
   pub told : Notifies Done l m → 0 < length m → 0 < marked_count m
-  told e some =
-      let c = counted_by p l m (notifies 1) marked_before refl tt e in
-      c.1 (omega (arith, c.0))
+  told e some = notified_marked l m e some
 
   notified : Notifies Done l m → Line p 0 0 0 l m
   notified e =

@@ -1,9 +1,9 @@
 -- What an action says of its party's own marks and of its steps in the turn.
-use Rattle.std.proofs.Common.{◌≡◌, ℕ, ◌<◌, Bool, true, false, List, [], ◌∷◌, refl, ap, arith}
-use Rattle.std.proofs.lemmas.Bool.Decides.{nat_tests}
+use Rattle.std.proofs.Common.{◌≡◌, ℕ, ◌<◌, Bool, true, false, List, refl, ap}
 use Rattle.lock_event.specs.declared.event.Entry.{Entry}
-use Rattle.lock_event.specs.Lists.{is_marked_at, joined}
+use Rattle.lock_event.specs.Lists.{is_marked_at}
 use Rattle.lock_queue.specs.Parties.{is_party, entries_of}
+use Rattle.lock_world.proofs.Lists.{joined_unmarked}
 use Rattle.mutex_machine.specs.declared.mutex.Step.{Step as TurnStep}
 use Rattle.mutex_machine.specs.declared.mutex.Step.TheVariants as turn_step
 use Rattle.mutex_machine.specs.Mutex.{Mutex, left_after as turn_left_after, steps_left as turn_steps_left}
@@ -41,11 +41,6 @@ module _ (here there : Bool) (turn : ℕ) (here' there' : Bool) (turn' : ℕ) wh
   Lowers act.Go f = ⊥
   Lowers _ f = Unit {0}
 
--- a party that joins isn't marked yet
-unmarked : (p : ℕ) (l : List (Entry ℕ)) → entries_of p l ≡ 0 → is_marked_at (is_party p) (joined l p) ≡ false
-unmarked p [] out = grind (arith, nat_tests)
-unmarked p (e ∷ es) out = grind (arith, nat_tests, unmarked p es)
-
 turn_left_is : (n : TurnStep) (l : Mutex) (p k : ℕ) → turn_left_after n l p < k → turn_left n (turn_steps_left l p) < k
 turn_left_is turn_step.More l p k h = h
 turn_left_is (turn_step.End e) l p k h = h
@@ -56,11 +51,11 @@ module _ (memory starving : Bool) (p : ℕ) (l m l' m' : List (Entry ℕ)) (t u 
       → Lowers (is_marked_at (is_party p) l) (is_marked_at (is_party p) m) (turn_steps_left t p) (is_marked_at (is_party p) l') (is_marked_at (is_party p) m') (turn_steps_left u p) a f
   lowers act.Read f el em et out_w out_r = ap (is_marked_at (is_party p)) el
   lowers act.Load f el em et out_w out_r = ap (is_marked_at (is_party p)) em
-  lowers act.JoinNoWriter Done el em et out_w out_r = rw el (unmarked p l (out_w refl))
+  lowers act.JoinNoWriter Done el em et out_w out_r = rw el (joined_unmarked p l (out_w refl))
   lowers act.JoinNoWriter _ el em et out_w out_r = tt
   lowers act.AskNoWriter Yes el em et out_w out_r = el.0
   lowers act.AskNoWriter _ el em et out_w out_r = tt
-  lowers act.JoinNoReaders Done el em et out_w out_r = rw em (unmarked p m (out_r refl))
+  lowers act.JoinNoReaders Done el em et out_w out_r = rw em (joined_unmarked p m (out_r refl))
   lowers act.JoinNoReaders _ el em et out_w out_r = tt
   lowers act.AskNoReaders Yes el em et out_w out_r = em.0
   lowers act.AskNoReaders _ el em et out_w out_r = tt

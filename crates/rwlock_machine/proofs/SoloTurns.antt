@@ -233,7 +233,7 @@ waiter_at (WaitTurn q) h = (q, refl)
 waiter_at _ h = absurd (cc)
 
 -- whoever has just got the turn doesn't read yet
-reads_not : (q : Purpose) → reads (with_turn q false) ≡ 0
+pub reads_not : (q : Purpose) → reads (with_turn q false) ≡ 0
 reads_not purpose.UpgradableRead = refl
 reads_not purpose.Write = refl
 

@@ -1,7 +1,6 @@
 //! What a World's table stands on: a read-write lock over a number.
 
 ghost use Rattle.std.specs.Prelude.{◌≡◌, ◌<◌, length, IfOk, IsSome, IsSomeAnd};
-ghost use Rattle.lock_world.specs.Frame.{put_in};
 ghost use Rattle.lock_world.specs.Standings.{inputs_of};
 ghost use Rattle.rwlock_machine.specs.Machine.{place_at};
 ghost use Rattle.rwlock_machine.specs.Acts.{Acts, IsRwLock};
@@ -63,16 +62,6 @@ fn answer_to(value: u64, next: Next) -> Answer
         Next::Do(_, _) => Answer::Stepped,
         Next::End(end, _) => end.answer(Got::Value(value)),
         Next::Wait(_) => Answer::Waiting,
-    }
-}
-
-/// The value that a move puts, if it puts one.
-fn put_by(what: What) -> Option<u64>
-    ensures { result ≡ put_in what }
-{
-    match what {
-        What::Begin(Call::Put(value), _) => Some(value),
-        _ => None,
     }
 }
 
@@ -152,7 +141,7 @@ impl Machine for Guarded {
 
     fn act(&mut self, party: u32, _within: Within, what: What) -> Answer {
         self.lock.laws();
-        match put_by(what) {
+        match what.put() {
             Some(value) => {
                 self.value = value;
                 Answer::Granted(Got::Value(value))

@@ -28,12 +28,13 @@ use Rattle.cell_machine.specs.declared.words.Content.TheVariants.{Full}
 use Rattle.cell_machine.specs.Seats.{makes_at, in_active, in_passive_at, verdict, is_resting}
 use Rattle.cell_machine.specs.Machine.{OnceCell, IsCell, IsAtRest, goes_with, runs, is_begun, is_abandoning, is_maker, position_at}
 use Rattle.cell_machine.proofs.Contents as contents
+use Rattle.cell_machine.proofs.Told.{in_list}
 use Rattle.cell_world.specs.State.{list_in, standing_of}
 use Rattle.cell_world.specs.View.{view_of}
 use Rattle.cell_world.specs.Laws.{IsSound, IsAwake, IsStillThere, is_at_rest, is_long_call, may_be_maker}
 use Rattle.cell_world.specs.Steps.{IsCellTable}
 use Rattle.cell_world.proofs.table.Seen as seen
-use Rattle.cell_world.proofs.step.Owns.{each_has, in_list}
+use Rattle.cell_world.proofs.step.Owns.{each_has}
 
 -- a call that is begun may take more than one step
 abandon_unbegun : (x : Place) → is_abandoning x ≡ true → is_begun x ≡ true → ⊥

@@ -29,12 +29,12 @@ use Rattle.lock_world.specs.Standings.{inputs_of, call_in, is_possible, is_stepp
 use Rattle.lock_world.specs.Frame.{is_drop, is_giving_back, is_poll_after_ready, is_refusal}
 use Rattle.lock_world.specs.Refusals.{number_of}
 use Rattle.lock_world.specs.Steps.{Deed, nothing, changes, does, joins, asks, leaves, notifies, notifies_additionally, list_after}
-use Rattle.lock_world.proofs.Equations.{some_eq, none_some}
+use Rattle.lock_world.proofs.Equations.{some_eq, none_some, finished_number}
 use Rattle.lock_table.specs.Stages.{stage_at, stands_as, call_at, polls_again, stage_after}
 use Rattle.lock_table.specs.Tables.{Table}
 use Rattle.lock_table.specs.declared.end.End.TheVariants as «end»
 use Rattle.lock_table.proofs.Acting as acting
-use Rattle.lock_table.proofs.Calls.{call_seen, again_seen, stands_seen, decided_after, decision_seen}
+use Rattle.lock_table.proofs.Calls.{call_seen, again_seen, stands_seen, decided_after, decision_seen, later_ends}
 use Rattle.cell_machine.specs.declared.program.Action.{Action}
 use Rattle.cell_machine.specs.declared.program.Action.TheVariants as act
 use Rattle.cell_machine.specs.declared.program.Found.{Found}
@@ -58,6 +58,7 @@ use Rattle.cell_machine.specs.Machine.{OnceCell, IsCell, Acts, knows, goes_with,
 use Rattle.cell_machine.proofs.Kept.{after}
 use Rattle.cell_machine.proofs.Turns.{lands}
 use Rattle.cell_machine.proofs.Contents as contents
+use Rattle.cell_machine.proofs.Told.{in_list}
 use Rattle.cell_world.specs.State.{World, list_in, standing_of, task_of}
 use Rattle.cell_world.specs.View.{view_of}
 use Rattle.cell_world.specs.Tasks.{task_in, or_before, task_then, makes, list_for, given, is_open}
@@ -65,7 +66,7 @@ use Rattle.cell_world.specs.Legal.{call_of, DecidesOn, gives_something_back, IsI
 use Rattle.cell_world.specs.Steps.{IsCellTable}
 use Rattle.cell_world.proofs.table.Seen as seen
 use Rattle.cell_world.proofs.step.Owns as legals
-use Rattle.cell_world.proofs.step.Owns.{each_has, never_pending, in_list, Standing_well}
+use Rattle.cell_world.proofs.step.Owns.{each_has, never_pending}
 use Rattle.cell_world.proofs.step.Rows.{said, open_at, is_join, content_then, AllowedAt, Refuses, Reason, Judged, Room, Row, row}
 use Rattle.cell_world.proofs.step.Here.{Here, TaskFits}
 
@@ -134,12 +135,6 @@ polls_end (LeavePassive v) f h e = refl
 polls_end RefusePassive f h e = refl
 polls_end _ f h e = absurd (cc h)
 
-later_ends : (a : Answer) → may_end kind.FirstPoll a ≡ true → may_end kind.LaterPoll a ≡ true
-later_ends answer.Pending h = refl
-later_ends (answer.Ready g) h = refl
-later_ends (answer.Refused n) h = refl
-later_ends _ h = absurd (cc)
-
 tries_end : (x : Place) (f : Found) → is_trying x ≡ true → is_stepped (answer_by (next_of x f)) ≡ false → may_end kind.Try (answer_by (next_of x f)) ≡ true
 tries_end (Try v) found.Empty h e = absurd (cc e)
 tries_end (Try v) _ h e = refl
@@ -199,12 +194,9 @@ module _ (i : Inputs) (p : ℕ) (c : Content) (x : Place) (f : Found) where
   not_over None None j late e = none_some e
   not_over None (Some d) j late e = let P : Answer → Type 0 = Reason i p c x f in let why = subst P (some_eq e) j in overs why.0 why.1 why.2
 
-refused_six : (n : ℕ) → answer.Refused n ≡ refused refusal.Finished → n ≡ 6
-refused_six n e = cc
-
 never_over : (x : Place) → verdict_of x ≡ Some (refused refusal.Finished) → ⊥
-never_over (RefuseActive k) e = let six : Path ℕ 1 6 = refused_six 1 (some_eq e) in absurd (omega (arith, six))
-never_over RefusePassive e = let six : Path ℕ 1 6 = refused_six 1 (some_eq e) in absurd (omega (arith, six))
+never_over (RefuseActive k) e = let six : Path ℕ 1 6 = finished_number 1 (some_eq e) in absurd (omega (arith, six))
+never_over RefusePassive e = let six : Path ℕ 1 6 = finished_number 1 (some_eq e) in absurd (omega (arith, six))
 never_over (LeaveFull k v) e = cc e
 never_over _ e = cc
 

@@ -1,6 +1,5 @@
 -- What the first step of a call decides at once.
 use Rattle.std.proofs.Common.{◌≡◌, ℕ, ◌<◌, ◌&&◌, ◌==◌, if◌then◌else◌, Bool, true, false, Some, None, refl, arith, ap, sym, ◌∙◌, subst}
-use Rattle.std.proofs.lemmas.Bool.Decides.{nat_tests}
 use Rattle.lock_queue.specs.Parties.{entries_of}
 use Rattle.lock_world.specs.declared.moves.Answer.{Answer}
 use Rattle.lock_world.specs.declared.moves.Answer.TheVariants as answer
@@ -44,6 +43,7 @@ use Rattle.cell_world.specs.AtOnce.{AnswersAtOnce, TriesAtOnce, MakesAtOnce, Pol
 use Rattle.cell_world.proofs.step.Rows.{said, content_then}
 use Rattle.cell_world.proofs.step.Acting.{Acting}
 use Rattle.cell_world.proofs.step.Acting as acting
+use Rattle.lock_world.proofs.Equations.{both, not_one}
 
 -- ---- Where calls begin
 
@@ -60,20 +60,13 @@ pub record EntranceAt (s : Standing) (what : What) (x : Position) (from : Place)
 abbrev pub Entrance : Stage → What → Within → Position → Place → Type 0
 Entrance s what w x from = EntranceAt (stands_as (verdict x) s) what x from
 
-not_one : (n : ℕ) → (n == 0) ≡ true → n ≡ 1 → ⊥
-not_one n h e = grind (arith, nat_tests)
-
-split : (a b : Bool) → a && b ≡ true → (a ≡ true) × (b ≡ true)
-split true b h = (refl, h)
-split false b h = absurd (cc h)
-
 not_first : (k : Maker) (n : ℕ) (b : Bool) → would_make (task_by k) && ((n == 0) && (if b then false else true)) ≡ true → n ≡ 1 → ⊥
-not_first k n b h l = let two = split (would_make (task_by k)) ((n == 0) && (if b then false else true)) h in not_one n (split (n == 0) (if b then false else true) two.1).0 l
+not_first k n b h l = let two = both (would_make (task_by k)) ((n == 0) && (if b then false else true)) h in not_one n (both (n == 0) (if b then false else true) two.1).0 l
 
 not_first_maker : (k : Maker) (n : ℕ) (b : Bool) → would_make (task_by k) && ((n == 0) && (if b then false else true)) ≡ true → b ≡ true → ⊥
 not_first_maker k n b h d =
-    let two = split (would_make (task_by k)) ((n == 0) && (if b then false else true)) h in
-    let last : (if b then false else true) ≡ true = (split (n == 0) (if b then false else true) two.1).1 in
+    let two = both (would_make (task_by k)) ((n == 0) && (if b then false else true)) h in
+    let last : (if b then false else true) ≡ true = (both (n == 0) (if b then false else true) two.1).1 in
     let P : Bool → Type 0 = λ z. (if z then false else true) ≡ true in
     let never : false ≡ true = subst P d last in
     cc never

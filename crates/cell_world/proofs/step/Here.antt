@@ -1,5 +1,5 @@
 -- What is so where a move begins or goes on.
-use Rattle.std.proofs.Common.{◌≡◌, ℕ, ◌||◌, ◌⊎◌, inl, inr, true, false, Option, Some, None, is_some, refl, ap, sym, ◌∙◌}
+use Rattle.std.proofs.Common.{◌≡◌, ℕ, ◌||◌, ◌⊎◌, inl, inr, true, false, Some, is_some, refl, ap, sym, ◌∙◌}
 use Rattle.lock_world.specs.declared.moves.Answer.{Answer}
 use Rattle.lock_world.specs.declared.moves.Answer.TheVariants as answer
 use Rattle.lock_world.specs.declared.moves.Inputs.{Inputs}
@@ -9,6 +9,7 @@ use Rattle.lock_world.specs.declared.standing.Stage.{Stage}
 use Rattle.lock_world.specs.declared.standing.Within.{Within}
 use Rattle.lock_world.specs.Standings.{inside, is_decided, IsUndecided}
 use Rattle.lock_world.specs.Frame.{is_drop, is_giving_back}
+use Rattle.lock_table.proofs.Calls.{decides_so, undecided_so}
 use Rattle.lock_table.specs.Stages.{stands_as, call_at, polls_again}
 use Rattle.cell_machine.specs.declared.program.Action.{Action}
 use Rattle.cell_machine.specs.declared.program.Action.TheVariants as act
@@ -47,14 +48,6 @@ pub record Here (s : Stage) (what : What) (w : Within) (x : Position) (from : Pl
   pub fits : TaskFits (action_of from) what x
   pub making : (t : Task) → task_in what ≡ Some t → (k : Maker) → from ≡ Make k → ⊥
   pub going : (i : Inputs) → what ≡ Go i → x ≡ At from
-
-decides_so : (w : Within) (o : Option Answer) → is_decided (inside w o) || false ≡ is_some o
-decides_so w None = refl
-decides_so w (Some b) = refl
-
-undecided_so : (w : Within) (o : Option Answer) (b : Answer) → is_decided (inside w o) ≡ false → o ≡ Some b → b ≡ answer.GivenBack
-undecided_so w None b h e = absurd (cc)
-undecided_so w (Some c) b h e = absurd (cc)
 
 joins_so : (w : Within) (x : Place) → is_join x ≡ true → IsUndecided (inside w (verdict_of x))
 joins_so w (JoinActive k told) h = (w, refl)

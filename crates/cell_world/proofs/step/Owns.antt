@@ -24,6 +24,7 @@ use Rattle.cell_machine.specs.declared.words.Content.TheVariants.{Full}
 use Rattle.cell_machine.specs.Program.{got_of}
 use Rattle.cell_machine.specs.Seats.{task_by, task_at, makes_at, in_active, in_passive_at, value_known, verdict, verdict_of}
 use Rattle.cell_machine.specs.Machine.{OnceCell, IsCell, goes_with, is_pending, is_maker, position_at}
+use Rattle.cell_machine.proofs.Told.{in_list}
 use Rattle.cell_world.specs.State.{World, is_full, list_in, standing_of, task_of}
 use Rattle.cell_world.specs.View.{view_of}
 use Rattle.cell_world.specs.Tasks.{makes, list_for}
@@ -42,10 +43,6 @@ pub record Facts (w : World) (p : ℕ) (x : Position) : Type 0 where
 no_lists : (w : World) (p : ℕ) → entries_of p w.active ≡ 0 → entries_of p w.passive ≡ 0 → (list : ListName) → entries_of p (list_in list w) ≡ 0
 no_lists w p a b Active = a
 no_lists w p a b Passive = b
-
-abbrev pub in_list : ListName → Position → ℕ
-in_list Active x = in_active x
-in_list Passive x = in_passive_at x
 
 abbrev ListFits : ListName → Position → Type 0
 ListFits list x = 0 < in_list list x → list_for (task_at x) ≡ Some list

@@ -1,5 +1,5 @@
 -- A whole poll of a pending party is one that the machine carries out alone.
-use Rattle.std.proofs.Common.{◌≡◌, ◌≢◌, ℕ, zero, suc, ◌<◌, Bool, true, false, [], ◌∷◌, ◌++◌, length, replicate, Option, Some, None, IsSomeAnd, refl, sym, ap, ◌∙◌, subst, get_or-set_same, set-set}
+use Rattle.std.proofs.Common.{◌≡◌, ◌≢◌, ℕ, zero, suc, ◌<◌, Bool, true, false, [], ◌∷◌, ◌++◌, length, replicate, Option, Some, None, refl, sym, ap, ◌∙◌, subst, get_or-set_same, set-set}
 use Rattle.std.proofs.Math.ListN.{set}
 use Rattle.lock_world.specs.declared.moves.Answer.{Answer}
 use Rattle.lock_world.specs.declared.moves.Answer.TheVariants as answer
@@ -17,7 +17,7 @@ use Rattle.lock_world.specs.Accounts.{Account, accounts_after}
 use Rattle.lock_world.specs.Frame.{put_in}
 use Rattle.lock_world.specs.Standings.{inputs_of}
 use Rattle.lock_world.specs.Whole.{going_on, moves_of, answers_of}
-use Rattle.lock_world.proofs.Equations.{some_eq}
+use Rattle.lock_world.proofs.Equations.{some_eq, is_some_and}
 use Rattle.lock_frame.specs.Steps.{beginning}
 use Rattle.lock_table.specs.Stages.{stage_at, call_at, polls_again, stage_after}
 use Rattle.lock_table.specs.Tables.{Table, Acted}
@@ -131,11 +131,8 @@ module _ (p : ℕ) (i : Inputs) (memory : i.memory ≡ true) where
       let more = goes_on (accounts_after known (going_on p i) answer.Stepped) k mid v a not_stepped (still_inside (Go i) w.behind mid.behind d) runs.3 in
       (more.0, step w.behind.machine.lock mid.behind.machine.lock on.0 on.1 (goes_from w.behind mid.behind answer.Stepped (next.Do on.0 on.1) d on.2) more.1, ended_before (Go i) w.behind mid.behind v.behind a more.0 d more.2)
 
-  starts : (P : Place → Type 0) (o : Option Place) (from : Place) → o ≡ Some from → P from → IsSomeAnd o P
-  starts P o from e h = let Q : Option Place → Type 0 = λ x. IsSomeAnd x P in subst Q (sym e) h
-
   begins_from : (t u : Table Guarded) (a : Answer) (n : Next) (d : Does (Begin call.Poll i) t a u) → ActsSo d.carries.from n t u → BeginsPoll p n t.machine.lock u.machine.lock
-  begins_from t u a n d acts = starts (λ from. ActsSo from n t u) (start_of lock_call.Poll (place_of t.machine p)) d.carries.from d.carries.starts acts
+  begins_from t u a n d acts = is_some_and (λ from. ActsSo from n t u) (start_of lock_call.Poll (place_of t.machine p)) d.carries.from d.carries.starts acts
 
   beginning_so : (w v : World) (a : Answer) → stage_at w.behind.stages p ≡ Outside rest.Pending → Steps w (beginning p call.Poll i) a v → Does (Begin call.Poll i) w.behind a v.behind
   beginning_so w v a pending s = does (Outside rest.Pending) (Begin call.Poll i) w.behind a v.behind pending refl refl refl s.did.step

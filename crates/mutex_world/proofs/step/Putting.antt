@@ -16,7 +16,7 @@ use Rattle.lock_world.specs.declared.standing.Stage.TheVariants.{Outside}
 use Rattle.lock_world.specs.Frame.{is_drop, is_poll_after_ready}
 use Rattle.lock_world.specs.Standings.{outside, call_in, is_possible, is_decided, decision as decided_on, refused}
 use Rattle.lock_world.specs.Steps.{changes}
-use Rattle.lock_world.proofs.Equations.{some_eq, none_some, outside_inside, is_granted}
+use Rattle.lock_world.proofs.Equations.{some_eq, none_some, outside_inside, is_granted, granted_eq}
 use Rattle.lock_table.specs.Stages.{stage_at, stands_as}
 use Rattle.lock_table.specs.Tables.{Table}
 use Rattle.lock_table.proofs.Acting as acting
@@ -34,9 +34,6 @@ use Rattle.mutex_world.proofs.step.Idle.{IsGood}
 use Rattle.mutex_world.proofs.step.Owns as owns
 use Rattle.mutex_world.proofs.table.Seen as seen
 use Rattle.mutex_world.proofs.table.Turns.{within}
-
-granted_eq : (n : ℕ) (got : _) → answer.Granted (Value n) ≡ answer.Granted got → got ≡ Value n
-granted_eq n got e = cc
 
 no_bit : (b : Bool) → (bit b ≡ 1 → ⊥) → bit b ≡ 0
 no_bit true h = absurd (h refl)

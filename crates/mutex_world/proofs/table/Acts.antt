@@ -1,5 +1,5 @@
 -- An action leaves each party where it may stand.
-use Rattle.std.proofs.Common.{◌≡◌, ℕ, ◌<◌, true, List, length, Option, Some, None, IsSomeAnd, refl, ap, sym, ◌∙◌, subst, get_or-set_same, get_or-set_other, length-set}
+use Rattle.std.proofs.Common.{◌≡◌, ℕ, ◌<◌, true, List, length, None, ap, sym, ◌∙◌, subst, get_or-set_same, get_or-set_other, length-set}
 use Rattle.lock_world.specs.declared.moves.Answer.{Answer}
 use Rattle.lock_world.specs.declared.moves.What.{What}
 use Rattle.lock_world.specs.declared.standing.Rest.TheVariants as rest
@@ -18,10 +18,6 @@ use Rattle.mutex_world.proofs.table.Turns.{Lands, lands}
 
 abbrev parties : Guarded → ℕ
 parties g = length g.lock.places
-
-pub started : {P : Place → Type 0} (o : Option Place) → IsSomeAnd o P → (from : Place) × (o ≡ Some from) × P from
-started None h = absurd h
-started (Some from) h = (from, refl, h)
 
 module _ (g : Guarded) (p : ℕ) (w : Within) (what : What) (a : Answer) (h : Guarded) (known : p < parties g) (c : Called (λ (g : Guarded) p. knows) Stands g p w what) where
   -- where an action of the lock leads

@@ -25,11 +25,12 @@ use Rattle.mutex_machine.specs.declared.program.End.TheVariants as «end»
 use Rattle.mutex_machine.specs.declared.program.Next.{Next}
 use Rattle.mutex_machine.specs.declared.program.Next.TheVariants as next
 use Rattle.mutex_machine.specs.declared.program.Place.{Place}
-use Rattle.mutex_machine.specs.declared.program.Place.TheVariants.{Look, Ask, JoinStarved, LookAlone, PassOnListed, AskStarved, Seize, Count, Uncount}
+use Rattle.mutex_machine.specs.declared.program.Place.TheVariants.{Ask, AskStarved}
 use Rattle.mutex_machine.specs.Acts.{IsMutex}
 use Rattle.mutex_machine.specs.Machine.{Lock}
 use Rattle.mutex_machine.specs.Ranks.{left, steps_left, left_after, is_own_marked, is_open}
 use Rattle.mutex_machine.proofs.Alone.{fewer}
+use Rattle.mutex_machine.proofs.Sights.{some_left}
 use Rattle.mutex_world.specs.Guarded.{Guarded, knows, Moves, MovesBy, answer_by, is_try_kind, place_of, with_value, goes_with}
 use Rattle.mutex_world.specs.Steps.{IsMutexTable, TableSteps}
 use Rattle.mutex_world.specs.Whole.{most_steps_of}
@@ -37,20 +38,6 @@ use Rattle.mutex_world.proofs.step.Acting as acting
 use Rattle.mutex_world.proofs.step.Here.{same_roles}
 use Rattle.mutex_world.proofs.step.Stepping.{known_calls, carried}
 use Rattle.mutex_world.proofs.table.Turns.{Turn, turn}
-
-some_left : (x : Place) (m o : Bool) → 0 < left x m o
-some_left (Look told) m o = grind arith
-some_left Ask m o = grind arith
-some_left JoinStarved m o = grind arith
-some_left LookAlone m o = grind arith
-some_left PassOnListed m o = grind arith
-some_left AskStarved m o = grind arith
-some_left Seize m o = grind arith
-some_left (Count true told) m o = omega arith
-some_left (Count false told) m o = omega arith
-some_left (Uncount true) m o = omega arith
-some_left (Uncount false) m o = omega arith
-some_left _ m o = omega arith
 
 one_at_least : (c : Call) → 1 ≤ most_steps_of c
 one_at_least call.Lock = omega arith

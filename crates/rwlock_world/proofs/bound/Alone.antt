@@ -1,5 +1,5 @@
 -- A whole poll of a pending party is one that the machine carries out alone.
-use Rattle.std.proofs.Common.{◌≡◌, ◌≢◌, ℕ, zero, suc, ◌<◌, Bool, true, [], ◌∷◌, ◌++◌, length, replicate, Option, Some, IsSomeAnd, refl, sym, ap, ◌∙◌, subst, arith, get_or-set_same, length-set, set-set}
+use Rattle.std.proofs.Common.{◌≡◌, ◌≢◌, ℕ, zero, suc, ◌<◌, Bool, true, [], ◌∷◌, ◌++◌, length, replicate, refl, sym, ap, ◌∙◌, subst, arith, get_or-set_same, length-set, set-set}
 use Rattle.std.proofs.Math.ListN.{set}
 use Rattle.lock_table.specs.declared.end.End.{End}
 use Rattle.lock_table.specs.declared.end.End.TheVariants as «end»
@@ -22,7 +22,7 @@ use Rattle.lock_world.specs.declared.standing.Within.{Within}
 use Rattle.lock_world.specs.Accounts.{Account, accounts_after}
 use Rattle.lock_world.specs.Standings.{inputs_of}
 use Rattle.lock_world.specs.Whole.{going_on, moves_of, answers_of}
-use Rattle.lock_world.proofs.Equations.{some_eq}
+use Rattle.lock_world.proofs.Equations.{some_eq, is_some_and}
 use Rattle.lock_table.specs.Stages.{stage_at, stage_after, call_at, polls_again}
 use Rattle.lock_table.specs.Tables.{Table}
 use Rattle.rwlock_machine.specs.Program.{start_of}
@@ -79,9 +79,6 @@ record Onward (starving : Bool) (t : Table Guarded) (p : ℕ) (from : Place) (u 
   pub acts : Acts true starving p from (next.Do action to) t.machine.lock u.machine.lock
   pub stages : u.stages ≡ set t.stages p (Inside later)
   pub value : u.machine.value ≡ t.machine.value
-
-starts : (P : Place → Type 0) (o : Option Place) (from : Place) → o ≡ Some from → P from → IsSomeAnd o P
-starts P o from e h = let Q : Option Place → Type 0 = λ x. IsSomeAnd x P in subst Q (sym e) h
 
 pub laws : (w : World) → Stands w → Laws w.behind
 laws w s = record { lock = s.lock; fits = s.fits }
@@ -171,7 +168,7 @@ module _ (p : ℕ) (i : Inputs) (memory : i.memory ≡ true) where
       let mid : World = runs.0 in
       let c = beginning w mid a pending runs.1 in
       let so = ends_so w mid (Begin call.Poll i) a refl not_stepped runs.1 c in
-      let begins : BeginsPoll i.starving p (next.End so.0 so.1) t.machine.lock mid.behind.machine.lock = starts (λ from. Acts true i.starving p from (next.End so.0 so.1) t.machine.lock mid.behind.machine.lock) (start_of call.Poll (place_at t.machine.lock.places p)) c.from c.starts so.2 in
+      let begins : BeginsPoll i.starving p (next.End so.0 so.1) t.machine.lock mid.behind.machine.lock = is_some_and (λ from. Acts true i.starving p from (next.End so.0 so.1) t.machine.lock mid.behind.machine.lock) (start_of call.Poll (place_at t.machine.lock.places p)) c.from c.starts so.2 in
       let P : World → Type 0 = λ x. (e : End) × PollsAlone p e x.behind.machine.lock t.machine.lock × Ended w p a x e in
       subst P (sym runs.3) (so.0, at_once t.machine.lock i.starving so.1 begins, so.3)
   polls_alone known (suc k) w v a not_stepped here pending runs =
@@ -179,7 +176,7 @@ module _ (p : ℕ) (i : Inputs) (memory : i.memory ≡ true) where
       let mid : World = runs.0 in
       let c = beginning w mid answer.Stepped pending runs.1 in
       let on = goes_so t mid.behind (Begin call.Poll i) refl c in
-      let begins : BeginsPoll i.starving p (next.Do on.action on.to) t.machine.lock mid.behind.machine.lock = starts (λ from. Acts true i.starving p from (next.Do on.action on.to) t.machine.lock mid.behind.machine.lock) (start_of call.Poll (place_at t.machine.lock.places p)) c.from c.starts on.acts in
+      let begins : BeginsPoll i.starving p (next.Do on.action on.to) t.machine.lock mid.behind.machine.lock = is_some_and (λ from. Acts true i.starving p from (next.Do on.action on.to) t.machine.lock mid.behind.machine.lock) (start_of call.Poll (place_at t.machine.lock.places p)) c.from c.starts on.acts in
       let there = still_inside t mid.behind here on.stages in
       let more = goes_on (accounts_after known first_move answer.Stepped) k mid v a not_stepped there.0 there.1 runs.3 in
       (more.0, begun t.machine.lock mid.behind.machine.lock i.starving on.action on.to begins more.1, ended_before w mid v a more.0 (Inside later) on.stages on.value more.2)

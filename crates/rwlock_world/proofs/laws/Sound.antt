@@ -12,16 +12,16 @@ use Rattle.lock_world.specs.Rights.{Right, read, upgradable, write, wait_to_writ
 use Rattle.mutex_machine.specs.Course.{Course as TurnCourse, counted, is_resting as rests_in_turn}
 use Rattle.mutex_machine.specs.Mutex.{course_at as turn_at, is_counted, holder_of}
 use Rattle.mutex_machine.specs.Mutex as lock
-use Rattle.mutex_machine.proofs.Callers.{out_rests, holding_rests, waiting_rests}
 use Rattle.mutex_machine.proofs.Holders as sees
 use Rattle.rwlock_machine.specs.declared.program.Ending.TheVariants as ending
 use Rattle.rwlock_machine.specs.declared.program.Place.{Place}
 use Rattle.rwlock_machine.specs.declared.program.Place.TheVariants as place
-use Rattle.rwlock_machine.specs.Roles.{bit, reads, marks, has_turn, fits_turn, is_resting}
+use Rattle.rwlock_machine.specs.Roles.{bit, reads, marks, has_turn, is_resting}
 use Rattle.rwlock_machine.specs.Roles as roles
 use Rattle.rwlock_machine.specs.Machine.{RwLock, place_at}
 use Rattle.rwlock_machine.specs.Acts.{IsRwLock, IsAtRest, writers, marked}
 use Rattle.rwlock_machine.proofs.Places.{share as share_in}
+use Rattle.rwlock_machine.proofs.Laws.{rests_t}
 use Rattle.lock_table.specs.Stages.{stage_at}
 use Rattle.rwlock_world.specs.Stages.{goes_with}
 use Rattle.lock_table.specs.Tables.{Table}
@@ -204,18 +204,6 @@ all_rest l ss v fits resting p = elim (past_out l.places p) as (λ _. is_resting
 ]
 
 -- and in the turn
-rests_there : (x : Place) (t : TurnCourse) → is_resting x ≡ true → fits_turn x t ≡ true → rests_in_turn t ≡ true
-rests_there place.Out t h e = out_rests t e
-rests_there (place.Made w) t h e = out_rests t e
-rests_there place.Reading t h e = out_rests t e
-rests_there place.Upgradable t h e = holding_rests t e
-rests_there place.Writing t h e = holding_rests t e
-rests_there place.AskNoWriter t h e = out_rests t e
-rests_there (place.WaitTurn p) t h e = waiting_rests t e
-rests_there (place.AwaitNoReaders u) t h e = holding_rests t e
-rests_there (place.LookUnlisted u) t h e = holding_rests t e
-rests_there _ t h e = absurd (cc)
-
 turns_rest : (ts : List TurnCourse) → ((p : ℕ) → rests_in_turn (turn_at ts p) ≡ true) → lock.IsAtRest ts
 turns_rest [] h = tt
 turns_rest (t ∷ ts) h = (h 0, turns_rest ts (λ p. h (suc p)))
@@ -335,7 +323,7 @@ module _ (t : Table Guarded) (laws : IsRwLock t.machine.lock) (fits : IsRwLockTa
         starved = λ p counts.
             let ts = t.machine.lock.turn.courses in
             let one : counted (turn_at ts p) ≡ 1 = true_one (is_counted (turn_at ts p)) (counted (turn_at ts p)) (sees.counted_bit (turn_at ts p)) (sym (sees.starved_at ts p) ∙ counts) in
-            let listed_once : entries_of p t.machine.lock.turn.entries ≡ 1 = laws.turn.starved_listed (turns_rest ts (λ q. rests_there (place_at t.machine.lock.places q) (turn_at ts q) (quiet q) (laws.in_turn q))) p one in
+            let listed_once : entries_of p t.machine.lock.turn.entries ≡ 1 = laws.turn.starved_listed (turns_rest ts (λ q. rests_t (place_at t.machine.lock.places q) (turn_at ts q) (quiet q) (laws.in_turn q))) p one in
             omega (arith, listed_once);
       }
 

@@ -9,14 +9,12 @@ use Rattle.lock_world.specs.Standings.{is_outside, Standing, outside, inside, fo
 use Rattle.rwlock_world.specs.State.{Turn, nobody, passes, is_upgradable, waits_to_write, writes, World, standing_of, sought_by, reads, HasTurn}
 use Rattle.rwlock_world.specs.Legal.{HasJust, HasItsOwn}
 use Rattle.rwlock_world.specs.Laws.{HasRight, IsSound}
+use Rattle.lock_world.proofs.Equations.{same_test}
 use Rattle.lock_table.specs.Rights.{account_by}
 use Rattle.rwlock_world.specs.Runs.{right_by, right_in, accounts_of, HasJustItsRights, HasItsRights}
 
 is_same : (p q : ℕ) → (p == q) ≡ true → p ≡ q
 is_same p q e = grind (arith, nat_tests)
-
-pub same_test : (p q : ℕ) → p ≡ q → (p == q) ≡ true
-same_test p q e = grind (arith, nat_tests)
 
 -- ---- the right that a party has in the state
 

@@ -1,6 +1,5 @@
 -- A move leaves the rights of other parties as they are.
-use Rattle.std.proofs.Common.{◌≡◌, ◌≢◌, ℕ, ◌==◌, ◌⊎◌, if◌then◌else◌, inl, inr, Bool, true, false, List, Some, None, refl, arith, ap, sym, ◌∙◌, subst, get_or}
-use Rattle.std.proofs.lemmas.Bool.Decides.{nat_tests}
+use Rattle.std.proofs.Common.{◌≡◌, ◌≢◌, ℕ, ◌⊎◌, if◌then◌else◌, inl, inr, Bool, true, false, List, Some, None, refl, ap, sym, ◌∙◌, subst, get_or}
 use Rattle.std.proofs.lemmas.List.{get_or-set_other}
 use Rattle.lock_world.specs.declared.moves.Answer.{Answer}
 use Rattle.lock_world.specs.declared.moves.Move.{Move}
@@ -13,11 +12,9 @@ use Rattle.rwlock_world.specs.Changes
 use Rattle.rwlock_world.specs.Changes.{turn_after, readers_after, IsAllowed}
 use Rattle.rwlock_world.specs.State.{ListName}
 use Rattle.rwlock_world.specs.Legal.{Legal}
+use Rattle.lock_world.proofs.Equations.{other_test}
 use Rattle.lock_table.specs.Rights.{account_by}
 use Rattle.rwlock_world.specs.Runs.{right_by, right_in, accounts_of}
-
-pub other_test : (p q : ℕ) → q ≢ p → (p == q) ≡ false
-other_test p q e = grind (arith, nat_tests)
 
 -- the turn is nobody's, or this party's
 abbrev IsAt : ℕ → Turn → Type 0
@@ -32,9 +29,9 @@ not_by p q nobody b apart at = refl
 not_by p q (passes r) b apart at = refl
 not_by p q (waits_to_write r) b apart at = refl
 not_by p q (is_upgradable r) b apart (inl e) = absurd (cc)
-not_by p q (is_upgradable r) b apart (inr e) = rw (other_test r q (λ h. apart (h ∙ e))) refl
+not_by p q (is_upgradable r) b apart (inr e) = rw (other_test r q (λ h. apart (sym h ∙ e))) refl
 not_by p q (writes r) b apart (inl e) = absurd (cc)
-not_by p q (writes r) b apart (inr e) = rw (other_test r q (λ h. apart (h ∙ e))) refl
+not_by p q (writes r) b apart (inr e) = rw (other_test r q (λ h. apart (sym h ∙ e))) refl
 
 module _ (w : World) (p q : ℕ) (apart : q ≢ p) where
   either : (t u : Turn) (b : Bool) → IsAt p t → IsAt p u → right_by u b q ≡ right_by t b q

@@ -19,8 +19,9 @@ use Rattle.lock_world.specs.Frame.{put_in, is_poll_after_ready}
 use Rattle.lock_world.specs.Standings.{inputs_of, refused}
 use Rattle.lock_world.proofs.Equations.{some_eq, none_some}
 use Rattle.lock_table.specs.Stages.{stage_at, call_at, polls_again, stage_after}
-use Rattle.lock_table.specs.Tables.{Table, Does as TableDoes}
+use Rattle.lock_table.specs.Tables.{Table}
 use Rattle.lock_table.proofs.Calls.{call_seen, again_seen}
+use Rattle.lock_table.proofs.Ways as ways
 use Rattle.mutex_machine.specs.Course.{Course as TurnCourse}
 use Rattle.mutex_machine.specs.Mutex.{course_at as turn_at}
 use Rattle.rwlock_machine.specs.declared.program.Next.{Next}
@@ -119,41 +120,40 @@ module _ (t u : Table Guarded) (m : Move) (a : Answer) (old : Laws t) (new : Law
   again_is = ap (λ z. is_poll_after_ready z m.what) (stood t m.party old) ∙ again_seen (verdict t.machine.value here (turn_at t.machine.lock.turn.courses m.party)) stage m.what
 
   pub way : TableSteps t m a u → Way t u m a
-  way step = by_call (call_at (knows_at here) stage m.what) (polls_again stage m.what) refl refl step where
-    by_put : (w : Within) (o : Option ℕ) → call_at (knows_at here) stage m.what ≡ Some w → polls_again stage m.what ≡ false → put_in m.what ≡ o → m.party < length t.stages → u.stages ≡ set t.stages m.party (stage_after rest.Holding w a) → u.opening ≡ t.opening
-        → Does o t.machine m.party m.what a u.machine → Way t u m a
-    by_put w None e f o inside stages opening d =
-        let turned = moving t.machine.value (turn_at t.machine.lock.turn.courses m.party) stage m.what here w (old.fits.stands m.party inside) e f o in
-        let same : turned.from ≡ d.from = some_eq (sym turned.starts ∙ d.starts) in
-        let P : Place → Type 0 = Moves t.machine.value (turn_at t.machine.lock.turn.courses m.party) stage m.what here w in
-        acts w (record {
-          inside = inside;
-          old = old;
-          new = new;
-          call = e;
-          first = f;
-          no_put = o;
-          from = d.from;
-          next = d.next;
-          starts = d.starts;
-          acts = d.acts;
-          answer = d.answer;
-          value = d.value;
-          stages = stages;
-          opening = opening;
-          moves = subst P same turned.holds;
-        })
-    by_put w (Some v) e f o inside stages opening d =
-        let put = put_is stage m.what v w here o e in
-        let S : Within → Type 0 = λ y. u.stages ≡ set t.stages m.party (stage_after rest.Holding y a) in
-        let B : Answer → Type 0 = λ b. u.stages ≡ set t.stages m.party (stage_after rest.Holding (within kind.Put rest.Holding) b) in
-        let stay : u.stages ≡ t.stages = subst B d.0 (subst S put.call stages) ∙ set_same t.stages m.party Forgotten _ put.stage inside in
-        puts w v inside o e d.0 (table_eq _ _ _ _ _ _ d.1 stay opening)
-
-    by_call : (o : Option Within) (b : Bool) → call_at (knows_at here) stage m.what ≡ o → polls_again stage m.what ≡ b → TableDoes knows_there rest.Holding MovesThere o b t m a u → Way t u m a
-    by_call None b e f d = impossible (call_is ∙ e) d.0 d.1
-    by_call (Some w) true e f d = over w (call_is ∙ e) f d.0 d.1
-    by_call (Some w) false e f d = by_put w (put_in m.what) e f refl d.inside d.stages d.opening d.acts
+  way step = ways.by_way knows_there rest.Holding MovesThere t u m a (λ b x. Way t x m b)
+      (λ e. impossible (call_is ∙ e) refl refl)
+      (λ w e f. over w (call_is ∙ e) f refl refl)
+      (λ w e f d. by_put w (put_in m.what) e f refl d.inside d.stages d.opening d.acts)
+      (ways.way knows_there rest.Holding MovesThere t u m a step) where
+        by_put : (w : Within) (o : Option ℕ) → call_at (knows_at here) stage m.what ≡ Some w → polls_again stage m.what ≡ false → put_in m.what ≡ o → m.party < length t.stages → u.stages ≡ set t.stages m.party (stage_after rest.Holding w a) → u.opening ≡ t.opening
+            → Does o t.machine m.party m.what a u.machine → Way t u m a
+        by_put w None e f o inside stages opening d =
+            let turned = moving t.machine.value (turn_at t.machine.lock.turn.courses m.party) stage m.what here w (old.fits.stands m.party inside) e f o in
+            let same : turned.from ≡ d.from = some_eq (sym turned.starts ∙ d.starts) in
+            let P : Place → Type 0 = Moves t.machine.value (turn_at t.machine.lock.turn.courses m.party) stage m.what here w in
+            acts w (record {
+              inside = inside;
+              old = old;
+              new = new;
+              call = e;
+              first = f;
+              no_put = o;
+              from = d.from;
+              next = d.next;
+              starts = d.starts;
+              acts = d.acts;
+              answer = d.answer;
+              value = d.value;
+              stages = stages;
+              opening = opening;
+              moves = subst P same turned.holds;
+            })
+        by_put w (Some v) e f o inside stages opening d =
+            let put = put_is stage m.what v w here o e in
+            let S : Within → Type 0 = λ y. u.stages ≡ set t.stages m.party (stage_after rest.Holding y a) in
+            let B : Answer → Type 0 = λ b. u.stages ≡ set t.stages m.party (stage_after rest.Holding (within kind.Put rest.Holding) b) in
+            let stay : u.stages ≡ t.stages = subst B d.0 (subst S put.call stages) ∙ set_same t.stages m.party Forgotten _ put.stage inside in
+            puts w v inside o e d.0 (table_eq _ _ _ _ _ _ d.1 stay opening)
 
   -- a move that its party may make, and that is no put and no poll after ready, is carried out by the lock
   pub acting : (v : Within) → call_at (knows_at here) stage m.what ≡ Some v → polls_again stage m.what ≡ false → put_in m.what ≡ None → TableSteps t m a u → Acting t u m a v

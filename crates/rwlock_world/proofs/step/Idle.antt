@@ -22,7 +22,7 @@ use Rattle.lock_world.specs.Frame.{is_drop, is_poll_after_ready, is_refusal, put
 use Rattle.lock_world.specs.Rights.{Right, write}
 use Rattle.lock_world.specs.Standings.{Standing, outside, inside, call_in, is_possible, refused, StandsAfter, is_decided, decision}
 use Rattle.lock_world.specs.Steps.{nothing, changes}
-use Rattle.lock_world.proofs.Equations.{some_eq, none_some, some_none, outside_inside, is_granted}
+use Rattle.lock_world.proofs.Equations.{some_eq, none_some, some_none, outside_inside, is_granted, granted_eq}
 use Rattle.lock_table.specs.Stages.{stage_at, polls_again}
 use Rattle.lock_table.specs.Tables.{Table}
 use Rattle.lock_table.proofs.Idle as frame
@@ -122,9 +122,6 @@ polled_again t p i k at =
     (frame.over standing_of knows_of rest.Holding IsCause (view_of t) m refl (rw is refl) refl)
 
 -- ---- a value is put
-
-granted_eq : (n : ℕ) (got : _) → answer.Granted (Value n) ≡ answer.Granted got → got ≡ Value n
-granted_eq n got e = cc
 
 writes_only : (w : World) (p : ℕ) → HasSought w p → sought_by w p ≡ Some write → HasJust w p write
 writes_only w p h e = subst (λ (r : Right). HasJust w p r) (some_eq (sym h.1 ∙ e)) h.2

@@ -20,7 +20,7 @@ use Rattle.lock_world.specs.Refusals.{number_of}
 use Rattle.lock_world.specs.Rights.{Right, read, upgradable, write}
 use Rattle.lock_world.specs.Standings.{Standing, inside, IsUndecided, is_decided, is_possible, decision, refused}
 use Rattle.lock_world.specs.Steps.{Deed, nothing, does, joins}
-use Rattle.lock_world.proofs.Equations.{some_eq}
+use Rattle.lock_world.proofs.Equations.{some_eq, chosen, same_test}
 use Rattle.mutex_machine.specs.Course.{Course as TurnCourse}
 use Rattle.mutex_machine.specs.Mutex.{course_at as turn_at}
 use Rattle.mutex_machine.proofs.Callers.{out_free, waiting_free}
@@ -34,7 +34,7 @@ use Rattle.rwlock_machine.specs.Roles.{fits_turn}
 use Rattle.rwlock_machine.specs.Machine.{RwLock, place_at}
 use Rattle.rwlock_machine.specs.Acts.{IsRwLock}
 use Rattle.rwlock_world.specs.Changes.{Change, gives_back, gives_up}
-use Rattle.rwlock_world.specs.State.{ListName, for_the_turn, for_no_readers, for_no_writer}
+use Rattle.rwlock_world.specs.State.{ListName}
 use Rattle.rwlock_world.specs.State as state
 use Rattle.rwlock_world.specs.State.{State, World, standing_of, sought_by, is_upgrader, told_in, HasTurn, IsClear}
 use Rattle.rwlock_world.specs.Legal.{knows_of, call_of, DecidesOn, IsPossible, ChangesOneThing, HasSought, LeavesClear, Carries, Waits, list_for, may_meet, IsCause, IsRefusedForCause, IsValueKept, EndsProperly, KeepsUpgrades, Legal}
@@ -99,19 +99,12 @@ decided_inside (inside u (Some b)) h = (u, b, refl)
 decided_inside (inside u None) h = absurd (cc)
 decided_inside _ h = absurd (cc)
 
-same_test : (p : ℕ) → (p == p) ≡ true
-same_test p = grind (arith, nat_tests)
-
 same_is : (p q : ℕ) → (q == p) ≡ true → q ≡ p
 same_is p q h = grind (arith, nat_tests)
 
-if_true : {A : Type 0} (b : Bool) (x y : A) → b ≡ true → (if b then x else y) ≡ x
-if_true true x y h = refl
-if_true false x y h = absurd (cc)
-
 -- the list in which a write waits
 writer_listed : (w : World) (p : ℕ) → w.state.turn ≡ state.waits_to_write p → list_for (Some write) w.state.turn p w ≡ w.no_readers
-writer_listed w p e = rw e (if_true (p == p) w.no_readers w.turn_list (same_test p))
+writer_listed w p e = rw e (chosen (p == p) w.no_readers w.turn_list (same_test p p refl))
 
 out_of_turn : (w : World) (p : ℕ) (t : state.Turn) → (HasTurn t p → ⊥) → list_for (Some write) t p w ≡ w.turn_list
 out_of_turn w p state.nobody n = refl

@@ -10,6 +10,7 @@ use Rattle.lock_world.specs.declared.refusal.Refusal.{Refusal}
 use Rattle.lock_world.specs.declared.refusal.Refusal.TheVariants as refusal
 use Rattle.lock_world.specs.Refusals.{number_of}
 use Rattle.lock_world.specs.Steps.{Deed, nothing, changes, does, joins, asks, leaves, notifies}
+use Rattle.lock_world.proofs.Equations.{chosen}
 use Rattle.mutex_machine.specs.Course.{Course as TurnCourse, is_out as is_out_there, is_holding}
 use Rattle.rwlock_machine.specs.declared.program.Action.{Action}
 use Rattle.rwlock_machine.specs.declared.program.Action.TheVariants as act
@@ -195,12 +196,8 @@ pub record Row (memory : Bool) (l : RwLock) (v : ℕ) (x : Place) (f : Found) : 
   pub upgrade : KeepsUpgrade v x (next_of x f)
   pub refused : RefusedAt x (next_of x f)
 
-asked_yes : (b : Bool) (l m : List (Entry ℕ)) → b ≡ true → (if b then m else l) ≡ m
-asked_yes true l m h = refl
-asked_yes false l m h = absurd (cc)
-
 asks_so : (p : ℕ) (l m : List (Entry ℕ)) → (is_marked_at (is_party p) l ≡ true) × (m ≡ without (is_party p) l) → m ≡ (if is_marked_at (is_party p) l then without (is_party p) l else l)
-asks_so p l m o = o.1 ∙ sym (asked_yes (is_marked_at (is_party p) l) l (without (is_party p) l) o.0)
+asks_so p l m o = o.1 ∙ sym (chosen (is_marked_at (is_party p) l) (without (is_party p) l) l o.0)
 
 module _ (memory : Bool) (l : RwLock) (v : ℕ) where
   pub row : (x : Place) (f : Found) → Finds memory (action_of x) f l → (course_of x ≡ strays → ⊥) → steps_in_turn x ≡ false → Row memory l v x f

@@ -14,7 +14,7 @@ use Rattle.lock_world.specs.declared.standing.Stage.TheVariants.{Outside, Inside
 use Rattle.lock_world.specs.declared.standing.Within.{Within}
 use Rattle.lock_world.specs.Frame.{put_in}
 use Rattle.lock_world.specs.Standings.{inputs_of}
-use Rattle.lock_world.proofs.Equations.{some_eq, none_some}
+use Rattle.lock_world.proofs.Equations.{some_eq, none_some, witness}
 use Rattle.lock_table.specs.Stages.{call_at, stage_after}
 use Rattle.lock_table.specs.Tables.{Keeps as KeepsStanding, Called}
 use Rattle.mutex_machine.specs.Mutex.{course_at as turn_at}
@@ -102,14 +102,9 @@ module _ (x y : Guarded) (p : ℕ) (w : Within) (what : What) (a : Answer) (laws
     by_put None e d = acts_kept e d
     by_put (Some v) e d = put_kept v e d
 
--- the place that the code finds, and what it learns there
-began : {P : Place → Type 0} (o : Option Place) → IsSomeAnd o P → (from : Place) × (o ≡ Some from) × P from
-began None h = absurd h
-began (Some from) h = (from, refl, h)
-
 -- what the code does, but for a put
 pub acted : (x y : Guarded) (p : ℕ) (w : Within) (what : What) (a : Answer) (n : Next) → put_in what ≡ None → IsSomeAnd (place_for what (place_of x p)) (λ from. Acts (inputs_of what).memory (inputs_of what).starving p from n x.lock y.lock) → a ≡ answer_by x.value n → y.value ≡ x.value → MovesThere x p w what a y
 acted x y p w what a n none acts answer value =
-    let b = began (place_for what (place_of x p)) acts in
+    let b = witness (place_for what (place_of x p)) acts in
     let D : Option ℕ → Type 0 = λ o. Does o x p what a y in
     subst D (sym none) (record { from = b.0; next = n; starts = b.1; acts = b.2; answer = answer; value = value })

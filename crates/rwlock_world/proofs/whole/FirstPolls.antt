@@ -46,6 +46,7 @@ use Rattle.rwlock_world.proofs.step.Acting.{Acting, Way, impossible, over, puts,
 use Rattle.rwlock_world.proofs.bound.Alone.{laws}
 use Rattle.rwlock_world.proofs.step.Instants.{begins, passer_holds, turn_is_free}
 use Rattle.rwlock_world.proofs.table.Views as view
+use Rattle.rwlock_machine.proofs.SoloTurns.{reads_not}
 
 -- what the turn is taken for: whether it is free, and where its party stands then
 abbrev IsFreeFor : Purpose → RwLock → Type 0
@@ -69,10 +70,6 @@ gets memory purpose.Write l _ e free = absurd e
 enters : (memory starving : Bool) (p : ℕ) (q : Purpose) (f : Found) (t u : Mutex) → OnTurn memory starving p (act.Begin turn_call.Lock) f t u → holders t ≡ 0 → starved t ≡ 0 → next_of (place.EnterTurn q) f ≡ go_to (with_turn q false)
 enters memory starving p q (Turn n) t u o free none = ap (λ k. next_of (place.EnterTurn q) (Turn k)) (o.at_once.ends refl free none)
 enters memory starving p q _ t u o free none = absurd o
-
-reads_not : (q : Purpose) → reads (with_turn q false) ≡ 0
-reads_not purpose.UpgradableRead = refl
-reads_not purpose.Write = refl
 
 still_free : (q : Purpose) (l k : RwLock) → readers k ≡ readers l → k.limit ≡ l.limit → IsFreeFor q l → IsFreeFor q k
 still_free purpose.UpgradableRead l k same limit free = omega (arith, same, limit, free)

@@ -4,8 +4,7 @@ use Rattle.std.proofs.Math.Decide.{ℕ_discrete}
 use Rattle.std.proofs.lemmas.Bool.{false≢true}
 use Rattle.std.proofs.lemmas.Bool.Decides.{nat_tests}
 use Rattle.lock_event.specs.declared.event.Entry.{Entry}
-use Rattle.lock_event.specs.Lists.{marked_count, notified}
-use Rattle.lock_event.proofs.Counts.{marked_count-notified}
+use Rattle.lock_event.specs.Lists.{marked_count}
 use Rattle.lock_queue.specs.Parties.{entries_of}
 use Rattle.lock_world.specs.Accounts.{Account, accounts_after}
 use Rattle.lock_world.specs.declared.moves.Answer.{Answer}
@@ -27,7 +26,7 @@ use Rattle.lock_frame.specs.Steps.{beginning}
 use Rattle.lock_frame.proofs.Runs.{along, Onward}
 use Rattle.lock_table.specs.declared.end.End.TheVariants.{Got, Granted, Pending, NotFree, GivenBack, Refused}
 use Rattle.lock_table.specs.Stages.{call_at, polls_again}
-use Rattle.lock_world.proofs.Lists.{others}
+use Rattle.lock_world.proofs.Lists.{others, notified_marked}
 use Rattle.mutex_machine.specs.Course.{Course as TurnCourse, is_waiting, is_told, listed}
 use Rattle.mutex_machine.specs.declared.mutex.Step.{Step as TurnStep}
 use Rattle.mutex_machine.specs.declared.mutex.Step.TheVariants as turn_step
@@ -67,13 +66,6 @@ use Rattle.rwlock_world.proofs.bound.AloneSeen.{at_stage, future}
 -- some entry is marked, unless the list is empty
 abbrev IsHanded : List (Entry ℕ) → Type 0
 IsHanded l = 0 < length l → 0 < marked_count l
-
-still_some : (l : List (Entry ℕ)) → 0 < length (notified l 1) → 0 < length l
-still_some [] h = h
-still_some (e ∷ es) h = omega arith
-
-notifies : (l m : List (Entry ℕ)) → m ≡ notified l 1 → IsHanded m
-notifies l m is some = subst (λ k. 0 < marked_count k) (sym is) (marked_count-notified l (still_some l (subst (λ k. 0 < length k) is some)))
 
 -- ---- a reader
 
@@ -234,7 +226,7 @@ module _ (p : ℕ) (i : Inputs) where
   said_reading a (next.Do b q) f l m r o = r
   said_reading a (next.End (Refused k) q) f l m r o = (let P : Action → Type 0 = λ b. OnNoWriter p b f l m in notified_there f (subst P r o)) where
     notified_there : (f : Found) → OnNoWriter p act.NotifyNoWriter f l m → IsHanded m
-    notified_there Done o = notifies l m o
+    notified_there Done o = notified_marked l m o
     notified_there _ o = absurd o
   said_reading a (next.End Got q) f l m r o = tt
   said_reading a (next.End Granted q) f l m r o = tt

@@ -28,12 +28,12 @@ use Rattle.lock_world.specs.Standings.{inputs_of, call_in, is_possible, is_stepp
 use Rattle.lock_world.specs.Frame.{is_giving_back, is_poll_after_ready, is_refusal}
 use Rattle.lock_world.specs.Refusals.{number_of}
 use Rattle.lock_world.specs.Steps.{Deed, nothing, changes, does, joins, asks, leaves, notifies, notifies_additionally}
-use Rattle.lock_world.proofs.Equations.{some_eq, none_some}
+use Rattle.lock_world.proofs.Equations.{some_eq, none_some, finished_number}
 use Rattle.lock_table.specs.Stages.{stage_at, stands_as, call_at, polls_again, stage_after}
 use Rattle.lock_table.specs.Tables.{Table}
 use Rattle.lock_table.proofs.Mapped.{set_same}
 use Rattle.lock_table.proofs.Acting as acting
-use Rattle.lock_table.proofs.Calls.{call_seen, again_seen, stands_seen, decided_after, decision_seen}
+use Rattle.lock_table.proofs.Calls.{call_seen, again_seen, stands_seen, decided_after, decision_seen, later_ends}
 use Rattle.semaphore_machine.specs.declared.program.Found.{Found}
 use Rattle.semaphore_machine.specs.declared.program.Found.TheVariants.{Done, Taken, PastLimit, Yes, No}
 use Rattle.semaphore_machine.specs.declared.program.Next.{Next}
@@ -106,12 +106,6 @@ polls_end HandOn _ h e = refl
 polls_end RefuseNotify _ h e = refl
 polls_end _ f h e = absurd (cc h)
 
-later_ends : (a : Answer) → may_end kind.FirstPoll a ≡ true → may_end kind.LaterPoll a ≡ true
-later_ends answer.Pending h = refl
-later_ends (answer.Ready got) h = refl
-later_ends (answer.Refused n) h = refl
-later_ends _ h = absurd (cc)
-
 ends_by : (k : Kind) (r : Rest) (x : Place) (f : Found) → runs k r x ≡ true → is_stepped (answer_by (next_of x f)) ≡ false → may_end k (answer_by (next_of x f)) ≡ true
 ends_by kind.FirstPoll rest.Idle x f h e = polls_end x f h e
 ends_by kind.LaterPoll rest.Pending x f h e = later_ends (answer_by (next_of x f)) (polls_end x f h e)
@@ -167,11 +161,8 @@ module _ (memory : Bool) (w : Words) (x : Place) (f : Found) where
   not_over None None j late e = none_some e
   not_over None (Some c) j late e = let P : Answer → Type 0 = Reason memory w x f in let why = subst P (some_eq e) j in overs why.0 why.1 why.2
 
-refused_six : (n : ℕ) → answer.Refused n ≡ refused refusal.Finished → n ≡ 6
-refused_six n e = cc
-
 never_over : (x : Place) → verdict_of x ≡ Some (refused refusal.Finished) → ⊥
-never_over RefuseNotify e = let six : Path ℕ 1 6 = refused_six 1 (some_eq e) in absurd (omega (arith, six))
+never_over RefuseNotify e = let six : Path ℕ 1 6 = finished_number 1 (some_eq e) in absurd (omega (arith, six))
 never_over _ e = cc
 
 join_unlisted : (x : Place) → is_join x ≡ true → (seat_of x).listed ≡ 0

@@ -1,5 +1,5 @@
 -- What is so where a move begins or goes on.
-use Rattle.std.proofs.Common.{◌≡◌, ℕ, ◌||◌, if◌then◌else◌, true, false, Option, Some, None, is_some, refl, ap, sym, ◌∙◌}
+use Rattle.std.proofs.Common.{◌≡◌, ℕ, ◌||◌, if◌then◌else◌, true, false, Some, is_some, refl, ap, sym, ◌∙◌}
 use Rattle.lock_world.specs.declared.moves.Answer.{Answer}
 use Rattle.lock_world.specs.declared.moves.Answer.TheVariants as answer
 use Rattle.lock_world.specs.declared.moves.Inputs.{Inputs}
@@ -13,6 +13,7 @@ use Rattle.lock_world.specs.declared.standing.Stage.{Stage}
 use Rattle.lock_world.specs.declared.standing.Within.{Within}
 use Rattle.lock_world.specs.Frame.{is_drop, is_giving_back}
 use Rattle.lock_world.specs.Standings.{inside, is_decided, IsUndecided}
+use Rattle.lock_table.proofs.Calls.{decides_so, undecided_so}
 use Rattle.lock_table.specs.Stages.{stands_as, call_at, polls_again}
 use Rattle.semaphore_machine.specs.declared.program.Action.TheVariants as act
 use Rattle.semaphore_machine.specs.declared.program.Place.{Place}
@@ -39,14 +40,6 @@ pub record Here (s : Stage) (what : What) (w : Within) (x : Position) (from : Pl
   pub gives : (n : ℕ) → from ≡ GiveAdded n → adds_at x ≡ n
   pub told : (n : ℕ) → action_of from ≡ act.Notify n → notice (stands_as (verdict x) s) (adds_at x) ≡ n
   pub going : (i : Inputs) → what ≡ Go i → (x ≡ At from) × (is_begun from ≡ true)
-
-decides_so : (w : Within) (o : Option Answer) → is_decided (inside w o) || false ≡ is_some o
-decides_so w None = refl
-decides_so w (Some b) = refl
-
-undecided_so : (w : Within) (o : Option Answer) (b : Answer) → is_decided (inside w o) ≡ false → o ≡ Some b → b ≡ answer.GivenBack
-undecided_so w None b h e = absurd (cc)
-undecided_so w (Some c) b h e = absurd (cc)
 
 joins_so : (w : Within) (x : Place) → is_join x ≡ true → IsUndecided (inside w (verdict_of x))
 joins_so w (Join told) h = (w, refl)

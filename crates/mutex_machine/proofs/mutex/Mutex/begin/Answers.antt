@@ -2,7 +2,8 @@
 use Rattle.mutex_machine.specs.Program.{start_of}
 use Rattle.mutex_machine.specs.Machine.{place_at}
 use Rattle.mutex_machine.specs.Acts.{Acts}
-use Rattle.mutex_machine.proofs.Clauses.{began, known_there, is_legal, fairly, left_seen, is_done, at_once, begins_told_on, begins_patient}
+use Rattle.lock_world.proofs.Equations.{witness}
+use Rattle.mutex_machine.proofs.Clauses.{known_there, is_legal, fairly, left_seen, is_done, at_once, begins_told_on, begins_patient}
 use Rattle.mutex_machine.proofs.Sights.{begins_kept}
 use Rattle.mutex_machine.proofs.mutex.Mutex.begin.Goals as goal
 
@@ -14,7 +15,7 @@ returns-clause-legal c =
 pub returns-clause-at_once : goal.returns-clause-at_once
 returns-clause-at_once c =
     let known = known_there c.self.inside.machine c.args.self.now c.args.party c.self.view_is c.requires.known in
-    let b = began {P = λ from. Acts c.args.memory c.args.party from c.begin.result c.self.inside.machine c.begin.new.self} (start_of c.args.call (place_at c.self.inside.machine.places c.args.party)) c.begin.ensures.acts in
+    let b = witness {P = λ from. Acts c.args.memory c.args.party from c.begin.result c.self.inside.machine c.begin.new.self} (start_of c.args.call (place_at c.self.inside.machine.places c.args.party)) c.begin.ensures.acts in
     rw c.step_after.ensures (rw (← c.self.view_is) (at_once c.self.inside.machine c.begin.new.self c.args.memory c.args.party b.0 c.begin.result known b.2 c.args.call b.1 (c.laws.ensures.owners c.args.party) c.begin.ensures.at_once))
 
 pub returns-clause-fair : goal.returns-clause-fair
@@ -26,13 +27,13 @@ returns-clause-bounded c = rw (c.step_after.ensures, left_seen c.self.inside.mac
 pub returns-clause-patient : goal.returns-clause-patient
 returns-clause-patient c =
     let known = known_there c.self.inside.machine c.args.self.now c.args.party c.self.view_is c.requires.known in
-    let b = began {P = λ from. Acts c.args.memory c.args.party from c.begin.result c.self.inside.machine c.begin.new.self} (start_of c.args.call (place_at c.self.inside.machine.places c.args.party)) c.begin.ensures.acts in
+    let b = witness {P = λ from. Acts c.args.memory c.args.party from c.begin.result c.self.inside.machine c.begin.new.self} (start_of c.args.call (place_at c.self.inside.machine.places c.args.party)) c.begin.ensures.acts in
     rw (← c.self.view_is) (begins_patient c.self.inside.machine c.begin.new.self c.args.memory c.args.party b.0 c.begin.result known b.2 c.args.call c.args.starving b.1)
 
 pub returns-clause-hands_on : goal.returns-clause-hands_on
 returns-clause-hands_on c =
     let known = known_there c.self.inside.machine c.args.self.now c.args.party c.self.view_is c.requires.known in
-    let b = began {P = λ from. Acts c.args.memory c.args.party from c.begin.result c.self.inside.machine c.begin.new.self} (start_of c.args.call (place_at c.self.inside.machine.places c.args.party)) c.begin.ensures.acts in
+    let b = witness {P = λ from. Acts c.args.memory c.args.party from c.begin.result c.self.inside.machine c.begin.new.self} (start_of c.args.call (place_at c.self.inside.machine.places c.args.party)) c.begin.ensures.acts in
     rw c.step_after.ensures (rw (← c.self.view_is) (begins_told_on c.self.inside.machine c.begin.new.self c.args.memory c.args.party b.0 c.begin.result known b.2 c.args.call b.1))
 
 pub returns-clause-done : goal.returns-clause-done

@@ -2,13 +2,14 @@
 use Rattle.std.proofs.Common.{◌≡◌, ℕ, Option, None, ap, sym, ◌∙◌, subst}
 use Rattle.lock_world.specs.Frame.{put_in}
 use Rattle.mutex_world.specs.Guarded.{Guarded, MovesBy, Carries, place_for, place_of, is_try_kind, answer_by}
-use Rattle.mutex_world.proofs.table.Acts.{started, carry_keeps}
+use Rattle.lock_world.proofs.Equations.{witness}
+use Rattle.mutex_world.proofs.table.Acts.{carry_keeps}
 use Rattle.mutex_world.proofs.guarded.GuardedMachine.act.Goals as goal
 
 pub returns-in-None-clause-acts : goal.returns-in-None-clause-acts
 returns-in-None-clause-acts c =
-    let none : put_in c.args.what ≡ None = sym c.put_by.ensures ∙ c.in-None.is in
-    let s = started (place_for c.args.within.was c.args.what (place_of c.args.self.now c.args.party)) c.carry_out-next.ensures in
+    let none : put_in c.args.what ≡ None = sym c.put.ensures ∙ c.in-None.is in
+    let s = witness (place_for c.args.within.was c.args.what (place_of c.args.self.now c.args.party)) c.carry_out-next.ensures in
     let same : c.self-in-None.inside.value ≡ c.args.self.now.value = ap (λ (g : Guarded). g.value) c.self-in-None.view_is ∙ s.2.value in
     let it : Carries c.args.self.now c.args.party c.args.within c.args.what c.answer_to.result c.carry_out-next.new.self = record {
       from = s.0;
@@ -22,6 +23,6 @@ returns-in-None-clause-acts c =
 
 pub returns-in-None-clause-keeps : goal.returns-in-None-clause-keeps
 returns-in-None-clause-keeps c =
-    let none : put_in c.args.what ≡ None = sym c.put_by.ensures ∙ c.in-None.is in
+    let none : put_in c.args.what ≡ None = sym c.put.ensures ∙ c.in-None.is in
     let P : Option ℕ → Type 0 = λ o. MovesBy o c.args.self.now c.args.party c.args.within c.args.what c.answer_to.result c.carry_out-next.new.self in
     carry_keeps c.args.self.now c.args.party c.args.within c.args.what c.answer_to.result c.carry_out-next.new.self c.requires.known c.requires.called none (subst P none (returns-in-None-clause-acts c))

@@ -10,7 +10,7 @@ use Rattle.rwlock_world.proofs.guarded.GuardedMachine.act.Goals as goal
 
 pub returns-in-None-clause-acts : goal.returns-in-None-clause-acts
 returns-in-None-clause-acts c =
-    let none : put_in c.args.what ≡ None = sym c.put_by.ensures ∙ c.in-None.is in
+    let none : put_in c.args.what ≡ None = sym c.put.ensures ∙ c.in-None.is in
     let x : Guarded = record { lock = c.self.inside.lock; value = c.self.inside.value } in
     let y : Guarded = record { lock = c.carry_out-next.new.lock; value = c.self.inside.value } in
     rw (← c.self.view_is) (acted x y c.args.party c.args._within c.args.what c.answer_to.result c.carry_out-next.result none c.carry_out-next.ensures.acts c.answer_to.ensures refl)

@@ -1,13 +1,11 @@
--- Which entries aren't marked, before and after a list function.
+-- Which entries aren't marked.
 use Rattle.std.proofs.Common.{◌≡◌, ◌≢◌, ℕ, ◌-◌, ◌<◌, ◌≤◌, if◌then◌else◌, Bool, true, false, List, [], ◌∷◌, length, Option, Some, None, refl, arith}
 use Rattle.std.proofs.lemmas.Bool.Decides.{nat_tests}
 use Rattle.lock_event.specs.declared.event.Entry.{Entry}
 use Rattle.lock_event.specs.declared.event.Mark.{Mark}
 use Rattle.lock_event.specs.declared.event.Mark.TheVariants.{Waiting, Notified, Additional}
 use Rattle.lock_event.specs.Lists.{is_marked, is_marked_at, marked_count, joined, mark_waiting, without, mark_at, passed_on}
-use Rattle.lock_queue.specs.Parties.{is_party, entries_of}
-use Rattle.lock_world.specs.Steps.{ListFunction, joins, asks, leaves, notifies, notifies_additionally, list_after}
-use Rattle.barrier_machine.specs.Machine.{is_unmarked}
+use Rattle.lock_queue.specs.Parties.{is_party, entries_of, is_unmarked}
 
 pub never_unlisted : (p : ℕ) (l : List (Entry ℕ)) → entries_of p l ≡ 0 → is_unmarked p l ≡ true → ⊥
 never_unlisted p [] none h = absurd (cc)
@@ -36,11 +34,11 @@ pub marked_then : (p : ℕ) (l : List (Entry ℕ)) → is_marked_at (is_party p)
 marked_then p [] h = refl
 marked_then p (e ∷ es) h = grind (arith, marked_then p es)
 
-join_unmarked : (j p : ℕ) (l : List (Entry ℕ)) → j ≢ p → is_unmarked j (joined l p) ≡ true → is_unmarked j l ≡ true
+pub join_unmarked : (j p : ℕ) (l : List (Entry ℕ)) → j ≢ p → is_unmarked j (joined l p) ≡ true → is_unmarked j l ≡ true
 join_unmarked j p [] apart h = grind (arith, nat_tests)
 join_unmarked j p (e ∷ es) apart h = grind (arith, nat_tests, join_unmarked j p es)
 
-without_unmarked : (j p : ℕ) (l : List (Entry ℕ)) → j ≢ p → is_unmarked j (without (is_party p) l) ≡ true → is_unmarked j l ≡ true
+pub without_unmarked : (j p : ℕ) (l : List (Entry ℕ)) → j ≢ p → is_unmarked j (without (is_party p) l) ≡ true → is_unmarked j l ≡ true
 without_unmarked j p [] apart h = h
 without_unmarked j p (e ∷ es) apart h = grind (arith, nat_tests, without_unmarked j p es)
 
@@ -56,19 +54,8 @@ all_marked j m n (e ∷ es) told few h =
     let same : length es ≤ n = omega arith in
     grind (arith, nat_tests, all_marked j m n es, all_marked j m (n - 1) es)
 
-pass_unmarked : (j : ℕ) (m : Option Mark) (l : List (Entry ℕ)) → is_unmarked j (passed_on m l) ≡ true → is_unmarked j l ≡ true
+pub pass_unmarked : (j : ℕ) (m : Option Mark) (l : List (Entry ℕ)) → is_unmarked j (passed_on m l) ≡ true → is_unmarked j l ≡ true
 pass_unmarked j None l h = h
 pass_unmarked j (Some Waiting) l h = h
 pass_unmarked j (Some Notified) l h = mark_unmarked j Notified (1 - marked_count l) l refl h
 pass_unmarked j (Some Additional) l h = mark_unmarked j Additional 1 l refl h
-
--- who has an unmarked entry after another party's list function had one before
-pub unmarked_before : (p : ℕ) (f : ListFunction) (l : List (Entry ℕ)) (j : ℕ) → j ≢ p → is_unmarked j (list_after p f l) ≡ true → is_unmarked j l ≡ true
-unmarked_before p joins l j apart h = join_unmarked j p l apart h
-unmarked_before p asks l j apart h = by_told (is_marked_at (is_party p) l) h where
-  by_told : (b : Bool) → is_unmarked j (if b then without (is_party p) l else l) ≡ true → is_unmarked j l ≡ true
-  by_told true h = without_unmarked j p l apart h
-  by_told false h = h
-unmarked_before p leaves l j apart h = without_unmarked j p l apart (pass_unmarked j (mark_at (is_party p) l) (without (is_party p) l) h)
-unmarked_before p (notifies n) l j apart h = mark_unmarked j Notified (n - marked_count l) l refl h
-unmarked_before p (notifies_additionally n) l j apart h = mark_unmarked j Additional n l refl h
