@@ -1,5 +1,6 @@
 -- Where a call begins or goes on.
-use Rattle.std.proofs.Common.{◌≡◌, ℕ, ◌<◌, List, [], ◌∷◌, length, get_or, zero, suc, true, false, Some, refl, subst, arith, ap, sym, ◌∙◌}
+use Rattle.std.proofs.Common.{◌≡◌, ℕ, ◌<◌, List, length, get_or, true, false, Some, refl, subst, ap, sym, ◌∙◌}
+use Rattle.std.proofs.lemmas.List.{get_or_default}
 use Rattle.lock_world.specs.declared.moves.Call.TheVariants as call
 use Rattle.lock_world.specs.declared.moves.What.{What}
 use Rattle.lock_world.specs.declared.moves.What.TheVariants.{Begin, Go}
@@ -62,14 +63,9 @@ starts Forgotten what w x g e n = absurd (cc)
 
 -- ---- as the machine's call says it
 
-any_default : {A : Type 0} (xs : List A) (i : ℕ) (d e : A) → i < length xs → get_or xs i d ≡ get_or xs i e
-any_default [] i d e h = absurd (omega arith)
-any_default (x ∷ xs) zero d e h = refl
-any_default (x ∷ xs) (suc i) d e h = any_default xs i d e (omega arith)
-
 -- what was read at a party's number is what is said of it there
 pub read_at : {A : Type 0} (xs : List A) (i : ℕ) (read d : A) → i < length xs → read ≡ get_or xs i read → read ≡ get_or xs i d
-read_at xs i read d known is = is ∙ any_default xs i read d known
+read_at xs i read d known is = is ∙ get_or_default xs i read d known
 
 -- where the party's call begins or goes on
 pub record Began (xs : List Position) (p : ℕ) (w : Within) (what : What) (from : Place) : Type 0 where

@@ -21,7 +21,12 @@ impl Gate for Open {
 
 /// The tenths of nanoseconds that it takes to start so many threads, of which each adds one under one mutex, and to
 /// join them, as `lockrun threads` does: the median of [`RUNS`] runs of so many times.
-pub(crate) fn median_of_threads<R>(rt: &R, alloc: Global, workers: u32, times: u64) -> io::Result<u64>
+pub(crate) fn median_of_threads<R>(
+    rt: &R,
+    alloc: Global,
+    workers: u32,
+    times: u64,
+) -> io::Result<u64>
 where
     R: Threads + Wait + Clock + RandomSource + AllocGlobal + Sync + Copy + Drop,
 {
