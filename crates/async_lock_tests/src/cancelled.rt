@@ -1,7 +1,7 @@
 //! Futures that are dropped wherever a pending future may stand: each gives back what it had.
 
 use crate::clocks::Fake;
-use crate::polls::{is_pending, is_pending_arc, ready, ready_arc};
+use crate::polls::{drop_unpolled, is_free, is_pending, is_pending_arc, ready, ready_arc};
 use async_lock::{Mutex, Settled};
 use futures::test::MockTask;
 use std::sync::Arc;
@@ -13,13 +13,13 @@ fn a_future_that_was_never_polled_has_nothing_to_give_back(rt: HostRuntime) -> R
     let Ok(mutex) = Mutex::new(rt, 1u64) else {
         return Ok(());
     };
-    drop(mutex.lock());
-    assert!(rt; mutex.try_lock().is_some());
+    drop_unpolled(&mutex);
+    assert!(rt; is_free(&mutex));
     let held = mutex.try_lock();
-    drop(mutex.lock());
-    assert!(rt; mutex.try_lock().is_none());
+    drop_unpolled(&mutex);
+    assert!(rt; !is_free(&mutex));
     drop(held);
-    assert!(rt; mutex.try_lock().is_some());
+    assert!(rt; is_free(&mutex));
     Ok(())
 }
 
@@ -114,14 +114,14 @@ fn a_starved_future_takes_its_count_off(rt: HostRuntime) -> Result<(), Fail> {
     assert!(rt; is_pending(&first, &mut one));
     assert!(rt; is_pending(&second, &mut two));
     drop(held);
-    assert!(rt; mutex.try_lock().is_none());
+    assert!(rt; !is_free(&mutex));
     assert!(rt; first.is_woken() && !second.is_woken());
     drop(one);
     assert!(rt; second.is_woken());
-    assert!(rt; mutex.try_lock().is_none());
+    assert!(rt; !is_free(&mutex));
     assert!(rt; ready(&second, &mut two).is_some());
     // Both counts are off.
-    assert!(rt; mutex.try_lock().is_some());
+    assert!(rt; is_free(&mutex));
     Ok(())
 }
 

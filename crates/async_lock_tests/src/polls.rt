@@ -1,7 +1,7 @@
 //! Polls by a test's task.
 
 use async_lock::lock_futures::{Lock, LockArc};
-use async_lock::{MutexGuard, MutexGuardArc, Refusal, Settled, Turn};
+use async_lock::{Mutex, MutexGuard, MutexGuardArc, Refusal, Settled, Turn};
 use futures::task::Poll;
 use futures::test::MockTask;
 use std::sync::Wait;
@@ -75,4 +75,17 @@ pub(crate) fn ready_arc<T: Drop, R: Wait + Clock + Drop>(
         Turn::Ready(guard) => Some(guard),
         Turn::Pending | Turn::Refused(_) => None,
     }
+}
+
+/// Whether the lock can be had at once. It is given back.
+///
+/// The prover follows each guard and future of a test to where it is dropped, on each way out of it. So
+/// those that a test only looks at live in functions of their own.
+pub(crate) fn is_free<T, R: Wait>(mutex: &Mutex<T, R>) -> bool {
+    mutex.try_lock().is_some()
+}
+
+/// A future of the mutex is dropped before its first poll.
+pub(crate) fn drop_unpolled<T, R: Wait + Clock>(mutex: &Mutex<T, R>) {
+    drop(mutex.lock());
 }

@@ -1,6 +1,6 @@
 //! A mutex's rounds: taken, written, given back and taken again, with whoever waits told.
 
-use crate::polls::{is_pending, is_pending_arc, poll, poll_arc, ready, ready_arc};
+use crate::polls::{is_free, is_pending, is_pending_arc, poll, poll_arc, ready, ready_arc};
 use async_lock::{Mutex, MutexGuard, MutexGuardArc, Refusal, Settled, Turn};
 use futures::test::MockTask;
 use std::sync::Arc;
@@ -17,7 +17,7 @@ fn what_is_written_is_read_by_the_next(rt: HostRuntime) -> Result<(), Fail> {
     };
     assert_eq!(rt; *guard, 1);
     *guard = 2;
-    assert!(rt; mutex.try_lock().is_none());
+    assert!(rt; !is_free(&mutex));
     drop(guard);
     assert_eq!(rt; mutex.try_lock().map(|guard| *guard), Some(2));
     Ok(())
@@ -69,7 +69,7 @@ fn a_waiting_future_is_woken_takes_the_lock_and_is_over(rt: HostRuntime) -> Resu
     assert!(rt; !other.is_woken() && !task.is_woken() && !second.is_woken());
     // Dropped, it changes nothing: the lock is held, and the next one waits and is told.
     drop(future);
-    assert!(rt; mutex.try_lock().is_none() && !second.is_woken());
+    assert!(rt; !is_free(&mutex) && !second.is_woken());
     drop(guard);
     assert!(rt; second.is_woken());
     assert!(rt; ready(&second, &mut next).is_some());
@@ -166,9 +166,9 @@ fn a_guards_source_is_its_mutex(rt: HostRuntime) -> Result<(), Fail> {
     };
     if let Some(guard) = mutex.try_lock() {
         let source = MutexGuard::source(&guard);
-        assert!(rt; source.try_lock().is_none());
+        assert!(rt; !is_free(source));
         drop(guard);
-        assert!(rt; source.try_lock().is_some());
+        assert!(rt; is_free(source));
     }
     let Ok(mutex) = Arc::new(rt.alloc(), mutex) else {
         return Ok(());
@@ -176,10 +176,10 @@ fn a_guards_source_is_its_mutex(rt: HostRuntime) -> Result<(), Fail> {
     let guard = Mutex::try_lock_arc(&mutex);
     assert!(rt; guard.is_some());
     if let Some(guard) = &guard {
-        assert!(rt; MutexGuardArc::source(guard).try_lock().is_none());
+        assert!(rt; !is_free(MutexGuardArc::source(guard)));
     }
     drop(guard);
-    assert!(rt; mutex.try_lock().is_some());
+    assert!(rt; is_free(&mutex));
     Ok(())
 }
 
