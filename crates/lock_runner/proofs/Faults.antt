@@ -10,7 +10,7 @@ use Rattle.std.proofs.lemmas.List.Splits.{slice_split_first}
 use Rattle.lock_play.specs.declared.world.World.{World}
 use Rattle.lock_script.specs.declared.command.Command.{Command}
 use Rattle.lock_script.specs.declared.command.Command.TheVariants.{New, On}
-use Rattle.lock_script.specs.declared.command.Model.TheVariants.{Mutex, RwLock, Semaphore, Cell}
+use Rattle.lock_script.specs.declared.command.Model.TheVariants.{Mutex, RwLock, Semaphore, Cell, Barrier}
 use Rattle.lock_script.specs.declared.command.Request.{Request}
 use Rattle.lock_script.specs.declared.command.Request.TheVariants.{Step, Whole, Put, Take, Show}
 use Rattle.lock_world.specs.declared.moves.What.TheVariants.{Begin, Go}
@@ -32,6 +32,7 @@ no_comment (New (Mutex parties value starved)) rest e = omega (arith, ap (λ l. 
 no_comment (New (RwLock parties value starved readers)) rest e = omega (arith, ap (λ l. get_or l 0 0) e)
 no_comment (New (Semaphore parties permits most)) rest e = omega (arith, ap (λ l. get_or l 0 0) e)
 no_comment (New (Cell parties)) rest e = omega (arith, ap (λ l. get_or l 0 0) e)
+no_comment (New (Barrier parties size starved generations)) rest e = omega (arith, ap (λ l. get_or l 0 0) e)
 no_comment (On (Step party (Begin call inputs))) rest e = omega (arith, ap (λ l. get_or l 0 0) e)
 no_comment (On (Step party (Go inputs))) rest e = omega (arith, ap (λ l. get_or l 0 0) e)
 no_comment (On (Whole party call inputs)) rest e = omega (arith, ap (λ l. get_or l 0 0) e)
