@@ -47,9 +47,6 @@ Counted (notifies (suc n)) told size marked size' marked' = (size' ≡ size) × 
 Counted (notifies_additionally n) told size marked size' marked' = (size' ≡ size) × (marked ≤ marked')
 
 module _ (p : ℕ) (l : List (Entry ℕ)) where
-  asked_by : (b : Bool) → List (Entry ℕ)
-  asked_by b = if b then without (is_party p) l else l
-
   pub counted : (f : ListFunction) (told : Bool) → is_marked_at (is_party p) l ≡ told → CanList p l f → Counted f told (length l) (marked_count l) (length (list_after p f l)) (marked_count (list_after p f l))
   counted joins told e can = (length-joined l p, marked_count-joined l p)
   counted asks true e can = rw e (length-without (is_party p) l (is_there p l can), marked_count-without_marked (is_party p) l e)

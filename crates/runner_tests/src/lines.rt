@@ -1,6 +1,9 @@
 //! Bad lines, and where a run stops at one.
 
-use crate::bad_lines::BAD_LINES;
+use crate::bad_lines::{
+    BAD_INPUTS, MISSING_AND_SPARE_WORDS, NO_NUMBERS, PARTIES_OUT_OF_RANGE, SPACES_AT_AN_END,
+    UNKNOWN_WORDS, UNPRINTABLE,
+};
 use crate::runs::{Runs, expect};
 use std::test::Fail;
 
@@ -14,8 +17,56 @@ fn expect_bad<R: Runs>(rt: &R, line: &[u8]) -> Result<(), Fail> {
 }
 
 #[test]
-fn stops_at_a_bad_line(rt: HostRuntime) -> Result<(), Fail> {
-    for line in BAD_LINES {
+fn stops_at_spaces_at_an_end(rt: HostRuntime) -> Result<(), Fail> {
+    for line in SPACES_AT_AN_END {
+        expect_bad(&rt, line)?;
+    }
+    Ok(())
+}
+
+#[test]
+fn stops_at_an_unknown_word(rt: HostRuntime) -> Result<(), Fail> {
+    for line in UNKNOWN_WORDS {
+        expect_bad(&rt, line)?;
+    }
+    Ok(())
+}
+
+#[test]
+fn stops_at_a_missing_or_spare_word(rt: HostRuntime) -> Result<(), Fail> {
+    for line in MISSING_AND_SPARE_WORDS {
+        expect_bad(&rt, line)?;
+    }
+    Ok(())
+}
+
+#[test]
+fn stops_at_a_word_that_is_no_number(rt: HostRuntime) -> Result<(), Fail> {
+    for line in NO_NUMBERS {
+        expect_bad(&rt, line)?;
+    }
+    Ok(())
+}
+
+#[test]
+fn stops_at_parties_out_of_range(rt: HostRuntime) -> Result<(), Fail> {
+    for line in PARTIES_OUT_OF_RANGE {
+        expect_bad(&rt, line)?;
+    }
+    Ok(())
+}
+
+#[test]
+fn stops_at_a_bad_input(rt: HostRuntime) -> Result<(), Fail> {
+    for line in BAD_INPUTS {
+        expect_bad(&rt, line)?;
+    }
+    Ok(())
+}
+
+#[test]
+fn stops_at_a_byte_that_isnt_printable(rt: HostRuntime) -> Result<(), Fail> {
+    for line in UNPRINTABLE {
         expect_bad(&rt, line)?;
     }
     Ok(())
