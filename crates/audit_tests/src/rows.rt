@@ -1,11 +1,12 @@
-//! Moves with their answers, and the World that they are made on, for the tests of both books.
+//! Moves with their answers, and the World that they are made on, for the tests of both books. What is seen of
+//! a World, for the tests of both.
 
 ghost use Rattle.std.specs.Prelude.{◌≡◌};
 ghost use Rattle.mutex_world.specs.State.{opening_of};
 ghost use Rattle.barrier_world.specs.State.{opening_of as barrier_opening_of};
 
 use lock_core::mutex::World;
-use lock_core::{Answer, Call, Got, Inputs, Made, Move, What, barrier};
+use lock_core::{Answer, Call, Got, Inputs, Made, Mark, Move, What, barrier};
 use std::process::Abort;
 
 pub(crate) const INPUTS: Inputs = Inputs {
@@ -18,6 +19,24 @@ pub(crate) const STARVING: Inputs = Inputs {
     starving: true,
     ..INPUTS
 };
+
+/// What is seen of a World.
+#[derive(Clone, Copy, Debug, PartialEq)]
+pub(crate) enum Seen {
+    /// What it answered.
+    Answered(Answer),
+    /// Of a mutex: whether it is held, how many are starved, and how many wait.
+    Mutex(bool, u32, usize),
+    /// Of a read-write lock: whether the turn is held, how many are starved for it, whether a writer's bit is
+    /// set, and how many read.
+    RwLock(bool, u32, bool, u32),
+    /// How many wait for the turn, until no reader is left, and until no writer is.
+    Waiting(usize, usize, usize),
+    /// Who stands at a place of a list, and what that party has been told.
+    Told(Option<(u32, Mark)>),
+    Value(u64),
+    Is(bool),
+}
 
 /// The value that the World is made with.
 pub(crate) const SEVEN: Got = Got::Value(7);

@@ -8,4 +8,6 @@ mod machine;
 #[cfg(test)]
 mod program;
 #[cfg(test)]
+mod rows;
+#[cfg(test)]
 mod world;

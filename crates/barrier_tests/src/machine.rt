@@ -1,27 +1,35 @@
 //! A barrier's machine under a table of its parties, through their public calls.
+//!
+//! A test is a table of deeds, each with what is to be seen of it, and one function does the deeds of all
+//! tables: what the machine promises is followed there once, and not again at each test.
 
-use barrier_machine::{Barrier, Progress};
-use lock_event::Mark;
+use crate::rows::Seen::{self, Answered, Is, Number, State, Told};
+use crate::rows::{FOLLOWS, GIVEN_BACK, INPUTS, LEADS, NO_MEMORY, PENDING};
+use Deed::{Asks, Calls, CountsStarved, IsLocked, Looks, WithoutMemory};
+use barrier_machine::Barrier;
+use lock_event::{Entry, Mark};
 use lock_table::Table;
-use lock_world::{Answer, Call, Got, Inputs, Made, Move, Refusal, What};
+use lock_world::{Answer, Call, Inputs, Move, What};
 use std::alloc::{AllocError, Global};
 use std::process::Abort;
 use std::test::Fail;
 
-const INPUTS: Inputs = Inputs {
-    memory: true,
-    starving: false,
-    made: Made::Pending,
-};
-
-const NO_MEMORY: Inputs = Inputs {
-    memory: false,
-    ..INPUTS
-};
-
-const LEADER: Answer = Answer::Ready(Got::Leader(true));
-
-const FOLLOWER: Answer = Answer::Ready(Got::Leader(false));
+/// What is done or looked at.
+#[derive(Clone, Copy)]
+enum Deed {
+    /// The party's call, carried out whole.
+    Calls(u32, Call),
+    /// The same of a call that finds no memory.
+    WithoutMemory(u32, Call),
+    /// The barrier is looked at.
+    Looks,
+    /// Who stands at this place of the list of those whose arrival is counted?
+    Asks(usize),
+    /// How many are starved for the inner lock?
+    CountsStarved,
+    /// Is the inner lock held?
+    IsLocked,
+}
 
 fn table(
     alloc: Global,
@@ -69,155 +77,152 @@ fn whole(table: &mut Table<Barrier>, party: u32, call: Call, inputs: Inputs) -> 
     answer
 }
 
-/// Each call in turn, carried out whole by its party, is answered so.
-fn expect(rt: &impl Abort, table: &mut Table<Barrier>, calls: &[(u32, Call, Inputs, Answer)]) {
-    for (party, call, inputs, answer) in calls {
-        let given = whole(table, *party, *call, *inputs);
-        assert_eq!(rt; given, *answer, "{call:?} of {party}");
+/// How far the barrier is, and how many wait for its inner lock and in its list.
+fn look(machine: &Barrier) -> Seen {
+    let progress = machine.progress();
+    let lock = machine.lock().waiting();
+    State(progress.count, progress.generation, lock, machine.waiting())
+}
+
+fn told(entry: Option<Entry<u32>>) -> Seen {
+    Told(entry.map(|entry| (entry.key, entry.mark)))
+}
+
+/// What is seen of this deed.
+fn seen(table: &mut Table<Barrier>, deed: Deed) -> Seen {
+    match deed {
+        Calls(party, call) => Answered(whole(table, party, call, INPUTS)),
+        WithoutMemory(party, call) => Answered(whole(table, party, call, NO_MEMORY)),
+        Looks => look(table.machine()),
+        Asks(index) => told(table.machine().entry(index)),
+        CountsStarved => Number(Some(u128::from(table.machine().lock().starved()))),
+        IsLocked => Is(table.machine().lock().is_held()),
     }
 }
 
-/// How far the barrier is, and that nobody has its inner lock or waits for it.
-fn assert_progress(rt: &impl Abort, table: &Table<Barrier>, count: u64, generation: u64) {
-    let machine = table.machine();
-    assert_eq!(rt; machine.progress(), Progress { generation, count });
-    assert!(rt; !machine.lock().is_held());
-    assert_eq!(rt; machine.lock().starved(), 0);
-    assert_eq!(rt; machine.lock().waiting(), 0);
-}
-
-/// The entries of the barrier's list.
-fn assert_list(rt: &impl Abort, table: &Table<Barrier>, wanted: &[(u32, Mark)]) {
-    let machine = table.machine();
-    assert_eq!(rt; machine.waiting(), wanted.len());
-    for (i, (party, mark)) in wanted.iter().enumerate() {
-        match machine.entry(i) {
-            Some(entry) => {
-                assert_eq!(rt; entry.key, *party);
-                assert_eq!(rt; entry.mark, *mark);
-            }
-            None => assert!(rt; false, "no entry {i}"),
-        }
+/// Of each deed in turn is seen what stands beside it.
+fn play(rt: &impl Abort, table: &mut Table<Barrier>, rows: &[(Deed, Seen)]) {
+    for (i, (deed, wanted)) in rows.iter().enumerate() {
+        assert_eq!(rt; seen(table, *deed), *wanted, "at {i}");
     }
 }
+
+/// The rows of a barrier for so many parties, that waits for so many, and may finish so many generations.
+fn expect(
+    rt: &(impl AllocGlobal + Abort),
+    parties: u32,
+    size: u64,
+    most: u64,
+    rows: &[(Deed, Seen)],
+) -> Result<(), Fail> {
+    let mut table = barrier(rt.alloc(), parties, size, 10, most)?;
+    play(rt, &mut table, rows);
+    Ok(())
+}
+
+const GENERATIONS: [(Deed, Seen); 24] = [
+    (Calls(0, Call::Wait), PENDING),
+    (Calls(1, Call::Wait), PENDING),
+    (Calls(2, Call::Wait), LEADS),
+    (Calls(3, Call::Wait), PENDING),
+    (Calls(4, Call::Wait), PENDING),
+    (Calls(5, Call::Wait), LEADS),
+    (Calls(6, Call::Wait), PENDING),
+    (Looks, State(1, 2, 0, 5)),
+    (IsLocked, Is(false)),
+    (CountsStarved, Number(Some(0))),
+    (Asks(0), Told(Some((0, Mark::Notified)))),
+    (Asks(1), Told(Some((1, Mark::Notified)))),
+    (Asks(2), Told(Some((3, Mark::Notified)))),
+    (Asks(3), Told(Some((4, Mark::Notified)))),
+    (Asks(4), Told(Some((6, Mark::Waiting)))),
+    (Calls(0, Call::Poll), FOLLOWS),
+    (Calls(1, Call::Drop), GIVEN_BACK),
+    (Calls(3, Call::Drop), GIVEN_BACK),
+    (Calls(4, Call::Drop), GIVEN_BACK),
+    (Looks, State(1, 2, 0, 1)),
+    (IsLocked, Is(false)),
+    (CountsStarved, Number(Some(0))),
+    (Asks(0), Told(Some((6, Mark::Notified)))),
+    (Calls(6, Call::Poll), PENDING),
+];
 
 #[test]
 fn the_last_of_each_generation_leads(rt: HostRuntime) -> Result<(), Fail> {
-    let mut table = barrier(rt.alloc(), 7, 3, 10, 10)?;
-    let pending = |party| (party, Call::Wait, INPUTS, Answer::Pending);
-    let leads = |party| (party, Call::Wait, INPUTS, LEADER);
-    let calls = [
-        pending(0),
-        pending(1),
-        leads(2),
-        pending(3),
-        pending(4),
-        leads(5),
-        pending(6),
-    ];
-    expect(&rt, &mut table, &calls);
-    assert_progress(&rt, &table, 1, 2);
-    assert_list(
-        &rt,
-        &table,
-        &[
-            (0, Mark::Notified),
-            (1, Mark::Notified),
-            (3, Mark::Notified),
-            (4, Mark::Notified),
-            (6, Mark::Waiting),
-        ],
-    );
-    let calls = [
-        (0, Call::Poll, INPUTS, FOLLOWER),
-        (1, Call::Drop, INPUTS, Answer::GivenBack),
-        (3, Call::Drop, INPUTS, Answer::GivenBack),
-        (4, Call::Drop, INPUTS, Answer::GivenBack),
-    ];
-    expect(&rt, &mut table, &calls);
-    assert_progress(&rt, &table, 1, 2);
-    assert_list(&rt, &table, &[(6, Mark::Notified)]);
-    expect(&rt, &mut table, &[(6, Call::Poll, INPUTS, Answer::Pending)]);
-    Ok(())
+    expect(&rt, 7, 3, 10, &GENERATIONS)
 }
+
+const FOR_NONE: [(Deed, Seen); 5] = [
+    (Calls(0, Call::Wait), LEADS),
+    (Calls(1, Call::Wait), LEADS),
+    (Looks, State(0, 2, 0, 0)),
+    (IsLocked, Is(false)),
+    (CountsStarved, Number(Some(0))),
+];
 
 #[test]
 fn at_a_barrier_of_none_each_arrival_leads(rt: HostRuntime) -> Result<(), Fail> {
-    let mut table = barrier(rt.alloc(), 2, 0, 10, 10)?;
-    let calls = [
-        (0, Call::Wait, INPUTS, LEADER),
-        (1, Call::Wait, INPUTS, LEADER),
-    ];
-    expect(&rt, &mut table, &calls);
-    assert_progress(&rt, &table, 0, 2);
-    Ok(())
+    expect(&rt, 2, 0, 10, &FOR_NONE)
 }
+
+const PAST_THE_LIMIT: [(Deed, Seen); 5] = [
+    (Calls(0, Call::Wait), LEADS),
+    (Calls(1, Call::Wait), Answered(Answer::Refused(5))),
+    (Looks, State(0, 1, 0, 0)),
+    (IsLocked, Is(false)),
+    (CountsStarved, Number(Some(0))),
+];
 
 #[test]
 fn no_generation_is_past_the_limit(rt: HostRuntime) -> Result<(), Fail> {
-    let mut table = barrier(rt.alloc(), 2, 1, 10, 1)?;
-    let calls = [
-        (0, Call::Wait, INPUTS, LEADER),
-        (1, Call::Wait, INPUTS, Answer::Refused(5)),
-    ];
-    expect(&rt, &mut table, &calls);
-    assert_progress(&rt, &table, 0, 1);
-    assert_list(&rt, &table, &[]);
-    Ok(())
+    expect(&rt, 2, 1, 1, &PAST_THE_LIMIT)
 }
+
+const DROPPED: [(Deed, Seen); 6] = [
+    (Calls(0, Call::Wait), PENDING),
+    (Calls(0, Call::Drop), GIVEN_BACK),
+    (Looks, State(1, 0, 0, 0)),
+    (IsLocked, Is(false)),
+    (CountsStarved, Number(Some(0))),
+    (Calls(1, Call::Wait), LEADS),
+];
 
 #[test]
 fn a_dropped_arrival_stays_counted(rt: HostRuntime) -> Result<(), Fail> {
-    let mut table = barrier(rt.alloc(), 3, 2, 10, 10)?;
-    let calls = [
-        (0, Call::Wait, INPUTS, Answer::Pending),
-        (0, Call::Drop, INPUTS, Answer::GivenBack),
-    ];
-    expect(&rt, &mut table, &calls);
-    assert_progress(&rt, &table, 1, 0);
-    assert_list(&rt, &table, &[]);
-    expect(&rt, &mut table, &[(1, Call::Wait, INPUTS, LEADER)]);
-    Ok(())
+    expect(&rt, 3, 2, 10, &DROPPED)
 }
+
+const NOT_COUNTED: [(Deed, Seen); 7] = [
+    (WithoutMemory(0, Call::Wait), Answered(Answer::Refused(1))),
+    (Looks, State(0, 0, 0, 0)),
+    (IsLocked, Is(false)),
+    (CountsStarved, Number(Some(0))),
+    (Calls(0, Call::Poll), PENDING),
+    (Calls(1, Call::Wait), LEADS),
+    (Calls(0, Call::Poll), FOLLOWS),
+];
 
 #[test]
 fn an_arrival_without_memory_is_not_counted(rt: HostRuntime) -> Result<(), Fail> {
-    let mut table = barrier(rt.alloc(), 3, 2, 10, 5)?;
-    expect(
-        &rt,
-        &mut table,
-        &[(0, Call::Wait, NO_MEMORY, Answer::Refused(1))],
-    );
-    assert_progress(&rt, &table, 0, 0);
-    assert_list(&rt, &table, &[]);
-    let calls = [
-        (0, Call::Poll, INPUTS, Answer::Pending),
-        (1, Call::Wait, INPUTS, LEADER),
-        (0, Call::Poll, INPUTS, FOLLOWER),
-    ];
-    expect(&rt, &mut table, &calls);
-    Ok(())
+    expect(&rt, 3, 2, 5, &NOT_COUNTED)
 }
+
+const STAYS_COUNTED: [(Deed, Seen); 12] = [
+    (Calls(0, Call::Wait), PENDING),
+    (Calls(1, Call::Wait), LEADS),
+    (Calls(2, Call::Wait), PENDING),
+    (Calls(0, Call::Drop), GIVEN_BACK),
+    (WithoutMemory(2, Call::Poll), Answered(Answer::Refused(1))),
+    (Looks, State(1, 1, 0, 0)),
+    (IsLocked, Is(false)),
+    (CountsStarved, Number(Some(0))),
+    (Calls(2, Call::Poll), PENDING),
+    (Calls(3, Call::Wait), LEADS),
+    (Calls(2, Call::Poll), FOLLOWS),
+    (Calls(2, Call::Poll), Answered(Answer::Refused(6))),
+];
 
 #[test]
 fn a_follower_without_memory_stays_counted(rt: HostRuntime) -> Result<(), Fail> {
-    let mut table = barrier(rt.alloc(), 4, 2, 10, 5)?;
-    let calls = [
-        (0, Call::Wait, INPUTS, Answer::Pending),
-        (1, Call::Wait, INPUTS, LEADER),
-        (2, Call::Wait, INPUTS, Answer::Pending),
-        (0, Call::Drop, INPUTS, Answer::GivenBack),
-        (2, Call::Poll, NO_MEMORY, Answer::Refused(1)),
-    ];
-    expect(&rt, &mut table, &calls);
-    assert_progress(&rt, &table, 1, 1);
-    assert_list(&rt, &table, &[]);
-    let calls = [
-        (2, Call::Poll, INPUTS, Answer::Pending),
-        (3, Call::Wait, INPUTS, LEADER),
-        (2, Call::Poll, INPUTS, FOLLOWER),
-        (2, Call::Poll, INPUTS, Answer::Refused(6)),
-    ];
-    expect(&rt, &mut table, &calls);
-    Ok(())
+    expect(&rt, 4, 2, 5, &STAYS_COUNTED)
 }

@@ -1,31 +1,58 @@
 //! A barrier's World through its public calls.
+//!
+//! A test is a table of deeds, each with what is to be seen of it, and one function does the deeds of all
+//! tables: what a World promises is followed there once, and not again at each test.
 
+use crate::rows::Seen::{self, Answered, Is, Number, State, Told};
+use crate::rows::{
+    FOLLOWS, GIVEN_BACK, INPUTS, LEADS, NO_MEMORY, NOT_POSSIBLE, PENDING, STARVING, STEPPED,
+};
+use Deed::{
+    Arrivals, Asks, AsksLock, Begins, Calls, CountsStarved, Goes, IsAtRest, IsLocked, Looks,
+    Numbers, Starves, WithoutMemory,
+};
 use barrier_world::{ListName, World};
-use lock_event::Mark;
+use lock_event::{Mark, Memory};
 use lock_frame::AnyWorld;
-use lock_world::{Answer, Call, Got, Inputs, Made, Move, Refusal, What};
+use lock_world::{Answer, Call, Got, Inputs, Move, Refusal, What};
 use std::alloc::Global;
 use std::process::Abort;
 use std::test::Fail;
 
-const INPUTS: Inputs = Inputs {
-    memory: true,
-    starving: false,
-    made: Made::Pending,
-};
-
-const NO_MEMORY: Inputs = Inputs {
-    memory: false,
-    ..INPUTS
-};
-
-const LEADER: Answer = Answer::Ready(Got::Leader(true));
-
-const FOLLOWER: Answer = Answer::Ready(Got::Leader(false));
-
 const BEGIN_WAIT: What = What::Begin(Call::Wait, INPUTS);
 
 const GO: What = What::Go(INPUTS);
+
+/// What is done or looked at.
+#[derive(Clone, Copy)]
+enum Deed {
+    /// The party's call, carried out whole.
+    Calls(u32, Call),
+    /// The same of a call that finds no memory.
+    WithoutMemory(u32, Call),
+    /// The same of a party that is starving.
+    Starves(u32, Call),
+    /// The first step of the party's wait.
+    Begins(u32),
+    /// The party's next step.
+    Goes(u32),
+    /// The barrier is looked at.
+    Looks,
+    /// Who stands at this place of the list of those that wait for the inner lock?
+    AsksLock(usize),
+    /// Who stands at this place of the list of those whose arrival is counted?
+    Asks(usize),
+    /// Which is the number of the party's arrival?
+    Numbers(u32),
+    /// How many have arrived?
+    Arrivals,
+    /// How many are starved for the inner lock?
+    CountsStarved,
+    /// Is the inner lock held?
+    IsLocked,
+    /// Is nobody inside a call?
+    IsAtRest,
+}
 
 // A World, or where memory for it was refused, what a second try makes. So each test also passes where
 // one allocation fails, whichever it is.
@@ -49,234 +76,281 @@ fn limited(
     World::with_limits(alloc, parties, size, starved, generations)
 }
 
-/// Each call in turn, carried out whole by its party with these inputs, is answered so.
-fn expect(rt: &impl Abort, world: &mut World, calls: &[(u32, Call, Inputs, Answer)]) {
-    for (party, call, inputs, answer) in calls {
-        let given = world.poll_whole(*party, *call, *inputs);
-        assert_eq!(rt; given, *answer, "{call:?} of {party}");
-    }
+/// What the party's whole call with these inputs is answered.
+fn answer(world: &mut World, party: u32, call: Call, inputs: Inputs) -> Seen {
+    Answered(world.poll_whole(party, call, inputs))
 }
 
-/// Each move in turn is answered so.
-fn expect_steps(rt: &impl Abort, world: &mut World, steps: &[(u32, What, Answer)]) {
-    for (party, what, answer) in steps {
-        let m = Move {
-            party: *party,
-            what: *what,
-        };
-        assert_eq!(rt; world.step(&m), *answer, "{m:?}");
-    }
+/// What the party's step is answered.
+fn step(world: &mut World, party: u32, what: What) -> Seen {
+    Answered(world.step(&Move { party, what }))
 }
 
-/// How many arrivals are counted towards the next generation, how many generations are finished, and how many
-/// entries both lists have.
-fn assert_state(rt: &impl Abort, world: &World, wanted: (u64, u64, usize, usize)) {
+fn look(world: &World) -> Seen {
     let lock = world.waiting(ListName::Lock);
     let list = world.waiting(ListName::Generation);
-    assert_eq!(rt; (world.count(), world.generation(), lock, list), wanted);
+    State(world.count(), world.generation(), lock, list)
 }
 
 /// Who stands at this place of a list, and what that party has been told.
-fn told(world: &World, list: ListName, index: usize) -> Option<(u32, Mark)> {
-    world
-        .entry(list, index)
-        .map(|entry| (entry.key, entry.mark))
+fn told(world: &World, list: ListName, index: usize) -> Seen {
+    let entry = world.entry(list, index);
+    Told(entry.map(|entry| (entry.key, entry.mark)))
 }
 
-fn wait(party: u32, answer: Answer) -> (u32, Call, Inputs, Answer) {
-    (party, Call::Wait, INPUTS, answer)
+/// What is seen of this deed.
+fn seen(world: &mut World, deed: Deed) -> Seen {
+    match deed {
+        Calls(party, call) => answer(world, party, call, INPUTS),
+        WithoutMemory(party, call) => answer(world, party, call, NO_MEMORY),
+        Starves(party, call) => answer(world, party, call, STARVING),
+        Begins(party) => step(world, party, BEGIN_WAIT),
+        Goes(party) => step(world, party, GO),
+        Looks => look(world),
+        AsksLock(index) => told(world, ListName::Lock, index),
+        Asks(index) => told(world, ListName::Generation, index),
+        Numbers(party) => Number(world.arrival(party)),
+        Arrivals => Number(Some(world.arrivals())),
+        CountsStarved => Number(Some(u128::from(world.starved()))),
+        IsLocked => Is(world.is_locked()),
+        IsAtRest => Is(world.at_rest()),
+    }
 }
+
+/// Of each deed in turn is seen what stands beside it.
+fn play(rt: &impl Abort, world: &mut World, rows: &[(Deed, Seen)]) {
+    for (i, (deed, wanted)) in rows.iter().enumerate() {
+        assert_eq!(rt; seen(world, *deed), *wanted, "at {i}");
+    }
+}
+
+/// The rows of a World that is made with so many parties and waits for so many.
+fn expect(
+    rt: &(impl AllocGlobal + Abort),
+    parties: u32,
+    size: u64,
+    rows: &[(Deed, Seen)],
+) -> Result<(), Fail> {
+    let mut world = barrier(rt.alloc(), parties, size)?;
+    play(rt, &mut world, rows);
+    Ok(())
+}
+
+/// What holds of each World holds of this one.
+fn laws(world: &World) {
+    world.laws();
+    world.solo_polls();
+    world.leaders();
+}
+
+const ARRIVALS: [(Deed, Seen); 13] = [
+    (Arrivals, Number(Some(0))),
+    (Calls(2, Call::Wait), PENDING),
+    (Calls(0, Call::Wait), PENDING),
+    (Calls(1, Call::Wait), LEADS),
+    (Calls(1, Call::Wait), PENDING),
+    (Arrivals, Number(Some(4))),
+    (Numbers(2), Number(Some(1))),
+    (Numbers(0), Number(Some(2))),
+    (Numbers(1), Number(Some(4))),
+    (Numbers(3), Number(None)),
+    (Numbers(4), Number(None)),
+    (Looks, State(1, 1, 0, 3)),
+    (IsAtRest, Is(true)),
+];
 
 #[test]
 fn arrivals_have_their_numbers(rt: HostRuntime) -> Result<(), Fail> {
     let mut world = barrier(rt.alloc(), 4, 3)?;
-    assert_eq!(rt; (world.size(), world.arrivals()), (3, 0));
-    expect(
-        &rt,
-        &mut world,
-        &[
-            wait(2, Answer::Pending),
-            wait(0, Answer::Pending),
-            wait(1, LEADER),
-            wait(1, Answer::Pending),
-        ],
-    );
-    assert_eq!(rt; world.arrivals(), 4);
-    assert_eq!(rt; (world.arrival(2), world.arrival(0)), (Some(1), Some(2)));
-    assert_eq!(rt; (world.arrival(1), world.arrival(3)), (Some(4), None));
-    assert_eq!(rt; world.arrival(4), None);
-    assert_state(&rt, &world, (1, 1, 0, 3));
-    assert!(rt; world.at_rest());
-    world.laws();
-    world.solo_polls();
-    world.leaders();
+    assert_eq!(rt; world.size(), 3);
+    play(&rt, &mut world, &ARRIVALS);
+    laws(&world);
     Ok(())
 }
+
+const FOR_NONE: [(Deed, Seen); 4] = [
+    (Calls(0, Call::Wait), LEADS),
+    (Calls(1, Call::Wait), LEADS),
+    (Looks, State(0, 2, 0, 0)),
+    (Arrivals, Number(Some(2))),
+];
 
 #[test]
 fn at_a_barrier_for_none_each_arrival_leads(rt: HostRuntime) -> Result<(), Fail> {
-    let mut world = barrier(rt.alloc(), 2, 0)?;
-    expect(&rt, &mut world, &[wait(0, LEADER), wait(1, LEADER)]);
-    assert_state(&rt, &world, (0, 2, 0, 0));
-    assert_eq!(rt; world.arrivals(), 2);
-    Ok(())
+    expect(&rt, 2, 0, &FOR_NONE)
 }
+
+const COUNTED: [(Deed, Seen); 17] = [
+    (Begins(0), STEPPED),
+    (IsLocked, Is(true)),
+    (IsAtRest, Is(false)),
+    (Calls(1, Call::Wait), PENDING),
+    (Looks, State(0, 0, 1, 0)),
+    (Goes(0), STEPPED),
+    (Goes(0), STEPPED),
+    (Goes(0), STEPPED),
+    (Looks, State(1, 0, 1, 1)),
+    (IsLocked, Is(true)),
+    (Goes(0), STEPPED),
+    (Goes(0), STEPPED),
+    (Goes(0), PENDING),
+    (IsLocked, Is(false)),
+    (AsksLock(0), Told(Some((1, Mark::Notified)))),
+    (Asks(0), Told(Some((0, Mark::Waiting)))),
+    (Asks(1), Told(None)),
+];
 
 #[test]
 fn who_counts_an_arrival_holds_the_inner_lock(rt: HostRuntime) -> Result<(), Fail> {
-    let mut world = barrier(rt.alloc(), 3, 3)?;
-    expect_steps(&rt, &mut world, &[(0, BEGIN_WAIT, Answer::Stepped)]);
-    assert!(rt; world.is_locked());
-    assert!(rt; !world.at_rest());
-    expect(&rt, &mut world, &[wait(1, Answer::Pending)]);
-    assert_state(&rt, &world, (0, 0, 1, 0));
-    let pass = [(0, GO, Answer::Stepped); 3];
-    expect_steps(&rt, &mut world, &pass);
-    assert_state(&rt, &world, (1, 0, 1, 1));
-    assert!(rt; world.is_locked());
-    expect_steps(
-        &rt,
-        &mut world,
-        &[
-            (0, GO, Answer::Stepped),
-            (0, GO, Answer::Stepped),
-            (0, GO, Answer::Pending),
-        ],
-    );
-    assert!(rt; !world.is_locked());
-    assert_eq!(rt; told(&world, ListName::Lock, 0), Some((1, Mark::Notified)));
-    assert_eq!(rt;
-        told(&world, ListName::Generation, 0),
-        Some((0, Mark::Waiting))
-    );
-    assert_eq!(rt; told(&world, ListName::Generation, 1), None);
+    expect(&rt, 3, 3, &COUNTED)
+}
+
+const WAITED_TOO_LONG: [(Deed, Seen); 9] = [
+    (Begins(0), STEPPED),
+    (Calls(1, Call::Wait), PENDING),
+    (Goes(0), STEPPED),
+    (Goes(0), STEPPED),
+    (Goes(0), STEPPED),
+    (Goes(0), STEPPED),
+    (Goes(0), STEPPED),
+    (Goes(0), PENDING),
+    (Begins(2), STEPPED),
+];
+
+const STARVED: [(Deed, Seen); 2] = [
+    (Starves(1, Call::Poll), PENDING),
+    (CountsStarved, Number(Some(1))),
+];
+
+const NOT_STARVED: [(Deed, Seen); 2] = [
+    (Starves(1, Call::Poll), Answered(Answer::Refused(2))),
+    (CountsStarved, Number(Some(0))),
+];
+
+/// A party waits for too long where so many may be starved.
+fn expect_starving(
+    rt: &(impl AllocGlobal + Abort),
+    most: u32,
+    rows: &[(Deed, Seen)],
+) -> Result<(), Fail> {
+    let mut world = limited(rt.alloc(), 3, 3, most, 10)?;
+    play(rt, &mut world, &WAITED_TOO_LONG);
+    play(rt, &mut world, rows);
     Ok(())
 }
 
 #[test]
 fn whoever_waits_for_too_long_is_starved_for_the_inner_lock(rt: HostRuntime) -> Result<(), Fail> {
-    let starving = Inputs {
-        starving: true,
-        ..INPUTS
-    };
-    for (most, answer, starved) in [
-        (10, Answer::Pending, 1),
-        (0, Answer::Refused(2), 0),
-        (u32::MAX, Answer::Pending, 1),
-    ] {
-        let mut world = limited(rt.alloc(), 3, 3, most, 10)?;
-        expect_steps(&rt, &mut world, &[(0, BEGIN_WAIT, Answer::Stepped)]);
-        expect(&rt, &mut world, &[wait(1, Answer::Pending)]);
-        expect_steps(&rt, &mut world, &[(0, GO, Answer::Stepped); 5]);
-        expect_steps(
-            &rt,
-            &mut world,
-            &[(0, GO, Answer::Pending), (2, BEGIN_WAIT, Answer::Stepped)],
-        );
-        expect(&rt, &mut world, &[(1, Call::Poll, starving, answer)]);
-        assert_eq!(rt; world.starved(), starved);
-    }
-    Ok(())
+    expect_starving(&rt, 10, &STARVED)?;
+    expect_starving(&rt, 0, &NOT_STARVED)?;
+    expect_starving(&rt, u32::MAX, &STARVED)
 }
+
+const PAST_THE_LIMIT: [(Deed, Seen); 6] = [
+    (Calls(0, Call::Wait), LEADS),
+    (Calls(1, Call::Wait), Answered(Answer::Refused(5))),
+    (Calls(1, Call::Poll), Answered(Answer::Refused(5))),
+    (Looks, State(0, 1, 0, 0)),
+    (Arrivals, Number(Some(1))),
+    (Numbers(1), Number(None)),
+];
 
 #[test]
 fn no_generation_is_past_the_limit(rt: HostRuntime) -> Result<(), Fail> {
     let mut world = limited(rt.alloc(), 2, 1, 10, 1)?;
-    expect(
-        &rt,
-        &mut world,
-        &[
-            wait(0, LEADER),
-            wait(1, Answer::Refused(5)),
-            (1, Call::Poll, INPUTS, Answer::Refused(5)),
-        ],
-    );
-    assert_state(&rt, &world, (0, 1, 0, 0));
-    assert_eq!(rt; (world.arrivals(), world.arrival(1)), (1, None));
+    play(&rt, &mut world, &PAST_THE_LIMIT);
     Ok(())
 }
+
+const NOT_COUNTED: [(Deed, Seen); 7] = [
+    (WithoutMemory(0, Call::Wait), Answered(Answer::Refused(1))),
+    (Looks, State(0, 0, 0, 0)),
+    (Calls(0, Call::Poll), PENDING),
+    // It leads, so it joins nothing, and needs no memory.
+    (WithoutMemory(1, Call::Wait), LEADS),
+    (Calls(0, Call::Poll), FOLLOWS),
+    (Calls(0, Call::Poll), Answered(Answer::Refused(6))),
+    (Looks, State(0, 1, 0, 0)),
+];
 
 #[test]
 fn an_arrival_without_memory_is_not_counted(rt: HostRuntime) -> Result<(), Fail> {
     let mut world = limited(rt.alloc(), 3, 2, 10, 5)?;
-    expect(
-        &rt,
-        &mut world,
-        &[(0, Call::Wait, NO_MEMORY, Answer::Refused(1))],
-    );
-    assert_state(&rt, &world, (0, 0, 0, 0));
-    expect(
-        &rt,
-        &mut world,
-        &[
-            (0, Call::Poll, INPUTS, Answer::Pending),
-            // It leads, so it joins nothing, and needs no memory.
-            (1, Call::Wait, NO_MEMORY, LEADER),
-            (0, Call::Poll, INPUTS, FOLLOWER),
-            (0, Call::Poll, INPUTS, Answer::Refused(6)),
-        ],
-    );
-    assert_state(&rt, &world, (0, 1, 0, 0));
+    play(&rt, &mut world, &NOT_COUNTED);
     Ok(())
 }
+
+const STAYS_COUNTED: [(Deed, Seen); 11] = [
+    (Calls(0, Call::Wait), PENDING),
+    (Calls(1, Call::Wait), PENDING),
+    (Calls(2, Call::Wait), LEADS),
+    (Calls(2, Call::Wait), PENDING),
+    // What it was told goes on to the one behind it, whose generation isn't finished.
+    (Calls(0, Call::Drop), GIVEN_BACK),
+    (Calls(1, Call::Drop), GIVEN_BACK),
+    (WithoutMemory(2, Call::Poll), Answered(Answer::Refused(1))),
+    (Looks, State(1, 1, 0, 0)),
+    (Numbers(2), Number(Some(4))),
+    (Calls(2, Call::Poll), PENDING),
+    (Looks, State(1, 1, 0, 1)),
+];
 
 #[test]
 fn a_follower_without_memory_stays_counted(rt: HostRuntime) -> Result<(), Fail> {
-    let mut world = barrier(rt.alloc(), 3, 3)?;
-    expect(
-        &rt,
-        &mut world,
-        &[
-            wait(0, Answer::Pending),
-            wait(1, Answer::Pending),
-            wait(2, LEADER),
-            wait(2, Answer::Pending),
-            // What it was told goes on to the one behind it, whose generation isn't finished.
-            (0, Call::Drop, INPUTS, Answer::GivenBack),
-            (1, Call::Drop, INPUTS, Answer::GivenBack),
-            (2, Call::Poll, NO_MEMORY, Answer::Refused(1)),
-        ],
-    );
-    assert_state(&rt, &world, (1, 1, 0, 0));
-    assert_eq!(rt; world.arrival(2), Some(4));
-    expect(&rt, &mut world, &[(2, Call::Poll, INPUTS, Answer::Pending)]);
-    assert_state(&rt, &world, (1, 1, 0, 1));
-    Ok(())
+    expect(&rt, 3, 3, &STAYS_COUNTED)
 }
+
+const IN_VAIN: [(Deed, Seen); 7] = [
+    (Calls(0, Call::Poll), NOT_POSSIBLE),
+    (Calls(0, Call::Drop), NOT_POSSIBLE),
+    (Calls(0, Call::Lock), NOT_POSSIBLE),
+    (Calls(2, Call::Wait), NOT_POSSIBLE),
+    (Calls(0, Call::Wait), PENDING),
+    (Calls(0, Call::Wait), NOT_POSSIBLE),
+    (Looks, State(1, 0, 0, 1)),
+];
 
 #[test]
 fn moves_that_are_not_possible_change_nothing(rt: HostRuntime) -> Result<(), Fail> {
-    let mut world = barrier(rt.alloc(), 2, 2)?;
-    expect(
-        &rt,
-        &mut world,
-        &[
-            (0, Call::Poll, INPUTS, Answer::NotPossible),
-            (0, Call::Drop, INPUTS, Answer::NotPossible),
-            (0, Call::Lock, INPUTS, Answer::NotPossible),
-            wait(2, Answer::NotPossible),
-            wait(0, Answer::Pending),
-            wait(0, Answer::NotPossible),
-        ],
-    );
-    assert_state(&rt, &world, (1, 0, 0, 1));
-    Ok(())
+    expect(&rt, 2, 2, &IN_VAIN)
+}
+
+const FIRST: Move = Move {
+    party: 0,
+    what: BEGIN_WAIT,
+};
+
+const FURTHER: Move = Move { party: 0, what: GO };
+
+const ANSWERS: [Answer; 6] = [
+    Answer::Stepped,
+    Answer::Stepped,
+    Answer::Stepped,
+    Answer::Stepped,
+    Answer::Stepped,
+    Answer::Ready(Got::Leader(true)),
+];
+
+/// What a run of a wait is answered, once more where memory was refused.
+fn run(world: &mut World, alloc: Global) -> Result<Vec<Answer>, Memory> {
+    let moves = [FIRST, FURTHER, FURTHER, FURTHER, FURTHER, FURTHER];
+    if let Ok(answers) = world.run(alloc, &moves) {
+        return Ok(answers);
+    }
+    world.run(alloc, &moves)
+}
+
+/// What a World for one party answers to that run, and how many generations are finished then.
+fn answers(alloc: Global) -> Result<(Vec<Answer>, u64), Fail> {
+    let mut world = barrier(alloc, 1, 1)?;
+    let answers = run(&mut world, alloc)?;
+    Ok((answers, world.generation()))
 }
 
 #[test]
 fn a_run_answers_each_move(rt: HostRuntime) -> Result<(), Fail> {
-    let mut world = barrier(rt.alloc(), 1, 1)?;
-    let moves = [BEGIN_WAIT, GO, GO, GO, GO, GO].map(|what| Move { party: 0, what });
-    let answers = match world.run(rt.alloc(), &moves) {
-        Ok(answers) => answers,
-        Err(_) => {
-            let again = world.run(rt.alloc(), &moves);
-            again.expect(&rt, "only one allocation is refused")
-        }
-    };
-    let stepped = Answer::Stepped;
-    let wanted = [stepped, stepped, stepped, stepped, stepped, LEADER];
-    assert_eq!(rt; answers.as_slice(), &wanted[..]);
-    assert_eq!(rt; world.generation(), 1);
+    let (answers, generation) = answers(rt.alloc())?;
+    assert_eq!(rt; answers.as_slice(), ANSWERS.as_slice());
+    assert_eq!(rt; generation, 1);
     Ok(())
 }

@@ -18,258 +18,333 @@ const PASSIVE: ListName = ListName::Passive;
 
 const NO_MEMORY: End = End::Refused(Refusal::Memory);
 
-fn claim(maker: Maker, told: bool) -> Place {
-    Place::Claim { maker, told }
+const NINE: Next = Next::Ready(Got::Value(9));
+
+const MAKE: Next = Next::Do(Place::Make(INIT));
+
+const LISTED: Place = Place::ClaimListed(INIT);
+
+const FIRST_CLAIM: Place = Place::Claim {
+    maker: INIT,
+    told: false,
+};
+
+const TOLD_CLAIM: Place = Place::Claim {
+    maker: INIT,
+    told: true,
+};
+
+const FIRST_CLAIM_TO_SET: Place = Place::Claim {
+    maker: SET,
+    told: false,
+};
+
+const TOLD_CLAIM_TO_SET: Place = Place::Claim {
+    maker: SET,
+    told: true,
+};
+
+const JOIN: Place = Place::JoinActive {
+    maker: INIT,
+    told: false,
+};
+
+const TOLD_JOIN: Place = Place::JoinActive {
+    maker: INIT,
+    told: true,
+};
+
+const JOIN_TO_SET: Place = Place::JoinActive {
+    maker: SET,
+    told: false,
+};
+
+const TOLD_JOIN_TO_SET: Place = Place::JoinActive {
+    maker: SET,
+    told: true,
+};
+
+const LEAVE_FULL: Place = Place::LeaveFull {
+    maker: INIT,
+    value: 9,
+};
+
+const LEAVE_FULL_TO_SET: Place = Place::LeaveFull {
+    maker: SET,
+    value: 9,
+};
+
+const LOOK: Place = Place::Look { told: false };
+
+const TOLD_LOOK: Place = Place::Look { told: true };
+
+const JOIN_PASSIVE: Place = Place::JoinPassive { told: false };
+
+const TOLD_JOIN_PASSIVE: Place = Place::JoinPassive { told: true };
+
+/// What follows each of these findings at its place.
+fn expect(rt: &impl Abort, rows: &[(Place, Found, Next)]) {
+    for (from, found, next) in rows {
+        assert_eq!(rt;
+            decide(*from, *found),
+            *next,
+            "after {from:?} found {found:?}"
+        );
+    }
 }
 
-fn join(maker: Maker, told: bool) -> Place {
-    Place::JoinActive { maker, told }
-}
-
-/// Where this finding leads on to another place.
-fn leads(rt: &impl Abort, from: Place, found: Found, to: Place) {
-    assert_eq!(rt;
-        decide(from, found),
-        Next::Do(to),
-        "after {from:?} found {found:?}"
-    );
-}
-
-fn ends(rt: &impl Abort, from: Place, found: Found, end: End) {
-    assert_eq!(rt;
-        decide(from, found),
-        Next::End(end),
-        "after {from:?} found {found:?}"
-    );
-}
-
-fn readies(rt: &impl Abort, from: Place, found: Found, got: Got) {
-    assert_eq!(rt;
-        decide(from, found),
-        Next::Ready(got),
-        "after {from:?} found {found:?}"
-    );
-}
+const ACTIONS: [(Place, Action); 30] = [
+    (FIRST_CLAIM, Action::Claim),
+    (TOLD_CLAIM_TO_SET, Action::Claim),
+    (Place::ClaimListed(INIT), Action::Claim),
+    (JOIN, Action::Join(ACTIVE)),
+    (Place::AskActive(SET), Action::Ask(ACTIVE)),
+    (Place::LeaveToMake(INIT), Action::Leave(ACTIVE)),
+    (Place::Make(INIT), Action::Make(INIT)),
+    (Place::Make(SET), Action::Make(SET)),
+    (Place::Fill(3), Action::Fill(3)),
+    (Place::NotifyActive(3), Action::NotifyAll(ACTIVE)),
+    (Place::NotifyPassive(3), Action::NotifyAll(PASSIVE)),
+    (Place::Fail, Action::Empty),
+    (Place::FailNotify, Action::Notify(ACTIVE)),
+    (
+        Place::LeaveFull {
+            maker: INIT,
+            value: 3,
+        },
+        Action::Leave(ACTIVE),
+    ),
+    (Place::RefuseActive(INIT), Action::Notify(ACTIVE)),
+    (LOOK, Action::Look),
+    (JOIN_PASSIVE, Action::Join(PASSIVE)),
+    (Place::LookListed, Action::Look),
+    (Place::AskPassive, Action::Ask(PASSIVE)),
+    (Place::LeavePassive(3), Action::Leave(PASSIVE)),
+    (Place::RefusePassive, Action::Notify(PASSIVE)),
+    (Place::Try(3), Action::Claim),
+    (Place::TryFill(3), Action::Fill(3)),
+    (Place::TryNotifyActive(3), Action::NotifyAll(ACTIVE)),
+    (Place::TryNotifyPassive(3), Action::NotifyAll(PASSIVE)),
+    (Place::CancelMake, Action::Empty),
+    (Place::CancelNotify, Action::Notify(ACTIVE)),
+    (Place::CancelLeave(ACTIVE), Action::Leave(ACTIVE)),
+    (Place::CancelLeave(PASSIVE), Action::Leave(PASSIVE)),
+    (Place::Abandon, Action::Nothing),
+];
 
 #[test]
 fn each_place_has_its_action(rt: HostRuntime) {
-    for (place, action) in [
-        (claim(INIT, false), Action::Claim),
-        (claim(SET, true), Action::Claim),
-        (Place::ClaimListed(INIT), Action::Claim),
-        (join(INIT, false), Action::Join(ACTIVE)),
-        (Place::AskActive(SET), Action::Ask(ACTIVE)),
-        (Place::LeaveToMake(INIT), Action::Leave(ACTIVE)),
-        (Place::Make(INIT), Action::Make(INIT)),
-        (Place::Make(SET), Action::Make(SET)),
-        (Place::Fill(3), Action::Fill(3)),
-        (Place::NotifyActive(3), Action::NotifyAll(ACTIVE)),
-        (Place::NotifyPassive(3), Action::NotifyAll(PASSIVE)),
-        (Place::Fail, Action::Empty),
-        (Place::FailNotify, Action::Notify(ACTIVE)),
-        (
-            Place::LeaveFull {
-                maker: INIT,
-                value: 3,
-            },
-            Action::Leave(ACTIVE),
-        ),
-        (Place::RefuseActive(INIT), Action::Notify(ACTIVE)),
-        (Place::Look { told: false }, Action::Look),
-        (Place::JoinPassive { told: false }, Action::Join(PASSIVE)),
-        (Place::LookListed, Action::Look),
-        (Place::AskPassive, Action::Ask(PASSIVE)),
-        (Place::LeavePassive(3), Action::Leave(PASSIVE)),
-        (Place::RefusePassive, Action::Notify(PASSIVE)),
-        (Place::Try(3), Action::Claim),
-        (Place::TryFill(3), Action::Fill(3)),
-        (Place::TryNotifyActive(3), Action::NotifyAll(ACTIVE)),
-        (Place::TryNotifyPassive(3), Action::NotifyAll(PASSIVE)),
-        (Place::CancelMake, Action::Empty),
-        (Place::CancelNotify, Action::Notify(ACTIVE)),
-        (Place::CancelLeave(ACTIVE), Action::Leave(ACTIVE)),
-        (Place::CancelLeave(PASSIVE), Action::Leave(PASSIVE)),
-        (Place::Abandon, Action::Nothing),
-    ] {
-        assert_eq!(rt; action_at(place), action, "{place:?}");
+    for (place, action) in &ACTIONS {
+        assert_eq!(rt; action_at(*place), *action, "{place:?}");
     }
 }
+
+const INITIALISATIONS: [(Place, Found, Next); 16] = [
+    (FIRST_CLAIM, Found::Empty, MAKE),
+    (FIRST_CLAIM, Found::BeingMade, Next::Do(JOIN)),
+    (FIRST_CLAIM, Found::Full(9), NINE),
+    (
+        FIRST_CLAIM_TO_SET,
+        Found::Full(9),
+        Next::Ready(Got::Taken(4)),
+    ),
+    (TOLD_CLAIM, Found::Empty, MAKE),
+    (TOLD_CLAIM, Found::BeingMade, Next::Do(TOLD_JOIN)),
+    (TOLD_CLAIM, Found::Full(9), NINE),
+    (
+        TOLD_CLAIM_TO_SET,
+        Found::Full(9),
+        Next::Ready(Got::Taken(4)),
+    ),
+    (LISTED, Found::Empty, Next::Do(Place::LeaveToMake(INIT))),
+    (LISTED, Found::BeingMade, Next::Do(Place::AskActive(INIT))),
+    (LISTED, Found::Full(9), Next::Do(LEAVE_FULL)),
+    (LEAVE_FULL, Found::Done, NINE),
+    (LEAVE_FULL_TO_SET, Found::Done, Next::Ready(Got::Taken(4))),
+    (Place::LeaveToMake(INIT), Found::Done, MAKE),
+    (Place::AskActive(INIT), Found::Yes, Next::Do(TOLD_CLAIM)),
+    (Place::AskActive(INIT), Found::No, Next::End(End::Pending)),
+];
 
 #[test]
 fn an_initialisation_makes_waits_or_is_ready(rt: HostRuntime) {
-    for told in [false, true] {
-        leads(&rt, claim(INIT, told), Found::Empty, Place::Make(INIT));
-        leads(&rt, claim(INIT, told), Found::BeingMade, join(INIT, told));
-        readies(&rt, claim(INIT, told), Found::Full(9), Got::Value(9));
-        readies(&rt, claim(SET, told), Found::Full(9), Got::Taken(4));
-    }
-    let listed = Place::ClaimListed(INIT);
-    leads(&rt, listed, Found::Empty, Place::LeaveToMake(INIT));
-    leads(&rt, listed, Found::BeingMade, Place::AskActive(INIT));
-    let full = |maker| Place::LeaveFull { maker, value: 9 };
-    leads(&rt, listed, Found::Full(9), full(INIT));
-    readies(&rt, full(INIT), Found::Done, Got::Value(9));
-    readies(&rt, full(SET), Found::Done, Got::Taken(4));
-    leads(
-        &rt,
-        Place::LeaveToMake(INIT),
-        Found::Done,
-        Place::Make(INIT),
-    );
-    leads(&rt, Place::AskActive(INIT), Found::Yes, claim(INIT, true));
-    ends(&rt, Place::AskActive(INIT), Found::No, End::Pending);
+    expect(&rt, &INITIALISATIONS);
 }
+
+const JOINS: [(Place, Found, Next); 10] = [
+    (JOIN_TO_SET, Found::Done, Next::Do(Place::ClaimListed(SET))),
+    (JOIN_PASSIVE, Found::Done, Next::Do(Place::LookListed)),
+    (
+        TOLD_JOIN_TO_SET,
+        Found::Done,
+        Next::Do(Place::ClaimListed(SET)),
+    ),
+    (TOLD_JOIN_PASSIVE, Found::Done, Next::Do(Place::LookListed)),
+    (JOIN_TO_SET, Found::NoMemory, Next::End(NO_MEMORY)),
+    (
+        TOLD_JOIN_TO_SET,
+        Found::NoMemory,
+        Next::Do(Place::RefuseActive(SET)),
+    ),
+    (Place::RefuseActive(SET), Found::Done, Next::End(NO_MEMORY)),
+    (JOIN_PASSIVE, Found::NoMemory, Next::End(NO_MEMORY)),
+    (
+        TOLD_JOIN_PASSIVE,
+        Found::NoMemory,
+        Next::Do(Place::RefusePassive),
+    ),
+    (Place::RefusePassive, Found::Done, Next::End(NO_MEMORY)),
+];
 
 #[test]
 fn a_join_leads_to_a_look_or_is_refused(rt: HostRuntime) {
-    for told in [false, true] {
-        leads(&rt, join(SET, told), Found::Done, Place::ClaimListed(SET));
-        leads(
-            &rt,
-            Place::JoinPassive { told },
-            Found::Done,
-            Place::LookListed,
-        );
-    }
-    ends(&rt, join(SET, false), Found::NoMemory, NO_MEMORY);
-    leads(
-        &rt,
-        join(SET, true),
-        Found::NoMemory,
-        Place::RefuseActive(SET),
-    );
-    ends(&rt, Place::RefuseActive(SET), Found::Done, NO_MEMORY);
-    ends(
-        &rt,
-        Place::JoinPassive { told: false },
-        Found::NoMemory,
-        NO_MEMORY,
-    );
-    leads(
-        &rt,
-        Place::JoinPassive { told: true },
-        Found::NoMemory,
-        Place::RefusePassive,
-    );
-    ends(&rt, Place::RefusePassive, Found::Done, NO_MEMORY);
+    expect(&rt, &JOINS);
 }
+
+const MAKERS: [(Place, Found, Next); 8] = [
+    (Place::Make(INIT), Found::NotYet, Next::End(End::Pending)),
+    (Place::Make(INIT), Found::Made(7), Next::Do(Place::Fill(7))),
+    (
+        Place::Fill(7),
+        Found::Done,
+        Next::Do(Place::NotifyActive(7)),
+    ),
+    (
+        Place::NotifyActive(7),
+        Found::Done,
+        Next::Do(Place::NotifyPassive(7)),
+    ),
+    (
+        Place::NotifyPassive(7),
+        Found::Done,
+        Next::Ready(Got::Value(7)),
+    ),
+    (Place::Make(INIT), Found::Failed, Next::Do(Place::Fail)),
+    (Place::Fail, Found::Done, Next::Do(Place::FailNotify)),
+    (Place::FailNotify, Found::Done, Next::Ready(Got::Failed)),
+];
 
 #[test]
 fn a_maker_fills_fails_or_is_pending(rt: HostRuntime) {
-    ends(&rt, Place::Make(INIT), Found::NotYet, End::Pending);
-    leads(&rt, Place::Make(INIT), Found::Made(7), Place::Fill(7));
-    leads(&rt, Place::Fill(7), Found::Done, Place::NotifyActive(7));
-    leads(
-        &rt,
-        Place::NotifyActive(7),
-        Found::Done,
-        Place::NotifyPassive(7),
-    );
-    readies(&rt, Place::NotifyPassive(7), Found::Done, Got::Value(7));
-    leads(&rt, Place::Make(INIT), Found::Failed, Place::Fail);
-    leads(&rt, Place::Fail, Found::Done, Place::FailNotify);
-    readies(&rt, Place::FailNotify, Found::Done, Got::Failed);
+    expect(&rt, &MAKERS);
 }
+
+const WAITS: [(Place, Found, Next); 12] = [
+    (LOOK, Found::Full(9), NINE),
+    (LOOK, Found::Empty, Next::Do(JOIN_PASSIVE)),
+    (LOOK, Found::BeingMade, Next::Do(JOIN_PASSIVE)),
+    (TOLD_LOOK, Found::Full(9), NINE),
+    (TOLD_LOOK, Found::Empty, Next::Do(TOLD_JOIN_PASSIVE)),
+    (TOLD_LOOK, Found::BeingMade, Next::Do(TOLD_JOIN_PASSIVE)),
+    (Place::LookListed, Found::Empty, Next::Do(Place::AskPassive)),
+    (
+        Place::LookListed,
+        Found::BeingMade,
+        Next::Do(Place::AskPassive),
+    ),
+    (
+        Place::LookListed,
+        Found::Full(9),
+        Next::Do(Place::LeavePassive(9)),
+    ),
+    (Place::LeavePassive(9), Found::Done, NINE),
+    (Place::AskPassive, Found::Yes, Next::Do(TOLD_LOOK)),
+    (Place::AskPassive, Found::No, Next::End(End::Pending)),
+];
 
 #[test]
 fn a_wait_looks_joins_and_looks_again(rt: HostRuntime) {
-    for told in [false, true] {
-        let look = Place::Look { told };
-        readies(&rt, look, Found::Full(9), Got::Value(9));
-        leads(&rt, look, Found::Empty, Place::JoinPassive { told });
-        leads(&rt, look, Found::BeingMade, Place::JoinPassive { told });
-    }
-    for found in [Found::Empty, Found::BeingMade] {
-        leads(&rt, Place::LookListed, found, Place::AskPassive);
-    }
-    leads(
-        &rt,
-        Place::LookListed,
-        Found::Full(9),
-        Place::LeavePassive(9),
-    );
-    readies(&rt, Place::LeavePassive(9), Found::Done, Got::Value(9));
-    leads(
-        &rt,
-        Place::AskPassive,
-        Found::Yes,
-        Place::Look { told: true },
-    );
-    ends(&rt, Place::AskPassive, Found::No, End::Pending);
+    expect(&rt, &WAITS);
 }
+
+const TRIES: [(Place, Found, Next); 6] = [
+    (Place::Try(3), Found::Empty, Next::Do(Place::TryFill(3))),
+    (Place::Try(3), Found::BeingMade, Next::End(End::NotFree)),
+    (Place::Try(3), Found::Full(9), Next::End(End::NotFree)),
+    (
+        Place::TryFill(3),
+        Found::Done,
+        Next::Do(Place::TryNotifyActive(3)),
+    ),
+    (
+        Place::TryNotifyActive(3),
+        Found::Done,
+        Next::Do(Place::TryNotifyPassive(3)),
+    ),
+    (
+        Place::TryNotifyPassive(3),
+        Found::Done,
+        Next::End(End::Granted),
+    ),
+];
 
 #[test]
 fn a_try_fills_an_empty_cell_alone(rt: HostRuntime) {
-    leads(&rt, Place::Try(3), Found::Empty, Place::TryFill(3));
-    ends(&rt, Place::Try(3), Found::BeingMade, End::NotFree);
-    ends(&rt, Place::Try(3), Found::Full(9), End::NotFree);
-    leads(
-        &rt,
-        Place::TryFill(3),
-        Found::Done,
-        Place::TryNotifyActive(3),
-    );
-    leads(
-        &rt,
-        Place::TryNotifyActive(3),
-        Found::Done,
-        Place::TryNotifyPassive(3),
-    );
-    ends(&rt, Place::TryNotifyPassive(3), Found::Done, End::Granted);
+    expect(&rt, &TRIES);
 }
+
+const DROPS: [(Place, Found, Next); 5] = [
+    (
+        Place::CancelMake,
+        Found::Done,
+        Next::Do(Place::CancelNotify),
+    ),
+    (Place::CancelNotify, Found::Done, Next::End(End::GivenBack)),
+    (
+        Place::CancelLeave(ACTIVE),
+        Found::Done,
+        Next::End(End::GivenBack),
+    ),
+    (
+        Place::CancelLeave(PASSIVE),
+        Found::Done,
+        Next::End(End::GivenBack),
+    ),
+    (Place::Abandon, Found::Done, Next::End(End::GivenBack)),
+];
 
 #[test]
 fn a_drop_gives_back(rt: HostRuntime) {
-    leads(&rt, Place::CancelMake, Found::Done, Place::CancelNotify);
-    for place in [
-        Place::CancelNotify,
-        Place::CancelLeave(ACTIVE),
-        Place::CancelLeave(PASSIVE),
-        Place::Abandon,
-    ] {
-        ends(&rt, place, Found::Done, End::GivenBack);
-    }
+    expect(&rt, &DROPS);
 }
+
+const BEGINNINGS: [(Call, Position, Option<Place>); 19] = [
+    (Call::Initialize, Position::Out, Some(FIRST_CLAIM)),
+    (Call::Set(4), Position::Out, Some(FIRST_CLAIM_TO_SET)),
+    (Call::Wait, Position::Out, Some(LOOK)),
+    (Call::TrySet(3), Position::Out, Some(Place::Try(3))),
+    (Call::Poll, Position::ToMake(SET), Some(FIRST_CLAIM_TO_SET)),
+    (
+        Call::Poll,
+        Position::WaitingToMake(INIT),
+        Some(Place::AskActive(INIT)),
+    ),
+    (Call::Poll, Position::Making(INIT), Some(Place::Make(INIT))),
+    (Call::Poll, Position::ToWait, Some(LOOK)),
+    (Call::Poll, Position::Waiting, Some(Place::AskPassive)),
+    (
+        Call::Drop,
+        Position::WaitingToMake(SET),
+        Some(Place::CancelLeave(ACTIVE)),
+    ),
+    (Call::Drop, Position::Making(INIT), Some(Place::CancelMake)),
+    (
+        Call::Drop,
+        Position::Waiting,
+        Some(Place::CancelLeave(PASSIVE)),
+    ),
+    (Call::Drop, Position::ToMake(INIT), Some(Place::Abandon)),
+    (Call::Drop, Position::ToWait, Some(Place::Abandon)),
+    (Call::Drop, Position::Out, Some(Place::Abandon)),
+    (Call::Poll, Position::Out, None),
+    (Call::Lock, Position::Out, None),
+    (Call::Wait, Position::Waiting, None),
+    (Call::Poll, Position::At(Place::AskPassive), None),
+];
 
 #[test]
 fn calls_begin_where_they_may(rt: HostRuntime) {
-    for (call, at, place) in [
-        (Call::Initialize, Position::Out, Some(claim(INIT, false))),
-        (Call::Set(4), Position::Out, Some(claim(SET, false))),
-        (Call::Wait, Position::Out, Some(Place::Look { told: false })),
-        (Call::TrySet(3), Position::Out, Some(Place::Try(3))),
-        (Call::Poll, Position::ToMake(SET), Some(claim(SET, false))),
-        (
-            Call::Poll,
-            Position::WaitingToMake(INIT),
-            Some(Place::AskActive(INIT)),
-        ),
-        (Call::Poll, Position::Making(INIT), Some(Place::Make(INIT))),
-        (
-            Call::Poll,
-            Position::ToWait,
-            Some(Place::Look { told: false }),
-        ),
-        (Call::Poll, Position::Waiting, Some(Place::AskPassive)),
-        (
-            Call::Drop,
-            Position::WaitingToMake(SET),
-            Some(Place::CancelLeave(ACTIVE)),
-        ),
-        (Call::Drop, Position::Making(INIT), Some(Place::CancelMake)),
-        (
-            Call::Drop,
-            Position::Waiting,
-            Some(Place::CancelLeave(PASSIVE)),
-        ),
-        (Call::Drop, Position::ToMake(INIT), Some(Place::Abandon)),
-        (Call::Drop, Position::ToWait, Some(Place::Abandon)),
-        (Call::Drop, Position::Out, Some(Place::Abandon)),
-        (Call::Poll, Position::Out, None),
-        (Call::Lock, Position::Out, None),
-        (Call::Wait, Position::Waiting, None),
-        (Call::Poll, Position::At(Place::AskPassive), None),
-    ] {
-        assert_eq!(rt; start(call, at), place, "{call:?} at {at:?}");
+    for (call, at, place) in &BEGINNINGS {
+        assert_eq!(rt; start(*call, *at), *place, "{call:?} at {at:?}");
     }
 }

@@ -1,70 +1,162 @@
 //! The event list, through its public calls.
+//!
+//! Each call stands in a function of its own that promises nothing: what the list promises of the call is
+//! followed once there, and not again at each test.
 
 use lock_event::Mark::{self, Additional, Notified, Waiting};
 use lock_event::{Asked, EntryId, Event, Memory};
 use std::process::Abort;
 use std::test::Fail;
 
+fn listen(list: &mut Event<u32>) -> Result<EntryId, Memory> {
+    list.listen()
+}
+
+fn notify(list: &mut Event<u32>, n: usize) {
+    list.notify(n);
+}
+
+fn notify_additional(list: &mut Event<u32>, n: usize) {
+    list.notify_additional(n);
+}
+
+fn next_waker(list: &mut Event<u32>) -> Option<u32> {
+    list.next_waker()
+}
+
+fn ask(list: &mut Event<u32>, id: EntryId, waker: Option<u32>) -> Asked<u32> {
+    list.ask(id, waker)
+}
+
+fn withdraw(list: &mut Event<u32>, id: EntryId) -> Option<u32> {
+    list.withdraw(id)
+}
+
+fn reserve(list: &mut Event<u32>, additional: usize) -> Result<(), Memory> {
+    list.reserve(additional)
+}
+
+// Whether the entry has been notified, where it stands in the list.
+fn notified(list: &Event<u32>, id: EntryId) -> Option<bool> {
+    if list.contains(id) {
+        Some(list.is_notified(id))
+    } else {
+        None
+    }
+}
+
+// Whether a poll with this waker takes the entry's notification, where the entry stands in the list.
+fn poll(list: &mut Event<u32>, id: EntryId, waker: u32) -> Option<bool> {
+    if list.contains(id) {
+        Some(list.poll_entry(id, waker))
+    } else {
+        None
+    }
+}
+
+// The entry leaves. Whether it stood in the list.
+fn left(list: &mut Event<u32>, id: EntryId) -> bool {
+    let listed = list.contains(id);
+    if listed {
+        list.leave(id);
+    }
+    listed
+}
+
+fn length(list: &Event<u32>) -> usize {
+    list.len()
+}
+
+fn mark_at(list: &Event<u32>, index: usize) -> Option<Mark> {
+    if index < list.len() {
+        Some(list.entry(index).mark)
+    } else {
+        None
+    }
+}
+
+fn id_at(list: &Event<u32>, index: usize) -> Option<EntryId> {
+    if index < list.len() {
+        Some(list.entry(index).key.id)
+    } else {
+        None
+    }
+}
+
+fn waker_at(list: &Event<u32>, index: usize) -> Option<Option<u32>> {
+    if index < list.len() {
+        Some(list.entry(index).key.waker)
+    } else {
+        None
+    }
+}
+
 // Joins. A join that is refused has to leave the list as it was, and is tried once more: so each
 // test also passes where one allocation fails, whichever it is.
 fn join(rt: &impl Abort, list: &mut Event<u32>) -> Result<EntryId, Fail> {
-    let before = list.len();
-    if let Ok(id) = list.listen() {
-        assert_eq!(rt; list.len(), before + 1);
-        return Ok(id);
+    let before = length(list);
+    let joined = listen(list);
+    let added = if joined.is_ok() { 1 } else { 0 };
+    assert_eq!(rt; length(list).checked_sub(before), Some(added));
+    match joined {
+        Ok(id) => Ok(id),
+        Err(Memory) => Ok(listen(list)?),
     }
-    assert_eq!(rt; list.len(), before);
-    Ok(list.listen()?)
 }
 
 // This entry, which stands in the list, has been notified, or not.
 fn assert_notified(rt: &impl Abort, list: &Event<u32>, id: EntryId, wanted: bool) {
-    assert!(rt; list.contains(id));
-    assert_eq!(rt; list.is_notified(id), wanted);
+    assert_eq!(rt; notified(list, id), Some(wanted));
 }
 
 // A poll with this waker takes the entry's notification, or not.
 fn assert_poll(rt: &impl Abort, list: &mut Event<u32>, id: EntryId, waker: u32, wanted: bool) {
-    assert!(rt; list.contains(id));
-    assert_eq!(rt; list.poll_entry(id, waker), wanted);
+    assert_eq!(rt; poll(list, id, waker), Some(wanted));
 }
 
 fn assert_next_waker(rt: &impl Abort, list: &mut Event<u32>, wanted: Option<u32>) {
-    assert_eq!(rt; list.next_waker(), wanted);
+    assert_eq!(rt; next_waker(list), wanted);
+}
+
+fn assert_asked(
+    rt: &impl Abort,
+    list: &mut Event<u32>,
+    id: EntryId,
+    waker: Option<u32>,
+    wanted: Asked<u32>,
+) {
+    assert_eq!(rt; ask(list, id, waker), wanted);
+}
+
+fn assert_withdrawn(rt: &impl Abort, list: &mut Event<u32>, id: EntryId, wanted: Option<u32>) {
+    assert_eq!(rt; withdraw(list, id), wanted);
 }
 
 fn leave(rt: &impl Abort, list: &mut Event<u32>, id: EntryId) {
-    assert!(rt; list.contains(id));
-    list.leave(id);
+    assert!(rt; left(list, id));
 }
 
 // The list has exactly these marks, from front to back.
 fn assert_marks(rt: &impl Abort, list: &Event<u32>, marks: &[Mark]) {
-    assert_eq!(rt; list.len(), marks.len());
+    assert_eq!(rt; length(list), marks.len());
     assert_eq!(rt; list.is_empty(), marks.is_empty());
     for (i, mark) in marks.iter().enumerate() {
-        assert!(rt; i < list.len());
-        assert_eq!(rt; list.entry(i).mark, *mark, "at {i}");
+        assert_eq!(rt; mark_at(list, i), Some(*mark), "at {i}");
     }
 }
 
 fn assert_id(rt: &impl Abort, list: &Event<u32>, index: usize, wanted: EntryId) {
-    assert!(rt; index < list.len());
-    assert_eq!(rt; list.entry(index).key.id, wanted, "at {index}");
+    assert_eq!(rt; id_at(list, index), Some(wanted), "at {index}");
 }
 
 fn assert_waker(rt: &impl Abort, list: &Event<u32>, index: usize, wanted: Option<u32>) {
-    assert!(rt; index < list.len());
-    assert_eq!(rt; list.entry(index).key.waker, wanted, "at {index}");
+    assert_eq!(rt; waker_at(list, index), Some(wanted), "at {index}");
 }
 
 fn assert_ids_differ(rt: &impl Abort, list: &Event<u32>) {
-    for i in 0..list.len() {
+    for i in 0..length(list) {
         for j in 0..i {
-            assert!(rt;
-                list.entry(i).key.id != list.entry(j).key.id,
-                "at {j} and {i}"
-            );
+            assert!(rt; id_at(list, i) != id_at(list, j), "at {j} and {i}");
         }
     }
 }
@@ -90,17 +182,17 @@ fn notify_counts_those_already_marked(rt: HostRuntime) -> Result<(), Fail> {
     for _ in 0..3 {
         join(&rt, &mut list)?;
     }
-    list.notify(1);
+    notify(&mut list, 1);
     assert_marks(&rt, &list, &[Notified, Waiting, Waiting, Waiting]);
     assert_notified(&rt, &list, first, true);
-    list.notify(1);
+    notify(&mut list, 1);
     assert_marks(&rt, &list, &[Notified, Waiting, Waiting, Waiting]);
-    list.notify_additional(1);
-    list.notify(2);
+    notify_additional(&mut list, 1);
+    notify(&mut list, 2);
     assert_marks(&rt, &list, &[Notified, Additional, Waiting, Waiting]);
-    list.notify(3);
+    notify(&mut list, 3);
     assert_marks(&rt, &list, &[Notified, Additional, Notified, Waiting]);
-    list.notify(0);
+    notify(&mut list, 0);
     assert_marks(&rt, &list, &[Notified, Additional, Notified, Waiting]);
     Ok(())
 }
@@ -111,10 +203,10 @@ fn additional_notifications_do_not_count_those_already_marked(rt: HostRuntime) -
     for _ in 0..4 {
         join(&rt, &mut list)?;
     }
-    list.notify(1);
-    list.notify_additional(1);
+    notify(&mut list, 1);
+    notify_additional(&mut list, 1);
     assert_marks(&rt, &list, &[Notified, Additional, Waiting, Waiting]);
-    list.notify_additional(1);
+    notify_additional(&mut list, 1);
     assert_marks(&rt, &list, &[Notified, Additional, Additional, Waiting]);
     Ok(())
 }
@@ -122,14 +214,14 @@ fn additional_notifications_do_not_count_those_already_marked(rt: HostRuntime) -
 #[test]
 fn the_largest_number_notifies_all_that_wait(rt: HostRuntime) -> Result<(), Fail> {
     let mut list = Event::new(rt.alloc());
-    list.notify(usize::MAX);
+    notify(&mut list, usize::MAX);
     for _ in 0..2 {
         join(&rt, &mut list)?;
     }
-    list.notify(usize::MAX);
+    notify(&mut list, usize::MAX);
     assert_marks(&rt, &list, &[Notified, Notified]);
     join(&rt, &mut list)?;
-    list.notify_additional(usize::MAX);
+    notify_additional(&mut list, usize::MAX);
     assert_marks(&rt, &list, &[Notified, Notified, Additional]);
     Ok(())
 }
@@ -146,12 +238,12 @@ fn a_leaving_entry_passes_on_a_notification_of_its_kind(rt: HostRuntime) -> Resu
     assert_marks(&rt, &list, &[Waiting, Waiting, Waiting, Waiting]);
 
     // A plain one goes to the next that waits.
-    list.notify(1);
+    notify(&mut list, 1);
     leave(&rt, &mut list, a);
     assert_marks(&rt, &list, &[Notified, Waiting, Waiting]);
 
     // An additional one goes on, though another entry is marked.
-    list.notify_additional(1);
+    notify_additional(&mut list, 1);
     leave(&rt, &mut list, c);
     assert_marks(&rt, &list, &[Notified, Additional]);
 
@@ -170,7 +262,7 @@ fn an_entry_keeps_the_newest_waker_until_it_is_notified(rt: HostRuntime) -> Resu
     assert_poll(&rt, &mut list, id, 5, false);
     assert_poll(&rt, &mut list, id, 7, false);
     assert_next_waker(&rt, &mut list, None);
-    list.notify(1);
+    notify(&mut list, 1);
     assert_next_waker(&rt, &mut list, Some(7));
     assert_next_waker(&rt, &mut list, None);
     assert_marks(&rt, &list, &[Notified]);
@@ -189,8 +281,8 @@ fn next_waker_takes_those_of_notified_entries_from_the_front(rt: HostRuntime) ->
             assert_poll(&rt, &mut list, id, waker, false);
         }
     }
-    list.notify(3);
-    list.notify_additional(1);
+    notify(&mut list, 3);
+    notify_additional(&mut list, 1);
     let marks = [Notified, Notified, Notified, Additional, Waiting];
     assert_marks(&rt, &list, &marks);
     for waker in [1, 3, 4] {
@@ -223,17 +315,17 @@ fn ids_are_distinct(rt: HostRuntime) -> Result<(), Fail> {
 fn reserve_makes_room_or_leaves_the_list_as_it_was(rt: HostRuntime) -> Result<(), Fail> {
     let mut list = Event::new(rt.alloc());
     join(&rt, &mut list)?;
-    if list.reserve(20).is_err() {
+    if reserve(&mut list, 20).is_err() {
         assert_marks(&rt, &list, &[Waiting]);
-        list.reserve(20)?;
+        reserve(&mut list, 20)?;
     }
     // No memory holds so many entries.
-    assert_eq!(rt; list.reserve(usize::MAX), Err(Memory));
+    assert_eq!(rt; reserve(&mut list, usize::MAX), Err(Memory));
     assert_marks(&rt, &list, &[Waiting]);
     for _ in 0..20 {
-        assert!(rt; list.listen().is_ok());
+        assert!(rt; listen(&mut list).is_ok());
     }
-    assert_eq!(rt; list.len(), 21);
+    assert_eq!(rt; length(&list), 21);
     Ok(())
 }
 
@@ -244,31 +336,61 @@ fn an_asking_entry_leaves_with_its_notification_or_keeps_the_new_waker(
     let mut list = Event::new(rt.alloc());
     let first = join(&rt, &mut list)?;
     let second = join(&rt, &mut list)?;
-    assert_eq!(rt; list.ask(first, Some(1)), Asked::Waiting { kept: None });
-    assert_eq!(rt; list.ask(second, Some(2)), Asked::Waiting { kept: None });
-    assert_eq!(rt; list.ask(first, None), Asked::Waiting { kept: Some(1) });
-    assert_eq!(rt; list.ask(first, Some(3)), Asked::Waiting { kept: None });
+    assert_asked(
+        &rt,
+        &mut list,
+        first,
+        Some(1),
+        Asked::Waiting { kept: None },
+    );
+    assert_asked(
+        &rt,
+        &mut list,
+        second,
+        Some(2),
+        Asked::Waiting { kept: None },
+    );
+    assert_asked(
+        &rt,
+        &mut list,
+        first,
+        None,
+        Asked::Waiting { kept: Some(1) },
+    );
+    assert_asked(
+        &rt,
+        &mut list,
+        first,
+        Some(3),
+        Asked::Waiting { kept: None },
+    );
     assert_marks(&rt, &list, &[Waiting, Waiting]);
     assert_waker(&rt, &list, 0, Some(3));
     assert_waker(&rt, &list, 1, Some(2));
-    list.notify(1);
+    notify(&mut list, 1);
     assert_next_waker(&rt, &mut list, Some(3));
-    assert_eq!(rt;
-        list.ask(first, Some(4)),
+    assert_asked(
+        &rt,
+        &mut list,
+        first,
+        Some(4),
         Asked::Notified {
             kept: None,
             unused: Some(4),
-        }
+        },
     );
     assert_marks(&rt, &list, &[Waiting]);
     assert_id(&rt, &list, 0, second);
-    list.notify_additional(1);
-    assert_eq!(rt;
-        list.ask(second, Some(5)),
+    notify_additional(&mut list, 1);
+    assert_asked(
+        &rt,
+        &mut list,
+        second,
+        Some(5),
         Asked::Notified {
             kept: Some(2),
             unused: Some(5),
-        }
+        },
     );
     assert_marks(&rt, &list, &[]);
     Ok(())
@@ -280,16 +402,28 @@ fn an_entry_that_is_withdrawn_passes_its_notification_on(rt: HostRuntime) -> Res
     let first = join(&rt, &mut list)?;
     let second = join(&rt, &mut list)?;
     let third = join(&rt, &mut list)?;
-    assert_eq!(rt; list.ask(first, Some(1)), Asked::Waiting { kept: None });
-    assert_eq!(rt; list.ask(second, Some(2)), Asked::Waiting { kept: None });
-    list.notify(1);
-    assert_eq!(rt; list.withdraw(first), Some(1));
+    assert_asked(
+        &rt,
+        &mut list,
+        first,
+        Some(1),
+        Asked::Waiting { kept: None },
+    );
+    assert_asked(
+        &rt,
+        &mut list,
+        second,
+        Some(2),
+        Asked::Waiting { kept: None },
+    );
+    notify(&mut list, 1);
+    assert_withdrawn(&rt, &mut list, first, Some(1));
     assert_marks(&rt, &list, &[Notified, Waiting]);
     assert_next_waker(&rt, &mut list, Some(2));
-    assert_eq!(rt; list.withdraw(second), None);
+    assert_withdrawn(&rt, &mut list, second, None);
     assert_marks(&rt, &list, &[Notified]);
     assert_id(&rt, &list, 0, third);
-    assert_eq!(rt; list.withdraw(third), None);
+    assert_withdrawn(&rt, &mut list, third, None);
     assert_marks(&rt, &list, &[]);
     Ok(())
 }
@@ -302,11 +436,14 @@ fn an_id_that_stands_in_no_list_is_asked_and_withdrawn_in_vain(
     let first = join(&rt, &mut list)?;
     let second = join(&rt, &mut list)?;
     leave(&rt, &mut list, second);
-    assert_eq!(rt;
-        list.ask(second, Some(1)),
-        Asked::Unlisted { unused: Some(1) }
+    assert_asked(
+        &rt,
+        &mut list,
+        second,
+        Some(1),
+        Asked::Unlisted { unused: Some(1) },
     );
-    assert_eq!(rt; list.withdraw(second), None);
+    assert_withdrawn(&rt, &mut list, second, None);
     assert_marks(&rt, &list, &[Waiting]);
     assert_id(&rt, &list, 0, first);
     Ok(())

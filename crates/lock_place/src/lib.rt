@@ -17,8 +17,6 @@ mod send_lease;
 mod spare;
 mod strip;
 mod swap;
-#[cfg(test)]
-mod tests;
 
 pub use owned::{Place, Refused};
 pub use room::{Hold, Parked, Room, Seen};

@@ -51,29 +51,19 @@ impl World {
                 value,
                 starved,
                 readers,
-            } => Ok(World::RwLock(new_rwlock(
-                alloc, parties, value, starved, readers,
-            )?)),
+            } => Ok(World::RwLock(new_rwlock(alloc, parties, value, starved, readers)?)),
             Model::Semaphore {
                 parties,
                 permits,
                 most,
-            } => Ok(World::Semaphore(new_semaphore(
-                alloc, parties, permits, most,
-            )?)),
+            } => Ok(World::Semaphore(new_semaphore(alloc, parties, permits, most)?)),
             Model::Cell { parties } => Ok(World::Cell(cell::World::new(alloc, parties)?)),
             Model::Barrier {
                 parties,
                 size,
                 starved,
                 generations,
-            } => Ok(World::Barrier(new_barrier(
-                alloc,
-                parties,
-                size,
-                starved,
-                generations,
-            )?)),
+            } => Ok(World::Barrier(new_barrier(alloc, parties, size, starved, generations)?)),
         }
     }
 

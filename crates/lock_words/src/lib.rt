@@ -11,8 +11,6 @@ mod rested;
 mod rule;
 mod seat;
 mod settled;
-#[cfg(test)]
-mod tests;
 mod turn;
 mod words;
 

@@ -6,8 +6,6 @@ ghost use Rattle.std.specs.Thread.{IsSend};
 
 mod add_one;
 mod one_mutex;
-#[cfg(test)]
-mod tests;
 
 pub use add_one::audited;
 use lock_world::Answer;

@@ -2,54 +2,73 @@
 
 use mutex_machine::program::{End, LockCall, Next, Place};
 use mutex_machine::{Lock, Mutex, Step};
-use std::alloc::AllocError;
-use std::process::Abort;
+use std::alloc::{AllocError, Global};
 
-/// Whether the lock is held, and how many are starved and wait.
-fn assert_state(rt: &impl Abort, lock: &Lock, wanted: (bool, u32, usize)) {
-    assert_eq!(rt; (lock.is_held(), lock.starved(), lock.waiting()), wanted);
-    assert!(rt; lock.entry(wanted.2).is_none());
+/// Whether a lock is held, how many are starved and wait, and whether its list ends there.
+type State = (bool, u32, usize, bool);
+
+const FREE: State = (false, 0, 0, true);
+
+const TAKEN: State = (true, 0, 0, true);
+
+fn lock_state(lock: &Lock) -> State {
+    let waiting = lock.waiting();
+    let ends = lock.entry(waiting).is_none();
+    (lock.is_held(), lock.starved(), waiting, ends)
+}
+
+fn mutex_state(mutex: &Mutex) -> State {
+    let waiting = mutex.waiting();
+    let ends = mutex.entry(waiting).is_none();
+    (mutex.is_held(), mutex.starved(), waiting, ends)
+}
+
+/// A lock is made and taken: its state and the party's place before, how the call begins, and the state after.
+fn take_lock(alloc: Global) -> Result<(State, Place, Option<Next>, State), AllocError> {
+    let mut lock = Lock::new(alloc, 2, 1)?;
+    let before = lock_state(&lock);
+    let place = lock.place(0);
+    // The machine's calls are asked for in the order that their places allow.
+    let begun = match place {
+        Place::Out => Some(lock.begin(0, LockCall::Lock, true, false)),
+        _ => None,
+    };
+    let after = lock_state(&lock);
+    lock.laws();
+    Ok((before, place, begun, after))
 }
 
 #[test]
 fn the_machine_alone_hands_its_lock_on(rt: HostRuntime) -> Result<(), AllocError> {
     // Where one allocation is refused, a second try finds memory.
-    let mut lock = match Lock::new(rt.alloc(), 2, 1) {
-        Ok(lock) => lock,
-        Err(_) => Lock::new(rt.alloc(), 2, 1)?,
+    let seen = match take_lock(rt.alloc()) {
+        Ok(seen) => seen,
+        Err(_) => take_lock(rt.alloc())?,
     };
-    assert_state(&rt, &lock, (false, 0, 0));
-    assert_eq!(rt; lock.place(0), Place::Out);
-    // The machine's calls are asked for in the order that their places allow.
-    if matches!(lock.place(0), Place::Out) {
-        assert_eq!(rt;
-            lock.begin(0, LockCall::Lock, true, false),
-            Next::End(End::Got)
-        );
-    }
-    assert_state(&rt, &lock, (true, 0, 0));
-    lock.laws();
+    let got = Next::End(End::Got);
+    assert_eq!(rt; seen, (FREE, Place::Out, Some(got), TAKEN));
     Ok(())
+}
+
+/// A mutex is made and taken: its state before, the call's first step, the state after, and a further step.
+fn take_mutex(alloc: Global) -> Result<(State, Step, State, Step), AllocError> {
+    let mut mutex = Mutex::new(alloc, 2, 1)?;
+    let before = mutex_state(&mutex);
+    let first = mutex.begin(0, LockCall::Lock, true, false);
+    let after = mutex_state(&mutex);
+    let further = mutex.go(0, true, false);
+    mutex.laws();
+    mutex.solo_polls();
+    Ok((before, first, after, further))
 }
 
 #[test]
 fn a_free_mutex_is_taken_at_once(rt: HostRuntime) -> Result<(), AllocError> {
-    let mut mutex = Mutex::new(rt.alloc(), 2, 1)?;
-    assert_eq!(rt;
-        (mutex.is_held(), mutex.starved(), mutex.waiting()),
-        (false, 0, 0)
-    );
-    assert_eq!(rt;
-        mutex.begin(0, LockCall::Lock, true, false),
-        Step::End(End::Got)
-    );
-    assert_eq!(rt;
-        (mutex.is_held(), mutex.starved(), mutex.waiting()),
-        (true, 0, 0)
-    );
-    assert_eq!(rt; mutex.go(0, true, false), Step::End(End::Got));
-    assert!(rt; mutex.entry(0).is_none());
-    mutex.laws();
-    mutex.solo_polls();
+    let got = Step::End(End::Got);
+    let seen = match take_mutex(rt.alloc()) {
+        Ok(seen) => seen,
+        Err(_) => take_mutex(rt.alloc())?,
+    };
+    assert_eq!(rt; seen, (FREE, got, TAKEN, got));
     Ok(())
 }

@@ -18,21 +18,17 @@ const COUNT_LISTED: Place = Place::Count {
     told: false,
 };
 
+fn follows(rt: &impl std::process::Abort, from: Place, found: Found, next: Next) {
+    assert_eq!(rt; decide(from, found), next, "after {from:?} found {found:?}");
+}
+
 /// Where this finding leads on to another place, and which action is done there.
 fn leads(rt: &impl std::process::Abort, from: Place, found: Found, action: Action, to: Place) {
-    assert_eq!(rt;
-        decide(from, found),
-        Next::Do(action, to),
-        "after {from:?} found {found:?}"
-    );
+    follows(rt, from, found, Next::Do(action, to));
 }
 
 fn ends(rt: &impl std::process::Abort, from: Place, found: Found, end: End) {
-    assert_eq!(rt;
-        decide(from, found),
-        Next::End(end),
-        "after {from:?} found {found:?}"
-    );
+    follows(rt, from, found, Next::End(end));
 }
 
 #[test]
@@ -268,52 +264,58 @@ fn drops_give_back(rt: HostRuntime) {
     ends(&rt, Place::Out, Found::Done, End::GivenBack);
 }
 
+const BEGINNINGS: [(LockCall, Place, Option<(Place, Action)>); 12] = [
+    (
+        LockCall::Lock,
+        Place::Out,
+        Some((Place::Enter, Action::Take)),
+    ),
+    (LockCall::Try, Place::Out, Some((Place::Try, Action::Take))),
+    (
+        LockCall::Poll,
+        Place::Out,
+        Some((Place::Enter, Action::Take)),
+    ),
+    (LockCall::Poll, Place::Ask, Some((Place::Ask, Action::Ask))),
+    (
+        LockCall::Poll,
+        Place::AskStarved,
+        Some((Place::AskStarved, Action::Ask)),
+    ),
+    (LockCall::Poll, Place::Holding, None),
+    (
+        LockCall::Release,
+        Place::Holding,
+        Some((Place::Clear, Action::Clear)),
+    ),
+    (LockCall::Release, Place::Out, None),
+    (
+        LockCall::Cancel,
+        Place::Out,
+        Some((Place::Out, Action::Nothing)),
+    ),
+    (
+        LockCall::Cancel,
+        Place::Ask,
+        Some((Place::CancelLeave, Action::Leave)),
+    ),
+    (
+        LockCall::Cancel,
+        Place::AskStarved,
+        Some((Place::CancelUncount, Action::Uncount)),
+    ),
+    (LockCall::Cancel, Place::Holding, None),
+];
+
+/// Where this call of a party that stands here begins, and with which action.
+fn beginning(call: LockCall, at: Place) -> Option<(Place, Action)> {
+    let place = start(call, at)?;
+    Some((place, action_at(place)))
+}
+
 #[test]
 fn calls_begin_where_their_party_stands(rt: HostRuntime) {
-    let starts = [
-        (
-            LockCall::Lock,
-            Place::Out,
-            Some((Place::Enter, Action::Take)),
-        ),
-        (LockCall::Try, Place::Out, Some((Place::Try, Action::Take))),
-        (
-            LockCall::Poll,
-            Place::Out,
-            Some((Place::Enter, Action::Take)),
-        ),
-        (LockCall::Poll, Place::Ask, Some((Place::Ask, Action::Ask))),
-        (
-            LockCall::Poll,
-            Place::AskStarved,
-            Some((Place::AskStarved, Action::Ask)),
-        ),
-        (LockCall::Poll, Place::Holding, None),
-        (
-            LockCall::Release,
-            Place::Holding,
-            Some((Place::Clear, Action::Clear)),
-        ),
-        (LockCall::Release, Place::Out, None),
-        (
-            LockCall::Cancel,
-            Place::Out,
-            Some((Place::Out, Action::Nothing)),
-        ),
-        (
-            LockCall::Cancel,
-            Place::Ask,
-            Some((Place::CancelLeave, Action::Leave)),
-        ),
-        (
-            LockCall::Cancel,
-            Place::AskStarved,
-            Some((Place::CancelUncount, Action::Uncount)),
-        ),
-        (LockCall::Cancel, Place::Holding, None),
-    ];
-    for (call, at, want) in starts {
-        let begins = start(call, at).map(|place| (place, action_at(place)));
-        assert_eq!(rt; begins, want, "{call:?} at {at:?}");
+    for (call, at, wanted) in &BEGINNINGS {
+        assert_eq!(rt; beginning(*call, *at), *wanted, "{call:?} at {at:?}");
     }
 }

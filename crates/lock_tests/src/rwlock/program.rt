@@ -50,22 +50,18 @@ const ENTER_WRITE: Place = Place::EnterTurn {
     purpose: Purpose::Write,
 };
 
+fn follows(rt: &impl Abort, from: Place, found: Found, next: Next) {
+    assert_eq!(rt; decide(from, found), next, "after {from:?} found {found:?}");
+}
+
 /// Where this finding leads on to another place, and which action is done there.
 fn leads(rt: &impl Abort, from: Place, found: Found, action: Action, to: Place) {
-    assert_eq!(rt;
-        decide(from, found),
-        Next::Do(action, to),
-        "after {from:?} found {found:?}"
-    );
+    follows(rt, from, found, Next::Do(action, to));
 }
 
 /// How this finding ends the call, and where the party stands then.
 fn ends(rt: &impl Abort, from: Place, found: Found, end: End, to: Place) {
-    assert_eq!(rt;
-        decide(from, found),
-        Next::End(end, to),
-        "after {from:?} found {found:?}"
-    );
+    follows(rt, from, found, Next::End(end, to));
 }
 
 /// A call of a party that stands here begins there, with this action.

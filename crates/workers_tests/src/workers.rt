@@ -1,7 +1,10 @@
-use crate::{Gate, Stopped, audited, public};
+//! Workers that pass a gate.
+
 use lock_audit::Book;
 use lock_core::mutex::World;
 use lock_core::{Answer, Got, Move, What};
+use lock_workers::{Gate, Stopped, audited, public};
+use std::process::Abort;
 use std::sync::Wait;
 use std::sync::atomic::{AtomicU64, Ordering};
 use std::test::Fail;
@@ -22,6 +25,11 @@ impl Counting {
             numbers: AtomicU64::new(0),
         }
     }
+
+    fn forget(&self) {
+        self.passed.store(0, Ordering::SeqCst);
+        self.numbers.store(0, Ordering::SeqCst);
+    }
 }
 
 impl Gate for Counting {
@@ -31,20 +39,19 @@ impl Gate for Counting {
     }
 }
 
-/// The closed book of so many workers, and who passed the gate; made once more where memory was refused. Then
-/// no worker was left waiting for one that had stopped.
+/// The closed book of so many workers that pass this gate; made once more where memory was refused. Then no
+/// worker was left waiting for one that had stopped.
 fn counted<R: Threads + Wait + Sync + AllocGlobal>(
     rt: &R,
     workers: u32,
-) -> Result<(Book<World>, Counting), Stopped> {
-    let gate = Counting::new();
-    match audited(rt, rt.alloc(), workers, &gate) {
-        Err(Stopped::Memory) => {}
-        ended => return ended.map(|book| (book, gate)),
+    gate: &Counting,
+) -> Result<Book<World>, Stopped> {
+    let mut ended = audited(rt, rt.alloc(), workers, gate);
+    if matches!(ended, Err(Stopped::Memory)) {
+        gate.forget();
+        ended = audited(rt, rt.alloc(), workers, gate);
     }
-    let gate = Counting::new();
-    let book = audited(rt, rt.alloc(), workers, &gate)?;
-    Ok((book, gate))
+    ended
 }
 
 /// Holds worker 0 until worker 1 comes, for so many looks at most, and notes whether it came.
@@ -52,6 +59,15 @@ fn counted<R: Threads + Wait + Sync + AllocGlobal>(
 struct Meeting {
     came: AtomicU64,
     met: AtomicU64,
+}
+
+impl Meeting {
+    fn new() -> Meeting {
+        Meeting {
+            came: AtomicU64::new(0),
+            met: AtomicU64::new(0),
+        }
+    }
 }
 
 impl Gate for Meeting {
@@ -127,45 +143,55 @@ fn numbers_of(book: &Book<World>, party: Option<u32>) -> Numbers {
     numbers
 }
 
-#[test]
-fn a_hundred_workers_count_to_a_hundred(rt: HostRuntime) -> Result<(), Fail> {
-    let (book, gate) = counted(&rt, 100)?;
+fn assert_each_of_a_hundred_counts<R: Abort>(rt: &R, book: &Book<World>, gate: &Counting) {
     assert_eq!(rt; gate.passed.load(Ordering::SeqCst), 100);
     assert_eq!(rt; gate.numbers.load(Ordering::SeqCst), 4950);
     assert_eq!(rt; book.world().value(), 100);
     assert!(rt; !book.world().is_locked());
-    let all = numbers_of(&book, None);
+    let all = numbers_of(book, None);
     let rights = (all.ready, all.granted, all.refusals, all.gives_back);
     assert_eq!(rt; rights, (100, 100, 0, 100));
     assert_eq!(rt; all.values, 10_000);
     for party in 0..100u32 {
-        let own = numbers_of(&book, Some(party));
+        let own = numbers_of(book, Some(party));
         let rights = (own.ready, own.granted, own.refusals, own.gives_back);
         assert_eq!(rt; rights, (1, 1, 0, 1), "party {party}");
     }
+}
+
+#[test]
+fn a_hundred_workers_count_to_a_hundred(rt: HostRuntime) -> Result<(), Fail> {
+    let gate = Counting::new();
+    let book = counted(&rt, 100, &gate)?;
+    assert_each_of_a_hundred_counts(&rt, &book, &gate);
     Ok(())
 }
 
 #[test]
 fn workers_stand_beside_one_another(rt: HostRuntime) -> Result<(), Fail> {
-    let gate = Meeting {
-        came: AtomicU64::new(0),
-        met: AtomicU64::new(0),
-    };
-    let book = audited(&rt, rt.alloc(), 2, &gate)?;
+    let gate = Meeting::new();
+    let value = audited(&rt, rt.alloc(), 2, &gate)?.world().value();
     assert_eq!(rt; gate.met.load(Ordering::SeqCst), 1);
-    assert_eq!(rt; book.world().value(), 2);
+    assert_eq!(rt; value, 2);
     Ok(())
+}
+
+/// What so many workers leave: the value, how many moves the book has, and how many passed the gate.
+fn left<R: Threads + Wait + Sync + AllocGlobal>(
+    rt: &R,
+    workers: u32,
+) -> Result<(u64, usize, u64), Stopped> {
+    let gate = Counting::new();
+    let book = counted(rt, workers, &gate)?;
+    let passed = gate.passed.load(Ordering::SeqCst);
+    Ok((book.world().value(), book.history().len(), passed))
 }
 
 #[test]
 fn one_worker_and_none(rt: HostRuntime) -> Result<(), Fail> {
-    let (book, gate) = counted(&rt, 1)?;
-    assert_eq!(rt; book.world().value(), 1);
-    assert_eq!(rt; gate.passed.load(Ordering::SeqCst), 1);
-    let (book, gate) = counted(&rt, 0)?;
-    assert_eq!(rt; (book.world().value(), book.history().len()), (0, 0));
-    assert_eq!(rt; gate.passed.load(Ordering::SeqCst), 0);
+    let (value, _, passed) = left(&rt, 1)?;
+    assert_eq!(rt; (value, passed), (1, 1));
+    assert_eq!(rt; left(&rt, 0)?, (0, 0, 0));
     Ok(())
 }
 
@@ -180,10 +206,7 @@ fn a_hundred_workers_add_up_under_one_mutex(rt: HostRuntime) -> Result<(), Fail>
 
 #[test]
 fn workers_under_one_mutex_stand_beside_one_another(rt: HostRuntime) -> Result<(), Fail> {
-    let gate = Meeting {
-        came: AtomicU64::new(0),
-        met: AtomicU64::new(0),
-    };
+    let gate = Meeting::new();
     assert_eq!(rt; public(&rt, rt.alloc(), 2, &gate)?, 2);
     assert_eq!(rt; gate.met.load(Ordering::SeqCst), 1);
     Ok(())

@@ -4,9 +4,9 @@ ghost use Rattle.std.specs.Prelude.{◌≡◌, ℕ};
 ghost use Rattle.futures.specs.Task.{Covers, Keeps};
 ghost use Rattle.lock_words.specs.Turns.{OnPending};
 
-use crate::{Polled, Settled, Turn};
 use futures::task::{Context, Poll, Source};
 use futures::test::MockTask;
+use lock_words::{Polled, Settled, Turn};
 use lock_world::Refusal;
 use std::test::Fail;
 
