@@ -12,6 +12,8 @@ mod clocks;
 #[cfg(test)]
 mod contended;
 #[cfg(test)]
+mod forms;
+#[cfg(test)]
 mod lists;
 #[cfg(test)]
 mod mutex;
@@ -19,6 +21,8 @@ mod mutex;
 mod polls;
 #[cfg(test)]
 mod rounds;
+#[cfg(test)]
+mod stories;
 #[cfg(test)]
 mod surface;
 #[cfg(test)]

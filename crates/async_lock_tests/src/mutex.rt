@@ -1,9 +1,11 @@
 //! The tests of the Rust crate's mutex, under their names.
 
-use crate::polls::{is_pending, is_pending_arc, ready, ready_arc};
+use crate::forms::Form;
+use crate::polls::{is_pending, ready, task};
 use async_lock::{Mutex, Settled};
 use futures::executor::block_on;
 use futures::test::MockTask;
+use std::process::Abort;
 use std::sync::Arc;
 use std::test::Fail;
 use std::thread;
@@ -125,34 +127,27 @@ fn lifetime(rt: HostRuntime) -> Result<(), Fail> {
     Ok(())
 }
 
-#[test]
-fn yields_when_contended(rt: HostRuntime) -> Result<(), Fail> {
-    let Ok(mutex) = Mutex::new(rt, ()) else {
-        return Ok(());
-    };
-    let Ok(task) = MockTask::new(&rt) else {
-        return Ok(());
-    };
-    {
-        let held = mutex.try_lock();
-        assert!(rt; held.is_some());
-        let mut future = Settled(mutex.lock());
-        assert!(rt; is_pending(&task, &mut future));
-        assert!(rt; !task.is_woken());
-        drop(held);
-        assert!(rt; task.is_woken());
-        assert!(rt; ready(&task, &mut future).is_some());
-    }
-    let Ok(mutex) = Arc::new(rt.alloc(), mutex) else {
-        return Ok(());
-    };
-    let held = Mutex::try_lock_arc(&mutex);
+fn yields<L: Form, R: Abort>(rt: &R, lock: &L, task: &MockTask) {
+    let held = lock.take();
     assert!(rt; held.is_some());
-    let mut future = Settled(Mutex::lock_arc(&mutex));
-    assert!(rt; is_pending_arc(&task, &mut future));
+    let mut future = lock.future();
+    assert!(rt; is_pending(task, &mut future));
     assert!(rt; !task.is_woken());
     drop(held);
     assert!(rt; task.is_woken());
-    assert!(rt; ready_arc(&task, &mut future).is_some());
-    Ok(())
+    assert!(rt; ready(task, &mut future).is_some());
+}
+
+#[test]
+fn yields_when_contended(rt: HostRuntime) {
+    let Some(task) = task(&rt) else {
+        return;
+    };
+    let Ok(mutex) = Mutex::new(rt, ()) else {
+        return;
+    };
+    yields(&rt, &&mutex, &task);
+    if let Ok(mutex) = Arc::new(rt.alloc(), mutex) {
+        yields(&rt, &mutex, &task);
+    }
 }

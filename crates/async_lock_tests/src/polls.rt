@@ -1,37 +1,73 @@
 //! Polls by a test's task.
 
 use async_lock::lock_futures::{Lock, LockArc};
-use async_lock::{Mutex, MutexGuard, MutexGuardArc, Refusal, Settled, Turn};
+use async_lock::{MutexGuard, MutexGuardArc, Refusal, Settled, Turn};
 use futures::task::Poll;
 use futures::test::MockTask;
+use std::alloc::AllocGlobal;
+use std::random::RandomSource;
 use std::sync::Wait;
 use std::time::Clock;
 
-/// One poll. Where memory is refused, one more: a refused future is as when it was made.
-pub(crate) fn poll<'a, T, R: Wait + Clock>(
-    task: &MockTask,
-    future: &mut Settled<Lock<'a, T, R>>,
-) -> Turn<MutexGuard<'a, T, R>> {
-    let mut polled = task.poll(future);
-    if matches!(polled, Poll::Ready(Err(Refusal::Memory))) {
-        polled = task.poll(future);
-    }
-    match polled {
-        Poll::Pending => Turn::Pending,
-        Poll::Ready(Ok(guard)) => Turn::Ready(guard),
-        Poll::Ready(Err(refusal)) => Turn::Refused(refusal),
+/// A task; none where memory is refused.
+pub(crate) fn task<R: RandomSource + AllocGlobal>(rt: &R) -> Option<MockTask> {
+    MockTask::new(rt).ok()
+}
+
+/// Three tasks.
+#[derive(Drop)]
+pub(crate) struct Tasks {
+    pub(crate) first: MockTask,
+    pub(crate) second: MockTask,
+    pub(crate) third: MockTask,
+}
+
+impl Tasks {
+    /// None where memory is refused.
+    pub(crate) fn new<R: RandomSource + AllocGlobal>(rt: &R) -> Option<Tasks> {
+        Some(Tasks {
+            first: task(rt)?,
+            second: task(rt)?,
+            third: task(rt)?,
+        })
     }
 }
 
-/// As [`poll`], of an owned future.
-pub(crate) fn poll_arc<T: Drop, R: Wait + Clock + Drop>(
-    task: &MockTask,
-    future: &mut Settled<LockArc<T, R>>,
-) -> Turn<MutexGuardArc<T, R>> {
-    let mut polled = task.poll(future);
-    if matches!(polled, Poll::Ready(Err(Refusal::Memory))) {
-        polled = task.poll(future);
+/// A lock's future.
+pub(crate) trait Waiter: Drop {
+    /// What it waits for.
+    type Guard: Drop;
+
+    /// One poll. Where memory is refused, one more: a refused future is as when it was made.
+    fn poll_by(&mut self, task: &MockTask) -> Turn<Self::Guard>;
+}
+
+impl<'a, T, R: Wait + Clock> Waiter for Settled<Lock<'a, T, R>> {
+    type Guard = MutexGuard<'a, T, R>;
+
+    fn poll_by(&mut self, task: &MockTask) -> Turn<MutexGuard<'a, T, R>> {
+        let mut polled = task.poll(self);
+        if matches!(polled, Poll::Ready(Err(Refusal::Memory))) {
+            polled = task.poll(self);
+        }
+        turn_of(polled)
     }
+}
+
+impl<T: Drop, R: Wait + Clock + Drop> Waiter for Settled<LockArc<T, R>> {
+    type Guard = MutexGuardArc<T, R>;
+
+    fn poll_by(&mut self, task: &MockTask) -> Turn<MutexGuardArc<T, R>> {
+        let mut polled = task.poll(self);
+        if matches!(polled, Poll::Ready(Err(Refusal::Memory))) {
+            polled = task.poll(self);
+        }
+        turn_of(polled)
+    }
+}
+
+// What a poll answers.
+fn turn_of<G>(polled: Poll<Result<G, Refusal>>) -> Turn<G> {
     match polled {
         Poll::Pending => Turn::Pending,
         Poll::Ready(Ok(guard)) => Turn::Ready(guard),
@@ -40,52 +76,22 @@ pub(crate) fn poll_arc<T: Drop, R: Wait + Clock + Drop>(
 }
 
 /// Whether this poll is pending.
-pub(crate) fn is_pending<T, R: Wait + Clock>(
-    task: &MockTask,
-    future: &mut Settled<Lock<'_, T, R>>,
-) -> bool {
-    matches!(poll(task, future), Turn::Pending)
-}
-
-/// Whether this poll is pending, of an owned future.
-pub(crate) fn is_pending_arc<T: Drop, R: Wait + Clock + Drop>(
-    task: &MockTask,
-    future: &mut Settled<LockArc<T, R>>,
-) -> bool {
-    matches!(poll_arc(task, future), Turn::Pending)
+pub(crate) fn is_pending<W: Waiter>(task: &MockTask, future: &mut W) -> bool {
+    matches!(future.poll_by(task), Turn::Pending)
 }
 
 /// The guard, if this poll is ready.
-pub(crate) fn ready<'a, T, R: Wait + Clock>(
-    task: &MockTask,
-    future: &mut Settled<Lock<'a, T, R>>,
-) -> Option<MutexGuard<'a, T, R>> {
-    match poll(task, future) {
+pub(crate) fn ready<W: Waiter>(task: &MockTask, future: &mut W) -> Option<W::Guard> {
+    match future.poll_by(task) {
         Turn::Ready(guard) => Some(guard),
         Turn::Pending | Turn::Refused(_) => None,
     }
 }
 
-/// The guard, if this poll is ready, of an owned future.
-pub(crate) fn ready_arc<T: Drop, R: Wait + Clock + Drop>(
-    task: &MockTask,
-    future: &mut Settled<LockArc<T, R>>,
-) -> Option<MutexGuardArc<T, R>> {
-    match poll_arc(task, future) {
-        Turn::Ready(guard) => Some(guard),
-        Turn::Pending | Turn::Refused(_) => None,
+/// The refusal, if this poll is refused.
+pub(crate) fn refused<W: Waiter>(task: &MockTask, future: &mut W) -> Option<Refusal> {
+    match future.poll_by(task) {
+        Turn::Refused(refusal) => Some(refusal),
+        Turn::Pending | Turn::Ready(_) => None,
     }
-}
-
-/// Whether the lock can be had at once. It is given back.
-///
-/// The prover follows each guard and future of a test to where it is dropped, on each way out of it. So
-/// those that a test only looks at live in functions of their own.
-pub(crate) fn is_free<T, R: Wait>(mutex: &Mutex<T, R>) -> bool {
-    mutex.try_lock().is_some()
-}
-
-/// A future of the mutex is dropped before its first poll.
-pub(crate) fn drop_unpolled<T, R: Wait + Clock>(mutex: &Mutex<T, R>) {
-    drop(mutex.lock());
 }

@@ -1,206 +1,178 @@
 //! A mutex's rounds: taken, written, given back and taken again, with whoever waits told.
 
-use crate::polls::{is_free, is_pending, is_pending_arc, poll, poll_arc, ready, ready_arc};
-use async_lock::{Mutex, MutexGuard, MutexGuardArc, Refusal, Settled, Turn};
+use crate::forms::{NumberForm, is_free, number_in, owned};
+use crate::polls::{Tasks, is_pending, ready, refused, task};
+use crate::stories::{Story, of_borrowed, of_owned};
+use async_lock::{Mutex, MutexGuard, MutexGuardArc, Refusal};
 use futures::test::MockTask;
-use std::sync::Arc;
-use std::test::Fail;
+use std::process::Abort;
+use std::sync::{Arc, Wait};
 
-#[test]
-fn what_is_written_is_read_by_the_next(rt: HostRuntime) -> Result<(), Fail> {
-    let (Ok(mutex), Ok(task)) = (Mutex::new(rt, 1u64), MockTask::new(&rt)) else {
-        return Ok(());
-    };
-    let mut future = Settled(mutex.lock());
-    let Some(mut guard) = ready(&task, &mut future) else {
-        panic!(rt; "the lock is free");
-    };
-    assert_eq!(rt; *guard, 1);
-    *guard = 2;
-    assert!(rt; !is_free(&mutex));
-    drop(guard);
-    assert_eq!(rt; mutex.try_lock().map(|guard| *guard), Some(2));
-    Ok(())
-}
+struct Writes;
 
-#[test]
-fn what_is_written_is_read_by_the_next_owner(rt: HostRuntime) -> Result<(), Fail> {
-    let (Ok(mutex), Ok(task)) = (Mutex::new(rt, 1u64), MockTask::new(&rt)) else {
-        return Ok(());
-    };
-    let Ok(mutex) = Arc::new(rt.alloc(), mutex) else {
-        return Ok(());
-    };
-    let mut future = Settled(Mutex::lock_arc(&mutex));
-    let Some(mut guard) = ready_arc(&task, &mut future) else {
-        panic!(rt; "the lock is free");
-    };
-    assert_eq!(rt; *guard, 1);
-    *guard = 2;
-    assert!(rt; Mutex::try_lock_arc(&mutex).is_none());
-    drop(guard);
-    let read = Mutex::try_lock_arc(&mutex).map(|guard| *guard);
-    assert_eq!(rt; read, Some(2));
-    Ok(())
-}
-
-#[test]
-fn a_waiting_future_is_woken_takes_the_lock_and_is_over(rt: HostRuntime) -> Result<(), Fail> {
-    let (Ok(mutex), Ok(task)) = (Mutex::new(rt, 1u64), MockTask::new(&rt)) else {
-        return Ok(());
-    };
-    let held = mutex.try_lock();
-    assert!(rt; held.is_some());
-    let mut future = Settled(mutex.lock());
-    assert!(rt; is_pending(&task, &mut future));
-    // Polled again by the same task while it waits: its waker stays, and wakes nobody.
-    assert!(rt; is_pending(&task, &mut future) && !task.is_woken());
-    drop(held);
-    assert!(rt; task.is_woken());
-    let guard = ready(&task, &mut future);
-    assert!(rt; guard.is_some() && !task.is_woken());
-    // It was ready: another poll is refused, and wakes nobody.
-    let (Ok(other), Ok(second)) = (MockTask::new(&rt), MockTask::new(&rt)) else {
-        return Ok(());
-    };
-    let mut next = Settled(mutex.lock());
-    assert!(rt; is_pending(&second, &mut next));
-    assert!(rt; matches!(poll(&other, &mut future), Turn::Refused(Refusal::Finished)));
-    assert!(rt; !other.is_woken() && !task.is_woken() && !second.is_woken());
-    // Dropped, it changes nothing: the lock is held, and the next one waits and is told.
-    drop(future);
-    assert!(rt; !is_free(&mutex) && !second.is_woken());
-    drop(guard);
-    assert!(rt; second.is_woken());
-    assert!(rt; ready(&second, &mut next).is_some());
-    Ok(())
-}
-
-#[test]
-fn a_waiting_owned_future_is_woken_takes_the_lock_and_is_over(rt: HostRuntime) -> Result<(), Fail> {
-    let (Ok(mutex), Ok(task)) = (Mutex::new(rt, 1u64), MockTask::new(&rt)) else {
-        return Ok(());
-    };
-    let Ok(mutex) = Arc::new(rt.alloc(), mutex) else {
-        return Ok(());
-    };
-    let held = Mutex::try_lock_arc(&mutex);
-    assert!(rt; held.is_some());
-    let mut future = Settled(Mutex::lock_arc(&mutex));
-    assert!(rt; is_pending_arc(&task, &mut future));
-    assert!(rt; is_pending_arc(&task, &mut future) && !task.is_woken());
-    drop(held);
-    assert!(rt; task.is_woken());
-    let guard = ready_arc(&task, &mut future);
-    assert!(rt; guard.is_some() && !task.is_woken());
-    let (Ok(other), Ok(second)) = (MockTask::new(&rt), MockTask::new(&rt)) else {
-        return Ok(());
-    };
-    let mut next = Settled(Mutex::lock_arc(&mutex));
-    assert!(rt; is_pending_arc(&second, &mut next));
-    assert!(rt;
-        matches!(
-            poll_arc(&other, &mut future),
-            Turn::Refused(Refusal::Finished)
-        )
-    );
-    assert!(rt; !other.is_woken() && !task.is_woken() && !second.is_woken());
-    drop(future);
-    assert!(rt; Mutex::try_lock_arc(&mutex).is_none() && !second.is_woken());
-    drop(guard);
-    assert!(rt; second.is_woken());
-    assert!(rt; ready_arc(&second, &mut next).is_some());
-    Ok(())
-}
-
-#[test]
-fn a_future_that_moved_to_another_task_wakes_that_one(rt: HostRuntime) -> Result<(), Fail> {
-    let (Ok(first), Ok(second)) = (MockTask::new(&rt), MockTask::new(&rt)) else {
-        return Ok(());
-    };
-    let Ok(mutex) = Mutex::new(rt, 1u64) else {
-        return Ok(());
-    };
-    let held = mutex.try_lock();
-    let mut future = Settled(mutex.lock());
-    assert!(rt; is_pending(&first, &mut future));
-    assert!(rt; is_pending(&second, &mut future) && !second.is_woken());
-    drop(held);
-    assert!(rt; second.is_woken());
-    assert!(rt; ready(&second, &mut future).is_some());
-    Ok(())
-}
-
-#[test]
-fn a_lock_goes_from_hand_to_hand_in_order(rt: HostRuntime) -> Result<(), Fail> {
-    let (Ok(first), Ok(second)) = (MockTask::new(&rt), MockTask::new(&rt)) else {
-        return Ok(());
-    };
-    let Ok(mutex) = Mutex::new(rt, 0u64) else {
-        return Ok(());
-    };
-    let mut held = mutex.try_lock();
-    for round in 0..10u64 {
-        let (mut one, mut two) = (Settled(mutex.lock()), Settled(mutex.lock()));
-        assert!(rt; is_pending(&first, &mut one));
-        assert!(rt; is_pending(&second, &mut two));
-        drop(held);
-        // One is told at a time, the first that came.
-        assert!(rt; first.is_woken() && !second.is_woken());
-        let Some(mut guard) = ready(&first, &mut one) else {
+impl Story for Writes {
+    fn tell<L: NumberForm, R: Abort>(&self, rt: &R, lock: &L, tasks: &Tasks) {
+        let mut future = lock.future();
+        let Some(mut guard) = ready(&tasks.first, &mut future) else {
             panic!(rt; "the lock is free");
         };
-        *guard = guard.saturating_add(1);
+        assert_eq!(rt; L::read(&guard), 1);
+        L::write(&mut guard, 2);
+        assert!(rt; !is_free(lock));
         drop(guard);
-        assert!(rt; second.is_woken());
-        held = ready(&second, &mut two);
-        assert_eq!(rt; held.as_ref().map(|guard| **guard), Some(round + 1));
+        assert_eq!(rt; number_in(lock), Some(2));
     }
-    Ok(())
 }
 
 #[test]
-fn a_guards_source_is_its_mutex(rt: HostRuntime) -> Result<(), Fail> {
-    let Ok(mutex) = Mutex::new(rt, 1u64) else {
-        return Ok(());
-    };
-    if let Some(guard) = mutex.try_lock() {
-        let source = MutexGuard::source(&guard);
-        assert!(rt; !is_free(source));
+fn what_is_written_is_read_by_the_next(rt: HostRuntime) {
+    of_borrowed(rt, 1, &Writes);
+}
+
+#[test]
+fn what_is_written_is_read_by_the_next_owner(rt: HostRuntime) {
+    of_owned(rt, 1, &Writes);
+}
+
+struct WaitsAndIsOver;
+
+impl Story for WaitsAndIsOver {
+    fn tell<L: NumberForm, R: Abort>(&self, rt: &R, lock: &L, tasks: &Tasks) {
+        let held = lock.take();
+        assert!(rt; held.is_some());
+        let mut future = lock.future();
+        assert!(rt; is_pending(&tasks.first, &mut future));
+        // Polled again by the same task while it waits: its waker stays, and wakes nobody.
+        assert!(rt; is_pending(&tasks.first, &mut future) && !tasks.first.is_woken());
+        drop(held);
+        assert!(rt; tasks.first.is_woken());
+        let guard = ready(&tasks.first, &mut future);
+        assert!(rt; guard.is_some() && !tasks.first.is_woken());
+        // It was ready: another poll is refused, and wakes nobody.
+        let mut next = lock.future();
+        assert!(rt; is_pending(&tasks.second, &mut next));
+        assert_eq!(rt; refused(&tasks.third, &mut future), Some(Refusal::Finished));
+        assert!(rt; !tasks.third.is_woken() && !tasks.first.is_woken() && !tasks.second.is_woken());
+        // Dropped, it changes nothing: the lock is held, and the next one waits and is told.
+        drop(future);
+        assert!(rt; !is_free(lock) && !tasks.second.is_woken());
         drop(guard);
-        assert!(rt; is_free(source));
+        assert!(rt; tasks.second.is_woken());
+        assert!(rt; ready(&tasks.second, &mut next).is_some());
     }
-    let Ok(mutex) = Arc::new(rt.alloc(), mutex) else {
-        return Ok(());
-    };
-    let guard = Mutex::try_lock_arc(&mutex);
-    assert!(rt; guard.is_some());
-    if let Some(guard) = &guard {
-        assert!(rt; !is_free(MutexGuardArc::source(guard)));
+}
+
+#[test]
+fn a_waiting_future_is_woken_takes_the_lock_and_is_over(rt: HostRuntime) {
+    of_borrowed(rt, 1, &WaitsAndIsOver);
+}
+
+#[test]
+fn a_waiting_owned_future_is_woken_takes_the_lock_and_is_over(rt: HostRuntime) {
+    of_owned(rt, 1, &WaitsAndIsOver);
+}
+
+struct MovesToAnotherTask;
+
+impl Story for MovesToAnotherTask {
+    fn tell<L: NumberForm, R: Abort>(&self, rt: &R, lock: &L, tasks: &Tasks) {
+        let held = lock.take();
+        let mut future = lock.future();
+        assert!(rt; is_pending(&tasks.first, &mut future));
+        assert!(rt; is_pending(&tasks.second, &mut future) && !tasks.second.is_woken());
+        drop(held);
+        assert!(rt; tasks.second.is_woken());
+        assert!(rt; ready(&tasks.second, &mut future).is_some());
     }
+}
+
+#[test]
+fn a_future_that_moved_to_another_task_wakes_that_one(rt: HostRuntime) {
+    of_borrowed(rt, 1, &MovesToAnotherTask);
+}
+
+struct GoesFromHandToHand;
+
+impl Story for GoesFromHandToHand {
+    fn tell<L: NumberForm, R: Abort>(&self, rt: &R, lock: &L, tasks: &Tasks) {
+        let mut held = lock.take();
+        for round in 0..10u64 {
+            let (mut one, mut two) = (lock.future(), lock.future());
+            assert!(rt; is_pending(&tasks.first, &mut one));
+            assert!(rt; is_pending(&tasks.second, &mut two));
+            drop(held);
+            // One is told at a time, the first that came.
+            assert!(rt; tasks.first.is_woken() && !tasks.second.is_woken());
+            let Some(mut guard) = ready(&tasks.first, &mut one) else {
+                panic!(rt; "the lock is free");
+            };
+            let number = L::read(&guard);
+            L::write(&mut guard, number.saturating_add(1));
+            drop(guard);
+            assert!(rt; tasks.second.is_woken());
+            held = ready(&tasks.second, &mut two);
+            assert_eq!(rt; held.as_ref().map(|guard| L::read(guard)), Some(round + 1));
+        }
+    }
+}
+
+#[test]
+fn a_lock_goes_from_hand_to_hand_in_order(rt: HostRuntime) {
+    of_borrowed(rt, 0, &GoesFromHandToHand);
+}
+
+fn can_be_had<T, R: Wait>(mutex: &Mutex<T, R>) -> bool {
+    mutex.try_lock().is_some()
+}
+
+// Whether a guard's source can be had while the guard is there, and after.
+fn source_can_be_had<T, R: Wait>(guard: MutexGuard<'_, T, R>) -> (bool, bool) {
+    let source = MutexGuard::source(&guard);
+    let before = can_be_had(source);
     drop(guard);
-    assert!(rt; is_free(&mutex));
-    Ok(())
+    (before, can_be_had(source))
+}
+
+// Whether an owned guard's source can be had. The source is there no longer than the guard.
+fn owned_source_can_be_had<T: Drop, R: Wait + Drop>(guard: &MutexGuardArc<T, R>) -> bool {
+    can_be_had(MutexGuardArc::source(guard))
 }
 
 #[test]
-fn an_owned_future_outlives_every_other_owner(rt: HostRuntime) -> Result<(), Fail> {
-    let (Ok(mutex), Ok(task)) = (Mutex::new(rt, 1u64), MockTask::new(&rt)) else {
-        return Ok(());
+fn a_guards_source_is_its_mutex(rt: HostRuntime) {
+    let Ok(mutex) = Mutex::new(rt, 1u64) else {
+        return;
     };
+    let found = mutex.try_lock().map(|guard| source_can_be_had(guard));
+    assert_eq!(rt; found, Some((false, true)));
     let Ok(mutex) = Arc::new(rt.alloc(), mutex) else {
-        return Ok(());
+        return;
     };
-    let held = Mutex::try_lock_arc(&mutex);
-    let mut future = Settled(Mutex::lock_arc(&mutex));
-    let unpolled = Settled(Mutex::lock_arc(&mutex));
-    assert!(rt; is_pending_arc(&task, &mut future));
-    drop(mutex);
+    let found = Mutex::try_lock_arc(&mutex).map(|guard| owned_source_can_be_had(&guard));
+    assert_eq!(rt; found, Some(false));
+    assert!(rt; is_free(&mutex));
+}
+
+fn one_outlives_its_lock<L: NumberForm + Drop, R: Abort>(rt: &R, lock: L, task: &MockTask) {
+    let held = lock.take();
+    let mut future = lock.future();
+    let unpolled = lock.future();
+    assert!(rt; is_pending(task, &mut future));
+    drop(lock);
     drop(held);
-    let guard = ready_arc(&task, &mut future);
-    assert_eq!(rt; guard.as_ref().map(|guard| **guard), Some(1));
+    let guard = ready(task, &mut future);
+    assert_eq!(rt; guard.as_ref().map(|guard| L::read(guard)), Some(1));
     drop(future);
     drop(guard);
     drop(unpolled);
-    Ok(())
+}
+
+#[test]
+fn an_owned_future_outlives_every_other_owner(rt: HostRuntime) {
+    let Some(task) = task(&rt) else {
+        return;
+    };
+    if let Some(mutex) = owned(rt, 1u64) {
+        one_outlives_its_lock(&rt, mutex, &task);
+    }
 }

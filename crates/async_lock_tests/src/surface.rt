@@ -1,26 +1,65 @@
 //! Each public call once, with its texts.
 
-use crate::polls::{is_free, ready};
+use crate::forms::{Form, NumberForm, is_free, number_in};
+use crate::polls::ready;
+use async_lock::lock_futures::{Lock, LockArc};
 use async_lock::{Mutex, Refusal, Settled, Turn};
 use futures::executor::block_on;
 use futures::test::MockTask;
-use std::alloc::AllocGlobal;
+use std::alloc::{AllocGlobal, Global};
+use std::fmt;
 use std::random::RandomSource;
 use std::sync::{Arc, Wait};
 use std::test::Fail;
 use std::time::Clock;
 
+// What a call in the blocking form reads.
+fn read_blocking<R>(mutex: &Mutex<u64, R>) -> Option<u64>
+where
+    R: Wait + Clock + RandomSource + AllocGlobal,
+{
+    mutex.lock_blocking().map(|guard| *guard).ok()
+}
+
+// As [`read_blocking`], of an owned guard.
+fn read_arc_blocking<R>(mutex: &Arc<Mutex<u64, R>>) -> Option<u64>
+where
+    R: Wait + Clock + RandomSource + AllocGlobal + Drop,
+{
+    Mutex::lock_arc_blocking(mutex).map(|guard| *guard).ok()
+}
+
+// What a future reads that a thread waits for.
+fn read_waiting<R>(rt: &R, mutex: &Mutex<u64, R>) -> Option<u64>
+where
+    R: Wait + Clock + RandomSource + AllocGlobal,
+{
+    let got = block_on(rt, Settled(mutex.lock())).ok()?;
+    got.map(|guard| *guard).ok()
+}
+
+// As [`read_waiting`], of an owned future.
+fn read_arc_waiting<R>(rt: &R, mutex: &Arc<Mutex<u64, R>>) -> Option<u64>
+where
+    R: Wait + Clock + RandomSource + AllocGlobal + Drop,
+{
+    let got = block_on(rt, Settled(Mutex::lock_arc(mutex))).ok()?;
+    got.map(|guard| *guard).ok()
+}
+
+// What a future reads that is ready at its first poll.
+fn read_polled<L: NumberForm>(task: &MockTask, lock: &L) -> Option<u64> {
+    ready(task, &mut lock.future()).map(|guard| L::read(&guard))
+}
+
 #[test]
 fn each_borrowed_call_succeeds(rt: HostRuntime) -> Result<(), Fail> {
     let mut mutex = Mutex::new(rt, 1u64)?;
-    assert_eq!(rt; mutex.try_lock().map(|guard| *guard), Some(1));
-    assert_eq!(rt; mutex.lock_blocking().map(|guard| *guard).ok(), Some(1));
-    let got = block_on(&rt, Settled(mutex.lock()))?;
-    assert_eq!(rt; got.map(|guard| *guard).ok(), Some(1));
+    assert_eq!(rt; number_in(&&mutex), Some(1));
+    assert_eq!(rt; read_blocking(&mutex), Some(1));
+    assert_eq!(rt; read_waiting(&rt, &mutex), Some(1));
     let task = MockTask::new(&rt)?;
-    let mut future = Settled(mutex.lock());
-    assert!(rt; ready(&task, &mut future).is_some());
-    drop(future);
+    assert_eq!(rt; read_polled(&task, &&mutex), Some(1));
     *mutex.get_mut() = 2;
     assert_eq!(rt; mutex.into_inner(), 2);
     Ok(())
@@ -50,12 +89,9 @@ fn the_example_gives_what_was_written(rt: HostRuntime) -> Result<(), Fail> {
 #[test]
 fn each_owned_call_succeeds(rt: HostRuntime) -> Result<(), Fail> {
     let mutex = Arc::new(rt.alloc(), Mutex::new(rt, 1u64)?)?;
-    let tried = Mutex::try_lock_arc(&mutex).map(|guard| *guard);
-    assert_eq!(rt; tried, Some(1));
-    let blocked = Mutex::lock_arc_blocking(&mutex).map(|guard| *guard).ok();
-    assert_eq!(rt; blocked, Some(1));
-    let got = block_on(&rt, Settled(Mutex::lock_arc(&mutex)))?;
-    assert_eq!(rt; got.map(|guard| *guard).ok(), Some(1));
+    assert_eq!(rt; number_in(&mutex), Some(1));
+    assert_eq!(rt; read_arc_blocking(&mutex), Some(1));
+    assert_eq!(rt; read_arc_waiting(&rt, &mutex), Some(1));
     Ok(())
 }
 
@@ -72,17 +108,21 @@ fn a_mutex_is_shown_with_its_value_or_as_locked(rt: HostRuntime) -> Result<(), F
     Ok(())
 }
 
+// The texts of a guard.
+fn shown<L: Form>(alloc: Global, lock: &L) -> Option<String>
+where
+    L::Guard: fmt::Debug + fmt::Display,
+{
+    let guard = lock.take()?;
+    format!(in alloc; "{guard:?} {guard}").ok()
+}
+
 #[test]
 fn guards_are_shown_as_their_values(rt: HostRuntime) -> Result<(), Fail> {
     let mutex = Arc::new(rt.alloc(), Mutex::new(rt, "a b")?)?;
-    if let Some(guard) = mutex.try_lock() {
-        let text = format!(in rt.alloc(); "{guard:?} {guard}")?;
-        assert_eq!(rt; text.as_str(), "\"a b\" a b");
-    }
-    if let Some(guard) = Mutex::try_lock_arc(&mutex) {
-        let text = format!(in rt.alloc(); "{guard:?} {guard}")?;
-        assert_eq!(rt; text.as_str(), "\"a b\" a b");
-    }
+    let (borrowed, owned) = (shown(rt.alloc(), &&*mutex), shown(rt.alloc(), &mutex));
+    assert_eq!(rt; borrowed.as_deref(), Some("\"a b\" a b"));
+    assert_eq!(rt; owned.as_deref(), Some("\"a b\" a b"));
     assert!(rt; is_free(&mutex));
     Ok(())
 }
@@ -99,18 +139,38 @@ fn futures_are_shown_by_their_names(rt: HostRuntime) -> Result<(), Fail> {
     Ok(())
 }
 
+// A turn without its guard, which is dropped.
+fn without_guard<G: Drop>(turn: Turn<G>) -> Turn<()> {
+    match turn {
+        Turn::Pending => Turn::Pending,
+        Turn::Ready(_) => Turn::Ready(()),
+        Turn::Refused(refusal) => Turn::Refused(refusal),
+    }
+}
+
+fn turn<R: Wait + Clock>(task: &MockTask, future: &mut Lock<'_, u64, R>) -> Turn<()> {
+    task.enter(|cx| without_guard(future.poll(cx)))
+}
+
+fn turn_arc<R: Wait + Clock + Drop>(task: &MockTask, future: &mut LockArc<u64, R>) -> Turn<()> {
+    task.enter(|cx| without_guard(future.poll(cx)))
+}
+
 #[test]
 fn a_poll_by_a_context_answers_a_turn(rt: HostRuntime) -> Result<(), Fail> {
     let mutex = Arc::new(rt.alloc(), Mutex::new(rt, 7u64)?)?;
     let task = MockTask::new(&rt)?;
     let held = mutex.try_lock();
     let mut future = mutex.lock();
-    assert!(rt; task.enter(|cx| matches!(future.poll(cx), Turn::Pending)));
+    assert_eq!(rt; turn(&task, &mut future), Turn::Pending);
     drop(held);
-    assert!(rt; task.enter(|cx| matches!(future.poll(cx), Turn::Ready(_))));
-    assert!(rt; task.enter(|cx| matches!(future.poll(cx), Turn::Refused(Refusal::Finished))));
+    assert_eq!(rt; turn(&task, &mut future), Turn::Ready(()));
+    assert_eq!(rt; turn(&task, &mut future), Turn::Refused(Refusal::Finished));
     let mut owned = Mutex::lock_arc(&mutex);
-    assert!(rt; task.enter(|cx| matches!(owned.poll(cx), Turn::Ready(_))));
-    assert!(rt; task.enter(|cx| matches!(owned.poll(cx), Turn::Refused(Refusal::Finished))));
+    assert_eq!(rt; turn_arc(&task, &mut owned), Turn::Ready(()));
+    assert_eq!(rt;
+        turn_arc(&task, &mut owned),
+        Turn::Refused(Refusal::Finished)
+    );
     Ok(())
 }

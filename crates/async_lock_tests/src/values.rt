@@ -1,10 +1,11 @@
 //! The value: reached past forgotten guards, and dropped exactly once on every way out.
 
-use crate::polls::{is_free, is_pending, is_pending_arc, ready, ready_arc};
-use async_lock::{Mutex, Settled};
+use crate::forms::{Form, is_free, number_in, owned};
+use crate::polls::{is_pending, ready, task};
+use async_lock::Mutex;
 use futures::test::MockTask;
 use std::mem;
-use std::sync::Arc;
+use std::process::Abort;
 use std::sync::atomic::{AtomicU64, Ordering};
 use std::test::Fail;
 
@@ -34,9 +35,9 @@ fn the_value_is_reached_past_a_forgotten_guard(rt: HostRuntime) -> Result<(), Fa
     mem::forget(guard);
     assert_eq!(rt; *mutex.get_mut(), 30);
     // It stays held.
-    assert!(rt; !is_free(&mutex));
+    assert!(rt; !is_free(&&mutex));
     *mutex.get_mut() = 40;
-    assert!(rt; !is_free(&mutex));
+    assert!(rt; !is_free(&&mutex));
     assert_eq!(rt; mutex.into_inner(), 40);
     Ok(())
 }
@@ -51,22 +52,27 @@ fn the_value_is_taken_out_past_a_forgotten_guard(rt: HostRuntime) -> Result<(), 
     Ok(())
 }
 
+// A future waits for the lock, and is forgotten. The lock is free again.
+fn forget_a_waiter<L: Form, R: Abort>(rt: &R, lock: &L, task: &MockTask) {
+    let held = lock.take();
+    let mut future = lock.future();
+    assert!(rt; is_pending(task, &mut future));
+    mem::forget(future);
+    drop(held);
+}
+
 #[test]
-fn the_value_is_lent_past_a_forgotten_waiter(rt: HostRuntime) -> Result<(), Fail> {
-    let (Ok(mut mutex), Ok(task)) = (Mutex::new(rt, 10u64), MockTask::new(&rt)) else {
-        return Ok(());
+fn the_value_is_lent_past_a_forgotten_waiter(rt: HostRuntime) {
+    let Some(task) = task(&rt) else {
+        return;
     };
-    {
-        let held = mutex.try_lock();
-        let mut future = Settled(mutex.lock());
-        assert!(rt; is_pending(&task, &mut future));
-        mem::forget(future);
-        drop(held);
-    }
+    let Ok(mut mutex) = Mutex::new(rt, 10u64) else {
+        return;
+    };
+    forget_a_waiter(&rt, &&mutex, &task);
     *mutex.get_mut() = 11;
-    assert_eq!(rt; mutex.try_lock().map(|guard| *guard), Some(11));
+    assert_eq!(rt; number_in(&&mutex), Some(11));
     assert_eq!(rt; mutex.into_inner(), 11);
-    Ok(())
 }
 
 #[test]
@@ -87,34 +93,36 @@ fn the_value_is_dropped_once_with_its_mutex(rt: HostRuntime) -> Result<(), Fail>
     Ok(())
 }
 
+fn dropped_with_the_last_guard<L: Form + Drop, R: Abort>(
+    rt: &R,
+    lock: L,
+    task: &MockTask,
+    drops: &AtomicU64,
+) {
+    let held = lock.take();
+    let mut future = lock.future();
+    drop(lock);
+    assert!(rt; is_pending(task, &mut future));
+    drop(held);
+    let guard = ready(task, &mut future);
+    assert!(rt; guard.is_some());
+    drop(future);
+    assert_eq!(rt; drops.load(Ordering::SeqCst), 0);
+    drop(guard);
+    assert_eq!(rt; drops.load(Ordering::SeqCst), 1);
+}
+
 #[test]
-fn the_value_is_dropped_once_with_the_last_owner(rt: HostRuntime) -> Result<(), Fail> {
+fn the_value_is_dropped_once_with_the_last_owner(rt: HostRuntime) {
     let drops = AtomicU64::new(0);
-    let Ok(task) = MockTask::new(&rt) else {
-        return Ok(());
+    let Some(task) = task(&rt) else {
+        return;
     };
-    {
-        let Ok(mutex) = Mutex::new(rt, Counted { drops: &drops }) else {
-            return Ok(());
-        };
-        let Ok(mutex) = Arc::new(rt.alloc(), mutex) else {
-            assert_eq!(rt; drops.load(Ordering::SeqCst), 1);
-            return Ok(());
-        };
-        let held = Mutex::try_lock_arc(&mutex);
-        let mut future = Settled(Mutex::lock_arc(&mutex));
-        drop(mutex);
-        assert!(rt; is_pending_arc(&task, &mut future));
-        drop(held);
-        let guard = ready_arc(&task, &mut future);
-        assert!(rt; guard.is_some());
-        drop(future);
-        assert_eq!(rt; drops.load(Ordering::SeqCst), 0);
-        drop(guard);
-        assert_eq!(rt; drops.load(Ordering::SeqCst), 1);
+    // Where memory is refused, the value is dropped too.
+    if let Some(mutex) = owned(rt, Counted { drops: &drops }) {
+        dropped_with_the_last_guard(&rt, mutex, &task, &drops);
     }
     assert_eq!(rt; drops.load(Ordering::SeqCst), 1);
-    Ok(())
 }
 
 #[test]
@@ -135,25 +143,25 @@ fn the_value_is_dropped_once_after_it_was_taken_out(rt: HostRuntime) -> Result<(
     Ok(())
 }
 
+fn one_is_cancelled<L: Form, R: Abort>(rt: &R, lock: &L, task: &MockTask, drops: &AtomicU64) {
+    let held = lock.take();
+    let mut future = lock.future();
+    assert!(rt; is_pending(task, &mut future));
+    drop(future);
+    drop(held);
+    let mut future = lock.future();
+    assert!(rt; ready(task, &mut future).is_some());
+    assert_eq!(rt; drops.load(Ordering::SeqCst), 0);
+}
+
 #[test]
-fn the_value_is_dropped_once_by_a_cancelled_future(rt: HostRuntime) -> Result<(), Fail> {
+fn the_value_is_dropped_once_by_a_cancelled_future(rt: HostRuntime) {
     let drops = AtomicU64::new(0);
-    let Ok(task) = MockTask::new(&rt) else {
-        return Ok(());
+    let Some(task) = task(&rt) else {
+        return;
     };
-    {
-        let Ok(mutex) = Mutex::new(rt, Counted { drops: &drops }) else {
-            return Ok(());
-        };
-        let held = mutex.try_lock();
-        let mut future = Settled(mutex.lock());
-        assert!(rt; is_pending(&task, &mut future));
-        drop(future);
-        drop(held);
-        let mut future = Settled(mutex.lock());
-        assert!(rt; ready(&task, &mut future).is_some());
-        assert_eq!(rt; drops.load(Ordering::SeqCst), 0);
+    if let Ok(mutex) = Mutex::new(rt, Counted { drops: &drops }) {
+        one_is_cancelled(&rt, &&mutex, &task, &drops);
     }
     assert_eq!(rt; drops.load(Ordering::SeqCst), 1);
-    Ok(())
 }
