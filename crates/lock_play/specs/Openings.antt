@@ -1,5 +1,5 @@
 -- The World that a line makes, and when it makes none.
-use Rattle.std.specs.Prelude.{◌≡◌, ◌⊎◌, ℕ, ◌<◌, ◌^◌, ◌-◌, min, Option, Some, None, unwrap_or}
+use Rattle.std.specs.Prelude.{ℕ, ◌<◌, ◌^◌, ◌-◌, min, Option, Some, None, unwrap_or}
 use Rattle.mutex_world.specs.declared.world.TheConstants.{MOST_STARVED}
 use Rattle.rwlock_world.specs.declared.world.TheConstants.{MOST_STARVED_FOR_THE_TURN, MOST_READERS}
 use Rattle.mutex_world.specs.State as mutex

@@ -1,5 +1,5 @@
 -- A release takes a second step, which leaves some entry of the list marked, unless the list is empty.
-use Rattle.std.proofs.Common.{◌≡◌, ℕ, ◌<◌, Bool, true, length, IsSomeAnd, refl, ap, sym, ◌∙◌, subst}
+use Rattle.std.proofs.Common.{◌≡◌, ℕ, ◌<◌, Bool, true, length, IsSomeAnd, refl, ap, sym, ◌∙◌}
 use Rattle.lock_event.specs.Lists.{marked_count}
 use Rattle.mutex_machine.specs.declared.mutex.Step.{Step}
 use Rattle.mutex_machine.specs.declared.mutex.Step.TheVariants as step

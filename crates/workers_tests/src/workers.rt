@@ -5,11 +5,46 @@ use lock_core::mutex::World;
 use lock_core::{Answer, Got, Move, What};
 use lock_workers::{Gate, Stopped, audited, public};
 use std::process::Abort;
+use std::random::RandomSource;
 use std::sync::Wait;
 use std::sync::atomic::{AtomicU64, Ordering};
 use std::test::Fail;
 use std::thread;
 use std::thread::Threads;
+use std::time::Clock;
+
+/// A gate that can be stood at once more, as if nobody had come.
+trait Forgets: Gate {
+    fn forget(&self);
+}
+
+/// The closed book of so many workers that pass this gate; made once more where memory was refused. Then no
+/// worker was left waiting for one that had stopped.
+fn counted<R: Threads + Wait + Sync + AllocGlobal, G: Forgets + Sync>(
+    rt: &R,
+    workers: u32,
+    gate: &G,
+) -> Result<Book<World>, Stopped> {
+    let mut ended = audited(rt, rt.alloc(), workers, gate);
+    if matches!(ended, Err(Stopped::Memory)) {
+        gate.forget();
+        ended = audited(rt, rt.alloc(), workers, gate);
+    }
+    ended
+}
+
+/// What so many workers that pass this gate add up to under one public mutex; once more where memory was refused.
+fn added_up<G: Forgets + Sync, R>(rt: &R, workers: u32, gate: &G) -> Result<u64, Stopped>
+where
+    R: Threads + Wait + Clock + RandomSource + AllocGlobal + Sync + Copy + Drop,
+{
+    let mut ended = public(rt, rt.alloc(), workers, gate);
+    if matches!(ended, Err(Stopped::Memory)) {
+        gate.forget();
+        ended = public(rt, rt.alloc(), workers, gate);
+    }
+    ended
+}
 
 /// Counts who passes: each worker by its number, and all together.
 #[derive(Drop)]
@@ -25,11 +60,6 @@ impl Counting {
             numbers: AtomicU64::new(0),
         }
     }
-
-    fn forget(&self) {
-        self.passed.store(0, Ordering::SeqCst);
-        self.numbers.store(0, Ordering::SeqCst);
-    }
 }
 
 impl Gate for Counting {
@@ -39,19 +69,11 @@ impl Gate for Counting {
     }
 }
 
-/// The closed book of so many workers that pass this gate; made once more where memory was refused. Then no
-/// worker was left waiting for one that had stopped.
-fn counted<R: Threads + Wait + Sync + AllocGlobal>(
-    rt: &R,
-    workers: u32,
-    gate: &Counting,
-) -> Result<Book<World>, Stopped> {
-    let mut ended = audited(rt, rt.alloc(), workers, gate);
-    if matches!(ended, Err(Stopped::Memory)) {
-        gate.forget();
-        ended = audited(rt, rt.alloc(), workers, gate);
+impl Forgets for Counting {
+    fn forget(&self) {
+        self.passed.store(0, Ordering::SeqCst);
+        self.numbers.store(0, Ordering::SeqCst);
     }
-    ended
 }
 
 /// Holds worker 0 until worker 1 comes, for so many looks at most, and notes whether it came.
@@ -67,6 +89,13 @@ impl Meeting {
             came: AtomicU64::new(0),
             met: AtomicU64::new(0),
         }
+    }
+}
+
+impl Forgets for Meeting {
+    fn forget(&self) {
+        self.came.store(0, Ordering::SeqCst);
+        self.met.store(0, Ordering::SeqCst);
     }
 }
 
@@ -170,7 +199,7 @@ fn a_hundred_workers_count_to_a_hundred(rt: HostRuntime) -> Result<(), Fail> {
 #[test]
 fn workers_stand_beside_one_another(rt: HostRuntime) -> Result<(), Fail> {
     let gate = Meeting::new();
-    let value = audited(&rt, rt.alloc(), 2, &gate)?.world().value();
+    let value = counted(&rt, 2, &gate)?.world().value();
     assert_eq!(rt; gate.met.load(Ordering::SeqCst), 1);
     assert_eq!(rt; value, 2);
     Ok(())
@@ -198,7 +227,7 @@ fn one_worker_and_none(rt: HostRuntime) -> Result<(), Fail> {
 #[test]
 fn a_hundred_workers_add_up_under_one_mutex(rt: HostRuntime) -> Result<(), Fail> {
     let gate = Counting::new();
-    assert_eq!(rt; public(&rt, rt.alloc(), 100, &gate)?, 100);
+    assert_eq!(rt; added_up(&rt, 100, &gate)?, 100);
     assert_eq!(rt; gate.passed.load(Ordering::SeqCst), 100);
     assert_eq!(rt; gate.numbers.load(Ordering::SeqCst), 4950);
     Ok(())
@@ -207,7 +236,7 @@ fn a_hundred_workers_add_up_under_one_mutex(rt: HostRuntime) -> Result<(), Fail>
 #[test]
 fn workers_under_one_mutex_stand_beside_one_another(rt: HostRuntime) -> Result<(), Fail> {
     let gate = Meeting::new();
-    assert_eq!(rt; public(&rt, rt.alloc(), 2, &gate)?, 2);
+    assert_eq!(rt; added_up(&rt, 2, &gate)?, 2);
     assert_eq!(rt; gate.met.load(Ordering::SeqCst), 1);
     Ok(())
 }

@@ -1,4 +1,4 @@
-use Rattle.std.proofs.Common.{◌≡◌, arith, sym, ◌∙◌, ap, refl, true, false, Some}
+use Rattle.std.proofs.Common.{◌≡◌, arith, sym, ◌∙◌, ap, refl}
 use Rattle.lock_event.specs.Lists.{IsAt, without, with_key, is_marked, is_marked_at}
 use Rattle.lock_event.specs.Slots.{has_id, slot_of}
 use Rattle.lock_event.proofs.Marks.{IsMarkedFirst-without, IsMarkedFirst-with_key}
