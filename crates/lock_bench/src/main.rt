@@ -35,47 +35,29 @@ fn print_tenths<R: Print>(rt: &R, name: &str, tenths: u64) -> io::Result<()> {
     println!(rt; "{name}: {}.{} ns", tenths / 10, tenths % 10)
 }
 
-/// The rows, or none where memory is refused.
-fn print_all<R>(rt: R) -> io::Result<()>
+/// What one thread does to a lock that nobody else wants.
+fn print_pairs<R>(rt: &R, owned: &Arc<Mutex<u64, R>>, task: &MockTask) -> io::Result<()>
 where
-    R: Threads + Wait + Clock + Print + AllocGlobal + RandomSource + Sync + Copy + Drop,
+    R: Wait + Clock + Print + AllocGlobal + RandomSource + Drop,
+{
+    let mutex = &**owned;
+    print(rt, "try_lock and drop", &TryPair { mutex }, OFTEN)?;
+    print(rt, "try_lock, held", &HeldTry { mutex }, OFTEN)?;
+    let owners = TryArcPair { mutex: owned };
+    print(rt, "try_lock_arc and drop", &owners, OFTEN)?;
+    print(rt, "lock ready and drop", &LockPair { mutex, task }, OFTEN)?;
+    let blocking = BlockingPair { mutex };
+    print(rt, "lock_blocking and drop", &blocking, OFTEN)?;
+    let pending = PendingPoll { mutex, task };
+    print(rt, "poll to pending and drop", &pending, SELDOM)
+}
+
+/// A lock that goes from one future to the next.
+fn print_hand_overs<R>(rt: &R, mutex: &Mutex<u64, R>, task: &MockTask) -> io::Result<()>
+where
+    R: Wait + Clock + Print + AllocGlobal + RandomSource + Drop,
 {
     let alloc = rt.alloc();
-    let std_mutex = std::sync::Mutex::new(0_u64);
-    let Ok(mutex) = Mutex::new(rt, 0_u64) else {
-        return Ok(());
-    };
-    let Ok(owned) = Arc::new(alloc, mutex) else {
-        return Ok(());
-    };
-    let mutex = &*owned;
-    let task = &MockTask::new(&rt)?;
-    let std_pair = StdPair {
-        rt: &rt,
-        mutex: &std_mutex,
-    };
-    print(&rt, "std lock and unlock", &std_pair, OFTEN)?;
-    print(&rt, "try_lock and drop", &TryPair { mutex }, OFTEN)?;
-    print(&rt, "try_lock, held", &HeldTry { mutex }, OFTEN)?;
-    print(
-        &rt,
-        "try_lock_arc and drop",
-        &TryArcPair { mutex: &owned },
-        OFTEN,
-    )?;
-    print(&rt, "lock ready and drop", &LockPair { mutex, task }, OFTEN)?;
-    print(
-        &rt,
-        "lock_blocking and drop",
-        &BlockingPair { mutex },
-        OFTEN,
-    )?;
-    print(
-        &rt,
-        "poll to pending and drop",
-        &PendingPoll { mutex, task },
-        SELDOM,
-    )?;
     for waiting in [1, 10, 1000] {
         let row = HandOver {
             mutex,
@@ -84,14 +66,52 @@ where
             waiting,
         };
         println!(rt; "{waiting} waiting:")?;
-        print(&rt, "hand-over", &row, SELDOM)?;
-    }
-    for workers in [1, 4, 16] {
-        println!(rt; "{workers} threads:")?;
-        let tenths = median_of_threads(&rt, alloc, workers, RARELY)?;
-        print_tenths(&rt, "started, each adds one, joined", tenths)?;
+        print(rt, "hand-over", &row, SELDOM)?;
     }
     Ok(())
+}
+
+fn print_threads<R>(rt: &R) -> io::Result<()>
+where
+    R: Threads + Wait + Clock + Print + AllocGlobal + RandomSource + Sync + Copy + Drop,
+{
+    for workers in [1, 4, 16] {
+        println!(rt; "{workers} threads:")?;
+        let tenths = median_of_threads(rt, rt.alloc(), workers, RARELY)?;
+        print_tenths(rt, "started, each adds one, joined", tenths)?;
+    }
+    Ok(())
+}
+
+/// The rows of one mutex.
+fn print_rows<R>(rt: &R, owned: &Arc<Mutex<u64, R>>) -> io::Result<()>
+where
+    R: Wait + Clock + Print + AllocGlobal + RandomSource + Drop,
+{
+    let task = &MockTask::new(rt)?;
+    print_pairs(rt, owned, task)?;
+    print_hand_overs(rt, owned, task)
+}
+
+/// All rows, or none where memory is refused.
+fn print_all<R>(rt: R) -> io::Result<()>
+where
+    R: Threads + Wait + Clock + Print + AllocGlobal + RandomSource + Sync + Copy + Drop,
+{
+    let Ok(mutex) = Mutex::new(rt, 0_u64) else {
+        return Ok(());
+    };
+    let Ok(owned) = Arc::new(rt.alloc(), mutex) else {
+        return Ok(());
+    };
+    let std_mutex = &std::sync::Mutex::new(0_u64);
+    let std_pair = StdPair {
+        rt: &rt,
+        mutex: std_mutex,
+    };
+    print(&rt, "std lock and unlock", &std_pair, OFTEN)?;
+    print_rows(&rt, &owned)?;
+    print_threads(&rt)
 }
 
 /// Whether the arguments are the one word `run`.
