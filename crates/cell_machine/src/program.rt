@@ -7,6 +7,7 @@
 
 ghost use Rattle.std.specs.Prelude.{◌≡◌};
 ghost use Rattle.cell_machine.specs.Program.{next_of, action_of, start_of, got_of, after_claim as after_claim_lem, after_make as after_make_lem, after_look as after_look_lem};
+ghost use Rattle.cell_machine.specs.declared.program.Place.TheVariants as places;
 
 use lock_table::End;
 use lock_world::{Call, Got, Refusal};
@@ -286,10 +287,7 @@ pub fn decide(place: Place, found: Found) -> Next
         },
         Place::LeavePassive(value) => Next::Ready(Got::Value(value)),
         Place::RefuseActive(_) | Place::RefusePassive => Next::End(End::Refused(Refusal::Memory)),
-        Place::Try(value) => match found {
-            Found::Empty => Next::Do(Place::TryFill(value)),
-            _ => Next::End(End::NotFree),
-        },
+        Place::Try(value) => after_try(value, found),
         Place::TryFill(value) => Next::Do(Place::TryNotifyActive(value)),
         Place::TryNotifyActive(value) => Next::Do(Place::TryNotifyPassive(value)),
         Place::TryNotifyPassive(_) => Next::End(End::Granted),
@@ -306,6 +304,16 @@ fn after_claim(maker: Maker, told: bool, found: Found) -> Next
         Found::Empty => Next::Do(Place::Make(maker)),
         Found::Full(value) => Next::Ready(got_at(maker, value)),
         _ => Next::Do(Place::JoinActive { maker, told }),
+    }
+}
+
+/// After a try's look.
+fn after_try(value: u64, found: Found) -> Next
+    ensures { result ≡ next_of (places.Try value) found }
+{
+    match found {
+        Found::Empty => Next::Do(Place::TryFill(value)),
+        _ => Next::End(End::NotFree),
     }
 }
 
