@@ -7,6 +7,8 @@
 
 ghost use Rattle.std.specs.Prelude.{◌≡◌};
 ghost use Rattle.semaphore_machine.specs.Program.{next_of, action_of, start_of, after_take as after_take_lem};
+ghost use Rattle.semaphore_machine.specs.declared.program.Place.TheVariants as places;
+ghost use Rattle.semaphore_machine.specs.declared.program.Found.TheVariants as founds;
 
 use lock_table::End;
 use lock_world::{Call, Refusal};
@@ -167,8 +169,7 @@ pub fn decide(place: Place, found: Found) -> Next
         },
         Place::Join { told } => match found {
             Found::Done => Next::Do(Place::Take { listed: true, told }),
-            _ if told => Next::Do(Place::RefuseNotify),
-            _ => Next::End(End::Refused(Refusal::Memory)),
+            _ => without_memory(told),
         },
         Place::Ask => match found {
             Found::Yes => Next::Do(Place::Take {
@@ -206,5 +207,16 @@ fn after_take(listed: bool, told: bool, found: Found) -> Next
         Found::Taken { .. } => Next::End(End::Got),
         _ if listed => Next::Do(Place::Ask),
         _ => Next::Do(Place::Join { told }),
+    }
+}
+
+/// After a join that had no memory.
+fn without_memory(told: bool) -> Next
+    ensures { result ≡ next_of (places.Join told) founds.NoMemory }
+{
+    if told {
+        Next::Do(Place::RefuseNotify)
+    } else {
+        Next::End(End::Refused(Refusal::Memory))
     }
 }
