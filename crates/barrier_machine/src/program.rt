@@ -8,6 +8,7 @@
 
 ghost use Rattle.std.specs.Prelude.{◌≡◌};
 ghost use Rattle.barrier_machine.specs.Program.{next_of, action_of, start_of, after_lock as after_lock_lem, after_cancel as after_cancel_lem, after_release as after_release_lem, released as released_lem};
+ghost use Rattle.barrier_machine.specs.declared.program.Place.TheVariants as places;
 
 use lock_table::End;
 use lock_world::{Call, Got, Refusal};
@@ -202,11 +203,7 @@ pub fn decide(place: Place, found: Found) -> Next
         Place::EnterLock(aim) | Place::WaitLock(aim) | Place::TakeLock(aim) => {
             after_lock(aim, found)
         }
-        Place::Look => match found {
-            Found::MustWait => Next::Do(Place::Join),
-            Found::Leads => Next::Do(Place::Complete),
-            _ => Next::Do(Place::ReleaseLock(Ending::RefuseGenerations)),
-        },
+        Place::Look => after_look(found),
         Place::Join => match found {
             Found::Done => Next::Do(Place::Arrive),
             _ => Next::Do(Place::ReleaseLock(Ending::RefuseMemory(Aim::Arrive))),
@@ -246,6 +243,17 @@ fn after_lock(aim: Aim, found: Found) -> Next
             Next::End(End::Refused(refusal), Position::Made(aim))
         }
         _ => Next::End(End::Pending, Position::Locking(aim)),
+    }
+}
+
+/// After an arrival's look, with the inner lock.
+fn after_look(found: Found) -> Next
+    ensures { result ≡ next_of places.Look found }
+{
+    match found {
+        Found::MustWait => Next::Do(Place::Join),
+        Found::Leads => Next::Do(Place::Complete),
+        _ => Next::Do(Place::ReleaseLock(Ending::RefuseGenerations)),
     }
 }
 
