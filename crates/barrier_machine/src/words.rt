@@ -15,7 +15,7 @@ pub struct Progress {
 
 /// How many parties a barrier waits for, how many generations it may finish, and how far it is. Only whoever
 /// holds the inner lock touches them.
-#[derive(Clone, Copy, Debug, PartialEq, Eq)]
+#[derive(Clone, Copy)]
 pub struct Words {
     pub size: u64,
     pub most: u64,

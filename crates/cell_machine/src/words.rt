@@ -19,7 +19,7 @@ pub enum Content {
 }
 
 /// How far a cell is.
-#[derive(Clone, Copy, Debug, PartialEq, Eq)]
+#[derive(Clone, Copy)]
 pub enum State {
     /// Nobody has begun to make its value.
     Empty,
