@@ -1,6 +1,6 @@
 -- The words of a call.
-use Rattle.std.proofs.Common.{◌≡◌, ℕ, List, ◌∷◌, sym, subst, ◌∙◌}
-use Rattle.std.specs.Prelude.{Option, Some, codes}
+use Rattle.std.proofs.Common.{◌≡◌, ℕ, List, ◌∷◌, sym, subst, ◌∙◌, ap}
+use Rattle.std.specs.Prelude.{if◌then◌else◌, Option, None, Some, bytes_eq, codes}
 use Rattle.lock_world.specs.declared.moves.Call.{Call}
 use Rattle.lock_world.specs.declared.moves.Call.TheVariants as call
 use Rattle.lock_script.specs.Commands.{BeginsWithCall, IsWordOf}
@@ -50,3 +50,57 @@ asked_call words after others word r e n m k l named call.Initialize h = plain w
 asked_call words after others word r e n m k l named call.Wait h = plain words after others word r _ e named h
 asked_call words after others word r e n m k l named call.Poll h = plain words after others word r _ e named h
 asked_call words after others word r e n m k l named call.Drop h = plain words after others word r _ e named h
+
+-- the call that a word names, if it takes no number
+named_call : List ℕ → Option Call
+named_call word =
+    if bytes_eq word (codes "lock") then Some call.Lock else
+    if bytes_eq word (codes "trylock") then Some call.TryLock else
+    if bytes_eq word (codes "read") then Some call.Read else
+    if bytes_eq word (codes "upread") then Some call.UpgradableRead else
+    if bytes_eq word (codes "write") then Some call.Write else
+    if bytes_eq word (codes "tryread") then Some call.TryRead else
+    if bytes_eq word (codes "tryupread") then Some call.TryUpgradableRead else
+    if bytes_eq word (codes "trywrite") then Some call.TryWrite else
+    if bytes_eq word (codes "upgrade") then Some call.Upgrade else
+    if bytes_eq word (codes "tryupgrade") then Some call.TryUpgrade else
+    if bytes_eq word (codes "downgrade") then Some call.Downgrade else
+    if bytes_eq word (codes "toupgradable") then Some call.DowngradeToUpgradable else
+    if bytes_eq word (codes "acquire") then Some call.Acquire else
+    if bytes_eq word (codes "tryacquire") then Some call.TryAcquire else
+    if bytes_eq word (codes "forget") then Some call.Forget else
+    if bytes_eq word (codes "init") then Some call.Initialize else
+    if bytes_eq word (codes "wait") then Some call.Wait else
+    if bytes_eq word (codes "poll") then Some call.Poll else
+    if bytes_eq word (codes "drop") then Some call.Drop else
+    None
+
+named : (word : List ℕ) (c : Call) → IsWordOf word c → named_call word ≡ Some c
+unfolding named_call
+named word call.Lock h = ap named_call h
+named word call.TryLock h = ap named_call h
+named word call.Read h = ap named_call h
+named word call.UpgradableRead h = ap named_call h
+named word call.Write h = ap named_call h
+named word call.TryRead h = ap named_call h
+named word call.TryUpgradableRead h = ap named_call h
+named word call.TryWrite h = ap named_call h
+named word call.Upgrade h = ap named_call h
+named word call.TryUpgrade h = ap named_call h
+named word call.Downgrade h = ap named_call h
+named word call.DowngradeToUpgradable h = ap named_call h
+named word call.Acquire h = ap named_call h
+named word call.TryAcquire h = ap named_call h
+named word call.Forget h = ap named_call h
+named word call.Initialize h = ap named_call h
+named word call.Wait h = ap named_call h
+named word call.Poll h = ap named_call h
+named word call.Drop h = ap named_call h
+named word (call.Put n) h = absurd h
+named word (call.AddPermits n) h = absurd h
+named word (call.Set n) h = absurd h
+named word (call.TrySet n) h = absurd h
+
+-- a word names one call at most
+pub same_call : (word : List ℕ) (c : Call) → IsWordOf word c → (d : Call) → IsWordOf word d → Some c ≡ Some d
+same_call word c h d k = sym (named word c h) ∙ named word d k
