@@ -12,6 +12,9 @@ returns-in-Ok-clause-usage g c = λ none. absurd (none Script (asks_of _ c.parse
 pub returns-in-Ok-clause-threads : goal.returns-in-Ok-clause-threads
 returns-in-Ok-clause-threads g c = λ count asks. absurd (not_both _ count (asks_of _ c.parse.result Script (c.in-Some-Script.is ∙ ap Some c.in-Some-Script.field-0-is) c.parse.ensures.asks) asks)
 
+pub returns-in-Ok-clause-quiet : goal.returns-in-Ok-clause-quiet
+returns-in-Ok-clause-quiet g c = λ zero. Keeps-same (g.E.Write.contents c.args.errors.now)
+
 pub returns-in-Err-clause-usage : goal.returns-in-Err-clause-usage
 returns-in-Err-clause-usage g c = λ none. absurd (none Script (asks_of _ c.parse.result Script (c.in-Some-Script.is ∙ ap Some c.in-Some-Script.field-0-is) c.parse.ensures.asks))
 

@@ -1,6 +1,27 @@
-use Rattle.std.proofs.Common.{arith, rules}
-use Rattle.lock_runner.proofs.Faults.{whole_fault}
+use Rattle.std.proofs.Common.{ℕ, ◌<◌, List, length, ap, arith, length-append, rules}
+use Rattle.std.specs.Prelude.{Option, Some, None, IfSome}
+use Rattle.std.specs.Io.KnownBytes.{Keeps}
+use Rattle.lock_runner.specs.declared.program.TheConstants.{LIMIT}
+use Rattle.lock_runner.specs.Scripts.{IsStartOfScript}
+use Rattle.lock_runner.proofs.Faults.{whole_fault, Keeps-same}
 use Rattle.lock_runner.proofs.program.script.Goals as goal
+
+-- nothing was answered of a text that is too long
+nothing_answered : {P : Type 0} (input now : Option (List ℕ)) → P → IfSome input (λ text. LIMIT < length text → P × Keeps now now)
+nothing_answered None now p = tt
+nothing_answered (Some text) now p = λ long. (p, Keeps-same now)
+
+pub returns-then-len-gt-LIMIT-clause-long : goal.returns-then-len-gt-LIMIT-clause-long
+returns-then-len-gt-LIMIT-clause-long g c = nothing_answered (g.I.Read.remaining c.args.input.now) (g.O.Write.contents c.args.output.now) (search rules)
+
+-- an input is too long where what was read of it is
+too_long : (input left now : Option (List ℕ)) (text : List ℕ) → IsStartOfScript input left text → LIMIT < length text → IfSome input (λ whole. (LIMIT < length whole) × Keeps now now)
+too_long None left now text start long = tt
+too_long (Some xs) None now text start long = absurd start.taken
+too_long (Some xs) (Some ys) now text start long = (omega (arith, long, ap length start.taken, length-append text ys), Keeps-same now)
+
+pub returns-then-len-gt-LIMIT-clause-fault : goal.returns-then-len-gt-LIMIT-clause-fault
+returns-then-len-gt-LIMIT-clause-fault g c = too_long _ _ (g.O.Write.contents c.args.output.now) _ c.in_ok-text.ensures.start (omega arith)
 
 pub returns-clause-fault : goal.returns-clause-fault
 returns-clause-fault g c =
