@@ -1,6 +1,6 @@
 -- The numbers of a script.
-use Rattle.std.proofs.Common.{◌≡◌, ℕ, List, arith, ap, ◌∙◌}
-use Rattle.std.specs.Prelude.{Option, Some, None, Result, Ok, Err, IfNone, MatchResult}
+use Rattle.std.proofs.Common.{◌≡◌, ℕ, ◌<◌, ◌≤◌, List, arith, ap, ◌∙◌, length}
+use Rattle.std.specs.Prelude.{◌^◌, OkIff, Option, Some, None, Result, Ok, Err, IfSome, IfNone, MatchResult}
 use Rattle.std.specs.Result.{result_ok}
 use Rattle.std.specs.Str.{IsUtf8}
 use Rattle.std.specs.Str.Parse.{digits_value, ParsesUnsigned}
@@ -8,7 +8,7 @@ use Rattle.std.proofs.lemmas.Str.{IsUtf8-from_ascii}
 use Rattle.std.proofs.lemmas.Str.Ascii.{IsAscii-from_all}
 use Rattle.std.proofs.lemmas.Str.Parse.{IsNumeralModel, numerals_by_value, parse_digits}
 use Rattle.std.proofs.lemmas.List.Elements.{All-head, All-tail, All-cons}
-use Rattle.lock_script.specs.Lines.{IsDigit, IsDecimal, IsNumber}
+use Rattle.lock_script.specs.Lines.{IsDigit, IsDecimal, IsNumber, Writes}
 
 -- digits are text
 IsUtf8-from_decimal : (word : List ℕ) → IsDecimal word → IsUtf8 word
@@ -39,3 +39,15 @@ pub no_number : {E : Type 0} (word : List ℕ) (r : Result ℕ E) (o : Option �
 no_number word r (Some n) d h e = tt
 no_number word (Ok n) None d h e = absurd cc
 no_number word (Err x) None d h e = λ n. parse_digits own 64 word (Err x) h d (n.some, n.fits)
+
+-- digits write the number that was read of them
+written : {E : Type 0} (word : List ℕ) (r : Result ℕ E) (o : Option ℕ) → length word ≤ 20 → IsDecimal word → OkIff r ((0 < length word) × (digits_value 10 word < 2 ^ 64)) (digits_value 10 word) → o ≡ result_ok r → IfSome o (Writes word)
+written word r None few d read e = tt
+written word (Err x) (Some n) few d read e = absurd cc
+written word (Ok m) (Some n) few d read e =
+    let same : n ≡ m = cc in
+    (record { some = read.0.0; few = few; digits = d; fits = read.0.1 }, same ∙ read.1)
+
+-- digits that `parse` read write the number that it read
+pub a_number : {E : Type 0} (word : List ℕ) (r : Result ℕ E) (o : Option ℕ) → length word ≤ 20 → IsDecimal word → ParsesUnsigned 64 10 word r → o ≡ result_ok r → IfSome o (Writes word)
+a_number word r o few d h e = written word r o few d (parse_digits own 64 word r h d) e
