@@ -9,6 +9,7 @@ use Rattle.lock_world.specs.declared.standing.Stage.{Stage}
 use Rattle.lock_world.specs.Rosters.{how_many}
 use Rattle.lock_world.specs.Standings.{inputs_of}
 use Rattle.lock_world.specs.Steps.{Deed, ListFunction, nothing, changes, does, joins}
+use Rattle.lock_world.proofs.Equations.{none_some}
 use Rattle.mutex_machine.specs.Course.{Course as TurnCourse, holds, counted, decision}
 use Rattle.mutex_machine.specs.declared.mutex.Step.{Step as TurnStep}
 use Rattle.mutex_machine.specs.declared.program.End.{End as TurnEnd}
@@ -79,6 +80,22 @@ pub record TurnMoved (p : ℕ) (l k : RwLock) (w : World) (mutex_deed : Deed mut
 joins_there : (g : ListFunction) (list : ListName) → Path (Deed Change ListName) (does for_the_turn g) (does list joins) → Path (Deed mutex.Change mutex.ListName) (does mutex.for_the_lock g) (does mutex.for_the_lock joins)
 joins_there g list e = cc
 
+-- what tells one deed from another: `cc` finds each, but reads all that is in scope first
+untrue : false ≡ true → ⊥
+untrue e = cc
+
+nothing_joins : (list : ListName) → Path (Deed Change ListName) nothing (does list joins) → ⊥
+nothing_joins list e = cc
+
+change_joins : (c : Change) (list : ListName) → Path (Deed Change ListName) (changes c) (does list joins) → ⊥
+change_joins c list e = cc
+
+change_idle : (c : mutex.Change) → Path (Deed mutex.Change mutex.ListName) (changes c) nothing → ⊥
+change_idle c e = cc
+
+does_idle : (f : ListFunction) → Path (Deed mutex.Change mutex.ListName) (does mutex.for_the_lock f) nothing → ⊥
+does_idle f e = cc
+
 module _ (m : Move) (l k : RwLock) (ss : List Stage) (opening : ℕ) (ts : List Stage) (v : ℕ) (x : Place) (f : Found) (c : Known m l k ss v x f) (afterwards : IsRwLock k)
     (passes_on : share_of (place_after (next_of x f)) ≡ passing) where
   abbrev p : ℕ
@@ -129,7 +146,7 @@ module _ (m : Move) (l k : RwLock) (ss : List Stage) (opening : ℕ) (ts : List 
     left_nobody (Some q) e n0 out = elim (ℕ_discrete q p) as (λ _. Some q ≡ None) [
       | yes same ↦ (let one : holds t ≡ 1 = sees.is_held_by l.turn.courses p (e ∙ ap Some same) in
           let none : holds t ≡ 0 = sym (sees.holds_bit t) ∙ ap turn_roles.bit out in absurd (omega (arith, one, none)))
-      | no apart ↦ (let h = others_hold q apart e in absurd (cc))
+      | no apart ↦ (absurd (none_some (sym n0 ∙ others_hold q apart e)))
     ]
 
     took_free : is_holder t ≡ false → holder_of k.turn ≡ Some p → (turn_by (holder_of l.turn) l.places ≡ state.nobody) × ((how_many (starved_of l.turn) ≡ 0) ⊎ (get_or (starved_of l.turn) p false ≡ true))
@@ -146,23 +163,23 @@ module _ (m : Move) (l k : RwLock) (ss : List Stage) (opening : ℕ) (ts : List 
     -- where the party only passes, each deed of the mutex is one of the turn, or nothing
     moved_by : (d : Deed mutex.Change mutex.ListName) → holder_of k.turn ≡ mutex.holder_after p d (holder_of l.turn) → starved_of k.turn ≡ mutex.starved_after p d (starved_of l.turn) → k.turn.entries ≡ mutex.entries_after p d l.turn.entries
         → share_of x ≡ passing → TurnMoved p l k w d
-    moved_by nothing h s e own = record { deed = nothing; readers = λ rs. refl; turn = stays own h; starved = s; valued = λ n. refl; allowed = tt; turn_list = e; no_readers = λ es. refl; no_writer = λ es. refl; parting = λ g. refl; giving_up = λ g. absurd (cc); joining = λ list j. absurd (cc); idle = λ i. refl }
-    moved_by (does mutex.for_the_lock g) h s e own = record { deed = does for_the_turn g; readers = λ rs. refl; turn = stays own h; starved = s; valued = λ n. refl; allowed = tt; turn_list = e; no_readers = λ es. refl; no_writer = λ es. refl; parting = λ b. b; giving_up = λ g. absurd (cc); joining = λ list j. joins_there g list j; idle = λ i. absurd (cc) }
+    moved_by nothing h s e own = record { deed = nothing; readers = λ rs. refl; turn = stays own h; starved = s; valued = λ n. refl; allowed = tt; turn_list = e; no_readers = λ es. refl; no_writer = λ es. refl; parting = λ g. refl; giving_up = λ g. absurd (untrue g); joining = λ list j. absurd (nothing_joins list j); idle = λ i. refl }
+    moved_by (does mutex.for_the_lock g) h s e own = record { deed = does for_the_turn g; readers = λ rs. refl; turn = stays own h; starved = s; valued = λ n. refl; allowed = tt; turn_list = e; no_readers = λ es. refl; no_writer = λ es. refl; parting = λ b. b; giving_up = λ g. absurd (untrue g); joining = λ list j. joins_there g list j; idle = λ i. absurd (does_idle g i) }
     moved_by (changes mutex.takes) h s e own = elim (cases_Bool (is_holder t)) as (λ _. TurnMoved p l k w (changes mutex.takes)) [
-      | inl held ↦ record { deed = nothing; readers = λ rs. refl; turn = stays own (h ∙ sym (held_by (is_holder t) refl held)); starved = s; valued = λ n. refl; allowed = tt; turn_list = e; no_readers = λ es. refl; no_writer = λ es. refl; parting = λ g. refl; giving_up = λ g. absurd (cc); joining = λ list j. absurd (cc); idle = λ i. refl }
-      | inr out ↦ record { deed = changes takes_turn; readers = λ rs. refl; turn = turn_own (holder_of k.turn) h; starved = s; valued = λ n. refl; allowed = took_free out h; turn_list = e; no_readers = λ es. refl; no_writer = λ es. refl; parting = λ g. absurd (cc); giving_up = λ g. absurd (cc); joining = λ list j. absurd (cc); idle = λ i. absurd (cc) }
+      | inl held ↦ record { deed = nothing; readers = λ rs. refl; turn = stays own (h ∙ sym (held_by (is_holder t) refl held)); starved = s; valued = λ n. refl; allowed = tt; turn_list = e; no_readers = λ es. refl; no_writer = λ es. refl; parting = λ g. refl; giving_up = λ g. absurd (untrue g); joining = λ list j. absurd (nothing_joins list j); idle = λ i. refl }
+      | inr out ↦ record { deed = changes takes_turn; readers = λ rs. refl; turn = turn_own (holder_of k.turn) h; starved = s; valued = λ n. refl; allowed = took_free out h; turn_list = e; no_readers = λ es. refl; no_writer = λ es. refl; parting = λ g. absurd (untrue g); giving_up = λ g. absurd (untrue g); joining = λ list j. absurd (change_joins takes_turn list j); idle = λ i. absurd (change_idle mutex.takes i) }
     ]
     moved_by (changes mutex.releases) h s e own = elim (cases_Bool (is_holder t)) as (λ _. TurnMoved p l k w (changes mutex.releases)) [
-      | inl held ↦ record { deed = changes leaves_turn; readers = λ rs. refl; turn = turn_none (holder_of k.turn) k.places h; starved = s; valued = λ n. refl; allowed = inl (ap (λ o. turn_by o l.places) (held_by (is_holder t) refl held) ∙ ap (turn_as p) (sym c.share ∙ own)); turn_list = e; no_readers = λ es. refl; no_writer = λ es. refl; parting = λ g. refl; giving_up = λ g. refl; joining = λ list j. absurd (cc); idle = λ i. absurd (cc) }
-      | inr out ↦ record { deed = nothing; readers = λ rs. refl; turn = stays own (h ∙ sym (left_nobody (holder_of l.turn) refl h out)); starved = s; valued = λ n. refl; allowed = tt; turn_list = e; no_readers = λ es. refl; no_writer = λ es. refl; parting = λ g. refl; giving_up = λ g. absurd (cc); joining = λ list j. absurd (cc); idle = λ i. refl }
+      | inl held ↦ record { deed = changes leaves_turn; readers = λ rs. refl; turn = turn_none (holder_of k.turn) k.places h; starved = s; valued = λ n. refl; allowed = inl (ap (λ o. turn_by o l.places) (held_by (is_holder t) refl held) ∙ ap (turn_as p) (sym c.share ∙ own)); turn_list = e; no_readers = λ es. refl; no_writer = λ es. refl; parting = λ g. refl; giving_up = λ g. refl; joining = λ list j. absurd (change_joins leaves_turn list j); idle = λ i. absurd (change_idle mutex.releases i) }
+      | inr out ↦ record { deed = nothing; readers = λ rs. refl; turn = stays own (h ∙ sym (left_nobody (holder_of l.turn) refl h out)); starved = s; valued = λ n. refl; allowed = tt; turn_list = e; no_readers = λ es. refl; no_writer = λ es. refl; parting = λ g. refl; giving_up = λ g. absurd (untrue g); joining = λ list j. absurd (nothing_joins list j); idle = λ i. refl }
     ]
     moved_by (changes mutex.starves) h s e own = elim (put_on (starved_of l.turn) (starved_of k.turn) p s) as (λ _. TurnMoved p l k w (changes mutex.starves)) [
-      | inl same ↦ record { deed = nothing; readers = λ rs. refl; turn = stays own h; starved = same; valued = λ n. refl; allowed = tt; turn_list = e; no_readers = λ es. refl; no_writer = λ es. refl; parting = λ g. absurd (cc); giving_up = λ g. absurd (cc); joining = λ list j. absurd (cc); idle = λ i. refl }
-      | inr one ↦ record { deed = changes starves; readers = λ rs. refl; turn = stays own h; starved = s; valued = λ n. refl; allowed = (one.0, omega (arith, one.1, sees.how_many_counted k.turn.courses, afterwards.turn.few_starved, did.legal.limit)); turn_list = e; no_readers = λ es. refl; no_writer = λ es. refl; parting = λ g. absurd (cc); giving_up = λ g. absurd (cc); joining = λ list j. absurd (cc); idle = λ i. absurd (cc) }
+      | inl same ↦ record { deed = nothing; readers = λ rs. refl; turn = stays own h; starved = same; valued = λ n. refl; allowed = tt; turn_list = e; no_readers = λ es. refl; no_writer = λ es. refl; parting = λ g. absurd (untrue g); giving_up = λ g. absurd (untrue g); joining = λ list j. absurd (nothing_joins list j); idle = λ i. refl }
+      | inr one ↦ record { deed = changes starves; readers = λ rs. refl; turn = stays own h; starved = s; valued = λ n. refl; allowed = (one.0, omega (arith, one.1, sees.how_many_counted k.turn.courses, afterwards.turn.few_starved, did.legal.limit)); turn_list = e; no_readers = λ es. refl; no_writer = λ es. refl; parting = λ g. absurd (untrue g); giving_up = λ g. absurd (untrue g); joining = λ list j. absurd (change_joins starves list j); idle = λ i. absurd (change_idle mutex.starves i) }
     ]
     moved_by (changes mutex.recovers) h s e own = elim (put_off (starved_of l.turn) (starved_of k.turn) p s) as (λ _. TurnMoved p l k w (changes mutex.recovers)) [
-      | inl same ↦ record { deed = nothing; readers = λ rs. refl; turn = stays own h; starved = same; valued = λ n. refl; allowed = tt; turn_list = e; no_readers = λ es. refl; no_writer = λ es. refl; parting = λ g. refl; giving_up = λ g. absurd (cc); joining = λ list j. absurd (cc); idle = λ i. refl }
-      | inr one ↦ record { deed = changes recovers; readers = λ rs. refl; turn = stays own h; starved = s; valued = λ n. refl; allowed = one; turn_list = e; no_readers = λ es. refl; no_writer = λ es. refl; parting = λ g. refl; giving_up = λ g. absurd (cc); joining = λ list j. absurd (cc); idle = λ i. absurd (cc) }
+      | inl same ↦ record { deed = nothing; readers = λ rs. refl; turn = stays own h; starved = same; valued = λ n. refl; allowed = tt; turn_list = e; no_readers = λ es. refl; no_writer = λ es. refl; parting = λ g. refl; giving_up = λ g. absurd (untrue g); joining = λ list j. absurd (nothing_joins list j); idle = λ i. refl }
+      | inr one ↦ record { deed = changes recovers; readers = λ rs. refl; turn = stays own h; starved = s; valued = λ n. refl; allowed = one; turn_list = e; no_readers = λ es. refl; no_writer = λ es. refl; parting = λ g. refl; giving_up = λ g. absurd (untrue g); joining = λ list j. absurd (change_joins recovers list j); idle = λ i. absurd (change_idle mutex.recovers i) }
     ]
 
     -- where the party had the turn for an upgradable right and has it no more, it left it
@@ -171,7 +188,7 @@ module _ (m : Move) (l k : RwLock) (ss : List Stage) (opening : ℕ) (ts : List 
 
     left_by : (d : Deed mutex.Change mutex.ListName) → holder_of k.turn ≡ mutex.holder_after p d (holder_of l.turn) → starved_of k.turn ≡ mutex.starved_after p d (starved_of l.turn) → k.turn.entries ≡ mutex.entries_after p d l.turn.entries
         → share_of x ≡ upgrading → holder_of l.turn ≡ Some p → holds u ≡ 0 → TurnMoved p l k w d
-    left_by (changes mutex.releases) h s e own held none = record { deed = changes leaves_turn; readers = λ rs. refl; turn = turn_none (holder_of k.turn) k.places h; starved = s; valued = λ n. refl; allowed = inr (ap (λ o. turn_by o l.places) held ∙ ap (turn_as p) (sym c.share ∙ own)); turn_list = e; no_readers = λ es. refl; no_writer = λ es. refl; parting = λ g. refl; giving_up = λ g. refl; joining = λ list j. absurd (cc); idle = λ i. absurd (cc) }
+    left_by (changes mutex.releases) h s e own held none = record { deed = changes leaves_turn; readers = λ rs. refl; turn = turn_none (holder_of k.turn) k.places h; starved = s; valued = λ n. refl; allowed = inr (ap (λ o. turn_by o l.places) held ∙ ap (turn_as p) (sym c.share ∙ own)); turn_list = e; no_readers = λ es. refl; no_writer = λ es. refl; parting = λ g. refl; giving_up = λ g. refl; joining = λ list j. absurd (change_joins leaves_turn list j); idle = λ i. absurd (change_idle mutex.releases i) }
     left_by (changes mutex.takes) h s e own held none = absurd (still_holds (Some p) h refl none)
     left_by (changes mutex.starves) h s e own held none = absurd (still_holds (holder_of l.turn) h held none)
     left_by (changes mutex.recovers) h s e own held none = absurd (still_holds (holder_of l.turn) h held none)
