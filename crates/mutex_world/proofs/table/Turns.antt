@@ -1,5 +1,6 @@
 -- Where a call begins or goes on, and at which stage its party is after its action.
 use Rattle.std.proofs.Common.{◌≡◌, ℕ, true, false, Some, None, refl, ap, sym, ◌∙◌, subst}
+use Rattle.std.proofs.lemmas.Bool.{false≢true}
 use Rattle.lock_world.specs.declared.moves.Call.TheVariants as call
 use Rattle.lock_world.specs.declared.moves.Inputs.{Inputs}
 use Rattle.lock_world.specs.declared.moves.What.{What}
@@ -58,23 +59,25 @@ module _ (P : Stage → What → Within → Place → Place → Type 0) (k : Mov
   turn (Outside rest.Idle) (Begin call.Lock i) w Out g e n u = begun _ _ _ w Out Enter refl e (k.lock i)
   turn (Outside rest.Idle) (Begin call.TryLock i) w Out g e n u = begun _ _ _ w Out Try refl e (k.try i)
   turn (Outside rest.Idle) (Begin _ i) w Out g e n u = absurd (none_some e)
-  turn (Outside rest.Idle) _ w _ g e n u = absurd (cc)
+  turn (Outside rest.Idle) (Go i) w x g e n u = absurd (none_some e)
+  turn (Outside rest.Idle) (Begin _ i) w _ g e n u = absurd (false≢true g)
   turn (Outside rest.Pending) (Begin call.Poll i) w Out g e n u = begun _ _ _ w Out Enter refl e (k.poll i)
   turn (Outside rest.Pending) (Begin call.Poll i) w Ask g e n u = begun _ _ _ w Ask Ask refl e (k.poll_listed i)
   turn (Outside rest.Pending) (Begin call.Poll i) w AskStarved g e n u = begun _ _ _ w AskStarved AskStarved refl e (k.poll_starved i)
   turn (Outside rest.Pending) (Begin call.Drop i) w Out g e n u = begun _ _ _ w Out Out refl e (k.abandon i)
   turn (Outside rest.Pending) (Begin call.Drop i) w Ask g e n u = begun _ _ _ w Ask CancelLeave refl e (k.cancel i)
   turn (Outside rest.Pending) (Begin call.Drop i) w AskStarved g e n u = begun _ _ _ w AskStarved CancelUncount refl e (k.cancel_starved i)
-  turn (Outside rest.Pending) (Begin call.Poll i) w _ g e n u = absurd (cc)
-  turn (Outside rest.Pending) (Begin call.Drop i) w _ g e n u = absurd (cc)
+  turn (Outside rest.Pending) (Begin call.Poll i) w _ g e n u = absurd (false≢true g)
+  turn (Outside rest.Pending) (Begin call.Drop i) w _ g e n u = absurd (false≢true g)
   turn (Outside rest.Pending) (Begin _ i) w x g e n u = absurd (none_some e)
   turn (Outside rest.Pending) (Go i) w x g e n u = absurd (none_some e)
   turn (Outside rest.Holding) (Begin call.Drop i) w Holding g e n u = begun _ _ _ w Holding Clear refl e (k.release i)
-  turn (Outside rest.Holding) (Begin call.Poll i) w Holding g e n u = absurd (cc)
+  turn (Outside rest.Holding) (Begin call.Poll i) w Holding g e n u = absurd (false≢true (sym n))
   turn (Outside rest.Holding) (Begin (call.Put v) i) w Holding g e n u = absurd (none_some (sym u))
   turn (Outside rest.Holding) (Begin _ i) w Holding g e n u = absurd (none_some e)
-  turn (Outside rest.Holding) _ w _ g e n u = absurd (cc)
-  turn (Outside rest.Finished) what w x g e n u = absurd (cc)
+  turn (Outside rest.Holding) (Go i) w x g e n u = absurd (none_some e)
+  turn (Outside rest.Holding) (Begin _ i) w _ g e n u = absurd (false≢true g)
+  turn (Outside rest.Finished) what w x g e n u = absurd (false≢true g)
   turn (Inside v) (Go i) w x g e n u = begun _ _ _ w x x refl e (k.go v x i g)
   turn (Inside v) (Begin _ i) w x g e n u = absurd (none_some e)
   turn Forgotten what w x g e n u = absurd (none_some e)
@@ -88,14 +91,14 @@ pub record Lands (v : ℕ) (w : Within) (n : Next) (y : Place) : Type 0 where
 waiting_fits : (x : Place) → is_waiting x ≡ true → goes_with (Outside rest.Pending) x ≡ true
 waiting_fits Ask h = refl
 waiting_fits AskStarved h = refl
-waiting_fits _ h = absurd (cc)
+waiting_fits _ h = absurd (false≢true h)
 
 at : (r : Rest) (x y : Place) → goes_with (Outside r) y ≡ true → x ≡ y → goes_with (Outside r) x ≡ true
 at r x y h e = ap (goes_with (Outside r)) e ∙ h
 
 module _ (v : ℕ) where
   first_lands : (n : Next) (x : Place) → Takes n x → Lands v (within kind.FirstPoll rest.Idle) n x
-  first_lands (next.Do a q) x t = record { fits = t; ends = λ h. absurd (cc) }
+  first_lands (next.Do a q) x t = record { fits = t; ends = λ h. absurd (false≢true (sym h)) }
   first_lands (next.End «end».Got) x t = record { fits = at rest.Holding x Holding refl t; ends = λ h. refl }
   first_lands (next.End «end».Pending) x t = record { fits = waiting_fits x t; ends = λ h. refl }
   first_lands (next.End («end».Refused refusal.Memory)) x t = record { fits = at rest.Pending x Out refl t; ends = λ h. refl }
@@ -103,7 +106,7 @@ module _ (v : ℕ) where
   first_lands (next.End _) x t = absurd t
 
   later_lands : (n : Next) (x : Place) → Takes n x → Lands v (within kind.LaterPoll rest.Pending) n x
-  later_lands (next.Do a q) x t = record { fits = t; ends = λ h. absurd (cc) }
+  later_lands (next.Do a q) x t = record { fits = t; ends = λ h. absurd (false≢true (sym h)) }
   later_lands (next.End «end».Got) x t = record { fits = at rest.Holding x Holding refl t; ends = λ h. refl }
   later_lands (next.End «end».Pending) x t = record { fits = waiting_fits x t; ends = λ h. refl }
   later_lands (next.End («end».Refused refusal.Memory)) x t = record { fits = at rest.Pending x Out refl t; ends = λ h. refl }
@@ -117,12 +120,12 @@ module _ (v : ℕ) where
   try_lands (next.Do a q) x t = absurd t
 
   release_lands : (n : Next) (x : Place) → Releases n x → Lands v (within kind.Drop rest.Holding) n x
-  release_lands (next.Do a q) x t = record { fits = t; ends = λ h. absurd (cc) }
+  release_lands (next.Do a q) x t = record { fits = t; ends = λ h. absurd (false≢true (sym h)) }
   release_lands (next.End «end».GivenBack) x t = record { fits = at rest.Idle x Out refl t; ends = λ h. refl }
   release_lands (next.End _) x t = absurd t
 
   cancel_lands : (n : Next) (x : Place) → Cancels n x → Lands v (within kind.Drop rest.Pending) n x
-  cancel_lands (next.Do a q) x t = record { fits = t; ends = λ h. absurd (cc) }
+  cancel_lands (next.Do a q) x t = record { fits = t; ends = λ h. absurd (false≢true (sym h)) }
   cancel_lands (next.End «end».GivenBack) x t = record { fits = at rest.Idle x Out refl t; ends = λ h. refl }
   cancel_lands (next.End _) x t = absurd t
 
@@ -134,7 +137,7 @@ module _ (v : ℕ) where
   goes_by kind.LaterPoll rest.Pending x n y h g = later_lands n y (g.takes h)
   goes_by kind.Drop rest.Holding x n y h g = released n y (g.releases h)
   goes_by kind.Drop rest.Pending x n y h g = cancel_lands n y (g.cancels h)
-  goes_by _ _ x n y h g = absurd (cc)
+  goes_by _ _ x n y h g = absurd (false≢true h)
 
   pub lands : (s : Stage) (what : What) (w : Within) (x : Place) → goes_with s x ≡ true → call_at knows s what ≡ Some w → polls_again s what ≡ false → put_in what ≡ None
       → Turn (λ s what w x from. (f : Found) → Lands v w (next_of from f) (place_after from (next_of from f))) s what w x

@@ -2,7 +2,7 @@
 use Rattle.std.proofs.Common.{◌≡◌, ◌≢◌, ℕ, zero, suc, ◌+◌, ◌<◌, ◌⊎◌, inl, inr, Bool, true, false, List, [], ◌∷◌, length, Option, Some, None, refl, arith, ap, sym, ◌∙◌, get_or, get_or-set_same}
 use Rattle.std.proofs.Math.ListN.{set}
 use Rattle.std.proofs.Math.Decide.{ℕ_discrete}
-use Rattle.std.proofs.lemmas.Bool.{cases_Bool}
+use Rattle.std.proofs.lemmas.Bool.{cases_Bool, false≢true}
 use Rattle.lock_event.specs.declared.event.Entry.{Entry}
 use Rattle.lock_world.specs.declared.moves.Move.{Move}
 use Rattle.lock_world.specs.declared.standing.Stage.{Stage}
@@ -81,9 +81,6 @@ joins_there : (g : ListFunction) (list : ListName) → Path (Deed Change ListNam
 joins_there g list e = cc
 
 -- what tells one deed from another: `cc` finds each, but reads all that is in scope first
-untrue : false ≡ true → ⊥
-untrue e = cc
-
 nothing_joins : (list : ListName) → Path (Deed Change ListName) nothing (does list joins) → ⊥
 nothing_joins list e = cc
 
@@ -163,23 +160,23 @@ module _ (m : Move) (l k : RwLock) (ss : List Stage) (opening : ℕ) (ts : List 
     -- where the party only passes, each deed of the mutex is one of the turn, or nothing
     moved_by : (d : Deed mutex.Change mutex.ListName) → holder_of k.turn ≡ mutex.holder_after p d (holder_of l.turn) → starved_of k.turn ≡ mutex.starved_after p d (starved_of l.turn) → k.turn.entries ≡ mutex.entries_after p d l.turn.entries
         → share_of x ≡ passing → TurnMoved p l k w d
-    moved_by nothing h s e own = record { deed = nothing; readers = λ rs. refl; turn = stays own h; starved = s; valued = λ n. refl; allowed = tt; turn_list = e; no_readers = λ es. refl; no_writer = λ es. refl; parting = λ g. refl; giving_up = λ g. absurd (untrue g); joining = λ list j. absurd (nothing_joins list j); idle = λ i. refl }
-    moved_by (does mutex.for_the_lock g) h s e own = record { deed = does for_the_turn g; readers = λ rs. refl; turn = stays own h; starved = s; valued = λ n. refl; allowed = tt; turn_list = e; no_readers = λ es. refl; no_writer = λ es. refl; parting = λ b. b; giving_up = λ g. absurd (untrue g); joining = λ list j. joins_there g list j; idle = λ i. absurd (does_idle g i) }
+    moved_by nothing h s e own = record { deed = nothing; readers = λ rs. refl; turn = stays own h; starved = s; valued = λ n. refl; allowed = tt; turn_list = e; no_readers = λ es. refl; no_writer = λ es. refl; parting = λ g. refl; giving_up = λ g. absurd (false≢true g); joining = λ list j. absurd (nothing_joins list j); idle = λ i. refl }
+    moved_by (does mutex.for_the_lock g) h s e own = record { deed = does for_the_turn g; readers = λ rs. refl; turn = stays own h; starved = s; valued = λ n. refl; allowed = tt; turn_list = e; no_readers = λ es. refl; no_writer = λ es. refl; parting = λ b. b; giving_up = λ g. absurd (false≢true g); joining = λ list j. joins_there g list j; idle = λ i. absurd (does_idle g i) }
     moved_by (changes mutex.takes) h s e own = elim (cases_Bool (is_holder t)) as (λ _. TurnMoved p l k w (changes mutex.takes)) [
-      | inl held ↦ record { deed = nothing; readers = λ rs. refl; turn = stays own (h ∙ sym (held_by (is_holder t) refl held)); starved = s; valued = λ n. refl; allowed = tt; turn_list = e; no_readers = λ es. refl; no_writer = λ es. refl; parting = λ g. refl; giving_up = λ g. absurd (untrue g); joining = λ list j. absurd (nothing_joins list j); idle = λ i. refl }
-      | inr out ↦ record { deed = changes takes_turn; readers = λ rs. refl; turn = turn_own (holder_of k.turn) h; starved = s; valued = λ n. refl; allowed = took_free out h; turn_list = e; no_readers = λ es. refl; no_writer = λ es. refl; parting = λ g. absurd (untrue g); giving_up = λ g. absurd (untrue g); joining = λ list j. absurd (change_joins takes_turn list j); idle = λ i. absurd (change_idle mutex.takes i) }
+      | inl held ↦ record { deed = nothing; readers = λ rs. refl; turn = stays own (h ∙ sym (held_by (is_holder t) refl held)); starved = s; valued = λ n. refl; allowed = tt; turn_list = e; no_readers = λ es. refl; no_writer = λ es. refl; parting = λ g. refl; giving_up = λ g. absurd (false≢true g); joining = λ list j. absurd (nothing_joins list j); idle = λ i. refl }
+      | inr out ↦ record { deed = changes takes_turn; readers = λ rs. refl; turn = turn_own (holder_of k.turn) h; starved = s; valued = λ n. refl; allowed = took_free out h; turn_list = e; no_readers = λ es. refl; no_writer = λ es. refl; parting = λ g. absurd (false≢true g); giving_up = λ g. absurd (false≢true g); joining = λ list j. absurd (change_joins takes_turn list j); idle = λ i. absurd (change_idle mutex.takes i) }
     ]
     moved_by (changes mutex.releases) h s e own = elim (cases_Bool (is_holder t)) as (λ _. TurnMoved p l k w (changes mutex.releases)) [
       | inl held ↦ record { deed = changes leaves_turn; readers = λ rs. refl; turn = turn_none (holder_of k.turn) k.places h; starved = s; valued = λ n. refl; allowed = inl (ap (λ o. turn_by o l.places) (held_by (is_holder t) refl held) ∙ ap (turn_as p) (sym c.share ∙ own)); turn_list = e; no_readers = λ es. refl; no_writer = λ es. refl; parting = λ g. refl; giving_up = λ g. refl; joining = λ list j. absurd (change_joins leaves_turn list j); idle = λ i. absurd (change_idle mutex.releases i) }
-      | inr out ↦ record { deed = nothing; readers = λ rs. refl; turn = stays own (h ∙ sym (left_nobody (holder_of l.turn) refl h out)); starved = s; valued = λ n. refl; allowed = tt; turn_list = e; no_readers = λ es. refl; no_writer = λ es. refl; parting = λ g. refl; giving_up = λ g. absurd (untrue g); joining = λ list j. absurd (nothing_joins list j); idle = λ i. refl }
+      | inr out ↦ record { deed = nothing; readers = λ rs. refl; turn = stays own (h ∙ sym (left_nobody (holder_of l.turn) refl h out)); starved = s; valued = λ n. refl; allowed = tt; turn_list = e; no_readers = λ es. refl; no_writer = λ es. refl; parting = λ g. refl; giving_up = λ g. absurd (false≢true g); joining = λ list j. absurd (nothing_joins list j); idle = λ i. refl }
     ]
     moved_by (changes mutex.starves) h s e own = elim (put_on (starved_of l.turn) (starved_of k.turn) p s) as (λ _. TurnMoved p l k w (changes mutex.starves)) [
-      | inl same ↦ record { deed = nothing; readers = λ rs. refl; turn = stays own h; starved = same; valued = λ n. refl; allowed = tt; turn_list = e; no_readers = λ es. refl; no_writer = λ es. refl; parting = λ g. absurd (untrue g); giving_up = λ g. absurd (untrue g); joining = λ list j. absurd (nothing_joins list j); idle = λ i. refl }
-      | inr one ↦ record { deed = changes starves; readers = λ rs. refl; turn = stays own h; starved = s; valued = λ n. refl; allowed = (one.0, omega (arith, one.1, sees.how_many_counted k.turn.courses, afterwards.turn.few_starved, did.legal.limit)); turn_list = e; no_readers = λ es. refl; no_writer = λ es. refl; parting = λ g. absurd (untrue g); giving_up = λ g. absurd (untrue g); joining = λ list j. absurd (change_joins starves list j); idle = λ i. absurd (change_idle mutex.starves i) }
+      | inl same ↦ record { deed = nothing; readers = λ rs. refl; turn = stays own h; starved = same; valued = λ n. refl; allowed = tt; turn_list = e; no_readers = λ es. refl; no_writer = λ es. refl; parting = λ g. absurd (false≢true g); giving_up = λ g. absurd (false≢true g); joining = λ list j. absurd (nothing_joins list j); idle = λ i. refl }
+      | inr one ↦ record { deed = changes starves; readers = λ rs. refl; turn = stays own h; starved = s; valued = λ n. refl; allowed = (one.0, omega (arith, one.1, sees.how_many_counted k.turn.courses, afterwards.turn.few_starved, did.legal.limit)); turn_list = e; no_readers = λ es. refl; no_writer = λ es. refl; parting = λ g. absurd (false≢true g); giving_up = λ g. absurd (false≢true g); joining = λ list j. absurd (change_joins starves list j); idle = λ i. absurd (change_idle mutex.starves i) }
     ]
     moved_by (changes mutex.recovers) h s e own = elim (put_off (starved_of l.turn) (starved_of k.turn) p s) as (λ _. TurnMoved p l k w (changes mutex.recovers)) [
-      | inl same ↦ record { deed = nothing; readers = λ rs. refl; turn = stays own h; starved = same; valued = λ n. refl; allowed = tt; turn_list = e; no_readers = λ es. refl; no_writer = λ es. refl; parting = λ g. refl; giving_up = λ g. absurd (untrue g); joining = λ list j. absurd (nothing_joins list j); idle = λ i. refl }
-      | inr one ↦ record { deed = changes recovers; readers = λ rs. refl; turn = stays own h; starved = s; valued = λ n. refl; allowed = one; turn_list = e; no_readers = λ es. refl; no_writer = λ es. refl; parting = λ g. refl; giving_up = λ g. absurd (untrue g); joining = λ list j. absurd (change_joins recovers list j); idle = λ i. absurd (change_idle mutex.recovers i) }
+      | inl same ↦ record { deed = nothing; readers = λ rs. refl; turn = stays own h; starved = same; valued = λ n. refl; allowed = tt; turn_list = e; no_readers = λ es. refl; no_writer = λ es. refl; parting = λ g. refl; giving_up = λ g. absurd (false≢true g); joining = λ list j. absurd (nothing_joins list j); idle = λ i. refl }
+      | inr one ↦ record { deed = changes recovers; readers = λ rs. refl; turn = stays own h; starved = s; valued = λ n. refl; allowed = one; turn_list = e; no_readers = λ es. refl; no_writer = λ es. refl; parting = λ g. refl; giving_up = λ g. absurd (false≢true g); joining = λ list j. absurd (change_joins recovers list j); idle = λ i. absurd (change_idle mutex.recovers i) }
     ]
 
     -- where the party had the turn for an upgradable right and has it no more, it left it
