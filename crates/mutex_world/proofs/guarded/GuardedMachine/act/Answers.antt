@@ -1,10 +1,19 @@
 -- What the lock carries out is one action of its program, and leaves each party where it may stand.
-use Rattle.std.proofs.Common.{◌≡◌, ℕ, Option, None, ap, sym, ◌∙◌, subst}
+use Rattle.std.proofs.Common.{◌≡◌, ℕ, Option, Some, None, ap, sym, ◌∙◌, refl, subst}
+use Rattle.lock_world.specs.declared.moves.Answer.TheVariants.{Granted}
+use Rattle.lock_world.specs.declared.moves.Got.TheVariants.{Value}
 use Rattle.lock_world.specs.Frame.{put_in}
-use Rattle.mutex_world.specs.Guarded.{Guarded, MovesBy, Carries, place_for, place_of, is_try_kind, answer_by}
+use Rattle.mutex_world.specs.Guarded.{Guarded, MovesBy, with_value, Carries, place_for, place_of, is_try_kind, answer_by}
 use Rattle.lock_world.proofs.Equations.{witness}
 use Rattle.mutex_world.proofs.table.Acts.{carry_keeps}
 use Rattle.mutex_world.proofs.guarded.GuardedMachine.act.Goals as goal
+
+pub returns-in-Some-clause-acts : goal.returns-in-Some-clause-acts
+returns-in-Some-clause-acts c =
+    let some : put_in c.args.what ≡ Some c.in-Some.value = sym c.put.ensures ∙ c.in-Some.is in
+    let h : Guarded = record { lock = c.self.inside.lock; value = c.in-Some.value } in
+    let P : Option ℕ → Type 0 = λ o. MovesBy o c.args.self.now c.args.party c.args.within c.args.what (Granted (Value c.in-Some.value)) h in
+    subst P (sym some) (refl, ap (λ g. with_value g c.in-Some.value) c.self.view_is)
 
 pub returns-in-None-clause-acts : goal.returns-in-None-clause-acts
 returns-in-None-clause-acts c =

@@ -1,12 +1,21 @@
 -- An action of one party is one of its program, and leaves each party where it may stand.
-use Rattle.std.proofs.Common.{◌≡◌, ◌<◌, None, sym, ◌∙◌, refl, subst}
+use Rattle.std.proofs.Common.{◌≡◌, ◌<◌, ℕ, Option, Some, None, ap, sym, ◌∙◌, refl, subst}
 use Rattle.lock_world.specs.Frame.{put_in}
+use Rattle.lock_world.specs.declared.moves.Answer.TheVariants.{Granted}
+use Rattle.lock_world.specs.declared.moves.Got.TheVariants.{Value}
 use Rattle.lock_world.specs.declared.standing.Rest.TheVariants.{Holding}
 use Rattle.lock_table.specs.Stages.{stage_after}
 use Rattle.lock_table.specs.Tables.{Keeps, Called}
-use Rattle.rwlock_world.specs.Guarded.{Guarded, parties, knows, Stands, Moves}
+use Rattle.rwlock_world.specs.Guarded.{Guarded, Does, with_value, parties, knows, Stands, Moves}
 use Rattle.rwlock_world.proofs.table.Kept.{acted, kept}
 use Rattle.rwlock_world.proofs.guarded.GuardedMachine.act.Goals as goal
+
+pub returns-in-Some-clause-acts : goal.returns-in-Some-clause-acts
+returns-in-Some-clause-acts c =
+    let some : put_in c.args.what ≡ Some c.in-Some.value = sym c.put.ensures ∙ c.in-Some.is in
+    let y : Guarded = record { lock = c.self.inside.lock; value = c.in-Some.value } in
+    let D : Option ℕ → Type 0 = λ o. Does o c.args.self.now c.args.party c.args.what (Granted (Value c.in-Some.value)) y in
+    subst D (sym some) (refl, ap (λ x. with_value x c.in-Some.value) c.self.view_is)
 
 pub returns-in-None-clause-acts : goal.returns-in-None-clause-acts
 returns-in-None-clause-acts c =
