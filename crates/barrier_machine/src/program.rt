@@ -204,10 +204,7 @@ pub fn decide(place: Place, found: Found) -> Next
             after_lock(aim, found)
         }
         Place::Look => after_look(found),
-        Place::Join => match found {
-            Found::Done => Next::Do(Place::Arrive),
-            _ => Next::Do(Place::ReleaseLock(Ending::RefuseMemory(Aim::Arrive))),
-        },
+        Place::Join => after_join(found),
         Place::Arrive => Next::Do(Place::ReleaseLock(Ending::Wait)),
         Place::Complete => Next::Do(Place::NotifyAll),
         Place::NotifyAll => Next::Do(Place::ReleaseLock(Ending::Lead)),
@@ -254,6 +251,16 @@ fn after_look(found: Found) -> Next
         Found::MustWait => Next::Do(Place::Join),
         Found::Leads => Next::Do(Place::Complete),
         _ => Next::Do(Place::ReleaseLock(Ending::RefuseGenerations)),
+    }
+}
+
+/// After an uncounted party was put into the list, if there was memory.
+fn after_join(found: Found) -> Next
+    ensures { result ≡ next_of places.Join found }
+{
+    match found {
+        Found::Done => Next::Do(Place::Arrive),
+        _ => Next::Do(Place::ReleaseLock(Ending::RefuseMemory(Aim::Arrive))),
     }
 }
 
