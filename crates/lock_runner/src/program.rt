@@ -220,12 +220,29 @@ fn answer_lines<O: Write>(alloc: Global, text: &[u8], output: &mut O) -> Result<
     ensures asked { result ≢ Err Fault.Usage }
 {
     let mut world = None;
+    answer_each(alloc, text, &mut world, output)
+}
+
+/// Answers each line of a script in turn by the World that stands here, which the script has yet to make.
+fn answer_each<O: Write>(
+    alloc: Global,
+    text: &[u8],
+    world: &mut Option<World>,
+    output: &mut O,
+) -> Result<(), Fault>
+    requires short { length text.now ≤ LIMIT }
+    requires first { world.old ≡ None }
+    ensures lines { OnOk result (All IsLine (lines_of text.now)) }
+    ensures played { OnOk result (IsPlayed text.now (O.contents output.old) (O.contents output.new)) }
+    ensures fault { IfErr result (λ fault. Tells fault text.now (O.contents output.old) (O.contents output.new)) }
+    ensures asked { result ≢ Err Fault.Usage }
+{
     let mut number: u64 = 0;
     let mut rest = text;
     while !rest.is_empty() {
         let (line, after) = line::cut(rest, b'\n');
         number += 1;
-        answer_line(alloc, number, line, &mut world, output)?;
+        answer_line(alloc, number, line, world, output)?;
         rest = after;
     }
     Ok(())

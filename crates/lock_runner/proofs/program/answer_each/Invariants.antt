@@ -5,7 +5,7 @@ use Rattle.lock_runner.specs.declared.program.TheConstants.{LIMIT}
 use Rattle.lock_runner.specs.Scripts.{IsLine}
 use Rattle.lock_runner.proofs.Faults.{HasCome}
 use Rattle.lock_runner.proofs.Plays.{HasPlayed}
-use Rattle.lock_runner.proofs.program.answer_lines.Given as goal
+use Rattle.lock_runner.proofs.program.answer_each.Given as goal
 
 -- the lines so far were good, so all are if those left are; they were played; and so were they one by one, each of at least one byte
 abbrev pub invariant-loop-rest : goal.invariant-loop-rest

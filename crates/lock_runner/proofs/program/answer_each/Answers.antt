@@ -5,10 +5,10 @@ use Rattle.lock_runner.proofs.Faults.{come_none, come_more, come_fault, after_sh
 use Rattle.lock_runner.proofs.Plays.{played_none, played_more, played_all}
 use Rattle.lock_runner.proofs.Scripts.{lines-none}
 use Rattle.lock_runner.specs.Scripts.{IsLine}
-use Rattle.lock_runner.proofs.program.answer_lines.Goals as goal
+use Rattle.lock_runner.proofs.program.answer_each.Goals as goal
 
 pub loop-rest-init : goal.loop-rest-init
-loop-rest-init g c = record { good = λ all. all; played = played_none _ _; few = omega arith; short = c.requires; come = come_none _ _ }
+loop-rest-init g c = record { good = λ all. all; played = rw c.requires.first (played_none _ _); few = omega arith; short = c.requires.short; come = rw c.requires.first (come_none _ _) }
 
 pub loop-rest-preserved : goal.loop-rest-preserved
 loop-rest-preserved g c = record {
