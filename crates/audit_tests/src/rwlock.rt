@@ -330,14 +330,22 @@ fn run_again(
     run(world, rt.alloc(), moves)
 }
 
-/// What a World of two parties and the value 4 answers to a run of these moves, made once more where it was
-/// refused.
+/// What this World answers to a run of these moves, made once more where it was refused.
+fn answers_in(
+    rt: &(impl AllocGlobal + Abort),
+    world: &mut World,
+    moves: &[Move],
+) -> Result<Vec<Answer>, Memory> {
+    match run(world, rt.alloc(), moves) {
+        Ok(answers) => Ok(answers),
+        Err(Memory) => run_again(rt, world, moves),
+    }
+}
+
+/// What a World of two parties and the value 4 answers to a run of these moves.
 fn answers(rt: &(impl AllocGlobal + Abort), moves: &[Move]) -> Result<Vec<Answer>, Fail> {
     let mut world = of_parties(rt.alloc(), 2, 4)?;
-    match run(&mut world, rt.alloc(), moves) {
-        Ok(answers) => Ok(answers),
-        Err(Memory) => Ok(run_again(rt, &mut world, moves)?),
-    }
+    Ok(answers_in(rt, &mut world, moves)?)
 }
 
 #[test]
