@@ -9,3 +9,6 @@ invariant_of-self-2 g c =
 
 pub returns-clause-counted : goal.returns-clause-counted
 returns-clause-counted g c = rw (← c.share.view_is) c.count.ensures.numbers
+
+pub returns-clause-recorded : goal.returns-clause-recorded
+returns-clause-recorded g c = rw (← c.self.view_is) c.in_ok-answer.ensures.recorded
