@@ -1,0 +1,12 @@
+use Rattle.std.proofs.Common.{◌≡◌, rules}
+use Rattle.std.specs.Prelude.{Result, Err}
+use Rattle.lock_runner.specs.declared.fault.Fault.{Fault}
+use Rattle.lock_runner.specs.declared.fault.Fault.TheVariants.{Memory, Read}
+use Rattle.lock_runner.proofs.program.read_more.Goals as goal
+
+-- Memory that was refused is no failed read.
+no_failed_read : {A : Type 0} (outcome : Result A Fault) → outcome ≡ Err Memory → outcome ≡ Err Read → ⊥
+no_failed_read outcome memory failed = absurd cc
+
+pub returns-in_err-map_err-in-Ok-clause-failed : goal.returns-in_err-map_err-in-Ok-clause-failed
+returns-in_err-map_err-in-Ok-clause-failed g c = λ failed. absurd (no_failed_read _ (search rules) failed)
