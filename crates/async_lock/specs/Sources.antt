@@ -1,7 +1,7 @@
 -- How far an owned future is.
 use Rattle.std.specs.Prelude.{◌≡◌, ℕ, Bool, true, false}
 use Rattle.async_lock.specs.declared.lock.Stage.{Stage}
-use Rattle.async_lock.specs.declared.lock.Stage.TheVariants.{Unowned, Waits, Finished}
+use Rattle.async_lock.specs.declared.lock.Stage.TheVariants.{Waits, Finished}
 use Rattle.async_lock.specs.declared.mutex.Mutex.{Mutex}
 
 -- the sources at which it waits: its mutex's own
