@@ -7,3 +7,4 @@ mod task;
 
 pub use fault::Fault;
 pub use program::{LIMIT, report, run};
+pub use task::arguments;

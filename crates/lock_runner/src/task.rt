@@ -1,10 +1,14 @@
-//! What the arguments ask for.
+//! The arguments, and what they ask for.
 
-ghost use Rattle.std.specs.Prelude.{◌≡◌, ◌↔◌, ℕ, codes, length, map, string_bytes, None, IfSome, IfNone, IsTrue};
+ghost use Rattle.std.specs.Prelude.{◌≡◌, ◌↔◌, ◌⊎◌, ℕ, codes, length, map, string_bytes, None, IfSome, IfNone, IfErr, IsTrue};
 ghost use Rattle.lock_runner.specs.Scripts.{asked, AsksFor, IsWorkers};
 ghost use Rattle.lock_runner.specs.declared.task.Task.{Task};
 
+use crate::fault::Fault;
 use lock_script::line;
+use std::env;
+use std::io::ErrorKind;
+use std::rt::Env;
 
 /// What the arguments ask for.
 #[derive(Clone, Copy, Debug, PartialEq, Eq)]
@@ -17,6 +21,29 @@ pub enum Task {
 
 /// The greatest number of workers.
 pub const WORKERS: u64 = 1000;
+
+/// The arguments after the program's name.
+///
+/// Refused with [`Fault::Usage`] where one of them is no text, and with [`Fault::Memory`] where memory is refused
+/// for them; of nothing else, which the contract says. That the words are the process's own is only tested.
+pub fn arguments<R: Env + AllocGlobal>(rt: &R) -> Result<Vec<String>, Fault>
+    ensures { IfErr result (λ fault. (fault ≡ Fault.Usage) ⊎ (fault ≡ Fault.Memory)) }
+{
+    let mut words = Vec::new(rt.alloc());
+    match env::args(rt) {
+        Ok(all) => {
+            for word in all.skip(1) {
+                words.push(word).map_err(|_| Fault::Memory)?;
+            }
+            Ok(words)
+        }
+        // An argument that is no text is not the word that is asked for.
+        Err(e) => match e.kind() {
+            ErrorKind::OutOfMemory => Err(Fault::Memory),
+            _ => Err(Fault::Usage),
+        },
+    }
+}
 
 /// What the words after the program's name ask for: `script` alone, or `threads` and a number of workers, of
 /// 1 to 4 digits and from 1 to 1000. Any other words ask for nothing.

@@ -69,6 +69,19 @@ no_holder (Some q) e = absurd (cc e)
 none_at_all : (n : ℕ) → (n == 0) ≡ true → n ≡ 0
 none_at_all n h = grind (arith, nat_tests)
 
+-- Which calls a first poll may be, by how its party stands.
+idle_waits : (c : Call) (i : Inputs) (n : ℕ) → is_first_poll (outside rest.Idle) (Begin c i) n ≡ true → c ≡ call.Wait
+idle_waits call.Wait i n h = refl
+idle_waits _ i n h = absurd (cc h)
+
+finished_waits : (c : Call) (i : Inputs) (n : ℕ) → is_first_poll (outside rest.Finished) (Begin c i) n ≡ true → c ≡ call.Wait
+finished_waits call.Wait i n h = refl
+finished_waits _ i n h = absurd (cc h)
+
+pending_polls : (c : Call) (i : Inputs) (n : ℕ) → is_first_poll (outside rest.Pending) (Begin c i) n ≡ true → (c ≡ call.Poll) × ((n == 0) ≡ true)
+pending_polls call.Poll i n h = (refl, h)
+pending_polls _ i n h = absurd (cc h)
+
 module _ (t : Table Barrier) where
   abbrev m : Mutex
   m = t.machine.lock
@@ -145,12 +158,9 @@ module _ (t : Table Barrier) (p : ℕ) (tl : IsBarrier t.machine) (tf : IsBarrie
     from_made (At z) e at fits none = absurd (cc fits)
 
     pub first_from : (c : Call) (s : Stage) → stage_at t.stages p ≡ s → is_first_poll (stands_as (verdict_in t.machine p) s) (Begin c i) (entries_in (view_of t) p) ≡ true → Begins t p c i EnterLock
-    first_from call.Wait (Outside rest.Idle) at h = from_out rest.Idle _ at refl refl (is_out_here here (stands_at rest.Idle at))
-    first_from call.Wait (Outside rest.Finished) at h = from_out rest.Finished _ at refl refl (is_out_here here (stands_at rest.Finished at))
-    first_from call.Poll (Outside rest.Pending) at h = from_made here refl at (stands_at rest.Pending at) (none_at_all (entries_in (view_of t) p) h)
-    first_from _ (Outside rest.Idle) at h = absurd (cc h)
-    first_from _ (Outside rest.Finished) at h = absurd (cc h)
-    first_from _ (Outside rest.Pending) at h = absurd (cc h)
+    first_from c (Outside rest.Idle) at h = subst (λ z. Begins t p z i EnterLock) (sym (idle_waits c i (entries_in (view_of t) p) h)) (from_out rest.Idle _ at refl refl (is_out_here here (stands_at rest.Idle at)))
+    first_from c (Outside rest.Finished) at h = subst (λ z. Begins t p z i EnterLock) (sym (finished_waits c i (entries_in (view_of t) p) h)) (from_out rest.Finished _ at refl refl (is_out_here here (stands_at rest.Finished at)))
+    first_from c (Outside rest.Pending) at h = let polls = pending_polls c i (entries_in (view_of t) p) h in subst (λ z. Begins t p z i EnterLock) (sym polls.0) (from_made here refl at (stands_at rest.Pending at) (none_at_all (entries_in (view_of t) p) polls.1))
     first_from _ (Outside rest.Holding) at h = absurd (cc h)
     first_from _ (Inside w) at h = absurd (cc h)
     first_from _ Forgotten at h = absurd (cc h)
