@@ -24,8 +24,9 @@ pub const WORKERS: u64 = 1000;
 
 /// The arguments after the program's name.
 ///
-/// Refused with [`Fault::Usage`] where one of them is no text, and with [`Fault::Memory`] where memory is refused
-/// for them; of nothing else, which the contract says. That the words are the process's own is only tested.
+/// [`Fault::Usage`] comes where one of them is no text, and [`Fault::Memory`] where memory is refused for them.
+/// The contract says that no other fault comes. When one comes, and which words they are, it can't say, since
+/// std says nothing of a process's arguments.
 pub fn arguments<R: Env + AllocGlobal>(rt: &R) -> Result<Vec<String>, Fault>
     ensures { IfErr result (λ fault. (fault ≡ Fault.Usage) ⊎ (fault ≡ Fault.Memory)) }
 {
