@@ -1,5 +1,5 @@
 -- A recorded move goes on with the history.
-use Rattle.std.proofs.Common.{sym}
+use Rattle.std.proofs.Common.{[], ◌∷◌, ◌++◌, sym, ap, ◌∙◌}
 use Rattle.lock_audit.proofs.Replaying.{replays_more, replays_from}
 use Rattle.lock_audit.proofs.book.Book.record.Goals as goal
 
@@ -8,3 +8,6 @@ invariant_of-self-2 g c =
     let keeps = g.met.W.AnyWorld.keeps_opening c.self.inside.world c.args.m c.step-answer.result c.step-answer.new.self c.step-answer.ensures in
     rw (c.push_reserved.ensures.items, c.reserve.ensures.items)
     (replays_from g.W.AnyWorld.legal _ _ _ _ (sym keeps) (replays_more g.W.AnyWorld.legal _ _ c.self.inside.world c.args.m c.step-answer.result c.step-answer.new.self c.self.invariant c.step-answer.ensures))
+
+pub returns-clause-recorded : goal.returns-clause-recorded
+returns-clause-recorded g c = c.push_reserved.ensures.items ∙ ap (λ l. l ++ (c.args.m, c.step-answer.result) ∷ []) (c.reserve.ensures.items ∙ ap (λ v. v.history) c.self.view_is)

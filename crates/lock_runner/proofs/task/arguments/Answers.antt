@@ -1,0 +1,6 @@
+-- Any fault of the process's arguments but refused memory is a wrong usage.
+use Rattle.std.proofs.Common.{inl, refl}
+use Rattle.lock_runner.proofs.task.arguments.Goals as goal
+
+pub returns : goal.returns
+returns g c = inl refl
