@@ -102,9 +102,8 @@ impl<W: Drop> Event<W> {
         ensures entries { result.entries ≡ [] }
         ensures room { result.room ≡ 0 }
     {
-        Event {
-            entries: Vec::new(alloc),
-        }
+        let entries = Vec::new(alloc);
+        Event { entries }
     }
 
     /// How many entries the list has.
@@ -141,7 +140,10 @@ impl<W: Drop> Event<W> {
         ensures kept { self.old.room ≤ self.new.room }
         ensures succeeds { length self.old.entries + n ≤ self.old.room → IsOk result }
     {
-        self.entries.reserve(n).map_err(|_| Memory)
+        match self.entries.reserve(n) {
+            Ok(()) => Ok(()),
+            Err(_) => Err(Memory),
+        }
     }
 
     /// Marked entries always stand before waiting ones. The call does nothing: its clause hands a
