@@ -29,10 +29,15 @@ const PATIENCE: u64 = 500;
 /// A value that one task at a time reads and writes.
 ///
 /// `R` is the runtime that the mutex was made with and keeps.
-#[derive(Drop)]
 pub struct Mutex<T, R> {
     pub(crate) raw: RawMutex<T>,
     pub(crate) rt: R,
+}
+
+impl<T: Drop, R: Drop> Drop for Mutex<T, R> {
+    fn drop(self) {
+        let Mutex { raw: _, rt: _ } = self;
+    }
 }
 
 impl<T: Drop, R: AllocGlobal + Drop> Mutex<T, R> {

@@ -15,11 +15,20 @@ pub(crate) fn task<R: RandomSource + AllocGlobal>(rt: &R) -> Option<MockTask> {
 }
 
 /// Three tasks.
-#[derive(Drop)]
 pub(crate) struct Tasks {
     pub(crate) first: MockTask,
     pub(crate) second: MockTask,
     pub(crate) third: MockTask,
+}
+
+impl Drop for Tasks {
+    fn drop(self) {
+        let Tasks {
+            first: _,
+            second: _,
+            third: _,
+        } = self;
+    }
 }
 
 impl Tasks {

@@ -27,13 +27,24 @@ use std::marker::Model;
 ///
 /// The Rust crate keeps the count and the generation in its mutex, and the list in an event; a waiting party
 /// remembers its generation. Here one step is one call, and each party's last arrival is kept.
-#[derive(Drop)]
 pub struct Barrier {
     words: Words,
     positions: Vec<Position>,
     arrivals: Vec<Progress>,
     list: WaitQueue,
     lock: Mutex,
+}
+
+impl Drop for Barrier {
+    fn drop(self) {
+        let Barrier {
+            words: _,
+            positions: _,
+            arrivals: _,
+            list: _,
+            lock: _,
+        } = self;
+    }
 }
 
 impl Model for Barrier {

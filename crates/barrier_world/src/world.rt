@@ -42,9 +42,14 @@ pub enum ListName {
 }
 
 /// A barrier, its parties, and their waits.
-#[derive(Drop)]
 pub struct World {
     table: Table<Barrier>,
+}
+
+impl Drop for World {
+    fn drop(self) {
+        let World { table: _ } = self;
+    }
 }
 
 impl Model for World {

@@ -27,12 +27,22 @@ use std::marker::Model;
 ///
 /// The Rust crate keeps the state in an atomic word, the value beside it, and the lists in two events. Here
 /// one step is one call.
-#[derive(Drop)]
 pub struct OnceCell {
     words: Words,
     active: WaitQueue,
     passive: WaitQueue,
     positions: Vec<Position>,
+}
+
+impl Drop for OnceCell {
+    fn drop(self) {
+        let OnceCell {
+            words: _,
+            active: _,
+            passive: _,
+            positions: _,
+        } = self;
+    }
 }
 
 impl Model for OnceCell {

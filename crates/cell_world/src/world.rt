@@ -29,9 +29,14 @@ use std::alloc::Global;
 use std::marker::Model;
 
 /// A once-cell, its parties, and their calls.
-#[derive(Drop)]
 pub struct World {
     table: Table<OnceCell>,
+}
+
+impl Drop for World {
+    fn drop(self) {
+        let World { table: _ } = self;
+    }
 }
 
 impl Model for World {

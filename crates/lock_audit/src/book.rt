@@ -13,10 +13,18 @@ use std::marker::Model;
 /// Whatever the moves were, the history replays: it leads by legal steps from the World as it was made
 /// to the World as it is. That is true of every `Book` that exists, since it is part of the type;
 /// [`Book::replays`] hands it to a proof.
-#[derive(Drop)]
 pub struct Book<W: AnyWorld> {
     world: W,
     history: Vec<(Move, Answer)>,
+}
+
+impl<W: AnyWorld + Drop> Drop for Book<W> {
+    fn drop(self) {
+        let Book {
+            world: _,
+            history: _,
+        } = self;
+    }
 }
 
 impl<W: AnyWorld> Model for Book<W> {

@@ -10,7 +10,6 @@ use std::marker::Model;
 use std::sync::ledger::{Book, Share};
 
 /// Some parts of each ledger, as many of one as of the others.
-#[derive(Drop)]
 pub struct Tokens<L: Ledgers> {
     moves: Share<Moves<L>>,
     calls: Share<Calls<L>>,
@@ -18,6 +17,19 @@ pub struct Tokens<L: Ledgers> {
     refusals: Share<Refusals<L>>,
     gives_back: Share<GivesBack<L>>,
     granted: Share<Granted<L>>,
+}
+
+impl<L: Ledgers> Drop for Tokens<L> {
+    fn drop(self) {
+        let Tokens {
+            moves: _,
+            calls: _,
+            grants: _,
+            refusals: _,
+            gives_back: _,
+            granted: _,
+        } = self;
+    }
 }
 
 impl<L: Ledgers> Model for Tokens<L> {
@@ -32,7 +44,6 @@ impl<L: Ledgers> Model for Tokens<L> {
 }
 
 /// The totals of all tokens.
-#[derive(Drop)]
 pub struct Totals<L: Ledgers> {
     moves: Book<Moves<L>>,
     calls: Book<Calls<L>>,
@@ -40,6 +51,19 @@ pub struct Totals<L: Ledgers> {
     refusals: Book<Refusals<L>>,
     gives_back: Book<GivesBack<L>>,
     granted: Book<Granted<L>>,
+}
+
+impl<L: Ledgers> Drop for Totals<L> {
+    fn drop(self) {
+        let Totals {
+            moves: _,
+            calls: _,
+            grants: _,
+            refusals: _,
+            gives_back: _,
+            granted: _,
+        } = self;
+    }
 }
 
 impl<L: Ledgers> Model for Totals<L> {

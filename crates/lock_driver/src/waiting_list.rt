@@ -19,12 +19,21 @@ use std::sync::{Mutex, Wait};
 ///
 /// No contract sees through the list's lock: what the calls do to the list is what the functions of [`Event`]
 /// say, and tested.
-#[derive(Drop)]
 pub struct WaitingList {
     source: Source,
     // Written under the list's lock alone.
     is_listed: AtomicBool,
     entries: Mutex<Event<Waker>>,
+}
+
+impl Drop for WaitingList {
+    fn drop(self) {
+        let WaitingList {
+            source: _,
+            is_listed: _,
+            entries: _,
+        } = self;
+    }
 }
 
 impl WaitingList {

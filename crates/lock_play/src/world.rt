@@ -23,13 +23,24 @@ use std::io;
 use std::io::Write;
 
 /// A World, of whichever lock.
-#[derive(Drop)]
 pub enum World {
     Mutex(mutex::World),
     RwLock(rwlock::World),
     Semaphore(semaphore::World),
     Cell(cell::World),
     Barrier(barrier::World),
+}
+
+impl Drop for World {
+    fn drop(self) {
+        match self {
+            World::Mutex(world) => drop(world),
+            World::RwLock(world) => drop(world),
+            World::Semaphore(world) => drop(world),
+            World::Cell(world) => drop(world),
+            World::Barrier(world) => drop(world),
+        }
+    }
 }
 
 impl World {

@@ -16,11 +16,20 @@ use std::alloc::{AllocError, Global};
 use std::marker::Model;
 
 /// A machine, at which stage of its calls each party is, and the number that the World was made with.
-#[derive(Drop)]
 pub struct Table<M: Machine> {
     machine: M,
     stages: Vec<Stage>,
     opening: u64,
+}
+
+impl<M: Machine + Drop> Drop for Table<M> {
+    fn drop(self) {
+        let Table {
+            machine: _,
+            stages: _,
+            opening: _,
+        } = self;
+    }
 }
 
 impl<M: Machine> Model for Table<M> {

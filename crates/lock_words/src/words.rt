@@ -43,7 +43,6 @@ type Ruled<T> = Shared<Rested<T>, View, Spare<T>, MutexRule>;
 /// In clauses it is which lock it is (`lock`) and where its value lies now (`room`). Each call by a shared
 /// reference is a single try on one word and asks no waiting. Whoever wants to wait stands in a list that
 /// a layer above keeps.
-#[derive(Drop)]
 pub struct Words<T> {
     table: Table<Rested<T>, View, Spare<T>, MutexRule, Global>,
     place: Place<T, Global>,
@@ -51,6 +50,17 @@ pub struct Words<T> {
     // A forgotten seat left the lock held, and the value has been lent past it. The lock stays held then,
     // and the right that the seat had is worth nothing.
     is_left: bool,
+}
+
+impl<T: Drop> Drop for Words<T> {
+    fn drop(self) {
+        let Words {
+            table: _,
+            place: _,
+            spare: _,
+            is_left: _,
+        } = self;
+    }
 }
 
 impl<T> Model for Words<T> {

@@ -18,11 +18,20 @@ use std::marker::Model;
 ///
 /// The Rust crate keeps the word and the list in atomics and the place in each future; here one step is
 /// one call.
-#[derive(Drop)]
 pub struct Lock {
     word: Word,
     list: WaitQueue,
     places: Vec<Place>,
+}
+
+impl Drop for Lock {
+    fn drop(self) {
+        let Lock {
+            word: _,
+            list: _,
+            places: _,
+        } = self;
+    }
 }
 
 impl Model for Lock {

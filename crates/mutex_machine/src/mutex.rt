@@ -26,9 +26,14 @@ pub enum Step {
 ///
 /// The Rust crate builds its read-write lock and its barrier on its mutex in the same way, by calls
 /// alone.
-#[derive(Drop)]
 pub struct Mutex {
     machine: Lock,
+}
+
+impl Drop for Mutex {
+    fn drop(self) {
+        let Mutex { machine: _ } = self;
+    }
 }
 
 impl Model for Mutex {

@@ -24,9 +24,14 @@ use std::marker::Model;
 pub const MOST_STARVED: u32 = 1_073_741_823;
 
 /// A mutex over a number, its parties, and their calls.
-#[derive(Drop)]
 pub struct World {
     table: Table<Guarded>,
+}
+
+impl Drop for World {
+    fn drop(self) {
+        let World { table: _ } = self;
+    }
 }
 
 impl Model for World {

@@ -30,13 +30,24 @@ use std::alloc::{AllocError, Global};
 use std::marker::Model;
 
 /// A read-write lock without a value, and the place of each of its parties.
-#[derive(Drop)]
 pub struct RwLock {
     word: Word,
     places: Vec<Place>,
     no_writer: WaitQueue,
     no_readers: WaitQueue,
     turn: Mutex,
+}
+
+impl Drop for RwLock {
+    fn drop(self) {
+        let RwLock {
+            word: _,
+            places: _,
+            no_writer: _,
+            no_readers: _,
+            turn: _,
+        } = self;
+    }
 }
 
 impl Model for RwLock {

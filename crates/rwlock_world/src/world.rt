@@ -28,9 +28,14 @@ pub const MOST_STARVED_FOR_THE_TURN: u32 = 1_073_741_823;
 pub const MOST_READERS: u32 = 1_073_741_823;
 
 /// A read-write lock over a number, its parties, and their calls.
-#[derive(Drop)]
 pub struct World {
     table: Table<Guarded>,
+}
+
+impl Drop for World {
+    fn drop(self) {
+        let World { table: _ } = self;
+    }
 }
 
 impl Model for World {

@@ -22,11 +22,20 @@ use std::marker::Model;
 ///
 /// The Rust crate keeps the permits in an atomic word and the list in an event; it has no word for the limit,
 /// so that added permits may wrap. Here one step is one call.
-#[derive(Drop)]
 pub struct Semaphore {
     words: Words,
     list: WaitQueue,
     positions: Vec<Position>,
+}
+
+impl Drop for Semaphore {
+    fn drop(self) {
+        let Semaphore {
+            words: _,
+            list: _,
+            positions: _,
+        } = self;
+    }
 }
 
 impl Model for Semaphore {

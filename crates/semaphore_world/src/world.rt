@@ -22,9 +22,14 @@ use std::alloc::Global;
 use std::marker::Model;
 
 /// A semaphore, its parties, and their calls.
-#[derive(Drop)]
 pub struct World {
     table: Table<Semaphore>,
+}
+
+impl Drop for World {
+    fn drop(self) {
+        let World { table: _ } = self;
+    }
 }
 
 impl Model for World {
