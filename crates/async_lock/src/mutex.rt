@@ -34,6 +34,7 @@ pub struct Mutex<T, R> {
     pub(crate) rt: R,
 }
 
+// By hand, so that a drop is one call to prove, and not all of its parts again.
 impl<T: Drop, R: Drop> Drop for Mutex<T, R> {
     fn drop(self) {
         let Mutex { raw: _, rt: _ } = self;

@@ -21,6 +21,7 @@ pub(crate) struct Tasks {
     pub(crate) third: MockTask,
 }
 
+// By hand, so that a drop is one call to prove, and not all of its parts again.
 impl Drop for Tasks {
     fn drop(self) {
         let Tasks {

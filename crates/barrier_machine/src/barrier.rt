@@ -35,6 +35,7 @@ pub struct Barrier {
     lock: Mutex,
 }
 
+// By hand, so that a drop is one call to prove, and not all of its parts again.
 impl Drop for Barrier {
     fn drop(self) {
         let Barrier {

@@ -34,6 +34,7 @@ pub struct OnceCell {
     positions: Vec<Position>,
 }
 
+// By hand, so that a drop is one call to prove, and not all of its parts again.
 impl Drop for OnceCell {
     fn drop(self) {
         let OnceCell {

@@ -18,6 +18,7 @@ pub struct Book<W: AnyWorld> {
     history: Vec<(Move, Answer)>,
 }
 
+// By hand, so that a drop is one call to prove, and not all of its parts again.
 impl<W: AnyWorld + Drop> Drop for Book<W> {
     fn drop(self) {
         let Book {

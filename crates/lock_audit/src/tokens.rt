@@ -19,6 +19,7 @@ pub struct Tokens<L: Ledgers> {
     granted: Share<Granted<L>>,
 }
 
+// By hand, so that a drop is one call to prove, and not all of its parts again.
 impl<L: Ledgers> Drop for Tokens<L> {
     fn drop(self) {
         let Tokens {
@@ -53,6 +54,7 @@ pub struct Totals<L: Ledgers> {
     granted: Book<Granted<L>>,
 }
 
+// By hand, so that a drop is one call to prove, and not all of its parts again.
 impl<L: Ledgers> Drop for Totals<L> {
     fn drop(self) {
         let Totals {

@@ -26,6 +26,7 @@ pub struct WaitingList {
     entries: Mutex<Event<Waker>>,
 }
 
+// By hand, so that a drop is one call to prove, and not all of its parts again.
 impl Drop for WaitingList {
     fn drop(self) {
         let WaitingList {

@@ -31,6 +31,7 @@ pub enum World {
     Barrier(barrier::World),
 }
 
+// By hand, so that a drop is one call to prove, and not all of its parts again.
 impl Drop for World {
     fn drop(self) {
         match self {

@@ -22,6 +22,7 @@ pub struct Table<M: Machine> {
     opening: u64,
 }
 
+// By hand, so that a drop is one call to prove, and not all of its parts again.
 impl<M: Machine + Drop> Drop for Table<M> {
     fn drop(self) {
         let Table {

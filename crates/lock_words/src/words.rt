@@ -52,6 +52,7 @@ pub struct Words<T> {
     is_left: bool,
 }
 
+// By hand, so that a drop is one call to prove, and not all of its parts again.
 impl<T: Drop> Drop for Words<T> {
     fn drop(self) {
         let Words {

@@ -24,6 +24,7 @@ pub struct Lock {
     places: Vec<Place>,
 }
 
+// By hand, so that a drop is one call to prove, and not all of its parts again.
 impl Drop for Lock {
     fn drop(self) {
         let Lock {

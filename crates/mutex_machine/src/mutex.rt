@@ -30,6 +30,7 @@ pub struct Mutex {
     machine: Lock,
 }
 
+// By hand, so that a drop is one call to prove, and not all of its parts again.
 impl Drop for Mutex {
     fn drop(self) {
         let Mutex { machine: _ } = self;

@@ -28,6 +28,7 @@ pub struct World {
     table: Table<Guarded>,
 }
 
+// By hand, so that a drop is one call to prove, and not all of its parts again.
 impl Drop for World {
     fn drop(self) {
         let World { table: _ } = self;

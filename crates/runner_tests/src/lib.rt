@@ -1,6 +1,6 @@
-//! Tests of whole runs of the program, over readers and writers in memory, and of its workers, by their public
-//! calls. They stand here and not beside what they test, so that this isn't proved once more with its tests.
-//! There is nothing else here, and no crate stands on it.
+//! Tests of whole runs of the program, over readers and writers in memory. They stand here and not beside it,
+//! so that the runner isn't proved once more with its tests. There is nothing else here, and no crate stands
+//! on it.
 #![tactic(auto)]
 
 #[cfg(test)]
@@ -15,5 +15,3 @@ mod runs;
 mod scripts;
 #[cfg(test)]
 mod streams;
-#[cfg(test)]
-mod workers;

@@ -38,6 +38,7 @@ pub struct RwLock {
     turn: Mutex,
 }
 
+// By hand, so that a drop is one call to prove, and not all of its parts again.
 impl Drop for RwLock {
     fn drop(self) {
         let RwLock {

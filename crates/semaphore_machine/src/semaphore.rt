@@ -28,6 +28,7 @@ pub struct Semaphore {
     positions: Vec<Position>,
 }
 
+// By hand, so that a drop is one call to prove, and not all of its parts again.
 impl Drop for Semaphore {
     fn drop(self) {
         let Semaphore {
