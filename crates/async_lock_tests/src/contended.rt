@@ -1,5 +1,6 @@
 //! Threads that contend for one mutex.
 
+use crate::same::assert_same;
 use async_lock::Mutex;
 use std::sync::Arc;
 use std::test::Fail;
@@ -22,7 +23,7 @@ fn two_threads_add_under_the_lock(rt: HostRuntime) -> Result<(), Fail> {
     };
     let (one, two) = thread::join(&rt, &add, &add);
     assert!(rt; one <= 1 && two <= 1);
-    assert_eq!(rt; mutex.into_inner(), 2000 - one - two);
+    assert_same(&rt, mutex.into_inner(), 2000 - one - two);
     Ok(())
 }
 
@@ -47,6 +48,6 @@ fn two_threads_add_under_the_lock_that_they_own(rt: HostRuntime) -> Result<(), F
     let (one, two) = thread::join(&rt, &add, &add);
     assert!(rt; one <= 1 && two <= 1);
     let sum = mutex.try_lock().map(|guard| *guard);
-    assert_eq!(rt; sum, Some(2000 - one - two));
+    assert_same(&rt, sum, Some(2000 - one - two));
     Ok(())
 }

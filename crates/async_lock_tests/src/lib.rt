@@ -22,6 +22,8 @@ mod polls;
 #[cfg(test)]
 mod rounds;
 #[cfg(test)]
+mod same;
+#[cfg(test)]
 mod stories;
 #[cfg(test)]
 mod surface;

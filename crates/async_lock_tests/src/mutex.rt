@@ -2,6 +2,7 @@
 
 use crate::forms::Form;
 use crate::polls::{is_pending, ready, task};
+use crate::same::assert_same;
 use async_lock::{Mutex, Settled};
 use futures::executor::block_on;
 use futures::test::MockTask;
@@ -75,7 +76,7 @@ fn into_inner(rt: HostRuntime) -> Result<(), Fail> {
     let Ok(mutex) = Mutex::new(rt, 10i32) else {
         return Ok(());
     };
-    assert_eq!(rt; mutex.into_inner(), 10);
+    assert_same(&rt, mutex.into_inner(), 10);
     Ok(())
 }
 
@@ -85,7 +86,7 @@ fn get_mut(rt: HostRuntime) -> Result<(), Fail> {
         return Ok(());
     };
     *mutex.get_mut() = 20;
-    assert_eq!(rt; mutex.into_inner(), 20);
+    assert_same(&rt, mutex.into_inner(), 20);
     Ok(())
 }
 
@@ -108,7 +109,7 @@ fn contention(rt: HostRuntime) -> Result<(), Fail> {
     };
     thread::join(&rt, &add, &add);
     let sum = mutex.lock_blocking().map(|guard| *guard).ok();
-    assert_eq!(rt; sum, Some(100));
+    assert_same(&rt, sum, Some(100));
     Ok(())
 }
 

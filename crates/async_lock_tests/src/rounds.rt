@@ -2,6 +2,7 @@
 
 use crate::forms::{NumberForm, is_free, number_in, owned};
 use crate::polls::{Tasks, is_pending, ready, refused, task};
+use crate::same::assert_same;
 use crate::stories::{Story, of_borrowed, of_owned};
 use async_lock::{Mutex, MutexGuard, MutexGuardArc, Refusal};
 use futures::test::MockTask;
@@ -16,11 +17,11 @@ impl Story for Writes {
         let Some(mut guard) = ready(&tasks.first, &mut future) else {
             panic!(rt; "the lock is free");
         };
-        assert_eq!(rt; L::read(&guard), 1);
+        assert_same(rt, L::read(&guard), 1);
         L::write(&mut guard, 2);
         assert!(rt; !is_free(lock));
         drop(guard);
-        assert_eq!(rt; number_in(lock), Some(2));
+        assert_same(rt, number_in(lock), Some(2));
     }
 }
 
@@ -51,7 +52,11 @@ impl Story for WaitsAndIsOver {
         // It was ready: another poll is refused, and wakes nobody.
         let mut next = lock.future();
         assert!(rt; is_pending(&tasks.second, &mut next));
-        assert_eq!(rt; refused(&tasks.third, &mut future), Some(Refusal::Finished));
+        assert_same(
+            rt,
+            refused(&tasks.third, &mut future),
+            Some(Refusal::Finished),
+        );
         assert!(rt; !tasks.third.is_woken() && !tasks.first.is_woken() && !tasks.second.is_woken());
         // Dropped, it changes nothing: the lock is held, and the next one waits and is told.
         drop(future);
@@ -111,7 +116,11 @@ impl Story for GoesFromHandToHand {
             drop(guard);
             assert!(rt; tasks.second.is_woken());
             held = ready(&tasks.second, &mut two);
-            assert_eq!(rt; held.as_ref().map(|guard| L::read(guard)), Some(round + 1));
+            assert_same(
+                rt,
+                held.as_ref().map(|guard| L::read(guard)),
+                Some(round + 1),
+            );
         }
     }
 }
@@ -144,12 +153,12 @@ fn a_guards_source_is_its_mutex(rt: HostRuntime) {
         return;
     };
     let found = mutex.try_lock().map(|guard| source_can_be_had(guard));
-    assert_eq!(rt; found, Some((false, true)));
+    assert_same(&rt, found, Some((false, true)));
     let Ok(mutex) = Arc::new(rt.alloc(), mutex) else {
         return;
     };
     let found = Mutex::try_lock_arc(&mutex).map(|guard| owned_source_can_be_had(&guard));
-    assert_eq!(rt; found, Some(false));
+    assert_same(&rt, found, Some(false));
     assert!(rt; is_free(&mutex));
 }
 
@@ -161,7 +170,7 @@ fn one_outlives_its_lock<L: NumberForm + Drop, R: Abort>(rt: &R, lock: L, task: 
     drop(lock);
     drop(held);
     let guard = ready(task, &mut future);
-    assert_eq!(rt; guard.as_ref().map(|guard| L::read(guard)), Some(1));
+    assert_same(rt, guard.as_ref().map(|guard| L::read(guard)), Some(1));
     drop(future);
     drop(guard);
     drop(unpolled);

@@ -2,16 +2,32 @@
 
 use crate::forms::{Form, NumberForm, is_free, number_in};
 use crate::polls::ready;
+use crate::same::assert_same;
 use async_lock::lock_futures::{Lock, LockArc};
 use async_lock::{Mutex, Refusal, Settled, Turn};
 use futures::executor::block_on;
 use futures::test::MockTask;
 use std::alloc::{AllocGlobal, Global};
 use std::fmt;
+use std::process::Abort;
 use std::random::RandomSource;
 use std::sync::{Arc, Wait};
-use std::test::Fail;
 use std::time::Clock;
+
+// Why a test here stops where memory is refused.
+const AMPLE: &str = "memory is ample";
+
+fn fresh<T: Drop, R: AllocGlobal + Abort + Copy + Drop>(rt: R, value: T) -> Mutex<T, R> {
+    Mutex::new(rt, value).expect(&rt, AMPLE)
+}
+
+fn fresh_arc<T: Drop, R: AllocGlobal + Abort + Copy + Drop>(rt: R, value: T) -> Arc<Mutex<T, R>> {
+    Arc::new(rt.alloc(), fresh(rt, value)).expect(&rt, AMPLE)
+}
+
+fn text_of(rt: &(impl AllocGlobal + Abort), shown: &impl fmt::Debug) -> String {
+    format!(in rt.alloc(); "{shown:?}").expect(rt, AMPLE)
+}
 
 // What a call in the blocking form reads.
 fn read_blocking<R>(mutex: &Mutex<u64, R>) -> Option<u64>
@@ -53,16 +69,15 @@ fn read_polled<L: NumberForm>(task: &MockTask, lock: &L) -> Option<u64> {
 }
 
 #[test]
-fn each_borrowed_call_succeeds(rt: HostRuntime) -> Result<(), Fail> {
-    let mut mutex = Mutex::new(rt, 1u64)?;
-    assert_eq!(rt; number_in(&&mutex), Some(1));
-    assert_eq!(rt; read_blocking(&mutex), Some(1));
-    assert_eq!(rt; read_waiting(&rt, &mutex), Some(1));
-    let task = MockTask::new(&rt)?;
-    assert_eq!(rt; read_polled(&task, &&mutex), Some(1));
+fn each_borrowed_call_succeeds(rt: HostRuntime) {
+    let mut mutex = fresh(rt, 1u64);
+    assert_same(&rt, number_in(&&mutex), Some(1));
+    assert_same(&rt, read_blocking(&mutex), Some(1));
+    assert_same(&rt, read_waiting(&rt, &mutex), Some(1));
+    let task = MockTask::new(&rt).expect(&rt, AMPLE);
+    assert_same(&rt, read_polled(&task, &&mutex), Some(1));
     *mutex.get_mut() = 2;
-    assert_eq!(rt; mutex.into_inner(), 2);
-    Ok(())
+    assert_same(&rt, mutex.into_inner(), 2);
 }
 
 /// The example of the crate's page.
@@ -81,31 +96,28 @@ where
 }
 
 #[test]
-fn the_example_gives_what_was_written(rt: HostRuntime) -> Result<(), Fail> {
-    assert_eq!(rt; example(rt)?, 2);
-    Ok(())
+fn the_example_gives_what_was_written(rt: HostRuntime) {
+    assert_same(&rt, example(rt).expect(&rt, AMPLE), 2);
 }
 
 #[test]
-fn each_owned_call_succeeds(rt: HostRuntime) -> Result<(), Fail> {
-    let mutex = Arc::new(rt.alloc(), Mutex::new(rt, 1u64)?)?;
-    assert_eq!(rt; number_in(&mutex), Some(1));
-    assert_eq!(rt; read_arc_blocking(&mutex), Some(1));
-    assert_eq!(rt; read_arc_waiting(&rt, &mutex), Some(1));
-    Ok(())
+fn each_owned_call_succeeds(rt: HostRuntime) {
+    let mutex = fresh_arc(rt, 1u64);
+    assert_same(&rt, number_in(&mutex), Some(1));
+    assert_same(&rt, read_arc_blocking(&mutex), Some(1));
+    assert_same(&rt, read_arc_waiting(&rt, &mutex), Some(1));
 }
 
 #[test]
-fn a_mutex_is_shown_with_its_value_or_as_locked(rt: HostRuntime) -> Result<(), Fail> {
-    let mutex = Arc::new(rt.alloc(), Mutex::new(rt, 7u64)?)?;
+fn a_mutex_is_shown_with_its_value_or_as_locked(rt: HostRuntime) {
+    let mutex = fresh_arc(rt, 7u64);
     let shared = &*mutex;
-    let free = format!(in rt.alloc(); "{shared:?}")?;
-    assert_eq!(rt; free.as_str(), "Mutex { data: 7 }");
+    let free = text_of(&rt, shared);
+    assert_same(&rt, free.as_str(), "Mutex { data: 7 }");
     let guard = shared.try_lock();
-    let held = format!(in rt.alloc(); "{shared:?}")?;
-    assert_eq!(rt; held.as_str(), "Mutex { data: <locked> }");
+    let held = text_of(&rt, shared);
+    assert_same(&rt, held.as_str(), "Mutex { data: <locked> }");
     drop(guard);
-    Ok(())
 }
 
 // The texts of a guard.
@@ -118,25 +130,23 @@ where
 }
 
 #[test]
-fn guards_are_shown_as_their_values(rt: HostRuntime) -> Result<(), Fail> {
-    let mutex = Arc::new(rt.alloc(), Mutex::new(rt, "a b")?)?;
+fn guards_are_shown_as_their_values(rt: HostRuntime) {
+    let mutex = fresh_arc(rt, "a b");
     let (borrowed, owned) = (shown(rt.alloc(), &&*mutex), shown(rt.alloc(), &mutex));
-    assert_eq!(rt; borrowed.as_deref(), Some("\"a b\" a b"));
-    assert_eq!(rt; owned.as_deref(), Some("\"a b\" a b"));
+    assert_same(&rt, borrowed.as_deref(), Some("\"a b\" a b"));
+    assert_same(&rt, owned.as_deref(), Some("\"a b\" a b"));
     assert!(rt; is_free(&mutex));
-    Ok(())
 }
 
 #[test]
-fn futures_are_shown_by_their_names(rt: HostRuntime) -> Result<(), Fail> {
-    let mutex = Arc::new(rt.alloc(), Mutex::new(rt, 7u64)?)?;
+fn futures_are_shown_by_their_names(rt: HostRuntime) {
+    let mutex = fresh_arc(rt, 7u64);
     let borrowed = mutex.lock();
-    let text = format!(in rt.alloc(); "{borrowed:?}")?;
-    assert_eq!(rt; text.as_str(), "Lock { .. }");
+    let text = text_of(&rt, &borrowed);
+    assert_same(&rt, text.as_str(), "Lock { .. }");
     let owned = Mutex::lock_arc(&mutex);
-    let text = format!(in rt.alloc(); "{owned:?}")?;
-    assert_eq!(rt; text.as_str(), "LockArc { .. }");
-    Ok(())
+    let text = text_of(&rt, &owned);
+    assert_same(&rt, text.as_str(), "LockArc { .. }");
 }
 
 // A turn without its guard, which is dropped.
@@ -157,20 +167,24 @@ fn turn_arc<R: Wait + Clock + Drop>(task: &MockTask, future: &mut LockArc<u64, R
 }
 
 #[test]
-fn a_poll_by_a_context_answers_a_turn(rt: HostRuntime) -> Result<(), Fail> {
-    let mutex = Arc::new(rt.alloc(), Mutex::new(rt, 7u64)?)?;
-    let task = MockTask::new(&rt)?;
+fn a_poll_by_a_context_answers_a_turn(rt: HostRuntime) {
+    let mutex = fresh_arc(rt, 7u64);
+    let task = MockTask::new(&rt).expect(&rt, AMPLE);
     let held = mutex.try_lock();
     let mut future = mutex.lock();
-    assert_eq!(rt; turn(&task, &mut future), Turn::Pending);
+    assert_same(&rt, turn(&task, &mut future), Turn::Pending);
     drop(held);
-    assert_eq!(rt; turn(&task, &mut future), Turn::Ready(()));
-    assert_eq!(rt; turn(&task, &mut future), Turn::Refused(Refusal::Finished));
-    let mut owned = Mutex::lock_arc(&mutex);
-    assert_eq!(rt; turn_arc(&task, &mut owned), Turn::Ready(()));
-    assert_eq!(rt;
-        turn_arc(&task, &mut owned),
-        Turn::Refused(Refusal::Finished)
+    assert_same(&rt, turn(&task, &mut future), Turn::Ready(()));
+    assert_same(
+        &rt,
+        turn(&task, &mut future),
+        Turn::Refused(Refusal::Finished),
     );
-    Ok(())
+    let mut owned = Mutex::lock_arc(&mutex);
+    assert_same(&rt, turn_arc(&task, &mut owned), Turn::Ready(()));
+    assert_same(
+        &rt,
+        turn_arc(&task, &mut owned),
+        Turn::Refused(Refusal::Finished),
+    );
 }

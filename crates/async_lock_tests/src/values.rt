@@ -2,6 +2,7 @@
 
 use crate::forms::{Form, is_free, number_in, owned};
 use crate::polls::{is_pending, ready, task};
+use crate::same::assert_same;
 use async_lock::Mutex;
 use futures::test::MockTask;
 use std::mem;
@@ -30,15 +31,15 @@ fn the_value_is_reached_past_a_forgotten_guard(rt: HostRuntime) -> Result<(), Fa
     let Some(mut guard) = mutex.try_lock() else {
         panic!(rt; "the lock is free");
     };
-    assert_eq!(rt; *guard, 20);
+    assert_same(&rt, *guard, 20);
     *guard = 30;
     mem::forget(guard);
-    assert_eq!(rt; *mutex.get_mut(), 30);
+    assert_same(&rt, *mutex.get_mut(), 30);
     // It stays held.
     assert!(rt; !is_free(&&mutex));
     *mutex.get_mut() = 40;
     assert!(rt; !is_free(&&mutex));
-    assert_eq!(rt; mutex.into_inner(), 40);
+    assert_same(&rt, mutex.into_inner(), 40);
     Ok(())
 }
 
@@ -48,7 +49,7 @@ fn the_value_is_taken_out_past_a_forgotten_guard(rt: HostRuntime) -> Result<(), 
         return Ok(());
     };
     mem::forget(mutex.try_lock());
-    assert_eq!(rt; mutex.into_inner(), 10);
+    assert_same(&rt, mutex.into_inner(), 10);
     Ok(())
 }
 
@@ -71,8 +72,8 @@ fn the_value_is_lent_past_a_forgotten_waiter(rt: HostRuntime) {
     };
     forget_a_waiter(&rt, &&mutex, &task);
     *mutex.get_mut() = 11;
-    assert_eq!(rt; number_in(&&mutex), Some(11));
-    assert_eq!(rt; mutex.into_inner(), 11);
+    assert_same(&rt, number_in(&&mutex), Some(11));
+    assert_same(&rt, mutex.into_inner(), 11);
 }
 
 #[test]
@@ -83,13 +84,13 @@ fn the_value_is_dropped_once_with_its_mutex(rt: HostRuntime) -> Result<(), Fail>
         Ok(mutex) => {
             drop(mutex.try_lock());
             drop(mutex.lock());
-            assert_eq!(rt; drops.load(Ordering::SeqCst), 0);
+            assert_same(&rt, drops.load(Ordering::SeqCst), 0);
             drop(mutex);
         }
         // Refused, `new` drops it.
         Err(_) => {}
     }
-    assert_eq!(rt; drops.load(Ordering::SeqCst), 1);
+    assert_same(&rt, drops.load(Ordering::SeqCst), 1);
     Ok(())
 }
 
@@ -107,9 +108,9 @@ fn dropped_with_the_last_guard<L: Form + Drop, R: Abort>(
     let guard = ready(task, &mut future);
     assert!(rt; guard.is_some());
     drop(future);
-    assert_eq!(rt; drops.load(Ordering::SeqCst), 0);
+    assert_same(rt, drops.load(Ordering::SeqCst), 0);
     drop(guard);
-    assert_eq!(rt; drops.load(Ordering::SeqCst), 1);
+    assert_same(rt, drops.load(Ordering::SeqCst), 1);
 }
 
 #[test]
@@ -122,7 +123,7 @@ fn the_value_is_dropped_once_with_the_last_owner(rt: HostRuntime) {
     if let Some(mutex) = owned(rt, Counted { drops: &drops }) {
         dropped_with_the_last_guard(&rt, mutex, &task, &drops);
     }
-    assert_eq!(rt; drops.load(Ordering::SeqCst), 1);
+    assert_same(&rt, drops.load(Ordering::SeqCst), 1);
 }
 
 #[test]
@@ -134,12 +135,12 @@ fn the_value_is_dropped_once_after_it_was_taken_out(rt: HostRuntime) -> Result<(
         return Ok(());
     };
     *mutex.get_mut() = second;
-    assert_eq!(rt; drops.load(Ordering::SeqCst), 1);
+    assert_same(&rt, drops.load(Ordering::SeqCst), 1);
     mem::forget(mutex.try_lock());
     let value = mutex.into_inner();
-    assert_eq!(rt; drops.load(Ordering::SeqCst), 1);
+    assert_same(&rt, drops.load(Ordering::SeqCst), 1);
     drop(value);
-    assert_eq!(rt; drops.load(Ordering::SeqCst), 2);
+    assert_same(&rt, drops.load(Ordering::SeqCst), 2);
     Ok(())
 }
 
@@ -151,7 +152,7 @@ fn one_is_cancelled<L: Form, R: Abort>(rt: &R, lock: &L, task: &MockTask, drops:
     drop(held);
     let mut future = lock.future();
     assert!(rt; ready(task, &mut future).is_some());
-    assert_eq!(rt; drops.load(Ordering::SeqCst), 0);
+    assert_same(rt, drops.load(Ordering::SeqCst), 0);
 }
 
 #[test]
@@ -163,5 +164,5 @@ fn the_value_is_dropped_once_by_a_cancelled_future(rt: HostRuntime) {
     if let Ok(mutex) = Mutex::new(rt, Counted { drops: &drops }) {
         one_is_cancelled(&rt, &&mutex, &task, &drops);
     }
-    assert_eq!(rt; drops.load(Ordering::SeqCst), 1);
+    assert_same(&rt, drops.load(Ordering::SeqCst), 1);
 }

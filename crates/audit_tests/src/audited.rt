@@ -3,6 +3,7 @@
 ghost use Rattle.std.specs.Prelude.{◌≡◌};
 
 use crate::rows::{SEVEN, barrier_world, begin, dropped_waiter, go, world};
+use crate::same::{assert_answer, assert_same};
 use lock_audit::{Audited, Blanks, Book, Ledgers, Share};
 use lock_core::mutex::World;
 use lock_core::{Answer, AnyWorld, Call, Memory, Move, barrier};
@@ -43,7 +44,7 @@ fn close<W: AnyWorld + Drop, L: Ledgers, R: AllocGlobal + Abort + Wait>(
     for (m, answer) in rows {
         let share = shares.get_mut(m.party as usize);
         let share = share.expect(rt, "each party has a share");
-        assert_eq!(rt; step(rt, &audited, share, *m), *answer, "{m:?}");
+        assert_answer(rt, *m, step(rt, &audited, share, *m), *answer);
     }
     assert_eq!(rt; shares.len(), parties as usize);
     Ok(audited.close(shares))
@@ -64,11 +65,12 @@ fn closed<R: AllocGlobal + Abort + Wait>(rt: &R, rows: &[(Move, Answer)]) -> Boo
 fn a_closed_book_has_the_world_and_each_move_that_was_made(rt: HostRuntime) {
     let rows = dropped_waiter();
     let book = closed(&rt, &rows);
-    assert_eq!(rt; book.history(), rows.as_slice());
-    assert_eq!(rt; book.world().value(), 7);
-    assert_eq!(rt;
+    assert_same(&rt, book.history(), rows.as_slice());
+    assert_same(&rt, book.world().value(), 7);
+    assert_same(
+        &rt,
         (book.world().is_locked(), book.world().waiting()),
-        (true, 0)
+        (true, 0),
     );
 }
 
@@ -82,7 +84,7 @@ fn a_move_that_is_not_possible_is_recorded_as_it_is(rt: HostRuntime) {
         (begin(2, Call::Drop), Answer::NotPossible),
     ];
     let book = closed(&rt, &rows);
-    assert_eq!(rt; book.history(), rows.as_slice());
+    assert_same(&rt, book.history(), rows.as_slice());
 }
 
 /// The closed book of these moves of a barrier's parties, made once more where memory for the shares was refused.
@@ -118,6 +120,10 @@ fn an_audit_takes_a_barrier(rt: HostRuntime) {
         (go(0), Answer::Stepped),
     ];
     let book = closed_barrier(&rt, &rows);
-    assert_eq!(rt; book.history(), rows.as_slice());
-    assert_eq!(rt; (book.world().count(), book.world().generation()), (1, 0));
+    assert_same(&rt, book.history(), rows.as_slice());
+    assert_same(
+        &rt,
+        (book.world().count(), book.world().generation()),
+        (1, 0),
+    );
 }

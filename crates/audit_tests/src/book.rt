@@ -6,6 +6,7 @@ ghost use Rattle.semaphore_world.specs.State.{opening_of as semaphore_opening_of
 ghost use Rattle.cell_world.specs.State.{opening_of as cell_opening_of};
 
 use crate::rows::{INPUTS, STARVING, barrier_world, begin, dropped_waiter, go, world};
+use crate::same::{assert_answer, assert_same};
 use lock_audit::Book;
 use lock_core::mutex::World;
 use lock_core::{
@@ -20,8 +21,8 @@ fn record<W: AnyWorld>(rt: &impl Abort, book: &mut Book<W>, m: Move) -> Answer {
     match book.record(m) {
         Ok(answer) => answer,
         Err(Memory) => {
-            assert_eq!(rt; book.history().len(), recorded);
-            assert_eq!(rt; book.world().at_rest(), at_rest);
+            assert_same(rt, book.history().len(), recorded);
+            assert_same(rt, book.world().at_rest(), at_rest);
             book.record(m).expect(rt, "only one allocation is refused")
         }
     }
@@ -29,17 +30,17 @@ fn record<W: AnyWorld>(rt: &impl Abort, book: &mut Book<W>, m: Move) -> Answer {
 
 /// Records these moves in turn. Each is answered as it stands beside it, and the book's history is they.
 fn expect_record<W: AnyWorld>(rt: &impl Abort, book: &mut Book<W>, rows: &[(Move, Answer)]) {
-    assert_eq!(rt; book.history().len(), 0);
+    assert_same(rt, book.history().len(), 0);
     for (m, answer) in rows {
-        assert_eq!(rt; record(rt, book, *m), *answer, "{m:?}");
+        assert_answer(rt, *m, record(rt, book, *m), *answer);
     }
     book.replays();
-    assert_eq!(rt; book.history(), rows);
+    assert_same(rt, book.history(), rows);
 }
 
 /// Whether the lock is held, and how many wait.
 fn assert_world(rt: &impl Abort, world: &World, wanted: (bool, usize)) {
-    assert_eq!(rt; (world.is_locked(), world.waiting()), wanted);
+    assert_same(rt, (world.is_locked(), world.waiting()), wanted);
 }
 
 #[test]
@@ -62,7 +63,7 @@ fn expect_run(rt: &(impl AllocGlobal + Abort), world: &mut World, rows: &[(Move,
         }
     };
     let wanted = rows.map(|(_, answer)| answer);
-    assert_eq!(rt; answers.as_slice(), wanted.as_slice());
+    assert_same(rt, answers.as_slice(), wanted.as_slice());
 }
 
 #[test]
@@ -75,7 +76,7 @@ fn no_record_is_refused_within_the_room_that_was_reserved(rt: HostRuntime) {
     for (m, answer) in dropped_waiter() {
         assert_eq!(rt; book.record(m), Ok(answer), "{m:?}");
     }
-    assert_eq!(rt; book.history(), dropped_waiter().as_slice());
+    assert_same(&rt, book.history(), dropped_waiter().as_slice());
 }
 
 #[test]
@@ -93,7 +94,7 @@ fn a_dropped_waiter_passes_its_notification_on(rt: HostRuntime) {
         record(&rt, &mut book, *m);
     }
     let next = book.world().entry(0).map(|entry| (entry.key, entry.mark));
-    assert_eq!(rt; next, Some((2, Mark::Notified)));
+    assert_same(&rt, next, Some((2, Mark::Notified)));
 }
 
 /// A read-write lock's World, made again once where memory was refused.
@@ -117,7 +118,7 @@ fn a_book_takes_any_world(rt: HostRuntime) {
         (go(0), Answer::GivenBack),
     ];
     expect_record(&rt, &mut book, &rows);
-    assert_eq!(rt; book.world().readers(), 0);
+    assert_same(&rt, book.world().readers(), 0);
 }
 
 /// A semaphore's World of one permit, made again once where memory was refused.
@@ -144,7 +145,11 @@ fn a_book_takes_a_semaphore(rt: HostRuntime) {
         (begin(1, Call::Forget), Answer::GivenBack),
     ];
     expect_record(&rt, &mut book, &rows);
-    assert_eq!(rt; (book.world().available(), book.world().limit()), (0, 0));
+    assert_same(
+        &rt,
+        (book.world().available(), book.world().limit()),
+        (0, 0),
+    );
 }
 
 /// A once-cell's World, made again once where memory was refused.
@@ -166,7 +171,7 @@ fn a_book_takes_a_once_cell(rt: HostRuntime) {
         (0, Call::Poll, INPUTS, Answer::Ready(Got::Value(5))),
     ];
     expect_whole(&rt, &mut book, &rows);
-    assert_eq!(rt; book.world().value(), Some(5));
+    assert_same(&rt, book.world().value(), Some(5));
 }
 
 #[test]
@@ -179,7 +184,7 @@ fn a_book_takes_a_barrier(rt: HostRuntime) {
     ];
     expect_whole(&rt, &mut book, &rows);
     let world = book.world();
-    assert_eq!(rt; (world.count(), world.generation()), (0, 1));
+    assert_same(&rt, (world.count(), world.generation()), (0, 1));
 }
 
 /// Two parties wait for a free lock, the second one notified and the first one starved by a try that came
@@ -250,9 +255,9 @@ fn expect_same_run(rt: &(impl AllocGlobal + Abort), world: &mut World, history: 
             again.expect(rt, "only one allocation is refused")
         }
     };
-    assert_eq!(rt; answers.len(), history.len());
+    assert_same(rt, answers.len(), history.len());
     for ((m, recorded), answer) in history.iter().zip(answers.iter()) {
-        assert_eq!(rt; *answer, *recorded, "{m:?}");
+        assert_answer(rt, *m, *answer, *recorded);
     }
 }
 

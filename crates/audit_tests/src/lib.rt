@@ -13,3 +13,5 @@ mod mutex;
 mod rows;
 #[cfg(test)]
 mod rwlock;
+#[cfg(test)]
+mod same;

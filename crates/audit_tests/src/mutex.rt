@@ -5,6 +5,7 @@
 
 use crate::rows::Seen::{self, Answered, Is, Mutex, Told, Value};
 use crate::rows::{INPUTS, STARVING};
+use crate::same::assert_same;
 use Deed::{Asks, Begins, Calls, Goes, IsAtRest, IsLocked, Looks, Puts, Reads, Starves};
 use lock_core::mutex::World;
 use lock_core::{Answer, AnyWorld, Call, Got, Inputs, Mark, Move, Refusal, What};
@@ -149,7 +150,7 @@ const RELEASED: [(Deed, Seen); 17] = [
 fn a_release_wakes_the_next(rt: HostRuntime) -> Result<(), Fail> {
     let mut world = of_parties(rt.alloc(), 2, 0)?;
     play(&rt, &mut world, &RELEASED);
-    assert_eq!(rt; value_of(world), 5);
+    assert_same(&rt, value_of(world), 5);
     Ok(())
 }
 
@@ -290,6 +291,6 @@ fn a_run_goes_on_after_the_answers_of_another(rt: HostRuntime) -> Result<(), Fai
     let mut answers = room(rt.alloc(), 2)?;
     run_tries(rt.alloc(), &mut answers)?;
     let wanted = [Answer::Granted(Got::Value(3)), Answer::None];
-    assert_eq!(rt; answers.as_slice(), wanted.as_slice());
+    assert_same(&rt, answers.as_slice(), wanted.as_slice());
     Ok(())
 }

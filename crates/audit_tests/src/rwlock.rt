@@ -5,6 +5,7 @@
 
 use crate::rows::Seen::{self, Answered, Is, RwLock, Told, Value, Waiting};
 use crate::rows::{INPUTS, STARVING, begin, go};
+use crate::same::assert_same;
 use Deed::{
     Begins, Calls, CountsWaiting, Goes, IsAtRest, Looks, NoReaders, NoWriter, Puts, Reads, Starves,
     Turn, WithoutMemory,
@@ -174,7 +175,7 @@ const DOWNGRADED: [(Deed, Seen); 8] = [
 fn a_writer_that_becomes_upgradable_lets_readers_in(rt: HostRuntime) -> Result<(), Fail> {
     let mut world = of_parties(rt.alloc(), 2, 1)?;
     play(&rt, &mut world, &DOWNGRADED);
-    assert_eq!(rt; value_of(world), 9);
+    assert_same(&rt, value_of(world), 9);
     Ok(())
 }
 
@@ -326,7 +327,7 @@ fn run_again(
     world: &mut World,
     moves: &[Move],
 ) -> Result<Vec<Answer>, Memory> {
-    assert_eq!(rt; world.readers(), 0);
+    assert_same(rt, world.readers(), 0);
     run(world, rt.alloc(), moves)
 }
 
@@ -351,7 +352,7 @@ fn answers(rt: &(impl AllocGlobal + Abort), moves: &[Move]) -> Result<Vec<Answer
 #[test]
 fn a_run_answers_each_move(rt: HostRuntime) -> Result<(), Fail> {
     let answers = answers(&rt, &MOVES)?;
-    assert_eq!(rt; answers.as_slice(), ANSWERS.as_slice());
+    assert_same(&rt, answers.as_slice(), ANSWERS.as_slice());
     Ok(())
 }
 

@@ -3,6 +3,7 @@
 //! Each call stands in a function of its own that promises nothing: what the list promises of the call is
 //! followed once there, and not again at each test.
 
+use crate::same::assert_same;
 use lock_event::Mark::{self, Additional, Notified, Waiting};
 use lock_event::{Asked, EntryId, Event, Memory};
 use std::process::Abort;
@@ -97,7 +98,7 @@ fn join(rt: &impl Abort, list: &mut Event<u32>) -> Result<EntryId, Fail> {
     let before = length(list);
     let joined = listen(list);
     let added = if joined.is_ok() { 1 } else { 0 };
-    assert_eq!(rt; length(list).checked_sub(before), Some(added));
+    assert_same(rt, length(list).checked_sub(before), Some(added));
     match joined {
         Ok(id) => Ok(id),
         Err(Memory) => Ok(listen(list)?),
@@ -106,16 +107,16 @@ fn join(rt: &impl Abort, list: &mut Event<u32>) -> Result<EntryId, Fail> {
 
 // This entry, which stands in the list, has been notified, or not.
 fn assert_notified(rt: &impl Abort, list: &Event<u32>, id: EntryId, wanted: bool) {
-    assert_eq!(rt; notified(list, id), Some(wanted));
+    assert_same(rt, notified(list, id), Some(wanted));
 }
 
 // A poll with this waker takes the entry's notification, or not.
 fn assert_poll(rt: &impl Abort, list: &mut Event<u32>, id: EntryId, waker: u32, wanted: bool) {
-    assert_eq!(rt; poll(list, id, waker), Some(wanted));
+    assert_same(rt, poll(list, id, waker), Some(wanted));
 }
 
 fn assert_next_waker(rt: &impl Abort, list: &mut Event<u32>, wanted: Option<u32>) {
-    assert_eq!(rt; next_waker(list), wanted);
+    assert_same(rt, next_waker(list), wanted);
 }
 
 fn assert_asked(
@@ -125,11 +126,11 @@ fn assert_asked(
     waker: Option<u32>,
     wanted: Asked<u32>,
 ) {
-    assert_eq!(rt; ask(list, id, waker), wanted);
+    assert_same(rt, ask(list, id, waker), wanted);
 }
 
 fn assert_withdrawn(rt: &impl Abort, list: &mut Event<u32>, id: EntryId, wanted: Option<u32>) {
-    assert_eq!(rt; withdraw(list, id), wanted);
+    assert_same(rt, withdraw(list, id), wanted);
 }
 
 fn leave(rt: &impl Abort, list: &mut Event<u32>, id: EntryId) {
@@ -138,8 +139,8 @@ fn leave(rt: &impl Abort, list: &mut Event<u32>, id: EntryId) {
 
 // The list has exactly these marks, from front to back.
 fn assert_marks(rt: &impl Abort, list: &Event<u32>, marks: &[Mark]) {
-    assert_eq!(rt; length(list), marks.len());
-    assert_eq!(rt; list.is_empty(), marks.is_empty());
+    assert_same(rt, length(list), marks.len());
+    assert_same(rt, list.is_empty(), marks.is_empty());
     for (i, mark) in marks.iter().enumerate() {
         assert_eq!(rt; mark_at(list, i), Some(*mark), "at {i}");
     }
@@ -320,12 +321,12 @@ fn reserve_makes_room_or_leaves_the_list_as_it_was(rt: HostRuntime) -> Result<()
         reserve(&mut list, 20)?;
     }
     // No memory holds so many entries.
-    assert_eq!(rt; reserve(&mut list, usize::MAX), Err(Memory));
+    assert_same(&rt, reserve(&mut list, usize::MAX), Err(Memory));
     assert_marks(&rt, &list, &[Waiting]);
     for _ in 0..20 {
         assert!(rt; listen(&mut list).is_ok());
     }
-    assert_eq!(rt; length(&list), 21);
+    assert_same(&rt, length(&list), 21);
     Ok(())
 }
 

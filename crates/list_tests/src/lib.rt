@@ -6,4 +6,6 @@
 #[cfg(test)]
 mod event;
 #[cfg(test)]
+mod same;
+#[cfg(test)]
 mod wait_queue;

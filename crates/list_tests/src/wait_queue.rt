@@ -1,6 +1,7 @@
 ghost use Rattle.std.specs.Prelude.{◌≡◌, ℕ, [], IfOk};
 ghost use Rattle.lock_queue.specs.Queues.{queue};
 
+use crate::same::assert_same;
 use lock_event::Mark::{self, Additional, Notified, Waiting};
 use lock_queue::WaitQueue;
 use std::alloc::{AllocError, Global};
@@ -9,7 +10,7 @@ use std::test::Fail;
 
 // The list has exactly these parties and marks, from front to back.
 fn assert_entries(rt: &impl Abort, list: &WaitQueue, entries: &[(u32, Mark)]) {
-    assert_eq!(rt; list.len(), entries.len());
+    assert_same(rt, list.len(), entries.len());
     for (i, (party, mark)) in entries.iter().enumerate() {
         let seen = list.entry(i).map(|entry| (entry.key, entry.mark));
         assert_eq!(rt; seen, Some((*party, *mark)), "at {i}");

@@ -15,10 +15,16 @@ use std::marker::Model;
 /// Parties are numbered from 0, and each entry's key is its party's number. Contracts see the number
 /// of parties, which never changes, and the entries in order of joining. The room for all parties
 /// is there from [`WaitQueue::new`] on, so that no other call takes memory or can be refused.
-#[derive(Drop)]
 pub struct WaitQueue {
     list: Event<u32>,
     seats: Vec<Option<EntryId>>,
+}
+
+// By hand, so that a drop is one call to prove, and not all of its parts again.
+impl Drop for WaitQueue {
+    fn drop(self) {
+        let WaitQueue { list: _, seats: _ } = self;
+    }
 }
 
 impl Model for WaitQueue {

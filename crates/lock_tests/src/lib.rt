@@ -12,4 +12,6 @@ mod room;
 #[cfg(test)]
 mod rwlock;
 #[cfg(test)]
+mod same;
+#[cfg(test)]
 mod texts;

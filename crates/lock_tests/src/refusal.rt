@@ -1,6 +1,7 @@
 //! The refusals, as what stands outside a World reads them.
 
 use crate::room;
+use crate::same::assert_same;
 use lock_world::Refusal;
 use std::alloc::Global;
 use std::io::Write;
@@ -24,9 +25,9 @@ fn text_of(alloc: Global, refusal: Refusal) -> Result<Vec<u8>, Fail> {
 #[test]
 fn refusals_have_their_numbers_and_texts(rt: HostRuntime) -> Result<(), Fail> {
     for (refusal, number, text) in &REFUSALS {
-        assert_eq!(rt; refusal.number(), *number);
+        assert_same(&rt, refusal.number(), *number);
         let shown = text_of(rt.alloc(), *refusal)?;
-        assert_eq!(rt; shown.as_slice(), text.as_bytes());
+        assert_same(&rt, shown.as_slice(), text.as_bytes());
     }
     Ok(())
 }

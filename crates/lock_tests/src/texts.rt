@@ -1,6 +1,7 @@
 //! The texts of answers, replies and entries.
 
 use crate::room;
+use crate::same::assert_same;
 use lock_core::{Answer, Got};
 use lock_event::{Entry, Mark};
 use lock_play::answer::{write_answer, write_entry, write_reply};
@@ -73,6 +74,6 @@ fn writes_each_mark(rt: HostRuntime) -> Result<(), Fail> {
     ] {
         write_entry(gap, &Entry { key, mark }, &mut output)?;
     }
-    assert_eq!(rt; output.as_slice(), b"10a 1n 2w".as_slice());
+    assert_same(&rt, output.as_slice(), b"10a 1n 2w".as_slice());
     Ok(())
 }

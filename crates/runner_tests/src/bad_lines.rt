@@ -2,10 +2,10 @@
 
 /// Lines that are bad though a World stands.
 /// Spaces at an end.
-pub const SPACES_AT_AN_END: [&[u8]; 5] = [b" ", b"  ", b" show", b"show ", b" # note"];
+pub const SPACES_AT_AN_END: &[&[u8]] = &[b" ", b"  ", b" show", b"show ", b" # note"];
 
 /// Unknown words.
-pub const UNKNOWN_WORDS: [&[u8]; 24] = [
+pub const UNKNOWN_WORDS: &[&[u8]] = &[
     b"foo",
     b"Show",
     b"shows",
@@ -33,7 +33,7 @@ pub const UNKNOWN_WORDS: [&[u8]; 24] = [
 ];
 
 /// Missing and spare numbers and words.
-pub const MISSING_AND_SPARE_WORDS: [&[u8]; 55] = [
+pub const MISSING_AND_SPARE_WORDS: &[&[u8]] = &[
     b"mutex",
     b"mutex 1",
     b"mutex 1 0 0 0",
@@ -92,7 +92,7 @@ pub const MISSING_AND_SPARE_WORDS: [&[u8]; 55] = [
 ];
 
 /// Words that are no numbers.
-pub const NO_NUMBERS: [&[u8]; 34] = [
+pub const NO_NUMBERS: &[&[u8]] = &[
     b"mutex 1 x",
     b"mutex 1 +0",
     b"mutex 1 -0",
@@ -130,7 +130,7 @@ pub const NO_NUMBERS: [&[u8]; 34] = [
 ];
 
 /// Numbers of parties out of their range.
-pub const PARTIES_OUT_OF_RANGE: [&[u8]; 11] = [
+pub const PARTIES_OUT_OF_RANGE: &[&[u8]] = &[
     b"mutex 0 0",
     b"mutex 65 0",
     b"mutex 4294967297 0",
@@ -145,7 +145,7 @@ pub const PARTIES_OUT_OF_RANGE: [&[u8]; 11] = [
 ];
 
 /// Inputs given twice, and what is no input.
-pub const BAD_INPUTS: [&[u8]; 14] = [
+pub const BAD_INPUTS: &[&[u8]] = &[
     b"go 0 nomem nomem",
     b"go 0 starving nomem starving",
     b"go 0 made=1 made=1",
@@ -163,7 +163,7 @@ pub const BAD_INPUTS: [&[u8]; 14] = [
 ];
 
 /// Bytes that aren't printable ASCII.
-pub const UNPRINTABLE: [&[u8]; 13] = [
+pub const UNPRINTABLE: &[&[u8]] = &[
     b"show\t",
     b"sh\tow",
     b"show\r",

@@ -5,87 +5,78 @@ use crate::bad_lines::{
     UNKNOWN_WORDS, UNPRINTABLE,
 };
 use crate::runs::{Runs, expect};
-use std::test::Fail;
 
 /// Runs a script with this line between two good ones, which stops at it.
-fn expect_bad<R: Runs>(rt: &R, line: &[u8]) -> Result<(), Fail> {
+fn expect_bad<R: Runs>(rt: &R, line: &[u8]) {
     let mut script = Vec::new(rt.alloc());
     for part in [b"mutex 1 0\n".as_slice(), line, b"\nshow\n".as_slice()] {
-        script.extend_from_slice(part)?;
+        script.extend_from_slice(part).expect(rt, "ample memory");
     }
-    expect(rt, script.as_slice(), "ok\n", "lockrun: line 2: bad\n", 1)
+    expect(rt, script.as_slice(), "ok\n", "lockrun: line 2: bad\n", 1);
 }
 
 #[test]
-fn stops_at_spaces_at_an_end(rt: HostRuntime) -> Result<(), Fail> {
-    for line in SPACES_AT_AN_END {
-        expect_bad(&rt, line)?;
+fn stops_at_spaces_at_an_end(rt: HostRuntime) {
+    for &line in SPACES_AT_AN_END {
+        expect_bad(&rt, line);
     }
-    Ok(())
 }
 
 #[test]
-fn stops_at_an_unknown_word(rt: HostRuntime) -> Result<(), Fail> {
-    for line in UNKNOWN_WORDS {
-        expect_bad(&rt, line)?;
+fn stops_at_an_unknown_word(rt: HostRuntime) {
+    for &line in UNKNOWN_WORDS {
+        expect_bad(&rt, line);
     }
-    Ok(())
 }
 
 #[test]
-fn stops_at_a_missing_or_spare_word(rt: HostRuntime) -> Result<(), Fail> {
-    for line in MISSING_AND_SPARE_WORDS {
-        expect_bad(&rt, line)?;
+fn stops_at_a_missing_or_spare_word(rt: HostRuntime) {
+    for &line in MISSING_AND_SPARE_WORDS {
+        expect_bad(&rt, line);
     }
-    Ok(())
 }
 
 #[test]
-fn stops_at_a_word_that_is_no_number(rt: HostRuntime) -> Result<(), Fail> {
-    for line in NO_NUMBERS {
-        expect_bad(&rt, line)?;
+fn stops_at_a_word_that_is_no_number(rt: HostRuntime) {
+    for &line in NO_NUMBERS {
+        expect_bad(&rt, line);
     }
-    Ok(())
 }
 
 #[test]
-fn stops_at_parties_out_of_range(rt: HostRuntime) -> Result<(), Fail> {
-    for line in PARTIES_OUT_OF_RANGE {
-        expect_bad(&rt, line)?;
+fn stops_at_parties_out_of_range(rt: HostRuntime) {
+    for &line in PARTIES_OUT_OF_RANGE {
+        expect_bad(&rt, line);
     }
-    Ok(())
 }
 
 #[test]
-fn stops_at_a_bad_input(rt: HostRuntime) -> Result<(), Fail> {
-    for line in BAD_INPUTS {
-        expect_bad(&rt, line)?;
+fn stops_at_a_bad_input(rt: HostRuntime) {
+    for &line in BAD_INPUTS {
+        expect_bad(&rt, line);
     }
-    Ok(())
 }
 
 #[test]
-fn stops_at_a_byte_that_isnt_printable(rt: HostRuntime) -> Result<(), Fail> {
-    for line in UNPRINTABLE {
-        expect_bad(&rt, line)?;
+fn stops_at_a_byte_that_isnt_printable(rt: HostRuntime) {
+    for &line in UNPRINTABLE {
+        expect_bad(&rt, line);
     }
-    Ok(())
+}
+
+// Scripts whose second line is no text.
+const NO_TEXT: &[&[u8]] = &[b"mutex 1 0\n# \x80\nshow\n", b"mutex 1 0\n\xffshow"];
+
+#[test]
+fn stops_at_a_line_that_is_no_text(rt: HostRuntime) {
+    for &script in NO_TEXT {
+        expect(&rt, script, "ok\n", "lockrun: line 2: bad\n", 1);
+    }
 }
 
 #[test]
-fn stops_at_a_line_that_is_no_text(rt: HostRuntime) -> Result<(), Fail> {
-    for script in [
-        b"mutex 1 0\n# \x80\nshow\n".as_slice(),
-        b"mutex 1 0\n\xffshow".as_slice(),
-    ] {
-        expect(&rt, script, "ok\n", "lockrun: line 2: bad\n", 1)?;
-    }
-    Ok(())
-}
-
-#[test]
-fn counts_lines_and_wants_a_world_first(rt: HostRuntime) -> Result<(), Fail> {
-    for (script, answers, faults) in [
+fn counts_lines_and_wants_a_world_first(rt: HostRuntime) {
+    for &(script, answers, faults) in &[
         ("show\n", "", "lockrun: line 1: bad\n"),
         ("\n\ngo 0\n", "", "lockrun: line 3: bad\n"),
         ("do 0 lock\n", "", "lockrun: line 1: bad\n"),
@@ -108,7 +99,6 @@ fn counts_lines_and_wants_a_world_first(rt: HostRuntime) -> Result<(), Fail> {
         ),
         ("mutex 1 0\nmutex 0 0", "ok\n", "lockrun: line 2: bad\n"),
     ] {
-        expect(&rt, script.as_bytes(), answers, faults, 1)?;
+        expect(&rt, script.as_bytes(), answers, faults, 1);
     }
-    Ok(())
 }

@@ -1,7 +1,7 @@
 //! The stored rows: each script with its answers, as they stand in scripts/.
 
 /// Each script, and what the program prints for it.
-pub const ROWS: [(&str, &str); 42] = [
+pub const ROWS: &[(&str, &str)] = &[
     // acquire-hands-on-what-is-left
     (
         "semaphore 4 2\ndo 0 tryacquire\ndo 1 tryacquire\ndo 2 acquire\ndo 3 acquire\nbegin 2 poll\ndo 0 drop\ndo 1 drop\ngo 2\ngo 2\ngo 2\nshow\n",

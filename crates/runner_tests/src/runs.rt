@@ -1,13 +1,11 @@
 //! Runs of the program from and into memory, and what is wanted of them.
 
 use lock_runner::run;
-use std::alloc::AllocError;
 use std::io;
 use std::io::{ErrorKind, Read, Write};
 use std::process::Abort;
 use std::random::RandomSource;
 use std::sync::Wait;
-use std::test::Fail;
 use std::thread::Threads;
 use std::time::Clock;
 
@@ -113,12 +111,13 @@ fn text_of(sink: &Sink) -> &str {
 }
 
 /// These words, as the arguments of a run.
-pub(crate) fn arguments(rt: &impl AllocGlobal, words: &[&str]) -> Result<Vec<String>, AllocError> {
+pub(crate) fn arguments(rt: &(impl AllocGlobal + Abort), words: &[&str]) -> Vec<String> {
     let mut all = Vec::new(rt.alloc());
     for word in words {
-        all.push(String::from_str(rt.alloc(), *word)?)?;
+        let text = String::from_str(rt.alloc(), *word).expect(rt, "ample memory");
+        all.push(text).expect(rt, "ample memory");
     }
-    Ok(all)
+    all
 }
 
 /// What a run prints, and its status.
@@ -127,6 +126,16 @@ pub(crate) struct Wanted<'a> {
     pub(crate) output: &'a str,
     pub(crate) errors: &'a str,
     pub(crate) status: u8,
+}
+
+/// Wants this text, which `what` names.
+fn expect_text(rt: &impl Abort, what: &str, shown: &str, text: &str, wanted: &str) {
+    assert_eq!(rt; text, wanted, "{what} of {shown:?}");
+}
+
+/// Wants so many bytes to have been read.
+pub(crate) fn expect_given(rt: &impl Abort, shown: &str, given: usize, wanted: usize) {
+    assert_eq!(rt; given, wanted, "bytes read of {shown:?}");
 }
 
 /// Runs the program from and into memory, and wants this of it. `shown` names the case.
@@ -140,21 +149,15 @@ pub(crate) fn expect_of<R: Runs>(
     shown: &str,
 ) {
     let ended = run(rt, rt.alloc(), words, source, answers, faults);
-    assert_eq!(rt; text_of(answers), wanted.output, "output of {shown:?}");
-    assert_eq!(rt; text_of(faults), wanted.errors, "errors of {shown:?}");
+    expect_text(rt, "output", shown, text_of(answers), wanted.output);
+    expect_text(rt, "errors", shown, text_of(faults), wanted.errors);
     assert_eq!(rt; ended, wanted.status, "status of {shown:?}");
 }
 
 /// Runs this script from and into memory, and wants this output, error output and status.
-pub(crate) fn expect<R: Runs>(
-    rt: &R,
-    script: &[u8],
-    output: &str,
-    errors: &str,
-    status: u8,
-) -> Result<(), Fail> {
+pub(crate) fn expect<R: Runs>(rt: &R, script: &[u8], output: &str, errors: &str, status: u8) {
     let shown = str::from_utf8(script).unwrap_or("bytes that are no text");
-    let words = arguments(rt, &["script"])?;
+    let words = arguments(rt, &["script"]);
     let wanted = Wanted {
         output,
         errors,
@@ -169,5 +172,4 @@ pub(crate) fn expect<R: Runs>(
         wanted,
         shown,
     );
-    Ok(())
 }

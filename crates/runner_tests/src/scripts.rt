@@ -2,19 +2,27 @@
 
 use crate::rows::ROWS;
 use crate::runs::expect;
-use std::test::Fail;
+
+// What a fresh mutex answers, and shows.
+const FRESH_MUTEX: &str = "ok\nmutex locked=0 starved=0 value=0 list=[]\n";
+
+// What a fresh read-write lock answers, and shows.
+const FRESH_RWLOCK: &str =
+    "ok\nrwlock turn=0 starved=0 writer=0 readers=0 value=0 turnlist=[] noreaders=[] nowriter=[]\n";
+
+// What a fresh barrier answers, and shows.
+const FRESH_BARRIER: &str = "ok\nbarrier count=0 generation=0 locked=0 starved=0 lock=[] list=[]\n";
 
 #[test]
-fn answers_the_stored_rows(rt: HostRuntime) -> Result<(), Fail> {
-    for (script, answers) in ROWS {
-        expect(&rt, script.as_bytes(), answers, "", 0)?;
+fn answers_the_stored_rows(rt: HostRuntime) {
+    for &(script, answers) in ROWS {
+        expect(&rt, script.as_bytes(), answers, "", 0);
     }
-    Ok(())
 }
 
 #[test]
-fn changes_the_value_at_rest(rt: HostRuntime) -> Result<(), Fail> {
-    for (script, answers) in [
+fn changes_the_value_at_rest(rt: HostRuntime) {
+    for &(script, answers) in &[
         // The holder is forgotten, and its lock stays locked.
         (
             "mutex 2 0\ndo 0 lock\ngetmut 9\nshow\ndo 0 drop\ndo 1 trylock\ntake\n",
@@ -46,27 +54,25 @@ fn changes_the_value_at_rest(rt: HostRuntime) -> Result<(), Fail> {
             "ok\nready 3\nstepped\nnot possible\nnot possible\n",
         ),
     ] {
-        expect(&rt, script.as_bytes(), answers, "", 0)?;
+        expect(&rt, script.as_bytes(), answers, "", 0);
     }
-    Ok(())
 }
 
 #[test]
-fn answers_each_good_line(rt: HostRuntime) -> Result<(), Fail> {
-    let fresh = "ok\nmutex locked=0 starved=0 value=0 list=[]\n";
-    for (script, answers) in [
+fn answers_each_good_line(rt: HostRuntime) {
+    for &(script, answers) in &[
         // What is skipped.
         ("", ""),
         ("\n", ""),
         ("\n\n# a note\n#\n#show\n# two  words \n", ""),
         // The last line may lack its line feed, and words may stand further apart.
         ("mutex 1 0", "ok\n"),
-        ("mutex 1 0\n\nshow", fresh),
-        ("mutex   64  0\nshow\n", fresh),
+        ("mutex 1 0\n\nshow", FRESH_MUTEX),
+        ("mutex   64  0\nshow\n", FRESH_MUTEX),
         // Numbers of 1 and of 20 digits, the greatest among them.
         (
             "mutex 00000000000000000001 00000000000000000000\nshow\n",
-            fresh,
+            FRESH_MUTEX,
         ),
         (
             "mutex 1 18446744073709551615\nbegin 0 lock\n",
@@ -91,9 +97,9 @@ fn answers_each_good_line(rt: HostRuntime) -> Result<(), Fail> {
             "ok\nnot possible\nnot possible\nnot possible\ngranted 0\n",
         ),
         // How many parties may be starved: a number past the greatest means that one.
-        ("mutex 1 0 0\nshow\n", fresh),
-        ("mutex 1 0 4294967296\nshow\n", fresh),
-        ("mutex 1 0 18446744073709551615\nshow\n", fresh),
+        ("mutex 1 0 0\nshow\n", FRESH_MUTEX),
+        ("mutex 1 0 4294967296\nshow\n", FRESH_MUTEX),
+        ("mutex 1 0 18446744073709551615\nshow\n", FRESH_MUTEX),
         // Calls that an idle party can't make.
         (
             "mutex 1 0\nbegin 0 put 5\nbegin 0 poll\ngo 0\ndo 0 drop\n",
@@ -122,19 +128,16 @@ fn answers_each_good_line(rt: HostRuntime) -> Result<(), Fail> {
             "ok\nready 3\ngranted 4\ngranted 5\n",
         ),
     ] {
-        expect(&rt, script.as_bytes(), answers, "", 0)?;
+        expect(&rt, script.as_bytes(), answers, "", 0);
     }
-    Ok(())
 }
 
 #[test]
-fn answers_each_good_line_of_a_read_write_lock(rt: HostRuntime) -> Result<(), Fail> {
-    let fresh =
-        "ok\nrwlock turn=0 starved=0 writer=0 readers=0 value=0 turnlist=[] noreaders=[] nowriter=[]\n";
-    for (script, answers) in [
-        ("rwlock 1 0\nshow\n", fresh),
-        ("rwlock  64 0 0\nshow\n", fresh),
-        ("rwlock 64 0 0 0\nshow\n", fresh),
+fn answers_each_good_line_of_a_read_write_lock(rt: HostRuntime) {
+    for &(script, answers) in &[
+        ("rwlock 1 0\nshow\n", FRESH_RWLOCK),
+        ("rwlock  64 0 0\nshow\n", FRESH_RWLOCK),
+        ("rwlock 64 0 0 0\nshow\n", FRESH_RWLOCK),
         // A number past the greatest means that one.
         (
             "rwlock 1 0 1073741824 18446744073709551615\nshow\ndo 0 tryread\n",
@@ -182,14 +185,13 @@ fn answers_each_good_line_of_a_read_write_lock(rt: HostRuntime) -> Result<(), Fa
             "ok\ngranted 0\nnot possible\nnot possible\nnot possible\nnot possible\n",
         ),
     ] {
-        expect(&rt, script.as_bytes(), answers, "", 0)?;
+        expect(&rt, script.as_bytes(), answers, "", 0);
     }
-    Ok(())
 }
 
 #[test]
-fn answers_each_good_line_of_a_semaphore(rt: HostRuntime) -> Result<(), Fail> {
-    for (script, answers) in [
+fn answers_each_good_line_of_a_semaphore(rt: HostRuntime) {
+    for &(script, answers) in &[
         (
             "semaphore 1 0\nshow\n",
             "ok\nsemaphore available=0 limit=0 list=[]\n",
@@ -224,14 +226,13 @@ fn answers_each_good_line_of_a_semaphore(rt: HostRuntime) -> Result<(), Fail> {
             "ok\nnot possible\nnot possible\nnot possible\nok\nnot possible\nnot possible\nnot possible\nready 0\nnot possible\n",
         ),
     ] {
-        expect(&rt, script.as_bytes(), answers, "", 0)?;
+        expect(&rt, script.as_bytes(), answers, "", 0);
     }
-    Ok(())
 }
 
 #[test]
-fn answers_each_good_line_of_a_cell(rt: HostRuntime) -> Result<(), Fail> {
-    for (script, answers) in [
+fn answers_each_good_line_of_a_cell(rt: HostRuntime) {
+    for &(script, answers) in &[
         ("cell 1\nshow\n", "ok\ncell empty active=[] passive=[]\n"),
         // Each call, with each of what a maker gives.
         (
@@ -262,22 +263,20 @@ fn answers_each_good_line_of_a_cell(rt: HostRuntime) -> Result<(), Fail> {
             "ok\nnot possible\nnot possible\nok\nnot possible\nnot possible\nnot possible\nnot possible\n",
         ),
     ] {
-        expect(&rt, script.as_bytes(), answers, "", 0)?;
+        expect(&rt, script.as_bytes(), answers, "", 0);
     }
-    Ok(())
 }
 
 #[test]
-fn answers_each_good_line_of_a_barrier(rt: HostRuntime) -> Result<(), Fail> {
-    let fresh = "ok\nbarrier count=0 generation=0 locked=0 starved=0 lock=[] list=[]\n";
-    for (script, answers) in [
-        ("barrier 1 0\nshow\n", fresh),
-        ("barrier  64 3 0\nshow\n", fresh),
-        ("barrier 64 18446744073709551615 0 0\nshow\n", fresh),
+fn answers_each_good_line_of_a_barrier(rt: HostRuntime) {
+    for &(script, answers) in &[
+        ("barrier 1 0\nshow\n", FRESH_BARRIER),
+        ("barrier  64 3 0\nshow\n", FRESH_BARRIER),
+        ("barrier 64 18446744073709551615 0 0\nshow\n", FRESH_BARRIER),
         // A number past the greatest means that one.
         (
             "barrier 1 1 18446744073709551615 18446744073709551615\nshow\n",
-            fresh,
+            FRESH_BARRIER,
         ),
         // Each call.
         (
@@ -305,7 +304,6 @@ fn answers_each_good_line_of_a_barrier(rt: HostRuntime) -> Result<(), Fail> {
             "ok\nnot possible\nnot possible\nnot possible\nok\nnot possible\nok\nnot possible\n",
         ),
     ] {
-        expect(&rt, script.as_bytes(), answers, "", 0)?;
+        expect(&rt, script.as_bytes(), answers, "", 0);
     }
-    Ok(())
 }

@@ -6,6 +6,7 @@
 ghost use Rattle.std.specs.Prelude.{◌≡◌, false, IfSome};
 ghost use Rattle.lock_words.specs.Tries.{Holds};
 
+use crate::same::assert_same;
 use lock_words::{Counting, Hold, Seat, Setting, Taking, TakingAlone, Words};
 use std::process::Abort;
 
@@ -88,7 +89,7 @@ pub(crate) fn tries<T>(words: &Words<T>) -> Tries {
 
 /// Asserts what the tries of a new seat find.
 pub(crate) fn assert_tries<R: Abort, T>(rt: &R, words: &Words<T>, wanted: Tries) {
-    assert_eq!(rt; tries(words), wanted);
+    assert_same(rt, tries(words), wanted);
 }
 
 /// Counts a new seat as starved, which is never taken off again.

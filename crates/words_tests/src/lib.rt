@@ -9,6 +9,8 @@ mod found;
 #[cfg(test)]
 mod place;
 #[cfg(test)]
+mod same;
+#[cfg(test)]
 mod settled;
 #[cfg(test)]
 mod tries;

@@ -1,5 +1,6 @@
 //! A value through its rights, one after the other.
 
+use crate::same::assert_same;
 use lock_place::{Place, Spare};
 use std::alloc::Global;
 use std::mem;
@@ -32,7 +33,7 @@ fn written(alloc: Global) -> Option<[u64; 3]> {
 #[test]
 fn a_hold_writes_what_it_reads_parked_and_shared(rt: HostRuntime) {
     if let Some(read) = written(rt.alloc()) {
-        assert_eq!(rt; read, [7, 8, 9]);
+        assert_same(&rt, read, [7, 8, 9]);
     }
 }
 
@@ -47,7 +48,7 @@ fn swapped(alloc: Global) -> Option<(u64, u64)> {
 #[test]
 fn two_places_swap_their_values(rt: HostRuntime) {
     if let Some(values) = swapped(rt.alloc()) {
-        assert_eq!(rt; values, (2, 1));
+        assert_same(&rt, values, (2, 1));
     }
 }
 
@@ -67,7 +68,7 @@ fn renewed(alloc: Global) -> Option<(u64, u64)> {
 #[test]
 fn a_new_age_begins_past_a_forgotten_right(rt: HostRuntime) {
     if let Some(values) = renewed(rt.alloc()) {
-        assert_eq!(rt; values, (8, 9));
+        assert_same(&rt, values, (8, 9));
     }
 }
 
@@ -88,7 +89,7 @@ fn redeemed(alloc: Global) -> Option<[u64; 3]> {
 #[test]
 fn a_ticket_is_redeemed_and_given_out_again(rt: HostRuntime) {
     if let Some(read) = redeemed(rt.alloc()) {
-        assert_eq!(rt; read, [8, 9, 9]);
+        assert_same(&rt, read, [8, 9, 9]);
     }
 }
 
@@ -107,10 +108,10 @@ fn a_value_is_dropped_once(rt: HostRuntime) {
     let drops = AtomicU64::new(0);
     match overwritten(rt.alloc(), &drops) {
         Some(dropped) => {
-            assert_eq!(rt; dropped, 1);
-            assert_eq!(rt; drops.load(Ordering::SeqCst), 2);
+            assert_same(&rt, dropped, 1);
+            assert_same(&rt, drops.load(Ordering::SeqCst), 2);
         }
         // Memory was refused, and the value was dropped.
-        None => assert_eq!(rt; drops.load(Ordering::SeqCst), 1),
+        None => assert_same(&rt, drops.load(Ordering::SeqCst), 1),
     }
 }

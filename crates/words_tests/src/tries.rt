@@ -1,6 +1,7 @@
 //! Each try with each thing that it finds.
 
 use crate::found::{Found, Tries, add_one, assert_tries, count, holder, tries};
+use crate::same::assert_same;
 use lock_words::{Counting, Words};
 use std::process::Abort;
 use std::sync::Wait;
@@ -30,9 +31,9 @@ fn while_held<T>(words: &Words<T>) -> Option<(bool, Tries)> {
 
 fn assert_found_held<R: Abort>(rt: &R, words: &Words<u64>) {
     let held = (Found::Held, Found::Held, Found::WasSet);
-    assert_eq!(rt; while_held(words), Some((true, held)));
+    assert_same(rt, while_held(words), Some((true, held)));
     assert!(rt; !words.is_locked());
-    assert_eq!(rt; tries(words).0, Found::Got);
+    assert_same(rt, tries(words).0, Found::Got);
 }
 
 #[test]
@@ -43,11 +44,11 @@ fn a_held_lock_is_found_held(rt: HostRuntime) {
 }
 
 fn assert_starved_go_first<R: Abort>(rt: &R, words: &Words<u64>) {
-    assert_eq!(rt; count(words), Counting::Counted);
+    assert_same(rt, count(words), Counting::Counted);
     assert!(rt; !words.is_locked());
     // one is starved: it may take the lock alone
     assert_tries(rt, words, (Found::Starved, Found::Got, Found::Got));
-    assert_eq!(rt; count(words), Counting::Counted);
+    assert_same(rt, count(words), Counting::Counted);
     assert_tries(
         rt,
         words,
@@ -64,7 +65,7 @@ fn the_starved_go_first(rt: HostRuntime) {
 
 fn assert_held_before_the_starved<R: Abort>(rt: &R, words: &Words<u64>) {
     assert!(rt; holder(words).is_some());
-    assert_eq!(rt; count(words), Counting::Counted);
+    assert_same(rt, count(words), Counting::Counted);
     assert_tries(rt, words, (Found::Starved, Found::Held, Found::WasSet));
     assert!(rt; words.is_locked());
 }
@@ -89,8 +90,8 @@ fn while_counted<T>(words: &Words<T>) -> Option<Tries> {
 
 fn assert_newcomers_let_in<R: Abort>(rt: &R, words: &Words<u64>) {
     let found = while_counted(words);
-    assert_eq!(rt; found, Some((Found::Starved, Found::Got, Found::Got)));
-    assert_eq!(rt; tries(words).0, Found::Got);
+    assert_same(rt, found, Some((Found::Starved, Found::Got, Found::Got)));
+    assert_same(rt, tries(words).0, Found::Got);
 }
 
 #[test]
@@ -125,6 +126,6 @@ fn two_threads_count_and_take(rt: HostRuntime) {
     };
     thread::join(&rt, &rounds, &rounds);
     assert!(rt; !words.is_locked());
-    assert_eq!(rt; tries(&words).0, Found::Got);
-    assert_eq!(rt; words.into_inner(), 2000);
+    assert_same(&rt, tries(&words).0, Found::Got);
+    assert_same(&rt, words.into_inner(), 2000);
 }

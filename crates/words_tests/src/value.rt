@@ -1,6 +1,7 @@
 //! The value, whatever became of the rights.
 
 use crate::found::{Found, add_one, assert_tries, count, holder};
+use crate::same::assert_same;
 use lock_words::{Counting, Words};
 use std::mem;
 use std::sync::atomic::{AtomicU64, Ordering};
@@ -24,8 +25,8 @@ fn a_holder_writes_what_the_next_one_reads(rt: HostRuntime) {
         return;
     };
     let read = [add_one(&words), add_one(&words), add_one(&words)];
-    assert_eq!(rt; read, [Some(7), Some(8), Some(9)]);
-    assert_eq!(rt; words.into_inner(), 10);
+    assert_same(&rt, read, [Some(7), Some(8), Some(9)]);
+    assert_same(&rt, words.into_inner(), 10);
 }
 
 // Lends the value of a free lock to this number, and adds one under the lock: what is lent again, whether the lock is
@@ -43,7 +44,7 @@ fn the_value_of_a_free_lock_is_lent_and_the_lock_stays_free(rt: HostRuntime) {
     let Ok(mut words) = Words::new(rt.alloc(), 7u64) else {
         return;
     };
-    assert_eq!(rt; *words.get_mut(), 7);
+    assert_same(&rt, *words.get_mut(), 7);
     // The right rests as a ticket, then as itself, then as a ticket again.
     let seen = [
         lent(&mut words, 0),
@@ -55,8 +56,8 @@ fn the_value_of_a_free_lock_is_lent_and_the_lock_stays_free(rt: HostRuntime) {
         (10, false, Some(10), 11),
         (20, false, Some(20), 21),
     ];
-    assert_eq!(rt; seen, wanted);
-    assert_eq!(rt; words.into_inner(), 21);
+    assert_same(&rt, seen, wanted);
+    assert_same(&rt, words.into_inner(), 21);
 }
 
 // Counts a seat as starved, and forgets it.
@@ -72,11 +73,11 @@ fn the_value_is_lent_past_a_forgotten_waiter(rt: HostRuntime) {
     let Ok(mut words) = Words::new(rt.alloc(), 7u64) else {
         return;
     };
-    assert_eq!(rt; forget_counted(&words), Counting::Counted);
+    assert_same(&rt, forget_counted(&words), Counting::Counted);
     *words.get_mut() = 8;
     assert!(rt; !words.is_locked());
     assert_tries(&rt, &words, (Found::Starved, Found::Got, Found::Got));
-    assert_eq!(rt; *words.get_mut(), 8);
+    assert_same(&rt, *words.get_mut(), 8);
 }
 
 // Writes the value under the lock, and forgets the seat and the right that it got.
@@ -95,14 +96,14 @@ fn the_value_is_reached_past_a_forgotten_right(rt: HostRuntime) {
     };
     write_and_forget(&words, 8);
     assert!(rt; words.is_locked());
-    assert_eq!(rt; *words.get_mut(), 8);
+    assert_same(&rt, *words.get_mut(), 8);
     *words.get_mut() = 9;
     // The lock stays held for good.
     assert!(rt; words.is_locked());
     assert_tries(&rt, &words, (Found::Held, Found::Held, Found::WasSet));
-    assert_eq!(rt; count(&words), Counting::Counted);
-    assert_eq!(rt; *words.get_mut(), 9);
-    assert_eq!(rt; words.into_inner(), 9);
+    assert_same(&rt, count(&words), Counting::Counted);
+    assert_same(&rt, *words.get_mut(), 9);
+    assert_same(&rt, words.into_inner(), 9);
 }
 
 // Takes the lock, and forgets the seat and the right that it got.
@@ -116,7 +117,7 @@ fn the_value_is_taken_out_past_a_forgotten_right(rt: HostRuntime) {
         return;
     };
     forget_holder(&words);
-    assert_eq!(rt; words.into_inner(), 7);
+    assert_same(&rt, words.into_inner(), 7);
 }
 
 // How many values are dropped by then: once the one of a free lock is written over, once that of a lock that is
@@ -143,15 +144,15 @@ fn the_value_is_dropped_once(rt: HostRuntime) {
         forget_holder(&words);
     }
     // Where memory is refused, the value is dropped too.
-    assert_eq!(rt; drops.load(Ordering::SeqCst), 1);
+    assert_same(&rt, drops.load(Ordering::SeqCst), 1);
     let second = Counted {
         drops: &drops,
         number: 2,
     };
     let Ok(words) = Words::new(rt.alloc(), second) else {
-        assert_eq!(rt; drops.load(Ordering::SeqCst), 2);
+        assert_same(&rt, drops.load(Ordering::SeqCst), 2);
         return;
     };
-    assert_eq!(rt; written_over(words, &drops), ([2, 3, 3], 4));
-    assert_eq!(rt; drops.load(Ordering::SeqCst), 4);
+    assert_same(&rt, written_over(words, &drops), ([2, 3, 3], 4));
+    assert_same(&rt, drops.load(Ordering::SeqCst), 4);
 }

@@ -1,5 +1,6 @@
 //! Workers that pass a gate.
 
+use crate::same::assert_same;
 use lock_audit::Book;
 use lock_core::mutex::World;
 use lock_core::{Answer, Got, Move, What};
@@ -173,14 +174,14 @@ fn numbers_of(book: &Book<World>, party: Option<u32>) -> Numbers {
 }
 
 fn assert_each_of_a_hundred_counts<R: Abort>(rt: &R, book: &Book<World>, gate: &Counting) {
-    assert_eq!(rt; gate.passed.load(Ordering::SeqCst), 100);
-    assert_eq!(rt; gate.numbers.load(Ordering::SeqCst), 4950);
-    assert_eq!(rt; book.world().value(), 100);
+    assert_same(rt, gate.passed.load(Ordering::SeqCst), 100);
+    assert_same(rt, gate.numbers.load(Ordering::SeqCst), 4950);
+    assert_same(rt, book.world().value(), 100);
     assert!(rt; !book.world().is_locked());
     let all = numbers_of(book, None);
     let rights = (all.ready, all.granted, all.refusals, all.gives_back);
-    assert_eq!(rt; rights, (100, 100, 0, 100));
-    assert_eq!(rt; all.values, 10_000);
+    assert_same(rt, rights, (100, 100, 0, 100));
+    assert_same(rt, all.values, 10_000);
     for party in 0..100u32 {
         let own = numbers_of(book, Some(party));
         let rights = (own.ready, own.granted, own.refusals, own.gives_back);
@@ -200,8 +201,8 @@ fn a_hundred_workers_count_to_a_hundred(rt: HostRuntime) -> Result<(), Fail> {
 fn workers_stand_beside_one_another(rt: HostRuntime) -> Result<(), Fail> {
     let gate = Meeting::new();
     let value = counted(&rt, 2, &gate)?.world().value();
-    assert_eq!(rt; gate.met.load(Ordering::SeqCst), 1);
-    assert_eq!(rt; value, 2);
+    assert_same(&rt, gate.met.load(Ordering::SeqCst), 1);
+    assert_same(&rt, value, 2);
     Ok(())
 }
 
@@ -219,24 +220,24 @@ fn left<R: Threads + Wait + Sync + AllocGlobal>(
 #[test]
 fn one_worker_and_none(rt: HostRuntime) -> Result<(), Fail> {
     let (value, _, passed) = left(&rt, 1)?;
-    assert_eq!(rt; (value, passed), (1, 1));
-    assert_eq!(rt; left(&rt, 0)?, (0, 0, 0));
+    assert_same(&rt, (value, passed), (1, 1));
+    assert_same(&rt, left(&rt, 0)?, (0, 0, 0));
     Ok(())
 }
 
 #[test]
 fn a_hundred_workers_add_up_under_one_mutex(rt: HostRuntime) -> Result<(), Fail> {
     let gate = Counting::new();
-    assert_eq!(rt; added_up(&rt, 100, &gate)?, 100);
-    assert_eq!(rt; gate.passed.load(Ordering::SeqCst), 100);
-    assert_eq!(rt; gate.numbers.load(Ordering::SeqCst), 4950);
+    assert_same(&rt, added_up(&rt, 100, &gate)?, 100);
+    assert_same(&rt, gate.passed.load(Ordering::SeqCst), 100);
+    assert_same(&rt, gate.numbers.load(Ordering::SeqCst), 4950);
     Ok(())
 }
 
 #[test]
 fn workers_under_one_mutex_stand_beside_one_another(rt: HostRuntime) -> Result<(), Fail> {
     let gate = Meeting::new();
-    assert_eq!(rt; added_up(&rt, 2, &gate)?, 2);
-    assert_eq!(rt; gate.met.load(Ordering::SeqCst), 1);
+    assert_same(&rt, added_up(&rt, 2, &gate)?, 2);
+    assert_same(&rt, gate.met.load(Ordering::SeqCst), 1);
     Ok(())
 }

@@ -1,5 +1,6 @@
 //! A mutex's machine alone.
 
+use crate::same::assert_same;
 use mutex_machine::program::{End, LockCall, Next, Place};
 use mutex_machine::{Lock, Mutex, Step};
 use std::alloc::{AllocError, Global};
@@ -46,7 +47,7 @@ fn the_machine_alone_hands_its_lock_on(rt: HostRuntime) -> Result<(), AllocError
         Err(_) => take_lock(rt.alloc())?,
     };
     let got = Next::End(End::Got);
-    assert_eq!(rt; seen, (FREE, Place::Out, Some(got), TAKEN));
+    assert_same(&rt, seen, (FREE, Place::Out, Some(got), TAKEN));
     Ok(())
 }
 
@@ -69,6 +70,6 @@ fn a_free_mutex_is_taken_at_once(rt: HostRuntime) -> Result<(), AllocError> {
         Ok(seen) => seen,
         Err(_) => take_mutex(rt.alloc())?,
     };
-    assert_eq!(rt; seen, (FREE, got, TAKEN, got));
+    assert_same(&rt, seen, (FREE, got, TAKEN, got));
     Ok(())
 }

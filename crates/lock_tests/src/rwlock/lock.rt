@@ -3,6 +3,7 @@
 //! A test is a table of deeds, each with what is to be seen of it, and one function does the deeds of all
 //! tables: what the machine promises is followed there once, and not again at each test.
 
+use crate::same::assert_same;
 use Deed::{Calls, CountsWaiting, Looks, NoReaders, NoWriter, Stands, Upgrades, WithoutMemory};
 use Seen::{Begun, Ended, Standing, State, Told, Waiting};
 use lock_event::{Entry, Mark};
@@ -175,7 +176,7 @@ const NEW: [(Deed, Seen); 3] = [
 
 #[test]
 fn a_new_lock_is_free(rt: HostRuntime) -> Result<(), AllocError> {
-    assert_eq!(rt; parties(rt.alloc())?, 2);
+    assert_same(&rt, parties(rt.alloc())?, 2);
     expect(&rt, 2, 10, &NEW)
 }
 

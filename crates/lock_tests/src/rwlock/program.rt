@@ -1,6 +1,7 @@
 //! The programs against the table that they were taken from: each place, its action, and what follows
 //! each finding that the action can make.
 
+use crate::same::assert_same;
 use lock_table::End;
 use lock_world::{Call, Refusal};
 use mutex_machine::Step as TurnStep;
@@ -117,9 +118,9 @@ fn calls_begin_where_their_party_stands(rt: HostRuntime) {
     let unmark = Place::Unmark { refused: false };
     begins(&rt, Call::Drop, upgrading, Action::Unmark, unmark);
     let writing = Place::LookUnlisted { upgrade: false };
-    assert_eq!(rt; start(Call::Poll, writing), None);
-    assert_eq!(rt; start(Call::Poll, Place::Out), None);
-    assert_eq!(rt; start(Call::Read, Place::Reading), None);
+    assert_same(&rt, start(Call::Poll, writing), None);
+    assert_same(&rt, start(Call::Poll, Place::Out), None);
+    assert_same(&rt, start(Call::Read, Place::Reading), None);
 }
 
 #[test]
@@ -179,8 +180,8 @@ fn guards_calls_begin_where_their_party_stands(rt: HostRuntime) {
         Action::Down,
         keeps,
     );
-    assert_eq!(rt; start(Call::Upgrade, writing), None);
-    assert_eq!(rt; start(Call::DowngradeToUpgradable, upgradable), None);
+    assert_same(&rt, start(Call::Upgrade, writing), None);
+    assert_same(&rt, start(Call::DowngradeToUpgradable, upgradable), None);
 }
 
 #[test]
@@ -381,7 +382,11 @@ fn upgradable_readers_count_themselves(rt: HostRuntime) {
     let kept = Place::Upgradable;
     ends(&rt, Place::TryUpgrade, Found::NotFree, End::NotFree, kept);
     let upgrading = Place::LookUnlisted { upgrade: true };
-    assert_eq!(rt; decide(Place::Upgrade, Found::Done), Next::Wait(upgrading));
+    assert_same(
+        &rt,
+        decide(Place::Upgrade, Found::Done),
+        Next::Wait(upgrading),
+    );
 }
 
 #[test]
