@@ -3,7 +3,6 @@
 ghost use Rattle.std.specs.Prelude.{◌≡◌, ℕ, IfSome, false};
 ghost use Rattle.std.specs.Arc.{arc_value};
 ghost use Rattle.futures.specs.Task.{Covers, Keeps};
-ghost use Rattle.lock_words.specs.Tries.{Holds};
 ghost use Rattle.async_lock.specs.Outcomes.{OnOutcome, OnWaits, Waits};
 ghost use Rattle.lock_driver.specs.Parties.{Stands};
 ghost use Rattle.mutex_machine.specs.declared.program.Place.TheVariants as at;
@@ -14,7 +13,7 @@ use crate::waiting::{Outcome, Waiting};
 use futures::executor::block_on;
 use futures::task::Context;
 use lock_driver::{MutexParty, RawMutex, WaitingList};
-use lock_words::{Hold, Seat, Settled, Words};
+use lock_words::{Settled, Words};
 use lock_world::Refusal;
 use mutex_machine::program::{End, LockCall, Place};
 use std::alloc::AllocGlobal;
@@ -64,9 +63,7 @@ impl<T, R> Mutex<T, R> {
     {
         let Mutex { raw, rt } = self;
         drop(rt);
-        let RawMutex { words, list } = raw;
-        drop(list);
-        words.into_inner()
+        raw.into_inner()
     }
 
     /// The value, also of a mutex that a forgotten guard left held, which stays held. It waits for nobody and takes
@@ -168,7 +165,7 @@ impl<T, R: Wait + Clock> Mutex<T, R> {
         let (end, place) = self.raw.call(&self.rt, &mut party, poll, place);
         match end {
             End::Got => {
-                let (seat, hold) = won(&self.raw.words, party);
+                let (seat, hold) = party.into_held(&self.raw.words);
                 Outcome::Got(seat, hold)
             }
             End::Refused(refusal) => Outcome::Refused(refusal, anew(&self.raw.words, party)),
@@ -178,7 +175,7 @@ impl<T, R: Wait + Clock> Mutex<T, R> {
                 let (end, place) = self.raw.call(&self.rt, &mut party, poll, place);
                 match end {
                     End::Got => {
-                        let (seat, hold) = won(&self.raw.words, party);
+                        let (seat, hold) = party.into_held(&self.raw.words);
                         Outcome::Got(seat, hold)
                     }
                     End::Refused(refusal) => Outcome::Refused(
@@ -252,24 +249,6 @@ fn has_waited_long<R: Clock>(rt: &R, since: &Option<Instant>) -> bool {
             Err(_) => false,
         },
         None => false,
-    }
-}
-
-// What a party that got the lock has.
-fn won<T>(words: &Words<T>, party: MutexParty<T>) -> (Seat<T>, Hold<T>)
-    requires { Stands words.now party at.Holding }
-    ensures { Holds words.now result.0 result.1 × (result.0.starved ≡ false) }
-{
-    let MutexParty {
-        seat,
-        hold,
-        entry: _,
-        waker: _,
-        is_starving: _,
-    } = party;
-    match hold {
-        Some(hold) => (seat, hold),
-        None => unreachable!(),
     }
 }
 

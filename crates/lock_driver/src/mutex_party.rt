@@ -15,7 +15,6 @@ use mutex_machine::program::{Action, End, Found, LockCall, Next, Place, action_a
 use std::sync::Wait;
 
 /// A mutex without its runtime: its words, with the value, and its waiting list.
-#[derive(Drop)]
 pub struct RawMutex<T> {
     /// The words, the right to the value and the value.
     pub words: Words<T>,
@@ -23,8 +22,14 @@ pub struct RawMutex<T> {
     pub list: WaitingList,
 }
 
+// By hand, so that a drop is one call to prove, and not all of its parts again.
+impl<T: Drop> Drop for RawMutex<T> {
+    fn drop(self) {
+        let RawMutex { words: _, list: _ } = self;
+    }
+}
+
 /// What a party has that is inside a call on a mutex, or waits between two polls.
-#[derive(Drop)]
 pub struct MutexParty<T> {
     /// Steps on the mutex's words.
     pub seat: Seat<T>,
@@ -38,8 +43,51 @@ pub struct MutexParty<T> {
     pub is_starving: bool,
 }
 
+// By hand, so that a drop is one call to prove, and not all of its parts again.
+impl<T> Drop for MutexParty<T> {
+    fn drop(self) {
+        let MutexParty {
+            seat: _,
+            hold: _,
+            entry: _,
+            waker: _,
+            is_starving: _,
+        } = self;
+    }
+}
+
+impl<T> MutexParty<T> {
+    ghost use Rattle.lock_driver.specs.Parties.{Stands};
+
+    /// The seat and the right to the value of a party that got the lock. The rest of it is dropped.
+    pub fn into_held(self, words: &Words<T>) -> (Seat<T>, Hold<T>)
+        requires stands { Stands words.now self at.Holding }
+        ensures holds { Holds words.now result.0 result.1 }
+        ensures starved { result.0.starved ≡ false }
+    {
+        let MutexParty {
+            seat,
+            hold,
+            entry: _,
+            waker: _,
+            is_starving: _,
+        } = self;
+        match hold {
+            Some(hold) => (seat, hold),
+            None => unreachable!(),
+        }
+    }
+}
+
 impl<T> RawMutex<T> {
     ghost use Rattle.lock_driver.specs.Parties.{Stands, EndsAt};
+
+    /// The value, also of a mutex that a forgotten seat left held. It waits for nobody and takes no memory.
+    pub fn into_inner(self) -> T {
+        let RawMutex { words, list } = self;
+        drop(list);
+        words.into_inner()
+    }
 
     /// A party outside every call, with nothing.
     pub fn party(&self) -> MutexParty<T>

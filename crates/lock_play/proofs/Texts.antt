@@ -15,6 +15,10 @@ Appends-more (Some xs) None c first more whole x y e = absurd x
 Appends-more (Some xs) (Some ys) None first more whole x y e = absurd y
 Appends-more (Some xs) (Some ys) (Some zs) first more whole x y e = y ∙ ap (λ l. l ++ more) x ∙ append_assoc xs first more ∙ ap (λ l. xs ++ l) e
 
+-- and more of it after its name
+pub Appends-named : (a b c : Option (List ℕ)) (first name more whole : List ℕ) → Appends a b first → Appends b c (name ++ more) → (first ++ name) ++ more ≡ whole → Appends a c whole
+Appends-named a b c first name more whole x y e = Appends-more a b c first (name ++ more) whole x y (sym (append_assoc first name more) ∙ e)
+
 -- and more of it, where the writer took that
 pub Appends-both : {A E : Type 0} (a b c : Option (List ℕ)) (first more whole : List ℕ) (r : Result A E) → Appends a b first → OnOk r (Appends b c more) → first ++ more ≡ whole → OnOk r (Appends a c whole)
 Appends-both a b c first more whole (Ok v) x y e = Appends-more a b c first more whole x y e

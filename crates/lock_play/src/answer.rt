@@ -99,6 +99,14 @@ pub fn write_list<L: Listed, O: Write>(list: &L, output: &mut O) -> io::Result<(
     write!(output, "]")
 }
 
+/// Writes a list of waiting parties after what names it.
+pub fn write_named_list<L: Listed, O: Write>(name: &str, list: &L, output: &mut O) -> io::Result<()>
+    ensures { OnOk result (Appends (O.contents output.old) (O.contents output.new) (name.now ++ list_text (L.entries list.now))) }
+{
+    write!(output, "{name}")?;
+    write_list(list, output)
+}
+
 /// Writes an entry of a list, the party and its mark, after what sets it apart from the one before it. The
 /// mark is a letter: `w` of one that waits, `n` of one that was notified, `a` of one that was notified
 /// additionally.

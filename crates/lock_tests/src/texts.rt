@@ -25,7 +25,7 @@ fn assert_reply<R: AllocGlobal + Abort>(rt: &R, reply: Reply, text: &str) -> Res
 
 #[test]
 fn writes_each_answer(rt: HostRuntime) -> Result<(), Fail> {
-    for (answer, text) in [
+    for &(answer, text) in &[
         (Answer::Stepped, "stepped\n"),
         (Answer::Pending, "pending\n"),
         (Answer::Ready(Got::Plain), "ready\n"),
@@ -52,7 +52,7 @@ fn writes_each_answer(rt: HostRuntime) -> Result<(), Fail> {
 
 #[test]
 fn writes_each_reply(rt: HostRuntime) -> Result<(), Fail> {
-    for (reply, text) in [
+    for &(reply, text) in &[
         (Reply::Done, "ok\n"),
         (Reply::Nothing, "none\n"),
         (Reply::Value(0), "0\n"),
@@ -67,7 +67,7 @@ fn writes_each_reply(rt: HostRuntime) -> Result<(), Fail> {
 #[test]
 fn writes_each_mark(rt: HostRuntime) -> Result<(), Fail> {
     let mut output = room::for_text(rt.alloc())?;
-    for (gap, key, mark) in [
+    for &(gap, key, mark) in &[
         ("", 10, Mark::Additional),
         (" ", 1, Mark::Notified),
         (" ", 2, Mark::Waiting),

@@ -38,8 +38,7 @@ impl Played for World {
             "barrier count={count} generation={generation} locked={locked} starved={starved} lock="
         )?;
         answer::write_list(&list(self, ListName::Lock), output)?;
-        write!(output, " list=")?;
-        answer::write_list(&list(self, ListName::Generation), output)?;
+        answer::write_named_list(" list=", &list(self, ListName::Generation), output)?;
         writeln!(output)
     }
 }

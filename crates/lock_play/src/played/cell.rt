@@ -46,10 +46,8 @@ impl Played for World {
 
     fn show<O: Write>(&self, output: &mut O) -> io::Result<()> {
         write_content(self.content(), output)?;
-        write!(output, " active=")?;
-        answer::write_list(&list(self, ListName::Active), output)?;
-        write!(output, " passive=")?;
-        answer::write_list(&list(self, ListName::Passive), output)?;
+        answer::write_named_list(" active=", &list(self, ListName::Active), output)?;
+        answer::write_named_list(" passive=", &list(self, ListName::Passive), output)?;
         writeln!(output)
     }
 }

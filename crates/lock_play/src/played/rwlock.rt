@@ -44,10 +44,8 @@ impl Played for World {
             "rwlock turn={turn} starved={starved} writer={writer} readers={readers} value={value} turnlist="
         )?;
         answer::write_list(&list(self, Which::Turn), output)?;
-        write!(output, " noreaders=")?;
-        answer::write_list(&list(self, Which::NoReaders), output)?;
-        write!(output, " nowriter=")?;
-        answer::write_list(&list(self, Which::NoWriter), output)?;
+        answer::write_named_list(" noreaders=", &list(self, Which::NoReaders), output)?;
+        answer::write_named_list(" nowriter=", &list(self, Which::NoWriter), output)?;
         writeln!(output)
     }
 }

@@ -1,5 +1,8 @@
 use Rattle.std.proofs.Common.{rules, refl}
-use Rattle.lock_play.proofs.Texts.{Appends-more, Appends-both}
+use Rattle.std.specs.Prelude.{codes}
+use Rattle.lock_play.specs.Answers.{list_text}
+use Rattle.barrier_world.specs.State.{list_in}
+use Rattle.lock_play.proofs.Texts.{Appends-more, Appends-named, Appends-both}
 use Rattle.lock_play.proofs.Barrier.{listed, state_text}
 use Rattle.lock_play.proofs.played.barrier.WorldPlayed.show.Goals as goal
 
@@ -9,6 +12,5 @@ returns g c =
     let second = listed c.args.self.now c.list-2.result.world.now c.list-2.result.name _ c.list-2.ensures.world c.list-2.ensures.name in
     let text = state_text c.args.self.now c.count-count.result c.generation-generation.result c.from-locked.result c.starved-starved.result _ _ (search rules) (search rules) (search rules) (search rules) first second in
     let lock = Appends-more _ _ _ _ _ _ c.in_ok-write.ensures.bytes c.in_ok-write_list.ensures refl in
-    let after_lock = Appends-more _ _ _ _ _ _ lock c.in_ok-write-2.ensures.bytes refl in
-    let state = Appends-more _ _ _ _ _ _ after_lock c.in_ok-write_list-2.ensures text in
+    let state = Appends-named _ _ _ _ (codes " list=") (list_text (list_in c.list-2.result.name c.list-2.result.world.now)) _ lock c.in_ok-write_named_list.ensures text in
     Appends-both _ _ _ _ _ _ _ state c.writeln.ensures.bytes refl

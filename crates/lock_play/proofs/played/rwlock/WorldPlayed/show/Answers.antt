@@ -1,5 +1,8 @@
 use Rattle.std.proofs.Common.{rules, refl}
-use Rattle.lock_play.proofs.Texts.{Appends-more, Appends-both}
+use Rattle.std.specs.Prelude.{codes}
+use Rattle.lock_play.specs.Answers.{list_text}
+use Rattle.lock_play.specs.RwLock.{list_of}
+use Rattle.lock_play.proofs.Texts.{Appends-more, Appends-named, Appends-both}
 use Rattle.lock_play.proofs.RwLock.{listed, state_text}
 use Rattle.lock_play.proofs.played.rwlock.WorldPlayed.show.Goals as goal
 
@@ -10,8 +13,6 @@ returns g c =
     let third = listed c.args.self.now c.list-3.result.world.now c.list-3.result.which _ c.list-3.ensures.world c.list-3.ensures.which in
     let text = state_text c.args.self.now c.from-turn.result c.starved-starved.result c.from-writer.result c.readers-readers.result c.value-value.result _ _ _ (search rules) (search rules) (search rules) (search rules) (search rules) first second third in
     let turn = Appends-more _ _ _ _ _ _ c.in_ok-write.ensures.bytes c.in_ok-write_list.ensures refl in
-    let after_turn = Appends-more _ _ _ _ _ _ turn c.in_ok-write-2.ensures.bytes refl in
-    let no_readers = Appends-more _ _ _ _ _ _ after_turn c.in_ok-write_list-2.ensures refl in
-    let after_readers = Appends-more _ _ _ _ _ _ no_readers c.in_ok-write-3.ensures.bytes refl in
-    let state = Appends-more _ _ _ _ _ _ after_readers c.in_ok-write_list-3.ensures text in
+    let no_readers = Appends-named _ _ _ _ (codes " noreaders=") (list_text (list_of c.list-2.result.world.now c.list-2.result.which)) _ turn c.in_ok-write_named_list.ensures refl in
+    let state = Appends-named _ _ _ _ (codes " nowriter=") (list_text (list_of c.list-3.result.world.now c.list-3.result.which)) _ no_readers c.in_ok-write_named_list-2.ensures text in
     Appends-both _ _ _ _ _ _ _ state c.writeln.ensures.bytes refl
