@@ -1,6 +1,6 @@
 //! Futures that are dropped wherever a pending future may stand: each gives back what it had.
 
-use crate::forms::{NumberForm, drop_unpolled, is_free};
+use crate::forms::{NumberForm, can_be_had, is_free};
 use crate::polls::{Tasks, is_pending, ready};
 use crate::stories::{Story, TimedStory, of_borrowed, of_owned, of_timed};
 use async_lock::Mutex;
@@ -12,13 +12,13 @@ fn a_future_that_was_never_polled_has_nothing_to_give_back(rt: HostRuntime) {
     let Ok(mutex) = Mutex::new(rt, 1u64) else {
         return;
     };
-    drop_unpolled(&&mutex);
-    assert!(rt; is_free(&&mutex));
+    drop(mutex.lock());
+    assert!(rt; can_be_had(&mutex));
     let held = mutex.try_lock();
-    drop_unpolled(&&mutex);
-    assert!(rt; !is_free(&&mutex));
+    drop(mutex.lock());
+    assert!(rt; !can_be_had(&mutex));
     drop(held);
-    assert!(rt; is_free(&&mutex));
+    assert!(rt; can_be_had(&mutex));
 }
 
 struct LeavesTheList;

@@ -1,6 +1,6 @@
 //! What the clock says of a waiter.
 
-use crate::forms::{Form, is_free};
+use crate::forms::{Form, can_be_had, is_free};
 use crate::polls::{is_pending, ready, task};
 use async_lock::{Mutex, Refusal};
 use futures::test::MockTask;
@@ -128,5 +128,5 @@ fn an_error_of_the_runtime_is_a_refusal(rt: HostRuntime) {
     let held = mutex.try_lock();
     assert!(rt; is_refused(&mutex));
     drop(held);
-    assert!(rt; is_free(&&mutex));
+    assert!(rt; can_be_had(&mutex));
 }

@@ -99,7 +99,12 @@ pub(crate) fn number_in<L: NumberForm>(lock: &L) -> Option<u64> {
     lock.take().map(|guard| L::read(&guard))
 }
 
-/// A future of the lock is dropped before its first poll.
-pub(crate) fn drop_unpolled<L: Form>(lock: &L) {
-    drop(lock.future());
+/// As [`is_free`], of a mutex and not of a form, which is less to prove at each call.
+pub(crate) fn can_be_had<T, R: Wait>(mutex: &Mutex<T, R>) -> bool {
+    mutex.try_lock().is_some()
+}
+
+/// As [`number_in`], of a mutex.
+pub(crate) fn number_of<R: Wait>(mutex: &Mutex<u64, R>) -> Option<u64> {
+    mutex.try_lock().map(|guard| *guard)
 }

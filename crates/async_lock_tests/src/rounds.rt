@@ -1,6 +1,6 @@
 //! A mutex's rounds: taken, written, given back and taken again, with whoever waits told.
 
-use crate::forms::{NumberForm, is_free, number_in, owned};
+use crate::forms::{NumberForm, can_be_had, is_free, number_in, owned};
 use crate::polls::{Tasks, is_pending, ready, refused, task};
 use crate::same::assert_same;
 use crate::stories::{Story, of_borrowed, of_owned};
@@ -130,10 +130,6 @@ fn a_lock_goes_from_hand_to_hand_in_order(rt: HostRuntime) {
     of_borrowed(rt, 0, &GoesFromHandToHand);
 }
 
-fn can_be_had<T, R: Wait>(mutex: &Mutex<T, R>) -> bool {
-    mutex.try_lock().is_some()
-}
-
 // Whether a guard's source can be had while the guard is there, and after.
 fn source_can_be_had<T, R: Wait>(guard: MutexGuard<'_, T, R>) -> (bool, bool) {
     let source = MutexGuard::source(&guard);
@@ -159,7 +155,7 @@ fn a_guards_source_is_its_mutex(rt: HostRuntime) {
     };
     let found = Mutex::try_lock_arc(&mutex).map(|guard| owned_source_can_be_had(&guard));
     assert_same(&rt, found, Some(false));
-    assert!(rt; is_free(&mutex));
+    assert!(rt; can_be_had(&*mutex));
 }
 
 fn one_outlives_its_lock<L: NumberForm + Drop, R: Abort>(rt: &R, lock: L, task: &MockTask) {

@@ -1,6 +1,6 @@
 //! Each public call once, with its texts.
 
-use crate::forms::{Form, NumberForm, is_free, number_in};
+use crate::forms::{Form, NumberForm, can_be_had, number_in, number_of};
 use crate::polls::ready;
 use crate::same::assert_same;
 use async_lock::lock_futures::{Lock, LockArc};
@@ -71,7 +71,7 @@ fn read_polled<L: NumberForm>(task: &MockTask, lock: &L) -> Option<u64> {
 #[test]
 fn each_borrowed_call_succeeds(rt: HostRuntime) {
     let mut mutex = fresh(rt, 1u64);
-    assert_same(&rt, number_in(&&mutex), Some(1));
+    assert_same(&rt, number_of(&mutex), Some(1));
     assert_same(&rt, read_blocking(&mutex), Some(1));
     assert_same(&rt, read_waiting(&rt, &mutex), Some(1));
     let task = MockTask::new(&rt).expect(&rt, AMPLE);
@@ -135,7 +135,7 @@ fn guards_are_shown_as_their_values(rt: HostRuntime) {
     let (borrowed, owned) = (shown(rt.alloc(), &&*mutex), shown(rt.alloc(), &mutex));
     assert_same(&rt, borrowed.as_deref(), Some("\"a b\" a b"));
     assert_same(&rt, owned.as_deref(), Some("\"a b\" a b"));
-    assert!(rt; is_free(&mutex));
+    assert!(rt; can_be_had(&*mutex));
 }
 
 #[test]

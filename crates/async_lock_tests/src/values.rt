@@ -1,6 +1,6 @@
 //! The value: reached past forgotten guards, and dropped exactly once on every way out.
 
-use crate::forms::{Form, is_free, number_in, owned};
+use crate::forms::{Form, can_be_had, number_of, owned};
 use crate::polls::{is_pending, ready, task};
 use crate::same::assert_same;
 use async_lock::Mutex;
@@ -36,9 +36,9 @@ fn the_value_is_reached_past_a_forgotten_guard(rt: HostRuntime) -> Result<(), Fa
     mem::forget(guard);
     assert_same(&rt, *mutex.get_mut(), 30);
     // It stays held.
-    assert!(rt; !is_free(&&mutex));
+    assert!(rt; !can_be_had(&mutex));
     *mutex.get_mut() = 40;
-    assert!(rt; !is_free(&&mutex));
+    assert!(rt; !can_be_had(&mutex));
     assert_same(&rt, mutex.into_inner(), 40);
     Ok(())
 }
@@ -72,7 +72,7 @@ fn the_value_is_lent_past_a_forgotten_waiter(rt: HostRuntime) {
     };
     forget_a_waiter(&rt, &&mutex, &task);
     *mutex.get_mut() = 11;
-    assert_same(&rt, number_in(&&mutex), Some(11));
+    assert_same(&rt, number_of(&mutex), Some(11));
     assert_same(&rt, mutex.into_inner(), 11);
 }
 
