@@ -232,29 +232,47 @@ impl<T: Drop, R: Wait + Clock + Drop> LockArc<T, R> {
                 Turn::Refused(Refusal::Memory)
             }
             Stage::Waits(owned) => {
-                let Owned { mutex, waiting } = owned;
-                let waiting = match waiting {
-                    Some(waiting) => waiting,
-                    None => match mutex.raw.take() {
-                        Some((seat, hold)) => {
-                            return Turn::Ready(MutexGuardArc::new(mutex, seat, hold));
-                        }
-                        None => mutex.first(),
-                    },
-                };
-                match mutex.poll_waiting(cx, waiting) {
-                    Outcome::Got(seat, hold) => {
-                        Turn::Ready(MutexGuardArc::new(mutex, seat, hold))
-                    }
-                    Outcome::Waits(waiting) => {
-                        self.stage = Stage::Waits(Owned::new(mutex, waiting));
-                        Turn::Pending
-                    }
-                    Outcome::Refused(refusal, waiting) => {
-                        self.stage = Stage::Waits(Owned::new(mutex, waiting));
-                        Turn::Refused(refusal)
-                    }
+                let (stage, turn) = owned.poll(cx);
+                self.stage = stage;
+                turn
+            }
+        }
+    }
+}
+
+impl<T: Drop, R: Wait + Clock + Drop> Owned<T, R> {
+    ghost use Rattle.async_lock.specs.Sources.{is_finished};
+    ghost use Rattle.async_lock.specs.Futures.{IsTurn};
+
+    // One poll of a future that wasn't ready before, and how far it is then.
+    fn poll(self, cx: &mut Context<'_>) -> (Stage<T, R>, Turn<MutexGuardArc<T, R>>)
+        ensures turn { IsTurn (λ m. m ≡ self) false result.1 (is_finished result.0) }
+        ensures registered { OnPending result.1 (Covers cx.new (λ s. s ≡ self.raw.list.source.id)) }
+        ensures kept { Keeps cx.old cx.new }
+    {
+        let Owned { mutex, waiting } = self;
+        let waiting = match waiting {
+            Some(waiting) => waiting,
+            None => match mutex.raw.take() {
+                Some((seat, hold)) => {
+                    let guard = MutexGuardArc::new(mutex, seat, hold);
+                    return (Stage::Finished, Turn::Ready(guard));
                 }
+                None => mutex.first(),
+            },
+        };
+        match mutex.poll_waiting(cx, waiting) {
+            Outcome::Got(seat, hold) => {
+                let guard = MutexGuardArc::new(mutex, seat, hold);
+                (Stage::Finished, Turn::Ready(guard))
+            }
+            Outcome::Waits(waiting) => {
+                let owned = Owned::new(mutex, waiting);
+                (Stage::Waits(owned), Turn::Pending)
+            }
+            Outcome::Refused(refusal, waiting) => {
+                let owned = Owned::new(mutex, waiting);
+                (Stage::Waits(owned), Turn::Refused(refusal))
             }
         }
     }

@@ -16,7 +16,7 @@ use mutex_machine::Step as LockStep;
 use mutex_machine::program::{End as LockEnd, LockCall};
 
 /// What the inner lock is taken for.
-#[derive(Clone, Copy, Debug, PartialEq, Eq)]
+#[derive(Clone, Copy)]
 pub enum Aim {
     /// To arrive: the wait isn't counted yet.
     Arrive,
@@ -25,7 +25,7 @@ pub enum Aim {
 }
 
 /// What comes once the inner lock is released.
-#[derive(Clone, Copy, Debug, PartialEq, Eq)]
+#[derive(Clone, Copy)]
 pub enum Ending {
     /// The party stands in the list, and asks there.
     Wait,
@@ -40,7 +40,7 @@ pub enum Ending {
 }
 
 /// Where a party stands.
-#[derive(Clone, Copy, Debug, PartialEq, Eq)]
+#[derive(Clone, Copy)]
 pub enum Position {
     /// Outside every call, with nothing.
     Out,
@@ -55,7 +55,7 @@ pub enum Position {
 }
 
 /// A place in a program, named by what is done there.
-#[derive(Clone, Copy, Debug, PartialEq, Eq)]
+#[derive(Clone, Copy)]
 pub enum Place {
     /// Begin to take the inner lock.
     EnterLock(Aim),
@@ -94,7 +94,7 @@ pub enum Place {
 }
 
 /// One atomic step, on the count, on the list or on the inner lock.
-#[derive(Clone, Copy, Debug, PartialEq, Eq)]
+#[derive(Clone, Copy)]
 pub enum Action {
     /// Nothing is left to do.
     Nothing,
@@ -121,7 +121,7 @@ pub enum Action {
 }
 
 /// What an action found.
-#[derive(Clone, Copy, Debug, PartialEq, Eq)]
+#[derive(Clone, Copy)]
 pub enum Found {
     /// It was done.
     Done,
@@ -146,7 +146,7 @@ pub enum Found {
 }
 
 /// What a program does next.
-#[derive(Clone, Copy, Debug, PartialEq, Eq)]
+#[derive(Clone, Copy)]
 pub enum Next {
     /// The action of this place.
     Do(Place),

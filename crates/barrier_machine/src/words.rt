@@ -7,7 +7,7 @@ use crate::program::Found;
 
 /// How far a barrier is: how many generations are finished, and how many arrivals are counted towards the
 /// next one. Just after an arrival it tells that arrival's number.
-#[derive(Clone, Copy, Debug, PartialEq, Eq)]
+#[derive(Clone, Copy)]
 pub struct Progress {
     pub generation: u64,
     pub count: u64,

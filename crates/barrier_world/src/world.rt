@@ -33,7 +33,7 @@ use std::marker::Model;
 pub const MOST_STARVED: u32 = 1_073_741_823;
 
 /// The lists of a barrier.
-#[derive(Clone, Copy, Debug, PartialEq, Eq)]
+#[derive(Clone, Copy)]
 pub enum ListName {
     /// Of those that wait for the inner lock.
     Lock,

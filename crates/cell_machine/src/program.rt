@@ -13,7 +13,7 @@ use lock_table::End;
 use lock_world::{Call, Got, Refusal};
 
 /// What makes the value of an initialisation.
-#[derive(Clone, Copy, Debug, PartialEq, Eq)]
+#[derive(Clone, Copy)]
 pub enum Maker {
     /// The caller's maker, which each poll asks once: it may be pending, fail or give a value.
     Closure,
@@ -22,7 +22,7 @@ pub enum Maker {
 }
 
 /// The lists of a cell.
-#[derive(Clone, Copy, Debug, PartialEq, Eq)]
+#[derive(Clone, Copy)]
 pub enum ListName {
     /// Of the parties that would make the value.
     Active,
@@ -31,7 +31,7 @@ pub enum ListName {
 }
 
 /// Where a party stands.
-#[derive(Clone, Copy, Debug, PartialEq, Eq)]
+#[derive(Clone, Copy)]
 pub enum Position {
     /// Outside every call, with nothing.
     Out,
@@ -51,7 +51,7 @@ pub enum Position {
 
 /// A place in a program, named by what is done there. `told` says that the party took a notification
 /// during this poll.
-#[derive(Clone, Copy, Debug, PartialEq, Eq)]
+#[derive(Clone, Copy)]
 pub enum Place {
     /// Begin to make, if the cell is empty.
     Claim { maker: Maker, told: bool },
@@ -110,7 +110,7 @@ pub enum Place {
 }
 
 /// One atomic step, on the cell, on the maker or on a list.
-#[derive(Clone, Copy, Debug, PartialEq, Eq)]
+#[derive(Clone, Copy)]
 pub enum Action {
     /// Nothing is left to do.
     Nothing,
@@ -137,7 +137,7 @@ pub enum Action {
 }
 
 /// What an action found.
-#[derive(Clone, Copy, Debug, PartialEq, Eq)]
+#[derive(Clone, Copy)]
 pub enum Found {
     /// It was done.
     Done,
@@ -162,7 +162,7 @@ pub enum Found {
 }
 
 /// What a program does next.
-#[derive(Clone, Copy, Debug, PartialEq, Eq)]
+#[derive(Clone, Copy)]
 pub enum Next {
     /// The action of this place.
     Do(Place),

@@ -4,3 +4,9 @@ pub mod Cell
 pub mod Mutex
 pub mod ReadWrite
 pub mod Semaphore
+pub mod Tables
+pub mod MutexTable
+pub mod ReadWriteTable
+pub mod SemaphoreTable
+pub mod CellTable
+pub mod BarrierTable

@@ -1,5 +1,8 @@
-//! Wrong runs of a barrier.
+//! Wrong runs, and the table of places, of a barrier.
 
+ghost use Rattle.definition_tests.specs.Tables.{AreRowsOf, AreRowsOfTwo};
+ghost use Rattle.definition_tests.specs.BarrierTable.{beginnings, actions, followings};
+ghost use Rattle.barrier_machine.specs.Program.{start_of, action_of, next_of};
 ghost use Rattle.definition_tests.specs.Never.{Never};
 ghost use Rattle.definition_tests.specs.Barrier.{TwoLeaders, LeadsInTheMidst, HasNoLeader, CountedTwice, TakenBack, FollowsTooSoon, CountedUnlisted, CountedWithoutLock, WaitsUncounted, KeepsTheLock, RefusedAndCounted, RefusedTooSoon, LeftAsleep, WaitsForNothing, PassesOverInVain, KeepsItsTold, LooksInVain};
 
@@ -22,4 +25,11 @@ fn wrong_runs()
     ensures passes_over_in_vain { Never (PassesOverInVain) }
     ensures keeps_its_told { Never (KeepsItsTold) }
     ensures looks_in_vain { Never (LooksInVain) }
+{}
+
+/// The programs' places, each with its action and what follows what it finds, as docs/PROGRAMS.md lists them.
+fn table()
+    ensures beginnings { AreRowsOfTwo start_of beginnings }
+    ensures actions { AreRowsOf action_of actions }
+    ensures followings { AreRowsOfTwo next_of followings }
 {}

@@ -1,5 +1,8 @@
-//! Wrong runs of a once-cell.
+//! Wrong runs, and the table of places, of a once-cell.
 
+ghost use Rattle.definition_tests.specs.Tables.{AreRowsOf, AreRowsOfTwo};
+ghost use Rattle.definition_tests.specs.CellTable.{beginnings, actions, followings};
+ghost use Rattle.cell_machine.specs.Program.{start_of, action_of, next_of};
 ghost use Rattle.definition_tests.specs.Never.{Never};
 ghost use Rattle.definition_tests.specs.Cell.{EntersTwice, EndsByNothing, FillsAnother, MakesAnother, ReadyTooSoon, WaitsWithoutMaking, WaitsInPassive, WaitsInActive, TriesInVain, TriesWhileMade, LosesItsOwn, StaysMade, TellsNobody, PassesOverInVain, KeepsItsTold};
 
@@ -20,4 +23,11 @@ fn wrong_runs()
     ensures tells_nobody { Never (TellsNobody) }
     ensures passes_over_in_vain { Never (PassesOverInVain) }
     ensures keeps_its_told { Never (KeepsItsTold) }
+{}
+
+/// The programs' places, each with its action and what follows what it finds, as docs/PROGRAMS.md lists them.
+fn table()
+    ensures beginnings { AreRowsOfTwo start_of beginnings }
+    ensures actions { AreRowsOf action_of actions }
+    ensures followings { AreRowsOfTwo next_of followings }
 {}

@@ -1,5 +1,8 @@
-//! Wrong runs of a mutex.
+//! Wrong runs, and the table of places, of a mutex.
 
+ghost use Rattle.definition_tests.specs.Tables.{AreRowsOf, AreRowsOfTwo};
+ghost use Rattle.definition_tests.specs.MutexTable.{beginnings, actions, followings};
+ghost use Rattle.mutex_machine.specs.Program.{start_of, action_of, next_of};
 ghost use Rattle.definition_tests.specs.Never.{Never};
 ghost use Rattle.definition_tests.specs.Mutex.{TriesInVain, PollsUnready, WaitsUnlisted, WaitsUnmarked, PendsTooEarly, RefusedAtFirst, RefusedHavingTaken, LetsGoUndecided, PassesOverInVain, StarvesUnasked, KeepsItsTold};
 
@@ -16,4 +19,11 @@ fn wrong_runs()
     ensures passes_over_in_vain { Never (PassesOverInVain) }
     ensures starves_unasked { Never (StarvesUnasked) }
     ensures keeps_its_told { Never (KeepsItsTold) }
+{}
+
+/// The programs' places, each with its action and what follows what it finds, as docs/PROGRAMS.md lists them.
+fn table()
+    ensures beginnings { AreRowsOfTwo start_of beginnings }
+    ensures actions { AreRowsOf action_of actions }
+    ensures followings { AreRowsOfTwo next_of followings }
 {}

@@ -1,5 +1,8 @@
-//! Wrong runs of a read-write lock.
+//! Wrong runs, and the table of places, of a read-write lock.
 
+ghost use Rattle.definition_tests.specs.Tables.{AreRowsOf, AreRowsOfTwo};
+ghost use Rattle.definition_tests.specs.ReadWriteTable.{beginnings, actions, followings};
+ghost use Rattle.rwlock_machine.specs.Program.{start_of, action_of, next_of};
 ghost use Rattle.definition_tests.specs.Never.{Never};
 ghost use Rattle.definition_tests.specs.ReadWrite.{TriesInVain, ReadsUnready, WaitsUnlisted, PendsTooEarly, RefusedAtFirst, RefusedHavingMoved, ReadsWithTheBit, LetsGoUndecided, DowngradesThroughNothing, WriterIsUpgrade, TriesOn, WriteMeetsReaders, ReadMeetsStarved, StarvesUnasked, KeepsItsTold};
 
@@ -20,4 +23,11 @@ fn wrong_runs()
     ensures read_meets_starved { Never (ReadMeetsStarved) }
     ensures starves_unasked { Never (StarvesUnasked) }
     ensures keeps_its_told { Never (KeepsItsTold) }
+{}
+
+/// The programs' places, each with its action and what follows what it finds, as docs/PROGRAMS.md lists them.
+fn table()
+    ensures beginnings { AreRowsOfTwo start_of beginnings }
+    ensures actions { AreRowsOf action_of actions }
+    ensures followings { AreRowsOfTwo next_of followings }
 {}

@@ -1,5 +1,8 @@
-//! Wrong runs of a semaphore.
+//! Wrong runs, and the table of places, of a semaphore.
 
+ghost use Rattle.definition_tests.specs.Tables.{AreRowsOf, AreRowsOfTwo};
+ghost use Rattle.definition_tests.specs.SemaphoreTable.{beginnings, actions, followings};
+ghost use Rattle.semaphore_machine.specs.Program.{start_of, action_of, next_of};
 ghost use Rattle.definition_tests.specs.Never.{Never};
 ghost use Rattle.definition_tests.specs.Semaphore.{TriesInVain, TakesUndecided, GivesBackWithin, GivesBeforeItRaises, NotifiesForOthers, ForgetsInVain, RefusedThoughFree, RefusedAtLast, WaitsUnlisted, PassesOverInVain, KeepsItsTold};
 
@@ -16,4 +19,11 @@ fn wrong_runs()
     ensures waits_unlisted { Never (WaitsUnlisted) }
     ensures passes_over_in_vain { Never (PassesOverInVain) }
     ensures keeps_its_told { Never (KeepsItsTold) }
+{}
+
+/// The programs' places, each with its action and what follows what it finds, as docs/PROGRAMS.md lists them.
+fn table()
+    ensures beginnings { AreRowsOfTwo start_of beginnings }
+    ensures actions { AreRowsOf action_of actions }
+    ensures followings { AreRowsOfTwo next_of followings }
 {}

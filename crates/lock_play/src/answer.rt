@@ -60,12 +60,31 @@ fn write_got<O: Write>(how: &str, got: Got, output: &mut O) -> io::Result<()>
 {
     match got {
         Got::Plain => write_line(how, output),
-        Got::Value(value) => writeln!(output, "{how} {value}"),
-        Got::Leader(true) => writeln!(output, "{how} leader"),
-        Got::Leader(false) => writeln!(output, "{how} follower"),
-        Got::Taken(value) => writeln!(output, "{how} taken {value}"),
-        Got::Failed => writeln!(output, "{how} failed"),
+        Got::Value(value) => write_number(how, " ", value, output),
+        Got::Leader(true) => write_both(how, " leader", output),
+        Got::Leader(false) => write_both(how, " follower", output),
+        Got::Taken(value) => write_number(how, " taken ", value, output),
+        Got::Failed => write_both(how, " failed", output),
     }
+}
+
+/// Writes one text after the other, as one line.
+fn write_both<O: Write>(first: &str, second: &str, output: &mut O) -> io::Result<()>
+    ensures { Prints (O.contents output.old) (O.contents output.new) result (first.now ++ second.now) }
+{
+    writeln!(output, "{first}{second}")
+}
+
+/// Writes a number after two texts, as one line.
+fn write_number<O: Write>(
+    first: &str,
+    second: &str,
+    value: u64,
+    output: &mut O,
+) -> io::Result<()>
+    ensures { Prints (O.contents output.old) (O.contents output.new) result (first.now ++ (second.now ++ decimal value)) }
+{
+    writeln!(output, "{first}{second}{value}")
 }
 
 /// A list of waiting parties, to be shown.

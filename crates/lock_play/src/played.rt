@@ -20,7 +20,7 @@ use std::io;
 use std::io::Write;
 
 /// How a World replies where a value is put or taken from outside every call.
-#[derive(Clone, Copy, Debug, PartialEq, Eq)]
+#[derive(Clone, Copy)]
 pub enum Reply {
     /// It is done.
     Done,

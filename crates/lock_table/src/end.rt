@@ -6,7 +6,7 @@ ghost use Rattle.lock_table.specs.Ends.{answer_of};
 use lock_world::{Answer, Got, Refusal};
 
 /// How a call ended, as its program says it.
-#[derive(Clone, Copy, Debug, PartialEq, Eq)]
+#[derive(Clone, Copy)]
 pub enum End {
     /// A poll got the right that its future is for.
     Got,

@@ -12,14 +12,14 @@ use std::test::Fail;
 fn assert_answer<R: AllocGlobal + Abort>(rt: &R, answer: Answer, text: &str) -> Result<(), Fail> {
     let mut output = room::for_text(rt.alloc())?;
     write_answer(answer, &mut output)?;
-    assert_eq!(rt; output.as_slice(), text.as_bytes(), "{answer:?}");
+    assert_same(rt, output.as_slice(), text.as_bytes());
     Ok(())
 }
 
 fn assert_reply<R: AllocGlobal + Abort>(rt: &R, reply: Reply, text: &str) -> Result<(), Fail> {
     let mut output = room::for_text(rt.alloc())?;
     write_reply(reply, &mut output)?;
-    assert_eq!(rt; output.as_slice(), text.as_bytes(), "{reply:?}");
+    assert_same(rt, output.as_slice(), text.as_bytes());
     Ok(())
 }
 

@@ -93,9 +93,12 @@ fn book_of<L: Ledgers + Send + Sync, G: Gate + Sync, R: Threads + Wait + Sync>(
     requires names { blanks ≡ L.names }
     requires parts { L.names.parts ≡ workers }
 {
-    let world = World::new(alloc, workers, 0).map_err(|_| Stopped::Memory)?;
-    let made = Audited::<World, L>::new(alloc, blanks, world, workers);
-    let (audited, shares) = made.map_err(|_| Stopped::Memory)?;
+    let Ok(world) = World::new(alloc, workers, 0) else {
+        return Err(Stopped::Memory);
+    };
+    let Ok((audited, shares)) = Audited::<World, L>::new(alloc, blanks, world, workers) else {
+        return Err(Stopped::Memory);
+    };
     let stopped = AtomicBool::new(false);
     let work = AddOne {
         rt,

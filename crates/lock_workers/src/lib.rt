@@ -13,7 +13,7 @@ pub use one_mutex::public;
 use std::alloc::Global;
 use std::sync::Wait;
 use std::thread;
-use std::thread::Threads;
+use std::thread::{JoinHandle, Threads};
 use thiserror::Error;
 
 /// Why workers stopped before their work was done.
@@ -84,21 +84,37 @@ pub fn in_threads<'x, T: Send + Drop, W: Work<T> + Sync, G: Gate + Sync, R: Thre
                     Err(_) => stopped = Some(Stopped::Thread),
                 }
             }
-            let mut back = Vec::new(alloc);
-            for handle in running {
-                match handle.join(rt) {
-                    Ok(one) => {
-                        if back.push(one).is_err() {
-                            stopped = Some(Stopped::Memory);
-                        }
-                    }
-                    Err(found) => stopped = Some(found),
-                }
-            }
+            let back = joined(rt, alloc, running);
             match stopped {
                 Some(stopped) => Err(stopped),
-                None => Ok(back),
+                None => back,
             }
         },
     )
+}
+
+/// Waits for all of these threads, and gives what they hand back, in order.
+fn joined<T: Drop, R: Threads>(
+    rt: &R,
+    alloc: Global,
+    running: Vec<JoinHandle<Result<T, Stopped>>>,
+) -> Result<Vec<T>, Stopped>
+    ensures { IfOk result (λ back. vec_len back ≡ vec_len running) }
+{
+    let mut back = Vec::new(alloc);
+    let mut stopped = None;
+    for handle in running {
+        match handle.join(rt) {
+            Ok(one) => {
+                if back.push(one).is_err() {
+                    stopped = Some(Stopped::Memory);
+                }
+            }
+            Err(found) => stopped = Some(found),
+        }
+    }
+    match stopped {
+        Some(stopped) => Err(stopped),
+        None => Ok(back),
+    }
 }

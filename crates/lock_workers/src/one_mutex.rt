@@ -18,11 +18,24 @@ impl<R: Wait + Clock + RandomSource + AllocGlobal> Work<()> for AddOne<'_, R> {
     fn work(&self, _worker: u32, _given: ()) -> Result<(), Stopped> {
         match self.mutex.lock_blocking() {
             Ok(mut guard) => {
-                *guard = guard.saturating_add(1);
+                add_one(&mut guard);
                 Ok(())
             }
             Err(_) => Err(Stopped::Memory),
         }
+    }
+}
+
+fn add_one(value: &mut u64) {
+    *value = value.saturating_add(1);
+}
+
+/// What so many workers are given: nothing.
+fn nothing(alloc: Global, workers: u32) -> Result<Vec<()>, Stopped> {
+    let mut given = Vec::new(alloc);
+    match given.resize(workers as usize, ()) {
+        Ok(()) => Ok(given),
+        Err(_) => Err(Stopped::Memory),
     }
 }
 
@@ -40,12 +53,13 @@ pub fn public<G: Gate + Sync, R>(
 where
     R: Threads + Wait + Clock + RandomSource + AllocGlobal + Sync + Copy + Drop,
 {
-    let mutex = Mutex::new(*rt, 0_u64).map_err(|_| Stopped::Memory)?;
-    let work = AddOne { mutex: &mutex };
-    let mut given = Vec::new(alloc);
-    given
-        .resize(workers as usize, ())
-        .map_err(|_| Stopped::Memory)?;
-    in_threads(rt, alloc, &work, gate, given)?;
-    Ok(mutex.into_inner())
+    let given = nothing(alloc, workers)?;
+    let Ok(mutex) = Mutex::new(*rt, 0_u64) else {
+        return Err(Stopped::Memory);
+    };
+    let ended = in_threads(rt, alloc, &AddOne { mutex: &mutex }, gate, given);
+    match ended {
+        Ok(_) => Ok(mutex.into_inner()),
+        Err(stopped) => Err(stopped),
+    }
 }

@@ -7,7 +7,7 @@ ghost use Rattle.lock_world.specs.Standings.{kind_of, is_outside_stage, forgets}
 use crate::Call;
 
 /// How a party stands outside every call.
-#[derive(Clone, Copy, Debug, PartialEq, Eq)]
+#[derive(Clone, Copy)]
 pub enum Rest {
     /// It has nothing and asks for nothing.
     Idle,
@@ -20,7 +20,7 @@ pub enum Rest {
 }
 
 /// The kind of a call: it says who may begin it, and how it may end.
-#[derive(Clone, Copy, Debug, PartialEq, Eq)]
+#[derive(Clone, Copy)]
 pub enum Kind {
     /// The first poll of a future.
     FirstPoll,
@@ -45,14 +45,14 @@ pub enum Kind {
 }
 
 /// The call that a party is in: its kind, and how the party stood as it began.
-#[derive(Clone, Copy, Debug, PartialEq, Eq)]
+#[derive(Clone, Copy)]
 pub struct Within {
     pub kind: Kind,
     pub was: Rest,
 }
 
 /// At which stage of its calls a party is.
-#[derive(Clone, Copy, Debug, PartialEq, Eq)]
+#[derive(Clone, Copy)]
 pub enum Stage {
     Outside(Rest),
     Inside(Within),

@@ -13,7 +13,7 @@ use lock_world::Refusal;
 
 /// Where a party stands in a call on a mutex. `listed` says that it stands in the list, `told` that it
 /// took a notification during this poll.
-#[derive(Clone, Copy, Debug, PartialEq, Eq)]
+#[derive(Clone, Copy)]
 pub enum Place {
     /// Outside every call, without the lock: a future not yet polled, refused, dropped or none.
     Out,
@@ -68,7 +68,7 @@ pub enum Place {
 }
 
 /// One atomic step, on the lock's word or on its list.
-#[derive(Clone, Copy, Debug, PartialEq, Eq)]
+#[derive(Clone, Copy)]
 pub enum Action {
     /// Nothing is left to do.
     Nothing,
@@ -95,7 +95,7 @@ pub enum Action {
 }
 
 /// What an action found.
-#[derive(Clone, Copy, Debug, PartialEq, Eq)]
+#[derive(Clone, Copy)]
 pub enum Found {
     /// It was done.
     Done,
@@ -116,7 +116,7 @@ pub enum Found {
 }
 
 /// How a call ended.
-#[derive(Clone, Copy, Debug, PartialEq, Eq)]
+#[derive(Clone, Copy)]
 pub enum End {
     /// The party has the lock.
     Got,
@@ -131,7 +131,7 @@ pub enum End {
 }
 
 /// What a program does next.
-#[derive(Clone, Copy, Debug, PartialEq, Eq)]
+#[derive(Clone, Copy)]
 pub enum Next {
     /// The action that is done at this place.
     Do(Action, Place),
@@ -140,7 +140,7 @@ pub enum Next {
 }
 
 /// A call on a mutex, as its machine knows it.
-#[derive(Clone, Copy, Debug, PartialEq, Eq)]
+#[derive(Clone, Copy)]
 pub enum LockCall {
     /// The first poll.
     Lock,

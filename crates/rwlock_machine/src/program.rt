@@ -17,7 +17,7 @@ use mutex_machine::Step as TurnStep;
 use mutex_machine::program::{End as TurnEnd, LockCall};
 
 /// What a future asks for that stands in no list, as when it was made.
-#[derive(Clone, Copy, Debug, PartialEq, Eq)]
+#[derive(Clone, Copy)]
 pub enum Wanted {
     /// To read.
     Read,
@@ -28,7 +28,7 @@ pub enum Wanted {
 }
 
 /// What the turn is taken for.
-#[derive(Clone, Copy, Debug, PartialEq, Eq)]
+#[derive(Clone, Copy)]
 pub enum Purpose {
     /// To read, and perhaps to write later.
     UpgradableRead,
@@ -37,7 +37,7 @@ pub enum Purpose {
 }
 
 /// What comes once the turn is released.
-#[derive(Clone, Copy, Debug, PartialEq, Eq)]
+#[derive(Clone, Copy)]
 pub enum Ending {
     /// The party has nothing.
     GivenBack,
@@ -55,7 +55,7 @@ pub enum Ending {
 
 /// Where a party stands in a call on a read-write lock. `told` says that it took a notification during
 /// this poll, `upgrade` that it waits for an upgrade and not for a write.
-#[derive(Clone, Copy, Debug, PartialEq, Eq)]
+#[derive(Clone, Copy)]
 pub enum Place {
     /// Outside every call, with nothing: no future, or a finished one.
     Out,
@@ -154,7 +154,7 @@ pub enum Place {
 }
 
 /// One atomic step, on the lock's word, on one of its lists or on the turn.
-#[derive(Clone, Copy, Debug, PartialEq, Eq)]
+#[derive(Clone, Copy)]
 pub enum Action {
     /// Nothing is left to do.
     Nothing,
@@ -201,7 +201,7 @@ pub enum Action {
 }
 
 /// What an action found.
-#[derive(Clone, Copy, Debug, PartialEq, Eq)]
+#[derive(Clone, Copy)]
 pub enum Found {
     /// It was done.
     Done,
@@ -226,7 +226,7 @@ pub enum Found {
 }
 
 /// What a program does next.
-#[derive(Clone, Copy, Debug, PartialEq, Eq)]
+#[derive(Clone, Copy)]
 pub enum Next {
     /// The action that is done at this place.
     Do(Action, Place),

@@ -14,7 +14,7 @@ use lock_table::End;
 use lock_world::{Call, Refusal};
 
 /// Where a party stands.
-#[derive(Clone, Copy, Debug, PartialEq, Eq)]
+#[derive(Clone, Copy)]
 pub enum Position {
     /// Outside every call, with nothing: a future not yet polled, refused, dropped or none.
     Out,
@@ -28,7 +28,7 @@ pub enum Position {
 
 /// A place in a program, named by what is done there. `listed` says that the party stands in the list,
 /// `told` that it took a notification during this poll.
-#[derive(Clone, Copy, Debug, PartialEq, Eq)]
+#[derive(Clone, Copy)]
 pub enum Place {
     /// Take a permit, if there is one: a first poll, or a look after joining or after a notification.
     Take { listed: bool, told: bool },
@@ -65,7 +65,7 @@ pub enum Place {
 }
 
 /// One atomic step, on a word or on the list.
-#[derive(Clone, Copy, Debug, PartialEq, Eq)]
+#[derive(Clone, Copy)]
 pub enum Action {
     /// Nothing is left to do.
     Nothing,
@@ -90,7 +90,7 @@ pub enum Action {
 }
 
 /// What an action found.
-#[derive(Clone, Copy, Debug, PartialEq, Eq)]
+#[derive(Clone, Copy)]
 pub enum Found {
     /// It was done.
     Done,
@@ -109,7 +109,7 @@ pub enum Found {
 }
 
 /// What a program does next.
-#[derive(Clone, Copy, Debug, PartialEq, Eq)]
+#[derive(Clone, Copy)]
 pub enum Next {
     /// The action of this place.
     Do(Place),

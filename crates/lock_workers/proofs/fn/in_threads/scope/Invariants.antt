@@ -5,8 +5,3 @@ use Rattle.lock_workers.proofs.fn.in_threads.scope.Given as goal
 -- unless a worker was stopped, a thread runs for each that was given and isn't left
 abbrev pub invariant-loop-one : goal.invariant-loop-one
 invariant-loop-one g l = l.stopped ≡ None → vec_len l.running + l.one-iterator.rest.len ≡ l.initial.one-iterator.rest.len
-
--- and each that was joined handed one back
-abbrev pub invariant-loop-handle : goal.invariant-loop-handle
-invariant-loop-handle g l =
-    l.stopped ≡ None → (vec_len l.back + l.handle-iterator.rest.len ≡ l.initial.handle-iterator.rest.len) × (l.initial.stopped ≡ None)

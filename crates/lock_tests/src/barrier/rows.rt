@@ -1,4 +1,4 @@
-//! What the tests of a barrier's machine and of its World are made of.
+//! The rows of which the tests of a barrier's World are made.
 
 use lock_event::Mark;
 use lock_world::{Answer, Got, Inputs, Made};

@@ -3,11 +3,11 @@
 //! Each test is a table of rows, and one function makes the rows of all tables: what a World promises is
 //! followed there once, and not again at each test.
 
-use crate::rows::Deed::{
+use super::rows::Deed::{
     self, Asks, Calls, IsAtRest, IsInitialized, Looks, Makes, Puts, Reads, Starves, Steps, Takes,
 };
-use crate::rows::Seen::{self, Answered, Is, State, Told, Value};
-use crate::rows::{ACTIVE, GO, INPUTS, NO_MEMORY, PASSIVE};
+use super::rows::Seen::{self, Answered, Is, State, Told, Value};
+use super::rows::{ACTIVE, GO, INPUTS, NO_MEMORY, PASSIVE};
 use cell_machine::Content;
 use cell_machine::program::ListName;
 use cell_world::World;

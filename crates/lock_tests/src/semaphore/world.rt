@@ -3,8 +3,8 @@
 //! Most tests are tables of rows, and one function makes the rows of all of them: what a World promises is
 //! followed there once, and not again at each test.
 
-use crate::rows::Row::{self, AtRest, Calls, State, Steps, Told};
-use crate::rows::{BEGIN_POLL, GO, GRANTED, INPUTS, NO_MEMORY, READY};
+use super::rows::Row::{self, AtRest, Calls, State, Steps, Told};
+use super::rows::{BEGIN_POLL, GO, GRANTED, INPUTS, NO_MEMORY, READY};
 use lock_event::{Mark, Memory};
 use lock_frame::AnyWorld;
 use lock_world::{Answer, Call, Move, Refusal, What};

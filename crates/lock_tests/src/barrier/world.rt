@@ -3,8 +3,8 @@
 //! A test is a table of deeds, each with what is to be seen of it, and one function does the deeds of all
 //! tables: what a World promises is followed there once, and not again at each test.
 
-use crate::rows::Seen::{self, Answered, Is, Number, State, Told};
-use crate::rows::{
+use super::rows::Seen::{self, Answered, Is, Number, State, Told};
+use super::rows::{
     FOLLOWS, GIVEN_BACK, INPUTS, LEADS, NO_MEMORY, NOT_POSSIBLE, PENDING, STARVING, STEPPED,
 };
 use Deed::{

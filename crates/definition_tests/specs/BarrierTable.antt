@@ -1,0 +1,148 @@
+-- The places of a barrier's programs, row by row.
+use Rattle.std.specs.Prelude.{true, false, List, [], ◌∷◌, Option, Some, None}
+use Rattle.barrier_machine.specs.declared.program.Action.TheVariants as act
+use Rattle.barrier_machine.specs.declared.program.Action.{Action}
+use Rattle.barrier_machine.specs.declared.program.Aim.TheVariants as aim
+use Rattle.barrier_machine.specs.declared.program.Ending.TheVariants as ending
+use Rattle.barrier_machine.specs.declared.program.Found.TheVariants as found
+use Rattle.barrier_machine.specs.declared.program.Found.{Found}
+use Rattle.barrier_machine.specs.declared.program.Next.TheVariants as next
+use Rattle.barrier_machine.specs.declared.program.Next.{Next}
+use Rattle.barrier_machine.specs.declared.program.Place.TheVariants as place
+use Rattle.barrier_machine.specs.declared.program.Place.{Place}
+use Rattle.barrier_machine.specs.declared.program.Position.TheVariants as position
+use Rattle.barrier_machine.specs.declared.program.Position.{Position}
+use Rattle.lock_table.specs.declared.end.End.TheVariants as ended
+use Rattle.lock_world.specs.declared.moves.Call.TheVariants as call
+use Rattle.lock_world.specs.declared.moves.Call.{Call}
+use Rattle.lock_world.specs.declared.moves.Got.TheVariants as got
+use Rattle.lock_world.specs.declared.refusal.Refusal.TheVariants as refusal
+use Rattle.mutex_machine.specs.declared.mutex.Step.TheVariants as lock_step
+use Rattle.mutex_machine.specs.declared.program.End.TheVariants as lock_end
+use Rattle.mutex_machine.specs.declared.program.LockCall.TheVariants as lock_call
+
+-- Where a call begins for a party that stands there; None where it can't.
+abbrev pub beginnings : List (Call × Position × Option Place)
+beginnings =
+    (call.Wait, position.Out, Some (place.EnterLock aim.Arrive)) ∷
+    (call.Poll, position.Waiting, Some place.Ask) ∷
+    (call.Drop, position.Waiting, Some place.CancelLeave) ∷
+    (call.Drop, position.Out, Some place.Abandon) ∷
+    (call.Poll, position.Made aim.Arrive, Some (place.EnterLock aim.Arrive)) ∷
+    (call.Poll, position.Locking aim.Arrive, Some (place.WaitLock aim.Arrive)) ∷
+    (call.Drop, position.Made aim.Arrive, Some place.Abandon) ∷
+    (call.Drop, position.Locking aim.Arrive, Some place.CancelLock) ∷
+    (call.Wait, position.Made aim.Arrive, None) ∷
+    (call.Poll, position.Made aim.Check, Some (place.EnterLock aim.Check)) ∷
+    (call.Poll, position.Locking aim.Check, Some (place.WaitLock aim.Check)) ∷
+    (call.Drop, position.Made aim.Check, Some place.Abandon) ∷
+    (call.Drop, position.Locking aim.Check, Some place.CancelLock) ∷
+    (call.Wait, position.Made aim.Check, None) ∷
+    (call.Poll, position.Out, None) ∷
+    (call.Wait, position.Waiting, None) ∷
+    (call.Poll, position.At place.Ask, None) ∷
+    []
+
+-- What is done at a place.
+abbrev pub actions : List (Place × Action)
+actions =
+    (place.EnterLock aim.Arrive, act.Begin lock_call.Lock) ∷
+    (place.EnterLock aim.Check, act.Begin lock_call.Lock) ∷
+    (place.WaitLock aim.Arrive, act.Begin lock_call.Poll) ∷
+    (place.WaitLock aim.Check, act.Begin lock_call.Poll) ∷
+    (place.TakeLock aim.Arrive, act.Go) ∷
+    (place.TakeLock aim.Check, act.Go) ∷
+    (place.Look, act.Look) ∷
+    (place.Join, act.Join) ∷
+    (place.Arrive, act.Arrive) ∷
+    (place.Complete, act.Complete) ∷
+    (place.NotifyAll, act.NotifyAll) ∷
+    (place.Check, act.Check) ∷
+    (place.JoinAgain, act.Join) ∷
+    (place.ReleaseLock ending.Wait, act.Begin lock_call.Release) ∷
+    (place.ReleaseLock ending.Follow, act.Begin lock_call.Release) ∷
+    (place.ReleaseLock ending.Lead, act.Begin lock_call.Release) ∷
+    (place.ReleaseLock ending.RefuseGenerations, act.Begin lock_call.Release) ∷
+    (place.ReleaseLock (ending.RefuseMemory aim.Arrive), act.Begin lock_call.Release) ∷
+    (place.ReleaseLock (ending.RefuseMemory aim.Check), act.Begin lock_call.Release) ∷
+    (place.ReleasingLock ending.Wait, act.Go) ∷
+    (place.ReleasingLock ending.Follow, act.Go) ∷
+    (place.ReleasingLock ending.Lead, act.Go) ∷
+    (place.ReleasingLock ending.RefuseGenerations, act.Go) ∷
+    (place.ReleasingLock (ending.RefuseMemory aim.Arrive), act.Go) ∷
+    (place.ReleasingLock (ending.RefuseMemory aim.Check), act.Go) ∷
+    (place.Ask, act.Ask) ∷
+    (place.CancelLock, act.Begin lock_call.Cancel) ∷
+    (place.CancellingLock, act.Go) ∷
+    (place.CancelLeave, act.Leave) ∷
+    (place.Abandon, act.Nothing) ∷
+    []
+
+-- What comes after a place whose action found this.
+abbrev pub followings : List (Place × Found × Next)
+followings =
+    (place.EnterLock aim.Arrive, found.Lock lock_step.More, next.Do (place.TakeLock aim.Arrive)) ∷
+    (place.EnterLock aim.Arrive, found.Lock (lock_step.End lock_end.Pending), next.End ended.Pending (position.Locking aim.Arrive)) ∷
+    (place.EnterLock aim.Arrive, found.Lock (lock_step.End (lock_end.Refused refusal.Memory)), next.End (ended.Refused refusal.Memory) (position.Made aim.Arrive)) ∷
+    (place.EnterLock aim.Arrive, found.Lock (lock_step.End (lock_end.Refused refusal.Starved)), next.End (ended.Refused refusal.Starved) (position.Made aim.Arrive)) ∷
+    (place.EnterLock aim.Check, found.Lock lock_step.More, next.Do (place.TakeLock aim.Check)) ∷
+    (place.EnterLock aim.Check, found.Lock (lock_step.End lock_end.Pending), next.End ended.Pending (position.Locking aim.Check)) ∷
+    (place.EnterLock aim.Check, found.Lock (lock_step.End (lock_end.Refused refusal.Memory)), next.End (ended.Refused refusal.Memory) (position.Made aim.Check)) ∷
+    (place.EnterLock aim.Check, found.Lock (lock_step.End (lock_end.Refused refusal.Starved)), next.End (ended.Refused refusal.Starved) (position.Made aim.Check)) ∷
+    (place.EnterLock aim.Arrive, found.Lock (lock_step.End lock_end.Got), next.Do place.Look) ∷
+    (place.WaitLock aim.Arrive, found.Lock lock_step.More, next.Do (place.TakeLock aim.Arrive)) ∷
+    (place.WaitLock aim.Arrive, found.Lock (lock_step.End lock_end.Pending), next.End ended.Pending (position.Locking aim.Arrive)) ∷
+    (place.WaitLock aim.Arrive, found.Lock (lock_step.End (lock_end.Refused refusal.Memory)), next.End (ended.Refused refusal.Memory) (position.Made aim.Arrive)) ∷
+    (place.WaitLock aim.Arrive, found.Lock (lock_step.End (lock_end.Refused refusal.Starved)), next.End (ended.Refused refusal.Starved) (position.Made aim.Arrive)) ∷
+    (place.WaitLock aim.Check, found.Lock lock_step.More, next.Do (place.TakeLock aim.Check)) ∷
+    (place.WaitLock aim.Check, found.Lock (lock_step.End lock_end.Pending), next.End ended.Pending (position.Locking aim.Check)) ∷
+    (place.WaitLock aim.Check, found.Lock (lock_step.End (lock_end.Refused refusal.Memory)), next.End (ended.Refused refusal.Memory) (position.Made aim.Check)) ∷
+    (place.WaitLock aim.Check, found.Lock (lock_step.End (lock_end.Refused refusal.Starved)), next.End (ended.Refused refusal.Starved) (position.Made aim.Check)) ∷
+    (place.WaitLock aim.Arrive, found.Lock (lock_step.End lock_end.Got), next.Do place.Look) ∷
+    (place.TakeLock aim.Arrive, found.Lock lock_step.More, next.Do (place.TakeLock aim.Arrive)) ∷
+    (place.TakeLock aim.Arrive, found.Lock (lock_step.End lock_end.Pending), next.End ended.Pending (position.Locking aim.Arrive)) ∷
+    (place.TakeLock aim.Arrive, found.Lock (lock_step.End (lock_end.Refused refusal.Memory)), next.End (ended.Refused refusal.Memory) (position.Made aim.Arrive)) ∷
+    (place.TakeLock aim.Arrive, found.Lock (lock_step.End (lock_end.Refused refusal.Starved)), next.End (ended.Refused refusal.Starved) (position.Made aim.Arrive)) ∷
+    (place.TakeLock aim.Check, found.Lock lock_step.More, next.Do (place.TakeLock aim.Check)) ∷
+    (place.TakeLock aim.Check, found.Lock (lock_step.End lock_end.Pending), next.End ended.Pending (position.Locking aim.Check)) ∷
+    (place.TakeLock aim.Check, found.Lock (lock_step.End (lock_end.Refused refusal.Memory)), next.End (ended.Refused refusal.Memory) (position.Made aim.Check)) ∷
+    (place.TakeLock aim.Check, found.Lock (lock_step.End (lock_end.Refused refusal.Starved)), next.End (ended.Refused refusal.Starved) (position.Made aim.Check)) ∷
+    (place.TakeLock aim.Check, found.Lock (lock_step.End lock_end.Got), next.Do place.Check) ∷
+    (place.Look, found.MustWait, next.Do place.Join) ∷
+    (place.Look, found.Leads, next.Do place.Complete) ∷
+    (place.Look, found.Past, next.Do (place.ReleaseLock ending.RefuseGenerations)) ∷
+    (place.Join, found.Done, next.Do place.Arrive) ∷
+    (place.Join, found.NoMemory, next.Do (place.ReleaseLock (ending.RefuseMemory aim.Arrive))) ∷
+    (place.Arrive, found.Done, next.Do (place.ReleaseLock ending.Wait)) ∷
+    (place.Complete, found.Done, next.Do place.NotifyAll) ∷
+    (place.NotifyAll, found.Done, next.Do (place.ReleaseLock ending.Lead)) ∷
+    (place.Check, found.Finished, next.Do (place.ReleaseLock ending.Follow)) ∷
+    (place.Check, found.Unfinished, next.Do place.JoinAgain) ∷
+    (place.JoinAgain, found.Done, next.Do (place.ReleaseLock ending.Wait)) ∷
+    (place.JoinAgain, found.NoMemory, next.Do (place.ReleaseLock (ending.RefuseMemory aim.Check))) ∷
+    (place.ReleaseLock ending.Wait, found.Lock lock_step.More, next.Do (place.ReleasingLock ending.Wait)) ∷
+    (place.ReleaseLock ending.Follow, found.Lock lock_step.More, next.Do (place.ReleasingLock ending.Follow)) ∷
+    (place.ReleaseLock ending.Lead, found.Lock lock_step.More, next.Do (place.ReleasingLock ending.Lead)) ∷
+    (place.ReleaseLock ending.RefuseGenerations, found.Lock lock_step.More, next.Do (place.ReleasingLock ending.RefuseGenerations)) ∷
+    (place.ReleaseLock (ending.RefuseMemory aim.Arrive), found.Lock lock_step.More, next.Do (place.ReleasingLock (ending.RefuseMemory aim.Arrive))) ∷
+    (place.ReleaseLock (ending.RefuseMemory aim.Check), found.Lock lock_step.More, next.Do (place.ReleasingLock (ending.RefuseMemory aim.Check))) ∷
+    (place.ReleaseLock ending.Follow, found.Lock (lock_step.End lock_end.GivenBack), next.Ready (got.Leader false)) ∷
+    (place.ReleaseLock ending.Lead, found.Lock (lock_step.End lock_end.GivenBack), next.Ready (got.Leader true)) ∷
+    (place.ReleaseLock ending.Wait, found.Lock (lock_step.End lock_end.GivenBack), next.Do place.Ask) ∷
+    (place.ReleaseLock ending.RefuseGenerations, found.Lock (lock_step.End lock_end.GivenBack), next.End (ended.Refused refusal.Generations) (position.Made aim.Arrive)) ∷
+    (place.ReleaseLock (ending.RefuseMemory aim.Arrive), found.Lock (lock_step.End lock_end.GivenBack), next.End (ended.Refused refusal.Memory) (position.Made aim.Arrive)) ∷
+    (place.ReleaseLock (ending.RefuseMemory aim.Check), found.Lock (lock_step.End lock_end.GivenBack), next.End (ended.Refused refusal.Memory) (position.Made aim.Check)) ∷
+    (place.ReleasingLock ending.Follow, found.Lock (lock_step.End lock_end.GivenBack), next.Ready (got.Leader false)) ∷
+    (place.ReleasingLock ending.Lead, found.Lock (lock_step.End lock_end.GivenBack), next.Ready (got.Leader true)) ∷
+    (place.ReleasingLock ending.Wait, found.Lock (lock_step.End lock_end.GivenBack), next.Do place.Ask) ∷
+    (place.ReleasingLock ending.RefuseGenerations, found.Lock (lock_step.End lock_end.GivenBack), next.End (ended.Refused refusal.Generations) (position.Made aim.Arrive)) ∷
+    (place.ReleasingLock (ending.RefuseMemory aim.Arrive), found.Lock (lock_step.End lock_end.GivenBack), next.End (ended.Refused refusal.Memory) (position.Made aim.Arrive)) ∷
+    (place.ReleasingLock (ending.RefuseMemory aim.Check), found.Lock (lock_step.End lock_end.GivenBack), next.End (ended.Refused refusal.Memory) (position.Made aim.Check)) ∷
+    (place.Ask, found.Yes, next.Do (place.EnterLock aim.Check)) ∷
+    (place.Ask, found.No, next.End ended.Pending position.Waiting) ∷
+    (place.CancelLock, found.Lock lock_step.More, next.Do place.CancellingLock) ∷
+    (place.CancelLock, found.Lock (lock_step.End lock_end.GivenBack), next.End ended.GivenBack position.Out) ∷
+    (place.CancellingLock, found.Lock (lock_step.End lock_end.GivenBack), next.End ended.GivenBack position.Out) ∷
+    (place.CancelLeave, found.Done, next.End ended.GivenBack position.Out) ∷
+    (place.Abandon, found.Done, next.End ended.GivenBack position.Out) ∷
+    []

@@ -1,0 +1,97 @@
+-- The places of a semaphore's programs, row by row.
+use Rattle.std.specs.Prelude.{true, false, List, [], ◌∷◌, Option, Some, None}
+use Rattle.lock_table.specs.declared.end.End.TheVariants as ended
+use Rattle.lock_world.specs.declared.moves.Call.TheVariants as call
+use Rattle.lock_world.specs.declared.moves.Call.{Call}
+use Rattle.lock_world.specs.declared.refusal.Refusal.TheVariants as refusal
+use Rattle.semaphore_machine.specs.declared.program.Action.TheVariants as act
+use Rattle.semaphore_machine.specs.declared.program.Action.{Action}
+use Rattle.semaphore_machine.specs.declared.program.Found.TheVariants as found
+use Rattle.semaphore_machine.specs.declared.program.Found.{Found}
+use Rattle.semaphore_machine.specs.declared.program.Next.TheVariants as next
+use Rattle.semaphore_machine.specs.declared.program.Next.{Next}
+use Rattle.semaphore_machine.specs.declared.program.Place.TheVariants as place
+use Rattle.semaphore_machine.specs.declared.program.Place.{Place}
+use Rattle.semaphore_machine.specs.declared.program.Position.TheVariants as position
+use Rattle.semaphore_machine.specs.declared.program.Position.{Position}
+
+-- Where a call begins for a party that stands there; None where it can't.
+abbrev pub beginnings : List (Call × Position × Option Place)
+beginnings =
+    (call.Acquire, position.Out, Some (place.Take false false)) ∷
+    (call.Poll, position.Out, Some (place.Take false false)) ∷
+    (call.Poll, position.Waiting, Some place.Retake) ∷
+    (call.TryAcquire, position.Out, Some place.Try) ∷
+    (call.AddPermits 7, position.Out, Some (place.Raise 7)) ∷
+    (call.Drop, position.Out, Some place.Abandon) ∷
+    (call.Drop, position.Waiting, Some place.CancelLeave) ∷
+    (call.Drop, position.Holding, Some place.GiveBack) ∷
+    (call.Forget, position.Holding, Some place.Lower) ∷
+    (call.Forget, position.Waiting, None) ∷
+    (call.Acquire, position.Holding, None) ∷
+    (call.Poll, position.At place.Ask, None) ∷
+    []
+
+-- What is done at a place.
+abbrev pub actions : List (Place × Action)
+actions =
+    (place.Take false false, act.Take) ∷
+    (place.Take true true, act.Take) ∷
+    (place.Retake, act.Take) ∷
+    (place.Join true, act.Join) ∷
+    (place.Ask, act.Ask) ∷
+    (place.Leave true, act.Leave) ∷
+    (place.HandOn, act.Notify 1) ∷
+    (place.RefuseNotify, act.Notify 1) ∷
+    (place.Try, act.Take) ∷
+    (place.Lower, act.Lower) ∷
+    (place.GiveBack, act.GiveBack) ∷
+    (place.GiveBackNotify, act.Notify 1) ∷
+    (place.Raise 3, act.Raise 3) ∷
+    (place.GiveAdded 3, act.Give 3) ∷
+    (place.NotifyAdded 3, act.Notify 3) ∷
+    (place.CancelLeave, act.Leave) ∷
+    (place.Abandon, act.Nothing) ∷
+    []
+
+-- What comes after a place whose action found this.
+abbrev pub followings : List (Place × Found × Next)
+followings =
+    (place.Take false false, found.Taken true, next.End ended.Got) ∷
+    (place.Take false false, found.Taken false, next.End ended.Got) ∷
+    (place.Take true false, found.Taken true, next.Do (place.Leave false)) ∷
+    (place.Take true false, found.Taken false, next.Do (place.Leave false)) ∷
+    (place.Take false false, found.NoneLeft, next.Do (place.Join false)) ∷
+    (place.Take false true, found.NoneLeft, next.Do (place.Join true)) ∷
+    (place.Take true false, found.NoneLeft, next.Do place.Ask) ∷
+    (place.Take true true, found.NoneLeft, next.Do place.Ask) ∷
+    (place.Take false true, found.Taken true, next.Do place.HandOn) ∷
+    (place.Take false true, found.Taken false, next.End ended.Got) ∷
+    (place.Take true true, found.Taken true, next.Do (place.Leave true)) ∷
+    (place.Take true true, found.Taken false, next.Do (place.Leave false)) ∷
+    (place.Retake, found.Taken true, next.Do (place.Leave false)) ∷
+    (place.Retake, found.Taken false, next.Do (place.Leave false)) ∷
+    (place.Retake, found.NoneLeft, next.Do place.Ask) ∷
+    (place.Join false, found.Done, next.Do (place.Take true false)) ∷
+    (place.Join true, found.Done, next.Do (place.Take true true)) ∷
+    (place.Join false, found.NoMemory, next.End (ended.Refused refusal.Memory)) ∷
+    (place.Join true, found.NoMemory, next.Do place.RefuseNotify) ∷
+    (place.Ask, found.Yes, next.Do (place.Take false true)) ∷
+    (place.Ask, found.No, next.End ended.Pending) ∷
+    (place.Leave true, found.Done, next.Do place.HandOn) ∷
+    (place.Leave false, found.Done, next.End ended.Got) ∷
+    (place.HandOn, found.Done, next.End ended.Got) ∷
+    (place.RefuseNotify, found.Done, next.End (ended.Refused refusal.Memory)) ∷
+    (place.Try, found.Taken true, next.End ended.Granted) ∷
+    (place.Try, found.Taken false, next.End ended.Granted) ∷
+    (place.Try, found.NoneLeft, next.End ended.NotFree) ∷
+    (place.Lower, found.Done, next.End ended.GivenBack) ∷
+    (place.GiveBack, found.Done, next.Do place.GiveBackNotify) ∷
+    (place.GiveBackNotify, found.Done, next.End ended.GivenBack) ∷
+    (place.Raise 2, found.Done, next.Do (place.GiveAdded 2)) ∷
+    (place.Raise 2, found.PastLimit, next.End (ended.Refused refusal.Permits)) ∷
+    (place.GiveAdded 2, found.Done, next.Do (place.NotifyAdded 2)) ∷
+    (place.NotifyAdded 2, found.Done, next.End ended.Granted) ∷
+    (place.CancelLeave, found.Done, next.End ended.GivenBack) ∷
+    (place.Abandon, found.Done, next.End ended.GivenBack) ∷
+    []

@@ -1,0 +1,4 @@
+//! A barrier's World.
+
+mod rows;
+mod world;

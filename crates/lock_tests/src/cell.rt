@@ -1,0 +1,4 @@
+//! A once-cell's World.
+
+mod rows;
+mod world;

@@ -1,4 +1,0 @@
-//! A read-write lock's machine: its programs and its lock.
-
-mod lock;
-mod program;

@@ -1,0 +1,4 @@
+//! A semaphore's World.
+
+mod rows;
+mod world;
