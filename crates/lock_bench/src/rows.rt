@@ -11,6 +11,11 @@ use std::random::RandomSource;
 use std::sync::{Arc, Wait};
 use std::time::Clock;
 
+/// What is done under each lock.
+fn add_one(value: &mut u64) {
+    *value = value.wrapping_add(1);
+}
+
 /// Lock and unlock of std's mutex.
 #[derive(Drop)]
 pub(crate) struct StdPair<'a, 'b, R> {
@@ -22,7 +27,7 @@ impl<R: Wait> Row for StdPair<'_, '_, R> {
     fn go(&self, times: u64) {
         for _ in 0..times {
             let mut guard = black_box(self.mutex).lock(self.rt);
-            *guard = guard.wrapping_add(1);
+            add_one(&mut guard);
         }
     }
 }
@@ -37,7 +42,7 @@ impl<R: Wait> Row for TryPair<'_, R> {
     fn go(&self, times: u64) {
         for _ in 0..times {
             if let Some(mut guard) = black_box(self.mutex).try_lock() {
-                *guard = guard.wrapping_add(1);
+                add_one(&mut guard);
             }
         }
     }
@@ -69,7 +74,7 @@ impl<R: Wait + Drop> Row for TryArcPair<'_, R> {
     fn go(&self, times: u64) {
         for _ in 0..times {
             if let Some(mut guard) = Mutex::try_lock_arc(black_box(self.mutex)) {
-                *guard = guard.wrapping_add(1);
+                add_one(&mut guard);
             }
         }
     }
@@ -88,7 +93,7 @@ impl<R: Wait + Clock> Row for LockPair<'_, '_, R> {
         self.task.enter(|cx| {
             for _ in 0..times {
                 if let Turn::Ready(mut guard) = black_box(mutex).lock().poll(cx) {
-                    *guard = guard.wrapping_add(1);
+                    add_one(&mut guard);
                 }
             }
         });
@@ -105,7 +110,7 @@ impl<R: Wait + Clock + RandomSource + AllocGlobal> Row for BlockingPair<'_, R> {
     fn go(&self, times: u64) {
         for _ in 0..times {
             if let Ok(mut guard) = black_box(self.mutex).lock_blocking() {
-                *guard = guard.wrapping_add(1);
+                add_one(&mut guard);
             }
         }
     }
