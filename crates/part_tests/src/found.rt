@@ -1,4 +1,4 @@
-//! What the tries find.
+//! What the tries find, and what else a seat does.
 //!
 //! The calls that the tests make here have no contracts: a test compares values when it runs, and the prover
 //! would carry what the tries promise along each way out of a test.
@@ -6,12 +6,11 @@
 ghost use Rattle.std.specs.Prelude.{◌≡◌, false, IfSome};
 ghost use Rattle.lock_words.specs.Tries.{Holds};
 
-use crate::same::assert_same;
 use lock_words::{Counting, Hold, Seat, Setting, Taking, TakingAlone, Words};
-use std::process::Abort;
+use std::mem;
 
 /// What a try found.
-#[derive(Clone, Copy, Debug, PartialEq, Eq)]
+#[derive(Clone, Copy, PartialEq)]
 pub(crate) enum Found {
     Got,
     Held,
@@ -23,13 +22,13 @@ pub(crate) enum Found {
 /// What a `take`, a `take_alone` and a `set` find, in this order.
 pub(crate) type Tries = (Found, Found, Found);
 
-/// Takes the lock by a new seat, if it is free.
-pub(crate) fn holder<T>(words: &Words<T>) -> Option<(Seat<T>, Hold<T>)>
-    ensures { IfSome result (λ r. Holds words.now r.0 r.1) }
+/// Takes the lock by this seat, if it is free.
+pub(crate) fn taken<T>(words: &Words<T>, seat: &mut Seat<T>) -> Option<Hold<T>>
+    requires { (seat.old.lock ≡ words.now.lock) × (seat.old.holds ≡ false) }
+    ensures { IfSome result (λ hold. Holds words.now seat.new hold) }
 {
-    let mut seat = words.sit();
-    match words.take(&mut seat) {
-        Taking::Got(hold) => Some((seat, hold)),
+    match words.take(seat) {
+        Taking::Got(hold) => Some(hold),
         Taking::Held | Taking::Starved => None,
     }
 }
@@ -87,22 +86,67 @@ pub(crate) fn tries<T>(words: &Words<T>) -> Tries {
     (taken, alone, set)
 }
 
-/// Asserts what the tries of a new seat find.
-pub(crate) fn assert_tries<R: Abort, T>(rt: &R, words: &Words<T>, wanted: Tries) {
-    assert_same(rt, tries(words), wanted);
+/// Counts a new seat as starved, and drops it: its count is never taken off again.
+pub(crate) fn is_counted<T>(words: &Words<T>) -> bool {
+    let mut seat = words.sit();
+    words.count(&mut seat) == Counting::Counted
 }
 
-/// Counts a new seat as starved, which is never taken off again.
-pub(crate) fn count<T>(words: &Words<T>) -> Counting {
+/// Counts a new seat as starved, and forgets it.
+pub(crate) fn is_counted_for_good<T>(words: &Words<T>) -> bool {
     let mut seat = words.sit();
-    words.count(&mut seat)
+    let counting = words.count(&mut seat);
+    mem::forget(seat);
+    counting == Counting::Counted
 }
 
 /// Adds one to the value under the lock, if it is free, and gives the lock back. It answers what it found.
 pub(crate) fn add_one(words: &Words<u64>) -> Option<u64> {
-    let (mut seat, mut hold) = holder(words)?;
+    let mut seat = words.sit();
+    let mut hold = taken(words, &mut seat)?;
     let found = *hold.get(words.room());
     *hold.get_mut(words.room()) = found.saturating_add(1);
     words.clear(&mut seat, hold);
+    Some(found)
+}
+
+/// Takes the lock by a new seat, if it is free, and drops the seat and the right that it got. Whether it was free.
+pub(crate) fn drop_holder<T>(words: &Words<T>) -> bool {
+    let mut seat = words.sit();
+    taken(words, &mut seat).is_some()
+}
+
+/// Writes the value under the lock, if it is free, and forgets the seat and the right that it got. Whether it was free.
+pub(crate) fn write_and_forget(words: &Words<u64>, number: u64) -> bool {
+    let mut seat = words.sit();
+    let Some(mut hold) = taken(words, &mut seat) else {
+        return false;
+    };
+    *hold.get_mut(words.room()) = number;
+    mem::forget(seat);
+    mem::forget(hold);
+    true
+}
+
+/// Whether tries find this while a seat holds the lock, which is held then. The seat gives it back.
+pub(crate) fn is_found_held<T>(words: &Words<T>, wanted: Tries) -> bool {
+    let mut seat = words.sit();
+    let Some(hold) = taken(words, &mut seat) else {
+        return false;
+    };
+    let is_locked = words.is_locked();
+    let found = tries(words);
+    words.clear(&mut seat, hold);
+    is_locked && found == wanted
+}
+
+/// What tries find while a seat is counted as starved. Its count comes off.
+pub(crate) fn while_counted<T>(words: &Words<T>) -> Option<Tries> {
+    let mut seat = words.sit();
+    if words.count(&mut seat) != Counting::Counted {
+        return None;
+    }
+    let found = tries(words);
+    words.uncount(&mut seat);
     Some(found)
 }
