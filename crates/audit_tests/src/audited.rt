@@ -3,7 +3,7 @@
 ghost use Rattle.std.specs.Prelude.{◌≡◌};
 
 use crate::same::assert_same;
-use crate::worlds::{DROPPED_WAITER, GO, INPUTS, Opens, SEVEN, begin, go, opened};
+use crate::worlds::{DROPPED_WAITER, GO, INPUTS, Opens, SEVEN, Sight, begin, go, opened};
 use lock_audit::{Audited, Blanks, Book, Ledgers, Share};
 use lock_core::{Answer, AnyWorld, Call, Memory, Move, What, barrier, mutex};
 use std::marker::Brand;
@@ -75,13 +75,24 @@ fn closed<W: Opens, R: AllocGlobal + Abort + Wait>(
     }
 }
 
+/// The book of these moves of a World's parties is closed. It has each of them as it was made, and of its World
+/// this is seen.
+fn expect_closed<W: Opens, R: AllocGlobal + Abort + Wait>(
+    rt: &R,
+    parties: u32,
+    number: u64,
+    rows: &[(Move, Answer)],
+    seen: Sight,
+) {
+    let book = closed::<W, R>(rt, parties, number, rows);
+    assert_same(rt, book.history(), rows);
+    assert_same(rt, book.world().look(), seen);
+}
+
 #[test]
 fn a_closed_book_has_the_world_and_each_move_that_was_made(rt: HostRuntime) {
-    let book = closed::<mutex::World, _>(&rt, 3, 7, &DROPPED_WAITER);
-    assert_same(&rt, book.history(), DROPPED_WAITER.as_slice());
-    let world = book.world();
-    let seen = (world.value(), world.is_locked(), world.waiting());
-    assert_same(&rt, seen, (7, true, 0));
+    let seen = (true, 0, false, 0, 7);
+    expect_closed::<mutex::World, _>(&rt, 3, 7, &DROPPED_WAITER, seen);
 }
 
 const NOT_POSSIBLE: [(Move, Answer); 5] = [
@@ -94,8 +105,8 @@ const NOT_POSSIBLE: [(Move, Answer); 5] = [
 
 #[test]
 fn a_move_that_is_not_possible_is_recorded_as_it_is(rt: HostRuntime) {
-    let book = closed::<mutex::World, _>(&rt, 3, 7, &NOT_POSSIBLE);
-    assert_same(&rt, book.history(), NOT_POSSIBLE.as_slice());
+    let seen = (true, 0, false, 0, 7);
+    expect_closed::<mutex::World, _>(&rt, 3, 7, &NOT_POSSIBLE, seen);
 }
 
 // The first arrival holds the inner lock while the second one comes: that one isn't counted yet.
@@ -111,8 +122,6 @@ const ARRIVALS: [(Move, Answer); 7] = [
 
 #[test]
 fn an_audit_takes_a_barrier(rt: HostRuntime) {
-    let book = closed::<barrier::World, _>(&rt, 2, 2, &ARRIVALS);
-    assert_same(&rt, book.history(), ARRIVALS.as_slice());
-    let world = book.world();
-    assert_same(&rt, (world.count(), world.generation()), (1, 0));
+    let seen = (false, 1, false, 0, 0);
+    expect_closed::<barrier::World, _>(&rt, 2, 2, &ARRIVALS, seen);
 }

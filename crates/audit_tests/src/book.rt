@@ -1,90 +1,79 @@
 //! A book of the moves of a World of each lock, and runs of them.
 
 use crate::same::assert_same;
-use crate::tables::{Watched, told_of};
-use crate::worlds::{DROPPED_WAITER, GO, INPUTS, Opens, SEVEN, STARVING, begin, go, opened, room};
+use crate::worlds::{
+    DROPPED_WAITER, GO, INPUTS, Opens, SEVEN, STARVING, Sight, begin, go, opened, room,
+};
 use lock_audit::Book;
 use lock_core::mutex::World;
 use lock_core::{
-    Answer, AnyWorld, Call, Got, Inputs, Mark, Memory, Move, What, barrier, cell, rwlock, semaphore,
+    Answer, AnyWorld, Call, Got, Inputs, Memory, Move, What, barrier, cell, rwlock, semaphore,
 };
 use std::process::Abort;
 
-/// Records a move, once more where memory was refused; then nothing had changed.
-fn record<W: AnyWorld>(rt: &impl Abort, book: &mut Book<W>, m: Move) -> Answer {
+/// Records a move, once more where memory was refused; then nothing had changed. No record is refused while the
+/// history is shorter than the room that was made for it.
+fn record<W: AnyWorld>(rt: &impl Abort, book: &mut Book<W>, room: usize, m: Move) -> Answer {
     let before = (book.history().len(), book.world().at_rest());
     match book.record(m) {
         Ok(answer) => answer,
         Err(Memory) => {
             assert_same(rt, (book.history().len(), book.world().at_rest()), before);
+            assert_same(rt, before.0 < room, false);
             book.record(m).expect(rt, "only one allocation is refused")
         }
     }
 }
 
-/// Records these moves in turn. Each is answered as it stands beside it.
-fn record_all<W: AnyWorld>(rt: &impl Abort, book: &mut Book<W>, rows: &[(Move, Answer)]) {
-    for row in rows {
-        assert_same(rt, (row.0, record(rt, book, row.0)), *row);
-    }
-}
-
-/// The book of these moves of a World's parties. Each is answered as it stands beside it, and the book's
-/// history is they.
-fn recorded<W: Opens>(
-    rt: &(impl AllocGlobal + Abort),
-    parties: u32,
-    number: u64,
-    rows: &[(Move, Answer)],
-) -> Book<W> {
-    let mut book = Book::new(rt.alloc(), opened(rt, parties, number));
-    assert_same(rt, book.history().len(), 0);
-    record_all(rt, &mut book, rows);
-    book.replays();
-    assert_same(rt, book.history(), rows);
-    book
-}
-
-/// Whether the lock is held, and how many wait.
-fn assert_world(rt: &impl Abort, world: &World, wanted: (bool, usize)) {
-    assert_same(rt, (world.is_locked(), world.waiting()), wanted);
-}
-
-#[test]
-fn a_book_records_each_move_with_its_answer(rt: HostRuntime) {
-    let book = recorded::<World>(&rt, 3, 7, &DROPPED_WAITER);
-    assert_world(&rt, book.world(), (true, 0));
-}
-
-#[test]
-fn a_dropped_waiter_passes_its_notification_on(rt: HostRuntime) {
-    let book = recorded::<World>(&rt, 3, 7, &DROPPED_WAITER[..12]);
-    let next = told_of(book.world().entry(0));
-    assert_same(&rt, next, Some((2, Mark::Notified)));
-}
-
 /// Makes room for so many moves, once more where memory was refused.
-fn reserve(rt: &impl Abort, book: &mut Book<World>, moves: usize) {
-    if book.reserve(moves).is_err() {
-        let again = book.reserve(moves);
+fn reserve<W: AnyWorld>(rt: &impl Abort, book: &mut Book<W>, room: usize) {
+    if book.reserve(room).is_err() {
+        let again = book.reserve(room);
         again.expect(rt, "only one allocation is refused");
     }
 }
 
-/// Records these moves in turn, and none is refused.
-fn record_unrefused(rt: &impl Abort, book: &mut Book<World>, rows: &[(Move, Answer)]) {
+/// Records these moves in turn. Each is answered as it stands beside it.
+fn record_all<W: AnyWorld>(
+    rt: &impl Abort,
+    book: &mut Book<W>,
+    room: usize,
+    rows: &[(Move, Answer)],
+) {
     for row in rows {
-        let answer = book.record(row.0).expect(rt, "there is room");
-        assert_same(rt, (row.0, answer), *row);
+        assert_same(rt, (row.0, record(rt, book, room, row.0)), *row);
     }
+}
+
+/// A book of a World's parties, with room for so many moves, records these. Each is answered as it stands beside
+/// it, the book's history is they, and of its World this is seen.
+fn expect_recorded<W: Opens>(
+    rt: &(impl AllocGlobal + Abort),
+    parties: u32,
+    number: u64,
+    room: usize,
+    rows: &[(Move, Answer)],
+    seen: Sight,
+) {
+    let mut book = Book::new(rt.alloc(), opened::<W>(rt, parties, number));
+    assert_same(rt, book.history().len(), 0);
+    reserve(rt, &mut book, room);
+    record_all(rt, &mut book, room, rows);
+    book.replays();
+    assert_same(rt, book.history(), rows);
+    assert_same(rt, book.world().look(), seen);
+}
+
+#[test]
+fn a_book_records_each_move_with_its_answer(rt: HostRuntime) {
+    let seen = (true, 0, false, 0, 7);
+    expect_recorded::<World>(&rt, 3, 7, 0, &DROPPED_WAITER, seen);
 }
 
 #[test]
 fn no_record_is_refused_within_the_room_that_was_reserved(rt: HostRuntime) {
-    let mut book = Book::new(rt.alloc(), opened(&rt, 3, 7));
-    reserve(&rt, &mut book, 14);
-    record_unrefused(&rt, &mut book, &DROPPED_WAITER);
-    assert_same(&rt, book.history(), DROPPED_WAITER.as_slice());
+    let seen = (true, 0, false, 0, 7);
+    expect_recorded::<World>(&rt, 3, 7, 14, &DROPPED_WAITER, seen);
 }
 
 const READERS: [(Move, Answer); 5] = [
@@ -96,9 +85,9 @@ const READERS: [(Move, Answer); 5] = [
 ];
 
 #[test]
-fn a_book_takes_any_world(rt: HostRuntime) {
-    let book = recorded::<rwlock::World>(&rt, 2, 3, &READERS);
-    assert_same(&rt, book.world().readers(), 0);
+fn a_book_takes_a_read_write_lock(rt: HostRuntime) {
+    let seen = (false, 0, false, 0, 3);
+    expect_recorded::<rwlock::World>(&rt, 2, 3, 0, &READERS, seen);
 }
 
 const PERMITS: [(Move, Answer); 6] = [
@@ -112,9 +101,8 @@ const PERMITS: [(Move, Answer); 6] = [
 
 #[test]
 fn a_book_takes_a_semaphore(rt: HostRuntime) {
-    let book = recorded::<semaphore::World>(&rt, 2, 1, &PERMITS);
-    let world = book.world();
-    assert_same(&rt, (world.available(), world.limit()), (0, 0));
+    let seen = (false, 0, false, 0, 0);
+    expect_recorded::<semaphore::World>(&rt, 2, 1, 0, &PERMITS, seen);
 }
 
 /// Records a whole call, step by step, and gives its last answer.
@@ -127,7 +115,7 @@ fn record_whole<W: AnyWorld>(
 ) -> Answer {
     let mut what = What::Begin(call, inputs);
     for _ in 0..32 {
-        match record(rt, book, Move { party, what }) {
+        match record(rt, book, 0, Move { party, what }) {
             Answer::Stepped => what = What::Go(inputs),
             answer => return answer,
         }
@@ -138,18 +126,21 @@ fn record_whole<W: AnyWorld>(
 /// A whole call of a party, with its inputs and its last answer.
 type Whole = (u32, Call, Inputs, Answer);
 
-/// The book of these whole calls of a World's parties. Each is answered as it stands beside it.
+/// A book of a World's parties that has recorded these whole calls. Each was answered as it stands beside it, and
+/// of the World this is seen.
 fn recorded_whole<W: Opens>(
     rt: &(impl AllocGlobal + Abort),
     parties: u32,
     number: u64,
     rows: &[Whole],
+    seen: Sight,
 ) -> Book<W> {
-    let mut book = Book::new(rt.alloc(), opened(rt, parties, number));
+    let mut book = Book::new(rt.alloc(), opened::<W>(rt, parties, number));
     for row in rows {
         let answer = record_whole(rt, &mut book, row.0, row.1, row.2);
         assert_same(rt, (row.0, row.1, row.2, answer), *row);
     }
+    assert_same(rt, book.world().look(), seen);
     book
 }
 
@@ -161,8 +152,8 @@ const ONE_VALUE: [Whole; 3] = [
 
 #[test]
 fn a_book_takes_a_once_cell(rt: HostRuntime) {
-    let book = recorded_whole::<cell::World>(&rt, 2, 0, &ONE_VALUE);
-    assert_same(&rt, book.world().value(), Some(5));
+    let seen = (true, 0, false, 0, 5);
+    recorded_whole::<cell::World>(&rt, 2, 0, &ONE_VALUE, seen);
 }
 
 const ONE_GENERATION: [Whole; 3] = [
@@ -173,65 +164,59 @@ const ONE_GENERATION: [Whole; 3] = [
 
 #[test]
 fn a_book_takes_a_barrier(rt: HostRuntime) {
-    let book = recorded_whole::<barrier::World>(&rt, 2, 2, &ONE_GENERATION);
-    let world = book.world();
-    assert_same(&rt, (world.count(), world.generation()), (0, 1));
+    let seen = (false, 0, false, 1, 0);
+    recorded_whole::<barrier::World>(&rt, 2, 2, &ONE_GENERATION, seen);
 }
 
-/// The moves of these rows.
-fn moves_of(rt: &(impl AllocGlobal + Abort), rows: &[(Move, Answer)]) -> Vec<Move> {
+/// The moves of these rows, and their answers.
+fn split(rt: &(impl AllocGlobal + Abort), rows: &[(Move, Answer)]) -> (Vec<Move>, Vec<Answer>) {
     let mut moves = room(rt, rows.len());
+    let mut answers = room(rt, rows.len());
     for row in rows {
         moves.push(row.0).expect(rt, "there is room");
+        answers.push(row.1).expect(rt, "there is room");
     }
-    moves
+    (moves, answers)
 }
 
 /// What this World answers to a run of these moves, made once more where memory was refused; then nothing had
 /// changed.
-fn answers_of<W: Watched>(
+fn answers_of<W: Opens>(
     rt: &(impl AllocGlobal + Abort),
     world: &mut W,
     moves: &[Move],
 ) -> Vec<Answer> {
-    let before = (world.look(), world.waiting());
+    let before = world.look();
     match world.run(rt.alloc(), moves) {
         Ok(answers) => answers,
         Err(Memory) => {
-            assert_same(rt, (world.look(), world.waiting()), before);
+            assert_same(rt, world.look(), before);
             let again = world.run(rt.alloc(), moves);
             again.expect(rt, "only one allocation is refused")
         }
     }
 }
 
-/// Each answer is the one that stands in its row.
-fn assert_answers(rt: &impl Abort, answers: &[Answer], rows: &[(Move, Answer)]) {
-    assert_same(rt, answers.len(), rows.len());
-    for (answer, row) in answers.iter().zip(rows) {
-        assert_same(rt, (row.0, *answer), *row);
-    }
-}
-
-/// A World that was run through these moves. Each was answered as it stands beside it.
-fn run_through<W: Watched>(
+/// A World is run through these moves. Each is answered as it stands beside it; then nobody is inside a call, and
+/// this is seen.
+fn expect_run<W: Opens>(
     rt: &(impl AllocGlobal + Abort),
     parties: u32,
     number: u64,
     rows: &[(Move, Answer)],
-) -> W {
+    seen: Sight,
+) {
     let mut world = opened::<W>(rt, parties, number);
-    let moves = moves_of(rt, rows);
+    let (moves, wanted) = split(rt, rows);
     let answers = answers_of(rt, &mut world, moves.as_slice());
-    assert_answers(rt, answers.as_slice(), rows);
-    world
+    assert_same(rt, answers.as_slice(), wanted.as_slice());
+    assert_same(rt, (world.look(), world.at_rest()), (seen, true));
 }
 
 #[test]
 fn a_run_gives_the_same_answers(rt: HostRuntime) {
-    let world = run_through::<World>(&rt, 3, 7, &DROPPED_WAITER);
-    assert_world(&rt, &world, (true, 0));
-    assert_same(&rt, world.at_rest(), true);
+    let seen = (true, 0, false, 0, 7);
+    expect_run::<World>(&rt, 3, 7, &DROPPED_WAITER, seen);
 }
 
 const RUN_OF_READERS: [(Move, Answer); 6] = [
@@ -245,8 +230,8 @@ const RUN_OF_READERS: [(Move, Answer); 6] = [
 
 #[test]
 fn a_run_of_a_read_write_lock_answers_each_move(rt: HostRuntime) {
-    let world = run_through::<rwlock::World>(&rt, 2, 4, &RUN_OF_READERS);
-    assert_same(&rt, world.readers(), 0);
+    let seen = (false, 0, false, 0, 4);
+    expect_run::<rwlock::World>(&rt, 2, 4, &RUN_OF_READERS, seen);
 }
 
 /// Two parties wait for a free lock, the second one notified and the first one starved by a try that came
@@ -265,8 +250,8 @@ const SOLO_POLLS: [Whole; 9] = [
 
 #[test]
 fn a_try_and_solo_polls_are_recorded_and_run(rt: HostRuntime) {
-    let book = recorded_whole::<World>(&rt, 3, 7, &SOLO_POLLS);
-    assert_world(&rt, book.world(), (true, 1));
-    let run = run_through::<World>(&rt, 3, 7, book.history());
-    assert_world(&rt, &run, (true, 1));
+    // The second party, which gave way, is starved now.
+    let seen = (true, 1, false, 1, 7);
+    let book = recorded_whole::<World>(&rt, 3, 7, &SOLO_POLLS, seen);
+    expect_run::<World>(&rt, 3, 7, book.history(), seen);
 }

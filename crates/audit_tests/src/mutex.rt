@@ -2,7 +2,7 @@
 
 use crate::same::assert_same;
 use crate::tables::List::{self, Turn};
-use crate::tables::Row::{self, Calls, IsAtRest, Lawful, Looks, Puts, Reads, Steps, Told, Waiting};
+use crate::tables::Row::{self, Calls, IsAtRest, Lawful, Looks, Puts, Steps, Told};
 use crate::tables::{Table, Watched, follow_all, told_of};
 use crate::worlds::{GO, INPUTS, STARVING, opened, room};
 use What::Begin;
@@ -21,20 +21,8 @@ impl Watched for World {
         World::with_limits(alloc, parties, value, limits.0)
     }
 
-    fn look(&self) -> (bool, u32, bool, u32) {
-        (self.is_locked(), self.starved(), false, 0)
-    }
-
-    fn waiting(&self) -> (usize, usize, usize) {
-        (World::waiting(self), 0, 0)
-    }
-
     fn told(&self, _list: List, index: usize) -> Option<(u32, Mark)> {
         told_of(self.entry(index))
-    }
-
-    fn value(&self) -> u64 {
-        World::value(self)
     }
 
     fn put(&mut self, value: u64) -> bool {
@@ -67,20 +55,16 @@ const RELEASED: &[Row] = &[
         Begin(Call::Put(5), INPUTS),
         Answer::Granted(Got::Value(5)),
     ),
-    Looks(true, 0, false, 0),
-    Waiting(1, 0, 0),
+    Looks(true, 0, false, 1, 5),
     Told(Turn, 0, Some((1, Mark::Waiting))),
     Steps(0, Begin(Call::Drop, INPUTS), Answer::Stepped),
     Steps(0, GO, Answer::GivenBack),
-    Looks(false, 0, false, 0),
-    Waiting(1, 0, 0),
+    Looks(false, 0, false, 1, 5),
     Told(Turn, 0, Some((1, Mark::Notified))),
     Told(Turn, 1, None),
     Steps(1, Begin(Call::Poll, INPUTS), Answer::Stepped),
     Steps(1, GO, Answer::Ready(Got::Value(5))),
-    Looks(true, 0, false, 0),
-    Waiting(0, 0, 0),
-    Reads(5),
+    Looks(true, 0, false, 0, 5),
     Lawful,
 ];
 
@@ -101,9 +85,7 @@ const NOT_POSSIBLE: &[Row] = &[
     Steps(1, Begin(Call::Read, INPUTS), Answer::NotPossible),
     Steps(1, Begin(Call::Wait, INPUTS), Answer::NotPossible),
     Steps(1, Begin(Call::AddPermits(1), INPUTS), Answer::NotPossible),
-    Looks(true, 0, false, 0),
-    Waiting(0, 0, 0),
-    Reads(7),
+    Looks(true, 0, false, 0, 7),
     Calls(1, Call::TryLock, INPUTS, Answer::None),
     Calls(0, Call::Poll, INPUTS, Answer::Refused(6)),
 ];
@@ -117,8 +99,7 @@ const STARVED: &[Row] = &[
     Calls(1, Call::Poll, STARVING, Answer::Pending),
     Calls(3, Call::Lock, INPUTS, Answer::Refused(2)),
     Calls(9, Call::Lock, INPUTS, Answer::NotPossible),
-    Looks(true, 1, false, 0),
-    Waiting(1, 0, 0),
+    Looks(true, 1, false, 1, 0),
     Told(Turn, 0, Some((1, Mark::Waiting))),
 ];
 
@@ -136,10 +117,10 @@ const FORGOTTEN: &[Row] = &[
     Steps(1, GO, Answer::Pending),
     IsAtRest(true),
     Puts(9),
-    Reads(9),
+    Looks(true, 0, false, 1, 9),
     Steps(0, Begin(Call::Drop, INPUTS), Answer::NotPossible),
     Steps(1, Begin(Call::Poll, INPUTS), Answer::NotPossible),
-    Looks(true, 0, false, 0),
+    Looks(true, 0, false, 1, 9),
 ];
 
 // A free lock is passed over, and is not passed over for ever: a solo poll gives way to a starved party, which
@@ -151,18 +132,27 @@ const PASSED_OVER: &[Row] = &[
     Calls(0, Call::Drop, INPUTS, Answer::GivenBack),
     Calls(0, Call::TryLock, INPUTS, Answer::Granted(Got::Value(4))),
     Calls(1, Call::Poll, STARVING, Answer::Pending),
-    Looks(true, 1, false, 0),
-    Waiting(2, 0, 0),
+    Looks(true, 1, false, 2, 4),
     Calls(0, Call::Drop, INPUTS, Answer::GivenBack),
     Told(Turn, 0, Some((2, Mark::Notified))),
     Lawful,
     Calls(2, Call::Poll, INPUTS, Answer::Pending),
-    Looks(false, 2, false, 0),
-    Waiting(2, 0, 0),
+    Looks(false, 2, false, 2, 4),
     Told(Turn, 0, Some((1, Mark::Notified))),
     Calls(1, Call::Poll, INPUTS, Answer::Ready(Got::Value(4))),
-    Looks(true, 1, false, 0),
-    Waiting(1, 0, 0),
+    Looks(true, 1, false, 1, 4),
+];
+
+// The first of two that wait is dropped, and passes its notification on to the second.
+const DROPPED: &[Row] = &[
+    Calls(0, Call::Lock, INPUTS, Answer::Ready(Got::Value(7))),
+    Calls(1, Call::Lock, INPUTS, Answer::Pending),
+    Calls(2, Call::Lock, INPUTS, Answer::Pending),
+    Calls(0, Call::Drop, INPUTS, Answer::GivenBack),
+    Calls(1, Call::Drop, INPUTS, Answer::GivenBack),
+    Told(Turn, 0, Some((2, Mark::Notified))),
+    Calls(2, Call::Poll, INPUTS, Answer::Ready(Got::Value(7))),
+    Looks(true, 0, false, 0, 7),
 ];
 
 const TABLES: &[Table<'_>] = &[
@@ -205,6 +195,14 @@ const TABLES: &[Table<'_>] = &[
         limits: Some((3, 0)),
         rows: PASSED_OVER,
         left: 4,
+    },
+    Table {
+        name: "a dropped waiter passes its notification on",
+        parties: 3,
+        value: 7,
+        limits: None,
+        rows: DROPPED,
+        left: 7,
     },
 ];
 

@@ -1,7 +1,7 @@
 //! A read-write lock's World through its public calls.
 
 use crate::tables::List::{self, NoReaders, NoWriter, Turn};
-use crate::tables::Row::{self, Calls, IsAtRest, Lawful, Looks, Puts, Reads, Steps, Told, Waiting};
+use crate::tables::Row::{self, Calls, IsAtRest, Lawful, Looks, Puts, Steps, Told, Waiting};
 use crate::tables::{Table, Watched, follow_all, told_of};
 use crate::worlds::{GO, INPUTS, STARVING, WITHOUT_MEMORY};
 use What::Begin;
@@ -19,15 +19,6 @@ impl Watched for World {
         World::with_limits(alloc, parties, value, limits.0, limits.1)
     }
 
-    fn look(&self) -> (bool, u32, bool, u32) {
-        (
-            self.is_turn_held(),
-            self.starved(),
-            self.is_writer_marked(),
-            self.readers(),
-        )
-    }
-
     fn waiting(&self) -> (usize, usize, usize) {
         (
             self.turn_waiting(),
@@ -42,10 +33,6 @@ impl Watched for World {
             NoReaders => self.no_readers_entry(index),
             NoWriter => self.no_writer_entry(index),
         })
-    }
-
-    fn value(&self) -> u64 {
-        World::value(self)
     }
 
     fn put(&mut self, value: u64) -> bool {
@@ -72,10 +59,10 @@ const DOWNGRADED: &[Row] = &[
     Calls(1, Call::Read, INPUTS, Answer::Pending),
     Calls(0, Call::Put(9), INPUTS, Answer::Granted(Got::Value(9))),
     Calls(0, Call::DowngradeToUpgradable, INPUTS, Answer::GivenBack),
-    Looks(true, 0, false, 1),
+    Looks(true, 0, false, 1, 9),
     Told(NoWriter, 0, Some((1, Mark::Notified))),
     Calls(1, Call::Poll, INPUTS, Answer::Ready(Got::Value(9))),
-    Looks(true, 0, false, 2),
+    Looks(true, 0, false, 2, 9),
     Lawful,
 ];
 
@@ -95,7 +82,7 @@ const GIVEN_BACK: &[Row] = &[
         INPUTS,
         Answer::Granted(Got::Value(0)),
     ),
-    Looks(true, 0, false, 3),
+    Looks(true, 0, false, 3, 0),
 ];
 
 // A release of the writer wakes both lists.
@@ -104,7 +91,7 @@ const RELEASED: &[Row] = &[
     Calls(1, Call::Read, INPUTS, Answer::Pending),
     Calls(2, Call::Write, INPUTS, Answer::Pending),
     Calls(0, Call::Drop, INPUTS, Answer::GivenBack),
-    Looks(false, 0, false, 0),
+    Looks(false, 0, false, 0, 0),
     Waiting(1, 0, 1),
     Told(Turn, 0, Some((2, Mark::Notified))),
     Told(NoWriter, 0, Some((1, Mark::Notified))),
@@ -132,7 +119,7 @@ const UPGRADED: &[Row] = &[
     Calls(0, Call::TryUpgrade, INPUTS, Answer::None),
     Calls(0, Call::Upgrade, INPUTS, Answer::Waiting),
     Calls(0, Call::Poll, WITHOUT_MEMORY, Answer::Refused(1)),
-    Looks(true, 0, true, 1),
+    Looks(true, 0, true, 1, 5),
     Calls(1, Call::Drop, INPUTS, Answer::GivenBack),
     Calls(0, Call::Poll, INPUTS, Answer::Ready(Got::Value(5))),
 ];
@@ -148,7 +135,7 @@ const FORGOTTEN: &[Row] = &[
     Steps(2, GO, Answer::Pending),
     IsAtRest(true),
     Puts(7),
-    Reads(7),
+    Looks(true, 0, true, 1, 7),
     Calls(0, Call::Drop, INPUTS, Answer::NotPossible),
     Calls(1, Call::Poll, INPUTS, Answer::NotPossible),
 ];
@@ -173,21 +160,21 @@ const PASSED_OVER: &[Row] = &[
         Answer::Granted(Got::Value(4)),
     ),
     Calls(1, Call::Poll, STARVING, Answer::Pending),
-    Looks(true, 1, false, 2),
+    Looks(true, 1, false, 2, 4),
     Calls(0, Call::Drop, INPUTS, Answer::GivenBack),
     Lawful,
     Calls(2, Call::Poll, INPUTS, Answer::Pending),
-    Looks(false, 2, false, 1),
+    Looks(false, 2, false, 1, 4),
     Waiting(2, 0, 0),
     Calls(1, Call::Poll, INPUTS, Answer::Pending),
-    Looks(true, 1, true, 1),
+    Looks(true, 1, true, 1, 4),
     Calls(3, Call::Drop, INPUTS, Answer::GivenBack),
     Calls(1, Call::Poll, INPUTS, Answer::Ready(Got::Value(4))),
     Calls(3, Call::Read, INPUTS, Answer::Pending),
     Calls(1, Call::Drop, INPUTS, Answer::GivenBack),
     Calls(3, Call::Poll, INPUTS, Answer::Ready(Got::Value(4))),
     Calls(2, Call::Poll, INPUTS, Answer::Ready(Got::Value(4))),
-    Looks(true, 0, false, 2),
+    Looks(true, 0, false, 2, 4),
 ];
 
 const TABLES: &[Table<'_>] = &[

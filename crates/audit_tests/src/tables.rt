@@ -7,7 +7,6 @@ use crate::same::assert_same;
 use crate::worlds::{Opens, opened};
 use lock_core::{Answer, AnyWorld, Call, Entry, Inputs, Mark, Move, Refusal, What};
 use std::alloc::Global;
-use std::fmt::Debug;
 use std::process::Abort;
 
 /// A deed, and what is to be seen of it.
@@ -16,14 +15,12 @@ pub(crate) enum Row {
     Calls(u32, Call, Inputs, Answer),
     /// This step of the party is.
     Steps(u32, What, Answer),
-    /// The lock's state is this, as [`Watched::look`] gives it.
-    Looks(bool, u32, bool, u32),
+    /// The lock's state is this, as [`Opens::look`] gives it.
+    Looks(bool, u64, bool, u64, u64),
     /// So many wait in each list.
     Waiting(usize, usize, usize),
     /// At this place of this list stands a party, and has been told this.
     Told(List, usize, Option<(u32, Mark)>),
-    /// The lock's value is this.
-    Reads(u64),
     /// Nobody is inside a call, or somebody is.
     IsAtRest(bool),
     /// This value is put in place of the lock's, since nobody is inside a call.
@@ -61,17 +58,13 @@ pub(crate) trait Watched: Opens {
         limits: (u32, u32),
     ) -> Result<Self, Refusal>;
 
-    /// Whether the lock is held, how many are starved for it, whether a writer has marked it, and how many
-    /// read.
-    fn look(&self) -> (bool, u32, bool, u32);
-
-    /// How many wait in each list.
-    fn waiting(&self) -> (usize, usize, usize);
+    /// How many wait in each list; [`Opens::look`] has that of a mutex.
+    fn waiting(&self) -> (usize, usize, usize) {
+        (0, 0, 0)
+    }
 
     /// Who stands at this place of a list, and what that party has been told.
     fn told(&self, list: List, index: usize) -> Option<(u32, Mark)>;
-
-    fn value(&self) -> u64;
 
     /// Puts this value in place of the lock's, where nobody is inside a call. Whether it did.
     fn put(&mut self, value: u64) -> bool;
@@ -84,40 +77,34 @@ pub(crate) trait Watched: Opens {
 
 /// Who stands in an entry, and what that party has been told.
 pub(crate) fn told_of(entry: Option<Entry<u32>>) -> Option<(u32, Mark)> {
-    entry.map(|entry| (entry.key, entry.mark))
-}
-
-/// Stops the test unless what was seen at this row of a table is what stands there.
-fn assert_seen<T: PartialEq + Debug + Drop>(
-    rt: &impl Abort,
-    at: (&str, usize),
-    seen: T,
-    wanted: T,
-) {
-    assert_eq!(rt; seen, wanted, "at {at:?}");
-}
-
-/// Does the deed of a row, of which is seen what stands there.
-fn follow<W: Watched>(rt: &impl Abort, at: (&str, usize), world: &mut W, row: &Row) {
-    match *row {
-        Row::Calls(party, call, inputs, wanted) => {
-            assert_seen(rt, at, world.poll_whole(party, call, inputs), wanted);
-        }
-        Row::Steps(party, what, wanted) => {
-            assert_seen(rt, at, world.step(&Move { party, what }), wanted);
-        }
-        Row::Looks(held, starved, marked, readers) => {
-            assert_seen(rt, at, world.look(), (held, starved, marked, readers));
-        }
-        Row::Waiting(first, second, third) => {
-            assert_seen(rt, at, world.waiting(), (first, second, third));
-        }
-        Row::Told(list, index, wanted) => assert_seen(rt, at, world.told(list, index), wanted),
-        Row::Reads(value) => assert_seen(rt, at, world.value(), value),
-        Row::IsAtRest(wanted) => assert_seen(rt, at, world.at_rest(), wanted),
-        Row::Puts(value) => assert_seen(rt, at, world.put(value), true),
-        Row::Lawful => world.lawful(),
+    match entry {
+        Some(entry) => Some((entry.key, entry.mark)),
+        None => None,
     }
+}
+
+/// Does the deed of a row. Whether what stands there is seen of it.
+fn is_seen<W: Watched>(world: &mut W, row: &Row) -> bool {
+    match *row {
+        Row::Calls(party, call, inputs, answer) => world.poll_whole(party, call, inputs) == answer,
+        Row::Steps(party, what, answer) => world.step(&Move { party, what }) == answer,
+        Row::Looks(held, starved, marked, count, value) => {
+            world.look() == (held, starved, marked, count, value)
+        }
+        Row::Waiting(first, second, third) => world.waiting() == (first, second, third),
+        Row::Told(list, index, told) => world.told(list, index) == told,
+        Row::IsAtRest(at_rest) => world.at_rest() == at_rest,
+        Row::Puts(value) => world.put(value),
+        Row::Lawful => {
+            world.lawful();
+            true
+        }
+    }
+}
+
+/// Stops the test where a row of a table isn't seen.
+fn assert_seen(rt: &impl Abort, is_seen: bool, table: &str, row: usize) {
+    assert!(rt; is_seen, "row {row} of '{table}'");
 }
 
 /// The World of a table, made again once where memory was refused.
@@ -139,7 +126,7 @@ pub(crate) fn follow_all<W: Watched>(rt: &(impl AllocGlobal + Abort), tables: &[
     for table in tables {
         let mut world = made::<W>(rt, table);
         for (i, row) in table.rows.iter().enumerate() {
-            follow(rt, (table.name, i), &mut world, row);
+            assert_seen(rt, is_seen(&mut world, row), table.name, i);
         }
         assert_same(rt, world.into_inner(), table.left);
     }

@@ -28,16 +28,29 @@ pub(crate) const WITHOUT_MEMORY: Inputs = Inputs {
 /// A party's next step.
 pub(crate) const GO: What = What::Go(INPUTS);
 
+/// What is seen of a World, of each lock its own.
+pub(crate) type Sight = (bool, u64, bool, u64, u64);
+
 /// A World that is made of so many parties and a number: what the lock has, or takes, at first.
 pub(crate) trait Opens: AnyWorld + Drop {
     fn open(alloc: Global, parties: u32, number: u64) -> Result<Self, Refusal>
         ensures { IfOk result (λ world. world ≡ Self.opening world) };
+
+    /// What is seen of it.
+    fn look(&self) -> Sight;
 }
 
 /// By its value.
 impl Opens for mutex::World {
     fn open(alloc: Global, parties: u32, number: u64) -> Result<mutex::World, Refusal> {
         mutex::World::new(alloc, parties, number)
+    }
+
+    /// Whether it is held, how many are starved, nothing, how many wait, and the value.
+    fn look(&self) -> Sight {
+        let starved = u64::from(self.starved());
+        let waiting = self.waiting() as u64;
+        (self.is_locked(), starved, false, waiting, self.value())
     }
 }
 
@@ -46,12 +59,32 @@ impl Opens for rwlock::World {
     fn open(alloc: Global, parties: u32, number: u64) -> Result<rwlock::World, Refusal> {
         rwlock::World::new(alloc, parties, number)
     }
+
+    /// Whether the turn is held, how many are starved for it, whether a writer has marked the lock, how many
+    /// read, and the value.
+    fn look(&self) -> Sight {
+        let starved = u64::from(self.starved());
+        let readers = u64::from(self.readers());
+        let is_marked = self.is_writer_marked();
+        (
+            self.is_turn_held(),
+            starved,
+            is_marked,
+            readers,
+            self.value(),
+        )
+    }
 }
 
 /// By its permits.
 impl Opens for semaphore::World {
     fn open(alloc: Global, parties: u32, number: u64) -> Result<semaphore::World, Refusal> {
         semaphore::World::new(alloc, parties, number)
+    }
+
+    /// What is available, and the limit.
+    fn look(&self) -> Sight {
+        (false, self.available(), false, self.limit(), 0)
     }
 }
 
@@ -60,12 +93,23 @@ impl Opens for cell::World {
     fn open(alloc: Global, parties: u32, _number: u64) -> Result<cell::World, Refusal> {
         cell::World::new(alloc, parties)
     }
+
+    /// Whether it is full, and the value.
+    fn look(&self) -> Sight {
+        let value = self.value();
+        (value.is_some(), 0, false, 0, value.unwrap_or(0))
+    }
 }
 
 /// By how many it waits for.
 impl Opens for barrier::World {
     fn open(alloc: Global, parties: u32, number: u64) -> Result<barrier::World, Refusal> {
         barrier::World::new(alloc, parties, number)
+    }
+
+    /// How many arrivals are counted of this generation, and which one it is.
+    fn look(&self) -> Sight {
+        (false, self.count(), false, self.generation(), 0)
     }
 }
 
