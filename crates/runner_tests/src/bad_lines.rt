@@ -1,11 +1,14 @@
 //! Lines that no script may have, also where a World stands.
 
 /// Lines that are bad though a World stands.
-/// Spaces at an end.
-pub const SPACES_AT_AN_END: &[&[u8]] = &[b" ", b"  ", b" show", b"show ", b" # note"];
-
-/// Unknown words.
-pub const UNKNOWN_WORDS: &[&[u8]] = &[
+pub const BAD_LINES: &[&[u8]] = &[
+    // Spaces at an end.
+    b" ",
+    b"  ",
+    b" show",
+    b"show ",
+    b" # note",
+    // Unknown words.
     b"foo",
     b"Show",
     b"shows",
@@ -30,10 +33,7 @@ pub const UNKNOWN_WORDS: &[&[u8]] = &[
     b"do 0 initialize",
     b"do 0 setmut 5",
     b"do 0 try_set 5",
-];
-
-/// Missing and spare numbers and words.
-pub const MISSING_AND_SPARE_WORDS: &[&[u8]] = &[
+    // Missing and spare numbers and words.
     b"mutex",
     b"mutex 1",
     b"mutex 1 0 0 0",
@@ -89,10 +89,7 @@ pub const MISSING_AND_SPARE_WORDS: &[&[u8]] = &[
     b"getmut 1 nomem",
     b"take 0",
     b"take nomem",
-];
-
-/// Words that are no numbers.
-pub const NO_NUMBERS: &[&[u8]] = &[
+    // Words that are no numbers.
     b"mutex 1 x",
     b"mutex 1 +0",
     b"mutex 1 -0",
@@ -127,10 +124,7 @@ pub const NO_NUMBERS: &[&[u8]] = &[
     b"do 18446744073709551616 lock",
     b"getmut x",
     b"getmut 18446744073709551616",
-];
-
-/// Numbers of parties out of their range.
-pub const PARTIES_OUT_OF_RANGE: &[&[u8]] = &[
+    // Numbers of parties out of their range.
     b"mutex 0 0",
     b"mutex 65 0",
     b"mutex 4294967297 0",
@@ -142,10 +136,7 @@ pub const PARTIES_OUT_OF_RANGE: &[&[u8]] = &[
     b"barrier 65 1",
     b"cell 0",
     b"cell 65",
-];
-
-/// Inputs given twice, and what is no input.
-pub const BAD_INPUTS: &[&[u8]] = &[
+    // Inputs given twice, and what is no input.
     b"go 0 nomem nomem",
     b"go 0 starving nomem starving",
     b"go 0 made=1 made=1",
@@ -160,10 +151,7 @@ pub const BAD_INPUTS: &[&[u8]] = &[
     b"do 0 lock nomem nomem",
     b"do 0 lock starving starving",
     b"do 0 lock made=fail made=fail",
-];
-
-/// Bytes that aren't printable ASCII.
-pub const UNPRINTABLE: &[&[u8]] = &[
+    // Bytes that aren't printable ASCII.
     b"show\t",
     b"sh\tow",
     b"show\r",
