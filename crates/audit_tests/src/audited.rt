@@ -89,12 +89,6 @@ fn expect_closed<W: Opens, R: AllocGlobal + Abort + Wait>(
     assert_same(rt, book.world().look(), seen);
 }
 
-#[test]
-fn a_closed_book_has_the_world_and_each_move_that_was_made(rt: HostRuntime) {
-    let seen = (true, 0, false, 0, 7);
-    expect_closed::<mutex::World, _>(&rt, 3, 7, &DROPPED_WAITER, seen);
-}
-
 const NOT_POSSIBLE: [(Move, Answer); 5] = [
     (begin!(1, Call::TryLock), Answer::Granted(SEVEN)),
     (begin!(1, Call::Lock), Answer::NotPossible),
@@ -104,8 +98,9 @@ const NOT_POSSIBLE: [(Move, Answer); 5] = [
 ];
 
 #[test]
-fn a_move_that_is_not_possible_is_recorded_as_it_is(rt: HostRuntime) {
+fn a_closed_book_has_the_world_and_each_move_also_one_that_is_not_possible(rt: HostRuntime) {
     let seen = (true, 0, false, 0, 7);
+    expect_closed::<mutex::World, _>(&rt, 3, 7, &DROPPED_WAITER, seen);
     expect_closed::<mutex::World, _>(&rt, 3, 7, &NOT_POSSIBLE, seen);
 }
 

@@ -7,7 +7,7 @@ use crate::worlds::{
 use lock_audit::Book;
 use lock_core::mutex::World;
 use lock_core::{
-    Answer, AnyWorld, Call, Got, Inputs, Memory, Move, What, barrier, cell, rwlock, semaphore,
+    Answer, AnyWorld, Call, Got, Memory, Move, What, barrier, cell, rwlock, semaphore,
 };
 use std::process::Abort;
 
@@ -33,21 +33,46 @@ fn reserve<W: AnyWorld>(rt: &impl Abort, book: &mut Book<W>, room: usize) {
     }
 }
 
-/// Records these moves in turn. Each is answered as it stands beside it.
-fn record_all<W: AnyWorld>(
-    rt: &impl Abort,
-    book: &mut Book<W>,
-    room: usize,
-    rows: &[(Move, Answer)],
-) {
-    for row in rows {
-        assert_same(rt, (row.0, record(rt, book, room, row.0)), *row);
+/// Records a move, and goes on with its call, to the end where a row has the end.
+fn record_row<W: AnyWorld>(rt: &impl Abort, book: &mut Book<W>, room: usize, row: (Move, Answer)) {
+    let mut answer = record(rt, book, room, row.0);
+    if !row.1.is_stepped() {
+        let next = Move {
+            party: row.0.party,
+            what: What::Go(row.0.what.inputs()),
+        };
+        for _ in 0..32 {
+            if !answer.is_stepped() {
+                break;
+            }
+            answer = record(rt, book, room, next);
+        }
     }
+    assert_same(rt, (row.0, answer), row);
 }
 
-/// A book of a World's parties, with room for so many moves, records these. Each is answered as it stands beside
-/// it, the book's history is they, and of its World this is seen.
-fn expect_recorded<W: Opens>(
+/// The book of a World's parties, with room for so many moves, that records these rows: moves by which a call
+/// begins, and its last answer, or single steps. Of its World this is seen.
+fn recorded<W: Opens>(
+    rt: &(impl AllocGlobal + Abort),
+    parties: u32,
+    number: u64,
+    room: usize,
+    rows: &[(Move, Answer)],
+    seen: Sight,
+) -> Book<W> {
+    let mut book = Book::new(rt.alloc(), opened::<W>(rt, parties, number));
+    reserve(rt, &mut book, room);
+    for row in rows {
+        record_row(rt, &mut book, room, *row);
+    }
+    book.replays();
+    assert_same(rt, book.world().look(), seen);
+    book
+}
+
+/// The same of single steps, which are the book's history.
+fn expect_steps<W: Opens>(
     rt: &(impl AllocGlobal + Abort),
     parties: u32,
     number: u64,
@@ -55,25 +80,16 @@ fn expect_recorded<W: Opens>(
     rows: &[(Move, Answer)],
     seen: Sight,
 ) {
-    let mut book = Book::new(rt.alloc(), opened::<W>(rt, parties, number));
-    assert_same(rt, book.history().len(), 0);
-    reserve(rt, &mut book, room);
-    record_all(rt, &mut book, room, rows);
-    book.replays();
+    let book = recorded::<W>(rt, parties, number, room, rows, seen);
     assert_same(rt, book.history(), rows);
-    assert_same(rt, book.world().look(), seen);
 }
 
 #[test]
 fn a_book_records_each_move_with_its_answer(rt: HostRuntime) {
     let seen = (true, 0, false, 0, 7);
-    expect_recorded::<World>(&rt, 3, 7, 0, &DROPPED_WAITER, seen);
-}
-
-#[test]
-fn no_record_is_refused_within_the_room_that_was_reserved(rt: HostRuntime) {
-    let seen = (true, 0, false, 0, 7);
-    expect_recorded::<World>(&rt, 3, 7, 14, &DROPPED_WAITER, seen);
+    expect_steps::<World>(&rt, 3, 7, 0, &DROPPED_WAITER, seen);
+    // No record is refused within the room that was reserved.
+    expect_steps::<World>(&rt, 3, 7, 14, &DROPPED_WAITER, seen);
 }
 
 const READERS: [(Move, Answer); 5] = [
@@ -87,7 +103,7 @@ const READERS: [(Move, Answer); 5] = [
 #[test]
 fn a_book_takes_a_read_write_lock(rt: HostRuntime) {
     let seen = (false, 0, false, 0, 3);
-    expect_recorded::<rwlock::World>(&rt, 2, 3, 0, &READERS, seen);
+    expect_steps::<rwlock::World>(&rt, 2, 3, 0, &READERS, seen);
 }
 
 const PERMITS: [(Move, Answer); 6] = [
@@ -102,70 +118,31 @@ const PERMITS: [(Move, Answer); 6] = [
 #[test]
 fn a_book_takes_a_semaphore(rt: HostRuntime) {
     let seen = (false, 0, false, 0, 0);
-    expect_recorded::<semaphore::World>(&rt, 2, 1, 0, &PERMITS, seen);
+    expect_steps::<semaphore::World>(&rt, 2, 1, 0, &PERMITS, seen);
 }
 
-/// Records a whole call, step by step, and gives its last answer.
-fn record_whole<W: AnyWorld>(
-    rt: &impl Abort,
-    book: &mut Book<W>,
-    party: u32,
-    call: Call,
-    inputs: Inputs,
-) -> Answer {
-    let mut what = What::Begin(call, inputs);
-    for _ in 0..32 {
-        match record(rt, book, 0, Move { party, what }) {
-            Answer::Stepped => what = What::Go(inputs),
-            answer => return answer,
-        }
-    }
-    Answer::Stepped
-}
-
-/// A whole call of a party, with its inputs and its last answer.
-type Whole = (u32, Call, Inputs, Answer);
-
-/// A book of a World's parties that has recorded these whole calls. Each was answered as it stands beside it, and
-/// of the World this is seen.
-fn recorded_whole<W: Opens>(
-    rt: &(impl AllocGlobal + Abort),
-    parties: u32,
-    number: u64,
-    rows: &[Whole],
-    seen: Sight,
-) -> Book<W> {
-    let mut book = Book::new(rt.alloc(), opened::<W>(rt, parties, number));
-    for row in rows {
-        let answer = record_whole(rt, &mut book, row.0, row.1, row.2);
-        assert_same(rt, (row.0, row.1, row.2, answer), *row);
-    }
-    assert_same(rt, book.world().look(), seen);
-    book
-}
-
-const ONE_VALUE: [Whole; 3] = [
-    (0, Call::Wait, INPUTS, Answer::Pending),
-    (1, Call::TrySet(5), INPUTS, Answer::Granted(Got::Plain)),
-    (0, Call::Poll, INPUTS, Answer::Ready(Got::Value(5))),
+const ONE_VALUE: [(Move, Answer); 3] = [
+    (begin!(0, Call::Wait), Answer::Pending),
+    (begin!(1, Call::TrySet(5)), Answer::Granted(Got::Plain)),
+    (begin!(0, Call::Poll), Answer::Ready(Got::Value(5))),
 ];
 
 #[test]
 fn a_book_takes_a_once_cell(rt: HostRuntime) {
     let seen = (true, 0, false, 0, 5);
-    recorded_whole::<cell::World>(&rt, 2, 0, &ONE_VALUE, seen);
+    recorded::<cell::World>(&rt, 2, 0, 0, &ONE_VALUE, seen);
 }
 
-const ONE_GENERATION: [Whole; 3] = [
-    (0, Call::Wait, INPUTS, Answer::Pending),
-    (1, Call::Wait, INPUTS, Answer::Ready(Got::Leader(true))),
-    (0, Call::Poll, INPUTS, Answer::Ready(Got::Leader(false))),
+const ONE_GENERATION: [(Move, Answer); 3] = [
+    (begin!(0, Call::Wait), Answer::Pending),
+    (begin!(1, Call::Wait), Answer::Ready(Got::Leader(true))),
+    (begin!(0, Call::Poll), Answer::Ready(Got::Leader(false))),
 ];
 
 #[test]
 fn a_book_takes_a_barrier(rt: HostRuntime) {
     let seen = (false, 0, false, 1, 0);
-    recorded_whole::<barrier::World>(&rt, 2, 2, &ONE_GENERATION, seen);
+    recorded::<barrier::World>(&rt, 2, 2, 0, &ONE_GENERATION, seen);
 }
 
 /// The moves of these rows, and their answers.
@@ -181,7 +158,7 @@ fn split(rt: &(impl AllocGlobal + Abort), rows: &[(Move, Answer)]) -> (Vec<Move>
 
 /// What this World answers to a run of these moves, made once more where memory was refused; then nothing had
 /// changed.
-fn answers_of<W: Opens>(
+fn answers_to<W: Opens>(
     rt: &(impl AllocGlobal + Abort),
     world: &mut W,
     moves: &[Move],
@@ -208,15 +185,9 @@ fn expect_run<W: Opens>(
 ) {
     let mut world = opened::<W>(rt, parties, number);
     let (moves, wanted) = split(rt, rows);
-    let answers = answers_of(rt, &mut world, moves.as_slice());
+    let answers = answers_to(rt, &mut world, moves.as_slice());
     assert_same(rt, answers.as_slice(), wanted.as_slice());
     assert_same(rt, (world.look(), world.at_rest()), (seen, true));
-}
-
-#[test]
-fn a_run_gives_the_same_answers(rt: HostRuntime) {
-    let seen = (true, 0, false, 0, 7);
-    expect_run::<World>(&rt, 3, 7, &DROPPED_WAITER, seen);
 }
 
 const RUN_OF_READERS: [(Move, Answer); 6] = [
@@ -234,24 +205,35 @@ fn a_run_of_a_read_write_lock_answers_each_move(rt: HostRuntime) {
     expect_run::<rwlock::World>(&rt, 2, 4, &RUN_OF_READERS, seen);
 }
 
+const STARVING_POLL: Move = Move {
+    party: 1,
+    what: What::Begin(Call::Poll, STARVING),
+};
+
 /// Two parties wait for a free lock, the second one notified and the first one starved by a try that came
 /// between. Of as many polls of a notified party as the list has entries, the second one takes the lock.
-const SOLO_POLLS: [Whole; 9] = [
-    (0, Call::Lock, INPUTS, Answer::Ready(SEVEN)),
-    (1, Call::Lock, INPUTS, Answer::Pending),
-    (2, Call::Lock, INPUTS, Answer::Pending),
-    (0, Call::Drop, INPUTS, Answer::GivenBack),
-    (0, Call::TryLock, INPUTS, Answer::Granted(SEVEN)),
-    (1, Call::Poll, STARVING, Answer::Pending),
-    (0, Call::Drop, INPUTS, Answer::GivenBack),
-    (2, Call::Poll, INPUTS, Answer::Pending),
-    (1, Call::Poll, INPUTS, Answer::Ready(SEVEN)),
+const SOLO_POLLS: [(Move, Answer); 9] = [
+    (begin!(0, Call::Lock), Answer::Ready(SEVEN)),
+    (begin!(1, Call::Lock), Answer::Pending),
+    (begin!(2, Call::Lock), Answer::Pending),
+    (begin!(0, Call::Drop), Answer::GivenBack),
+    (begin!(0, Call::TryLock), Answer::Granted(SEVEN)),
+    (STARVING_POLL, Answer::Pending),
+    (begin!(0, Call::Drop), Answer::GivenBack),
+    (begin!(2, Call::Poll), Answer::Pending),
+    (begin!(1, Call::Poll), Answer::Ready(SEVEN)),
 ];
+
+#[test]
+fn a_run_gives_the_same_answers(rt: HostRuntime) {
+    let seen = (true, 0, false, 0, 7);
+    expect_run::<World>(&rt, 3, 7, &DROPPED_WAITER, seen);
+}
 
 #[test]
 fn a_try_and_solo_polls_are_recorded_and_run(rt: HostRuntime) {
     // The second party, which gave way, is starved now.
     let seen = (true, 1, false, 1, 7);
-    let book = recorded_whole::<World>(&rt, 3, 7, &SOLO_POLLS, seen);
+    let book = recorded::<World>(&rt, 3, 7, 0, &SOLO_POLLS, seen);
     expect_run::<World>(&rt, 3, 7, book.history(), seen);
 }

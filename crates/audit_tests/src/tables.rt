@@ -121,13 +121,18 @@ fn made<W: Watched>(rt: &(impl AllocGlobal + Abort), table: &Table<'_>) -> W {
     }
 }
 
-/// Does the deeds of each table in turn, on a World of its own.
+/// Does the deeds of a table in turn.
+fn follow<W: Watched>(rt: &impl Abort, world: &mut W, table: &Table<'_>) {
+    for (i, row) in table.rows.iter().enumerate() {
+        assert_seen(rt, is_seen(world, row), table.name, i);
+    }
+}
+
+/// Does the deeds of each table, on a World of its own.
 pub(crate) fn follow_all<W: Watched>(rt: &(impl AllocGlobal + Abort), tables: &[Table<'_>]) {
     for table in tables {
         let mut world = made::<W>(rt, table);
-        for (i, row) in table.rows.iter().enumerate() {
-            assert_seen(rt, is_seen(&mut world, row), table.name, i);
-        }
+        follow(rt, &mut world, table);
         assert_same(rt, world.into_inner(), table.left);
     }
 }
