@@ -1,7 +1,8 @@
 //! Bad lines, and where a run stops at one.
 
-use crate::bad_lines::BAD_LINES;
+use crate::bad_lines::{BAD_LINES, HOW_MANY};
 use crate::runs::{Run, Runs, SCRIPT, expect};
+use crate::same::assert_same;
 
 /// A run that stops at its script's second line.
 const SECOND: Run = Run {
@@ -22,10 +23,13 @@ fn script_with(rt: &impl Runs, line: &[u8]) -> Vec<u8> {
 
 #[test]
 fn stops_at_each_bad_line(rt: HostRuntime) {
-    for &line in BAD_LINES {
-        let script = script_with(&rt, line);
+    let mut count = 0_usize;
+    for line in BAD_LINES.split("\n") {
+        let script = script_with(&rt, line.as_bytes());
         expect(&rt, script.as_slice(), &SECOND);
+        count = count.saturating_add(1);
     }
+    assert_same(&rt, count, HOW_MANY);
 }
 
 /// Scripts that a run stops at, what it answers before, and what it tells of; the last two are no text.
