@@ -2,11 +2,10 @@
 
 ghost use Rattle.std.specs.Prelude.{◌≡◌};
 
-use crate::rows::{SEVEN, barrier_world, begin, dropped_waiter, go, world};
-use crate::same::{assert_answer, assert_same};
+use crate::same::assert_same;
+use crate::worlds::{DROPPED_WAITER, GO, INPUTS, Opens, SEVEN, Sight, begin, go, opened};
 use lock_audit::{Audited, Blanks, Book, Ledgers, Share};
-use lock_core::mutex::World;
-use lock_core::{Answer, AnyWorld, Call, Memory, Move, barrier};
+use lock_core::{Answer, AnyWorld, Call, Memory, Move, What, barrier, mutex};
 use std::marker::Brand;
 use std::process::Abort;
 use std::sync::Wait;
@@ -27,8 +26,21 @@ fn step<W: AnyWorld + Drop, L: Ledgers, R: Abort + Wait>(
     }
 }
 
-/// Makes these moves, each on the share of its party, and closes the book. Each is answered as it stands
-/// beside it.
+/// Makes these moves, each on the share of its party. Each is answered as it stands beside it.
+fn step_all<W: AnyWorld + Drop, L: Ledgers, R: Abort + Wait>(
+    rt: &R,
+    audited: &Audited<W, L>,
+    shares: &mut [Share<L>],
+    rows: &[(Move, Answer)],
+) {
+    for row in rows {
+        let share = shares.get_mut(row.0.party as usize);
+        let share = share.expect(rt, "each party has a share");
+        assert_same(rt, (row.0, step(rt, audited, share, row.0)), *row);
+    }
+}
+
+/// Makes these moves, and closes the book.
 fn close<W: AnyWorld + Drop, L: Ledgers, R: AllocGlobal + Abort + Wait>(
     rt: &R,
     blanks: Blanks,
@@ -41,89 +53,70 @@ fn close<W: AnyWorld + Drop, L: Ledgers, R: AllocGlobal + Abort + Wait>(
     requires parts { L.names.parts ≡ parties }
 {
     let (audited, mut shares) = Audited::<W, L>::new(rt.alloc(), blanks, world, parties)?;
-    for (m, answer) in rows {
-        let share = shares.get_mut(m.party as usize);
-        let share = share.expect(rt, "each party has a share");
-        assert_answer(rt, *m, step(rt, &audited, share, *m), *answer);
-    }
-    assert_eq!(rt; shares.len(), parties as usize);
+    step_all(rt, &audited, shares.as_mut_slice(), rows);
     Ok(audited.close(shares))
 }
 
-/// The closed book of these moves of a mutex's parties, made once more where memory for the shares was refused.
-fn closed<R: AllocGlobal + Abort + Wait>(rt: &R, rows: &[(Move, Answer)]) -> Book<World> {
-    match close::<World, Brand, R>(rt, Blanks::new(3), world(rt), 3, rows) {
-        Ok(book) => book,
-        Err(Memory) => {
-            let again = close::<World, Brand, R>(rt, Blanks::new(3), world(rt), 3, rows);
-            again.expect(rt, "only one allocation is refused")
-        }
-    }
-}
-
-#[test]
-fn a_closed_book_has_the_world_and_each_move_that_was_made(rt: HostRuntime) {
-    let rows = dropped_waiter();
-    let book = closed(&rt, &rows);
-    assert_same(&rt, book.history(), rows.as_slice());
-    assert_same(&rt, book.world().value(), 7);
-    assert_same(
-        &rt,
-        (book.world().is_locked(), book.world().waiting()),
-        (true, 0),
-    );
-}
-
-#[test]
-fn a_move_that_is_not_possible_is_recorded_as_it_is(rt: HostRuntime) {
-    let rows = [
-        (begin(1, Call::TryLock), Answer::Granted(SEVEN)),
-        (begin(1, Call::Lock), Answer::NotPossible),
-        (begin(0, Call::TryLock), Answer::None),
-        (begin(1, Call::Poll), Answer::Refused(6)),
-        (begin(2, Call::Drop), Answer::NotPossible),
-    ];
-    let book = closed(&rt, &rows);
-    assert_same(&rt, book.history(), rows.as_slice());
-}
-
-/// The closed book of these moves of a barrier's parties, made once more where memory for the shares was refused.
-fn closed_barrier<R: AllocGlobal + Abort + Wait>(
+/// The closed book of these moves of a World's parties, made once more where memory for the shares was refused.
+fn closed<W: Opens, R: AllocGlobal + Abort + Wait>(
     rt: &R,
+    parties: u32,
+    number: u64,
     rows: &[(Move, Answer)],
-) -> Book<barrier::World> {
-    match close::<barrier::World, Brand, R>(rt, Blanks::new(2), barrier_world(rt), 2, rows) {
+) -> Book<W> {
+    let world = opened(rt, parties, number);
+    match close::<W, Brand, R>(rt, Blanks::new(parties), world, parties, rows) {
         Ok(book) => book,
         Err(Memory) => {
-            let again = close::<barrier::World, Brand, R>(
-                rt,
-                Blanks::new(2),
-                barrier_world(rt),
-                2,
-                rows,
-            );
+            let world = opened(rt, parties, number);
+            let again = close::<W, Brand, R>(rt, Blanks::new(parties), world, parties, rows);
             again.expect(rt, "only one allocation is refused")
         }
     }
 }
+
+/// The book of these moves of a World's parties is closed. It has each of them as it was made, and of its World
+/// this is seen.
+fn expect_closed<W: Opens, R: AllocGlobal + Abort + Wait>(
+    rt: &R,
+    parties: u32,
+    number: u64,
+    rows: &[(Move, Answer)],
+    seen: Sight,
+) {
+    let book = closed::<W, R>(rt, parties, number, rows);
+    assert_same(rt, book.history(), rows);
+    assert_same(rt, book.world().look(), seen);
+}
+
+const NOT_POSSIBLE: [(Move, Answer); 5] = [
+    (begin!(1, Call::TryLock), Answer::Granted(SEVEN)),
+    (begin!(1, Call::Lock), Answer::NotPossible),
+    (begin!(0, Call::TryLock), Answer::None),
+    (begin!(1, Call::Poll), Answer::Refused(6)),
+    (begin!(2, Call::Drop), Answer::NotPossible),
+];
+
+#[test]
+fn a_closed_book_has_the_world_and_each_move_also_one_that_is_not_possible(rt: HostRuntime) {
+    let seen = (true, 0, false, 0, 7);
+    expect_closed::<mutex::World, _>(&rt, 3, 7, &DROPPED_WAITER, seen);
+    expect_closed::<mutex::World, _>(&rt, 3, 7, &NOT_POSSIBLE, seen);
+}
+
+// The first arrival holds the inner lock while the second one comes: that one isn't counted yet.
+const ARRIVALS: [(Move, Answer); 7] = [
+    (begin!(0, Call::Wait), Answer::Stepped),
+    (begin!(1, Call::Wait), Answer::Stepped),
+    (begin!(0, Call::Poll), Answer::NotPossible),
+    (begin!(1, Call::Lock), Answer::NotPossible),
+    (go!(0), Answer::Stepped),
+    (go!(0), Answer::Stepped),
+    (go!(0), Answer::Stepped),
+];
 
 #[test]
 fn an_audit_takes_a_barrier(rt: HostRuntime) {
-    // The first arrival holds the inner lock while the second one comes: that one isn't counted yet.
-    let rows = [
-        (begin(0, Call::Wait), Answer::Stepped),
-        (begin(1, Call::Wait), Answer::Stepped),
-        (begin(0, Call::Poll), Answer::NotPossible),
-        (begin(1, Call::Lock), Answer::NotPossible),
-        (go(0), Answer::Stepped),
-        (go(0), Answer::Stepped),
-        (go(0), Answer::Stepped),
-    ];
-    let book = closed_barrier(&rt, &rows);
-    assert_same(&rt, book.history(), rows.as_slice());
-    assert_same(
-        &rt,
-        (book.world().count(), book.world().generation()),
-        (1, 0),
-    );
+    let seen = (false, 1, false, 0, 0);
+    expect_closed::<barrier::World, _>(&rt, 2, 2, &ARRIVALS, seen);
 }

@@ -10,8 +10,10 @@ mod book;
 #[cfg(test)]
 mod mutex;
 #[cfg(test)]
-mod rows;
-#[cfg(test)]
 mod rwlock;
 #[cfg(test)]
 mod same;
+#[cfg(test)]
+mod tables;
+#[cfg(test)]
+mod worlds;

@@ -1,6 +1,6 @@
-//! Tests of whole runs of the program, over readers and writers in memory. They stand here and not beside it,
-//! so that the runner isn't proved once more with its tests. There is nothing else here, and no crate stands
-//! on it.
+//! Tests of whole runs of the program, over readers and writers in memory, and of the workers, by their public
+//! calls. They stand here and not beside these, so that those aren't proved once more with their tests. There is
+//! nothing else here, and no crate stands on it.
 #![tactic(auto)]
 
 #[cfg(test)]
@@ -12,6 +12,10 @@ mod rows;
 #[cfg(test)]
 mod runs;
 #[cfg(test)]
+mod same;
+#[cfg(test)]
 mod scripts;
 #[cfg(test)]
 mod streams;
+#[cfg(test)]
+mod workers;

@@ -1,212 +1,743 @@
 //! The stored rows: each script with its answers, as they stand in scripts/.
 
-/// Each script, and what the program prints for it.
-pub const ROWS: &[(&str, &str)] = &[
-    // acquire-hands-on-what-is-left
-    (
-        "semaphore 4 2\ndo 0 tryacquire\ndo 1 tryacquire\ndo 2 acquire\ndo 3 acquire\nbegin 2 poll\ndo 0 drop\ndo 1 drop\ngo 2\ngo 2\ngo 2\nshow\n",
-        "ok\ngranted\ngranted\npending\npending\nstepped\ngiven back\ngiven back\nstepped\nstepped\nready\nsemaphore available=1 limit=2 list=[3n]\n",
-    ),
-    // acquire-refused-after-notification
-    (
-        "semaphore 4 1\ndo 0 tryacquire\ndo 1 acquire\ndo 2 acquire\nbegin 1 poll\ndo 0 drop\ndo 3 tryacquire\ngo 1\ngo 1\ngo 1 nomem\ngo 1\nshow\ndo 3 drop\ndo 2 poll\n",
-        "ok\ngranted\npending\npending\nstepped\ngiven back\ngranted\nstepped\nstepped\nstepped\nrefused 1\nsemaphore available=0 limit=1 list=[2n]\ngiven back\nready\n",
-    ),
-    // added-permit-wakes-one
-    (
-        "semaphore 3 0\ndo 0 acquire\ndo 1 acquire\ndo 2 add 1\ndo 0 poll\ndo 1 poll\nshow\n",
-        "ok\npending\npending\ngranted\nready\npending\nsemaphore available=0 limit=1 list=[1w]\n",
-    ),
-    // barrier-generations
-    (
-        "barrier 7 3\ndo 0 wait\ndo 1 wait\ndo 2 wait\ndo 3 wait\ndo 4 wait\ndo 5 wait\ndo 6 wait\nshow\ndo 0 poll\ndo 1 drop\ndo 3 drop\ndo 4 drop\nshow\ndo 6 poll\n",
-        "ok\npending\npending\nready leader\npending\npending\nready leader\npending\nbarrier count=1 generation=2 locked=0 starved=0 lock=[] list=[0n 1n 3n 4n 6w]\nready follower\ngiven back\ngiven back\ngiven back\nbarrier count=1 generation=2 locked=0 starved=0 lock=[] list=[6n]\npending\n",
-    ),
-    // barrier-of-none
-    (
-        "barrier 2 0\ndo 0 wait\ndo 1 wait\n",
-        "ok\nready leader\nready leader\n",
-    ),
-    // barrier-refused-memory
-    (
-        "barrier 3 2 10 5\ndo 0 wait nomem\nshow\ndo 0 poll\ndo 1 wait\ndo 0 poll\n",
-        "ok\nrefused 1\nbarrier count=0 generation=0 locked=0 starved=0 lock=[] list=[]\npending\nready leader\nready follower\n",
-    ),
-    // cell-wait-and-take
-    (
-        "cell 3\ndo 0 wait\ndo 1 init\ndo 1 poll made=5\nshow\ndo 0 poll\ntake\nshow\n",
-        "ok\npending\npending\nready 5\ncell full 5 active=[] passive=[0a]\nready 5\n5\ncell empty active=[] passive=[]\n",
-    ),
-    // count-comes-off-before-the-entry
-    (
-        "mutex 4 0\ndo 0 lock\ndo 1 lock\ndo 0 drop\ndo 2 trylock\ndo 1 poll starving\nshow\ndo 2 drop\nbegin 1 drop\ndo 3 lock\ngo 1\nshow\n",
-        "ok\nready 0\npending\ngiven back\ngranted 0\npending\nmutex locked=1 starved=1 value=0 list=[1w]\ngiven back\nstepped\nready 0\ngiven back\nmutex locked=1 starved=0 value=0 list=[]\n",
-    ),
-    // downgrade-to-upgradable-wakes-readers
-    (
-        "rwlock 2 1\ndo 0 write\ndo 1 read\ndo 0 toupgradable\nshow\ndo 1 poll\n",
-        "ok\nready 1\npending\ngiven back\nrwlock turn=1 starved=0 writer=0 readers=1 value=1 turnlist=[] noreaders=[] nowriter=[1n]\nready 1\n",
-    ),
-    // dropped-arrival-stays-counted
-    (
-        "barrier 3 2\ndo 0 wait\ndo 0 drop\nshow\ndo 1 wait\n",
-        "ok\npending\ngiven back\nbarrier count=1 generation=0 locked=0 starved=0 lock=[] list=[]\nready leader\n",
-    ),
-    // dropped-initializer-passes-on
-    (
-        "cell 3\ndo 0 init\ndo 1 init\ndo 2 set 5\ndo 0 drop\nshow\ndo 1 drop\nshow\ndo 2 poll\nshow\n",
-        "ok\npending\npending\npending\ngiven back\ncell empty active=[1n 2w] passive=[]\ngiven back\ncell empty active=[2n] passive=[]\nready 5\ncell full 5 active=[] passive=[]\n",
-    ),
-    // dropped-maker-leaves-cell-empty
-    (
-        "cell 3\ndo 0 init\ndo 1 init\ndo 2 tryset 9\ndo 0 drop\nshow\ndo 1 poll made=7\ndo 2 set 2\nshow\n",
-        "ok\npending\npending\nnone\ngiven back\ncell empty active=[1n] passive=[]\nready 7\nready taken 2\ncell full 7 active=[] passive=[]\n",
-    ),
-    // dropped-upgrade-frees-all
-    (
-        "rwlock 2 0\ndo 0 upread\ndo 0 upgrade\ndo 0 drop\ndo 1 trywrite\n",
-        "ok\nready 0\nwaiting\ngiven back\ngranted 0\n",
-    ),
-    // dropped-wait-of-a-full-cell
-    (
-        "cell 4\ndo 0 wait\ndo 1 wait\ndo 2 wait\ndo 0 drop\ndo 3 tryset 4\nshow\ndo 1 drop\nshow\ndo 2 poll\nshow\n",
-        "ok\npending\npending\npending\ngiven back\ngranted\ncell full 4 active=[] passive=[1a 2a]\ngiven back\ncell full 4 active=[] passive=[2a]\nready 4\ncell full 4 active=[] passive=[]\n",
-    ),
-    // dropped-waiter-passes-on
-    (
-        "mutex 3 0\ndo 0 lock\ndo 1 lock\ndo 2 lock\ndo 0 drop\nshow\ndo 1 drop\nshow\ndo 2 poll\n",
-        "ok\nready 0\npending\npending\ngiven back\nmutex locked=0 starved=0 value=0 list=[1n 2w]\ngiven back\nmutex locked=0 starved=0 value=0 list=[2n]\nready 0\n",
-    ),
-    // dropped-waiting-initializer
-    (
-        "cell 3\ndo 0 init\ndo 1 init\ndo 2 init\ndo 1 drop\nshow\ndo 0 poll made=fail\nshow\ndo 2 poll made=6\nshow\n",
-        "ok\npending\npending\npending\ngiven back\ncell making active=[2w] passive=[]\nready failed\ncell empty active=[2n] passive=[]\nready 6\ncell full 6 active=[] passive=[]\n",
-    ),
-    // dropped-writer-frees-readers
-    (
-        "rwlock 4 0\ndo 0 read\ndo 1 write\ndo 2 tryread\ndo 1 drop\ndo 2 tryread\ndo 3 tryupread\nshow\n",
-        "ok\nready 0\npending\nnone\ngiven back\ngranted 0\ngranted 0\nrwlock turn=1 starved=0 writer=0 readers=3 value=0 turnlist=[] noreaders=[] nowriter=[]\n",
-    ),
-    // failed-maker-wakes-the-next
-    (
-        "cell 2\ndo 0 init\ndo 1 init\ndo 0 poll made=fail\nshow\ndo 1 poll made=4\n",
-        "ok\npending\npending\nready failed\ncell empty active=[1n] passive=[]\nready 4\n",
-    ),
-    // first-run
-    (
-        "mutex 1 0\nbegin 0 lock\nbegin 0 put 5\nshow\n",
-        "ok\nready 0\ngranted 5\nmutex locked=1 starved=0 value=5 list=[]\n",
-    ),
-    // forgotten-future
-    (
-        "mutex 3 0\ndo 0 lock\ndo 1 lock\ndo 2 lock\ndo 0 drop\ndo 2 poll\ndo 2 drop\ndo 2 trylock\n",
-        "ok\nready 0\npending\npending\ngiven back\npending\ngiven back\ngranted 0\n",
-    ),
-    // generations-limit
-    (
-        "barrier 2 1 10 1\ndo 0 wait\ndo 1 wait\nshow\n",
-        "ok\nready leader\nrefused 5\nbarrier count=0 generation=1 locked=0 starved=0 lock=[] list=[]\n",
-    ),
-    // last-reader-wakes-the-writer
-    (
-        "rwlock 2 0\ndo 0 read\ndo 1 write\ndo 0 drop\nshow\ndo 1 poll\n",
-        "ok\nready 0\npending\ngiven back\nrwlock turn=1 starved=0 writer=1 readers=0 value=0 turnlist=[] noreaders=[1n] nowriter=[]\nready 0\n",
-    ),
-    // limit-and-forget
-    (
-        "semaphore 2 18446744073709551615\ndo 0 add 1\ndo 0 acquire\ndo 0 forget\nshow\ndo 0 add 1\nshow\n",
-        "ok\nrefused 4\nready\ngiven back\nsemaphore available=18446744073709551614 limit=18446744073709551614 list=[]\ngranted\nsemaphore available=18446744073709551615 limit=18446744073709551615 list=[]\n",
-    ),
-    // lock-without-memory-behind-a-waiter
-    (
-        "mutex 3 0\ndo 0 lock\ndo 1 lock\ndo 2 lock nomem\nshow\n",
-        "ok\nready 0\npending\nrefused 1\nmutex locked=1 starved=0 value=0 list=[1w]\n",
-    ),
-    // read-without-memory-behind-a-waiter
-    (
-        "rwlock 3 0\ndo 0 write\ndo 1 read\ndo 2 read nomem\nshow\n",
-        "ok\nready 0\npending\nrefused 1\nrwlock turn=1 starved=0 writer=1 readers=0 value=0 turnlist=[] noreaders=[] nowriter=[1w]\n",
-    ),
-    // readers-after-a-writer
-    (
-        "rwlock 4 5\ndo 0 write\ndo 1 read\ndo 2 read\ndo 0 drop\ndo 1 poll\nshow\n",
-        "ok\nready 5\npending\npending\ngiven back\nready 5\nrwlock turn=0 starved=0 writer=0 readers=1 value=5 turnlist=[] noreaders=[] nowriter=[2n]\n",
-    ),
-    // readers-limit
-    (
-        "rwlock 3 0 10 1\ndo 0 tryread\ndo 1 tryread\ndo 2 read\n",
-        "ok\ngranted 0\nnone\nrefused 3\n",
-    ),
-    // refused-memory-then-repeated
-    (
-        "mutex 2 7\ndo 0 lock\ndo 1 lock nomem\nshow\ndo 1 poll\ndo 0 drop\ndo 1 poll\ndo 1 poll\n",
-        "ok\nready 7\nrefused 1\nmutex locked=1 starved=0 value=7 list=[]\npending\ngiven back\nready 7\nrefused 6\n",
-    ),
-    // refused-poll-gives-its-count-back
-    (
-        "mutex 4 0\ndo 0 lock\ndo 1 lock\ndo 0 drop\ndo 2 trylock\ndo 1 poll starving nomem\ndo 2 drop\ndo 3 trylock\n",
-        "ok\nready 0\npending\ngiven back\ngranted 0\nrefused 1\ngiven back\ngranted 0\n",
-    ),
-    // release-of-write-wakes-both-lists
-    (
-        "rwlock 3 0\ndo 0 write\ndo 1 read\ndo 2 write\ndo 0 drop\nshow\n",
-        "ok\nready 0\npending\npending\ngiven back\nrwlock turn=0 starved=0 writer=0 readers=0 value=0 turnlist=[2n] noreaders=[] nowriter=[1n]\n",
-    ),
-    // release-wakes-the-next
-    (
-        "mutex 2 0\nbegin 0 lock\nbegin 1 lock\ngo 1\ngo 1\ngo 1\nbegin 0 put 5\nbegin 0 drop\ngo 0\nshow\nbegin 1 poll\ngo 1\n",
-        "ok\nready 0\nstepped\nstepped\nstepped\npending\ngranted 5\nstepped\ngiven back\nmutex locked=0 starved=0 value=5 list=[1n]\nstepped\nready 5\n",
-    ),
-    // starved-goes-first
-    (
-        "mutex 4 0\ndo 0 lock\ndo 1 lock\ndo 0 drop\ndo 2 trylock\ndo 1 poll starving\nshow\ndo 2 drop\ndo 3 trylock\ndo 1 poll\nshow\n",
-        "ok\nready 0\npending\ngiven back\ngranted 0\npending\nmutex locked=1 starved=1 value=0 list=[1w]\ngiven back\nnone\nready 0\nmutex locked=1 starved=0 value=0 list=[]\n",
-    ),
-    // starved-limit
-    (
-        "mutex 4 0 1\ndo 0 lock\ndo 1 lock\ndo 0 drop\ndo 2 trylock\ndo 1 poll starving\ndo 3 lock\nshow\n",
-        "ok\nready 0\npending\ngiven back\ngranted 0\npending\nrefused 2\nmutex locked=1 starved=1 value=0 list=[1w]\n",
-    ),
-    // told-and-at-the-limit-hands-on
-    (
-        "mutex 5 0 1\ndo 0 lock\ndo 1 lock\ndo 2 lock\ndo 3 lock\ndo 0 drop\ndo 4 trylock\nbegin 1 poll\ngo 1\ndo 4 drop\ndo 4 trylock\ndo 2 poll starving\ngo 1\ngo 1\ngo 1\ngo 1\ngo 1\nshow\n",
-        "ok\nready 0\npending\npending\npending\ngiven back\ngranted 0\nstepped\nstepped\ngiven back\ngranted 0\npending\nstepped\nstepped\nstepped\nstepped\nrefused 2\nmutex locked=1 starved=1 value=0 list=[3n 2w]\n",
-    ),
-    // told-and-without-memory-hands-on
-    (
-        "mutex 4 0\ndo 0 lock\ndo 1 lock\ndo 2 lock\ndo 0 drop\ndo 3 trylock\ndo 1 poll nomem\nshow\n",
-        "ok\nready 0\npending\npending\ngiven back\ngranted 0\nrefused 1\nmutex locked=1 starved=0 value=0 list=[2n]\n",
-    ),
-    // too-many-permits-to-begin-with
-    ("semaphore 1 3 2\n", "refused 4\n"),
-    // try-upgrade-when-alone
-    (
-        "rwlock 2 1\ndo 0 upread\ndo 1 read\ndo 0 tryupgrade\ndo 1 drop\ndo 0 tryupgrade\n",
-        "ok\nready 1\nready 1\nnone\ngiven back\ngranted 1\n",
-    ),
-    // unstarving-poll-counts-nobody
-    (
-        "mutex 3 0\ndo 0 lock\ndo 1 lock\ndo 0 drop\ndo 2 trylock\ndo 1 poll\nshow\ndo 2 drop\ndo 0 trylock\n",
-        "ok\nready 0\npending\ngiven back\ngranted 0\npending\nmutex locked=1 starved=0 value=0 list=[1w]\ngiven back\ngranted 0\n",
-    ),
-    // upgradable-past-the-readers-limit
-    (
-        "rwlock 3 0 10 1\ndo 0 read\ndo 1 upread\nshow\ndo 0 drop\ndo 1 poll\n",
-        "ok\nready 0\nrefused 3\nrwlock turn=0 starved=0 writer=0 readers=1 value=0 turnlist=[] noreaders=[] nowriter=[]\ngiven back\nready 0\n",
-    ),
-    // upgrade-refused-memory
-    (
-        "rwlock 3 0\ndo 0 upread\ndo 1 read\ndo 0 upgrade\ndo 0 poll nomem\nshow\ndo 0 poll\ndo 1 drop\ndo 0 poll\n",
-        "ok\nready 0\nready 0\nwaiting\nrefused 1\nrwlock turn=1 starved=0 writer=1 readers=1 value=0 turnlist=[] noreaders=[] nowriter=[]\npending\ngiven back\nready 0\n",
-    ),
-    // write-refused-memory
-    (
-        "rwlock 2 0\ndo 0 read\ndo 1 write nomem\nshow\ndo 1 poll\n",
-        "ok\nready 0\nrefused 1\nrwlock turn=0 starved=0 writer=0 readers=1 value=0 turnlist=[] noreaders=[] nowriter=[]\npending\n",
-    ),
-    // write-without-memory-at-a-held-turn
-    (
-        "rwlock 3 0\ndo 0 write\ndo 1 write nomem\nshow\n",
-        "ok\nready 0\nrefused 1\nrwlock turn=1 starved=0 writer=1 readers=0 value=0 turnlist=[] noreaders=[] nowriter=[]\n",
-    ),
-];
+/// Each script, and what the program prints for it: a row is a line with its name after `== `, the script, `=>`
+/// with a line feed, and the answers. They are one text, since each text of its own takes long to prove.
+pub const ROWS: &str = "\
+== acquire-hands-on-what-is-left
+semaphore 4 2
+do 0 tryacquire
+do 1 tryacquire
+do 2 acquire
+do 3 acquire
+begin 2 poll
+do 0 drop
+do 1 drop
+go 2
+go 2
+go 2
+show
+=>
+ok
+granted
+granted
+pending
+pending
+stepped
+given back
+given back
+stepped
+stepped
+ready
+semaphore available=1 limit=2 list=[3n]
+== acquire-refused-after-notification
+semaphore 4 1
+do 0 tryacquire
+do 1 acquire
+do 2 acquire
+begin 1 poll
+do 0 drop
+do 3 tryacquire
+go 1
+go 1
+go 1 nomem
+go 1
+show
+do 3 drop
+do 2 poll
+=>
+ok
+granted
+pending
+pending
+stepped
+given back
+granted
+stepped
+stepped
+stepped
+refused 1
+semaphore available=0 limit=1 list=[2n]
+given back
+ready
+== added-permit-wakes-one
+semaphore 3 0
+do 0 acquire
+do 1 acquire
+do 2 add 1
+do 0 poll
+do 1 poll
+show
+=>
+ok
+pending
+pending
+granted
+ready
+pending
+semaphore available=0 limit=1 list=[1w]
+== barrier-generations
+barrier 7 3
+do 0 wait
+do 1 wait
+do 2 wait
+do 3 wait
+do 4 wait
+do 5 wait
+do 6 wait
+show
+do 0 poll
+do 1 drop
+do 3 drop
+do 4 drop
+show
+do 6 poll
+=>
+ok
+pending
+pending
+ready leader
+pending
+pending
+ready leader
+pending
+barrier count=1 generation=2 locked=0 starved=0 lock=[] list=[0n 1n 3n 4n 6w]
+ready follower
+given back
+given back
+given back
+barrier count=1 generation=2 locked=0 starved=0 lock=[] list=[6n]
+pending
+== barrier-of-none
+barrier 2 0
+do 0 wait
+do 1 wait
+=>
+ok
+ready leader
+ready leader
+== barrier-refused-memory
+barrier 3 2 10 5
+do 0 wait nomem
+show
+do 0 poll
+do 1 wait
+do 0 poll
+=>
+ok
+refused 1
+barrier count=0 generation=0 locked=0 starved=0 lock=[] list=[]
+pending
+ready leader
+ready follower
+== cell-wait-and-take
+cell 3
+do 0 wait
+do 1 init
+do 1 poll made=5
+show
+do 0 poll
+take
+show
+=>
+ok
+pending
+pending
+ready 5
+cell full 5 active=[] passive=[0a]
+ready 5
+5
+cell empty active=[] passive=[]
+== count-comes-off-before-the-entry
+mutex 4 0
+do 0 lock
+do 1 lock
+do 0 drop
+do 2 trylock
+do 1 poll starving
+show
+do 2 drop
+begin 1 drop
+do 3 lock
+go 1
+show
+=>
+ok
+ready 0
+pending
+given back
+granted 0
+pending
+mutex locked=1 starved=1 value=0 list=[1w]
+given back
+stepped
+ready 0
+given back
+mutex locked=1 starved=0 value=0 list=[]
+== downgrade-to-upgradable-wakes-readers
+rwlock 2 1
+do 0 write
+do 1 read
+do 0 toupgradable
+show
+do 1 poll
+=>
+ok
+ready 1
+pending
+given back
+rwlock turn=1 starved=0 writer=0 readers=1 value=1 turnlist=[] noreaders=[] nowriter=[1n]
+ready 1
+== dropped-arrival-stays-counted
+barrier 3 2
+do 0 wait
+do 0 drop
+show
+do 1 wait
+=>
+ok
+pending
+given back
+barrier count=1 generation=0 locked=0 starved=0 lock=[] list=[]
+ready leader
+== dropped-initializer-passes-on
+cell 3
+do 0 init
+do 1 init
+do 2 set 5
+do 0 drop
+show
+do 1 drop
+show
+do 2 poll
+show
+=>
+ok
+pending
+pending
+pending
+given back
+cell empty active=[1n 2w] passive=[]
+given back
+cell empty active=[2n] passive=[]
+ready 5
+cell full 5 active=[] passive=[]
+== dropped-maker-leaves-cell-empty
+cell 3
+do 0 init
+do 1 init
+do 2 tryset 9
+do 0 drop
+show
+do 1 poll made=7
+do 2 set 2
+show
+=>
+ok
+pending
+pending
+none
+given back
+cell empty active=[1n] passive=[]
+ready 7
+ready taken 2
+cell full 7 active=[] passive=[]
+== dropped-upgrade-frees-all
+rwlock 2 0
+do 0 upread
+do 0 upgrade
+do 0 drop
+do 1 trywrite
+=>
+ok
+ready 0
+waiting
+given back
+granted 0
+== dropped-wait-of-a-full-cell
+cell 4
+do 0 wait
+do 1 wait
+do 2 wait
+do 0 drop
+do 3 tryset 4
+show
+do 1 drop
+show
+do 2 poll
+show
+=>
+ok
+pending
+pending
+pending
+given back
+granted
+cell full 4 active=[] passive=[1a 2a]
+given back
+cell full 4 active=[] passive=[2a]
+ready 4
+cell full 4 active=[] passive=[]
+== dropped-waiter-passes-on
+mutex 3 0
+do 0 lock
+do 1 lock
+do 2 lock
+do 0 drop
+show
+do 1 drop
+show
+do 2 poll
+=>
+ok
+ready 0
+pending
+pending
+given back
+mutex locked=0 starved=0 value=0 list=[1n 2w]
+given back
+mutex locked=0 starved=0 value=0 list=[2n]
+ready 0
+== dropped-waiting-initializer
+cell 3
+do 0 init
+do 1 init
+do 2 init
+do 1 drop
+show
+do 0 poll made=fail
+show
+do 2 poll made=6
+show
+=>
+ok
+pending
+pending
+pending
+given back
+cell making active=[2w] passive=[]
+ready failed
+cell empty active=[2n] passive=[]
+ready 6
+cell full 6 active=[] passive=[]
+== dropped-writer-frees-readers
+rwlock 4 0
+do 0 read
+do 1 write
+do 2 tryread
+do 1 drop
+do 2 tryread
+do 3 tryupread
+show
+=>
+ok
+ready 0
+pending
+none
+given back
+granted 0
+granted 0
+rwlock turn=1 starved=0 writer=0 readers=3 value=0 turnlist=[] noreaders=[] nowriter=[]
+== failed-maker-wakes-the-next
+cell 2
+do 0 init
+do 1 init
+do 0 poll made=fail
+show
+do 1 poll made=4
+=>
+ok
+pending
+pending
+ready failed
+cell empty active=[1n] passive=[]
+ready 4
+== first-run
+mutex 1 0
+begin 0 lock
+begin 0 put 5
+show
+=>
+ok
+ready 0
+granted 5
+mutex locked=1 starved=0 value=5 list=[]
+== forgotten-future
+mutex 3 0
+do 0 lock
+do 1 lock
+do 2 lock
+do 0 drop
+do 2 poll
+do 2 drop
+do 2 trylock
+=>
+ok
+ready 0
+pending
+pending
+given back
+pending
+given back
+granted 0
+== generations-limit
+barrier 2 1 10 1
+do 0 wait
+do 1 wait
+show
+=>
+ok
+ready leader
+refused 5
+barrier count=0 generation=1 locked=0 starved=0 lock=[] list=[]
+== last-reader-wakes-the-writer
+rwlock 2 0
+do 0 read
+do 1 write
+do 0 drop
+show
+do 1 poll
+=>
+ok
+ready 0
+pending
+given back
+rwlock turn=1 starved=0 writer=1 readers=0 value=0 turnlist=[] noreaders=[1n] nowriter=[]
+ready 0
+== limit-and-forget
+semaphore 2 18446744073709551615
+do 0 add 1
+do 0 acquire
+do 0 forget
+show
+do 0 add 1
+show
+=>
+ok
+refused 4
+ready
+given back
+semaphore available=18446744073709551614 limit=18446744073709551614 list=[]
+granted
+semaphore available=18446744073709551615 limit=18446744073709551615 list=[]
+== lock-without-memory-behind-a-waiter
+mutex 3 0
+do 0 lock
+do 1 lock
+do 2 lock nomem
+show
+=>
+ok
+ready 0
+pending
+refused 1
+mutex locked=1 starved=0 value=0 list=[1w]
+== read-without-memory-behind-a-waiter
+rwlock 3 0
+do 0 write
+do 1 read
+do 2 read nomem
+show
+=>
+ok
+ready 0
+pending
+refused 1
+rwlock turn=1 starved=0 writer=1 readers=0 value=0 turnlist=[] noreaders=[] nowriter=[1w]
+== readers-after-a-writer
+rwlock 4 5
+do 0 write
+do 1 read
+do 2 read
+do 0 drop
+do 1 poll
+show
+=>
+ok
+ready 5
+pending
+pending
+given back
+ready 5
+rwlock turn=0 starved=0 writer=0 readers=1 value=5 turnlist=[] noreaders=[] nowriter=[2n]
+== readers-limit
+rwlock 3 0 10 1
+do 0 tryread
+do 1 tryread
+do 2 read
+=>
+ok
+granted 0
+none
+refused 3
+== refused-memory-then-repeated
+mutex 2 7
+do 0 lock
+do 1 lock nomem
+show
+do 1 poll
+do 0 drop
+do 1 poll
+do 1 poll
+=>
+ok
+ready 7
+refused 1
+mutex locked=1 starved=0 value=7 list=[]
+pending
+given back
+ready 7
+refused 6
+== refused-poll-gives-its-count-back
+mutex 4 0
+do 0 lock
+do 1 lock
+do 0 drop
+do 2 trylock
+do 1 poll starving nomem
+do 2 drop
+do 3 trylock
+=>
+ok
+ready 0
+pending
+given back
+granted 0
+refused 1
+given back
+granted 0
+== release-of-write-wakes-both-lists
+rwlock 3 0
+do 0 write
+do 1 read
+do 2 write
+do 0 drop
+show
+=>
+ok
+ready 0
+pending
+pending
+given back
+rwlock turn=0 starved=0 writer=0 readers=0 value=0 turnlist=[2n] noreaders=[] nowriter=[1n]
+== release-wakes-the-next
+mutex 2 0
+begin 0 lock
+begin 1 lock
+go 1
+go 1
+go 1
+begin 0 put 5
+begin 0 drop
+go 0
+show
+begin 1 poll
+go 1
+=>
+ok
+ready 0
+stepped
+stepped
+stepped
+pending
+granted 5
+stepped
+given back
+mutex locked=0 starved=0 value=5 list=[1n]
+stepped
+ready 5
+== starved-goes-first
+mutex 4 0
+do 0 lock
+do 1 lock
+do 0 drop
+do 2 trylock
+do 1 poll starving
+show
+do 2 drop
+do 3 trylock
+do 1 poll
+show
+=>
+ok
+ready 0
+pending
+given back
+granted 0
+pending
+mutex locked=1 starved=1 value=0 list=[1w]
+given back
+none
+ready 0
+mutex locked=1 starved=0 value=0 list=[]
+== starved-limit
+mutex 4 0 1
+do 0 lock
+do 1 lock
+do 0 drop
+do 2 trylock
+do 1 poll starving
+do 3 lock
+show
+=>
+ok
+ready 0
+pending
+given back
+granted 0
+pending
+refused 2
+mutex locked=1 starved=1 value=0 list=[1w]
+== told-and-at-the-limit-hands-on
+mutex 5 0 1
+do 0 lock
+do 1 lock
+do 2 lock
+do 3 lock
+do 0 drop
+do 4 trylock
+begin 1 poll
+go 1
+do 4 drop
+do 4 trylock
+do 2 poll starving
+go 1
+go 1
+go 1
+go 1
+go 1
+show
+=>
+ok
+ready 0
+pending
+pending
+pending
+given back
+granted 0
+stepped
+stepped
+given back
+granted 0
+pending
+stepped
+stepped
+stepped
+stepped
+refused 2
+mutex locked=1 starved=1 value=0 list=[3n 2w]
+== told-and-without-memory-hands-on
+mutex 4 0
+do 0 lock
+do 1 lock
+do 2 lock
+do 0 drop
+do 3 trylock
+do 1 poll nomem
+show
+=>
+ok
+ready 0
+pending
+pending
+given back
+granted 0
+refused 1
+mutex locked=1 starved=0 value=0 list=[2n]
+== too-many-permits-to-begin-with
+semaphore 1 3 2
+=>
+refused 4
+== try-upgrade-when-alone
+rwlock 2 1
+do 0 upread
+do 1 read
+do 0 tryupgrade
+do 1 drop
+do 0 tryupgrade
+=>
+ok
+ready 1
+ready 1
+none
+given back
+granted 1
+== unstarving-poll-counts-nobody
+mutex 3 0
+do 0 lock
+do 1 lock
+do 0 drop
+do 2 trylock
+do 1 poll
+show
+do 2 drop
+do 0 trylock
+=>
+ok
+ready 0
+pending
+given back
+granted 0
+pending
+mutex locked=1 starved=0 value=0 list=[1w]
+given back
+granted 0
+== upgradable-past-the-readers-limit
+rwlock 3 0 10 1
+do 0 read
+do 1 upread
+show
+do 0 drop
+do 1 poll
+=>
+ok
+ready 0
+refused 3
+rwlock turn=0 starved=0 writer=0 readers=1 value=0 turnlist=[] noreaders=[] nowriter=[]
+given back
+ready 0
+== upgrade-refused-memory
+rwlock 3 0
+do 0 upread
+do 1 read
+do 0 upgrade
+do 0 poll nomem
+show
+do 0 poll
+do 1 drop
+do 0 poll
+=>
+ok
+ready 0
+ready 0
+waiting
+refused 1
+rwlock turn=1 starved=0 writer=1 readers=1 value=0 turnlist=[] noreaders=[] nowriter=[]
+pending
+given back
+ready 0
+== write-refused-memory
+rwlock 2 0
+do 0 read
+do 1 write nomem
+show
+do 1 poll
+=>
+ok
+ready 0
+refused 1
+rwlock turn=0 starved=0 writer=0 readers=1 value=0 turnlist=[] noreaders=[] nowriter=[]
+pending
+== write-without-memory-at-a-held-turn
+rwlock 3 0
+do 0 write
+do 1 write nomem
+show
+=>
+ok
+ready 0
+refused 1
+rwlock turn=1 starved=0 writer=1 readers=0 value=0 turnlist=[] noreaders=[] nowriter=[]
+";
+
+/// How many rows there are.
+pub const HOW_MANY: usize = 42;

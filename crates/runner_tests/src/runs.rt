@@ -11,20 +11,10 @@ use std::time::Clock;
 
 /// Gives its text, and once that is given fails in this way, or ends.
 #[derive(Drop)]
-pub(crate) struct Source<'a> {
+struct Source<'a> {
     rest: &'a [u8],
-    pub(crate) failure: Option<ErrorKind>,
-    pub(crate) given: usize,
-}
-
-impl<'a> Source<'a> {
-    pub(crate) fn new(text: &'a [u8]) -> Source<'a> {
-        Source {
-            rest: text,
-            failure: None,
-            given: 0,
-        }
-    }
+    failure: Option<ErrorKind>,
+    given: usize,
 }
 
 impl Read for Source<'_> {
@@ -51,37 +41,42 @@ impl Read for Source<'_> {
     }
 }
 
-/// Keeps what is written, while there is room. A flush fails where it is to.
-#[derive(Drop)]
-pub(crate) struct Sink {
-    kept: Vec<u8>,
+/// What a writer takes: so many bytes, and flushes or none.
+#[derive(Clone, Copy)]
+pub(crate) struct Takes {
     pub(crate) room: usize,
     pub(crate) flushes: bool,
 }
 
+/// Keeps what is written, while there is room. A flush fails where it is to.
+#[derive(Drop)]
+struct Sink {
+    kept: Vec<u8>,
+    takes: Takes,
+}
+
 impl Sink {
-    pub(crate) fn new(rt: &impl AllocGlobal) -> Sink {
+    fn new(rt: &impl AllocGlobal, takes: Takes) -> Sink {
         Sink {
             kept: Vec::new(rt.alloc()),
-            room: usize::MAX,
-            flushes: true,
+            takes,
         }
     }
 }
 
 impl Write for Sink {
     fn write(&mut self, buf: &[u8]) -> io::Result<usize> {
-        let count = buf.len().min(self.room);
+        let count = buf.len().min(self.takes.room);
         if count == 0 && !buf.is_empty() {
             return Err(io::Error::from(ErrorKind::BrokenPipe));
         }
         self.kept.extend_from_slice(&buf[..count])?;
-        self.room -= count;
+        self.takes.room -= count;
         Ok(count)
     }
 
     fn flush(&mut self) -> io::Result<()> {
-        if self.flushes {
+        if self.takes.flushes {
             Ok(())
         } else {
             Err(io::Error::from(ErrorKind::BrokenPipe))
@@ -105,13 +100,58 @@ where
     R: Threads + Wait + Clock + RandomSource + AllocGlobal + Abort + Sync + Copy + Drop,
 {}
 
+/// How the program is run on some text, and how it is to end.
+#[derive(Clone, Copy)]
+pub(crate) struct Run {
+    /// Its arguments.
+    pub(crate) words: &'static [&'static str],
+    /// How a read fails once all of the text is read.
+    pub(crate) failure: Option<ErrorKind>,
+    /// What its output takes.
+    pub(crate) answers: Takes,
+    /// What its error output takes.
+    pub(crate) faults: Takes,
+    pub(crate) output: &'static str,
+    pub(crate) errors: &'static str,
+    pub(crate) status: u8,
+    /// How much of the text it is to read, where that isn't all.
+    pub(crate) given: Option<usize>,
+}
+
+pub(crate) const ALL: Takes = Takes {
+    room: usize::MAX,
+    flushes: true,
+};
+
+pub(crate) const NO_FLUSH: Takes = Takes {
+    room: usize::MAX,
+    flushes: false,
+};
+
+pub(crate) const NONE: Takes = Takes {
+    room: 0,
+    flushes: false,
+};
+
+/// A script that prints nothing.
+pub(crate) const SCRIPT: Run = Run {
+    words: &["script"],
+    failure: None,
+    answers: ALL,
+    faults: ALL,
+    output: "",
+    errors: "",
+    status: 0,
+    given: None,
+};
+
 /// What was kept, as text.
 fn text_of(sink: &Sink) -> &str {
     str::from_utf8(sink.kept.as_slice()).unwrap_or("bytes that are no text")
 }
 
 /// These words, as the arguments of a run.
-pub(crate) fn arguments(rt: &(impl AllocGlobal + Abort), words: &[&str]) -> Vec<String> {
+fn arguments(rt: &(impl AllocGlobal + Abort), words: &[&str]) -> Vec<String> {
     let mut all = Vec::new(rt.alloc());
     for word in words {
         let text = String::from_str(rt.alloc(), *word).expect(rt, "ample memory");
@@ -120,56 +160,43 @@ pub(crate) fn arguments(rt: &(impl AllocGlobal + Abort), words: &[&str]) -> Vec<
     all
 }
 
-/// What a run prints, and its status.
-#[derive(Clone, Copy, Debug)]
-pub(crate) struct Wanted<'a> {
-    pub(crate) output: &'a str,
-    pub(crate) errors: &'a str,
-    pub(crate) status: u8,
+/// What a run has printed and read, and its status.
+type Ended<'a> = (&'a str, &'a str, usize, u8);
+
+/// Stops the test unless a run of this text has ended as it was to.
+fn assert_ended(rt: &impl Abort, wanted: &Run, text: &[u8], ended: Ended<'_>) {
+    let start = text.get(..200).unwrap_or(text);
+    let shown = str::from_utf8(start).unwrap_or("bytes that are no text");
+    let given = wanted.given.unwrap_or(text.len());
+    let wanted_end = (wanted.output, wanted.errors, given, wanted.status);
+    assert_eq!(rt; ended, wanted_end, "{:?} of {shown:?}", wanted.words);
 }
 
-/// Wants this text, which `what` names.
-fn expect_text(rt: &impl Abort, what: &str, shown: &str, text: &str, wanted: &str) {
-    assert_eq!(rt; text, wanted, "{what} of {shown:?}");
-}
-
-/// Wants so many bytes to have been read.
-pub(crate) fn expect_given(rt: &impl Abort, shown: &str, given: usize, wanted: usize) {
-    assert_eq!(rt; given, wanted, "bytes read of {shown:?}");
-}
-
-/// Runs the program from and into memory, and wants this of it. `shown` names the case.
-pub(crate) fn expect_of<R: Runs>(
-    rt: &R,
-    words: &[String],
-    source: &mut Source<'_>,
-    answers: &mut Sink,
-    faults: &mut Sink,
-    wanted: Wanted<'_>,
-    shown: &str,
-) {
-    let ended = run(rt, rt.alloc(), words, source, answers, faults);
-    expect_text(rt, "output", shown, text_of(answers), wanted.output);
-    expect_text(rt, "errors", shown, text_of(faults), wanted.errors);
-    assert_eq!(rt; ended, wanted.status, "status of {shown:?}");
-}
-
-/// Runs this script from and into memory, and wants this output, error output and status.
-pub(crate) fn expect<R: Runs>(rt: &R, script: &[u8], output: &str, errors: &str, status: u8) {
-    let shown = str::from_utf8(script).unwrap_or("bytes that are no text");
-    let words = arguments(rt, &["script"]);
-    let wanted = Wanted {
-        output,
-        errors,
-        status,
+/// Runs the program on this text, which ends as it is to.
+pub(crate) fn expect<R: Runs>(rt: &R, text: &[u8], wanted: &Run) {
+    let words = arguments(rt, wanted.words);
+    let mut source = Source {
+        rest: text,
+        failure: wanted.failure,
+        given: 0,
     };
-    expect_of(
+    let mut answers = Sink::new(rt, wanted.answers);
+    let mut faults = Sink::new(rt, wanted.faults);
+    let status = run(
         rt,
+        rt.alloc(),
         words.as_slice(),
-        &mut Source::new(script),
-        &mut Sink::new(rt),
-        &mut Sink::new(rt),
-        wanted,
-        shown,
+        &mut source,
+        &mut answers,
+        &mut faults,
     );
+    let ended = (text_of(&answers), text_of(&faults), source.given, status);
+    assert_ended(rt, wanted, text, ended);
+}
+
+/// Runs the program on each text, which ends as it is to.
+pub(crate) fn expect_all<R: Runs>(rt: &R, rows: &[(&[u8], Run)]) {
+    for row in rows {
+        expect(rt, row.0, &row.1);
+    }
 }
