@@ -1,15 +1,13 @@
 //! What the clock says of a waiter.
 
-use crate::forms::{Form, can_be_had, is_free};
-use crate::polls::{is_pending, ready, task};
-use async_lock::{Mutex, Refusal};
-use futures::test::MockTask;
+use crate::polls::Name;
+use crate::stories::{Answer, Deed, NOBODY, ONE, POLL_ONE, Row, of_timed};
+use async_lock::Refusal;
 use std::alloc::{Alloc, AllocGlobal, Global};
 use std::io;
 use std::random::RandomSource;
 use std::sync::Wait;
 use std::sync::atomic::{AtomicU64, Ordering};
-use std::test::Fail;
 use std::time::{Clock, Duration};
 
 /// A runtime of a test's own: its clock stands where the test puts it, and past the first hour it can't be read.
@@ -59,74 +57,55 @@ impl<R: AllocGlobal> Alloc for Fake<'_, R> {
     }
 }
 
-// Whether a future that is overtaken at this time, and first waits now, is counted as starved.
-fn is_starved<L: Form>(lock: &L, task: &MockTask, micros: &AtomicU64, at: u64) -> Option<bool> {
-    let held = lock.take();
-    let mut future = lock.future();
-    if !is_pending(task, &mut future) {
-        return None;
-    }
-    micros.store(at, Ordering::SeqCst);
-    drop(held);
-    let held = lock.take();
-    if held.is_none() || !is_pending(task, &mut future) {
-        return None;
-    }
-    drop(held);
-    // The starved one alone may have it now.
-    let is_starved = !is_free(lock);
-    if ready(task, &mut future).is_none() || !is_free(lock) {
-        return None;
-    }
-    Some(is_starved)
+// A future that first waits at one time is overtaken at another. What a look finds then says whether it was
+// counted as starved: the starved one alone may have the lock.
+fn overtaken(from: u64, at: u64, look: Answer) -> [Row; 13] {
+    [
+        (Deed::At(from), Answer::Done, NOBODY),
+        (Deed::Take, Answer::Got(1), NOBODY),
+        (Deed::Ask(Name::One), Answer::Done, NOBODY),
+        (POLL_ONE, Answer::Pending, NOBODY),
+        (Deed::At(at), Answer::Done, NOBODY),
+        (Deed::GiveBack, Answer::Done, ONE),
+        (Deed::Take, Answer::Got(1), ONE),
+        (POLL_ONE, Answer::Pending, NOBODY),
+        (Deed::GiveBack, Answer::Done, ONE),
+        (Deed::Look, look, ONE),
+        (POLL_ONE, Answer::Got(1), NOBODY),
+        (Deed::GiveBack, Answer::Done, NOBODY),
+        (Deed::Look, Answer::Got(1), NOBODY),
+    ]
 }
 
-// The same of a mutex of its own, with a future that first waits at `from`.
-fn is_starved_at<R>(rt: R, from: u64, at: u64) -> Option<bool>
-where
-    R: Wait + RandomSource + AllocGlobal + Drop,
-{
-    let micros = AtomicU64::new(from);
-    let task = task(&rt)?;
-    let mutex = Mutex::new(Fake::new(rt, &micros), 1u64).ok()?;
-    is_starved(&&mutex, &task, &micros, at)
+const STARVED: Answer = Answer::Nothing;
+
+const NOT_STARVED: Answer = Answer::Got(1);
+
+#[test]
+fn more_than_500_microseconds_are_long(rt: HostRuntime) {
+    let short = of_timed(rt, &overtaken(7, 507, NOT_STARVED));
+    let long = of_timed(rt, &overtaken(7, 508, STARVED));
+    // Where one allocation fails, one of them is still told.
+    assert!(rt; short || long);
 }
 
 #[test]
-fn more_than_500_microseconds_are_long(rt: HostRuntime) -> Result<(), Fail> {
-    // `None` is a run in which memory was refused.
-    let short = is_starved_at(rt, 7, 507);
-    let long = is_starved_at(rt, 7, 508);
-    assert!(rt; short != Some(true) && long != Some(false));
-    assert!(rt; short.is_some() || long.is_some());
-    Ok(())
+fn a_clock_that_cannot_be_read_says_no(rt: HostRuntime) {
+    of_timed(rt, &overtaken(7, HOUR + 1, NOT_STARVED));
+    of_timed(rt, &overtaken(HOUR + 1, 1000, NOT_STARVED));
 }
 
-#[test]
-fn a_clock_that_cannot_be_read_says_no(rt: HostRuntime) -> Result<(), Fail> {
-    assert!(rt; is_starved_at(rt, 7, HOUR + 1) != Some(true));
-    assert!(rt; is_starved_at(rt, HOUR + 1, 1000) != Some(true));
-    Ok(())
-}
-
-// Whether taking the lock in the blocking form is refused for memory.
-fn is_refused<R>(mutex: &Mutex<u64, R>) -> bool
-where
-    R: Wait + Clock + RandomSource + AllocGlobal,
-{
-    matches!(mutex.lock_blocking(), Err(Refusal::Memory))
-}
+const CANNOT_WAIT: [Row; 6] = [
+    // A free lock needs no runtime.
+    (Deed::Block, Answer::Got(1), NOBODY),
+    (Deed::GiveBack, Answer::Done, NOBODY),
+    (Deed::Take, Answer::Got(1), NOBODY),
+    (Deed::Block, Answer::Refused(Refusal::Memory), NOBODY),
+    (Deed::GiveBack, Answer::Done, NOBODY),
+    (Deed::Look, Answer::Got(1), NOBODY),
+];
 
 #[test]
 fn an_error_of_the_runtime_is_a_refusal(rt: HostRuntime) {
-    let micros = AtomicU64::new(0);
-    let Ok(mutex) = Mutex::new(Fake::new(rt, &micros), 1u64) else {
-        return;
-    };
-    // A free lock needs no runtime.
-    assert!(rt; mutex.lock_blocking().is_ok());
-    let held = mutex.try_lock();
-    assert!(rt; is_refused(&mutex));
-    drop(held);
-    assert!(rt; can_be_had(&mutex));
+    of_timed(rt, &CANNOT_WAIT);
 }

@@ -1,53 +1,45 @@
 //! Threads that contend for one mutex.
 
+use crate::forms::{Form, add_one, number_of, owned};
 use crate::same::assert_same;
 use async_lock::Mutex;
-use std::sync::Arc;
-use std::test::Fail;
+use std::process::Abort;
 use std::thread;
 
-#[test]
-fn two_threads_add_under_the_lock(rt: HostRuntime) -> Result<(), Fail> {
-    let Ok(mutex) = Mutex::new(rt, 0u64) else {
-        return Ok(());
-    };
-    let add = || {
-        let mut refused = 0u64;
-        for _ in 0..1000u32 {
-            match mutex.lock_blocking() {
-                Ok(mut guard) => *guard = guard.saturating_add(1),
-                Err(_) => refused = refused.saturating_add(1),
-            }
+// Adds one a thousand times, and says how often it was refused.
+fn add_thousand<L: Form>(lock: &L) -> u64 {
+    let mut refused = 0u64;
+    for _ in 0..1000u32 {
+        if !add_one(lock, lock.take_blocking()) {
+            refused = refused.saturating_add(1);
         }
-        refused
-    };
-    let (one, two) = thread::join(&rt, &add, &add);
+    }
+    refused
+}
+
+// What two threads have added, of which each was refused so often: where one allocation fails, once.
+fn added(rt: &impl Abort, refused: (u64, u64)) -> u64 {
+    let (one, two) = refused;
     assert!(rt; one <= 1 && two <= 1);
-    assert_same(&rt, mutex.into_inner(), 2000 - one - two);
-    Ok(())
+    2000 - one - two
 }
 
 #[test]
-fn two_threads_add_under_the_lock_that_they_own(rt: HostRuntime) -> Result<(), Fail> {
+fn two_threads_add_under_the_lock(rt: HostRuntime) {
     let Ok(mutex) = Mutex::new(rt, 0u64) else {
-        return Ok(());
+        return;
     };
-    let Ok(mutex) = Arc::new(rt.alloc(), mutex) else {
-        return Ok(());
+    let add = || add_thousand(&&mutex);
+    let added = added(&rt, thread::join(&rt, &add, &add));
+    assert_same(&rt, mutex.into_inner(), added);
+}
+
+#[test]
+fn two_threads_add_under_the_lock_that_they_own(rt: HostRuntime) {
+    let Some(mutex) = owned(rt, 0u64) else {
+        return;
     };
-    let add = || {
-        let mut refused = 0u64;
-        for _ in 0..1000u32 {
-            match Mutex::lock_arc_blocking(&mutex) {
-                Ok(mut guard) => *guard = guard.saturating_add(1),
-                Err(_) => refused = refused.saturating_add(1),
-            }
-        }
-        refused
-    };
-    let (one, two) = thread::join(&rt, &add, &add);
-    assert!(rt; one <= 1 && two <= 1);
-    let sum = mutex.try_lock().map(|guard| *guard);
-    assert_same(&rt, sum, Some(2000 - one - two));
-    Ok(())
+    let add = || add_thousand(&mutex);
+    let added = added(&rt, thread::join(&rt, &add, &add));
+    assert_same(&rt, number_of(&mutex), Some(added));
 }

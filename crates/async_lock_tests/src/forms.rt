@@ -1,16 +1,44 @@
 //! A mutex in the two forms in which it is used, borrowed and owned.
 //!
-//! These calls have no contracts: a test compares values when it runs, and the prover would carry what the
-//! public calls promise along each way out of a test. A test over a form is proved once, for both.
+//! A form's calls have no contracts: a test compares values when it runs, and the prover would carry what the
+//! public calls promise along each way out of a test. What is written over a form is proved once, for both.
 
 use crate::polls::Waiter;
 use async_lock::lock_futures::{Lock, LockArc};
-use async_lock::{Mutex, MutexGuard, MutexGuardArc, Settled};
+use async_lock::{Mutex, MutexGuard, MutexGuardArc, Refusal, Settled};
 use std::alloc::AllocGlobal;
+use std::random::RandomSource;
 use std::sync::{Arc, Wait};
 use std::time::Clock;
 
-/// A mutex, borrowed or owned.
+/// A value that is seen as a number.
+pub(crate) trait Number {
+    fn number(&self) -> u64;
+
+    fn set_number(&mut self, number: u64);
+}
+
+impl Number for u64 {
+    fn number(&self) -> u64 {
+        *self
+    }
+
+    fn set_number(&mut self, number: u64) {
+        *self = number;
+    }
+}
+
+impl Number for () {
+    fn number(&self) -> u64 {
+        0
+    }
+
+    fn set_number(&mut self, _number: u64) {
+        *self = ();
+    }
+}
+
+/// A mutex of a number, borrowed or owned.
 pub(crate) trait Form {
     /// Its guard in this form.
     type Guard: Drop;
@@ -20,19 +48,23 @@ pub(crate) trait Form {
     /// The lock, if it can be had at once.
     fn take(&self) -> Option<Self::Guard>;
 
+    /// The lock, for which the thread waits.
+    fn take_blocking(&self) -> Result<Self::Guard, Refusal>;
+
     /// A future of the lock.
     fn future(&self) -> Self::Future;
-}
 
-/// A mutex of a number, borrowed or owned.
-pub(crate) trait NumberForm: Form {
     /// The number that a guard reads.
     fn read(guard: &Self::Guard) -> u64;
 
     fn write(guard: &mut Self::Guard, number: u64);
 }
 
-impl<'a, T, R: Wait + Clock> Form for &'a Mutex<T, R> {
+impl<'a, T, R> Form for &'a Mutex<T, R>
+where
+    T: Number + Drop,
+    R: Wait + Clock + RandomSource + AllocGlobal,
+{
     type Guard = MutexGuard<'a, T, R>;
 
     type Future = Settled<Lock<'a, T, R>>;
@@ -41,22 +73,28 @@ impl<'a, T, R: Wait + Clock> Form for &'a Mutex<T, R> {
         Mutex::try_lock(*self)
     }
 
+    fn take_blocking(&self) -> Result<MutexGuard<'a, T, R>, Refusal> {
+        Mutex::lock_blocking(*self)
+    }
+
     fn future(&self) -> Settled<Lock<'a, T, R>> {
         Settled(Mutex::lock(*self))
     }
-}
 
-impl<'a, R: Wait + Clock> NumberForm for &'a Mutex<u64, R> {
-    fn read(guard: &MutexGuard<'a, u64, R>) -> u64 {
-        **guard
+    fn read(guard: &MutexGuard<'a, T, R>) -> u64 {
+        guard.number()
     }
 
-    fn write(guard: &mut MutexGuard<'a, u64, R>, number: u64) {
-        **guard = number;
+    fn write(guard: &mut MutexGuard<'a, T, R>, number: u64) {
+        guard.set_number(number);
     }
 }
 
-impl<T: Drop, R: Wait + Clock + Drop> Form for Arc<Mutex<T, R>> {
+impl<T, R> Form for Arc<Mutex<T, R>>
+where
+    T: Number + Drop,
+    R: Wait + Clock + RandomSource + AllocGlobal + Drop,
+{
     type Guard = MutexGuardArc<T, R>;
 
     type Future = Settled<LockArc<T, R>>;
@@ -65,18 +103,20 @@ impl<T: Drop, R: Wait + Clock + Drop> Form for Arc<Mutex<T, R>> {
         Mutex::try_lock_arc(self)
     }
 
+    fn take_blocking(&self) -> Result<MutexGuardArc<T, R>, Refusal> {
+        Mutex::lock_arc_blocking(self)
+    }
+
     fn future(&self) -> Settled<LockArc<T, R>> {
         Settled(Mutex::lock_arc(self))
     }
-}
 
-impl<R: Wait + Clock + Drop> NumberForm for Arc<Mutex<u64, R>> {
-    fn read(guard: &MutexGuardArc<u64, R>) -> u64 {
-        **guard
+    fn read(guard: &MutexGuardArc<T, R>) -> u64 {
+        guard.number()
     }
 
-    fn write(guard: &mut MutexGuardArc<u64, R>, number: u64) {
-        **guard = number;
+    fn write(guard: &mut MutexGuardArc<T, R>, number: u64) {
+        guard.set_number(number);
     }
 }
 
@@ -90,21 +130,28 @@ where
 }
 
 /// Whether the lock can be had at once. It is given back.
-pub(crate) fn is_free<L: Form>(lock: &L) -> bool {
-    lock.take().is_some()
-}
-
-/// The number, if the lock can be had at once.
-pub(crate) fn number_in<L: NumberForm>(lock: &L) -> Option<u64> {
-    lock.take().map(|guard| L::read(&guard))
-}
-
-/// As [`is_free`], of a mutex and not of a form, which is less to prove at each call.
 pub(crate) fn can_be_had<T, R: Wait>(mutex: &Mutex<T, R>) -> bool {
     mutex.try_lock().is_some()
 }
 
-/// As [`number_in`], of a mutex.
+/// The number, if the lock can be had at once.
 pub(crate) fn number_of<R: Wait>(mutex: &Mutex<u64, R>) -> Option<u64> {
-    mutex.try_lock().map(|guard| *guard)
+    let guard = mutex.try_lock()?;
+    Some(*guard)
+}
+
+/// The number, once the lock is had.
+pub(crate) fn read_blocking<L: Form>(lock: &L) -> Option<u64> {
+    let guard = lock.take_blocking().ok()?;
+    Some(L::read(&guard))
+}
+
+/// Adds one under the lock, and says whether it could. Where memory was refused, it couldn't.
+pub(crate) fn add_one<L: Form>(_lock: &L, guard: Result<L::Guard, Refusal>) -> bool {
+    let Ok(mut guard) = guard else {
+        return false;
+    };
+    let number = L::read(&guard);
+    L::write(&mut guard, number.saturating_add(1));
+    true
 }

@@ -1,154 +1,116 @@
 //! The tests of the Rust crate's mutex, under their names.
 
-use crate::forms::Form;
-use crate::polls::{is_pending, ready, task};
+use crate::forms::{Form, add_one, read_blocking};
+use crate::polls::{Name, Waiter};
 use crate::same::assert_same;
-use async_lock::{Mutex, Settled};
-use futures::executor::block_on;
-use futures::test::MockTask;
-use std::process::Abort;
-use std::sync::Arc;
-use std::test::Fail;
+use crate::stories::{Answer, Deed, NOBODY, ONE, POLL_ONE, Row, of_borrowed, of_owned};
+use async_lock::Mutex;
+use std::alloc::AllocGlobal;
+use std::random::RandomSource;
+use std::sync::Wait;
 use std::thread;
 
+const SMOKE: [Row; 4] = [
+    (Deed::Wait, Answer::Got(0), NOBODY),
+    (Deed::GiveBack, Answer::Done, NOBODY),
+    (Deed::Wait, Answer::Got(0), NOBODY),
+    (Deed::GiveBack, Answer::Done, NOBODY),
+];
+
 #[test]
-fn smoke(rt: HostRuntime) -> Result<(), Fail> {
-    let Ok(mutex) = Mutex::new(rt, ()) else {
-        return Ok(());
-    };
-    let mut had = 0u32;
-    for _ in 0..3u32 {
-        if let Ok(Ok(guard)) = block_on(&rt, Settled(mutex.lock())) {
-            had = had.saturating_add(1);
-            drop(guard);
-        }
-    }
-    // Where one allocation failed, one of them was refused.
-    assert!(rt; had >= 2);
-    Ok(())
+fn smoke(rt: HostRuntime) {
+    of_borrowed(rt, (), &SMOKE);
+}
+
+const SMOKE_BLOCKING: [Row; 4] = [
+    (Deed::Block, Answer::Got(0), NOBODY),
+    (Deed::GiveBack, Answer::Done, NOBODY),
+    (Deed::Block, Answer::Got(0), NOBODY),
+    (Deed::GiveBack, Answer::Done, NOBODY),
+];
+
+#[test]
+fn smoke_blocking(rt: HostRuntime) {
+    of_borrowed(rt, (), &SMOKE_BLOCKING);
 }
 
 #[test]
-fn smoke_blocking(rt: HostRuntime) -> Result<(), Fail> {
-    let Ok(mutex) = Mutex::new(rt, ()) else {
-        return Ok(());
-    };
-    let first = mutex.lock_blocking();
-    assert!(rt; first.is_ok());
-    drop(first);
-    let second = mutex.lock_blocking();
-    assert!(rt; second.is_ok());
-    drop(second);
-    Ok(())
+fn smoke_arc_blocking(rt: HostRuntime) {
+    of_owned(rt, (), &SMOKE_BLOCKING);
+}
+
+const TRY_LOCK: [Row; 2] = [
+    (Deed::Take, Answer::Got(0), NOBODY),
+    (Deed::Add, Answer::Got(0), NOBODY),
+];
+
+#[test]
+fn try_lock(rt: HostRuntime) {
+    of_borrowed(rt, (), &TRY_LOCK);
 }
 
 #[test]
-fn smoke_arc_blocking(rt: HostRuntime) -> Result<(), Fail> {
-    let Ok(mutex) = Mutex::new(rt, ()) else {
-        return Ok(());
-    };
-    let Ok(mutex) = Arc::new(rt.alloc(), mutex) else {
-        return Ok(());
-    };
-    let first = Mutex::lock_arc_blocking(&mutex);
-    assert!(rt; first.is_ok());
-    drop(first);
-    let second = Mutex::lock_arc_blocking(&mutex);
-    assert!(rt; second.is_ok());
-    drop(second);
-    Ok(())
-}
-
-#[test]
-fn try_lock(rt: HostRuntime) -> Result<(), Fail> {
-    let Ok(mutex) = Mutex::new(rt, ()) else {
-        return Ok(());
-    };
-    let Some(mut guard) = mutex.try_lock() else {
-        panic!(rt; "the lock is free");
-    };
-    *guard = ();
-    Ok(())
-}
-
-#[test]
-fn into_inner(rt: HostRuntime) -> Result<(), Fail> {
+fn into_inner(rt: HostRuntime) {
     let Ok(mutex) = Mutex::new(rt, 10i32) else {
-        return Ok(());
+        return;
     };
     assert_same(&rt, mutex.into_inner(), 10);
-    Ok(())
 }
 
 #[test]
-fn get_mut(rt: HostRuntime) -> Result<(), Fail> {
+fn get_mut(rt: HostRuntime) {
     let Ok(mut mutex) = Mutex::new(rt, 10i32) else {
-        return Ok(());
+        return;
     };
     *mutex.get_mut() = 20;
     assert_same(&rt, mutex.into_inner(), 20);
-    Ok(())
 }
 
-#[test]
-fn contention(rt: HostRuntime) -> Result<(), Fail> {
-    let Ok(mutex) = Mutex::new(rt, 0i32) else {
-        return Ok(());
-    };
-    let add = || {
-        let mut added = 0u32;
-        // One refusal for memory more than there are rounds.
-        for _ in 0..51u32 {
-            if added < 50
-                && let Ok(Ok(mut guard)) = block_on(&rt, Settled(mutex.lock()))
-            {
-                *guard = guard.saturating_add(1);
-                added += 1;
-            }
+// Adds one fifty times, each time by a future that the thread waits for.
+fn add_fifty<L: Form, R>(rt: &R, lock: &L)
+where
+    R: Wait + RandomSource + AllocGlobal,
+{
+    let mut added = 0u32;
+    // One refusal for memory more than there are rounds.
+    for _ in 0..51u32 {
+        if added < 50 && add_one(lock, lock.future().wait(rt)) {
+            added += 1;
         }
-    };
-    thread::join(&rt, &add, &add);
-    let sum = mutex.lock_blocking().map(|guard| *guard).ok();
-    assert_same(&rt, sum, Some(100));
-    Ok(())
+    }
 }
 
 #[test]
-fn lifetime(rt: HostRuntime) -> Result<(), Fail> {
-    let Ok(mutex) = Mutex::new(rt, 0i32) else {
-        return Ok(());
+fn contention(rt: HostRuntime) {
+    let Ok(mutex) = Mutex::new(rt, 0u64) else {
+        return;
     };
-    // The future keeps the mutex alive.
-    let _future = {
-        let Ok(mutex) = Arc::new(rt.alloc(), mutex) else {
-            return Ok(());
-        };
-        Mutex::lock_arc(&mutex)
-    };
-    Ok(())
+    let add = || add_fifty(&rt, &&mutex);
+    thread::join(&rt, &add, &add);
+    assert_same(&rt, read_blocking(&&mutex), Some(100));
 }
 
-fn yields<L: Form, R: Abort>(rt: &R, lock: &L, task: &MockTask) {
-    let held = lock.take();
-    assert!(rt; held.is_some());
-    let mut future = lock.future();
-    assert!(rt; is_pending(task, &mut future));
-    assert!(rt; !task.is_woken());
-    drop(held);
-    assert!(rt; task.is_woken());
-    assert!(rt; ready(task, &mut future).is_some());
+// The future keeps the mutex alive.
+const LIFETIME: [Row; 2] = [
+    (Deed::Ask(Name::One), Answer::Done, NOBODY),
+    (Deed::Leave, Answer::Done, NOBODY),
+];
+
+#[test]
+fn lifetime(rt: HostRuntime) {
+    of_owned(rt, 0u64, &LIFETIME);
 }
+
+const YIELDS: [Row; 5] = [
+    (Deed::Take, Answer::Got(0), NOBODY),
+    (Deed::Ask(Name::One), Answer::Done, NOBODY),
+    (POLL_ONE, Answer::Pending, NOBODY),
+    (Deed::GiveBack, Answer::Done, ONE),
+    (POLL_ONE, Answer::Got(0), NOBODY),
+];
 
 #[test]
 fn yields_when_contended(rt: HostRuntime) {
-    let Some(task) = task(&rt) else {
-        return;
-    };
-    let Ok(mutex) = Mutex::new(rt, ()) else {
-        return;
-    };
-    yields(&rt, &&mutex, &task);
-    if let Ok(mutex) = Arc::new(rt.alloc(), mutex) {
-        yields(&rt, &mutex, &task);
-    }
+    of_borrowed(rt, (), &YIELDS);
+    of_owned(rt, (), &YIELDS);
 }

@@ -2,44 +2,73 @@
 
 use async_lock::lock_futures::{Lock, LockArc};
 use async_lock::{MutexGuard, MutexGuardArc, Refusal, Settled, Turn};
+use futures::executor::block_on;
 use futures::task::Poll;
 use futures::test::MockTask;
 use std::alloc::AllocGlobal;
+use std::io;
 use std::random::RandomSource;
 use std::sync::Wait;
 use std::time::Clock;
 
-/// A task; none where memory is refused.
-pub(crate) fn task<R: RandomSource + AllocGlobal>(rt: &R) -> Option<MockTask> {
-    MockTask::new(rt).ok()
+/// Names a task or a future.
+#[derive(Clone, Copy)]
+pub(crate) enum Name {
+    One,
+    Two,
+    Three,
 }
 
 /// Three tasks.
 pub(crate) struct Tasks {
-    pub(crate) first: MockTask,
-    pub(crate) second: MockTask,
-    pub(crate) third: MockTask,
+    one: MockTask,
+    two: MockTask,
+    three: MockTask,
 }
 
 // By hand, so that a drop is one call to prove, and not all of its parts again.
 impl Drop for Tasks {
     fn drop(self) {
         let Tasks {
-            first: _,
-            second: _,
-            third: _,
+            one: _,
+            two: _,
+            three: _,
         } = self;
     }
+}
+
+// A task that counts as not woken before its first poll; none where memory is refused.
+fn task<R: RandomSource + AllocGlobal>(rt: &R) -> Option<MockTask> {
+    let task = MockTask::new(rt).ok()?;
+    task.enter(|_| ());
+    Some(task)
 }
 
 impl Tasks {
     /// None where memory is refused.
     pub(crate) fn new<R: RandomSource + AllocGlobal>(rt: &R) -> Option<Tasks> {
         Some(Tasks {
-            first: task(rt)?,
-            second: task(rt)?,
-            third: task(rt)?,
+            one: task(rt)?,
+            two: task(rt)?,
+            three: task(rt)?,
         })
+    }
+
+    pub(crate) fn of(&self, name: Name) -> &MockTask {
+        match name {
+            Name::One => &self.one,
+            Name::Two => &self.two,
+            Name::Three => &self.three,
+        }
+    }
+
+    /// Whether each was woken since it was last polled.
+    pub(crate) fn woken(&self) -> (bool, bool, bool) {
+        (
+            self.one.is_woken(),
+            self.two.is_woken(),
+            self.three.is_woken(),
+        )
     }
 }
 
@@ -48,19 +77,32 @@ pub(crate) trait Waiter: Drop {
     /// What it waits for.
     type Guard: Drop;
 
-    /// One poll. Where memory is refused, one more: a refused future is as when it was made.
+    /// One poll.
     fn poll_by(&mut self, task: &MockTask) -> Turn<Self::Guard>;
+
+    /// One poll by the context of a task, past [`Settled`]. A guard is dropped.
+    fn turn_by(&mut self, task: &MockTask) -> Turn<()>;
+
+    /// What the thread gets that waits for it.
+    fn wait<Q: Wait + RandomSource + AllocGlobal>(self, rt: &Q) -> Result<Self::Guard, Refusal>;
 }
 
 impl<'a, T, R: Wait + Clock> Waiter for Settled<Lock<'a, T, R>> {
     type Guard = MutexGuard<'a, T, R>;
 
     fn poll_by(&mut self, task: &MockTask) -> Turn<MutexGuard<'a, T, R>> {
-        let mut polled = task.poll(self);
-        if matches!(polled, Poll::Ready(Err(Refusal::Memory))) {
-            polled = task.poll(self);
-        }
-        turn_of(polled)
+        turn_of(task.poll(self))
+    }
+
+    fn turn_by(&mut self, task: &MockTask) -> Turn<()> {
+        turn(task, &mut self.0)
+    }
+
+    fn wait<Q>(self, rt: &Q) -> Result<MutexGuard<'a, T, R>, Refusal>
+    where
+        Q: Wait + RandomSource + AllocGlobal,
+    {
+        settled(block_on(rt, self))
     }
 }
 
@@ -68,12 +110,40 @@ impl<T: Drop, R: Wait + Clock + Drop> Waiter for Settled<LockArc<T, R>> {
     type Guard = MutexGuardArc<T, R>;
 
     fn poll_by(&mut self, task: &MockTask) -> Turn<MutexGuardArc<T, R>> {
-        let mut polled = task.poll(self);
-        if matches!(polled, Poll::Ready(Err(Refusal::Memory))) {
-            polled = task.poll(self);
-        }
-        turn_of(polled)
+        turn_of(task.poll(self))
     }
+
+    fn turn_by(&mut self, task: &MockTask) -> Turn<()> {
+        turn_arc(task, &mut self.0)
+    }
+
+    fn wait<Q>(self, rt: &Q) -> Result<MutexGuardArc<T, R>, Refusal>
+    where
+        Q: Wait + RandomSource + AllocGlobal,
+    {
+        settled(block_on(rt, self))
+    }
+}
+
+// A turn without its guard, which is dropped.
+fn without_guard<G: Drop>(turn: Turn<G>) -> Turn<()> {
+    match turn {
+        Turn::Pending => Turn::Pending,
+        Turn::Ready(_) => Turn::Ready(()),
+        Turn::Refused(refusal) => Turn::Refused(refusal),
+    }
+}
+
+fn turn<T, R: Wait + Clock>(task: &MockTask, future: &mut Lock<'_, T, R>) -> Turn<()> {
+    task.enter(|cx| without_guard(future.poll(cx)))
+}
+
+fn turn_arc<T, R>(task: &MockTask, future: &mut LockArc<T, R>) -> Turn<()>
+where
+    T: Drop,
+    R: Wait + Clock + Drop,
+{
+    task.enter(|cx| without_guard(future.poll(cx)))
 }
 
 // What a poll answers.
@@ -85,23 +155,18 @@ fn turn_of<G>(polled: Poll<Result<G, Refusal>>) -> Turn<G> {
     }
 }
 
-/// Whether this poll is pending.
-pub(crate) fn is_pending<W: Waiter>(task: &MockTask, future: &mut W) -> bool {
-    matches!(future.poll_by(task), Turn::Pending)
-}
-
-/// The guard, if this poll is ready.
-pub(crate) fn ready<W: Waiter>(task: &MockTask, future: &mut W) -> Option<W::Guard> {
-    match future.poll_by(task) {
-        Turn::Ready(guard) => Some(guard),
-        Turn::Pending | Turn::Refused(_) => None,
+// What a thread got that waited. Any error of `block_on` is taken for a refusal of memory.
+fn settled<G: Drop>(got: io::Result<Result<G, Refusal>>) -> Result<G, Refusal> {
+    match got {
+        Ok(got) => got,
+        Err(_) => Err(Refusal::Memory),
     }
 }
 
-/// The refusal, if this poll is refused.
-pub(crate) fn refused<W: Waiter>(task: &MockTask, future: &mut W) -> Option<Refusal> {
+/// One poll. Where memory is refused, one more: a refused future is as when it was made.
+pub(crate) fn poll_again<W: Waiter>(task: &MockTask, future: &mut W) -> Turn<W::Guard> {
     match future.poll_by(task) {
-        Turn::Refused(refusal) => Some(refusal),
-        Turn::Pending | Turn::Ready(_) => None,
+        Turn::Refused(Refusal::Memory) => future.poll_by(task),
+        turn => turn,
     }
 }

@@ -1,183 +1,164 @@
 //! A mutex's rounds: taken, written, given back and taken again, with whoever waits told.
 
-use crate::forms::{NumberForm, can_be_had, is_free, number_in, owned};
-use crate::polls::{Tasks, is_pending, ready, refused, task};
+use crate::forms::{Form, can_be_had, owned};
+use crate::polls::Name;
 use crate::same::assert_same;
-use crate::stories::{Story, of_borrowed, of_owned};
+use crate::stories::{
+    Answer, BOTH, Deed, NOBODY, ONE, POLL_ONE, POLL_TWO, Props, Row, Scene, TWO, of_borrowed,
+    of_owned,
+};
 use async_lock::{Mutex, MutexGuard, MutexGuardArc, Refusal};
-use futures::test::MockTask;
+use std::alloc::AllocGlobal;
 use std::process::Abort;
+use std::random::RandomSource;
 use std::sync::{Arc, Wait};
 
-struct Writes;
-
-impl Story for Writes {
-    fn tell<L: NumberForm, R: Abort>(&self, rt: &R, lock: &L, tasks: &Tasks) {
-        let mut future = lock.future();
-        let Some(mut guard) = ready(&tasks.first, &mut future) else {
-            panic!(rt; "the lock is free");
-        };
-        assert_same(rt, L::read(&guard), 1);
-        L::write(&mut guard, 2);
-        assert!(rt; !is_free(lock));
-        drop(guard);
-        assert_same(rt, number_in(lock), Some(2));
-    }
-}
+const WRITES: [Row; 7] = [
+    (Deed::Ask(Name::One), Answer::Done, NOBODY),
+    (POLL_ONE, Answer::Got(1), NOBODY),
+    (Deed::Add, Answer::Got(2), NOBODY),
+    (Deed::Look, Answer::Nothing, NOBODY),
+    (Deed::GiveBack, Answer::Done, NOBODY),
+    (Deed::Look, Answer::Got(2), NOBODY),
+    (Deed::Cancel(Name::One), Answer::Done, NOBODY),
+];
 
 #[test]
 fn what_is_written_is_read_by_the_next(rt: HostRuntime) {
-    of_borrowed(rt, 1, &Writes);
+    of_borrowed(rt, 1u64, &WRITES);
 }
 
 #[test]
 fn what_is_written_is_read_by_the_next_owner(rt: HostRuntime) {
-    of_owned(rt, 1, &Writes);
+    of_owned(rt, 1u64, &WRITES);
 }
 
-struct WaitsAndIsOver;
-
-impl Story for WaitsAndIsOver {
-    fn tell<L: NumberForm, R: Abort>(&self, rt: &R, lock: &L, tasks: &Tasks) {
-        let held = lock.take();
-        assert!(rt; held.is_some());
-        let mut future = lock.future();
-        assert!(rt; is_pending(&tasks.first, &mut future));
-        // Polled again by the same task while it waits: its waker stays, and wakes nobody.
-        assert!(rt; is_pending(&tasks.first, &mut future) && !tasks.first.is_woken());
-        drop(held);
-        assert!(rt; tasks.first.is_woken());
-        let guard = ready(&tasks.first, &mut future);
-        assert!(rt; guard.is_some() && !tasks.first.is_woken());
-        // It was ready: another poll is refused, and wakes nobody.
-        let mut next = lock.future();
-        assert!(rt; is_pending(&tasks.second, &mut next));
-        assert_same(
-            rt,
-            refused(&tasks.third, &mut future),
-            Some(Refusal::Finished),
-        );
-        assert!(rt; !tasks.third.is_woken() && !tasks.first.is_woken() && !tasks.second.is_woken());
-        // Dropped, it changes nothing: the lock is held, and the next one waits and is told.
-        drop(future);
-        assert!(rt; !is_free(lock) && !tasks.second.is_woken());
-        drop(guard);
-        assert!(rt; tasks.second.is_woken());
-        assert!(rt; ready(&tasks.second, &mut next).is_some());
-    }
-}
+const WAITS_AND_IS_OVER: [Row; 14] = [
+    (Deed::Take, Answer::Got(1), NOBODY),
+    (Deed::Ask(Name::One), Answer::Done, NOBODY),
+    (POLL_ONE, Answer::Pending, NOBODY),
+    // Polled again by the same task while it waits: its waker stays, and wakes nobody.
+    (POLL_ONE, Answer::Pending, NOBODY),
+    (Deed::GiveBack, Answer::Done, ONE),
+    (POLL_ONE, Answer::Got(1), NOBODY),
+    // It was ready: another poll is refused, and wakes nobody.
+    (Deed::Ask(Name::Two), Answer::Done, NOBODY),
+    (POLL_TWO, Answer::Pending, NOBODY),
+    (
+        Deed::Poll(Name::One, Name::Three),
+        Answer::Refused(Refusal::Finished),
+        NOBODY,
+    ),
+    // Dropped, it changes nothing: the lock is held, and the next one waits and is told.
+    (Deed::Cancel(Name::One), Answer::Done, NOBODY),
+    (Deed::Look, Answer::Nothing, NOBODY),
+    (Deed::GiveBack, Answer::Done, TWO),
+    (POLL_TWO, Answer::Got(1), NOBODY),
+    (Deed::GiveBack, Answer::Done, NOBODY),
+];
 
 #[test]
 fn a_waiting_future_is_woken_takes_the_lock_and_is_over(rt: HostRuntime) {
-    of_borrowed(rt, 1, &WaitsAndIsOver);
+    of_borrowed(rt, 1u64, &WAITS_AND_IS_OVER);
 }
 
 #[test]
 fn a_waiting_owned_future_is_woken_takes_the_lock_and_is_over(rt: HostRuntime) {
-    of_owned(rt, 1, &WaitsAndIsOver);
+    of_owned(rt, 1u64, &WAITS_AND_IS_OVER);
 }
 
-struct MovesToAnotherTask;
-
-impl Story for MovesToAnotherTask {
-    fn tell<L: NumberForm, R: Abort>(&self, rt: &R, lock: &L, tasks: &Tasks) {
-        let held = lock.take();
-        let mut future = lock.future();
-        assert!(rt; is_pending(&tasks.first, &mut future));
-        assert!(rt; is_pending(&tasks.second, &mut future) && !tasks.second.is_woken());
-        drop(held);
-        assert!(rt; tasks.second.is_woken());
-        assert!(rt; ready(&tasks.second, &mut future).is_some());
-    }
-}
+const MOVES_TO_ANOTHER_TASK: [Row; 6] = [
+    (Deed::Take, Answer::Got(1), NOBODY),
+    (Deed::Ask(Name::One), Answer::Done, NOBODY),
+    (POLL_ONE, Answer::Pending, NOBODY),
+    // The waker that is replaced wakes the first task as it is dropped.
+    (Deed::Poll(Name::One, Name::Two), Answer::Pending, ONE),
+    (Deed::GiveBack, Answer::Done, BOTH),
+    (Deed::Poll(Name::One, Name::Two), Answer::Got(1), ONE),
+];
 
 #[test]
 fn a_future_that_moved_to_another_task_wakes_that_one(rt: HostRuntime) {
-    of_borrowed(rt, 1, &MovesToAnotherTask);
+    of_borrowed(rt, 1u64, &MOVES_TO_ANOTHER_TASK);
 }
 
-struct GoesFromHandToHand;
+// A round of a held lock: one is told at a time, the first that came, and adds one; the second then holds the lock.
+fn round(number: u64) -> [Row; 9] {
+    let next = number.saturating_add(1);
+    [
+        (Deed::Ask(Name::One), Answer::Done, NOBODY),
+        (Deed::Ask(Name::Two), Answer::Done, NOBODY),
+        (POLL_ONE, Answer::Pending, NOBODY),
+        (POLL_TWO, Answer::Pending, NOBODY),
+        (Deed::GiveBack, Answer::Done, ONE),
+        (POLL_ONE, Answer::Got(number), NOBODY),
+        (Deed::Add, Answer::Got(next), NOBODY),
+        (Deed::GiveBack, Answer::Done, TWO),
+        (POLL_TWO, Answer::Got(next), NOBODY),
+    ]
+}
 
-impl Story for GoesFromHandToHand {
-    fn tell<L: NumberForm, R: Abort>(&self, rt: &R, lock: &L, tasks: &Tasks) {
-        let mut held = lock.take();
-        for round in 0..10u64 {
-            let (mut one, mut two) = (lock.future(), lock.future());
-            assert!(rt; is_pending(&tasks.first, &mut one));
-            assert!(rt; is_pending(&tasks.second, &mut two));
-            drop(held);
-            // One is told at a time, the first that came.
-            assert!(rt; tasks.first.is_woken() && !tasks.second.is_woken());
-            let Some(mut guard) = ready(&tasks.first, &mut one) else {
-                panic!(rt; "the lock is free");
-            };
-            let number = L::read(&guard);
-            L::write(&mut guard, number.saturating_add(1));
-            drop(guard);
-            assert!(rt; tasks.second.is_woken());
-            held = ready(&tasks.second, &mut two);
-            assert_same(
-                rt,
-                held.as_ref().map(|guard| L::read(guard)),
-                Some(round + 1),
-            );
-        }
+// It is not done where memory is refused.
+fn ten_rounds<L: Form + Drop, R>(rt: &R, lock: L)
+where
+    R: Wait + RandomSource + AllocGlobal + Abort,
+{
+    let Some(props) = Props::new(rt) else {
+        return;
+    };
+    let mut scene = Scene::new(lock);
+    scene.play(rt, &props, &[(Deed::Take, Answer::Got(0), NOBODY)]);
+    for number in 0..10u64 {
+        scene.play(rt, &props, &round(number));
     }
 }
 
 #[test]
 fn a_lock_goes_from_hand_to_hand_in_order(rt: HostRuntime) {
-    of_borrowed(rt, 0, &GoesFromHandToHand);
+    if let Ok(mutex) = Mutex::new(rt, 0u64) {
+        ten_rounds(&rt, &mutex);
+    }
 }
 
 // Whether a guard's source can be had while the guard is there, and after.
-fn source_can_be_had<T, R: Wait>(guard: MutexGuard<'_, T, R>) -> (bool, bool) {
+fn source_can_be_had<T, R: Wait>(mutex: &Mutex<T, R>) -> Option<(bool, bool)> {
+    let guard = mutex.try_lock()?;
     let source = MutexGuard::source(&guard);
     let before = can_be_had(source);
     drop(guard);
-    (before, can_be_had(source))
+    Some((before, can_be_had(source)))
 }
 
 // Whether an owned guard's source can be had. The source is there no longer than the guard.
-fn owned_source_can_be_had<T: Drop, R: Wait + Drop>(guard: &MutexGuardArc<T, R>) -> bool {
-    can_be_had(MutexGuardArc::source(guard))
+fn owned_source_can_be_had<T: Drop, R: Wait + Drop>(mutex: &Arc<Mutex<T, R>>) -> Option<bool> {
+    let guard = Mutex::try_lock_arc(mutex)?;
+    Some(can_be_had(&**MutexGuardArc::source(&guard)))
 }
 
 #[test]
 fn a_guards_source_is_its_mutex(rt: HostRuntime) {
-    let Ok(mutex) = Mutex::new(rt, 1u64) else {
+    let Some(mutex) = owned(rt, 1u64) else {
         return;
     };
-    let found = mutex.try_lock().map(|guard| source_can_be_had(guard));
-    assert_same(&rt, found, Some((false, true)));
-    let Ok(mutex) = Arc::new(rt.alloc(), mutex) else {
-        return;
-    };
-    let found = Mutex::try_lock_arc(&mutex).map(|guard| owned_source_can_be_had(&guard));
-    assert_same(&rt, found, Some(false));
+    assert_same(&rt, source_can_be_had(&*mutex), Some((false, true)));
+    assert_same(&rt, owned_source_can_be_had(&mutex), Some(false));
     assert!(rt; can_be_had(&*mutex));
 }
 
-fn one_outlives_its_lock<L: NumberForm + Drop, R: Abort>(rt: &R, lock: L, task: &MockTask) {
-    let held = lock.take();
-    let mut future = lock.future();
-    let unpolled = lock.future();
-    assert!(rt; is_pending(task, &mut future));
-    drop(lock);
-    drop(held);
-    let guard = ready(task, &mut future);
-    assert_same(rt, guard.as_ref().map(|guard| L::read(guard)), Some(1));
-    drop(future);
-    drop(guard);
-    drop(unpolled);
-}
+const OUTLIVES_ITS_LOCK: [Row; 10] = [
+    (Deed::Take, Answer::Got(1), NOBODY),
+    (Deed::Ask(Name::One), Answer::Done, NOBODY),
+    (Deed::Ask(Name::Two), Answer::Done, NOBODY),
+    (POLL_ONE, Answer::Pending, NOBODY),
+    (Deed::Leave, Answer::Done, NOBODY),
+    (Deed::GiveBack, Answer::Done, ONE),
+    (POLL_ONE, Answer::Got(1), NOBODY),
+    (Deed::Cancel(Name::One), Answer::Done, NOBODY),
+    (Deed::GiveBack, Answer::Done, NOBODY),
+    (Deed::Cancel(Name::Two), Answer::Done, NOBODY),
+];
 
 #[test]
 fn an_owned_future_outlives_every_other_owner(rt: HostRuntime) {
-    let Some(task) = task(&rt) else {
-        return;
-    };
-    if let Some(mutex) = owned(rt, 1u64) {
-        one_outlives_its_lock(&rt, mutex, &task);
-    }
+    of_owned(rt, 1u64, &OUTLIVES_ITS_LOCK);
 }

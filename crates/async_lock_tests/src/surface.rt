@@ -1,13 +1,11 @@
 //! Each public call once, with its texts.
 
-use crate::forms::{Form, NumberForm, can_be_had, number_in, number_of};
-use crate::polls::ready;
+use crate::forms::can_be_had;
+use crate::polls::Name;
 use crate::same::assert_same;
-use async_lock::lock_futures::{Lock, LockArc};
-use async_lock::{Mutex, Refusal, Settled, Turn};
-use futures::executor::block_on;
-use futures::test::MockTask;
-use std::alloc::{AllocGlobal, Global};
+use crate::stories::{Answer, Deed, NOBODY, ONE, POLL_ONE, Row, of_borrowed, of_owned};
+use async_lock::{Mutex, Refusal};
+use std::alloc::AllocGlobal;
 use std::fmt;
 use std::process::Abort;
 use std::random::RandomSource;
@@ -25,59 +23,34 @@ fn fresh_arc<T: Drop, R: AllocGlobal + Abort + Copy + Drop>(rt: R, value: T) -> 
     Arc::new(rt.alloc(), fresh(rt, value)).expect(&rt, AMPLE)
 }
 
-fn text_of(rt: &(impl AllocGlobal + Abort), shown: &impl fmt::Debug) -> String {
-    format!(in rt.alloc(); "{shown:?}").expect(rt, AMPLE)
+// Compares how a value is shown.
+fn assert_text(rt: &(impl AllocGlobal + Abort), shown: &impl fmt::Debug, text: &str) {
+    let found = format!(in rt.alloc(); "{shown:?}").expect(rt, AMPLE);
+    assert_same(rt, found.as_str(), text);
 }
 
-// What a call in the blocking form reads.
-fn read_blocking<R>(mutex: &Mutex<u64, R>) -> Option<u64>
-where
-    R: Wait + Clock + RandomSource + AllocGlobal,
-{
-    mutex.lock_blocking().map(|guard| *guard).ok()
-}
-
-// As [`read_blocking`], of an owned guard.
-fn read_arc_blocking<R>(mutex: &Arc<Mutex<u64, R>>) -> Option<u64>
-where
-    R: Wait + Clock + RandomSource + AllocGlobal + Drop,
-{
-    Mutex::lock_arc_blocking(mutex).map(|guard| *guard).ok()
-}
-
-// What a future reads that a thread waits for.
-fn read_waiting<R>(rt: &R, mutex: &Mutex<u64, R>) -> Option<u64>
-where
-    R: Wait + Clock + RandomSource + AllocGlobal,
-{
-    let got = block_on(rt, Settled(mutex.lock())).ok()?;
-    got.map(|guard| *guard).ok()
-}
-
-// As [`read_waiting`], of an owned future.
-fn read_arc_waiting<R>(rt: &R, mutex: &Arc<Mutex<u64, R>>) -> Option<u64>
-where
-    R: Wait + Clock + RandomSource + AllocGlobal + Drop,
-{
-    let got = block_on(rt, Settled(Mutex::lock_arc(mutex))).ok()?;
-    got.map(|guard| *guard).ok()
-}
-
-// What a future reads that is ready at its first poll.
-fn read_polled<L: NumberForm>(task: &MockTask, lock: &L) -> Option<u64> {
-    ready(task, &mut lock.future()).map(|guard| L::read(&guard))
-}
+const EACH_CALL: [Row; 8] = [
+    (Deed::Take, Answer::Got(1), NOBODY),
+    (Deed::GiveBack, Answer::Done, NOBODY),
+    (Deed::Block, Answer::Got(1), NOBODY),
+    (Deed::GiveBack, Answer::Done, NOBODY),
+    (Deed::Wait, Answer::Got(1), NOBODY),
+    (Deed::GiveBack, Answer::Done, NOBODY),
+    (Deed::Ask(Name::One), Answer::Done, NOBODY),
+    (POLL_ONE, Answer::Got(1), NOBODY),
+];
 
 #[test]
 fn each_borrowed_call_succeeds(rt: HostRuntime) {
+    assert!(rt; of_borrowed(rt, 1u64, &EACH_CALL));
     let mut mutex = fresh(rt, 1u64);
-    assert_same(&rt, number_of(&mutex), Some(1));
-    assert_same(&rt, read_blocking(&mutex), Some(1));
-    assert_same(&rt, read_waiting(&rt, &mutex), Some(1));
-    let task = MockTask::new(&rt).expect(&rt, AMPLE);
-    assert_same(&rt, read_polled(&task, &&mutex), Some(1));
     *mutex.get_mut() = 2;
     assert_same(&rt, mutex.into_inner(), 2);
+}
+
+#[test]
+fn each_owned_call_succeeds(rt: HostRuntime) {
+    assert!(rt; of_owned(rt, 1u64, &EACH_CALL));
 }
 
 /// The example of the crate's page.
@@ -101,90 +74,52 @@ fn the_example_gives_what_was_written(rt: HostRuntime) {
 }
 
 #[test]
-fn each_owned_call_succeeds(rt: HostRuntime) {
-    let mutex = fresh_arc(rt, 1u64);
-    assert_same(&rt, number_in(&mutex), Some(1));
-    assert_same(&rt, read_arc_blocking(&mutex), Some(1));
-    assert_same(&rt, read_arc_waiting(&rt, &mutex), Some(1));
-}
-
-#[test]
 fn a_mutex_is_shown_with_its_value_or_as_locked(rt: HostRuntime) {
-    let mutex = fresh_arc(rt, 7u64);
-    let shared = &*mutex;
-    let free = text_of(&rt, shared);
-    assert_same(&rt, free.as_str(), "Mutex { data: 7 }");
-    let guard = shared.try_lock();
-    let held = text_of(&rt, shared);
-    assert_same(&rt, held.as_str(), "Mutex { data: <locked> }");
+    let mutex = fresh(rt, 7u64);
+    assert_text(&rt, &mutex, "Mutex { data: 7 }");
+    let guard = mutex.try_lock();
+    assert_text(&rt, &mutex, "Mutex { data: <locked> }");
     drop(guard);
 }
 
-// The texts of a guard.
-fn shown<L: Form>(alloc: Global, lock: &L) -> Option<String>
+// Compares both texts of a guard, which is dropped.
+fn assert_shown<G, R: AllocGlobal + Abort>(rt: &R, guard: Option<G>, text: &str)
 where
-    L::Guard: fmt::Debug + fmt::Display,
+    G: fmt::Debug + fmt::Display + Drop,
 {
-    let guard = lock.take()?;
-    format!(in alloc; "{guard:?} {guard}").ok()
+    let guard = guard.expect(rt, "the lock is free");
+    let found = format!(in rt.alloc(); "{guard:?} {guard}").expect(rt, AMPLE);
+    assert_same(rt, found.as_str(), text);
 }
 
 #[test]
 fn guards_are_shown_as_their_values(rt: HostRuntime) {
     let mutex = fresh_arc(rt, "a b");
-    let (borrowed, owned) = (shown(rt.alloc(), &&*mutex), shown(rt.alloc(), &mutex));
-    assert_same(&rt, borrowed.as_deref(), Some("\"a b\" a b"));
-    assert_same(&rt, owned.as_deref(), Some("\"a b\" a b"));
+    assert_shown(&rt, mutex.try_lock(), "\"a b\" a b");
+    assert_shown(&rt, Mutex::try_lock_arc(&mutex), "\"a b\" a b");
     assert!(rt; can_be_had(&*mutex));
 }
 
 #[test]
 fn futures_are_shown_by_their_names(rt: HostRuntime) {
     let mutex = fresh_arc(rt, 7u64);
-    let borrowed = mutex.lock();
-    let text = text_of(&rt, &borrowed);
-    assert_same(&rt, text.as_str(), "Lock { .. }");
-    let owned = Mutex::lock_arc(&mutex);
-    let text = text_of(&rt, &owned);
-    assert_same(&rt, text.as_str(), "LockArc { .. }");
+    assert_text(&rt, &mutex.lock(), "Lock { .. }");
+    assert_text(&rt, &Mutex::lock_arc(&mutex), "LockArc { .. }");
 }
 
-// A turn without its guard, which is dropped.
-fn without_guard<G: Drop>(turn: Turn<G>) -> Turn<()> {
-    match turn {
-        Turn::Pending => Turn::Pending,
-        Turn::Ready(_) => Turn::Ready(()),
-        Turn::Refused(refusal) => Turn::Refused(refusal),
-    }
-}
+const TURN_ONE: Deed = Deed::Turn(Name::One, Name::One);
 
-fn turn<R: Wait + Clock>(task: &MockTask, future: &mut Lock<'_, u64, R>) -> Turn<()> {
-    task.enter(|cx| without_guard(future.poll(cx)))
-}
-
-fn turn_arc<R: Wait + Clock + Drop>(task: &MockTask, future: &mut LockArc<u64, R>) -> Turn<()> {
-    task.enter(|cx| without_guard(future.poll(cx)))
-}
+const TURNS: [Row; 6] = [
+    (Deed::Take, Answer::Got(7), NOBODY),
+    (Deed::Ask(Name::One), Answer::Done, NOBODY),
+    (TURN_ONE, Answer::Pending, NOBODY),
+    (Deed::GiveBack, Answer::Done, ONE),
+    (TURN_ONE, Answer::Done, NOBODY),
+    (TURN_ONE, Answer::Refused(Refusal::Finished), NOBODY),
+];
 
 #[test]
 fn a_poll_by_a_context_answers_a_turn(rt: HostRuntime) {
-    let mutex = fresh_arc(rt, 7u64);
-    let task = MockTask::new(&rt).expect(&rt, AMPLE);
-    let held = mutex.try_lock();
-    let mut future = mutex.lock();
-    assert_same(&rt, turn(&task, &mut future), Turn::Pending);
-    drop(held);
-    assert_same(&rt, turn(&task, &mut future), Turn::Ready(()));
-    assert_same(
-        &rt,
-        turn(&task, &mut future),
-        Turn::Refused(Refusal::Finished),
-    );
-    let mut owned = Mutex::lock_arc(&mutex);
-    assert_same(&rt, turn_arc(&task, &mut owned), Turn::Ready(()));
-    assert_same(
-        &rt,
-        turn_arc(&task, &mut owned),
-        Turn::Refused(Refusal::Finished),
-    );
+    assert!(rt; of_borrowed(rt, 7u64, &TURNS));
+    assert!(rt; of_owned(rt, 7u64, &TURNS));
 }

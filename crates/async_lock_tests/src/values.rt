@@ -1,14 +1,17 @@
 //! The value: reached past forgotten guards, and dropped exactly once on every way out.
 
-use crate::forms::{Form, can_be_had, number_of, owned};
-use crate::polls::{is_pending, ready, task};
+use crate::forms::{Form, Number, number_of, owned};
+use crate::polls::Name;
 use crate::same::assert_same;
+use crate::stories::{Answer, Deed, NOBODY, ONE, POLL_ONE, Props, Row, play_borrowed, play_owned};
 use async_lock::Mutex;
-use futures::test::MockTask;
+use std::alloc::AllocGlobal;
 use std::mem;
 use std::process::Abort;
+use std::random::RandomSource;
+use std::sync::Wait;
 use std::sync::atomic::{AtomicU64, Ordering};
-use std::test::Fail;
+use std::time::Clock;
 
 /// A value whose drops are counted.
 struct Counted<'a> {
@@ -22,147 +25,159 @@ impl Drop for Counted<'_> {
     }
 }
 
-#[test]
-fn the_value_is_reached_past_a_forgotten_guard(rt: HostRuntime) -> Result<(), Fail> {
-    let Ok(mut mutex) = Mutex::new(rt, 10u64) else {
-        return Ok(());
-    };
-    *mutex.get_mut() = 20;
-    let Some(mut guard) = mutex.try_lock() else {
-        panic!(rt; "the lock is free");
-    };
-    assert_same(&rt, *guard, 20);
-    *guard = 30;
+impl<'a> Counted<'a> {
+    fn new(props: &'a Props) -> Counted<'a> {
+        Counted {
+            drops: &props.drops,
+        }
+    }
+}
+
+impl Number for Counted<'_> {
+    fn number(&self) -> u64 {
+        0
+    }
+
+    fn set_number(&mut self, _number: u64) {}
+}
+
+// What a guard reads, which then writes this number and is forgotten.
+fn write_and_forget<L: Form>(lock: &L, number: u64) -> Option<u64> {
+    let mut guard = lock.take()?;
+    let found = L::read(&guard);
+    L::write(&mut guard, number);
     mem::forget(guard);
-    assert_same(&rt, *mutex.get_mut(), 30);
-    // It stays held.
-    assert!(rt; !can_be_had(&mutex));
-    *mutex.get_mut() = 40;
-    assert!(rt; !can_be_had(&mutex));
-    assert_same(&rt, mutex.into_inner(), 40);
-    Ok(())
+    Some(found)
 }
 
 #[test]
-fn the_value_is_taken_out_past_a_forgotten_guard(rt: HostRuntime) -> Result<(), Fail> {
+fn the_value_is_reached_past_a_forgotten_guard(rt: HostRuntime) {
+    let Ok(mut mutex) = Mutex::new(rt, 10u64) else {
+        return;
+    };
+    *mutex.get_mut() = 20;
+    assert_same(&rt, write_and_forget(&&mutex, 30), Some(20));
+    assert_same(&rt, *mutex.get_mut(), 30);
+    // It stays held.
+    assert_same(&rt, number_of(&mutex), None);
+    *mutex.get_mut() = 40;
+    assert_same(&rt, number_of(&mutex), None);
+    assert_same(&rt, mutex.into_inner(), 40);
+}
+
+#[test]
+fn the_value_is_taken_out_past_a_forgotten_guard(rt: HostRuntime) {
     let Ok(mutex) = Mutex::new(rt, 10u64) else {
-        return Ok(());
+        return;
     };
     mem::forget(mutex.try_lock());
     assert_same(&rt, mutex.into_inner(), 10);
-    Ok(())
 }
 
-// A future waits for the lock, and is forgotten. The lock is free again.
-fn forget_a_waiter<L: Form, R: Abort>(rt: &R, lock: &L, task: &MockTask) {
-    let held = lock.take();
-    let mut future = lock.future();
-    assert!(rt; is_pending(task, &mut future));
-    mem::forget(future);
-    drop(held);
-}
+const FORGETS_A_WAITER: [Row; 5] = [
+    (Deed::Take, Answer::Got(10), NOBODY),
+    (Deed::Ask(Name::One), Answer::Done, NOBODY),
+    (POLL_ONE, Answer::Pending, NOBODY),
+    (Deed::Forget(Name::One), Answer::Done, NOBODY),
+    // It stands in the list, and is told in vain.
+    (Deed::GiveBack, Answer::Done, ONE),
+];
 
 #[test]
 fn the_value_is_lent_past_a_forgotten_waiter(rt: HostRuntime) {
-    let Some(task) = task(&rt) else {
-        return;
-    };
     let Ok(mut mutex) = Mutex::new(rt, 10u64) else {
         return;
     };
-    forget_a_waiter(&rt, &&mutex, &task);
+    let Some(props) = Props::new(&rt) else {
+        return;
+    };
+    play_borrowed(&rt, &mutex, &props, &FORGETS_A_WAITER);
     *mutex.get_mut() = 11;
     assert_same(&rt, number_of(&mutex), Some(11));
     assert_same(&rt, mutex.into_inner(), 11);
 }
 
-#[test]
-fn the_value_is_dropped_once_with_its_mutex(rt: HostRuntime) -> Result<(), Fail> {
-    let drops = AtomicU64::new(0);
-    let value = Counted { drops: &drops };
-    match Mutex::new(rt, value) {
-        Ok(mutex) => {
-            drop(mutex.try_lock());
-            drop(mutex.lock());
-            assert_same(&rt, drops.load(Ordering::SeqCst), 0);
-            drop(mutex);
-        }
-        // Refused, `new` drops it.
-        Err(_) => {}
+// Plays these rows round a borrowed mutex of a counted value, and asserts that the value is dropped once.
+fn dropped_once<R>(rt: R, rows: &[Row])
+where
+    R: Wait + Clock + RandomSource + AllocGlobal + Abort + Copy + Drop,
+{
+    let Some(props) = Props::new(&rt) else {
+        return;
+    };
+    // Where memory is refused, `new` drops it.
+    if let Ok(mutex) = Mutex::new(rt, Counted::new(&props)) {
+        play_borrowed(&rt, &mutex, &props, rows);
     }
-    assert_same(&rt, drops.load(Ordering::SeqCst), 1);
-    Ok(())
+    assert_same(&rt, props.drops(), 1);
 }
 
-fn dropped_with_the_last_guard<L: Form + Drop, R: Abort>(
-    rt: &R,
-    lock: L,
-    task: &MockTask,
-    drops: &AtomicU64,
-) {
-    let held = lock.take();
-    let mut future = lock.future();
-    drop(lock);
-    assert!(rt; is_pending(task, &mut future));
-    drop(held);
-    let guard = ready(task, &mut future);
-    assert!(rt; guard.is_some());
-    drop(future);
-    assert_same(rt, drops.load(Ordering::SeqCst), 0);
-    drop(guard);
-    assert_same(rt, drops.load(Ordering::SeqCst), 1);
+const IS_TRIED: [Row; 5] = [
+    (Deed::Take, Answer::Got(0), NOBODY),
+    (Deed::GiveBack, Answer::Done, NOBODY),
+    (Deed::Ask(Name::One), Answer::Done, NOBODY),
+    (Deed::Cancel(Name::One), Answer::Done, NOBODY),
+    (Deed::Count, Answer::Dropped(0), NOBODY),
+];
+
+#[test]
+fn the_value_is_dropped_once_with_its_mutex(rt: HostRuntime) {
+    dropped_once(rt, &IS_TRIED);
 }
+
+const WITH_THE_LAST_OWNER: [Row; 10] = [
+    (Deed::Take, Answer::Got(0), NOBODY),
+    (Deed::Ask(Name::One), Answer::Done, NOBODY),
+    (Deed::Leave, Answer::Done, NOBODY),
+    (POLL_ONE, Answer::Pending, NOBODY),
+    (Deed::GiveBack, Answer::Done, ONE),
+    (POLL_ONE, Answer::Got(0), NOBODY),
+    (Deed::Cancel(Name::One), Answer::Done, NOBODY),
+    (Deed::Count, Answer::Dropped(0), NOBODY),
+    (Deed::GiveBack, Answer::Done, NOBODY),
+    (Deed::Count, Answer::Dropped(1), NOBODY),
+];
 
 #[test]
 fn the_value_is_dropped_once_with_the_last_owner(rt: HostRuntime) {
-    let drops = AtomicU64::new(0);
-    let Some(task) = task(&rt) else {
+    let Some(props) = Props::new(&rt) else {
         return;
     };
     // Where memory is refused, the value is dropped too.
-    if let Some(mutex) = owned(rt, Counted { drops: &drops }) {
-        dropped_with_the_last_guard(&rt, mutex, &task, &drops);
+    if let Some(mutex) = owned(rt, Counted::new(&props)) {
+        play_owned(&rt, mutex, &props, &WITH_THE_LAST_OWNER);
     }
-    assert_same(&rt, drops.load(Ordering::SeqCst), 1);
+    assert_same(&rt, props.drops(), 1);
 }
 
 #[test]
-fn the_value_is_dropped_once_after_it_was_taken_out(rt: HostRuntime) -> Result<(), Fail> {
+fn the_value_is_dropped_once_after_it_was_taken_out(rt: HostRuntime) {
     let drops = AtomicU64::new(0);
-    let (first, second) = (Counted { drops: &drops }, Counted { drops: &drops });
-    let Ok(mut mutex) = Mutex::new(rt, first) else {
-        drop(second);
-        return Ok(());
+    let Ok(mut mutex) = Mutex::new(rt, Counted { drops: &drops }) else {
+        return;
     };
-    *mutex.get_mut() = second;
+    *mutex.get_mut() = Counted { drops: &drops };
     assert_same(&rt, drops.load(Ordering::SeqCst), 1);
     mem::forget(mutex.try_lock());
     let value = mutex.into_inner();
     assert_same(&rt, drops.load(Ordering::SeqCst), 1);
     drop(value);
     assert_same(&rt, drops.load(Ordering::SeqCst), 2);
-    Ok(())
 }
 
-fn one_is_cancelled<L: Form, R: Abort>(rt: &R, lock: &L, task: &MockTask, drops: &AtomicU64) {
-    let held = lock.take();
-    let mut future = lock.future();
-    assert!(rt; is_pending(task, &mut future));
-    drop(future);
-    drop(held);
-    let mut future = lock.future();
-    assert!(rt; ready(task, &mut future).is_some());
-    assert_same(rt, drops.load(Ordering::SeqCst), 0);
-}
+const IS_CANCELLED: [Row; 8] = [
+    (Deed::Take, Answer::Got(0), NOBODY),
+    (Deed::Ask(Name::One), Answer::Done, NOBODY),
+    (POLL_ONE, Answer::Pending, NOBODY),
+    // With its entry goes its waker, which wakes its own task.
+    (Deed::Cancel(Name::One), Answer::Done, ONE),
+    (Deed::GiveBack, Answer::Done, ONE),
+    (Deed::Ask(Name::One), Answer::Done, ONE),
+    (POLL_ONE, Answer::Got(0), NOBODY),
+    (Deed::Count, Answer::Dropped(0), NOBODY),
+];
 
 #[test]
 fn the_value_is_dropped_once_by_a_cancelled_future(rt: HostRuntime) {
-    let drops = AtomicU64::new(0);
-    let Some(task) = task(&rt) else {
-        return;
-    };
-    if let Ok(mutex) = Mutex::new(rt, Counted { drops: &drops }) {
-        one_is_cancelled(&rt, &&mutex, &task, &drops);
-    }
-    assert_same(&rt, drops.load(Ordering::SeqCst), 1);
+    dropped_once(rt, &IS_CANCELLED);
 }
