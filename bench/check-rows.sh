@@ -29,13 +29,12 @@ for script in scripts/*.script; do
         echo "$script: other answers" >&2
         exit 1
     fi
-    for text in "$script" "$answers"; do
-        literal=$(awk '{ printf "%s\\n", $0 }' "$text")
-        if ! grep -qF "\"$literal\"" "$rows"; then
-            echo "$text: not in $rows" >&2
-            exit 1
-        fi
-    done
+    name=${script#scripts/}
+    { printf '== %s\n' "${name%.script}"; cat "$script"; echo '=>'; cat "$answers"; } >>"$work/rows"
     count=$((count + 1))
 done
+if ! sed -n '/^pub const ROWS/,/^";/p' "$rows" | sed '1d;$d' | diff "$work/rows" - >&2; then
+    echo "$rows: other rows" >&2
+    exit 1
+fi
 echo "$count scripts give their answers"

@@ -76,12 +76,7 @@ fn write_both<O: Write>(first: &str, second: &str, output: &mut O) -> io::Result
 }
 
 /// Writes a number after two texts, as one line.
-fn write_number<O: Write>(
-    first: &str,
-    second: &str,
-    value: u64,
-    output: &mut O,
-) -> io::Result<()>
+fn write_number<O: Write>(first: &str, second: &str, value: u64, output: &mut O) -> io::Result<()>
     ensures { Prints (O.contents output.old) (O.contents output.new) result (first.now ++ (second.now ++ decimal value)) }
 {
     writeln!(output, "{first}{second}{value}")

@@ -14,7 +14,7 @@ use crate::line::{self, Words};
 use lock_world::{Call, Inputs, Made, What};
 
 /// What a line asks for.
-#[derive(Clone, Copy, Debug, PartialEq, Eq)]
+#[derive(Clone, Copy)]
 pub enum Command {
     /// A new World takes the place of any old one.
     New(Model),
@@ -23,7 +23,7 @@ pub enum Command {
 }
 
 /// A World to be made.
-#[derive(Clone, Copy, Debug, PartialEq, Eq)]
+#[derive(Clone, Copy)]
 pub enum Model {
     /// A mutex over this value, with so many parties, of which at most so many may be starved at a time:
     /// as many as a mutex allows, where no number is given.
@@ -64,7 +64,7 @@ pub enum Model {
 }
 
 /// What is asked of a World.
-#[derive(Clone, Copy, Debug, PartialEq, Eq)]
+#[derive(Clone, Copy)]
 pub enum Request {
     /// One move of this party, whose number may be past any table.
     Step {
