@@ -139,19 +139,3 @@ pub(crate) fn number_of<R: Wait>(mutex: &Mutex<u64, R>) -> Option<u64> {
     let guard = mutex.try_lock()?;
     Some(*guard)
 }
-
-/// The number, once the lock is had.
-pub(crate) fn read_blocking<L: Form>(lock: &L) -> Option<u64> {
-    let guard = lock.take_blocking().ok()?;
-    Some(L::read(&guard))
-}
-
-/// Adds one under the lock, and says whether it could. Where memory was refused, it couldn't.
-pub(crate) fn add_one<L: Form>(_lock: &L, guard: Result<L::Guard, Refusal>) -> bool {
-    let Ok(mut guard) = guard else {
-        return false;
-    };
-    let number = L::read(&guard);
-    L::write(&mut guard, number.saturating_add(1));
-    true
-}

@@ -1,14 +1,14 @@
 //! The tests of the Rust crate's mutex, under their names.
 
-use crate::forms::{Form, add_one, read_blocking};
 use crate::polls::{Name, Waiter};
 use crate::same::assert_same;
 use crate::stories::{Answer, Deed, NOBODY, ONE, POLL_ONE, Row, of_borrowed, of_owned};
-use async_lock::Mutex;
+use async_lock::{Mutex, Settled};
 use std::alloc::AllocGlobal;
 use std::random::RandomSource;
 use std::sync::Wait;
 use std::thread;
+use std::time::Clock;
 
 const SMOKE: [Row; 4] = [
     (Deed::Wait, Answer::Got(0), NOBODY),
@@ -66,18 +66,37 @@ fn get_mut(rt: HostRuntime) {
     assert_same(&rt, mutex.into_inner(), 20);
 }
 
-// Adds one fifty times, each time by a future that the thread waits for.
-fn add_fifty<L: Form, R>(rt: &R, lock: &L)
+// Adds one by a future that the thread waits for, and says whether it could.
+fn add_by_waiting<R>(mutex: &Mutex<u64, R>, rt: &R) -> bool
 where
-    R: Wait + RandomSource + AllocGlobal,
+    R: Wait + Clock + RandomSource + AllocGlobal,
+{
+    let Ok(mut guard) = Settled(mutex.lock()).wait(rt) else {
+        return false;
+    };
+    *guard = guard.saturating_add(1);
+    true
+}
+
+fn add_fifty<R>(mutex: &Mutex<u64, R>, rt: &R)
+where
+    R: Wait + Clock + RandomSource + AllocGlobal,
 {
     let mut added = 0u32;
     // One refusal for memory more than there are rounds.
     for _ in 0..51u32 {
-        if added < 50 && add_one(lock, lock.future().wait(rt)) {
+        if added < 50 && add_by_waiting(mutex, rt) {
             added += 1;
         }
     }
+}
+
+fn read_blocking<R>(mutex: &Mutex<u64, R>) -> Option<u64>
+where
+    R: Wait + Clock + RandomSource + AllocGlobal,
+{
+    let guard = mutex.lock_blocking().ok()?;
+    Some(*guard)
 }
 
 #[test]
@@ -85,9 +104,9 @@ fn contention(rt: HostRuntime) {
     let Ok(mutex) = Mutex::new(rt, 0u64) else {
         return;
     };
-    let add = || add_fifty(&rt, &&mutex);
+    let add = || add_fifty(&mutex, &rt);
     thread::join(&rt, &add, &add);
-    assert_same(&rt, read_blocking(&&mutex), Some(100));
+    assert_same(&rt, read_blocking(&mutex), Some(100));
 }
 
 // The future keeps the mutex alive.

@@ -1,6 +1,6 @@
 //! The value: reached past forgotten guards, and dropped exactly once on every way out.
 
-use crate::forms::{Form, Number, number_of, owned};
+use crate::forms::{Number, number_of, owned};
 use crate::polls::Name;
 use crate::same::assert_same;
 use crate::stories::{Answer, Deed, NOBODY, ONE, POLL_ONE, Props, Row, play_borrowed, play_owned};
@@ -42,10 +42,10 @@ impl Number for Counted<'_> {
 }
 
 // What a guard reads, which then writes this number and is forgotten.
-fn write_and_forget<L: Form>(lock: &L, number: u64) -> Option<u64> {
-    let mut guard = lock.take()?;
-    let found = L::read(&guard);
-    L::write(&mut guard, number);
+fn write_and_forget<R: Wait>(mutex: &Mutex<u64, R>, number: u64) -> Option<u64> {
+    let mut guard = mutex.try_lock()?;
+    let found = *guard;
+    *guard = number;
     mem::forget(guard);
     Some(found)
 }
@@ -56,7 +56,7 @@ fn the_value_is_reached_past_a_forgotten_guard(rt: HostRuntime) {
         return;
     };
     *mutex.get_mut() = 20;
-    assert_same(&rt, write_and_forget(&&mutex, 30), Some(20));
+    assert_same(&rt, write_and_forget(&mutex, 30), Some(20));
     assert_same(&rt, *mutex.get_mut(), 30);
     // It stays held.
     assert_same(&rt, number_of(&mutex), None);
