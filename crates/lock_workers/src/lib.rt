@@ -37,7 +37,7 @@ pub trait Gate {
 }
 
 /// What each worker does once it has passed the gate, with a `T` that it is given and hands back.
-pub trait Work<T> {
+trait Work<T> {
     /// The part of the worker of this number, from 0.
     fn work(&self, worker: u32, given: T) -> Result<T, Stopped>;
 }
@@ -53,7 +53,7 @@ fn part<T, W: Work<T>, G: Gate>(work: &W, gate: &G, worker: u32, given: T) -> Re
 ///
 /// [`Stopped::Thread`] comes where the system starts no thread, and [`Stopped::Memory`] where memory is refused
 /// for the lists of threads and results, or to a worker. The workers that were started end before it returns.
-pub fn in_threads<'x, T: Send + Drop, W: Work<T> + Sync, G: Gate + Sync, R: Threads + Wait + Sync>(
+fn in_threads<'x, T: Send + Drop, W: Work<T> + Sync, G: Gate + Sync, R: Threads + Wait + Sync>(
     rt: &'x R,
     alloc: Global,
     work: &'x W,
