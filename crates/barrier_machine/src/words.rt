@@ -1,7 +1,7 @@
 //! How far a barrier is, and the words that say so.
 
 ghost use Rattle.std.specs.Prelude.{◌≡◌, ◌+◌, ◌<◌};
-ghost use Rattle.barrier_machine.specs.Words.{FindsLook, FindsCheck, progress, with_progress, new_words};
+ghost use Rattle.barrier_machine.specs.Words.{FindsLook, FindsCheck, arrivals_at, progress, with_progress, new_words};
 
 use crate::program::Found;
 
@@ -11,6 +11,19 @@ use crate::program::Found;
 pub struct Progress {
     pub generation: u64,
     pub count: u64,
+}
+
+impl Progress {
+    /// The number of the arrival after which a barrier for so many parties is this far.
+    pub fn number(self, size: u64) -> u128
+        ensures { result ≡ arrivals_at size self }
+    {
+        if size == 0 {
+            self.generation as u128
+        } else {
+            size as u128 * self.generation as u128 + self.count as u128
+        }
+    }
 }
 
 /// How many parties a barrier waits for, how many generations it may finish, and how far it is. Only whoever

@@ -12,7 +12,6 @@ ghost use Rattle.lock_world.specs.declared.moves.Answer.{Answer as AnswerOf};
 ghost use Rattle.lock_world.specs.declared.moves.Move.{Move as MoveOf};
 ghost use Rattle.lock_world.specs.declared.refusal.Refusal.TheVariants as refusals;
 ghost use Rattle.barrier_machine.specs.Waits.{number_of};
-ghost use Rattle.barrier_machine.specs.Words.{arrivals_at};
 ghost use Rattle.barrier_world.specs.Numbers.{generations_of, count_of};
 ghost use Rattle.barrier_world.specs.State.{new_world, list_in, wait_of, World as WorldOf};
 ghost use Rattle.barrier_world.specs.Steps.{Steps};
@@ -20,7 +19,7 @@ ghost use Rattle.barrier_world.specs.Laws.{IsSound, IsAwake, IsWanted, is_at_res
 ghost use Rattle.barrier_world.specs.Runs.{Runs, leaders};
 ghost use Rattle.barrier_world.specs.Bound.{IsBounded};
 
-use barrier_machine::{Barrier, Progress};
+use barrier_machine::Barrier;
 use lock_event::Entry;
 use lock_frame::AnyWorld;
 use lock_table::Table;
@@ -64,17 +63,6 @@ impl Model for World {
     ghost coded = { Prim.hlevel (codes, behind_coded) };
 
     ghost view = { λ w. view_of w.table };
-}
-
-/// The number of the arrival after which a barrier for so many parties is this far.
-fn number(size: u64, arrival: Progress) -> u128
-    ensures { result ≡ arrivals_at size arrival }
-{
-    if size == 0 {
-        arrival.generation as u128
-    } else {
-        size as u128 * arrival.generation as u128 + arrival.count as u128
-    }
 }
 
 impl World {
@@ -199,7 +187,7 @@ impl World {
         ensures { result ≡ self.now.arrivals }
     {
         let barrier = self.table.machine();
-        number(barrier.size(), barrier.progress())
+        barrier.progress().number(barrier.size())
     }
 
     /// The number of the arrival of this party's wait, if it has one that is counted.
@@ -208,7 +196,7 @@ impl World {
     {
         let barrier = self.table.machine();
         if barrier.is_counted(party) {
-            Some(number(barrier.size(), barrier.arrival(party)))
+            Some(barrier.arrival(party).number(barrier.size()))
         } else {
             None
         }
