@@ -1,3 +1,4 @@
+pub mod Calls
 pub mod Program
 pub mod Roles
 pub mod Effects

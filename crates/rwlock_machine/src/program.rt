@@ -9,6 +9,7 @@
 //! those who may have it next.
 
 ghost use Rattle.std.specs.Prelude.{◌≡◌};
+ghost use Rattle.rwlock_machine.specs.Calls.{knows_at};
 ghost use Rattle.rwlock_machine.specs.Program.{start_of, first_poll as first_poll_lem, poll_from, drop_from, action_of, go_to as go_to_lem, next_of, after_read as after_read_lem, refuse_read as refuse_read_lem, after_turn as after_turn_lem, after_lock as after_lock_lem, with_turn as with_turn_lem, released as released_lem, after_write as after_write_lem, after_giving_back as after_giving_back_lem};
 
 use lock_table::End;
@@ -234,6 +235,27 @@ pub enum Next {
     End(End, Place),
     /// The upgrade has begun, and its future, which stands at this place, is to be polled.
     Wait(Place),
+}
+
+/// Whether a party that stands here may make this call, if it is outside every call: a guard's own calls are
+/// known of that guard alone.
+pub fn is_known(place: Place, call: Call) -> bool
+    ensures { result ≡ knows_at place call }
+{
+    match call {
+        Call::Read
+        | Call::UpgradableRead
+        | Call::Write
+        | Call::TryRead
+        | Call::TryUpgradableRead
+        | Call::TryWrite
+        | Call::Poll
+        | Call::Drop => true,
+        Call::Upgrade | Call::TryUpgrade => matches!(place, Place::Upgradable),
+        Call::Downgrade => matches!(place, Place::Upgradable | Place::Writing),
+        Call::DowngradeToUpgradable | Call::Put(_) => matches!(place, Place::Writing),
+        _ => false,
+    }
 }
 
 /// The place at which a call begins for a party that stands there; None where it can't.

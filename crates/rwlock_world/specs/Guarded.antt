@@ -3,7 +3,6 @@ use Rattle.std.specs.Prelude.{◌≡◌, ℕ, Bool, true, false, length, Option,
 use Rattle.lock_world.specs.declared.moves.Answer.{Answer}
 use Rattle.lock_world.specs.declared.moves.Answer.TheVariants.{Stepped, Waiting, Granted}
 use Rattle.lock_world.specs.declared.moves.Call.{Call}
-use Rattle.lock_world.specs.declared.moves.Call.TheVariants as call
 use Rattle.lock_world.specs.declared.moves.Got.TheVariants.{Value}
 use Rattle.lock_world.specs.declared.moves.What.{What}
 use Rattle.lock_world.specs.declared.moves.What.TheVariants.{Begin, Go}
@@ -15,7 +14,7 @@ use Rattle.lock_table.specs.Ends.{answer_of}
 use Rattle.rwlock_machine.specs.declared.program.Next.{Next}
 use Rattle.rwlock_machine.specs.declared.program.Next.TheVariants as next
 use Rattle.rwlock_machine.specs.declared.program.Place.{Place}
-use Rattle.rwlock_machine.specs.declared.program.Place.TheVariants.{Upgradable, Writing}
+use Rattle.rwlock_machine.specs.Calls.{knows_at}
 use Rattle.rwlock_machine.specs.Program.{start_of}
 use Rattle.rwlock_machine.specs.Machine.{RwLock, place_at, new_rwlock}
 use Rattle.rwlock_machine.specs.Acts.{Acts}
@@ -41,36 +40,6 @@ abbrev pub with_value : Guarded → ℕ → Guarded
 with_value x v = record { lock = x.lock; value = v }
 
 -- ---- calls
-
-abbrev pub may_upgrade : Place → Bool
-may_upgrade Upgradable = true
-may_upgrade _ = false
-
-abbrev pub may_downgrade : Place → Bool
-may_downgrade Upgradable = true
-may_downgrade Writing = true
-may_downgrade _ = false
-
-abbrev pub may_put : Place → Bool
-may_put Writing = true
-may_put _ = false
-
--- which calls are known of a party that stands here: a guard's own calls of that guard alone
-abbrev pub knows_at : Place → Call → Bool
-knows_at x call.Read = true
-knows_at x call.UpgradableRead = true
-knows_at x call.Write = true
-knows_at x call.TryRead = true
-knows_at x call.TryUpgradableRead = true
-knows_at x call.TryWrite = true
-knows_at x call.Poll = true
-knows_at x call.Drop = true
-knows_at x call.Upgrade = may_upgrade x
-knows_at x call.TryUpgrade = may_upgrade x
-knows_at x call.Downgrade = may_downgrade x
-knows_at x call.DowngradeToUpgradable = may_put x
-knows_at x (call.Put v) = may_put x
-knows_at x _ = false
 
 abbrev pub knows : Guarded → ℕ → Call → Bool
 knows x p = knows_at (place_of x p)

@@ -4,13 +4,13 @@ ghost use Rattle.std.specs.Prelude.{◌≡◌, ◌<◌, length, IfOk, IsSome, Is
 ghost use Rattle.lock_world.specs.Standings.{inputs_of};
 ghost use Rattle.rwlock_machine.specs.Machine.{place_at};
 ghost use Rattle.rwlock_machine.specs.Acts.{Acts, IsRwLock};
-ghost use Rattle.rwlock_world.specs.Guarded.{new_guarded, knows_at, answer_by, place_for};
+ghost use Rattle.rwlock_world.specs.Guarded.{new_guarded, answer_by, place_for};
 
 use lock_table::{Machine, Valued};
 use lock_world::standing::{Rest, Within};
 use lock_world::{Answer, Call, Got, What};
 use rwlock_machine::RwLock;
-use rwlock_machine::program::{Next, Place};
+use rwlock_machine::program::{self, Next};
 use std::alloc::{AllocError, Global};
 use std::marker::Model;
 
@@ -31,27 +31,6 @@ impl Model for Guarded {
     ghost coded = { Prim.hlevel (codes, behind_coded) };
 
     ghost view = { λ x. record { lock = x.lock; value = x.value } };
-}
-
-/// Whether a party that stands here may make this call, if it is outside every call: a guard's own calls are
-/// known of that guard alone.
-fn is_known(place: Place, call: Call) -> bool
-    ensures { result ≡ knows_at place call }
-{
-    match call {
-        Call::Read
-        | Call::UpgradableRead
-        | Call::Write
-        | Call::TryRead
-        | Call::TryUpgradableRead
-        | Call::TryWrite
-        | Call::Poll
-        | Call::Drop => true,
-        Call::Upgrade | Call::TryUpgrade => matches!(place, Place::Upgradable),
-        Call::Downgrade => matches!(place, Place::Upgradable | Place::Writing),
-        Call::DowngradeToUpgradable | Call::Put(_) => matches!(place, Place::Writing),
-        _ => false,
-    }
 }
 
 /// What a party is answered whose program goes on so.
@@ -132,7 +111,7 @@ impl Machine for Guarded {
     ghost acts = { guarded.Moves };
 
     fn knows(&self, party: u32, call: Call) -> bool {
-        is_known(self.lock.place(party), call)
+        program::is_known(self.lock.place(party), call)
     }
 
     fn ready(&self) -> Rest {

@@ -29,7 +29,8 @@ use Rattle.rwlock_machine.specs.Program.{start_of}
 use Rattle.rwlock_machine.specs.Machine.{place_at}
 use Rattle.rwlock_machine.specs.Acts.{Acts}
 use Rattle.rwlock_machine.specs.Solo.{GoesOnAlone, last, step, PollsAlone, at_once, begun, BeginsPoll}
-use Rattle.rwlock_world.specs.Guarded.{Guarded, knows_at, answer_by}
+use Rattle.rwlock_machine.specs.Calls.{knows_at}
+use Rattle.rwlock_world.specs.Guarded.{Guarded, answer_by}
 use Rattle.rwlock_world.specs.Stages.{Course, upgrades, course_of, is_on_course}
 use Rattle.rwlock_world.specs.State.{World}
 use Rattle.rwlock_world.specs.Steps.{Stands, Steps as Moved}

@@ -34,7 +34,8 @@ use Rattle.rwlock_machine.specs.Machine.{RwLock, place_at}
 use Rattle.rwlock_machine.specs.Acts.{Acts}
 use Rattle.rwlock_machine.proofs.Leads.{led, steps_in_turn}
 use Rattle.rwlock_world.specs.Legal.{knows, call_of, Legal}
-use Rattle.rwlock_world.specs.Guarded.{Guarded, with_value, knows as knows_there, knows_at, answer_by, place_for, Does, Moves as MovesThere}
+use Rattle.rwlock_machine.specs.Calls.{knows_at}
+use Rattle.rwlock_world.specs.Guarded.{Guarded, with_value, knows as knows_there, answer_by, place_for, Does, Moves as MovesThere}
 use Rattle.rwlock_world.specs.Stages.{sought_at}
 use Rattle.rwlock_world.specs.State.{standing_of}
 use Rattle.rwlock_world.specs.Steps.{TableSteps}

@@ -41,7 +41,8 @@ use Rattle.rwlock_machine.specs.Roles.{in_no_writer, in_no_readers}
 use Rattle.rwlock_machine.specs.Machine.{RwLock}
 use Rattle.rwlock_machine.specs.Acts.{Finds, readers, marked}
 use Rattle.rwlock_world.specs.Legal.{is_first_poll, is_try_for_turn}
-use Rattle.rwlock_world.specs.Guarded.{knows_at, answer_by}
+use Rattle.rwlock_machine.specs.Calls.{knows_at}
+use Rattle.rwlock_world.specs.Guarded.{answer_by}
 use Rattle.rwlock_world.specs.Stages.{right_for, sought_at, Course, tries, course_of, is_on_course, is_inside, goes_with}
 use Rattle.rwlock_world.specs.View.{is_reading, is_upgrade, verdict, standing_at}
 use Rattle.lock_table.specs.Stages.{call_at, polls_again}

@@ -24,7 +24,8 @@ use Rattle.rwlock_machine.specs.declared.program.Ending.TheVariants as ending
 use Rattle.rwlock_machine.specs.declared.program.Place.{Place}
 use Rattle.rwlock_machine.specs.declared.program.Place.TheVariants as place
 use Rattle.rwlock_machine.specs.Program.{first_poll}
-use Rattle.rwlock_world.specs.Guarded.{knows_at, may_upgrade, may_downgrade, may_put, place_for}
+use Rattle.rwlock_machine.specs.Calls.{knows_at, may_upgrade, may_downgrade, may_put}
+use Rattle.rwlock_world.specs.Guarded.{place_for}
 use Rattle.rwlock_world.specs.Stages.{sought_at, is_out, is_future, is_guard, is_inside, is_on_course, course_of, goes_with}
 use Rattle.rwlock_world.specs.Legal.{knows}
 

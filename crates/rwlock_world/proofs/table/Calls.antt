@@ -32,7 +32,8 @@ use Rattle.rwlock_machine.specs.declared.program.Place.TheVariants as place
 use Rattle.rwlock_machine.specs.Program.{place_after, first_poll}
 use Rattle.rwlock_machine.specs.Machine.{SameRoles}
 use Rattle.rwlock_machine.proofs.Starts.{start_same}
-use Rattle.rwlock_world.specs.Guarded.{knows_at, answer_by}
+use Rattle.rwlock_machine.specs.Calls.{knows_at}
+use Rattle.rwlock_world.specs.Guarded.{answer_by}
 use Rattle.rwlock_world.specs.Stages.{sought_at, Course, tries_upgrade, course_of, is_on_course, is_inside, goes_with}
 use Rattle.rwlock_world.specs.View.{share_of, is_upgrade, verdict, standing_at}
 use Rattle.rwlock_world.proofs.table.Begun.{within, Turn, turn}

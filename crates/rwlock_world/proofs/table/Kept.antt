@@ -26,7 +26,8 @@ use Rattle.rwlock_machine.specs.Roles.{fits_turn}
 use Rattle.rwlock_machine.specs.Machine.{RwLock, place_at}
 use Rattle.rwlock_machine.specs.Acts.{Acts, IsRwLock}
 use Rattle.rwlock_machine.proofs.Leads.{led}
-use Rattle.rwlock_world.specs.Guarded.{Guarded, parties, place_of, knows, knows_at, may_put, Stands, answer_by, place_for, Acted, Does, Moves as MovesThere}
+use Rattle.rwlock_machine.specs.Calls.{knows_at, may_put}
+use Rattle.rwlock_world.specs.Guarded.{Guarded, parties, place_of, knows, Stands, answer_by, place_for, Acted, Does, Moves as MovesThere}
 use Rattle.rwlock_world.specs.Stages.{course_of, is_on_course}
 use Rattle.rwlock_world.proofs.table.Begun.{within}
 use Rattle.rwlock_world.proofs.step.Paths.{Path, Keeps, Seeks, path}

@@ -40,7 +40,8 @@ use Rattle.rwlock_world.specs.Runs.{Runs, HoldsWell}
 use Rattle.rwlock_world.specs.State as state
 use Rattle.rwlock_world.specs.State.{World, is_turn_free, is_upgrader, how_many_read}
 use Rattle.rwlock_world.specs.Steps.{Stands, Steps as Moved}
-use Rattle.rwlock_world.specs.Guarded.{knows_at, answer_by}
+use Rattle.rwlock_machine.specs.Calls.{knows_at}
+use Rattle.rwlock_world.specs.Guarded.{answer_by}
 use Rattle.rwlock_world.specs.View.{view_of}
 use Rattle.rwlock_world.proofs.step.Acting.{Acting, Way, impossible, over, puts, acts, way, acting}
 use Rattle.rwlock_world.proofs.bound.Alone.{laws}

@@ -52,7 +52,8 @@ use Rattle.rwlock_machine.specs.Parties.{OnNoWriter}
 use Rattle.rwlock_machine.specs.Turns.{OnTurn}
 use Rattle.rwlock_machine.specs.Machine.{place_at}
 use Rattle.rwlock_world.specs.Changes.{Change, entries_after}
-use Rattle.rwlock_world.specs.Guarded.{knows_at, answer_by}
+use Rattle.rwlock_machine.specs.Calls.{knows_at}
+use Rattle.rwlock_world.specs.Guarded.{answer_by}
 use Rattle.rwlock_world.specs.Runs.{Runs, HoldsWell}
 use Rattle.rwlock_world.specs.Stages.{is_future}
 use Rattle.rwlock_world.specs.State.{ListName, for_the_turn, for_no_readers, for_no_writer, World, list_of, standing_of}
