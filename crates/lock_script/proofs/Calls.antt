@@ -1,55 +1,47 @@
 -- The words of a call.
-use Rattle.std.proofs.Common.{◌≡◌, ℕ, List, ◌∷◌, sym, subst, ◌∙◌, ap}
+use Rattle.std.proofs.Common.{◌≡◌, ℕ, ◌⊎◌, inl, inr, List, ◌∷◌, refl, sym, subst, ◌∙◌, ap}
 use Rattle.std.specs.Prelude.{if◌then◌else◌, Option, None, Some, bytes_eq, codes}
 use Rattle.lock_world.specs.declared.moves.Call.{Call}
 use Rattle.lock_world.specs.declared.moves.Call.TheVariants as call
-use Rattle.lock_script.specs.Commands.{BeginsWithCall, IsWordOf}
+use Rattle.std.specs.Str.Parse.{digits_value}
+use Rattle.lock_script.specs.Commands.{BeginsWithCall, IsWordOf, TakesNumber}
+use Rattle.lock_script.specs.Lines.{IsNumber, Writes}
 
--- what is answered to a word that takes no number is answered to it and the words after it
-plain : (words after others : List (List ℕ)) (word : List ℕ) (r : Option Call) (c : Call) → words ≡ word ∷ after → ((d : Call) → IsWordOf word d → r ≡ Some d) → (w : List ℕ) × (words ≡ w ∷ others) × IsWordOf w c → (r ≡ Some c) × (after ≡ others)
-plain words after others word r c e named (w, a, h) =
-    let both : word ∷ after ≡ w ∷ others = sym e ∙ a in
-    let same : w ≡ word = cc in
-    let rest : after ≡ others = cc in
-    (named c (subst (λ x. IsWordOf x c) same h), rest)
+-- a call is begun by a word that names it alone, or by one that names it with the number after it
+begins : (words others : List (List ℕ)) (c : Call) → BeginsWithCall words c others → ((word : List ℕ) × (words ≡ word ∷ others) × IsWordOf word c) ⊎ ((word digits : List ℕ) × (v : ℕ) × (words ≡ word ∷ digits ∷ others) × Writes digits v × TakesNumber word v c)
+begins words others (call.Put v) (w, a, h) = inr (_, w, v, a, h, (refl, refl))
+begins words others (call.AddPermits v) (w, a, h) = inr (_, w, v, a, h, (refl, refl))
+begins words others (call.Set v) (w, a, h) = inr (_, w, v, a, h, (refl, refl))
+begins words others (call.TrySet v) (w, a, h) = inr (_, w, v, a, h, (refl, refl))
+begins words others c h = inl h
 
--- and where the word is none of those that a number follows, that is so of each call
-pub asked_call : (words after others : List (List ℕ)) (word : List ℕ) (r : Option Call) → words ≡ word ∷ after → ¬ (word ≡ codes "put") → ¬ (word ≡ codes "add") → ¬ (word ≡ codes "set") → ¬ (word ≡ codes "tryset") → ((d : Call) → IsWordOf word d → r ≡ Some d) → (c : Call) → BeginsWithCall words c others → (r ≡ Some c) × (after ≡ others)
-asked_call words after others word r e n m k l named (call.Put v) (w, a, h) =
-    let both : word ∷ after ≡ codes "put" ∷ w ∷ others = sym e ∙ a in
-    let same : word ≡ codes "put" = cc in
-    absurd (n same)
-asked_call words after others word r e n m k l named (call.AddPermits v) (w, a, h) =
-    let both : word ∷ after ≡ codes "add" ∷ w ∷ others = sym e ∙ a in
-    let same : word ≡ codes "add" = cc in
-    absurd (m same)
-asked_call words after others word r e n m k l named (call.Set v) (w, a, h) =
-    let both : word ∷ after ≡ codes "set" ∷ w ∷ others = sym e ∙ a in
-    let same : word ≡ codes "set" = cc in
-    absurd (k same)
-asked_call words after others word r e n m k l named (call.TrySet v) (w, a, h) =
-    let both : word ∷ after ≡ codes "tryset" ∷ w ∷ others = sym e ∙ a in
-    let same : word ≡ codes "tryset" = cc in
-    absurd (l same)
-asked_call words after others word r e n m k l named call.Lock h = plain words after others word r _ e named h
-asked_call words after others word r e n m k l named call.TryLock h = plain words after others word r _ e named h
-asked_call words after others word r e n m k l named call.Read h = plain words after others word r _ e named h
-asked_call words after others word r e n m k l named call.UpgradableRead h = plain words after others word r _ e named h
-asked_call words after others word r e n m k l named call.Write h = plain words after others word r _ e named h
-asked_call words after others word r e n m k l named call.TryRead h = plain words after others word r _ e named h
-asked_call words after others word r e n m k l named call.TryUpgradableRead h = plain words after others word r _ e named h
-asked_call words after others word r e n m k l named call.TryWrite h = plain words after others word r _ e named h
-asked_call words after others word r e n m k l named call.Upgrade h = plain words after others word r _ e named h
-asked_call words after others word r e n m k l named call.TryUpgrade h = plain words after others word r _ e named h
-asked_call words after others word r e n m k l named call.Downgrade h = plain words after others word r _ e named h
-asked_call words after others word r e n m k l named call.DowngradeToUpgradable h = plain words after others word r _ e named h
-asked_call words after others word r e n m k l named call.Acquire h = plain words after others word r _ e named h
-asked_call words after others word r e n m k l named call.TryAcquire h = plain words after others word r _ e named h
-asked_call words after others word r e n m k l named call.Forget h = plain words after others word r _ e named h
-asked_call words after others word r e n m k l named call.Initialize h = plain words after others word r _ e named h
-asked_call words after others word r e n m k l named call.Wait h = plain words after others word r _ e named h
-asked_call words after others word r e n m k l named call.Poll h = plain words after others word r _ e named h
-asked_call words after others word r e n m k l named call.Drop h = plain words after others word r _ e named h
+-- a word that names no call alone, with no number after it, begins none
+pub no_call : (words after others : List (List ℕ)) (word : List ℕ) (c : Call) → words ≡ word ∷ after → ¬ IsWordOf word c → ((w : List ℕ) (rest : List (List ℕ)) → after ≡ w ∷ rest → ¬ IsNumber w) → ¬ BeginsWithCall words c others
+no_call words after others word c e alone none h = elim (begins words others c h) [
+  | inl (w, a, d) ↦
+      let both : word ∷ after ≡ w ∷ others = sym e ∙ a in
+      let same : w ≡ word = cc in
+      alone (subst (λ x. IsWordOf x c) same d)
+  | inr (w, digits, v, a, writes, d) ↦
+      let both : word ∷ after ≡ w ∷ digits ∷ others = sym e ∙ a in
+      let next : after ≡ digits ∷ others = cc in
+      none digits others next writes.0
+]
+
+-- a word that names no call alone begins the one that it names with the number after it
+pub numbered : (words after others left : List (List ℕ)) (word digits : List ℕ) (n : ℕ) (r : Option Call) (c : Call) → words ≡ word ∷ after → ¬ IsWordOf word c → after ≡ digits ∷ left → Writes digits n → (TakesNumber word n c → r ≡ Some c) → BeginsWithCall words c others → (r ≡ Some c) × (left ≡ others)
+numbered words after others left word digits n r c e alone are writes named h = elim (begins words others c h) [
+  | inl (w, a, d) ↦
+      let both : word ∷ after ≡ w ∷ others = sym e ∙ a in
+      let same : w ≡ word = cc in
+      absurd (alone (subst (λ x. IsWordOf x c) same d))
+  | inr (w, number, v, a, written, d) ↦
+      let both : word ∷ after ≡ w ∷ number ∷ others = sym e ∙ a in
+      let same : w ≡ word = cc in
+      let read : number ≡ digits = cc in
+      let value : v ≡ n = written.1 ∙ ap (digits_value 10) read ∙ sym writes.1 in
+      (named (subst (λ x. TakesNumber x n c) same (subst (λ x. TakesNumber w x c) value d)), cc)
+]
 
 -- the call that a word names, if it takes no number
 named_call : List ℕ → Option Call

@@ -85,6 +85,14 @@ IsWordOf word call.Poll = word ≡ codes "poll"
 IsWordOf word call.Drop = word ≡ codes "drop"
 IsWordOf word _ = ⊥
 
+-- the word is that of a call which takes a number, and this is the call with that number
+abbrev pub TakesNumber : List ℕ → ℕ → Call → Type 0
+TakesNumber word n (call.Put v) = (word ≡ codes "put") × (v ≡ n)
+TakesNumber word n (call.AddPermits v) = (word ≡ codes "add") × (v ≡ n)
+TakesNumber word n (call.Set v) = (word ≡ codes "set") × (v ≡ n)
+TakesNumber word n (call.TrySet v) = (word ≡ codes "tryset") × (v ≡ n)
+TakesNumber word n _ = ⊥
+
 -- the words begin with those of this call, and the others follow
 abbrev pub BeginsWithCall : List (List ℕ) → Call → List (List ℕ) → Type 0
 BeginsWithCall words (call.Put v) others = (word : List ℕ) × (words ≡ codes "put" ∷ word ∷ others) × Writes word v

@@ -4,7 +4,7 @@ ghost use Rattle.std.specs.Prelude.{◌≡◌, ◌≢◌, ◌↔◌, ◌≤◌, 
 ghost use Rattle.lock_world.specs.declared.moves.Call.{Call};
 ghost use Rattle.lock_world.specs.declared.moves.Inputs.{Inputs};
 ghost use Rattle.lock_world.specs.declared.moves.Made.{Made};
-ghost use Rattle.lock_script.specs.Commands.{name_of, verb_of, AreNumbersAndLimit, AreNumbersAndLimits, AreOfCall, Asks, BeginsWithCall, Details, IsWordOf};
+ghost use Rattle.lock_script.specs.Commands.{name_of, verb_of, AreNumbersAndLimit, AreNumbersAndLimits, AreOfCall, Asks, BeginsWithCall, Details, IsWordOf, TakesNumber};
 ghost use Rattle.lock_script.specs.Commands.{is_of_maker, WritesInputs, WritesLimit, WritesLimits, WritesMade};
 ghost use Rattle.lock_script.specs.declared.command.Command.{Command};
 ghost use Rattle.lock_script.specs.declared.command.Verb.{Verb};
@@ -154,7 +154,16 @@ fn whole(words: &mut Words<'_>) -> Option<Command>
     ensures words { IfSome result (Asks words.old) }
     ensures asked { (c : Command) → Asks words.old c → result ≡ Some c }
 {
-    match named(words.next()?)? {
+    let verb = named(words.next()?)?;
+    of_verb(words, verb)
+}
+
+/// The command that begins with this verb, by the words after it.
+fn of_verb(words: &mut Words<'_>, verb: Verb) -> Option<Command>
+    ensures words { IfSome result (λ c. (verb_of c ≡ verb) × Details words.old c) }
+    ensures asked { (c : Command) → verb_of c ≡ verb → Details words.old c → result ≡ Some c }
+{
+    match verb {
         Verb::Mutex => mutex(words),
         Verb::RwLock => rwlock(words),
         Verb::Semaphore => semaphore(words),
@@ -397,19 +406,24 @@ fn call(words: &mut Words<'_>) -> Option<Call>
         → (result ≡ Some c) × (words.new ≡ others) }
 {
     let word = words.next()?;
-    if is(word, b"put") {
-        return Some(Call::Put(number(words)?));
+    match plain_call(word) {
+        Some(call) => Some(call),
+        None => numbered_call(word, number(words)?),
     }
-    if is(word, b"add") {
-        return Some(Call::AddPermits(number(words)?));
+}
+
+/// The call that a word names together with the number after it, if it takes one.
+fn numbered_call(word: &[u8], number: u64) -> Option<Call>
+    ensures word { IfSome result (TakesNumber word.now number) }
+    ensures asked { (c : Call) → TakesNumber word.now number c → result ≡ Some c }
+{
+    match word {
+        _ if is(word, b"put") => Some(Call::Put(number)),
+        _ if is(word, b"add") => Some(Call::AddPermits(number)),
+        _ if is(word, b"set") => Some(Call::Set(number)),
+        _ if is(word, b"tryset") => Some(Call::TrySet(number)),
+        _ => None,
     }
-    if is(word, b"set") {
-        return Some(Call::Set(number(words)?));
-    }
-    if is(word, b"tryset") {
-        return Some(Call::TrySet(number(words)?));
-    }
-    plain_call(word)
 }
 
 /// The call that a word names, if it takes no number.
