@@ -2,5 +2,4 @@ pub mod Texts
 pub mod Mutex
 pub mod RwLock
 pub mod Semaphore
-pub mod Cell
 pub mod Barrier

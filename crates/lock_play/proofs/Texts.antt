@@ -1,5 +1,5 @@
 -- What writes wrote, one after the other.
-use Rattle.std.proofs.Common.{◌≡◌, ℕ, zero, suc, ◌+◌, ◌<◌, ◌≤◌, List, [], ◌∷◌, ◌++◌, ◌∙◌, refl, sym, ap, arith, append_assoc, length}
+use Rattle.std.proofs.Common.{◌≡◌, ℕ, zero, suc, ◌+◌, ◌<◌, ◌≤◌, List, [], ◌∷◌, ◌++◌, ◌∙◌, refl, sym, subst, ap, arith, append_assoc, length}
 use Rattle.std.proofs.lemmas.List.{length-take-le, length-map, map-append, take_more}
 use Rattle.std.proofs.lemmas.Option.{slice_get_within, get_or_from_slice_get}
 use Rattle.std.specs.Prelude.{Option, Some, None, Result, Ok, Err, OnOk, map, take, slice_get}
@@ -14,6 +14,10 @@ Appends-more None b c first more whole x y e = tt
 Appends-more (Some xs) None c first more whole x y e = absurd x
 Appends-more (Some xs) (Some ys) None first more whole x y e = absurd y
 Appends-more (Some xs) (Some ys) (Some zs) first more whole x y e = y ∙ ap (λ l. l ++ more) x ∙ append_assoc xs first more ∙ ap (λ l. xs ++ l) e
+
+-- the same text in another form
+pub Appends-as : {A E : Type 0} (a b : Option (List ℕ)) (written whole : List ℕ) (r : Result A E) → OnOk r (Appends a b written) → written ≡ whole → OnOk r (Appends a b whole)
+Appends-as a b written whole r x e = subst (λ t. OnOk r (Appends a b t)) e x
 
 -- and more of it after its name
 pub Appends-named : (a b c : Option (List ℕ)) (first name more whole : List ℕ) → Appends a b first → Appends b c (name ++ more) → (first ++ name) ++ more ≡ whole → Appends a c whole

@@ -14,11 +14,15 @@ put_gives w v = (NotPossible, w)
 abbrev pub take_gives : World → Reply × World
 take_gives w = (NotPossible, w)
 
--- the state
-abbrev pub text_of : World → List ℕ
-text_of w = codes "barrier count=" ++ decimal (count_of w.size w.arrivals)
+-- the numbers of the state
+abbrev pub numbers_text : World → List ℕ
+numbers_text w = codes "barrier count=" ++ decimal (count_of w.size w.arrivals)
     ++ codes " generation=" ++ decimal (generations_of w.size w.arrivals)
     ++ codes " locked=" ++ decimal (if is_some w.lock.holder then 1 else 0)
     ++ codes " starved=" ++ decimal (how_many w.lock.starved)
+
+-- the state
+abbrev pub text_of : World → List ℕ
+text_of w = numbers_text w
     ++ codes " lock=" ++ list_text w.lock_list
     ++ codes " list=" ++ list_text w.list

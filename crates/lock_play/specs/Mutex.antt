@@ -16,9 +16,13 @@ put_gives w v = if is_at_rest w then (Done, world_with w v) else (NotPossible, w
 abbrev pub take_gives : World → Reply × World
 take_gives w = (NotPossible, w)
 
--- the state
-abbrev pub text_of : World → List ℕ
-text_of w = codes "mutex locked=" ++ decimal (if is_some w.state.holder then 1 else 0)
+-- the numbers of the state
+abbrev pub numbers_text : World → List ℕ
+numbers_text w = codes "mutex locked=" ++ decimal (if is_some w.state.holder then 1 else 0)
     ++ codes " starved=" ++ decimal (how_many w.state.starved)
     ++ codes " value=" ++ decimal w.state.value
+
+-- the state
+abbrev pub text_of : World → List ℕ
+text_of w = numbers_text w
     ++ codes " list=" ++ list_text w.entries

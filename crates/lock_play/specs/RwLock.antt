@@ -25,13 +25,17 @@ list_of w which.Turn = w.turn_list
 list_of w which.NoReaders = w.no_readers
 list_of w which.NoWriter = w.no_writer
 
--- the state: whether somebody has the turn, how many are starved for it, whether a party waits to write or writes, how many read, the value, and the lists of those that wait for the turn, until no reader is left, and until no writer is
-abbrev pub text_of : World → List ℕ
-text_of w = codes "rwlock turn=" ++ decimal (if is_nobody w.state.turn then 0 else 1)
+-- the numbers of the state
+abbrev pub numbers_text : World → List ℕ
+numbers_text w = codes "rwlock turn=" ++ decimal (if is_nobody w.state.turn then 0 else 1)
     ++ codes " starved=" ++ decimal (how_many w.state.starved)
     ++ codes " writer=" ++ decimal (if is_marked w.state.turn then 1 else 0)
     ++ codes " readers=" ++ decimal (how_many_read w)
     ++ codes " value=" ++ decimal w.state.value
+
+-- the state: whether somebody has the turn, how many are starved for it, whether a party waits to write or writes, how many read, the value, and the lists of those that wait for the turn, until no reader is left, and until no writer is
+abbrev pub text_of : World → List ℕ
+text_of w = numbers_text w
     ++ codes " turnlist=" ++ list_text w.turn_list
     ++ codes " noreaders=" ++ list_text w.no_readers
     ++ codes " nowriter=" ++ list_text w.no_writer

@@ -12,8 +12,12 @@ put_gives w v = (NotPossible, w)
 abbrev pub take_gives : World → Reply × World
 take_gives w = (NotPossible, w)
 
+-- the numbers of the state
+abbrev pub numbers_text : World → List ℕ
+numbers_text w = codes "semaphore available=" ++ decimal (available w.state)
+    ++ codes " limit=" ++ decimal w.state.limit
+
 -- the state
 abbrev pub text_of : World → List ℕ
-text_of w = codes "semaphore available=" ++ decimal (available w.state)
-    ++ codes " limit=" ++ decimal w.state.limit
+text_of w = numbers_text w
     ++ codes " list=" ++ list_text w.entries

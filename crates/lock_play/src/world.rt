@@ -1,13 +1,7 @@
 //! The World that stands in a run.
 
-ghost use Rattle.std.specs.Prelude.{◌≡◌, ◌≤◌, ◌^◌, ◌-◌, ℕ, List, min, unwrap_or, IfOk, IfErr};
-ghost use Rattle.mutex_world.specs.State as mutex;
-ghost use Rattle.mutex_world.specs.declared.world.TheConstants.{MOST_STARVED};
-ghost use Rattle.rwlock_world.specs.State as rwlock;
-ghost use Rattle.rwlock_world.specs.declared.world.TheConstants.{MOST_STARVED_FOR_THE_TURN, MOST_READERS};
-ghost use Rattle.semaphore_world.specs.State as semaphore;
-ghost use Rattle.semaphore_world.specs.Limits.{IsRefusedFor as IsRefusedForPermits};
-ghost use Rattle.barrier_world.specs.State as barrier;
+ghost use Rattle.std.specs.Prelude.{◌≡◌, ℕ, List, min, IfOk, IfErr};
+ghost use Rattle.lock_script.specs.declared.command.Model.TheVariants as model;
 ghost use Rattle.lock_world.specs.declared.refusal.Refusal.{Refusal};
 ghost use Rattle.lock_play.specs.Answers.{Prints};
 ghost use Rattle.lock_play.specs.Openings.{limit_of, world_of, HasTooManyPermits, IsRefusedFor};
@@ -57,25 +51,25 @@ impl World {
                 parties,
                 value,
                 starved,
-            } => Ok(World::Mutex(new_mutex(alloc, parties, value, starved)?)),
+            } => new_mutex(alloc, parties, value, starved),
             Model::RwLock {
                 parties,
                 value,
                 starved,
                 readers,
-            } => Ok(World::RwLock(new_rwlock(alloc, parties, value, starved, readers)?)),
+            } => new_rwlock(alloc, parties, value, starved, readers),
             Model::Semaphore {
                 parties,
                 permits,
                 most,
-            } => Ok(World::Semaphore(new_semaphore(alloc, parties, permits, most)?)),
-            Model::Cell { parties } => Ok(World::Cell(cell::World::new(alloc, parties)?)),
+            } => new_semaphore(alloc, parties, permits, most),
+            Model::Cell { parties } => new_cell(alloc, parties),
             Model::Barrier {
                 parties,
                 size,
                 starved,
                 generations,
-            } => Ok(World::Barrier(new_barrier(alloc, parties, size, starved, generations)?)),
+            } => new_barrier(alloc, parties, size, starved, generations),
         }
     }
 
@@ -101,11 +95,12 @@ fn new_mutex(
     parties: u32,
     value: u64,
     starved: Option<u64>,
-) -> Result<mutex::World, Refusal>
-    ensures made { IfOk result (λ w. w ≡ mutex.new_world parties (limit_of starved MOST_STARVED) value) }
+) -> Result<World, Refusal>
+    ensures made { IfOk result (λ w. w ≡ world_of (model.Mutex parties value starved)) }
     ensures refused { IfErr result (λ r. r ≡ Refusal.Memory) }
 {
-    mutex::World::with_limits(alloc, parties, value, limit(starved, MOST_STARVED))
+    let starved = limit(starved, MOST_STARVED);
+    Ok(World::Mutex(mutex::World::with_limits(alloc, parties, value, starved)?))
 }
 
 /// A read-write lock by the numbers of a line.
@@ -115,14 +110,14 @@ fn new_rwlock(
     value: u64,
     starved: Option<u64>,
     readers: Option<u64>,
-) -> Result<rwlock::World, Refusal>
-    ensures made { IfOk result (λ w. w ≡ rwlock.new_world parties (limit_of starved MOST_STARVED_FOR_THE_TURN)
-        (limit_of readers MOST_READERS) value) }
+) -> Result<World, Refusal>
+    ensures made { IfOk result (λ w. w ≡ world_of (model.RwLock parties value starved readers)) }
     ensures refused { IfErr result (λ r. r ≡ Refusal.Memory) }
 {
     let starved = limit(starved, MOST_STARVED_FOR_THE_TURN);
     let readers = limit(readers, MOST_READERS);
-    rwlock::World::with_limits(alloc, parties, value, starved, readers)
+    let world = rwlock::World::with_limits(alloc, parties, value, starved, readers)?;
+    Ok(World::RwLock(world))
 }
 
 /// A semaphore by the numbers of a line.
@@ -131,12 +126,21 @@ fn new_semaphore(
     parties: u32,
     permits: u64,
     most: Option<u64>,
-) -> Result<semaphore::World, Refusal>
-    ensures made { IfOk result (λ w. w ≡ semaphore.new_world parties permits (unwrap_or most (2 ^ 64 - 1))) }
-    ensures fits { IfOk result (λ w. permits ≤ unwrap_or most (2 ^ 64 - 1)) }
-    ensures refused { IfErr result (IsRefusedForPermits permits (unwrap_or most (2 ^ 64 - 1))) }
+) -> Result<World, Refusal>
+    ensures made { IfOk result (λ w. w ≡ world_of (model.Semaphore parties permits most)) }
+    ensures fits { IfOk result (λ w. ¬ HasTooManyPermits (model.Semaphore parties permits most)) }
+    ensures refused { IfErr result (IsRefusedFor (model.Semaphore parties permits most)) }
 {
-    semaphore::World::with_limits(alloc, parties, permits, most.unwrap_or(u64::MAX))
+    let most = most.unwrap_or(u64::MAX);
+    Ok(World::Semaphore(semaphore::World::with_limits(alloc, parties, permits, most)?))
+}
+
+/// A once-cell by the number of a line.
+fn new_cell(alloc: Global, parties: u32) -> Result<World, Refusal>
+    ensures made { IfOk result (λ w. w ≡ world_of (model.Cell parties)) }
+    ensures refused { IfErr result (λ r. r ≡ Refusal.Memory) }
+{
+    Ok(World::Cell(cell::World::new(alloc, parties)?))
 }
 
 /// A barrier by the numbers of a line.
@@ -146,14 +150,14 @@ fn new_barrier(
     size: u64,
     starved: Option<u64>,
     generations: Option<u64>,
-) -> Result<barrier::World, Refusal>
-    ensures made { IfOk result (λ w. w ≡ barrier.new_world parties size (limit_of starved MOST_STARVED)
-        (unwrap_or generations (2 ^ 64 - 1))) }
+) -> Result<World, Refusal>
+    ensures made { IfOk result (λ w. w ≡ world_of (model.Barrier parties size starved generations)) }
     ensures refused { IfErr result (λ r. r ≡ Refusal.Memory) }
 {
     let starved = limit(starved, MOST_STARVED);
     let most = generations.unwrap_or(u64::MAX);
-    barrier::World::with_limits(alloc, parties, size, starved, most)
+    let world = barrier::World::with_limits(alloc, parties, size, starved, most)?;
+    Ok(World::Barrier(world))
 }
 
 /// The limit of a new World, whose greatest is `most`, by the number that a line gives. A number past 32

@@ -1,7 +1,10 @@
 //! The barrier's World, as a script plays on it.
 
-ghost use Rattle.std.specs.Prelude.{◌≡◌};
-ghost use Rattle.lock_play.specs.Answers.{Prints};
+ghost use Rattle.std.specs.Prelude.{◌≡◌, ◌++◌, OnOk};
+ghost use Rattle.std.specs.Io.KnownBytes.{Appends};
+ghost use Rattle.barrier_world.specs.State.{list_in};
+ghost use Rattle.lock_play.specs.Answers.{list_text, Prints};
+ghost use Rattle.lock_play.specs.Barrier.{numbers_text};
 
 use super::{Played, Reply};
 use crate::answer::{self, Listed};
@@ -29,33 +32,44 @@ impl Played for World {
     }
 
     fn show<O: Write>(&self, output: &mut O) -> io::Result<()> {
-        let count = self.count();
-        let generation = self.generation();
-        let locked = u8::from(self.is_locked());
-        let starved = self.starved();
-        write!(
-            output,
-            "barrier count={count} generation={generation} locked={locked} starved={starved} lock="
-        )?;
-        answer::write_list(&list(self, ListName::Lock), output)?;
-        answer::write_named_list(" list=", &list(self, ListName::Generation), output)?;
+        write_numbers(self, output)?;
+        write_list_of(self, ListName::Lock, " lock=", output)?;
+        write_list_of(self, ListName::Generation, " list=", output)?;
         writeln!(output)
     }
 }
 
+/// Writes the numbers of a barrier.
+fn write_numbers<O: Write>(world: &World, output: &mut O) -> io::Result<()>
+    ensures { OnOk result (Appends (O.contents output.old) (O.contents output.new) (numbers_text world.now)) }
+{
+    let count = world.count();
+    let generation = world.generation();
+    let locked = u8::from(world.is_locked());
+    let starved = world.starved();
+    write!(
+        output,
+        "barrier count={count} generation={generation} locked={locked} starved={starved}"
+    )
+}
+
+/// Writes a list of a barrier after what names it.
+fn write_list_of<O: Write>(
+    world: &World,
+    name: ListName,
+    title: &str,
+    output: &mut O,
+) -> io::Result<()>
+    ensures { OnOk result (Appends (O.contents output.old) (O.contents output.new) (title.now ++ list_text (list_in name world.now))) }
+{
+    answer::write_named_list(title, &OneList { world, name }, output)
+}
+
 /// One list of a barrier.
-#[derive(Drop)]
+#[derive(Clone, Copy)]
 struct OneList<'a> {
     world: &'a World,
     name: ListName,
-}
-
-/// This list of a World.
-fn list(world: &World, name: ListName) -> OneList<'_>
-    ensures world { result.world.now ≡ world.now }
-    ensures name { result.name ≡ name }
-{
-    OneList { world, name }
 }
 
 impl<'a> Listed for OneList<'a> {

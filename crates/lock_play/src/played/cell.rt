@@ -2,7 +2,8 @@
 
 ghost use Rattle.std.specs.Prelude.{◌≡◌, ◌++◌, codes, OnOk};
 ghost use Rattle.std.specs.Io.KnownBytes.{Appends};
-ghost use Rattle.lock_play.specs.Answers.{Prints};
+ghost use Rattle.cell_world.specs.State.{list_in};
+ghost use Rattle.lock_play.specs.Answers.{list_text, Prints};
 ghost use Rattle.lock_play.specs.Cell.{content_text};
 
 use super::{Played, Reply};
@@ -46,8 +47,8 @@ impl Played for World {
 
     fn show<O: Write>(&self, output: &mut O) -> io::Result<()> {
         write_content(self.content(), output)?;
-        answer::write_named_list(" active=", &list(self, ListName::Active), output)?;
-        answer::write_named_list(" passive=", &list(self, ListName::Passive), output)?;
+        write_list_of(self, ListName::Active, " active=", output)?;
+        write_list_of(self, ListName::Passive, " passive=", output)?;
         writeln!(output)
     }
 }
@@ -63,19 +64,23 @@ fn write_content<O: Write>(content: Content, output: &mut O) -> io::Result<()>
     }
 }
 
+/// Writes a list of a once-cell after what names it.
+fn write_list_of<O: Write>(
+    world: &World,
+    name: ListName,
+    title: &str,
+    output: &mut O,
+) -> io::Result<()>
+    ensures { OnOk result (Appends (O.contents output.old) (O.contents output.new) (title.now ++ list_text (list_in name world.now))) }
+{
+    answer::write_named_list(title, &OneList { world, name }, output)
+}
+
 /// One list of a once-cell.
-#[derive(Drop)]
+#[derive(Clone, Copy)]
 struct OneList<'a> {
     world: &'a World,
     name: ListName,
-}
-
-/// This list of a World.
-fn list(world: &World, name: ListName) -> OneList<'_>
-    ensures world { result.world.now ≡ world.now }
-    ensures name { result.name ≡ name }
-{
-    OneList { world, name }
 }
 
 impl<'a> Listed for OneList<'a> {

@@ -1,7 +1,9 @@
 //! The mutex's World, as a script plays on it.
 
-ghost use Rattle.std.specs.Prelude.{◌≡◌};
+ghost use Rattle.std.specs.Prelude.{◌≡◌, OnOk};
+ghost use Rattle.std.specs.Io.KnownBytes.{Appends};
 ghost use Rattle.lock_play.specs.Answers.{Prints};
+ghost use Rattle.lock_play.specs.Mutex.{numbers_text};
 
 use super::{Played, Reply};
 use crate::answer::{self, Listed};
@@ -34,16 +36,23 @@ impl Played for World {
     }
 
     fn show<O: Write>(&self, output: &mut O) -> io::Result<()> {
-        let locked = u8::from(self.is_locked());
-        let starved = self.starved();
-        let value = self.value();
-        write!(
-            output,
-            "mutex locked={locked} starved={starved} value={value} list="
-        )?;
-        answer::write_list(self, output)?;
+        write_numbers(self, output)?;
+        answer::write_named_list(" list=", self, output)?;
         writeln!(output)
     }
+}
+
+/// Writes the numbers of a mutex.
+fn write_numbers<O: Write>(world: &World, output: &mut O) -> io::Result<()>
+    ensures { OnOk result (Appends (O.contents output.old) (O.contents output.new) (numbers_text world.now)) }
+{
+    let locked = u8::from(world.is_locked());
+    let starved = world.starved();
+    let value = world.value();
+    write!(
+        output,
+        "mutex locked={locked} starved={starved} value={value}"
+    )
 }
 
 impl Listed for World {

@@ -1,7 +1,9 @@
 //! The read-write lock's World, as a script plays on it.
 
-ghost use Rattle.std.specs.Prelude.{◌≡◌};
-ghost use Rattle.lock_play.specs.Answers.{Prints};
+ghost use Rattle.std.specs.Prelude.{◌≡◌, ◌++◌, OnOk};
+ghost use Rattle.std.specs.Io.KnownBytes.{Appends};
+ghost use Rattle.lock_play.specs.Answers.{list_text, Prints};
+ghost use Rattle.lock_play.specs.RwLock.{list_of, numbers_text};
 
 use super::{Played, Reply};
 use crate::answer::{self, Listed};
@@ -34,20 +36,39 @@ impl Played for World {
     }
 
     fn show<O: Write>(&self, output: &mut O) -> io::Result<()> {
-        let turn = u8::from(self.is_turn_held());
-        let starved = self.starved();
-        let writer = u8::from(self.is_writer_marked());
-        let readers = self.readers();
-        let value = self.value();
-        write!(
-            output,
-            "rwlock turn={turn} starved={starved} writer={writer} readers={readers} value={value} turnlist="
-        )?;
-        answer::write_list(&list(self, Which::Turn), output)?;
-        answer::write_named_list(" noreaders=", &list(self, Which::NoReaders), output)?;
-        answer::write_named_list(" nowriter=", &list(self, Which::NoWriter), output)?;
+        write_numbers(self, output)?;
+        write_list_of(self, Which::Turn, " turnlist=", output)?;
+        write_list_of(self, Which::NoReaders, " noreaders=", output)?;
+        write_list_of(self, Which::NoWriter, " nowriter=", output)?;
         writeln!(output)
     }
+}
+
+/// Writes the numbers of a read-write lock.
+fn write_numbers<O: Write>(world: &World, output: &mut O) -> io::Result<()>
+    ensures { OnOk result (Appends (O.contents output.old) (O.contents output.new) (numbers_text world.now)) }
+{
+    let turn = u8::from(world.is_turn_held());
+    let starved = world.starved();
+    let writer = u8::from(world.is_writer_marked());
+    let readers = world.readers();
+    let value = world.value();
+    write!(
+        output,
+        "rwlock turn={turn} starved={starved} writer={writer} readers={readers} value={value}"
+    )
+}
+
+/// Writes a list of a read-write lock after what names it.
+fn write_list_of<O: Write>(
+    world: &World,
+    which: Which,
+    title: &str,
+    output: &mut O,
+) -> io::Result<()>
+    ensures { OnOk result (Appends (O.contents output.old) (O.contents output.new) (title.now ++ list_text (list_of world.now which))) }
+{
+    answer::write_named_list(title, &OneList { world, which }, output)
 }
 
 /// Which list of a read-write lock.
@@ -62,18 +83,10 @@ enum Which {
 }
 
 /// One list of a read-write lock.
-#[derive(Drop)]
+#[derive(Clone, Copy)]
 struct OneList<'a> {
     world: &'a World,
     which: Which,
-}
-
-/// This list of a World.
-fn list(world: &World, which: Which) -> OneList<'_>
-    ensures world { result.world.now ≡ world.now }
-    ensures which { result.which ≡ which }
-{
-    OneList { world, which }
 }
 
 impl<'a> Listed for OneList<'a> {

@@ -1,7 +1,9 @@
 //! The semaphore's World, as a script plays on it.
 
-ghost use Rattle.std.specs.Prelude.{◌≡◌};
+ghost use Rattle.std.specs.Prelude.{◌≡◌, OnOk};
+ghost use Rattle.std.specs.Io.KnownBytes.{Appends};
 ghost use Rattle.lock_play.specs.Answers.{Prints};
+ghost use Rattle.lock_play.specs.Semaphore.{numbers_text};
 
 use super::{Played, Reply};
 use crate::answer::{self, Listed};
@@ -29,15 +31,19 @@ impl Played for World {
     }
 
     fn show<O: Write>(&self, output: &mut O) -> io::Result<()> {
-        let available = self.available();
-        let limit = self.limit();
-        write!(
-            output,
-            "semaphore available={available} limit={limit} list="
-        )?;
-        answer::write_list(self, output)?;
+        write_numbers(self, output)?;
+        answer::write_named_list(" list=", self, output)?;
         writeln!(output)
     }
+}
+
+/// Writes the numbers of a semaphore.
+fn write_numbers<O: Write>(world: &World, output: &mut O) -> io::Result<()>
+    ensures { OnOk result (Appends (O.contents output.old) (O.contents output.new) (numbers_text world.now)) }
+{
+    let available = world.available();
+    let limit = world.limit();
+    write!(output, "semaphore available={available} limit={limit}")
 }
 
 impl Listed for World {

@@ -1,16 +1,12 @@
-use Rattle.std.proofs.Common.{rules, refl}
+use Rattle.std.proofs.Common.{refl}
 use Rattle.std.specs.Prelude.{codes}
 use Rattle.lock_play.specs.Answers.{list_text}
-use Rattle.barrier_world.specs.State.{list_in}
-use Rattle.lock_play.proofs.Texts.{Appends-more, Appends-named, Appends-both}
-use Rattle.lock_play.proofs.Barrier.{listed, state_text}
+use Rattle.lock_play.proofs.Texts.{Appends-named, Appends-both}
 use Rattle.lock_play.proofs.played.barrier.WorldPlayed.show.Goals as goal
 
 pub returns : goal.returns
 returns g c =
-    let first = listed c.args.self.now c.list.result.world.now c.list.result.name _ c.list.ensures.world c.list.ensures.name in
-    let second = listed c.args.self.now c.list-2.result.world.now c.list-2.result.name _ c.list-2.ensures.world c.list-2.ensures.name in
-    let text = state_text c.args.self.now c.count-count.result c.generation-generation.result c.from-locked.result c.starved-starved.result _ _ (search rules) (search rules) (search rules) (search rules) first second in
-    let lock = Appends-more _ _ _ _ _ _ c.in_ok-write.ensures.bytes c.in_ok-write_list.ensures refl in
-    let state = Appends-named _ _ _ _ (codes " list=") (list_text (list_in c.list-2.result.name c.list-2.result.world.now)) _ lock c.in_ok-write_named_list.ensures text in
-    Appends-both _ _ _ _ _ _ _ state c.writeln.ensures.bytes refl
+    let w = c.args.self.now in
+    let lock = Appends-named _ _ _ _ (codes " lock=") (list_text w.lock_list) _ c.in_ok-write_numbers.ensures c.in_ok-write_list_of.ensures refl in
+    let list = Appends-named _ _ _ _ (codes " list=") (list_text w.list) _ lock c.in_ok-write_list_of-2.ensures refl in
+    Appends-both _ _ _ _ _ _ _ list c.writeln.ensures.bytes refl

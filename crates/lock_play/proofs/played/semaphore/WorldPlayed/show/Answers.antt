@@ -1,10 +1,11 @@
-use Rattle.std.proofs.Common.{rules, refl}
-use Rattle.lock_play.proofs.Texts.{Appends-more, Appends-both}
-use Rattle.lock_play.proofs.Semaphore.{state_text}
+use Rattle.std.proofs.Common.{refl}
+use Rattle.std.specs.Prelude.{codes}
+use Rattle.lock_play.specs.Answers.{list_text}
+use Rattle.lock_play.proofs.Texts.{Appends-named, Appends-both}
 use Rattle.lock_play.proofs.played.semaphore.WorldPlayed.show.Goals as goal
 
 pub returns : goal.returns
 returns g c =
-    let text = state_text c.args.self.now c.available-available.result c.limit-limit.result (search rules) (search rules) in
-    let state = Appends-more _ _ _ _ _ _ c.in_ok-write.ensures.bytes c.in_ok-write_list.ensures text in
-    Appends-both _ _ _ _ _ _ _ state c.writeln.ensures.bytes refl
+    let w = c.args.self.now in
+    let list = Appends-named _ _ _ _ (codes " list=") (list_text w.entries) _ c.in_ok-write_numbers.ensures c.in_ok-write_named_list.ensures refl in
+    Appends-both _ _ _ _ _ _ _ list c.writeln.ensures.bytes refl
