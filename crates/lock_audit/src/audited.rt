@@ -91,11 +91,9 @@ impl<W: AnyWorld + Drop, L: Ledgers> Audited<W, L> {
         ensures nothing { IfOk result (λ made. All (λ numbers. numbers ≡ nothing) made.1.items) }
     {
         let (totals, mut rest) = tokens::open::<L>(blanks);
-        let mut all = Vec::new(alloc);
-        for _ in 0..shares {
-            let share = Share { tokens: rest.cut() };
-            all.push(share).map_err(|_| Memory)?;
-        }
+        let Ok(all) = cut_shares(alloc, &mut rest, shares) else {
+            return Err(Memory);
+        };
         let counted = Mutex::new(Counted {
             book: Book::new(alloc, world),
             totals,
@@ -123,12 +121,44 @@ impl<W: AnyWorld + Drop, L: Ledgers> Audited<W, L> {
             mut totals,
             rest,
         } = counted.into_inner();
-        let mut all = rest;
-        for share in shares {
-            let Share { tokens } = share;
-            all.merge(tokens);
-        }
+        let mut all = merged(rest, shares);
         totals.audit(&mut all);
         book
     }
+}
+
+// Cuts so many shares off these tokens, which are as many parts, and on which nothing is counted.
+fn cut_shares<L: Ledgers>(
+    alloc: Global,
+    rest: &mut Tokens<L>,
+    shares: u32,
+) -> Result<Vec<Share<L>>, Memory>
+    requires parts { rest.old.parts ≡ shares }
+    requires nothing { rest.old.numbers ≡ nothing }
+    ensures shares { IfOk result (λ all. vec_len all ≡ shares) }
+    ensures nothing { IfOk result (λ all. All (λ numbers. numbers ≡ nothing) all.items) }
+    ensures rest { IfOk result (λ _. (rest.new.parts ≡ 0) × (rest.new.numbers ≡ nothing)) }
+{
+    let mut all = Vec::new(alloc);
+    for _ in 0..shares {
+        let share = Share { tokens: rest.cut() };
+        if all.push(share).is_err() {
+            return Err(Memory);
+        }
+    }
+    Ok(all)
+}
+
+// The tokens of all shares together, with what is left of those that the shares were cut off.
+fn merged<L: Ledgers>(rest: Tokens<L>, shares: Vec<Share<L>>) -> Tokens<L>
+    requires { (rest.parts ≡ 0) × (rest.numbers ≡ nothing) }
+    ensures parts { result.parts ≡ vec_len shares }
+    ensures numbers { result.numbers ≡ sums shares.items }
+{
+    let mut all = rest;
+    for share in shares {
+        let Share { tokens } = share;
+        all.merge(tokens);
+    }
+    all
 }

@@ -70,7 +70,10 @@ impl<W: AnyWorld> Book<W> {
         ensures succeeds { length self.old.history + n ≤ self.old.room → IsOk result }
         ensures refused { OnErr result (self.new ≡ self.old) }
     {
-        self.history.reserve(n).map_err(|_| Memory)
+        match self.history.reserve(n) {
+            Ok(()) => Ok(()),
+            Err(_) => Err(Memory),
+        }
     }
 
     /// Makes a move and records it with its answer (`recorded`, `legal`).

@@ -2,8 +2,12 @@
 
 ghost use Rattle.std.specs.Prelude.{◌≡◌, Bool, true, false, Option, Some, None, IfSome, IfNone, IsSome};
 ghost use Rattle.lock_words.specs.Tries.{Holds};
-ghost use Rattle.mutex_machine.specs.Program.{rest_at, start_of};
+ghost use Rattle.mutex_machine.specs.Program.{rest_at, start_of, action_of, next_of};
 ghost use Rattle.mutex_machine.specs.declared.program.Action.TheVariants as does;
+ghost use Rattle.mutex_machine.specs.declared.program.End.TheVariants as ends;
+ghost use Rattle.mutex_machine.specs.declared.program.Found.TheVariants as finds;
+ghost use Rattle.mutex_machine.specs.declared.program.LockCall.TheVariants as calls;
+ghost use Rattle.mutex_machine.specs.declared.program.Next.TheVariants as next;
 ghost use Rattle.mutex_machine.specs.declared.program.Place.TheVariants as at;
 
 use crate::carries::Carries;
@@ -110,12 +114,7 @@ impl<T> RawMutex<T> {
     pub fn take(&self) -> Option<(Seat<T>, Hold<T>)>
         ensures holds { IfSome result (λ r. Holds self.now.words r.0 r.1 × (r.0.starved ≡ false)) }
     {
-        prove!(
-            matches!(action_at(Place::Try), Action::Take)
-                && matches!(action_at(Place::Enter), Action::Take)
-        );
-        prove!(matches!(decide(Place::Try, Found::Free), Next::End(End::Got)));
-        prove!(matches!(decide(Place::Enter, Found::Free), Next::End(End::Got)));
+        straight_rows();
         let mut seat = self.words.sit();
         match self.words.take(&mut seat) {
             Taking::Got(hold) => Some((seat, hold)),
@@ -148,29 +147,31 @@ impl<T> RawMutex<T> {
     }
 
     /// Gives the lock back by the seat that holds it, with the right to its value. The program of a release has no
-    /// branch, and so its two actions stand here in their order; that they are the table's is proved.
+    /// branch, and so its two actions stand here in their order; that they are the table's is proved (`straight_rows`).
     #[inline]
     pub fn release<R: Wait>(&self, rt: &R, seat: Seat<T>, hold: Hold<T>)
         requires { Holds self.now.words seat hold }
     {
-        prove!(matches!(start(LockCall::Release, Place::Holding), Some(Place::Clear)));
-        prove!(matches!(action_at(Place::Clear), Action::Clear));
-        prove!(matches!(
-            decide(Place::Clear, Found::Done),
-            Next::Do(Action::Notify, Place::ReleaseNotify)
-        ));
-        prove!(matches!(
-            decide(Place::ReleaseNotify, Found::Done),
-            Next::End(End::GivenBack)
-        ));
+        straight_rows();
         let mut seat = seat;
         self.words.clear(&mut seat, hold);
         self.list.notify(rt, 1);
     }
 }
 
+// The rows of the program's table that `RawMutex::take` and `RawMutex::release` carry out straight: a free lock is got by a
+// take at once, and a release clears the word and notifies one. It does nothing, and its contract has the rows.
+#[inline]
+fn straight_rows()
+    ensures tries { (action_of at.Try ≡ does.Take) × (next_of at.Try finds.Free ≡ next.End ends.Got) }
+    ensures enters { (action_of at.Enter ≡ does.Take) × (next_of at.Enter finds.Free ≡ next.End ends.Got) }
+    ensures releases { start_of calls.Release at.Holding ≡ Some at.Clear }
+    ensures clears { (action_of at.Clear ≡ does.Clear) × (next_of at.Clear finds.Done ≡ next.Do does.Notify at.ReleaseNotify) }
+    ensures notifies { next_of at.ReleaseNotify finds.Done ≡ next.End ends.GivenBack }
+{}
+
 impl<T> Carries for MutexParty<T> {
-    ghost use Rattle.lock_driver.specs.Parties.{Stands, next_place, end_after as ends};
+    ghost use Rattle.lock_driver.specs.Parties.{Stands, next_place, end_after as ended_by};
 
     type Shared = RawMutex<T>;
 
@@ -184,7 +185,7 @@ impl<T> Carries for MutexParty<T> {
 
     ghost place_after = { next_place };
 
-    ghost end_after = { ends };
+    ghost end_after = { ended_by };
 
     fn act<R: Wait>(&mut self, shared: &RawMutex<T>, rt: &R, place: Place) -> Option<Found> {
         self.carry_out(shared, rt, action_at(place))

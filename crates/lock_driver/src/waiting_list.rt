@@ -79,43 +79,46 @@ impl WaitingList {
     /// the answer is true. If not, it keeps the waker in hand to be woken with, and what it kept before is in
     /// hand instead. An entry that isn't there any more counts as notified, so that nobody waits for it.
     pub fn ask<R: Wait>(&self, rt: &R, id: EntryId, waker: &mut Option<Waker>) -> bool {
-        let asked = {
-            let mut entries = self.entries.lock(rt);
-            let asked = entries.ask(id, waker.take());
-            if entries.is_empty() {
-                self.is_listed.store(false, Ordering::SeqCst);
-            }
-            asked
-        };
-        match asked {
-            Asked::Waiting { kept } => {
-                *waker = kept;
-                false
-            }
-            Asked::Notified { kept, unused } => {
-                *waker = unused.or(kept);
-                true
-            }
-            Asked::Unlisted { unused } => {
-                *waker = unused;
-                true
-            }
+        let asked = self.ask_locked(&mut self.entries.lock(rt), id, waker.take());
+        in_hand(asked, waker)
+    }
+
+    // As `ask`, under the list's lock.
+    fn ask_locked(
+        &self,
+        entries: &mut Event<Waker>,
+        id: EntryId,
+        waker: Option<Waker>,
+    ) -> Asked<Waker> {
+        let asked = entries.ask(id, waker);
+        self.say_if_empty(entries);
+        asked
+    }
+
+    // Under the list's lock: says that no entry is left, if none is.
+    fn say_if_empty(&self, entries: &Event<Waker>) {
+        if entries.is_empty() {
+            self.is_listed.store(false, Ordering::SeqCst);
         }
     }
 
     /// This entry leaves the list without asking. A notification that it had goes on to the next, whose waker
     /// is called. Its own waker is dropped, by which the kit wakes its task once more.
     pub fn leave<R: Wait>(&self, rt: &R, id: EntryId) {
-        let (kept, due) = {
-            let mut entries = self.entries.lock(rt);
-            let kept = entries.withdraw(id);
-            if entries.is_empty() {
-                self.is_listed.store(false, Ordering::SeqCst);
-            }
-            (kept, entries.next_waker())
-        };
+        let (kept, due) = self.withdraw_locked(&mut self.entries.lock(rt), id);
         drop(kept);
         wake(due);
+    }
+
+    // This entry leaves, under the list's lock: the waker that it kept, and the next that is due.
+    fn withdraw_locked(
+        &self,
+        entries: &mut Event<Waker>,
+        id: EntryId,
+    ) -> (Option<Waker>, Option<Waker>) {
+        let kept = entries.withdraw(id);
+        self.say_if_empty(entries);
+        (kept, entries.next_waker())
     }
 
     /// Notifies waiting entries from the front on until `n` are marked or none waits, and calls their wakers,
@@ -130,11 +133,7 @@ impl WaitingList {
     // As `notify`, of a list that had entries.
     #[inline(never)]
     fn notify_listed<R: Wait>(&self, rt: &R, n: usize) {
-        let mut due = {
-            let mut entries = self.entries.lock(rt);
-            entries.notify(n);
-            entries.next_waker()
-        };
+        let mut due = notify_locked(&mut self.entries.lock(rt), n);
         // At most n wakers have become due.
         for _ in 1..n {
             let Some(waker) = due else {
@@ -144,6 +143,30 @@ impl WaitingList {
             due = self.entries.lock(rt).next_waker();
         }
         wake(due);
+    }
+}
+
+// Notifies so many entries, under the list's lock: the first waker that is due.
+fn notify_locked(entries: &mut Event<Waker>, n: usize) -> Option<Waker> {
+    entries.notify(n);
+    entries.next_waker()
+}
+
+// Puts the waker that an entry hands back in hand, and says whether the entry has left the list.
+fn in_hand(asked: Asked<Waker>, waker: &mut Option<Waker>) -> bool {
+    match asked {
+        Asked::Waiting { kept } => {
+            *waker = kept;
+            false
+        }
+        Asked::Notified { kept, unused } => {
+            *waker = unused.or(kept);
+            true
+        }
+        Asked::Unlisted { unused } => {
+            *waker = unused;
+            true
+        }
     }
 }
 

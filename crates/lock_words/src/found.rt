@@ -34,7 +34,7 @@ pub enum Setting<T> {
 }
 
 /// What [`count`](crate::Words::count) found.
-#[derive(Clone, Copy, Debug, PartialEq, Eq)]
+#[derive(Clone, Copy, PartialEq, Eq)]
 pub enum Counting {
     /// The seat is counted as starved now.
     Counted,

@@ -4,12 +4,12 @@
 //! word counts the starved seats, and while nobody holds the lock the right to the value is at home. What a
 //! step tells the seat that makes it stands in specs/Steps.antt.
 
-ghost use Rattle.std.specs.Prelude.{◌≡◌, ℕ, ◌<◌, ◌≤◌, true, false, [], ◌∷◌, IfSome, IsSome};
+ghost use Rattle.std.specs.Prelude.{◌≡◌, ℕ, ◌<◌, ◌≤◌, ◌%◌, ◌/◌, true, false, [], ◌∷◌, IfSome, IfNone, IsSome, IfOk, OnErr};
 ghost use Rattle.lock_words.specs.Lock.{fresh, holding, cleared, counted, uncounted};
 ghost use Rattle.lock_words.specs.Tries.{Holds, OnTaking, OnAlone, OnSetting, OnCounting};
 ghost use Rattle.lock_words.specs.Right.{IsRight};
 ghost use Rattle.lock_words.specs.Seats.{HasSlots};
-ghost use Rattle.lock_words.specs.Steps.{without_holds};
+ghost use Rattle.lock_words.specs.Steps.{with_holds, without_holds};
 ghost use Rattle.lock_words.specs.declared.rested.Rested.{Rested};
 
 use crate::found::{Counting, Setting, Taking, TakingAlone};
@@ -17,7 +17,7 @@ use crate::rested::Rested;
 use crate::rule::{Clear, Count, Keep, MutexRule, Set, Take, Uncount};
 use crate::seat::{Seat, View};
 use atomic_table::{Seat as TableSeat, Shared, Table};
-use lock_place::{Hold, Place, Room, Spare};
+use lock_place::{Hold, Place, Room, Spare, Ticket};
 use std::alloc::{AllocError, Global};
 use std::marker::Model;
 
@@ -90,17 +90,15 @@ impl<T> Words<T> {
         };
         let (mut spare, ticket) = Spare::new(&place.room);
         spare.lend(hold, &place);
-        let mut slots = Vec::new(alloc);
-        slots.push(Rested::Spared(ticket))?;
-        let Ok((table, _first)) = Table::new(alloc, &[FREE], slots, &spare) else {
-            return Err(AllocError);
-        };
-        Ok(Words {
-            table,
-            place,
-            spare,
-            is_left: false,
-        })
+        match free_table(alloc, &spare, ticket) {
+            Ok(table) => Ok(Words {
+                table,
+                place,
+                spare,
+                is_left: false,
+            }),
+            Err(error) => Err(error),
+        }
     }
 
     /// The value, whatever became of the seats and the rights: a lock that a forgotten seat holds gives it
@@ -149,18 +147,15 @@ impl<T> Words<T> {
         requires idle { seat.old.holds ≡ false }
         ensures { OnTaking result (λ hold. (seat.new ≡ holding seat.old 0) × Holds self.now seat.new hold) (seat.new ≡ seat.old) }
     {
-        let shared = &self.table.shared;
-        let mut found = shared.peek(WORD);
-        if found == FREE && !self.is_left {
-            found = shared.compare_exchange::<Take>(&mut seat.inner, WORD, FREE, HELD);
-            if found == FREE {
-                return Taking::Got(take_right(shared, &self.spare, &mut seat.inner));
+        match self.take_from(seat, FREE) {
+            Ok(hold) => Taking::Got(hold),
+            Err(found) => {
+                if found < STARVED {
+                    Taking::Held
+                } else {
+                    Taking::Starved
+                }
             }
-        }
-        if found < STARVED {
-            Taking::Held
-        } else {
-            Taking::Starved
         }
     }
 
@@ -173,19 +168,38 @@ impl<T> Words<T> {
         requires idle { seat.old.holds ≡ false }
         ensures { OnAlone result (λ hold. (seat.new ≡ holding seat.old 1) × Holds self.now seat.new hold) (seat.new ≡ seat.old) }
     {
-        let shared = &self.table.shared;
-        let mut found = shared.peek(WORD);
-        if found == STARVED && !self.is_left {
-            found = shared.compare_exchange::<Take>(&mut seat.inner, WORD, STARVED, STARVED + HELD);
-            if found == STARVED {
-                return TakingAlone::Got(take_right(shared, &self.spare, &mut seat.inner));
+        match self.take_from(seat, STARVED) {
+            Ok(hold) => TakingAlone::Got(hold),
+            Err(found) => {
+                if found % STARVED == HELD {
+                    TakingAlone::Held
+                } else {
+                    TakingAlone::FreeWithOthers
+                }
             }
         }
-        if found % STARVED == HELD {
-            TakingAlone::Held
-        } else {
-            TakingAlone::FreeWithOthers
+    }
+
+    // Takes the lock where the word is `free`, as of a free lock: one try, which is no exchange where the word is another.
+    // The answer has the right, or what the word was.
+    #[inline]
+    fn take_from(&self, seat: &mut Seat<T>, free: u64) -> Result<Hold<T>, u64>
+        requires lock { seat.old.lock ≡ self.now.lock }
+        requires idle { seat.old.holds ≡ false }
+        requires free { (free % 2 ≡ 0) × (free ≤ 2) }
+        ensures got { IfOk result (λ hold. (seat.new ≡ holding seat.old (free / 2)) × Holds self.now seat.new hold) }
+        ensures not { OnErr result (seat.new ≡ seat.old) }
+    {
+        let shared = &self.table.shared;
+        let seen = shared.peek(WORD);
+        if seen != free || self.is_left {
+            return Err(seen);
         }
+        let found = shared.compare_exchange::<Take>(&mut seat.inner, WORD, free, free + HELD);
+        if found != free {
+            return Err(found);
+        }
+        Ok(take_right(shared, &self.spare, &mut seat.inner))
     }
 
     /// Makes the lock held, and takes it if it was free, whoever is starved: one step, which changes nothing
@@ -195,14 +209,13 @@ impl<T> Words<T> {
         requires idle { seat.old.holds ≡ false }
         ensures { OnSetting result (λ hold. (seat.new ≡ holding seat.old seat.new.passed) × Holds self.now seat.new hold) (seat.new ≡ seat.old) }
     {
-        let shared = &self.table.shared;
         if self.is_left {
             return Setting::WasSet;
         }
-        if shared.fetch_or::<Set>(&mut seat.inner, WORD, HELD) % STARVED == HELD {
-            return Setting::WasSet;
+        match seize(&self.table.shared, &self.spare, &mut seat.inner) {
+            Some(hold) => Setting::Got(hold),
+            None => Setting::WasSet,
         }
-        Setting::Got(take_right(shared, &self.spare, &mut seat.inner))
     }
 
     /// Counts the seat as starved: one try, which says by name where [`STARVED_LIMIT`] seats are counted
@@ -261,13 +274,39 @@ impl<T> Words<T> {
             Some(hold) => hold,
             None => {
                 self.is_left = true;
-                let hold = self.place.renew();
-                self.spare = Spare::new(&self.place.room).0;
-                hold
+                renew(&mut self.spare, &mut self.place)
             }
         };
         let place = &self.place;
         self.spare.lend(hold, place)
+    }
+}
+
+// A new right, past a forgotten seat's, and a new spare for it.
+fn renew<T>(spare: &mut Spare<T>, place: &mut Place<T, Global>) -> Hold<T>
+    ensures hold { result.room_id ≡ place.new.room.room_id }
+    ensures spare { spare.new.room_id ≡ place.new.room.room_id }
+{
+    let hold = place.renew();
+    *spare = Spare::new(&place.room).0;
+    hold
+}
+
+// The table of a free lock: a free word, and a ticket of its spare in the slot.
+fn free_table<T>(
+    alloc: Global,
+    spare: &Spare<T>,
+    ticket: Ticket,
+) -> Result<Table<Rested<T>, View, Spare<T>, MutexRule, Global>, AllocError>
+    requires { ticket.deed ≡ spare.now.deed }
+    ensures sizes { IfOk result (λ table. (table.shared.table_id.words ≡ 1) × (table.shared.table_id.slots ≡ 1)) }
+    ensures key { IfOk result (λ table. table.shared.key ≡ spare.now) }
+{
+    let mut slots = Vec::new(alloc);
+    slots.push(Rested::Spared(ticket))?;
+    match Table::new(alloc, &[FREE], slots, spare) {
+        Ok((table, _first)) => Ok(table),
+        Err(_) => Err(AllocError),
     }
 }
 
@@ -284,6 +323,25 @@ fn take_right<T>(
     ensures seat { (inner.new.table_id ≡ inner.old.table_id) × (inner.new.me.0 ≡ inner.old.me.0) × HasSlots true inner.new.me.1 }
 {
     shared.exchange(inner, SLOT, Rested::Away).into_hold(spare)
+}
+
+// Makes the lock held, and takes its right if it was free, whoever is starved: one step.
+fn seize<T>(
+    shared: &Ruled<T>,
+    spare: &Spare<T>,
+    inner: &mut TableSeat<Rested<T>, View>,
+) -> Option<Hold<T>>
+    requires table { (inner.old.table_id ≡ shared.now.table_id) × (shared.now.table_id.words ≡ 1) }
+    requires idle { inner.old.me.1 ≡ [] }
+    requires key { (inner.old.me.0.room ≡ spare.now.room_id) × (inner.old.me.0.deed ≡ spare.now.deed) }
+    requires spare { IsSome spare.now.value }
+    ensures got { IfSome result (λ hold. (hold.room_id ≡ spare.now.room_id) × (inner.new.table_id ≡ inner.old.table_id) × (inner.new.me.0 ≡ with_holds inner.old.me.0 inner.new.me.0.passed) × HasSlots true inner.new.me.1) }
+    ensures not { IfNone result ((inner.new.table_id ≡ inner.old.table_id) × (inner.new.me ≡ inner.old.me)) }
+{
+    if shared.fetch_or::<Set>(inner, WORD, HELD) % STARVED == HELD {
+        return None;
+    }
+    Some(take_right(shared, spare, inner))
 }
 
 // Lays the right into the slot, and gives the lock back with it.
@@ -309,10 +367,9 @@ fn regain<T>(
     ensures hold { IfSome result (λ hold. hold.room_id ≡ place.old.room.room_id) }
 {
     let mut inner = shared.load_new_seat::<Keep>(WORD).1;
-    if shared.fetch_or::<Set>(&mut inner, WORD, HELD) % STARVED == HELD {
+    let Some(hold) = seize(shared, spare, &mut inner) else {
         return None;
-    }
-    let hold = take_right(shared, spare, &mut inner);
+    };
     let (hold, ticket) = spare.reissue(hold, place);
     give_back(shared, &mut inner, Rested::Spared(ticket));
     Some(hold)

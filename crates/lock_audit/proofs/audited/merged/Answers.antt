@@ -1,7 +1,7 @@
 use Rattle.std.proofs.Common.{◌≡◌, ◌∷◌, [], arith, length-append, refl}
 use Rattle.lock_audit.specs.Numbers.{Numbers}
 use Rattle.lock_audit.proofs.Counting.{sums_more}
-use Rattle.lock_audit.proofs.audited.Audited.close.Goals as goal
+use Rattle.lock_audit.proofs.audited.merged.Goals as goal
 
 pub loop-share-preserved : goal.loop-share-preserved
 loop-share-preserved g c =

@@ -1,6 +1,6 @@
 use Rattle.std.proofs.Common.{◌≡◌, length}
 use Rattle.lock_audit.specs.Numbers.{sums}
-use Rattle.lock_audit.proofs.audited.Audited.close.Given as goal
+use Rattle.lock_audit.proofs.audited.merged.Given as goal
 
 -- the shares so far were merged
 abbrev pub invariant-loop-share : goal.invariant-loop-share

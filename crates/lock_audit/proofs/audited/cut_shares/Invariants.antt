@@ -1,7 +1,7 @@
 use Rattle.std.proofs.Common.{◌≡◌, ◌+◌, vec_len}
 use Rattle.std.specs.List.{All}
 use Rattle.lock_audit.specs.Numbers.{nothing}
-use Rattle.lock_audit.proofs.audited.Audited.new.Given as goal
+use Rattle.lock_audit.proofs.audited.cut_shares.Given as goal
 
 -- each share that was cut off, and what is left, has counted nothing
 abbrev pub invariant-loop : goal.invariant-loop

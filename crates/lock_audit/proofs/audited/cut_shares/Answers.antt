@@ -2,7 +2,7 @@ use Rattle.std.proofs.Common.{◌≡◌, ◌++◌, ◌∷◌, [], List, arith, r
 use Rattle.std.specs.List.{All}
 use Rattle.std.proofs.lemmas.List.Elements.{All-append, All-cons}
 use Rattle.lock_audit.specs.Numbers.{Numbers, nothing}
-use Rattle.lock_audit.proofs.audited.Audited.new.Goals as goal
+use Rattle.lock_audit.proofs.audited.cut_shares.Goals as goal
 
 -- one more of which nothing is counted
 one_more : (ns ms : List Numbers) (n : Numbers) → ms ≡ ns ++ n ∷ [] → All (λ m. m ≡ nothing) ns → n ≡ nothing → All (λ m. m ≡ nothing) ms
