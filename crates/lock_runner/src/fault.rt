@@ -7,7 +7,7 @@ use std::fmt;
 use std::fmt::{Display, Formatter};
 
 /// Why a run ends early. Its text is what the error output gets, without the line feed.
-#[derive(Clone, Copy, Debug, PartialEq, Eq)]
+#[derive(Clone, Copy)]
 pub enum Fault {
     /// The arguments are not those of the program.
     Usage,

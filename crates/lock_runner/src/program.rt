@@ -21,7 +21,7 @@ use lock_script::command::{self, Command, Model};
 use lock_script::line;
 use lock_workers::{Gate, Stopped, public};
 use lock_world::Refusal;
-use std::alloc::Global;
+use std::alloc::{AllocError, Global};
 use std::io;
 use std::io::{ErrorKind, Read, Write};
 use std::random::RandomSource;
@@ -75,15 +75,53 @@ where
         × Keeps (O.contents output.old) (O.contents output.new)) }
 {
     match task::parse(words) {
-        Some(Task::Script) => match script(alloc, input, output) {
-            Ok(()) => 0,
-            Err(fault) => report(fault, errors),
-        },
-        Some(Task::Threads(workers)) => match threads(rt, alloc, workers, output) {
-            Ok(()) => 0,
-            Err(fault) => report(fault, errors),
-        },
+        Some(Task::Script) => run_script(alloc, input, output, errors),
+        Some(Task::Threads(workers)) => run_threads(rt, alloc, workers, output, errors),
         None => report(Fault::Usage, errors),
+    }
+}
+
+/// Answers the script of the input, and tells of what ended it early.
+fn run_script<I: Read, O: Write, E: Write>(
+    alloc: Global,
+    input: &mut I,
+    output: &mut O,
+    errors: &mut E,
+) -> u8
+    ensures status { result ≤ 3 }
+    ensures asked { result ≢ 2 }
+    ensures script { result ≡ 0 → IfSome (I.remaining input.old) IsScript }
+    ensures played { result ≡ 0
+        → IfSome (I.remaining input.old) (λ text. IsPlayed text (O.contents output.old) (O.contents output.new)) }
+    ensures quiet { result ≡ 0 → Keeps (E.contents errors.old) (E.contents errors.new) }
+    ensures fault { result ≡ 1 → IfSome (I.remaining input.old)
+        (λ text. IsAtFault text (O.contents output.old) (O.contents output.new)) }
+    ensures long { IfSome (I.remaining input.old) (λ text. LIMIT < length text → ((result ≡ 1) ⊎ (result ≡ 3))
+        × Keeps (O.contents output.old) (O.contents output.new)) }
+{
+    match script(alloc, input, output) {
+        Ok(()) => 0,
+        Err(fault) => report(fault, errors),
+    }
+}
+
+/// Lets so many threads work, and tells of what ended them early.
+fn run_threads<R, O: Write, E: Write>(
+    rt: &R,
+    alloc: Global,
+    workers: u32,
+    output: &mut O,
+    errors: &mut E,
+) -> u8
+where
+    R: Threads + Wait + Clock + RandomSource + AllocGlobal + Sync + Copy + Drop,
+    ensures status { (result ≡ 0) ⊎ (result ≡ 3) }
+    ensures printed { result ≡ 0 → PrintsNumber (O.contents output.old) (O.contents output.new) }
+    ensures quiet { result ≡ 0 → Keeps (E.contents errors.old) (E.contents errors.new) }
+{
+    match threads(rt, alloc, workers, output) {
+        Ok(()) => 0,
+        Err(fault) => report(fault, errors),
     }
 }
 
@@ -153,7 +191,7 @@ fn script<I: Read, O: Write>(alloc: Global, input: &mut I, output: &mut O) -> Re
     match answer_lines(alloc, text.as_slice(), output) {
         Err(Fault::Write) => Err(Fault::Write),
         ended => {
-            output.flush().map_err(|_| Fault::Write)?;
+            written(output.flush())?;
             ended
         }
     }
@@ -200,11 +238,10 @@ fn read_more<I: Read>(input: &mut I, buffer: &mut [u8], text: &mut Vec<u8>) -> R
 {
     match input.read(buffer) {
         Ok(0) => Ok(Reader::IsAtEnd),
-        Ok(count) => {
-            text.extend_from_slice(&buffer[..count])
-                .map_err(|_| Fault::Memory)?;
-            Ok(Reader::MayHaveMore)
-        }
+        Ok(count) => match text.extend_from_slice(&buffer[..count]) {
+            Ok(()) => Ok(Reader::MayHaveMore),
+            Err(AllocError) => Err(Fault::Memory),
+        },
         // A read that was interrupted is made again.
         Err(e) if e.kind() == ErrorKind::Interrupted => Ok(Reader::MayHaveMore),
         Err(_) => Err(Fault::Read),
@@ -326,5 +363,8 @@ fn written(outcome: io::Result<()>) -> Result<(), Fault>
     ensures ok { OnOk outcome (IsOk result) }
     ensures err { OnErr outcome (result ≡ Err Fault.Write) }
 {
-    outcome.map_err(|_| Fault::Write)
+    match outcome {
+        Ok(()) => Ok(()),
+        Err(_) => Err(Fault::Write),
+    }
 }

@@ -6,12 +6,14 @@ ghost use Rattle.lock_runner.specs.declared.task.Task.{Task};
 
 use crate::fault::Fault;
 use lock_script::line;
+use std::alloc::Global;
 use std::env;
+use std::env::Args;
 use std::io::ErrorKind;
 use std::rt::Env;
 
 /// What the arguments ask for.
-#[derive(Clone, Copy, Debug, PartialEq, Eq)]
+#[derive(Clone, Copy)]
 pub enum Task {
     /// To carry out the script of the input.
     Script,
@@ -30,20 +32,25 @@ pub const WORKERS: u64 = 1000;
 pub fn arguments<R: Env + AllocGlobal>(rt: &R) -> Result<Vec<String>, Fault>
     ensures { IfErr result (λ fault. (fault ≡ Fault.Usage) ⊎ (fault ≡ Fault.Memory)) }
 {
-    let mut words = Vec::new(rt.alloc());
     match env::args(rt) {
-        Ok(all) => {
-            for word in all.skip(1) {
-                words.push(word).map_err(|_| Fault::Memory)?;
-            }
-            Ok(words)
-        }
+        Ok(all) => after_name(rt.alloc(), all),
         // An argument that is no text is not the word that is asked for.
         Err(e) => match e.kind() {
             ErrorKind::OutOfMemory => Err(Fault::Memory),
             _ => Err(Fault::Usage),
         },
     }
+}
+
+/// All words but the first, which is the program's name.
+fn after_name(alloc: Global, all: Args) -> Result<Vec<String>, Fault>
+    ensures { IfErr result (λ fault. fault ≡ Fault.Memory) }
+{
+    let mut words = Vec::new(alloc);
+    for word in all.skip(1) {
+        words.push(word).map_err(|_| Fault::Memory)?;
+    }
+    Ok(words)
 }
 
 /// What the words after the program's name ask for: `script` alone, or `threads` and a number of workers, of

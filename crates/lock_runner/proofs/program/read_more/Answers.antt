@@ -1,4 +1,4 @@
-use Rattle.std.proofs.Common.{◌≡◌, rules}
+use Rattle.std.proofs.Common.{◌≡◌, refl}
 use Rattle.std.specs.Prelude.{Result, Err}
 use Rattle.lock_runner.specs.declared.fault.Fault.{Fault}
 use Rattle.lock_runner.specs.declared.fault.Fault.TheVariants.{Memory, Read}
@@ -8,5 +8,5 @@ use Rattle.lock_runner.proofs.program.read_more.Goals as goal
 no_failed_read : {A : Type 0} (outcome : Result A Fault) → outcome ≡ Err Memory → outcome ≡ Err Read → ⊥
 no_failed_read outcome memory failed = absurd cc
 
-pub returns-in_err-map_err-in-Ok-clause-failed : goal.returns-in_err-map_err-in-Ok-clause-failed
-returns-in_err-map_err-in-Ok-clause-failed g c = λ failed. absurd (no_failed_read _ (search rules) failed)
+pub returns-in-Err-extend_from_slice-clause-failed : goal.returns-in-Err-extend_from_slice-clause-failed
+returns-in-Err-extend_from_slice-clause-failed g c = λ failed. absurd (no_failed_read _ refl failed)

@@ -3,47 +3,25 @@ use Rattle.std.proofs.Common.{◌≡◌, ◌∙◌, ap}
 use Rattle.std.specs.Prelude.{Some}
 use Rattle.lock_runner.specs.declared.task.Task.TheVariants.{Script, Threads}
 use Rattle.lock_runner.proofs.Asked.{only_script, not_both, asks_of, asks_nothing}
-use Rattle.lock_runner.proofs.Faults.{Keeps-same}
 use Rattle.lock_runner.proofs.program.run.Goals as goal
 
-pub returns-in-Ok-clause-usage : goal.returns-in-Ok-clause-usage
-returns-in-Ok-clause-usage g c = λ none. absurd (none Script (asks_of _ c.parse.result Script (c.in-Some-Script.is ∙ ap Some c.in-Some-Script.field-0-is) c.parse.ensures.asks))
+pub returns-in-Some-Script-clause-usage : goal.returns-in-Some-Script-clause-usage
+returns-in-Some-Script-clause-usage g c = λ none. absurd (none Script (asks_of _ c.parse.result Script (c.in-Some-Script.is ∙ ap Some c.in-Some-Script.field-0-is) c.parse.ensures.asks))
 
-pub returns-in-Ok-clause-threads : goal.returns-in-Ok-clause-threads
-returns-in-Ok-clause-threads g c = λ count asks. absurd (not_both _ count (asks_of _ c.parse.result Script (c.in-Some-Script.is ∙ ap Some c.in-Some-Script.field-0-is) c.parse.ensures.asks) asks)
+pub returns-in-Some-Script-clause-threads : goal.returns-in-Some-Script-clause-threads
+returns-in-Some-Script-clause-threads g c = λ count asks. absurd (not_both _ count (asks_of _ c.parse.result Script (c.in-Some-Script.is ∙ ap Some c.in-Some-Script.field-0-is) c.parse.ensures.asks) asks)
 
-pub returns-in-Ok-clause-quiet : goal.returns-in-Ok-clause-quiet
-returns-in-Ok-clause-quiet g c = λ zero. Keeps-same (g.E.Write.contents c.args.errors.now)
+pub returns-in-Some-Threads-clause-usage : goal.returns-in-Some-Threads-clause-usage
+returns-in-Some-Threads-clause-usage g c = λ none. absurd (none (Threads c.in-Some-Threads.workers) (asks_of _ c.parse.result (Threads c.in-Some-Threads.workers) (c.in-Some-Threads.is ∙ ap Some c.in-Some-Threads.field-0-is) c.parse.ensures.asks))
 
-pub returns-in-Err-clause-usage : goal.returns-in-Err-clause-usage
-returns-in-Err-clause-usage g c = λ none. absurd (none Script (asks_of _ c.parse.result Script (c.in-Some-Script.is ∙ ap Some c.in-Some-Script.field-0-is) c.parse.ensures.asks))
+pub returns-in-Some-Threads-clause-script : goal.returns-in-Some-Threads-clause-script
+returns-in-Some-Threads-clause-script g c = λ e zero. absurd (not_both _ c.in-Some-Threads.workers e (asks_of _ c.parse.result (Threads c.in-Some-Threads.workers) (c.in-Some-Threads.is ∙ ap Some c.in-Some-Threads.field-0-is) c.parse.ensures.asks))
 
-pub returns-in-Err-clause-threads : goal.returns-in-Err-clause-threads
-returns-in-Err-clause-threads g c = λ count asks. absurd (not_both _ count (asks_of _ c.parse.result Script (c.in-Some-Script.is ∙ ap Some c.in-Some-Script.field-0-is) c.parse.ensures.asks) asks)
+pub returns-in-Some-Threads-clause-played : goal.returns-in-Some-Threads-clause-played
+returns-in-Some-Threads-clause-played g c = λ e zero. absurd (not_both _ c.in-Some-Threads.workers e (asks_of _ c.parse.result (Threads c.in-Some-Threads.workers) (c.in-Some-Threads.is ∙ ap Some c.in-Some-Threads.field-0-is) c.parse.ensures.asks))
 
-pub returns-in-Ok-threads-clause-usage : goal.returns-in-Ok-threads-clause-usage
-returns-in-Ok-threads-clause-usage g c = λ none. absurd (none (Threads c.in-Some-Threads.workers) (asks_of _ c.parse.result (Threads c.in-Some-Threads.workers) (c.in-Some-Threads.is ∙ ap Some c.in-Some-Threads.field-0-is) c.parse.ensures.asks))
-
-pub returns-in-Ok-threads-clause-script : goal.returns-in-Ok-threads-clause-script
-returns-in-Ok-threads-clause-script g c = λ e zero. absurd (not_both _ c.in-Some-Threads.workers e (asks_of _ c.parse.result (Threads c.in-Some-Threads.workers) (c.in-Some-Threads.is ∙ ap Some c.in-Some-Threads.field-0-is) c.parse.ensures.asks))
-
-pub returns-in-Ok-threads-clause-played : goal.returns-in-Ok-threads-clause-played
-returns-in-Ok-threads-clause-played g c = λ e zero. absurd (not_both _ c.in-Some-Threads.workers e (asks_of _ c.parse.result (Threads c.in-Some-Threads.workers) (c.in-Some-Threads.is ∙ ap Some c.in-Some-Threads.field-0-is) c.parse.ensures.asks))
-
-pub returns-in-Ok-threads-clause-long : goal.returns-in-Ok-threads-clause-long
-returns-in-Ok-threads-clause-long g c = λ e. absurd (not_both _ c.in-Some-Threads.workers e (asks_of _ c.parse.result (Threads c.in-Some-Threads.workers) (c.in-Some-Threads.is ∙ ap Some c.in-Some-Threads.field-0-is) c.parse.ensures.asks))
-
-pub returns-in-Err-threads-clause-usage : goal.returns-in-Err-threads-clause-usage
-returns-in-Err-threads-clause-usage g c = λ none. absurd (none (Threads c.in-Some-Threads.workers) (asks_of _ c.parse.result (Threads c.in-Some-Threads.workers) (c.in-Some-Threads.is ∙ ap Some c.in-Some-Threads.field-0-is) c.parse.ensures.asks))
-
-pub returns-in-Err-threads-clause-script : goal.returns-in-Err-threads-clause-script
-returns-in-Err-threads-clause-script g c = λ e zero. absurd (not_both _ c.in-Some-Threads.workers e (asks_of _ c.parse.result (Threads c.in-Some-Threads.workers) (c.in-Some-Threads.is ∙ ap Some c.in-Some-Threads.field-0-is) c.parse.ensures.asks))
-
-pub returns-in-Err-threads-clause-played : goal.returns-in-Err-threads-clause-played
-returns-in-Err-threads-clause-played g c = λ e zero. absurd (not_both _ c.in-Some-Threads.workers e (asks_of _ c.parse.result (Threads c.in-Some-Threads.workers) (c.in-Some-Threads.is ∙ ap Some c.in-Some-Threads.field-0-is) c.parse.ensures.asks))
-
-pub returns-in-Err-threads-clause-long : goal.returns-in-Err-threads-clause-long
-returns-in-Err-threads-clause-long g c = λ e. absurd (not_both _ c.in-Some-Threads.workers e (asks_of _ c.parse.result (Threads c.in-Some-Threads.workers) (c.in-Some-Threads.is ∙ ap Some c.in-Some-Threads.field-0-is) c.parse.ensures.asks))
+pub returns-in-Some-Threads-clause-long : goal.returns-in-Some-Threads-clause-long
+returns-in-Some-Threads-clause-long g c = λ e. absurd (not_both _ c.in-Some-Threads.workers e (asks_of _ c.parse.result (Threads c.in-Some-Threads.workers) (c.in-Some-Threads.is ∙ ap Some c.in-Some-Threads.field-0-is) c.parse.ensures.asks))
 
 pub returns-in-None-clause-asked : goal.returns-in-None-clause-asked
 returns-in-None-clause-asked g c = λ task asks. absurd (asks_nothing _ c.parse.result c.in-None.is c.parse.ensures.none task asks)

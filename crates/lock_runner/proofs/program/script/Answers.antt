@@ -1,9 +1,9 @@
-use Rattle.std.proofs.Common.{ℕ, ◌<◌, List, length, ap, arith, length-append, rules}
+use Rattle.std.proofs.Common.{◌≡◌, ℕ, Err, ◌<◌, List, length, ap, arith, length-append, rules}
 use Rattle.std.specs.Prelude.{Option, Some, None, IfSome}
 use Rattle.std.specs.Io.KnownBytes.{Keeps}
 use Rattle.lock_runner.specs.declared.program.TheConstants.{LIMIT}
 use Rattle.lock_runner.specs.Scripts.{IsStartOfScript}
-use Rattle.lock_runner.proofs.Faults.{whole_fault, Keeps-same}
+use Rattle.lock_runner.proofs.Faults.{unread, whole_fault, Keeps-same}
 use Rattle.lock_runner.proofs.program.script.Goals as goal
 
 -- nothing was answered of a text that is too long
@@ -26,3 +26,8 @@ returns-then-len-gt-LIMIT-clause-fault g c = too_long _ _ (g.O.Write.contents c.
 pub returns-clause-fault : goal.returns-clause-fault
 returns-clause-fault g c =
     whole_fault _ _ _ _ _ _ c.answer_lines.result _ c.in_ok-text.ensures.start (omega arith) (rw c.as_slice.ensures.value at c.answer_lines.ensures.fault) c.flush.ensures.bytes (search rules)
+
+pub returns-in_err-text-clause-fault : goal.returns-in_err-text-clause-fault
+returns-in_err-text-clause-fault g c =
+    let same : c.from_residual.result ≡ Err c.in_err-text.field-0.0 = search rules in
+    rw same (unread _ _ (g.O.Write.contents c.args.output.now) c.in_err-text.ensures.system)

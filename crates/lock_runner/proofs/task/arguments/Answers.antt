@@ -2,5 +2,5 @@
 use Rattle.std.proofs.Common.{inl, refl}
 use Rattle.lock_runner.proofs.task.arguments.Goals as goal
 
-pub returns : goal.returns
-returns g c = inl refl
+pub returns-in_default : goal.returns-in_default
+returns-in_default g c = inl refl
