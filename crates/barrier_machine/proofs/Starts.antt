@@ -1,14 +1,17 @@
 -- Where a call begins or goes on.
 use Rattle.std.proofs.Common.{◌≡◌, ℕ, ◌<◌, List, length, get_or, true, false, Some, refl, subst, ap, sym, ◌∙◌}
 use Rattle.std.proofs.lemmas.List.{get_or_default}
+use Rattle.std.proofs.lemmas.Bool.{false≢true}
 use Rattle.lock_world.specs.declared.moves.Call.TheVariants as call
+use Rattle.lock_world.specs.declared.moves.Inputs.{Inputs}
 use Rattle.lock_world.specs.declared.moves.What.{What}
 use Rattle.lock_world.specs.declared.moves.What.TheVariants.{Begin, Go}
+use Rattle.lock_world.specs.declared.standing.Rest.{Rest}
 use Rattle.lock_world.specs.declared.standing.Rest.TheVariants as rest
 use Rattle.lock_world.specs.declared.standing.Stage.{Stage}
 use Rattle.lock_world.specs.declared.standing.Stage.TheVariants.{Outside, Inside, Forgotten}
 use Rattle.lock_world.specs.declared.standing.Within.{Within}
-use Rattle.lock_world.proofs.Equations.{some_eq, both}
+use Rattle.lock_world.proofs.Equations.{some_eq, none_some, both}
 use Rattle.lock_table.specs.Stages.{call_at, polls_again}
 use Rattle.barrier_machine.specs.declared.program.Aim.TheVariants as aim
 use Rattle.barrier_machine.specs.declared.program.Place.{Place}
@@ -41,25 +44,49 @@ pub record Starts (what : What) (w : Within) (x : Position) : Type 0 where
 begun : (what : What) (v w : Within) (x : Position) (from : Place) → place_for what x ≡ Some from → Some v ≡ Some w → Fits v x from → Starts what w x
 begun what v w x from starts e h = let Q : Within → Type 0 = λ u. Fits u x from in record { from = from; starts = starts; fits = subst Q (some_eq e) h }
 
+-- one stage after the other, since each case of a match over all of them at once would be told apart from all others
+idle : (what : What) (w : Within) → call_at knows (Outside rest.Idle) what ≡ Some w → Starts what w Out
+idle (Begin call.Wait i) w e = begun _ _ w Out (EnterLock aim.Arrive) refl e (record { stands = refl; lock = refl; counted = λ h. h; sure = λ a v h. tt; outcome = λ a v h. tt; late = refl; tells = refl; runs = refl })
+idle (Begin _ i) w e = absurd (none_some e)
+idle (Go i) w e = absurd (none_some e)
+
+finished : (what : What) (w : Within) → call_at knows (Outside rest.Finished) what ≡ Some w → polls_again (Outside rest.Finished) what ≡ false → Starts what w Out
+finished (Begin call.Wait i) w e n = begun _ _ w Out (EnterLock aim.Arrive) refl e (record { stands = refl; lock = refl; counted = λ h. h; sure = λ a v h. tt; outcome = λ a v h. tt; late = refl; tells = refl; runs = refl })
+finished (Begin call.Drop i) w e n = begun _ _ w Out Abandon refl e (record { stands = refl; lock = refl; counted = λ h. h; sure = λ a v h. tt; outcome = λ a v h. tt; late = refl; tells = refl; runs = refl })
+finished (Begin call.Poll i) w e n = absurd (false≢true (sym n))
+finished (Begin _ i) w e n = absurd (none_some e)
+finished (Go i) w e n = absurd (none_some e)
+
+polled : (i : Inputs) (w : Within) (x : Position) → goes_with (Outside rest.Pending) x ≡ true → call_at knows (Outside rest.Pending) (Begin call.Poll i) ≡ Some w → Starts (Begin call.Poll i) w x
+polled i w (Made m) g e = begun _ _ w (Made m) (EnterLock m) refl e (record { stands = refl; lock = refl; counted = λ h. h; sure = λ a v h. tt; outcome = λ a v h. tt; late = refl; tells = refl; runs = refl })
+polled i w (Locking m) g e = begun _ _ w (Locking m) (WaitLock m) refl e (record { stands = refl; lock = refl; counted = λ h. h; sure = λ a v h. tt; outcome = λ a v h. tt; late = refl; tells = refl; runs = refl })
+polled i w Waiting g e = begun _ _ w Waiting Ask refl e (record { stands = refl; lock = refl; counted = λ h. h; sure = λ a v h. tt; outcome = λ a v h. tt; late = refl; tells = refl; runs = refl })
+polled i w _ g e = absurd (false≢true g)
+
+dropped : (i : Inputs) (w : Within) (x : Position) → goes_with (Outside rest.Pending) x ≡ true → call_at knows (Outside rest.Pending) (Begin call.Drop i) ≡ Some w → Starts (Begin call.Drop i) w x
+dropped i w (Made m) g e = begun _ _ w (Made m) Abandon refl e (record { stands = refl; lock = refl; counted = λ h. absurd (false≢true h); sure = λ a v h. tt; outcome = λ a v h. tt; late = refl; tells = refl; runs = refl })
+dropped i w (Locking m) g e = begun _ _ w (Locking m) CancelLock refl e (record { stands = refl; lock = refl; counted = λ h. absurd (false≢true h); sure = λ a v h. tt; outcome = λ a v h. tt; late = refl; tells = refl; runs = refl })
+dropped i w Waiting g e = begun _ _ w Waiting CancelLeave refl e (record { stands = refl; lock = refl; counted = λ h. h; sure = λ a v h. tt; outcome = λ a v h. tt; late = refl; tells = refl; runs = refl })
+dropped i w _ g e = absurd (false≢true g)
+
+pending : (what : What) (w : Within) (x : Position) → goes_with (Outside rest.Pending) x ≡ true → call_at knows (Outside rest.Pending) what ≡ Some w → Starts what w x
+pending (Begin call.Poll i) w x g e = polled i w x g e
+pending (Begin call.Drop i) w x g e = dropped i w x g e
+pending (Begin _ i) w x g e = absurd (none_some e)
+pending (Go i) w x g e = absurd (none_some e)
+
+resting : (r : Rest) (what : What) (w : Within) (x : Position) → goes_with (Outside r) x ≡ true → call_at knows (Outside r) what ≡ Some w → polls_again (Outside r) what ≡ false → Starts what w x
+resting rest.Idle what w Out g e n = idle what w e
+resting rest.Finished what w Out g e n = finished what w e n
+resting rest.Pending what w x g e n = pending what w x g e
+resting _ what w _ g e n = absurd (false≢true g)
+
 pub starts : (s : Stage) (what : What) (w : Within) (x : Position) → goes_with s x ≡ true → call_at knows s what ≡ Some w → polls_again s what ≡ false → Starts what w x
-starts (Outside rest.Idle) (Begin call.Wait i) w Out g e n = begun _ _ w Out (EnterLock aim.Arrive) refl e (record { stands = refl; lock = refl; counted = λ h. h; sure = λ a v h. tt; outcome = λ a v h. tt; late = refl; tells = refl; runs = refl })
-starts (Outside rest.Idle) (Begin _ i) w Out g e n = absurd (cc)
-starts (Outside rest.Finished) (Begin call.Wait i) w Out g e n = begun _ _ w Out (EnterLock aim.Arrive) refl e (record { stands = refl; lock = refl; counted = λ h. h; sure = λ a v h. tt; outcome = λ a v h. tt; late = refl; tells = refl; runs = refl })
-starts (Outside rest.Finished) (Begin call.Drop i) w Out g e n = begun _ _ w Out Abandon refl e (record { stands = refl; lock = refl; counted = λ h. h; sure = λ a v h. tt; outcome = λ a v h. tt; late = refl; tells = refl; runs = refl })
-starts (Outside rest.Finished) (Begin _ i) w Out g e n = absurd (cc)
-starts (Outside rest.Pending) (Begin call.Poll i) w (Made m) g e n = begun _ _ w (Made m) (EnterLock m) refl e (record { stands = refl; lock = refl; counted = λ h. h; sure = λ a v h. tt; outcome = λ a v h. tt; late = refl; tells = refl; runs = refl })
-starts (Outside rest.Pending) (Begin call.Poll i) w (Locking m) g e n = begun _ _ w (Locking m) (WaitLock m) refl e (record { stands = refl; lock = refl; counted = λ h. h; sure = λ a v h. tt; outcome = λ a v h. tt; late = refl; tells = refl; runs = refl })
-starts (Outside rest.Pending) (Begin call.Poll i) w Waiting g e n = begun _ _ w Waiting Ask refl e (record { stands = refl; lock = refl; counted = λ h. h; sure = λ a v h. tt; outcome = λ a v h. tt; late = refl; tells = refl; runs = refl })
-starts (Outside rest.Pending) (Begin call.Drop i) w (Made m) g e n = begun _ _ w (Made m) Abandon refl e (record { stands = refl; lock = refl; counted = λ h. absurd (cc h); sure = λ a v h. tt; outcome = λ a v h. tt; late = refl; tells = refl; runs = refl })
-starts (Outside rest.Pending) (Begin call.Drop i) w (Locking m) g e n = begun _ _ w (Locking m) CancelLock refl e (record { stands = refl; lock = refl; counted = λ h. absurd (cc h); sure = λ a v h. tt; outcome = λ a v h. tt; late = refl; tells = refl; runs = refl })
-starts (Outside rest.Pending) (Begin call.Drop i) w Waiting g e n = begun _ _ w Waiting CancelLeave refl e (record { stands = refl; lock = refl; counted = λ h. h; sure = λ a v h. tt; outcome = λ a v h. tt; late = refl; tells = refl; runs = refl })
-starts (Outside rest.Pending) (Begin _ i) w _ g e n = absurd (cc)
-starts (Outside _) (Begin _ i) w _ g e n = absurd (cc)
-starts (Outside _) (Go i) w x g e n = absurd (cc)
+starts (Outside r) what w x g e n = resting r what w x g e n
 starts (Inside v) (Go i) w (At x) g e n = begun _ _ w (At x) x refl e (record { stands = refl; lock = refl; counted = λ h. h; sure = λ a v h. h; outcome = λ a v h. h; late = refl; tells = refl; runs = (both (is_begun x) (runs v.kind v.was x) g).1 })
-starts (Inside v) (Go i) w _ g e n = absurd (cc)
-starts (Inside v) (Begin _ i) w x g e n = absurd (cc)
-starts Forgotten what w x g e n = absurd (cc)
+starts (Inside v) (Go i) w _ g e n = absurd (false≢true g)
+starts (Inside v) (Begin c i) w x g e n = absurd (none_some e)
+starts Forgotten what w x g e n = absurd (none_some e)
 
 -- ---- as the machine's call says it
 

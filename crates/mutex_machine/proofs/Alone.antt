@@ -1,5 +1,6 @@
 -- Each step of a party that moves alone leaves fewer steps.
 use Rattle.std.proofs.Common.{◌≡◌, ℕ, ◌+◌, ◌==◌, ◌<◌, ◌≤◌, Bool, true, false, Some, List, length, refl, sym, ap, arith, ◌∙◌, get_or-set_same}
+use Rattle.lock_world.proofs.Equations.{none_some}
 use Rattle.std.proofs.Math.ListN.{set}
 use Rattle.std.specs.List.{sum_by}
 use Rattle.std.proofs.lemmas.List.Sums.{sum_by-set}
@@ -143,19 +144,19 @@ at_most _ m u = omega arith
 -- no call begins where it has more steps left than it may take
 pub within : (c : LockCall) (at from : Place) (m u : Bool) → start_of c at ≡ Some from → left from m u ≤ most_steps c
 within call.Lock Out from m u e = rw (← some_eq e) (omega arith)
-within call.Lock _ from m u e = absurd (cc)
+within call.Lock _ from m u e = absurd (none_some e)
 within call.Try Out from m u e = rw (← some_eq e) (omega arith)
-within call.Try _ from m u e = absurd (cc)
+within call.Try _ from m u e = absurd (none_some e)
 within call.Poll Out from m u e = rw (← some_eq e) (omega arith)
 within call.Poll Ask from m u e = rw (← some_eq e) (grind arith)
 within call.Poll AskStarved from m u e = rw (← some_eq e) (grind arith)
-within call.Poll _ from m u e = absurd (cc)
+within call.Poll _ from m u e = absurd (none_some e)
 within call.Release Holding from m u e = rw (← some_eq e) (omega arith)
-within call.Release _ from m u e = absurd (cc)
+within call.Release _ from m u e = absurd (none_some e)
 within call.Cancel Out from m u e = rw (← some_eq e) (omega arith)
 within call.Cancel Ask from m u e = rw (← some_eq e) (omega arith)
 within call.Cancel AskStarved from m u e = rw (← some_eq e) (omega arith)
-within call.Cancel _ from m u e = absurd (cc)
+within call.Cancel _ from m u e = absurd (none_some e)
 
 -- a call that has begun has fewer steps left than it may take
 pub begun_within : (c : LockCall) (at from : Place) (l : Lock) (p k : ℕ) → start_of c at ≡ Some from → k < left from (is_own_marked l p) (is_open l) → k < most_steps c

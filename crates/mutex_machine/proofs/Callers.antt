@@ -1,5 +1,6 @@
 -- What the machines and Worlds above may rest on that take a mutex for a part of their own: which calls may begin, what a party has by the course of its calls, on which end its call is decided, what a new mutex looks like, and giving way as Worlds say it.
 use Rattle.std.proofs.Common.{◌≡◌, ℕ, ◌+◌, ◌<◌, ◌≤◌, ◌⊎◌, inl, inr, zero, suc, true, false, ◌∷◌, length, map, replicate, get_or, Option, Some, None, refl, ap, arith, ◌∙◌}
+use Rattle.std.proofs.lemmas.Bool.{false≢true}
 use Rattle.lock_queue.specs.Parties.{entries_of}
 use Rattle.lock_world.specs.declared.refusal.Refusal.{Refusal}
 use Rattle.lock_world.specs.Bounds as bounds
@@ -16,36 +17,36 @@ pub use Rattle.mutex_machine.proofs.SoloPolls.{first_marked}
 -- which calls may begin
 pub may_lock : (x : Course) → is_out x ≡ true → may_begin call.Lock x ≡ true
 may_lock out h = refl
-may_lock _ h = absurd (cc)
+may_lock _ h = absurd (false≢true h)
 
 pub may_try : (x : Course) → is_out x ≡ true → may_begin call.Try x ≡ true
 may_try out h = refl
-may_try _ h = absurd (cc)
+may_try _ h = absurd (false≢true h)
 
 pub may_poll : (x : Course) → is_waiting x ≡ true → may_begin call.Poll x ≡ true
 may_poll (waiting starved) h = refl
-may_poll _ h = absurd (cc)
+may_poll _ h = absurd (false≢true h)
 
 pub may_cancel : (x : Course) → is_waiting x ≡ true → may_begin call.Cancel x ≡ true
 may_cancel (waiting starved) h = refl
-may_cancel _ h = absurd (cc)
+may_cancel _ h = absurd (false≢true h)
 
 pub may_release : (x : Course) → is_holding x ≡ true → may_begin call.Release x ≡ true
 may_release holding h = refl
-may_release _ h = absurd (cc)
+may_release _ h = absurd (false≢true h)
 
 -- what a party has, and where it is listed
 pub out_unlisted : (x : Course) → is_out x ≡ true → listed x ≡ 0
 out_unlisted out h = refl
-out_unlisted _ h = absurd (cc)
+out_unlisted _ h = absurd (false≢true h)
 
 pub holding_unlisted : (x : Course) → is_holding x ≡ true → listed x ≡ 0
 holding_unlisted holding h = refl
-holding_unlisted _ h = absurd (cc)
+holding_unlisted _ h = absurd (false≢true h)
 
 pub waiting_listed : (x : Course) → is_waiting x ≡ true → listed x ≡ 1
 waiting_listed (waiting starved) h = refl
-waiting_listed _ h = absurd (cc)
+waiting_listed _ h = absurd (false≢true h)
 
 pub listed_once : (x : Course) → listed x ≤ 1
 listed_once (taking progress starved true told) = omega arith
@@ -54,61 +55,61 @@ listed_once _ = omega arith
 
 pub out_free : (x : Course) → is_out x ≡ true → holds x ≡ 0
 out_free out h = refl
-out_free _ h = absurd (cc)
+out_free _ h = absurd (false≢true h)
 
 pub holding_holds : (x : Course) → is_holding x ≡ true → holds x ≡ 1
 holding_holds holding h = refl
-holding_holds _ h = absurd (cc)
+holding_holds _ h = absurd (false≢true h)
 
 pub waiting_free : (x : Course) → is_waiting x ≡ true → holds x ≡ 0
 waiting_free (waiting starved) h = refl
-waiting_free _ h = absurd (cc)
+waiting_free _ h = absurd (false≢true h)
 
 pub releasing_free : (x : Course) → is_releasing x ≡ true → holds x ≡ 0
 releasing_free releasing h = refl
-releasing_free _ h = absurd (cc)
+releasing_free _ h = absurd (false≢true h)
 
 pub out_unstarved : (x : Course) → is_out x ≡ true → is_counted x ≡ false
 out_unstarved out h = refl
-out_unstarved _ h = absurd (cc)
+out_unstarved _ h = absurd (false≢true h)
 
 pub holding_unstarved : (x : Course) → is_holding x ≡ true → is_counted x ≡ false
 holding_unstarved holding h = refl
-holding_unstarved _ h = absurd (cc)
+holding_unstarved _ h = absurd (false≢true h)
 
 -- that it rests, and isn't about to be counted
 pub out_rests : (x : Course) → is_out x ≡ true → is_resting x ≡ true
 out_rests out h = refl
-out_rests _ h = absurd (cc)
+out_rests _ h = absurd (false≢true h)
 
 pub holding_rests : (x : Course) → is_holding x ≡ true → is_resting x ≡ true
 holding_rests holding h = refl
-holding_rests _ h = absurd (cc)
+holding_rests _ h = absurd (false≢true h)
 
 pub waiting_rests : (x : Course) → is_waiting x ≡ true → is_resting x ≡ true
 waiting_rests (waiting starved) h = refl
-waiting_rests _ h = absurd (cc)
+waiting_rests _ h = absurd (false≢true h)
 
 pub out_uncounted : (x : Course) → is_out x ≡ true → is_counting x ≡ false
 out_uncounted out h = refl
-out_uncounted _ h = absurd (cc)
+out_uncounted _ h = absurd (false≢true h)
 
 pub holding_uncounted : (x : Course) → is_holding x ≡ true → is_counting x ≡ false
 holding_uncounted holding h = refl
-holding_uncounted _ h = absurd (cc)
+holding_uncounted _ h = absurd (false≢true h)
 
 pub waiting_uncounted : (x : Course) → is_waiting x ≡ true → is_counting x ≡ false
 waiting_uncounted (waiting starved) h = refl
-waiting_uncounted _ h = absurd (cc)
+waiting_uncounted _ h = absurd (false≢true h)
 
 -- on which end its call is decided
 pub releasing_decided : (x : Course) → is_releasing x ≡ true → decision x ≡ Some GivenBack
 releasing_decided releasing h = refl
-releasing_decided _ h = absurd (cc)
+releasing_decided _ h = absurd (false≢true h)
 
 pub cancelling_decided : (x : Course) → is_cancelling x ≡ true → decision x ≡ Some GivenBack
 cancelling_decided (cancelling starved) h = refl
-cancelling_decided _ h = absurd (cc)
+cancelling_decided _ h = absurd (false≢true h)
 
 -- a poll that is decided takes the lock, or is refused
 abbrev pub IsPolls : Option End → Type 0
@@ -121,7 +122,7 @@ taking_decided (taking called starved stands told) h = inl refl
 taking_decided (taking counting starved stands told) h = inl refl
 taking_decided (taking has_lock starved stands told) h = inr (inl refl)
 taking_decided (taking (gives_up refusal) starved stands told) h = inr (inr (refusal, refl))
-taking_decided _ h = absurd (cc)
+taking_decided _ h = absurd (false≢true h)
 
 -- a new mutex: each party is out, nobody holds it, and nobody is starved
 all_out : (n p : ℕ) → is_out (get_or (replicate n out) p out) ≡ true

@@ -1,5 +1,5 @@
 -- What a machine promises by its places, said of the mutex as those see it who build on one.
-use Rattle.std.proofs.Common.{◌≡◌, ℕ, suc, ◌<◌, ◌⊎◌, inl, inr, Bool, true, false, List, [], ◌∷◌, length, Option, Some, refl, sym, ap, arith, subst, ◌∙◌, get_or-set_same}
+use Rattle.std.proofs.Common.{◌≡◌, ℕ, suc, ◌<◌, ◌⊎◌, inl, inr, Bool, true, false, List, [], ◌∷◌, length, Option, Some, IsSome, refl, sym, ap, arith, subst, ◌∙◌, get_or-set_same}
 use Rattle.lock_event.specs.declared.event.Entry.{Entry}
 use Rattle.lock_queue.specs.Parties.{entries_of}
 use Rattle.lock_world.specs.declared.refusal.Refusal.TheVariants.{Memory, Starved}
@@ -23,7 +23,7 @@ use Rattle.mutex_machine.specs.Legal as legal
 use Rattle.mutex_machine.specs.Ranks as ranks
 use Rattle.mutex_machine.specs.Machine.{Lock, SameRoles, place_at}
 use Rattle.mutex_machine.specs.Deeds.{Change, takes, releases, starves, recovers, ListName}
-use Rattle.mutex_machine.specs.Course.{Course, GoesOn, holds, counted, decision, is_waiting, is_counting, is_called, is_told}
+use Rattle.mutex_machine.specs.Course.{Course, Begins, GoesOn, may_begin, holds, counted, decision, is_waiting, is_counting, is_called, is_told}
 use Rattle.mutex_machine.specs.Behind.{reveal, conceal, revealed}
 use Rattle.mutex_machine.specs.Mutex.{Mutex, course_at, holders, starved, left_after, IsAtRest, TakenFairly, IsMutex}
 use Rattle.mutex_machine.specs.Conduct.{decided_then, IsUnrefused, IsReason, IsAllowed, IsLegal, TakesAtOnce, HeedsClock, CountsNobody, HandsOn, BeginsToHandOn}
@@ -33,7 +33,7 @@ use Rattle.mutex_machine.proofs.Kept.{after}
 use Rattle.mutex_machine.proofs.Legal.{begins_fresh}
 use Rattle.mutex_machine.proofs.Promised.{HandsOn as HandsOnThere, begins_uncounted, begins_heedless, none_counted, told_on, begins_told}
 use Rattle.mutex_machine.proofs.Starts.{start_same}
-use Rattle.mutex_machine.proofs.Sights.{goes_so, holds_same, counted_same, listed_same, waiting_same, told_same, counting_same, decision_same, rests_there, rests_here, looks, at_seen, length_seen, holders_seen, starved_seen, holder_seen, roster_seen, steps_seen, some_left}
+use Rattle.mutex_machine.proofs.Sights.{begins_so, goes_so, may_start, holds_same, counted_same, listed_same, waiting_same, told_same, counting_same, decision_same, rests_there, rests_here, looks, at_seen, length_seen, holders_seen, starved_seen, holder_seen, roster_seen, steps_seen, some_left}
 
 pub same_place : (x : Place) → SameRoles x x
 same_place x = record { holding = refl; starving = refl; standing = refl; waiting = refl; owing = refl }
@@ -228,6 +228,12 @@ module _ (l k : Lock) where
 
 pub goes_here : (l k : Lock) (p : ℕ) (n : Next) → way.GoesOn (place_at l.places p) n (place_at k.places p) → GoesOn (course_at (seen l).courses p) (step_of n) (course_at (seen k).courses p)
 goes_here l k p n g = rw (at_seen l.places p, at_seen k.places p) (goes_so (place_at l.places p) n (place_at k.places p) g)
+
+pub begins_here : (k : Lock) (p : ℕ) (c : LockCall) (n : Next) → way.Begins c n (place_at k.places p) → Begins c (step_of n) (course_at (seen k).courses p)
+begins_here k p c n b = rw (at_seen k.places p) (begins_so c n (place_at k.places p) b)
+
+pub can_there : (l : Lock) (m : Mutex) (p : ℕ) (c : LockCall) → seen l ≡ m → AreKept l.places → may_begin c (course_at m.courses p) ≡ true → IsSome (start_of c (place_at l.places p))
+can_there l m p c e kept can = may_start c (place_at l.places p) (kept p) (ap (may_begin c) (sym (at_seen l.places p)) ∙ (ap (λ x. may_begin c (course_at x.courses p)) e ∙ can))
 
 pub decided_here : (l : Lock) (p : ℕ) → is_kept (place_at l.places p) ≡ true → decision (course_at (seen l).courses p) ≡ legal.decision (place_at l.places p)
 decided_here l p kept = ap decision (at_seen l.places p) ∙ decision_same (place_at l.places p) kept

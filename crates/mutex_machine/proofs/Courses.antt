@@ -1,5 +1,7 @@
 -- Where each action leads, told by courses.
 use Rattle.std.proofs.Common.{◌≡◌, ℕ, ◌<◌, Bool, true, false, Some, length, refl, sym, ap, ◌∙◌, get_or-set_same}
+use Rattle.lock_world.proofs.Equations.{none_some}
+use Rattle.std.proofs.lemmas.Bool.{false≢true}
 use Rattle.lock_world.proofs.Equations.{some_eq}
 use Rattle.mutex_machine.specs.declared.program.Place.{Place}
 use Rattle.mutex_machine.specs.declared.program.Place.TheVariants.{Out, Holding, Enter, CancelUncount, CancelLeave, Join, Look, Ask, Retry, PassOn, Count, JoinStarved, LookAlone, PassOnListed, AskStarved, Seize, Uncount, Leave, RefuseUncount, RefuseLeave, RefuseNotifyMemory, RefuseNotifyStarved, ReleaseNotify}
@@ -63,7 +65,7 @@ takes (RefuseLeave true) _ h = refl
 takes (RefuseLeave false) _ h = refl
 takes RefuseNotifyMemory _ h = refl
 takes RefuseNotifyStarved _ h = refl
-takes _ f h = absurd (cc)
+takes _ f h = absurd (false≢true h)
 
 polling : (p : Place) → is_taking p ≡ true → polls p ≡ true
 polling Enter h = refl
@@ -71,32 +73,32 @@ polling _ h = h
 
 releasing : (p : Place) (f : Found) → is_releasing p ≡ true → (next_of p f ≡ next.End GivenBack) × (place_after p (next_of p f) ≡ Out)
 releasing ReleaseNotify f h = (refl, refl)
-releasing _ f h = absurd (cc)
+releasing _ f h = absurd (false≢true h)
 
 cancelling : (p : Place) (f : Found) → is_cancelling p ≡ true → Cancels (next_of p f) (place_after p (next_of p f))
 cancelling CancelUncount f h = refl
 cancelling CancelLeave f h = refl
-cancelling _ f h = absurd (cc)
+cancelling _ f h = absurd (false≢true h)
 
 pub goes : (p : Place) (f : Found) → GoesOn p (next_of p f) (place_after p (next_of p f))
 goes p f = record { takes = λ h. takes p f (polling p h); releases = releasing p f; cancels = cancelling p f }
 
 pub begins : (c : LockCall) (at from : Place) (f : Found) → start_of c at ≡ Some from → Begins c (next_of from f) (place_after from (next_of from f))
 begins call.Lock Out from f e = rw (← some_eq e) (takes Enter f refl)
-begins call.Lock _ from f e = absurd (cc)
+begins call.Lock _ from f e = absurd (none_some e)
 begins call.Poll Out from f e = rw (← some_eq e) (takes Enter f refl)
 begins call.Poll Ask from f e = rw (← some_eq e) (takes Ask f refl)
 begins call.Poll AskStarved from f e = rw (← some_eq e) (takes AskStarved f refl)
-begins call.Poll _ from f e = absurd (cc)
+begins call.Poll _ from f e = absurd (none_some e)
 begins call.Try Out from Free e = rw (← some_eq e) refl
 begins call.Try Out from _ e = rw (← some_eq e) refl
-begins call.Try _ from f e = absurd (cc)
+begins call.Try _ from f e = absurd (none_some e)
 begins call.Release Holding from f e = rw (← some_eq e) refl
-begins call.Release _ from f e = absurd (cc)
+begins call.Release _ from f e = absurd (none_some e)
 begins call.Cancel Out from f e = rw (← some_eq e) refl
 begins call.Cancel Ask from f e = rw (← some_eq e) refl
 begins call.Cancel AskStarved from f e = rw (← some_eq e) refl
-begins call.Cancel _ from f e = absurd (cc)
+begins call.Cancel _ from f e = absurd (none_some e)
 
 module _ (memory : Bool) (p : ℕ) (next : Next) (old new : Lock) (known : p < length old.places) where
   lands : (from : Place) → Acts memory p from next old new → place_at new.places p ≡ place_after from next

@@ -13,7 +13,7 @@ use Rattle.lock_queue.specs.Parties.{is_party, entries_of}
 use Rattle.lock_queue.proofs.Told.{waits_at}
 use Rattle.lock_world.specs.declared.refusal.Refusal.TheVariants as refusal
 use Rattle.lock_world.specs.Steps.{Deed, nothing, changes, does, joins}
-use Rattle.lock_world.proofs.Equations.{some_eq, chosen}
+use Rattle.lock_world.proofs.Equations.{some_eq, none_some, some_none, chosen}
 use Rattle.mutex_machine.specs.declared.program.Place.{Place}
 use Rattle.mutex_machine.specs.declared.program.Place.TheVariants.{Out, Holding, Enter, Try, Ask, AskStarved}
 use Rattle.mutex_machine.specs.declared.program.LockCall.{LockCall}
@@ -78,11 +78,11 @@ asked p a f l m o ea ef = let P : Action → Found → Type 0 = λ b g. OnPartie
 -- an action keeps what was decided, and what it decides has a reason
 keep : (memory : Bool) (l : Lock) (from : Place) (f : Found) (w o : Option End) (e : End) → Judged memory l from f w o → w ≡ Some e → (o ≡ Some e) × (gives_back (deed_of (action_of from) f) ≡ true)
 keep memory l from f (Some c) o e j is = (j.0 ∙ is, j.1)
-keep memory l from f None o e j is = absurd (cc)
+keep memory l from f None o e j is = absurd (none_some is)
 
 judge : (memory : Bool) (l : Lock) (from : Place) (f : Found) (w o : Option End) (e : End) → Judged memory l from f w o → w ≡ None → o ≡ Some e → Reason memory l from f e
-judge memory l from f (Some c) o e j none is = absurd (cc)
-judge memory l from f None None e j none is = absurd (cc)
+judge memory l from f (Some c) o e j none is = absurd (some_none none)
+judge memory l from f None None e j none is = absurd (none_some is)
 judge memory l from f None (Some c) e j none is = let P : End → Type 0 = λ a. Reason memory l from f a in subst P (some_eq is) j
 
 -- a join found memory, and until its call is decided a party gives nothing up
@@ -91,10 +91,10 @@ found_room memory d list r e = let P : Deed Change ListName → Type 0 = Room me
 
 held_on : (o : Option End) (d : Deed Change ListName) → HoldsOn o d → o ≡ None → gives_up d ≡ false
 held_on None d h e = h
-held_on (Some c) d h e = absurd (cc)
+held_on (Some c) d h e = absurd (some_none e)
 
 kept_lock : (o : Option End) (d : Deed Change ListName) → HoldsOn o d → o ≡ Some Got → is_release d ≡ false
-kept_lock None d h e = absurd (cc)
+kept_lock None d h e = absurd (none_some e)
 kept_lock (Some Got) d h e = h
 kept_lock (Some Pending) d h e = absurd (cc)
 kept_lock (Some NotFree) d h e = absurd (cc)
@@ -306,28 +306,28 @@ begun_at a b e = sym (some_eq e)
 
 pub begins_decided : (c : LockCall) (here from : Place) → start_of c here ≡ Some from → decision from ≡ decided_by c
 begins_decided call.Lock Out from e = ap decision (begun_at _ _ e)
-begins_decided call.Lock _ from e = absurd (cc)
+begins_decided call.Lock _ from e = absurd (none_some e)
 begins_decided call.Try Out from e = ap decision (begun_at _ _ e)
-begins_decided call.Try _ from e = absurd (cc)
+begins_decided call.Try _ from e = absurd (none_some e)
 begins_decided call.Poll Out from e = ap decision (begun_at _ _ e)
 begins_decided call.Poll Ask from e = ap decision (begun_at _ _ e)
 begins_decided call.Poll AskStarved from e = ap decision (begun_at _ _ e)
-begins_decided call.Poll _ from e = absurd (cc)
+begins_decided call.Poll _ from e = absurd (none_some e)
 begins_decided call.Release Holding from e = ap decision (begun_at _ _ e)
-begins_decided call.Release _ from e = absurd (cc)
+begins_decided call.Release _ from e = absurd (none_some e)
 begins_decided call.Cancel Out from e = ap decision (begun_at _ _ e)
 begins_decided call.Cancel Ask from e = ap decision (begun_at _ _ e)
 begins_decided call.Cancel AskStarved from e = ap decision (begun_at _ _ e)
-begins_decided call.Cancel _ from e = absurd (cc)
+begins_decided call.Cancel _ from e = absurd (none_some e)
 
 not_fresh : (n : ℕ) → n ≡ 1 → (n == 0) ≡ true → ⊥
 not_fresh n e h = grind (arith, nat_tests)
 
 pub begins_fresh : (c : LockCall) (here from : Place) (n : ℕ) → n ≡ listed here → start_of c here ≡ Some from → is_fresh c n ≡ true → (from ≡ Enter) ⊎ (from ≡ Try)
 begins_fresh call.Lock Out from n l e h = inl (begun_at _ _ e)
-begins_fresh call.Lock _ from n l e h = absurd (cc)
+begins_fresh call.Lock _ from n l e h = absurd (none_some e)
 begins_fresh call.Try Out from n l e h = inr (begun_at _ _ e)
-begins_fresh call.Try _ from n l e h = absurd (cc)
+begins_fresh call.Try _ from n l e h = absurd (none_some e)
 begins_fresh call.Poll Out from n l e h = inl (begun_at _ _ e)
 begins_fresh call.Poll Ask from n l e h = absurd (not_fresh n l h)
 begins_fresh call.Poll AskStarved from n l e h = absurd (not_fresh n l h)

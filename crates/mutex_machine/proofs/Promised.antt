@@ -1,5 +1,7 @@
 -- What the actions of a poll lead to: who isn't starving isn't counted while nobody is, and who was told and is refused notifies.
 use Rattle.std.proofs.Common.{◌≡◌, ℕ, ◌+◌, ◌<◌, ◌≤◌, Bool, true, false, List, length, refl, arith, ap, sym, ◌∙◌, subst, get_or-set_same}
+use Rattle.std.proofs.lemmas.Bool.{false≢true}
+use Rattle.lock_world.proofs.Equations.{some_eq, none_some}
 use Rattle.std.proofs.Math.ListN.{set}
 use Rattle.std.proofs.lemmas.List.Sums.{sum_by-set, get_or-le-sum_by}
 use Rattle.std.specs.List.{sum_by}
@@ -15,8 +17,9 @@ use Rattle.mutex_machine.specs.declared.program.Found.{Found}
 use Rattle.mutex_machine.specs.declared.program.Found.TheVariants.{Done, Free, Held, SomeStarved, AtLimit, NoMemory, Yes, No}
 use Rattle.mutex_machine.specs.declared.program.Next.{Next}
 use Rattle.mutex_machine.specs.declared.program.Next.TheVariants as next
+use Rattle.mutex_machine.specs.declared.program.End.{End}
 use Rattle.mutex_machine.specs.declared.program.End.TheVariants.{Got, Pending, NotFree, GivenBack, Refused}
-use Rattle.std.specs.Prelude.{Some}
+use Rattle.std.specs.Prelude.{Option, Some}
 use Rattle.mutex_machine.specs.Program.{start_of, action_of, next_of, place_after}
 use Rattle.mutex_machine.specs.Roles.{counted}
 use Rattle.mutex_machine.specs.Parties.{OnParties}
@@ -37,12 +40,18 @@ record Uncounted (x : Place) : Type 0 where
 so : (x : Place) → counted x ≡ 0 → is_counting x ≡ false → Uncounted x
 so x p n = record { plain = p; not_next = n }
 
+one_none : ◌≡◌ {A = ℕ} 1 0 → ⊥
+one_none e = omega (arith, e)
+
+none_left : (n : ℕ) → 0 < n → n ≡ 0 → ⊥
+none_left n some none = omega (arith, some, none)
+
 uncounted : (memory : Bool) (l : Lock) (from : Place) (f : Found) → Finds memory (action_of from) f l → HeedsClock false from (next_of from f) → starved l ≡ 0 → counted from ≡ 0 → is_counting from ≡ false → Uncounted (after from f)
 uncounted memory l Out Done e c z k n = so Out refl refl
 uncounted memory l Holding Done e c z k n = so Holding refl refl
 uncounted memory l Enter Free e c z k n = so Holding refl refl
 uncounted memory l Enter (Held b) e c z k n = so (Join false) refl refl
-uncounted memory l Enter SomeStarved e c z k n = absurd (omega (arith, e, z))
+uncounted memory l Enter SomeStarved e c z k n = absurd (none_left (starved l) e z)
 uncounted memory l Try Free e c z k n = so Holding refl refl
 uncounted memory l Try (Held b) e c z k n = so Out refl refl
 uncounted memory l Try SomeStarved e c z k n = so Out refl refl
@@ -53,33 +62,33 @@ uncounted memory l (Join true) NoMemory e c z k n = so RefuseNotifyMemory refl r
 uncounted memory l (Join false) NoMemory e c z k n = so Out refl refl
 uncounted memory l (Look told) Free e c z k n = so Leave refl refl
 uncounted memory l (Look told) (Held b) e c z k n = so Ask refl refl
-uncounted memory l (Look told) SomeStarved e c z k n = absurd (omega (arith, e, z))
+uncounted memory l (Look told) SomeStarved e c z k n = absurd (none_left (starved l) e z)
 uncounted memory l Ask Yes e c z k n = so Retry refl refl
 uncounted memory l Ask No e c z k n = so Ask refl refl
 uncounted memory l Retry Free e c z k n = so Holding refl refl
-uncounted memory l Retry (Held true) e c z k n = absurd (cc)
+uncounted memory l Retry (Held true) e c z k n = absurd (false≢true c)
 uncounted memory l Retry (Held false) e c z k n = so (Join true) refl refl
-uncounted memory l Retry SomeStarved e c z k n = absurd (omega (arith, e, z))
-uncounted memory l PassOn f e c z k n = absurd (cc)
-uncounted memory l (Count listed told) f e c z k n = absurd (cc)
+uncounted memory l Retry SomeStarved e c z k n = absurd (none_left (starved l) e z)
+uncounted memory l PassOn f e c z k n = absurd (false≢true (sym n))
+uncounted memory l (Count listed told) f e c z k n = absurd (false≢true (sym n))
 uncounted memory l Leave Done e c z k n = so Holding refl refl
 uncounted memory l (RefuseLeave true) Done e c z k n = so RefuseNotifyStarved refl refl
 uncounted memory l (RefuseLeave false) Done e c z k n = so Out refl refl
 uncounted memory l RefuseNotifyMemory Done e c z k n = so Out refl refl
 uncounted memory l RefuseNotifyStarved Done e c z k n = so Out refl refl
 uncounted memory l ReleaseNotify Done e c z k n = so Out refl refl
-uncounted memory l JoinStarved f e c z k n = absurd (omega (arith, k))
-uncounted memory l LookAlone f e c z k n = absurd (omega (arith, k))
-uncounted memory l PassOnListed f e c z k n = absurd (omega (arith, k))
-uncounted memory l AskStarved f e c z k n = absurd (omega (arith, k))
-uncounted memory l Seize f e c z k n = absurd (omega (arith, k))
-uncounted memory l (Uncount listed) f e c z k n = absurd (omega (arith, k))
-uncounted memory l RefuseUncount f e c z k n = absurd (omega (arith, k))
-uncounted memory l CancelUncount f e c z k n = absurd (omega (arith, k))
+uncounted memory l JoinStarved f e c z k n = absurd (one_none k)
+uncounted memory l LookAlone f e c z k n = absurd (one_none k)
+uncounted memory l PassOnListed f e c z k n = absurd (one_none k)
+uncounted memory l AskStarved f e c z k n = absurd (one_none k)
+uncounted memory l Seize f e c z k n = absurd (one_none k)
+uncounted memory l (Uncount listed) f e c z k n = absurd (one_none k)
+uncounted memory l RefuseUncount f e c z k n = absurd (one_none k)
+uncounted memory l CancelUncount f e c z k n = absurd (one_none k)
 uncounted memory l _ _ e c z k n = absurd e
 
 some_place : (x y : Place) → Some x ≡ Some y → x ≡ y
-some_place x y e = cc
+some_place x y e = some_eq e
 
 -- no call begins where its party is about to be counted
 pub begins_uncounted : (c : _) (x from : Place) → start_of c x ≡ Some from → is_counting from ≡ false
@@ -92,7 +101,7 @@ begins_uncounted call.Release Holding from e = ap is_counting (sym (some_place C
 begins_uncounted call.Cancel Out from e = ap is_counting (sym (some_place Out from e))
 begins_uncounted call.Cancel Ask from e = ap is_counting (sym (some_place CancelLeave from e))
 begins_uncounted call.Cancel AskStarved from e = ap is_counting (sym (some_place CancelUncount from e))
-begins_uncounted _ _ from e = absurd (cc)
+begins_uncounted _ _ from e = absurd (none_some e)
 
 -- no call begins where the clock matters
 pub begins_heedless : (c : _) (x from : Place) (n : Next) (b : Bool) → start_of c x ≡ Some from → HeedsClock b from n
@@ -105,7 +114,7 @@ begins_heedless call.Release Holding from n b e = let H : Place → Type 0 = λ 
 begins_heedless call.Cancel Out from n b e = let H : Place → Type 0 = λ y. HeedsClock b y n in subst H (some_place Out from e) tt
 begins_heedless call.Cancel Ask from n b e = let H : Place → Type 0 = λ y. HeedsClock b y n in subst H (some_place CancelLeave from e) tt
 begins_heedless call.Cancel AskStarved from n b e = let H : Place → Type 0 = λ y. HeedsClock b y n in subst H (some_place CancelUncount from e) tt
-begins_heedless _ _ from n b e = absurd (cc)
+begins_heedless _ _ from n b e = absurd (none_some e)
 
 pub none_counted : (memory : Bool) (p : ℕ) (from : Place) (n : Next) (old new : Lock) → Acts memory p from n old new → HeedsClock false from n → p < length old.places → SameRoles from (place_at old.places p) → starved old ≡ 0 → is_counting from ≡ false
     → (starved new ≡ 0) × (is_counting (place_at new.places p) ≡ false)
@@ -141,15 +150,15 @@ stays memory l (Count true true) Done e t = refl
 stays memory l (Count true true) AtLimit e t = refl
 stays memory l (Count false true) Done e t = refl
 stays memory l (Count false true) AtLimit e t = refl
-stays memory l (Count true false) f e t = absurd (cc)
-stays memory l (Count false false) f e t = absurd (cc)
+stays memory l (Count true false) f e t = absurd (false≢true t)
+stays memory l (Count false false) f e t = absurd (false≢true t)
 stays memory l (Join true) Done e t = refl
 stays memory l (Join true) NoMemory e t = refl
-stays memory l (Join false) f e t = absurd (cc)
+stays memory l (Join false) f e t = absurd (false≢true t)
 stays memory l (Look true) Free e t = refl
 stays memory l (Look true) (Held b) e t = refl
 stays memory l (Look true) SomeStarved e t = refl
-stays memory l (Look false) f e t = absurd (cc)
+stays memory l (Look false) f e t = absurd (false≢true t)
 stays memory l Ask Yes e t = refl
 stays memory l Ask No e t = tt
 stays memory l JoinStarved Done e t = refl
@@ -167,17 +176,17 @@ stays memory l (Uncount false) Done e t = tt
 stays memory l Leave Done e t = tt
 stays memory l RefuseUncount Done e t = refl
 stays memory l (RefuseLeave true) Done e t = refl
-stays memory l (RefuseLeave false) f e t = absurd (cc)
+stays memory l (RefuseLeave false) f e t = absurd (false≢true t)
 stays memory l RefuseNotifyMemory Done e t = refl
 stays memory l RefuseNotifyStarved Done e t = refl
-stays memory l Out f e t = absurd (cc)
-stays memory l Holding f e t = absurd (cc)
-stays memory l Enter f e t = absurd (cc)
-stays memory l Try f e t = absurd (cc)
-stays memory l Clear f e t = absurd (cc)
-stays memory l CancelUncount f e t = absurd (cc)
-stays memory l CancelLeave f e t = absurd (cc)
-stays memory l ReleaseNotify f e t = absurd (cc)
+stays memory l Out f e t = absurd (false≢true t)
+stays memory l Holding f e t = absurd (false≢true t)
+stays memory l Enter f e t = absurd (false≢true t)
+stays memory l Try f e t = absurd (false≢true t)
+stays memory l Clear f e t = absurd (false≢true t)
+stays memory l CancelUncount f e t = absurd (false≢true t)
+stays memory l CancelLeave f e t = absurd (false≢true t)
+stays memory l ReleaseNotify f e t = absurd (false≢true t)
 stays memory l _ _ e t = absurd e
 
 -- what becomes of a told party's call: it goes on as told, or ends; and where it is refused some entry is marked, if there is any
@@ -213,7 +222,7 @@ told_on memory p from n old new acts there told =
 pub begins_told : (x from : Place) → is_waiting x ≡ true → start_of call.Poll x ≡ Some from → is_told from ≡ true
 begins_told Ask from w e = ap is_told (sym (some_place Ask from e))
 begins_told AskStarved from w e = ap is_told (sym (some_place AskStarved from e))
-begins_told _ from w e = absurd (cc)
+begins_told _ from w e = absurd (false≢true w)
 
 -- ---- no call is refused at its first action
 
@@ -228,38 +237,42 @@ is_start CancelLeave = true
 is_start CancelUncount = true
 is_start _ = false
 
+abbrev is_refusal : Option End → Bool
+is_refusal (Some (Refused r)) = true
+is_refusal _ = false
+
 begins_at : (memory : Bool) (l : Lock) (from : Place) (f : Found) (r : Refusal) → Finds memory (action_of from) f l → is_start from ≡ true → decided_then (next_of from f) (after from f) ≡ Some (Refused r) → ⊥
-begins_at memory l Out f r e s h = absurd (cc)
-begins_at memory l Enter Free r e s h = absurd (cc)
-begins_at memory l Enter (Held b) r e s h = absurd (cc)
-begins_at memory l Enter SomeStarved r e s h = absurd (cc)
-begins_at memory l Try Free r e s h = absurd (cc)
-begins_at memory l Try (Held b) r e s h = absurd (cc)
-begins_at memory l Try SomeStarved r e s h = absurd (cc)
-begins_at memory l Ask Yes r e s h = absurd (cc)
-begins_at memory l Ask No r e s h = absurd (cc)
-begins_at memory l AskStarved Yes r e s h = absurd (cc)
-begins_at memory l AskStarved No r e s h = absurd (cc)
-begins_at memory l Clear f r e s h = absurd (cc)
-begins_at memory l CancelLeave f r e s h = absurd (cc)
-begins_at memory l CancelUncount f r e s h = absurd (cc)
-begins_at memory l Holding f r e s h = absurd (cc)
-begins_at memory l (Join told) f r e s h = absurd (cc)
-begins_at memory l (Look told) f r e s h = absurd (cc)
-begins_at memory l Retry f r e s h = absurd (cc)
-begins_at memory l PassOn f r e s h = absurd (cc)
-begins_at memory l (Count listed told) f r e s h = absurd (cc)
-begins_at memory l JoinStarved f r e s h = absurd (cc)
-begins_at memory l LookAlone f r e s h = absurd (cc)
-begins_at memory l PassOnListed f r e s h = absurd (cc)
-begins_at memory l Seize f r e s h = absurd (cc)
-begins_at memory l (Uncount listed) f r e s h = absurd (cc)
-begins_at memory l Leave f r e s h = absurd (cc)
-begins_at memory l RefuseUncount f r e s h = absurd (cc)
-begins_at memory l (RefuseLeave told) f r e s h = absurd (cc)
-begins_at memory l RefuseNotifyMemory f r e s h = absurd (cc)
-begins_at memory l RefuseNotifyStarved f r e s h = absurd (cc)
-begins_at memory l ReleaseNotify f r e s h = absurd (cc)
+begins_at memory l Out f r e s h = false≢true (ap is_refusal h)
+begins_at memory l Enter Free r e s h = false≢true (ap is_refusal h)
+begins_at memory l Enter (Held b) r e s h = false≢true (ap is_refusal h)
+begins_at memory l Enter SomeStarved r e s h = false≢true (ap is_refusal h)
+begins_at memory l Try Free r e s h = false≢true (ap is_refusal h)
+begins_at memory l Try (Held b) r e s h = false≢true (ap is_refusal h)
+begins_at memory l Try SomeStarved r e s h = false≢true (ap is_refusal h)
+begins_at memory l Ask Yes r e s h = false≢true (ap is_refusal h)
+begins_at memory l Ask No r e s h = false≢true (ap is_refusal h)
+begins_at memory l AskStarved Yes r e s h = false≢true (ap is_refusal h)
+begins_at memory l AskStarved No r e s h = false≢true (ap is_refusal h)
+begins_at memory l Clear f r e s h = false≢true (ap is_refusal h)
+begins_at memory l CancelLeave f r e s h = false≢true (ap is_refusal h)
+begins_at memory l CancelUncount f r e s h = false≢true (ap is_refusal h)
+begins_at memory l Holding f r e s h = false≢true s
+begins_at memory l (Join told) f r e s h = false≢true s
+begins_at memory l (Look told) f r e s h = false≢true s
+begins_at memory l Retry f r e s h = false≢true s
+begins_at memory l PassOn f r e s h = false≢true s
+begins_at memory l (Count listed told) f r e s h = false≢true s
+begins_at memory l JoinStarved f r e s h = false≢true s
+begins_at memory l LookAlone f r e s h = false≢true s
+begins_at memory l PassOnListed f r e s h = false≢true s
+begins_at memory l Seize f r e s h = false≢true s
+begins_at memory l (Uncount listed) f r e s h = false≢true s
+begins_at memory l Leave f r e s h = false≢true s
+begins_at memory l RefuseUncount f r e s h = false≢true s
+begins_at memory l (RefuseLeave told) f r e s h = false≢true s
+begins_at memory l RefuseNotifyMemory f r e s h = false≢true s
+begins_at memory l RefuseNotifyStarved f r e s h = false≢true s
+begins_at memory l ReleaseNotify f r e s h = false≢true s
 begins_at memory l _ _ r e s h = absurd e
 
 starts_at : (c : _) (x from : Place) → start_of c x ≡ Some from → is_start from ≡ true
@@ -272,7 +285,7 @@ starts_at call.Release Holding from e = ap is_start (sym (some_place Clear from 
 starts_at call.Cancel Out from e = ap is_start (sym (some_place Out from e))
 starts_at call.Cancel Ask from e = ap is_start (sym (some_place CancelLeave from e))
 starts_at call.Cancel AskStarved from e = ap is_start (sym (some_place CancelUncount from e))
-starts_at _ _ from e = absurd (cc)
+starts_at _ _ from e = absurd (none_some e)
 
 pub begins_unrefused : (memory : Bool) (p : ℕ) (c : _) (x from : Place) (n : Next) (old new : Lock) → start_of c x ≡ Some from → Acts memory p from n old new → p < length old.places → IsUnrefused n (place_at new.places p)
 begins_unrefused memory p c x from n old new e acts there r h =

@@ -1,5 +1,6 @@
 -- What the courses of the parties' calls tell of the places behind them.
 use Rattle.std.proofs.Common.{◌≡◌, ℕ, ◌+◌, ◌<◌, Bool, true, false, zero, suc, List, [], ◌∷◌, length, map, replicate, get_or, Option, Some, None, IsSome, IsSomeAnd, refl, sym, ap, arith, ◌∙◌}
+use Rattle.std.proofs.lemmas.Bool.{false≢true}
 use Rattle.std.proofs.Math.ListN.{set}
 use Rattle.std.specs.Prelude.{◌==◌, if◌then◌else◌}
 use Rattle.std.specs.List.{sum_by}
@@ -115,9 +116,9 @@ counting_same x = ap (λ h. h.counting) (same x)
 pub decision_same : (x : Place) → is_kept x ≡ true → decision (course_of x) ≡ legal.decision x
 decision_same place.Out k = refl
 decision_same place.Holding k = refl
-decision_same place.Enter k = absurd (cc)
-decision_same place.Try k = absurd (cc)
-decision_same place.Clear k = absurd (cc)
+decision_same place.Enter k = absurd (false≢true k)
+decision_same place.Try k = absurd (false≢true k)
+decision_same place.Clear k = absurd (false≢true k)
 decision_same place.CancelUncount k = refl
 decision_same place.CancelLeave k = refl
 decision_same place.Ask k = refl
@@ -152,7 +153,7 @@ rests_here place.Out h = refl
 rests_here place.Holding h = refl
 rests_here place.Ask h = refl
 rests_here place.AskStarved h = refl
-rests_here _ h = absurd (cc)
+rests_here _ h = absurd (false≢true h)
 
 -- and which calls may begin there
 pub may_start : (c : LockCall) (x : Place) → is_kept x ≡ true → may_begin c (course_of x) ≡ true → IsSome (start_of c x)
@@ -165,12 +166,15 @@ may_start call.Release place.Holding k h = refl
 may_start call.Cancel place.Out k h = refl
 may_start call.Cancel place.Ask k h = refl
 may_start call.Cancel place.AskStarved k h = refl
-may_start _ _ k h = absurd (cc)
+may_start _ place.Enter k h = absurd (false≢true k)
+may_start _ place.Try k h = absurd (false≢true k)
+may_start _ place.Clear k h = absurd (false≢true k)
+may_start _ _ k h = absurd (false≢true h)
 
 -- a party that looks at the lock after a notification
 pub looks : (x : Place) → is_called (course_of x) ≡ true → x ≡ place.Retry
 looks place.Retry h = refl
-looks _ h = absurd (cc)
+looks _ h = absurd (false≢true h)
 
 -- ---- where a step leaves its party
 

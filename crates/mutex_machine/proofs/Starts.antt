@@ -1,5 +1,6 @@
 -- A call begins with the roles that its party has.
 use Rattle.std.proofs.Common.{◌≡◌, Some, refl}
+use Rattle.lock_world.proofs.Equations.{none_some}
 use Rattle.lock_world.proofs.Equations.{some_eq}
 use Rattle.mutex_machine.specs.declared.program.Place.{Place}
 use Rattle.mutex_machine.specs.declared.program.Place.TheVariants.{Out, Holding, Ask, AskStarved}
@@ -10,16 +11,16 @@ use Rattle.mutex_machine.specs.Machine.{SameRoles}
 
 pub start_same : (c : LockCall) (at from : Place) → start_of c at ≡ Some from → SameRoles from at
 start_same call.Lock Out from e = rw (← some_eq e) (record { holding = refl; starving = refl; standing = refl; waiting = refl; owing = refl })
-start_same call.Lock _ from e = absurd (cc)
+start_same call.Lock _ from e = absurd (none_some e)
 start_same call.Try Out from e = rw (← some_eq e) (record { holding = refl; starving = refl; standing = refl; waiting = refl; owing = refl })
-start_same call.Try _ from e = absurd (cc)
+start_same call.Try _ from e = absurd (none_some e)
 start_same call.Poll Out from e = rw (← some_eq e) (record { holding = refl; starving = refl; standing = refl; waiting = refl; owing = refl })
 start_same call.Poll Ask from e = rw (← some_eq e) (record { holding = refl; starving = refl; standing = refl; waiting = refl; owing = refl })
 start_same call.Poll AskStarved from e = rw (← some_eq e) (record { holding = refl; starving = refl; standing = refl; waiting = refl; owing = refl })
-start_same call.Poll _ from e = absurd (cc)
+start_same call.Poll _ from e = absurd (none_some e)
 start_same call.Release Holding from e = rw (← some_eq e) (record { holding = refl; starving = refl; standing = refl; waiting = refl; owing = refl })
-start_same call.Release _ from e = absurd (cc)
+start_same call.Release _ from e = absurd (none_some e)
 start_same call.Cancel Out from e = rw (← some_eq e) (record { holding = refl; starving = refl; standing = refl; waiting = refl; owing = refl })
 start_same call.Cancel Ask from e = rw (← some_eq e) (record { holding = refl; starving = refl; standing = refl; waiting = refl; owing = refl })
 start_same call.Cancel AskStarved from e = rw (← some_eq e) (record { holding = refl; starving = refl; standing = refl; waiting = refl; owing = refl })
-start_same call.Cancel _ from e = absurd (cc)
+start_same call.Cancel _ from e = absurd (none_some e)

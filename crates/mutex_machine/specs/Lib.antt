@@ -4,6 +4,7 @@ pub mod Deeds
 pub mod Roles
 pub mod Effects
 pub mod Seats
+pub mod Carried
 pub mod Tally
 pub mod Parties
 pub mod Machine

@@ -45,8 +45,8 @@ impl Model for Lock {
     ghost invariant = { λ m. IsLock m.word m.places.items m.list };
 }
 
-ghost use Rattle.mutex_machine.specs.Effects.{OnWord};
-ghost use Rattle.mutex_machine.specs.Seats.{OnList, CanDo};
+ghost use Rattle.mutex_machine.specs.Carried.{Carried};
+ghost use Rattle.mutex_machine.specs.Seats.{CanDo};
 ghost use Rattle.mutex_machine.specs.Machine.{SameRoles, place_at, new_lock};
 ghost use Rattle.mutex_machine.specs.Acts.{Acts, TakenFairly, IsMutex, Holds, holders, starved as starved_lem};
 ghost use Rattle.mutex_machine.specs.Legal.{IsLegal, IsUnrefused, TakesAtOnce, TakesFrom, decision};
@@ -67,9 +67,7 @@ fn carry_out(
     starving: bool,
 ) -> Found
     requires { CanDo party action word.old list.old }
-    ensures word { OnWord action result word.old word.new }
-    ensures list { OnList party memory action result list.old list.new }
-    ensures clock { (long : Bool) → action ≡ Action.Take → result ≡ Found.Held long → long ≡ starving }
+    ensures { Carried memory starving party action result word.old list.old word.new list.new }
 {
     match action {
         Action::Nothing => Found::Done,

@@ -4,6 +4,7 @@ pub mod Roles
 pub mod Effects
 pub mod Parties
 pub mod Turns
+pub mod Carried
 pub mod Tally
 pub mod Machine
 pub mod Acts

@@ -12,9 +12,9 @@ ghost use Rattle.mutex_machine.specs.Mutex.{TakenFairly};
 ghost use Rattle.rwlock_machine.specs.declared.program.Place.TheVariants as place;
 ghost use Rattle.rwlock_machine.specs.Program.{start_of, place_after};
 ghost use Rattle.rwlock_machine.specs.Roles.{bit};
-ghost use Rattle.rwlock_machine.specs.Effects.{OnWord, CanDo};
-ghost use Rattle.rwlock_machine.specs.Parties.{Joins, Asks, HasMemory, FindsMemory, OnNoWriter, OnNoReaders};
-ghost use Rattle.rwlock_machine.specs.Turns.{OnTurn};
+ghost use Rattle.rwlock_machine.specs.Effects.{CanDo};
+ghost use Rattle.rwlock_machine.specs.Parties.{Joins, Asks, HasMemory};
+ghost use Rattle.rwlock_machine.specs.Carried.{Carried};
 ghost use Rattle.rwlock_machine.specs.Machine.{SameRoles, place_at, new_rwlock};
 ghost use Rattle.rwlock_machine.specs.Acts.{Acts, IsRwLock, readers as readers_lem, marked};
 ghost use Rattle.rwlock_machine.specs.Solo.{SoloPolls};
@@ -107,13 +107,7 @@ fn carry_out(
     starving: bool,
 ) -> Found
     requires { CanDo party action word.old no_writer.old no_readers.old turn.old }
-    ensures word { OnWord action result word.old word.new }
-    ensures no_writer { OnNoWriter party action result no_writer.old.entries no_writer.new.entries }
-    ensures no_readers { OnNoReaders party action result no_readers.old.entries no_readers.new.entries }
-    ensures parties_w { no_writer.new.parties ≡ no_writer.old.parties }
-    ensures parties_r { no_readers.new.parties ≡ no_readers.old.parties }
-    ensures turn { OnTurn memory starving party action result turn.old turn.new }
-    ensures memory { FindsMemory memory action result }
+    ensures { Carried memory starving party action result word.old no_writer.old no_readers.old turn.old word.new no_writer.new no_readers.new turn.new }
 {
     match action {
         Action::Nothing => Found::Done,

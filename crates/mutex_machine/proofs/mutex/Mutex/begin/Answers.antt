@@ -3,14 +3,28 @@ use Rattle.mutex_machine.specs.Program.{start_of}
 use Rattle.mutex_machine.specs.Machine.{place_at}
 use Rattle.mutex_machine.specs.Acts.{Acts}
 use Rattle.lock_world.proofs.Equations.{witness}
-use Rattle.mutex_machine.proofs.Clauses.{known_there, is_legal, fairly, left_seen, is_done, at_once, begins_told_on, begins_patient}
+use Rattle.mutex_machine.proofs.Clauses.{known_there, can_there, begins_here, is_legal, is_unrefused, fairly, left_seen, is_done, at_once, begins_told_on, begins_patient}
 use Rattle.mutex_machine.proofs.Sights.{begins_kept}
 use Rattle.mutex_machine.proofs.mutex.Mutex.begin.Goals as goal
 
+pub begin-requires-clause-known : goal.begin-requires-clause-known
+begin-requires-clause-known c = known_there c.self.inside.machine c.args.self.now c.args.party c.self.view_is c.requires.known
+
+pub begin-requires-clause-can : goal.begin-requires-clause-can
+begin-requires-clause-can c = can_there c.self.inside.machine c.args.self.now c.args.party c.args.call c.self.view_is c.self.invariant c.requires.can
+
+pub invariant_of-self : goal.invariant_of-self
+invariant_of-self c = begins_kept c.args.memory c.args.party c.args.call c.begin.result c.self.inside.machine c.begin.new.self c.self.invariant c.begin.ensures.acts
+
+pub returns-clause-leads : goal.returns-clause-leads
+returns-clause-leads c = rw c.step_after.ensures (begins_here c.begin.new.self c.args.party c.args.call c.begin.result c.begin.ensures.leads)
+
+pub returns-clause-unrefused : goal.returns-clause-unrefused
+returns-clause-unrefused c = rw c.step_after.ensures (is_unrefused c.self.inside.machine c.begin.new.self c.begin.result c.args.party (invariant_of-self c) c.begin.ensures.unrefused)
+
 pub returns-clause-legal : goal.returns-clause-legal
 returns-clause-legal c =
-    let kept = begins_kept c.args.memory c.args.party c.args.call c.begin.result c.self.inside.machine c.begin.new.self c.self.invariant c.begin.ensures.acts in
-    rw c.step_after.ensures (rw (← c.self.view_is) (is_legal c.self.inside.machine c.begin.new.self c.begin.result c.args.party kept c.args.memory _ c.begin.ensures.legal))
+    rw c.step_after.ensures (rw (← c.self.view_is) (is_legal c.self.inside.machine c.begin.new.self c.begin.result c.args.party (invariant_of-self c) c.args.memory _ c.begin.ensures.legal))
 
 pub returns-clause-at_once : goal.returns-clause-at_once
 returns-clause-at_once c =
