@@ -226,10 +226,15 @@ impl<T: Drop, R: Wait + Clock + RandomSource + AllocGlobal + Drop> Mutex<T, R> {
 impl<T: fmt::Debug, R: Wait> fmt::Debug for Mutex<T, R> {
     fn fmt<W: fmt::Write>(&self, f: &mut fmt::Formatter<W>) -> fmt::Result {
         match self.try_lock() {
-            Some(guard) => f.debug_struct("Mutex").field("data", &*guard).finish(),
-            None => f.debug_struct("Mutex").field("data", &Locked).finish(),
+            Some(guard) => debug_as(f, &*guard),
+            None => debug_as(f, &Locked),
         }
     }
+}
+
+// A mutex with what stands for its value.
+fn debug_as<D: fmt::Debug, W: fmt::Write>(f: &mut fmt::Formatter<W>, data: &D) -> fmt::Result {
+    f.debug_struct("Mutex").field("data", data).finish()
 }
 
 // What stands for the value of a mutex that is held.

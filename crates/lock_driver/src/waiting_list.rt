@@ -105,20 +105,14 @@ impl WaitingList {
     /// This entry leaves the list without asking. A notification that it had goes on to the next, whose waker
     /// is called. Its own waker is dropped, by which the kit wakes its task once more.
     pub fn leave<R: Wait>(&self, rt: &R, id: EntryId) {
-        let (kept, due) = self.withdraw_locked(&mut self.entries.lock(rt), id);
+        let (kept, due) = {
+            let mut entries = self.entries.lock(rt);
+            let kept = entries.withdraw(id);
+            self.say_if_empty(&entries);
+            (kept, entries.next_waker())
+        };
         drop(kept);
         wake(due);
-    }
-
-    // This entry leaves, under the list's lock: the waker that it kept, and the next that is due.
-    fn withdraw_locked(
-        &self,
-        entries: &mut Event<Waker>,
-        id: EntryId,
-    ) -> (Option<Waker>, Option<Waker>) {
-        let kept = entries.withdraw(id);
-        self.say_if_empty(entries);
-        (kept, entries.next_waker())
     }
 
     /// Notifies waiting entries from the front on until `n` are marked or none waits, and calls their wakers,
