@@ -85,7 +85,7 @@ Keeps-same None = tt
 Keeps-same (Some xs) = refl
 
 -- what was appended is what the writer still has
-Appends-kept : (a b c : Option (List ℕ)) (bs : List ℕ) → Appends a b bs → Keeps b c → Appends a c bs
+pub Appends-kept : (a b c : Option (List ℕ)) (bs : List ℕ) → Appends a b bs → Keeps b c → Appends a c bs
 Appends-kept None b c bs h k = tt
 Appends-kept (Some xs) None c bs h k = absurd h
 Appends-kept (Some xs) (Some ys) None bs h k = absurd k
