@@ -1,5 +1,6 @@
 -- Where a call begins or goes on, and at which stage its party is after its action.
-use Rattle.std.proofs.Common.{◌≡◌, ◌&&◌, true, false, Some, refl, subst}
+use Rattle.std.proofs.Common.{◌≡◌, ◌&&◌, true, false, Some, refl, sym, subst}
+use Rattle.std.proofs.lemmas.Bool.{false≢true}
 use Rattle.lock_world.specs.declared.moves.Call.TheVariants as call
 use Rattle.lock_world.specs.declared.moves.Inputs.{Inputs}
 use Rattle.lock_world.specs.declared.moves.What.{What}
@@ -11,7 +12,7 @@ use Rattle.lock_world.specs.declared.standing.Rest.TheVariants as rest
 use Rattle.lock_world.specs.declared.standing.Stage.{Stage}
 use Rattle.lock_world.specs.declared.standing.Stage.TheVariants.{Outside, Inside, Forgotten}
 use Rattle.lock_world.specs.declared.standing.Within.{Within}
-use Rattle.lock_world.proofs.Equations.{some_eq, both}
+use Rattle.lock_world.proofs.Equations.{some_eq, none_some, both}
 use Rattle.lock_table.specs.Stages.{call_at, polls_again, stage_after}
 use Rattle.cell_machine.specs.declared.program.Found.{Found}
 use Rattle.cell_machine.specs.declared.program.Found.TheVariants as found
@@ -60,38 +61,59 @@ module _ (P : Stage → What → Within → Position → Place → Type 0) (k : 
   begun : (s : Stage) (what : What) (v w : Within) (x : Position) (from : Place) → place_for what x ≡ Some from → Some v ≡ Some w → P s what v x from → Turn P s what w x
   begun s what v w x from starts e h = let Q : Within → Type 0 = λ u. P s what u x from in record { from = from; starts = starts; holds = subst Q (some_eq e) h }
 
-  turned : (s : Stage) (what : What) (w : Within) (x : Position) → goes_with s x ≡ true → call_at knows s what ≡ Some w → polls_again s what ≡ false → Turn P s what w x
-  turned (Outside rest.Idle) (Begin call.Initialize i) w Out g e n = begun _ _ _ w Out (Claim Closure false) refl e (k.initialize rest.Idle i refl refl)
-  turned (Outside rest.Idle) (Begin (call.Set v) i) w Out g e n = begun _ _ _ w Out (Claim (Given v) false) refl e (k.set v rest.Idle i refl refl)
-  turned (Outside rest.Idle) (Begin call.Wait i) w Out g e n = begun _ _ _ w Out (Look false) refl e (k.wait rest.Idle i refl refl)
-  turned (Outside rest.Idle) (Begin (call.TrySet v) i) w Out g e n = begun _ _ _ w Out (Try v) refl e (k.try v rest.Idle i refl refl)
-  turned (Outside rest.Idle) (Begin _ i) w Out g e n = absurd (cc)
-  turned (Outside rest.Finished) (Begin call.Initialize i) w Out g e n = begun _ _ _ w Out (Claim Closure false) refl e (k.initialize rest.Finished i refl refl)
-  turned (Outside rest.Finished) (Begin (call.Set v) i) w Out g e n = begun _ _ _ w Out (Claim (Given v) false) refl e (k.set v rest.Finished i refl refl)
-  turned (Outside rest.Finished) (Begin call.Wait i) w Out g e n = begun _ _ _ w Out (Look false) refl e (k.wait rest.Finished i refl refl)
-  turned (Outside rest.Finished) (Begin (call.TrySet v) i) w Out g e n = begun _ _ _ w Out (Try v) refl e (k.try v rest.Finished i refl refl)
-  turned (Outside rest.Finished) (Begin call.Drop i) w Out g e n = begun _ _ _ w Out Abandon refl e (k.drop_finished i)
-  turned (Outside rest.Finished) (Begin _ i) w Out g e n = absurd (cc)
-  turned (Outside rest.Pending) (Begin call.Poll i) w (ToMake m) g e n = begun _ _ _ w (ToMake m) (Claim m false) refl e (k.poll m i)
-  turned (Outside rest.Pending) (Begin call.Poll i) w (WaitingToMake m) g e n = begun _ _ _ w (WaitingToMake m) (AskActive m) refl e (k.poll_listed m i)
-  turned (Outside rest.Pending) (Begin call.Poll i) w (Making m) g e n = begun _ _ _ w (Making m) (Make m) refl e (k.poll_maker m i)
-  turned (Outside rest.Pending) (Begin call.Poll i) w ToWait g e n = begun _ _ _ w ToWait (Look false) refl e (k.poll_wait i)
-  turned (Outside rest.Pending) (Begin call.Poll i) w Waiting g e n = begun _ _ _ w Waiting AskPassive refl e (k.poll_waiting i)
-  turned (Outside rest.Pending) (Begin call.Drop i) w (ToMake m) g e n = begun _ _ _ w (ToMake m) Abandon refl e (k.abandon m i)
-  turned (Outside rest.Pending) (Begin call.Drop i) w (WaitingToMake m) g e n = begun _ _ _ w (WaitingToMake m) (CancelLeave Active) refl e (k.cancel m i)
-  turned (Outside rest.Pending) (Begin call.Drop i) w (Making m) g e n = begun _ _ _ w (Making m) CancelMake refl e (k.cancel_maker m i)
-  turned (Outside rest.Pending) (Begin call.Drop i) w ToWait g e n = begun _ _ _ w ToWait Abandon refl e (k.abandon_wait i)
-  turned (Outside rest.Pending) (Begin call.Drop i) w Waiting g e n = begun _ _ _ w Waiting (CancelLeave Passive) refl e (k.cancel_wait i)
-  turned (Outside rest.Pending) (Begin _ i) w _ g e n = absurd (cc)
-  turned (Outside _) (Begin _ i) w _ g e n = absurd (cc)
-  turned (Outside _) (Go i) w x g e n = absurd (cc)
-  turned (Inside v) (Go i) w (At x) g e n = let h = both (is_begun x) (runs v.kind v.was x) g in begun _ _ _ w (At x) x refl e (k.go v x i h.0 h.1)
-  turned (Inside v) (Go i) w _ g e n = absurd (cc)
-  turned (Inside v) (Begin _ i) w x g e n = absurd (cc)
-  turned Forgotten what w x g e n = absurd (cc)
+  -- one stage after the other, since each case of a match over all of them at once would be told apart from all others
+  idle : (what : What) (w : Within) → call_at knows (Outside rest.Idle) what ≡ Some w → Turn P (Outside rest.Idle) what w Out
+  idle (Begin call.Initialize i) w e = begun _ _ _ w Out (Claim Closure false) refl e (k.initialize rest.Idle i refl refl)
+  idle (Begin (call.Set v) i) w e = begun _ _ _ w Out (Claim (Given v) false) refl e (k.set v rest.Idle i refl refl)
+  idle (Begin call.Wait i) w e = begun _ _ _ w Out (Look false) refl e (k.wait rest.Idle i refl refl)
+  idle (Begin (call.TrySet v) i) w e = begun _ _ _ w Out (Try v) refl e (k.try v rest.Idle i refl refl)
+  idle (Begin _ i) w e = absurd (none_some e)
+  idle (Go i) w e = absurd (none_some e)
+
+  finished : (what : What) (w : Within) → call_at knows (Outside rest.Finished) what ≡ Some w → polls_again (Outside rest.Finished) what ≡ false → Turn P (Outside rest.Finished) what w Out
+  finished (Begin call.Initialize i) w e n = begun _ _ _ w Out (Claim Closure false) refl e (k.initialize rest.Finished i refl refl)
+  finished (Begin (call.Set v) i) w e n = begun _ _ _ w Out (Claim (Given v) false) refl e (k.set v rest.Finished i refl refl)
+  finished (Begin call.Wait i) w e n = begun _ _ _ w Out (Look false) refl e (k.wait rest.Finished i refl refl)
+  finished (Begin (call.TrySet v) i) w e n = begun _ _ _ w Out (Try v) refl e (k.try v rest.Finished i refl refl)
+  finished (Begin call.Drop i) w e n = begun _ _ _ w Out Abandon refl e (k.drop_finished i)
+  finished (Begin call.Poll i) w e n = absurd (false≢true (sym n))
+  finished (Begin _ i) w e n = absurd (none_some e)
+  finished (Go i) w e n = absurd (none_some e)
+
+  polled : (i : Inputs) (w : Within) (x : Position) → goes_with (Outside rest.Pending) x ≡ true → call_at knows (Outside rest.Pending) (Begin call.Poll i) ≡ Some w → Turn P (Outside rest.Pending) (Begin call.Poll i) w x
+  polled i w (ToMake m) g e = begun _ _ _ w (ToMake m) (Claim m false) refl e (k.poll m i)
+  polled i w (WaitingToMake m) g e = begun _ _ _ w (WaitingToMake m) (AskActive m) refl e (k.poll_listed m i)
+  polled i w (Making m) g e = begun _ _ _ w (Making m) (Make m) refl e (k.poll_maker m i)
+  polled i w ToWait g e = begun _ _ _ w ToWait (Look false) refl e (k.poll_wait i)
+  polled i w Waiting g e = begun _ _ _ w Waiting AskPassive refl e (k.poll_waiting i)
+  polled i w _ g e = absurd (false≢true g)
+
+  dropped : (i : Inputs) (w : Within) (x : Position) → goes_with (Outside rest.Pending) x ≡ true → call_at knows (Outside rest.Pending) (Begin call.Drop i) ≡ Some w → Turn P (Outside rest.Pending) (Begin call.Drop i) w x
+  dropped i w (ToMake m) g e = begun _ _ _ w (ToMake m) Abandon refl e (k.abandon m i)
+  dropped i w (WaitingToMake m) g e = begun _ _ _ w (WaitingToMake m) (CancelLeave Active) refl e (k.cancel m i)
+  dropped i w (Making m) g e = begun _ _ _ w (Making m) CancelMake refl e (k.cancel_maker m i)
+  dropped i w ToWait g e = begun _ _ _ w ToWait Abandon refl e (k.abandon_wait i)
+  dropped i w Waiting g e = begun _ _ _ w Waiting (CancelLeave Passive) refl e (k.cancel_wait i)
+  dropped i w _ g e = absurd (false≢true g)
+
+  pending : (what : What) (w : Within) (x : Position) → goes_with (Outside rest.Pending) x ≡ true → call_at knows (Outside rest.Pending) what ≡ Some w → Turn P (Outside rest.Pending) what w x
+  pending (Begin call.Poll i) w x g e = polled i w x g e
+  pending (Begin call.Drop i) w x g e = dropped i w x g e
+  pending (Begin _ i) w x g e = absurd (none_some e)
+  pending (Go i) w x g e = absurd (none_some e)
+
+  resting : (r : Rest) (what : What) (w : Within) (x : Position) → goes_with (Outside r) x ≡ true → call_at knows (Outside r) what ≡ Some w → polls_again (Outside r) what ≡ false → Turn P (Outside r) what w x
+  resting rest.Idle what w Out g e n = idle what w e
+  resting rest.Finished what w Out g e n = finished what w e n
+  resting rest.Pending what w x g e n = pending what w x g e
+  resting _ what w _ g e n = absurd (false≢true g)
 
   pub turn : (s : Stage) (what : What) (w : Within) (x : Position) → goes_with s x ≡ true → call_at knows s what ≡ Some w → polls_again s what ≡ false → Turn P s what w x
-  turn = turned
+  turn (Outside r) what w x g e n = resting r what w x g e n
+  turn (Inside v) (Go i) w (At x) g e n = let h = both (is_begun x) (runs v.kind v.was x) g in begun _ _ _ w (At x) x refl e (k.go v x i h.0 h.1)
+  turn (Inside v) (Go i) w _ g e n = absurd (false≢true g)
+  turn (Inside v) (Begin c i) w x g e n = absurd (none_some e)
+  turn Forgotten what w x g e n = absurd (none_some e)
 
 -- A party has as much where its call begins as where it stood, it is as late and has as much to tell, and its place is one of that call's program.
 pub record Fits (w : Within) (x : Position) (from : Place) : Type 0 where
@@ -165,7 +187,7 @@ module _ (w : Within) (inside : (x : Place) → is_begun x && is_polling x ≡ t
   polls AskPassive _ h = refl
   polls (LeavePassive v) f h = refl
   polls RefusePassive f h = refl
-  polls _ f h = absurd (cc)
+  polls _ f h = absurd (false≢true h)
 
 tries : (r : Rest) → goes_with (Outside r) Out ≡ true → ((x : Place) → is_begun x && is_trying x ≡ true → goes_with (Inside (the kind.Try r)) (At x) ≡ true) → (x : Place) (f : Found) → is_trying x ≡ true → Lands (the kind.Try r) x f
 tries r g inside (Try v) found.Empty h = inside (TryFill v) refl
@@ -173,18 +195,18 @@ tries r g inside (Try v) _ h = g
 tries r g inside (TryFill v) f h = inside (TryNotifyActive v) refl
 tries r g inside (TryNotifyActive v) f h = inside (TryNotifyPassive v) refl
 tries r g inside (TryNotifyPassive v) f h = g
-tries r g inside _ f h = absurd (cc)
+tries r g inside _ f h = absurd (false≢true h)
 
 cancels : (x : Place) (f : Found) → is_cancelling x ≡ true → Lands (the kind.Drop rest.Pending) x f
 cancels CancelMake f h = refl
 cancels CancelNotify f h = refl
 cancels (CancelLeave list) f h = refl
 cancels Abandon f h = refl
-cancels _ f h = absurd (cc)
+cancels _ f h = absurd (false≢true h)
 
 abandons : (x : Place) (f : Found) → runs kind.Drop rest.Finished x ≡ true → Lands (the kind.Drop rest.Finished) x f
 abandons Abandon f h = refl
-abandons _ f h = absurd (cc)
+abandons _ f h = absurd (false≢true h)
 
 by_kind : (k : Kind) (r : Rest) (x : Place) (f : Found) → runs k r x ≡ true → Lands (the k r) x f
 by_kind kind.FirstPoll rest.Idle x f h = polls (the kind.FirstPoll rest.Idle) (λ y p. p) x f h
@@ -194,7 +216,7 @@ by_kind kind.Try rest.Idle x f h = tries rest.Idle refl (λ y p. p) x f h
 by_kind kind.Try rest.Finished x f h = tries rest.Finished refl (λ y p. p) x f h
 by_kind kind.Drop rest.Pending x f h = cancels x f h
 by_kind kind.Drop rest.Finished x f h = abandons x f h
-by_kind _ _ x f h = absurd (cc)
+by_kind _ _ x f h = absurd (false≢true h)
 
 pub lands : (w : Within) (x : Place) (f : Found) → runs w.kind w.was x ≡ true → Lands w x f
 lands w x f h = by_kind w.kind w.was x f h

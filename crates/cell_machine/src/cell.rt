@@ -1,11 +1,12 @@
 //! The once-cell's machine: what is in it, its lists, and where each party stands in its program.
 
-ghost use Rattle.std.specs.Prelude.{◌≡◌, ℕ, ◌<◌, ◌≤◌, length, slice_get, IfOk};
+ghost use Rattle.std.specs.Prelude.{◌≡◌, ℕ, ◌<◌, ◌≤◌, length, slice_get, replicate, IfOk};
 ghost use Rattle.lock_queue.specs.Queues.{queue};
 ghost use Rattle.lock_world.specs.declared.standing.Stage.TheVariants.{Outside};
 ghost use Rattle.lock_world.specs.declared.standing.Rest.TheVariants.{Idle};
 ghost use Rattle.cell_machine.specs.declared.program.Action.TheVariants as acts;
 ghost use Rattle.cell_machine.specs.declared.program.ListName.TheVariants as lists;
+ghost use Rattle.cell_machine.specs.declared.program.Position.TheVariants.{Out};
 ghost use Rattle.cell_machine.specs.Program.{place_for as place_for_lem, position_after, pending_at as pending_at_lem, refused_at as refused_at_lem};
 ghost use Rattle.cell_machine.specs.Deeds.{CanDo, CanList, Finds, FindsJoin, FindsAsk, FindsMade, deed_of, content_after, active_after, passive_after, list_of};
 ghost use Rattle.cell_machine.specs.Machine.{new_cell, IsCell, answer_by};
@@ -184,14 +185,22 @@ fn place_for(what: What, at: Position) -> Option<Place>
     }
 }
 
+/// So many parties, each of which is out.
+fn all_out(alloc: Global, parties: u32) -> Result<Vec<Position>, AllocError>
+    ensures { IfOk result (λ v. v.items ≡ replicate parties Out) }
+{
+    let mut positions = Vec::new(alloc);
+    positions.resize(parties as usize, Position::Out)?;
+    Ok(positions)
+}
+
 impl OnceCell {
     /// An empty cell for so many parties, numbered from 0, none of which has called yet. Refused for memory
     /// alone; afterwards no step needs any.
     pub fn new(alloc: Global, parties: u32) -> Result<OnceCell, AllocError>
         ensures { IfOk result (λ s. s ≡ new_cell parties) }
     {
-        let mut positions = Vec::new(alloc);
-        positions.resize(parties as usize, Position::Out)?;
+        let positions = all_out(alloc, parties)?;
         let active = WaitQueue::new(alloc, parties)?;
         let passive = WaitQueue::new(alloc, parties)?;
         Ok(OnceCell {

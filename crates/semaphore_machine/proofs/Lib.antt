@@ -5,3 +5,4 @@ pub mod CanDo
 pub mod Turns
 pub mod Locks
 pub mod Laws
+pub mod New

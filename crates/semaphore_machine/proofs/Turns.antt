@@ -1,5 +1,6 @@
 -- Where a call begins or goes on, and at which stage its party is after its action.
-use Rattle.std.proofs.Common.{◌≡◌, ◌&&◌, true, false, Some, refl, subst}
+use Rattle.std.proofs.Common.{◌≡◌, ◌&&◌, true, false, Some, refl, sym, subst}
+use Rattle.std.proofs.lemmas.Bool.{false≢true}
 use Rattle.lock_world.specs.declared.moves.Call.TheVariants as call
 use Rattle.lock_world.specs.declared.moves.Inputs.{Inputs}
 use Rattle.lock_world.specs.declared.moves.What.{What}
@@ -11,7 +12,7 @@ use Rattle.lock_world.specs.declared.standing.Rest.TheVariants as rest
 use Rattle.lock_world.specs.declared.standing.Stage.{Stage}
 use Rattle.lock_world.specs.declared.standing.Stage.TheVariants.{Outside, Inside, Forgotten}
 use Rattle.lock_world.specs.declared.standing.Within.{Within}
-use Rattle.lock_world.proofs.Equations.{some_eq, both}
+use Rattle.lock_world.proofs.Equations.{some_eq, none_some, both}
 use Rattle.lock_table.specs.Stages.{call_at, polls_again, stage_after}
 use Rattle.semaphore_machine.specs.declared.program.Found.{Found}
 use Rattle.semaphore_machine.specs.declared.program.Found.TheVariants.{Done, Taken, Yes}
@@ -47,29 +48,49 @@ module _ (P : Stage → What → Within → Position → Place → Type 0) (k : 
   begun : (s : Stage) (what : What) (v w : Within) (x : Position) (from : Place) → place_for what x ≡ Some from → Some v ≡ Some w → P s what v x from → Turn P s what w x
   begun s what v w x from starts e h = let Q : Within → Type 0 = λ u. P s what u x from in record { from = from; starts = starts; holds = subst Q (some_eq e) h }
 
-  turned : (s : Stage) (what : What) (w : Within) (x : Position) → goes_with s x ≡ true → call_at knows s what ≡ Some w → polls_again s what ≡ false → Turn P s what w x
-  turned (Outside rest.Idle) (Begin call.Acquire i) w Out g e n = begun _ _ _ w Out (Take false false) refl e (k.acquire i)
-  turned (Outside rest.Idle) (Begin call.TryAcquire i) w Out g e n = begun _ _ _ w Out Try refl e (k.try i)
-  turned (Outside rest.Idle) (Begin (call.AddPermits m) i) w Out g e n = begun _ _ _ w Out (Raise m) refl e (k.add m i)
-  turned (Outside rest.Idle) (Begin _ i) w Out g e n = absurd (cc)
-  turned (Outside rest.Pending) (Begin call.Poll i) w Out g e n = begun _ _ _ w Out (Take false false) refl e (k.poll i)
-  turned (Outside rest.Pending) (Begin call.Poll i) w Waiting g e n = begun _ _ _ w Waiting Retake refl e (k.poll_listed i)
-  turned (Outside rest.Pending) (Begin call.Drop i) w Out g e n = begun _ _ _ w Out Abandon refl e (k.abandon i)
-  turned (Outside rest.Pending) (Begin call.Drop i) w Waiting g e n = begun _ _ _ w Waiting CancelLeave refl e (k.cancel i)
-  turned (Outside rest.Pending) (Begin _ i) w Out g e n = absurd (cc)
-  turned (Outside rest.Pending) (Begin _ i) w Waiting g e n = absurd (cc)
-  turned (Outside rest.Holding) (Begin call.Drop i) w Holding g e n = begun _ _ _ w Holding GiveBack refl e (k.give_back i)
-  turned (Outside rest.Holding) (Begin call.Forget i) w Holding g e n = begun _ _ _ w Holding Lower refl e (k.forget i)
-  turned (Outside rest.Holding) (Begin _ i) w Holding g e n = absurd (cc)
-  turned (Outside _) (Begin _ i) w _ g e n = absurd (cc)
-  turned (Outside _) (Go i) w x g e n = absurd (cc)
-  turned (Inside v) (Go i) w (At x) g e n = let h = both (is_begun x) (runs v.kind v.was x) g in begun _ _ _ w (At x) x refl e (k.go v x i h.0 h.1)
-  turned (Inside v) (Go i) w _ g e n = absurd (cc)
-  turned (Inside v) (Begin _ i) w x g e n = absurd (cc)
-  turned Forgotten what w x g e n = absurd (cc)
+  -- one stage after the other, since each case of a match over all of them at once would be told apart from all others
+  idle : (what : What) (w : Within) → call_at knows (Outside rest.Idle) what ≡ Some w → Turn P (Outside rest.Idle) what w Out
+  idle (Begin call.Acquire i) w e = begun _ _ _ w Out (Take false false) refl e (k.acquire i)
+  idle (Begin call.TryAcquire i) w e = begun _ _ _ w Out Try refl e (k.try i)
+  idle (Begin (call.AddPermits m) i) w e = begun _ _ _ w Out (Raise m) refl e (k.add m i)
+  idle (Begin _ i) w e = absurd (none_some e)
+  idle (Go i) w e = absurd (none_some e)
+
+  polled : (i : Inputs) (w : Within) (x : Position) → goes_with (Outside rest.Pending) x ≡ true → call_at knows (Outside rest.Pending) (Begin call.Poll i) ≡ Some w → Turn P (Outside rest.Pending) (Begin call.Poll i) w x
+  polled i w Out g e = begun _ _ _ w Out (Take false false) refl e (k.poll i)
+  polled i w Waiting g e = begun _ _ _ w Waiting Retake refl e (k.poll_listed i)
+  polled i w _ g e = absurd (false≢true g)
+
+  dropped : (i : Inputs) (w : Within) (x : Position) → goes_with (Outside rest.Pending) x ≡ true → call_at knows (Outside rest.Pending) (Begin call.Drop i) ≡ Some w → Turn P (Outside rest.Pending) (Begin call.Drop i) w x
+  dropped i w Out g e = begun _ _ _ w Out Abandon refl e (k.abandon i)
+  dropped i w Waiting g e = begun _ _ _ w Waiting CancelLeave refl e (k.cancel i)
+  dropped i w _ g e = absurd (false≢true g)
+
+  pending : (what : What) (w : Within) (x : Position) → goes_with (Outside rest.Pending) x ≡ true → call_at knows (Outside rest.Pending) what ≡ Some w → Turn P (Outside rest.Pending) what w x
+  pending (Begin call.Poll i) w x g e = polled i w x g e
+  pending (Begin call.Drop i) w x g e = dropped i w x g e
+  pending (Begin _ i) w x g e = absurd (none_some e)
+  pending (Go i) w x g e = absurd (none_some e)
+
+  holding : (what : What) (w : Within) → call_at knows (Outside rest.Holding) what ≡ Some w → polls_again (Outside rest.Holding) what ≡ false → Turn P (Outside rest.Holding) what w Holding
+  holding (Begin call.Drop i) w e n = begun _ _ _ w Holding GiveBack refl e (k.give_back i)
+  holding (Begin call.Forget i) w e n = begun _ _ _ w Holding Lower refl e (k.forget i)
+  holding (Begin call.Poll i) w e n = absurd (false≢true (sym n))
+  holding (Begin _ i) w e n = absurd (none_some e)
+  holding (Go i) w e n = absurd (none_some e)
+
+  resting : (r : Rest) (what : What) (w : Within) (x : Position) → goes_with (Outside r) x ≡ true → call_at knows (Outside r) what ≡ Some w → polls_again (Outside r) what ≡ false → Turn P (Outside r) what w x
+  resting rest.Idle what w Out g e n = idle what w e
+  resting rest.Pending what w x g e n = pending what w x g e
+  resting rest.Holding what w Holding g e n = holding what w e n
+  resting _ what w _ g e n = absurd (false≢true g)
 
   pub turn : (s : Stage) (what : What) (w : Within) (x : Position) → goes_with s x ≡ true → call_at knows s what ≡ Some w → polls_again s what ≡ false → Turn P s what w x
-  turn = turned
+  turn (Outside r) what w x g e n = resting r what w x g e n
+  turn (Inside v) (Go i) w (At x) g e n = let h = both (is_begun x) (runs v.kind v.was x) g in begun _ _ _ w (At x) x refl e (k.go v x i h.0 h.1)
+  turn (Inside v) (Go i) w _ g e n = absurd (false≢true g)
+  turn (Inside v) (Begin c i) w x g e n = absurd (none_some e)
+  turn Forgotten what w x g e n = absurd (none_some e)
 
 -- A party has as much where its call begins as where it stood, and its place is one of that call's program.
 pub record Fits (w : Within) (x : Position) (from : Place) : Type 0 where
@@ -115,7 +136,7 @@ module _ (w : Within) (inside : (x : Place) → is_begun x && is_polling x ≡ t
   polls (Leave false) _ h = refl
   polls HandOn _ h = refl
   polls RefuseNotify _ h = refl
-  polls _ f h = absurd (cc)
+  polls _ f h = absurd (false≢true h)
 
 abbrev within : Kind → Rest → Within
 within k r = record { kind = k; was = r }
@@ -123,28 +144,28 @@ within k r = record { kind = k; was = r }
 tries : (x : Place) (f : Found) → runs kind.Try rest.Idle x ≡ true → Lands (within kind.Try rest.Idle) x f
 tries Try (Taken more) h = refl
 tries Try _ h = refl
-tries _ f h = absurd (cc)
+tries _ f h = absurd (false≢true h)
 
 adds : (x : Place) (f : Found) → runs kind.Add rest.Idle x ≡ true → Lands (within kind.Add rest.Idle) x f
 adds (Raise n) Done h = refl
 adds (Raise n) _ h = refl
 adds (GiveAdded n) f h = refl
 adds (NotifyAdded n) f h = refl
-adds _ f h = absurd (cc)
+adds _ f h = absurd (false≢true h)
 
 cancels : (x : Place) (f : Found) → runs kind.Drop rest.Pending x ≡ true → Lands (within kind.Drop rest.Pending) x f
 cancels CancelLeave f h = refl
 cancels Abandon f h = refl
-cancels _ f h = absurd (cc)
+cancels _ f h = absurd (false≢true h)
 
 returns : (x : Place) (f : Found) → runs kind.Drop rest.Holding x ≡ true → Lands (within kind.Drop rest.Holding) x f
 returns GiveBack f h = refl
 returns GiveBackNotify f h = refl
-returns _ f h = absurd (cc)
+returns _ f h = absurd (false≢true h)
 
 forgets : (x : Place) (f : Found) → runs kind.Forget rest.Holding x ≡ true → Lands (within kind.Forget rest.Holding) x f
 forgets Lower f h = refl
-forgets _ f h = absurd (cc)
+forgets _ f h = absurd (false≢true h)
 
 by_kind : (k : Kind) (r : Rest) (x : Place) (f : Found) → runs k r x ≡ true → Lands (within k r) x f
 by_kind kind.FirstPoll rest.Idle x f h = polls (within kind.FirstPoll rest.Idle) (λ y p. p) x f h
@@ -154,7 +175,7 @@ by_kind kind.Add rest.Idle x f h = adds x f h
 by_kind kind.Drop rest.Pending x f h = cancels x f h
 by_kind kind.Drop rest.Holding x f h = returns x f h
 by_kind kind.Forget rest.Holding x f h = forgets x f h
-by_kind _ _ x f h = absurd (cc)
+by_kind _ _ x f h = absurd (false≢true h)
 
 pub lands : (w : Within) (x : Place) (f : Found) → runs w.kind w.was x ≡ true → Lands w x f
 lands w x f h = by_kind w.kind w.was x f h

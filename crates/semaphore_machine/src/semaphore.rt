@@ -1,11 +1,12 @@
 //! The semaphore's machine: its words, its list, and where each party stands in its program.
 
-ghost use Rattle.std.specs.Prelude.{◌≡◌, ℕ, ◌<◌, ◌≤◌, length, slice_get, IfOk};
-ghost use Rattle.lock_queue.specs.Queues.{queue};
+ghost use Rattle.std.specs.Prelude.{◌≡◌, ℕ, ◌<◌, ◌≤◌, length, slice_get, replicate, IfOk};
 ghost use Rattle.lock_world.specs.declared.standing.Stage.TheVariants.{Outside};
 ghost use Rattle.lock_world.specs.declared.standing.Rest.TheVariants.{Idle};
+ghost use Rattle.semaphore_machine.specs.declared.program.Position.TheVariants.{Out};
 ghost use Rattle.semaphore_machine.specs.Program.{place_for as place_for_lem, position_after};
-ghost use Rattle.semaphore_machine.specs.Deeds.{CanDo, Finds, deed_of, words_after, entries_after};
+ghost use Rattle.semaphore_machine.specs.Deeds.{CanDo};
+ghost use Rattle.semaphore_machine.specs.Carried.{Carried};
 ghost use Rattle.semaphore_machine.specs.Machine.{new_semaphore, IsSemaphore, answer_by};
 
 use crate::program::{Action, Found, Next, Place, Position, action_at, decide, start};
@@ -58,9 +59,7 @@ fn carry_out(
     memory: bool,
 ) -> Found
     requires { CanDo party action words.old list.old }
-    ensures finds { Finds memory party action result words.old list.old.entries }
-    ensures words { words.new ≡ words_after (deed_of action result) words.old }
-    ensures list { list.new ≡ queue list.old.parties (entries_after party (deed_of action result) list.old.entries) }
+    ensures { Carried memory party action result words.old list.old words.new list.new }
 {
     match action {
         Action::Nothing => Found::Done,
@@ -133,6 +132,15 @@ fn place_for(what: What, at: Position) -> Option<Place>
     }
 }
 
+/// So many parties, each of which is out.
+fn all_out(alloc: Global, parties: u32) -> Result<Vec<Position>, AllocError>
+    ensures { IfOk result (λ v. v.items ≡ replicate parties Out) }
+{
+    let mut positions = Vec::new(alloc);
+    positions.resize(parties as usize, Position::Out)?;
+    Ok(positions)
+}
+
 impl Semaphore {
     /// A semaphore with so many permits, for so many parties, numbered from 0, none of which has called yet.
     /// Its limit never passes `most`, which is at least the number of permits. Refused for memory alone;
@@ -146,8 +154,7 @@ impl Semaphore {
         requires { permits ≤ most }
         ensures { IfOk result (λ s. s ≡ new_semaphore parties permits most) }
     {
-        let mut positions = Vec::new(alloc);
-        positions.resize(parties as usize, Position::Out)?;
+        let positions = all_out(alloc, parties)?;
         let list = WaitQueue::new(alloc, parties)?;
         Ok(Semaphore {
             words: Words {
