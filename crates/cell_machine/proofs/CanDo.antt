@@ -2,14 +2,14 @@
 use Rattle.std.proofs.Common.{◌≡◌, ℕ, ◌<◌, List, length, refl, arith, sym, ◌∙◌, ap}
 use Rattle.lock_queue.specs.Parties.{entries_of}
 use Rattle.lock_queue.specs.Queues.{Queue}
-use Rattle.cell_machine.specs.declared.program.ListName.TheVariants.{Active, Passive}
-use Rattle.cell_machine.specs.declared.program.Place.{Place}
-use Rattle.cell_machine.specs.declared.program.Place.TheVariants.{JoinActive, AskActive, LeaveToMake, LeaveFull, JoinPassive, AskPassive, LeavePassive, CancelLeave}
-use Rattle.cell_machine.specs.declared.program.Position.{Position}
-use Rattle.cell_machine.specs.declared.words.Content.{Content}
-use Rattle.cell_machine.specs.Program.{action_of}
+use Rattle.cell_program.specs.declared.program.ListName.TheVariants.{Active, Passive}
+use Rattle.cell_program.specs.declared.program.Place.{Place}
+use Rattle.cell_program.specs.declared.program.Place.TheVariants.{JoinActive, AskActive, LeaveToMake, LeaveFull, JoinPassive, AskPassive, LeavePassive, CancelLeave}
+use Rattle.cell_program.specs.declared.program.Position.{Position}
+use Rattle.cell_program.specs.declared.words.Content.{Content}
+use Rattle.cell_program.specs.Program.{action_of}
 use Rattle.cell_machine.specs.Seats.{Seat, seat_of, seated}
-use Rattle.cell_machine.specs.Deeds.{CanDo}
+use Rattle.cell_program.specs.Deeds.{CanDo}
 use Rattle.cell_machine.specs.Machine.{IsKept, position_at}
 
 module _ (p : ℕ) (c : Content) (xs : List Position) (q r : Queue) (kept : IsKept c xs q r) (known : p < length xs) where

@@ -1,14 +1,14 @@
 -- Each step keeps what always holds of the numbers.
 use Rattle.std.proofs.Common.{◌≡◌, ◌+◌, ◌<◌, ◌≤◌, true, false, arith}
 use Rattle.lock_queue.proofs.Debts.{still_owed}
-use Rattle.cell_machine.specs.declared.program.Found.{Found}
-use Rattle.cell_machine.specs.declared.program.Found.TheVariants as found
-use Rattle.cell_machine.specs.declared.program.ListName.TheVariants.{Active, Passive}
-use Rattle.cell_machine.specs.declared.program.Place.{Place}
-use Rattle.cell_machine.specs.declared.program.Place.TheVariants.{Claim, ClaimListed, JoinActive, AskActive, LeaveToMake, Make, Fill, NotifyActive, NotifyPassive, Fail, FailNotify, LeaveFull, RefuseActive, Look, JoinPassive, LookListed, AskPassive, LeavePassive, RefusePassive, Try, TryFill, TryNotifyActive, TryNotifyPassive, CancelMake, CancelNotify, CancelLeave, Abandon}
-use Rattle.cell_machine.specs.declared.program.Position.{Position}
-use Rattle.cell_machine.specs.declared.program.Position.TheVariants.{At}
-use Rattle.cell_machine.specs.Program.{action_of, next_of, position_after}
+use Rattle.cell_program.specs.declared.program.Found.{Found}
+use Rattle.cell_program.specs.declared.program.Found.TheVariants as found
+use Rattle.cell_program.specs.declared.program.ListName.TheVariants.{Active, Passive}
+use Rattle.cell_program.specs.declared.program.Place.{Place}
+use Rattle.cell_program.specs.declared.program.Place.TheVariants.{Claim, ClaimListed, JoinActive, AskActive, LeaveToMake, Make, Fill, NotifyActive, NotifyPassive, Fail, FailNotify, LeaveFull, RefuseActive, Look, JoinPassive, LookListed, AskPassive, LeavePassive, RefusePassive, Try, TryFill, TryNotifyActive, TryNotifyPassive, CancelMake, CancelNotify, CancelLeave, Abandon}
+use Rattle.cell_program.specs.declared.program.Position.{Position}
+use Rattle.cell_program.specs.declared.program.Position.TheVariants.{At}
+use Rattle.cell_program.specs.Program.{action_of, next_of, position_after}
 use Rattle.cell_machine.specs.Tally.{Tally, Counts, IsSound}
 use Rattle.cell_machine.proofs.Steps.{Effect, Goes}
 

@@ -6,12 +6,12 @@ use Rattle.lock_queue.specs.Parties.{is_party, entries_of}
 use Rattle.lock_queue.specs.Queues.{Queue}
 use Rattle.lock_queue.specs.Debts.{Roles, Rests, AllRest}
 use Rattle.lock_queue.proofs.Debts.{paid_at_rest}
-use Rattle.cell_machine.specs.declared.program.ListName.{ListName}
-use Rattle.cell_machine.specs.declared.program.ListName.TheVariants.{Active, Passive}
-use Rattle.cell_machine.specs.declared.program.Position.{Position}
-use Rattle.cell_machine.specs.declared.program.Position.TheVariants.{At}
-use Rattle.cell_machine.specs.declared.words.Content.{Content}
-use Rattle.cell_machine.specs.declared.words.Content.TheVariants as content
+use Rattle.cell_program.specs.declared.program.ListName.{ListName}
+use Rattle.cell_program.specs.declared.program.ListName.TheVariants.{Active, Passive}
+use Rattle.cell_program.specs.declared.program.Position.{Position}
+use Rattle.cell_program.specs.declared.program.Position.TheVariants.{At}
+use Rattle.cell_program.specs.declared.words.Content.{Content}
+use Rattle.cell_program.specs.declared.words.Content.TheVariants as content
 use Rattle.cell_machine.specs.Seats.{in_active, waits, owes, is_late, will_tell, is_resting}
 use Rattle.cell_machine.specs.Tally.{free_of}
 use Rattle.cell_machine.specs.Machine.{IsKept, IsAtRest, IsCell, AllTold, position_at}

@@ -19,20 +19,20 @@ use Rattle.lock_table.specs.Stages.{call_at, polls_again, stage_after}
 use Rattle.lock_table.specs.Tables.{Keeps}
 use Rattle.lock_world.proofs.Lists as lists
 use Rattle.lock_world.proofs.Lists.{CanList, joined_own, asked_own, asked_not, left_own, notified_own, notified_additionally_own}
-use Rattle.cell_machine.specs.declared.program.Action.{Action}
-use Rattle.cell_machine.specs.declared.program.Action.TheVariants as act
-use Rattle.cell_machine.specs.declared.program.Found.{Found}
-use Rattle.cell_machine.specs.declared.program.Found.TheVariants as found
-use Rattle.cell_machine.specs.declared.program.ListName.{ListName}
-use Rattle.cell_machine.specs.declared.program.ListName.TheVariants.{Active, Passive}
-use Rattle.cell_machine.specs.declared.program.Place.{Place}
-use Rattle.cell_machine.specs.declared.program.Place.TheVariants.{Claim, ClaimListed, JoinActive, AskActive, LeaveToMake, Make, Fill, NotifyActive, NotifyPassive, Fail, FailNotify, LeaveFull, RefuseActive, Look, JoinPassive, LookListed, AskPassive, LeavePassive, RefusePassive, Try, TryFill, TryNotifyActive, TryNotifyPassive, CancelMake, CancelNotify, CancelLeave, Abandon}
-use Rattle.cell_machine.specs.declared.program.Position.{Position}
-use Rattle.cell_machine.specs.declared.program.Position.TheVariants.{Out, WaitingToMake, Waiting, At}
-use Rattle.cell_machine.specs.declared.words.Content.{Content}
-use Rattle.cell_machine.specs.Program.{place_for, action_of, next_of}
+use Rattle.cell_program.specs.declared.program.Action.{Action}
+use Rattle.cell_program.specs.declared.program.Action.TheVariants as act
+use Rattle.cell_program.specs.declared.program.Found.{Found}
+use Rattle.cell_program.specs.declared.program.Found.TheVariants as found
+use Rattle.cell_program.specs.declared.program.ListName.{ListName}
+use Rattle.cell_program.specs.declared.program.ListName.TheVariants.{Active, Passive}
+use Rattle.cell_program.specs.declared.program.Place.{Place}
+use Rattle.cell_program.specs.declared.program.Place.TheVariants.{Claim, ClaimListed, JoinActive, AskActive, LeaveToMake, Make, Fill, NotifyActive, NotifyPassive, Fail, FailNotify, LeaveFull, RefuseActive, Look, JoinPassive, LookListed, AskPassive, LeavePassive, RefusePassive, Try, TryFill, TryNotifyActive, TryNotifyPassive, CancelMake, CancelNotify, CancelLeave, Abandon}
+use Rattle.cell_program.specs.declared.program.Position.{Position}
+use Rattle.cell_program.specs.declared.program.Position.TheVariants.{Out, WaitingToMake, Waiting, At}
+use Rattle.cell_program.specs.declared.words.Content.{Content}
+use Rattle.cell_program.specs.Program.{place_for, action_of, next_of}
 use Rattle.cell_machine.specs.Seats.{Seat, seat_of, seated, makes_at, in_active, in_passive_at, waits, owes, value_known}
-use Rattle.cell_machine.specs.Deeds.{Change, CanDo, Finds, deed_of, content_after, active_after, passive_after, everyone}
+use Rattle.cell_program.specs.Deeds.{Change, CanDo, Finds, deed_of, content_after, active_after, passive_after, everyone}
 use Rattle.cell_machine.specs.Tally.{Tally, IsSound, tally_of, counts_of}
 use Rattle.cell_machine.specs.Machine.{OnceCell, IsKept, Stands, knows, goes_with, answer_by, position_at, is_maker}
 use Rattle.cell_machine.proofs.Steps.{Effect, Goes}

@@ -2,13 +2,13 @@
 use Rattle.std.proofs.Common.{◌≡◌, ◌+◌, ◌<◌, ◌≤◌, Bool, true, false}
 use Rattle.lock_world.specs.Steps.{ListFunction, joins, asks, leaves, notifies, notifies_additionally}
 use Rattle.lock_world.proofs.Lists.{Counted}
-use Rattle.cell_machine.specs.declared.program.Action.{Action}
-use Rattle.cell_machine.specs.declared.program.Action.TheVariants as act
-use Rattle.cell_machine.specs.declared.program.Found.{Found}
-use Rattle.cell_machine.specs.declared.program.Found.TheVariants as found
-use Rattle.cell_machine.specs.declared.program.ListName.TheVariants.{Active}
-use Rattle.cell_machine.specs.declared.program.Position.{Position}
-use Rattle.cell_machine.specs.Deeds.{everyone}
+use Rattle.cell_program.specs.declared.program.Action.{Action}
+use Rattle.cell_program.specs.declared.program.Action.TheVariants as act
+use Rattle.cell_program.specs.declared.program.Found.{Found}
+use Rattle.cell_program.specs.declared.program.Found.TheVariants as found
+use Rattle.cell_program.specs.declared.program.ListName.TheVariants.{Active}
+use Rattle.cell_program.specs.declared.program.Position.{Position}
+use Rattle.cell_program.specs.Deeds.{everyone}
 use Rattle.cell_machine.specs.Seats.{in_active, waits, owes}
 use Rattle.cell_machine.specs.Tally.{Tally, Counts}
 

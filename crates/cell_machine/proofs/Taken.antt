@@ -6,15 +6,15 @@ use Rattle.lock_event.specs.Lists.{marked_count, is_marked_at, without}
 use Rattle.lock_event.proofs.Counts.{marked_count-without_marked}
 use Rattle.lock_queue.specs.Parties.{is_party, entries_of}
 use Rattle.lock_queue.specs.Queues.{Queue}
-use Rattle.cell_machine.specs.declared.program.ListName.TheVariants.{Active, Passive}
-use Rattle.cell_machine.specs.declared.program.Place.TheVariants.{NotifyActive, TryNotifyActive, AskActive, CancelLeave}
-use Rattle.cell_machine.specs.declared.program.Position.{Position}
-use Rattle.cell_machine.specs.declared.program.Position.TheVariants.{WaitingToMake, At}
-use Rattle.cell_machine.specs.declared.words.Content.TheVariants as content
-use Rattle.cell_machine.specs.declared.words.State.{State}
-use Rattle.cell_machine.specs.declared.words.State.TheVariants as state
-use Rattle.cell_machine.specs.declared.words.Words.{Words}
-use Rattle.cell_machine.specs.Words.{content_by, kept_by, content_of, kept_of, refilled}
+use Rattle.cell_program.specs.declared.program.ListName.TheVariants.{Active, Passive}
+use Rattle.cell_program.specs.declared.program.Place.TheVariants.{NotifyActive, TryNotifyActive, AskActive, CancelLeave}
+use Rattle.cell_program.specs.declared.program.Position.{Position}
+use Rattle.cell_program.specs.declared.program.Position.TheVariants.{WaitingToMake, At}
+use Rattle.cell_program.specs.declared.words.Content.TheVariants as content
+use Rattle.cell_program.specs.declared.words.State.{State}
+use Rattle.cell_program.specs.declared.words.State.TheVariants as state
+use Rattle.cell_program.specs.declared.words.Words.{Words}
+use Rattle.cell_program.specs.Words.{content_by, kept_by, content_of, kept_of, refilled}
 use Rattle.cell_machine.specs.Seats.{in_active, waits, owes, is_late, will_tell}
 use Rattle.cell_machine.specs.Machine.{IsKept, position_at}
 use Rattle.lock_queue.proofs.Marks.{else_marked}

@@ -1,6 +1,3 @@
-pub mod Words
-pub mod Program
-pub mod Deeds
 pub mod Seats
 pub mod Tally
 pub mod Machine

@@ -4,18 +4,18 @@ ghost use Rattle.std.specs.Prelude.{◌≡◌, ℕ, ◌<◌, ◌≤◌, length, 
 ghost use Rattle.lock_queue.specs.Queues.{queue};
 ghost use Rattle.lock_world.specs.declared.standing.Stage.TheVariants.{Outside};
 ghost use Rattle.lock_world.specs.declared.standing.Rest.TheVariants.{Idle};
-ghost use Rattle.cell_machine.specs.declared.program.Action.TheVariants as acts;
-ghost use Rattle.cell_machine.specs.declared.program.ListName.TheVariants as lists;
-ghost use Rattle.cell_machine.specs.declared.program.Position.TheVariants.{Out};
-ghost use Rattle.cell_machine.specs.Program.{place_for as place_for_lem, position_after, pending_at as pending_at_lem, refused_at as refused_at_lem};
-ghost use Rattle.cell_machine.specs.Deeds.{CanDo, CanList, Finds, FindsJoin, FindsAsk, FindsMade, deed_of, content_after, active_after, passive_after, list_of};
+ghost use Rattle.cell_program.specs.declared.program.Action.TheVariants as acts;
+ghost use Rattle.cell_program.specs.declared.program.ListName.TheVariants as lists;
+ghost use Rattle.cell_program.specs.declared.program.Position.TheVariants.{Out};
+ghost use Rattle.cell_program.specs.Program.{place_for as place_for_lem, position_after, pending_at as pending_at_lem, refused_at as refused_at_lem};
+ghost use Rattle.cell_program.specs.Deeds.{CanDo, CanList, Finds, FindsJoin, FindsAsk, FindsMade, deed_of, content_after, active_after, passive_after, list_of};
 ghost use Rattle.cell_machine.specs.Machine.{new_cell, IsCell, answer_by};
-ghost use Rattle.cell_machine.specs.Words.{content_of, kept_of};
+ghost use Rattle.cell_program.specs.Words.{content_of, kept_of};
 
-use crate::program::{
+use cell_program::program::{
     Action, Found, ListName, Maker, Next, Place, Position, action_at, decide, start,
 };
-use crate::words::{Content, Words};
+use cell_program::words::{Content, Words};
 use lock_event::Entry;
 use lock_queue::WaitQueue;
 use lock_table::{End, Machine, Valued};
@@ -49,7 +49,7 @@ impl Drop for OnceCell {
 
 impl Model for OnceCell {
     ghost use Rattle.cell_machine.specs.Machine.{OnceCell, IsKept};
-    ghost use Rattle.cell_machine.specs.Words.{content_of, kept_of};
+    ghost use Rattle.cell_program.specs.Words.{content_of, kept_of};
 
     ghost Value = { OnceCell };
 
@@ -307,7 +307,7 @@ impl Machine for OnceCell {
 
 impl Valued for OnceCell {
     ghost use Rattle.cell_machine.specs.Machine as machine;
-    ghost use Rattle.cell_machine.specs.Words.{value_in};
+    ghost use Rattle.cell_program.specs.Words.{value_in};
     ghost use Rattle.cell_machine.specs.Stays.{stays_so};
     ghost use Rattle.std.specs.Prelude.{refl};
 

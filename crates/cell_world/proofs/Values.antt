@@ -3,10 +3,10 @@ use Rattle.std.proofs.Common.{◌≡◌, ℕ, ◌+◌, ◌≤◌, if◌then◌el
 use Rattle.lock_world.specs.declared.moves.Answer.{Answer}
 use Rattle.lock_world.specs.declared.moves.Move.{Move}
 use Rattle.lock_world.specs.Steps.{Deed, nothing, changes, does}
-use Rattle.cell_machine.specs.declared.program.ListName.{ListName}
-use Rattle.cell_machine.specs.declared.words.Content.{Content}
-use Rattle.cell_machine.specs.declared.words.Content.TheVariants.{Empty, BeingMade, Full}
-use Rattle.cell_machine.specs.Deeds.{Change, begins, fills, empties, content_after}
+use Rattle.cell_program.specs.declared.program.ListName.{ListName}
+use Rattle.cell_program.specs.declared.words.Content.{Content}
+use Rattle.cell_program.specs.declared.words.Content.TheVariants.{Empty, BeingMade, Full}
+use Rattle.cell_program.specs.Deeds.{Change, begins, fills, empties, content_after}
 use Rattle.cell_world.specs.State.{World, is_full}
 use Rattle.cell_world.specs.Legal.{IsAllowed, Legal}
 use Rattle.cell_world.specs.Steps.{Steps}

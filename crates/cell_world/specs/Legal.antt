@@ -17,10 +17,10 @@ use Rattle.lock_world.specs.Standings.{Standing, outside, inside, inputs_of, is_
 use Rattle.lock_world.specs.Frame as frame
 use Rattle.lock_world.specs.Frame.{is_drop, is_giving_back, is_refusal}
 use Rattle.lock_world.specs.Steps.{Deed, nothing, changes, does, joins, asks, leaves, notifies, notifies_additionally, is_parting}
-use Rattle.cell_machine.specs.declared.program.ListName.{ListName}
-use Rattle.cell_machine.specs.declared.words.Content.TheVariants.{Empty, BeingMade, Full}
+use Rattle.cell_program.specs.declared.program.ListName.{ListName}
+use Rattle.cell_program.specs.declared.words.Content.TheVariants.{Empty, BeingMade, Full}
 use Rattle.cell_machine.specs.Seats.{Task, no_task, initializes, sets, fills_with, failed}
-use Rattle.cell_machine.specs.Deeds.{Change, begins, fills, empties, content_after, active_after, passive_after, everyone}
+use Rattle.cell_program.specs.Deeds.{Change, begins, fills, empties, content_after, active_after, passive_after, everyone}
 use Rattle.cell_machine.specs.Machine.{knows, is_maker}
 use Rattle.cell_world.specs.State.{World, list_in, standing_of, task_of, is_full}
 use Rattle.cell_world.specs.Tasks.{task_in, task_then, makes, list_for, given, is_open}

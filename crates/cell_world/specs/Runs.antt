@@ -7,9 +7,9 @@ use Rattle.lock_world.specs.declared.moves.Move.{Move}
 use Rattle.lock_world.specs.Accounts.{Account, accounts_after, HasByAnswers}
 use Rattle.lock_world.specs.Rights.{Right}
 use Rattle.lock_world.specs.Runs as runs
-use Rattle.cell_machine.specs.declared.words.Content.{Content}
-use Rattle.cell_machine.specs.declared.words.Content.TheVariants.{Full}
-use Rattle.cell_machine.specs.Words.{value_in}
+use Rattle.cell_program.specs.declared.words.Content.{Content}
+use Rattle.cell_program.specs.declared.words.Content.TheVariants.{Full}
+use Rattle.cell_program.specs.Words.{value_in}
 use Rattle.cell_world.specs.State.{World, is_full}
 use Rattle.cell_world.specs.Steps.{Steps}
 use Rattle.cell_world.specs.Laws.{IsSound, IsAwake, is_at_rest}

@@ -4,11 +4,11 @@ use Rattle.lock_event.specs.declared.event.Entry.{Entry}
 use Rattle.lock_world.specs.declared.standing.Rest.TheVariants.{Idle}
 use Rattle.lock_world.specs.Standings.{Standing, outside, forgotten}
 use Rattle.lock_table.specs.Tables.{Table, new_table}
-use Rattle.cell_machine.specs.declared.program.ListName.{ListName}
-use Rattle.cell_machine.specs.declared.words.Content.{Content}
-use Rattle.cell_machine.specs.declared.words.Content.TheVariants.{Empty, BeingMade, Full}
+use Rattle.cell_program.specs.declared.program.ListName.{ListName}
+use Rattle.cell_program.specs.declared.words.Content.{Content}
+use Rattle.cell_program.specs.declared.words.Content.TheVariants.{Empty, BeingMade, Full}
 use Rattle.cell_machine.specs.Seats.{Task, no_task}
-use Rattle.cell_machine.specs.Deeds.{list_of}
+use Rattle.cell_program.specs.Deeds.{list_of}
 use Rattle.cell_machine.specs.Machine.{OnceCell, new_cell}
 
 -- What is in the cell: nothing, nothing yet while one party makes its value, or a value. The list of those that would make it, and the list of those that only wait, with their marks; how each party stands; and what each party's future is for. What stands behind the World is named by no clause but that of its own step.

@@ -14,8 +14,8 @@ use Rattle.lock_world.specs.declared.moves.What.TheVariants.{Begin, Go}
 use Rattle.lock_world.specs.declared.standing.Rest.TheVariants.{Pending}
 use Rattle.lock_world.specs.Frame.{is_drop, is_refusal}
 use Rattle.lock_world.specs.Standings.{outside, is_possible}
-use Rattle.cell_machine.specs.declared.program.ListName.{ListName}
-use Rattle.cell_machine.specs.declared.words.Content.TheVariants.{Empty, BeingMade, Full}
+use Rattle.cell_program.specs.declared.program.ListName.{ListName}
+use Rattle.cell_program.specs.declared.words.Content.TheVariants.{Empty, BeingMade, Full}
 use Rattle.cell_machine.specs.Seats.{initializes, sets, waits_only, fills_with, failed}
 use Rattle.cell_machine.specs.Machine.{is_maker}
 use Rattle.cell_world.specs.AtOnce.{AnswersAtOnce, is_try, is_first_making}

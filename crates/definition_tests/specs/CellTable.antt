@@ -1,17 +1,17 @@
 -- The places of a once-cell's programs, row by row.
 use Rattle.std.specs.Prelude.{true, false, List, [], ◌∷◌, Option, Some, None}
-use Rattle.cell_machine.specs.declared.program.Action.TheVariants as act
-use Rattle.cell_machine.specs.declared.program.Action.{Action}
-use Rattle.cell_machine.specs.declared.program.Found.TheVariants as found
-use Rattle.cell_machine.specs.declared.program.Found.{Found}
-use Rattle.cell_machine.specs.declared.program.ListName.TheVariants as list
-use Rattle.cell_machine.specs.declared.program.Maker.TheVariants as maker
-use Rattle.cell_machine.specs.declared.program.Next.TheVariants as next
-use Rattle.cell_machine.specs.declared.program.Next.{Next}
-use Rattle.cell_machine.specs.declared.program.Place.TheVariants as place
-use Rattle.cell_machine.specs.declared.program.Place.{Place}
-use Rattle.cell_machine.specs.declared.program.Position.TheVariants as position
-use Rattle.cell_machine.specs.declared.program.Position.{Position}
+use Rattle.cell_program.specs.declared.program.Action.TheVariants as act
+use Rattle.cell_program.specs.declared.program.Action.{Action}
+use Rattle.cell_program.specs.declared.program.Found.TheVariants as found
+use Rattle.cell_program.specs.declared.program.Found.{Found}
+use Rattle.cell_program.specs.declared.program.ListName.TheVariants as list
+use Rattle.cell_program.specs.declared.program.Maker.TheVariants as maker
+use Rattle.cell_program.specs.declared.program.Next.TheVariants as next
+use Rattle.cell_program.specs.declared.program.Next.{Next}
+use Rattle.cell_program.specs.declared.program.Place.TheVariants as place
+use Rattle.cell_program.specs.declared.program.Place.{Place}
+use Rattle.cell_program.specs.declared.program.Position.TheVariants as position
+use Rattle.cell_program.specs.declared.program.Position.{Position}
 use Rattle.lock_table.specs.declared.end.End.TheVariants as ended
 use Rattle.lock_world.specs.declared.moves.Call.TheVariants as call
 use Rattle.lock_world.specs.declared.moves.Call.{Call}

@@ -21,8 +21,8 @@ pub mod semaphore {
 
 /// A once-cell, from the crate `cell_world`.
 pub mod cell {
-    pub use cell_machine::Content;
-    pub use cell_machine::program::ListName;
+    pub use cell_program::Content;
+    pub use cell_program::program::ListName;
     pub use cell_world::World;
 }
 

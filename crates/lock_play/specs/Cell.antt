@@ -1,8 +1,8 @@
 -- What a script asks of a once-cell beyond its moves.
 use Rattle.std.specs.Prelude.{ℕ, Option, Some, None, List, ◌++◌, codes, decimal, if◌then◌else◌}
-use Rattle.cell_machine.specs.declared.words.Content.{Content}
-use Rattle.cell_machine.specs.declared.words.Content.TheVariants.{Empty, BeingMade, Full}
-use Rattle.cell_machine.specs.Words.{value_in}
+use Rattle.cell_program.specs.declared.words.Content.{Content}
+use Rattle.cell_program.specs.declared.words.Content.TheVariants.{Empty, BeingMade, Full}
+use Rattle.cell_program.specs.Words.{value_in}
 use Rattle.cell_world.specs.State.{World}
 use Rattle.cell_world.specs.Laws.{is_at_rest}
 use Rattle.cell_world.specs.Lending.{world_with}

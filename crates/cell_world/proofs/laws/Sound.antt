@@ -18,13 +18,13 @@ use Rattle.lock_table.specs.Tables.{Table}
 use Rattle.lock_table.proofs.Mapped.{past_last}
 use Rattle.lock_table.proofs.Past.{by_stage_or_past, by_stage_or_past_at}
 use Rattle.lock_table.proofs.Views.{rest_seen, outside_at}
-use Rattle.cell_machine.specs.declared.program.ListName.{ListName}
-use Rattle.cell_machine.specs.declared.program.ListName.TheVariants.{Active, Passive}
-use Rattle.cell_machine.specs.declared.program.Place.{Place}
-use Rattle.cell_machine.specs.declared.program.Place.TheVariants.{ClaimListed, AskActive, LeaveToMake, LeaveFull, LookListed, AskPassive, LeavePassive, CancelLeave, Abandon}
-use Rattle.cell_machine.specs.declared.program.Position.{Position}
-use Rattle.cell_machine.specs.declared.program.Position.TheVariants.{Out, ToMake, WaitingToMake, Making, ToWait, Waiting, At}
-use Rattle.cell_machine.specs.declared.words.Content.TheVariants.{Full}
+use Rattle.cell_program.specs.declared.program.ListName.{ListName}
+use Rattle.cell_program.specs.declared.program.ListName.TheVariants.{Active, Passive}
+use Rattle.cell_program.specs.declared.program.Place.{Place}
+use Rattle.cell_program.specs.declared.program.Place.TheVariants.{ClaimListed, AskActive, LeaveToMake, LeaveFull, LookListed, AskPassive, LeavePassive, CancelLeave, Abandon}
+use Rattle.cell_program.specs.declared.program.Position.{Position}
+use Rattle.cell_program.specs.declared.program.Position.TheVariants.{Out, ToMake, WaitingToMake, Making, ToWait, Waiting, At}
+use Rattle.cell_program.specs.declared.words.Content.TheVariants.{Full}
 use Rattle.cell_machine.specs.Seats.{makes_at, in_active, in_passive_at, verdict, is_resting}
 use Rattle.cell_machine.specs.Machine.{OnceCell, IsCell, IsAtRest, goes_with, runs, is_begun, is_abandoning, is_maker, position_at}
 use Rattle.cell_machine.proofs.Contents as contents

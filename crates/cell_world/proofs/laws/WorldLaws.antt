@@ -8,11 +8,11 @@ use Rattle.lock_world.specs.declared.moves.Move.{Move}
 use Rattle.lock_world.specs.declared.standing.Rest.TheVariants as rest
 use Rattle.lock_world.specs.Standings.{is_outside, is_possible}
 use Rattle.lock_world.proofs.Equations.{some_eq, none_some}
-use Rattle.cell_machine.specs.declared.words.Content.{Content}
-use Rattle.cell_machine.specs.declared.words.Content.TheVariants.{Empty, BeingMade, Full}
+use Rattle.cell_program.specs.declared.words.Content.{Content}
+use Rattle.cell_program.specs.declared.words.Content.TheVariants.{Empty, BeingMade, Full}
 use Rattle.cell_machine.specs.Machine.{knows}
 use Rattle.cell_world.specs.State.{World, standing_of}
-use Rattle.cell_machine.specs.Words.{value_in}
+use Rattle.cell_program.specs.Words.{value_in}
 use Rattle.cell_world.specs.View.{view_of}
 use Rattle.cell_world.specs.Legal.{Legal}
 use Rattle.cell_world.specs.Steps.{Steps}

@@ -18,20 +18,20 @@ use Rattle.lock_world.specs.Standings.{Standing, outside, inputs_of, decision}
 use Rattle.lock_world.specs.Frame.{is_drop}
 use Rattle.lock_table.specs.Stages.{stage_at, stands_as, call_at, polls_again}
 use Rattle.lock_table.specs.Tables.{Table}
-use Rattle.cell_machine.specs.declared.program.Action.TheVariants as act
-use Rattle.cell_machine.specs.declared.program.Found.{Found}
-use Rattle.cell_machine.specs.declared.program.Found.TheVariants as found
-use Rattle.cell_machine.specs.declared.program.Maker.{Maker}
-use Rattle.cell_machine.specs.declared.program.Maker.TheVariants.{Closure, Given}
-use Rattle.cell_machine.specs.declared.program.Place.{Place}
-use Rattle.cell_machine.specs.declared.program.Place.TheVariants.{Claim, AskActive, Make, Look, AskPassive, Try, CancelMake}
-use Rattle.cell_machine.specs.declared.program.Position.{Position}
-use Rattle.cell_machine.specs.declared.program.Position.TheVariants.{At}
-use Rattle.cell_machine.specs.declared.words.Content.{Content}
-use Rattle.cell_machine.specs.declared.words.Content.TheVariants.{Empty}
-use Rattle.cell_machine.specs.Program.{action_of, next_of}
+use Rattle.cell_program.specs.declared.program.Action.TheVariants as act
+use Rattle.cell_program.specs.declared.program.Found.{Found}
+use Rattle.cell_program.specs.declared.program.Found.TheVariants as found
+use Rattle.cell_program.specs.declared.program.Maker.{Maker}
+use Rattle.cell_program.specs.declared.program.Maker.TheVariants.{Closure, Given}
+use Rattle.cell_program.specs.declared.program.Place.{Place}
+use Rattle.cell_program.specs.declared.program.Place.TheVariants.{Claim, AskActive, Make, Look, AskPassive, Try, CancelMake}
+use Rattle.cell_program.specs.declared.program.Position.{Position}
+use Rattle.cell_program.specs.declared.program.Position.TheVariants.{At}
+use Rattle.cell_program.specs.declared.words.Content.{Content}
+use Rattle.cell_program.specs.declared.words.Content.TheVariants.{Empty}
+use Rattle.cell_program.specs.Program.{action_of, next_of}
 use Rattle.cell_machine.specs.Seats.{no_task, waits_only, task_by, task_at, task_of as place_task, makes_at, in_active, in_passive_at, verdict}
-use Rattle.cell_machine.specs.Deeds.{deed_of, content_after, Finds, FindsContent, FindsMade}
+use Rattle.cell_program.specs.Deeds.{deed_of, content_after, Finds, FindsContent, FindsMade}
 use Rattle.cell_machine.specs.Machine.{OnceCell, knows, goes_with, is_maker, position_at, answer_by}
 use Rattle.cell_machine.proofs.Kept.{after}
 use Rattle.cell_machine.proofs.Turns.{Turn, turn}

@@ -15,7 +15,7 @@ use Rattle.lock_world.specs.Steps.{nothing}
 use Rattle.lock_world.proofs.Equations.{none_some}
 use Rattle.lock_table.proofs.Idle as idle
 use Rattle.lock_table.proofs.Idle.{Idle, same_decides}
-use Rattle.cell_machine.specs.declared.words.Content.TheVariants.{Empty, BeingMade, Full}
+use Rattle.cell_program.specs.declared.words.Content.TheVariants.{Empty, BeingMade, Full}
 use Rattle.cell_machine.specs.Seats.{Task}
 use Rattle.cell_machine.specs.Machine.{knows, is_maker}
 use Rattle.cell_world.specs.State.{World, standing_of, task_of}

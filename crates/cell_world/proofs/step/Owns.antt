@@ -12,16 +12,16 @@ use Rattle.lock_table.specs.Stages.{stage_at, stands_as}
 use Rattle.lock_table.specs.Tables.{Table}
 use Rattle.lock_table.proofs.Mapped.{past_last}
 use Rattle.lock_table.proofs.Past.{by_stage, by_stage_or_past}
-use Rattle.cell_machine.specs.declared.program.ListName.{ListName}
-use Rattle.cell_machine.specs.declared.program.ListName.TheVariants.{Active, Passive}
-use Rattle.cell_machine.specs.declared.program.Maker.{Maker}
-use Rattle.cell_machine.specs.declared.program.Maker.TheVariants.{Closure, Given}
-use Rattle.cell_machine.specs.declared.program.Place.{Place}
-use Rattle.cell_machine.specs.declared.program.Place.TheVariants.{NotifyActive, NotifyPassive, FailNotify, LeaveFull, LeavePassive}
-use Rattle.cell_machine.specs.declared.program.Position.{Position}
-use Rattle.cell_machine.specs.declared.program.Position.TheVariants.{Out, ToMake, WaitingToMake, Making, ToWait, Waiting, At}
-use Rattle.cell_machine.specs.declared.words.Content.TheVariants.{Full}
-use Rattle.cell_machine.specs.Program.{got_of}
+use Rattle.cell_program.specs.declared.program.ListName.{ListName}
+use Rattle.cell_program.specs.declared.program.ListName.TheVariants.{Active, Passive}
+use Rattle.cell_program.specs.declared.program.Maker.{Maker}
+use Rattle.cell_program.specs.declared.program.Maker.TheVariants.{Closure, Given}
+use Rattle.cell_program.specs.declared.program.Place.{Place}
+use Rattle.cell_program.specs.declared.program.Place.TheVariants.{NotifyActive, NotifyPassive, FailNotify, LeaveFull, LeavePassive}
+use Rattle.cell_program.specs.declared.program.Position.{Position}
+use Rattle.cell_program.specs.declared.program.Position.TheVariants.{Out, ToMake, WaitingToMake, Making, ToWait, Waiting, At}
+use Rattle.cell_program.specs.declared.words.Content.TheVariants.{Full}
+use Rattle.cell_program.specs.Program.{got_of}
 use Rattle.cell_machine.specs.Seats.{task_by, task_at, makes_at, in_active, in_passive_at, value_known, verdict, verdict_of}
 use Rattle.cell_machine.specs.Machine.{OnceCell, IsCell, goes_with, is_pending, is_maker, position_at}
 use Rattle.cell_machine.proofs.Told.{in_list}

@@ -13,24 +13,24 @@ use Rattle.lock_world.specs.Frame.{is_refusal}
 use Rattle.lock_world.specs.Refusals.{number_of}
 use Rattle.lock_world.specs.Steps.{Deed, nothing, changes, does, joins, asks, leaves, notifies, notifies_additionally}
 use Rattle.lock_table.specs.Ends.{answer_of}
-use Rattle.cell_machine.specs.declared.program.Action.TheVariants as act
-use Rattle.cell_machine.specs.declared.program.Found.{Found}
-use Rattle.cell_machine.specs.declared.program.Found.TheVariants as found
-use Rattle.cell_machine.specs.declared.program.ListName.{ListName}
-use Rattle.cell_machine.specs.declared.program.ListName.TheVariants.{Active, Passive}
-use Rattle.cell_machine.specs.declared.program.Maker.{Maker}
-use Rattle.cell_machine.specs.declared.program.Maker.TheVariants.{Closure, Given}
-use Rattle.cell_machine.specs.declared.program.Next.{Next}
-use Rattle.cell_machine.specs.declared.program.Next.TheVariants as next
-use Rattle.cell_machine.specs.declared.program.Place.{Place}
-use Rattle.cell_machine.specs.declared.program.Place.TheVariants.{Claim, ClaimListed, JoinActive, AskActive, LeaveToMake, Make, Fill, NotifyActive, NotifyPassive, Fail, FailNotify, LeaveFull, RefuseActive, Look, JoinPassive, LookListed, AskPassive, LeavePassive, RefusePassive, Try, TryFill, TryNotifyActive, TryNotifyPassive, CancelMake, CancelNotify, CancelLeave, Abandon}
-use Rattle.cell_machine.specs.declared.program.Position.{Position}
-use Rattle.cell_machine.specs.declared.program.Position.TheVariants.{Out, At}
-use Rattle.cell_machine.specs.declared.words.Content.{Content}
-use Rattle.cell_machine.specs.declared.words.Content.TheVariants.{Empty, BeingMade, Full}
-use Rattle.cell_machine.specs.Program.{action_of, next_of}
+use Rattle.cell_program.specs.declared.program.Action.TheVariants as act
+use Rattle.cell_program.specs.declared.program.Found.{Found}
+use Rattle.cell_program.specs.declared.program.Found.TheVariants as found
+use Rattle.cell_program.specs.declared.program.ListName.{ListName}
+use Rattle.cell_program.specs.declared.program.ListName.TheVariants.{Active, Passive}
+use Rattle.cell_program.specs.declared.program.Maker.{Maker}
+use Rattle.cell_program.specs.declared.program.Maker.TheVariants.{Closure, Given}
+use Rattle.cell_program.specs.declared.program.Next.{Next}
+use Rattle.cell_program.specs.declared.program.Next.TheVariants as next
+use Rattle.cell_program.specs.declared.program.Place.{Place}
+use Rattle.cell_program.specs.declared.program.Place.TheVariants.{Claim, ClaimListed, JoinActive, AskActive, LeaveToMake, Make, Fill, NotifyActive, NotifyPassive, Fail, FailNotify, LeaveFull, RefuseActive, Look, JoinPassive, LookListed, AskPassive, LeavePassive, RefusePassive, Try, TryFill, TryNotifyActive, TryNotifyPassive, CancelMake, CancelNotify, CancelLeave, Abandon}
+use Rattle.cell_program.specs.declared.program.Position.{Position}
+use Rattle.cell_program.specs.declared.program.Position.TheVariants.{Out, At}
+use Rattle.cell_program.specs.declared.words.Content.{Content}
+use Rattle.cell_program.specs.declared.words.Content.TheVariants.{Empty, BeingMade, Full}
+use Rattle.cell_program.specs.Program.{action_of, next_of}
 use Rattle.cell_machine.specs.Seats.{sets, fills_with, failed, task_by, task_at, task_of as place_task, makes_at, in_active, in_passive_at, verdict_of}
-use Rattle.cell_machine.specs.Deeds.{Change, begins, fills, empties, everyone, deed_of, content_after, Finds, FindsMade}
+use Rattle.cell_program.specs.Deeds.{Change, begins, fills, empties, everyone, deed_of, content_after, Finds, FindsMade}
 use Rattle.cell_machine.specs.Machine.{answer_by}
 use Rattle.cell_machine.proofs.Kept.{after}
 use Rattle.cell_world.specs.State.{is_full}

@@ -5,7 +5,7 @@ use Rattle.lock_event.specs.declared.event.Entry.{Entry}
 use Rattle.lock_world.specs.Standings.{Standing, is_outside_stage}
 use Rattle.lock_table.specs.Tables.{Table}
 use Rattle.lock_table.proofs.Views.{rest_seen}
-use Rattle.cell_machine.specs.declared.words.Content.{Content}
+use Rattle.cell_program.specs.declared.words.Content.{Content}
 use Rattle.cell_machine.specs.Seats.{Task, verdict}
 use Rattle.cell_machine.specs.Machine.{OnceCell, position_at}
 use Rattle.cell_world.specs.State.{World}

@@ -8,8 +8,8 @@ use super::rows::Deed::{
 };
 use super::rows::Seen::{self, Answered, Is, State, Told, Value};
 use super::rows::{ACTIVE, GO, INPUTS, NO_MEMORY, PASSIVE};
-use cell_machine::Content;
-use cell_machine::program::ListName;
+use cell_program::Content;
+use cell_program::program::ListName;
 use cell_world::World;
 use lock_event::Mark;
 use lock_frame::AnyWorld;

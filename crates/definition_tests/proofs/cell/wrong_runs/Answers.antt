@@ -15,12 +15,12 @@ use Rattle.lock_world.specs.Frame.{is_drop}
 use Rattle.lock_world.specs.Standings.{is_possible, inputs_of}
 use Rattle.lock_world.specs.Steps.{Deed, nothing, changes, does}
 use Rattle.lock_world.proofs.Equations.{some_eq, some_none, none_some}
-use Rattle.cell_machine.specs.declared.program.ListName.{ListName}
-use Rattle.cell_machine.specs.declared.program.ListName.TheVariants.{Active, Passive}
-use Rattle.cell_machine.specs.declared.words.Content.{Content}
-use Rattle.cell_machine.specs.declared.words.Content.TheVariants.{Empty, BeingMade, Full}
+use Rattle.cell_program.specs.declared.program.ListName.{ListName}
+use Rattle.cell_program.specs.declared.program.ListName.TheVariants.{Active, Passive}
+use Rattle.cell_program.specs.declared.words.Content.{Content}
+use Rattle.cell_program.specs.declared.words.Content.TheVariants.{Empty, BeingMade, Full}
 use Rattle.cell_machine.specs.Seats.{Task, no_task, initializes, sets, waits_only, fills_with, failed}
-use Rattle.cell_machine.specs.Deeds.{Change, begins, fills, empties, content_after}
+use Rattle.cell_program.specs.Deeds.{Change, begins, fills, empties, content_after}
 use Rattle.cell_machine.specs.Machine.{is_maker}
 use Rattle.cell_machine.proofs.Contents.{maker_is}
 use Rattle.cell_world.specs.State.{World, list_in, is_empty, task_of}

@@ -2,10 +2,10 @@
 use Rattle.std.proofs.Common.{◌≡◌, ◌<◌, length, ap, sym, ◌∙◌}
 use Rattle.std.proofs.Math.ListN.{set}
 use Rattle.lock_queue.specs.Queues.{queue}
-use Rattle.cell_machine.specs.Program.{action_of, position_after}
-use Rattle.cell_machine.specs.Deeds.{Finds, deed_of, content_after, active_after, passive_after}
+use Rattle.cell_program.specs.Program.{action_of, position_after}
+use Rattle.cell_program.specs.Deeds.{Finds, deed_of, content_after, active_after, passive_after}
 use Rattle.cell_machine.specs.Machine.{answer_by, IsKept, Stands}
-use Rattle.cell_machine.specs.Words.{content_of}
+use Rattle.cell_program.specs.Words.{content_of}
 use Rattle.cell_machine.proofs.Kept.{after}
 use Rattle.cell_machine.proofs.Locks.{began, locked, keeps}
 use Rattle.cell_machine.proofs.Taken.{settled}

@@ -1,6 +1,6 @@
 -- What always holds of a cell holds with whatever value is left in it.
 use Rattle.std.proofs.Common.{◌≡◌, sym, ◌∙◌}
-use Rattle.cell_machine.specs.Words.{content_of, kept_of}
+use Rattle.cell_program.specs.Words.{content_of, kept_of}
 use Rattle.cell_machine.proofs.Taken.{settled, put}
 use Rattle.cell_machine.proofs.cell.OnceCellValued.value_mut.Goals as goal
 

@@ -1,10 +1,10 @@
 -- What the words of a cell say is in it.
 use Rattle.std.specs.Prelude.{ℕ, Option, Some, None}
-use Rattle.cell_machine.specs.declared.words.Content.{Content}
-use Rattle.cell_machine.specs.declared.words.Content.TheVariants as content
-use Rattle.cell_machine.specs.declared.words.State.{State}
-use Rattle.cell_machine.specs.declared.words.State.TheVariants.{Empty, BeingMade, Full}
-use Rattle.cell_machine.specs.declared.words.Words.{Words}
+use Rattle.cell_program.specs.declared.words.Content.{Content}
+use Rattle.cell_program.specs.declared.words.Content.TheVariants as content
+use Rattle.cell_program.specs.declared.words.State.{State}
+use Rattle.cell_program.specs.declared.words.State.TheVariants.{Empty, BeingMade, Full}
+use Rattle.cell_program.specs.declared.words.Words.{Words}
 
 -- a full cell's content, by its value: one whose value was taken is empty
 abbrev pub full_of : Option ℕ → Content

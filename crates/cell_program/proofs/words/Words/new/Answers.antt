@@ -1,6 +1,6 @@
 -- A new cell is empty.
 use Rattle.std.proofs.Common.{refl}
-use Rattle.cell_machine.proofs.words.Words.new.Goals as goal
+use Rattle.cell_program.proofs.words.Words.new.Goals as goal
 
 pub returns-clause-content : goal.returns-clause-content
 returns-clause-content c = refl

@@ -1,6 +1,6 @@
 -- A maker that failed notifies one, and a value that entered is told in both lists.
 use Rattle.std.proofs.Common.{refl}
-use Rattle.cell_machine.proofs.program.decide.Goals as goal
+use Rattle.cell_program.proofs.program.decide.Goals as goal
 
 pub returns-in-Fail : goal.returns-in-Fail
 returns-in-Fail c = rw c.in-Fail.is refl

@@ -1,9 +1,9 @@
 //! What a once-cell has in it, and the words that say so.
 
 ghost use Rattle.std.specs.Prelude.{◌≡◌};
-ghost use Rattle.cell_machine.specs.Deeds.{FindsContent, claimed_after};
-ghost use Rattle.cell_machine.specs.Words.{content_of, kept_of, value_in};
-ghost use Rattle.cell_machine.specs.declared.words.Content.TheVariants as contents;
+ghost use Rattle.cell_program.specs.Deeds.{FindsContent, claimed_after};
+ghost use Rattle.cell_program.specs.Words.{content_of, kept_of, value_in};
+ghost use Rattle.cell_program.specs.declared.words.Content.TheVariants as contents;
 
 use crate::program::Found;
 

@@ -1,12 +1,12 @@
 -- A try of an empty cell makes at once, and any other ends.
 use Rattle.std.proofs.Common.{◌≡◌, ℕ, refl}
-use Rattle.cell_machine.specs.Program.{next_of}
-use Rattle.cell_machine.specs.declared.program.Found.{Found}
-use Rattle.cell_machine.specs.declared.program.Found.TheVariants as found
-use Rattle.cell_machine.specs.declared.program.Next.TheVariants as next
-use Rattle.cell_machine.specs.declared.program.Place.TheVariants as at
+use Rattle.cell_program.specs.Program.{next_of}
+use Rattle.cell_program.specs.declared.program.Found.{Found}
+use Rattle.cell_program.specs.declared.program.Found.TheVariants as found
+use Rattle.cell_program.specs.declared.program.Next.TheVariants as next
+use Rattle.cell_program.specs.declared.program.Place.TheVariants as at
 use Rattle.lock_table.specs.declared.end.End.TheVariants as end
-use Rattle.cell_machine.proofs.program.after_try.Goals as goal
+use Rattle.cell_program.proofs.program.after_try.Goals as goal
 
 not_empty : (value : ℕ) (f : Found) → (f ≡ found.Empty → ⊥) → next.End end.NotFree ≡ next_of (at.Try value) f
 not_empty value found.Empty is_not = absurd (is_not refl)

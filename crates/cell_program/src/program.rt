@@ -6,8 +6,8 @@
 //! lists are notified; a maker that fails or is dropped leaves the cell empty and notifies one in `active`.
 
 ghost use Rattle.std.specs.Prelude.{◌≡◌};
-ghost use Rattle.cell_machine.specs.Program.{next_of, action_of, start_of, got_of, after_claim as after_claim_lem, after_make as after_make_lem, after_look as after_look_lem};
-ghost use Rattle.cell_machine.specs.declared.program.Place.TheVariants as places;
+ghost use Rattle.cell_program.specs.Program.{next_of, action_of, start_of, got_of, after_claim as after_claim_lem, after_make as after_make_lem, after_look as after_look_lem};
+ghost use Rattle.cell_program.specs.declared.program.Place.TheVariants as places;
 
 use lock_table::End;
 use lock_world::{Call, Got, Refusal};

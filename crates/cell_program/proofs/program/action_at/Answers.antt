@@ -1,6 +1,6 @@
 -- Each party joins its own list, and one that was refused hands on what it was told.
 use Rattle.std.proofs.Common.{refl}
-use Rattle.cell_machine.proofs.program.action_at.Goals as goal
+use Rattle.cell_program.proofs.program.action_at.Goals as goal
 
 pub returns-in-JoinActive : goal.returns-in-JoinActive
 returns-in-JoinActive c = rw c.in-JoinActive.is refl

@@ -9,19 +9,19 @@ use Rattle.lock_world.specs.declared.moves.What.TheVariants.{Begin, Go}
 use Rattle.lock_world.specs.declared.refusal.Refusal.TheVariants.{Memory}
 use Rattle.lock_table.specs.declared.end.End.{End}
 use Rattle.lock_table.specs.declared.end.End.TheVariants.{Granted, Pending, NotFree, GivenBack, Refused}
-use Rattle.cell_machine.specs.declared.program.Action.{Action}
-use Rattle.cell_machine.specs.declared.program.Action.TheVariants as act
-use Rattle.cell_machine.specs.declared.program.Found.{Found}
-use Rattle.cell_machine.specs.declared.program.Found.TheVariants as found
-use Rattle.cell_machine.specs.declared.program.ListName.TheVariants.{Active, Passive}
-use Rattle.cell_machine.specs.declared.program.Maker.{Maker}
-use Rattle.cell_machine.specs.declared.program.Maker.TheVariants.{Closure, Given}
-use Rattle.cell_machine.specs.declared.program.Next.{Next}
-use Rattle.cell_machine.specs.declared.program.Next.TheVariants as next
-use Rattle.cell_machine.specs.declared.program.Place.{Place}
-use Rattle.cell_machine.specs.declared.program.Place.TheVariants.{Claim, ClaimListed, JoinActive, AskActive, LeaveToMake, Make, Fill, NotifyActive, NotifyPassive, Fail, FailNotify, LeaveFull, RefuseActive, Look, JoinPassive, LookListed, AskPassive, LeavePassive, RefusePassive, Try, TryFill, TryNotifyActive, TryNotifyPassive, CancelMake, CancelNotify, CancelLeave, Abandon}
-use Rattle.cell_machine.specs.declared.program.Position.{Position}
-use Rattle.cell_machine.specs.declared.program.Position.TheVariants.{Out, ToMake, WaitingToMake, Making, ToWait, Waiting, At}
+use Rattle.cell_program.specs.declared.program.Action.{Action}
+use Rattle.cell_program.specs.declared.program.Action.TheVariants as act
+use Rattle.cell_program.specs.declared.program.Found.{Found}
+use Rattle.cell_program.specs.declared.program.Found.TheVariants as found
+use Rattle.cell_program.specs.declared.program.ListName.TheVariants.{Active, Passive}
+use Rattle.cell_program.specs.declared.program.Maker.{Maker}
+use Rattle.cell_program.specs.declared.program.Maker.TheVariants.{Closure, Given}
+use Rattle.cell_program.specs.declared.program.Next.{Next}
+use Rattle.cell_program.specs.declared.program.Next.TheVariants as next
+use Rattle.cell_program.specs.declared.program.Place.{Place}
+use Rattle.cell_program.specs.declared.program.Place.TheVariants.{Claim, ClaimListed, JoinActive, AskActive, LeaveToMake, Make, Fill, NotifyActive, NotifyPassive, Fail, FailNotify, LeaveFull, RefuseActive, Look, JoinPassive, LookListed, AskPassive, LeavePassive, RefusePassive, Try, TryFill, TryNotifyActive, TryNotifyPassive, CancelMake, CancelNotify, CancelLeave, Abandon}
+use Rattle.cell_program.specs.declared.program.Position.{Position}
+use Rattle.cell_program.specs.declared.program.Position.TheVariants.{Out, ToMake, WaitingToMake, Making, ToWait, Waiting, At}
 
 -- the place at which a call begins
 abbrev pub start_of : Call → Position → Option Place
