@@ -1,6 +1,6 @@
 use Rattle.std.proofs.Common.{rules}
-use Rattle.lock_script.proofs.Inputs.{maker_added, maker_refused}
-use Rattle.lock_script.proofs.command.with_word.Goals as goal
+use Rattle.script_words.proofs.Maker.{maker_added, maker_refused}
+use Rattle.script_words.proofs.inputs.with_word.Goals as goal
 
 pub returns-in_err-inputs-in-Maker-clause-none : goal.returns-in_err-inputs-in-Maker-clause-none
 returns-in_err-inputs-in-Maker-clause-none c = λ passed rest h.
