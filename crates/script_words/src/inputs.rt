@@ -1,6 +1,6 @@
 //! The inputs of a call that words give.
 
-ghost use Rattle.std.specs.Prelude.{◌≡◌, ◌++◌, ℕ, List, [], ◌∷◌, Some, codes, IfSome, IfNone, IsTrue};
+ghost use Rattle.std.specs.Prelude.{◌≡◌, ◌↔◌, ◌++◌, ℕ, List, [], ◌∷◌, Some, codes, IfSome, IfNone, IsTrue};
 ghost use Rattle.lock_world.specs.declared.moves.Inputs.{Inputs};
 ghost use Rattle.lock_world.specs.declared.moves.Made.{Made};
 ghost use Rattle.script_words.specs.Inputs.{is_of_maker, WritesInputs, WritesMade};
@@ -36,10 +36,17 @@ fn with_word(mut inputs: Inputs, word: &[u8]) -> Option<Inputs>
     match topic_of(word) {
         Topic::Memory if inputs.memory => inputs.memory = false,
         Topic::Starving if !inputs.starving => inputs.starving = true,
-        Topic::Maker if inputs.made == Made::Pending => inputs.made = made(word)?,
+        Topic::Maker if is_pending(inputs.made) => inputs.made = made(word)?,
         _ => return None,
     }
     Some(inputs)
+}
+
+/// Whether nothing was given of the maker.
+fn is_pending(made: Made) -> bool
+    ensures { IsTrue result ↔ (made ≡ Made.Pending) }
+{
+    made == Made::Pending
 }
 
 /// What an input's word may tell of.
