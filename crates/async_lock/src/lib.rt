@@ -6,23 +6,16 @@
 //!
 //! Each lock carries out a program, a table of single actions, and the theorems about all interleavings are proved
 //! of the same table: [`lock_core`] has the Worlds in which parties move by it, and [`lock_audit`] a book of one.
+//! This crate has no code of its own: the mutex stands in `async_mutex`.
 #![tactic(auto)]
-
-mod guard;
-mod lock;
-mod mutex;
-mod waiting;
 
 /// The futures of the locks.
 pub mod lock_futures {
-    pub use crate::lock::{Lock, LockArc};
+    pub use async_mutex::lock_futures::{Lock, LockArc};
 }
 
-pub use guard::{MutexGuard, MutexGuardArc};
+pub use async_mutex::{Mutex, MutexGuard, MutexGuardArc, Polled, Refusal, Settled, Turn};
 pub use lock_audit;
 pub use lock_core;
 pub use lock_event;
 pub use lock_words;
-pub use lock_words::{Polled, Settled, Turn};
-pub use lock_world::Refusal;
-pub use mutex::Mutex;

@@ -2,7 +2,7 @@
 
 use crate::polls::Name;
 use crate::stories::{Answer, Deed, NOBODY, ONE, POLL_ONE, Row, of_timed};
-use async_lock::Refusal;
+use async_mutex::Refusal;
 use std::alloc::{Alloc, AllocGlobal, Global};
 use std::io;
 use std::random::RandomSource;

@@ -2,7 +2,7 @@
 
 use crate::forms::{number_of, owned};
 use crate::same::assert_same;
-use async_lock::Mutex;
+use async_mutex::Mutex;
 use std::alloc::AllocGlobal;
 use std::process::Abort;
 use std::random::RandomSource;

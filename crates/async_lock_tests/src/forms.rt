@@ -4,8 +4,8 @@
 //! public calls promise along each way out of a test. What is written over a form is proved once, for both.
 
 use crate::polls::Waiter;
-use async_lock::lock_futures::{Lock, LockArc};
-use async_lock::{Mutex, MutexGuard, MutexGuardArc, Refusal, Settled};
+use async_mutex::lock_futures::{Lock, LockArc};
+use async_mutex::{Mutex, MutexGuard, MutexGuardArc, Refusal, Settled};
 use std::alloc::AllocGlobal;
 use std::random::RandomSource;
 use std::sync::{Arc, Wait};

@@ -3,7 +3,7 @@
 use crate::polls::{Name, Waiter};
 use crate::same::assert_same;
 use crate::stories::{Answer, Deed, NOBODY, ONE, POLL_ONE, Row, of_borrowed, of_owned};
-use async_lock::{Mutex, Settled};
+use async_mutex::{Mutex, Settled};
 use std::alloc::AllocGlobal;
 use std::random::RandomSource;
 use std::sync::Wait;

@@ -1,7 +1,7 @@
 //! Polls by a test's task.
 
-use async_lock::lock_futures::{Lock, LockArc};
-use async_lock::{MutexGuard, MutexGuardArc, Refusal, Settled, Turn};
+use async_mutex::lock_futures::{Lock, LockArc};
+use async_mutex::{MutexGuard, MutexGuardArc, Refusal, Settled, Turn};
 use futures::executor::block_on;
 use futures::task::Poll;
 use futures::test::MockTask;

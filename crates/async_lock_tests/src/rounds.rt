@@ -7,7 +7,7 @@ use crate::stories::{
     Answer, BOTH, Deed, NOBODY, ONE, POLL_ONE, POLL_TWO, Props, Row, Scene, TWO, of_borrowed,
     of_owned,
 };
-use async_lock::{Mutex, MutexGuard, MutexGuardArc, Refusal};
+use async_mutex::{Mutex, MutexGuard, MutexGuardArc, Refusal};
 use std::alloc::AllocGlobal;
 use std::process::Abort;
 use std::random::RandomSource;

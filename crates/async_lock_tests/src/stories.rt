@@ -7,7 +7,7 @@ use crate::clocks::Fake;
 use crate::forms::{Form, Number, owned};
 use crate::polls::{Name, Tasks, Waiter, poll_again};
 use crate::same::assert_same;
-use async_lock::{Mutex, Refusal, Turn};
+use async_mutex::{Mutex, Refusal, Turn};
 use futures::test::MockTask;
 use std::alloc::AllocGlobal;
 use std::mem;

@@ -4,7 +4,7 @@ use crate::forms::can_be_had;
 use crate::polls::Name;
 use crate::same::assert_same;
 use crate::stories::{Answer, Deed, NOBODY, ONE, POLL_ONE, Row, of_borrowed, of_owned};
-use async_lock::{Mutex, Refusal};
+use async_mutex::{Mutex, Refusal};
 use std::alloc::AllocGlobal;
 use std::fmt;
 use std::process::Abort;

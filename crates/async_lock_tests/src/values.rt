@@ -4,7 +4,7 @@ use crate::forms::{Number, number_of, owned};
 use crate::polls::Name;
 use crate::same::assert_same;
 use crate::stories::{Answer, Deed, NOBODY, ONE, POLL_ONE, Props, Row, play_borrowed, play_owned};
-use async_lock::Mutex;
+use async_mutex::Mutex;
 use std::alloc::AllocGlobal;
 use std::mem;
 use std::process::Abort;

@@ -5,14 +5,14 @@ use Rattle.lock_queue.specs.Queues.{Queue}
 use Rattle.lock_world.specs.declared.standing.Within.{Within}
 use Rattle.mutex_machine.specs.Mutex.{Mutex, course_at}
 use Rattle.mutex_machine.proofs.Callers.{may_lock, may_poll, may_cancel, may_release}
-use Rattle.barrier_machine.specs.declared.program.Place.{Place}
-use Rattle.barrier_machine.specs.declared.program.Place.TheVariants.{EnterLock, WaitLock, TakeLock, Join, Arrive, Complete, JoinAgain, ReleaseLock, ReleasingLock, Ask, CancelLock, CancellingLock, CancelLeave}
-use Rattle.barrier_machine.specs.declared.program.Position.{Position}
-use Rattle.barrier_machine.specs.declared.program.Position.TheVariants.{At}
-use Rattle.barrier_machine.specs.declared.words.Progress.{Progress}
-use Rattle.barrier_machine.specs.declared.words.Words.{Words}
-use Rattle.barrier_machine.specs.Program.{action_of}
-use Rattle.barrier_machine.specs.Deeds.{CanDo}
+use Rattle.barrier_program.specs.declared.program.Place.{Place}
+use Rattle.barrier_program.specs.declared.program.Place.TheVariants.{EnterLock, WaitLock, TakeLock, Join, Arrive, Complete, JoinAgain, ReleaseLock, ReleasingLock, Ask, CancelLock, CancellingLock, CancelLeave}
+use Rattle.barrier_program.specs.declared.program.Position.{Position}
+use Rattle.barrier_program.specs.declared.program.Position.TheVariants.{At}
+use Rattle.barrier_program.specs.declared.words.Progress.{Progress}
+use Rattle.barrier_program.specs.declared.words.Words.{Words}
+use Rattle.barrier_program.specs.Program.{action_of}
+use Rattle.barrier_program.specs.Deeds.{CanDo}
 use Rattle.barrier_machine.specs.Roles.{fits_lock, listed, in_lock, Sure}
 use Rattle.barrier_machine.specs.Machine.{IsKept, position_at, arrival_at}
 use Rattle.barrier_machine.proofs.Starts.{Fits}

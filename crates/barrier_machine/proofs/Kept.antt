@@ -17,18 +17,18 @@ use Rattle.mutex_machine.specs.Course.{Course, is_holding}
 use Rattle.mutex_machine.specs.Mutex.{Mutex, course_at, IsMutex, holder_from}
 use Rattle.mutex_machine.proofs.Callers.{holding_holds}
 use Rattle.mutex_machine.proofs.Holders.{held_at}
-use Rattle.barrier_machine.specs.declared.program.Ending.TheVariants as ending
-use Rattle.barrier_machine.specs.declared.program.Found.{Found}
-use Rattle.barrier_machine.specs.declared.program.Place.{Place}
-use Rattle.barrier_machine.specs.declared.program.Place.TheVariants.{Arrive, Complete, ReleaseLock, ReleasingLock}
-use Rattle.barrier_machine.specs.declared.program.Position.{Position}
-use Rattle.barrier_machine.specs.declared.program.Position.TheVariants.{Out, At}
-use Rattle.barrier_machine.specs.declared.words.Progress.{Progress}
-use Rattle.barrier_machine.specs.declared.words.Words.{Words}
-use Rattle.barrier_machine.specs.Words.{progress, IsPast, IsWithin, IsFollower}
-use Rattle.barrier_machine.specs.Program.{action_of, next_of}
-use Rattle.barrier_machine.specs.Deeds.{Finds, CanDo, arrival_after, entries_after}
-use Rattle.barrier_machine.specs.Locks.{OnLock}
+use Rattle.barrier_program.specs.declared.program.Ending.TheVariants as ending
+use Rattle.barrier_program.specs.declared.program.Found.{Found}
+use Rattle.barrier_program.specs.declared.program.Place.{Place}
+use Rattle.barrier_program.specs.declared.program.Place.TheVariants.{Arrive, Complete, ReleaseLock, ReleasingLock}
+use Rattle.barrier_program.specs.declared.program.Position.{Position}
+use Rattle.barrier_program.specs.declared.program.Position.TheVariants.{Out, At}
+use Rattle.barrier_program.specs.declared.words.Progress.{Progress}
+use Rattle.barrier_program.specs.declared.words.Words.{Words}
+use Rattle.barrier_program.specs.Words.{progress, IsPast, IsWithin, IsFollower}
+use Rattle.barrier_program.specs.Program.{action_of, next_of}
+use Rattle.barrier_program.specs.Deeds.{Finds, CanDo, arrival_after, entries_after}
+use Rattle.barrier_program.specs.Locks.{OnLock}
 use Rattle.barrier_machine.specs.Roles.{InLock, holds, fits_lock, listed, in_lock, follows, Sure, HasOutcome}
 use Rattle.barrier_machine.specs.Machine.{Barrier, IsKept, HasArrived, AreApart, Stands, goes_with, answer_by, position_at, arrival_at}
 use Rattle.barrier_machine.proofs.Starts.{Fits}

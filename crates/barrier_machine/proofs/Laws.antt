@@ -9,10 +9,10 @@ use Rattle.lock_queue.specs.Queues.{Queue}
 use Rattle.mutex_machine.specs.Course.{Course, holds, is_resting as rests_there}
 use Rattle.mutex_machine.specs.Mutex.{Mutex, course_at, IsMutex, holders, IsAtRest as LockAtRest}
 use Rattle.mutex_machine.proofs.Callers.{out_free, waiting_free, out_rests, waiting_rests}
-use Rattle.barrier_machine.specs.declared.program.Position.{Position}
-use Rattle.barrier_machine.specs.declared.program.Position.TheVariants.{Out, Made, Locking, Waiting, At}
-use Rattle.barrier_machine.specs.declared.words.Progress.{Progress}
-use Rattle.barrier_machine.specs.declared.words.Words.{Words}
+use Rattle.barrier_program.specs.declared.program.Position.{Position}
+use Rattle.barrier_program.specs.declared.program.Position.TheVariants.{Out, Made, Locking, Waiting, At}
+use Rattle.barrier_program.specs.declared.words.Progress.{Progress}
+use Rattle.barrier_program.specs.declared.words.Words.{Words}
 use Rattle.barrier_machine.specs.Roles.{fits_lock, in_lock, is_late, will_tell, is_resting}
 use Rattle.barrier_machine.specs.Machine.{IsKept, IsAtRest, IsBarrier, AllTold, position_at, arrival_at}
 use Rattle.lock_queue.proofs.Marks.{else_marked}

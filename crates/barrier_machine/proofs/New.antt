@@ -5,8 +5,8 @@ use Rattle.std.proofs.lemmas.List.Sums.{sum_by-cons}
 use Rattle.lock_queue.specs.Queues.{queue}
 use Rattle.mutex_machine.specs.Mutex.{new_mutex}
 use Rattle.mutex_machine.proofs.Callers.{new_is_out, new_parties}
-use Rattle.barrier_machine.specs.declared.program.Position.TheVariants.{Out}
-use Rattle.barrier_machine.specs.Words.{progress, new_words}
+use Rattle.barrier_program.specs.declared.program.Position.TheVariants.{Out}
+use Rattle.barrier_program.specs.Words.{progress, new_words}
 use Rattle.barrier_machine.specs.Roles.{listed}
 use Rattle.lock_world.specs.declared.standing.Rest.TheVariants.{Idle}
 use Rattle.lock_world.specs.declared.standing.Stage.TheVariants.{Outside}

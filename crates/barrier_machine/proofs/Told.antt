@@ -10,19 +10,19 @@ use Rattle.lock_queue.proofs.Marks.{never_unlisted, all_marked}
 use Rattle.lock_world.proofs.Lists.{unmarked_before}
 use Rattle.lock_world.specs.declared.moves.Inputs.{Inputs}
 use Rattle.lock_world.specs.Steps.{joins, asks, leaves, notifies}
-use Rattle.barrier_machine.specs.declared.program.Action.{Action}
-use Rattle.barrier_machine.specs.declared.program.Action.TheVariants as act
-use Rattle.barrier_machine.specs.declared.program.Found.{Found}
-use Rattle.barrier_machine.specs.declared.program.Found.TheVariants as found
-use Rattle.barrier_machine.specs.declared.program.Place.{Place}
-use Rattle.barrier_machine.specs.declared.program.Place.TheVariants.{EnterLock, WaitLock, TakeLock, Look, Join, Arrive, Complete, NotifyAll, Check, JoinAgain, ReleaseLock, ReleasingLock, Ask, CancelLock, CancellingLock, CancelLeave, Abandon}
-use Rattle.barrier_machine.specs.declared.program.Position.{Position}
-use Rattle.barrier_machine.specs.declared.program.Position.TheVariants.{Out, At}
-use Rattle.barrier_machine.specs.declared.words.Progress.{Progress}
-use Rattle.barrier_machine.specs.declared.words.Words.{Words}
-use Rattle.barrier_machine.specs.Words.{progress}
-use Rattle.barrier_machine.specs.Program.{action_of}
-use Rattle.barrier_machine.specs.Deeds.{Finds, arrival_after, entries_after, everyone}
+use Rattle.barrier_program.specs.declared.program.Action.{Action}
+use Rattle.barrier_program.specs.declared.program.Action.TheVariants as act
+use Rattle.barrier_program.specs.declared.program.Found.{Found}
+use Rattle.barrier_program.specs.declared.program.Found.TheVariants as found
+use Rattle.barrier_program.specs.declared.program.Place.{Place}
+use Rattle.barrier_program.specs.declared.program.Place.TheVariants.{EnterLock, WaitLock, TakeLock, Look, Join, Arrive, Complete, NotifyAll, Check, JoinAgain, ReleaseLock, ReleasingLock, Ask, CancelLock, CancellingLock, CancelLeave, Abandon}
+use Rattle.barrier_program.specs.declared.program.Position.{Position}
+use Rattle.barrier_program.specs.declared.program.Position.TheVariants.{Out, At}
+use Rattle.barrier_program.specs.declared.words.Progress.{Progress}
+use Rattle.barrier_program.specs.declared.words.Words.{Words}
+use Rattle.barrier_program.specs.Words.{progress}
+use Rattle.barrier_program.specs.Program.{action_of}
+use Rattle.barrier_program.specs.Deeds.{Finds, arrival_after, entries_after, everyone}
 use Rattle.barrier_machine.specs.Roles.{listed, is_late, will_tell, Sure}
 use Rattle.barrier_machine.specs.Machine.{position_at, arrival_at, AllTold}
 use Rattle.barrier_machine.proofs.Rows.{then, after, same_generation}

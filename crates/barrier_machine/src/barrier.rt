@@ -1,19 +1,15 @@
 //! The barrier's machine: how far it is, its list, the inner lock, and where each party stands in its program.
 
 ghost use Rattle.std.specs.Prelude.{◌≡◌, ◌<◌, length, slice_get, replicate, IfOk};
-ghost use Rattle.lock_queue.specs.Queues.{queue};
-ghost use Rattle.lock_queue.specs.Parties.{entries_of};
-ghost use Rattle.barrier_machine.specs.declared.program.Action.TheVariants as acts;
-ghost use Rattle.barrier_machine.specs.Program.{place_for as place_for_lem, position_after};
-ghost use Rattle.barrier_machine.specs.Deeds.{CanDo, Finds, FindsJoin, FindsAsk, words_after, arrival_after, entries_after};
-ghost use Rattle.barrier_machine.specs.declared.program.Position.TheVariants.{Out};
-ghost use Rattle.barrier_machine.specs.Words.{progress};
-ghost use Rattle.barrier_machine.specs.Locks.{OnLock};
+ghost use Rattle.barrier_program.specs.Program.{place_for as place_for_lem, position_after};
+ghost use Rattle.barrier_program.specs.declared.program.Position.TheVariants.{Out};
+ghost use Rattle.barrier_program.specs.Words.{progress};
 ghost use Rattle.barrier_machine.specs.Machine.{new_barrier, IsBarrier, answer_by, position_at, arrival_at};
 ghost use Rattle.barrier_machine.specs.Waits.{is_counted, wait_of, wait_at};
 
-use crate::program::{Action, Aim, Ending, Found, Next, Place, Position, action_at, decide, start};
-use crate::words::{Progress, Words};
+use barrier_program::deeds::carry_out;
+use barrier_program::program::{Aim, Ending, Next, Place, Position, action_at, decide, start};
+use barrier_program::words::{Progress, Words};
 use lock_event::Entry;
 use lock_queue::WaitQueue;
 use lock_table::Machine;
@@ -60,76 +56,6 @@ impl Model for Barrier {
     ghost view = { λ s. record { words = s.words; positions = s.positions.items; arrivals = s.arrivals.items; entries = s.list.entries; lock = s.lock } };
 
     ghost invariant = { λ s. IsKept s.words s.positions.items s.arrivals.items s.list s.lock };
-}
-
-/// A party joins the list, where there is memory.
-fn join_in(list: &mut WaitQueue, party: u32, memory: bool) -> Found
-    requires known { party < list.old.parties }
-    requires out { entries_of party list.old.entries ≡ 0 }
-    ensures finds { FindsJoin memory result }
-    ensures list { list.new ≡ queue list.old.parties (entries_after party acts.Join result list.old.entries) }
-{
-    if memory {
-        list.join(party);
-        Found::Done
-    } else {
-        Found::NoMemory
-    }
-}
-
-/// A party asks for its notification in the list.
-fn ask_in(list: &mut WaitQueue, party: u32) -> Found
-    requires known { party < list.old.parties }
-    requires listed { 0 < entries_of party list.old.entries }
-    ensures finds { FindsAsk party result list.old.entries }
-    ensures list { list.new ≡ queue list.old.parties (entries_after party acts.Ask result list.old.entries) }
-{
-    if list.ask(party) {
-        Found::Yes
-    } else {
-        Found::No
-    }
-}
-
-/// Carries out one action for a party. Its arrival is how far the barrier is once it is counted.
-fn carry_out(
-    words: &mut Words,
-    arrival: &mut Progress,
-    list: &mut WaitQueue,
-    lock: &mut Mutex,
-    party: u32,
-    action: Action,
-    inputs: Inputs,
-) -> Found
-    requires { CanDo party action words.old list.old lock.old }
-    ensures finds { Finds inputs party action result words.old arrival.old list.old.entries }
-    ensures words { words.new ≡ words_after action words.old }
-    ensures arrival { arrival.new ≡ arrival_after action words.old arrival.old }
-    ensures list { list.new ≡ queue list.old.parties (entries_after party action result list.old.entries) }
-    ensures lock { OnLock inputs party action result lock.old lock.new }
-{
-    match action {
-        Action::Look => return words.look(),
-        Action::Check => return words.check(*arrival),
-        Action::Join => return join_in(list, party, inputs.memory),
-        Action::Ask => return ask_in(list, party),
-        Action::Begin(call) => {
-            return Found::Lock(lock.begin(party, call, inputs.memory, inputs.starving));
-        }
-        Action::Go => return Found::Lock(lock.go(party, inputs.memory, inputs.starving)),
-        Action::Nothing => (),
-        Action::Arrive => {
-            words.arrive();
-            *arrival = words.progress;
-        }
-        Action::Complete => {
-            words.complete();
-            *arrival = words.progress;
-        }
-        Action::Leave => list.leave(party),
-        Action::NotifyAll => list.notify(usize::MAX),
-    }
-    Found::Done
 }
 
 /// Where a party stands after this.

@@ -3,8 +3,8 @@ use Rattle.std.proofs.Common.{◌≡◌, ◌≢◌, ℕ, zero, suc, ◌+◌, ◌
 use Rattle.std.proofs.Math.Nat.{mul_comm, mul-suc, div-add-mod, mod-lt}
 use Rattle.std.proofs.lemmas.Bool.{cases_lt}
 use Rattle.std.proofs.lemmas.Nat.{mul-le, div-mul-add, mod-mul-add}
-use Rattle.barrier_machine.specs.declared.words.Progress.{Progress}
-use Rattle.barrier_machine.specs.Words.{progress, arrivals_at, IsPast, IsWithin, IsFollower}
+use Rattle.barrier_program.specs.declared.words.Progress.{Progress}
+use Rattle.barrier_program.specs.Words.{progress, arrivals_at, IsPast, IsWithin, IsFollower}
 use Rattle.barrier_world.specs.Numbers.{Leads, IsFinished, generations_of, count_of}
 
 -- ---- multiples

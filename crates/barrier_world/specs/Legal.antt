@@ -16,7 +16,7 @@ use Rattle.lock_world.specs.Frame.{is_drop, is_refusal}
 use Rattle.lock_world.specs.Rosters.{how_many}
 use Rattle.lock_world.specs.Standings.{Standing, outside, inside, forgotten, inputs_of, is_decided}
 use Rattle.lock_world.specs.Steps.{Deed, changes, does, joins, asks, leaves, notifies, notifies_additionally}
-use Rattle.barrier_machine.specs.Deeds.{everyone}
+use Rattle.barrier_program.specs.Deeds.{everyone}
 use Rattle.barrier_machine.specs.Machine.{knows}
 use Rattle.barrier_machine.specs.Waits.{Wait, no_wait, uncounted, counted}
 use Rattle.barrier_world.specs.declared.world.ListName.{ListName}

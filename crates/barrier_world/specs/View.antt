@@ -4,9 +4,9 @@ use Rattle.lock_world.specs.declared.moves.Answer.{Answer}
 use Rattle.lock_table.specs.Tables.{Table}
 use Rattle.lock_table.specs.Views.{standings}
 use Rattle.mutex_machine.specs.Mutex.{course_at, holder_of, starved_of}
-use Rattle.barrier_machine.specs.declared.program.Position.{Position}
-use Rattle.barrier_machine.specs.declared.words.Progress.{Progress}
-use Rattle.barrier_machine.specs.Words.{progress, arrivals_at}
+use Rattle.barrier_program.specs.declared.program.Position.{Position}
+use Rattle.barrier_program.specs.declared.words.Progress.{Progress}
+use Rattle.barrier_program.specs.Words.{progress, arrivals_at}
 use Rattle.barrier_machine.specs.Waits.{Wait, wait_at, verdict}
 use Rattle.barrier_machine.specs.Machine.{Barrier, position_at}
 use Rattle.barrier_world.specs.State.{World}

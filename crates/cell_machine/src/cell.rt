@@ -1,20 +1,14 @@
 //! The once-cell's machine: what is in it, its lists, and where each party stands in its program.
 
-ghost use Rattle.std.specs.Prelude.{◌≡◌, ℕ, ◌<◌, ◌≤◌, length, slice_get, replicate, IfOk};
-ghost use Rattle.lock_queue.specs.Queues.{queue};
-ghost use Rattle.lock_world.specs.declared.standing.Stage.TheVariants.{Outside};
-ghost use Rattle.lock_world.specs.declared.standing.Rest.TheVariants.{Idle};
-ghost use Rattle.cell_program.specs.declared.program.Action.TheVariants as acts;
-ghost use Rattle.cell_program.specs.declared.program.ListName.TheVariants as lists;
+ghost use Rattle.std.specs.Prelude.{◌≡◌, ◌<◌, length, slice_get, replicate, IfOk};
 ghost use Rattle.cell_program.specs.declared.program.Position.TheVariants.{Out};
 ghost use Rattle.cell_program.specs.Program.{place_for as place_for_lem, position_after, pending_at as pending_at_lem, refused_at as refused_at_lem};
-ghost use Rattle.cell_program.specs.Deeds.{CanDo, CanList, Finds, FindsJoin, FindsAsk, FindsMade, deed_of, content_after, active_after, passive_after, list_of};
+ghost use Rattle.cell_program.specs.Deeds.{list_of};
 ghost use Rattle.cell_machine.specs.Machine.{new_cell, IsCell, answer_by};
 ghost use Rattle.cell_program.specs.Words.{content_of, kept_of};
 
-use cell_program::program::{
-    Action, Found, ListName, Maker, Next, Place, Position, action_at, decide, start,
-};
+use cell_program::deeds::carry_out;
+use cell_program::program::{ListName, Next, Place, Position, action_at, decide, start};
 use cell_program::words::{Content, Words};
 use lock_event::Entry;
 use lock_queue::WaitQueue;
@@ -56,85 +50,6 @@ impl Model for OnceCell {
     ghost view = { λ s. record { content = content_of s.words; positions = s.positions.items; active = s.active.entries; passive = s.passive.entries } };
 
     ghost invariant = { λ s. IsKept (kept_of s.words) s.positions.items s.active s.passive };
-}
-
-/// What the maker of an initialisation gives.
-fn polled(maker: Maker, made: Made) -> Found
-    ensures { FindsMade maker made result }
-{
-    match maker {
-        Maker::Given(value) => Found::Made(value),
-        Maker::Closure => match made {
-            Made::Pending => Found::NotYet,
-            Made::Value(value) => Found::Made(value),
-            Made::Fail => Found::Failed,
-        },
-    }
-}
-
-/// A party joins a list, where there is memory.
-fn join_in(list: &mut WaitQueue, party: u32, memory: bool) -> Found
-    requires { CanList party (acts.Join lists.Active) list.old }
-    ensures finds { FindsJoin memory result }
-    ensures list { list.new ≡ queue list.old.parties (active_after party (deed_of (acts.Join lists.Active) result) list.old.entries) }
-{
-    if memory {
-        list.join(party);
-        Found::Done
-    } else {
-        Found::NoMemory
-    }
-}
-
-/// A party asks for its notification in a list.
-fn ask_in(list: &mut WaitQueue, party: u32) -> Found
-    requires { CanList party (acts.Ask lists.Active) list.old }
-    ensures finds { FindsAsk party result list.old.entries }
-    ensures list { list.new ≡ queue list.old.parties (active_after party (deed_of (acts.Ask lists.Active) result) list.old.entries) }
-{
-    if list.ask(party) {
-        Found::Yes
-    } else {
-        Found::No
-    }
-}
-
-/// Carries out one action for a party.
-fn carry_out(
-    words: &mut Words,
-    active: &mut WaitQueue,
-    passive: &mut WaitQueue,
-    party: u32,
-    action: Action,
-    inputs: Inputs,
-) -> Found
-    requires can { CanDo party action active.old passive.old }
-    requires kept { kept_of words.old ≡ content_of words.old }
-    ensures finds { Finds inputs party action result (content_of words.old) active.old.entries passive.old.entries }
-    ensures words { content_of words.new ≡ content_after party (deed_of action result) (content_of words.old) }
-    ensures kept { kept_of words.new ≡ content_of words.new }
-    ensures active { active.new ≡ queue active.old.parties (active_after party (deed_of action result) active.old.entries) }
-    ensures passive { passive.new ≡ queue passive.old.parties (passive_after party (deed_of action result) passive.old.entries) }
-{
-    match action {
-        Action::Look => return words.look(),
-        Action::Claim => return words.claim(party),
-        Action::Make(maker) => return polled(maker, inputs.made),
-        Action::Join(ListName::Active) => return join_in(active, party, inputs.memory),
-        Action::Join(ListName::Passive) => return join_in(passive, party, inputs.memory),
-        Action::Ask(ListName::Active) => return ask_in(active, party),
-        Action::Ask(ListName::Passive) => return ask_in(passive, party),
-        Action::Nothing => (),
-        Action::Fill(value) => words.fill(value),
-        Action::Empty => words.empty(),
-        Action::Leave(ListName::Active) => active.leave(party),
-        Action::Leave(ListName::Passive) => passive.leave(party),
-        Action::Notify(ListName::Active) => active.notify(1),
-        Action::Notify(ListName::Passive) => passive.notify(1),
-        Action::NotifyAll(ListName::Active) => active.notify_additional(usize::MAX),
-        Action::NotifyAll(ListName::Passive) => passive.notify_additional(usize::MAX),
-    }
-    Found::Done
 }
 
 /// Where a party stands that was answered Pending at this place.

@@ -1,9 +1,10 @@
-//! The programs of a once-cell, and its words.
+//! The programs of a once-cell, its words, and what one action does.
 //!
-//! [`program`] is the pure table that says what comes next; [`words`] are what a cell has in it, and what is done to that.
-//! The crate `cell_machine` carries them out.
+//! [`program`] is the pure table that says what comes next; [`words`] are what a cell has in it; and [`deeds`] carries out one
+//! action on them and on the lists. The crate `cell_machine` keeps the positions of all parties.
 #![tactic(auto)]
 
+pub mod deeds;
 pub mod program;
 pub mod words;
 

@@ -1,25 +1,25 @@
 -- The places of a barrier's programs, row by row.
 use Rattle.std.specs.Prelude.{true, false, List, [], ◌∷◌, Option, Some, None}
-use Rattle.barrier_machine.specs.declared.program.Action.TheVariants as act
-use Rattle.barrier_machine.specs.declared.program.Action.{Action}
-use Rattle.barrier_machine.specs.declared.program.Aim.TheVariants as aim
-use Rattle.barrier_machine.specs.declared.program.Ending.TheVariants as ending
-use Rattle.barrier_machine.specs.declared.program.Found.TheVariants as found
-use Rattle.barrier_machine.specs.declared.program.Found.{Found}
-use Rattle.barrier_machine.specs.declared.program.Next.TheVariants as next
-use Rattle.barrier_machine.specs.declared.program.Next.{Next}
-use Rattle.barrier_machine.specs.declared.program.Place.TheVariants as place
-use Rattle.barrier_machine.specs.declared.program.Place.{Place}
-use Rattle.barrier_machine.specs.declared.program.Position.TheVariants as position
-use Rattle.barrier_machine.specs.declared.program.Position.{Position}
+use Rattle.barrier_program.specs.declared.program.Action.TheVariants as act
+use Rattle.barrier_program.specs.declared.program.Action.{Action}
+use Rattle.barrier_program.specs.declared.program.Aim.TheVariants as aim
+use Rattle.barrier_program.specs.declared.program.Ending.TheVariants as ending
+use Rattle.barrier_program.specs.declared.program.Found.TheVariants as found
+use Rattle.barrier_program.specs.declared.program.Found.{Found}
+use Rattle.barrier_program.specs.declared.program.Next.TheVariants as next
+use Rattle.barrier_program.specs.declared.program.Next.{Next}
+use Rattle.barrier_program.specs.declared.program.Place.TheVariants as place
+use Rattle.barrier_program.specs.declared.program.Place.{Place}
+use Rattle.barrier_program.specs.declared.program.Position.TheVariants as position
+use Rattle.barrier_program.specs.declared.program.Position.{Position}
 use Rattle.lock_table.specs.declared.end.End.TheVariants as ended
 use Rattle.lock_world.specs.declared.moves.Call.TheVariants as call
 use Rattle.lock_world.specs.declared.moves.Call.{Call}
 use Rattle.lock_world.specs.declared.moves.Got.TheVariants as got
 use Rattle.lock_world.specs.declared.refusal.Refusal.TheVariants as refusal
-use Rattle.mutex_machine.specs.declared.mutex.Step.TheVariants as lock_step
-use Rattle.mutex_machine.specs.declared.program.End.TheVariants as lock_end
-use Rattle.mutex_machine.specs.declared.program.LockCall.TheVariants as lock_call
+use Rattle.mutex_program.specs.declared.calls.Step.TheVariants as lock_step
+use Rattle.mutex_program.specs.declared.calls.End.TheVariants as lock_end
+use Rattle.mutex_program.specs.declared.calls.LockCall.TheVariants as lock_call
 
 -- Where a call begins for a party that stands there; None where it can't.
 abbrev pub beginnings : List (Call × Position × Option Place)

@@ -1,17 +1,17 @@
 -- The places of a mutex's programs, row by row.
 use Rattle.std.specs.Prelude.{true, false, List, [], ◌∷◌, Option, Some, None}
 use Rattle.lock_world.specs.declared.refusal.Refusal.TheVariants as refusal
-use Rattle.mutex_machine.specs.declared.program.Action.TheVariants as act
-use Rattle.mutex_machine.specs.declared.program.Action.{Action}
-use Rattle.mutex_machine.specs.declared.program.End.TheVariants as ended
-use Rattle.mutex_machine.specs.declared.program.Found.TheVariants as found
-use Rattle.mutex_machine.specs.declared.program.Found.{Found}
-use Rattle.mutex_machine.specs.declared.program.LockCall.TheVariants as call
-use Rattle.mutex_machine.specs.declared.program.LockCall.{LockCall}
-use Rattle.mutex_machine.specs.declared.program.Next.TheVariants as next
-use Rattle.mutex_machine.specs.declared.program.Next.{Next}
-use Rattle.mutex_machine.specs.declared.program.Place.TheVariants as place
-use Rattle.mutex_machine.specs.declared.program.Place.{Place}
+use Rattle.mutex_program.specs.declared.program.Action.TheVariants as act
+use Rattle.mutex_program.specs.declared.program.Action.{Action}
+use Rattle.mutex_program.specs.declared.calls.End.TheVariants as ended
+use Rattle.mutex_program.specs.declared.program.Found.TheVariants as found
+use Rattle.mutex_program.specs.declared.program.Found.{Found}
+use Rattle.mutex_program.specs.declared.calls.LockCall.TheVariants as call
+use Rattle.mutex_program.specs.declared.calls.LockCall.{LockCall}
+use Rattle.mutex_program.specs.declared.program.Next.TheVariants as next
+use Rattle.mutex_program.specs.declared.program.Next.{Next}
+use Rattle.mutex_program.specs.declared.program.Place.TheVariants as place
+use Rattle.mutex_program.specs.declared.program.Place.{Place}
 
 -- Where a call begins for a party that stands there; None where it can't.
 abbrev pub beginnings : List (LockCall × Place × Option Place)

@@ -2,7 +2,7 @@
 
 ghost use Rattle.definition_tests.specs.Tables.{AreRowsOf, AreRowsOfTwo};
 ghost use Rattle.definition_tests.specs.BarrierTable.{beginnings, actions, followings};
-ghost use Rattle.barrier_machine.specs.Program.{start_of, action_of, next_of};
+ghost use Rattle.barrier_program.specs.Program.{start_of, action_of, next_of};
 ghost use Rattle.definition_tests.specs.Never.{Never};
 ghost use Rattle.definition_tests.specs.Barrier.{TwoLeaders, LeadsInTheMidst, HasNoLeader, CountedTwice, TakenBack, FollowsTooSoon, CountedUnlisted, CountedWithoutLock, WaitsUncounted, KeepsTheLock, RefusedAndCounted, RefusedTooSoon, LeftAsleep, WaitsForNothing, PassesOverInVain, KeepsItsTold, LooksInVain};
 

@@ -2,7 +2,7 @@
 
 ghost use Rattle.definition_tests.specs.Tables.{AreRowsOf, AreRowsOfTwo};
 ghost use Rattle.definition_tests.specs.ReadWriteTable.{beginnings, actions, followings};
-ghost use Rattle.rwlock_machine.specs.Program.{start_of, action_of, next_of};
+ghost use Rattle.rwlock_program.specs.Program.{start_of, action_of, next_of};
 ghost use Rattle.definition_tests.specs.Never.{Never};
 ghost use Rattle.definition_tests.specs.ReadWrite.{TriesInVain, ReadsUnready, WaitsUnlisted, PendsTooEarly, RefusedAtFirst, RefusedHavingMoved, ReadsWithTheBit, LetsGoUndecided, DowngradesThroughNothing, WriterIsUpgrade, TriesOn, WriteMeetsReaders, ReadMeetsStarved, StarvesUnasked, KeepsItsTold};
 

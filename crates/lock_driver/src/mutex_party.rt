@@ -2,20 +2,21 @@
 
 ghost use Rattle.std.specs.Prelude.{◌≡◌, Bool, true, false, Option, Some, None, IfSome, IfNone, IsSome};
 ghost use Rattle.lock_words.specs.Tries.{Holds};
-ghost use Rattle.mutex_machine.specs.Program.{rest_at, start_of, action_of, next_of};
-ghost use Rattle.mutex_machine.specs.declared.program.Action.TheVariants as does;
-ghost use Rattle.mutex_machine.specs.declared.program.End.TheVariants as ends;
-ghost use Rattle.mutex_machine.specs.declared.program.Found.TheVariants as finds;
-ghost use Rattle.mutex_machine.specs.declared.program.LockCall.TheVariants as calls;
-ghost use Rattle.mutex_machine.specs.declared.program.Next.TheVariants as next;
-ghost use Rattle.mutex_machine.specs.declared.program.Place.TheVariants as at;
+ghost use Rattle.mutex_program.specs.Program.{rest_at, start_of, action_of, next_of};
+ghost use Rattle.mutex_program.specs.declared.program.Action.TheVariants as does;
+ghost use Rattle.mutex_program.specs.declared.calls.End.TheVariants as ends;
+ghost use Rattle.mutex_program.specs.declared.program.Found.TheVariants as finds;
+ghost use Rattle.mutex_program.specs.declared.calls.LockCall.TheVariants as calls;
+ghost use Rattle.mutex_program.specs.declared.program.Next.TheVariants as next;
+ghost use Rattle.mutex_program.specs.declared.program.Place.TheVariants as at;
 
 use crate::carries::Carries;
 use crate::waiting_list::WaitingList;
 use futures::task::Waker;
 use lock_event::EntryId;
 use lock_words::{Counting, Hold, Seat, Setting, Taking, TakingAlone, Words};
-use mutex_machine::program::{Action, End, Found, LockCall, Next, Place, action_at, decide, start};
+use mutex_program::calls::{End, LockCall};
+use mutex_program::program::{Action, Found, Next, Place, action_at, decide, start};
 use std::sync::Wait;
 
 /// A mutex without its runtime: its words, with the value, and its waiting list.

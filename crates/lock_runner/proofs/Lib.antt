@@ -1,5 +1,1 @@
 pub mod Asked
-pub mod Reading
-pub mod Scripts
-pub mod Plays
-pub mod Faults

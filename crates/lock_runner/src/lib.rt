@@ -1,10 +1,9 @@
 //! The program's whole run, from its arguments to its status, over any reader and writers.
 #![tactic(auto)]
 
-mod fault;
 mod program;
-mod task;
 
-pub use fault::Fault;
-pub use program::{LIMIT, report, run};
-pub use task::arguments;
+pub use program::run;
+pub use script_runner::fault::Fault;
+pub use script_runner::script::{LIMIT, report};
+pub use script_runner::task::arguments;

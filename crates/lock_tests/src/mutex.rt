@@ -1,8 +1,9 @@
 //! A mutex's machine alone, by both of its faces.
 
 use crate::same::assert_same;
-use mutex_machine::program::{End, LockCall, Next, Place};
-use mutex_machine::{Lock, Mutex, Step};
+use mutex_machine::{Lock, Mutex};
+use mutex_program::calls::{End, LockCall, Step};
+use mutex_program::program::{Next, Place};
 use std::alloc::{AllocError, Global};
 
 /// Whether a lock is held, how many are starved and wait, and whether its list ends there.

@@ -1,7 +1,7 @@
 //! Workers that each add one to the value of one mutex.
 
 use crate::{Gate, Stopped, Work, in_threads};
-use async_lock::Mutex;
+use async_mutex::Mutex;
 use std::alloc::Global;
 use std::random::RandomSource;
 use std::sync::Wait;

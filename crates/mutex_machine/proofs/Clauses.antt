@@ -4,18 +4,18 @@ use Rattle.lock_event.specs.declared.event.Entry.{Entry}
 use Rattle.lock_queue.specs.Parties.{entries_of}
 use Rattle.lock_world.specs.declared.refusal.Refusal.TheVariants.{Memory, Starved}
 use Rattle.lock_world.specs.Steps.{Deed, nothing, changes, does}
-use Rattle.mutex_machine.specs.declared.program.Place.{Place}
-use Rattle.mutex_machine.specs.declared.program.Place.TheVariants as place
-use Rattle.mutex_machine.specs.declared.program.LockCall.{LockCall}
-use Rattle.mutex_machine.specs.declared.program.LockCall.TheVariants as call
-use Rattle.mutex_machine.specs.declared.program.Found.{Found}
-use Rattle.mutex_machine.specs.declared.program.Found.TheVariants.{Free, Held, SomeStarved}
-use Rattle.mutex_machine.specs.declared.program.End.{End}
-use Rattle.mutex_machine.specs.declared.program.End.TheVariants.{Got, Pending, NotFree, GivenBack, Refused}
-use Rattle.mutex_machine.specs.declared.program.Next.{Next}
-use Rattle.mutex_machine.specs.declared.program.Next.TheVariants as next
-use Rattle.mutex_machine.specs.Program.{start_of, action_of, next_of, place_after}
-use Rattle.mutex_machine.specs.Roles as by
+use Rattle.mutex_program.specs.declared.program.Place.{Place}
+use Rattle.mutex_program.specs.declared.program.Place.TheVariants as place
+use Rattle.mutex_program.specs.declared.calls.LockCall.{LockCall}
+use Rattle.mutex_program.specs.declared.calls.LockCall.TheVariants as call
+use Rattle.mutex_program.specs.declared.program.Found.{Found}
+use Rattle.mutex_program.specs.declared.program.Found.TheVariants.{Free, Held, SomeStarved}
+use Rattle.mutex_program.specs.declared.calls.End.{End}
+use Rattle.mutex_program.specs.declared.calls.End.TheVariants.{Got, Pending, NotFree, GivenBack, Refused}
+use Rattle.mutex_program.specs.declared.program.Next.{Next}
+use Rattle.mutex_program.specs.declared.program.Next.TheVariants as next
+use Rattle.mutex_program.specs.Program.{start_of, action_of, next_of, place_after, step_of}
+use Rattle.mutex_program.specs.Roles as by
 use Rattle.mutex_machine.specs.Courses as way
 use Rattle.mutex_machine.specs.Acts as acts
 use Rattle.mutex_machine.specs.Acts.{Acts, Finds}
@@ -27,7 +27,7 @@ use Rattle.mutex_machine.specs.Course.{Course, Begins, GoesOn, may_begin, holds,
 use Rattle.mutex_machine.specs.Behind.{reveal, conceal, revealed}
 use Rattle.mutex_machine.specs.Mutex.{Mutex, course_at, holders, starved, left_after, IsAtRest, TakenFairly, IsMutex}
 use Rattle.mutex_machine.specs.Conduct.{decided_then, IsUnrefused, IsReason, IsAllowed, IsLegal, TakesAtOnce, HeedsClock, CountsNobody, HandsOn, BeginsToHandOn}
-use Rattle.mutex_machine.specs.Seen.{course_of, is_kept, AreKept, step_of, seen}
+use Rattle.mutex_machine.specs.Seen.{course_of, is_kept, AreKept, seen}
 use Rattle.mutex_machine.specs.Alone.{IsDone}
 use Rattle.mutex_machine.proofs.Kept.{after}
 use Rattle.mutex_machine.proofs.Legal.{begins_fresh}

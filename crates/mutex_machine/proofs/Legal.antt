@@ -14,20 +14,20 @@ use Rattle.lock_queue.proofs.Told.{waits_at}
 use Rattle.lock_world.specs.declared.refusal.Refusal.TheVariants as refusal
 use Rattle.lock_world.specs.Steps.{Deed, nothing, changes, does, joins}
 use Rattle.lock_world.proofs.Equations.{some_eq, none_some, some_none, chosen}
-use Rattle.mutex_machine.specs.declared.program.Place.{Place}
-use Rattle.mutex_machine.specs.declared.program.Place.TheVariants.{Out, Holding, Enter, Try, Ask, AskStarved}
-use Rattle.mutex_machine.specs.declared.program.LockCall.{LockCall}
-use Rattle.mutex_machine.specs.declared.program.LockCall.TheVariants as call
-use Rattle.mutex_machine.specs.declared.program.Action.{Action}
-use Rattle.mutex_machine.specs.declared.program.Action.TheVariants as act
-use Rattle.mutex_machine.specs.declared.program.Found.{Found}
-use Rattle.mutex_machine.specs.declared.program.Found.TheVariants.{Done, Free, Held, SomeStarved, AtLimit, NoMemory, Yes, No}
-use Rattle.mutex_machine.specs.declared.program.Next.{Next}
-use Rattle.mutex_machine.specs.declared.program.Next.TheVariants as next
-use Rattle.mutex_machine.specs.declared.program.End.{End}
-use Rattle.mutex_machine.specs.declared.program.End.TheVariants.{Got, Pending, NotFree, GivenBack, Refused}
-use Rattle.mutex_machine.specs.Program.{start_of, action_of, next_of}
-use Rattle.mutex_machine.specs.Roles.{bit, holds, counted, listed}
+use Rattle.mutex_program.specs.declared.program.Place.{Place}
+use Rattle.mutex_program.specs.declared.program.Place.TheVariants.{Out, Holding, Enter, Try, Ask, AskStarved}
+use Rattle.mutex_program.specs.declared.calls.LockCall.{LockCall}
+use Rattle.mutex_program.specs.declared.calls.LockCall.TheVariants as call
+use Rattle.mutex_program.specs.declared.program.Action.{Action}
+use Rattle.mutex_program.specs.declared.program.Action.TheVariants as act
+use Rattle.mutex_program.specs.declared.program.Found.{Found}
+use Rattle.mutex_program.specs.declared.program.Found.TheVariants.{Done, Free, Held, SomeStarved, AtLimit, NoMemory, Yes, No}
+use Rattle.mutex_program.specs.declared.program.Next.{Next}
+use Rattle.mutex_program.specs.declared.program.Next.TheVariants as next
+use Rattle.mutex_program.specs.declared.calls.End.{End}
+use Rattle.mutex_program.specs.declared.calls.End.TheVariants.{Got, Pending, NotFree, GivenBack, Refused}
+use Rattle.mutex_program.specs.Program.{start_of, action_of, next_of}
+use Rattle.mutex_program.specs.Roles.{bit, holds, counted, listed}
 use Rattle.mutex_machine.specs.Parties.{OnParties}
 use Rattle.mutex_machine.specs.Machine.{Lock, SameRoles, place_at}
 use Rattle.mutex_machine.specs.Acts.{Acts, Finds, holders, starved}

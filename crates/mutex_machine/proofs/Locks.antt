@@ -5,15 +5,15 @@ use Rattle.std.proofs.Math.Decide.{ℕ_discrete}
 use Rattle.lock_queue.specs.Queues.{Queue}
 use Rattle.lock_queue.specs.Parties.{entries_of}
 use Rattle.lock_world.proofs.Lists.{OneAtMost, own_by, others_by}
-use Rattle.mutex_machine.specs.declared.program.Place.{Place}
-use Rattle.mutex_machine.specs.declared.program.Place.TheVariants.{Out}
-use Rattle.mutex_machine.specs.Roles.{listed}
+use Rattle.mutex_program.specs.declared.program.Place.{Place}
+use Rattle.mutex_program.specs.declared.program.Place.TheVariants.{Out}
+use Rattle.mutex_program.specs.Roles.{listed}
 use Rattle.mutex_machine.specs.Parties.{OnParties}
-use Rattle.mutex_machine.specs.declared.program.Found.{Found}
-use Rattle.mutex_machine.specs.declared.word.Word.{Word}
-use Rattle.mutex_machine.specs.Program.{action_of}
-use Rattle.mutex_machine.specs.Effects.{OnWord}
-use Rattle.mutex_machine.specs.Seats.{CanDo, OnList}
+use Rattle.mutex_program.specs.declared.program.Found.{Found}
+use Rattle.mutex_program.specs.declared.word.Word.{Word}
+use Rattle.mutex_program.specs.Program.{action_of}
+use Rattle.mutex_program.specs.Words.{OnWord}
+use Rattle.mutex_program.specs.Seats.{CanDo, OnList}
 use Rattle.mutex_machine.specs.Tally.{tally_of, counts_of}
 use Rattle.mutex_machine.specs.Machine.{IsLock, SameRoles, place_at}
 use Rattle.mutex_machine.proofs.CanDo.{can_do}

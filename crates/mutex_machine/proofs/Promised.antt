@@ -8,20 +8,20 @@ use Rattle.std.specs.List.{sum_by}
 use Rattle.lock_event.specs.declared.event.Entry.{Entry}
 use Rattle.lock_event.specs.Lists.{marked_count}
 use Rattle.lock_world.specs.declared.refusal.Refusal.{Refusal}
-use Rattle.mutex_machine.specs.declared.program.Place.{Place}
-use Rattle.mutex_machine.specs.declared.program.Place.TheVariants.{Out, Holding, Enter, Try, Clear, CancelUncount, CancelLeave, Join, Look, Ask, Retry, PassOn, Count, JoinStarved, LookAlone, PassOnListed, AskStarved, Seize, Uncount, Leave, RefuseUncount, RefuseLeave, RefuseNotifyMemory, RefuseNotifyStarved, ReleaseNotify}
-use Rattle.mutex_machine.specs.declared.program.LockCall.TheVariants as call
-use Rattle.mutex_machine.specs.declared.program.Action.{Action}
-use Rattle.mutex_machine.specs.declared.program.Action.TheVariants as act
-use Rattle.mutex_machine.specs.declared.program.Found.{Found}
-use Rattle.mutex_machine.specs.declared.program.Found.TheVariants.{Done, Free, Held, SomeStarved, AtLimit, NoMemory, Yes, No}
-use Rattle.mutex_machine.specs.declared.program.Next.{Next}
-use Rattle.mutex_machine.specs.declared.program.Next.TheVariants as next
-use Rattle.mutex_machine.specs.declared.program.End.{End}
-use Rattle.mutex_machine.specs.declared.program.End.TheVariants.{Got, Pending, NotFree, GivenBack, Refused}
+use Rattle.mutex_program.specs.declared.program.Place.{Place}
+use Rattle.mutex_program.specs.declared.program.Place.TheVariants.{Out, Holding, Enter, Try, Clear, CancelUncount, CancelLeave, Join, Look, Ask, Retry, PassOn, Count, JoinStarved, LookAlone, PassOnListed, AskStarved, Seize, Uncount, Leave, RefuseUncount, RefuseLeave, RefuseNotifyMemory, RefuseNotifyStarved, ReleaseNotify}
+use Rattle.mutex_program.specs.declared.calls.LockCall.TheVariants as call
+use Rattle.mutex_program.specs.declared.program.Action.{Action}
+use Rattle.mutex_program.specs.declared.program.Action.TheVariants as act
+use Rattle.mutex_program.specs.declared.program.Found.{Found}
+use Rattle.mutex_program.specs.declared.program.Found.TheVariants.{Done, Free, Held, SomeStarved, AtLimit, NoMemory, Yes, No}
+use Rattle.mutex_program.specs.declared.program.Next.{Next}
+use Rattle.mutex_program.specs.declared.program.Next.TheVariants as next
+use Rattle.mutex_program.specs.declared.calls.End.{End}
+use Rattle.mutex_program.specs.declared.calls.End.TheVariants.{Got, Pending, NotFree, GivenBack, Refused}
 use Rattle.std.specs.Prelude.{Option, Some}
-use Rattle.mutex_machine.specs.Program.{start_of, action_of, next_of, place_after}
-use Rattle.mutex_machine.specs.Roles.{counted}
+use Rattle.mutex_program.specs.Program.{start_of, action_of, next_of, place_after}
+use Rattle.mutex_program.specs.Roles.{counted}
 use Rattle.mutex_machine.specs.Parties.{OnParties}
 use Rattle.mutex_machine.specs.Courses.{is_waiting, is_counting, is_told, HeedsClock}
 use Rattle.mutex_machine.specs.Machine.{Lock, SameRoles, place_at}

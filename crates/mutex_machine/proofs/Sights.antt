@@ -6,20 +6,20 @@ use Rattle.std.specs.Prelude.{◌==◌, if◌then◌else◌}
 use Rattle.std.specs.List.{sum_by}
 use Rattle.std.proofs.lemmas.List.Sums.{sum_by-cons}
 use Rattle.lock_world.specs.declared.refusal.Refusal.TheVariants.{Memory, Starved}
-use Rattle.mutex_machine.specs.declared.program.Place.{Place}
-use Rattle.mutex_machine.specs.declared.program.Place.TheVariants as place
-use Rattle.mutex_machine.specs.declared.program.LockCall.{LockCall}
-use Rattle.mutex_machine.specs.declared.program.LockCall.TheVariants as call
-use Rattle.mutex_machine.specs.declared.program.Action.{Action}
-use Rattle.mutex_machine.specs.declared.program.Found.{Found}
-use Rattle.mutex_machine.specs.declared.program.Found.TheVariants.{Done, Free, Held, AtLimit, Yes}
-use Rattle.mutex_machine.specs.declared.program.End.{End}
-use Rattle.mutex_machine.specs.declared.program.End.TheVariants.{Got, Pending, NotFree, GivenBack, Refused}
-use Rattle.mutex_machine.specs.declared.program.Next.{Next}
-use Rattle.mutex_machine.specs.declared.program.Next.TheVariants as next
-use Rattle.mutex_machine.specs.declared.mutex.Step.TheVariants as step
-use Rattle.mutex_machine.specs.Program.{start_of, place_after}
-use Rattle.mutex_machine.specs.Roles as by
+use Rattle.mutex_program.specs.declared.program.Place.{Place}
+use Rattle.mutex_program.specs.declared.program.Place.TheVariants as place
+use Rattle.mutex_program.specs.declared.calls.LockCall.{LockCall}
+use Rattle.mutex_program.specs.declared.calls.LockCall.TheVariants as call
+use Rattle.mutex_program.specs.declared.program.Action.{Action}
+use Rattle.mutex_program.specs.declared.program.Found.{Found}
+use Rattle.mutex_program.specs.declared.program.Found.TheVariants.{Done, Free, Held, AtLimit, Yes}
+use Rattle.mutex_program.specs.declared.calls.End.{End}
+use Rattle.mutex_program.specs.declared.calls.End.TheVariants.{Got, Pending, NotFree, GivenBack, Refused}
+use Rattle.mutex_program.specs.declared.program.Next.{Next}
+use Rattle.mutex_program.specs.declared.program.Next.TheVariants as next
+use Rattle.mutex_program.specs.declared.calls.Step.TheVariants as step
+use Rattle.mutex_program.specs.Program.{start_of, place_after, step_of}
+use Rattle.mutex_program.specs.Roles as by
 use Rattle.mutex_machine.specs.Courses as way
 use Rattle.mutex_machine.specs.Legal as legal
 use Rattle.mutex_machine.specs.State as state
@@ -29,7 +29,7 @@ use Rattle.mutex_machine.specs.Acts.{Acts}
 use Rattle.mutex_machine.specs.Ranks.{left, is_own_marked, is_open}
 use Rattle.mutex_machine.specs.Course.{Course, out, holds, counted, listed, decision, is_waiting, is_taking, is_releasing, is_cancelling, is_resting, is_told, is_counting, is_called, may_begin, Takes, Tries, Releases, Cancels, Begins, GoesOn}
 use Rattle.mutex_machine.specs.Mutex.{Mutex, new_mutex, course_at, is_holder, is_counted, holder_from}
-use Rattle.mutex_machine.specs.Seen.{course_of, is_kept, AreKept, step_of, steps_from, seen}
+use Rattle.mutex_machine.specs.Seen.{course_of, is_kept, AreKept, steps_from, seen}
 use Rattle.mutex_machine.proofs.Kept.{after}
 
 -- what a party has, and how far its call is

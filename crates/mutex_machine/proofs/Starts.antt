@@ -2,11 +2,11 @@
 use Rattle.std.proofs.Common.{◌≡◌, Some, refl}
 use Rattle.lock_world.proofs.Equations.{none_some}
 use Rattle.lock_world.proofs.Equations.{some_eq}
-use Rattle.mutex_machine.specs.declared.program.Place.{Place}
-use Rattle.mutex_machine.specs.declared.program.Place.TheVariants.{Out, Holding, Ask, AskStarved}
-use Rattle.mutex_machine.specs.declared.program.LockCall.{LockCall}
-use Rattle.mutex_machine.specs.declared.program.LockCall.TheVariants as call
-use Rattle.mutex_machine.specs.Program.{start_of}
+use Rattle.mutex_program.specs.declared.program.Place.{Place}
+use Rattle.mutex_program.specs.declared.program.Place.TheVariants.{Out, Holding, Ask, AskStarved}
+use Rattle.mutex_program.specs.declared.calls.LockCall.{LockCall}
+use Rattle.mutex_program.specs.declared.calls.LockCall.TheVariants as call
+use Rattle.mutex_program.specs.Program.{start_of}
 use Rattle.mutex_machine.specs.Machine.{SameRoles}
 
 pub start_same : (c : LockCall) (at from : Place) → start_of c at ≡ Some from → SameRoles from at

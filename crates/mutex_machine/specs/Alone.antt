@@ -4,20 +4,20 @@ use Rattle.std.specs.List.{sum_by}
 use Rattle.lock_event.specs.Lists.{marked_count, is_marked_at}
 use Rattle.lock_queue.specs.Parties.{is_party}
 use Rattle.lock_world.specs.declared.refusal.Refusal.TheVariants.{Starved}
-use Rattle.mutex_machine.specs.declared.program.LockCall.{LockCall}
-use Rattle.mutex_machine.specs.declared.program.LockCall.TheVariants as call
-use Rattle.mutex_machine.specs.declared.program.End.{End}
-use Rattle.mutex_machine.specs.declared.program.End.TheVariants.{Got, Pending, Refused}
-use Rattle.mutex_machine.specs.declared.program.Next.{Next}
-use Rattle.mutex_machine.specs.declared.mutex.Step.{Step}
-use Rattle.mutex_machine.specs.declared.mutex.Step.TheVariants as step
+use Rattle.mutex_program.specs.declared.calls.LockCall.{LockCall}
+use Rattle.mutex_program.specs.declared.calls.LockCall.TheVariants as call
+use Rattle.mutex_program.specs.declared.calls.End.{End}
+use Rattle.mutex_program.specs.declared.calls.End.TheVariants.{Got, Pending, Refused}
+use Rattle.mutex_program.specs.declared.program.Next.{Next}
+use Rattle.mutex_program.specs.declared.calls.Step.{Step}
+use Rattle.mutex_program.specs.declared.calls.Step.TheVariants as step
 use Rattle.mutex_machine.specs.Course.{counted, is_waiting, out, holding, waiting}
 use Rattle.mutex_machine.specs.Behind.{reveal}
 use Rattle.mutex_machine.specs.Mutex.{Mutex, course_at, holders, starved, IsStarved, IsAtRest}
 use Rattle.mutex_machine.specs.Machine.{Lock, place_at}
-use Rattle.mutex_machine.specs.Program.{start_of}
+use Rattle.mutex_program.specs.Program.{start_of, step_of}
 use Rattle.mutex_machine.specs.Acts.{Acts}
-use Rattle.mutex_machine.specs.Seen.{AreKept, seen, step_of}
+use Rattle.mutex_machine.specs.Seen.{AreKept, seen}
 
 -- The machine behind the one mutex did this, which led to the machine behind the other.
 pub record IsDone (Does : Next → Lock → Lock → Type 0) (s : Step) (old new : Mutex) : Type 0 where

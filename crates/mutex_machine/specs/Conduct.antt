@@ -7,12 +7,12 @@ use Rattle.lock_queue.specs.Parties.{is_party, entries_of}
 use Rattle.lock_world.specs.declared.refusal.Refusal.{Refusal}
 use Rattle.lock_world.specs.declared.refusal.Refusal.TheVariants.{Memory, Starved}
 use Rattle.lock_world.specs.Steps.{Deed, nothing, changes, does, joins}
-use Rattle.mutex_machine.specs.declared.program.LockCall.{LockCall}
-use Rattle.mutex_machine.specs.declared.program.LockCall.TheVariants as call
-use Rattle.mutex_machine.specs.declared.program.End.{End}
-use Rattle.mutex_machine.specs.declared.program.End.TheVariants.{Got, Pending, NotFree, GivenBack, Refused}
-use Rattle.mutex_machine.specs.declared.mutex.Step.{Step}
-use Rattle.mutex_machine.specs.declared.mutex.Step.TheVariants as step
+use Rattle.mutex_program.specs.declared.calls.LockCall.{LockCall}
+use Rattle.mutex_program.specs.declared.calls.LockCall.TheVariants as call
+use Rattle.mutex_program.specs.declared.calls.End.{End}
+use Rattle.mutex_program.specs.declared.calls.End.TheVariants.{Got, Pending, NotFree, GivenBack, Refused}
+use Rattle.mutex_program.specs.declared.calls.Step.{Step}
+use Rattle.mutex_program.specs.declared.calls.Step.TheVariants as step
 use Rattle.mutex_machine.specs.Course.{Course, counted, decision, is_waiting, is_called, is_counting, is_told}
 use Rattle.mutex_machine.specs.Deeds.{Change, takes, releases, starves, recovers, ListName, holder_after, starved_after, entries_after, gives_back, gives_up, is_release, is_fresh}
 use Rattle.mutex_machine.specs.Mutex.{Mutex, course_at, holders, starved, Holds, IsStarved, holder_of, starved_of}

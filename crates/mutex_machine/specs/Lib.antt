@@ -1,10 +1,5 @@
-pub mod Program
 pub mod Course
 pub mod Deeds
-pub mod Roles
-pub mod Effects
-pub mod Seats
-pub mod Carried
 pub mod Tally
 pub mod Parties
 pub mod Machine

@@ -1,12 +1,12 @@
 -- How a machine is seen by those who build on a mutex. No clause of theirs reads it.
 use Rattle.std.specs.Prelude.{◌≡◌, ℕ, ◌+◌, Bool, true, false, List, [], ◌∷◌, map}
 use Rattle.lock_world.specs.declared.refusal.Refusal.TheVariants.{Memory, Starved}
-use Rattle.mutex_machine.specs.declared.program.Place.{Place}
-use Rattle.mutex_machine.specs.declared.program.Place.TheVariants as place
-use Rattle.mutex_machine.specs.declared.program.Next.{Next}
-use Rattle.mutex_machine.specs.declared.program.Next.TheVariants as next
-use Rattle.mutex_machine.specs.declared.mutex.Step.{Step}
-use Rattle.mutex_machine.specs.declared.mutex.Step.TheVariants as step
+use Rattle.mutex_program.specs.declared.program.Place.{Place}
+use Rattle.mutex_program.specs.declared.program.Place.TheVariants as place
+use Rattle.mutex_program.specs.declared.program.Next.{Next}
+use Rattle.mutex_program.specs.declared.program.Next.TheVariants as next
+use Rattle.mutex_program.specs.declared.calls.Step.{Step}
+use Rattle.mutex_program.specs.declared.calls.Step.TheVariants as step
 use Rattle.mutex_machine.specs.Machine.{Lock, place_at}
 use Rattle.mutex_machine.specs.Ranks.{left, is_own_marked, is_open}
 use Rattle.mutex_machine.specs.Course.{Course, out, holding, waiting, taking, releasing, cancelling, undecided, called, counting, has_lock, gives_up}
@@ -51,10 +51,6 @@ is_kept _ = true
 -- Each party is where one may be left.
 abbrev pub AreKept : List Place → Type 0
 AreKept ps = (p : ℕ) → is_kept (place_at ps p) ≡ true
-
-abbrev pub step_of : Next → Step
-step_of (next.Do action p) = step.More
-step_of (next.End e) = step.End e
 
 -- the steps that are left to each party, counted from n
 abbrev pub steps_from : Lock → ℕ → List Place → List ℕ

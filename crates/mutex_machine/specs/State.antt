@@ -1,14 +1,8 @@
 -- A mutex as those see it who don't know its places: who holds it, and who is starved.
-use Rattle.std.specs.Prelude.{ℕ, ◌+◌, ◌==◌, if◌then◌else◌, Bool, List, [], ◌∷◌, map, Option, Some, None}
-use Rattle.mutex_machine.specs.declared.program.Place.{Place}
-use Rattle.mutex_machine.specs.Roles.{holds, counted}
+use Rattle.std.specs.Prelude.{ℕ, ◌+◌, if◌then◌else◌, Bool, List, [], ◌∷◌, map, Option, Some, None}
+use Rattle.mutex_program.specs.declared.program.Place.{Place}
+pub use Rattle.mutex_program.specs.Roles.{is_holder, is_counted}
 use Rattle.mutex_machine.specs.Machine.{Lock}
-
-abbrev pub is_holder : Place → Bool
-is_holder x = holds x == 1
-
-abbrev pub is_counted : Place → Bool
-is_counted x = counted x == 1
 
 -- the first of which this is so, counted from n
 abbrev pub first_from : {A : Type 0} → (A → Bool) → ℕ → List A → Option ℕ

@@ -1,14 +1,12 @@
-//! The machine of a mutex: its programs, and the lock that carries them out.
+//! The machine of a mutex: the lock that goes by its programs.
 //!
-//! [`program`] is the pure table that says what comes next; [`Lock`] is the word, the list and each
+//! The programs, the word and what one action does stand in the crate `mutex_program`; [`Lock`] is the word, the list and each
 //! party's place, and a mutex's World stands on it. [`Mutex`] is the same machine for those who build on
 //! a mutex and know none of its places: the turn of a read-write lock, and the inner lock of a barrier.
 #![tactic(auto)]
 
 mod lock;
 mod mutex;
-pub mod program;
-mod word;
 
 pub use lock::Lock;
-pub use mutex::{Mutex, Step};
+pub use mutex::Mutex;

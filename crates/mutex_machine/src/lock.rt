@@ -4,13 +4,14 @@
 //! of the programs' (specs/Acts), and [`Lock::laws`] says what always holds. Those who build on a mutex
 //! and know none of its places stand on [`Mutex`](crate::Mutex).
 
-ghost use Rattle.std.specs.Prelude.{◌≡◌, ℕ, Bool, ◌+◌, ◌<◌, ◌≤◌, ◌^◌, true, false, length, Some, None, slice_set, slice_index_or, slice_get, IfOk, IsSome, IsSomeAnd};
-ghost use Rattle.mutex_machine.specs.Program.{next_of, action_of, place_after};
+ghost use Rattle.std.specs.Prelude.{◌≡◌, ◌<◌, length, Some, None, slice_get, IfOk, IsSome, IsSomeAnd};
 
-use crate::program::{Action, End, Found, LockCall, Next, Place, action_at, decide, start};
-use crate::word::Word;
 use lock_event::Entry;
 use lock_queue::WaitQueue;
+use mutex_program::calls::LockCall;
+use mutex_program::deeds::carry_out;
+use mutex_program::program::{Next, Place, action_at, after, decide, start};
+use mutex_program::word::Word;
 use std::alloc::{AllocError, Global};
 use std::marker::Model;
 
@@ -45,60 +46,15 @@ impl Model for Lock {
     ghost invariant = { λ m. IsLock m.word m.places.items m.list };
 }
 
-ghost use Rattle.mutex_machine.specs.Carried.{Carried};
-ghost use Rattle.mutex_machine.specs.Seats.{CanDo};
 ghost use Rattle.mutex_machine.specs.Machine.{SameRoles, place_at, new_lock};
-ghost use Rattle.mutex_machine.specs.Acts.{Acts, TakenFairly, IsMutex, Holds, holders, starved as starved_lem};
+ghost use Rattle.mutex_machine.specs.Acts.{Acts, TakenFairly, IsMutex, holders, starved as starved_lem};
 ghost use Rattle.mutex_machine.specs.Legal.{IsLegal, IsUnrefused, TakesAtOnce, TakesFrom, decision};
 ghost use Rattle.mutex_machine.specs.Deeds.{decided_by};
-ghost use Rattle.mutex_machine.specs.Program.{start_of};
-ghost use Rattle.mutex_machine.specs.Roles.{bit};
+ghost use Rattle.mutex_program.specs.Program.{start_of};
+ghost use Rattle.mutex_program.specs.Roles.{bit};
 ghost use Rattle.mutex_machine.specs.Courses.{Begins, GoesOn, HeedsClock};
 ghost use Rattle.mutex_machine.specs.Solo.{SoloPolls};
 ghost use Rattle.mutex_machine.specs.Ranks.{left, left_after, is_own_marked, is_open, steps_left, most_steps};
-
-/// Carries out one action for a party.
-fn carry_out(
-    word: &mut Word,
-    list: &mut WaitQueue,
-    party: u32,
-    action: Action,
-    memory: bool,
-    starving: bool,
-) -> Found
-    requires { CanDo party action word.old list.old }
-    ensures { Carried memory starving party action result word.old list.old word.new list.new }
-{
-    match action {
-        Action::Nothing => Found::Done,
-        Action::Take => word.take(starving),
-        Action::TakeAlone => word.take_alone(),
-        Action::Set => word.set(),
-        Action::Count => word.count(),
-        Action::Uncount => word.uncount(),
-        Action::Clear => word.clear(),
-        Action::Join if memory => {
-            list.join(party);
-            Found::Done
-        }
-        Action::Join => Found::NoMemory,
-        Action::Ask => {
-            if list.ask(party) {
-                Found::Yes
-            } else {
-                Found::No
-            }
-        }
-        Action::Leave => {
-            list.leave(party);
-            Found::Done
-        }
-        Action::Notify => {
-            list.notify(1);
-            Found::Done
-        }
-    }
-}
 
 impl Lock {
     /// A free mutex for so many parties, numbered from 0, none of which has called yet; at most `limit`
@@ -230,17 +186,5 @@ impl Lock {
         let next = decide(from, found);
         self.places[at] = after(from, next);
         next
-    }
-}
-
-/// Where a party stands after this.
-fn after(from: Place, next: Next) -> Place
-    ensures { result ≡ place_after from next }
-{
-    match next {
-        Next::Do(_, place) => place,
-        Next::End(End::Got) => Place::Holding,
-        Next::End(End::Pending) => from,
-        Next::End(_) => Place::Out,
     }
 }

@@ -8,19 +8,11 @@
 ghost use Rattle.std.specs.Prelude.{◌≡◌, ◌<◌, true, length, slice_get, IfOk};
 
 use crate::lock::Lock;
-use crate::program::{End, LockCall, Next};
 use lock_event::Entry;
+use mutex_program::calls::{LockCall, Step};
+use mutex_program::program::step_after;
 use std::alloc::{AllocError, Global};
 use std::marker::Model;
-
-/// What a step of a call came to.
-#[derive(Clone, Copy)]
-pub enum Step {
-    /// Some step of the call is left.
-    More,
-    /// The call is over.
-    End(End),
-}
 
 /// A mutex without a value, whose callers know nothing of its programs' places.
 ///
@@ -58,17 +50,6 @@ ghost use Rattle.mutex_machine.specs.Course.{bit, may_begin, decision, is_told, 
 ghost use Rattle.mutex_machine.specs.Deeds.{decided_by};
 ghost use Rattle.mutex_machine.specs.Mutex.{course_at, new_mutex, holders, starved as starved_lem, left_after, steps_left, TakenFairly, IsMutex};
 ghost use Rattle.mutex_machine.specs.Ranks.{most_steps};
-ghost use Rattle.mutex_machine.specs.Seen.{step_of};
-
-/// What is told of what a program does next.
-fn step_after(next: Next) -> Step
-    ensures { result ≡ step_of next }
-{
-    match next {
-        Next::Do(_, _) => Step::More,
-        Next::End(end) => Step::End(end),
-    }
-}
 
 impl Mutex {
     /// A free mutex for so many parties, numbered from 0, none of which has called yet; at most `limit`

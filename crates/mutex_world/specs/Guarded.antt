@@ -19,15 +19,15 @@ use Rattle.lock_world.specs.Standings.{inputs_of}
 use Rattle.lock_table.specs.declared.end.End.{End}
 use Rattle.lock_table.specs.declared.end.End.TheVariants as «end»
 use Rattle.lock_table.specs.Ends.{answer_of}
-use Rattle.mutex_machine.specs.declared.program.End.{End as LockEnd}
-use Rattle.mutex_machine.specs.declared.program.End.TheVariants as lock_end
-use Rattle.mutex_machine.specs.declared.program.LockCall.{LockCall}
-use Rattle.mutex_machine.specs.declared.program.LockCall.TheVariants as lock_call
-use Rattle.mutex_machine.specs.declared.program.Next.{Next}
-use Rattle.mutex_machine.specs.declared.program.Next.TheVariants as next
-use Rattle.mutex_machine.specs.declared.program.Place.{Place}
-use Rattle.mutex_machine.specs.declared.program.Place.TheVariants as place
-use Rattle.mutex_machine.specs.Program.{start_of}
+use Rattle.mutex_program.specs.declared.calls.End.{End as LockEnd}
+use Rattle.mutex_program.specs.declared.calls.End.TheVariants as lock_end
+use Rattle.mutex_program.specs.declared.calls.LockCall.{LockCall}
+use Rattle.mutex_program.specs.declared.calls.LockCall.TheVariants as lock_call
+use Rattle.mutex_program.specs.declared.program.Next.{Next}
+use Rattle.mutex_program.specs.declared.program.Next.TheVariants as next
+use Rattle.mutex_program.specs.declared.program.Place.{Place}
+use Rattle.mutex_program.specs.declared.program.Place.TheVariants as place
+use Rattle.mutex_program.specs.Program.{start_of}
 use Rattle.mutex_machine.specs.Machine.{Lock, place_at, new_lock}
 use Rattle.mutex_machine.specs.Acts.{Acts}
 use Rattle.mutex_machine.specs.Courses.{is_taking, is_waiting, is_releasing, is_cancelling, HeedsClock}

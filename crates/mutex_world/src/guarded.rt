@@ -8,7 +8,8 @@ use lock_table::{End, Machine, Valued};
 use lock_world::standing::{Kind, Rest, Within};
 use lock_world::{Answer, Call, Got, What};
 use mutex_machine::Lock;
-use mutex_machine::program::{End as LockEnd, LockCall, Next};
+use mutex_program::calls::{End as LockEnd, LockCall};
+use mutex_program::program::Next;
 use std::alloc::{AllocError, Global};
 use std::marker::Model;
 

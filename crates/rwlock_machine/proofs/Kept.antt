@@ -5,15 +5,15 @@ use Rattle.lock_event.specs.declared.event.Entry.{Entry}
 use Rattle.lock_event.specs.Lists.{marked_count}
 use Rattle.lock_queue.specs.Debts.{IsOwed}
 use Rattle.lock_queue.proofs.Debts.{debt_kept}
-use Rattle.rwlock_machine.specs.declared.word.Word.{Word}
-use Rattle.rwlock_machine.specs.declared.program.Place.{Place}
-use Rattle.rwlock_machine.specs.declared.program.Action.{Action}
-use Rattle.rwlock_machine.specs.declared.program.Action.TheVariants as act
-use Rattle.rwlock_machine.specs.declared.program.Found.{Found}
-use Rattle.rwlock_machine.specs.declared.program.Found.TheVariants.{Done, Writer, Full, NoneLeft, SomeLeft, NotFree, Yes, No}
+use Rattle.rwlock_program.specs.declared.word.Word.{Word}
+use Rattle.rwlock_program.specs.declared.program.Place.{Place}
+use Rattle.rwlock_program.specs.declared.program.Action.{Action}
+use Rattle.rwlock_program.specs.declared.program.Action.TheVariants as act
+use Rattle.rwlock_program.specs.declared.program.Found.{Found}
+use Rattle.rwlock_program.specs.declared.program.Found.TheVariants.{Done, Writer, Full, NoneLeft, SomeLeft, NotFree, Yes, No}
 use Rattle.rwlock_machine.specs.Roles.{bit, reads, marks, only_turns, writes, in_no_writer, waits_no_writer, owes_no_writer, in_no_readers, waits_no_readers, owes_no_readers}
-use Rattle.rwlock_machine.specs.Effects.{OnWord}
-use Rattle.rwlock_machine.specs.Parties.{OnNoWriter, OnNoReaders}
+use Rattle.rwlock_program.specs.Words.{OnWord}
+use Rattle.rwlock_program.specs.Parties.{OnNoWriter, OnNoReaders}
 use Rattle.rwlock_machine.specs.Tally.{Counts, IsSound, tally_of}
 use Rattle.rwlock_machine.proofs.Places.{IsCounted}
 use Rattle.rwlock_machine.proofs.Steps.{on, off, sets, clears, in_w, out_w, in_r, out_r, taken_w, taken_r, keeps, Fits}

@@ -7,15 +7,15 @@ use Rattle.std.proofs.lemmas.List.Sums.{sum_by-set, get_or-le-sum_by}
 use Rattle.lock_queue.specs.Parties.{entries_of}
 use Rattle.lock_queue.specs.Queues.{Queue}
 use Rattle.mutex_machine.specs.Mutex.{Mutex, course_at as turn_at, IsMutex}
-use Rattle.rwlock_machine.specs.declared.word.Word.{Word}
-use Rattle.rwlock_machine.specs.declared.program.Place.{Place}
-use Rattle.rwlock_machine.specs.declared.program.Place.TheVariants.{Out}
-use Rattle.rwlock_machine.specs.declared.program.Found.{Found}
-use Rattle.rwlock_machine.specs.Program.{action_of, next_of, place_after}
+use Rattle.rwlock_program.specs.declared.word.Word.{Word}
+use Rattle.rwlock_program.specs.declared.program.Place.{Place}
+use Rattle.rwlock_program.specs.declared.program.Place.TheVariants.{Out}
+use Rattle.rwlock_program.specs.declared.program.Found.{Found}
+use Rattle.rwlock_program.specs.Program.{action_of, next_of, place_after}
 use Rattle.rwlock_machine.specs.Roles.{reads, marks, only_turns, writes, in_no_writer, waits_no_writer, owes_no_writer, in_no_readers, waits_no_readers, owes_no_readers, fits_turn}
-use Rattle.rwlock_machine.specs.Effects.{OnWord}
-use Rattle.rwlock_machine.specs.Parties.{OnNoWriter, OnNoReaders}
-use Rattle.rwlock_machine.specs.Turns.{OnTurn}
+use Rattle.rwlock_program.specs.Words.{OnWord}
+use Rattle.rwlock_program.specs.Parties.{OnNoWriter, OnNoReaders}
+use Rattle.rwlock_program.specs.Turns.{OnTurn}
 use Rattle.rwlock_machine.specs.Tally.{counts_of}
 use Rattle.rwlock_machine.specs.Machine.{IsMachine, SameRoles, place_at}
 use Rattle.rwlock_machine.proofs.Steps.{Fits, in_w, out_w, in_r, out_r, taken_w, taken_r}

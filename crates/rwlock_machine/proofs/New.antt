@@ -5,10 +5,10 @@ use Rattle.std.proofs.lemmas.List.Sums.{sum_by-cons}
 use Rattle.lock_queue.specs.Queues.{queue}
 use Rattle.mutex_machine.specs.Mutex.{new_mutex}
 use Rattle.mutex_machine.proofs.Callers.{new_is_out, new_parties}
-use Rattle.rwlock_machine.specs.declared.program.Place.{Place}
-use Rattle.rwlock_machine.specs.declared.program.Place.TheVariants.{Out}
+use Rattle.rwlock_program.specs.declared.program.Place.{Place}
+use Rattle.rwlock_program.specs.declared.program.Place.TheVariants.{Out}
 use Rattle.rwlock_machine.specs.Roles.{reads, marks, in_no_writer, waits_no_writer, in_no_readers, waits_no_readers}
-use Rattle.rwlock_machine.specs.Effects.{new_word}
+use Rattle.rwlock_program.specs.Words.{new_word}
 use Rattle.rwlock_machine.specs.Machine.{IsMachine}
 
 all_out : (n p : ℕ) → get_or (replicate n Out) p Out ≡ Out

@@ -1,10 +1,4 @@
-pub mod Calls
-pub mod Program
 pub mod Roles
-pub mod Effects
-pub mod Parties
-pub mod Turns
-pub mod Carried
 pub mod Tally
 pub mod Machine
 pub mod Acts

@@ -4,8 +4,8 @@ use Rattle.std.specs.List.{sum_by}
 use Rattle.lock_event.specs.declared.event.Entry.{Entry}
 use Rattle.lock_event.specs.Lists.{marked_count}
 use Rattle.lock_queue.specs.Debts.{IsOwed}
-use Rattle.rwlock_machine.specs.declared.program.Place.{Place}
-use Rattle.rwlock_machine.specs.declared.word.Word.{Word}
+use Rattle.rwlock_program.specs.declared.program.Place.{Place}
+use Rattle.rwlock_program.specs.declared.word.Word.{Word}
 use Rattle.rwlock_machine.specs.Roles.{bit, reads, marks, only_turns, writes, in_no_writer, waits_no_writer, owes_no_writer, in_no_readers, waits_no_readers, owes_no_readers}
 
 -- a list: its length and its marked entries

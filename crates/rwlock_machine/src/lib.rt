@@ -1,12 +1,9 @@
-//! The machine of a read-write lock with upgradable reads: its programs, and the lock that carries
-//! them out.
+//! The machine of a read-write lock with upgradable reads: the lock that goes by its programs.
 //!
-//! [`program`] is the pure table that says what comes next; [`RwLock`] is the word, the two lists, the
+//! The programs, the word and what one action does stand in the crate `rwlock_program`; [`RwLock`] is the word, the two lists, the
 //! turn and each party's place. The turn is a mutex machine of its own, known by its contracts alone.
 #![tactic(auto)]
 
 mod machine;
-pub mod program;
-mod word;
 
 pub use machine::RwLock;

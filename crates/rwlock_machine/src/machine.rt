@@ -6,26 +6,23 @@
 //! out alone ends in time (specs/Ranks). The turn is a mutex machine, of which this one uses no more
 //! than its contracts say.
 
-ghost use Rattle.std.specs.Prelude.{◌≡◌, ◌<◌, false, length, slice_get, replicate, IfOk, IsSome, IsSomeAnd};
-ghost use Rattle.lock_queue.specs.Parties.{entries_of};
+ghost use Rattle.std.specs.Prelude.{◌≡◌, ◌<◌, length, slice_get, replicate, IfOk, IsSome, IsSomeAnd};
 ghost use Rattle.mutex_machine.specs.Mutex.{TakenFairly};
-ghost use Rattle.rwlock_machine.specs.declared.program.Place.TheVariants as place;
-ghost use Rattle.rwlock_machine.specs.Program.{start_of, place_after};
+ghost use Rattle.rwlock_program.specs.declared.program.Place.TheVariants as place;
+ghost use Rattle.rwlock_program.specs.Program.{start_of, place_after};
 ghost use Rattle.rwlock_machine.specs.Roles.{bit};
-ghost use Rattle.rwlock_machine.specs.Effects.{CanDo};
-ghost use Rattle.rwlock_machine.specs.Parties.{Joins, Asks, HasMemory};
-ghost use Rattle.rwlock_machine.specs.Carried.{Carried};
 ghost use Rattle.rwlock_machine.specs.Machine.{SameRoles, place_at, new_rwlock};
 ghost use Rattle.rwlock_machine.specs.Acts.{Acts, IsRwLock, readers as readers_lem, marked};
 ghost use Rattle.rwlock_machine.specs.Solo.{SoloPolls};
 ghost use Rattle.rwlock_machine.specs.Ranks.{left_from, left_after, steps_left, most_steps};
 
-use crate::program::{Action, Found, Next, Place, action_at, decide, start};
-use crate::word::Word;
 use lock_event::Entry;
 use lock_queue::WaitQueue;
 use lock_world::Call;
 use mutex_machine::Mutex;
+use rwlock_program::deeds::carry_out;
+use rwlock_program::program::{Next, Place, action_at, decide, start};
+use rwlock_program::word::Word;
 use std::alloc::{AllocError, Global};
 use std::marker::Model;
 
@@ -63,87 +60,6 @@ impl Model for RwLock {
     ghost view = { λ m. record { places = m.places.items; no_writer = m.no_writer.entries; no_readers = m.no_readers.entries; turn = m.turn; limit = m.word.limit } };
 
     ghost invariant = { λ m. IsMachine m.word m.places.items m.no_writer m.no_readers m.turn };
-}
-
-/// The party joins the list, if there is memory for it.
-fn join(list: &mut WaitQueue, party: u32, memory: bool) -> Found
-    requires known { party < list.old.parties }
-    requires out { entries_of party list.old.entries ≡ 0 }
-    ensures list { Joins party result list.old.entries list.new.entries }
-    ensures parties { list.new.parties ≡ list.old.parties }
-    ensures memory { HasMemory memory result }
-{
-    if memory {
-        list.join(party);
-        Found::Done
-    } else {
-        Found::NoMemory
-    }
-}
-
-/// The party asks for its notification.
-fn ask(list: &mut WaitQueue, party: u32) -> Found
-    requires known { party < list.old.parties }
-    requires listed { 0 < entries_of party list.old.entries }
-    ensures list { Asks party result list.old.entries list.new.entries }
-    ensures parties { list.new.parties ≡ list.old.parties }
-{
-    if list.ask(party) {
-        Found::Yes
-    } else {
-        Found::No
-    }
-}
-
-/// Carries out one action for a party.
-fn carry_out(
-    word: &mut Word,
-    no_writer: &mut WaitQueue,
-    no_readers: &mut WaitQueue,
-    turn: &mut Mutex,
-    party: u32,
-    action: Action,
-    memory: bool,
-    starving: bool,
-) -> Found
-    requires { CanDo party action word.old no_writer.old no_readers.old turn.old }
-    ensures { Carried memory starving party action result word.old no_writer.old no_readers.old turn.old word.new no_writer.new no_readers.new turn.new }
-{
-    match action {
-        Action::Nothing => Found::Done,
-        Action::Read => word.read(),
-        Action::Add => word.add(),
-        Action::Off => word.off(),
-        Action::Load => word.load(),
-        Action::Mark => word.mark(),
-        Action::TryWrite => word.try_write(),
-        Action::TryUpgrade => word.try_upgrade(),
-        Action::Upgrade => word.upgrade(),
-        Action::Down => word.down(),
-        Action::Unmark => word.unmark(),
-        Action::JoinNoWriter => join(no_writer, party, memory),
-        Action::AskNoWriter => ask(no_writer, party),
-        Action::LeaveNoWriter => {
-            no_writer.leave(party);
-            Found::Done
-        }
-        Action::NotifyNoWriter => {
-            no_writer.notify(1);
-            Found::Done
-        }
-        Action::JoinNoReaders => join(no_readers, party, memory),
-        Action::AskNoReaders => ask(no_readers, party),
-        Action::LeaveNoReaders => {
-            no_readers.leave(party);
-            Found::Done
-        }
-        Action::NotifyNoReaders => {
-            no_readers.notify(1);
-            Found::Done
-        }
-        Action::Begin(call) => Found::Turn(turn.begin(party, call, memory, starving)),
-        Action::Go => Found::Turn(turn.go(party, memory, starving)),
-    }
 }
 
 /// So many parties, each of which is out.

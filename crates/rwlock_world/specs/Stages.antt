@@ -9,13 +9,13 @@ use Rattle.lock_world.specs.declared.standing.Rest.TheVariants.{Idle, Pending, H
 use Rattle.lock_world.specs.declared.standing.Stage.{Stage}
 use Rattle.lock_world.specs.declared.standing.Stage.TheVariants.{Outside, Inside, Forgotten}
 use Rattle.lock_world.specs.Rights.{Right, read, upgradable, write}
-use Rattle.rwlock_machine.specs.declared.program.Wanted.TheVariants as wanted
-use Rattle.rwlock_machine.specs.declared.program.Purpose.{Purpose}
-use Rattle.rwlock_machine.specs.declared.program.Purpose.TheVariants as purpose
-use Rattle.rwlock_machine.specs.declared.program.Ending.{Ending}
-use Rattle.rwlock_machine.specs.declared.program.Ending.TheVariants as ending
-use Rattle.rwlock_machine.specs.declared.program.Place.{Place}
-use Rattle.rwlock_machine.specs.declared.program.Place.TheVariants as place
+use Rattle.rwlock_program.specs.declared.program.Wanted.TheVariants as wanted
+use Rattle.rwlock_program.specs.declared.program.Purpose.{Purpose}
+use Rattle.rwlock_program.specs.declared.program.Purpose.TheVariants as purpose
+use Rattle.rwlock_program.specs.declared.program.Ending.{Ending}
+use Rattle.rwlock_program.specs.declared.program.Ending.TheVariants as ending
+use Rattle.rwlock_program.specs.declared.program.Place.{Place}
+use Rattle.rwlock_program.specs.declared.program.Place.TheVariants as place
 use Rattle.rwlock_machine.specs.Roles.{is_resting}
 
 -- ---- What is sought

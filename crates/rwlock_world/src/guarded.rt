@@ -10,7 +10,7 @@ use lock_table::{Machine, Valued};
 use lock_world::standing::{Rest, Within};
 use lock_world::{Answer, Call, Got, What};
 use rwlock_machine::RwLock;
-use rwlock_machine::program::{self, Next};
+use rwlock_program::program::{self, Next};
 use std::alloc::{AllocError, Global};
 use std::marker::Model;
 

@@ -23,22 +23,22 @@ use Rattle.lock_table.proofs.Acting as acting
 use Rattle.lock_table.proofs.Calls.{call_seen, again_seen, stands_seen, decided_after, decision_seen}
 use Rattle.mutex_machine.specs.Course.{Course}
 use Rattle.mutex_machine.specs.Mutex.{Mutex, course_at}
-use Rattle.barrier_machine.specs.declared.program.Action.{Action}
-use Rattle.barrier_machine.specs.declared.program.Action.TheVariants as act
-use Rattle.barrier_machine.specs.declared.program.Aim.{Aim}
-use Rattle.barrier_machine.specs.declared.program.Found.{Found}
-use Rattle.barrier_machine.specs.declared.program.Found.TheVariants as found
-use Rattle.barrier_machine.specs.declared.program.Next.{Next}
-use Rattle.barrier_machine.specs.declared.program.Place.{Place}
-use Rattle.barrier_machine.specs.declared.program.Place.TheVariants.{Arrive, Complete}
-use Rattle.barrier_machine.specs.declared.program.Position.{Position}
-use Rattle.barrier_machine.specs.declared.program.Position.TheVariants.{Out, Made}
-use Rattle.barrier_machine.specs.declared.words.Progress.{Progress}
-use Rattle.barrier_machine.specs.declared.words.Words.{Words}
-use Rattle.barrier_machine.specs.Words.{progress, arrivals_at}
-use Rattle.barrier_machine.specs.Program.{place_for, action_of, next_of, position_after}
-use Rattle.barrier_machine.specs.Deeds.{words_after, arrival_after}
-use Rattle.barrier_machine.specs.Locks.{OnLock}
+use Rattle.barrier_program.specs.declared.program.Action.{Action}
+use Rattle.barrier_program.specs.declared.program.Action.TheVariants as act
+use Rattle.barrier_program.specs.declared.program.Aim.{Aim}
+use Rattle.barrier_program.specs.declared.program.Found.{Found}
+use Rattle.barrier_program.specs.declared.program.Found.TheVariants as found
+use Rattle.barrier_program.specs.declared.program.Next.{Next}
+use Rattle.barrier_program.specs.declared.program.Place.{Place}
+use Rattle.barrier_program.specs.declared.program.Place.TheVariants.{Arrive, Complete}
+use Rattle.barrier_program.specs.declared.program.Position.{Position}
+use Rattle.barrier_program.specs.declared.program.Position.TheVariants.{Out, Made}
+use Rattle.barrier_program.specs.declared.words.Progress.{Progress}
+use Rattle.barrier_program.specs.declared.words.Words.{Words}
+use Rattle.barrier_program.specs.Words.{progress, arrivals_at}
+use Rattle.barrier_program.specs.Program.{place_for, action_of, next_of, position_after}
+use Rattle.barrier_program.specs.Deeds.{words_after, arrival_after}
+use Rattle.barrier_program.specs.Locks.{OnLock}
 use Rattle.barrier_machine.specs.Roles.{fits_lock, in_lock, listed}
 use Rattle.barrier_machine.specs.Waits.{Wait, wait_at, verdict_of, verdict}
 use Rattle.barrier_machine.specs.Machine.{Barrier, IsBarrier, Acts, knows, runs, position_at, arrival_at, answer_by}

@@ -13,23 +13,23 @@ use Rattle.lock_world.specs.Standings.{inputs_of}
 use Rattle.lock_table.specs.Stages.{stage_at, stands_as}
 use Rattle.lock_table.specs.Tables.{Table}
 use Rattle.mutex_machine.specs.Course.{Course, listed as listed_there}
-use Rattle.mutex_machine.specs.declared.mutex.Step.TheVariants as lock_step
-use Rattle.mutex_machine.specs.declared.program.End.TheVariants as lock_end
+use Rattle.mutex_program.specs.declared.calls.Step.TheVariants as lock_step
+use Rattle.mutex_program.specs.declared.calls.End.TheVariants as lock_end
 use Rattle.mutex_machine.specs.Mutex.{course_at, holders, starved}
 use Rattle.mutex_machine.proofs.Callers.{out_unlisted, waiting_listed}
 use Rattle.mutex_machine.proofs.Holders as sees
-use Rattle.barrier_machine.specs.declared.program.Aim.{Aim}
-use Rattle.barrier_machine.specs.declared.program.Aim.TheVariants as aim
-use Rattle.barrier_machine.specs.declared.program.Found.{Found}
-use Rattle.barrier_machine.specs.declared.program.Found.TheVariants as found
-use Rattle.barrier_machine.specs.declared.program.Place.{Place}
-use Rattle.barrier_machine.specs.declared.program.Place.TheVariants.{EnterLock, Ask}
-use Rattle.barrier_machine.specs.declared.program.Position.{Position}
-use Rattle.barrier_machine.specs.declared.program.Position.TheVariants.{Out, Made, Locking, Waiting, At}
-use Rattle.barrier_machine.specs.declared.words.Progress.{Progress}
-use Rattle.barrier_machine.specs.Program.{action_of, next_of, after_lock}
-use Rattle.barrier_machine.specs.Deeds.{Finds, FindsAsk}
-use Rattle.barrier_machine.specs.Locks.{OnLock}
+use Rattle.barrier_program.specs.declared.program.Aim.{Aim}
+use Rattle.barrier_program.specs.declared.program.Aim.TheVariants as aim
+use Rattle.barrier_program.specs.declared.program.Found.{Found}
+use Rattle.barrier_program.specs.declared.program.Found.TheVariants as found
+use Rattle.barrier_program.specs.declared.program.Place.{Place}
+use Rattle.barrier_program.specs.declared.program.Place.TheVariants.{EnterLock, Ask}
+use Rattle.barrier_program.specs.declared.program.Position.{Position}
+use Rattle.barrier_program.specs.declared.program.Position.TheVariants.{Out, Made, Locking, Waiting, At}
+use Rattle.barrier_program.specs.declared.words.Progress.{Progress}
+use Rattle.barrier_program.specs.Program.{action_of, next_of, after_lock}
+use Rattle.barrier_program.specs.Deeds.{Finds, FindsAsk}
+use Rattle.barrier_program.specs.Locks.{OnLock}
 use Rattle.barrier_machine.specs.Roles.{fits_lock, in_lock, listed}
 use Rattle.barrier_machine.specs.Waits.{verdict}
 use Rattle.barrier_machine.specs.Machine.{Barrier, position_at, arrival_at, answer_by}

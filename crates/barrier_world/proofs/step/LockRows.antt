@@ -13,27 +13,27 @@ use Rattle.lock_world.specs.Steps.{Deed, nothing, changes, does, joins, asks, le
 use Rattle.lock_world.proofs.Equations.{some_eq, none_some}
 use Rattle.lock_table.specs.Tables.{Table}
 use Rattle.mutex_machine.specs.Course.{Course, holds, counted as starved_there, decision, is_holding, is_releasing, Takes, Releases}
-use Rattle.mutex_machine.specs.declared.program.End.{End}
-use Rattle.mutex_machine.specs.declared.program.End.TheVariants as lock_end
-use Rattle.mutex_machine.specs.declared.mutex.Step.{Step}
-use Rattle.mutex_machine.specs.declared.mutex.Step.TheVariants as lock_step
+use Rattle.mutex_program.specs.declared.calls.End.{End}
+use Rattle.mutex_program.specs.declared.calls.End.TheVariants as lock_end
+use Rattle.mutex_program.specs.declared.calls.Step.{Step}
+use Rattle.mutex_program.specs.declared.calls.Step.TheVariants as lock_step
 use Rattle.mutex_machine.specs.Deeds as mutex
 use Rattle.mutex_machine.specs.Mutex.{is_counted, holders, starved, holder_of, starved_of}
 use Rattle.mutex_machine.specs.Conduct.{IsLegal, IsReason, decided_then, IsAllowed as MayDo}
 use Rattle.mutex_machine.proofs.Callers.{IsPolls, holding_holds, releasing_free}
 use Rattle.mutex_machine.proofs.Holders as sees
 use Rattle.mutex_machine.proofs.Rosters.{is_zero}
-use Rattle.barrier_machine.specs.declared.program.Aim.{Aim}
-use Rattle.barrier_machine.specs.declared.program.Aim.TheVariants as aim
-use Rattle.barrier_machine.specs.declared.program.Ending.{Ending}
-use Rattle.barrier_machine.specs.declared.program.Ending.TheVariants as ending
-use Rattle.barrier_machine.specs.declared.program.Found.TheVariants as found
-use Rattle.barrier_machine.specs.declared.program.Next.{Next}
-use Rattle.barrier_machine.specs.declared.program.Next.TheVariants as next
-use Rattle.barrier_machine.specs.declared.program.Position.TheVariants.{Made}
-use Rattle.barrier_machine.specs.declared.words.Words.{Words}
-use Rattle.barrier_machine.specs.Words.{arrivals_at}
-use Rattle.barrier_machine.specs.Program.{position_after, after_lock, after_cancel, after_release, released, with_lock}
+use Rattle.barrier_program.specs.declared.program.Aim.{Aim}
+use Rattle.barrier_program.specs.declared.program.Aim.TheVariants as aim
+use Rattle.barrier_program.specs.declared.program.Ending.{Ending}
+use Rattle.barrier_program.specs.declared.program.Ending.TheVariants as ending
+use Rattle.barrier_program.specs.declared.program.Found.TheVariants as found
+use Rattle.barrier_program.specs.declared.program.Next.{Next}
+use Rattle.barrier_program.specs.declared.program.Next.TheVariants as next
+use Rattle.barrier_program.specs.declared.program.Position.TheVariants.{Made}
+use Rattle.barrier_program.specs.declared.words.Words.{Words}
+use Rattle.barrier_program.specs.Words.{arrivals_at}
+use Rattle.barrier_program.specs.Program.{position_after, after_lock, after_cancel, after_release, released, with_lock}
 use Rattle.barrier_machine.specs.Waits.{Wait, no_wait, wait_for, wait_until, wait_at, refused_by, verdict_until}
 use Rattle.barrier_machine.specs.Machine.{Barrier, IsBarrier, answer_by}
 use Rattle.barrier_world.specs.declared.world.ListName.{ListName}

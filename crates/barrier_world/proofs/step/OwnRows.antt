@@ -16,14 +16,14 @@ use Rattle.mutex_machine.specs.Course.{is_holding}
 use Rattle.mutex_machine.specs.Mutex.{Mutex, holder_of, starved_of}
 use Rattle.mutex_machine.proofs.Callers.{holding_holds, holding_unlisted}
 use Rattle.mutex_machine.proofs.Holders as sees
-use Rattle.barrier_machine.specs.declared.program.Found.{Found}
-use Rattle.barrier_machine.specs.declared.program.Found.TheVariants as found
-use Rattle.barrier_machine.specs.declared.program.Place.{Place}
-use Rattle.barrier_machine.specs.declared.program.Place.TheVariants.{Look, Join, Arrive, Complete, NotifyAll, Check, JoinAgain, Ask, CancelLeave, Abandon}
-use Rattle.barrier_machine.specs.declared.words.Progress.{Progress}
-use Rattle.barrier_machine.specs.declared.words.Words.{Words}
-use Rattle.barrier_machine.specs.Words.{arrivals_at}
-use Rattle.barrier_machine.specs.Deeds.{everyone}
+use Rattle.barrier_program.specs.declared.program.Found.{Found}
+use Rattle.barrier_program.specs.declared.program.Found.TheVariants as found
+use Rattle.barrier_program.specs.declared.program.Place.{Place}
+use Rattle.barrier_program.specs.declared.program.Place.TheVariants.{Look, Join, Arrive, Complete, NotifyAll, Check, JoinAgain, Ask, CancelLeave, Abandon}
+use Rattle.barrier_program.specs.declared.words.Progress.{Progress}
+use Rattle.barrier_program.specs.declared.words.Words.{Words}
+use Rattle.barrier_program.specs.Words.{arrivals_at}
+use Rattle.barrier_program.specs.Deeds.{everyone}
 use Rattle.barrier_machine.specs.Waits.{Wait, uncounted, counted}
 use Rattle.barrier_machine.specs.Machine.{Barrier, IsBarrier}
 use Rattle.barrier_world.specs.declared.world.ListName.{ListName}

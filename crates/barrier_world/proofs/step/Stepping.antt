@@ -14,7 +14,7 @@ use Rattle.lock_table.specs.Stages.{stage_at, call_at, polls_again}
 use Rattle.lock_table.specs.Tables.{Table, Acted}
 use Rattle.lock_table.proofs.Calls.{call_seen, again_seen}
 use Rattle.lock_table.proofs.Ways.{way, by_way}
-use Rattle.barrier_machine.specs.declared.program.Place.{Place}
+use Rattle.barrier_program.specs.declared.program.Place.{Place}
 use Rattle.barrier_machine.specs.Machine.{Barrier, IsBarrier, Moves, knows, position_at}
 use Rattle.barrier_world.specs.State.{standing_of}
 use Rattle.barrier_world.specs.View.{verdict_in, view_of}

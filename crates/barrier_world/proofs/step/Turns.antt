@@ -18,18 +18,18 @@ use Rattle.lock_table.specs.Ends.{answer_of}
 use Rattle.lock_table.specs.Tables.{Table}
 use Rattle.mutex_machine.specs.Course.{Course}
 use Rattle.mutex_machine.specs.Mutex.{course_at}
-use Rattle.barrier_machine.specs.declared.program.Aim.{Aim}
-use Rattle.barrier_machine.specs.declared.program.Found.{Found}
-use Rattle.barrier_machine.specs.declared.program.Next.{Next}
-use Rattle.barrier_machine.specs.declared.program.Next.TheVariants as next
-use Rattle.barrier_machine.specs.declared.program.Place.{Place}
-use Rattle.barrier_machine.specs.declared.program.Position.TheVariants.{Made, At}
-use Rattle.barrier_machine.specs.declared.words.Progress.{Progress}
-use Rattle.barrier_machine.specs.declared.words.Words.{Words}
-use Rattle.barrier_machine.specs.Words.{arrivals_at, IsFollower}
-use Rattle.barrier_machine.specs.Program.{action_of, next_of, position_after}
-use Rattle.barrier_machine.specs.Deeds.{Finds, words_after, arrival_after, entries_after}
-use Rattle.barrier_machine.specs.Locks.{OnLock}
+use Rattle.barrier_program.specs.declared.program.Aim.{Aim}
+use Rattle.barrier_program.specs.declared.program.Found.{Found}
+use Rattle.barrier_program.specs.declared.program.Next.{Next}
+use Rattle.barrier_program.specs.declared.program.Next.TheVariants as next
+use Rattle.barrier_program.specs.declared.program.Place.{Place}
+use Rattle.barrier_program.specs.declared.program.Position.TheVariants.{Made, At}
+use Rattle.barrier_program.specs.declared.words.Progress.{Progress}
+use Rattle.barrier_program.specs.declared.words.Words.{Words}
+use Rattle.barrier_program.specs.Words.{arrivals_at, IsFollower}
+use Rattle.barrier_program.specs.Program.{action_of, next_of, position_after}
+use Rattle.barrier_program.specs.Deeds.{Finds, words_after, arrival_after, entries_after}
+use Rattle.barrier_program.specs.Locks.{OnLock}
 use Rattle.barrier_machine.specs.Roles.{fits_lock, in_lock, listed, follows, Sure, HasOutcome}
 use Rattle.barrier_machine.specs.Waits.{Wait, wait_at, wait_of as place_wait, verdict_of}
 use Rattle.barrier_machine.specs.Machine.{Barrier, arrival_at, answer_by}

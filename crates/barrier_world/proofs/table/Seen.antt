@@ -5,10 +5,10 @@ use Rattle.lock_table.specs.Stages.{stage_at, stands_as}
 use Rattle.lock_table.specs.Tables.{Table}
 use Rattle.lock_table.proofs.Views.{standings_at}
 use Rattle.mutex_machine.specs.Mutex.{course_at}
-use Rattle.barrier_machine.specs.declared.program.Position.{Position}
-use Rattle.barrier_machine.specs.declared.words.Progress.{Progress}
+use Rattle.barrier_program.specs.declared.program.Position.{Position}
+use Rattle.barrier_program.specs.declared.words.Progress.{Progress}
 use Rattle.barrier_machine.specs.Waits.{no_wait, wait_at, verdict}
-use Rattle.barrier_machine.specs.Words.{arrivals_at}
+use Rattle.barrier_program.specs.Words.{arrivals_at}
 use Rattle.barrier_machine.specs.Machine.{Barrier, position_at, arrival_at}
 use Rattle.barrier_world.specs.State.{standing_of, wait_of, is_held_by}
 use Rattle.barrier_world.specs.View.{waits_of, verdict_in, view_of}

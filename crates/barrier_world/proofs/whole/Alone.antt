@@ -26,15 +26,15 @@ use Rattle.lock_table.specs.Stages.{stage_at, call_at, polls_again, stage_after}
 use Rattle.lock_table.specs.Tables.{Table, Acted}
 use Rattle.lock_table.proofs.Past.{inside_or_past}
 use Rattle.lock_table.proofs.Ways.{acted}
-use Rattle.barrier_machine.specs.declared.program.Found.{Found}
-use Rattle.barrier_machine.specs.declared.program.Next.{Next}
-use Rattle.barrier_machine.specs.declared.program.Next.TheVariants as next
-use Rattle.barrier_machine.specs.declared.program.Place.{Place}
-use Rattle.barrier_machine.specs.declared.program.Position.{Position}
-use Rattle.barrier_machine.specs.declared.program.Position.TheVariants.{Out, At}
-use Rattle.barrier_machine.specs.Words.{progress}
-use Rattle.barrier_machine.specs.Program.{place_for, action_of, next_of, position_after}
-use Rattle.barrier_machine.specs.Deeds.{arrival_after}
+use Rattle.barrier_program.specs.declared.program.Found.{Found}
+use Rattle.barrier_program.specs.declared.program.Next.{Next}
+use Rattle.barrier_program.specs.declared.program.Next.TheVariants as next
+use Rattle.barrier_program.specs.declared.program.Place.{Place}
+use Rattle.barrier_program.specs.declared.program.Position.{Position}
+use Rattle.barrier_program.specs.declared.program.Position.TheVariants.{Out, At}
+use Rattle.barrier_program.specs.Words.{progress}
+use Rattle.barrier_program.specs.Program.{place_for, action_of, next_of, position_after}
+use Rattle.barrier_program.specs.Deeds.{arrival_after}
 use Rattle.barrier_machine.specs.Machine.{Barrier, IsBarrier, Acts, Moves, knows, goes_with, position_at, arrival_at, answer_by}
 use Rattle.barrier_world.specs.State.{World}
 use Rattle.barrier_world.specs.Steps.{IsBarrierTable, TableSteps, Steps}

@@ -12,25 +12,25 @@ use Rattle.lock_world.specs.Standings.{is_outside_stage}
 use Rattle.lock_table.specs.Stages.{stage_at}
 use Rattle.lock_table.specs.Tables.{Table}
 use Rattle.lock_table.proofs.Views.{rest_seen, outside_at}
-use Rattle.mutex_machine.specs.declared.mutex.Step.TheVariants as lock_step
-use Rattle.mutex_machine.specs.declared.program.End.{End as LockEnd}
-use Rattle.mutex_machine.specs.declared.program.End.TheVariants as lock_end
+use Rattle.mutex_program.specs.declared.calls.Step.TheVariants as lock_step
+use Rattle.mutex_program.specs.declared.calls.End.{End as LockEnd}
+use Rattle.mutex_program.specs.declared.calls.End.TheVariants as lock_end
 use Rattle.mutex_machine.specs.Alone.{GaveWay, StandsBack}
 use Rattle.mutex_machine.specs.Mutex.{starved}
 use Rattle.mutex_machine.proofs.Callers.{gave_way}
 use Rattle.mutex_machine.proofs.Holders.{none_held}
-use Rattle.barrier_machine.specs.declared.program.Aim.{Aim}
-use Rattle.barrier_machine.specs.declared.program.Aim.TheVariants as aim
-use Rattle.barrier_machine.specs.declared.program.Ending.{Ending}
-use Rattle.barrier_machine.specs.declared.program.Ending.TheVariants as ending
-use Rattle.barrier_machine.specs.declared.program.Found.TheVariants as found
-use Rattle.barrier_machine.specs.declared.program.Position.{Position}
-use Rattle.barrier_machine.specs.declared.program.Position.TheVariants.{Locking, Waiting}
-use Rattle.barrier_machine.specs.declared.words.Progress.{Progress}
-use Rattle.barrier_machine.specs.declared.words.Words.{Words}
+use Rattle.barrier_program.specs.declared.program.Aim.{Aim}
+use Rattle.barrier_program.specs.declared.program.Aim.TheVariants as aim
+use Rattle.barrier_program.specs.declared.program.Ending.{Ending}
+use Rattle.barrier_program.specs.declared.program.Ending.TheVariants as ending
+use Rattle.barrier_program.specs.declared.program.Found.TheVariants as found
+use Rattle.barrier_program.specs.declared.program.Position.{Position}
+use Rattle.barrier_program.specs.declared.program.Position.TheVariants.{Locking, Waiting}
+use Rattle.barrier_program.specs.declared.words.Progress.{Progress}
+use Rattle.barrier_program.specs.declared.words.Words.{Words}
 use Rattle.barrier_machine.specs.Waits.{uncounted, counted, wait_for, wait_at}
-use Rattle.barrier_machine.specs.Words.{arrivals_at, progress, IsFollower}
-use Rattle.barrier_machine.specs.Program.{after_lock, position_after}
+use Rattle.barrier_program.specs.Words.{arrivals_at, progress, IsFollower}
+use Rattle.barrier_program.specs.Program.{after_lock, position_after}
 use Rattle.barrier_machine.specs.Roles.{listed}
 use Rattle.barrier_machine.specs.Machine.{Barrier, IsBarrier, position_at, arrival_at, answer_by}
 use Rattle.barrier_world.specs.State.{World, wait_of}

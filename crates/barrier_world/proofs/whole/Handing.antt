@@ -13,26 +13,26 @@ use Rattle.lock_world.specs.Standings.{outside}
 use Rattle.lock_world.specs.Whole.{moves_of, answers_of}
 use Rattle.lock_table.specs.Tables.{Table}
 use Rattle.lock_world.proofs.Lists.{joined_unmarked}
-use Rattle.mutex_machine.specs.declared.mutex.Step.{Step as LockStep}
-use Rattle.mutex_machine.specs.declared.mutex.Step.TheVariants as lock_step
-use Rattle.mutex_machine.specs.declared.program.End.TheVariants as lock_end
+use Rattle.mutex_program.specs.declared.calls.Step.{Step as LockStep}
+use Rattle.mutex_program.specs.declared.calls.Step.TheVariants as lock_step
+use Rattle.mutex_program.specs.declared.calls.End.TheVariants as lock_end
 use Rattle.mutex_machine.specs.Conduct.{HandsOn}
 use Rattle.mutex_machine.specs.Course.{is_told, is_waiting}
 use Rattle.mutex_machine.specs.Mutex.{course_at}
 use Rattle.mutex_machine.proofs.Released.{release_goes, released_marks}
-use Rattle.barrier_machine.specs.declared.program.Aim.{Aim}
-use Rattle.barrier_machine.specs.declared.program.Aim.TheVariants as aim
-use Rattle.barrier_machine.specs.declared.program.Ending.{Ending}
-use Rattle.barrier_machine.specs.declared.program.Ending.TheVariants as ending
-use Rattle.barrier_machine.specs.declared.program.Found.{Found}
-use Rattle.barrier_machine.specs.declared.program.Found.TheVariants as found
-use Rattle.barrier_machine.specs.declared.program.Next.{Next}
-use Rattle.barrier_machine.specs.declared.program.Place.{Place}
-use Rattle.barrier_machine.specs.declared.program.Place.TheVariants.{WaitLock, TakeLock, Look, Join, Arrive, Complete, NotifyAll, Check, JoinAgain, ReleaseLock, ReleasingLock, Ask}
-use Rattle.barrier_machine.specs.declared.program.Position.{Position}
-use Rattle.barrier_machine.specs.declared.program.Position.TheVariants.{At}
-use Rattle.barrier_machine.specs.Program.{with_lock, after_lock, after_release, released, action_of, next_of}
-use Rattle.barrier_machine.specs.Deeds.{entries_after}
+use Rattle.barrier_program.specs.declared.program.Aim.{Aim}
+use Rattle.barrier_program.specs.declared.program.Aim.TheVariants as aim
+use Rattle.barrier_program.specs.declared.program.Ending.{Ending}
+use Rattle.barrier_program.specs.declared.program.Ending.TheVariants as ending
+use Rattle.barrier_program.specs.declared.program.Found.{Found}
+use Rattle.barrier_program.specs.declared.program.Found.TheVariants as found
+use Rattle.barrier_program.specs.declared.program.Next.{Next}
+use Rattle.barrier_program.specs.declared.program.Place.{Place}
+use Rattle.barrier_program.specs.declared.program.Place.TheVariants.{WaitLock, TakeLock, Look, Join, Arrive, Complete, NotifyAll, Check, JoinAgain, ReleaseLock, ReleasingLock, Ask}
+use Rattle.barrier_program.specs.declared.program.Position.{Position}
+use Rattle.barrier_program.specs.declared.program.Position.TheVariants.{At}
+use Rattle.barrier_program.specs.Program.{with_lock, after_lock, after_release, released, action_of, next_of}
+use Rattle.barrier_program.specs.Deeds.{entries_after}
 use Rattle.barrier_machine.specs.Roles.{fits_lock, in_lock, listed}
 use Rattle.barrier_machine.specs.Machine.{Barrier, IsBarrier, position_at, is_own_marked}
 use Rattle.barrier_world.specs.State.{World, standing_of}

@@ -5,24 +5,24 @@ use Rattle.lock_queue.specs.Parties.{is_party}
 use Rattle.lock_world.specs.declared.moves.Answer.{Answer}
 use Rattle.lock_world.specs.declared.moves.Inputs.{Inputs}
 use Rattle.lock_world.specs.declared.refusal.Refusal.TheVariants.{Starved}
-use Rattle.mutex_machine.specs.declared.mutex.Step.{Step as LockStep}
-use Rattle.mutex_machine.specs.declared.mutex.Step.TheVariants as lock_step
-use Rattle.mutex_machine.specs.declared.program.End.{End as LockEnd}
-use Rattle.mutex_machine.specs.declared.program.End.TheVariants as lock_end
-use Rattle.mutex_machine.specs.declared.program.LockCall.TheVariants as lock_call
+use Rattle.mutex_program.specs.declared.calls.Step.{Step as LockStep}
+use Rattle.mutex_program.specs.declared.calls.Step.TheVariants as lock_step
+use Rattle.mutex_program.specs.declared.calls.End.{End as LockEnd}
+use Rattle.mutex_program.specs.declared.calls.End.TheVariants as lock_end
+use Rattle.mutex_program.specs.declared.calls.LockCall.TheVariants as lock_call
 use Rattle.mutex_machine.specs.Alone.{HasBegun, HasGoneOn, GoesOnAlone, last, further, PollsAlone, at_once, begun, IsCalled, GaveWay, StandsBack, SoloPolls, Took}
 use Rattle.mutex_machine.specs.Mutex.{Mutex, holders, starved}
-use Rattle.barrier_machine.specs.declared.program.Aim.{Aim}
-use Rattle.barrier_machine.specs.declared.program.Aim.TheVariants as aim
-use Rattle.barrier_machine.specs.declared.program.Found.{Found}
-use Rattle.barrier_machine.specs.declared.program.Found.TheVariants as found
-use Rattle.barrier_machine.specs.declared.program.Next.{Next}
-use Rattle.barrier_machine.specs.declared.program.Next.TheVariants as next
-use Rattle.barrier_machine.specs.declared.program.Place.{Place}
-use Rattle.barrier_machine.specs.declared.program.Place.TheVariants.{EnterLock, WaitLock, TakeLock, Ask}
-use Rattle.barrier_machine.specs.declared.program.Position.{Position}
-use Rattle.barrier_machine.specs.declared.program.Position.TheVariants.{At}
-use Rattle.barrier_machine.specs.Program.{with_lock, after_lock, next_of, position_after}
+use Rattle.barrier_program.specs.declared.program.Aim.{Aim}
+use Rattle.barrier_program.specs.declared.program.Aim.TheVariants as aim
+use Rattle.barrier_program.specs.declared.program.Found.{Found}
+use Rattle.barrier_program.specs.declared.program.Found.TheVariants as found
+use Rattle.barrier_program.specs.declared.program.Next.{Next}
+use Rattle.barrier_program.specs.declared.program.Next.TheVariants as next
+use Rattle.barrier_program.specs.declared.program.Place.{Place}
+use Rattle.barrier_program.specs.declared.program.Place.TheVariants.{EnterLock, WaitLock, TakeLock, Ask}
+use Rattle.barrier_program.specs.declared.program.Position.{Position}
+use Rattle.barrier_program.specs.declared.program.Position.TheVariants.{At}
+use Rattle.barrier_program.specs.Program.{with_lock, after_lock, next_of, position_after}
 use Rattle.barrier_machine.specs.Machine.{Barrier, answer_by}
 use Rattle.barrier_world.proofs.whole.Served.{Step, Same, Then, Came, Serves, ServesThen}
 

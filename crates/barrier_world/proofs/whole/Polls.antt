@@ -29,22 +29,22 @@ use Rattle.lock_table.proofs.Past.{inside_or_past}
 use Rattle.lock_table.proofs.Views.{outside_stage}
 use Rattle.mutex_machine.specs.Course.{bit, is_waiting}
 use Rattle.mutex_machine.specs.Alone.{IsCalled, SoloPolls, StandsBack}
-use Rattle.mutex_machine.specs.declared.program.End.{End as LockEnd}
-use Rattle.mutex_machine.specs.declared.program.End.TheVariants as lock_end
+use Rattle.mutex_program.specs.declared.calls.End.{End as LockEnd}
+use Rattle.mutex_program.specs.declared.calls.End.TheVariants as lock_end
 use Rattle.mutex_machine.specs.Mutex.{Mutex, course_at, holders, starved, holder_of, starved_of, IsStarved}
 use Rattle.mutex_machine.proofs.AloneSeen.{solo_polls as lock_law}
 use Rattle.mutex_machine.proofs.Callers.{out_unlisted, waiting_listed}
 use Rattle.mutex_machine.proofs.Holders as sees
-use Rattle.barrier_machine.specs.declared.program.Aim.{Aim}
-use Rattle.barrier_machine.specs.declared.program.Aim.TheVariants as aim
-use Rattle.barrier_machine.specs.declared.program.Place.{Place}
-use Rattle.barrier_machine.specs.declared.program.Place.TheVariants.{EnterLock, WaitLock, Ask}
-use Rattle.barrier_machine.specs.declared.program.Position.{Position}
-use Rattle.barrier_machine.specs.declared.program.Position.TheVariants.{Out, Made, Locking, Waiting, At}
-use Rattle.barrier_machine.specs.Program.{start_of}
+use Rattle.barrier_program.specs.declared.program.Aim.{Aim}
+use Rattle.barrier_program.specs.declared.program.Aim.TheVariants as aim
+use Rattle.barrier_program.specs.declared.program.Place.{Place}
+use Rattle.barrier_program.specs.declared.program.Place.TheVariants.{EnterLock, WaitLock, Ask}
+use Rattle.barrier_program.specs.declared.program.Position.{Position}
+use Rattle.barrier_program.specs.declared.program.Position.TheVariants.{Out, Made, Locking, Waiting, At}
+use Rattle.barrier_program.specs.Program.{start_of}
 use Rattle.barrier_machine.specs.Roles.{fits_lock, in_lock, listed, follows}
 use Rattle.barrier_machine.specs.Waits.{wait_for, wait_at}
-use Rattle.barrier_machine.specs.Words.{arrivals_at, IsFollower}
+use Rattle.barrier_program.specs.Words.{arrivals_at, IsFollower}
 use Rattle.barrier_machine.specs.Machine.{Barrier, IsBarrier, knows, goes_with, is_out, position_at, arrival_at}
 use Rattle.barrier_world.specs.State.{World, standing_of, wait_of, is_free, is_starved}
 use Rattle.barrier_world.specs.View.{view_of, verdict_in}

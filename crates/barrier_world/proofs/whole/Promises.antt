@@ -24,15 +24,15 @@ use Rattle.mutex_machine.specs.Course.{Course, bit, counted, is_counting}
 use Rattle.mutex_machine.specs.Mutex.{Mutex, course_at, starved, is_counted}
 use Rattle.mutex_machine.proofs.Callers.{out_uncounted, waiting_uncounted}
 use Rattle.mutex_machine.proofs.Holders as sees
-use Rattle.barrier_machine.specs.declared.program.Action.{Action}
-use Rattle.barrier_machine.specs.declared.program.Action.TheVariants as act
-use Rattle.barrier_machine.specs.declared.program.Found.{Found}
-use Rattle.barrier_machine.specs.declared.program.Found.TheVariants as found
-use Rattle.barrier_machine.specs.declared.program.Place.{Place}
-use Rattle.barrier_machine.specs.declared.program.Position.{Position}
-use Rattle.barrier_machine.specs.declared.program.Position.TheVariants.{Out, Made, Locking, Waiting, At}
-use Rattle.barrier_machine.specs.Program.{start_of, action_of}
-use Rattle.barrier_machine.specs.Locks.{OnLock}
+use Rattle.barrier_program.specs.declared.program.Action.{Action}
+use Rattle.barrier_program.specs.declared.program.Action.TheVariants as act
+use Rattle.barrier_program.specs.declared.program.Found.{Found}
+use Rattle.barrier_program.specs.declared.program.Found.TheVariants as found
+use Rattle.barrier_program.specs.declared.program.Place.{Place}
+use Rattle.barrier_program.specs.declared.program.Position.{Position}
+use Rattle.barrier_program.specs.declared.program.Position.TheVariants.{Out, Made, Locking, Waiting, At}
+use Rattle.barrier_program.specs.Program.{start_of, action_of}
+use Rattle.barrier_program.specs.Locks.{OnLock}
 use Rattle.barrier_machine.specs.Roles.{fits_lock, in_lock}
 use Rattle.barrier_machine.specs.Machine.{Barrier, Moves, position_at}
 use Rattle.barrier_world.specs.State.{World, is_starved}

@@ -10,35 +10,35 @@ use Rattle.lock_world.specs.declared.refusal.Refusal.TheVariants as refusal
 use Rattle.lock_world.specs.Standings.{refused}
 use Rattle.lock_world.specs.Steps.{Deed, nothing, changes, does}
 use Rattle.lock_world.proofs.Lists.{joined_unmarked}
-use Rattle.mutex_machine.specs.declared.mutex.Step.{Step as LockStep}
-use Rattle.mutex_machine.specs.declared.mutex.Step.TheVariants as lock_step
-use Rattle.mutex_machine.specs.declared.program.End.TheVariants as lock_end
-use Rattle.mutex_machine.specs.declared.program.LockCall.TheVariants as lock_call
+use Rattle.mutex_program.specs.declared.calls.Step.{Step as LockStep}
+use Rattle.mutex_program.specs.declared.calls.Step.TheVariants as lock_step
+use Rattle.mutex_program.specs.declared.calls.End.TheVariants as lock_end
+use Rattle.mutex_program.specs.declared.calls.LockCall.TheVariants as lock_call
 use Rattle.mutex_machine.specs.Course.{is_holding, is_releasing, holds}
 use Rattle.mutex_machine.specs.Deeds.{Change, takes, releases, starves, recovers, ListName, holder_after, gives_back}
 use Rattle.mutex_machine.specs.Mutex.{Mutex, course_at, IsMutex, holder_of}
 use Rattle.mutex_machine.proofs.Callers.{holding_holds, releasing_free, releasing_decided}
 use Rattle.mutex_machine.proofs.Holders.{holds_it, is_held_by}
 use Rattle.mutex_machine.proofs.Released.{release_goes, released_marks}
-use Rattle.barrier_machine.specs.declared.program.Action.TheVariants as act
-use Rattle.barrier_machine.specs.declared.program.Aim.{Aim}
-use Rattle.barrier_machine.specs.declared.program.Aim.TheVariants as aim
-use Rattle.barrier_machine.specs.declared.program.Ending.{Ending}
-use Rattle.barrier_machine.specs.declared.program.Ending.TheVariants as ending
-use Rattle.barrier_machine.specs.declared.program.Found.{Found}
-use Rattle.barrier_machine.specs.declared.program.Found.TheVariants as found
-use Rattle.barrier_machine.specs.declared.program.Next.{Next}
-use Rattle.barrier_machine.specs.declared.program.Next.TheVariants as next
-use Rattle.barrier_machine.specs.declared.program.Place.{Place}
-use Rattle.barrier_machine.specs.declared.program.Place.TheVariants.{Look, Join, Arrive, Complete, NotifyAll, Check, JoinAgain, ReleaseLock, ReleasingLock, Ask}
-use Rattle.barrier_machine.specs.declared.program.Position.{Position}
-use Rattle.barrier_machine.specs.declared.program.Position.TheVariants.{Out, Made, Waiting, At}
-use Rattle.barrier_machine.specs.declared.words.Progress.{Progress}
-use Rattle.barrier_machine.specs.declared.words.Words.{Words}
-use Rattle.barrier_machine.specs.Words.{progress, with_progress}
-use Rattle.barrier_machine.specs.Program.{action_of, next_of, position_after, released}
-use Rattle.barrier_machine.specs.Deeds.{Finds, words_after, arrival_after, entries_after}
-use Rattle.barrier_machine.specs.Locks.{LockBegins, LockGoesOn, OnLock}
+use Rattle.barrier_program.specs.declared.program.Action.TheVariants as act
+use Rattle.barrier_program.specs.declared.program.Aim.{Aim}
+use Rattle.barrier_program.specs.declared.program.Aim.TheVariants as aim
+use Rattle.barrier_program.specs.declared.program.Ending.{Ending}
+use Rattle.barrier_program.specs.declared.program.Ending.TheVariants as ending
+use Rattle.barrier_program.specs.declared.program.Found.{Found}
+use Rattle.barrier_program.specs.declared.program.Found.TheVariants as found
+use Rattle.barrier_program.specs.declared.program.Next.{Next}
+use Rattle.barrier_program.specs.declared.program.Next.TheVariants as next
+use Rattle.barrier_program.specs.declared.program.Place.{Place}
+use Rattle.barrier_program.specs.declared.program.Place.TheVariants.{Look, Join, Arrive, Complete, NotifyAll, Check, JoinAgain, ReleaseLock, ReleasingLock, Ask}
+use Rattle.barrier_program.specs.declared.program.Position.{Position}
+use Rattle.barrier_program.specs.declared.program.Position.TheVariants.{Out, Made, Waiting, At}
+use Rattle.barrier_program.specs.declared.words.Progress.{Progress}
+use Rattle.barrier_program.specs.declared.words.Words.{Words}
+use Rattle.barrier_program.specs.Words.{progress, with_progress}
+use Rattle.barrier_program.specs.Program.{action_of, next_of, position_after, released}
+use Rattle.barrier_program.specs.Deeds.{Finds, words_after, arrival_after, entries_after}
+use Rattle.barrier_program.specs.Locks.{LockBegins, LockGoesOn, OnLock}
 use Rattle.barrier_machine.specs.Roles.{Sure, fits_lock, in_lock, listed}
 use Rattle.barrier_machine.specs.Machine.{Barrier, IsBarrier, position_at, arrival_at, answer_by, is_own_marked}
 

@@ -18,15 +18,15 @@ use Rattle.lock_table.specs.Ends.{answer_of}
 use Rattle.lock_table.specs.Tables.{Table, Acted}
 use Rattle.lock_table.proofs.Ways.{way, by_way}
 use Rattle.mutex_machine.specs.Mutex.{steps_left as lock_steps_left}
-use Rattle.barrier_machine.specs.declared.program.Aim.{Aim}
-use Rattle.barrier_machine.specs.declared.program.Aim.TheVariants as aim
-use Rattle.barrier_machine.specs.declared.program.Next.{Next}
-use Rattle.barrier_machine.specs.declared.program.Next.TheVariants as next
-use Rattle.barrier_machine.specs.declared.program.Place.{Place}
-use Rattle.barrier_machine.specs.declared.program.Place.TheVariants.{EnterLock, WaitLock, TakeLock, ReleaseLock, ReleasingLock, Ask, CancelLock, CancellingLock}
-use Rattle.barrier_machine.specs.declared.program.Position.{Position}
-use Rattle.barrier_machine.specs.declared.program.Position.TheVariants.{Out, Made, Locking, Waiting, At}
-use Rattle.barrier_machine.specs.Program.{start_of, place_for, next_of, position_after}
+use Rattle.barrier_program.specs.declared.program.Aim.{Aim}
+use Rattle.barrier_program.specs.declared.program.Aim.TheVariants as aim
+use Rattle.barrier_program.specs.declared.program.Next.{Next}
+use Rattle.barrier_program.specs.declared.program.Next.TheVariants as next
+use Rattle.barrier_program.specs.declared.program.Place.{Place}
+use Rattle.barrier_program.specs.declared.program.Place.TheVariants.{EnterLock, WaitLock, TakeLock, ReleaseLock, ReleasingLock, Ask, CancelLock, CancellingLock}
+use Rattle.barrier_program.specs.declared.program.Position.{Position}
+use Rattle.barrier_program.specs.declared.program.Position.TheVariants.{Out, Made, Locking, Waiting, At}
+use Rattle.barrier_program.specs.Program.{start_of, place_for, next_of, position_after}
 use Rattle.barrier_machine.specs.Ranks.{left, left_at, left_asking}
 use Rattle.barrier_machine.specs.Machine.{Barrier, IsBarrier, Moves, position_at, answer_by, is_own_marked, steps_left, left_from, left_after}
 use Rattle.barrier_world.specs.Steps.{IsBarrierTable, TableSteps}

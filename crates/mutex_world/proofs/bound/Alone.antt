@@ -22,15 +22,15 @@ use Rattle.lock_frame.specs.Steps.{beginning}
 use Rattle.lock_table.specs.Stages.{stage_at, call_at, polls_again, stage_after}
 use Rattle.lock_table.specs.Tables.{Table, Acted}
 use Rattle.lock_table.proofs.Ways.{acted}
-use Rattle.mutex_machine.specs.declared.program.Action.{Action}
-use Rattle.mutex_machine.specs.declared.program.End.{End}
-use Rattle.mutex_machine.specs.declared.program.End.TheVariants as «end»
-use Rattle.mutex_machine.specs.declared.program.LockCall.TheVariants as lock_call
-use Rattle.mutex_machine.specs.declared.program.Next.{Next}
-use Rattle.mutex_machine.specs.declared.program.Next.TheVariants as next
-use Rattle.mutex_machine.specs.declared.program.Place.{Place}
+use Rattle.mutex_program.specs.declared.program.Action.{Action}
+use Rattle.mutex_program.specs.declared.calls.End.{End}
+use Rattle.mutex_program.specs.declared.calls.End.TheVariants as «end»
+use Rattle.mutex_program.specs.declared.calls.LockCall.TheVariants as lock_call
+use Rattle.mutex_program.specs.declared.program.Next.{Next}
+use Rattle.mutex_program.specs.declared.program.Next.TheVariants as next
+use Rattle.mutex_program.specs.declared.program.Place.{Place}
 use Rattle.mutex_machine.specs.Acts.{Acts}
-use Rattle.mutex_machine.specs.Program.{start_of}
+use Rattle.mutex_program.specs.Program.{start_of}
 use Rattle.mutex_machine.specs.Solo.{GoesOnAlone, last, step, PollsAlone, at_once, begun, BeginsPoll}
 use Rattle.mutex_world.specs.Guarded.{Guarded, knows, place_of, answer_by, Carries, Moves, MovesBy}
 use Rattle.mutex_world.specs.Runs.{Runs}

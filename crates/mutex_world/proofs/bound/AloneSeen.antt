@@ -21,14 +21,14 @@ use Rattle.lock_table.specs.Stages.{stage_at, stage_after}
 use Rattle.lock_table.specs.Tables.{Table}
 use Rattle.lock_table.proofs.Past.{by_stage_or_past_at}
 use Rattle.lock_table.proofs.Views.{rest_seen, outside_stage}
-use Rattle.mutex_machine.specs.declared.program.End.{End}
-use Rattle.mutex_machine.specs.declared.program.End.TheVariants as «end»
-use Rattle.mutex_machine.specs.declared.program.Next.TheVariants as next
-use Rattle.mutex_machine.specs.declared.program.Place.{Place}
-use Rattle.mutex_machine.specs.declared.program.Place.TheVariants as place
+use Rattle.mutex_program.specs.declared.calls.End.{End}
+use Rattle.mutex_program.specs.declared.calls.End.TheVariants as «end»
+use Rattle.mutex_program.specs.declared.program.Next.TheVariants as next
+use Rattle.mutex_program.specs.declared.program.Place.{Place}
+use Rattle.mutex_program.specs.declared.program.Place.TheVariants as place
 use Rattle.mutex_machine.specs.Acts.{IsMutex, IsStarved, starved}
 use Rattle.mutex_machine.specs.Courses.{is_waiting}
-use Rattle.mutex_machine.specs.Roles.{bit, holds, listed}
+use Rattle.mutex_program.specs.Roles.{bit, holds, listed}
 use Rattle.mutex_machine.specs.Solo.{IsCalled, Took, StandsBack, GaveWay, PollsAlone}
 use Rattle.mutex_machine.specs.State.{is_counted}
 use Rattle.mutex_machine.proofs.Parts.{gave_way}

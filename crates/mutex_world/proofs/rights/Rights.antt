@@ -29,16 +29,16 @@ use Rattle.lock_table.specs.Tables.{Table, Acted}
 use Rattle.lock_table.proofs.Acting.{stands}
 use Rattle.lock_table.proofs.Rights.{tells_on, idle_account, again_account}
 use Rattle.lock_table.proofs.Ways.{way, by_way}
-use Rattle.mutex_machine.specs.declared.program.End.TheVariants as «end»
-use Rattle.mutex_machine.specs.declared.program.Found.{Found}
-use Rattle.mutex_machine.specs.declared.program.LockCall.TheVariants as lock_call
-use Rattle.mutex_machine.specs.declared.program.Next.{Next}
-use Rattle.mutex_machine.specs.declared.program.Next.TheVariants as next
-use Rattle.mutex_machine.specs.declared.program.Place.{Place}
-use Rattle.mutex_machine.specs.declared.program.Place.TheVariants.{Out, Enter, Try, Ask, AskStarved}
+use Rattle.mutex_program.specs.declared.calls.End.TheVariants as «end»
+use Rattle.mutex_program.specs.declared.program.Found.{Found}
+use Rattle.mutex_program.specs.declared.calls.LockCall.TheVariants as lock_call
+use Rattle.mutex_program.specs.declared.program.Next.{Next}
+use Rattle.mutex_program.specs.declared.program.Next.TheVariants as next
+use Rattle.mutex_program.specs.declared.program.Place.{Place}
+use Rattle.mutex_program.specs.declared.program.Place.TheVariants.{Out, Enter, Try, Ask, AskStarved}
 use Rattle.mutex_machine.specs.Acts.{IsMutex}
 use Rattle.mutex_machine.specs.Courses.{Takes, Tries, Cancels, GoesOn}
-use Rattle.mutex_machine.specs.Program.{next_of}
+use Rattle.mutex_program.specs.Program.{next_of}
 use Rattle.mutex_machine.proofs.Courses.{begins, goes}
 use Rattle.mutex_world.specs.Guarded.{Guarded, knows, Moves, MovesBy, is_within, is_try_kind, answer_by, place_of, goes_with}
 use Rattle.mutex_world.specs.Laws.{HasRight, IsSound, IsAwake, is_at_rest}

@@ -22,19 +22,19 @@ use Rattle.lock_table.specs.Stages.{stage_at, stands_as, call_at, polls_again, s
 use Rattle.lock_table.specs.Tables.{Table}
 use Rattle.lock_table.proofs.Acting as acting
 use Rattle.lock_table.proofs.Calls.{decided_after, call_seen, again_seen, stands_seen}
-use Rattle.mutex_machine.specs.declared.program.End.{End}
-use Rattle.mutex_machine.specs.declared.program.End.TheVariants as «end»
-use Rattle.mutex_machine.specs.declared.program.Next.{Next}
-use Rattle.mutex_machine.specs.declared.program.Next.TheVariants as next
-use Rattle.mutex_machine.specs.declared.program.Place.{Place}
-use Rattle.mutex_machine.specs.declared.program.Place.TheVariants as place
-use Rattle.mutex_machine.specs.declared.program.Place.TheVariants.{Out}
-use Rattle.mutex_machine.specs.Program.{place_after}
+use Rattle.mutex_program.specs.declared.calls.End.{End}
+use Rattle.mutex_program.specs.declared.calls.End.TheVariants as «end»
+use Rattle.mutex_program.specs.declared.program.Next.{Next}
+use Rattle.mutex_program.specs.declared.program.Next.TheVariants as next
+use Rattle.mutex_program.specs.declared.program.Place.{Place}
+use Rattle.mutex_program.specs.declared.program.Place.TheVariants as place
+use Rattle.mutex_program.specs.declared.program.Place.TheVariants.{Out}
+use Rattle.mutex_program.specs.Program.{place_after}
 use Rattle.mutex_machine.specs.Machine.{Lock, place_at}
 use Rattle.mutex_machine.specs.Acts.{IsMutex, starved}
 use Rattle.mutex_machine.specs.Deeds as lock
 use Rattle.mutex_machine.specs.Legal.{decision, decided_then, IsReason, IsAllowed, IsLegal}
-use Rattle.mutex_machine.specs.Roles.{listed}
+use Rattle.mutex_program.specs.Roles.{listed}
 use Rattle.mutex_machine.specs.State.{holder_of, starved_of, is_counted}
 use Rattle.mutex_machine.proofs.Promised.{begins_unrefused}
 use Rattle.mutex_machine.proofs.Seen as sees

@@ -12,14 +12,14 @@ use Rattle.lock_world.specs.Rosters.{how_many}
 use Rattle.lock_world.specs.Standings.{inputs_of}
 use Rattle.lock_table.specs.Stages.{stage_at}
 use Rattle.lock_table.specs.Tables.{Table}
-use Rattle.mutex_machine.specs.declared.program.Action.TheVariants as act
-use Rattle.mutex_machine.specs.declared.program.Found.{Found}
-use Rattle.mutex_machine.specs.declared.program.Found.TheVariants.{Free, Held, SomeStarved}
-use Rattle.mutex_machine.specs.declared.program.Place.{Place}
-use Rattle.mutex_machine.specs.declared.program.Place.TheVariants.{Enter, Try}
+use Rattle.mutex_program.specs.declared.program.Action.TheVariants as act
+use Rattle.mutex_program.specs.declared.program.Found.{Found}
+use Rattle.mutex_program.specs.declared.program.Found.TheVariants.{Free, Held, SomeStarved}
+use Rattle.mutex_program.specs.declared.program.Place.{Place}
+use Rattle.mutex_program.specs.declared.program.Place.TheVariants.{Enter, Try}
 use Rattle.mutex_machine.specs.Acts.{Finds, holders, starved}
 use Rattle.mutex_machine.specs.Machine.{Lock}
-use Rattle.mutex_machine.specs.Program.{action_of, next_of}
+use Rattle.mutex_program.specs.Program.{action_of, next_of}
 use Rattle.mutex_machine.proofs.Legal.{entered}
 use Rattle.mutex_machine.proofs.Seen as sees
 use Rattle.mutex_world.specs.Guarded.{Guarded, place_of, answer_by, is_try_kind}

@@ -12,16 +12,16 @@ use Rattle.lock_world.specs.Frame.{is_drop, put_in}
 use Rattle.lock_world.specs.Standings.{Standing, inside, is_decided}
 use Rattle.lock_world.proofs.Equations.{some_eq, not_one}
 use Rattle.lock_table.specs.Stages.{stands_as, call_at, polls_again}
-use Rattle.mutex_machine.specs.declared.program.End.{End}
-use Rattle.mutex_machine.specs.declared.program.End.TheVariants as «end»
-use Rattle.mutex_machine.specs.declared.program.LockCall.{LockCall}
-use Rattle.mutex_machine.specs.declared.program.LockCall.TheVariants as lock_call
-use Rattle.mutex_machine.specs.declared.program.Place.{Place}
-use Rattle.mutex_machine.specs.declared.program.Place.TheVariants.{Enter, Try}
+use Rattle.mutex_program.specs.declared.calls.End.{End}
+use Rattle.mutex_program.specs.declared.calls.End.TheVariants as «end»
+use Rattle.mutex_program.specs.declared.calls.LockCall.{LockCall}
+use Rattle.mutex_program.specs.declared.calls.LockCall.TheVariants as lock_call
+use Rattle.mutex_program.specs.declared.program.Place.{Place}
+use Rattle.mutex_program.specs.declared.program.Place.TheVariants.{Enter, Try}
 use Rattle.mutex_machine.specs.Legal.{decision}
 use Rattle.mutex_machine.specs.Machine.{SameRoles}
-use Rattle.mutex_machine.specs.Program.{start_of}
-use Rattle.mutex_machine.specs.Roles.{listed}
+use Rattle.mutex_program.specs.Program.{start_of}
+use Rattle.mutex_program.specs.Roles.{listed}
 use Rattle.mutex_machine.proofs.Starts.{start_same}
 use Rattle.mutex_world.specs.Guarded.{knows, goes_with, is_within, is_try_kind}
 use Rattle.mutex_world.specs.Legal.{is_try, is_first_poll}

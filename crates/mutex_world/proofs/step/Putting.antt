@@ -22,7 +22,7 @@ use Rattle.lock_table.specs.Tables.{Table}
 use Rattle.lock_table.proofs.Acting as acting
 use Rattle.lock_table.proofs.Views.{length-standings}
 use Rattle.mutex_machine.specs.Acts.{IsMutex}
-use Rattle.mutex_machine.specs.Roles.{bit, holds}
+use Rattle.mutex_program.specs.Roles.{bit, holds}
 use Rattle.mutex_machine.specs.State.{is_holder}
 use Rattle.mutex_machine.proofs.Seen as sees
 use Rattle.mutex_world.specs.Guarded.{Guarded, knows, place_of, with_value}

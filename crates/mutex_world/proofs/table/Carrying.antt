@@ -7,15 +7,15 @@ use Rattle.lock_world.specs.declared.moves.What.TheVariants.{Begin, Go}
 use Rattle.lock_world.specs.declared.standing.Rest.{Rest}
 use Rattle.lock_world.specs.Standings.{inputs_of}
 use Rattle.lock_world.proofs.Equations.{is_some_and, some_eq, witness}
-use Rattle.mutex_machine.specs.declared.program.End.{End as LockEnd}
-use Rattle.mutex_machine.specs.declared.program.LockCall.{LockCall}
-use Rattle.mutex_machine.specs.declared.program.Next.{Next}
-use Rattle.mutex_machine.specs.declared.program.Place.{Place}
+use Rattle.mutex_program.specs.declared.calls.End.{End as LockEnd}
+use Rattle.mutex_program.specs.declared.calls.LockCall.{LockCall}
+use Rattle.mutex_program.specs.declared.program.Next.{Next}
+use Rattle.mutex_program.specs.declared.program.Place.{Place}
 use Rattle.mutex_machine.specs.Acts.{Acts}
 use Rattle.mutex_machine.specs.Courses.{HeedsClock}
 use Rattle.mutex_machine.specs.Deeds.{decided_by}
 use Rattle.mutex_machine.specs.Legal.{IsLegal, decision}
-use Rattle.mutex_machine.specs.Program.{start_of}
+use Rattle.mutex_program.specs.Program.{start_of}
 use Rattle.mutex_machine.proofs.Legal.{begins_decided}
 use Rattle.mutex_world.specs.Guarded.{Guarded, Carried, place_of, place_for, start_by, lock_call_of}
 

@@ -17,15 +17,15 @@ use Rattle.lock_world.specs.Frame.{put_in}
 use Rattle.lock_world.specs.Standings.{is_stepped, may_end}
 use Rattle.lock_world.proofs.Equations.{some_eq, none_some}
 use Rattle.lock_table.specs.Stages.{call_at, polls_again, stage_after}
-use Rattle.mutex_machine.specs.declared.program.End.TheVariants as «end»
-use Rattle.mutex_machine.specs.declared.program.Found.{Found}
-use Rattle.mutex_machine.specs.declared.program.LockCall.TheVariants as lock_call
-use Rattle.mutex_machine.specs.declared.program.Next.{Next}
-use Rattle.mutex_machine.specs.declared.program.Next.TheVariants as next
-use Rattle.mutex_machine.specs.declared.program.Place.{Place}
-use Rattle.mutex_machine.specs.declared.program.Place.TheVariants.{Out, Holding, Enter, Try, Clear, CancelUncount, CancelLeave, Ask, AskStarved}
+use Rattle.mutex_program.specs.declared.calls.End.TheVariants as «end»
+use Rattle.mutex_program.specs.declared.program.Found.{Found}
+use Rattle.mutex_program.specs.declared.calls.LockCall.TheVariants as lock_call
+use Rattle.mutex_program.specs.declared.program.Next.{Next}
+use Rattle.mutex_program.specs.declared.program.Next.TheVariants as next
+use Rattle.mutex_program.specs.declared.program.Place.{Place}
+use Rattle.mutex_program.specs.declared.program.Place.TheVariants.{Out, Holding, Enter, Try, Clear, CancelUncount, CancelLeave, Ask, AskStarved}
 use Rattle.mutex_machine.specs.Courses.{is_waiting, Takes, Tries, Releases, Cancels, GoesOn}
-use Rattle.mutex_machine.specs.Program.{next_of, place_after}
+use Rattle.mutex_program.specs.Program.{next_of, place_after}
 use Rattle.mutex_machine.proofs.Courses.{begins, goes}
 use Rattle.mutex_world.specs.Guarded.{knows, goes_with, is_within, is_try_kind, place_for, answer_by}
 

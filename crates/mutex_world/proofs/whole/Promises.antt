@@ -30,14 +30,14 @@ use Rattle.lock_frame.proofs.Runs.{along, at_first, Onward}
 use Rattle.lock_table.specs.Stages.{stage_at, call_at}
 use Rattle.lock_table.specs.Tables.{Table}
 use Rattle.lock_table.proofs.Views.{outside_stage}
-use Rattle.mutex_machine.specs.declared.program.End.TheVariants as «end»
-use Rattle.mutex_machine.specs.declared.program.Next.{Next}
-use Rattle.mutex_machine.specs.declared.program.Next.TheVariants as next
-use Rattle.mutex_machine.specs.declared.program.Place.{Place}
+use Rattle.mutex_program.specs.declared.calls.End.TheVariants as «end»
+use Rattle.mutex_program.specs.declared.program.Next.{Next}
+use Rattle.mutex_program.specs.declared.program.Next.TheVariants as next
+use Rattle.mutex_program.specs.declared.program.Place.{Place}
 use Rattle.mutex_machine.specs.Acts.{starved}
 use Rattle.mutex_machine.specs.Courses.{is_waiting, is_counting, is_told, HeedsClock}
 use Rattle.mutex_machine.specs.Machine.{place_at}
-use Rattle.mutex_machine.specs.Roles.{bit, counted}
+use Rattle.mutex_program.specs.Roles.{bit, counted}
 use Rattle.mutex_machine.specs.State.{is_counted}
 use Rattle.mutex_machine.proofs.Promised.{begins_uncounted, none_counted, HandsOn, told_on, begins_told}
 use Rattle.mutex_machine.proofs.Seen as sees

@@ -3,10 +3,10 @@ use Rattle.std.proofs.Common.{◌≡◌, ◌≢◌, ℕ, zero, suc, ◌<◌, Boo
 use Rattle.std.proofs.Math.ListN.{set}
 use Rattle.lock_table.specs.declared.end.End.{End}
 use Rattle.lock_table.specs.declared.end.End.TheVariants as «end»
-use Rattle.rwlock_machine.specs.declared.program.Action.{Action}
-use Rattle.rwlock_machine.specs.declared.program.Place.{Place}
-use Rattle.rwlock_machine.specs.declared.program.Next.{Next}
-use Rattle.rwlock_machine.specs.declared.program.Next.TheVariants as next
+use Rattle.rwlock_program.specs.declared.program.Action.{Action}
+use Rattle.rwlock_program.specs.declared.program.Place.{Place}
+use Rattle.rwlock_program.specs.declared.program.Next.{Next}
+use Rattle.rwlock_program.specs.declared.program.Next.TheVariants as next
 use Rattle.lock_world.specs.declared.moves.Answer.{Answer}
 use Rattle.lock_world.specs.declared.moves.Answer.TheVariants as answer
 use Rattle.lock_world.specs.declared.moves.Call.TheVariants as call
@@ -25,11 +25,11 @@ use Rattle.lock_world.specs.Whole.{going_on, moves_of, answers_of}
 use Rattle.lock_world.proofs.Equations.{some_eq, is_some_and}
 use Rattle.lock_table.specs.Stages.{stage_at, stage_after, call_at, polls_again}
 use Rattle.lock_table.specs.Tables.{Table}
-use Rattle.rwlock_machine.specs.Program.{start_of}
+use Rattle.rwlock_program.specs.Program.{start_of}
 use Rattle.rwlock_machine.specs.Machine.{place_at}
 use Rattle.rwlock_machine.specs.Acts.{Acts}
 use Rattle.rwlock_machine.specs.Solo.{GoesOnAlone, last, step, PollsAlone, at_once, begun, BeginsPoll}
-use Rattle.rwlock_machine.specs.Calls.{knows_at}
+use Rattle.rwlock_program.specs.Calls.{knows_at}
 use Rattle.rwlock_world.specs.Guarded.{Guarded, answer_by}
 use Rattle.rwlock_world.specs.Stages.{Course, upgrades, course_of, is_on_course}
 use Rattle.rwlock_world.specs.State.{World}

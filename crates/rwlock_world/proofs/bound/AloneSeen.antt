@@ -22,9 +22,9 @@ use Rattle.mutex_machine.proofs.Callers.{out_unlisted, holding_unlisted, gave_wa
 use Rattle.mutex_machine.proofs.Holders as sees
 use Rattle.lock_table.specs.declared.end.End.{End}
 use Rattle.lock_table.specs.declared.end.End.TheVariants as «end»
-use Rattle.rwlock_machine.specs.declared.program.Next.TheVariants as next
-use Rattle.rwlock_machine.specs.declared.program.Place.{Place}
-use Rattle.rwlock_machine.specs.declared.program.Place.TheVariants as place
+use Rattle.rwlock_program.specs.declared.program.Next.TheVariants as next
+use Rattle.rwlock_program.specs.declared.program.Place.{Place}
+use Rattle.rwlock_program.specs.declared.program.Place.TheVariants as place
 use Rattle.rwlock_machine.specs.Roles.{has_turn, in_no_writer, in_no_readers, fits_turn}
 use Rattle.rwlock_machine.specs.Machine.{place_at}
 use Rattle.rwlock_machine.specs.Acts.{IsRwLock, readers}

@@ -20,28 +20,28 @@ use Rattle.lock_world.specs.Rights.{Right, read, upgradable, write}
 use Rattle.lock_world.specs.Frame.{put_in}
 use Rattle.lock_world.specs.Standings.{Standing, outside, inside}
 use Rattle.mutex_machine.specs.Course.{Course as TurnCourse, is_out, holds}
-use Rattle.mutex_machine.specs.declared.program.LockCall.TheVariants as turn_call
-use Rattle.mutex_machine.specs.declared.mutex.Step.TheVariants as turn_step
-use Rattle.mutex_machine.specs.declared.program.End.TheVariants as turn_end
+use Rattle.mutex_program.specs.declared.calls.LockCall.TheVariants as turn_call
+use Rattle.mutex_program.specs.declared.calls.Step.TheVariants as turn_step
+use Rattle.mutex_program.specs.declared.calls.End.TheVariants as turn_end
 use Rattle.mutex_machine.specs.Mutex.{Mutex, course_at as turn_at, holder_of, holders, starved}
 use Rattle.mutex_machine.proofs.Callers.{out_free}
 use Rattle.mutex_machine.proofs.Holders as sees
-use Rattle.rwlock_machine.specs.declared.program.Purpose.{Purpose}
-use Rattle.rwlock_machine.specs.Turns.{OnTurn}
+use Rattle.rwlock_program.specs.declared.program.Purpose.{Purpose}
+use Rattle.rwlock_program.specs.Turns.{OnTurn}
 use Rattle.rwlock_machine.proofs.Leads.{Led}
-use Rattle.rwlock_machine.specs.declared.program.Found.{Found}
-use Rattle.rwlock_machine.specs.declared.program.Found.TheVariants as found
-use Rattle.rwlock_machine.specs.declared.program.Action.TheVariants as act
-use Rattle.rwlock_machine.specs.declared.program.Wanted.TheVariants as wanted
-use Rattle.rwlock_machine.specs.declared.program.Purpose.TheVariants as purpose
-use Rattle.rwlock_machine.specs.declared.program.Place.{Place}
-use Rattle.rwlock_machine.specs.declared.program.Place.TheVariants as place
-use Rattle.rwlock_machine.specs.Program.{next_of, place_after, first_poll}
+use Rattle.rwlock_program.specs.declared.program.Found.{Found}
+use Rattle.rwlock_program.specs.declared.program.Found.TheVariants as found
+use Rattle.rwlock_program.specs.declared.program.Action.TheVariants as act
+use Rattle.rwlock_program.specs.declared.program.Wanted.TheVariants as wanted
+use Rattle.rwlock_program.specs.declared.program.Purpose.TheVariants as purpose
+use Rattle.rwlock_program.specs.declared.program.Place.{Place}
+use Rattle.rwlock_program.specs.declared.program.Place.TheVariants as place
+use Rattle.rwlock_program.specs.Program.{next_of, place_after, first_poll}
 use Rattle.rwlock_machine.specs.Roles.{in_no_writer, in_no_readers}
 use Rattle.rwlock_machine.specs.Machine.{RwLock}
 use Rattle.rwlock_machine.specs.Acts.{Finds, readers, marked}
 use Rattle.rwlock_world.specs.Legal.{is_first_poll, is_try_for_turn}
-use Rattle.rwlock_machine.specs.Calls.{knows_at}
+use Rattle.rwlock_program.specs.Calls.{knows_at}
 use Rattle.rwlock_world.specs.Guarded.{answer_by}
 use Rattle.rwlock_world.specs.Stages.{right_for, sought_at, Course, tries, course_of, is_on_course, is_inside, goes_with}
 use Rattle.rwlock_world.specs.View.{is_reading, is_upgrade, verdict, standing_at}

@@ -12,11 +12,11 @@ use Rattle.lock_world.specs.Standings.{outside, inside}
 use Rattle.lock_table.specs.declared.end.End.{End}
 use Rattle.lock_table.specs.declared.end.End.TheVariants.{Got, Granted, Pending, NotFree, GivenBack, Refused}
 use Rattle.mutex_machine.specs.Course.{Course as TurnCourse}
-use Rattle.rwlock_machine.specs.declared.program.Next.{Next}
-use Rattle.rwlock_machine.specs.declared.program.Next.TheVariants as next
-use Rattle.rwlock_machine.specs.declared.program.Place.{Place}
-use Rattle.rwlock_machine.specs.declared.program.Place.TheVariants.{LookUnlisted}
-use Rattle.rwlock_machine.specs.Program.{place_after}
+use Rattle.rwlock_program.specs.declared.program.Next.{Next}
+use Rattle.rwlock_program.specs.declared.program.Next.TheVariants as next
+use Rattle.rwlock_program.specs.declared.program.Place.{Place}
+use Rattle.rwlock_program.specs.declared.program.Place.TheVariants.{LookUnlisted}
+use Rattle.rwlock_program.specs.Program.{place_after}
 use Rattle.rwlock_world.specs.Guarded.{answer_by}
 use Rattle.rwlock_world.specs.Stages.{Course, polls, tries, drops, downgrades, upgrades, tries_upgrade, course_of, is_on_course}
 use Rattle.rwlock_world.specs.View.{is_upgrade, verdict, standing_at}

@@ -21,14 +21,14 @@ use Rattle.lock_world.specs.Steps.{Deed, nothing, changes, does}
 use Rattle.mutex_machine.specs.Course.{is_out as is_out_there, is_holding, listed}
 use Rattle.mutex_machine.specs.Mutex.{course_at as turn_at, holder_of, starved_of}
 use Rattle.mutex_machine.proofs.Callers.{out_unlisted, holding_unlisted}
-use Rattle.rwlock_machine.specs.declared.program.Found.{Found}
-use Rattle.rwlock_machine.specs.declared.program.Found.TheVariants.{No}
-use Rattle.rwlock_machine.specs.declared.program.Next.{Next}
-use Rattle.rwlock_machine.specs.declared.program.Place.{Place}
-use Rattle.rwlock_machine.specs.declared.program.Place.TheVariants as place
-use Rattle.rwlock_machine.specs.Program.{action_of, next_of, place_after}
+use Rattle.rwlock_program.specs.declared.program.Found.{Found}
+use Rattle.rwlock_program.specs.declared.program.Found.TheVariants.{No}
+use Rattle.rwlock_program.specs.declared.program.Next.{Next}
+use Rattle.rwlock_program.specs.declared.program.Place.{Place}
+use Rattle.rwlock_program.specs.declared.program.Place.TheVariants as place
+use Rattle.rwlock_program.specs.Program.{action_of, next_of, place_after}
 use Rattle.rwlock_machine.specs.Roles.{has_turn, in_no_writer, in_no_readers, fits_turn}
-use Rattle.rwlock_machine.specs.Parties.{OnNoWriter, OnNoReaders}
+use Rattle.rwlock_program.specs.Parties.{OnNoWriter, OnNoReaders}
 use Rattle.rwlock_machine.specs.Machine.{RwLock, SameRoles, place_at}
 use Rattle.rwlock_machine.specs.Acts.{IsRwLock, Finds}
 use Rattle.rwlock_machine.proofs.Leads.{steps_in_turn}

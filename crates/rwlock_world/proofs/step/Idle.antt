@@ -30,8 +30,8 @@ use Rattle.lock_table.proofs.Idle.{Idle, same_decides}
 use Rattle.lock_table.proofs.Views.{length-standings}
 use Rattle.mutex_machine.specs.Course.{Course as TurnCourse}
 use Rattle.mutex_machine.specs.Mutex.{course_at as turn_at}
-use Rattle.rwlock_machine.specs.declared.program.Place.{Place}
-use Rattle.rwlock_machine.specs.declared.program.Place.TheVariants as place
+use Rattle.rwlock_program.specs.declared.program.Place.{Place}
+use Rattle.rwlock_program.specs.declared.program.Place.TheVariants as place
 use Rattle.rwlock_machine.specs.Roles as roles
 use Rattle.rwlock_machine.specs.Roles.{reads, has_turn}
 use Rattle.rwlock_machine.specs.Machine.{place_at}

@@ -25,16 +25,16 @@ use Rattle.mutex_machine.specs.Course.{Course as TurnCourse, listed}
 use Rattle.mutex_machine.specs.Mutex.{course_at as turn_at, holder_of, holders, starved}
 use Rattle.mutex_machine.proofs.Callers.{waiting_listed}
 use Rattle.mutex_machine.proofs.Holders as sees
-use Rattle.rwlock_machine.specs.declared.program.Found.{Found}
-use Rattle.rwlock_machine.specs.declared.program.Place.{Place}
-use Rattle.rwlock_machine.specs.declared.program.Place.TheVariants as place
-use Rattle.rwlock_machine.specs.declared.program.Purpose.{Purpose}
-use Rattle.rwlock_machine.specs.declared.program.Purpose.TheVariants as purpose
-use Rattle.rwlock_machine.specs.Program.{action_of, next_of, place_after}
+use Rattle.rwlock_program.specs.declared.program.Found.{Found}
+use Rattle.rwlock_program.specs.declared.program.Place.{Place}
+use Rattle.rwlock_program.specs.declared.program.Place.TheVariants as place
+use Rattle.rwlock_program.specs.declared.program.Purpose.{Purpose}
+use Rattle.rwlock_program.specs.declared.program.Purpose.TheVariants as purpose
+use Rattle.rwlock_program.specs.Program.{action_of, next_of, place_after}
 use Rattle.rwlock_machine.specs.Roles.{only_turns, fits_turn}
 use Rattle.rwlock_machine.specs.Machine.{SameRoles, place_at}
 use Rattle.rwlock_machine.specs.Acts.{Finds, readers, marked}
-use Rattle.rwlock_machine.specs.Turns.{OnTurn}
+use Rattle.rwlock_program.specs.Turns.{OnTurn}
 use Rattle.rwlock_machine.proofs.Leads.{Led, led, steps_in_turn}
 use Rattle.rwlock_machine.proofs.Places.{share as share_in}
 use Rattle.rwlock_world.specs.State as state

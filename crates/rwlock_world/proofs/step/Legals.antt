@@ -24,12 +24,12 @@ use Rattle.lock_world.proofs.Equations.{some_eq, chosen, same_test}
 use Rattle.mutex_machine.specs.Course.{Course as TurnCourse}
 use Rattle.mutex_machine.specs.Mutex.{course_at as turn_at}
 use Rattle.mutex_machine.proofs.Callers.{out_free, waiting_free}
-use Rattle.rwlock_machine.specs.declared.program.Next.{Next}
-use Rattle.rwlock_machine.specs.declared.program.Next.TheVariants as next
-use Rattle.rwlock_machine.specs.declared.program.Place.{Place}
-use Rattle.rwlock_machine.specs.declared.program.Place.TheVariants as place
-use Rattle.rwlock_machine.specs.declared.program.Purpose.TheVariants as purpose
-use Rattle.rwlock_machine.specs.Program.{place_after}
+use Rattle.rwlock_program.specs.declared.program.Next.{Next}
+use Rattle.rwlock_program.specs.declared.program.Next.TheVariants as next
+use Rattle.rwlock_program.specs.declared.program.Place.{Place}
+use Rattle.rwlock_program.specs.declared.program.Place.TheVariants as place
+use Rattle.rwlock_program.specs.declared.program.Purpose.TheVariants as purpose
+use Rattle.rwlock_program.specs.Program.{place_after}
 use Rattle.rwlock_machine.specs.Roles.{fits_turn}
 use Rattle.rwlock_machine.specs.Machine.{RwLock, place_at}
 use Rattle.rwlock_machine.specs.Acts.{IsRwLock}

@@ -13,16 +13,16 @@ use Rattle.lock_world.specs.declared.standing.Stage.TheVariants.{Outside, Inside
 use Rattle.lock_world.specs.declared.standing.Within.{Within}
 use Rattle.lock_world.specs.Rights.{Right, read, upgradable, write}
 use Rattle.lock_world.specs.Standings.{inside}
-use Rattle.mutex_machine.specs.declared.program.End.{End as TurnEnd}
-use Rattle.mutex_machine.specs.declared.program.End.TheVariants as turn_end
+use Rattle.mutex_program.specs.declared.calls.End.{End as TurnEnd}
+use Rattle.mutex_program.specs.declared.calls.End.TheVariants as turn_end
 use Rattle.mutex_machine.specs.Course.{Course as TurnCourse, decision, is_out, is_holding, holds, listed}
 use Rattle.mutex_machine.specs.Mutex.{course_at as turn_at, is_holder, is_counted, holder_of}
 use Rattle.mutex_machine.proofs.Callers.{out_unlisted, holding_unlisted, out_free, out_unstarved, holding_unstarved, waiting_free}
 use Rattle.mutex_machine.proofs.Holders as sees
-use Rattle.rwlock_machine.specs.declared.program.Ending.{Ending}
-use Rattle.rwlock_machine.specs.declared.program.Ending.TheVariants as ending
-use Rattle.rwlock_machine.specs.declared.program.Place.{Place}
-use Rattle.rwlock_machine.specs.declared.program.Place.TheVariants as place
+use Rattle.rwlock_program.specs.declared.program.Ending.{Ending}
+use Rattle.rwlock_program.specs.declared.program.Ending.TheVariants as ending
+use Rattle.rwlock_program.specs.declared.program.Place.{Place}
+use Rattle.rwlock_program.specs.declared.program.Place.TheVariants as place
 use Rattle.rwlock_machine.specs.Roles.{has_turn, in_no_writer, in_no_readers, fits_turn}
 use Rattle.rwlock_machine.specs.Machine.{RwLock, place_at}
 use Rattle.rwlock_machine.specs.Acts.{IsRwLock}

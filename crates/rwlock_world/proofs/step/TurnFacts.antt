@@ -12,28 +12,28 @@ use Rattle.lock_world.specs.declared.standing.Stage.{Stage}
 use Rattle.lock_world.specs.Standings.{inputs_of, refused}
 use Rattle.lock_world.specs.Steps.{Deed, changes, does, joins}
 use Rattle.mutex_machine.specs.Course.{Course as TurnCourse, is_out, Takes, Tries, Releases, Cancels, holds, decision}
-use Rattle.mutex_machine.specs.declared.program.LockCall.{LockCall}
-use Rattle.mutex_machine.specs.declared.program.LockCall.TheVariants as turn_call
-use Rattle.mutex_machine.specs.declared.mutex.Step.{Step as TurnStep}
-use Rattle.mutex_machine.specs.declared.mutex.Step.TheVariants as turn_step
-use Rattle.mutex_machine.specs.declared.program.End.{End as TurnEnd}
-use Rattle.mutex_machine.specs.declared.program.End.TheVariants as turn_end
+use Rattle.mutex_program.specs.declared.calls.LockCall.{LockCall}
+use Rattle.mutex_program.specs.declared.calls.LockCall.TheVariants as turn_call
+use Rattle.mutex_program.specs.declared.calls.Step.{Step as TurnStep}
+use Rattle.mutex_program.specs.declared.calls.Step.TheVariants as turn_step
+use Rattle.mutex_program.specs.declared.calls.End.{End as TurnEnd}
+use Rattle.mutex_program.specs.declared.calls.End.TheVariants as turn_end
 use Rattle.mutex_machine.specs.Mutex.{course_at as turn_at, holder_of}
 use Rattle.mutex_machine.specs.Deeds as mutex
 use Rattle.mutex_machine.specs.Conduct.{decided_then, IsReason}
 use Rattle.mutex_machine.specs.Deeds.{decided_by}
 use Rattle.mutex_machine.proofs.Callers.{out_free, releasing_free, releasing_decided, cancelling_decided, IsPolls, taking_decided, holding_holds}
 use Rattle.mutex_machine.proofs.Holders as sees
-use Rattle.rwlock_machine.specs.declared.program.Found.{Found}
-use Rattle.rwlock_machine.specs.declared.program.Found.TheVariants.{Turn}
-use Rattle.rwlock_machine.specs.declared.program.Ending.TheVariants as ending
-use Rattle.rwlock_machine.specs.declared.program.Purpose.{Purpose}
-use Rattle.rwlock_machine.specs.declared.program.Purpose.TheVariants as purpose
-use Rattle.rwlock_machine.specs.declared.program.Place.{Place}
-use Rattle.rwlock_machine.specs.declared.program.Place.TheVariants as place
-use Rattle.rwlock_machine.specs.Program.{action_of, next_of, place_after, after_lock, after_turn}
+use Rattle.rwlock_program.specs.declared.program.Found.{Found}
+use Rattle.rwlock_program.specs.declared.program.Found.TheVariants.{Turn}
+use Rattle.rwlock_program.specs.declared.program.Ending.TheVariants as ending
+use Rattle.rwlock_program.specs.declared.program.Purpose.{Purpose}
+use Rattle.rwlock_program.specs.declared.program.Purpose.TheVariants as purpose
+use Rattle.rwlock_program.specs.declared.program.Place.{Place}
+use Rattle.rwlock_program.specs.declared.program.Place.TheVariants as place
+use Rattle.rwlock_program.specs.Program.{action_of, next_of, place_after, after_lock, after_turn}
 use Rattle.rwlock_machine.specs.Roles.{in_no_writer, in_no_readers, fits_turn}
-use Rattle.rwlock_machine.specs.Turns.{OnTurn, TurnBegins, TurnGoesOn}
+use Rattle.rwlock_program.specs.Turns.{OnTurn, TurnBegins, TurnGoesOn}
 use Rattle.rwlock_machine.specs.Machine.{RwLock}
 use Rattle.rwlock_machine.specs.Acts.{IsRwLock}
 use Rattle.rwlock_machine.proofs.Leads.{Led, Ends, steps_in_turn}

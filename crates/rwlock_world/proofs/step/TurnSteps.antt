@@ -11,18 +11,18 @@ use Rattle.lock_world.specs.Standings.{inputs_of}
 use Rattle.lock_world.specs.Steps.{Deed, ListFunction, nothing, changes, does, joins}
 use Rattle.lock_world.proofs.Equations.{none_some}
 use Rattle.mutex_machine.specs.Course.{Course as TurnCourse, holds, counted, decision}
-use Rattle.mutex_machine.specs.declared.mutex.Step.{Step as TurnStep}
-use Rattle.mutex_machine.specs.declared.program.End.{End as TurnEnd}
+use Rattle.mutex_program.specs.declared.calls.Step.{Step as TurnStep}
+use Rattle.mutex_program.specs.declared.calls.End.{End as TurnEnd}
 use Rattle.mutex_machine.specs.Course as turn_roles
 use Rattle.mutex_machine.specs.Mutex.{Mutex, course_at as turn_at, is_holder, is_counted, holder_of, starved_of, TakenFairly}
 use Rattle.mutex_machine.specs.Deeds as mutex
 use Rattle.mutex_machine.specs.Conduct.{IsLegal}
 use Rattle.mutex_machine.specs.Deeds.{decided_by}
 use Rattle.mutex_machine.proofs.Holders as sees
-use Rattle.rwlock_machine.specs.declared.program.Found.{Found}
-use Rattle.rwlock_machine.specs.declared.program.Place.{Place}
-use Rattle.rwlock_machine.specs.declared.program.Place.TheVariants as place
-use Rattle.rwlock_machine.specs.Program.{next_of, place_after}
+use Rattle.rwlock_program.specs.declared.program.Found.{Found}
+use Rattle.rwlock_program.specs.declared.program.Place.{Place}
+use Rattle.rwlock_program.specs.declared.program.Place.TheVariants as place
+use Rattle.rwlock_program.specs.Program.{next_of, place_after}
 use Rattle.rwlock_machine.specs.Machine.{RwLock, place_at}
 use Rattle.rwlock_machine.specs.Acts.{IsRwLock}
 use Rattle.rwlock_world.specs.Changes.{Change, takes_turn, leaves_turn, starves, recovers, turn_after, readers_after, starved_after, value_after, IsAllowed, gives_back, gives_up, entries_after}

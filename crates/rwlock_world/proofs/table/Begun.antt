@@ -17,14 +17,14 @@ use Rattle.lock_world.specs.Frame.{put_in}
 use Rattle.lock_world.specs.Standings.{kind_of, may_begin}
 use Rattle.lock_world.proofs.Equations.{some_eq, none_some, some_none}
 use Rattle.lock_table.specs.Stages.{call_at, polls_again}
-use Rattle.rwlock_machine.specs.declared.program.Wanted.{Wanted}
-use Rattle.rwlock_machine.specs.declared.program.Purpose.{Purpose}
-use Rattle.rwlock_machine.specs.declared.program.Purpose.TheVariants as purpose
-use Rattle.rwlock_machine.specs.declared.program.Ending.TheVariants as ending
-use Rattle.rwlock_machine.specs.declared.program.Place.{Place}
-use Rattle.rwlock_machine.specs.declared.program.Place.TheVariants as place
-use Rattle.rwlock_machine.specs.Program.{first_poll}
-use Rattle.rwlock_machine.specs.Calls.{knows_at, may_upgrade, may_downgrade, may_put}
+use Rattle.rwlock_program.specs.declared.program.Wanted.{Wanted}
+use Rattle.rwlock_program.specs.declared.program.Purpose.{Purpose}
+use Rattle.rwlock_program.specs.declared.program.Purpose.TheVariants as purpose
+use Rattle.rwlock_program.specs.declared.program.Ending.TheVariants as ending
+use Rattle.rwlock_program.specs.declared.program.Place.{Place}
+use Rattle.rwlock_program.specs.declared.program.Place.TheVariants as place
+use Rattle.rwlock_program.specs.Program.{first_poll}
+use Rattle.rwlock_program.specs.Calls.{knows_at, may_upgrade, may_downgrade, may_put}
 use Rattle.rwlock_world.specs.Guarded.{place_for}
 use Rattle.rwlock_world.specs.Stages.{sought_at, is_out, is_future, is_guard, is_inside, is_on_course, course_of, goes_with}
 use Rattle.rwlock_world.specs.Legal.{knows}

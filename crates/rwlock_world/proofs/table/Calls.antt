@@ -22,17 +22,17 @@ use Rattle.lock_world.proofs.Equations.{some_eq}
 use Rattle.lock_table.specs.declared.end.End.TheVariants.{NotFree}
 use Rattle.lock_table.specs.Stages.{call_at, polls_again}
 use Rattle.mutex_machine.specs.Course.{Course as TurnCourse}
-use Rattle.rwlock_machine.specs.declared.program.Wanted.TheVariants as wanted
-use Rattle.rwlock_machine.specs.declared.program.Purpose.TheVariants as purpose
-use Rattle.rwlock_machine.specs.declared.program.Ending.TheVariants as ending
-use Rattle.rwlock_machine.specs.declared.program.Next.{Next}
-use Rattle.rwlock_machine.specs.declared.program.Next.TheVariants as next
-use Rattle.rwlock_machine.specs.declared.program.Place.{Place}
-use Rattle.rwlock_machine.specs.declared.program.Place.TheVariants as place
-use Rattle.rwlock_machine.specs.Program.{place_after, first_poll}
+use Rattle.rwlock_program.specs.declared.program.Wanted.TheVariants as wanted
+use Rattle.rwlock_program.specs.declared.program.Purpose.TheVariants as purpose
+use Rattle.rwlock_program.specs.declared.program.Ending.TheVariants as ending
+use Rattle.rwlock_program.specs.declared.program.Next.{Next}
+use Rattle.rwlock_program.specs.declared.program.Next.TheVariants as next
+use Rattle.rwlock_program.specs.declared.program.Place.{Place}
+use Rattle.rwlock_program.specs.declared.program.Place.TheVariants as place
+use Rattle.rwlock_program.specs.Program.{place_after, first_poll}
 use Rattle.rwlock_machine.specs.Machine.{SameRoles}
 use Rattle.rwlock_machine.proofs.Starts.{start_same}
-use Rattle.rwlock_machine.specs.Calls.{knows_at}
+use Rattle.rwlock_program.specs.Calls.{knows_at}
 use Rattle.rwlock_world.specs.Guarded.{answer_by}
 use Rattle.rwlock_world.specs.Stages.{sought_at, Course, tries_upgrade, course_of, is_on_course, is_inside, goes_with}
 use Rattle.rwlock_world.specs.View.{share_of, is_upgrade, verdict, standing_at}

@@ -18,15 +18,15 @@ use Rattle.lock_world.proofs.Equations.{some_eq, none_some, witness}
 use Rattle.lock_table.specs.Stages.{call_at, stage_after}
 use Rattle.lock_table.specs.Tables.{Keeps as KeepsStanding, Called}
 use Rattle.mutex_machine.specs.Mutex.{course_at as turn_at}
-use Rattle.rwlock_machine.specs.declared.program.Next.{Next}
-use Rattle.rwlock_machine.specs.declared.program.Place.{Place}
-use Rattle.rwlock_machine.specs.declared.program.Place.TheVariants as place
-use Rattle.rwlock_machine.specs.Program.{place_after}
+use Rattle.rwlock_program.specs.declared.program.Next.{Next}
+use Rattle.rwlock_program.specs.declared.program.Place.{Place}
+use Rattle.rwlock_program.specs.declared.program.Place.TheVariants as place
+use Rattle.rwlock_program.specs.Program.{place_after}
 use Rattle.rwlock_machine.specs.Roles.{fits_turn}
 use Rattle.rwlock_machine.specs.Machine.{RwLock, place_at}
 use Rattle.rwlock_machine.specs.Acts.{Acts, IsRwLock}
 use Rattle.rwlock_machine.proofs.Leads.{led}
-use Rattle.rwlock_machine.specs.Calls.{knows_at, may_put}
+use Rattle.rwlock_program.specs.Calls.{knows_at, may_put}
 use Rattle.rwlock_world.specs.Guarded.{Guarded, parties, place_of, knows, Stands, answer_by, place_for, Acted, Does, Moves as MovesThere}
 use Rattle.rwlock_world.specs.Stages.{course_of, is_on_course}
 use Rattle.rwlock_world.proofs.table.Begun.{within}

@@ -12,10 +12,10 @@ use Rattle.lock_world.specs.Standings.{may_end, is_stepped, is_possible}
 use Rattle.lock_table.specs.declared.end.End.{End}
 use Rattle.lock_table.specs.declared.end.End.TheVariants.{Got, Granted, Pending, NotFree, GivenBack, Refused}
 use Rattle.lock_table.specs.Stages.{stage_after}
-use Rattle.rwlock_machine.specs.declared.program.Next.{Next}
-use Rattle.rwlock_machine.specs.declared.program.Next.TheVariants as next
-use Rattle.rwlock_machine.specs.declared.program.Place.{Place}
-use Rattle.rwlock_machine.specs.Program.{place_after}
+use Rattle.rwlock_program.specs.declared.program.Next.{Next}
+use Rattle.rwlock_program.specs.declared.program.Next.TheVariants as next
+use Rattle.rwlock_program.specs.declared.program.Place.{Place}
+use Rattle.rwlock_program.specs.Program.{place_after}
 use Rattle.rwlock_world.specs.Guarded.{answer_by}
 use Rattle.rwlock_world.specs.Stages.{Course, polls, tries, drops, downgrades, upgrades, tries_upgrade, strays, course_of, is_on_course, is_future, goes_with}
 use Rattle.rwlock_world.proofs.table.Begun.{within}

@@ -16,22 +16,22 @@ use Rattle.lock_world.specs.Rights.{upgradable, write}
 use Rattle.lock_world.specs.Whole.{going_on, moves_of, answers_of}
 use Rattle.lock_frame.specs.Steps.{beginning}
 use Rattle.lock_frame.proofs.Runs.{along, Onward}
-use Rattle.mutex_machine.specs.declared.program.LockCall.TheVariants as turn_call
+use Rattle.mutex_program.specs.declared.calls.LockCall.TheVariants as turn_call
 use Rattle.mutex_machine.specs.Mutex.{Mutex, holder_of, holders, starved}
 use Rattle.mutex_machine.proofs.Holders as sees
-use Rattle.rwlock_machine.specs.declared.program.Action.TheVariants as act
+use Rattle.rwlock_program.specs.declared.program.Action.TheVariants as act
 use Rattle.lock_table.specs.declared.end.End.TheVariants.{Got}
-use Rattle.rwlock_machine.specs.declared.program.Found.{Found}
-use Rattle.rwlock_machine.specs.declared.program.Found.TheVariants.{Done, Full, NoneLeft, SomeLeft, Turn}
-use Rattle.rwlock_machine.specs.declared.program.Place.{Place}
-use Rattle.rwlock_machine.specs.declared.program.Place.TheVariants as place
-use Rattle.rwlock_machine.specs.declared.program.Purpose.{Purpose}
-use Rattle.rwlock_machine.specs.declared.program.Purpose.TheVariants as purpose
+use Rattle.rwlock_program.specs.declared.program.Found.{Found}
+use Rattle.rwlock_program.specs.declared.program.Found.TheVariants.{Done, Full, NoneLeft, SomeLeft, Turn}
+use Rattle.rwlock_program.specs.declared.program.Place.{Place}
+use Rattle.rwlock_program.specs.declared.program.Place.TheVariants as place
+use Rattle.rwlock_program.specs.declared.program.Purpose.{Purpose}
+use Rattle.rwlock_program.specs.declared.program.Purpose.TheVariants as purpose
 use Rattle.rwlock_machine.specs.Acts.{Finds, readers}
 use Rattle.rwlock_machine.specs.Machine.{RwLock, place_at}
-use Rattle.rwlock_machine.specs.Program.{action_of, next_of, place_after, with_turn, go_to, ends}
+use Rattle.rwlock_program.specs.Program.{action_of, next_of, place_after, with_turn, go_to, ends}
 use Rattle.rwlock_machine.specs.Roles.{reads}
-use Rattle.rwlock_machine.specs.Turns.{OnTurn}
+use Rattle.rwlock_program.specs.Turns.{OnTurn}
 use Rattle.rwlock_world.specs.Legal.{is_first}
 use Rattle.lock_table.specs.Stages.{stage_at, stage_after, call_at, polls_again}
 use Rattle.lock_world.specs.declared.standing.Rest.TheVariants.{Holding}
@@ -40,7 +40,7 @@ use Rattle.rwlock_world.specs.Runs.{Runs, HoldsWell}
 use Rattle.rwlock_world.specs.State as state
 use Rattle.rwlock_world.specs.State.{World, is_turn_free, is_upgrader, how_many_read}
 use Rattle.rwlock_world.specs.Steps.{Stands, Steps as Moved}
-use Rattle.rwlock_machine.specs.Calls.{knows_at}
+use Rattle.rwlock_program.specs.Calls.{knows_at}
 use Rattle.rwlock_world.specs.Guarded.{answer_by}
 use Rattle.rwlock_world.specs.View.{view_of}
 use Rattle.rwlock_world.proofs.step.Acting.{Acting, Way, impossible, over, puts, acts, way, acting}

@@ -28,31 +28,31 @@ use Rattle.lock_table.specs.declared.end.End.TheVariants.{Got, Granted, Pending,
 use Rattle.lock_table.specs.Stages.{call_at, polls_again}
 use Rattle.lock_world.proofs.Lists.{others, notified_marked}
 use Rattle.mutex_machine.specs.Course.{Course as TurnCourse, is_waiting, is_told, listed}
-use Rattle.mutex_machine.specs.declared.mutex.Step.{Step as TurnStep}
-use Rattle.mutex_machine.specs.declared.mutex.Step.TheVariants as turn_step
-use Rattle.mutex_machine.specs.declared.program.End.TheVariants as turn_end
+use Rattle.mutex_program.specs.declared.calls.Step.{Step as TurnStep}
+use Rattle.mutex_program.specs.declared.calls.Step.TheVariants as turn_step
+use Rattle.mutex_program.specs.declared.calls.End.TheVariants as turn_end
 use Rattle.mutex_machine.specs.Conduct.{HandsOn}
 use Rattle.mutex_machine.specs.Mutex.{Mutex, course_at as turn_at}
 use Rattle.mutex_machine.proofs.Callers.{out_unlisted, holding_unlisted}
 use Rattle.mutex_machine.proofs.Released.{release_goes, released_marks}
-use Rattle.rwlock_machine.specs.declared.program.Action.{Action}
-use Rattle.rwlock_machine.specs.declared.program.Action.TheVariants as act
-use Rattle.rwlock_machine.specs.declared.program.Found.{Found}
-use Rattle.rwlock_machine.specs.declared.program.Found.TheVariants.{Done, Writer, NoneLeft, Yes, Turn}
-use Rattle.rwlock_machine.specs.declared.program.Ending.TheVariants as ending
-use Rattle.rwlock_machine.specs.declared.program.Next.{Next}
-use Rattle.rwlock_machine.specs.declared.program.Next.TheVariants as next
-use Rattle.rwlock_machine.specs.declared.program.Place.{Place}
-use Rattle.rwlock_machine.specs.declared.program.Place.TheVariants as place
-use Rattle.rwlock_machine.specs.declared.program.Purpose.{Purpose}
-use Rattle.rwlock_machine.specs.declared.program.Purpose.TheVariants as purpose
-use Rattle.rwlock_machine.specs.Program.{start_of, action_of, next_of, place_after, after_lock}
+use Rattle.rwlock_program.specs.declared.program.Action.{Action}
+use Rattle.rwlock_program.specs.declared.program.Action.TheVariants as act
+use Rattle.rwlock_program.specs.declared.program.Found.{Found}
+use Rattle.rwlock_program.specs.declared.program.Found.TheVariants.{Done, Writer, NoneLeft, Yes, Turn}
+use Rattle.rwlock_program.specs.declared.program.Ending.TheVariants as ending
+use Rattle.rwlock_program.specs.declared.program.Next.{Next}
+use Rattle.rwlock_program.specs.declared.program.Next.TheVariants as next
+use Rattle.rwlock_program.specs.declared.program.Place.{Place}
+use Rattle.rwlock_program.specs.declared.program.Place.TheVariants as place
+use Rattle.rwlock_program.specs.declared.program.Purpose.{Purpose}
+use Rattle.rwlock_program.specs.declared.program.Purpose.TheVariants as purpose
+use Rattle.rwlock_program.specs.Program.{start_of, action_of, next_of, place_after, after_lock}
 use Rattle.rwlock_machine.specs.Roles.{in_no_writer, in_no_readers, has_turn, fits_turn}
-use Rattle.rwlock_machine.specs.Parties.{OnNoWriter}
-use Rattle.rwlock_machine.specs.Turns.{OnTurn}
+use Rattle.rwlock_program.specs.Parties.{OnNoWriter}
+use Rattle.rwlock_program.specs.Turns.{OnTurn}
 use Rattle.rwlock_machine.specs.Machine.{place_at}
 use Rattle.rwlock_world.specs.Changes.{Change, entries_after}
-use Rattle.rwlock_machine.specs.Calls.{knows_at}
+use Rattle.rwlock_program.specs.Calls.{knows_at}
 use Rattle.rwlock_world.specs.Guarded.{answer_by}
 use Rattle.rwlock_world.specs.Runs.{Runs, HoldsWell}
 use Rattle.rwlock_world.specs.Stages.{is_future}

@@ -22,15 +22,15 @@ use Rattle.mutex_machine.specs.Course.{Course as TurnCourse, is_counting, bit, c
 use Rattle.mutex_machine.specs.Mutex.{starved, Mutex, course_at as turn_at, is_counted}
 use Rattle.mutex_machine.proofs.Callers.{out_uncounted, holding_uncounted, waiting_uncounted}
 use Rattle.mutex_machine.proofs.Holders as sees
-use Rattle.rwlock_machine.specs.declared.program.Action.{Action}
-use Rattle.rwlock_machine.specs.declared.program.Action.TheVariants as act
-use Rattle.rwlock_machine.specs.declared.program.Found.{Found}
-use Rattle.rwlock_machine.specs.declared.program.Found.TheVariants.{Turn}
-use Rattle.rwlock_machine.specs.declared.program.Place.{Place}
+use Rattle.rwlock_program.specs.declared.program.Action.{Action}
+use Rattle.rwlock_program.specs.declared.program.Action.TheVariants as act
+use Rattle.rwlock_program.specs.declared.program.Found.{Found}
+use Rattle.rwlock_program.specs.declared.program.Found.TheVariants.{Turn}
+use Rattle.rwlock_program.specs.declared.program.Place.{Place}
 use Rattle.rwlock_machine.specs.Machine.{place_at}
-use Rattle.rwlock_machine.specs.Program.{action_of}
+use Rattle.rwlock_program.specs.Program.{action_of}
 use Rattle.rwlock_machine.specs.Roles.{fits_turn}
-use Rattle.rwlock_machine.specs.Turns.{OnTurn}
+use Rattle.rwlock_program.specs.Turns.{OnTurn}
 use Rattle.lock_table.specs.Stages.{stage_at}
 use Rattle.rwlock_world.specs.Runs.{Runs, HoldsWell}
 use Rattle.rwlock_world.specs.State.{World, is_starved}

@@ -18,10 +18,10 @@ use Rattle.lock_world.proofs.Equations.{some_eq}
 use Rattle.lock_frame.specs.Steps.{left_by as left_of}
 use Rattle.mutex_machine.specs.Mutex.{steps_left as turn_steps_left}
 use Rattle.lock_table.specs.declared.end.End.TheVariants as «end»
-use Rattle.rwlock_machine.specs.declared.program.Next.{Next}
-use Rattle.rwlock_machine.specs.declared.program.Next.TheVariants as next
-use Rattle.rwlock_machine.specs.declared.program.Place.{Place}
-use Rattle.rwlock_machine.specs.declared.program.Place.TheVariants.{LookNoWriter, AskNoWriter, JoinNoReaders, LookNoReaders, AskNoReaders, AwaitNoReaders, LookUnlisted, CancellingTurn, TakeTurn, ReleasingTurn, Down}
+use Rattle.rwlock_program.specs.declared.program.Next.{Next}
+use Rattle.rwlock_program.specs.declared.program.Next.TheVariants as next
+use Rattle.rwlock_program.specs.declared.program.Place.{Place}
+use Rattle.rwlock_program.specs.declared.program.Place.TheVariants.{LookNoWriter, AskNoWriter, JoinNoReaders, LookNoReaders, AskNoReaders, AwaitNoReaders, LookUnlisted, CancellingTurn, TakeTurn, ReleasingTurn, Down}
 use Rattle.rwlock_machine.specs.Acts.{IsRwLock}
 use Rattle.rwlock_machine.specs.Machine.{RwLock, place_at}
 use Rattle.rwlock_machine.specs.Ranks.{left, left_from, steps_left, left_after}

@@ -3,10 +3,10 @@ use Rattle.std.proofs.Common.{Option, IsSomeAnd, ap, sym, subst}
 use Rattle.lock_world.specs.declared.moves.Inputs.{Inputs}
 use Rattle.lock_world.specs.Standings.{inputs_of}
 use Rattle.lock_world.proofs.Equations.{is_some_and}
-use Rattle.rwlock_machine.specs.declared.program.Place.{Place}
+use Rattle.rwlock_program.specs.declared.program.Place.{Place}
 use Rattle.rwlock_machine.specs.Acts.{Acts}
 use Rattle.rwlock_machine.specs.Machine.{place_at}
-use Rattle.rwlock_machine.specs.Program.{start_of}
+use Rattle.rwlock_program.specs.Program.{start_of}
 use Rattle.rwlock_world.specs.Guarded.{place_for}
 use Rattle.rwlock_world.proofs.guarded.carry_out.Goals as goal
 

@@ -2,10 +2,10 @@
 use Rattle.std.proofs.Common.{◌≡◌, ◌<◌, true, length, ap, sym, ◌∙◌}
 use Rattle.std.proofs.Math.ListN.{set}
 use Rattle.lock_queue.specs.Queues.{queue}
-use Rattle.barrier_machine.specs.Words.{progress}
-use Rattle.barrier_machine.specs.Program.{action_of, position_after}
-use Rattle.barrier_machine.specs.Locks.{OnLock}
-use Rattle.barrier_machine.specs.Deeds.{Finds, words_after, arrival_after, entries_after}
+use Rattle.barrier_program.specs.Words.{progress}
+use Rattle.barrier_program.specs.Program.{action_of, position_after}
+use Rattle.barrier_program.specs.Locks.{OnLock}
+use Rattle.barrier_program.specs.Deeds.{Finds, words_after, arrival_after, entries_after}
 use Rattle.barrier_machine.specs.Machine.{answer_by, goes_with, position_at, arrival_at}
 use Rattle.barrier_machine.proofs.Rows.{after}
 use Rattle.barrier_machine.proofs.Starts.{Began, began, read_at}

@@ -1,7 +1,7 @@
 -- The number of a counted wait.
 use Rattle.std.proofs.Common.{◌≡◌, true, false, Some, ap, sym, ◌∙◌}
 use Rattle.barrier_machine.specs.Waits.{number_of, is_counted, wait_at}
-use Rattle.barrier_machine.specs.Words.{arrivals_at}
+use Rattle.barrier_program.specs.Words.{arrivals_at}
 use Rattle.barrier_machine.specs.Machine.{Barrier, position_at, arrival_at}
 use Rattle.barrier_world.specs.State.{wait_of}
 use Rattle.barrier_world.proofs.Counted.{numbered, unnumbered}

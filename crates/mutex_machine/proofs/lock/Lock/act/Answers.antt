@@ -2,9 +2,9 @@
 use Rattle.std.proofs.Common.{◌≡◌, Bool, ◌<◌, ◌≤◌, length, ap, ◌∙◌, arith}
 use Rattle.std.specs.List.{sum_by}
 use Rattle.std.proofs.Math.ListN.{set}
-use Rattle.mutex_machine.specs.Program.{action_of, place_after}
-use Rattle.mutex_machine.specs.Effects.{OnWord}
-use Rattle.mutex_machine.specs.Seats.{OnList}
+use Rattle.mutex_program.specs.Program.{action_of, place_after}
+use Rattle.mutex_program.specs.Words.{OnWord}
+use Rattle.mutex_program.specs.Seats.{OnList}
 use Rattle.mutex_machine.specs.Machine.{SameRoles, place_at}
 use Rattle.mutex_machine.proofs.CanDo.{can_do}
 use Rattle.mutex_machine.proofs.Laws.{finds}
@@ -14,11 +14,11 @@ use Rattle.mutex_machine.proofs.Kept.{after}
 use Rattle.mutex_machine.proofs.Fair.{acts_fairly}
 use Rattle.mutex_machine.proofs.Alone.{fewer}
 use Rattle.lock_queue.specs.Parties.{entries_of}
-use Rattle.mutex_machine.specs.Roles.{holds, listed}
+use Rattle.mutex_program.specs.Roles.{holds, listed}
 use Rattle.mutex_machine.proofs.Legal.{acts_legally, entered}
 use Rattle.mutex_machine.proofs.Locks.{locked}
-use Rattle.mutex_machine.specs.declared.program.Action.TheVariants as act
-use Rattle.mutex_machine.specs.declared.program.Found.TheVariants.{Held}
+use Rattle.mutex_program.specs.declared.program.Action.TheVariants as act
+use Rattle.mutex_program.specs.declared.program.Found.TheVariants.{Held}
 use Rattle.mutex_machine.proofs.Courses.{heeds}
 use Rattle.mutex_machine.proofs.lock.Lock.act.Goals as goal
 

@@ -1,13 +1,13 @@
 -- A call begins with the roles that its party has.
 use Rattle.std.proofs.Common.{◌≡◌, Option, Some, sym, ◌∙◌, subst}
 use Rattle.mutex_machine.proofs.Starts.{start_same}
-use Rattle.mutex_machine.specs.Program.{start_of}
+use Rattle.mutex_program.specs.Program.{start_of}
 use Rattle.mutex_machine.proofs.Courses.{begins_so}
 use Rattle.mutex_machine.proofs.Alone.{begun_within}
 use Rattle.mutex_machine.proofs.Promised.{begins_unrefused}
 use Rattle.lock_queue.specs.Parties.{entries_of}
-use Rattle.mutex_machine.specs.declared.program.End.{End}
-use Rattle.mutex_machine.specs.Roles.{listed}
+use Rattle.mutex_program.specs.declared.calls.End.{End}
+use Rattle.mutex_program.specs.Roles.{listed}
 use Rattle.mutex_machine.specs.Legal.{IsLegal, decision}
 use Rattle.mutex_machine.specs.Deeds.{decided_by}
 use Rattle.mutex_machine.proofs.Legal.{begins_decided, begins_fresh}

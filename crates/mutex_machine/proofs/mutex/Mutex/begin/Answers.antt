@@ -1,5 +1,5 @@
 -- What the machine did, said of the mutex.
-use Rattle.mutex_machine.specs.Program.{start_of}
+use Rattle.mutex_program.specs.Program.{start_of}
 use Rattle.mutex_machine.specs.Machine.{place_at}
 use Rattle.mutex_machine.specs.Acts.{Acts}
 use Rattle.lock_world.proofs.Equations.{witness}

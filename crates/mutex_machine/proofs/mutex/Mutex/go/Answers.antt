@@ -1,10 +1,11 @@
 -- What the machine did, said of the mutex.
 use Rattle.std.proofs.Common.{refl, sym, subst}
-use Rattle.mutex_machine.specs.declared.program.End.{End}
+use Rattle.mutex_program.specs.declared.calls.End.{End}
 use Rattle.mutex_machine.specs.Machine.{place_at}
 use Rattle.std.specs.Prelude.{Option}
 use Rattle.mutex_machine.specs.Conduct.{IsLegal}
-use Rattle.mutex_machine.specs.Seen.{seen, step_of}
+use Rattle.mutex_machine.specs.Seen.{seen}
+use Rattle.mutex_program.specs.Program.{step_of}
 use Rattle.mutex_machine.proofs.Clauses.{known_there, is_legal, fairly, left_seen, is_done, same_place, clock, patient, hands_on, goes_here, decided_here, told_here}
 use Rattle.mutex_machine.proofs.Sights.{acts_kept, steps_seen}
 use Rattle.mutex_machine.proofs.mutex.Mutex.go.Goals as goal

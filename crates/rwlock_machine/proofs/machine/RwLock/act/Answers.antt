@@ -1,10 +1,10 @@
 -- An action of one party keeps what always holds.
 use Rattle.std.proofs.Common.{◌≡◌, ◌<◌, length, ap, ◌∙◌}
 use Rattle.std.proofs.Math.ListN.{set}
-use Rattle.rwlock_machine.specs.Program.{action_of, next_of, place_after}
-use Rattle.rwlock_machine.specs.Effects.{OnWord}
-use Rattle.rwlock_machine.specs.Parties.{FindsMemory, OnNoWriter, OnNoReaders}
-use Rattle.rwlock_machine.specs.Turns.{OnTurn}
+use Rattle.rwlock_program.specs.Program.{action_of, next_of, place_after}
+use Rattle.rwlock_program.specs.Words.{OnWord}
+use Rattle.rwlock_program.specs.Parties.{FindsMemory, OnNoWriter, OnNoReaders}
+use Rattle.rwlock_program.specs.Turns.{OnTurn}
 use Rattle.rwlock_machine.specs.Machine.{SameRoles, place_at}
 use Rattle.rwlock_machine.proofs.CanDo.{can_do}
 use Rattle.rwlock_machine.proofs.Machines.{kept}

@@ -1,0 +1,4 @@
+pub mod Words
+pub mod Program
+pub mod Deeds
+pub mod Locks

@@ -1,0 +1,20 @@
+-- A refused party that was told hands its notification on.
+use Rattle.std.proofs.Common.{◌≡◌, true, refl, ◌∙◌}
+use Rattle.mutex_program.specs.Program.{go_to, after_join}
+use Rattle.mutex_program.specs.declared.program.Found.{Found}
+use Rattle.mutex_program.specs.declared.program.Found.TheVariants as found
+use Rattle.mutex_program.specs.declared.program.Place.TheVariants as at
+use Rattle.mutex_program.proofs.program.after_join.Goals as goal
+
+hands_on : (f : Found) → (f ≡ found.Done → ⊥) → go_to at.RefuseNotifyMemory ≡ after_join true f
+hands_on found.Done is_not = absurd (is_not refl)
+hands_on found.Free is_not = refl
+hands_on (found.Held starving) is_not = refl
+hands_on found.SomeStarved is_not = refl
+hands_on found.AtLimit is_not = refl
+hands_on found.NoMemory is_not = refl
+hands_on found.Yes is_not = refl
+hands_on found.No is_not = refl
+
+pub returns-in_default : goal.returns-in_default
+returns-in_default c = rw c.if-told.true (c.go_to-in_default.ensures ∙ hands_on c.args.found c.in_default.not-Done)

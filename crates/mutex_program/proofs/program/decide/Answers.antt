@@ -1,0 +1,21 @@
+-- A first poll that finds no free lock joins the list, and a starved party that finds no memory takes its count off.
+use Rattle.std.proofs.Common.{◌≡◌, false, refl, ◌∙◌}
+use Rattle.mutex_program.specs.Program.{go_to, next_of}
+use Rattle.mutex_program.specs.declared.program.Found.{Found}
+use Rattle.mutex_program.specs.declared.program.Found.TheVariants as found
+use Rattle.mutex_program.specs.declared.program.Place.TheVariants as at
+use Rattle.mutex_program.proofs.program.decide.Goals as goal
+
+joins : (f : Found) → (f ≡ found.Free → ⊥) → go_to (at.Join false) ≡ next_of at.Enter f
+joins found.Free is_not = absurd (is_not refl)
+joins _ is_not = refl
+
+takes_off : (f : Found) → (f ≡ found.Done → ⊥) → go_to at.RefuseUncount ≡ next_of at.JoinStarved f
+takes_off found.Done is_not = absurd (is_not refl)
+takes_off _ is_not = refl
+
+pub returns-in_default : goal.returns-in_default
+returns-in_default c = rw c.in-Enter.is (c.go_to.ensures ∙ joins c.args.found c.in_default.not-Free)
+
+pub returns-in_default-found-3 : goal.returns-in_default-found-3
+returns-in_default-found-3 c = rw c.in-JoinStarved.is (c.go_to-in_default-found-3.ensures ∙ takes_off c.args.found c.in_default-found-3.not-Done)

@@ -1,0 +1,17 @@
+-- What a carried out action leaves: all that it does to the word and to the list, and what it heeds of the clock.
+use Rattle.std.specs.Prelude.{◌≡◌, ℕ, Bool}
+use Rattle.lock_queue.specs.Queues.{Queue}
+use Rattle.mutex_program.specs.declared.word.Word.{Word}
+use Rattle.mutex_program.specs.declared.program.Action.{Action}
+use Rattle.mutex_program.specs.declared.program.Action.TheVariants as act
+use Rattle.mutex_program.specs.declared.program.Found.{Found}
+use Rattle.mutex_program.specs.declared.program.Found.TheVariants.{Held}
+use Rattle.mutex_program.specs.Words.{OnWord}
+use Rattle.mutex_program.specs.Seats.{OnList}
+
+-- the word and the list before the action, and then after it
+pub record Carried (memory starving : Bool) (p : ℕ) (a : Action) (f : Found) (v : Word) (l : Queue) (w : Word) (m : Queue) : Type 0 where
+  pub word : OnWord a f v w
+  pub list : OnList p memory a f l m
+  -- a lock that is found held tells how long its party has waited
+  pub clock : (long : Bool) → a ≡ act.Take → f ≡ Held long → long ≡ starving

@@ -1,0 +1,20 @@
+-- What a carried out action leaves: all that it does to the word, to the two lists and to the turn.
+use Rattle.std.specs.Prelude.{◌≡◌, ℕ, Bool}
+use Rattle.lock_queue.specs.Queues.{Queue}
+use Rattle.mutex_machine.specs.Mutex.{Mutex}
+use Rattle.rwlock_program.specs.declared.word.Word.{Word}
+use Rattle.rwlock_program.specs.declared.program.Action.{Action}
+use Rattle.rwlock_program.specs.declared.program.Found.{Found}
+use Rattle.rwlock_program.specs.Words.{OnWord}
+use Rattle.rwlock_program.specs.Parties.{FindsMemory, OnNoWriter, OnNoReaders}
+use Rattle.rwlock_program.specs.Turns.{OnTurn}
+
+-- the word, the lists and the turn before the action, and then after it
+pub record Carried (has_room starving : Bool) (p : ℕ) (a : Action) (f : Found) (v : Word) (l m : Queue) (t : Mutex) (w : Word) (l2 m2 : Queue) (u : Mutex) : Type 0 where
+  pub word : OnWord a f v w
+  pub no_writer : OnNoWriter p a f l.entries l2.entries
+  pub no_readers : OnNoReaders p a f m.entries m2.entries
+  pub parties_w : l2.parties ≡ l.parties
+  pub parties_r : m2.parties ≡ m.parties
+  pub turn : OnTurn has_room starving p a f t u
+  pub memory : FindsMemory has_room a f

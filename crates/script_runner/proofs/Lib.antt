@@ -1,0 +1,4 @@
+pub mod Reading
+pub mod Scripts
+pub mod Plays
+pub mod Faults
