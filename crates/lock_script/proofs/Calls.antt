@@ -5,7 +5,7 @@ use Rattle.lock_world.specs.declared.moves.Call.{Call}
 use Rattle.lock_world.specs.declared.moves.Call.TheVariants as call
 use Rattle.std.specs.Str.Parse.{digits_value}
 use Rattle.lock_script.specs.Commands.{BeginsWithCall, IsWordOf, TakesNumber}
-use Rattle.lock_script.specs.Lines.{IsNumber, Writes}
+use Rattle.script_words.specs.Lines.{IsNumber, Writes}
 
 -- a call is begun by a word that names it alone, or by one that names it with the number after it
 begins : (words others : List (List ℕ)) (c : Call) → BeginsWithCall words c others → ((word : List ℕ) × (words ≡ word ∷ others) × IsWordOf word c) ⊎ ((word digits : List ℕ) × (v : ℕ) × (words ≡ word ∷ digits ∷ others) × Writes digits v × TakesNumber word v c)

@@ -1,10 +1,8 @@
 -- What a line's words ask for.
-use Rattle.std.specs.Prelude.{◌≡◌, ℕ, ◌≤◌, Bool, if◌then◌else◌, not, ◌&&◌, List, [], ◌∷◌, ◌++◌, codes, bytes_eq, count_by, filter, Option, None, Some}
+use Rattle.std.specs.Prelude.{◌≡◌, ℕ, ◌≤◌, List, [], ◌∷◌, codes, Option, None, Some}
 use Rattle.lock_world.specs.declared.moves.Call.{Call}
 use Rattle.lock_world.specs.declared.moves.Call.TheVariants as call
 use Rattle.lock_world.specs.declared.moves.Inputs.{Inputs}
-use Rattle.lock_world.specs.declared.moves.Made.{Made}
-use Rattle.lock_world.specs.declared.moves.Made.TheVariants as made
 use Rattle.lock_world.specs.declared.moves.What.TheVariants.{Begin, Go}
 use Rattle.lock_script.specs.declared.command.Verb.{Verb}
 use Rattle.lock_script.specs.declared.command.Verb.TheVariants as verb
@@ -12,7 +10,8 @@ use Rattle.lock_script.specs.declared.command.Command.{Command}
 use Rattle.lock_script.specs.declared.command.Command.TheVariants.{New, On}
 use Rattle.lock_script.specs.declared.command.Model.TheVariants.{Mutex, RwLock, Semaphore, Cell, Barrier}
 use Rattle.lock_script.specs.declared.command.Request.TheVariants.{Step, Whole, Put, Take, Show}
-use Rattle.lock_script.specs.Lines.{Writes}
+use Rattle.script_words.specs.Inputs.{WritesInputs}
+use Rattle.script_words.specs.Lines.{Writes}
 
 -- the first word of each command
 abbrev pub name_of : Verb → List ℕ
@@ -100,27 +99,6 @@ BeginsWithCall words (call.AddPermits n) others = (word : List ℕ) × (words �
 BeginsWithCall words (call.Set v) others = (word : List ℕ) × (words ≡ codes "set" ∷ word ∷ others) × Writes word v
 BeginsWithCall words (call.TrySet v) others = (word : List ℕ) × (words ≡ codes "tryset" ∷ word ∷ others) × Writes word v
 BeginsWithCall words c others = (word : List ℕ) × (words ≡ word ∷ others) × IsWordOf word c
-
--- the word says what the maker gives: `made=` with a number, or `made=fail`
-abbrev pub WritesMade : List ℕ → Made → Type 0
-WritesMade word made.Pending = ⊥
-WritesMade word (made.Value v) = (digits : List ℕ) × (word ≡ codes "made=" ++ digits) × Writes digits v
-WritesMade word made.Fail = word ≡ codes "made=fail"
-
--- the words say what the maker gives: one does, or none where it is pending
-abbrev pub GivesMade : List (List ℕ) → Made → Type 0
-GivesMade words made.Pending = words ≡ []
-GivesMade words m = (word : List ℕ) × (words ≡ word ∷ []) × WritesMade word m
-
--- neither `nomem` nor `starving`
-abbrev pub is_of_maker : List ℕ → Bool
-is_of_maker word = not (bytes_eq word (codes "nomem")) && not (bytes_eq word (codes "starving"))
-
--- the words give these inputs, in any order: `nomem` stands there once if memory is refused and else not, `starving` once if the party is starving and else not, and all others say what the maker gives
-pub record WritesInputs (words : List (List ℕ)) (inputs : Inputs) : Type 0 where
-  pub memory : count_by (λ word. bytes_eq word (codes "nomem")) words ≡ (if inputs.memory then 0 else 1)
-  pub starving : count_by (λ word. bytes_eq word (codes "starving")) words ≡ (if inputs.starving then 1 else 0)
-  pub made : GivesMade (filter is_of_maker words) inputs.made
 
 -- the words after `begin` or `do`: a party's number, its call, and the inputs
 pub record AreOfCall (words : List (List ℕ)) (party : ℕ) (call : Call) (inputs : Inputs) : Type 0 where

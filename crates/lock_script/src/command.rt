@@ -1,17 +1,17 @@
 //! What a line of a script asks for.
 
-ghost use Rattle.std.specs.Prelude.{◌≡◌, ◌≢◌, ◌↔◌, ◌≤◌, ◌++◌, ℕ, List, [], ◌∷◌, Option, Some, codes, IsSome, OnSome, IfSome, IfNone, IsTrue};
+ghost use Rattle.std.specs.Prelude.{◌≡◌, ◌↔◌, ◌≤◌, ℕ, List, [], ◌∷◌, Option, Some, IsSome, OnSome, IfSome};
 ghost use Rattle.lock_world.specs.declared.moves.Call.{Call};
 ghost use Rattle.lock_world.specs.declared.moves.Inputs.{Inputs};
-ghost use Rattle.lock_world.specs.declared.moves.Made.{Made};
 ghost use Rattle.lock_script.specs.Commands.{name_of, verb_of, AreNumbersAndLimit, AreNumbersAndLimits, AreOfCall, Asks, BeginsWithCall, Details, IsWordOf, TakesNumber};
-ghost use Rattle.lock_script.specs.Commands.{is_of_maker, WritesInputs, WritesLimit, WritesLimits, WritesMade};
+ghost use Rattle.lock_script.specs.Commands.{WritesLimit, WritesLimits};
 ghost use Rattle.lock_script.specs.declared.command.Command.{Command};
 ghost use Rattle.lock_script.specs.declared.command.Verb.{Verb};
-ghost use Rattle.lock_script.specs.Lines.{words_of, IsPrintable, IsTrimmed, IsNumber, Writes};
+ghost use Rattle.script_words.specs.Lines.{words_of, IsPrintable, IsTrimmed, IsNumber, Writes};
 
-use crate::line::{self, Words};
-use lock_world::{Call, Inputs, Made, What};
+use lock_world::{Call, Inputs, What};
+use script_words::inputs;
+use script_words::line::{self, Words, is};
 
 /// What a line asks for.
 #[derive(Clone, Copy)]
@@ -139,14 +139,6 @@ fn named(word: &[u8]) -> Option<Verb>
         _ if is(word, b"show") => Some(Verb::Show),
         _ => None,
     }
-}
-
-/// Whether a word is this one, compared as a whole. The prover has much more to do with patterns of bytes,
-/// and with a comparison of slices written out in each arm.
-fn is(word: &[u8], name: &[u8]) -> bool
-    ensures { IsTrue result ↔ (word.now ≡ name.now) }
-{
-    word == name
 }
 
 /// The command that these words ask for, all of them.
@@ -333,7 +325,7 @@ fn called(words: &mut Words<'_>) -> Option<(u64, Call, Inputs)>
 {
     let party = number(words)?;
     let call = call(words)?;
-    let inputs = inputs(words)?;
+    let inputs = inputs::parse(words)?;
     Some((party, call, inputs))
 }
 
@@ -343,7 +335,7 @@ fn go(words: &mut Words<'_>) -> Option<Command>
     ensures asked { (c : Command) → verb_of c ≡ Verb.Go → Details words.old c → result ≡ Some c }
 {
     let party = number(words)?;
-    let inputs = inputs(words)?;
+    let inputs = inputs::parse(words)?;
     let what = What::Go(inputs);
     Some(Command::On(Request::Step { party, what }))
 }
@@ -452,71 +444,5 @@ fn plain_call(word: &[u8]) -> Option<Call>
         _ if is(word, b"poll") => Some(Call::Poll),
         _ if is(word, b"drop") => Some(Call::Drop),
         _ => None,
-    }
-}
-
-/// The inputs that all further words give, each at most once, in any order. What is not given is the
-/// plain case: memory is found, the party isn't starving, the maker is pending.
-fn inputs(words: &mut Words<'_>) -> Option<Inputs>
-    ensures words { IfSome result (WritesInputs words.old) }
-    ensures asked { (inputs : Inputs) → WritesInputs words.old inputs → result ≡ Some inputs }
-{
-    let mut inputs = Inputs {
-        memory: true,
-        starving: false,
-        made: Made::Pending,
-    };
-    for word in words {
-        inputs = with_word(inputs, word)?;
-    }
-    Some(inputs)
-}
-
-/// The inputs that some words give together with this one, after those. None where the word gives none,
-/// or gives again what those gave.
-fn with_word(mut inputs: Inputs, word: &[u8]) -> Option<Inputs>
-    ensures words { (passed : List (List ℕ)) → WritesInputs passed inputs
-        → IfSome result (WritesInputs (passed ++ word.now ∷ [])) }
-    ensures none { (passed rest : List (List ℕ)) → WritesInputs passed inputs
-        → IfNone result ((i : Inputs) → ¬ WritesInputs (passed ++ word.now ∷ rest) i) }
-{
-    match topic_of(word) {
-        Topic::Memory if inputs.memory => inputs.memory = false,
-        Topic::Starving if !inputs.starving => inputs.starving = true,
-        Topic::Maker if inputs.made == Made::Pending => inputs.made = made(word)?,
-        _ => return None,
-    }
-    Some(inputs)
-}
-
-/// What an input's word may tell of.
-#[derive(Clone, Copy)]
-enum Topic {
-    Memory,
-    Starving,
-    Maker,
-}
-
-/// What this word tells of, if it gives an input.
-fn topic_of(word: &[u8]) -> Topic
-    ensures memory { result ≡ Topic.Memory → word.now ≡ codes "nomem" }
-    ensures starving { result ≡ Topic.Starving → word.now ≡ codes "starving" }
-    ensures maker { result ≡ Topic.Maker → IsTrue (is_of_maker word.now) }
-{
-    match word {
-        _ if is(word, b"nomem") => Topic::Memory,
-        _ if is(word, b"starving") => Topic::Starving,
-        _ => Topic::Maker,
-    }
-}
-
-/// What a word of the form `made=V` or `made=fail` gives.
-fn made(word: &[u8]) -> Option<Made>
-    ensures words { IfSome result (WritesMade word.now) }
-    ensures asked { (m : Made) → WritesMade word.now m → result ≡ Some m }
-{
-    match word.strip_prefix(b"made=")? {
-        value if is(value, b"fail") => Some(Made::Fail),
-        value => Some(Made::Value(line::number(value)?)),
     }
 }

@@ -1,5 +1,4 @@
-//! The lines of a script: what a script of moves may say, and what each line asks for.
+//! What a script of moves may say: what each of its lines asks for.
 #![tactic(auto)]
 
 pub mod command;
-pub mod line;

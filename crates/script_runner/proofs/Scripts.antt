@@ -3,7 +3,7 @@ use Rattle.std.proofs.Common.{◌≡◌, ℕ, true, List, [], ◌∷◌, length,
 use Rattle.std.specs.Prelude.{◌==◌, All}
 use Rattle.std.proofs.lemmas.Bool.{eqb-true}
 use Rattle.std.proofs.lemmas.List.Elements.{All-cons}
-use Rattle.lock_script.specs.Lines.{lines_of}
+use Rattle.script_words.specs.Lines.{lines_of}
 use Rattle.script_runner.specs.Scripts.{IsLine}
 
 -- after a last line feed nothing is left but an empty line

@@ -5,7 +5,7 @@ use Rattle.lock_script.specs.declared.command.Command.{Command}
 use Rattle.lock_script.specs.declared.command.Command.TheVariants.{New, On}
 use Rattle.lock_script.specs.declared.command.Model.{Model}
 use Rattle.lock_play.specs.declared.world.World.{World}
-use Rattle.lock_script.specs.Lines.{lines_of, IsSkipped}
+use Rattle.script_words.specs.Lines.{lines_of, IsSkipped}
 use Rattle.lock_play.specs.Openings.{world_of, HasTooManyPermits}
 use Rattle.script_runner.specs.declared.fault.Fault.{Fault}
 use Rattle.script_runner.specs.declared.fault.Fault.TheVariants.{Usage, Read, TooLong, BadLine, Write, Memory, Thread}

@@ -8,7 +8,7 @@ use Rattle.lock_script.specs.declared.command.Command.{Command}
 use Rattle.lock_script.specs.declared.command.Command.TheVariants.{On}
 use Rattle.lock_script.specs.declared.command.Request.{Request}
 use Rattle.lock_script.specs.Commands.{Asks}
-use Rattle.lock_script.specs.Lines.{lines_of, words_of, IsSkipped, IsPrintable, IsTrimmed, Writes}
+use Rattle.script_words.specs.Lines.{lines_of, words_of, IsSkipped, IsPrintable, IsTrimmed, Writes}
 
 -- the arguments that ask for a script: the one word `script`
 abbrev pub asked : List (List ℕ)

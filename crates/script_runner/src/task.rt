@@ -5,7 +5,7 @@ ghost use Rattle.script_runner.specs.Scripts.{asked, AsksFor, IsWorkers};
 ghost use Rattle.script_runner.specs.declared.task.Task.{Task};
 
 use crate::fault::Fault;
-use lock_script::line;
+use script_words::line;
 use std::alloc::Global;
 use std::env;
 use std::env::Args;

@@ -2,7 +2,7 @@ use Rattle.std.proofs.Common.{◌≡◌, ◌∷◌, ◌∙◌, ℕ, List, ap, su
 use Rattle.std.specs.Prelude.{Option, None, Some, unwrap_or}
 use Rattle.std.specs.Str.Parse.{digits_value}
 use Rattle.lock_script.specs.Commands.{WritesLimit, WritesLimits}
-use Rattle.lock_script.specs.Lines.{Writes}
+use Rattle.script_words.specs.Lines.{Writes}
 use Rattle.lock_script.proofs.command.limits.Goals as goal
 
 -- words whose first one writes a limit write that one and what the others do

@@ -1,6 +1,6 @@
 use Rattle.std.proofs.Common.{◌≡◌, ◌<◌, Err, arith, false-eqb, length, rules}
-use Rattle.lock_script.specs.Lines.{is_byte}
-use Rattle.lock_script.proofs.Lines.{lines-more}
+use Rattle.script_words.specs.Lines.{is_byte}
+use Rattle.script_words.proofs.Lines.{lines-more}
 use Rattle.script_runner.proofs.Faults.{come_none, come_more, come_fault, after_shorter}
 use Rattle.script_runner.proofs.Plays.{played_none, played_more, played_all}
 use Rattle.script_runner.proofs.Scripts.{lines-none}

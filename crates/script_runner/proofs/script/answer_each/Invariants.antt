@@ -1,6 +1,6 @@
 use Rattle.std.proofs.Common.{◌+◌, ◌≤◌, length}
 use Rattle.std.specs.Prelude.{All}
-use Rattle.lock_script.specs.Lines.{lines_of}
+use Rattle.script_words.specs.Lines.{lines_of}
 use Rattle.script_runner.specs.declared.script.TheConstants.{LIMIT}
 use Rattle.script_runner.specs.Scripts.{IsLine}
 use Rattle.script_runner.proofs.Faults.{HasCome}

@@ -1,6 +1,6 @@
 use Rattle.std.proofs.Common.{◌≡◌, ◌++◌, map}
-use Rattle.lock_script.specs.Commands.{WritesInputs}
-use Rattle.lock_script.proofs.command.inputs.Given as goal
+use Rattle.script_words.specs.Inputs.{WritesInputs}
+use Rattle.script_words.proofs.inputs.parse.Given as goal
 
 -- the words so far give the inputs so far, and the others are still to come
 abbrev pub invariant-loop-word : goal.invariant-loop-word

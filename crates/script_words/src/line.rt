@@ -3,7 +3,7 @@
 ghost use Rattle.std.specs.Prelude.{◌≡◌, ◌↔◌, ℕ, List, IsTrue, IfSome, IfNone};
 ghost use Rattle.std.specs.Iterator.{YieldsFirstRef, item_count};
 ghost use Rattle.std.specs.List.{before_first, after_first, position_or_len};
-ghost use Rattle.lock_script.specs.Lines.{words_of, is_byte, IsDecimal, IsPrintable, IsSkipped, IsTrimmed, IsNumber, Writes};
+ghost use Rattle.script_words.specs.Lines.{words_of, is_byte, IsDecimal, IsPrintable, IsSkipped, IsTrimmed, IsNumber, Writes};
 
 use std::marker::Model;
 
@@ -29,6 +29,14 @@ pub fn is_trimmed(line: &[u8]) -> bool
     ensures { IsTrue result ↔ IsTrimmed line.now }
 {
     line.first() != Some(&b' ') && line.last() != Some(&b' ')
+}
+
+/// Whether a word is this one, compared as a whole. The prover has much more to do with patterns of bytes,
+/// and with a comparison of slices written out in each arm.
+pub fn is(word: &[u8], name: &[u8]) -> bool
+    ensures { IsTrue result ↔ (word.now ≡ name.now) }
+{
+    word == name
 }
 
 /// The number that a word writes: 1 to 20 decimal digits, leading zeros among them, whose value fits 64

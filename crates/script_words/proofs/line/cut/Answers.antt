@@ -1,9 +1,9 @@
 use Rattle.std.proofs.Common.{arith, sym, ◌∙◌, ap, drop, ◌+◌}
 use Rattle.std.specs.Prelude.{not}
 use Rattle.std.proofs.lemmas.List.Sums.{prefix_len-le-length}
-use Rattle.lock_script.specs.Lines.{is_byte}
-use Rattle.lock_script.proofs.Lines.{after-drop}
-use Rattle.lock_script.proofs.line.cut.Goals as goal
+use Rattle.script_words.specs.Lines.{is_byte}
+use Rattle.script_words.proofs.Lines.{after-drop}
+use Rattle.script_words.proofs.line.cut.Goals as goal
 
 pub split_at-requires : goal.split_at-requires
 split_at-requires c = omega (arith, c.first_end.ensures, prefix_len-le-length (λ x. not (is_byte c.args.end x)) c.args.text.now)

@@ -8,7 +8,7 @@ use Rattle.std.proofs.lemmas.Str.{IsUtf8-from_ascii}
 use Rattle.std.proofs.lemmas.Str.Ascii.{IsAscii-from_all}
 use Rattle.std.proofs.lemmas.Str.Parse.{IsNumeralModel, numerals_by_value, parse_digits}
 use Rattle.std.proofs.lemmas.List.Elements.{All-head, All-tail, All-cons}
-use Rattle.lock_script.specs.Lines.{IsDigit, IsDecimal, IsNumber, Writes}
+use Rattle.script_words.specs.Lines.{IsDigit, IsDecimal, IsNumber, Writes}
 
 -- digits are text
 IsUtf8-from_decimal : (word : List ℕ) → IsDecimal word → IsUtf8 word

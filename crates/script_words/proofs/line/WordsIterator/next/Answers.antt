@@ -1,6 +1,6 @@
 use Rattle.std.proofs.Common.{rules, sym, ◌∙◌, ap, length, arith}
-use Rattle.lock_script.proofs.Lines.{words-taken, words-none}
-use Rattle.lock_script.proofs.line.WordsIterator.next.Goals as goal
+use Rattle.script_words.proofs.Lines.{words-taken, words-none}
+use Rattle.script_words.proofs.line.WordsIterator.next.Goals as goal
 
 pub returns-then-not-is_empty-clause-steps : goal.returns-then-not-is_empty-clause-steps
 returns-then-not-is_empty-clause-steps c =

@@ -1,9 +1,9 @@
 use Rattle.std.proofs.Common.{rules, refl, ◌∙◌, tests}
 use Rattle.std.proofs.lemmas.Iterator.{YieldsList-from_slice}
 use Rattle.std.proofs.lemmas.Iterator.Search.{position_from_yields_List}
-use Rattle.lock_script.specs.Lines.{is_byte}
-use Rattle.lock_script.proofs.Lines.{position-found}
-use Rattle.lock_script.proofs.line.first_end.Goals as goal
+use Rattle.script_words.specs.Lines.{is_byte}
+use Rattle.script_words.proofs.Lines.{position-found}
+use Rattle.script_words.proofs.line.first_end.Goals as goal
 
 pub returns : goal.returns
 returns c =

@@ -1,4 +1,4 @@
--- The inputs that words give.
+-- The words of inputs that tell of the maker.
 use Rattle.std.proofs.Common.{◌≡◌, ℕ, Bool, true, false, cond, List, [], ◌∷◌, ◌++◌, refl, sym, subst, ◌∙◌, ap, arith, not, ◌&&◌}
 use Rattle.std.specs.Prelude.{IsTrue, codes, bytes_eq, count_by, filter}
 use Rattle.std.proofs.lemmas.List.Elements.{filter-append}
@@ -6,7 +6,7 @@ use Rattle.std.proofs.lemmas.List.Sums.{sum_by-append}
 use Rattle.lock_world.specs.declared.moves.Inputs.{Inputs}
 use Rattle.lock_world.specs.declared.moves.Made.{Made}
 use Rattle.lock_world.specs.declared.moves.Made.TheVariants.{Pending, Value, Fail}
-use Rattle.lock_script.specs.Commands.{is_of_maker, GivesMade, WritesInputs, WritesMade}
+use Rattle.script_words.specs.Inputs.{is_of_maker, GivesMade, WritesInputs, WritesMade}
 
 -- the first of some words that tell of the maker is what they give
 pub first_gives : (word : List ℕ) (others : List (List ℕ)) (m : Made) → GivesMade (word ∷ others) m → WritesMade word m

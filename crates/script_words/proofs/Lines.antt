@@ -7,7 +7,7 @@ use Rattle.std.proofs.lemmas.List.{take_all, drop_all}
 use Rattle.std.proofs.lemmas.List.Sums.{fails_before_first, prefix_len-le-length}
 use Rattle.std.proofs.lemmas.List.Splits.{slice_split_none, slice_split_first}
 use Rattle.std.proofs.lemmas.Bool.{eqb-true, ltb-true, ltb-false, lt-ltb}
-use Rattle.lock_script.specs.Lines.{lines_of, words_of, is_byte}
+use Rattle.script_words.specs.Lines.{lines_of, words_of, is_byte}
 
 words-cases : (line : List ℕ) (b : Bool) → ltb (position_or_len (is_byte 32) line) (length line) ≡ b → words_of line ≡ cond (ltb 0 (length (before_first (is_byte 32) line))) (before_first (is_byte 32) line ∷ words_of (after_first (is_byte 32) line)) (words_of (after_first (is_byte 32) line))
 words-cases line true e = ap (filter (λ piece. ltb 0 (length piece))) (slice_split_first (is_byte 32) line 0 (ltb-true _ _ e))

@@ -1,6 +1,6 @@
 -- A comment is skipped where all of it is printable.
 use Rattle.std.proofs.Common.{Some, inr, sym, ap, ◌∙◌}
-use Rattle.lock_script.proofs.line.is_skipped.Goals as goal
+use Rattle.script_words.proofs.line.is_skipped.Goals as goal
 
 pub returns-then-first-eq35 : goal.returns-then-first-eq35
 returns-then-first-eq35 c =

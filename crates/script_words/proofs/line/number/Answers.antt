@@ -1,7 +1,7 @@
 use Rattle.std.proofs.Common.{subst, sym, arith, ◌∙◌}
 use Rattle.std.specs.Str.Parse.{ParsesUnsigned}
-use Rattle.lock_script.proofs.Numbers.{no_text, text_is, no_number, a_number}
-use Rattle.lock_script.proofs.line.number.Goals as goal
+use Rattle.script_words.proofs.Numbers.{no_text, text_is, no_number, a_number}
+use Rattle.script_words.proofs.line.number.Goals as goal
 
 pub returns-in_err-text-clause-refused : goal.returns-in_err-text-clause-refused
 returns-in_err-text-clause-refused c =

@@ -1,6 +1,6 @@
 use Rattle.std.proofs.Common.{◌≡◌, length}
-use Rattle.lock_script.specs.Lines.{words_of}
-use Rattle.lock_script.proofs.line.WordsIterator.next.Given as goal
+use Rattle.script_words.specs.Lines.{words_of}
+use Rattle.script_words.proofs.line.WordsIterator.next.Given as goal
 
 -- the pieces that were passed over are no words, and nothing was taken
 abbrev pub invariant-loop-rest : goal.invariant-loop-rest
