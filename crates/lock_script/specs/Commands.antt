@@ -4,28 +4,15 @@ use Rattle.lock_world.specs.declared.moves.Call.{Call}
 use Rattle.lock_world.specs.declared.moves.Call.TheVariants as call
 use Rattle.lock_world.specs.declared.moves.Inputs.{Inputs}
 use Rattle.lock_world.specs.declared.moves.What.TheVariants.{Begin, Go}
-use Rattle.lock_script.specs.declared.command.Verb.{Verb}
-use Rattle.lock_script.specs.declared.command.Verb.TheVariants as verb
+use Rattle.script_words.specs.declared.verbs.Verb.{Verb}
+use Rattle.script_words.specs.declared.verbs.Verb.TheVariants as verb
 use Rattle.lock_script.specs.declared.command.Command.{Command}
 use Rattle.lock_script.specs.declared.command.Command.TheVariants.{New, On}
 use Rattle.lock_script.specs.declared.command.Model.TheVariants.{Mutex, RwLock, Semaphore, Cell, Barrier}
 use Rattle.lock_script.specs.declared.command.Request.TheVariants.{Step, Whole, Put, Take, Show}
+use Rattle.script_words.specs.Verbs.{name_of}
 use Rattle.script_words.specs.Inputs.{WritesInputs}
 use Rattle.script_words.specs.Lines.{Writes}
-
--- the first word of each command
-abbrev pub name_of : Verb → List ℕ
-name_of verb.Mutex = codes "mutex"
-name_of verb.RwLock = codes "rwlock"
-name_of verb.Semaphore = codes "semaphore"
-name_of verb.Cell = codes "cell"
-name_of verb.Barrier = codes "barrier"
-name_of verb.Begin = codes "begin"
-name_of verb.Go = codes "go"
-name_of verb.Do = codes "do"
-name_of verb.GetMut = codes "getmut"
-name_of verb.Take = codes "take"
-name_of verb.Show = codes "show"
 
 -- the words write this limit: one number, or no word where none is given
 abbrev pub WritesLimit : List (List ℕ) → Option ℕ → Type 0

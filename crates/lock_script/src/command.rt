@@ -3,15 +3,16 @@
 ghost use Rattle.std.specs.Prelude.{◌≡◌, ◌↔◌, ◌≤◌, ℕ, List, [], ◌∷◌, Option, Some, IsSome, OnSome, IfSome};
 ghost use Rattle.lock_world.specs.declared.moves.Call.{Call};
 ghost use Rattle.lock_world.specs.declared.moves.Inputs.{Inputs};
-ghost use Rattle.lock_script.specs.Commands.{name_of, verb_of, AreNumbersAndLimit, AreNumbersAndLimits, AreOfCall, Asks, BeginsWithCall, Details, IsWordOf, TakesNumber};
+ghost use Rattle.lock_script.specs.Commands.{verb_of, AreNumbersAndLimit, AreNumbersAndLimits, AreOfCall, Asks, BeginsWithCall, Details, IsWordOf, TakesNumber};
 ghost use Rattle.lock_script.specs.Commands.{WritesLimit, WritesLimits};
 ghost use Rattle.lock_script.specs.declared.command.Command.{Command};
-ghost use Rattle.lock_script.specs.declared.command.Verb.{Verb};
+ghost use Rattle.script_words.specs.declared.verbs.Verb.{Verb};
 ghost use Rattle.script_words.specs.Lines.{words_of, IsPrintable, IsTrimmed, IsNumber, Writes};
 
 use lock_world::{Call, Inputs, What};
 use script_words::inputs;
 use script_words::line::{self, Words, is};
+use script_words::verbs::{Verb, named};
 
 /// What a line asks for.
 #[derive(Clone, Copy)]
@@ -101,43 +102,6 @@ pub fn parse(text: &[u8]) -> Option<Command>
         whole(&mut Words::new(text))
     } else {
         None
-    }
-}
-
-/// What a command begins with.
-#[derive(Clone, Copy)]
-enum Verb {
-    Mutex,
-    RwLock,
-    Semaphore,
-    Cell,
-    Barrier,
-    Begin,
-    Go,
-    Do,
-    GetMut,
-    Take,
-    Show,
-}
-
-/// The verb that a word names.
-fn named(word: &[u8]) -> Option<Verb>
-    ensures is { IfSome result (λ v. word.now ≡ name_of v) }
-    ensures asked { (v : Verb) → word.now ≡ name_of v → result ≡ Some v }
-{
-    match word {
-        _ if is(word, b"mutex") => Some(Verb::Mutex),
-        _ if is(word, b"rwlock") => Some(Verb::RwLock),
-        _ if is(word, b"semaphore") => Some(Verb::Semaphore),
-        _ if is(word, b"cell") => Some(Verb::Cell),
-        _ if is(word, b"barrier") => Some(Verb::Barrier),
-        _ if is(word, b"begin") => Some(Verb::Begin),
-        _ if is(word, b"go") => Some(Verb::Go),
-        _ if is(word, b"do") => Some(Verb::Do),
-        _ if is(word, b"getmut") => Some(Verb::GetMut),
-        _ if is(word, b"take") => Some(Verb::Take),
-        _ if is(word, b"show") => Some(Verb::Show),
-        _ => None,
     }
 }
 

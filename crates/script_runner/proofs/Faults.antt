@@ -14,7 +14,8 @@ use Rattle.lock_script.specs.declared.command.Model.TheVariants.{Mutex, RwLock, 
 use Rattle.lock_script.specs.declared.command.Request.{Request}
 use Rattle.lock_script.specs.declared.command.Request.TheVariants.{Step, Whole, Put, Take, Show}
 use Rattle.lock_world.specs.declared.moves.What.TheVariants.{Begin, Go}
-use Rattle.lock_script.specs.Commands.{name_of, verb_of, Asks}
+use Rattle.script_words.specs.Verbs.{name_of}
+use Rattle.lock_script.specs.Commands.{verb_of, Asks}
 use Rattle.script_words.specs.Lines.{lines_of, words_of, is_byte, IsPrintable, IsSkipped, IsTrimmed}
 use Rattle.script_words.proofs.Lines.{words-first}
 use Rattle.script_runner.specs.declared.fault.Fault.{Fault}

@@ -11,7 +11,8 @@ use Rattle.lock_play.specs.declared.world.World.{World}
 use Rattle.lock_script.specs.declared.command.Command.{Command}
 use Rattle.lock_script.specs.declared.command.Command.TheVariants.{New}
 use Rattle.lock_script.specs.declared.command.Model.{Model}
-use Rattle.lock_script.specs.Commands.{name_of, verb_of, Asks}
+use Rattle.script_words.specs.Verbs.{name_of}
+use Rattle.lock_script.specs.Commands.{verb_of, Asks}
 use Rattle.script_words.specs.Lines.{lines_of, words_of, is_byte, IsPrintable, IsTrimmed}
 use Rattle.lock_world.specs.declared.refusal.Refusal.{Refusal}
 use Rattle.lock_world.specs.declared.refusal.Refusal.TheVariants.{Permits}

@@ -1,3 +1,4 @@
 pub mod Lines
 pub mod Maker
 pub mod Numbers
+pub mod Names

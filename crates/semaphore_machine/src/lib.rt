@@ -9,3 +9,4 @@ mod semaphore;
 mod words;
 
 pub use semaphore::Semaphore;
+pub use words::may_begin_with;

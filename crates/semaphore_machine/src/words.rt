@@ -1,9 +1,23 @@
 //! The words of a semaphore: how many permits are available, and how many there are.
 
-ghost use Rattle.std.specs.Prelude.{◌≡◌, ◌+◌, ◌-◌, ◌<◌, ◌≤◌};
+ghost use Rattle.std.specs.Prelude.{◌≡◌, ◌+◌, ◌-◌, ◌<◌, ◌≤◌, IfOk, IfErr};
 ghost use Rattle.semaphore_machine.specs.Deeds.{FindsPermit, FindsRoom, words, taken_after, raised_after};
 
 use crate::program::Found;
+use lock_world::Refusal;
+
+/// Whether a semaphore may begin with so many permits, whose limit never passes `most`. Refused as [`Refusal::Permits`] where there are
+/// more of them.
+pub fn may_begin_with(permits: u64, most: u64) -> Result<(), Refusal>
+    ensures fits { IfOk result (λ u. permits ≤ most) }
+    ensures refused { IfErr result (λ r. (r ≡ Refusal.Permits) × (most < permits)) }
+{
+    if permits <= most {
+        Ok(())
+    } else {
+        Err(Refusal::Permits)
+    }
+}
 
 /// The words of a semaphore: the permits that are available, the limit, which counts all permits, and the
 /// greatest value of the limit.

@@ -17,7 +17,7 @@ use lock_event::Entry;
 use lock_frame::AnyWorld;
 use lock_table::Table;
 use lock_world::{Answer, Move, Refusal};
-use semaphore_machine::Semaphore;
+use semaphore_machine::{Semaphore, may_begin_with};
 use std::alloc::Global;
 use std::marker::Model;
 
@@ -68,9 +68,7 @@ impl World {
         ensures fits { IfOk result (λ w. permits ≤ most) }
         ensures refused { IfErr result (λ r. IsRefusedFor permits most r) }
     {
-        if permits > most {
-            return Err(Refusal::Permits);
-        }
+        may_begin_with(permits, most)?;
         World::over(alloc, parties, permits, most)
     }
 

@@ -8,7 +8,7 @@ use Rattle.lock_script.specs.declared.command.Command.{Command}
 use Rattle.lock_script.specs.declared.command.Command.TheVariants.{New, On}
 use Rattle.lock_script.specs.declared.command.Model.TheVariants.{Mutex, RwLock, Semaphore, Cell, Barrier}
 use Rattle.lock_script.specs.declared.command.Request.TheVariants.{Step, Whole, Put, Take, Show}
-use Rattle.lock_script.specs.declared.command.Verb.TheVariants.{Do}
+use Rattle.script_words.specs.declared.verbs.Verb.TheVariants.{Do}
 use Rattle.lock_script.proofs.command.poll_whole.Goals as goal
 
 abbrev whole : Option (ℕ × Call × Inputs) → Option Command

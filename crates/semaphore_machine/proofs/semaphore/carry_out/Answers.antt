@@ -1,5 +1,5 @@
 -- What each action finds and does: all else stays as it was.
-use Rattle.std.proofs.Common.{◌≡◌, ℕ, List, refl, sym, ap, ◌∙◌}
+use Rattle.std.proofs.Common.{◌≡◌, ℕ, List, refl, sym, ap}
 use Rattle.lock_event.specs.declared.event.Entry.{Entry}
 use Rattle.lock_queue.specs.Queues.{queue}
 use Rattle.semaphore_machine.specs.declared.program.Action.TheVariants as act

@@ -1,5 +1,5 @@
-use Rattle.lock_script.proofs.Verbs.{same_verb}
-use Rattle.lock_script.proofs.command.named.Goals as goal
+use Rattle.script_words.proofs.Names.{same_verb}
+use Rattle.script_words.proofs.verbs.named.Goals as goal
 
 pub returns-then-is : goal.returns-then-is
 returns-then-is c = let named = c.is.ensures.0 c.if-is.true in record { is = named; asked = same_verb c.args.word.now _ named }
