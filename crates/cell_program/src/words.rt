@@ -1,6 +1,6 @@
 //! What a once-cell has in it, and the words that say so.
 
-ghost use Rattle.std.specs.Prelude.{◌≡◌};
+ghost use Rattle.std.specs.Prelude.{◌≡◌, None};
 ghost use Rattle.cell_program.specs.Deeds.{FindsContent, claimed_after};
 ghost use Rattle.cell_program.specs.Words.{content_of, kept_of, value_in};
 ghost use Rattle.cell_program.specs.declared.words.Content.TheVariants as contents;
@@ -120,4 +120,12 @@ impl Words {
     {
         self.state = State::Empty;
     }
+}
+
+/// Takes the value out of a cell, where nobody is inside a call. None where there is none.
+pub fn take_from(value: &mut Option<u64>) -> Option<u64>
+    ensures taken { result ≡ value.old }
+    ensures left { value.new ≡ None }
+{
+    value.take()
 }

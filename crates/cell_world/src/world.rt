@@ -22,6 +22,7 @@ ghost use Rattle.std.specs.Option.{option_copied_mut};
 use cell_machine::OnceCell;
 use cell_program::Content;
 use cell_program::program::ListName;
+use cell_program::words::take_from;
 use lock_event::Entry;
 use lock_frame::AnyWorld;
 use lock_table::Table;
@@ -183,7 +184,7 @@ impl World {
         ensures value { result ≡ value_in self.old.cell }
         ensures taken { self.new ≡ world_with self.old None }
     {
-        self.table.value_mut().take()
+        take_from(self.table.value_mut())
     }
 
     /// The cell's value, if it is full, and the World is gone.
