@@ -19,3 +19,11 @@ loop-preserved g c =
       none = c.cut.ensures.left_numbers;
       nothing = one_more _ _ _ more c.loop.invariant.nothing c.cut.ensures.numbers;
     }
+
+pub loop-init : goal.loop-init
+loop-init g c = record {
+  parts = omega arith;
+  cut = c.new-all.ensures.len;
+  none = c.requires.nothing;
+  nothing = rw c.new-all.ensures.items (λ k d l. absurd (omega (arith, l)));
+}

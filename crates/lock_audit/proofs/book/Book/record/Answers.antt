@@ -1,5 +1,6 @@
 -- A recorded move goes on with the history.
-use Rattle.std.proofs.Common.{[], ◌∷◌, ◌++◌, sym, ap, ◌∙◌}
+use Rattle.std.proofs.Common.{◌≡◌, true, [], ◌∷◌, ◌++◌, sym, ap, ◌∙◌, Result, Ok, Err}
+use Rattle.std.specs.Result.{is_err, OnErr}
 use Rattle.lock_audit.proofs.Replaying.{replays_more, replays_from}
 use Rattle.lock_audit.proofs.book.Book.record.Goals as goal
 
@@ -11,3 +12,16 @@ invariant_of-self-2 g c =
 
 pub returns-clause-recorded : goal.returns-clause-recorded
 returns-clause-recorded g c = c.push_reserved.ensures.items ∙ ap (λ l. l ++ (c.args.m, c.step-answer.result) ∷ []) (c.reserve.ensures.items ∙ ap (λ v. v.history) c.self.view_is)
+
+pub invariant_of-self : goal.invariant_of-self
+invariant_of-self g c = rw c.reserve.ensures.items c.self.invariant
+
+-- what a refusal says holds of one
+of_refused : {A E P : Type 0} (r : Result A E) → true ≡ is_err r → OnErr r P → P
+of_refused (Ok a) e p = absurd (cc e)
+of_refused (Err x) e p = p
+
+pub returns-then-is_err-clause-refused : goal.returns-then-is_err-clause-refused
+returns-then-is_err-clause-refused g c =
+    let same = of_refused c.reserve.result c.if-is_err.ensures.value c.reserve.ensures.err in
+    rw (c.reserve.ensures.items, same) c.self.view_is
