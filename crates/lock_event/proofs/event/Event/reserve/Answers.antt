@@ -1,5 +1,5 @@
 -- The room is that of the inner list, which is as long as before.
-use Rattle.std.proofs.Common.{◌+◌, ◌≤◌, length, refl, ap, ◌∙◌, subst}
+use Rattle.std.proofs.Common.{◌+◌, ◌≤◌, length, ap, ◌∙◌, subst}
 use Rattle.lock_event.proofs.event.Event.reserve.Goals as goal
 use Rattle.lock_event.proofs.event.Event.reserve.Goals.{in-Ok, in-Err}
 
