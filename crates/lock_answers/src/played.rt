@@ -29,8 +29,8 @@ pub enum Reply {
 /// A World that a script is played on: beyond the moves of its parties, a value is put and taken from
 /// outside every call, and the state is shown.
 ///
-/// `Player` is any type of the crate that plays the World. The trait asks nothing of it: an impl for a World
-/// of a third crate has to name some type of its own.
+/// `Player` is any type of the crate that plays the World, and nothing is asked of it: an impl has to name a
+/// type of its own crate, where neither this trait nor the World is of it.
 ///
 /// The ghost members are the meaning of the calls.
 pub trait Played<Player>: AnyWorld {

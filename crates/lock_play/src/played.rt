@@ -6,5 +6,6 @@ mod mutex;
 mod rwlock;
 mod semaphore;
 
-/// Who plays on the Worlds: it names this crate in each impl of [`Played`](lock_answers::played::Played).
+/// Who plays the Worlds here. It stands for this crate in each impl of [`Played`](lock_answers::played::Played),
+/// since neither that trait nor any World is of this crate.
 pub struct Player;
