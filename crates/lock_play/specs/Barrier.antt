@@ -1,11 +1,12 @@
 -- What a script asks of a barrier beyond its moves.
-use Rattle.std.specs.Prelude.{ℕ, List, ◌++◌, codes, decimal, is_some, if◌then◌else◌}
+use Rattle.std.specs.Prelude.{ℕ, List, ◌++◌, codes, is_some}
 use Rattle.lock_world.specs.Rosters.{how_many}
 use Rattle.barrier_world.specs.Numbers.{generations_of, count_of}
 use Rattle.barrier_world.specs.State.{World}
-use Rattle.lock_play.specs.declared.played.Reply.{Reply}
-use Rattle.lock_play.specs.declared.played.Reply.TheVariants.{NotPossible}
-use Rattle.lock_play.specs.Answers.{list_text}
+use Rattle.lock_answers.specs.declared.played.Reply.{Reply}
+use Rattle.lock_answers.specs.declared.played.Reply.TheVariants.{NotPossible}
+use Rattle.lock_answers.specs.Answers.{list_text}
+use Rattle.lock_answers.specs.States.{barrier_text}
 
 -- a barrier has no value
 abbrev pub put_gives : World → ℕ → Reply × World
@@ -16,10 +17,7 @@ take_gives w = (NotPossible, w)
 
 -- the numbers of the state
 abbrev pub numbers_text : World → List ℕ
-numbers_text w = codes "barrier count=" ++ decimal (count_of w.size w.arrivals)
-    ++ codes " generation=" ++ decimal (generations_of w.size w.arrivals)
-    ++ codes " locked=" ++ decimal (if is_some w.lock.holder then 1 else 0)
-    ++ codes " starved=" ++ decimal (how_many w.lock.starved)
+numbers_text w = barrier_text (count_of w.size w.arrivals) (generations_of w.size w.arrivals) (is_some w.lock.holder) (how_many w.lock.starved)
 
 -- the state
 abbrev pub text_of : World → List ℕ

@@ -1,14 +1,15 @@
 -- What a script asks of a once-cell beyond its moves.
-use Rattle.std.specs.Prelude.{ℕ, Option, Some, None, List, ◌++◌, codes, decimal, if◌then◌else◌}
+use Rattle.std.specs.Prelude.{ℕ, true, false, Option, Some, None, List, ◌++◌, codes, if◌then◌else◌}
 use Rattle.cell_program.specs.declared.words.Content.{Content}
 use Rattle.cell_program.specs.declared.words.Content.TheVariants.{Empty, BeingMade, Full}
 use Rattle.cell_program.specs.Words.{value_in}
 use Rattle.cell_world.specs.State.{World}
 use Rattle.cell_world.specs.Laws.{is_at_rest}
 use Rattle.cell_world.specs.Lending.{world_with}
-use Rattle.lock_play.specs.declared.played.Reply.{Reply}
-use Rattle.lock_play.specs.declared.played.Reply.TheVariants.{Done, Nothing, Value, NotPossible}
-use Rattle.lock_play.specs.Answers.{list_text}
+use Rattle.lock_answers.specs.declared.played.Reply.{Reply}
+use Rattle.lock_answers.specs.declared.played.Reply.TheVariants.{Done, Nothing, Value, NotPossible}
+use Rattle.lock_answers.specs.Answers.{list_text}
+use Rattle.lock_answers.specs.States.{cell_text}
 
 -- a value takes the place of the one in the cell, if there is one, exactly where nobody is inside a call
 abbrev pub put_in : Option ℕ → World → ℕ → Reply × World
@@ -28,9 +29,9 @@ take_gives w = if is_at_rest w then (reply_of (value_in w.cell), world_with w No
 
 -- what is in the cell
 abbrev pub content_text : Content → List ℕ
-content_text Empty = codes "cell empty"
-content_text (BeingMade party) = codes "cell making"
-content_text (Full v) = codes "cell full " ++ decimal v
+content_text Empty = cell_text None false
+content_text (BeingMade party) = cell_text None true
+content_text (Full v) = cell_text (Some v) false
 
 -- the state
 abbrev pub text_of : World → List ℕ

@@ -1,6 +1,4 @@
-pub mod Answers
 pub mod Openings
-pub mod Requests
 pub mod Mutex
 pub mod RwLock
 pub mod Semaphore

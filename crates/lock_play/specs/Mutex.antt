@@ -1,12 +1,13 @@
 -- What a script asks of a mutex beyond its moves.
-use Rattle.std.specs.Prelude.{ℕ, List, ◌++◌, codes, decimal, is_some, if◌then◌else◌}
+use Rattle.std.specs.Prelude.{ℕ, List, ◌++◌, codes, is_some, if◌then◌else◌}
 use Rattle.lock_world.specs.Rosters.{how_many}
 use Rattle.mutex_world.specs.State.{World}
 use Rattle.mutex_world.specs.Laws.{is_at_rest}
 use Rattle.mutex_world.specs.Lending.{world_with}
-use Rattle.lock_play.specs.declared.played.Reply.{Reply}
-use Rattle.lock_play.specs.declared.played.Reply.TheVariants.{Done, NotPossible}
-use Rattle.lock_play.specs.Answers.{list_text}
+use Rattle.lock_answers.specs.declared.played.Reply.{Reply}
+use Rattle.lock_answers.specs.declared.played.Reply.TheVariants.{Done, NotPossible}
+use Rattle.lock_answers.specs.Answers.{list_text}
+use Rattle.lock_answers.specs.States.{mutex_text}
 
 -- a value is put exactly where nobody is inside a call
 abbrev pub put_gives : World → ℕ → Reply × World
@@ -18,9 +19,7 @@ take_gives w = (NotPossible, w)
 
 -- the numbers of the state
 abbrev pub numbers_text : World → List ℕ
-numbers_text w = codes "mutex locked=" ++ decimal (if is_some w.state.holder then 1 else 0)
-    ++ codes " starved=" ++ decimal (how_many w.state.starved)
-    ++ codes " value=" ++ decimal w.state.value
+numbers_text w = mutex_text (is_some w.state.holder) (how_many w.state.starved) w.state.value
 
 -- the state
 abbrev pub text_of : World → List ℕ

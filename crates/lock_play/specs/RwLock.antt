@@ -1,15 +1,16 @@
 -- What a script asks of a read-write lock beyond its moves.
-use Rattle.std.specs.Prelude.{ℕ, List, ◌++◌, codes, decimal, if◌then◌else◌}
+use Rattle.std.specs.Prelude.{ℕ, List, ◌++◌, codes, not, if◌then◌else◌}
 use Rattle.lock_event.specs.declared.event.Entry.{Entry}
 use Rattle.lock_world.specs.Rosters.{how_many}
 use Rattle.rwlock_world.specs.State.{World, how_many_read, is_nobody, is_marked}
 use Rattle.rwlock_world.specs.Laws.{is_at_rest}
 use Rattle.rwlock_world.specs.Lending.{world_with}
-use Rattle.lock_play.specs.declared.played.Reply.{Reply}
-use Rattle.lock_play.specs.declared.played.Reply.TheVariants.{Done, NotPossible}
+use Rattle.lock_answers.specs.declared.played.Reply.{Reply}
+use Rattle.lock_answers.specs.declared.played.Reply.TheVariants.{Done, NotPossible}
 use Rattle.lock_play.specs.declared.played.rwlock.Which.{Which}
 use Rattle.lock_play.specs.declared.played.rwlock.Which.TheVariants as which
-use Rattle.lock_play.specs.Answers.{list_text}
+use Rattle.lock_answers.specs.Answers.{list_text}
+use Rattle.lock_answers.specs.States.{rwlock_text}
 
 -- a value is put exactly where nobody is inside a call
 abbrev pub put_gives : World → ℕ → Reply × World
@@ -27,11 +28,7 @@ list_of w which.NoWriter = w.no_writer
 
 -- the numbers of the state
 abbrev pub numbers_text : World → List ℕ
-numbers_text w = codes "rwlock turn=" ++ decimal (if is_nobody w.state.turn then 0 else 1)
-    ++ codes " starved=" ++ decimal (how_many w.state.starved)
-    ++ codes " writer=" ++ decimal (if is_marked w.state.turn then 1 else 0)
-    ++ codes " readers=" ++ decimal (how_many_read w)
-    ++ codes " value=" ++ decimal w.state.value
+numbers_text w = rwlock_text (not (is_nobody w.state.turn)) (how_many w.state.starved) (is_marked w.state.turn) (how_many_read w) w.state.value
 
 -- the state: whether somebody has the turn, how many are starved for it, whether a party waits to write or writes, how many read, the value, and the lists of those that wait for the turn, until no reader is left, and until no writer is
 abbrev pub text_of : World → List ℕ

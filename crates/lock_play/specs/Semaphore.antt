@@ -1,9 +1,10 @@
 -- What a script asks of a semaphore beyond its moves.
-use Rattle.std.specs.Prelude.{ℕ, List, ◌++◌, codes, decimal}
+use Rattle.std.specs.Prelude.{ℕ, List, ◌++◌, codes}
 use Rattle.semaphore_world.specs.State.{World, available}
-use Rattle.lock_play.specs.declared.played.Reply.{Reply}
-use Rattle.lock_play.specs.declared.played.Reply.TheVariants.{NotPossible}
-use Rattle.lock_play.specs.Answers.{list_text}
+use Rattle.lock_answers.specs.declared.played.Reply.{Reply}
+use Rattle.lock_answers.specs.declared.played.Reply.TheVariants.{NotPossible}
+use Rattle.lock_answers.specs.Answers.{list_text}
+use Rattle.lock_answers.specs.States.{semaphore_text}
 
 -- a semaphore has no value
 abbrev pub put_gives : World → ℕ → Reply × World
@@ -14,8 +15,7 @@ take_gives w = (NotPossible, w)
 
 -- the numbers of the state
 abbrev pub numbers_text : World → List ℕ
-numbers_text w = codes "semaphore available=" ++ decimal (available w.state)
-    ++ codes " limit=" ++ decimal w.state.limit
+numbers_text w = semaphore_text (available w.state) w.state.limit
 
 -- the state
 abbrev pub text_of : World → List ℕ

@@ -28,7 +28,7 @@ use Rattle.lock_play.specs.RwLock as rwlock_played
 use Rattle.lock_play.specs.Semaphore as semaphore_played
 use Rattle.lock_play.specs.Cell as cell_played
 use Rattle.lock_play.specs.Barrier as barrier_played
-use Rattle.lock_play.specs.Requests.{Does}
+use Rattle.lock_answers.specs.Requests.{Does}
 
 -- what is asked for leads to a World of the same lock, and is answered by this text
 abbrev pub CarriesOut : Request → World → World → List ℕ → Type 0

@@ -1,6 +1,5 @@
-//! The Worlds that a script is played on, what each request does to them, and the text of each answer.
+//! The Worlds that a script is played on, and what each request does to them.
 #![tactic(auto)]
 
-pub mod answer;
 pub mod played;
 pub mod world;

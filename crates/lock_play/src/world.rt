@@ -3,11 +3,11 @@
 ghost use Rattle.std.specs.Prelude.{◌≡◌, ℕ, List, min, IfOk, IfErr};
 ghost use Rattle.lock_script.specs.declared.command.Model.TheVariants as model;
 ghost use Rattle.lock_world.specs.declared.refusal.Refusal.{Refusal};
-ghost use Rattle.lock_play.specs.Answers.{Prints};
+ghost use Rattle.lock_answers.specs.Answers.{Prints};
 ghost use Rattle.lock_play.specs.Openings.{limit_of, world_of, HasTooManyPermits, IsRefusedFor};
 ghost use Rattle.lock_play.specs.Worlds.{CarriesOut};
 
-use crate::played;
+use lock_answers::played;
 use lock_core::mutex::MOST_STARVED;
 use lock_core::rwlock::{MOST_READERS, MOST_STARVED_FOR_THE_TURN};
 use lock_core::{Refusal, barrier, cell, mutex, rwlock, semaphore};

@@ -24,7 +24,7 @@ use Rattle.script_runner.specs.declared.script.TheConstants.{LIMIT}
 use Rattle.script_runner.specs.Faults.{status_of}
 use Rattle.script_runner.specs.Plays.{Plays, PlaysLine, IsBad, StopsAtBadLine, IsAtFault, Tells, TellsOfLine}
 use Rattle.script_runner.specs.Scripts.{IsLine, IsStartOfScript}
-use Rattle.lock_play.proofs.Texts.{Appends-more}
+use Rattle.lock_answers.proofs.Texts.{Appends-more}
 use Rattle.script_runner.proofs.Plays.{Appends-nothing, none_after}
 
 -- no command's name begins with 35, the first byte of a comment

@@ -18,7 +18,7 @@ use Rattle.lock_world.specs.declared.refusal.Refusal.{Refusal}
 use Rattle.lock_world.specs.declared.refusal.Refusal.TheVariants.{Permits}
 use Rattle.lock_play.specs.Openings.{world_of, HasTooManyPermits, IsRefusedFor}
 use Rattle.script_runner.specs.Plays.{Leads, Makes, Plays, PlaysLine, IsPlayed}
-use Rattle.lock_play.proofs.Texts.{Appends-more}
+use Rattle.lock_answers.proofs.Texts.{Appends-more}
 
 -- of nothing
 pub Appends-nothing : (a : Option (List ℕ)) → Appends a a []

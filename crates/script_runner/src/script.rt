@@ -9,11 +9,11 @@ ghost use Rattle.script_words.specs.Lines.{lines_of};
 ghost use Rattle.lock_script.specs.declared.command.Command.TheVariants.{On};
 ghost use Rattle.lock_script.specs.declared.command.Request.{Request};
 ghost use Rattle.script_runner.specs.Faults.{status_of, text_of};
-ghost use Rattle.lock_play.specs.Answers.{Prints};
+ghost use Rattle.lock_answers.specs.Answers.{Prints};
 
 use crate::fault::Fault;
-use lock_play::answer;
-use lock_play::played::Reply;
+use lock_answers::answer;
+use lock_answers::played::Reply;
 use lock_play::world::World;
 use lock_script::command::{self, Command, Model};
 use lock_world::Refusal;

@@ -3,17 +3,18 @@
 ghost use Rattle.std.specs.Prelude.{◌≡◌, ◌++◌, OnOk};
 ghost use Rattle.std.specs.Io.KnownBytes.{Appends};
 ghost use Rattle.barrier_world.specs.State.{list_in};
-ghost use Rattle.lock_play.specs.Answers.{list_text, Prints};
-ghost use Rattle.lock_play.specs.Barrier.{numbers_text};
+ghost use Rattle.lock_answers.specs.Answers.{list_text, Prints};
 
-use super::{Played, Reply};
-use crate::answer::{self, Listed};
+use super::Player;
+use lock_answers::answer::{self, Listed};
+use lock_answers::played::{Played, Reply};
+use lock_answers::states;
 use lock_core::barrier::{ListName, World};
 use lock_event::Entry;
 use std::io;
 use std::io::Write;
 
-impl Played for World {
+impl Played<Player> for World {
     ghost use Rattle.lock_play.specs.Barrier as barrier;
 
     ghost put_gives = { barrier.put_gives };
@@ -32,25 +33,17 @@ impl Played for World {
     }
 
     fn show<O: Write>(&self, output: &mut O) -> io::Result<()> {
-        write_numbers(self, output)?;
+        states::write_barrier(
+            self.count(),
+            self.generation(),
+            self.is_locked(),
+            self.starved(),
+            output,
+        )?;
         write_list_of(self, ListName::Lock, " lock=", output)?;
         write_list_of(self, ListName::Generation, " list=", output)?;
         writeln!(output)
     }
-}
-
-/// Writes the numbers of a barrier.
-fn write_numbers<O: Write>(world: &World, output: &mut O) -> io::Result<()>
-    ensures { OnOk result (Appends (O.contents output.old) (O.contents output.new) (numbers_text world.now)) }
-{
-    let count = world.count();
-    let generation = world.generation();
-    let locked = u8::from(world.is_locked());
-    let starved = world.starved();
-    write!(
-        output,
-        "barrier count={count} generation={generation} locked={locked} starved={starved}"
-    )
 }
 
 /// Writes a list of a barrier after what names it.

@@ -3,17 +3,19 @@
 ghost use Rattle.std.specs.Prelude.{◌≡◌, ◌++◌, codes, OnOk};
 ghost use Rattle.std.specs.Io.KnownBytes.{Appends};
 ghost use Rattle.cell_world.specs.State.{list_in};
-ghost use Rattle.lock_play.specs.Answers.{list_text, Prints};
+ghost use Rattle.lock_answers.specs.Answers.{list_text, Prints};
 ghost use Rattle.lock_play.specs.Cell.{content_text};
 
-use super::{Played, Reply};
-use crate::answer::{self, Listed};
+use super::Player;
+use lock_answers::answer::{self, Listed};
+use lock_answers::played::{Played, Reply};
+use lock_answers::states;
 use lock_core::cell::{Content, ListName, World};
 use lock_event::Entry;
 use std::io;
 use std::io::Write;
 
-impl Played for World {
+impl Played<Player> for World {
     ghost use Rattle.lock_play.specs.Cell as cell;
 
     ghost put_gives = { cell.put_gives };
@@ -58,9 +60,9 @@ fn write_content<O: Write>(content: Content, output: &mut O) -> io::Result<()>
     ensures { OnOk result (Appends (O.contents output.old) (O.contents output.new) (content_text content)) }
 {
     match content {
-        Content::Empty => write!(output, "cell empty"),
-        Content::BeingMade(_) => write!(output, "cell making"),
-        Content::Full(value) => write!(output, "cell full {value}"),
+        Content::Empty => states::write_cell(None, false, output),
+        Content::BeingMade(_) => states::write_cell(None, true, output),
+        Content::Full(value) => states::write_cell(Some(value), false, output),
     }
 }
 

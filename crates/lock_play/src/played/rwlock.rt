@@ -2,17 +2,19 @@
 
 ghost use Rattle.std.specs.Prelude.{◌≡◌, ◌++◌, OnOk};
 ghost use Rattle.std.specs.Io.KnownBytes.{Appends};
-ghost use Rattle.lock_play.specs.Answers.{list_text, Prints};
-ghost use Rattle.lock_play.specs.RwLock.{list_of, numbers_text};
+ghost use Rattle.lock_answers.specs.Answers.{list_text, Prints};
+ghost use Rattle.lock_play.specs.RwLock.{list_of};
 
-use super::{Played, Reply};
-use crate::answer::{self, Listed};
+use super::Player;
+use lock_answers::answer::{self, Listed};
+use lock_answers::played::{Played, Reply};
+use lock_answers::states;
 use lock_core::rwlock::World;
 use lock_event::Entry;
 use std::io;
 use std::io::Write;
 
-impl Played for World {
+impl Played<Player> for World {
     ghost use Rattle.lock_play.specs.RwLock as rwlock;
 
     ghost put_gives = { rwlock.put_gives };
@@ -36,27 +38,19 @@ impl Played for World {
     }
 
     fn show<O: Write>(&self, output: &mut O) -> io::Result<()> {
-        write_numbers(self, output)?;
+        states::write_rwlock(
+            self.is_turn_held(),
+            self.starved(),
+            self.is_writer_marked(),
+            self.readers(),
+            self.value(),
+            output,
+        )?;
         write_list_of(self, Which::Turn, " turnlist=", output)?;
         write_list_of(self, Which::NoReaders, " noreaders=", output)?;
         write_list_of(self, Which::NoWriter, " nowriter=", output)?;
         writeln!(output)
     }
-}
-
-/// Writes the numbers of a read-write lock.
-fn write_numbers<O: Write>(world: &World, output: &mut O) -> io::Result<()>
-    ensures { OnOk result (Appends (O.contents output.old) (O.contents output.new) (numbers_text world.now)) }
-{
-    let turn = u8::from(world.is_turn_held());
-    let starved = world.starved();
-    let writer = u8::from(world.is_writer_marked());
-    let readers = world.readers();
-    let value = world.value();
-    write!(
-        output,
-        "rwlock turn={turn} starved={starved} writer={writer} readers={readers} value={value}"
-    )
 }
 
 /// Writes a list of a read-write lock after what names it.

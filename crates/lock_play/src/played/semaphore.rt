@@ -1,18 +1,18 @@
 //! The semaphore's World, as a script plays on it.
 
-ghost use Rattle.std.specs.Prelude.{◌≡◌, OnOk};
-ghost use Rattle.std.specs.Io.KnownBytes.{Appends};
-ghost use Rattle.lock_play.specs.Answers.{Prints};
-ghost use Rattle.lock_play.specs.Semaphore.{numbers_text};
+ghost use Rattle.std.specs.Prelude.{◌≡◌};
+ghost use Rattle.lock_answers.specs.Answers.{Prints};
 
-use super::{Played, Reply};
-use crate::answer::{self, Listed};
+use super::Player;
+use lock_answers::answer::{self, Listed};
+use lock_answers::played::{Played, Reply};
+use lock_answers::states;
 use lock_core::semaphore::World;
 use lock_event::Entry;
 use std::io;
 use std::io::Write;
 
-impl Played for World {
+impl Played<Player> for World {
     ghost use Rattle.lock_play.specs.Semaphore as semaphore;
 
     ghost put_gives = { semaphore.put_gives };
@@ -31,29 +31,26 @@ impl Played for World {
     }
 
     fn show<O: Write>(&self, output: &mut O) -> io::Result<()> {
-        write_numbers(self, output)?;
-        answer::write_named_list(" list=", self, output)?;
+        states::write_semaphore(self.available(), self.limit(), output)?;
+        answer::write_named_list(" list=", &ListOf { world: self }, output)?;
         writeln!(output)
     }
 }
 
-/// Writes the numbers of a semaphore.
-fn write_numbers<O: Write>(world: &World, output: &mut O) -> io::Result<()>
-    ensures { OnOk result (Appends (O.contents output.old) (O.contents output.new) (numbers_text world.now)) }
-{
-    let available = world.available();
-    let limit = world.limit();
-    write!(output, "semaphore available={available} limit={limit}")
+/// The list of a semaphore.
+#[derive(Clone, Copy)]
+struct ListOf<'a> {
+    world: &'a World,
 }
 
-impl Listed for World {
-    ghost entries = { λ w. w.entries };
+impl<'a> Listed for ListOf<'a> {
+    ghost entries = { λ l. l.world.now.entries };
 
     fn waiting(&self) -> usize {
-        World::waiting(self)
+        self.world.waiting()
     }
 
     fn entry(&self, index: usize) -> Option<Entry<u32>> {
-        World::entry(self, index)
+        self.world.entry(index)
     }
 }

@@ -1,5 +1,0 @@
-pub mod Texts
-pub mod Mutex
-pub mod RwLock
-pub mod Semaphore
-pub mod Barrier
