@@ -1,3 +1,4 @@
 pub mod Answers
 pub mod Requests
 pub mod States
+pub mod Limits

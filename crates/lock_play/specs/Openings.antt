@@ -1,5 +1,6 @@
 -- The World that a line makes, and when it makes none.
-use Rattle.std.specs.Prelude.{ℕ, ◌<◌, ◌^◌, ◌-◌, min, Option, Some, None, unwrap_or}
+use Rattle.std.specs.Prelude.{ℕ, ◌<◌, ◌^◌, ◌-◌, Some, unwrap_or}
+use Rattle.lock_answers.specs.Limits.{limit_of}
 use Rattle.mutex_world.specs.declared.world.TheConstants.{MOST_STARVED}
 use Rattle.rwlock_world.specs.declared.world.TheConstants.{MOST_STARVED_FOR_THE_TURN, MOST_READERS}
 use Rattle.mutex_world.specs.State as mutex
@@ -13,11 +14,6 @@ use Rattle.lock_script.specs.declared.command.Model.{Model}
 use Rattle.lock_script.specs.declared.command.Model.TheVariants as model
 use Rattle.lock_play.specs.declared.world.World.{World}
 use Rattle.lock_play.specs.declared.world.World.TheVariants.{Mutex, RwLock, Semaphore, Cell, Barrier}
-
--- a limit: the number that is given, or the greatest where that is less or none is given
-abbrev pub limit_of : Option ℕ → ℕ → ℕ
-limit_of None most = most
-limit_of (Some n) most = min n most
 
 -- the World that these numbers describe
 abbrev pub world_of : Model → World

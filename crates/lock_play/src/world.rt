@@ -1,12 +1,13 @@
 //! The World that stands in a run.
 
-ghost use Rattle.std.specs.Prelude.{◌≡◌, ℕ, List, min, IfOk, IfErr};
+ghost use Rattle.std.specs.Prelude.{◌≡◌, ℕ, List, IfOk, IfErr};
 ghost use Rattle.lock_script.specs.declared.command.Model.TheVariants as model;
 ghost use Rattle.lock_world.specs.declared.refusal.Refusal.{Refusal};
 ghost use Rattle.lock_answers.specs.Answers.{Prints};
-ghost use Rattle.lock_play.specs.Openings.{limit_of, world_of, HasTooManyPermits, IsRefusedFor};
+ghost use Rattle.lock_play.specs.Openings.{world_of, HasTooManyPermits, IsRefusedFor};
 ghost use Rattle.lock_play.specs.Worlds.{CarriesOut};
 
+use lock_answers::limits::limit;
 use lock_answers::played;
 use lock_core::mutex::MOST_STARVED;
 use lock_core::rwlock::{MOST_READERS, MOST_STARVED_FOR_THE_TURN};
@@ -158,15 +159,4 @@ fn new_barrier(
     let most = generations.unwrap_or(u64::MAX);
     let world = barrier::World::with_limits(alloc, parties, size, starved, most)?;
     Ok(World::Barrier(world))
-}
-
-/// The limit of a new World, whose greatest is `most`, by the number that a line gives. A number past 32
-/// bits is above every greatest one.
-fn limit(given: Option<u64>, most: u32) -> u32
-    ensures { min result most ≡ limit_of given most }
-{
-    match given {
-        None => most,
-        Some(count) => u32::try_from(count).unwrap_or(u32::MAX),
-    }
 }
