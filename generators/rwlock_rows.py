@@ -10,14 +10,14 @@ PROOFS = 'crates/rwlock_machine/proofs/'
 
 PLACES = '''Out, Made, Reading, Upgradable, Writing, EnterRead, JoinNoWriter, LookNoWriter, AskNoWriter, PassOn, LeaveNoWriter, RefuseLeave, RefuseNotify, CancelRead, TryRead, EnterTurn, WaitTurn, TakeTurn, TryTurn, CancelTurn, CancellingTurn, ReleaseTurn, ReleasingTurn, Add, TryUpgrade, Upgrade, Mark, TryWrite, JoinNoReaders, LookNoReaders, AskNoReaders, AwaitNoReaders, LookUnlisted, LeaveNoReaders, DropRead, DropReadNotify, DropUpgradable, DropUpgradableNotify, DropWrite, CancelAwait, Unmark, UnmarkNotify, Down, DownNotify, DowngradeNotify'''
 
-USES = '''use Rattle.mutex_machine.specs.declared.mutex.Step.TheVariants as turn_step
-use Rattle.mutex_machine.specs.declared.program.End.TheVariants as turn_end
-use Rattle.rwlock_machine.specs.declared.program.Purpose.TheVariants as purpose
-use Rattle.rwlock_machine.specs.declared.program.Ending.TheVariants as ending
-use Rattle.rwlock_machine.specs.declared.program.Place.{Place}
-use Rattle.rwlock_machine.specs.declared.program.Place.TheVariants.{%s}
-use Rattle.rwlock_machine.specs.declared.program.Found.{Found}
-use Rattle.rwlock_machine.specs.declared.program.Found.TheVariants.{Done, Writer, NoneLeft, Yes, Turn}
+USES = '''use Rattle.mutex_program.specs.declared.calls.Step.TheVariants as turn_step
+use Rattle.mutex_program.specs.declared.calls.End.TheVariants as turn_end
+use Rattle.rwlock_program.specs.declared.program.Purpose.TheVariants as purpose
+use Rattle.rwlock_program.specs.declared.program.Ending.TheVariants as ending
+use Rattle.rwlock_program.specs.declared.program.Place.{Place}
+use Rattle.rwlock_program.specs.declared.program.Place.TheVariants.{%s}
+use Rattle.rwlock_program.specs.declared.program.Found.{Found}
+use Rattle.rwlock_program.specs.declared.program.Found.TheVariants.{Done, Writer, NoneLeft, Yes, Turn}
 ''' % PLACES
 
 PURPOSES = ('purpose.UpgradableRead', 'purpose.Write')
@@ -153,7 +153,7 @@ def table(name, head, lines):
 
 table('Fits.antt', '''-- Each step of a program fits its action. Written by generators/rwlock_rows.py.
 use Rattle.std.proofs.Common.{refl, true, false}
-''' + USES + '''use Rattle.rwlock_machine.specs.Program.{action_of, next_of, place_after}
+''' + USES + '''use Rattle.rwlock_program.specs.Program.{action_of, next_of, place_after}
 use Rattle.rwlock_machine.proofs.Steps.{Fits}
 
 pub fits : (x : Place) (f : Found) → Fits (action_of x) f x (place_after (next_of x f))
@@ -163,7 +163,7 @@ table('Links.antt', '''-- Each step leaves the party's place fitting its place i
 use Rattle.std.proofs.Common.{◌≡◌, refl, true, false}
 use Rattle.lock_world.specs.declared.refusal.Refusal.TheVariants as refusal
 use Rattle.mutex_machine.specs.Course.{Course as TurnCourse}
-''' + USES + '''use Rattle.rwlock_machine.specs.Program.{next_of, place_after}
+''' + USES + '''use Rattle.rwlock_program.specs.Program.{next_of, place_after}
 use Rattle.rwlock_machine.specs.Roles.{fits_turn}
 use Rattle.rwlock_machine.proofs.Leads.{Led, steps_in_turn}
 
@@ -173,7 +173,7 @@ pub links : (x : Place) (f : Found) (t to : TurnCourse) → Led x f to → (step
 
 table('Falls.antt', '''-- Each step of a party that moves alone leaves fewer steps. Written by generators/rwlock_rows.py.
 use Rattle.std.proofs.Common.{ℕ, ◌<◌, Bool, true, false, arith}
-''' + USES + '''use Rattle.rwlock_machine.specs.Program.{action_of, next_of}
+''' + USES + '''use Rattle.rwlock_program.specs.Program.{action_of, next_of}
 use Rattle.rwlock_machine.specs.Ranks.{left}
 use Rattle.rwlock_machine.proofs.Lowers.{Lowers, then_left}
 

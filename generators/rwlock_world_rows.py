@@ -18,20 +18,20 @@ use Rattle.std.proofs.Common.{{◌≡◌, ◌&&◌, Bool, true, false, refl}}
 use Rattle.lock_world.specs.declared.refusal.Refusal.{{Refusal}}
 use Rattle.lock_world.specs.declared.refusal.Refusal.TheVariants as refusal
 use Rattle.mutex_machine.specs.Course.{{Course as TurnCourse}}
-use Rattle.mutex_machine.specs.declared.mutex.Step.TheVariants as turn_step
-use Rattle.mutex_machine.specs.declared.program.End.TheVariants as turn_end
-use Rattle.rwlock_machine.specs.declared.program.Purpose.TheVariants as purpose
-use Rattle.rwlock_machine.specs.declared.program.Ending.TheVariants as ending
+use Rattle.mutex_program.specs.declared.calls.Step.TheVariants as turn_step
+use Rattle.mutex_program.specs.declared.calls.End.TheVariants as turn_end
+use Rattle.rwlock_program.specs.declared.program.Purpose.TheVariants as purpose
+use Rattle.rwlock_program.specs.declared.program.Ending.TheVariants as ending
 use Rattle.lock_table.specs.declared.end.End.{{End}}
 use Rattle.lock_table.specs.declared.end.End.TheVariants.{{Got, Granted, Pending, NotFree, GivenBack, Refused}}
-use Rattle.rwlock_machine.specs.declared.program.Next.{{Next}}
-use Rattle.rwlock_machine.specs.declared.program.Next.TheVariants as next
-use Rattle.rwlock_machine.specs.declared.program.Found.{{Found}}
-use Rattle.rwlock_machine.specs.declared.program.Found.TheVariants.{{Done, Writer, Full, NoneLeft, SomeLeft, NoMemory, Yes, No, Turn}}
-use Rattle.rwlock_machine.specs.declared.program.Found.TheVariants as found
-use Rattle.rwlock_machine.specs.declared.program.Place.{{Place}}
-use Rattle.rwlock_machine.specs.declared.program.Place.TheVariants.{{{PLACES}}}
-use Rattle.rwlock_machine.specs.Program.{{action_of, next_of}}
+use Rattle.rwlock_program.specs.declared.program.Next.{{Next}}
+use Rattle.rwlock_program.specs.declared.program.Next.TheVariants as next
+use Rattle.rwlock_program.specs.declared.program.Found.{{Found}}
+use Rattle.rwlock_program.specs.declared.program.Found.TheVariants.{{Done, Writer, Full, NoneLeft, SomeLeft, NoMemory, Yes, No, Turn}}
+use Rattle.rwlock_program.specs.declared.program.Found.TheVariants as found
+use Rattle.rwlock_program.specs.declared.program.Place.{{Place}}
+use Rattle.rwlock_program.specs.declared.program.Place.TheVariants.{{{PLACES}}}
+use Rattle.rwlock_program.specs.Program.{{action_of, next_of}}
 use Rattle.rwlock_machine.specs.Machine.{{RwLock}}
 use Rattle.rwlock_machine.specs.Acts.{{Finds}}
 use Rattle.rwlock_machine.proofs.Leads.{{Led}}
@@ -229,23 +229,23 @@ use Rattle.lock_world.specs.Refusals.{{number_of}}
 use Rattle.lock_world.specs.Steps.{{Deed, nothing, changes, does, joins, asks, leaves, notifies}}
 use Rattle.lock_world.proofs.Equations.{{chosen}}
 use Rattle.mutex_machine.specs.Course.{{Course as TurnCourse, is_out as is_out_there, is_holding}}
-use Rattle.rwlock_machine.specs.declared.program.Action.{{Action}}
-use Rattle.rwlock_machine.specs.declared.program.Action.TheVariants as act
+use Rattle.rwlock_program.specs.declared.program.Action.{{Action}}
+use Rattle.rwlock_program.specs.declared.program.Action.TheVariants as act
 use Rattle.lock_table.specs.declared.end.End.TheVariants.{{Pending, Refused}}
-use Rattle.rwlock_machine.specs.declared.program.Next.{{Next}}
-use Rattle.rwlock_machine.specs.declared.program.Next.TheVariants as next
-use Rattle.rwlock_machine.specs.declared.program.Found.{{Found}}
-use Rattle.rwlock_machine.specs.declared.program.Found.TheVariants.{{Done, Writer, Full, NoneLeft, SomeLeft, NoMemory, Yes, No, Turn}}
-use Rattle.rwlock_machine.specs.declared.program.Found.TheVariants as found
-use Rattle.mutex_machine.specs.declared.mutex.Step.TheVariants as turn_step
-use Rattle.mutex_machine.specs.declared.program.End.TheVariants as turn_end
-use Rattle.rwlock_machine.specs.declared.program.Purpose.TheVariants as purpose
-use Rattle.rwlock_machine.specs.declared.program.Ending.TheVariants as ending
-use Rattle.rwlock_machine.specs.declared.program.Place.{{Place}}
-use Rattle.rwlock_machine.specs.declared.program.Place.TheVariants.{{{PLACES}}}
-use Rattle.rwlock_machine.specs.Program.{{action_of, next_of, place_after}}
+use Rattle.rwlock_program.specs.declared.program.Next.{{Next}}
+use Rattle.rwlock_program.specs.declared.program.Next.TheVariants as next
+use Rattle.rwlock_program.specs.declared.program.Found.{{Found}}
+use Rattle.rwlock_program.specs.declared.program.Found.TheVariants.{{Done, Writer, Full, NoneLeft, SomeLeft, NoMemory, Yes, No, Turn}}
+use Rattle.rwlock_program.specs.declared.program.Found.TheVariants as found
+use Rattle.mutex_program.specs.declared.calls.Step.TheVariants as turn_step
+use Rattle.mutex_program.specs.declared.calls.End.TheVariants as turn_end
+use Rattle.rwlock_program.specs.declared.program.Purpose.TheVariants as purpose
+use Rattle.rwlock_program.specs.declared.program.Ending.TheVariants as ending
+use Rattle.rwlock_program.specs.declared.program.Place.{{Place}}
+use Rattle.rwlock_program.specs.declared.program.Place.TheVariants.{{{PLACES}}}
+use Rattle.rwlock_program.specs.Program.{{action_of, next_of, place_after}}
 use Rattle.rwlock_machine.specs.Roles.{{has_turn, in_no_writer, in_no_readers, fits_turn}}
-use Rattle.rwlock_machine.specs.Parties.{{OnNoWriter, OnNoReaders}}
+use Rattle.rwlock_program.specs.Parties.{{OnNoWriter, OnNoReaders}}
 use Rattle.rwlock_machine.specs.Machine.{{RwLock}}
 use Rattle.rwlock_machine.specs.Acts.{{Finds, readers, marked}}
 use Rattle.rwlock_machine.proofs.Leads.{{Led, steps_in_turn}}
