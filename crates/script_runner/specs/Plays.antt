@@ -105,6 +105,10 @@ TellsOfLine IsBadLine Read old new = ⊥
 TellsOfLine IsBadLine Usage old new = ⊥
 TellsOfLine IsBadLine Thread old new = ⊥
 
--- the writer got a number as one line
+-- the writer got this number as one line
+abbrev pub PrintsThis : ℕ → Option (List ℕ) → Option (List ℕ) → Type 0
+PrintsThis n old new = Appends old new (decimal n ++ 10 ∷ [])
+
+-- the writer got some number as one line
 abbrev pub PrintsNumber : Option (List ℕ) → Option (List ℕ) → Type 0
-PrintsNumber old new = (n : ℕ) × Appends old new (decimal n ++ 10 ∷ [])
+PrintsNumber old new = (n : ℕ) × PrintsThis n old new

@@ -3,7 +3,7 @@
 ghost use Rattle.std.specs.Prelude.{◌≡◌, ◌≢◌, ◌⊎◌, ◌+◌, ◌<◌, ◌≤◌, ◌++◌, ℕ, List, [], ◌∷◌, All, length, vec_len, Some, None, Ok, Err, IsOk, IsErr, IfOk, IfErr, OnOk, OnErr, IfSome};
 ghost use Rattle.std.specs.Io.{StartsWith, appended_bytes};
 ghost use Rattle.std.specs.Io.KnownBytes.{Appends, Consumes, IsAtEnd, Keeps};
-ghost use Rattle.script_runner.specs.Plays.{IsAtFault, IsBad, IsPlayed, Leads, Makes, PlaysLine, PrintsNumber, Tells, TellsOfLine};
+ghost use Rattle.script_runner.specs.Plays.{IsAtFault, IsBad, IsPlayed, Leads, Makes, PlaysLine, PrintsThis, Tells, TellsOfLine};
 ghost use Rattle.script_runner.specs.Scripts.{IsLine, IsScript, IsStartOfScript};
 ghost use Rattle.script_words.specs.Lines.{lines_of};
 ghost use Rattle.lock_script.specs.declared.command.Command.TheVariants.{On};
@@ -69,9 +69,9 @@ fn tell<E: Write>(fault: Fault, errors: &mut E) -> io::Result<()>
     writeln!(errors, "{fault}")
 }
 
-/// Writes a number as one line, and flushes it.
+/// Writes this number as one line, and flushes it.
 pub fn print_number<O: Write>(number: u64, output: &mut O) -> Result<(), Fault>
-    ensures printed { OnOk result (PrintsNumber (O.contents output.old) (O.contents output.new)) }
+    ensures printed { OnOk result (PrintsThis number (O.contents output.old) (O.contents output.new)) }
     ensures system { IfErr result (λ fault. fault ≡ Fault.Write) }
 {
     written(writeln!(output, "{number}"))?;

@@ -4,13 +4,13 @@ use Rattle.std.specs.Prelude.{Option, Result, Ok, Err, OnOk, OnErr, decimal}
 use Rattle.std.specs.Io.KnownBytes.{Appends, Keeps}
 use Rattle.script_runner.specs.declared.fault.Fault.{Fault}
 use Rattle.script_runner.specs.declared.fault.Fault.TheVariants.{Write}
-use Rattle.script_runner.specs.Plays.{PrintsNumber}
+use Rattle.script_runner.specs.Plays.{PrintsThis}
 use Rattle.script_runner.proofs.Faults.{Appends-kept}
 use Rattle.script_runner.proofs.script.print_number.Goals as goal
 
-number_printed : {A E : Type 0} (a b c : Option (List ℕ)) (n : ℕ) (outcome : Result A E) (said ended : Result (Unit {0}) Fault) (done : Unit {0}) → OnOk outcome (Appends a b (decimal n ++ 10 ∷ [])) → OnErr outcome (said ≡ Err Write) → said ≡ Ok done → Keeps b c → OnOk ended (PrintsNumber a c)
+number_printed : {A E : Type 0} (a b c : Option (List ℕ)) (n : ℕ) (outcome : Result A E) (said ended : Result (Unit {0}) Fault) (done : Unit {0}) → OnOk outcome (Appends a b (decimal n ++ 10 ∷ [])) → OnErr outcome (said ≡ Err Write) → said ≡ Ok done → Keeps b c → OnOk ended (PrintsThis n a c)
 number_printed a b c n outcome said (Err fault) done text err is keeps = tt
-number_printed a b c n (Ok v) said (Ok u) done text err is keeps = (n, Appends-kept a b c (decimal n ++ 10 ∷ []) text keeps)
+number_printed a b c n (Ok v) said (Ok u) done text err is keeps = Appends-kept a b c (decimal n ++ 10 ∷ []) text keeps
 number_printed a b c n (Err e) said (Ok u) done text err is keeps =
     let clash : Err Write ≡ Ok done = sym err ∙ is in
     absurd cc
