@@ -1,3 +1,4 @@
+pub mod Alike
 pub mod Bounds
 pub mod Equations
 pub mod Rests

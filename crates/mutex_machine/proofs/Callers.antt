@@ -1,9 +1,11 @@
 -- What the machines and Worlds above may rest on that take a mutex for a part of their own: which calls may begin, what a party has by the course of its calls, on which end its call is decided, what a new mutex looks like, and giving way as Worlds say it.
-use Rattle.std.proofs.Common.{◌≡◌, ℕ, ◌+◌, ◌<◌, ◌≤◌, ◌⊎◌, inl, inr, zero, suc, true, false, ◌∷◌, length, map, replicate, get_or, Option, Some, None, refl, ap, arith, ◌∙◌}
+use Rattle.std.proofs.Common.{◌≡◌, ℕ, ◌+◌, ◌<◌, ◌≤◌, ◌⊎◌, inl, inr, zero, suc, true, false, ◌∷◌, length, map, replicate, Option, Some, None, refl, ap, arith, ◌∙◌}
 use Rattle.std.proofs.lemmas.Bool.{false≢true}
+use Rattle.std.proofs.lemmas.List.{length-replicate}
 use Rattle.lock_queue.specs.Parties.{entries_of}
 use Rattle.lock_world.specs.declared.refusal.Refusal.{Refusal}
 use Rattle.lock_world.specs.Bounds as bounds
+use Rattle.lock_world.proofs.Alike.{all_alike}
 use Rattle.lock_world.proofs.Bounds.{some_listed}
 use Rattle.mutex_program.specs.declared.calls.LockCall.TheVariants as call
 use Rattle.mutex_program.specs.declared.calls.End.{End}
@@ -125,17 +127,8 @@ taking_decided (taking (gives_up refusal) starved stands told) h = inr (inr (ref
 taking_decided _ h = absurd (false≢true h)
 
 -- a new mutex: each party is out, nobody holds it, and nobody is starved
-all_out : (n p : ℕ) → is_out (get_or (replicate n out) p out) ≡ true
-all_out zero p = refl
-all_out (suc n) zero = refl
-all_out (suc n) (suc p) = all_out n p
-
 pub new_is_out : (parties limit p : ℕ) → is_out (course_at (new_mutex parties limit).courses p) ≡ true
-new_is_out parties limit p = all_out parties p
-
-length-replicate : {A : Type 0} (n : ℕ) (x : A) → length (replicate n x) ≡ n
-length-replicate zero x = refl
-length-replicate (suc n) x = ap (λ n. suc n) (length-replicate n x)
+new_is_out parties limit p = ap is_out (all_alike out parties p)
 
 pub new_parties : (parties limit : ℕ) → length (new_mutex parties limit).courses ≡ parties
 new_parties parties limit = length-replicate parties out

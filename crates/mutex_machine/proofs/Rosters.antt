@@ -41,6 +41,15 @@ module _ {A : Type 0} (has : A → ℕ) (none : A) (bits : (x : A) → bit (has 
   on_at (x ∷ xs) zero = refl
   on_at (x ∷ xs) (suc p) = on_at xs p
 
+  -- where it is said of none, it isn't said of this one
+  none_there : (xs : List A) (p : ℕ) → sum_by has xs ≡ 0 → has (at xs p) ≡ 0
+  none_there [] p e = nothing
+  none_there (x ∷ xs) zero e = omega (arith, sum_by-cons has x xs, e)
+  none_there (x ∷ xs) (suc p) e = none_there xs p (omega (arith, sum_by-cons has x xs, e))
+
+  pub none_on : (xs : List A) (p : ℕ) → sum_by has xs ≡ 0 → get_or (map test xs) p false ≡ false
+  none_on xs p none = on_at xs p ∙ is_zero (test (at xs p)) (bits (at xs p) ∙ none_there xs p none)
+
   pub how_many_on : (xs : List A) → how_many (map test xs) ≡ sum_by has xs
   how_many_on [] = refl
   how_many_on (x ∷ xs) = omega (arith, one_if (test x), sum_by-cons has x xs, bits x, how_many_on xs)

@@ -71,6 +71,9 @@ holds_bit ReleaseNotify = refl
 pub starved_at : (ps : List Place) (p : ℕ) → get_or (map is_counted ps) p false ≡ is_counted (place_at ps p)
 starved_at = rosters.on_at counted Out counted_bit refl
 
+pub none_starved : (ps : List Place) (p : ℕ) → sum_by counted ps ≡ 0 → get_or (map is_counted ps) p false ≡ false
+none_starved = rosters.none_on counted Out counted_bit refl
+
 pub how_many_counted : (ps : List Place) → how_many (map is_counted ps) ≡ sum_by counted ps
 how_many_counted = rosters.how_many_on counted Out counted_bit refl
 

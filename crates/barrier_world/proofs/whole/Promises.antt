@@ -1,7 +1,5 @@
 -- What a whole call of a barrier promises beside its end.
-use Rattle.std.proofs.Common.{◌≡◌, ◌≢◌, ℕ, zero, suc, Bool, true, false, [], ◌∷◌, List, Some, refl, sym, ap, ◌∙◌, subst, arith}
-use Rattle.std.specs.List.{sum_by}
-use Rattle.std.proofs.lemmas.List.Sums.{sum_by-cons}
+use Rattle.std.proofs.Common.{◌≡◌, ◌≢◌, ℕ, true, false, Some, sym, ap, ◌∙◌, subst}
 use Rattle.lock_world.specs.declared.moves.Answer.{Answer}
 use Rattle.lock_world.specs.declared.moves.Answer.TheVariants as answer
 use Rattle.lock_world.specs.declared.moves.Call.{Call}
@@ -20,8 +18,8 @@ use Rattle.lock_frame.specs.Steps.{beginning}
 use Rattle.lock_frame.proofs.Runs.{Onward, along}
 use Rattle.lock_table.specs.Tables.{Table, Acted}
 use Rattle.lock_table.proofs.Ways.{onward}
-use Rattle.mutex_machine.specs.Course.{Course, bit, counted, is_counting}
-use Rattle.mutex_machine.specs.Mutex.{Mutex, course_at, starved, is_counted}
+use Rattle.mutex_machine.specs.Course.{Course, is_counting}
+use Rattle.mutex_machine.specs.Mutex.{Mutex, course_at, starved}
 use Rattle.mutex_machine.proofs.Callers.{out_uncounted, waiting_uncounted}
 use Rattle.mutex_machine.proofs.Holders as sees
 use Rattle.barrier_program.specs.declared.program.Action.{Action}
@@ -94,19 +92,8 @@ module _ (p : ℕ) (i : Inputs) (patient : i.starving ≡ false) where
   first_unstarved : (c : Call) (x : World) → Unstarved x.behind → (a : Answer) (v : World) → Steps x (beginning p c i) a v → Left a v
   first_unstarved c x none a v s = steps_unstarved x (Begin c i) a v patient none (λ w k. begins_uncounted c (position_at x.behind.machine.positions p) k.acts.from (course_at x.behind.machine.lock.courses p) k.acts.starts (s.did.stood.barrier.links p)) s
 
-by_bit : (b : Bool) (n : ℕ) → bit b ≡ n → n ≡ 0 → b ≡ false
-by_bit true n e z = absurd (omega (arith, e, z))
-by_bit false n e z = refl
-
-none_at : (cs : List Course) (q : ℕ) → sum_by counted cs ≡ 0 → counted (course_at cs q) ≡ 0
-none_at [] q e = refl
-none_at (x ∷ xs) zero e = omega (arith, sum_by-cons counted x xs, e)
-none_at (x ∷ xs) (suc q) e = none_at xs q (omega (arith, sum_by-cons counted x xs, e))
-
 not_counted : (w : World) (p : ℕ) → Stands w → starved w.behind.machine.lock ≡ 0 → is_starved w.lock p ≡ false
-not_counted w p s none =
-    let cs = w.behind.machine.lock.courses in
-    ap (λ x. is_starved x.lock p) s.seen ∙ (sees.starved_at cs p ∙ by_bit (is_counted (course_at cs p)) (counted (course_at cs p)) (sees.counted_bit (course_at cs p)) (none_at cs p none))
+not_counted w p s none = ap (λ x. is_starved x.lock p) s.seen ∙ sees.none_starved w.behind.machine.lock.courses p none
 
 -- ---- the promises
 

@@ -1,7 +1,5 @@
 -- What a whole call promises beside its end, and beside what a solo poll does: by what each of its steps does to the machine.
-use Rattle.std.proofs.Common.{◌≡◌, ◌≢◌, ℕ, ◌<◌, inl, inr, Bool, true, false, zero, suc, List, [], ◌∷◌, length, Some, refl, arith, ap, sym, ◌∙◌, subst}
-use Rattle.std.specs.List.{sum_by}
-use Rattle.std.proofs.lemmas.List.Sums.{sum_by-cons}
+use Rattle.std.proofs.Common.{◌≡◌, ◌≢◌, ℕ, ◌<◌, inl, inr, Bool, true, false, List, length, Some, arith, ap, sym, ◌∙◌, subst}
 use Rattle.lock_event.specs.declared.event.Entry.{Entry}
 use Rattle.lock_event.specs.Lists.{marked_count}
 use Rattle.lock_queue.specs.Parties.{entries_of}
@@ -36,9 +34,6 @@ use Rattle.mutex_program.specs.declared.program.Next.TheVariants as next
 use Rattle.mutex_program.specs.declared.program.Place.{Place}
 use Rattle.mutex_machine.specs.Acts.{starved}
 use Rattle.mutex_machine.specs.Courses.{is_waiting, is_counting, is_told, HeedsClock}
-use Rattle.mutex_machine.specs.Machine.{place_at}
-use Rattle.mutex_program.specs.Roles.{bit, counted}
-use Rattle.mutex_machine.specs.State.{is_counted}
 use Rattle.mutex_machine.proofs.Promised.{begins_uncounted, none_counted, HandsOn, told_on, begins_told}
 use Rattle.mutex_machine.proofs.Seen as sees
 use Rattle.mutex_world.specs.Bound.{Promises}
@@ -161,15 +156,7 @@ starved_behind : (w : World) → Stands w → how_many w.state.starved ≡ starv
 starved_behind w s = ap (λ x. how_many x.state.starved) s.seen ∙ sees.how_many_counted w.behind.machine.lock.places
 
 not_counted : (w : World) (p : ℕ) → Stands w → starved w.behind.machine.lock ≡ 0 → is_starved w.state p ≡ false
-not_counted w p s none = ap (λ x. is_starved x.state p) s.seen ∙ (sees.starved_at w.behind.machine.lock.places p ∙ by_bit (is_counted (lock_at w p)) (sees.counted_bit (lock_at w p)) (none_at w.behind.machine.lock.places p none)) where
-  by_bit : (b : Bool) → bit b ≡ counted (lock_at w p) → counted (lock_at w p) ≡ 0 → b ≡ false
-  by_bit true e n = absurd (omega (arith, e, n))
-  by_bit false e n = refl
-
-  none_at : (ps : List Place) (q : ℕ) → sum_by counted ps ≡ 0 → counted (place_at ps q) ≡ 0
-  none_at [] q e = refl
-  none_at (x ∷ xs) zero e = omega (arith, sum_by-cons counted x xs, e)
-  none_at (x ∷ xs) (suc q) e = none_at xs q (omega (arith, sum_by-cons counted x xs, e))
+not_counted w p s none = ap (λ x. is_starved x.state p) s.seen ∙ sees.none_starved w.behind.machine.lock.places p none
 
 -- ---- the promises
 

@@ -1,5 +1,5 @@
 -- The laws of a read-write lock's World: what follows from one step that its table did.
-use Rattle.std.proofs.Common.{◌≡◌, ◌≢◌, ℕ, ◌+◌, ◌<◌, ◌≤◌, true, List, [], ◌∷◌, refl, sym, subst}
+use Rattle.std.proofs.Common.{◌≡◌, ◌≢◌, ℕ, ◌+◌, ◌<◌, ◌≤◌, true, refl, sym, subst}
 use Rattle.lock_world.specs.Accounts.{Account, accounts_after}
 use Rattle.lock_world.specs.declared.moves.Answer.{Answer}
 use Rattle.lock_world.specs.declared.moves.Answer.TheVariants as answer
@@ -11,6 +11,7 @@ use Rattle.lock_world.specs.Standings.{is_outside, is_possible}
 use Rattle.lock_world.specs.Whole.{going_on, moves_of, answers_of}
 use Rattle.lock_frame.specs.Steps.{StepsWell, left_by, beginning}
 use Rattle.lock_frame.proofs.Endings.{ends_outside as outside_at_end}
+use Rattle.lock_frame.proofs.Runs.{first_of}
 use Rattle.rwlock_world.specs.State.{World, standing_of}
 use Rattle.rwlock_world.specs.Steps.{Stands, Steps}
 use Rattle.rwlock_world.specs.Laws.{IsSound, IsAwake, is_at_rest}
@@ -55,13 +56,9 @@ falls w p i a v s = whole.onward w.behind v.behind p i a s.did.stood.lock (way_o
 pub ends_outside : (w : World) (m : Move) (a : Answer) (v : World) → Steps w m a v → a ≢ answer.Stepped → is_possible a ≡ true → is_outside (standing_of v m.party) ≡ true
 ends_outside w m a v s = outside_at_end standing_of knows_of Holding w m a v s.legal.possible s.legal.ends_properly
 
-stood_first : (known : ℕ → Account) (w : World) (m : Move) (ms : List Move) (answers : List Answer) (v : World) → Runs known w (m ∷ ms) answers v → Stands w
-stood_first known w m ms [] v runs = absurd runs
-stood_first known w m ms (a ∷ more) v runs = runs.1.did.stood
-
 pub keeps_promise : (known : ℕ → Account) (w : World) (p : ℕ) (c : Call) (i : Inputs) (n : ℕ) (a : Answer) (v : World) → Runs known w (moves_of p c i n) (answers_of n a) v → a ≢ answer.Stepped → Promises w p c i a v
 keeps_promise known w p c i n a v runs ended =
-    let stood : Stands w = stood_first known w (beginning p c i) _ (answers_of n a) v runs in
+    let stood : Stands w = (first_of Steps accounts_after HoldsWell known w (beginning p c i) _ (answers_of n a) v runs).2.did.stood in
     let R : Call → Type 0 = λ x. Runs known w (moves_of p x i n) (answers_of n a) v in
     record {
       turn = λ is. turn_seen_polled known w p i n a v stood (subst R is runs) ended;

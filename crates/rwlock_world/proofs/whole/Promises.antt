@@ -1,7 +1,5 @@
 -- Where nobody is starved for the turn, a whole call starves nobody that hasn't waited for too long.
-use Rattle.std.proofs.Common.{◌≡◌, ◌≢◌, ℕ, Bool, true, false, zero, suc, List, [], ◌∷◌, refl, arith, ap, sym, ◌∙◌, subst}
-use Rattle.std.specs.List.{sum_by}
-use Rattle.std.proofs.lemmas.List.Sums.{sum_by-cons}
+use Rattle.std.proofs.Common.{◌≡◌, ◌≢◌, ℕ, Bool, true, false, refl, ap, sym, ◌∙◌, subst}
 use Rattle.lock_world.specs.Accounts.{Account, accounts_after}
 use Rattle.lock_world.specs.declared.moves.Answer.{Answer}
 use Rattle.lock_world.specs.declared.moves.Answer.TheVariants as answer
@@ -18,8 +16,8 @@ use Rattle.lock_world.specs.Standings.{inputs_of, refused}
 use Rattle.lock_world.specs.Whole.{going_on, moves_of, answers_of}
 use Rattle.lock_frame.specs.Steps.{beginning}
 use Rattle.lock_frame.proofs.Runs.{along, Onward}
-use Rattle.mutex_machine.specs.Course.{Course as TurnCourse, is_counting, bit, counted}
-use Rattle.mutex_machine.specs.Mutex.{starved, Mutex, course_at as turn_at, is_counted}
+use Rattle.mutex_machine.specs.Course.{Course as TurnCourse, is_counting}
+use Rattle.mutex_machine.specs.Mutex.{starved, Mutex, course_at as turn_at}
 use Rattle.mutex_machine.proofs.Callers.{out_uncounted, holding_uncounted, waiting_uncounted}
 use Rattle.mutex_machine.proofs.Holders as sees
 use Rattle.rwlock_program.specs.declared.program.Action.{Action}
@@ -138,15 +136,7 @@ starved_behind : (w : World) → Stands w → how_many w.state.starved ≡ starv
 starved_behind w s = ap (λ x. how_many x.state.starved) s.seen ∙ sees.how_many_counted w.behind.machine.lock.turn.courses
 
 not_counted : (w : World) (p : ℕ) → Unstarved p w → is_starved w p ≡ false
-not_counted w p k = ap (λ x. is_starved x p) k.stands.seen ∙ (sees.starved_at w.behind.machine.lock.turn.courses p ∙ by_bit (is_counted (turn_at w.behind.machine.lock.turn.courses p)) (sees.counted_bit (turn_at w.behind.machine.lock.turn.courses p)) (none_at w.behind.machine.lock.turn.courses p k.none)) where
-  by_bit : (b : Bool) → bit b ≡ counted (turn_at w.behind.machine.lock.turn.courses p) → counted (turn_at w.behind.machine.lock.turn.courses p) ≡ 0 → b ≡ false
-  by_bit true e n = absurd (omega (arith, e, n))
-  by_bit false e n = refl
-
-  none_at : (ps : List TurnCourse) (q : ℕ) → sum_by counted ps ≡ 0 → counted (turn_at ps q) ≡ 0
-  none_at [] q e = refl
-  none_at (x ∷ xs) zero e = omega (arith, sum_by-cons counted x xs, e)
-  none_at (x ∷ xs) (suc q) e = none_at xs q (omega (arith, sum_by-cons counted x xs, e))
+not_counted w p k = ap (λ x. is_starved x p) k.stands.seen ∙ sees.none_starved w.behind.machine.lock.turn.courses p k.none
 
 pub unstarved_at_end : (known : ℕ → Account) (w : World) (p : ℕ) (c : Call) (i : Inputs) (n : ℕ) (a : Answer) (v : World) → Stands w → i.starving ≡ false → how_many w.state.starved ≡ 0 → Runs known w (moves_of p c i n) (answers_of n a) v → a ≢ answer.Stepped → is_starved v p ≡ false
 unstarved_at_end known w p c i n a v stood patient none runs ended =
