@@ -1,5 +1,6 @@
 -- What a party has and owes where it stands.
 use Rattle.std.specs.Prelude.{ℕ, Bool, true, false, Option, Some, None}
+pub use Rattle.lock_world.specs.Rosters.{bit}
 use Rattle.lock_world.specs.declared.moves.Answer.{Answer}
 use Rattle.lock_world.specs.declared.moves.Answer.TheVariants.{Ready, Granted, GivenBack}
 use Rattle.lock_world.specs.declared.moves.Got.TheVariants as got
@@ -73,10 +74,6 @@ pub record Seat : Type 0 where
 
 abbrev pub seat : Bool → ℕ → ℕ → ℕ → ℕ → Seat
 seat makes active passive waits owes = record { makes = makes; active = active; passive = passive; waits = waits; owes = owes }
-
-abbrev pub bit : Bool → ℕ
-bit true = 1
-bit false = 0
 
 -- nothing had and nothing owed; an entry in `active` that waits; an entry in `passive`
 abbrev pub nothing_had : Seat

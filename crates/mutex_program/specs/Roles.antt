@@ -1,11 +1,8 @@
 -- What a party at a place has and owes, each as 1 or 0, so that sums over the parties count them.
 use Rattle.std.specs.Prelude.{ℕ, ◌==◌, Bool, true, false}
+pub use Rattle.lock_world.specs.Rosters.{bit}
 use Rattle.mutex_program.specs.declared.program.Place.{Place}
 use Rattle.mutex_program.specs.declared.program.Place.TheVariants.{Out, Holding, Clear, CancelUncount, CancelLeave, Look, Ask, Retry, PassOn, Count, JoinStarved, LookAlone, PassOnListed, AskStarved, Seize, Uncount, Leave, RefuseUncount, RefuseLeave, RefuseNotifyMemory, RefuseNotifyStarved, ReleaseNotify}
-
-abbrev pub bit : Bool → ℕ
-bit true = 1
-bit false = 0
 
 -- it holds the lock
 abbrev pub holds : Place → ℕ

@@ -1,5 +1,6 @@
 -- What a party has and owes where it stands, so that sums over the parties count it.
 use Rattle.std.specs.Prelude.{ℕ, zero, suc, if◌then◌else◌, Bool, true, false, Option, Some, None}
+pub use Rattle.lock_world.specs.Rosters.{bit}
 use Rattle.lock_world.specs.declared.moves.Answer.{Answer}
 use Rattle.lock_world.specs.declared.moves.Answer.TheVariants.{Ready, Granted, GivenBack}
 use Rattle.lock_world.specs.declared.moves.Got.TheVariants.{Plain}
@@ -33,10 +34,6 @@ pub record Seat : Type 0 where
 
 abbrev pub seat : Share → ℕ → ℕ → ℕ → Seat
 seat s listed waits owes = record { share = s; listed = listed; waits = waits; owes = owes }
-
-abbrev pub bit : Bool → ℕ
-bit true = 1
-bit false = 0
 
 -- a notification for no permit pays nothing
 abbrev pub some_of : ℕ → ℕ
