@@ -1,5 +1,5 @@
 -- What a read-write lock's World stands on: a lock over a number, which calls it knows of a party, and what one action does.
-use Rattle.std.specs.Prelude.{◌≡◌, ℕ, Bool, true, false, length, Option, Some, None}
+use Rattle.std.specs.Prelude.{◌≡◌, ℕ, Bool, true, length, Option, Some, None}
 use Rattle.lock_world.specs.declared.moves.Answer.{Answer}
 use Rattle.lock_world.specs.declared.moves.Answer.TheVariants.{Stepped, Waiting, Granted}
 use Rattle.lock_world.specs.declared.moves.Call.{Call}
