@@ -226,6 +226,7 @@ use Rattle.lock_world.specs.declared.moves.Got.TheVariants.{{Value}}
 use Rattle.lock_world.specs.declared.refusal.Refusal.{{Refusal}}
 use Rattle.lock_world.specs.declared.refusal.Refusal.TheVariants as refusal
 use Rattle.lock_world.specs.Refusals.{{number_of}}
+use Rattle.lock_world.specs.Rights.{{Right, read, upgradable}}
 use Rattle.lock_world.specs.Steps.{{Deed, nothing, changes, does, joins, asks, leaves, notifies}}
 use Rattle.lock_world.proofs.Equations.{{chosen}}
 use Rattle.mutex_machine.specs.Course.{{Course as TurnCourse, is_out as is_out_there, is_holding}}
@@ -253,7 +254,6 @@ use Rattle.rwlock_world.specs.Changes.{{Change, begins_to_read, stops_reading, b
 use Rattle.rwlock_world.specs.State as state
 use Rattle.rwlock_world.specs.State.{{ListName, for_the_turn, for_no_readers, for_no_writer}}
 use Rattle.lock_table.proofs.Calls.{{decided_after}}
-use Rattle.rwlock_world.specs.Legal.{{may_meet}}
 use Rattle.rwlock_world.specs.Guarded.{{answer_by}}
 use Rattle.rwlock_world.specs.Stages.{{strays, course_of, sought_at}}
 use Rattle.rwlock_world.specs.View.{{passing, upgrading, waiting, writing, turn_as, share_of, is_reading, is_upgrade, verdict}}
@@ -353,10 +353,16 @@ lacks_memory (JoinNoReaders u) = true
 lacks_memory (TakeTurn q) = true
 lacks_memory _ = false
 
+-- what a party takes that meets the limit of the readers
+abbrev pub MeetsReaders : RwLock → Place → Option Right → Type 0
+MeetsReaders l x (Some read) = marked l ≡ 0
+MeetsReaders l x (Some upgradable) = has_turn x ≡ 1
+MeetsReaders l x s = ⊥
+
 -- why a step refuses its call
 abbrev pub Refuses : Bool → RwLock → Place → Found → Refusal → Type 0
 Refuses memory l x f refusal.Memory = (memory ≡ false) × (in_no_writer x + in_no_readers x ≡ 0) × (deed_at x f ≡ nothing) × ((t : TurnCourse) → fits_turn x t ≡ true → (is_out_there t ≡ true) ⊎ (is_holding t ≡ true)) × (lacks_memory x ≡ true)
-Refuses memory l x f refusal.Readers = (l.limit ≤ readers l) × (may_meet (sought_at (place_after (next_of x f))) refusal.Readers ≡ true)
+Refuses memory l x f refusal.Readers = (l.limit ≤ readers l) × MeetsReaders l x (sought_at (place_after (next_of x f)))
 Refuses memory l x f _ = ⊥
 
 -- why a step decides its call on an answer
@@ -434,8 +440,8 @@ def memory(side):
     return f'(refusal.Memory, refl, (e, refl, refl, (λ t h. {side} h), refl))'
 
 
-def full(e):
-    return f'(refusal.Readers, refl, ({e}, refl))'
+def full(many, taken):
+    return f'(refusal.Readers, refl, ({many}, {taken}))'
 
 
 def row(place, found, judged, sharing=STAYS, finding='tt', upgrade='tt', refused='tt', no_writer='λ p a b o. o', no_readers='λ p a b o. o'):
@@ -470,9 +476,9 @@ for told in ('true', 'false'):
     row(f'(EnterRead {told})', 'Done', GOT_IT, finding='e')
     row(f'(EnterRead {told})', 'Writer', UNDECIDED, upgrade=GOES)
     if told == 'true':
-        row(f'(EnterRead {told})', 'Full', full('e.1'), upgrade=GOES)
+        row(f'(EnterRead {told})', 'Full', full('e.1', 'e.0'), upgrade=GOES)
     else:
-        row(f'(EnterRead {told})', 'Full', full('e.1'), upgrade='refl', refused=MADE)
+        row(f'(EnterRead {told})', 'Full', full('e.1', 'e.0'), upgrade='refl', refused=MADE)
     rest(f'(EnterRead {told})')
 for told in ('true', 'false'):
     row(f'(JoinNoWriter {told})', 'Done', UNDECIDED, upgrade=GOES)
@@ -483,7 +489,7 @@ for told in ('true', 'false'):
     rest(f'(JoinNoWriter {told})')
 row('(LookNoWriter told)', 'Done', GOT_IT, finding='e', upgrade=GOES)
 row('(LookNoWriter told)', 'Writer', UNDECIDED, upgrade=GOES)
-row('(LookNoWriter told)', 'Full', full('e.1'), upgrade=GOES)
+row('(LookNoWriter told)', 'Full', full('e.1', 'e.0'), upgrade=GOES)
 rest('(LookNoWriter told)')
 row('AskNoWriter', 'Yes', UNDECIDED, upgrade=GOES, no_writer=ASKED)
 row('AskNoWriter', 'No', WAITS, upgrade='refl', no_writer=ASKED_IN_VAIN)
@@ -510,7 +516,7 @@ for place in ('(EnterTurn p)', '(WaitTurn p)', '(TakeTurn p)', '(TryTurn p)', 'C
     rows.append(f'  row {place.replace(" e)", " k)")} f e n t = absurd (cc)')
 for b in ('true', 'false'):
     row(f'(Add {b})', 'Done', GOT_IT, sharing=MOVES, finding='(refl, refl, e)')
-    row(f'(Add {b})', 'Full', FREE if b == 'true' else full('e'), upgrade=GOES)
+    row(f'(Add {b})', 'Full', FREE if b == 'true' else full('e', 'refl'), upgrade=GOES)
     rest(f'(Add {b})')
 row('TryUpgrade', 'Done', GOT_IT, sharing=MOVES, finding='(refl, refl, e.1)')
 row('TryUpgrade', 'NotFree', FREE)

@@ -4,7 +4,7 @@ ghost use Rattle.definition_tests.specs.Tables.{AreRowsOf, AreRowsOfTwo};
 ghost use Rattle.definition_tests.specs.ReadWriteTable.{beginnings, actions, followings};
 ghost use Rattle.rwlock_program.specs.Program.{start_of, action_of, next_of};
 ghost use Rattle.definition_tests.specs.Never.{Never};
-ghost use Rattle.definition_tests.specs.ReadWrite.{TriesInVain, ReadsUnready, WaitsUnlisted, PendsTooEarly, RefusedAtFirst, RefusedHavingMoved, ReadsWithTheBit, LetsGoUndecided, DowngradesThroughNothing, WriterIsUpgrade, TriesOn, WriteMeetsReaders, ReadMeetsStarved, StarvesUnasked, KeepsItsTold};
+ghost use Rattle.definition_tests.specs.ReadWrite.{TriesInVain, ReadsUnready, WaitsUnlisted, PendsTooEarly, RefusedAtFirst, RefusedHavingMoved, ReadsWithTheBit, LetsGoUndecided, UnmarksUndecided, StopsReadingUndecided, DowngradesUndecided, DropsUndecided, DowngradesThroughNothing, OtherIsUpgrade, IdleHasTurn, TriesOn, WriteMeetsReaders, ReadMeetsStarved, ReadMeetsReadersBesideWriter, MeetsReadersWithoutTurn, MeetsStarvedWithTurn, PassesTurnInVain, PassesReadingInVain, PassesWritingInVain, UpgradeWaitsForNobody, UpgradableUnready, WriteUnready, StarvesUnasked, KeepsItsTold};
 
 /// Each clause says of one wrong run that it isn't legal.
 fn wrong_runs()
@@ -16,11 +16,25 @@ fn wrong_runs()
     ensures refused_having_moved { Never (RefusedHavingMoved) }
     ensures reads_with_the_bit { Never (ReadsWithTheBit) }
     ensures lets_go_undecided { Never (LetsGoUndecided) }
+    ensures unmarks_undecided { Never (UnmarksUndecided) }
+    ensures stops_reading_undecided { Never (StopsReadingUndecided) }
+    ensures downgrades_undecided { Never (DowngradesUndecided) }
+    ensures drops_undecided { Never (DropsUndecided) }
     ensures downgrades_through_nothing { Never (DowngradesThroughNothing) }
-    ensures writer_is_upgrade { Never (WriterIsUpgrade) }
+    ensures other_is_upgrade { Never (OtherIsUpgrade) }
+    ensures idle_has_turn { Never (IdleHasTurn) }
     ensures tries_on { Never (TriesOn) }
     ensures write_meets_readers { Never (WriteMeetsReaders) }
     ensures read_meets_starved { Never (ReadMeetsStarved) }
+    ensures read_meets_readers_beside_writer { Never (ReadMeetsReadersBesideWriter) }
+    ensures meets_readers_without_turn { Never (MeetsReadersWithoutTurn) }
+    ensures meets_starved_with_turn { Never (MeetsStarvedWithTurn) }
+    ensures passes_turn_in_vain { Never (PassesTurnInVain) }
+    ensures passes_reading_in_vain { Never (PassesReadingInVain) }
+    ensures passes_writing_in_vain { Never (PassesWritingInVain) }
+    ensures upgrade_waits_for_nobody { Never (UpgradeWaitsForNobody) }
+    ensures upgradable_unready { Never (UpgradableUnready) }
+    ensures write_unready { Never (WriteUnready) }
     ensures starves_unasked { Never (StarvesUnasked) }
     ensures keeps_its_told { Never (KeepsItsTold) }
 {}

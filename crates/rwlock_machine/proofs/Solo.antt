@@ -1,5 +1,5 @@
 -- Where a poll leads that is carried out alone while the lock is free for it.
-use Rattle.std.proofs.Common.{◌≡◌, ℕ, ◌+◌, ◌<◌, zero, suc, Bool, true, List, [], ◌∷◌, length, get_or, refl, ap, arith, subst, ◌∙◌, get_or-set_same, length-set}
+use Rattle.std.proofs.Common.{◌≡◌, ℕ, ◌+◌, ◌<◌, ◌⊎◌, inl, inr, zero, suc, Bool, true, List, [], ◌∷◌, length, get_or, refl, ap, arith, subst, ◌∙◌, get_or-set_same, length-set}
 use Rattle.std.proofs.Math.ListN.{set}
 use Rattle.std.specs.List.{sum_by}
 use Rattle.std.proofs.lemmas.List.Sums.{sum_by-set}
@@ -23,7 +23,7 @@ use Rattle.rwlock_machine.specs.Roles.{reads, marks, in_no_writer, in_no_readers
 use Rattle.rwlock_program.specs.Parties.{OnNoWriter}
 use Rattle.rwlock_machine.specs.Machine.{RwLock, place_at}
 use Rattle.rwlock_machine.specs.Acts.{Acts, Finds, IsRwLock, readers, marked}
-use Rattle.rwlock_machine.specs.Solo.{GoesOnAlone, last, step, PollsAlone, at_once, begun, waits_to_read, waits_to_write, waits_for_turn, Took, SoloPolls}
+use Rattle.rwlock_machine.specs.Solo.{GoesOnAlone, last, step, PollsAlone, at_once, begun, waits_to_read, waits_to_write, looks_for_readers, waits_for_turn, Took, SoloPolls}
 use Rattle.rwlock_machine.proofs.SoloTurns.{either, must_take}
 
 module _ (p : ℕ) (v : RwLock) where
@@ -102,13 +102,18 @@ none_left v upgrade NoneLeft e none = refl
 none_left v upgrade SomeLeft e none = absurd (omega arith)
 none_left v upgrade _ e none = absurd e
 
+none_found : (v : RwLock) (f : Found) → Finds true act.Load f v → readers v ≡ 0 → next_of (LookUnlisted true) f ≡ ends Got Writing
+none_found v NoneLeft e none = refl
+none_found v SomeLeft e none = absurd (omega arith)
+none_found v _ e none = absurd e
+
 -- a party whose place is not Out is one of the lock's
 known_reader : (ps : List Place) (p : ℕ) → waits_to_read (place_at ps p) ≡ true → p < length ps
 known_reader [] p h = absurd (cc)
 known_reader (x ∷ xs) zero h = omega arith
 known_reader (x ∷ xs) (suc p) h = let more : p < length xs = known_reader xs p h in omega arith
 
-known_writer : (ps : List Place) (p : ℕ) → waits_to_write (place_at ps p) ≡ true → p < length ps
+known_writer : (ps : List Place) (p : ℕ) → looks_for_readers (place_at ps p) ≡ true → p < length ps
 known_writer [] p h = absurd (cc)
 known_writer (x ∷ xs) zero h = omega arith
 known_writer (x ∷ xs) (suc p) h = let more : p < length xs = known_writer xs p h in omega arith
@@ -121,6 +126,11 @@ pub writer_at : (x : Place) → waits_to_write x ≡ true → (upgrade : Bool) �
 writer_at (AwaitNoReaders upgrade) h = (upgrade, refl)
 writer_at _ h = absurd (cc)
 
+looker_at : (x : Place) → looks_for_readers x ≡ true → ((upgrade : Bool) × (x ≡ AwaitNoReaders upgrade)) ⊎ (x ≡ LookUnlisted true)
+looker_at (AwaitNoReaders upgrade) h = inl (upgrade, refl)
+looker_at (LookUnlisted true) h = inr refl
+looker_at _ h = absurd (cc)
+
 -- the poll of a pending party goes on where it stands
 module _ (p : ℕ) (e : End) (new : RwLock) where
   reader_goes_on : (v : RwLock) → place_at v.places p ≡ AskNoWriter → PollsAlone p e new v → GoesOnAlone p e new v
@@ -130,6 +140,10 @@ module _ (p : ℕ) (e : End) (new : RwLock) where
   writer_goes_on : (v : RwLock) (upgrade : Bool) → place_at v.places p ≡ AwaitNoReaders upgrade → PollsAlone p e new v → GoesOnAlone p e new v
   writer_goes_on v upgrade here (at_once old starving to a) = last v starving to (rw here (rw here at a))
   writer_goes_on v upgrade here (begun old mid starving a to acts on) = step v mid starving a to (rw here (rw here at acts)) on
+
+  upgrade_goes_on : (v : RwLock) → place_at v.places p ≡ LookUnlisted true → PollsAlone p e new v → GoesOnAlone p e new v
+  upgrade_goes_on v here (at_once old starving to a) = last v starving to (rw here (rw here at a))
+  upgrade_goes_on v here (begun old mid starving a to acts on) = step v mid starving a to (rw here (rw here at acts)) on
 
   reader_polls : (v : RwLock) → marked v ≡ 0 → readers v < v.limit → waits_to_read (place_at v.places p) ≡ true → is_marked_at (is_party p) v.no_writer ≡ true → PollsAlone p e new v → Took p Reading e new
   reader_polls v free below waits told polls =
@@ -146,14 +160,27 @@ module _ (p : ℕ) (e : End) (new : RwLock) where
       let done = along p v e new (EnterRead true) two.mid three (ends Got Reading) (three.acts.next_is ∙ entered two.mid three.acts.found three.acts.finds free_now below_now) in
       took p v e new Reading three.mid done.0 done.1
 
-  writer_polls : (v : RwLock) → readers v ≡ 0 → waits_to_write (place_at v.places p) ≡ true → PollsAlone p e new v → Took p Writing e new
-  writer_polls v none waits polls =
-      let at = writer_at (place_at v.places p) waits in
-      let one = unfolds p v e new (AwaitNoReaders at.0) v (at_start p v (AwaitNoReaders at.0) (known_writer v.places p waits) at.1) (writer_goes_on v at.0 at.1 polls) in
-      let leaving = along p v e new (AwaitNoReaders at.0) v one (go_to LeaveNoReaders) (one.acts.next_is ∙ none_left v at.0 one.acts.found one.acts.finds none) in
+  listed_polls : (v : RwLock) (upgrade : Bool) → readers v ≡ 0 → p < length v.places → place_at v.places p ≡ AwaitNoReaders upgrade → PollsAlone p e new v → Took p Writing e new
+  listed_polls v upgrade none known here polls =
+      let one = unfolds p v e new (AwaitNoReaders upgrade) v (at_start p v (AwaitNoReaders upgrade) known here) (writer_goes_on v upgrade here polls) in
+      let leaving = along p v e new (AwaitNoReaders upgrade) v one (go_to LeaveNoReaders) (one.acts.next_is ∙ none_left v upgrade one.acts.found one.acts.finds none) in
       let two = unfolds p v e new LeaveNoReaders one.mid leaving.1 leaving.0 in
       let done = along p v e new LeaveNoReaders one.mid two (ends Got Writing) two.acts.next_is in
       took p v e new Writing two.mid done.0 done.1
+
+  unlisted_polls : (v : RwLock) → readers v ≡ 0 → p < length v.places → place_at v.places p ≡ LookUnlisted true → PollsAlone p e new v → Took p Writing e new
+  unlisted_polls v none known here polls =
+      let one = unfolds p v e new (LookUnlisted true) v (at_start p v (LookUnlisted true) known here) (upgrade_goes_on v here polls) in
+      let done = along p v e new (LookUnlisted true) v one (ends Got Writing) (one.acts.next_is ∙ none_found v one.acts.found one.acts.finds none) in
+      took p v e new Writing one.mid done.0 done.1
+
+  writer_polls : (v : RwLock) → readers v ≡ 0 → looks_for_readers (place_at v.places p) ≡ true → PollsAlone p e new v → Took p Writing e new
+  writer_polls v none looks polls =
+      let known = known_writer v.places p looks in
+      elim (looker_at (place_at v.places p) looks) as (λ _. Took p Writing e new) [
+        | inl at ↦ listed_polls v at.0 none known at.1 polls
+        | inr here ↦ unlisted_polls v none known here polls
+      ]
 
 -- a listed party that rests is pending there
 pending_w : (x : Place) → is_resting x ≡ true → 0 < in_no_writer x → waits_to_read x ≡ true
@@ -196,7 +223,7 @@ pending_t _ t h fits there = absurd (cc)
 pub solo_polls : (v : RwLock) → IsRwLock v → SoloPolls v
 solo_polls v laws = record {
   reads = λ free below p e new called polls. reader_polls p e new v free below called.0 called.1 polls;
-  writes = λ none p e new waits polls. writer_polls p e new v none waits polls;
+  writes = λ none p e new looks polls. writer_polls p e new v none looks polls;
   takes_turn_or_gives_way = λ free below p e new called polls. either p e new v laws free below called polls;
   takes_turn = λ free below p e new called why polls. must_take p e new v laws free below called why polls;
   some_reader_called = λ rest free some.

@@ -8,7 +8,7 @@ use Rattle.mutex_program.specs.declared.calls.End.TheVariants as turn_end
 use Rattle.mutex_machine.specs.Mutex.{IsStarved, holders, starved}
 use Rattle.mutex_machine.specs.Alone.{GaveWay}
 use Rattle.rwlock_program.specs.declared.program.Place.{Place}
-use Rattle.rwlock_program.specs.declared.program.Place.TheVariants.{Made, Reading, Upgradable, Writing, AskNoWriter, WaitTurn, AwaitNoReaders}
+use Rattle.rwlock_program.specs.declared.program.Place.TheVariants.{Made, Reading, Upgradable, Writing, AskNoWriter, WaitTurn, AwaitNoReaders, LookUnlisted}
 use Rattle.rwlock_program.specs.declared.program.Action.{Action}
 use Rattle.lock_table.specs.declared.end.End.{End}
 use Rattle.lock_table.specs.declared.end.End.TheVariants.{Got, Pending, Refused}
@@ -55,6 +55,12 @@ IsCalledToWrite v p = (waits_to_write (place_at v.places p) ≡ true) × (is_mar
 abbrev pub IsCalledToTurn : RwLock → ℕ → Type 0
 IsCalledToTurn v p = (waits_for_turn (place_at v.places p) ≡ true) × (is_marked_at (is_party p) v.turn.entries ≡ true)
 
+-- A pending party that looks for readers when it polls: it waits in the list of that, or its future is an upgrade's and stands in none.
+abbrev pub looks_for_readers : Place → Bool
+looks_for_readers (AwaitNoReaders upgrade) = true
+looks_for_readers (LookUnlisted true) = true
+looks_for_readers _ = false
+
 -- The poll was ready, and its party has this right.
 abbrev pub Took : ℕ → Place → End → RwLock → Type 0
 Took p right e new = (e ≡ Got) × (place_at new.places p ≡ right)
@@ -88,8 +94,8 @@ pub record GaveTurnWay (p : ℕ) (old : RwLock) (e : End) (new : RwLock) : Type 
 pub record SoloPolls (v : RwLock) : Type 0 where
   -- Where the bit is clear and readers are below their limit, such a poll of a notified reader reads.
   pub reads : marked v ≡ 0 → readers v < v.limit → (p : ℕ) (e : End) (new : RwLock) → IsCalledToRead v p → PollsAlone p e new v → Took p Reading e new
-  -- Where no reader is left, such a poll of a party that waits for this writes, notified or not.
-  pub writes : readers v ≡ 0 → (p : ℕ) (e : End) (new : RwLock) → waits_to_write (place_at v.places p) ≡ true → PollsAlone p e new v → Took p Writing e new
+  -- Where no reader is left, such a poll of a party that looks for them writes, notified or not, in the list or not.
+  pub writes : readers v ≡ 0 → (p : ℕ) (e : End) (new : RwLock) → looks_for_readers (place_at v.places p) ≡ true → PollsAlone p e new v → Took p Writing e new
   -- Where nobody has the turn and readers are below their limit, such a poll of a party that was notified for the turn takes it or gives way,
   pub takes_turn_or_gives_way : holders v.turn ≡ 0 → readers v < v.limit → (p : ℕ) (e : End) (new : RwLock) → IsCalledToTurn v p → PollsAlone p e new v → TookTurn p e new ⊎ GaveTurnWay p v e new
   -- and takes it if its party is starved, or if nobody is.

@@ -30,10 +30,10 @@ IsSoloForTurn w p inputs = bounds.IsSolo (standing_of w p) w.turn_list p inputs
 abbrev pub IsSoloToRead : World → ℕ → Inputs → Type 0
 IsSoloToRead w p inputs = bounds.IsSolo (standing_of w p) w.no_writer p inputs
 
--- A solo poll to write is of a pending party that has an entry among those that wait until no reader is left, marked or not: it looks for readers first.
+-- A solo poll to write is of a pending party that looks for readers first: it has an entry among those that wait until none is left, marked or not, or its future is an upgrade's, in the list or not.
 pub record IsSoloToWrite (w : World) (p : ℕ) (inputs : Inputs) : Type 0 where
   pub pending : standing_of w p ≡ outside Pending
-  pub listed : 0 < entries_of p w.no_readers
+  pub looks : (0 < entries_of p w.no_readers) ⊎ (is_upgrader w p ≡ true)
   pub memory : inputs.memory ≡ true
 
 -- ---- What they do

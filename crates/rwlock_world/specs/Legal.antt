@@ -94,13 +94,13 @@ HasSought w p = (r : Right) × (sought_by w p ≡ Some r) × HasJust w p r
 abbrev pub HasNothing : World → ℕ → Type 0
 HasNothing w p = (reads w p ≡ false) × (HasTurn w.state.turn p → ⊥)
 
--- Outside every call a guard has just its right, a future has nothing but that it may wait to write if it seeks to, and only a future is in a list, starved, or an upgrade's. Until its call is decided a party has no right, and it waits to write only if it seeks to; and a guard that is downgraded reads.
+-- Outside every call a guard has just its right, a future has nothing but that it may wait to write if it seeks to, and only a future is in a list, starved, or an upgrade's. Until its call is decided a party has no right, and it waits to write only if it seeks to. A drop and a downgrade are decided at their first step, and a guard that is downgraded reads from then on.
 abbrev pub HasItsOwn : World → ℕ → Standing → Type 0
 HasItsOwn w p (outside Idle) = IsClear w p × HasNothing w p × (is_upgrader w p ≡ false)
 HasItsOwn w p (outside Finished) = IsClear w p × HasNothing w p × (is_upgrader w p ≡ false)
 HasItsOwn w p (outside Holding) = IsClear w p × HasSought w p × (is_upgrader w p ≡ false)
 HasItsOwn w p (outside Pending) = (reads w p ≡ false) × (((w.state.turn ≡ waits_to_write p) × (sought_by w p ≡ Some write)) ⊎ ((HasTurn w.state.turn p → ⊥) × (is_upgrader w p ≡ false)))
-HasItsOwn w p (inside within None) = (reads w p ≡ false) × (w.state.turn ≢ is_upgradable p) × (w.state.turn ≢ writes p) × (w.state.turn ≡ waits_to_write p → sought_by w p ≡ Some write)
+HasItsOwn w p (inside within None) = (reads w p ≡ false) × (w.state.turn ≢ is_upgradable p) × (w.state.turn ≢ writes p) × (w.state.turn ≡ waits_to_write p → sought_by w p ≡ Some write) × (within.kind ≢ kind.Drop) × (within.kind ≢ kind.Downgrade)
 HasItsOwn w p (inside within (Some a)) = within.kind ≡ kind.Downgrade → reads w p ≡ true
 HasItsOwn w p forgotten = Unit {0}
 
@@ -129,19 +129,19 @@ pub record Waits (m : Move) (a : Answer) (new : World) : Type 0 where
   pub waiting : a ≡ answer.Pending → told_in (list_for (sought_by new m.party) new.state.turn m.party new) m.party ≡ Some Waiting
   pub not_before : (within : Within) → standing_of new m.party ≢ inside within (Some answer.Pending)
 
--- Which limit a call may meet, by what it seeks: a read or an upgradable read that of the readers, an upgradable read or a write that of the starved.
-abbrev pub may_meet : Option Right → Refusal → Bool
-may_meet (Some read) refusal.Readers = true
-may_meet (Some upgradable) refusal.Readers = true
-may_meet (Some upgradable) refusal.Starved = true
-may_meet (Some write) refusal.Starved = true
-may_meet s r = false
+-- Which limit a party meets, by what it takes: a read that of the readers, where nobody waits to write or writes; an upgradable read that of the readers once it has the turn, and until then that of the starved; a write that of the starved, until it has the turn.
+abbrev pub MayMeet : Option Right → World → ℕ → Refusal → Type 0
+MayMeet (Some read) w p refusal.Readers = is_marked w.state.turn ≡ false
+MayMeet (Some upgradable) w p refusal.Readers = HasTurn w.state.turn p
+MayMeet (Some upgradable) w p refusal.Starved = HasTurn w.state.turn p → ⊥
+MayMeet (Some write) w p refusal.Starved = HasTurn w.state.turn p → ⊥
+MayMeet s w p r = ⊥
 
--- Why a call may be refused: a join found no memory, for the move's input said so; it seeks what there is a limit for, and there are as many starved parties, or readers, as there may be; or the future had been ready before.
+-- Why a call may be refused: a join found no memory, for the move's input said so; there are as many starved parties, or readers, as there may be, and it takes what that limit is for; or the future had been ready before.
 abbrev pub IsCause : World → Move → World → Refusal → Type 0
 IsCause old m new refusal.Memory = ((inputs_of m.what).memory ≡ false) × (entries_in old m.party ≡ 0) × ((list : ListName) → list_of new list ≡ list_of old list)
-IsCause old m new refusal.Starved = (how_many old.state.starved ≡ old.starved_limit) × (may_meet (sought_by new m.party) refusal.Starved ≡ true)
-IsCause old m new refusal.Readers = (old.readers_limit ≤ how_many_read old) × (may_meet (sought_by new m.party) refusal.Readers ≡ true)
+IsCause old m new refusal.Starved = (how_many old.state.starved ≡ old.starved_limit) × MayMeet (sought_by new m.party) old m.party refusal.Starved
+IsCause old m new refusal.Readers = (old.readers_limit ≤ how_many_read old) × MayMeet (sought_by new m.party) old m.party refusal.Readers
 IsCause old m new refusal.Finished = new ≡ old
 IsCause old m new _ = ⊥
 

@@ -2,6 +2,7 @@
 use Rattle.std.proofs.Common.{◌≡◌, ◌≢◌, ℕ, ◌<◌, ◌⊎◌, inl, inr, true, false, length, map, Option, refl, sym, ap, ◌∙◌, subst, arith}
 use Rattle.std.proofs.Math.ListN.{set}
 use Rattle.std.proofs.lemmas.List.{set-get_or}
+use Rattle.std.proofs.lemmas.Bool.{false≢true}
 use Rattle.std.specs.List.{list_all}
 use Rattle.lock_queue.specs.Parties.{entries_of}
 use Rattle.lock_world.specs.declared.moves.Answer.{Answer}
@@ -28,7 +29,7 @@ use Rattle.rwlock_program.specs.declared.program.Place.TheVariants as place
 use Rattle.rwlock_machine.specs.Roles.{has_turn, in_no_writer, in_no_readers, fits_turn}
 use Rattle.rwlock_machine.specs.Machine.{place_at}
 use Rattle.rwlock_machine.specs.Acts.{IsRwLock, readers}
-use Rattle.rwlock_machine.specs.Solo.{PollsAlone, waits_to_read, waits_to_write, waits_for_turn, IsCalledToTurn, Took, TookTurn, StandsBack, GaveTurnWay, SoloPolls}
+use Rattle.rwlock_machine.specs.Solo.{PollsAlone, waits_to_read, looks_for_readers, waits_for_turn, IsCalledToTurn, Took, TookTurn, StandsBack, GaveTurnWay, SoloPolls}
 use Rattle.rwlock_machine.proofs.Solo.{writer_at, solo_polls}
 use Rattle.lock_table.specs.Stages.{stage_at}
 use Rattle.rwlock_world.specs.Stages.{is_future, goes_with}
@@ -38,9 +39,9 @@ use Rattle.lock_world.specs.Accounts.{Account}
 use Rattle.lock_world.specs.Whole.{moves_of, answers_of}
 use Rattle.rwlock_world.specs.Runs.{Runs}
 use Rattle.rwlock_world.specs.Steps.{IsRwLockTable, Stands}
-use Rattle.rwlock_world.specs.State.{nobody, is_upgradable, waits_to_write as waits, writes, World, standing_of, is_starved, how_many_read, is_marked}
+use Rattle.rwlock_world.specs.State.{nobody, is_upgradable, waits_to_write as waits, writes, World, standing_of, is_starved, is_upgrader, how_many_read, is_marked}
 use Rattle.rwlock_world.specs.Laws.{is_at_rest}
-use Rattle.rwlock_world.specs.View.{upgrading, waiting, writing, turn_as, share_of, turn_by, is_reading, verdict, standing_at, view_of}
+use Rattle.rwlock_world.specs.View.{upgrading, waiting, writing, turn_as, share_of, turn_by, is_reading, is_upgrade, verdict, standing_at, view_of}
 use Rattle.rwlock_world.specs.Bound.{IsSoloForTurn, IsSoloToRead, IsSoloToWrite, TakesTurn, GivesTurnWay, SoloPollForTurn, TakesToRead, TakesToWrite}
 use Rattle.rwlock_world.proofs.table.Begun.{at_future}
 use Rattle.rwlock_world.proofs.bound.Alone.{Ended, polls_alone}
@@ -70,13 +71,23 @@ in_no_writer_list = at_future (λ x. 0 < in_no_writer x → waits_to_read x ≡ 
   upgrade = λ there. absurd (omega (arith, there));
 })
 
-in_no_readers_list : (x : Place) → is_future x ≡ true → 0 < in_no_readers x → waits_to_write x ≡ true
-in_no_readers_list = at_future (λ x. 0 < in_no_readers x → waits_to_write x ≡ true) (record {
+in_no_readers_list : (x : Place) → is_future x ≡ true → 0 < in_no_readers x → looks_for_readers x ≡ true
+in_no_readers_list = at_future (λ x. 0 < in_no_readers x → looks_for_readers x ≡ true) (record {
   made = λ w there. absurd (omega (arith, there));
   no_writer = λ there. absurd (omega (arith, there));
   turn = λ q there. absurd (omega (arith, there));
   no_readers = λ upgrade there. refl;
   upgrade = λ there. absurd (omega (arith, there));
+})
+
+-- or is an upgrade's
+upgrade_looks : (x : Place) → is_future x ≡ true → is_upgrade x ≡ true → looks_for_readers x ≡ true
+upgrade_looks = at_future (λ x. is_upgrade x ≡ true → looks_for_readers x ≡ true) (record {
+  made = λ w up. absurd (false≢true up);
+  no_writer = λ up. absurd (false≢true up);
+  turn = λ q up. absurd (false≢true up);
+  no_readers = λ upgrade up. refl;
+  upgrade = λ up. refl;
 })
 
 -- what each party's call is decided on
@@ -173,11 +184,14 @@ module _ (w : World) (p : ℕ) (i : Inputs) (laws : IsRwLock w.behind.machine.lo
         let few : readers t.machine.lock < t.machine.lock.limit = rw view.how_many-read at below in
         reads_seen w v p a e (law.reads (bit_seen t.machine.lock t.stages t.opening t.machine.value laws tf free) few p e v.behind.machine.lock (in_no_writer_list (place_at t.machine.lock.places p) future there, solo.marked) polls) k
 
-    writing_polled : 0 < entries_of p t.machine.lock.no_readers → how_many_read (shown w) ≡ 0 → TakesToWrite (shown w) p a (shown v)
+    writing_polled : (0 < entries_of p t.machine.lock.no_readers) ⊎ (is_upgrader (shown w) p ≡ true) → how_many_read (shown w) ≡ 0 → TakesToWrite (shown w) p a (shown v)
     writing_polled some free =
-        let there : 0 < in_no_readers (place_at t.machine.lock.places p) = omega (arith, laws.owners_no_readers p, some) in
+        let looks : looks_for_readers (place_at t.machine.lock.places p) ≡ true = elim some as (λ _. looks_for_readers (place_at t.machine.lock.places p) ≡ true) [
+          | inl listed ↦ in_no_readers_list (place_at t.machine.lock.places p) future (omega (arith, laws.owners_no_readers p, listed))
+          | inr up ↦ upgrade_looks (place_at t.machine.lock.places p) future (sym (view.upgrades_at t.machine.lock.places p) ∙ up)
+        ] in
         let none : readers t.machine.lock ≡ 0 = sym (view.how_many-read t.machine.lock.places) ∙ free in
-        writes_seen w v p a e (law.writes none p e v.behind.machine.lock (in_no_readers_list (place_at t.machine.lock.places p) future there) polls) k
+        writes_seen w v p a e (law.writes none p e v.behind.machine.lock looks polls) k
 
     either_seen : 0 < entries_of p t.machine.lock.turn.entries → starved t.machine.lock.turn < t.machine.lock.turn.limit → TookTurn p e v.behind.machine.lock ⊎ GaveTurnWay p t.machine.lock e v.behind.machine.lock → TakesTurn (shown w) p a (shown v) ⊎ GivesTurnWay (shown w) p a (shown v)
     either_seen some below (inl took) = inl (takes_turn_seen w v p a e took k)
@@ -227,4 +241,4 @@ module _ (known : ℕ → Account) (w : World) (p : ℕ) (i : Inputs) (k : ℕ) 
   writing_seen_polled solo free =
       let F : World → Type 0 = λ x. IsSoloToWrite x p i × (how_many_read x ≡ 0) in
       let so : F (shown w) = subst F stood.seen (solo, free) in
-      as_seen (λ x y. TakesToWrite x p a y) solo.pending solo.memory (λ e polls ended. writing_polled w p i stood.lock stood.fits so.0.pending v a e polls ended so.0.listed so.1)
+      as_seen (λ x y. TakesToWrite x p a y) solo.pending solo.memory (λ e polls ended. writing_polled w p i stood.lock stood.fits so.0.pending v a e polls ended so.0.looks so.1)

@@ -15,6 +15,7 @@ use Rattle.lock_world.specs.declared.refusal.Refusal.{Refusal}
 use Rattle.lock_world.specs.declared.refusal.Refusal.TheVariants as refusal
 use Rattle.lock_world.specs.declared.standing.Stage.{Stage}
 use Rattle.lock_world.specs.Refusals.{number_of}
+use Rattle.lock_world.specs.Rights.{Right, read, upgradable}
 use Rattle.lock_world.specs.Rosters.{how_many}
 use Rattle.lock_world.specs.Standings.{inputs_of}
 use Rattle.lock_world.specs.Steps.{Deed, nothing, changes, does}
@@ -35,11 +36,11 @@ use Rattle.rwlock_machine.proofs.Leads.{steps_in_turn}
 use Rattle.rwlock_world.specs.Changes.{Change, takes_turn, leaves_turn, starves, recovers, begins_to_read, stops_reading, becomes_upgradable, stops_upgradable, begins_to_wait, begins_to_write, upgrades, upgrades_at_once, unmarks, downgrades, downgrades_to_upgradable, puts, turn_after, readers_after, starved_after, value_after, IsAllowed, gives_back, entries_after}
 use Rattle.rwlock_world.specs.State.{ListName, for_the_turn, for_no_readers, for_no_writer}
 use Rattle.rwlock_world.specs.State.{World, list_of, told_in, entries_in, how_many_read}
-use Rattle.rwlock_world.specs.Legal.{may_meet, IsCause}
+use Rattle.rwlock_world.specs.Legal.{MayMeet, IsCause}
 use Rattle.rwlock_world.specs.Guarded.{answer_by}
 use Rattle.rwlock_world.specs.Stages.{strays, course_of, sought_at}
 use Rattle.rwlock_world.specs.View.{Share, passing, upgrading, waiting, writing, turn_as, share_of, turn_by, is_reading, verdict, seen}
-use Rattle.rwlock_world.proofs.step.Rows.{deed_at, verdict_then, is_after_ready, Reads, Shares, Finding, is_got, WaitsAt, Refuses, Reason, Judged, Room, keeps_what_it_has, lacks_memory, KeepsUpgrade, RefusedAt, Row, row}
+use Rattle.rwlock_world.proofs.step.Rows.{deed_at, verdict_then, is_after_ready, Reads, Shares, Finding, is_got, WaitsAt, MeetsReaders, Refuses, Reason, Judged, Room, keeps_what_it_has, lacks_memory, KeepsUpgrade, RefusedAt, Row, row}
 use Rattle.rwlock_world.proofs.step.Owns as owns
 use Rattle.rwlock_world.proofs.laws.Sound.{none_marked}
 use Rattle.rwlock_world.proofs.table.Views as view
@@ -52,26 +53,26 @@ WaitsIn k p (place.AwaitNoReaders u) = told_in k.no_readers p ≡ Some mark.Wait
 WaitsIn k p (place.WaitTurn q) = told_in k.turn.entries p ≡ Some mark.Waiting
 WaitsIn k p _ = ⊥
 
--- why a call is refused, but that it seeks what there is a limit for
+-- why a call is refused, but that it takes what there is a limit for
 abbrev pub CauseAs : Move → World → World → Refusal → Type 0
 CauseAs m old new refusal.Memory = IsCause old m new refusal.Memory
 CauseAs m old new refusal.Starved = how_many old.state.starved ≡ old.starved_limit
 CauseAs m old new refusal.Readers = old.readers_limit ≤ how_many_read old
 CauseAs m old new _ = ⊥
 
--- a refusal for memory does nothing else, and comes from a join, or from within a call on the turn; and whoever meets a limit stands where it may
-abbrev pub Fitting : Place → Place → Deed Change ListName → Refusal → Type 0
-Fitting x to d refusal.Memory = (d ≡ nothing) × (lacks_memory x ≡ true)
-Fitting x to d refusal.Readers = may_meet (sought_at to) refusal.Readers ≡ true
-Fitting x to d refusal.Starved = may_meet (sought_at to) refusal.Starved ≡ true
-Fitting x to d _ = Unit {0}
+-- a refusal for memory does nothing else, and comes from a join, or from within a call on the turn; and whoever meets a limit takes what it is for
+abbrev pub Fitting : World → ℕ → Place → Place → Deed Change ListName → Refusal → Type 0
+Fitting old p x to d refusal.Memory = (d ≡ nothing) × (lacks_memory x ≡ true)
+Fitting old p x to d refusal.Readers = MayMeet (sought_at to) old p refusal.Readers
+Fitting old p x to d refusal.Starved = MayMeet (sought_at to) old p refusal.Starved
+Fitting old p x to d _ = Unit {0}
 
 -- why a call is decided on an answer
 abbrev pub ReasonAs : Move → World → RwLock → World → ℕ → Place → Place → Deed Change ListName → Answer → Type 0
 ReasonAs m old k new v x to d answer.Pending = WaitsIn k m.party to
 ReasonAs m old k new v x to d (answer.Ready got) = (got ≡ Value v) × (is_got to ≡ true)
 ReasonAs m old k new v x to d (answer.Granted got) = (got ≡ Value v) × (is_got to ≡ true)
-ReasonAs m old k new v x to d (answer.Refused n) = (r : Refusal) × (n ≡ number_of r) × CauseAs m old new r × Fitting x to d r
+ReasonAs m old k new v x to d (answer.Refused n) = (r : Refusal) × (n ≡ number_of r) × CauseAs m old new r × Fitting old m.party x to d r
 ReasonAs m old k new v x to d _ = Unit {0}
 
 abbrev pub JudgedAs : Move → World → RwLock → World → ℕ → Place → Place → Deed Change ListName → Option Answer → Option Answer → Type 0
@@ -223,9 +224,14 @@ module _ (m : Move) (l k : RwLock) (ss : List Stage) (opening : ℕ) (ts : List 
         subst P (sym h) (rw (or2.1) (waits_at p l.no_readers (sym er) or2.0))
     waits_here _ g ow or ew er h = absurd h
 
-    fitting : (q : Refusal) → Refuses memory l x f q → Fitting x to (deed_at x f) q
+    meets_readers : (o : Option Right) → MeetsReaders l x o → MayMeet o (seen l ss opening v) p refusal.Readers
+    meets_readers (Some read) h = none_marked l h
+    meets_readers (Some upgradable) h = owns.has_as (turn_by (holder_of l.turn) l.places) p (share_of x) (turn_here (share_of x) h refl)
+    meets_readers _ h = absurd h
+
+    fitting : (q : Refusal) → Refuses memory l x f q → Fitting (seen l ss opening v) p x to (deed_at x f) q
     fitting refusal.Memory h = (h.2, h.4)
-    fitting refusal.Readers h = h.1
+    fitting refusal.Readers h = meets_readers (sought_at to) h.1
     fitting refusal.Starved h = absurd h
     fitting refusal.Permits h = tt
     fitting refusal.Generations h = tt

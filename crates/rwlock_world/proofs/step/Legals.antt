@@ -37,7 +37,7 @@ use Rattle.rwlock_world.specs.Changes.{Change, gives_back, gives_up}
 use Rattle.rwlock_world.specs.State.{ListName}
 use Rattle.rwlock_world.specs.State as state
 use Rattle.rwlock_world.specs.State.{State, World, standing_of, sought_by, is_upgrader, told_in, HasTurn, IsClear}
-use Rattle.rwlock_world.specs.Legal.{knows_of, call_of, DecidesOn, IsPossible, ChangesOneThing, HasSought, LeavesClear, Carries, Waits, list_for, may_meet, IsCause, IsRefusedForCause, IsValueKept, EndsProperly, KeepsUpgrades, Legal}
+use Rattle.rwlock_world.specs.Legal.{knows_of, call_of, DecidesOn, IsPossible, ChangesOneThing, HasSought, LeavesClear, Carries, Waits, list_for, MayMeet, IsCause, IsRefusedForCause, IsValueKept, EndsProperly, KeepsUpgrades, Legal}
 use Rattle.lock_table.specs.Stages.{stage_at}
 use Rattle.rwlock_world.specs.Stages.{sought_at}
 use Rattle.rwlock_world.specs.Guarded.{Guarded, answer_by}
@@ -67,9 +67,9 @@ judge m old k new v x to d None None b j e = absurd (cc)
 judge m old k new v x to d None (Some c) b j e = let P : Answer → Type 0 = λ a. ReasonAs m old k new v x to d a in inr (subst P (some_eq e) j)
 
 -- a refusal for memory is that one
-idle_memory : (x to : Place) (d : Deed Change ListName) (r : Refusal) → number_of refusal.Memory ≡ number_of r → Fitting x to d r → (d ≡ nothing) × (lacks_memory x ≡ true)
-idle_memory x to d refusal.Memory e h = h
-idle_memory x to d _ e h = absurd (cc)
+idle_memory : (w : World) (p : ℕ) (x to : Place) (d : Deed Change ListName) (r : Refusal) → number_of refusal.Memory ≡ number_of r → Fitting w p x to d r → (d ≡ nothing) × (lacks_memory x ≡ true)
+idle_memory w p x to d refusal.Memory e h = h
+idle_memory w p x to d _ e h = absurd (cc)
 
 found_room : {memory : Bool} (d : Deed Change ListName) (list : ListName) → Room memory d → d ≡ does list joins → memory ≡ true
 found_room {memory} d list r e = let P : Deed Change ListName → Type 0 = Room memory in subst P e r
@@ -237,7 +237,7 @@ module _ (m : Move) (l k : RwLock) (ss : List Stage) (opening : ℕ) (v : ℕ) (
       others = others;
       parties = acting.as_many verdict_of rest.Holding before after p w said c.known refl;
       found_memory = λ list e. found_room d list c.facts.room e;
-      refused_idly = λ y. elim (reason (refused refusal.Memory) y) as (λ _. d ≡ nothing) [ inl e ↦ absurd (cc) | inr z ↦ (idle_memory x to d z.0 z.1 z.3).0 ];
+      refused_idly = λ y. elim (reason (refused refusal.Memory) y) as (λ _. d ≡ nothing) [ inl e ↦ absurd (cc) | inr z ↦ (idle_memory old p x to d z.0 z.1 z.3).0 ];
       parting = parting;
       giving_up = giving_up;
     }
@@ -286,10 +286,10 @@ module _ (m : Move) (l k : RwLock) (ss : List Stage) (opening : ℕ) (v : ℕ) (
     }
 
     -- whoever meets a limit seeks what there is a limit for
-    met : (r : Refusal) → may_meet (sought_at to) r ≡ true → may_meet (sought_by new p) r ≡ true
+    met : (r : Refusal) → MayMeet (sought_at to) old p r → MayMeet (sought_by new p) old p r
     met r h = rw (owns.seeks_as k ts opening v c.new_laws c.new_fits p, lands) h
 
-    cause : (r : Refusal) → CauseAs m old new r → Fitting x to d r → IsCause old m new r
+    cause : (r : Refusal) → CauseAs m old new r → Fitting old p x to d r → IsCause old m new r
     cause refusal.Memory h f = h
     cause refusal.Starved h f = (h, met refusal.Starved f)
     cause refusal.Readers h f = (h, met refusal.Readers f)
@@ -298,7 +298,7 @@ module _ (m : Move) (l k : RwLock) (ss : List Stage) (opening : ℕ) (v : ℕ) (
     -- who is refused for want of memory was inside its call, and undecided
     lacked : DecidesOn old m said new (refused refusal.Memory) → IsUndecided (standing_of old p)
     lacked y =
-        let lacks : lacks_memory x ≡ true = elim (reason (refused refusal.Memory) y) as (λ _. lacks_memory x ≡ true) [ inl e ↦ absurd (cc) | inr z ↦ (idle_memory x to d z.0 z.1 z.3).1 ] in
+        let lacks : lacks_memory x ≡ true = elim (reason (refused refusal.Memory) y) as (λ _. lacks_memory x ≡ true) [ inl e ↦ absurd (cc) | inr z ↦ (idle_memory old p x to d z.0 z.1 z.3).1 ] in
         let it = c.moves.lacking lacks in
         undecided_inside (standing_of old p) w it.0 (stood ∙ it.1) y.0
 

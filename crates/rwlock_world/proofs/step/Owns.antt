@@ -30,7 +30,7 @@ use Rattle.rwlock_world.specs.State as state
 use Rattle.rwlock_world.specs.State.{Turn, nobody, passes, is_upgradable, waits_to_write, writes, World, standing_of, sought_by, is_upgrader, HasTurn, IsClear, entries_in}
 use Rattle.rwlock_world.specs.Legal.{HasSought, HasNothing, HasItsOwn}
 use Rattle.lock_table.specs.Stages.{stage_at}
-use Rattle.rwlock_world.specs.Stages.{Course, downgrades, course_of, course_until, is_on_course, sought_at, is_inside, goes_with}
+use Rattle.rwlock_world.specs.Stages.{Course, drops, downgrades, course_of, course_until, is_on_course, sought_at, is_inside, goes_with}
 use Rattle.rwlock_world.specs.Stages as plans
 use Rattle.rwlock_world.specs.View.{verdict_of, Share, passing, upgrading, waiting, writing, turn_as, share_of, turn_by, is_reading, is_upgrade, verdict, verdict_until, refused_by, standing_at, seen}
 use Rattle.rwlock_world.proofs.table.Begun.{at_out, at_future, at_guard}
@@ -116,6 +116,45 @@ downgrade_course kind.TryUpgrade r c h e = absurd (cc)
 downgrade_course kind.Downgrade rest.Holding downgrades h e = refl
 downgrade_course kind.Downgrade _ _ h e = absurd (cc)
 downgrade_course _ _ _ h e = absurd (cc)
+
+drop_course : (k : Kind) (r : Rest) (c : Course) → is_on_course k r c ≡ true → k ≡ kind.Drop → c ≡ drops
+drop_course kind.FirstPoll r c h e = absurd (cc)
+drop_course kind.LaterPoll r c h e = absurd (cc)
+drop_course kind.Try r c h e = absurd (cc)
+drop_course kind.Downgrade r c h e = absurd (cc)
+drop_course kind.Upgrade r c h e = absurd (cc)
+drop_course kind.TryUpgrade r c h e = absurd (cc)
+drop_course kind.Drop rest.Pending drops h e = refl
+drop_course kind.Drop rest.Holding drops h e = refl
+drop_course kind.Drop _ _ h e = absurd (cc)
+drop_course _ _ _ h e = absurd (cc)
+
+-- a drop and a downgrade are decided from their first step on
+decided_so : (v : ℕ) (x : Place) (t : TurnCourse) → is_inside x ≡ true → verdict v x t ≡ None → (course_of x ≡ drops → ⊥) × (course_of x ≡ downgrades → ⊥)
+decided_so v (place.RefuseNotify r) t i n = absurd (cc)
+decided_so v (place.ReleaseTurn e) t i n = absurd (cc)
+decided_so v (place.ReleasingTurn e) t i n = absurd (cc)
+decided_so v (place.Unmark true) t i n = absurd (cc)
+decided_so v (place.Unmark false) t i n = absurd (cc)
+decided_so v (place.UnmarkNotify true) t i n = absurd (cc)
+decided_so v (place.UnmarkNotify false) t i n = absurd (cc)
+decided_so v (place.Down keeps) t i n = absurd (cc)
+decided_so v (place.Made w) t i n = absurd (cc)
+decided_so v place.Out t i n = absurd (cc)
+decided_so v place.CancelRead t i n = absurd (cc)
+decided_so v place.CancelTurn t i n = absurd (cc)
+decided_so v place.CancellingTurn t i n = absurd (cc)
+decided_so v place.DropRead t i n = absurd (cc)
+decided_so v place.DropReadNotify t i n = absurd (cc)
+decided_so v place.DropUpgradable t i n = absurd (cc)
+decided_so v place.DropUpgradableNotify t i n = absurd (cc)
+decided_so v place.DropWrite t i n = absurd (cc)
+decided_so v place.CancelAwait t i n = absurd (cc)
+decided_so v place.DownNotify t i n = absurd (cc)
+decided_so v place.DowngradeNotify t i n = absurd (cc)
+decided_so v (place.Add true) t i n = ((λ c. cc), (λ c. cc))
+decided_so v (place.Add false) t i n = ((λ c. cc), (λ c. cc))
+decided_so v _ t i n = ((λ c. cc), (λ c. cc))
 
 -- an undecided party doesn't read, has the turn for no right, and waits to write only if it seeks to
 pub record IsUndecided (x : Place) : Type 0 where
@@ -295,9 +334,15 @@ module _ (l : RwLock) (ss : List Stage) (opening : ℕ) (v : ℕ) (laws : IsRwLo
     here : is_inside x ≡ true
     here = (and_parts (is_inside x) (is_on_course u.kind u.was (course_of x)) g).0
 
+    on_course : is_on_course u.kind u.was (course_of x) ≡ true
+    on_course = (and_parts (is_inside x) (is_on_course u.kind u.was (course_of x)) g).1
+
     inside_has : (o : Option Answer) → verdict v x (turn_at l.turn.courses q) ≡ o → HasItsOwn w q (inside u o)
-    inside_has None e = undecided_has q x at (undecided x (turn_at l.turn.courses q) here e)
-    inside_has (Some b) e = λ d. reads_at q x at ∙ downgraded_reads x here (downgrade_course u.kind u.was (course_of x) (and_parts (is_inside x) (is_on_course u.kind u.was (course_of x)) g).1 d)
+    inside_has None e =
+        let has = undecided_has q x at (undecided x (turn_at l.turn.courses q) here e) in
+        let so = decided_so v x (turn_at l.turn.courses q) here e in
+        (has.0, has.1, has.2, has.3, (λ d. so.0 (drop_course u.kind u.was (course_of x) on_course d)), (λ d. so.1 (downgrade_course u.kind u.was (course_of x) on_course d)))
+    inside_has (Some b) e = λ d. reads_at q x at ∙ downgraded_reads x here (downgrade_course u.kind u.was (course_of x) on_course d)
   has q Forgotten x at g = tt
 
   pub each : (q : ℕ) → HasItsOwn w q (standing_of w q)

@@ -11,7 +11,8 @@ use Rattle.lock_world.specs.declared.refusal.Refusal.TheVariants as refusal
 use Rattle.lock_world.specs.declared.standing.Stage.{Stage}
 use Rattle.lock_world.specs.Standings.{inputs_of, refused}
 use Rattle.lock_world.specs.Steps.{Deed, changes, does, joins}
-use Rattle.mutex_machine.specs.Course.{Course as TurnCourse, is_out, Takes, Tries, Releases, Cancels, holds, decision}
+use Rattle.mutex_machine.specs.Course.{Course as TurnCourse, is_out, is_taking, Takes, Tries, Releases, Cancels, holds, decision}
+use Rattle.mutex_machine.specs.Course as course
 use Rattle.mutex_program.specs.declared.calls.LockCall.{LockCall}
 use Rattle.mutex_program.specs.declared.calls.LockCall.TheVariants as turn_call
 use Rattle.mutex_program.specs.declared.calls.Step.{Step as TurnStep}
@@ -39,11 +40,12 @@ use Rattle.rwlock_machine.specs.Acts.{IsRwLock}
 use Rattle.rwlock_machine.proofs.Leads.{Led, Ends, steps_in_turn}
 use Rattle.rwlock_world.specs.Changes.{Change, entries_after, gives_up}
 use Rattle.rwlock_world.specs.State.{ListName, for_the_turn, for_no_readers, for_no_writer}
-use Rattle.rwlock_world.specs.Legal.{may_meet}
-use Rattle.rwlock_world.specs.State.{World, list_of, told_in}
+use Rattle.rwlock_world.specs.Legal.{MayMeet}
+use Rattle.rwlock_world.specs.State.{World, list_of, told_in, HasTurn}
 use Rattle.rwlock_world.specs.Stages.{sought_at}
 use Rattle.rwlock_world.specs.View.{is_reading, verdict, verdict_until, refused_by, seen}
 use Rattle.rwlock_world.proofs.step.Rows.{verdict_then, Room, keeps_what_it_has, TurnRow, turn_row}
+use Rattle.rwlock_world.proofs.step.Owns as owns
 use Rattle.rwlock_world.proofs.step.Facts.{WaitsIn, CauseAs, Fitting, JudgedAs, Facts, Known}
 use Rattle.rwlock_world.proofs.step.TurnSteps.{TurnDid, TurnMoved, moved, left}
 
@@ -101,19 +103,29 @@ released_free u turn_step.More h = releasing_free u h
 released_free u (turn_step.End turn_end.GivenBack) h = out_free u (ap is_out h)
 released_free u (turn_step.End _) h = absurd h
 
+-- a poll that isn't decided hasn't the turn
+undecided_free : (t : TurnCourse) → is_taking t ≡ true → decision t ≡ None → holds t ≡ 0
+undecided_free (course.waiting starved) h n = refl
+undecided_free (course.taking course.undecided starved stands told) h n = refl
+undecided_free (course.taking course.called starved stands told) h n = refl
+undecided_free (course.taking course.counting starved stands told) h n = refl
+undecided_free (course.taking course.has_lock starved stands told) h n = absurd (cc)
+undecided_free (course.taking (course.gives_up refusal) starved stands told) h n = absurd (cc)
+undecided_free _ h n = absurd (false≢true h)
+
 -- whoever is refused on its way to the turn seeks what needs it
-meets_turn : (pr : Purpose) (u : TurnCourse) (tn : TurnStep) → Takes tn u → (r : Refusal) → decided_then tn u ≡ Some (turn_end.Refused r) → may_meet (sought_at (place_after (after_lock pr (Turn tn)))) refusal.Starved ≡ true
-meets_turn purpose.UpgradableRead u turn_step.More h r e = refl
-meets_turn purpose.Write u turn_step.More h r e = refl
-meets_turn purpose.UpgradableRead u (turn_step.End turn_end.Got) h r e = absurd (cc)
-meets_turn purpose.Write u (turn_step.End turn_end.Got) h r e = absurd (cc)
-meets_turn purpose.UpgradableRead u (turn_step.End turn_end.Pending) h r e = absurd (cc)
-meets_turn purpose.Write u (turn_step.End turn_end.Pending) h r e = absurd (cc)
-meets_turn purpose.UpgradableRead u (turn_step.End (turn_end.Refused refusal.Memory)) h r e = refl
-meets_turn purpose.Write u (turn_step.End (turn_end.Refused refusal.Memory)) h r e = refl
-meets_turn purpose.UpgradableRead u (turn_step.End (turn_end.Refused refusal.Starved)) h r e = refl
-meets_turn purpose.Write u (turn_step.End (turn_end.Refused refusal.Starved)) h r e = refl
-meets_turn pr u (turn_step.End _) h r e = absurd h
+meets_turn : (w : World) (p : ℕ) (pr : Purpose) (u : TurnCourse) (tn : TurnStep) → Takes tn u → (r : Refusal) → decided_then tn u ≡ Some (turn_end.Refused r) → (HasTurn w.state.turn p → ⊥) → MayMeet (sought_at (place_after (after_lock pr (Turn tn)))) w p refusal.Starved
+meets_turn w p purpose.UpgradableRead u turn_step.More h r e out = out
+meets_turn w p purpose.Write u turn_step.More h r e out = out
+meets_turn w p purpose.UpgradableRead u (turn_step.End turn_end.Got) h r e out = absurd (cc)
+meets_turn w p purpose.Write u (turn_step.End turn_end.Got) h r e out = absurd (cc)
+meets_turn w p purpose.UpgradableRead u (turn_step.End turn_end.Pending) h r e out = absurd (cc)
+meets_turn w p purpose.Write u (turn_step.End turn_end.Pending) h r e out = absurd (cc)
+meets_turn w p purpose.UpgradableRead u (turn_step.End (turn_end.Refused refusal.Memory)) h r e out = out
+meets_turn w p purpose.Write u (turn_step.End (turn_end.Refused refusal.Memory)) h r e out = out
+meets_turn w p purpose.UpgradableRead u (turn_step.End (turn_end.Refused refusal.Starved)) h r e out = out
+meets_turn w p purpose.Write u (turn_step.End (turn_end.Refused refusal.Starved)) h r e out = out
+meets_turn w p pr u (turn_step.End _) h r e out = absurd h
 
 -- what a deed gives up, and that a join found room
 room_of : (memory : Bool) (d : Deed Change ListName) → ((list : ListName) → d ≡ does list joins → memory ≡ true) → Room memory d
@@ -209,7 +221,7 @@ module _ (m : Move) (l k : RwLock) (ss : List Stage) (opening : ℕ) (ts : List 
 
   -- a poll that wasn't decided there
   undecided : (x to : Place) (d : Deed Change ListName) (o : Option TurnEnd) → ((e : TurnEnd) → o ≡ Some e → IsReason memory p l.turn k.turn e) → ((r : Refusal) → IsReason memory p l.turn k.turn (turn_end.Refused r) → CauseAs m old new r)
-      → (o ≡ Some turn_end.Pending → told_in k.turn.entries p ≡ Some Waiting → WaitsIn k p to) → ((r : Refusal) → o ≡ Some (turn_end.Refused r) → Fitting x to d r) → Judges x to d None (poll_says o)
+      → (o ≡ Some turn_end.Pending → told_in k.turn.entries p ≡ Some Waiting → WaitsIn k p to) → ((r : Refusal) → o ≡ Some (turn_end.Refused r) → Fitting old p x to d r) → Judges x to d None (poll_says o)
   undecided x to d None why causes waits idle = tt
   undecided x to d (Some turn_end.Got) why causes waits idle = tt
   undecided x to d (Some turn_end.NotFree) why causes waits idle = tt
@@ -217,7 +229,7 @@ module _ (m : Move) (l k : RwLock) (ss : List Stage) (opening : ℕ) (ts : List 
   undecided x to d (Some turn_end.Pending) why causes waits idle = waits refl (why turn_end.Pending refl)
   undecided x to d (Some (turn_end.Refused r)) why causes waits idle = (r, refl, causes r (why (turn_end.Refused r) refl), idle r refl)
 
-  polled : (x : Place) (pr : Purpose) (tn : TurnStep) (decided : Option TurnEnd) (did : TurnDid memory p decided tn l.turn k.turn) (mv : TurnMoved p l k old did.legal.deed) → IsPolls decided → Takes tn u → ((r : Refusal) → IsReason memory p l.turn k.turn (turn_end.Refused r) → CauseAs m old new r) → ((r : Refusal) → decided ≡ None → decided_then tn u ≡ Some (turn_end.Refused r) → Fitting x (place_after (after_lock pr (Turn tn))) mv.deed r)
+  polled : (x : Place) (pr : Purpose) (tn : TurnStep) (decided : Option TurnEnd) (did : TurnDid memory p decided tn l.turn k.turn) (mv : TurnMoved p l k old did.legal.deed) → IsPolls decided → Takes tn u → ((r : Refusal) → IsReason memory p l.turn k.turn (turn_end.Refused r) → CauseAs m old new r) → ((r : Refusal) → decided ≡ None → decided_then tn u ≡ Some (turn_end.Refused r) → Fitting old p x (place_after (after_lock pr (Turn tn))) mv.deed r)
       → Judges x (place_after (after_lock pr (Turn tn))) mv.deed (refused_by decided) (verdict_then v u (after_lock pr (Turn tn)))
   polled x pr tn decided did mv dec takes causes idle =
       let to : Place = place_after (after_lock pr (Turn tn)) in
@@ -248,11 +260,11 @@ module _ (m : Move) (l k : RwLock) (ss : List Stage) (opening : ℕ) (ts : List 
   on_hold decided n did mv (inr (inr h)) = let P : Option TurnEnd → Type 0 = λ o. keeps_what_it_has (refused_by o) mv.deed ≡ true in subst P (sym h.1) (judged_so (refused h.0) mv.deed)
 
   -- a refusal for memory on the way does nothing else
-  idle_there : (pr : Purpose) (n : TurnStep) (did : TurnDid memory p (decision t) n l.turn k.turn) (mv : TurnMoved p l k old did.legal.deed) (r : Refusal) → decision t ≡ None → decided_then n u ≡ Some (turn_end.Refused r) → Takes n u → Fitting (place.TakeTurn pr) (place_after (after_lock pr (Turn n))) mv.deed r
-  idle_there pr n did mv refusal.Memory e h takes = (mv.idle (did.legal.refused_idly e h), refl)
-  idle_there pr n did mv refusal.Starved e h takes = meets_turn pr u n takes refusal.Starved h
-  idle_there pr n did mv refusal.Readers e h takes = absurd (did.legal.reason (turn_end.Refused refusal.Readers) e h)
-  idle_there pr n did mv _ e h takes = tt
+  idle_there : (pr : Purpose) (n : TurnStep) (did : TurnDid memory p (decision t) n l.turn k.turn) (mv : TurnMoved p l k old did.legal.deed) (r : Refusal) → decision t ≡ None → decided_then n u ≡ Some (turn_end.Refused r) → Takes n u → (HasTurn old.state.turn p → ⊥) → Fitting old p (place.TakeTurn pr) (place_after (after_lock pr (Turn n))) mv.deed r
+  idle_there pr n did mv refusal.Memory e h takes out = (mv.idle (did.legal.refused_idly e h), refl)
+  idle_there pr n did mv refusal.Starved e h takes out = meets_turn old p pr u n takes refusal.Starved h out
+  idle_there pr n did mv refusal.Readers e h takes out = absurd (did.legal.reason (turn_end.Refused refusal.Readers) e h)
+  idle_there pr n did mv _ e h takes out = tt
 
   begun : (c : LockCall) (n : TurnStep) → TurnBegins memory starving p c n l.turn k.turn → TurnDid memory p (decided_by c) n l.turn k.turn
   begun c n b = record { legal = b.legal; fair = b.fair }
@@ -277,7 +289,7 @@ module _ (m : Move) (l k : RwLock) (ss : List Stage) (opening : ℕ) (ts : List 
       let row = turn_row v u (place.TakeTurn pr) (Turn tn) s e in
       let did = gone_on tn o in
       let mv = moved m l k ss opening ts v (place.TakeTurn pr) (Turn tn) c afterwards row.sharing (decision t) tn did refl in
-      facts (place.TakeTurn pr) (Turn tn) c row (decision t) tn did mv (on_hold (decision t) tn did mv (taking_decided t fit)) c.no_writer c.no_readers (polled (place.TakeTurn pr) pr tn (decision t) did mv (taking_decided t fit) e (cause (place.TakeTurn pr) (Turn tn) c refl refl c.no_writer c.no_readers) (λ r n y. idle_there pr tn did mv r n y e))
+      facts (place.TakeTurn pr) (Turn tn) c row (decision t) tn did mv (on_hold (decision t) tn did mv (taking_decided t fit)) c.no_writer c.no_readers (polled (place.TakeTurn pr) pr tn (decision t) did mv (taking_decided t fit) e (cause (place.TakeTurn pr) (Turn tn) c refl refl c.no_writer c.no_readers) (λ r n y. idle_there pr tn did mv r n y e (owns.no_turn l ss opening v c.laws c.fits p (undecided_free t fit n))))
   on_turn (place.TakeTurn pr) _ c s o e fit = absurd o
   on_turn (place.TryTurn pr) (Turn tn) c s o e fit =
       let row = turn_row v u (place.TryTurn pr) (Turn tn) s e in

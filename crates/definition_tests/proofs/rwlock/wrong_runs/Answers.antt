@@ -1,6 +1,8 @@
 -- No wrong run of a read-write lock is legal.
-use Rattle.std.proofs.Common.{◌≡◌, ℕ, ◌||◌, true, false, Option, Some, None, refl, ap, sym, ◌∙◌, subst, inl, inr, arith}
-use Rattle.std.proofs.lemmas.Bool.{false≢true, true≢false}
+use Rattle.std.proofs.Common.{◌≡◌, ◌≢◌, ℕ, zero, suc, ◌<◌, ◌||◌, not, Bool, true, false, List, [], ◌∷◌, Option, Some, None, refl, ap, sym, ◌∙◌, subst, inl, inr, arith}
+use Rattle.std.specs.Prelude.{slice_set, nat_lt}
+use Rattle.std.proofs.lemmas.Bool.{false≢true, true≢false, and_parts}
+use Rattle.std.proofs.lemmas.Bool.Decides.{nat_tests}
 use Rattle.lock_world.specs.declared.moves.Answer.{Answer}
 use Rattle.lock_world.specs.declared.moves.Answer.TheVariants as answer
 use Rattle.lock_world.specs.declared.moves.Move.{Move}
@@ -8,17 +10,20 @@ use Rattle.lock_world.specs.declared.moves.What.{What}
 use Rattle.lock_world.specs.declared.moves.What.TheVariants.{Go}
 use Rattle.lock_world.specs.declared.refusal.Refusal.{Refusal}
 use Rattle.lock_world.specs.declared.refusal.Refusal.TheVariants as refusal
-use Rattle.lock_world.specs.declared.standing.Rest.TheVariants.{Pending, Holding}
+use Rattle.lock_world.specs.declared.standing.Rest.{Rest}
+use Rattle.lock_world.specs.declared.standing.Rest.TheVariants.{Idle, Pending, Holding, Finished}
 use Rattle.lock_world.specs.declared.standing.Within.{Within}
 use Rattle.lock_world.specs.Frame.{is_giving_back}
 use Rattle.lock_world.specs.Refusals.{number_of}
-use Rattle.lock_world.specs.Rights.{Right, read, write}
-use Rattle.lock_world.specs.Standings.{Standing, outside, inside, is_decided, is_possible}
+use Rattle.lock_world.specs.Rights.{Right, read, upgradable, write}
+use Rattle.lock_world.specs.Rosters.{is_on}
+use Rattle.lock_world.specs.Standings.{Standing, outside, inside, is_decided, is_possible, refused}
 use Rattle.lock_world.specs.Steps.{Deed, nothing, changes, does}
 use Rattle.lock_world.proofs.Equations.{none_some, outside_inside}
-use Rattle.rwlock_world.specs.Changes.{Change, takes_turn, leaves_turn, starves, recovers, begins_to_read, stops_reading, becomes_upgradable, stops_upgradable, begins_to_wait, begins_to_write, upgrades, upgrades_at_once, unmarks, downgrades, downgrades_to_upgradable, puts, turn_after, gives_up}
-use Rattle.rwlock_world.specs.Legal.{may_meet, HasItsOwn, IsCause}
-use Rattle.rwlock_world.specs.State.{ListName, Turn, nobody, passes, waits_to_write, HasTurn, State, World, standing_of, sought_by}
+use Rattle.rwlock_world.specs.Changes.{Change, takes_turn, leaves_turn, starves, recovers, begins_to_read, stops_reading, becomes_upgradable, stops_upgradable, begins_to_wait, begins_to_write, upgrades, upgrades_at_once, unmarks, downgrades, downgrades_to_upgradable, puts, turn_after, readers_after, IsAllowed, gives_up}
+use Rattle.rwlock_world.specs.Legal.{DecidesOn, HasItsOwn, HasNothing, MayMeet, IsCause, may_read}
+use Rattle.rwlock_world.specs.State.{ListName, Turn, nobody, passes, waits_to_write, is_marked, HasTurn, State, World, standing_of, sought_by, how_many_read, is_upgrader}
+use Rattle.definition_tests.specs.ReadWrite.{Step, IsLegal}
 use Rattle.definition_tests.proofs.rwlock.wrong_runs.Goals as goal
 
 none_possible : (a : Answer) → a ≡ answer.None → is_possible a ≡ true
@@ -87,42 +92,175 @@ returns-clause-lets_go_undecided c = λ r.
     let up = left r.step.move.party one.deed r.step.old.state.turn r.had (sym (ap (λ (s : State). s.turn) one.state) ∙ r.left) in
     undecided_going (standing_of r.step.old r.step.move.party) r.step.move.what r.within r.inputs r.undecided r.goes (one.giving_up up)
 
+-- who clears the bit while it waits to write gives it up
+unmarks_by : (w : World) (p : ℕ) (d : Deed Change ListName) → w.state.turn ≡ waits_to_write p → IsAllowed p d w → is_marked (turn_after p d w.state.turn) ≡ false → gives_up d ≡ true
+unmarks_by w p (changes unmarks) e may n = refl
+unmarks_by w p (changes leaves_turn) e may n = refl
+unmarks_by w p (changes stops_upgradable) e may n = refl
+unmarks_by w p (changes stops_reading) e may n = refl
+unmarks_by w p (changes takes_turn) e may n = let other = may.0 in absurd (cc)
+unmarks_by w p (changes becomes_upgradable) e may n = let other = may.0 in absurd (cc)
+unmarks_by w p (changes downgrades) e may n = absurd (cc)
+unmarks_by w p (changes downgrades_to_upgradable) e may n = absurd (cc)
+unmarks_by w p (changes begins_to_wait) e may n = absurd (true≢false n)
+unmarks_by w p (changes begins_to_write) e may n = absurd (true≢false n)
+unmarks_by w p (changes upgrades) e may n = absurd (true≢false n)
+unmarks_by w p (changes upgrades_at_once) e may n = absurd (true≢false n)
+unmarks_by w p (changes starves) e may n = absurd (true≢false (sym (ap is_marked e) ∙ n))
+unmarks_by w p (changes recovers) e may n = absurd (true≢false (sym (ap is_marked e) ∙ n))
+unmarks_by w p (changes begins_to_read) e may n = absurd (true≢false (sym (ap is_marked e) ∙ n))
+unmarks_by w p (changes (puts v)) e may n = absurd (true≢false (sym (ap is_marked e) ∙ n))
+unmarks_by w p nothing e may n = absurd (true≢false (sym (ap is_marked e) ∙ n))
+unmarks_by w p (does list f) e may n = absurd (true≢false (sym (ap is_marked e) ∙ n))
+
+pub returns-clause-unmarks_undecided : goal.returns-clause-unmarks_undecided
+returns-clause-unmarks_undecided c = λ r.
+    let one = r.legal.one_change in
+    let up = unmarks_by r.step.old r.step.move.party one.deed r.had one.allowed (sym (ap (λ (s : State). is_marked s.turn) one.state) ∙ r.cleared) in
+    undecided_going (standing_of r.step.old r.step.move.party) r.step.move.what r.within r.inputs r.undecided r.goes (one.giving_up up)
+
+stays_on : (rs : List Bool) (p : ℕ) → is_on rs p ≡ true → is_on (slice_set rs p true) p ≡ true
+stays_on [] p h = h
+stays_on (b ∷ rs) zero h = refl
+stays_on (b ∷ rs) (suc p) h = stays_on rs p h
+
+-- who stops reading, and doesn't write or wait to, gives its reading up
+stops_by : (p : ℕ) (d : Deed Change ListName) (rs : List Bool) (t : Turn) → is_on rs p ≡ true → is_on (readers_after p d rs) p ≡ false → is_marked (turn_after p d t) ≡ false → gives_up d ≡ true
+stops_by p (changes stops_reading) rs t had gone n = refl
+stops_by p (changes stops_upgradable) rs t had gone n = refl
+stops_by p (changes unmarks) rs t had gone n = refl
+stops_by p (changes leaves_turn) rs t had gone n = refl
+stops_by p (changes upgrades) rs t had gone n = absurd (true≢false n)
+stops_by p (changes upgrades_at_once) rs t had gone n = absurd (true≢false n)
+stops_by p (changes begins_to_read) rs t had gone n = absurd (true≢false (sym (stays_on rs p had) ∙ gone))
+stops_by p (changes becomes_upgradable) rs t had gone n = absurd (true≢false (sym (stays_on rs p had) ∙ gone))
+stops_by p (changes downgrades) rs t had gone n = absurd (true≢false (sym (stays_on rs p had) ∙ gone))
+stops_by p (changes downgrades_to_upgradable) rs t had gone n = absurd (true≢false (sym (stays_on rs p had) ∙ gone))
+stops_by p (changes takes_turn) rs t had gone n = absurd (true≢false (sym had ∙ gone))
+stops_by p (changes starves) rs t had gone n = absurd (true≢false (sym had ∙ gone))
+stops_by p (changes recovers) rs t had gone n = absurd (true≢false (sym had ∙ gone))
+stops_by p (changes begins_to_wait) rs t had gone n = absurd (true≢false (sym had ∙ gone))
+stops_by p (changes begins_to_write) rs t had gone n = absurd (true≢false (sym had ∙ gone))
+stops_by p (changes (puts v)) rs t had gone n = absurd (true≢false (sym had ∙ gone))
+stops_by p nothing rs t had gone n = absurd (true≢false (sym had ∙ gone))
+stops_by p (does list f) rs t had gone n = absurd (true≢false (sym had ∙ gone))
+
+pub returns-clause-stops_reading_undecided : goal.returns-clause-stops_reading_undecided
+returns-clause-stops_reading_undecided c = λ r.
+    let one = r.legal.one_change in
+    let p = r.step.move.party in
+    let up = stops_by p one.deed r.step.old.state.readers r.step.old.state.turn r.had (sym (ap (λ (s : State). is_on s.readers p) one.state) ∙ r.stopped) (sym (ap (λ (s : State). is_marked s.turn) one.state) ∙ r.unmarked) in
+    undecided_going (standing_of r.step.old p) r.step.move.what r.within r.inputs r.undecided r.goes (one.giving_up up)
+
+pub returns-clause-downgrades_undecided : goal.returns-clause-downgrades_undecided
+returns-clause-downgrades_undecided c = λ r.
+    let own = own_as r.step.new r.step.move.party (inside r.within None) r.undecided (r.legal.leaves_clear.each r.step.move.party) in
+    own.5 r.kind
+
+pub returns-clause-drops_undecided : goal.returns-clause-drops_undecided
+returns-clause-drops_undecided c = λ r.
+    let own = own_as r.step.new r.step.move.party (inside r.within None) r.undecided (r.legal.leaves_clear.each r.step.move.party) in
+    own.4 r.kind
+
 pub returns-clause-downgrades_through_nothing : goal.returns-clause-downgrades_through_nothing
 returns-clause-downgrades_through_nothing c = λ r.
     let own = own_as r.step.new r.step.move.party (inside r.within (Some r.to_come)) r.downgrades (r.legal.leaves_clear.each r.step.move.party) in
     true≢false (sym (own r.kind) ∙ r.reads_not)
 
-pub returns-clause-writer_is_upgrade : goal.returns-clause-writer_is_upgrade
-returns-clause-writer_is_upgrade c = λ r.
-    let own = own_as r.step.new r.step.move.party (outside Holding) r.holds (r.legal.leaves_clear.each r.step.move.party) in
-    true≢false (sym r.upgrade ∙ own.2)
+not_upgrade : (w : World) (p : ℕ) (k : Rest) → (k ≢ Pending) → HasItsOwn w p (outside k) → is_upgrader w p ≡ false
+not_upgrade w p Idle n own = own.2
+not_upgrade w p Finished n own = own.2
+not_upgrade w p Holding n own = own.2
+not_upgrade w p Pending n own = absurd (n refl)
+
+pub returns-clause-other_is_upgrade : goal.returns-clause-other_is_upgrade
+returns-clause-other_is_upgrade c = λ r.
+    let own = own_as r.step.new r.step.move.party (outside r.rest) r.stands (r.legal.leaves_clear.each r.step.move.party) in
+    true≢false (sym r.upgrade ∙ not_upgrade r.step.new r.step.move.party r.rest r.not_pending own)
+
+nothing_had : (w : World) (p : ℕ) (k : Rest) → (k ≢ Pending) → (k ≢ Holding) → HasItsOwn w p (outside k) → HasNothing w p
+nothing_had w p Idle n h own = own.1
+nothing_had w p Finished n h own = own.1
+nothing_had w p Holding n h own = absurd (h refl)
+nothing_had w p Pending n h own = absurd (n refl)
+
+pub returns-clause-idle_has_turn : goal.returns-clause-idle_has_turn
+returns-clause-idle_has_turn c = λ r.
+    let own = own_as r.step.new r.step.move.party (outside r.rest) r.stands (r.legal.leaves_clear.each r.step.move.party) in
+    (nothing_had r.step.new r.step.move.party r.rest r.not_pending r.not_holding own).1 r.has_turn
 
 pub returns-clause-tries_on : goal.returns-clause-tries_on
 returns-clause-tries_on c = λ r. none_some (sym r.undecided ∙ r.legal.try_write_decided r.tries r.goes)
 
-meets_readers : (m : Move) (old new : World) (r : Refusal) → number_of refusal.Readers ≡ number_of r → IsCause old m new r → may_meet (sought_by new m.party) refusal.Readers ≡ true
+-- a limit is met by who takes what it is for
+meets_readers : (m : Move) (old new : World) (r : Refusal) → number_of refusal.Readers ≡ number_of r → IsCause old m new r → MayMeet (sought_by new m.party) old m.party refusal.Readers
 meets_readers m old new refusal.Readers e h = h.1
 meets_readers m old new _ e h = absurd (cc)
 
-meets_starved : (m : Move) (old new : World) (r : Refusal) → number_of refusal.Starved ≡ number_of r → IsCause old m new r → may_meet (sought_by new m.party) refusal.Starved ≡ true
+meets_starved : (m : Move) (old new : World) (r : Refusal) → number_of refusal.Starved ≡ number_of r → IsCause old m new r → MayMeet (sought_by new m.party) old m.party refusal.Starved
 meets_starved m old new refusal.Starved e h = h.1
 meets_starved m old new _ e h = absurd (cc)
 
-apart : (o : Option Right) (s : Right) (r : Refusal) → o ≡ Some s → may_meet (Some s) r ≡ false → may_meet o r ≡ true → ⊥
-apart o s r e n h = false≢true (sym n ∙ (ap (λ x. may_meet x r) (sym e) ∙ h))
+meets_as : (o : Option Right) (s : Right) (w : World) (p : ℕ) (r : Refusal) → o ≡ Some s → MayMeet o w p r → MayMeet (Some s) w p r
+meets_as o s w p r e h = let P : Option Right → Type 0 = λ x. MayMeet x w p r in subst P e h
+
+starved_without : (o : Option Right) (w : World) (p : ℕ) → MayMeet o w p refusal.Starved → HasTurn w.state.turn p → ⊥
+starved_without (Some upgradable) w p h t = h t
+starved_without (Some write) w p h t = h t
+starved_without _ w p h t = h
+
+readers_met : (s : Step) → IsLegal s → DecidesOn s.old s.move s.answer s.new (refused refusal.Readers) → MayMeet (sought_by s.new s.move.party) s.old s.move.party refusal.Readers
+readers_met s legal decides = let why = legal.refused_for_cause.cause (number_of refusal.Readers) decides in meets_readers s.move s.old s.new why.0 why.1 why.2
+
+starved_met : (s : Step) → IsLegal s → DecidesOn s.old s.move s.answer s.new (refused refusal.Starved) → MayMeet (sought_by s.new s.move.party) s.old s.move.party refusal.Starved
+starved_met s legal decides = let why = legal.refused_for_cause.cause (number_of refusal.Starved) decides in meets_starved s.move s.old s.new why.0 why.1 why.2
+
+readers_met_as : (s : Step) (r : Right) → sought_by s.new s.move.party ≡ Some r → IsLegal s → DecidesOn s.old s.move s.answer s.new (refused refusal.Readers) → MayMeet (Some r) s.old s.move.party refusal.Readers
+readers_met_as s r e legal decides = meets_as (sought_by s.new s.move.party) r s.old s.move.party refusal.Readers e (readers_met s legal decides)
 
 pub returns-clause-write_meets_readers : goal.returns-clause-write_meets_readers
-returns-clause-write_meets_readers c = λ r.
-    let why = r.legal.refused_for_cause.cause (number_of refusal.Readers) r.refused in
-    apart (sought_by r.step.new r.step.move.party) write refusal.Readers r.seeks refl (meets_readers r.step.move r.step.old r.step.new why.0 why.1 why.2)
+returns-clause-write_meets_readers c = λ r. readers_met_as r.step write r.seeks r.legal r.refused
 
 pub returns-clause-read_meets_starved : goal.returns-clause-read_meets_starved
-returns-clause-read_meets_starved c = λ r.
-    let why = r.legal.refused_for_cause.cause (number_of refusal.Starved) r.refused in
-    apart (sought_by r.step.new r.step.move.party) read refusal.Starved r.seeks refl (meets_starved r.step.move r.step.old r.step.new why.0 why.1 why.2)
+returns-clause-read_meets_starved c = λ r. meets_as (sought_by r.step.new r.step.move.party) read r.step.old r.step.move.party refusal.Starved r.seeks (starved_met r.step r.legal r.refused)
+
+pub returns-clause-read_meets_readers_beside_writer : goal.returns-clause-read_meets_readers_beside_writer
+returns-clause-read_meets_readers_beside_writer c = λ r. true≢false (sym r.writer ∙ readers_met_as r.step read r.seeks r.legal r.refused)
+
+pub returns-clause-meets_readers_without_turn : goal.returns-clause-meets_readers_without_turn
+returns-clause-meets_readers_without_turn c = λ r. r.without (readers_met_as r.step upgradable r.seeks r.legal r.refused)
+
+pub returns-clause-meets_starved_with_turn : goal.returns-clause-meets_starved_with_turn
+returns-clause-meets_starved_with_turn c = λ r. starved_without (sought_by r.step.new r.step.move.party) r.step.old r.step.move.party (starved_met r.step r.legal r.refused) r.has_turn
+
+pub returns-clause-passes_turn_in_vain : goal.returns-clause-passes_turn_in_vain
+returns-clause-passes_turn_in_vain c = λ r. r.not_taken (((r.kept.turn r.polls r.solo r.free r.below).takes (inr r.unstarved)).has_turn)
+
+may_read_parts : (w : World) → may_read w ≡ true → (is_marked w.state.turn ≡ false) × (how_many_read w < w.readers_limit)
+may_read_parts w h = let both = and_parts (not (is_marked w.state.turn)) (nat_lt (how_many_read w) w.readers_limit) h in (unmarked (is_marked w.state.turn) both.0, grind (arith, nat_tests, both.1)) where
+  unmarked : (b : Bool) → not b ≡ true → b ≡ false
+  unmarked true e = absurd (false≢true e)
+  unmarked false e = refl
+
+pub returns-clause-passes_reading_in_vain : goal.returns-clause-passes_reading_in_vain
+returns-clause-passes_reading_in_vain c = λ r. let free = may_read_parts r.whole.old r.free in let ready = (r.kept.reading r.polls r.solo free.0 free.1).ready in absurd (cc (r.pending))
+
+pub returns-clause-passes_writing_in_vain : goal.returns-clause-passes_writing_in_vain
+returns-clause-passes_writing_in_vain c = λ r. let ready = (r.kept.writing r.polls r.solo r.free).ready in absurd (cc (r.pending))
+
+pub returns-clause-upgrade_waits_for_nobody : goal.returns-clause-upgrade_waits_for_nobody
+returns-clause-upgrade_waits_for_nobody c = λ r.
+    let ready = (r.kept.writing r.polls (record { pending = r.was_pending; looks = inr r.upgrade; memory = r.memory }) r.free).ready in
+    absurd (cc (r.pending))
+
+pub returns-clause-upgradable_unready : goal.returns-clause-upgradable_unready
+returns-clause-upgradable_unready c = λ r. let ready = r.kept.first_upgradable r.first r.free r.below in absurd (cc (r.pending))
+
+pub returns-clause-write_unready : goal.returns-clause-write_unready
+returns-clause-write_unready c = λ r. let ready = r.kept.first_write r.first r.new_write r.free r.alone in absurd (cc (r.pending))
 
 pub returns-clause-starves_unasked : goal.returns-clause-starves_unasked
 returns-clause-starves_unasked c = λ r. true≢false (sym r.starved ∙ r.kept.unstarved r.patient r.unstarved)
 
 pub returns-clause-keeps_its_told : goal.returns-clause-keeps_its_told
-returns-clause-keeps_its_told c = λ r. let some = r.kept.hands_on r.list refl r.pending r.listed r.refused r.some in absurd (omega (arith, some, r.none_told))
+returns-clause-keeps_its_told c = λ r. let some = r.kept.hands_on r.list r.polls r.pending r.listed r.refused r.some in absurd (omega (arith, some, r.none_told))
