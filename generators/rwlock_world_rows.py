@@ -353,6 +353,10 @@ lacks_memory (JoinNoReaders u) = true
 lacks_memory (TakeTurn q) = true
 lacks_memory _ = false
 
+-- who joins a list hasn't the turn, or waits to write
+abbrev pub JoinsAt : Place → TurnCourse → Type 0
+JoinsAt x t = (is_out_there t ≡ true) ⊎ ((is_holding t ≡ true) × (has_turn x ≡ 1) × (share_of x ≡ waiting))
+
 -- what a party takes that meets the limit of the readers
 abbrev pub MeetsReaders : RwLock → Place → Option Right → Type 0
 MeetsReaders l x (Some read) = marked l ≡ 0
@@ -361,7 +365,7 @@ MeetsReaders l x s = ⊥
 
 -- why a step refuses its call
 abbrev pub Refuses : Bool → RwLock → Place → Found → Refusal → Type 0
-Refuses memory l x f refusal.Memory = (memory ≡ false) × (in_no_writer x + in_no_readers x ≡ 0) × (deed_at x f ≡ nothing) × ((t : TurnCourse) → fits_turn x t ≡ true → (is_out_there t ≡ true) ⊎ (is_holding t ≡ true)) × (lacks_memory x ≡ true)
+Refuses memory l x f refusal.Memory = (memory ≡ false) × (in_no_writer x + in_no_readers x ≡ 0) × (deed_at x f ≡ nothing) × ((t : TurnCourse) → fits_turn x t ≡ true → JoinsAt x t) × (lacks_memory x ≡ true)
 Refuses memory l x f refusal.Readers = (l.limit ≤ readers l) × MeetsReaders l x (sought_at (place_after (next_of x f)))
 Refuses memory l x f _ = ⊥
 
@@ -436,8 +440,8 @@ STAYS = 'inr ((λ p t. refl), refl)'
 MOVES = 'inl (refl, λ p. refl)'
 
 
-def memory(side):
-    return f'(refusal.Memory, refl, (e, refl, refl, (λ t h. {side} h), refl))'
+def memory(joins):
+    return f'(refusal.Memory, refl, (e, refl, refl, (λ t h. {joins}), refl))'
 
 
 def full(many, taken):
@@ -483,9 +487,9 @@ for told in ('true', 'false'):
 for told in ('true', 'false'):
     row(f'(JoinNoWriter {told})', 'Done', UNDECIDED, upgrade=GOES)
     if told == 'true':
-        row(f'(JoinNoWriter {told})', 'NoMemory', memory('inl'), upgrade=GOES)
+        row(f'(JoinNoWriter {told})', 'NoMemory', memory('inl h'), upgrade=GOES)
     else:
-        row(f'(JoinNoWriter {told})', 'NoMemory', memory('inl'), upgrade='refl', refused=MADE)
+        row(f'(JoinNoWriter {told})', 'NoMemory', memory('inl h'), upgrade='refl', refused=MADE)
     rest(f'(JoinNoWriter {told})')
 row('(LookNoWriter told)', 'Done', GOT_IT, finding='e', upgrade=GOES)
 row('(LookNoWriter told)', 'Writer', UNDECIDED, upgrade=GOES)
@@ -532,9 +536,9 @@ rest('TryWrite')
 for u in ('true', 'false'):
     row(f'(JoinNoReaders {u})', 'Done', UNDECIDED, upgrade=GOES)
     if u == 'true':
-        row(f'(JoinNoReaders {u})', 'NoMemory', memory('inr'), upgrade='refl', refused='inr (refl, refl)')
+        row(f'(JoinNoReaders {u})', 'NoMemory', memory('inr (h, refl, refl)'), upgrade='refl', refused='inr (refl, refl)')
     else:
-        row(f'(JoinNoReaders {u})', 'NoMemory', memory('inr'), upgrade=GOES)
+        row(f'(JoinNoReaders {u})', 'NoMemory', memory('inr (h, refl, refl)'), upgrade=GOES)
     rest(f'(JoinNoReaders {u})')
 WRITES = dict(sharing=MOVES, finding='(refl, inr refl, e)')
 row('(LookNoReaders u)', 'NoneLeft', GOT_IT, upgrade=NEVER, **WRITES)

@@ -206,6 +206,13 @@ pub record ReadMeetsStarved : Type 0 where
   pub refused : DecidesOn step.old step.move step.answer step.new (refused Starved)
   pub legal : IsLegal step
 
+-- A party that has just taken the turn is refused for memory, though it hasn't looked yet whether it has to join.
+pub record LacksMemoryWithTurn : Type 0 where
+  pub step : Step
+  pub passes : step.old.state.turn ≡ passes step.move.party
+  pub refused : DecidesOn step.old step.move step.answer step.new (refused Memory)
+  pub legal : IsLegal step
+
 -- A read is refused because readers are at their limit, beside a writer, for which it only has to wait.
 pub record ReadMeetsReadersBesideWriter : Type 0 where
   pub step : Step

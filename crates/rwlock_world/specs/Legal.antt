@@ -137,9 +137,9 @@ MayMeet (Some upgradable) w p refusal.Starved = HasTurn w.state.turn p → ⊥
 MayMeet (Some write) w p refusal.Starved = HasTurn w.state.turn p → ⊥
 MayMeet s w p r = ⊥
 
--- Why a call may be refused: a join found no memory, for the move's input said so; there are as many starved parties, or readers, as there may be, and it takes what that limit is for; or the future had been ready before.
+-- Why a call may be refused: a join found no memory, for the move's input said so, and whoever has just taken the turn looks before it joins; there are as many starved parties, or readers, as there may be, and it takes what that limit is for; or the future had been ready before.
 abbrev pub IsCause : World → Move → World → Refusal → Type 0
-IsCause old m new refusal.Memory = ((inputs_of m.what).memory ≡ false) × (entries_in old m.party ≡ 0) × ((list : ListName) → list_of new list ≡ list_of old list)
+IsCause old m new refusal.Memory = ((inputs_of m.what).memory ≡ false) × (entries_in old m.party ≡ 0) × ((list : ListName) → list_of new list ≡ list_of old list) × (old.state.turn ≢ passes m.party)
 IsCause old m new refusal.Starved = (how_many old.state.starved ≡ old.starved_limit) × MayMeet (sought_by new m.party) old m.party refusal.Starved
 IsCause old m new refusal.Readers = (old.readers_limit ≤ how_many_read old) × MayMeet (sought_by new m.party) old m.party refusal.Readers
 IsCause old m new refusal.Finished = new ≡ old

@@ -19,9 +19,9 @@ use Rattle.lock_world.specs.Rights.{Right, read, upgradable}
 use Rattle.lock_world.specs.Rosters.{how_many}
 use Rattle.lock_world.specs.Standings.{inputs_of}
 use Rattle.lock_world.specs.Steps.{Deed, nothing, changes, does}
-use Rattle.mutex_machine.specs.Course.{is_out as is_out_there, is_holding, listed}
+use Rattle.mutex_machine.specs.Course.{listed}
 use Rattle.mutex_machine.specs.Mutex.{course_at as turn_at, holder_of, starved_of}
-use Rattle.mutex_machine.proofs.Callers.{out_unlisted, holding_unlisted}
+use Rattle.mutex_machine.proofs.Callers.{out_unlisted, holding_unlisted, out_free}
 use Rattle.rwlock_program.specs.declared.program.Found.{Found}
 use Rattle.rwlock_program.specs.declared.program.Found.TheVariants.{No}
 use Rattle.rwlock_program.specs.declared.program.Next.{Next}
@@ -34,13 +34,14 @@ use Rattle.rwlock_machine.specs.Machine.{RwLock, SameRoles, place_at}
 use Rattle.rwlock_machine.specs.Acts.{IsRwLock, Finds}
 use Rattle.rwlock_machine.proofs.Leads.{steps_in_turn}
 use Rattle.rwlock_world.specs.Changes.{Change, takes_turn, leaves_turn, starves, recovers, begins_to_read, stops_reading, becomes_upgradable, stops_upgradable, begins_to_wait, begins_to_write, upgrades, upgrades_at_once, unmarks, downgrades, downgrades_to_upgradable, puts, turn_after, readers_after, starved_after, value_after, IsAllowed, gives_back, entries_after}
+use Rattle.rwlock_world.specs.State as state
 use Rattle.rwlock_world.specs.State.{ListName, for_the_turn, for_no_readers, for_no_writer}
 use Rattle.rwlock_world.specs.State.{World, list_of, told_in, entries_in, how_many_read}
 use Rattle.rwlock_world.specs.Legal.{MayMeet, IsCause}
 use Rattle.rwlock_world.specs.Guarded.{answer_by}
 use Rattle.rwlock_world.specs.Stages.{strays, course_of, sought_at}
 use Rattle.rwlock_world.specs.View.{Share, passing, upgrading, waiting, writing, turn_as, share_of, turn_by, is_reading, verdict, seen}
-use Rattle.rwlock_world.proofs.step.Rows.{deed_at, verdict_then, is_after_ready, Reads, Shares, Finding, is_got, WaitsAt, MeetsReaders, Refuses, Reason, Judged, Room, keeps_what_it_has, lacks_memory, KeepsUpgrade, RefusedAt, Row, row}
+use Rattle.rwlock_world.proofs.step.Rows.{deed_at, verdict_then, is_after_ready, Reads, Shares, Finding, is_got, WaitsAt, JoinsAt, MeetsReaders, Refuses, Reason, Judged, Room, keeps_what_it_has, lacks_memory, KeepsUpgrade, RefusedAt, Row, row}
 use Rattle.rwlock_world.proofs.step.Owns as owns
 use Rattle.rwlock_world.proofs.laws.Sound.{none_marked}
 use Rattle.rwlock_world.proofs.table.Views as view
@@ -193,16 +194,20 @@ module _ (m : Move) (l k : RwLock) (ss : List Stage) (opening : ℕ) (ts : List 
         subst P (sym holder) (ap (λ y. turn_as p (share_of y)) (get_or-set_same l.places p to place.Out there) ∙ (sym (h.1 p) ∙ ap (λ s. turn_after p (deed_at x f) (turn_as p s)) c.share))
     turned (inr h) = turn_kept (holder_of l.turn) l.places p to there (h.1 ∙ c.share) ∙ sym (h.0 p (turn_by (holder_of l.turn) l.places))
 
-    unlisted : in_no_writer x + in_no_readers x ≡ 0 → (is_out_there (turn_at l.turn.courses p) ≡ true) ⊎ (is_holding (turn_at l.turn.courses p) ≡ true) → entries_in (seen l ss opening v) p ≡ 0
+    unlisted : in_no_writer x + in_no_readers x ≡ 0 → JoinsAt x (turn_at l.turn.courses p) → entries_in (seen l ss opening v) p ≡ 0
     unlisted e h =
-        let none : listed (turn_at l.turn.courses p) ≡ 0 = elim h as (λ _. listed (turn_at l.turn.courses p) ≡ 0) [ inl o ↦ out_unlisted (turn_at l.turn.courses p) o | inr o ↦ holding_unlisted (turn_at l.turn.courses p) o ] in
+        let none : listed (turn_at l.turn.courses p) ≡ 0 = elim h as (λ _. listed (turn_at l.turn.courses p) ≡ 0) [ inl o ↦ out_unlisted (turn_at l.turn.courses p) o | inr o ↦ holding_unlisted (turn_at l.turn.courses p) o.0 ] in
         omega (arith, c.laws.owners_no_writer p, c.laws.owners_no_readers p, c.laws.turn.owners p, none, e, c.same.standing_w, c.same.standing_r)
 
     fit : fits_turn x (turn_at l.turn.courses p) ≡ true
     fit = rw c.same.in_turn (c.laws.in_turn p)
 
+    joins_apart : JoinsAt x (turn_at l.turn.courses p) → turn_by (holder_of l.turn) l.places ≢ state.passes p
+    joins_apart (inl o) e = owns.no_turn l ss opening v c.laws c.fits p (out_free (turn_at l.turn.courses p) o) (owns.has_as (turn_by (holder_of l.turn) l.places) p passing e)
+    joins_apart (inr h) e = let turn = turn_here waiting h.1 h.2 in absurd (cc)
+
     cause : (q : Refusal) → Refuses memory l x f q → CauseAs m (seen l ss opening v) (seen k ts opening v) q
-    cause refusal.Memory h = (h.0, unlisted h.1 (h.3 (turn_at l.turn.courses p) fit), by_list) where
+    cause refusal.Memory h = (h.0, unlisted h.1 (h.3 (turn_at l.turn.courses p) fit), by_list, joins_apart (h.3 (turn_at l.turn.courses p) fit)) where
       by_list : (list : ListName) → list_of (seen k ts opening v) list ≡ list_of (seen l ss opening v) list
       by_list for_the_turn = ap (λ t. t.entries) still
       by_list for_no_readers = r.no_readers p l.no_readers k.no_readers c.no_readers ∙ ap (λ (d : Deed Change ListName). entries_after p d for_no_readers l.no_readers) h.2

@@ -136,6 +136,10 @@ lacks_memory (JoinNoReaders u) = true
 lacks_memory (TakeTurn q) = true
 lacks_memory _ = false
 
+-- who joins a list hasn't the turn, or waits to write
+abbrev pub JoinsAt : Place → TurnCourse → Type 0
+JoinsAt x t = (is_out_there t ≡ true) ⊎ ((is_holding t ≡ true) × (has_turn x ≡ 1) × (share_of x ≡ waiting))
+
 -- what a party takes that meets the limit of the readers
 abbrev pub MeetsReaders : RwLock → Place → Option Right → Type 0
 MeetsReaders l x (Some read) = marked l ≡ 0
@@ -144,7 +148,7 @@ MeetsReaders l x s = ⊥
 
 -- why a step refuses its call
 abbrev pub Refuses : Bool → RwLock → Place → Found → Refusal → Type 0
-Refuses memory l x f refusal.Memory = (memory ≡ false) × (in_no_writer x + in_no_readers x ≡ 0) × (deed_at x f ≡ nothing) × ((t : TurnCourse) → fits_turn x t ≡ true → (is_out_there t ≡ true) ⊎ (is_holding t ≡ true)) × (lacks_memory x ≡ true)
+Refuses memory l x f refusal.Memory = (memory ≡ false) × (in_no_writer x + in_no_readers x ≡ 0) × (deed_at x f ≡ nothing) × ((t : TurnCourse) → fits_turn x t ≡ true → JoinsAt x t) × (lacks_memory x ≡ true)
 Refuses memory l x f refusal.Readers = (l.limit ≤ readers l) × MeetsReaders l x (sought_at (place_after (next_of x f)))
 Refuses memory l x f _ = ⊥
 
@@ -282,10 +286,10 @@ module _ (memory : Bool) (l : RwLock) (v : ℕ) where
   row TryWrite found.NotFree e n t = record { reading = refl; sharing = inr ((λ p t. refl), refl); starving = λ p s. refl; valued = λ u. refl; unturned = λ p a. refl; no_writer = λ p a b o. o; no_readers = λ p a b o. o; finding = tt; judged = λ t u. tt; room = tt; holds_on = λ t. refl; over = refl; upgrade = λ t h. refl; refused = tt }
   row TryWrite _ e n t = absurd e
   row (JoinNoReaders true) Done e n t = record { reading = refl; sharing = inr ((λ p t. refl), refl); starving = λ p s. refl; valued = λ u. refl; unturned = λ p a. refl; no_writer = λ p a b o. o; no_readers = λ p a b o. o; finding = tt; judged = λ t u. tt; room = e; holds_on = λ t. refl; over = refl; upgrade = λ t h. refl; refused = tt }
-  row (JoinNoReaders true) NoMemory e n t = record { reading = refl; sharing = inr ((λ p t. refl), refl); starving = λ p s. refl; valued = λ u. refl; unturned = λ p a. refl; no_writer = λ p a b o. o; no_readers = λ p a b o. o; finding = tt; judged = λ t u. (refusal.Memory, refl, (e, refl, refl, (λ t h. inr h), refl)); room = tt; holds_on = λ t. refl; over = refl; upgrade = refl; refused = inr (refl, refl) }
+  row (JoinNoReaders true) NoMemory e n t = record { reading = refl; sharing = inr ((λ p t. refl), refl); starving = λ p s. refl; valued = λ u. refl; unturned = λ p a. refl; no_writer = λ p a b o. o; no_readers = λ p a b o. o; finding = tt; judged = λ t u. (refusal.Memory, refl, (e, refl, refl, (λ t h. inr (h, refl, refl)), refl)); room = tt; holds_on = λ t. refl; over = refl; upgrade = refl; refused = inr (refl, refl) }
   row (JoinNoReaders true) _ e n t = absurd e
   row (JoinNoReaders false) Done e n t = record { reading = refl; sharing = inr ((λ p t. refl), refl); starving = λ p s. refl; valued = λ u. refl; unturned = λ p a. refl; no_writer = λ p a b o. o; no_readers = λ p a b o. o; finding = tt; judged = λ t u. tt; room = e; holds_on = λ t. refl; over = refl; upgrade = λ t h. refl; refused = tt }
-  row (JoinNoReaders false) NoMemory e n t = record { reading = refl; sharing = inr ((λ p t. refl), refl); starving = λ p s. refl; valued = λ u. refl; unturned = λ p a. refl; no_writer = λ p a b o. o; no_readers = λ p a b o. o; finding = tt; judged = λ t u. (refusal.Memory, refl, (e, refl, refl, (λ t h. inr h), refl)); room = tt; holds_on = λ t. refl; over = refl; upgrade = λ t h. refl; refused = tt }
+  row (JoinNoReaders false) NoMemory e n t = record { reading = refl; sharing = inr ((λ p t. refl), refl); starving = λ p s. refl; valued = λ u. refl; unturned = λ p a. refl; no_writer = λ p a b o. o; no_readers = λ p a b o. o; finding = tt; judged = λ t u. (refusal.Memory, refl, (e, refl, refl, (λ t h. inr (h, refl, refl)), refl)); room = tt; holds_on = λ t. refl; over = refl; upgrade = λ t h. refl; refused = tt }
   row (JoinNoReaders false) _ e n t = absurd e
   row (LookNoReaders u) NoneLeft e n t = record { reading = refl; sharing = inl (refl, λ p. refl); starving = λ p s. refl; valued = λ u. refl; unturned = λ p a. refl; no_writer = λ p a b o. o; no_readers = λ p a b o. o; finding = (refl, inr refl, e); judged = λ t u. (refl, refl); room = tt; holds_on = λ t. refl; over = refl; upgrade = λ t h. absurd (cc); refused = tt }
   row (LookNoReaders u) SomeLeft e n t = record { reading = refl; sharing = inr ((λ p t. refl), refl); starving = λ p s. refl; valued = λ u. refl; unturned = λ p a. refl; no_writer = λ p a b o. o; no_readers = λ p a b o. o; finding = tt; judged = λ t u. tt; room = tt; holds_on = λ t. refl; over = refl; upgrade = λ t h. refl; refused = tt }

@@ -23,7 +23,7 @@ use Rattle.mutex_machine.specs.Mutex.{course_at as turn_at, holder_of}
 use Rattle.mutex_machine.specs.Deeds as mutex
 use Rattle.mutex_machine.specs.Conduct.{decided_then, IsReason}
 use Rattle.mutex_machine.specs.Deeds.{decided_by}
-use Rattle.mutex_machine.proofs.Callers.{out_free, releasing_free, releasing_decided, cancelling_decided, IsPolls, taking_decided, holding_holds}
+use Rattle.mutex_machine.proofs.Callers.{out_free, waiting_free, releasing_free, releasing_decided, cancelling_decided, IsPolls, taking_decided, holding_holds}
 use Rattle.mutex_machine.proofs.Holders as sees
 use Rattle.rwlock_program.specs.declared.program.Found.{Found}
 use Rattle.rwlock_program.specs.declared.program.Found.TheVariants.{Turn}
@@ -43,7 +43,7 @@ use Rattle.rwlock_world.specs.State.{ListName, for_the_turn, for_no_readers, for
 use Rattle.rwlock_world.specs.Legal.{MayMeet}
 use Rattle.rwlock_world.specs.State.{World, list_of, told_in, HasTurn}
 use Rattle.rwlock_world.specs.Stages.{sought_at}
-use Rattle.rwlock_world.specs.View.{is_reading, verdict, verdict_until, refused_by, seen}
+use Rattle.rwlock_world.specs.View.{passing, is_reading, verdict, verdict_until, refused_by, seen}
 use Rattle.rwlock_world.proofs.step.Rows.{verdict_then, Room, keeps_what_it_has, TurnRow, turn_row}
 use Rattle.rwlock_world.proofs.step.Owns as owns
 use Rattle.rwlock_world.proofs.step.Facts.{WaitsIn, CauseAs, Fitting, JudgedAs, Facts, Known}
@@ -199,17 +199,17 @@ module _ (m : Move) (l k : RwLock) (ss : List Stage) (opening : ℕ) (ts : List 
     by_list for_no_writer = nw ∙ sym (mv.no_writer l.no_writer)
 
   -- a refusal in the turn has its cause
-  cause : (x : Place) (f : Found) (c : Known m l k ss v x f) → in_no_writer x ≡ 0 → in_no_readers x ≡ 0 → k.no_writer ≡ l.no_writer → k.no_readers ≡ l.no_readers → (r : Refusal) → IsReason memory p l.turn k.turn (turn_end.Refused r) → CauseAs m old new r
-  cause x f c ew er nw nr refusal.Memory h = (h.0, omega (arith, h.1, c.laws.owners_no_writer p, c.laws.owners_no_readers p, c.same.standing_w, c.same.standing_r, ew, er), by_list) where
+  cause : (x : Place) (f : Found) (c : Known m l k ss v x f) → in_no_writer x ≡ 0 → in_no_readers x ≡ 0 → k.no_writer ≡ l.no_writer → k.no_readers ≡ l.no_readers → (HasTurn old.state.turn p → ⊥) → (r : Refusal) → IsReason memory p l.turn k.turn (turn_end.Refused r) → CauseAs m old new r
+  cause x f c ew er nw nr out refusal.Memory h = (h.0, omega (arith, h.1, c.laws.owners_no_writer p, c.laws.owners_no_readers p, c.same.standing_w, c.same.standing_r, ew, er), by_list, (λ e. out (owns.has_as old.state.turn p passing e))) where
     by_list : (list : ListName) → list_of new list ≡ list_of old list
     by_list for_the_turn = h.2
     by_list for_no_readers = nr
     by_list for_no_writer = nw
-  cause x f c ew er nw nr refusal.Starved h = sees.how_many_counted l.turn.courses ∙ h
-  cause x f c ew er nw nr refusal.Readers h = absurd h
-  cause x f c ew er nw nr refusal.Permits h = absurd h
-  cause x f c ew er nw nr refusal.Generations h = absurd h
-  cause x f c ew er nw nr refusal.Finished h = absurd h
+  cause x f c ew er nw nr out refusal.Starved h = sees.how_many_counted l.turn.courses ∙ h
+  cause x f c ew er nw nr out refusal.Readers h = absurd h
+  cause x f c ew er nw nr out refusal.Permits h = absurd h
+  cause x f c ew er nw nr out refusal.Generations h = absurd h
+  cause x f c ew er nw nr out refusal.Finished h = absurd h
 
   waits_then : (pr : Purpose) (tn : TurnStep) → Takes tn u → decided_then tn u ≡ Some turn_end.Pending → told_in k.turn.entries p ≡ Some Waiting → WaitsIn k p (place_after (after_lock pr (Turn tn)))
   waits_then pr turn_step.More h e w = absurd (never_pending (decision u) (taking_decided u h) e)
@@ -229,7 +229,7 @@ module _ (m : Move) (l k : RwLock) (ss : List Stage) (opening : ℕ) (ts : List 
   undecided x to d (Some turn_end.Pending) why causes waits idle = waits refl (why turn_end.Pending refl)
   undecided x to d (Some (turn_end.Refused r)) why causes waits idle = (r, refl, causes r (why (turn_end.Refused r) refl), idle r refl)
 
-  polled : (x : Place) (pr : Purpose) (tn : TurnStep) (decided : Option TurnEnd) (did : TurnDid memory p decided tn l.turn k.turn) (mv : TurnMoved p l k old did.legal.deed) → IsPolls decided → Takes tn u → ((r : Refusal) → IsReason memory p l.turn k.turn (turn_end.Refused r) → CauseAs m old new r) → ((r : Refusal) → decided ≡ None → decided_then tn u ≡ Some (turn_end.Refused r) → Fitting old p x (place_after (after_lock pr (Turn tn))) mv.deed r)
+  polled : (x : Place) (pr : Purpose) (tn : TurnStep) (decided : Option TurnEnd) (did : TurnDid memory p decided tn l.turn k.turn) (mv : TurnMoved p l k old did.legal.deed) → IsPolls decided → Takes tn u → ((r : Refusal) → decided ≡ None → IsReason memory p l.turn k.turn (turn_end.Refused r) → CauseAs m old new r) → ((r : Refusal) → decided ≡ None → decided_then tn u ≡ Some (turn_end.Refused r) → Fitting old p x (place_after (after_lock pr (Turn tn))) mv.deed r)
       → Judges x (place_after (after_lock pr (Turn tn))) mv.deed (refused_by decided) (verdict_then v u (after_lock pr (Turn tn)))
   polled x pr tn decided did mv dec takes causes idle =
       let to : Place = place_after (after_lock pr (Turn tn)) in
@@ -238,7 +238,7 @@ module _ (m : Move) (l k : RwLock) (ss : List Stage) (opening : ℕ) (ts : List 
         by_decided : IsPolls decided → Judges x (place_after (after_lock pr (Turn tn))) mv.deed (refused_by decided) (poll_says (decided_then tn u))
         by_decided (inl e) =
             let Q : Option TurnEnd → Type 0 = λ o. Judges x (place_after (after_lock pr (Turn tn))) mv.deed (refused_by o) (poll_says (decided_then tn u)) in
-            subst Q (sym e) (undecided x (place_after (after_lock pr (Turn tn))) mv.deed (decided_then tn u) (λ b y. did.legal.reason b e y) causes (waits_then pr tn takes) (λ r y. idle r e y))
+            subst Q (sym e) (undecided x (place_after (after_lock pr (Turn tn))) mv.deed (decided_then tn u) (λ b y. did.legal.reason b e y) (λ r why. causes r e why) (waits_then pr tn takes) (λ r y. idle r e y))
         by_decided (inr (inl e)) =
             let kept = did.legal.kept turn_end.Got e in
             rw (e, kept.0) tt
@@ -277,19 +277,19 @@ module _ (m : Move) (l k : RwLock) (ss : List Stage) (opening : ℕ) (ts : List 
       let row = turn_row v u (place.EnterTurn pr) (Turn tn) s e in
       let did = begun turn_call.Lock tn o in
       let mv = moved m l k ss opening ts v (place.EnterTurn pr) (Turn tn) c afterwards row.sharing None tn did refl in
-      facts (place.EnterTurn pr) (Turn tn) c row None tn did mv (on_hold None tn did mv (inl refl)) c.no_writer c.no_readers (polled (place.EnterTurn pr) pr tn None did mv (inl refl) e (cause (place.EnterTurn pr) (Turn tn) c refl refl c.no_writer c.no_readers) (λ r n y. absurd (o.unrefused r y)))
+      facts (place.EnterTurn pr) (Turn tn) c row None tn did mv (on_hold None tn did mv (inl refl)) c.no_writer c.no_readers (polled (place.EnterTurn pr) pr tn None did mv (inl refl) e (λ r n. cause (place.EnterTurn pr) (Turn tn) c refl refl c.no_writer c.no_readers (owns.no_turn l ss opening v c.laws c.fits p (out_free t fit)) r) (λ r n y. absurd (o.unrefused r y)))
   on_turn (place.EnterTurn pr) _ c s o e fit = absurd o
   on_turn (place.WaitTurn pr) (Turn tn) c s o e fit =
       let row = turn_row v u (place.WaitTurn pr) (Turn tn) s e in
       let did = begun turn_call.Poll tn o in
       let mv = moved m l k ss opening ts v (place.WaitTurn pr) (Turn tn) c afterwards row.sharing None tn did refl in
-      facts (place.WaitTurn pr) (Turn tn) c row None tn did mv (on_hold None tn did mv (inl refl)) c.no_writer c.no_readers (polled (place.WaitTurn pr) pr tn None did mv (inl refl) e (cause (place.WaitTurn pr) (Turn tn) c refl refl c.no_writer c.no_readers) (λ r n y. absurd (o.unrefused r y)))
+      facts (place.WaitTurn pr) (Turn tn) c row None tn did mv (on_hold None tn did mv (inl refl)) c.no_writer c.no_readers (polled (place.WaitTurn pr) pr tn None did mv (inl refl) e (λ r n. cause (place.WaitTurn pr) (Turn tn) c refl refl c.no_writer c.no_readers (owns.no_turn l ss opening v c.laws c.fits p (waiting_free t fit)) r) (λ r n y. absurd (o.unrefused r y)))
   on_turn (place.WaitTurn pr) _ c s o e fit = absurd o
   on_turn (place.TakeTurn pr) (Turn tn) c s o e fit =
       let row = turn_row v u (place.TakeTurn pr) (Turn tn) s e in
       let did = gone_on tn o in
       let mv = moved m l k ss opening ts v (place.TakeTurn pr) (Turn tn) c afterwards row.sharing (decision t) tn did refl in
-      facts (place.TakeTurn pr) (Turn tn) c row (decision t) tn did mv (on_hold (decision t) tn did mv (taking_decided t fit)) c.no_writer c.no_readers (polled (place.TakeTurn pr) pr tn (decision t) did mv (taking_decided t fit) e (cause (place.TakeTurn pr) (Turn tn) c refl refl c.no_writer c.no_readers) (λ r n y. idle_there pr tn did mv r n y e (owns.no_turn l ss opening v c.laws c.fits p (undecided_free t fit n))))
+      facts (place.TakeTurn pr) (Turn tn) c row (decision t) tn did mv (on_hold (decision t) tn did mv (taking_decided t fit)) c.no_writer c.no_readers (polled (place.TakeTurn pr) pr tn (decision t) did mv (taking_decided t fit) e (λ r n. cause (place.TakeTurn pr) (Turn tn) c refl refl c.no_writer c.no_readers (owns.no_turn l ss opening v c.laws c.fits p (undecided_free t fit n)) r) (λ r n y. idle_there pr tn did mv r n y e (owns.no_turn l ss opening v c.laws c.fits p (undecided_free t fit n))))
   on_turn (place.TakeTurn pr) _ c s o e fit = absurd o
   on_turn (place.TryTurn pr) (Turn tn) c s o e fit =
       let row = turn_row v u (place.TryTurn pr) (Turn tn) s e in

@@ -224,6 +224,15 @@ returns-clause-write_meets_readers c = λ r. readers_met_as r.step write r.seeks
 pub returns-clause-read_meets_starved : goal.returns-clause-read_meets_starved
 returns-clause-read_meets_starved c = λ r. meets_as (sought_by r.step.new r.step.move.party) read r.step.old r.step.move.party refusal.Starved r.seeks (starved_met r.step r.legal r.refused)
 
+lacks_memory : (m : Move) (old new : World) (r : Refusal) → number_of refusal.Memory ≡ number_of r → IsCause old m new r → old.state.turn ≢ passes m.party
+lacks_memory m old new refusal.Memory e h = h.3
+lacks_memory m old new _ e h = absurd (cc)
+
+pub returns-clause-lacks_memory_with_turn : goal.returns-clause-lacks_memory_with_turn
+returns-clause-lacks_memory_with_turn c = λ r.
+    let why = r.legal.refused_for_cause.cause (number_of refusal.Memory) r.refused in
+    lacks_memory r.step.move r.step.old r.step.new why.0 why.1 why.2 r.passes
+
 pub returns-clause-read_meets_readers_beside_writer : goal.returns-clause-read_meets_readers_beside_writer
 returns-clause-read_meets_readers_beside_writer c = λ r. true≢false (sym r.writer ∙ readers_met_as r.step read r.seeks r.legal r.refused)
 
