@@ -1,5 +1,5 @@
 -- What the first step of a poll decides at once.
-use Rattle.std.proofs.Common.{◌≡◌, ℕ, ◌+◌, ◌<◌, ◌==◌, ◌&&◌, if◌then◌else◌, true, Option, Some, None, is_none, refl, arith, ap, sym, ◌∙◌, subst}
+use Rattle.std.proofs.Common.{◌≡◌, ℕ, ◌+◌, ◌<◌, ◌==◌, ◌&&◌, ◌⊎◌, inl, inr, if◌then◌else◌, Bool, true, false, Option, Some, None, is_none, refl, arith, ap, sym, ◌∙◌, subst}
 use Rattle.std.proofs.lemmas.Bool.Decides.{nat_tests}
 use Rattle.lock_event.specs.Lists.{is_marked_at}
 use Rattle.lock_queue.specs.Parties.{is_party, entries_of}
@@ -12,7 +12,9 @@ use Rattle.lock_world.specs.Rosters.{how_many}
 use Rattle.lock_world.specs.Standings.{inputs_of}
 use Rattle.lock_table.specs.Stages.{stage_at, stands_as}
 use Rattle.lock_table.specs.Tables.{Table}
-use Rattle.mutex_machine.specs.Course.{Course, listed as listed_there}
+use Rattle.mutex_machine.specs.Conduct.{IsUnrefused}
+use Rattle.mutex_machine.specs.Course.{Course, Takes, listed as listed_there}
+use Rattle.mutex_program.specs.declared.calls.Step.{Step as LockStep}
 use Rattle.mutex_program.specs.declared.calls.Step.TheVariants as lock_step
 use Rattle.mutex_program.specs.declared.calls.End.TheVariants as lock_end
 use Rattle.mutex_machine.specs.Mutex.{course_at, holders, starved}
@@ -56,9 +58,19 @@ some_entries Out c e l link is own = tt
 some_entries (Made a) c e l link is own = tt
 some_entries (At y) c e l link is own = tt
 
-goes_on : (a : Aim) → answer_by (after_lock a (found.Lock (lock_step.End lock_end.Got))) ≡ answer.Stepped
-goes_on aim.Arrive = refl
-goes_on aim.Check = refl
+not_so : (b : Bool) → (b ≡ true → ⊥) → b ≡ false
+not_so true h = absurd (h refl)
+not_so false h = refl
+
+-- the first step of a call that takes the inner lock isn't refused, and is over at once with the lock where that is free: so it goes on, or is pending where it isn't
+goes_on : (a : Aim) (s : LockStep) (to : Course) (free : Bool) → Takes s to → IsUnrefused s to → (free ≡ true → s ≡ lock_step.End lock_end.Got)
+    → (answer_by (after_lock a (found.Lock s)) ≡ answer.Stepped) ⊎ ((free ≡ false) × (answer_by (after_lock a (found.Lock s)) ≡ answer.Pending))
+goes_on a lock_step.More to free takes kept got = inl refl
+goes_on aim.Arrive (lock_step.End lock_end.Got) to free takes kept got = inl refl
+goes_on aim.Check (lock_step.End lock_end.Got) to free takes kept got = inl refl
+goes_on a (lock_step.End lock_end.Pending) to free takes kept got = inr (not_so free (λ is. (let never = got is in cc never)), refl)
+goes_on a (lock_step.End (lock_end.Refused r)) to free takes kept got = absurd (kept r refl)
+goes_on a (lock_step.End _) to free takes kept got = absurd takes
 
 module _ (t u : Table Barrier) (m : Move) (a : Answer) (w : Within) (k : Acting t u m a w) where
   abbrev p : ℕ
@@ -94,7 +106,7 @@ module _ (t u : Table Barrier) (m : Move) (a : Answer) (w : Within) (k : Acting 
   by_step : (b : Aim) (f : Found) → OnLock i p (action_of (EnterLock b)) f t.machine.lock u.machine.lock → a ≡ answer_by (next_of (EnterLock b) f) → TakesAtOnce old m a new
   by_step b (found.Lock s) l e = record {
     takes = ((λ h. old_free ((l.at_once.takes refl).0 h)), (λ h. (l.at_once.takes refl).1 (free_old h)));
-    goes_on = λ h. (let f = free_old h in e ∙ (ap (λ s. answer_by (after_lock b (found.Lock s))) (l.at_once.ends refl f.0 f.1) ∙ goes_on b));
+    goes_on = rw e (goes_on b s (course_at u.machine.lock.courses p) (is_free old.lock) l.leads l.unrefused (λ h. (let f = free_old h in l.at_once.ends refl f.0 f.1)));
   }
   by_step b _ l e = absurd l
 
