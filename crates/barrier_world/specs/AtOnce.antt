@@ -33,7 +33,8 @@ pub record TakesAtOnce (old : World) (m : Move) (a : Answer) (new : World) : Typ
   pub takes : (new.lock.holder ≡ Some m.party) ↔ (is_free old.lock ≡ true)
   pub goes_on : (a ≡ answer.Stepped) ⊎ ((is_free old.lock ≡ false) × (a ≡ answer.Pending))
 
--- A wait in its generation's list goes on exactly where it has been notified, and else is pending still.
+-- A wait in its generation's list goes on exactly where it has been notified, and else is pending still. One in the inner lock's list goes on or is pending.
 pub record AnswersAtOnce (old : World) (m : Move) (a : Answer) (new : World) : Type 0 where
   pub first_poll : is_first_poll (standing_of old m.party) m.what (entries_in old m.party) ≡ true → TakesAtOnce old m a new
+  pub locking : is_later_poll (standing_of old m.party) m.what ≡ true → 0 < entries_of m.party old.lock_list → (a ≡ answer.Stepped) ⊎ (a ≡ answer.Pending)
   pub listed : is_later_poll (standing_of old m.party) m.what ≡ true → 0 < entries_of m.party old.list → a ≡ (if is_marked_at (is_party m.party) old.list then answer.Stepped else answer.Pending)

@@ -1,5 +1,5 @@
 -- Runs of a barrier that no user would accept. Each record is one wrong run: what its steps would be, if it were legal.
-use Rattle.std.specs.Prelude.{◌≡◌, ◌≢◌, ℕ, ◌<◌, ◌≤◌, ◌⊎◌, true, false, length, Some, None}
+use Rattle.std.specs.Prelude.{◌≡◌, ◌≢◌, ℕ, ◌<◌, ◌≤◌, ◌⊎◌, Bool, true, false, length, Some, None}
 use Rattle.lock_event.specs.Lists.{marked_count, is_marked_at}
 use Rattle.lock_event.specs.declared.event.Mark.TheVariants.{Waiting}
 use Rattle.lock_queue.specs.Parties.{is_party, entries_of}
@@ -18,7 +18,7 @@ use Rattle.lock_world.specs.Rosters.{how_many}
 use Rattle.lock_world.specs.Standings.{outside, refused}
 use Rattle.barrier_machine.specs.Waits.{uncounted, counted}
 use Rattle.barrier_world.specs.declared.world.ListName.TheVariants.{Lock}
-use Rattle.barrier_world.specs.AtOnce.{AnswersAtOnce, is_first_poll, entries_in}
+use Rattle.barrier_world.specs.AtOnce.{AnswersAtOnce, is_first_poll, is_later_poll, entries_in}
 use Rattle.barrier_world.specs.Bound.{IsSolo, Promises}
 use Rattle.barrier_world.specs.Changes.{wait_then}
 use Rattle.barrier_world.specs.Laws.{IsSound, IsAwake}
@@ -176,11 +176,12 @@ pub record LeadsUntold : Type 0 where
   pub unmarked : is_marked_at (is_party party) world.list ≡ false
   pub sound : IsSound world
 
--- The first step of a poll of a refused counted wait makes it ready, whether its generation is finished or not.
-pub record FollowsUnasked : Type 0 where
+-- The first step of a poll that has to take the inner lock makes the wait ready: of a poll of a party that stands in no list, or in the lock's.
+pub record ReadyUntried : Type 0 where
   pub step : Step
-  pub first : is_first_poll (standing_of step.old step.move.party) step.move.what (entries_in step.old step.move.party) ≡ true
-  pub ready : step.answer ≡ answer.Ready (got.Leader false)
+  pub tries : (is_first_poll (standing_of step.old step.move.party) step.move.what (entries_in step.old step.move.party) ≡ true) ⊎ ((is_later_poll (standing_of step.old step.move.party) step.move.what ≡ true) × (0 < entries_of step.move.party step.old.lock_list))
+  pub leads : Bool
+  pub ready : step.answer ≡ answer.Ready (got.Leader leads)
   pub legal : IsAtOnce step
 
 -- A wait of a finished generation was notified, and finds the inner lock free. Its poll is refused for memory, which it doesn't need.

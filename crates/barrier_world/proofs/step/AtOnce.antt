@@ -7,9 +7,14 @@ use Rattle.lock_world.specs.declared.moves.Answer.{Answer}
 use Rattle.lock_world.specs.declared.moves.Answer.TheVariants as answer
 use Rattle.lock_world.specs.declared.moves.Inputs.{Inputs}
 use Rattle.lock_world.specs.declared.moves.Move.{Move}
+use Rattle.lock_world.specs.declared.moves.Call.TheVariants as call
+use Rattle.lock_world.specs.declared.moves.What.{What}
+use Rattle.lock_world.specs.declared.moves.What.TheVariants.{Begin}
+use Rattle.lock_world.specs.declared.standing.Rest.TheVariants.{Pending}
 use Rattle.lock_world.specs.declared.standing.Within.{Within}
 use Rattle.lock_world.specs.Rosters.{how_many}
-use Rattle.lock_world.specs.Standings.{inputs_of}
+use Rattle.lock_world.specs.Standings.{Standing, outside, inputs_of}
+use Rattle.lock_world.proofs.Equations.{some_eq, none_some}
 use Rattle.lock_table.specs.Stages.{stage_at, stands_as}
 use Rattle.lock_table.specs.Tables.{Table}
 use Rattle.mutex_machine.specs.Conduct.{IsUnrefused}
@@ -25,11 +30,11 @@ use Rattle.barrier_program.specs.declared.program.Aim.TheVariants as aim
 use Rattle.barrier_program.specs.declared.program.Found.{Found}
 use Rattle.barrier_program.specs.declared.program.Found.TheVariants as found
 use Rattle.barrier_program.specs.declared.program.Place.{Place}
-use Rattle.barrier_program.specs.declared.program.Place.TheVariants.{EnterLock, Ask}
+use Rattle.barrier_program.specs.declared.program.Place.TheVariants.{EnterLock, WaitLock, Ask}
 use Rattle.barrier_program.specs.declared.program.Position.{Position}
 use Rattle.barrier_program.specs.declared.program.Position.TheVariants.{Out, Made, Locking, Waiting, At}
 use Rattle.barrier_program.specs.declared.words.Progress.{Progress}
-use Rattle.barrier_program.specs.Program.{action_of, next_of, after_lock}
+use Rattle.barrier_program.specs.Program.{place_for, action_of, next_of, after_lock}
 use Rattle.barrier_program.specs.Deeds.{Finds, FindsAsk}
 use Rattle.barrier_program.specs.Locks.{OnLock}
 use Rattle.barrier_machine.specs.Roles.{fits_lock, in_lock, listed}
@@ -71,6 +76,15 @@ goes_on aim.Check (lock_step.End lock_end.Got) to free takes kept got = inl refl
 goes_on a (lock_step.End lock_end.Pending) to free takes kept got = inr (not_so free (λ is. (let never = got is in cc never)), refl)
 goes_on a (lock_step.End (lock_end.Refused r)) to free takes kept got = absurd (kept r refl)
 goes_on a (lock_step.End _) to free takes kept got = absurd takes
+
+-- the poll of a party in the inner lock's list begins to take the lock there
+begins_there : (s : Standing) (what : What) (x : Position) (c : Course) (from : Place) → is_later_poll s what ≡ true → place_for what x ≡ Some from → fits_lock (in_lock x) c ≡ true → 0 < listed_there c → (b : Aim) × (from ≡ WaitLock b)
+begins_there (outside Pending) (Begin call.Poll i) (Locking b) c from h e link some = (b, sym (some_eq e))
+begins_there (outside Pending) (Begin call.Poll i) (Made b) c from h e link some = let none = out_unlisted c link in absurd (omega arith)
+begins_there (outside Pending) (Begin call.Poll i) Waiting c from h e link some = let none = out_unlisted c link in absurd (omega arith)
+begins_there (outside Pending) (Begin call.Poll i) Out c from h e link some = absurd (none_some e)
+begins_there (outside Pending) (Begin call.Poll i) (At y) c from h e link some = absurd (none_some e)
+begins_there _ _ x c from h e link some = absurd (cc h)
 
 module _ (t u : Table Barrier) (m : Move) (a : Answer) (w : Within) (k : Acting t u m a w) where
   abbrev p : ℕ
@@ -137,5 +151,16 @@ module _ (t u : Table Barrier) (m : Move) (a : Answer) (w : Within) (k : Acting 
       let P : Place → Type 0 = λ y. Finds i p (action_of y) k.found (t.machine.words) mine t.machine.entries in
       k.answer ∙ (ap (λ y. answer_by (next_of y k.found)) at ∙ asked k.found (subst P at k.acts.finds))
 
+  locking_by : (b : Aim) (f : Found) → OnLock i p (action_of (WaitLock b)) f t.machine.lock u.machine.lock → a ≡ answer_by (next_of (WaitLock b) f) → (a ≡ answer.Stepped) ⊎ (a ≡ answer.Pending)
+  locking_by b (found.Lock s) l e = rw e (elim (goes_on b s (course_at u.machine.lock.courses p) false l.leads l.unrefused (λ h. absurd (cc h))) [ inl goes ↦ inl goes | inr waits ↦ inr waits.1 ])
+  locking_by b _ l e = absurd l
+
+  locking_so : is_later_poll (standing_of old p) m.what ≡ true → 0 < entries_of p old.lock_list → (a ≡ answer.Stepped) ⊎ (a ≡ answer.Pending)
+  locking_so h some =
+      let own = k.old_laws.lock.owners p in
+      let there = begins_there (standing_of old p) m.what x c k.from h k.starts (k.old_laws.links p) (omega arith) in
+      let P : Place → Type 0 = λ y. OnLock i p (action_of y) k.found t.machine.lock u.machine.lock in
+      locking_by there.0 k.found (subst P there.1 k.acts.lock) (k.answer ∙ ap (λ y. answer_by (next_of y k.found)) there.1)
+
   pub at_once : AnswersAtOnce old m a new
-  at_once = record { first_poll = first; listed = listed_so }
+  at_once = record { first_poll = first; locking = locking_so; listed = listed_so }

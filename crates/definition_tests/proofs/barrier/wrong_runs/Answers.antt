@@ -155,10 +155,16 @@ returns-clause-left_asleep c = λ r. false≢true (sym r.unmarked ∙ r.awake.al
 pub returns-clause-leads_untold : goal.returns-clause-leads_untold
 returns-clause-leads_untold c = λ r. false≢true (sym r.unmarked ∙ r.sound.told r.free r.party r.arrival r.counted r.finished r.listed)
 
-pub returns-clause-follows_unasked : goal.returns-clause-follows_unasked
-returns-clause-follows_unasked c = λ r. elim (r.legal.first_poll r.first).goes_on as (λ _. ⊥) [
-  | inl stepped ↦ (let never = sym r.ready ∙ stepped in cc never)
-  | inr pending ↦ (let never = sym r.ready ∙ pending.1 in cc never)
+pub returns-clause-ready_untried : goal.returns-clause-ready_untried
+returns-clause-ready_untried c = λ r. elim r.tries as (λ _. ⊥) [
+  | inl first ↦ elim (r.legal.first_poll first).goes_on as (λ _. ⊥) [
+    | inl stepped ↦ (let never = sym r.ready ∙ stepped in cc never)
+    | inr pending ↦ (let never = sym r.ready ∙ pending.1 in cc never)
+  ]
+  | inr there ↦ elim (r.legal.locking there.0 there.1) as (λ _. ⊥) [
+    | inl stepped ↦ (let never = sym r.ready ∙ stepped in cc never)
+    | inr pending ↦ (let never = sym r.ready ∙ pending in cc never)
+  ]
 ]
 
 -- a finished wait has to wait no more
