@@ -8,7 +8,8 @@ use Rattle.lock_queue.specs.Parties.{is_party, entries_of}
 use Rattle.lock_queue.specs.Queues.{Queue}
 use Rattle.mutex_machine.specs.Course.{Course, holds, is_resting as rests_there}
 use Rattle.mutex_machine.specs.Mutex.{Mutex, course_at, IsMutex, holders, IsAtRest as LockAtRest}
-use Rattle.mutex_machine.proofs.Callers.{out_free, waiting_free, out_rests, waiting_rests}
+use Rattle.mutex_machine.proofs.Callers.{out_free, waiting_free, holding_holds, out_rests, waiting_rests}
+use Rattle.barrier_program.specs.declared.program.Place.TheVariants.{Arrive, NotifyAll}
 use Rattle.barrier_program.specs.declared.program.Position.{Position}
 use Rattle.barrier_program.specs.declared.program.Position.TheVariants.{Out, Made, Locking, Waiting, At}
 use Rattle.barrier_program.specs.declared.words.Progress.{Progress}
@@ -17,15 +18,18 @@ use Rattle.barrier_machine.specs.Roles.{fits_lock, in_lock, is_late, will_tell, 
 use Rattle.barrier_machine.specs.Machine.{IsKept, IsAtRest, IsBarrier, AllTold, position_at, arrival_at}
 use Rattle.lock_queue.proofs.Marks.{else_marked}
 
--- a resting party is counted if it is listed, is about to tell nobody, and rests in the inner lock without it
-rest_late : (x : Position) → is_resting x ≡ true → is_late x ≡ false
-rest_late (At place) h = absurd (cc h)
-rest_late _ h = refl
+-- a party without the inner lock is counted if it is listed, and is about to tell nobody
+free_late : (x : Position) (c : Course) → fits_lock (in_lock x) c ≡ true → holds c ≡ 0 → is_late x ≡ false
+free_late (At Arrive) c link free = let one = holding_holds c link in absurd (omega arith)
+free_late (At _) c link free = refl
+free_late _ c link free = refl
 
-rest_tells : (x : Position) → is_resting x ≡ true → will_tell x ≡ false
-rest_tells (At place) h = absurd (cc h)
-rest_tells _ h = refl
+free_tells : (x : Position) (c : Course) → fits_lock (in_lock x) c ≡ true → holds c ≡ 0 → will_tell x ≡ false
+free_tells (At NotifyAll) c link free = let one = holding_holds c link in absurd (omega arith)
+free_tells (At _) c link free = refl
+free_tells _ c link free = refl
 
+-- a resting party rests in the inner lock without it
 rest_free : (x : Position) (c : Course) → is_resting x ≡ true → fits_lock (in_lock x) c ≡ true → holds c ≡ 0
 rest_free (At place) c h link = absurd (cc h)
 rest_free (Locking a) c h link = waiting_free c link
@@ -53,9 +57,15 @@ all_rest : (cs : List Course) → ((q : ℕ) → rests_there (course_at cs q) �
 all_rest [] h = tt
 all_rest (c ∷ cs) h = (h zero, all_rest cs (λ q. h (suc q)))
 
-told_at_rest : (w : Words) (xs : List Position) (rs : List Progress) (l : List (Entry ℕ)) → AllTold w xs rs l → IsAtRest xs → (p : ℕ) → 0 < entries_of p l → (arrival_at rs p).generation < w.progress.generation → is_marked_at (is_party p) l ≡ true
-told_at_rest w xs rs l told rest p some done = else_marked p l some (λ u.
-    let same : (arrival_at rs p).generation ≡ w.progress.generation = told (λ q. rest_tells (position_at xs q) (rest_at xs rest q)) p u (rest_late (position_at xs p) (rest_at xs rest p)) in
+nobody_holds : (cs : List Course) → sum_by holds cs ≡ 0 → (q : ℕ) → holds (course_at cs q) ≡ 0
+nobody_holds [] e q = refl
+nobody_holds (c ∷ cs) e zero = omega (arith, sum_by-cons holds c cs, e)
+nobody_holds (c ∷ cs) e (suc q) = nobody_holds cs (omega (arith, sum_by-cons holds c cs, e)) q
+
+told_while_free : (w : Words) (xs : List Position) (rs : List Progress) (l : List (Entry ℕ)) (m : Mutex) → AllTold w xs rs l → ((q : ℕ) → fits_lock (in_lock (position_at xs q)) (course_at m.courses q) ≡ true) → holders m ≡ 0 → (p : ℕ) → 0 < entries_of p l → (arrival_at rs p).generation < w.progress.generation → is_marked_at (is_party p) l ≡ true
+told_while_free w xs rs l m told links free p some done = else_marked p l some (λ u.
+    let none : (q : ℕ) → holds (course_at m.courses q) ≡ 0 = nobody_holds m.courses free in
+    let same : (arrival_at rs p).generation ≡ w.progress.generation = told (λ q. free_tells (position_at xs q) (course_at m.courses q) (links q) (none q)) p u (free_late (position_at xs p) (course_at m.courses p) (links p) (none p)) in
     omega arith)
 
 pub is_barrier : (w : Words) (xs : List Position) (rs : List Progress) (q : Queue) (m : Mutex) → IsKept w xs rs q m → IsMutex m → IsMarkedFirst q.entries → IsBarrier (record { words = w; positions = xs; arrivals = rs; entries = q.entries; lock = m })
@@ -76,5 +86,5 @@ is_barrier w xs rs q m k mutex ordered =
       outcomes = k.outcomes;
       lock_free = free;
       lock_wakes = λ rest. mutex.wakes (all_rest m.courses (λ j. rest_rests (position_at xs j) (course_at m.courses j) (rest_at xs rest j) (k.links j))) (free rest);
-      told = λ rest. told_at_rest w xs rs q.entries k.told rest;
+      told = told_while_free w xs rs q.entries m k.told k.links;
     }

@@ -95,7 +95,7 @@ abbrev pub IsAtRest : List Position → Type 0
 IsAtRest [] = Unit {0}
 IsAtRest (x ∷ xs) = (is_resting x ≡ true) × IsAtRest xs
 
--- What callers may rest on: the inner lock is a mutex, in which each party stands as its place says; no arrival is ahead of the barrier, no two parties have the same one, and a follower's didn't finish its generation; a wait that is over led, or follows one that finished its generation; a party's entries are told by where it stands. At rest nobody has the inner lock, where somebody is listed there some entry is marked, and in the barrier's list every entry is marked whose party's generation is finished.
+-- What callers may rest on: the inner lock is a mutex, in which each party stands as its place says; no arrival is ahead of the barrier, no two parties have the same one, and a follower's didn't finish its generation; a wait that is over led, or follows one that finished its generation; a party's entries are told by where it stands. At rest nobody has the inner lock, and where somebody is listed there some entry is marked. Whenever nobody has the inner lock, every entry of the barrier's list is marked whose party's generation is finished.
 pub record IsBarrier (s : Barrier) : Type 0 where
   pub sound : IsSound s.words
   pub lock : IsMutex s.lock
@@ -111,7 +111,7 @@ pub record IsBarrier (s : Barrier) : Type 0 where
   pub outcomes : (p : ℕ) → HasOutcome (position_at s.positions p) (arrival_at s.arrivals p) s.words
   pub lock_free : IsAtRest s.positions → holders s.lock ≡ 0
   pub lock_wakes : IsAtRest s.positions → 0 < length s.lock.entries → 0 < marked_count s.lock.entries
-  pub told : IsAtRest s.positions → (p : ℕ) → 0 < entries_of p s.entries → (arrival_at s.arrivals p).generation < s.words.progress.generation → is_marked_at (is_party p) s.entries ≡ true
+  pub told : holders s.lock ≡ 0 → (p : ℕ) → 0 < entries_of p s.entries → (arrival_at s.arrivals p).generation < s.words.progress.generation → is_marked_at (is_party p) s.entries ≡ true
 
 -- ---- Which parties stand where
 

@@ -211,10 +211,7 @@ pub fn decide(place: Place, found: Found) -> Next
             Found::Finished => Next::Do(Place::ReleaseLock(Ending::Follow)),
             _ => Next::Do(Place::JoinAgain),
         },
-        Place::JoinAgain => match found {
-            Found::Done => Next::Do(Place::ReleaseLock(Ending::Wait)),
-            _ => Next::Do(Place::ReleaseLock(Ending::RefuseMemory(Aim::Check))),
-        },
+        Place::JoinAgain => after_join_again(found),
         Place::ReleaseLock(ending) | Place::ReleasingLock(ending) => after_release(ending, found),
         Place::Ask => match found {
             Found::Yes => Next::Do(Place::EnterLock(Aim::Check)),
@@ -260,6 +257,16 @@ fn after_join(found: Found) -> Next
     match found {
         Found::Done => Next::Do(Place::Arrive),
         _ => Next::Do(Place::ReleaseLock(Ending::RefuseMemory(Aim::Arrive))),
+    }
+}
+
+/// As [`after_join`], of a counted party: it stays counted.
+fn after_join_again(found: Found) -> Next
+    ensures { result ≡ next_of places.JoinAgain found }
+{
+    match found {
+        Found::Done => Next::Do(Place::ReleaseLock(Ending::Wait)),
+        _ => Next::Do(Place::ReleaseLock(Ending::RefuseMemory(Aim::Check))),
     }
 }
 

@@ -1,8 +1,8 @@
 -- What whole calls promise, and how often a free inner lock may be passed over: whole polls of notified parties, one after the other, each carried out while the others stand still.
 use Rattle.std.specs.Prelude.{◌≡◌, ℕ, ◌<◌, ◌⊎◌, true, false, length, Some, None}
 use Rattle.lock_event.specs.declared.event.Mark.TheVariants.{Waiting}
-use Rattle.lock_event.specs.Lists.{marked_count}
-use Rattle.lock_queue.specs.Parties.{entries_of}
+use Rattle.lock_event.specs.Lists.{marked_count, is_marked_at}
+use Rattle.lock_queue.specs.Parties.{is_party, entries_of}
 use Rattle.lock_world.specs.declared.moves.Answer.{Answer}
 use Rattle.lock_world.specs.declared.moves.Answer.TheVariants as answer
 use Rattle.lock_world.specs.declared.moves.Call.{Call}
@@ -20,7 +20,7 @@ use Rattle.barrier_machine.specs.Waits.{Wait, no_wait, uncounted, counted}
 use Rattle.barrier_world.specs.declared.world.ListName.TheVariants.{Generation}
 use Rattle.barrier_world.specs.Numbers.{Leads, IsFinished, generations_of}
 use Rattle.barrier_world.specs.State.{World, standing_of, wait_of, is_starved, is_free, told_in}
-use Rattle.barrier_world.specs.Legal.{next_arrival}
+use Rattle.barrier_world.specs.Legal.{next_arrival, HasToWait}
 use Rattle.barrier_world.specs.AtOnce.{entries_in, is_first_poll}
 use Rattle.barrier_world.specs.Changes.{wait_then}
 use Rattle.barrier_world.specs.Laws.{is_at_rest}
@@ -29,6 +29,12 @@ use Rattle.barrier_world.specs.Whole.{IsWholeCall}
 -- A solo poll is of a pending party whose entry in the inner lock's list is marked, and it finds memory.
 abbrev pub IsSolo : World → ℕ → Inputs → Type 0
 IsSolo w p inputs = bounds.IsSolo (standing_of w p) w.lock_list p inputs
+
+-- A pending party was notified in its generation's list, and its poll finds memory if it has to wait again.
+pub record IsNotified (w : World) (p : ℕ) (inputs : Inputs) : Type 0 where
+  pub pending : standing_of w p ≡ outside Pending
+  pub marked : is_marked_at (is_party p) w.list ≡ true
+  pub memory : HasToWait w (wait_of w p) → inputs.memory ≡ true
 
 -- The party is pending, counted as this arrival, and waits in its generation's list.
 pub record WaitsOn (p a : ℕ) (given : Answer) (v : World) : Type 0 where
@@ -55,7 +61,7 @@ pub record ArrivesToWait (w : World) (p : ℕ) (a : Answer) (v : World) : Type 0
   pub waits : WaitsOn p (next_arrival w) a v
   pub arrivals : v.arrivals ≡ next_arrival w
 
--- What a poll comes to that has had the inner lock, and has found memory, by what its wait was: one that wasn't counted leads, waits or is refused; a counted one follows if its generation is finished, and else waits on.
+-- What a poll comes to that has had the inner lock, and has found memory if it had to wait, by what its wait was: one that wasn't counted leads, waits or is refused; a counted one follows if its generation is finished, and else waits on.
 abbrev pub ComesTo : Wait → World → ℕ → Answer → World → Type 0
 ComesTo uncounted w p a v = LeadsNow w a v ⊎ (IsRefusedToLead w p a v ⊎ ArrivesToWait w p a v)
 ComesTo (counted n) w p a v = (v.arrivals ≡ w.arrivals) × ((IsFinished w.size n w.arrivals × (a ≡ answer.Ready (got.Leader false))) ⊎ ((IsFinished w.size n w.arrivals → ⊥) × WaitsOn p n a v))
@@ -82,10 +88,10 @@ pub record SoloPoll (w : World) (p : ℕ) (a : Answer) (v : World) : Type 0 wher
 
 -- What a whole call promises beside its end.
 pub record Promises (w : World) (p : ℕ) (c : Call) (inputs : Inputs) (a : Answer) (v : World) : Type 0 where
-  -- A first poll of a free inner lock where nobody is starved takes it, and so ends as its wait has it then.
-  pub first : is_first_poll (standing_of w p) (Begin c inputs) (entries_in w p) ≡ true → is_free w.lock ≡ true → inputs.memory ≡ true → Takes w p (wait_then (Begin c inputs) answer.Stepped (wait_of w p)) a v
+  -- A first poll of a free inner lock where nobody is starved takes it, and so ends as its wait has it then. It needs memory only if it has to wait.
+  pub first : is_first_poll (standing_of w p) (Begin c inputs) (entries_in w p) ≡ true → is_free w.lock ≡ true → (HasToWait w (wait_then (Begin c inputs) answer.Stepped (wait_of w p)) → inputs.memory ≡ true) → Takes w p (wait_then (Begin c inputs) answer.Stepped (wait_of w p)) a v
   -- So does a poll of a party that was notified in its generation's list.
-  pub notified : c ≡ call.Poll → bounds.IsSolo (standing_of w p) w.list p inputs → is_free w.lock ≡ true → Takes w p (wait_of w p) a v
+  pub notified : c ≡ call.Poll → IsNotified w p inputs → is_free w.lock ≡ true → Takes w p (wait_of w p) a v
   -- A solo poll of a free inner lock takes it or gives way.
   pub solo : c ≡ call.Poll → IsSolo w p inputs → w.lock.holder ≡ None → SoloPoll w p a v
   -- Where nobody is starved, a party isn't starved at the end that hasn't waited for too long.

@@ -38,6 +38,8 @@ pub record IsSound (w : World) : Type 0 where
   pub one_each : (p q a : ℕ) → wait_of w p ≡ counted a → wait_of w q ≡ counted a → p ≡ q
   pub within : generations_of w.size w.arrivals ≤ w.generations_limit
   pub few_starved : how_many w.lock.starved ≤ w.starved_limit
+  -- Whenever nobody holds the inner lock, each entry of the generations' list is marked whose generation is finished.
+  pub told : w.lock.holder ≡ None → (p a : ℕ) → wait_of w p ≡ counted a → IsFinished w.size a w.arrivals → 0 < entries_of p w.list → is_marked_at (is_party p) w.list ≡ true
   -- No party has two entries, in both lists together, and the marked entries stand before the waiting ones.
   pub once : (p : ℕ) → entries_in w p ≤ 1
   pub in_order : (list : ListName) → IsMarkedFirst (list_in list w)

@@ -131,8 +131,8 @@ impl World {
     }
 
     /// What always holds of a World, between any two moves: each party has what its standing says, each
-    /// arrival is of one wait at most, and at rest the inner lock is free and no notification is lost. It does
-    /// nothing.
+    /// arrival is of one wait at most, and while nobody holds the inner lock each listed wait of a finished
+    /// generation has been notified. At rest nobody holds it, and no notification is lost. It does nothing.
     pub fn laws(&self)
         ensures sound { IsSound self.now }
         ensures awake { is_at_rest self.now ≡ true → IsAwake self.now }

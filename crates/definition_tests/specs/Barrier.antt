@@ -1,5 +1,5 @@
 -- Runs of a barrier that no user would accept. Each record is one wrong run: what its steps would be, if it were legal.
-use Rattle.std.specs.Prelude.{◌≡◌, ◌≢◌, ℕ, ◌<◌, ◌≤◌, true, false, length, Some, None}
+use Rattle.std.specs.Prelude.{◌≡◌, ◌≢◌, ℕ, ◌<◌, ◌≤◌, ◌⊎◌, Bool, true, false, length, Some, None}
 use Rattle.lock_event.specs.Lists.{marked_count, is_marked_at}
 use Rattle.lock_event.specs.declared.event.Mark.TheVariants.{Waiting}
 use Rattle.lock_queue.specs.Parties.{is_party, entries_of}
@@ -18,10 +18,10 @@ use Rattle.lock_world.specs.Rosters.{how_many}
 use Rattle.lock_world.specs.Standings.{outside, refused}
 use Rattle.barrier_machine.specs.Waits.{uncounted, counted}
 use Rattle.barrier_world.specs.declared.world.ListName.TheVariants.{Lock}
-use Rattle.barrier_world.specs.AtOnce.{AnswersAtOnce, is_first_poll, entries_in}
+use Rattle.barrier_world.specs.AtOnce.{AnswersAtOnce, is_first_poll, is_later_poll, entries_in}
 use Rattle.barrier_world.specs.Bound.{IsSolo, Promises}
 use Rattle.barrier_world.specs.Changes.{wait_then}
-use Rattle.barrier_world.specs.Laws.{IsAwake}
+use Rattle.barrier_world.specs.Laws.{IsSound, IsAwake}
 use Rattle.barrier_world.specs.Legal.{Legal, DecidesOn, next_arrival}
 use Rattle.barrier_world.specs.Numbers.{Leads, IsFinished, generations_of}
 use Rattle.barrier_world.specs.State.{World, standing_of, wait_of, told_in, is_free}
@@ -139,10 +139,10 @@ pub record KeepsTheLock : Type 0 where
   pub holds : step.new.lock.holder ≡ Some party
   pub legal : IsLegal step
 
--- A wait is to be refused, for memory or for generations, and its arrival is counted by that.
+-- A wait is to be refused, for memory or for generations, and an arrival is counted by that.
 pub record RefusedAndCounted : Type 0 where
   pub step : Step
-  pub refusal : DecidesOn step.old step.move step.answer step.new (refused refusal.Generations)
+  pub refusal : DecidesOn step.old step.move step.answer step.new (refused refusal.Memory) ⊎ DecidesOn step.old step.move step.answer step.new (refused refusal.Generations)
   pub counted : step.new.arrivals ≢ step.old.arrivals
   pub legal : IsLegal step
 
@@ -163,6 +163,39 @@ pub record LeftAsleep : Type 0 where
   pub listed : 0 < entries_of party world.list
   pub unmarked : is_marked_at (is_party party) world.list ≡ false
   pub awake : IsAwake world
+
+-- A counted wait of a finished generation has not been notified while nobody holds the inner lock, though somebody may be inside a call.
+pub record LeadsUntold : Type 0 where
+  pub world : World
+  pub party : ℕ
+  pub arrival : ℕ
+  pub counted : wait_of world party ≡ counted arrival
+  pub finished : IsFinished world.size arrival world.arrivals
+  pub free : world.lock.holder ≡ None
+  pub listed : 0 < entries_of party world.list
+  pub unmarked : is_marked_at (is_party party) world.list ≡ false
+  pub sound : IsSound world
+
+-- The first step of a poll that has to take the inner lock makes the wait ready: of a poll of a party that stands in no list, or in the lock's.
+pub record ReadyUntried : Type 0 where
+  pub step : Step
+  pub tries : (is_first_poll (standing_of step.old step.move.party) step.move.what (entries_in step.old step.move.party) ≡ true) ⊎ ((is_later_poll (standing_of step.old step.move.party) step.move.what ≡ true) × (0 < entries_of step.move.party step.old.lock_list))
+  pub leads : Bool
+  pub ready : step.answer ≡ answer.Ready (got.Leader leads)
+  pub legal : IsAtOnce step
+
+-- A wait of a finished generation was notified, and finds the inner lock free. Its poll is refused for memory, which it doesn't need.
+pub record RefusedInVain : Type 0 where
+  pub whole : Whole
+  pub arrival : ℕ
+  pub polls : whole.call ≡ call.Poll
+  pub was_pending : standing_of whole.old whole.party ≡ outside Pending
+  pub marked : is_marked_at (is_party whole.party) whole.old.list ≡ true
+  pub counted : wait_of whole.old whole.party ≡ counted arrival
+  pub finished : IsFinished whole.old.size arrival whole.old.arrivals
+  pub free : is_free whole.old.lock ≡ true
+  pub is_refused : whole.answer ≡ refused refusal.Memory
+  pub kept : Keeps whole
 
 -- A first poll finds the inner lock free, and memory, and is pending without being counted.
 pub record WaitsForNothing : Type 0 where

@@ -38,9 +38,13 @@ beginnings =
     (call.Drop, position.Made aim.Check, Some place.Abandon) ∷
     (call.Drop, position.Locking aim.Check, Some place.CancelLock) ∷
     (call.Wait, position.Made aim.Check, None) ∷
+    (call.Wait, position.Locking aim.Arrive, None) ∷
+    (call.Wait, position.Locking aim.Check, None) ∷
     (call.Poll, position.Out, None) ∷
     (call.Wait, position.Waiting, None) ∷
     (call.Poll, position.At place.Ask, None) ∷
+    (call.Wait, position.At place.Ask, None) ∷
+    (call.Drop, position.At place.Ask, None) ∷
     []
 
 -- What is done at a place.
@@ -78,7 +82,7 @@ actions =
     (place.Abandon, act.Nothing) ∷
     []
 
--- What comes after a place whose action found this.
+-- What comes after a place whose action found this: each place, with each finding that its action can make.
 abbrev pub followings : List (Place × Found × Next)
 followings =
     (place.EnterLock aim.Arrive, found.Lock lock_step.More, next.Do (place.TakeLock aim.Arrive)) ∷
@@ -90,6 +94,7 @@ followings =
     (place.EnterLock aim.Check, found.Lock (lock_step.End (lock_end.Refused refusal.Memory)), next.End (ended.Refused refusal.Memory) (position.Made aim.Check)) ∷
     (place.EnterLock aim.Check, found.Lock (lock_step.End (lock_end.Refused refusal.Starved)), next.End (ended.Refused refusal.Starved) (position.Made aim.Check)) ∷
     (place.EnterLock aim.Arrive, found.Lock (lock_step.End lock_end.Got), next.Do place.Look) ∷
+    (place.EnterLock aim.Check, found.Lock (lock_step.End lock_end.Got), next.Do place.Check) ∷
     (place.WaitLock aim.Arrive, found.Lock lock_step.More, next.Do (place.TakeLock aim.Arrive)) ∷
     (place.WaitLock aim.Arrive, found.Lock (lock_step.End lock_end.Pending), next.End ended.Pending (position.Locking aim.Arrive)) ∷
     (place.WaitLock aim.Arrive, found.Lock (lock_step.End (lock_end.Refused refusal.Memory)), next.End (ended.Refused refusal.Memory) (position.Made aim.Arrive)) ∷
@@ -99,6 +104,7 @@ followings =
     (place.WaitLock aim.Check, found.Lock (lock_step.End (lock_end.Refused refusal.Memory)), next.End (ended.Refused refusal.Memory) (position.Made aim.Check)) ∷
     (place.WaitLock aim.Check, found.Lock (lock_step.End (lock_end.Refused refusal.Starved)), next.End (ended.Refused refusal.Starved) (position.Made aim.Check)) ∷
     (place.WaitLock aim.Arrive, found.Lock (lock_step.End lock_end.Got), next.Do place.Look) ∷
+    (place.WaitLock aim.Check, found.Lock (lock_step.End lock_end.Got), next.Do place.Check) ∷
     (place.TakeLock aim.Arrive, found.Lock lock_step.More, next.Do (place.TakeLock aim.Arrive)) ∷
     (place.TakeLock aim.Arrive, found.Lock (lock_step.End lock_end.Pending), next.End ended.Pending (position.Locking aim.Arrive)) ∷
     (place.TakeLock aim.Arrive, found.Lock (lock_step.End (lock_end.Refused refusal.Memory)), next.End (ended.Refused refusal.Memory) (position.Made aim.Arrive)) ∷
@@ -107,6 +113,7 @@ followings =
     (place.TakeLock aim.Check, found.Lock (lock_step.End lock_end.Pending), next.End ended.Pending (position.Locking aim.Check)) ∷
     (place.TakeLock aim.Check, found.Lock (lock_step.End (lock_end.Refused refusal.Memory)), next.End (ended.Refused refusal.Memory) (position.Made aim.Check)) ∷
     (place.TakeLock aim.Check, found.Lock (lock_step.End (lock_end.Refused refusal.Starved)), next.End (ended.Refused refusal.Starved) (position.Made aim.Check)) ∷
+    (place.TakeLock aim.Arrive, found.Lock (lock_step.End lock_end.Got), next.Do place.Look) ∷
     (place.TakeLock aim.Check, found.Lock (lock_step.End lock_end.Got), next.Do place.Check) ∷
     (place.Look, found.MustWait, next.Do place.Join) ∷
     (place.Look, found.Leads, next.Do place.Complete) ∷
@@ -126,6 +133,12 @@ followings =
     (place.ReleaseLock ending.RefuseGenerations, found.Lock lock_step.More, next.Do (place.ReleasingLock ending.RefuseGenerations)) ∷
     (place.ReleaseLock (ending.RefuseMemory aim.Arrive), found.Lock lock_step.More, next.Do (place.ReleasingLock (ending.RefuseMemory aim.Arrive))) ∷
     (place.ReleaseLock (ending.RefuseMemory aim.Check), found.Lock lock_step.More, next.Do (place.ReleasingLock (ending.RefuseMemory aim.Check))) ∷
+    (place.ReleasingLock ending.Wait, found.Lock lock_step.More, next.Do (place.ReleasingLock ending.Wait)) ∷
+    (place.ReleasingLock ending.Follow, found.Lock lock_step.More, next.Do (place.ReleasingLock ending.Follow)) ∷
+    (place.ReleasingLock ending.Lead, found.Lock lock_step.More, next.Do (place.ReleasingLock ending.Lead)) ∷
+    (place.ReleasingLock ending.RefuseGenerations, found.Lock lock_step.More, next.Do (place.ReleasingLock ending.RefuseGenerations)) ∷
+    (place.ReleasingLock (ending.RefuseMemory aim.Arrive), found.Lock lock_step.More, next.Do (place.ReleasingLock (ending.RefuseMemory aim.Arrive))) ∷
+    (place.ReleasingLock (ending.RefuseMemory aim.Check), found.Lock lock_step.More, next.Do (place.ReleasingLock (ending.RefuseMemory aim.Check))) ∷
     (place.ReleaseLock ending.Follow, found.Lock (lock_step.End lock_end.GivenBack), next.Ready (got.Leader false)) ∷
     (place.ReleaseLock ending.Lead, found.Lock (lock_step.End lock_end.GivenBack), next.Ready (got.Leader true)) ∷
     (place.ReleaseLock ending.Wait, found.Lock (lock_step.End lock_end.GivenBack), next.Do place.Ask) ∷
@@ -142,6 +155,7 @@ followings =
     (place.Ask, found.No, next.End ended.Pending position.Waiting) ∷
     (place.CancelLock, found.Lock lock_step.More, next.Do place.CancellingLock) ∷
     (place.CancelLock, found.Lock (lock_step.End lock_end.GivenBack), next.End ended.GivenBack position.Out) ∷
+    (place.CancellingLock, found.Lock lock_step.More, next.Do place.CancellingLock) ∷
     (place.CancellingLock, found.Lock (lock_step.End lock_end.GivenBack), next.End ended.GivenBack position.Out) ∷
     (place.CancelLeave, found.Done, next.End ended.GivenBack position.Out) ∷
     (place.Abandon, found.Done, next.End ended.GivenBack position.Out) ∷

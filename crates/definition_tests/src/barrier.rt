@@ -4,7 +4,7 @@ ghost use Rattle.definition_tests.specs.Tables.{AreRowsOf, AreRowsOfTwo};
 ghost use Rattle.definition_tests.specs.BarrierTable.{beginnings, actions, followings};
 ghost use Rattle.barrier_program.specs.Program.{start_of, action_of, next_of};
 ghost use Rattle.definition_tests.specs.Never.{Never};
-ghost use Rattle.definition_tests.specs.Barrier.{TwoLeaders, LeadsInTheMidst, HasNoLeader, CountedTwice, TakenBack, FollowsTooSoon, CountedUnlisted, CountedWithoutLock, WaitsUncounted, KeepsTheLock, RefusedAndCounted, RefusedTooSoon, LeftAsleep, WaitsForNothing, PassesOverInVain, KeepsItsTold, LooksInVain};
+ghost use Rattle.definition_tests.specs.Barrier.{TwoLeaders, LeadsInTheMidst, HasNoLeader, CountedTwice, TakenBack, FollowsTooSoon, CountedUnlisted, CountedWithoutLock, WaitsUncounted, KeepsTheLock, RefusedAndCounted, RefusedTooSoon, LeftAsleep, LeadsUntold, ReadyUntried, RefusedInVain, WaitsForNothing, PassesOverInVain, KeepsItsTold, LooksInVain};
 
 /// Each clause says of one wrong run that it isn't legal.
 fn wrong_runs()
@@ -21,6 +21,9 @@ fn wrong_runs()
     ensures refused_and_counted { Never (RefusedAndCounted) }
     ensures refused_too_soon { Never (RefusedTooSoon) }
     ensures left_asleep { Never (LeftAsleep) }
+    ensures leads_untold { Never (LeadsUntold) }
+    ensures ready_untried { Never (ReadyUntried) }
+    ensures refused_in_vain { Never (RefusedInVain) }
     ensures waits_for_nothing { Never (WaitsForNothing) }
     ensures passes_over_in_vain { Never (PassesOverInVain) }
     ensures keeps_its_told { Never (KeepsItsTold) }

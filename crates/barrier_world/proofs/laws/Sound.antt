@@ -1,5 +1,5 @@
 -- What always holds of a barrier's World, as callers see it.
-use Rattle.std.proofs.Common.{◌≡◌, ℕ, zero, suc, ◌+◌, ◌<◌, ◌≤◌, inl, inr, true, false, List, [], ◌∷◌, length, Option, Some, refl, arith, ap, sym, ◌∙◌, subst}
+use Rattle.std.proofs.Common.{◌≡◌, ℕ, zero, suc, ◌+◌, ◌<◌, ◌≤◌, inl, inr, true, false, List, [], ◌∷◌, length, Option, Some, None, refl, arith, ap, sym, ◌∙◌, subst}
 use Rattle.std.specs.List.{list_all}
 use Rattle.lock_event.specs.Lists.{is_marked_at, IsMarkedFirst}
 use Rattle.lock_queue.specs.Parties.{is_party, entries_of}
@@ -125,6 +125,19 @@ counted_by (At (ReleasingLock k)) n a r v e f o = counted_until k n a r v e f o
 counted_by (At Ask) n a r v e f o = let k = (f refl).counted in (same_number n a e, omega arith)
 counted_by (At _) n a r v e f o = absurd (cc e)
 
+-- a counted party that is listed follows
+listed_follows : (x : Position) (n a : ℕ) → wait_at x n ≡ counted a → 0 < listed x → follows x ≡ true
+listed_follows Waiting n a e some = refl
+listed_follows (At Arrive) n a e some = absurd (cc e)
+listed_follows (At (ReleaseLock ending.Wait)) n a e some = refl
+listed_follows (At (ReleaseLock _)) n a e some = absurd (omega arith)
+listed_follows (At (ReleasingLock ending.Wait)) n a e some = refl
+listed_follows (At (ReleasingLock _)) n a e some = absurd (omega arith)
+listed_follows (At Ask) n a e some = refl
+listed_follows (At CancelLeave) n a e some = absurd (cc e)
+listed_follows (At _) n a e some = absurd (omega arith)
+listed_follows _ n a e some = absurd (omega arith)
+
 -- ---- outside every call
 
 resting : (s : Stage) (x : Position) → goes_with s x ≡ true → is_outside_stage s ≡ true → is_resting x ≡ true
@@ -215,6 +228,15 @@ module _ (t : Table Barrier) (laws : IsBarrier t.machine) (fits : IsBarrierTable
       let k = number_at q a f in
       laws.apart p q n.1 (numbers.same_arrival words.size (a_of p) (a_of q) (laws.within p) (laws.within q) (sym n.0 ∙ k.0))
 
+  told : (view_of t).lock.holder ≡ None → (q a : ℕ) → wait_of (view_of t) q ≡ counted a → IsFinished words.size a (view_of t).arrivals → 0 < entries_of q t.machine.entries → is_marked_at (is_party q) t.machine.entries ≡ true
+  told free q a e finished some =
+      let n = number_at q a e in
+      let own = laws.owners q in
+      let counted_here : wait_at (x_of q) (arrivals_at words.size (a_of q)) ≡ counted a = sym (seen.wait_seen t q) ∙ e in
+      let goes : follows (x_of q) ≡ true = listed_follows (x_of q) (arrivals_at words.size (a_of q)) a counted_here (omega arith) in
+      let P : ℕ → Type 0 = λ z. IsFinished words.size z (view_of t).arrivals in
+      laws.told (sees.none_holds 0 t.machine.lock.courses free) q some (numbers.past_its_generation words.size (a_of q) words.progress (laws.followers q goes) laws.sound.unfinished (laws.past q) (subst P n.0 finished))
+
   pub sound : IsSound (view_of t)
   sound = record {
     each = owns.each_has t laws fits;
@@ -227,6 +249,7 @@ module _ (t : Table Barrier) (laws : IsBarrier t.machine) (fits : IsBarrierTable
     one_each = one_each;
     within = (let g = numbers.its_generations words.size words.progress laws.sound.unfinished in let h = laws.sound.within in omega arith);
     few_starved = (let n = sees.how_many_counted t.machine.lock.courses in let few = laws.lock.few_starved in omega arith);
+    told = told;
     once = λ q. (let l = laws.lock.owners q in let b = laws.owners q in let few = both_lists (x_of q) (c_of q) (laws.links q) in omega arith);
     in_order = in_order;
   } where
@@ -247,12 +270,6 @@ module _ (t : Table Barrier) (laws : IsBarrier t.machine) (fits : IsBarrierTable
     waits_there : (q : ℕ) → 0 < entries_of q t.machine.entries → x_of q ≡ Waiting
     waits_there q some = let own = laws.owners q in rest_waits (x_of q) (rest_at xs positions_rest q) (omega arith)
 
-    all_marked : (q a : ℕ) → wait_of (view_of t) q ≡ counted a → IsFinished words.size a (view_of t).arrivals → 0 < entries_of q t.machine.entries → is_marked_at (is_party q) t.machine.entries ≡ true
-    all_marked q a e finished some =
-        let n = number_at q a e in
-        let P : ℕ → Type 0 = λ z. IsFinished words.size z (view_of t).arrivals in
-        laws.told positions_rest q some (numbers.past_its_generation words.size (a_of q) words.progress (laws.followers q (ap follows (waits_there q some))) laws.sound.unfinished (laws.past q) (subst P n.0 finished))
-
     is_counted_there : (q : ℕ) → 0 < entries_of q t.machine.entries → (a : ℕ) × (wait_of (view_of t) q ≡ counted a)
     is_counted_there q some = (arrivals_at words.size (a_of q), seen.wait_seen t q ∙ ap (λ x. wait_at x (arrivals_at words.size (a_of q))) (waits_there q some))
 
@@ -271,11 +288,14 @@ module _ (t : Table Barrier) (laws : IsBarrier t.machine) (fits : IsBarrierTable
     is_one_there : (q : ℕ) → is_starved (view_of t).lock q ≡ true → starved_there (c_of q) ≡ 1
     is_one_there q e = sym (sees.counted_bit (c_of q)) ∙ ap bit (sym (sees.starved_at t.machine.lock.courses q) ∙ e)
 
+    free : (view_of t).lock.holder ≡ None
+    free = sees.none_held 0 t.machine.lock.courses (laws.lock_free positions_rest)
+
     pub awake : IsAwake (view_of t)
     awake = record {
-      free = sees.none_held 0 t.machine.lock.courses (laws.lock_free positions_rest);
+      free = free;
       marked = laws.lock_wakes positions_rest;
-      all_marked = all_marked;
+      all_marked = told free;
       counted = is_counted_there;
       waiting = waiting;
       starved = λ q e. (let one = laws.lock.starved_listed courses_rest q (is_one_there q e) in omega arith);

@@ -92,6 +92,7 @@ module _ (w : World) (m : Move) (well : Standing_well w) where
   pub impossible_at_once : call_of w m ≡ None → AnswersAtOnce w m answer.NotPossible w
   impossible_at_once none = record {
     first_poll = λ h. absurd (first_possible (entries_in w m.party) s m.what h none);
+    locking = λ h some. absurd (later_possible s m.what h none);
     listed = λ h some. absurd (later_possible s m.what h none);
   }
 
@@ -115,5 +116,6 @@ module _ (w : World) (m : Move) (well : Standing_well w) where
     pub over_at_once : AnswersAtOnce w m (refused refusal.Finished) w
     over_at_once = record {
       first_poll = λ g. (let never = so.first (entries_in w m.party) in absurd (cc (g, never)));
+      locking = λ g some. (let never = so.later in absurd (cc (g, never)));
       listed = λ g some. (let never = so.later in absurd (cc (g, never)));
     }

@@ -35,6 +35,7 @@ use Rattle.barrier_machine.specs.Roles.{listed}
 use Rattle.barrier_machine.specs.Machine.{Barrier, IsBarrier, position_at, arrival_at, answer_by}
 use Rattle.barrier_world.specs.State.{World, wait_of}
 use Rattle.barrier_world.specs.View.{view_of, verdict_in}
+use Rattle.barrier_world.specs.Legal.{HasToWait}
 use Rattle.barrier_world.specs.Laws.{is_at_rest}
 use Rattle.barrier_world.specs.Bound.{WaitsOn, ComesTo, Takes, GivesWay}
 use Rattle.barrier_world.proofs.Numbers as numbers
@@ -83,6 +84,13 @@ module _ (p : ℕ) (b : Aim) (t u : Table Barrier) (a : Answer) where
   waits_on n laws is at unmarked wait = record { pending = is; counted = wait; waits = waits_at p y.entries (laws.owners p ∙ ap listed at) unmarked }
 
   module _ (old_laws : IsBarrier s) (new_laws : IsBarrier y) (follower : b ≡ aim.Check → IsFollower size own) where
+    -- whoever has to wait there has to, as callers see it
+    pub has_to_wait : served.MustWait p b s b → HasToWait old (wait_for b number)
+    has_to_wait must = by_aim b refl must where
+      by_aim : (c : Aim) → b ≡ c → served.MustWait p b s c → HasToWait old (wait_for c number)
+      by_aim aim.Arrive is more = numbers.next_follows size s.words.progress more
+      by_aim aim.Check is unfinished = numbers.is_unfinished size own s.words.progress (follower is) old_laws.sound.unfinished unfinished
+
     arrives : ComesTo uncounted old p a new → b ≡ aim.Arrive → ComesTo (wait_for b number) old p a new
     arrives k is = let P : Aim → Type 0 = λ c. ComesTo (wait_for c number) old p a new in subst P (sym is) k
 

@@ -20,7 +20,6 @@ use Rattle.lock_world.specs.Accounts.{Account}
 use Rattle.lock_world.specs.Rosters.{how_many}
 use Rattle.lock_world.specs.Standings.{outside}
 use Rattle.lock_world.specs.Whole.{moves_of, answers_of}
-use Rattle.lock_world.specs.Bounds as bounds
 use Rattle.lock_world.proofs.Bounds.{marked_listed}
 use Rattle.lock_world.proofs.Equations.{both}
 use Rattle.lock_table.specs.Stages.{stage_at, stands_as, call_at, polls_again}
@@ -50,15 +49,16 @@ use Rattle.barrier_world.specs.State.{World, standing_of, wait_of, is_free, is_s
 use Rattle.barrier_world.specs.View.{view_of, verdict_in}
 use Rattle.barrier_world.specs.AtOnce.{entries_in, is_first_poll}
 use Rattle.barrier_world.specs.Changes.{wait_then}
-use Rattle.barrier_world.specs.Bound.{IsSolo, Takes, SoloPoll}
+use Rattle.barrier_world.specs.Legal.{HasToWait}
+use Rattle.barrier_world.specs.Bound.{IsSolo, IsNotified, Takes, SoloPoll}
 use Rattle.barrier_world.specs.Runs.{Runs}
 use Rattle.barrier_world.specs.Steps.{IsBarrierTable, Stands}
 use Rattle.barrier_world.proofs.table.Seen.{wait_seen, standing_seen}
-use Rattle.barrier_world.proofs.whole.Served.{Came, Serves, serves}
+use Rattle.barrier_world.proofs.whole.Served.{Came, IsSupplied, Serves, serves}
 use Rattle.barrier_world.proofs.whole.Locked.{GaveUp, Enters, asks, gets_at_once, Goes, Ends, begins}
 use Rattle.barrier_world.proofs.whole.Alone.{EndsAt, whole}
 use Rattle.barrier_world.proofs.whole.Walks.{serves_inside, enters_inside, enters_on, goes_inside, takes_on}
-use Rattle.barrier_world.proofs.whole.Comes.{takes_seen, gives_seen}
+use Rattle.barrier_world.proofs.whole.Comes.{has_to_wait, takes_seen, gives_seen}
 
 -- ---- the inner lock is free
 
@@ -183,7 +183,7 @@ module _ (t : Table Barrier) (p : ℕ) (tl : IsBarrier t.machine) (tf : IsBarrie
 
 -- ---- what it comes to
 
-module _ (known : ℕ → Account) (w : World) (p : ℕ) (i : Inputs) (n : ℕ) (a : Answer) (v : World) (stood : Stands w) (stands : Stands v) (ended : a ≢ answer.Stepped) (memory : i.memory ≡ true) where
+module _ (known : ℕ → Account) (w : World) (p : ℕ) (i : Inputs) (n : ℕ) (a : Answer) (v : World) (stood : Stands w) (stands : Stands v) (ended : a ≢ answer.Stepped) where
   abbrev t : Table Barrier
   t = w.behind
 
@@ -193,41 +193,48 @@ module _ (known : ℕ → Account) (w : World) (p : ℕ) (i : Inputs) (n : ℕ) 
   abbrev IsRun : Call → Type 0
   IsRun c = Runs known w (moves_of p c i n) (answers_of n a) v
 
-  first_comes : (c : Call) → IsRun c → (k : Begins t p c i EnterLock) → holders s.lock ≡ 0 → starved s.lock ≡ 0 → Came p k.its_aim s a (position_at v.behind.machine.positions p) v.behind.machine
-  first_comes c runs k free unstarved = (whole t p i (Serves p k.its_aim s) (Came p k.its_aim s) (serves_inside p k.its_aim s) (λ x y from f laws later here so step. serves p k.its_aim s i memory x y laws from f here so step)
+  first_comes : (c : Call) → IsRun c → (k : Begins t p c i EnterLock) → IsSupplied p k.its_aim s i → holders s.lock ≡ 0 → starved s.lock ≡ 0 → Came p k.its_aim s a (position_at v.behind.machine.positions p) v.behind.machine
+  first_comes c runs k memory free unstarved = (whole t p i (Serves p k.its_aim s) (Came p k.its_aim s) (serves_inside p k.its_aim s) (λ x y from f laws later here so step. serves p k.its_aim s i memory x y laws from f here so step)
       known w c n a v k.stage k.within (EnterLock k.its_aim) refl k.at k.called k.first k.starts (λ f y laws step. gets_at_once p k.its_aim s i f s y free unstarved (refl, refl) step) runs ended).ended
 
-  notified_comes : IsRun call.Poll → (k : Begins t p call.Poll i (λ _. Ask)) → k.its_aim ≡ aim.Check → is_marked_at (is_party p) s.entries ≡ true → holders s.lock ≡ 0 → starved s.lock ≡ 0 → Came p k.its_aim s a (position_at v.behind.machine.positions p) v.behind.machine
-  notified_comes runs k checks marked free unstarved = (whole t p i (Enters p k.its_aim s) (Came p k.its_aim s) (enters_inside p k.its_aim s) (λ x y from f laws later here so step. enters_on p k.its_aim s i memory x y from f laws later here so step)
+  notified_comes : IsRun call.Poll → (k : Begins t p call.Poll i (λ _. Ask)) → IsSupplied p k.its_aim s i → k.its_aim ≡ aim.Check → is_marked_at (is_party p) s.entries ≡ true → holders s.lock ≡ 0 → starved s.lock ≡ 0 → Came p k.its_aim s a (position_at v.behind.machine.positions p) v.behind.machine
+  notified_comes runs k memory checks marked free unstarved = (whole t p i (Enters p k.its_aim s) (Came p k.its_aim s) (enters_inside p k.its_aim s) (λ x y from f laws later here so step. enters_on p k.its_aim s i memory x y from f laws later here so step)
       known w call.Poll n a v k.stage k.within Ask refl k.at k.called k.first k.starts (λ f y laws step. asks p k.its_aim s i f y marked free unstarved checks step) runs ended).ended
 
-  solo_comes : IsRun call.Poll → (k : Begins t p call.Poll i WaitLock) → SoloPolls s.lock → IsCalled s.lock p → EndsAt t p i (Goes p k.its_aim s) (Ends p k.its_aim s) a v
-  solo_comes runs k law called = whole t p i (Goes p k.its_aim s) (Ends p k.its_aim s) (goes_inside p k.its_aim s) (λ x y from f laws later here so step. takes_on p k.its_aim s i memory x y law called from f laws later here so step)
+  solo_comes : IsRun call.Poll → i.memory ≡ true → (k : Begins t p call.Poll i WaitLock) → SoloPolls s.lock → IsCalled s.lock p → EndsAt t p i (Goes p k.its_aim s) (Ends p k.its_aim s) a v
+  solo_comes runs memory k law called = whole t p i (Goes p k.its_aim s) (Ends p k.its_aim s) (goes_inside p k.its_aim s) (λ x y from f laws later here so step. takes_on p k.its_aim s i memory x y law called from f laws later here so step)
       known w call.Poll n a v k.stage k.within (WaitLock k.its_aim) refl k.at k.called k.first k.starts (λ f y laws step. begins p k.its_aim s law called i memory y f step) runs ended
 
   -- as callers see it
   as_seen : (P : World → World → Type 0) → P (view_of t) (view_of v.behind) → P w v
   as_seen P h = subst (λ x. P x v) (sym stood.seen) (subst (P (view_of t)) (sym stands.seen) h)
 
-  pub first : (c : Call) → IsRun c → is_first_poll (standing_of w p) (Begin c i) (entries_in w p) ≡ true → is_free w.lock ≡ true → Takes w p (wait_then (Begin c i) answer.Stepped (wait_of w p)) a v
-  first c runs is free =
+  -- the poll of a wait like this finds memory if it has to wait
+  supplied : (c : Call) (from : Aim → Place) (k : Begins t p c i from) → (HasToWait (view_of t) (wait_for k.its_aim (arrivals_at s.words.size (arrival_at s.arrivals p))) → i.memory ≡ true) → IsSupplied p k.its_aim s i
+  supplied c from k memory must = memory (has_to_wait p k.its_aim t v.behind a stood.barrier stands.barrier k.follower must)
+
+  pub first : (c : Call) → IsRun c → is_first_poll (standing_of w p) (Begin c i) (entries_in w p) ≡ true → is_free w.lock ≡ true → (HasToWait w (wait_then (Begin c i) answer.Stepped (wait_of w p)) → i.memory ≡ true) → Takes w p (wait_then (Begin c i) answer.Stepped (wait_of w p)) a v
+  first c runs is free memory =
       let is' = subst (λ x. is_first_poll (standing_of x p) (Begin c i) (entries_in x p) ≡ true) stood.seen is in
       let is'' = subst (λ z. is_first_poll z (Begin c i) (entries_in (view_of t) p) ≡ true) (standing_seen t p) is' in
       let free' = free_there t (subst (λ x. is_free x.lock ≡ true) stood.seen free) in
       let k = first_from t p stood.barrier stood.fits i c (stage_at t.stages p) refl is'' in
+      let memory' = subst (λ x. HasToWait x (wait_then (Begin c i) answer.Stepped (wait_of x p)) → i.memory ≡ true) stood.seen memory in
+      let some = supplied c EnterLock k (subst (λ z. HasToWait (view_of t) z → i.memory ≡ true) k.wait memory') in
       as_seen (λ x y. Takes x p (wait_then (Begin c i) answer.Stepped (wait_of x p)) a y)
-      (subst (λ z. Takes (view_of t) p z a (view_of v.behind)) (sym k.wait) (takes_seen p k.its_aim t v.behind a stood.barrier stands.barrier k.follower (first_comes c runs k free'.0 free'.1)))
+      (subst (λ z. Takes (view_of t) p z a (view_of v.behind)) (sym k.wait) (takes_seen p k.its_aim t v.behind a stood.barrier stands.barrier k.follower (first_comes c runs k some free'.0 free'.1)))
 
   module _ (runs : IsRun call.Poll) where
-    pub notified : bounds.IsSolo (standing_of w p) w.list p i → is_free w.lock ≡ true → Takes w p (wait_of w p) a v
+    pub notified : IsNotified w p i → is_free w.lock ≡ true → Takes w p (wait_of w p) a v
     notified solo free =
-        let solo' = subst (λ x. bounds.IsSolo (standing_of x p) x.list p i) stood.seen solo in
+        let solo' = subst (λ x. IsNotified x p i) stood.seen solo in
         let free' = free_there t (subst (λ x. is_free x.lock ≡ true) stood.seen free) in
         let at = at_rest_there t p stood.barrier stood.fits rest.Pending solo'.pending in
         let found = from_listed t p stood.barrier stood.fits i (position_at s.positions p) refl at (stands_at t p stood.barrier stood.fits rest.Pending at) (marked_listed p s.entries solo'.marked) in
         let k = found.0 in
+        let some = supplied call.Poll (λ _. Ask) k (subst (λ z. HasToWait (view_of t) z → i.memory ≡ true) k.wait solo'.memory) in
         as_seen (λ x y. Takes x p (wait_of x p) a y)
-        (subst (λ z. Takes (view_of t) p z a (view_of v.behind)) (sym k.wait) (takes_seen p k.its_aim t v.behind a stood.barrier stands.barrier k.follower (notified_comes runs k found.1 solo'.marked free'.0 free'.1)))
+        (subst (λ z. Takes (view_of t) p z a (view_of v.behind)) (sym k.wait) (takes_seen p k.its_aim t v.behind a stood.barrier stands.barrier k.follower (notified_comes runs k some found.1 solo'.marked free'.0 free'.1)))
 
     why_seen : (is_starved (view_of t).lock p ≡ true) ⊎ (how_many (view_of t).lock.starved ≡ 0) → IsStarved s.lock p ⊎ (starved s.lock ≡ 0)
     why_seen (inl starving) = inl (sym (sees.counted_bit (course_at s.lock.courses p)) ∙ ap bit (sym (sees.starved_at s.lock.courses p) ∙ starving))
@@ -256,5 +263,5 @@ module _ (known : ℕ → Account) (w : World) (p : ℕ) (i : Inputs) (n : ℕ) 
         let found = from_waiting t p stood.barrier stood.fits i (position_at s.positions p) refl at (stands_at t p stood.barrier stood.fits rest.Pending at) there in
         let law = lock_law s.lock stood.barrier.lock free' in
         let called : IsCalled s.lock p = (found.2, solo'.marked) in
-        let end = solo_comes runs found.0 law called in
+        let end = solo_comes runs solo'.memory found.0 law called in
         as_seen (λ x y. SoloPoll x p a y) (solo_by found.0 found.1 law called there end end.ended)

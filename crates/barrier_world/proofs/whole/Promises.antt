@@ -108,9 +108,9 @@ module _ (known : ℕ → Account) (w : World) (p : ℕ) (c : Call) (i : Inputs)
 
   kept : Promises w p c i a v
   kept = record {
-    first = λ is free memory. first known w p i n a v stood stands ended memory c runs is free;
-    notified = λ is solo free. notified known w p i n a v stood stands ended solo.memory (as_poll is) solo free;
-    solo = λ is called free. solo known w p i n a v stood stands ended called.memory (as_poll is) called free;
+    first = λ is free memory. first known w p i n a v stood stands ended c runs is free memory;
+    notified = λ is told free. notified known w p i n a v stood stands ended (as_poll is) told free;
+    solo = λ is called free. solo known w p i n a v stood stands ended (as_poll is) called free;
     unstarved = unstarved;
     hands_on = λ is. hands_on known w p i n a v stood stands ended (as_poll is);
   }

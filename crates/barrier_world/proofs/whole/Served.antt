@@ -173,6 +173,15 @@ module _ (p : ℕ) (b : Aim) (s : Barrier) where
   ComesTo ending.RefuseGenerations x = IsPastLimit x
   ComesTo (ending.RefuseMemory a) x = ⊥
 
+  -- it has to wait, by what it took the inner lock for: more have to come, or its generation isn't finished
+  abbrev pub MustWait : Aim → Type 0
+  MustWait aim.Arrive = s.words.progress.count + 1 < s.words.size
+  MustWait aim.Check = own.generation ≡ s.words.progress.generation
+
+  -- the poll finds memory if it has to wait
+  abbrev pub IsSupplied : Inputs → Type 0
+  IsSupplied i = MustWait b → i.memory ≡ true
+
   -- the call is over
   pub record Came (a : Answer) (at : Position) (x : Barrier) : Type 0 where
     pub to : Ending
@@ -219,7 +228,7 @@ module _ (p : ℕ) (b : Aim) (s : Barrier) where
 
   -- ---- action by action
 
-  module _ (i : Inputs) (memory : i.memory ≡ true) (x y : Barrier) (laws : IsBarrier x) where
+  module _ (i : Inputs) (memory : IsSupplied i) (x y : Barrier) (laws : IsBarrier x) where
     lock_at : (from : Place) → position_at x.positions p ≡ At from → fits_lock (in_lock (At from)) (course_at x.lock.courses p) ≡ true
     lock_at from here = let P : Position → Type 0 = λ z. fits_lock (in_lock z) (course_at x.lock.courses p) ≡ true in subst P here (laws.links p)
 
@@ -252,7 +261,7 @@ module _ (p : ℕ) (b : Aim) (s : Barrier) where
     serves Look found.Past here so k = record { arrives = so.0; last = rw so.1.0 at k.finds.0; limit = rw so.1.0 at k.finds.1; same = (k.words ∙ so.1.0, k.arrival ∙ so.1.1) }
     serves Look _ here so k = absurd k.finds
     serves Join found.Done here so k = (so.0, (k.words ∙ so.1.0, k.arrival ∙ so.1.1), joined Join here refl k.entries)
-    serves Join found.NoMemory here so k = let never : true ≡ false = sym memory ∙ k.finds in absurd (cc never)
+    serves Join found.NoMemory here so k = let never : true ≡ false = sym (memory (subst MustWait (sym so.0) (rw so.1.0 at (sure_at Join here)))) ∙ k.finds in absurd (cc never)
     serves Join _ here so k = absurd k.finds
     serves Arrive f here so k =
         let counted : AreNow (with_progress s.words (progress s.words.progress.generation (s.words.progress.count + 1))) (progress s.words.progress.generation (s.words.progress.count + 1)) y =
@@ -268,7 +277,9 @@ module _ (p : ℕ) (b : Aim) (s : Barrier) where
     serves JoinAgain found.Done here so k =
         let sure : (arrival_at x.arrivals p).generation ≡ x.words.progress.generation = sure_at JoinAgain here in
         (inr (record { checks = so.0; unfinished = rw (so.1.0, so.1.1) at sure; same = (k.words ∙ so.1.0, k.arrival ∙ so.1.1) }), joined JoinAgain here refl k.entries)
-    serves JoinAgain found.NoMemory here so k = let never : true ≡ false = sym memory ∙ k.finds in absurd (cc never)
+    serves JoinAgain found.NoMemory here so k =
+        let sure : (arrival_at x.arrivals p).generation ≡ x.words.progress.generation = sure_at JoinAgain here in
+        let never : true ≡ false = sym (memory (subst MustWait (sym so.0) (rw (so.1.0, so.1.1) at sure))) ∙ k.finds in absurd (cc never)
     serves JoinAgain _ here so k = absurd k.finds
     serves (ReleaseLock e) (found.Lock n) here so k = lets_go e n here so k
     serves (ReleaseLock e) _ here so k = absurd k.lock

@@ -10,7 +10,7 @@ use Rattle.barrier_program.specs.declared.program.Position.{Position}
 use Rattle.barrier_program.specs.declared.program.Position.TheVariants.{At}
 use Rattle.barrier_program.specs.Program.{next_of}
 use Rattle.barrier_machine.specs.Machine.{Barrier, IsBarrier, position_at}
-use Rattle.barrier_world.proofs.whole.Served.{Step, Serves, serves}
+use Rattle.barrier_world.proofs.whole.Served.{Step, IsSupplied, Serves, serves}
 use Rattle.barrier_world.proofs.whole.Locked.{IsTaking, IsFresh, Goes, SoloThen, then_served, goes_on, Enters, EntersThen, then_entered, gets_at_once}
 
 module _ (p : ℕ) (b : Aim) (s : Barrier) where
@@ -26,7 +26,7 @@ module _ (p : ℕ) (b : Aim) (s : Barrier) where
   goes_inside (At y) x h = (y, refl)
   goes_inside _ x h = absurd h
 
-  module _ (i : Inputs) (memory : i.memory ≡ true) (x y : Barrier) where
+  module _ (i : Inputs) (memory : IsSupplied p b s i) (x y : Barrier) where
     enters_so : (a : Aim) (f : Found) → (a ≡ b) × IsFresh p b s x → Step i p (EnterLock a) f x y → EntersThen p b s (next_of (EnterLock a) f) y
     enters_so a f so k =
         let P : Aim → Type 0 = λ c. Step i p (EnterLock c) f x y → EntersThen p b s (next_of (EnterLock c) f) y in
@@ -36,12 +36,12 @@ module _ (p : ℕ) (b : Aim) (s : Barrier) where
     enters_on (EnterLock a) f laws later here so k = enters_so a f so k
     enters_on from f laws later here so k = then_entered p b s (next_of from f) y (serves p b s i memory x y laws from f here so k)
 
-    module _ (law : SoloPolls s.lock) (called : IsCalled s.lock p) where
-      takes_so : (a : Aim) (f : Found) → (a ≡ b) × IsTaking p b s x → Step i p (TakeLock a) f x y → SoloThen p b s (next_of (TakeLock a) f) y
-      takes_so a f so k =
-          let P : Aim → Type 0 = λ c. Step i p (TakeLock c) f x y → SoloThen p b s (next_of (TakeLock c) f) y in
-          subst P (sym so.0) (goes_on p b s law called i memory y f x so.1) k
+  module _ (i : Inputs) (memory : i.memory ≡ true) (x y : Barrier) (law : SoloPolls s.lock) (called : IsCalled s.lock p) where
+    takes_so : (a : Aim) (f : Found) → (a ≡ b) × IsTaking p b s x → Step i p (TakeLock a) f x y → SoloThen p b s (next_of (TakeLock a) f) y
+    takes_so a f so k =
+        let P : Aim → Type 0 = λ c. Step i p (TakeLock c) f x y → SoloThen p b s (next_of (TakeLock c) f) y in
+        subst P (sym so.0) (goes_on p b s law called i memory y f x so.1) k
 
-      pub takes_on : (from : Place) (f : Found) → IsBarrier x → IsBarrier y → position_at x.positions p ≡ At from → Goes p b s (At from) x → Step i p from f x y → SoloThen p b s (next_of from f) y
-      takes_on (TakeLock a) f laws later here so k = takes_so a f so k
-      takes_on from f laws later here so k = then_served p b s (next_of from f) y (serves p b s i memory x y laws from f here so k)
+    pub takes_on : (from : Place) (f : Found) → IsBarrier x → IsBarrier y → position_at x.positions p ≡ At from → Goes p b s (At from) x → Step i p from f x y → SoloThen p b s (next_of from f) y
+    takes_on (TakeLock a) f laws later here so k = takes_so a f so k
+    takes_on from f laws later here so k = then_served p b s (next_of from f) y (serves p b s i (λ _. memory) x y laws from f here so k)

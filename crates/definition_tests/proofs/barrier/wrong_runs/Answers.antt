@@ -1,26 +1,23 @@
 -- No wrong run of a barrier is legal.
-use Rattle.std.proofs.Common.{◌≡◌, ◌≢◌, ℕ, zero, suc, ◌+◌, ◌*◌, ◌/◌, ◌%◌, ◌<◌, ◌≤◌, ◌⊎◌, inl, inr, Bool, true, false, Option, Some, None, refl, arith, ap, sym, ◌∙◌, subst}
+use Rattle.std.proofs.Common.{◌≡◌, ◌≢◌, ℕ, zero, suc, ◌+◌, ◌*◌, ◌/◌, ◌%◌, ◌≤◌, inl, inr, arith, ap, sym, ◌∙◌, subst}
 use Rattle.std.proofs.Math.Nat.{mul_comm, div-add-mod}
-use Rattle.std.proofs.lemmas.Bool.{false≢true, true≢false}
+use Rattle.std.proofs.lemmas.Bool.{false≢true}
 use Rattle.std.proofs.lemmas.Nat.{le-div}
-use Rattle.lock_event.specs.declared.event.Mark.TheVariants.{Waiting}
-use Rattle.lock_queue.specs.Parties.{entries_of}
 use Rattle.lock_world.specs.declared.moves.Answer.{Answer}
 use Rattle.lock_world.specs.declared.moves.Answer.TheVariants as answer
-use Rattle.lock_world.specs.declared.moves.Got.TheVariants as got
 use Rattle.lock_world.specs.declared.moves.Move.{Move}
 use Rattle.lock_world.specs.declared.refusal.Refusal.{Refusal}
 use Rattle.lock_world.specs.declared.refusal.Refusal.TheVariants as refusal
 use Rattle.lock_world.specs.declared.standing.Rest.TheVariants.{Pending}
 use Rattle.lock_world.specs.Refusals.{number_of}
-use Rattle.lock_world.specs.Standings.{outside, Standing}
+use Rattle.lock_world.specs.Standings.{outside, refused}
 use Rattle.lock_world.specs.Steps.{Deed, nothing, changes, does}
 use Rattle.barrier_machine.specs.Waits.{Wait, no_wait, uncounted, counted}
-use Rattle.barrier_world.specs.Bound.{ComesTo}
+use Rattle.barrier_world.specs.Bound.{ComesTo, IsNotified}
 use Rattle.barrier_world.specs.Changes.{Change, takes, releases, starves, recovers, arrives, arrivals_after}
 use Rattle.barrier_world.specs.declared.world.ListName.{ListName}
-use Rattle.barrier_world.specs.Legal.{IsAllowed, MayArrive, IsCause, IsOutOfGenerations, HasItsOwn, next_arrival}
-use Rattle.barrier_world.specs.Numbers.{Leads, generations_of}
+use Rattle.barrier_world.specs.Legal.{IsAllowed, MayArrive, IsCause, IsOutOfMemory, IsOutOfGenerations, HasItsOwn, HasToWait, next_arrival}
+use Rattle.barrier_world.specs.Numbers.{Leads, IsFinished, generations_of}
 use Rattle.barrier_world.specs.State.{World, wait_of}
 use Rattle.barrier_world.proofs.Numbers.{next_generation}
 use Rattle.definition_tests.proofs.barrier.wrong_runs.Goals as goal
@@ -127,11 +124,24 @@ for_generations w m v refusal.Starved e h = absurd (omega (arith, e))
 for_generations w m v refusal.Finished e h = absurd (omega (arith, e))
 for_generations w m v _ e h = absurd h
 
+-- why one is refused for memory
+for_memory : (w : World) (m : Move) (v : World) (r : Refusal) → number_of refusal.Memory ≡ number_of r → IsCause w m v r → IsOutOfMemory w m v
+for_memory w m v refusal.Memory e h = h
+for_memory w m v refusal.Starved e h = absurd (omega (arith, e))
+for_memory w m v refusal.Generations e h = absurd (omega (arith, e))
+for_memory w m v refusal.Finished e h = absurd (omega (arith, e))
+for_memory w m v _ e h = absurd h
+
 pub returns-clause-refused_and_counted : goal.returns-clause-refused_and_counted
 returns-clause-refused_and_counted c = λ r.
-    let cause = r.legal.refused_for_cause.cause _ r.refusal in
-    let out = for_generations r.step.old r.step.move r.step.new cause.0 cause.1 cause.2 in
-    r.counted out.unchanged.arrivals
+    elim r.refusal as (λ _. ⊥) [
+      | inl memory ↦ (let cause = r.legal.refused_for_cause.cause _ memory in
+          let out = for_memory r.step.old r.step.move r.step.new cause.0 cause.1 cause.2 in
+          r.counted out.unchanged.arrivals)
+      | inr generations ↦ (let cause = r.legal.refused_for_cause.cause _ generations in
+          let out = for_generations r.step.old r.step.move r.step.new cause.0 cause.1 cause.2 in
+          r.counted out.unchanged.arrivals)
+    ]
 
 pub returns-clause-refused_too_soon : goal.returns-clause-refused_too_soon
 returns-clause-refused_too_soon c = λ r.
@@ -141,6 +151,43 @@ returns-clause-refused_too_soon c = λ r.
 
 pub returns-clause-left_asleep : goal.returns-clause-left_asleep
 returns-clause-left_asleep c = λ r. false≢true (sym r.unmarked ∙ r.awake.all_marked r.party r.arrival r.counted r.finished r.listed)
+
+pub returns-clause-leads_untold : goal.returns-clause-leads_untold
+returns-clause-leads_untold c = λ r. false≢true (sym r.unmarked ∙ r.sound.told r.free r.party r.arrival r.counted r.finished r.listed)
+
+pub returns-clause-ready_untried : goal.returns-clause-ready_untried
+returns-clause-ready_untried c = λ r. elim r.tries as (λ _. ⊥) [
+  | inl first ↦ elim (r.legal.first_poll first).goes_on as (λ _. ⊥) [
+    | inl stepped ↦ (let never = sym r.ready ∙ stepped in cc never)
+    | inr pending ↦ (let never = sym r.ready ∙ pending.1 in cc never)
+  ]
+  | inr there ↦ elim (r.legal.locking there.0 there.1) as (λ _. ⊥) [
+    | inl stepped ↦ (let never = sym r.ready ∙ stepped in cc never)
+    | inr pending ↦ (let never = sym r.ready ∙ pending in cc never)
+  ]
+]
+
+-- a finished wait has to wait no more
+needs_nothing : (w : World) (n : ℕ) (x : Wait) → x ≡ counted n → IsFinished w.size n w.arrivals → HasToWait w x → ⊥
+needs_nothing w n (counted k) e finished waits = let same : n ≡ k = cc e in let P : ℕ → Type 0 = λ z. IsFinished w.size z w.arrivals in waits (subst P same finished)
+needs_nothing w n uncounted e finished waits = cc e
+needs_nothing w n no_wait e finished waits = cc e
+
+-- and its poll, if it got the inner lock, isn't refused
+refused_not : (w : World) (p n : ℕ) (a : Answer) (v : World) (x : Wait) → x ≡ counted n → ComesTo x w p a v → a ≡ refused refusal.Memory → ⊥
+refused_not w p n a v (counted k) e h is = elim h.1 as (λ _. ⊥) [
+  | inl follows ↦ (let never = sym follows.1 ∙ is in cc never)
+  | inr waits ↦ (let never = sym waits.1.pending ∙ is in cc never)
+]
+refused_not w p n a v uncounted e h is = cc e
+refused_not w p n a v no_wait e h is = cc e
+
+pub returns-clause-refused_in_vain : goal.returns-clause-refused_in_vain
+returns-clause-refused_in_vain c = λ r.
+    let w = r.whole.old in
+    let p = r.whole.party in
+    let told : IsNotified w p r.whole.inputs = record { pending = r.was_pending; marked = r.marked; memory = λ waits. absurd (needs_nothing w r.arrival (wait_of w p) r.counted r.finished waits) } in
+    refused_not w p r.arrival r.whole.answer r.whole.new (wait_of w p) r.counted (r.kept.notified r.polls told r.free).comes_to r.is_refused
 
 -- a wait that wasn't counted, and whose poll got the inner lock, is pending as a counted one
 pends_counted : (w : World) (p : ℕ) (a : Answer) (v : World) (x : Wait) → x ≡ uncounted → ComesTo x w p a v → a ≡ answer.Pending → wait_of v p ≡ uncounted → ⊥
@@ -155,7 +202,7 @@ pends_counted w p a v (counted n) e h pending not = cc e
 pends_counted w p a v no_wait e h pending not = absurd h
 
 pub returns-clause-waits_for_nothing : goal.returns-clause-waits_for_nothing
-returns-clause-waits_for_nothing c = λ r. pends_counted r.whole.old r.whole.party r.whole.answer r.whole.new _ r.new_wait (r.kept.first r.first r.free r.memory).comes_to r.pending r.not_counted
+returns-clause-waits_for_nothing c = λ r. pends_counted r.whole.old r.whole.party r.whole.answer r.whole.new _ r.new_wait (r.kept.first r.first r.free (λ _. r.memory)).comes_to r.pending r.not_counted
 
 pub returns-clause-passes_over_in_vain : goal.returns-clause-passes_over_in_vain
 returns-clause-passes_over_in_vain c = λ r. pends_counted r.whole.old r.whole.party r.whole.answer r.whole.new _ r.was ((r.kept.solo r.polls r.solo r.free).takes (inr r.none_starved)).comes_to r.pending r.is
