@@ -12,7 +12,7 @@ contract='mutex_machine\.specs\.(Mutex|Course|Conduct|Deeds|Alone)|mutex_machine
 lemmas='mutex_machine\.proofs\.(Callers|Holders|Rosters|Released|AloneSeen)'
 type='mutex_machine::Mutex'
 
-named=$(grep -rnE 'mutex_(program|machine)(\.|::)|\breveal\b' $above --include='*.antt' --include='*.rt' |
+named=$(grep -rnE 'mutex_(program|machine)(\.|::)|\breveal\b' $above --include='*.antt' --include='*.rt' --exclude-dir=out |
     grep -vE "($calls|$contract|$lemmas|$type)" || true)
 if [ -n "$named" ]; then
     echo "$named" >&2
