@@ -265,7 +265,7 @@ pub record PassesWritingInVain : Type 0 where
   pub pending : whole.answer ≡ answer.Pending
   pub kept : Keeps whole
 
--- An upgrade polls for the first time, alone and where no reader is left, and waits.
+-- An upgrade polls alone where no reader is left, for the first time say, and waits.
 pub record UpgradeWaitsForNobody : Type 0 where
   pub whole : Whole
   pub polls : whole.call ≡ call.Poll
