@@ -9,7 +9,7 @@ set -eu
 above='crates/rwlock_program crates/rwlock_machine crates/rwlock_world crates/barrier_program crates/barrier_machine crates/barrier_world'
 calls='mutex_program(\.specs\.declared\.|::)calls'
 contract='mutex_machine\.specs\.(Mutex|Course|Conduct|Deeds|Alone)|mutex_machine\.specs\.Behind\.\{behind_coded\}'
-lemmas='mutex_machine\.proofs\.(Callers|Holders|Rosters|Released|AloneSeen)'
+lemmas='mutex_machine\.proofs\.callers\.'
 type='mutex_machine::Mutex'
 
 named=$(grep -rnE 'mutex_(program|machine)(\.|::)|\breveal\b' $above --include='*.antt' --include='*.rt' --exclude-dir=out |

@@ -1,5 +1,5 @@
 #!/usr/bin/env python3
-"""Writes the case table of a mutex's steps: crates/mutex_machine/proofs/Rows.antt.
+"""Writes the case table of a mutex's steps: crates/mutex_machine/proofs/legal/Rows.antt.
 
 Run it at the top of the repository after a change of the mutex's program. Each row is one place
 with one finding of its action: what the step changes, and what it decides.
@@ -26,7 +26,7 @@ use Rattle.mutex_machine.specs.Acts.{Finds, holders, starved}
 use Rattle.mutex_machine.specs.State.{is_holder, is_counted}
 use Rattle.mutex_machine.specs.Legal.{decision}
 use Rattle.mutex_machine.specs.Deeds.{Change, ListName, takes, releases, starves, recovers, for_the_lock, gives_back, gives_up, is_release}
-use Rattle.mutex_machine.proofs.Kept.{after}
+use Rattle.mutex_machine.proofs.laws.Kept.{after}
 
 -- what an action changes that found this
 abbrev pub deed_of : Action → Found → Deed Change ListName
@@ -202,5 +202,5 @@ one('RefuseNotifyMemory', 'Notify', KEPT)
 one('RefuseNotifyStarved', 'Notify', KEPT)
 one('ReleaseNotify', 'Notify', KEPT)
 
-with open('crates/mutex_machine/proofs/Rows.antt', 'w', encoding='utf-8') as out:
+with open('crates/mutex_machine/proofs/legal/Rows.antt', 'w', encoding='utf-8') as out:
     out.write(HEAD + '\n'.join(rows) + '\n')

@@ -1,5 +1,6 @@
 #!/usr/bin/env python3
-"""Writes the case tables of a read-write lock's steps: crates/rwlock_machine/proofs/{Fits,Links,Falls}.antt.
+"""Writes the case tables of a read-write lock's steps: laws/Fits, stages/Links and falls/Falls in
+crates/rwlock_machine/proofs.
 
 Run it at the top of the repository after a change of the read-write lock's program. Each row is one
 place with one finding of its action: that the roles follow the action, that the party's place goes on
@@ -81,7 +82,7 @@ ROWS = [
     ('DowngradeNotify', 'NotifyNoWriter', '_'),
 ]
 
-# The fields that ask nothing of an action with a finding; proofs/Steps says what the others ask.
+# The fields that ask nothing of an action with a finding; proofs/laws/Steps says what the others ask.
 NO_ALONE = {('Read', 'Done'), ('Load', 'NoneLeft'), ('Mark', 'NoneLeft'), ('TryWrite', 'Done'), ('TryUpgrade', 'Done'), ('Down', '_')}
 NO_OWED_W = {('Read', 'Writer'), ('Mark', 'NoneLeft'), ('Mark', '_'), ('TryWrite', 'Done'), ('TryUpgrade', 'Done'), ('Upgrade', '_'), ('NotifyNoWriter', '_')}
 NO_OWED_R = {('Read', 'Done'), ('Add', 'Done'), ('Down', '_'), ('Off', '_'), ('Load', '_'), ('NotifyNoReaders', '_')}
@@ -151,31 +152,31 @@ def table(name, head, lines):
         out.write(head + '\n'.join(lines) + '\n')
 
 
-table('Fits.antt', '''-- Each step of a program fits its action. Written by generators/rwlock_rows.py.
+table('laws/Fits.antt', '''-- Each step of a program fits its action. Written by generators/rwlock_rows.py.
 use Rattle.std.proofs.Common.{refl, true, false}
 ''' + USES + '''use Rattle.rwlock_program.specs.Program.{action_of, next_of, place_after}
-use Rattle.rwlock_machine.proofs.Steps.{Fits}
+use Rattle.rwlock_machine.proofs.laws.Steps.{Fits}
 
 pub fits : (x : Place) (f : Found) → Fits (action_of x) f x (place_after (next_of x f))
 ''', fits())
 
-table('Links.antt', '''-- Each step leaves the party's place fitting its place in the turn. Written by generators/rwlock_rows.py.
+table('stages/Links.antt', '''-- Each step leaves the party's place fitting its place in the turn. Written by generators/rwlock_rows.py.
 use Rattle.std.proofs.Common.{◌≡◌, refl, true, false}
 use Rattle.lock_world.specs.declared.refusal.Refusal.TheVariants as refusal
 use Rattle.mutex_machine.specs.Course.{Course as TurnCourse}
 ''' + USES + '''use Rattle.rwlock_program.specs.Program.{next_of, place_after}
 use Rattle.rwlock_machine.specs.Roles.{fits_turn}
-use Rattle.rwlock_machine.proofs.Leads.{Led, steps_in_turn}
+use Rattle.rwlock_machine.proofs.stages.Leads.{Led, steps_in_turn}
 
 -- a step that is not in the turn leaves the party there where it was
 pub links : (x : Place) (f : Found) (t to : TurnCourse) → Led x f to → (steps_in_turn x ≡ false → to ≡ t) → fits_turn x t ≡ true → fits_turn (place_after (next_of x f)) to ≡ true
 ''', links())
 
-table('Falls.antt', '''-- Each step of a party that moves alone leaves fewer steps. Written by generators/rwlock_rows.py.
+table('falls/Falls.antt', '''-- Each step of a party that moves alone leaves fewer steps. Written by generators/rwlock_rows.py.
 use Rattle.std.proofs.Common.{ℕ, ◌<◌, Bool, true, false, arith}
 ''' + USES + '''use Rattle.rwlock_program.specs.Program.{action_of, next_of}
 use Rattle.rwlock_machine.specs.Ranks.{left}
-use Rattle.rwlock_machine.proofs.Lowers.{Lowers, then_left}
+use Rattle.rwlock_machine.proofs.falls.Lowers.{Lowers, then_left}
 
 module _ (here there here' there' : Bool) (turn turn' : ℕ) where
   pub falls : (x : Place) (f : Found) → Lowers here there turn here' there' turn' (action_of x) f → then_left (next_of x f) here' there' turn' < left x here there turn

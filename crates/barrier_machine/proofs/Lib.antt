@@ -1,10 +1,3 @@
-pub mod Starts
-pub mod Links
-pub mod CanDo
-pub mod Rows
-pub mod Listed
-pub mod Told
-pub mod Kept
-pub mod Laws
-pub mod New
-pub mod Falls
+pub mod laws
+pub mod stages
+pub mod falls

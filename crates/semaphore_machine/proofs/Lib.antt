@@ -1,8 +1,2 @@
-pub mod Steps
-pub mod Effects
-pub mod Kept
-pub mod CanDo
-pub mod Turns
-pub mod Locks
-pub mod Laws
-pub mod New
+pub mod laws
+pub mod stages

@@ -20,8 +20,8 @@ use Rattle.lock_table.proofs.Past.{by_stage_or_past, by_stage_or_past_at}
 use Rattle.lock_table.proofs.Views.{rest_seen, outside_at}
 use Rattle.mutex_machine.specs.Course.{Course, bit, counted as starved_there, listed as listed_there, is_resting as rests_there}
 use Rattle.mutex_machine.specs.Mutex.{course_at, IsAtRest as LockAtRest}
-use Rattle.mutex_machine.proofs.Callers.{out_rests, waiting_rests, out_unlisted, holding_unlisted, listed_once}
-use Rattle.mutex_machine.proofs.Holders as sees
+use Rattle.mutex_machine.proofs.callers.Callers.{out_rests, waiting_rests, out_unlisted, holding_unlisted, listed_once}
+use Rattle.mutex_machine.proofs.callers.Holders as sees
 use Rattle.barrier_program.specs.declared.program.Aim.{Aim}
 use Rattle.barrier_program.specs.declared.program.Aim.TheVariants as aim
 use Rattle.barrier_program.specs.declared.program.Ending.{Ending}

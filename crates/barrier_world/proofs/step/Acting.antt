@@ -42,7 +42,7 @@ use Rattle.barrier_program.specs.Locks.{OnLock}
 use Rattle.barrier_machine.specs.Roles.{fits_lock, in_lock, listed}
 use Rattle.barrier_machine.specs.Waits.{Wait, wait_at, verdict_of, verdict}
 use Rattle.barrier_machine.specs.Machine.{Barrier, IsBarrier, Acts, knows, runs, position_at, arrival_at, answer_by}
-use Rattle.barrier_machine.proofs.Links.{lock_others}
+use Rattle.barrier_machine.proofs.stages.Links.{lock_others}
 use Rattle.barrier_world.specs.declared.world.ListName.{ListName}
 use Rattle.barrier_world.specs.State.{World, standing_of, wait_of, is_starved, is_held_by, IsClear}
 use Rattle.barrier_world.specs.View.{verdict_in, view_of}

@@ -23,8 +23,8 @@ use Rattle.mutex_program.specs.declared.calls.Step.{Step as LockStep}
 use Rattle.mutex_program.specs.declared.calls.Step.TheVariants as lock_step
 use Rattle.mutex_program.specs.declared.calls.End.TheVariants as lock_end
 use Rattle.mutex_machine.specs.Mutex.{course_at, holders, starved}
-use Rattle.mutex_machine.proofs.Callers.{out_unlisted, waiting_listed}
-use Rattle.mutex_machine.proofs.Holders as sees
+use Rattle.mutex_machine.proofs.callers.Callers.{out_unlisted, waiting_listed}
+use Rattle.mutex_machine.proofs.callers.Holders as sees
 use Rattle.barrier_program.specs.declared.program.Aim.{Aim}
 use Rattle.barrier_program.specs.declared.program.Aim.TheVariants as aim
 use Rattle.barrier_program.specs.declared.program.Found.{Found}

@@ -28,7 +28,7 @@ use Rattle.barrier_program.specs.Program.{place_for}
 use Rattle.barrier_machine.specs.Roles.{listed}
 use Rattle.barrier_machine.specs.Waits.{wait_at, wait_of as place_wait, verdict, verdict_of}
 use Rattle.barrier_machine.specs.Machine.{knows, runs, is_begun, goes_with}
-use Rattle.barrier_machine.proofs.Starts.{Fits}
+use Rattle.barrier_machine.proofs.stages.Starts.{Fits}
 use Rattle.barrier_world.specs.Changes.{wait_then}
 use Rattle.barrier_world.specs.AtOnce.{is_first_poll, is_later_poll}
 

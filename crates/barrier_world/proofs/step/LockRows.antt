@@ -20,9 +20,9 @@ use Rattle.mutex_program.specs.declared.calls.Step.TheVariants as lock_step
 use Rattle.mutex_machine.specs.Deeds as mutex
 use Rattle.mutex_machine.specs.Mutex.{is_counted, holders, starved, holder_of, starved_of}
 use Rattle.mutex_machine.specs.Conduct.{IsLegal, IsReason, decided_then, IsAllowed as MayDo}
-use Rattle.mutex_machine.proofs.Callers.{IsPolls, holding_holds, releasing_free}
-use Rattle.mutex_machine.proofs.Holders as sees
-use Rattle.mutex_machine.proofs.Rosters.{is_zero}
+use Rattle.mutex_machine.proofs.callers.Callers.{IsPolls, holding_holds, releasing_free}
+use Rattle.mutex_machine.proofs.callers.Holders as sees
+use Rattle.mutex_machine.proofs.callers.Rosters.{is_zero}
 use Rattle.barrier_program.specs.declared.program.Aim.{Aim}
 use Rattle.barrier_program.specs.declared.program.Aim.TheVariants as aim
 use Rattle.barrier_program.specs.declared.program.Ending.{Ending}

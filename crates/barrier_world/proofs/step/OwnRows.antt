@@ -14,8 +14,8 @@ use Rattle.lock_world.specs.Steps.{nothing, changes, does, joins, asks, leaves, 
 use Rattle.lock_table.specs.Tables.{Table}
 use Rattle.mutex_machine.specs.Course.{is_holding}
 use Rattle.mutex_machine.specs.Mutex.{Mutex, holder_of, starved_of}
-use Rattle.mutex_machine.proofs.Callers.{holding_holds, holding_unlisted}
-use Rattle.mutex_machine.proofs.Holders as sees
+use Rattle.mutex_machine.proofs.callers.Callers.{holding_holds, holding_unlisted}
+use Rattle.mutex_machine.proofs.callers.Holders as sees
 use Rattle.barrier_program.specs.declared.program.Found.{Found}
 use Rattle.barrier_program.specs.declared.program.Found.TheVariants as found
 use Rattle.barrier_program.specs.declared.program.Place.{Place}

@@ -16,8 +16,8 @@ use Rattle.mutex_machine.specs.Course.{Course, holds, is_out, decision}
 use Rattle.mutex_program.specs.declared.calls.End.{End}
 use Rattle.mutex_program.specs.declared.calls.End.TheVariants as lock_end
 use Rattle.mutex_machine.specs.Mutex.{course_at}
-use Rattle.mutex_machine.proofs.Callers.{out_unlisted, out_free, out_unstarved, waiting_free, holding_holds}
-use Rattle.mutex_machine.proofs.Holders as sees
+use Rattle.mutex_machine.proofs.callers.Callers.{out_unlisted, out_free, out_unstarved, waiting_free, holding_holds}
+use Rattle.mutex_machine.proofs.callers.Holders as sees
 use Rattle.barrier_program.specs.declared.program.Aim.{Aim}
 use Rattle.barrier_program.specs.declared.program.Aim.TheVariants as aim
 use Rattle.barrier_program.specs.declared.program.Ending.{Ending}

@@ -10,7 +10,7 @@ use Rattle.mutex_machine.specs.Course.{Course, decision}
 use Rattle.mutex_program.specs.declared.calls.End.{End}
 use Rattle.mutex_program.specs.declared.calls.End.TheVariants as lock_end
 use Rattle.mutex_machine.specs.Conduct.{IsLegal}
-use Rattle.mutex_machine.proofs.Callers.{taking_decided, releasing_decided, cancelling_decided, out_free, waiting_free}
+use Rattle.mutex_machine.proofs.callers.Callers.{taking_decided, releasing_decided, cancelling_decided, out_free, waiting_free}
 use Rattle.barrier_program.specs.declared.program.Ending.{Ending}
 use Rattle.barrier_program.specs.declared.program.Ending.TheVariants as ending
 use Rattle.barrier_program.specs.declared.program.Found.{Found}

@@ -17,8 +17,8 @@ use Rattle.mutex_program.specs.declared.calls.End.{End as LockEnd}
 use Rattle.mutex_program.specs.declared.calls.End.TheVariants as lock_end
 use Rattle.mutex_machine.specs.Alone.{GaveWay, StandsBack}
 use Rattle.mutex_machine.specs.Mutex.{starved}
-use Rattle.mutex_machine.proofs.Callers.{gave_way}
-use Rattle.mutex_machine.proofs.Holders.{none_held}
+use Rattle.mutex_machine.proofs.callers.Callers.{gave_way}
+use Rattle.mutex_machine.proofs.callers.Holders.{none_held}
 use Rattle.barrier_program.specs.declared.program.Aim.{Aim}
 use Rattle.barrier_program.specs.declared.program.Aim.TheVariants as aim
 use Rattle.barrier_program.specs.declared.program.Ending.{Ending}

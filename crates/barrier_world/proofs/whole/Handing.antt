@@ -19,7 +19,7 @@ use Rattle.mutex_program.specs.declared.calls.End.TheVariants as lock_end
 use Rattle.mutex_machine.specs.Conduct.{HandsOn}
 use Rattle.mutex_machine.specs.Course.{is_told, is_waiting}
 use Rattle.mutex_machine.specs.Mutex.{course_at}
-use Rattle.mutex_machine.proofs.Released.{release_goes, released_marks}
+use Rattle.mutex_machine.proofs.callers.Released.{release_goes, released_marks}
 use Rattle.barrier_program.specs.declared.program.Aim.{Aim}
 use Rattle.barrier_program.specs.declared.program.Aim.TheVariants as aim
 use Rattle.barrier_program.specs.declared.program.Ending.{Ending}

@@ -31,9 +31,9 @@ use Rattle.mutex_machine.specs.Alone.{IsCalled, SoloPolls, StandsBack}
 use Rattle.mutex_program.specs.declared.calls.End.{End as LockEnd}
 use Rattle.mutex_program.specs.declared.calls.End.TheVariants as lock_end
 use Rattle.mutex_machine.specs.Mutex.{Mutex, course_at, holders, starved, holder_of, starved_of, IsStarved}
-use Rattle.mutex_machine.proofs.AloneSeen.{solo_polls as lock_law}
-use Rattle.mutex_machine.proofs.Callers.{out_unlisted, waiting_listed}
-use Rattle.mutex_machine.proofs.Holders as sees
+use Rattle.mutex_machine.proofs.callers.AloneSeen.{solo_polls as lock_law}
+use Rattle.mutex_machine.proofs.callers.Callers.{out_unlisted, waiting_listed}
+use Rattle.mutex_machine.proofs.callers.Holders as sees
 use Rattle.barrier_program.specs.declared.program.Aim.{Aim}
 use Rattle.barrier_program.specs.declared.program.Aim.TheVariants as aim
 use Rattle.barrier_program.specs.declared.program.Place.{Place}

@@ -20,8 +20,8 @@ use Rattle.lock_table.specs.Tables.{Table, Acted}
 use Rattle.lock_table.proofs.Ways.{onward}
 use Rattle.mutex_machine.specs.Course.{Course, is_counting}
 use Rattle.mutex_machine.specs.Mutex.{Mutex, course_at, starved}
-use Rattle.mutex_machine.proofs.Callers.{out_uncounted, waiting_uncounted}
-use Rattle.mutex_machine.proofs.Holders as sees
+use Rattle.mutex_machine.proofs.callers.Callers.{out_uncounted, waiting_uncounted}
+use Rattle.mutex_machine.proofs.callers.Holders as sees
 use Rattle.barrier_program.specs.declared.program.Action.{Action}
 use Rattle.barrier_program.specs.declared.program.Action.TheVariants as act
 use Rattle.barrier_program.specs.declared.program.Found.{Found}

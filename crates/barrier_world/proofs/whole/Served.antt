@@ -17,9 +17,9 @@ use Rattle.mutex_program.specs.declared.calls.LockCall.TheVariants as lock_call
 use Rattle.mutex_machine.specs.Course.{is_holding, is_releasing, holds}
 use Rattle.mutex_machine.specs.Deeds.{Change, takes, releases, starves, recovers, ListName, holder_after, gives_back}
 use Rattle.mutex_machine.specs.Mutex.{Mutex, course_at, IsMutex, holder_of}
-use Rattle.mutex_machine.proofs.Callers.{holding_holds, releasing_free, releasing_decided}
-use Rattle.mutex_machine.proofs.Holders.{holds_it, is_held_by}
-use Rattle.mutex_machine.proofs.Released.{release_goes, released_marks}
+use Rattle.mutex_machine.proofs.callers.Callers.{holding_holds, releasing_free, releasing_decided}
+use Rattle.mutex_machine.proofs.callers.Holders.{holds_it, is_held_by}
+use Rattle.mutex_machine.proofs.callers.Released.{release_goes, released_marks}
 use Rattle.barrier_program.specs.declared.program.Action.TheVariants as act
 use Rattle.barrier_program.specs.declared.program.Aim.{Aim}
 use Rattle.barrier_program.specs.declared.program.Aim.TheVariants as aim

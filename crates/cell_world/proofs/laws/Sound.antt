@@ -27,8 +27,8 @@ use Rattle.cell_program.specs.declared.program.Position.TheVariants.{Out, ToMake
 use Rattle.cell_program.specs.declared.words.Content.TheVariants.{Full}
 use Rattle.cell_machine.specs.Seats.{makes_at, in_active, in_passive_at, verdict, is_resting}
 use Rattle.cell_machine.specs.Machine.{OnceCell, IsCell, IsAtRest, goes_with, runs, is_begun, is_abandoning, is_maker, position_at}
-use Rattle.cell_machine.proofs.Contents as contents
-use Rattle.cell_machine.proofs.Told.{in_list}
+use Rattle.cell_machine.proofs.laws.Contents as contents
+use Rattle.cell_machine.proofs.laws.Told.{in_list}
 use Rattle.cell_world.specs.State.{list_in, standing_of}
 use Rattle.cell_world.specs.View.{view_of}
 use Rattle.cell_world.specs.Laws.{IsSound, IsAwake, IsStillThere, is_at_rest, is_long_call, may_be_maker}

@@ -20,7 +20,7 @@ use Rattle.cell_program.specs.declared.program.Position.{Position}
 use Rattle.cell_program.specs.declared.words.Content.{Content}
 use Rattle.cell_program.specs.declared.words.Content.TheVariants.{Full}
 use Rattle.cell_machine.specs.Machine.{OnceCell, IsCell, knows, goes_with, position_at}
-use Rattle.cell_machine.proofs.Turns.{Turn, turn, fits}
+use Rattle.cell_machine.proofs.stages.Turns.{Turn, turn, fits}
 use Rattle.cell_world.specs.State.{World, standing_of}
 use Rattle.cell_world.specs.View.{view_of}
 use Rattle.cell_world.specs.Legal.{call_of, HasItsOwn, Legal}

@@ -55,10 +55,10 @@ use Rattle.cell_program.specs.Program.{place_for, action_of, next_of, position_a
 use Rattle.cell_machine.specs.Seats.{Task, failed, task_at, task_of as place_task, Seat, makes_at, in_active, in_passive_at, verdict, verdict_of}
 use Rattle.cell_program.specs.Deeds.{Change, begins, fills, empties, deed_of, content_after, active_after, passive_after, Finds}
 use Rattle.cell_machine.specs.Machine.{OnceCell, IsCell, Acts, knows, goes_with, runs, is_polling, is_trying, is_cancelling, is_abandoning, is_maker, position_at, answer_by}
-use Rattle.cell_machine.proofs.Kept.{after}
-use Rattle.cell_machine.proofs.Turns.{lands}
-use Rattle.cell_machine.proofs.Contents as contents
-use Rattle.cell_machine.proofs.Told.{in_list}
+use Rattle.cell_machine.proofs.laws.Kept.{after}
+use Rattle.cell_machine.proofs.stages.Turns.{lands}
+use Rattle.cell_machine.proofs.laws.Contents as contents
+use Rattle.cell_machine.proofs.laws.Told.{in_list}
 use Rattle.cell_world.specs.State.{World, list_in, standing_of, task_of}
 use Rattle.cell_world.specs.View.{view_of}
 use Rattle.cell_world.specs.Tasks.{task_in, or_before, task_then, makes, list_for, given, is_open}

@@ -33,9 +33,9 @@ use Rattle.cell_program.specs.Program.{action_of, next_of}
 use Rattle.cell_machine.specs.Seats.{no_task, waits_only, task_by, task_at, task_of as place_task, makes_at, in_active, in_passive_at, verdict}
 use Rattle.cell_program.specs.Deeds.{deed_of, content_after, Finds, FindsContent, FindsMade}
 use Rattle.cell_machine.specs.Machine.{OnceCell, knows, goes_with, is_maker, position_at, answer_by}
-use Rattle.cell_machine.proofs.Kept.{after}
-use Rattle.cell_machine.proofs.Turns.{Turn, turn}
-use Rattle.cell_machine.proofs.Contents as contents
+use Rattle.cell_machine.proofs.laws.Kept.{after}
+use Rattle.cell_machine.proofs.stages.Turns.{Turn, turn}
+use Rattle.cell_machine.proofs.laws.Contents as contents
 use Rattle.cell_world.specs.State.{World, is_empty, standing_of, task_of}
 use Rattle.cell_world.specs.View.{view_of}
 use Rattle.cell_world.specs.Tasks.{task_in, or_before, task_then, given}

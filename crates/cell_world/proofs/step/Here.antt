@@ -21,7 +21,7 @@ use Rattle.cell_program.specs.declared.program.Position.TheVariants.{At}
 use Rattle.cell_program.specs.Program.{action_of}
 use Rattle.cell_machine.specs.Seats.{Task, fills_with, failed, task_at, task_of as place_task, seat_of, seated, value_known, verdict, verdict_of}
 use Rattle.cell_machine.specs.Machine.{knows, goes_with, is_begun}
-use Rattle.cell_machine.proofs.Turns.{Turn, turn}
+use Rattle.cell_machine.proofs.stages.Turns.{Turn, turn}
 use Rattle.cell_world.specs.Tasks.{task_in, or_before, list_for}
 use Rattle.cell_world.proofs.step.Rows.{is_join}
 use Rattle.cell_world.proofs.step.Owns.{active_for}

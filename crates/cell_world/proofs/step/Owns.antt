@@ -24,7 +24,7 @@ use Rattle.cell_program.specs.declared.words.Content.TheVariants.{Full}
 use Rattle.cell_program.specs.Program.{got_of}
 use Rattle.cell_machine.specs.Seats.{task_by, task_at, makes_at, in_active, in_passive_at, value_known, verdict, verdict_of}
 use Rattle.cell_machine.specs.Machine.{OnceCell, IsCell, goes_with, is_pending, is_maker, position_at}
-use Rattle.cell_machine.proofs.Told.{in_list}
+use Rattle.cell_machine.proofs.laws.Told.{in_list}
 use Rattle.cell_world.specs.State.{World, is_full, list_in, standing_of, task_of}
 use Rattle.cell_world.specs.View.{view_of}
 use Rattle.cell_world.specs.Tasks.{makes, list_for}

@@ -32,7 +32,7 @@ use Rattle.cell_program.specs.Program.{action_of, next_of}
 use Rattle.cell_machine.specs.Seats.{sets, fills_with, failed, task_by, task_at, task_of as place_task, makes_at, in_active, in_passive_at, verdict_of}
 use Rattle.cell_program.specs.Deeds.{Change, begins, fills, empties, everyone, deed_of, content_after, Finds, FindsMade}
 use Rattle.cell_machine.specs.Machine.{answer_by}
-use Rattle.cell_machine.proofs.Kept.{after}
+use Rattle.cell_machine.proofs.laws.Kept.{after}
 use Rattle.cell_world.specs.State.{is_full}
 use Rattle.cell_world.specs.Tasks.{makes, given}
 use Rattle.cell_world.specs.Legal.{gives_something_back, gives_up}

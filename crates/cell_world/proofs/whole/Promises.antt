@@ -43,9 +43,9 @@ use Rattle.cell_program.specs.Program.{action_of, next_of}
 use Rattle.cell_machine.specs.Seats.{Task, no_task, initializes, sets, waits_only, fills_with, failed, task_by, task_at, task_of as place_task, in_active, verdict}
 use Rattle.cell_program.specs.Deeds.{list_of, deed_of, content_after, active_after, passive_after, Finds}
 use Rattle.cell_machine.specs.Machine.{OnceCell, IsCell, knows, goes_with, runs, is_maker, position_at, answer_by}
-use Rattle.cell_machine.proofs.Kept.{after}
-use Rattle.cell_machine.proofs.Turns.{fits}
-use Rattle.cell_machine.proofs.Contents as contents
+use Rattle.cell_machine.proofs.laws.Kept.{after}
+use Rattle.cell_machine.proofs.stages.Turns.{fits}
+use Rattle.cell_machine.proofs.laws.Contents as contents
 use Rattle.cell_world.specs.State.{World, list_in, standing_of, task_of}
 use Rattle.cell_world.specs.View.{view_of}
 use Rattle.cell_world.specs.Tasks.{or_before, task_then, given}

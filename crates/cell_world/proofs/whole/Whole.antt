@@ -27,8 +27,8 @@ use Rattle.cell_program.specs.Program.{action_of, next_of}
 use Rattle.cell_machine.specs.Seats.{in_active, in_passive_at}
 use Rattle.cell_program.specs.Deeds.{deed_of, active_after, passive_after, Finds}
 use Rattle.cell_machine.specs.Machine.{OnceCell, IsCell, knows, goes_with, position_at, answer_by}
-use Rattle.cell_machine.proofs.Kept.{after}
-use Rattle.cell_machine.proofs.Turns.{Turn, turn}
+use Rattle.cell_machine.proofs.laws.Kept.{after}
+use Rattle.cell_machine.proofs.stages.Turns.{Turn, turn}
 use Rattle.lock_world.specs.Whole.{going_on}
 use Rattle.lock_frame.specs.Steps.{left_by, beginning}
 use Rattle.lock_world.proofs.Lists.{joined_unmarked}

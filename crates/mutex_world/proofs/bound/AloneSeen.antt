@@ -31,9 +31,9 @@ use Rattle.mutex_machine.specs.Courses.{is_waiting}
 use Rattle.mutex_program.specs.Roles.{bit, holds, listed}
 use Rattle.mutex_machine.specs.Solo.{IsCalled, Took, StandsBack, GaveWay, PollsAlone}
 use Rattle.mutex_machine.specs.State.{is_counted}
-use Rattle.mutex_machine.proofs.Parts.{gave_way}
-use Rattle.mutex_machine.proofs.Seen as sees
-use Rattle.mutex_machine.proofs.SoloPolls.{solo_polls}
+use Rattle.mutex_machine.proofs.solo_polls.Parts.{gave_way}
+use Rattle.mutex_machine.proofs.laws.Seen as sees
+use Rattle.mutex_machine.proofs.solo_polls.SoloPolls.{solo_polls}
 use Rattle.mutex_world.specs.Bound.{IsSolo, Takes, GivesWay, SoloPoll}
 use Rattle.mutex_world.specs.Guarded.{Guarded, place_of, goes_with, answer_by}
 use Rattle.mutex_world.specs.Laws.{is_at_rest}

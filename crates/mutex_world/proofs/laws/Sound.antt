@@ -27,8 +27,8 @@ use Rattle.mutex_machine.specs.Acts.{IsMutex}
 use Rattle.mutex_machine.specs.Machine.{place_at}
 use Rattle.mutex_program.specs.Roles.{counted, listed, is_resting}
 use Rattle.mutex_machine.specs.State.{is_counted}
-use Rattle.mutex_machine.proofs.CanDo.{once}
-use Rattle.mutex_machine.proofs.Seen as sees
+use Rattle.mutex_machine.proofs.laws.CanDo.{once}
+use Rattle.mutex_machine.proofs.laws.Seen as sees
 use Rattle.mutex_world.specs.Guarded.{Guarded, place_of, is_within, goes_with, with_value}
 use Rattle.mutex_world.specs.Laws.{HasRight, IsSound, is_long_call, is_at_rest, IsAwake}
 use Rattle.mutex_world.specs.Lending.{world_with}

@@ -39,7 +39,7 @@ use Rattle.mutex_program.specs.declared.program.Place.TheVariants.{Out, Enter, T
 use Rattle.mutex_machine.specs.Acts.{IsMutex}
 use Rattle.mutex_machine.specs.Courses.{Takes, Tries, Cancels, GoesOn}
 use Rattle.mutex_program.specs.Program.{next_of}
-use Rattle.mutex_machine.proofs.Courses.{begins, goes}
+use Rattle.mutex_machine.proofs.legal.Courses.{begins, goes}
 use Rattle.mutex_world.specs.Guarded.{Guarded, knows, Moves, MovesBy, is_within, is_try_kind, answer_by, place_of, goes_with}
 use Rattle.mutex_world.specs.Laws.{HasRight, IsSound, IsAwake, is_at_rest}
 use Rattle.mutex_world.specs.Legal.{HasItsOwn, Legal}

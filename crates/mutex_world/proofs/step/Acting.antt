@@ -36,8 +36,8 @@ use Rattle.mutex_machine.specs.Deeds as lock
 use Rattle.mutex_machine.specs.Legal.{decision, decided_then, IsReason, IsAllowed, IsLegal}
 use Rattle.mutex_program.specs.Roles.{listed}
 use Rattle.mutex_machine.specs.State.{holder_of, starved_of, is_counted}
-use Rattle.mutex_machine.proofs.Promised.{begins_unrefused}
-use Rattle.mutex_machine.proofs.Seen as sees
+use Rattle.mutex_machine.proofs.legal.Promised.{begins_unrefused}
+use Rattle.mutex_machine.proofs.laws.Seen as sees
 use Rattle.mutex_world.specs.Guarded.{Guarded, knows, place_of, is_try_kind, answer_by, Carries}
 use Rattle.mutex_world.specs.Legal.{Change, ListName, takes, releases, starves, recovers, for_the_lock, state_after, entries_after, gives_back, gives_up, call_of, DecidesOn, ChangesOneThing, IsTakenFairly, OthersKeepTheirs, Carries as CarriesValue, Waits, IsCause, IsRefusedForCause, LeavesClear, IsValueKept, EndsProperly, Legal}
 use Rattle.mutex_world.specs.State.{State, World, standing_of, is_starved, mark_of}

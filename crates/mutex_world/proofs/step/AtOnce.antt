@@ -20,8 +20,8 @@ use Rattle.mutex_program.specs.declared.program.Place.TheVariants.{Enter, Try}
 use Rattle.mutex_machine.specs.Acts.{Finds, holders, starved}
 use Rattle.mutex_machine.specs.Machine.{Lock}
 use Rattle.mutex_program.specs.Program.{action_of, next_of}
-use Rattle.mutex_machine.proofs.Legal.{entered}
-use Rattle.mutex_machine.proofs.Seen as sees
+use Rattle.mutex_machine.proofs.legal.Legal.{entered}
+use Rattle.mutex_machine.proofs.laws.Seen as sees
 use Rattle.mutex_world.specs.Guarded.{Guarded, place_of, answer_by, is_try_kind}
 use Rattle.mutex_world.specs.Legal.{is_first_poll, AnswersAtOnce}
 use Rattle.mutex_world.specs.State.{World, standing_of, is_free}

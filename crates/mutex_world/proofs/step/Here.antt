@@ -22,7 +22,7 @@ use Rattle.mutex_machine.specs.Legal.{decision}
 use Rattle.mutex_machine.specs.Machine.{SameRoles}
 use Rattle.mutex_program.specs.Program.{start_of}
 use Rattle.mutex_program.specs.Roles.{listed}
-use Rattle.mutex_machine.proofs.Starts.{start_same}
+use Rattle.mutex_machine.proofs.laws.Starts.{start_same}
 use Rattle.mutex_world.specs.Guarded.{knows, goes_with, is_within, is_try_kind}
 use Rattle.mutex_world.specs.Legal.{is_try, is_first_poll}
 use Rattle.mutex_world.specs.View.{answer_on}

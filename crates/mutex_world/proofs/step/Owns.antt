@@ -19,7 +19,7 @@ use Rattle.mutex_machine.specs.Acts.{IsMutex}
 use Rattle.mutex_machine.specs.Legal.{decision}
 use Rattle.mutex_program.specs.Roles.{holds, listed}
 use Rattle.mutex_machine.specs.State.{is_counted}
-use Rattle.mutex_machine.proofs.Seen as sees
+use Rattle.mutex_machine.proofs.laws.Seen as sees
 use Rattle.mutex_world.specs.Guarded.{Guarded, place_of, is_within, goes_with}
 use Rattle.mutex_world.specs.Legal.{HasItsOwn}
 use Rattle.mutex_world.specs.State.{standing_of, IsClear}

@@ -24,7 +24,7 @@ use Rattle.lock_table.proofs.Views.{length-standings}
 use Rattle.mutex_machine.specs.Acts.{IsMutex}
 use Rattle.mutex_program.specs.Roles.{bit, holds}
 use Rattle.mutex_machine.specs.State.{is_holder}
-use Rattle.mutex_machine.proofs.Seen as sees
+use Rattle.mutex_machine.proofs.laws.Seen as sees
 use Rattle.mutex_world.specs.Guarded.{Guarded, knows, place_of, with_value}
 use Rattle.mutex_world.specs.Legal.{puts, is_first_poll, call_of, HasItsOwn}
 use Rattle.mutex_world.specs.State.{World, standing_of}

@@ -16,7 +16,7 @@ use Rattle.mutex_machine.specs.Courses.{HeedsClock}
 use Rattle.mutex_machine.specs.Deeds.{decided_by}
 use Rattle.mutex_machine.specs.Legal.{IsLegal, decision}
 use Rattle.mutex_program.specs.Program.{start_of}
-use Rattle.mutex_machine.proofs.Legal.{begins_decided}
+use Rattle.mutex_machine.proofs.legal.Legal.{begins_decided}
 use Rattle.mutex_world.specs.Guarded.{Guarded, Carried, place_of, place_for, start_by, lock_call_of}
 
 module _ (g h : Guarded) (p : ℕ) (was : Rest) (what : What) (inputs : Inputs) (next : Next) (value : h.value ≡ g.value) (as_said : inputs ≡ inputs_of what) where

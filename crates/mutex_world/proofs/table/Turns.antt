@@ -26,7 +26,7 @@ use Rattle.mutex_program.specs.declared.program.Place.{Place}
 use Rattle.mutex_program.specs.declared.program.Place.TheVariants.{Out, Holding, Enter, Try, Clear, CancelUncount, CancelLeave, Ask, AskStarved}
 use Rattle.mutex_machine.specs.Courses.{is_waiting, Takes, Tries, Releases, Cancels, GoesOn}
 use Rattle.mutex_program.specs.Program.{next_of, place_after}
-use Rattle.mutex_machine.proofs.Courses.{begins, goes}
+use Rattle.mutex_machine.proofs.legal.Courses.{begins, goes}
 use Rattle.mutex_world.specs.Guarded.{knows, goes_with, is_within, is_try_kind, place_for, answer_by}
 
 abbrev pub within : Kind → Rest → Within

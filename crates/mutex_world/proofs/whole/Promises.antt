@@ -34,8 +34,8 @@ use Rattle.mutex_program.specs.declared.program.Next.TheVariants as next
 use Rattle.mutex_program.specs.declared.program.Place.{Place}
 use Rattle.mutex_machine.specs.Acts.{starved}
 use Rattle.mutex_machine.specs.Courses.{is_waiting, is_counting, is_told, HeedsClock}
-use Rattle.mutex_machine.proofs.Promised.{begins_uncounted, none_counted, HandsOn, told_on, begins_told}
-use Rattle.mutex_machine.proofs.Seen as sees
+use Rattle.mutex_machine.proofs.legal.Promised.{begins_uncounted, none_counted, HandsOn, told_on, begins_told}
+use Rattle.mutex_machine.proofs.laws.Seen as sees
 use Rattle.mutex_world.specs.Bound.{Promises}
 use Rattle.mutex_world.specs.Guarded.{Guarded, knows, place_of, place_for, goes_with, answer_by, is_try_kind}
 use Rattle.mutex_world.specs.Legal.{is_first_poll}

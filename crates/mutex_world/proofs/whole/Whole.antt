@@ -29,8 +29,8 @@ use Rattle.mutex_program.specs.declared.program.Place.TheVariants.{Ask, AskStarv
 use Rattle.mutex_machine.specs.Acts.{IsMutex}
 use Rattle.mutex_machine.specs.Machine.{Lock}
 use Rattle.mutex_machine.specs.Ranks.{left, steps_left, left_after, is_own_marked, is_open}
-use Rattle.mutex_machine.proofs.Alone.{fewer}
-use Rattle.mutex_machine.proofs.Sights.{some_left}
+use Rattle.mutex_machine.proofs.falls.Alone.{fewer}
+use Rattle.mutex_machine.proofs.legal.Sights.{some_left}
 use Rattle.mutex_world.specs.Guarded.{Guarded, knows, Moves, MovesBy, answer_by, is_try_kind, place_of, with_value, goes_with}
 use Rattle.mutex_world.specs.Steps.{IsMutexTable, TableSteps}
 use Rattle.mutex_world.specs.Whole.{most_steps_of}

@@ -19,8 +19,8 @@ use Rattle.lock_world.proofs.Bounds.{marked_listed}
 use Rattle.lock_world.proofs.Rests.{still_outside}
 use Rattle.mutex_machine.specs.Course.{Course as TurnCourse, bit, listed}
 use Rattle.mutex_machine.specs.Mutex.{course_at as turn_at, IsStarved, holders, starved, holder_of}
-use Rattle.mutex_machine.proofs.Callers.{out_unlisted, holding_unlisted, gave_way}
-use Rattle.mutex_machine.proofs.Holders as sees
+use Rattle.mutex_machine.proofs.callers.Callers.{out_unlisted, holding_unlisted, gave_way}
+use Rattle.mutex_machine.proofs.callers.Holders as sees
 use Rattle.lock_table.specs.declared.end.End.{End}
 use Rattle.lock_table.specs.declared.end.End.TheVariants as «end»
 use Rattle.rwlock_program.specs.declared.program.Next.TheVariants as next
@@ -30,7 +30,7 @@ use Rattle.rwlock_machine.specs.Roles.{has_turn, in_no_writer, in_no_readers, fi
 use Rattle.rwlock_machine.specs.Machine.{place_at}
 use Rattle.rwlock_machine.specs.Acts.{IsRwLock, readers}
 use Rattle.rwlock_machine.specs.Solo.{PollsAlone, waits_to_read, looks_for_readers, waits_for_turn, IsCalledToTurn, Took, TookTurn, StandsBack, GaveTurnWay, SoloPolls}
-use Rattle.rwlock_machine.proofs.Solo.{writer_at, solo_polls}
+use Rattle.rwlock_machine.proofs.solo_polls.Solo.{writer_at, solo_polls}
 use Rattle.lock_table.specs.Stages.{stage_at}
 use Rattle.rwlock_world.specs.Stages.{is_future, goes_with}
 use Rattle.lock_table.specs.Tables.{Table}

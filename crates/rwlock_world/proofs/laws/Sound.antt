@@ -12,7 +12,7 @@ use Rattle.lock_world.specs.Rights.{Right, read, upgradable, write, wait_to_writ
 use Rattle.mutex_machine.specs.Course.{Course as TurnCourse, counted, is_resting as rests_in_turn}
 use Rattle.mutex_machine.specs.Mutex.{course_at as turn_at, is_counted, holder_of}
 use Rattle.mutex_machine.specs.Mutex as lock
-use Rattle.mutex_machine.proofs.Holders as sees
+use Rattle.mutex_machine.proofs.callers.Holders as sees
 use Rattle.rwlock_program.specs.declared.program.Ending.TheVariants as ending
 use Rattle.rwlock_program.specs.declared.program.Place.{Place}
 use Rattle.rwlock_program.specs.declared.program.Place.TheVariants as place
@@ -20,8 +20,8 @@ use Rattle.rwlock_machine.specs.Roles.{bit, reads, marks, has_turn, is_resting}
 use Rattle.rwlock_machine.specs.Roles as roles
 use Rattle.rwlock_machine.specs.Machine.{RwLock, place_at}
 use Rattle.rwlock_machine.specs.Acts.{IsRwLock, IsAtRest, writers, marked}
-use Rattle.rwlock_machine.proofs.Places.{share as share_in}
-use Rattle.rwlock_machine.proofs.Laws.{rests_t}
+use Rattle.rwlock_machine.proofs.laws.Places.{share as share_in}
+use Rattle.rwlock_machine.proofs.laws.Laws.{rests_t}
 use Rattle.lock_table.specs.Stages.{stage_at}
 use Rattle.rwlock_world.specs.Stages.{goes_with}
 use Rattle.lock_table.specs.Tables.{Table}

@@ -32,7 +32,7 @@ use Rattle.rwlock_machine.specs.Roles.{fits_turn}
 use Rattle.rwlock_program.specs.Turns.{OnTurn}
 use Rattle.rwlock_machine.specs.Machine.{RwLock, place_at}
 use Rattle.rwlock_machine.specs.Acts.{Acts}
-use Rattle.rwlock_machine.proofs.Leads.{led, steps_in_turn}
+use Rattle.rwlock_machine.proofs.stages.Leads.{led, steps_in_turn}
 use Rattle.rwlock_world.specs.Legal.{knows, call_of, Legal}
 use Rattle.rwlock_program.specs.Calls.{knows_at}
 use Rattle.rwlock_world.specs.Guarded.{Guarded, with_value, knows as knows_there, answer_by, place_for, Does, Moves as MovesThere}

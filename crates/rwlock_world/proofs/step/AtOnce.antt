@@ -24,11 +24,11 @@ use Rattle.mutex_program.specs.declared.calls.LockCall.TheVariants as turn_call
 use Rattle.mutex_program.specs.declared.calls.Step.TheVariants as turn_step
 use Rattle.mutex_program.specs.declared.calls.End.TheVariants as turn_end
 use Rattle.mutex_machine.specs.Mutex.{Mutex, course_at as turn_at, holder_of, holders, starved}
-use Rattle.mutex_machine.proofs.Callers.{out_free}
-use Rattle.mutex_machine.proofs.Holders as sees
+use Rattle.mutex_machine.proofs.callers.Callers.{out_free}
+use Rattle.mutex_machine.proofs.callers.Holders as sees
 use Rattle.rwlock_program.specs.declared.program.Purpose.{Purpose}
 use Rattle.rwlock_program.specs.Turns.{OnTurn}
-use Rattle.rwlock_machine.proofs.Leads.{Led}
+use Rattle.rwlock_machine.proofs.stages.Leads.{Led}
 use Rattle.rwlock_program.specs.declared.program.Found.{Found}
 use Rattle.rwlock_program.specs.declared.program.Found.TheVariants as found
 use Rattle.rwlock_program.specs.declared.program.Action.TheVariants as act

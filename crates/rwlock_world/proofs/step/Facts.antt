@@ -21,7 +21,7 @@ use Rattle.lock_world.specs.Standings.{inputs_of}
 use Rattle.lock_world.specs.Steps.{Deed, nothing, changes, does}
 use Rattle.mutex_machine.specs.Course.{listed}
 use Rattle.mutex_machine.specs.Mutex.{course_at as turn_at, holder_of, starved_of}
-use Rattle.mutex_machine.proofs.Callers.{out_unlisted, holding_unlisted, out_free}
+use Rattle.mutex_machine.proofs.callers.Callers.{out_unlisted, holding_unlisted, out_free}
 use Rattle.rwlock_program.specs.declared.program.Found.{Found}
 use Rattle.rwlock_program.specs.declared.program.Found.TheVariants.{No}
 use Rattle.rwlock_program.specs.declared.program.Next.{Next}
@@ -32,7 +32,7 @@ use Rattle.rwlock_machine.specs.Roles.{has_turn, in_no_writer, in_no_readers, fi
 use Rattle.rwlock_program.specs.Parties.{OnNoWriter, OnNoReaders}
 use Rattle.rwlock_machine.specs.Machine.{RwLock, SameRoles, place_at}
 use Rattle.rwlock_machine.specs.Acts.{IsRwLock, Finds}
-use Rattle.rwlock_machine.proofs.Leads.{steps_in_turn}
+use Rattle.rwlock_machine.proofs.stages.Leads.{steps_in_turn}
 use Rattle.rwlock_world.specs.Changes.{Change, takes_turn, leaves_turn, starves, recovers, begins_to_read, stops_reading, becomes_upgradable, stops_upgradable, begins_to_wait, begins_to_write, upgrades, upgrades_at_once, unmarks, downgrades, downgrades_to_upgradable, puts, turn_after, readers_after, starved_after, value_after, IsAllowed, gives_back, entries_after}
 use Rattle.rwlock_world.specs.State as state
 use Rattle.rwlock_world.specs.State.{ListName, for_the_turn, for_no_readers, for_no_writer}

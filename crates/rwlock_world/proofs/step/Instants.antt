@@ -23,8 +23,8 @@ use Rattle.lock_world.specs.Standings.{Standing, outside, inside, inputs_of, dec
 use Rattle.lock_world.proofs.Equations.{some_eq, some_none}
 use Rattle.mutex_machine.specs.Course.{Course as TurnCourse, listed}
 use Rattle.mutex_machine.specs.Mutex.{course_at as turn_at, holder_of, holders, starved}
-use Rattle.mutex_machine.proofs.Callers.{waiting_listed}
-use Rattle.mutex_machine.proofs.Holders as sees
+use Rattle.mutex_machine.proofs.callers.Callers.{waiting_listed}
+use Rattle.mutex_machine.proofs.callers.Holders as sees
 use Rattle.rwlock_program.specs.declared.program.Found.{Found}
 use Rattle.rwlock_program.specs.declared.program.Place.{Place}
 use Rattle.rwlock_program.specs.declared.program.Place.TheVariants as place
@@ -35,8 +35,8 @@ use Rattle.rwlock_machine.specs.Roles.{only_turns, fits_turn}
 use Rattle.rwlock_machine.specs.Machine.{SameRoles, place_at}
 use Rattle.rwlock_machine.specs.Acts.{Finds, readers, marked}
 use Rattle.rwlock_program.specs.Turns.{OnTurn}
-use Rattle.rwlock_machine.proofs.Leads.{Led, led, steps_in_turn}
-use Rattle.rwlock_machine.proofs.Places.{share as share_in}
+use Rattle.rwlock_machine.proofs.stages.Leads.{Led, led, steps_in_turn}
+use Rattle.rwlock_machine.proofs.laws.Places.{share as share_in}
 use Rattle.rwlock_world.specs.State as state
 use Rattle.rwlock_world.specs.State.{Turn, World, standing_of, sought_by, is_upgrader, how_many_read, is_marked, is_nobody, is_turn_free, entries_in}
 use Rattle.rwlock_world.specs.Legal.{knows, call_of, may_read, granted_if, is_try_for_turn, is_first_poll, AnswersAtOnce}

@@ -23,7 +23,7 @@ use Rattle.lock_world.specs.Steps.{Deed, nothing, does, joins}
 use Rattle.lock_world.proofs.Equations.{some_eq, chosen, same_test}
 use Rattle.mutex_machine.specs.Course.{Course as TurnCourse}
 use Rattle.mutex_machine.specs.Mutex.{course_at as turn_at}
-use Rattle.mutex_machine.proofs.Callers.{out_free, waiting_free}
+use Rattle.mutex_machine.proofs.callers.Callers.{out_free, waiting_free}
 use Rattle.rwlock_program.specs.declared.program.Next.{Next}
 use Rattle.rwlock_program.specs.declared.program.Next.TheVariants as next
 use Rattle.rwlock_program.specs.declared.program.Place.{Place}

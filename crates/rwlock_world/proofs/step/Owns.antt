@@ -17,8 +17,8 @@ use Rattle.mutex_program.specs.declared.calls.End.{End as TurnEnd}
 use Rattle.mutex_program.specs.declared.calls.End.TheVariants as turn_end
 use Rattle.mutex_machine.specs.Course.{Course as TurnCourse, decision, is_out, is_holding, holds, listed}
 use Rattle.mutex_machine.specs.Mutex.{course_at as turn_at, is_holder, is_counted, holder_of}
-use Rattle.mutex_machine.proofs.Callers.{out_unlisted, holding_unlisted, out_free, out_unstarved, holding_unstarved, waiting_free}
-use Rattle.mutex_machine.proofs.Holders as sees
+use Rattle.mutex_machine.proofs.callers.Callers.{out_unlisted, holding_unlisted, out_free, out_unstarved, holding_unstarved, waiting_free}
+use Rattle.mutex_machine.proofs.callers.Holders as sees
 use Rattle.rwlock_program.specs.declared.program.Ending.{Ending}
 use Rattle.rwlock_program.specs.declared.program.Ending.TheVariants as ending
 use Rattle.rwlock_program.specs.declared.program.Place.{Place}

@@ -19,7 +19,7 @@ use Rattle.rwlock_program.specs.declared.program.Place.TheVariants.{Out, Made, R
 use Rattle.rwlock_program.specs.Program.{action_of, next_of}
 use Rattle.rwlock_machine.specs.Machine.{RwLock}
 use Rattle.rwlock_machine.specs.Acts.{Finds}
-use Rattle.rwlock_machine.proofs.Leads.{Led}
+use Rattle.rwlock_machine.proofs.stages.Leads.{Led}
 use Rattle.rwlock_world.specs.Stages.{Course, polls, tries, drops, downgrades, upgrades, tries_upgrade, strays, course_of, is_inside, sought_at, is_out, is_future, is_guard}
 
 -- the refusals of a read-write lock's futures

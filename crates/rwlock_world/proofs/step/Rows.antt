@@ -32,7 +32,7 @@ use Rattle.rwlock_machine.specs.Roles.{has_turn, in_no_writer, in_no_readers, fi
 use Rattle.rwlock_program.specs.Parties.{OnNoWriter, OnNoReaders}
 use Rattle.rwlock_machine.specs.Machine.{RwLock}
 use Rattle.rwlock_machine.specs.Acts.{Finds, readers, marked}
-use Rattle.rwlock_machine.proofs.Leads.{Led, steps_in_turn}
+use Rattle.rwlock_machine.proofs.stages.Leads.{Led, steps_in_turn}
 use Rattle.rwlock_world.specs.Changes.{Change, begins_to_read, stops_reading, becomes_upgradable, stops_upgradable, begins_to_wait, begins_to_write, upgrades, upgrades_at_once, unmarks, downgrades, downgrades_to_upgradable, turn_after, starved_after, value_after, entries_after, gives_back, gives_up}
 use Rattle.rwlock_world.specs.State as state
 use Rattle.rwlock_world.specs.State.{ListName, for_the_turn, for_no_readers, for_no_writer}

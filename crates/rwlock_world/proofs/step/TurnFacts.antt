@@ -23,8 +23,8 @@ use Rattle.mutex_machine.specs.Mutex.{course_at as turn_at, holder_of}
 use Rattle.mutex_machine.specs.Deeds as mutex
 use Rattle.mutex_machine.specs.Conduct.{decided_then, IsReason}
 use Rattle.mutex_machine.specs.Deeds.{decided_by}
-use Rattle.mutex_machine.proofs.Callers.{out_free, waiting_free, releasing_free, releasing_decided, cancelling_decided, IsPolls, taking_decided, holding_holds}
-use Rattle.mutex_machine.proofs.Holders as sees
+use Rattle.mutex_machine.proofs.callers.Callers.{out_free, waiting_free, releasing_free, releasing_decided, cancelling_decided, IsPolls, taking_decided, holding_holds}
+use Rattle.mutex_machine.proofs.callers.Holders as sees
 use Rattle.rwlock_program.specs.declared.program.Found.{Found}
 use Rattle.rwlock_program.specs.declared.program.Found.TheVariants.{Turn}
 use Rattle.rwlock_program.specs.declared.program.Ending.TheVariants as ending
@@ -37,7 +37,7 @@ use Rattle.rwlock_machine.specs.Roles.{in_no_writer, in_no_readers, fits_turn}
 use Rattle.rwlock_program.specs.Turns.{OnTurn, TurnBegins, TurnGoesOn}
 use Rattle.rwlock_machine.specs.Machine.{RwLock}
 use Rattle.rwlock_machine.specs.Acts.{IsRwLock}
-use Rattle.rwlock_machine.proofs.Leads.{Led, Ends, steps_in_turn}
+use Rattle.rwlock_machine.proofs.stages.Leads.{Led, Ends, steps_in_turn}
 use Rattle.rwlock_world.specs.Changes.{Change, entries_after, gives_up}
 use Rattle.rwlock_world.specs.State.{ListName, for_the_turn, for_no_readers, for_no_writer}
 use Rattle.rwlock_world.specs.Legal.{MayMeet}

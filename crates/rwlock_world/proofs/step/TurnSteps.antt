@@ -18,7 +18,7 @@ use Rattle.mutex_machine.specs.Mutex.{Mutex, course_at as turn_at, is_holder, is
 use Rattle.mutex_machine.specs.Deeds as mutex
 use Rattle.mutex_machine.specs.Conduct.{IsLegal}
 use Rattle.mutex_machine.specs.Deeds.{decided_by}
-use Rattle.mutex_machine.proofs.Holders as sees
+use Rattle.mutex_machine.proofs.callers.Holders as sees
 use Rattle.rwlock_program.specs.declared.program.Found.{Found}
 use Rattle.rwlock_program.specs.declared.program.Place.{Place}
 use Rattle.rwlock_program.specs.declared.program.Place.TheVariants as place

@@ -31,7 +31,7 @@ use Rattle.rwlock_program.specs.declared.program.Place.{Place}
 use Rattle.rwlock_program.specs.declared.program.Place.TheVariants as place
 use Rattle.rwlock_program.specs.Program.{place_after, first_poll}
 use Rattle.rwlock_machine.specs.Machine.{SameRoles}
-use Rattle.rwlock_machine.proofs.Starts.{start_same}
+use Rattle.rwlock_machine.proofs.stages.Starts.{start_same}
 use Rattle.rwlock_program.specs.Calls.{knows_at}
 use Rattle.rwlock_world.specs.Guarded.{answer_by}
 use Rattle.rwlock_world.specs.Stages.{sought_at, Course, tries_upgrade, course_of, is_on_course, is_inside, goes_with}

@@ -25,7 +25,7 @@ use Rattle.rwlock_program.specs.Program.{place_after}
 use Rattle.rwlock_machine.specs.Roles.{fits_turn}
 use Rattle.rwlock_machine.specs.Machine.{RwLock, place_at}
 use Rattle.rwlock_machine.specs.Acts.{Acts, IsRwLock}
-use Rattle.rwlock_machine.proofs.Leads.{led}
+use Rattle.rwlock_machine.proofs.stages.Leads.{led}
 use Rattle.rwlock_program.specs.Calls.{knows_at, may_put}
 use Rattle.rwlock_world.specs.Guarded.{Guarded, parties, place_of, knows, Stands, answer_by, place_for, Acted, Does, Moves as MovesThere}
 use Rattle.rwlock_world.specs.Stages.{course_of, is_on_course}

@@ -5,7 +5,7 @@ use Rattle.lock_world.specs.declared.standing.Stage.{Stage}
 use Rattle.lock_world.specs.Rosters.{how_many}
 use Rattle.lock_table.specs.Tables.{IsTable}
 use Rattle.lock_table.proofs.Mapped.{mapped_at}
-use Rattle.mutex_machine.proofs.Rosters as rosters
+use Rattle.mutex_machine.proofs.callers.Rosters as rosters
 use Rattle.rwlock_program.specs.declared.program.Place.{Place}
 use Rattle.rwlock_program.specs.declared.program.Place.TheVariants as place
 use Rattle.rwlock_program.specs.declared.program.Ending.TheVariants as ending

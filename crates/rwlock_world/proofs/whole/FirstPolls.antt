@@ -18,7 +18,7 @@ use Rattle.lock_frame.specs.Steps.{beginning}
 use Rattle.lock_frame.proofs.Runs.{along, Onward}
 use Rattle.mutex_program.specs.declared.calls.LockCall.TheVariants as turn_call
 use Rattle.mutex_machine.specs.Mutex.{Mutex, holder_of, holders, starved}
-use Rattle.mutex_machine.proofs.Holders as sees
+use Rattle.mutex_machine.proofs.callers.Holders as sees
 use Rattle.rwlock_program.specs.declared.program.Action.TheVariants as act
 use Rattle.lock_table.specs.declared.end.End.TheVariants.{Got}
 use Rattle.rwlock_program.specs.declared.program.Found.{Found}
@@ -47,7 +47,7 @@ use Rattle.rwlock_world.proofs.step.Acting.{Acting, Way, impossible, over, puts,
 use Rattle.rwlock_world.proofs.bound.Alone.{laws}
 use Rattle.rwlock_world.proofs.step.Instants.{begins, passer_holds, turn_is_free}
 use Rattle.rwlock_world.proofs.table.Views as view
-use Rattle.rwlock_machine.proofs.SoloTurns.{reads_not}
+use Rattle.rwlock_machine.proofs.solo_polls.SoloTurns.{reads_not}
 
 -- what the turn is taken for: whether it is free, and where its party stands then
 abbrev IsFreeFor : Purpose → RwLock → Type 0

@@ -33,8 +33,8 @@ use Rattle.mutex_program.specs.declared.calls.Step.TheVariants as turn_step
 use Rattle.mutex_program.specs.declared.calls.End.TheVariants as turn_end
 use Rattle.mutex_machine.specs.Conduct.{HandsOn}
 use Rattle.mutex_machine.specs.Mutex.{Mutex, course_at as turn_at}
-use Rattle.mutex_machine.proofs.Callers.{out_unlisted, holding_unlisted}
-use Rattle.mutex_machine.proofs.Released.{release_goes, released_marks}
+use Rattle.mutex_machine.proofs.callers.Callers.{out_unlisted, holding_unlisted}
+use Rattle.mutex_machine.proofs.callers.Released.{release_goes, released_marks}
 use Rattle.rwlock_program.specs.declared.program.Action.{Action}
 use Rattle.rwlock_program.specs.declared.program.Action.TheVariants as act
 use Rattle.rwlock_program.specs.declared.program.Found.{Found}

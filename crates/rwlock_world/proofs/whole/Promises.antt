@@ -18,8 +18,8 @@ use Rattle.lock_frame.specs.Steps.{beginning}
 use Rattle.lock_frame.proofs.Runs.{along, Onward}
 use Rattle.mutex_machine.specs.Course.{Course as TurnCourse, is_counting}
 use Rattle.mutex_machine.specs.Mutex.{starved, Mutex, course_at as turn_at}
-use Rattle.mutex_machine.proofs.Callers.{out_uncounted, holding_uncounted, waiting_uncounted}
-use Rattle.mutex_machine.proofs.Holders as sees
+use Rattle.mutex_machine.proofs.callers.Callers.{out_uncounted, holding_uncounted, waiting_uncounted}
+use Rattle.mutex_machine.proofs.callers.Holders as sees
 use Rattle.rwlock_program.specs.declared.program.Action.{Action}
 use Rattle.rwlock_program.specs.declared.program.Action.TheVariants as act
 use Rattle.rwlock_program.specs.declared.program.Found.{Found}

@@ -25,7 +25,7 @@ use Rattle.rwlock_program.specs.declared.program.Place.TheVariants.{LookNoWriter
 use Rattle.rwlock_machine.specs.Acts.{IsRwLock}
 use Rattle.rwlock_machine.specs.Machine.{RwLock, place_at}
 use Rattle.rwlock_machine.specs.Ranks.{left, left_from, steps_left, left_after}
-use Rattle.rwlock_machine.proofs.Alone.{fewer, begun_within}
+use Rattle.rwlock_machine.proofs.falls.Alone.{fewer, begun_within}
 use Rattle.lock_table.specs.Tables.{Table}
 use Rattle.rwlock_world.specs.Guarded.{Guarded, answer_by}
 use Rattle.rwlock_world.specs.Whole.{most_steps_of}

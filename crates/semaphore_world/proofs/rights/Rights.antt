@@ -41,8 +41,8 @@ use Rattle.semaphore_machine.specs.Program.{action_of, next_of}
 use Rattle.semaphore_machine.specs.Seats.{Seat, Share, seat_of, permits_of, permits_at, share_of, verdict}
 use Rattle.semaphore_machine.specs.Deeds.{Change, ListName, takes, gives_back, forgets, raises, gives, deed_of, words_after, Finds}
 use Rattle.semaphore_machine.specs.Machine.{Semaphore, IsSemaphore, answer_by, position_at, knows, goes_with, runs, is_begun, is_polling}
-use Rattle.semaphore_machine.proofs.Kept.{after}
-use Rattle.semaphore_machine.proofs.Turns.{Turn, turn}
+use Rattle.semaphore_machine.proofs.laws.Kept.{after}
+use Rattle.semaphore_machine.proofs.stages.Turns.{Turn, turn}
 use Rattle.semaphore_world.specs.State.{World, has_permit, standing_of}
 use Rattle.semaphore_world.specs.View.{view_of}
 use Rattle.semaphore_world.specs.Legal.{HasItsOwn}

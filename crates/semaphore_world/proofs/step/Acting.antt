@@ -48,7 +48,7 @@ use Rattle.semaphore_machine.specs.Program.{place_for, action_of, next_of, posit
 use Rattle.semaphore_machine.specs.Seats.{Seat, Share, seat_of, share_of, listed, verdict, verdict_of, adds_at}
 use Rattle.semaphore_machine.specs.Deeds.{Change, ListName, takes, gives_back, forgets, raises, gives, share_after, deed_of, Finds, words_after, entries_after}
 use Rattle.semaphore_machine.specs.Machine.{Semaphore, IsSemaphore, Acts, knows, runs, is_begun, position_at, answer_by, is_polling}
-use Rattle.semaphore_machine.proofs.Kept.{after}
+use Rattle.semaphore_machine.proofs.laws.Kept.{after}
 use Rattle.semaphore_world.specs.State.{State, World, share_at, has_permit, standing_of, adds_of}
 use Rattle.semaphore_world.specs.View.{view_of}
 use Rattle.semaphore_world.specs.Legal.{call_of, DecidesOn, state_after, gives_something_back, added_in, notice, IsAllowed, ChangesOneThing, KnowsAdds, Carries, Waits, IsCause, IsRefusedForCause, LeavesClear, EndsProperly, Legal}

@@ -25,14 +25,14 @@ use Rattle.semaphore_machine.specs.Program.{action_of, next_of}
 use Rattle.semaphore_machine.specs.Seats.{Share, share_of, listed, verdict}
 use Rattle.semaphore_machine.specs.Deeds.{Change, ListName, gives_back, forgets, deed_of, Finds, FindsPermit, FindsRoom}
 use Rattle.semaphore_machine.specs.Machine.{Semaphore, knows, goes_with, position_at, answer_by}
-use Rattle.semaphore_machine.proofs.Kept.{after}
+use Rattle.semaphore_machine.proofs.laws.Kept.{after}
 use Rattle.semaphore_world.specs.State.{World, has_permit, is_free, standing_of}
 use Rattle.semaphore_world.specs.View.{view_of}
 use Rattle.semaphore_world.specs.Legal.{state_after, added_in, is_forget}
 use Rattle.semaphore_world.proofs.table.Seen as seen
 use Rattle.semaphore_world.proofs.step.Rows.{said}
 use Rattle.semaphore_world.specs.AtOnce.{AnswersAtOnce, AddsAtOnce, is_try, is_poll, is_first_poll}
-use Rattle.semaphore_machine.proofs.Turns.{Turn, turn}
+use Rattle.semaphore_machine.proofs.stages.Turns.{Turn, turn}
 use Rattle.semaphore_world.proofs.step.Acting.{Acting}
 use Rattle.semaphore_world.proofs.step.Acting as acting
 

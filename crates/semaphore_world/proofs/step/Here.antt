@@ -23,7 +23,7 @@ use Rattle.semaphore_machine.specs.declared.program.Position.TheVariants.{Out, A
 use Rattle.semaphore_machine.specs.Program.{action_of}
 use Rattle.semaphore_machine.specs.Seats.{seat_of, seated, verdict, verdict_of, adds_at}
 use Rattle.semaphore_machine.specs.Machine.{knows, goes_with, runs, is_begun, is_polling, is_adding, is_returning}
-use Rattle.semaphore_machine.proofs.Turns.{Turn, turn}
+use Rattle.semaphore_machine.proofs.stages.Turns.{Turn, turn}
 use Rattle.semaphore_world.specs.Legal.{added_in, is_forget, is_add, notice}
 use Rattle.semaphore_world.proofs.step.Rows.{is_join}
 

@@ -22,7 +22,7 @@ use Rattle.semaphore_machine.specs.Program.{action_of, next_of}
 use Rattle.semaphore_machine.specs.Seats.{Share, nothing_had, one_permit, seat_of, share_of, listed, verdict_of}
 use Rattle.semaphore_machine.specs.Deeds.{Change, ListName, takes, gives_back, forgets, raises, gives, share_after, deed_of, Finds}
 use Rattle.semaphore_machine.specs.Machine.{answer_by}
-use Rattle.semaphore_machine.proofs.Kept.{after}
+use Rattle.semaphore_machine.proofs.laws.Kept.{after}
 use Rattle.semaphore_world.specs.Legal.{gives_something_back, gives_up}
 
 -- what a call is decided on after this

@@ -37,7 +37,7 @@ use Rattle.semaphore_machine.specs.Program.{action_of, next_of}
 use Rattle.semaphore_machine.specs.Seats.{Share, seat_of}
 use Rattle.semaphore_machine.specs.Deeds.{deed_of, entries_after, Finds}
 use Rattle.semaphore_machine.specs.Machine.{Semaphore, IsSemaphore, answer_by, position_at, knows}
-use Rattle.semaphore_machine.proofs.Kept.{after}
+use Rattle.semaphore_machine.proofs.laws.Kept.{after}
 use Rattle.semaphore_world.specs.State.{World, has_permit, is_free, standing_of}
 use Rattle.semaphore_world.specs.Legal.{call_of, HasItsOwn}
 use Rattle.semaphore_world.specs.AtOnce.{is_first_poll, is_poll}

@@ -31,8 +31,8 @@ use Rattle.semaphore_machine.specs.Seats.{seat_of, listed}
 use Rattle.semaphore_machine.specs.Deeds.{deed_of, entries_after, Finds}
 use Rattle.semaphore_machine.specs.Machine.{Semaphore, IsSemaphore, answer_by, position_at, knows, goes_with}
 use Rattle.semaphore_machine.specs.Ranks.{left, left_at, is_own_marked, steps_left}
-use Rattle.semaphore_machine.proofs.Kept.{after}
-use Rattle.semaphore_machine.proofs.Turns.{Turn, turn}
+use Rattle.semaphore_machine.proofs.laws.Kept.{after}
+use Rattle.semaphore_machine.proofs.stages.Turns.{Turn, turn}
 use Rattle.semaphore_world.specs.Steps.{IsSemaphoreTable, TableSteps}
 use Rattle.semaphore_world.specs.Whole.{most_steps_of}
 use Rattle.semaphore_world.proofs.step.Acting.{Acting}

@@ -22,7 +22,7 @@ use Rattle.cell_program.specs.declared.words.Content.TheVariants.{Empty, BeingMa
 use Rattle.cell_machine.specs.Seats.{Task, no_task, initializes, sets, waits_only, fills_with, failed}
 use Rattle.cell_program.specs.Deeds.{Change, begins, fills, empties, content_after}
 use Rattle.cell_machine.specs.Machine.{is_maker}
-use Rattle.cell_machine.proofs.Contents.{maker_is}
+use Rattle.cell_machine.proofs.laws.Contents.{maker_is}
 use Rattle.cell_world.specs.State.{World, list_in, is_empty, task_of}
 use Rattle.cell_world.specs.Tasks.{task_in, given, list_for}
 use Rattle.cell_world.specs.Legal.{IsAllowed, IsPendingMaker, WaitsInList}

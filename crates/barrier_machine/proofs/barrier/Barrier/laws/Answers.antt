@@ -1,5 +1,5 @@
 -- What always holds of the fields, said of the value.
-use Rattle.barrier_machine.proofs.Laws.{is_barrier}
+use Rattle.barrier_machine.proofs.laws.Laws.{is_barrier}
 use Rattle.barrier_machine.proofs.barrier.Barrier.laws.Goals as goal
 
 pub returns : goal.returns

@@ -1,6 +1,6 @@
 -- A new barrier.
 use Rattle.std.proofs.Common.{arith}
-use Rattle.barrier_machine.proofs.New.{new_is}
+use Rattle.barrier_machine.proofs.laws.New.{new_is}
 use Rattle.barrier_machine.proofs.barrier.Barrier.new.Goals as goal
 
 pub invariant_of-result : goal.invariant_of-result

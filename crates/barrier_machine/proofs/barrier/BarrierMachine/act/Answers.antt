@@ -7,11 +7,11 @@ use Rattle.barrier_program.specs.Program.{action_of, position_after}
 use Rattle.barrier_program.specs.Locks.{OnLock}
 use Rattle.barrier_program.specs.Deeds.{Finds, words_after, arrival_after, entries_after}
 use Rattle.barrier_machine.specs.Machine.{answer_by, goes_with, position_at, arrival_at}
-use Rattle.barrier_machine.proofs.Rows.{after}
-use Rattle.barrier_machine.proofs.Starts.{Began, began, read_at}
-use Rattle.barrier_machine.proofs.CanDo.{entries_are}
-use Rattle.barrier_machine.proofs.Falls.{falls}
-use Rattle.barrier_machine.proofs.Kept.{kept, keeps}
+use Rattle.barrier_machine.proofs.laws.Rows.{after}
+use Rattle.barrier_machine.proofs.stages.Starts.{Began, began, read_at}
+use Rattle.barrier_machine.proofs.laws.CanDo.{entries_are}
+use Rattle.barrier_machine.proofs.falls.Falls.{falls}
+use Rattle.barrier_machine.proofs.laws.Kept.{kept, keeps}
 use Rattle.barrier_machine.proofs.barrier.BarrierMachine.act.Goals as goal
 
 -- what the action did, in the words of the lemmas

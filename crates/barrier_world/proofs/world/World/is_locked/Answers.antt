@@ -2,7 +2,7 @@
 use Rattle.std.proofs.Common.{ap, ◌∙◌}
 use Rattle.std.specs.Prelude.{is_some}
 use Rattle.mutex_machine.specs.Mutex.{holders}
-use Rattle.mutex_machine.proofs.Holders.{held_seen}
+use Rattle.mutex_machine.proofs.callers.Holders.{held_seen}
 use Rattle.barrier_machine.specs.Machine.{Barrier}
 use Rattle.barrier_world.proofs.world.World.is_locked.Goals as goal
 

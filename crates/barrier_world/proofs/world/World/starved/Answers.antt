@@ -2,7 +2,7 @@
 use Rattle.std.proofs.Common.{ap, sym, ◌∙◌}
 use Rattle.lock_world.specs.Rosters.{how_many}
 use Rattle.mutex_machine.specs.Mutex.{starved}
-use Rattle.mutex_machine.proofs.Holders.{how_many_counted}
+use Rattle.mutex_machine.proofs.callers.Holders.{how_many_counted}
 use Rattle.barrier_machine.specs.Machine.{Barrier}
 use Rattle.barrier_world.proofs.world.World.starved.Goals as goal
 

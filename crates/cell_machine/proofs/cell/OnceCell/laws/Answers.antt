@@ -1,7 +1,7 @@
 -- What always holds of a cell's fields, as callers see it.
 use Rattle.cell_program.specs.Words.{content_of}
-use Rattle.cell_machine.proofs.Laws.{is_cell}
-use Rattle.cell_machine.proofs.Taken.{settled}
+use Rattle.cell_machine.proofs.laws.Laws.{is_cell}
+use Rattle.cell_machine.proofs.laws.Taken.{settled}
 use Rattle.cell_machine.proofs.cell.OnceCell.laws.Goals as goal
 
 pub returns : goal.returns

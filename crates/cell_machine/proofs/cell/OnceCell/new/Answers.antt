@@ -1,6 +1,6 @@
 -- A new cell.
 use Rattle.std.proofs.Common.{arith}
-use Rattle.cell_machine.proofs.New.{new_is}
+use Rattle.cell_machine.proofs.laws.New.{new_is}
 use Rattle.cell_machine.proofs.cell.OnceCell.new.Goals as goal
 
 pub invariant_of-result : goal.invariant_of-result

@@ -6,9 +6,9 @@ use Rattle.cell_program.specs.Program.{action_of, position_after}
 use Rattle.cell_program.specs.Deeds.{Finds, deed_of, content_after, active_after, passive_after}
 use Rattle.cell_machine.specs.Machine.{answer_by, IsKept, Stands}
 use Rattle.cell_program.specs.Words.{content_of}
-use Rattle.cell_machine.proofs.Kept.{after}
-use Rattle.cell_machine.proofs.Locks.{began, locked, keeps}
-use Rattle.cell_machine.proofs.Taken.{settled}
+use Rattle.cell_machine.proofs.laws.Kept.{after}
+use Rattle.cell_machine.proofs.laws.Locks.{began, locked, keeps}
+use Rattle.cell_machine.proofs.laws.Taken.{settled}
 use Rattle.cell_machine.proofs.cell.OnceCellMachine.act.Goals as goal
 
 pub invariant_of-self : goal.invariant_of-self

@@ -1,7 +1,7 @@
 -- What always holds of a cell holds with whatever value is left in it.
 use Rattle.std.proofs.Common.{◌≡◌, sym, ◌∙◌}
 use Rattle.cell_program.specs.Words.{content_of, kept_of}
-use Rattle.cell_machine.proofs.Taken.{settled, put}
+use Rattle.cell_machine.proofs.laws.Taken.{settled, put}
 use Rattle.cell_machine.proofs.cell.OnceCellValued.value_mut.Goals as goal
 
 pub invariant_of-self-lent : goal.invariant_of-self-lent

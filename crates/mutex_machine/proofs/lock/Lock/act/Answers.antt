@@ -6,20 +6,20 @@ use Rattle.mutex_program.specs.Program.{action_of, place_after}
 use Rattle.mutex_program.specs.Words.{OnWord}
 use Rattle.mutex_program.specs.Seats.{OnList}
 use Rattle.mutex_machine.specs.Machine.{SameRoles, place_at}
-use Rattle.mutex_machine.proofs.CanDo.{can_do}
-use Rattle.mutex_machine.proofs.Laws.{finds}
-use Rattle.mutex_machine.proofs.Owners.{on_parties}
-use Rattle.mutex_machine.proofs.Effects.{limit_kept}
-use Rattle.mutex_machine.proofs.Kept.{after}
-use Rattle.mutex_machine.proofs.Fair.{acts_fairly}
-use Rattle.mutex_machine.proofs.Alone.{fewer}
+use Rattle.mutex_machine.proofs.laws.CanDo.{can_do}
+use Rattle.mutex_machine.proofs.laws.Laws.{finds}
+use Rattle.mutex_machine.proofs.laws.Owners.{on_parties}
+use Rattle.mutex_machine.proofs.laws.Effects.{limit_kept}
+use Rattle.mutex_machine.proofs.laws.Kept.{after}
+use Rattle.mutex_machine.proofs.legal.Fair.{acts_fairly}
+use Rattle.mutex_machine.proofs.falls.Alone.{fewer}
 use Rattle.lock_queue.specs.Parties.{entries_of}
 use Rattle.mutex_program.specs.Roles.{holds, listed}
-use Rattle.mutex_machine.proofs.Legal.{acts_legally, entered}
-use Rattle.mutex_machine.proofs.Locks.{locked}
+use Rattle.mutex_machine.proofs.legal.Legal.{acts_legally, entered}
+use Rattle.mutex_machine.proofs.laws.Locks.{locked}
 use Rattle.mutex_program.specs.declared.program.Action.TheVariants as act
 use Rattle.mutex_program.specs.declared.program.Found.TheVariants.{Held}
-use Rattle.mutex_machine.proofs.Courses.{heeds}
+use Rattle.mutex_machine.proofs.legal.Courses.{heeds}
 use Rattle.mutex_machine.proofs.lock.Lock.act.Goals as goal
 
 pub carry_out-found-requires : goal.carry_out-found-requires

@@ -1,16 +1,16 @@
 -- A call begins with the roles that its party has.
 use Rattle.std.proofs.Common.{◌≡◌, Option, Some, sym, ◌∙◌, subst}
-use Rattle.mutex_machine.proofs.Starts.{start_same}
+use Rattle.mutex_machine.proofs.laws.Starts.{start_same}
 use Rattle.mutex_program.specs.Program.{start_of}
-use Rattle.mutex_machine.proofs.Courses.{begins_so}
-use Rattle.mutex_machine.proofs.Alone.{begun_within}
-use Rattle.mutex_machine.proofs.Promised.{begins_unrefused}
+use Rattle.mutex_machine.proofs.legal.Courses.{begins_so}
+use Rattle.mutex_machine.proofs.falls.Alone.{begun_within}
+use Rattle.mutex_machine.proofs.legal.Promised.{begins_unrefused}
 use Rattle.lock_queue.specs.Parties.{entries_of}
 use Rattle.mutex_program.specs.declared.calls.End.{End}
 use Rattle.mutex_program.specs.Roles.{listed}
 use Rattle.mutex_machine.specs.Legal.{IsLegal, decision}
 use Rattle.mutex_machine.specs.Deeds.{decided_by}
-use Rattle.mutex_machine.proofs.Legal.{begins_decided, begins_fresh}
+use Rattle.mutex_machine.proofs.legal.Legal.{begins_decided, begins_fresh}
 use Rattle.mutex_machine.proofs.lock.Lock.begin.Goals as goal
 
 pub act-requires-clause-begins : goal.act-requires-clause-begins

@@ -1,5 +1,5 @@
 -- Where an action leads.
-use Rattle.mutex_machine.proofs.Courses.{goes_on}
+use Rattle.mutex_machine.proofs.legal.Courses.{goes_on}
 use Rattle.mutex_machine.proofs.lock.Lock.go.Goals as goal
 
 pub returns-clause-leads : goal.returns-clause-leads

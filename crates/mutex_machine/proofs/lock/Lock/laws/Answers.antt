@@ -1,5 +1,5 @@
 -- What always holds of the fields, said of the value.
-use Rattle.mutex_machine.proofs.Laws.{is_mutex}
+use Rattle.mutex_machine.proofs.laws.Laws.{is_mutex}
 use Rattle.mutex_machine.proofs.lock.Lock.laws.Goals as goal
 
 pub returns : goal.returns

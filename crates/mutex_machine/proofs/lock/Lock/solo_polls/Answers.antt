@@ -1,5 +1,5 @@
 -- Polls that are carried out alone.
-use Rattle.mutex_machine.proofs.SoloPolls.{solo_polls as law}
+use Rattle.mutex_machine.proofs.solo_polls.SoloPolls.{solo_polls as law}
 use Rattle.mutex_machine.proofs.lock.Lock.solo_polls.Goals as goal
 
 pub returns : goal.returns

@@ -6,8 +6,8 @@ use Rattle.std.specs.Prelude.{Option}
 use Rattle.mutex_machine.specs.Conduct.{IsLegal}
 use Rattle.mutex_machine.specs.Seen.{seen}
 use Rattle.mutex_program.specs.Program.{step_of}
-use Rattle.mutex_machine.proofs.Clauses.{known_there, is_legal, fairly, left_seen, is_done, same_place, clock, patient, hands_on, goes_here, decided_here, told_here}
-use Rattle.mutex_machine.proofs.Sights.{acts_kept, steps_seen}
+use Rattle.mutex_machine.proofs.legal.Clauses.{known_there, is_legal, fairly, left_seen, is_done, same_place, clock, patient, hands_on, goes_here, decided_here, told_here}
+use Rattle.mutex_machine.proofs.legal.Sights.{acts_kept, steps_seen}
 use Rattle.mutex_machine.proofs.mutex.Mutex.go.Goals as goal
 
 pub invariant_of-self : goal.invariant_of-self

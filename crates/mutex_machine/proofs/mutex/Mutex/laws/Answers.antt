@@ -1,5 +1,5 @@
 -- What always holds of the machine, said of the mutex.
-use Rattle.mutex_machine.proofs.Clauses.{is_mutex}
+use Rattle.mutex_machine.proofs.legal.Clauses.{is_mutex}
 use Rattle.mutex_machine.proofs.mutex.Mutex.laws.Goals as goal
 
 pub returns : goal.returns

@@ -1,5 +1,5 @@
 -- Polls that are carried out alone.
-use Rattle.mutex_machine.proofs.AloneSeen.{solo_polls as law}
+use Rattle.mutex_machine.proofs.callers.AloneSeen.{solo_polls as law}
 use Rattle.mutex_machine.proofs.mutex.Mutex.solo_polls.Goals as goal
 
 pub returns : goal.returns

@@ -2,7 +2,7 @@
 use Rattle.std.proofs.Common.{ap, ◌∙◌}
 use Rattle.std.specs.Prelude.{is_some}
 use Rattle.mutex_machine.specs.Acts.{holders}
-use Rattle.mutex_machine.proofs.Seen.{held_seen}
+use Rattle.mutex_machine.proofs.laws.Seen.{held_seen}
 use Rattle.mutex_world.specs.Guarded.{Guarded}
 use Rattle.mutex_world.proofs.world.World.is_locked.Goals as goal
 

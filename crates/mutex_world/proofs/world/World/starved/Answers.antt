@@ -3,7 +3,7 @@ use Rattle.std.proofs.Common.{ap, sym, ◌∙◌}
 use Rattle.lock_world.specs.Rosters.{how_many}
 use Rattle.mutex_machine.specs.Acts.{starved}
 use Rattle.mutex_world.specs.Guarded.{Guarded}
-use Rattle.mutex_machine.proofs.Seen.{how_many_counted}
+use Rattle.mutex_machine.proofs.laws.Seen.{how_many_counted}
 use Rattle.mutex_world.proofs.world.World.starved.Goals as goal
 
 pub returns : goal.returns

@@ -6,11 +6,11 @@ use Rattle.rwlock_program.specs.Words.{OnWord}
 use Rattle.rwlock_program.specs.Parties.{FindsMemory, OnNoWriter, OnNoReaders}
 use Rattle.rwlock_program.specs.Turns.{OnTurn}
 use Rattle.rwlock_machine.specs.Machine.{SameRoles, place_at}
-use Rattle.rwlock_machine.proofs.CanDo.{can_do}
-use Rattle.rwlock_machine.proofs.Machines.{kept}
-use Rattle.rwlock_machine.proofs.Finds.{finds, limit_kept}
-use Rattle.rwlock_machine.proofs.Leads.{turn_fair}
-use Rattle.rwlock_machine.proofs.Alone.{fewer}
+use Rattle.rwlock_machine.proofs.laws.CanDo.{can_do}
+use Rattle.rwlock_machine.proofs.laws.Machines.{kept}
+use Rattle.rwlock_machine.proofs.laws.Finds.{finds, limit_kept}
+use Rattle.rwlock_machine.proofs.stages.Leads.{turn_fair}
+use Rattle.rwlock_machine.proofs.falls.Alone.{fewer}
 use Rattle.rwlock_machine.specs.Roles.{in_no_writer, in_no_readers}
 use Rattle.lock_queue.specs.Parties.{entries_of}
 use Rattle.rwlock_machine.proofs.machine.RwLock.act.Goals as goal

@@ -1,8 +1,8 @@
 -- A call begins with the roles that its party has, and ends in time.
 use Rattle.std.proofs.Common.{◌≡◌, Some, sym, ◌∙◌}
 use Rattle.rwlock_program.specs.Program.{start_of}
-use Rattle.rwlock_machine.proofs.Starts.{start_same}
-use Rattle.rwlock_machine.proofs.Alone.{begun_within}
+use Rattle.rwlock_machine.proofs.stages.Starts.{start_same}
+use Rattle.rwlock_machine.proofs.falls.Alone.{begun_within}
 use Rattle.rwlock_machine.proofs.machine.RwLock.begin.Goals as goal
 
 pub act-requires-clause-begins : goal.act-requires-clause-begins

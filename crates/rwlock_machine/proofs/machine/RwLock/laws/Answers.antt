@@ -1,5 +1,5 @@
 -- What always holds of the fields, said of the value.
-use Rattle.rwlock_machine.proofs.Laws.{is_rwlock}
+use Rattle.rwlock_machine.proofs.laws.Laws.{is_rwlock}
 use Rattle.rwlock_machine.proofs.machine.RwLock.laws.Goals as goal
 
 pub returns : goal.returns

@@ -1,5 +1,5 @@
 -- A new lock.
-use Rattle.rwlock_machine.proofs.New.{new_is}
+use Rattle.rwlock_machine.proofs.laws.New.{new_is}
 use Rattle.rwlock_machine.proofs.machine.RwLock.new.Goals as goal
 
 pub invariant_of-result : goal.invariant_of-result

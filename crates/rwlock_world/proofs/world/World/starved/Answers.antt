@@ -4,7 +4,7 @@ use Rattle.mutex_machine.specs.Mutex.{starved}
 use Rattle.lock_world.specs.Rosters.{how_many}
 use Rattle.rwlock_machine.specs.Machine.{RwLock}
 use Rattle.rwlock_world.specs.Guarded.{Guarded}
-use Rattle.mutex_machine.proofs.Holders.{how_many_counted}
+use Rattle.mutex_machine.proofs.callers.Holders.{how_many_counted}
 use Rattle.rwlock_world.proofs.world.World.starved.Goals as goal
 
 pub returns : goal.returns

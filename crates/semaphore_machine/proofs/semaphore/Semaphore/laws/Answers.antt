@@ -1,5 +1,5 @@
 -- What always holds of a semaphore's fields, as callers see it.
-use Rattle.semaphore_machine.proofs.Laws.{is_semaphore}
+use Rattle.semaphore_machine.proofs.laws.Laws.{is_semaphore}
 use Rattle.semaphore_machine.proofs.semaphore.Semaphore.laws.Goals as goal
 
 pub returns : goal.returns

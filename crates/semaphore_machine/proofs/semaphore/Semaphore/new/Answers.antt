@@ -1,5 +1,5 @@
 -- A new semaphore.
-use Rattle.semaphore_machine.proofs.New.{new_is}
+use Rattle.semaphore_machine.proofs.laws.New.{new_is}
 use Rattle.semaphore_machine.proofs.semaphore.Semaphore.new.Goals as goal
 
 pub invariant_of-result : goal.invariant_of-result

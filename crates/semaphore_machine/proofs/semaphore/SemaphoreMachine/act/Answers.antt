@@ -7,8 +7,8 @@ use Rattle.lock_world.specs.declared.moves.Inputs.{Inputs}
 use Rattle.semaphore_machine.specs.Program.{action_of, position_after}
 use Rattle.semaphore_machine.specs.Deeds.{Finds, deed_of, words_after, entries_after}
 use Rattle.semaphore_machine.specs.Machine.{answer_by}
-use Rattle.semaphore_machine.proofs.Kept.{after}
-use Rattle.semaphore_machine.proofs.Locks.{began, locked, keeps}
+use Rattle.semaphore_machine.proofs.laws.Kept.{after}
+use Rattle.semaphore_machine.proofs.laws.Locks.{began, locked, keeps}
 use Rattle.semaphore_machine.proofs.semaphore.SemaphoreMachine.act.Goals as goal
 
 pub invariant_of-self : goal.invariant_of-self

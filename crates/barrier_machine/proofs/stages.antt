@@ -1,0 +1,3 @@
+-- At which stage a party is before and after each action.
+pub mod Starts
+pub mod Links

@@ -1,0 +1,11 @@
+-- What always holds.
+pub mod Steps
+pub mod Effects
+pub mod Kept
+pub mod CanDo
+pub mod Contents
+pub mod Told
+pub mod Locks
+pub mod Laws
+pub mod New
+pub mod Taken

@@ -1,0 +1,2 @@
+-- At which stage a party is before and after each action.
+pub mod Turns

@@ -1,0 +1,6 @@
+-- What whoever builds on a mutex may rest on.
+pub mod Rosters
+pub mod Holders
+pub mod Callers
+pub mod AloneSeen
+pub mod Released

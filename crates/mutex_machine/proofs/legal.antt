@@ -1,0 +1,8 @@
+-- What one step may do, and what it decides.
+pub mod Fair
+pub mod Courses
+pub mod Rows
+pub mod Legal
+pub mod Promised
+pub mod Sights
+pub mod Clauses

@@ -1,0 +1,4 @@
+-- Where polls lead that are each carried out alone.
+pub mod Solo
+pub mod SoloPolls
+pub mod Parts

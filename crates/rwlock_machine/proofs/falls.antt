@@ -1,0 +1,4 @@
+-- Each step of a call that its party carries out alone leaves fewer steps.
+pub mod Lowers
+pub mod Falls
+pub mod Alone

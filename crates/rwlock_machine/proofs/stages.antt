@@ -1,0 +1,4 @@
+-- At which stage a party is before and after each action.
+pub mod Leads
+pub mod Links
+pub mod Starts
