@@ -28,7 +28,7 @@ abbrev pub is_later_poll : Standing → What → Bool
 is_later_poll (outside Pending) (Begin call.Poll inputs) = true
 is_later_poll s _ = false
 
--- The first step of a first poll takes the inner lock exactly where nobody holds it and nobody is starved for it, and goes on with it. Where it doesn't take it, it goes on too or is pending.
+-- The first step of a first poll takes the inner lock exactly where nobody holds it and nobody is starved for it. It goes on with it; and where it doesn't take it, it goes on too or is pending.
 pub record TakesAtOnce (old : World) (m : Move) (a : Answer) (new : World) : Type 0 where
   pub takes : (new.lock.holder ≡ Some m.party) ↔ (is_free old.lock ≡ true)
   pub goes_on : (a ≡ answer.Stepped) ⊎ ((is_free old.lock ≡ false) × (a ≡ answer.Pending))
