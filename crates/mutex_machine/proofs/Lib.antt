@@ -24,3 +24,4 @@ pub mod Callers
 pub mod Clauses
 pub mod AloneSeen
 pub mod Released
+pub mod Begun
