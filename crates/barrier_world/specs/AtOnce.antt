@@ -1,5 +1,5 @@
 -- What the first step of a poll decides at once.
-use Rattle.std.specs.Prelude.{◌≡◌, ℕ, ◌+◌, ◌<◌, ◌==◌, ◌↔◌, ◌⊎◌, if◌then◌else◌, Bool, true, false, Some}
+use Rattle.std.specs.Prelude.{◌≡◌, ℕ, ◌+◌, ◌<◌, ◌==◌, ◌↔◌, if◌then◌else◌, Bool, true, false, Some}
 use Rattle.lock_event.specs.Lists.{is_marked_at}
 use Rattle.lock_queue.specs.Parties.{is_party, entries_of}
 use Rattle.lock_world.specs.declared.moves.Answer.{Answer}
@@ -28,13 +28,13 @@ abbrev pub is_later_poll : Standing → What → Bool
 is_later_poll (outside Pending) (Begin call.Poll inputs) = true
 is_later_poll s _ = false
 
--- The first step of a first poll takes the inner lock exactly where nobody holds it and nobody is starved for it. It goes on with it; and where it doesn't take it, it goes on too or is pending.
+-- The first step of a first poll takes the inner lock exactly where nobody holds it and nobody is starved for it. It goes on, whether it took it or not.
 pub record TakesAtOnce (old : World) (m : Move) (a : Answer) (new : World) : Type 0 where
   pub takes : (new.lock.holder ≡ Some m.party) ↔ (is_free old.lock ≡ true)
-  pub goes_on : (a ≡ answer.Stepped) ⊎ ((is_free old.lock ≡ false) × (a ≡ answer.Pending))
+  pub goes_on : a ≡ answer.Stepped
 
--- A wait in its generation's list goes on exactly where it has been notified, and else is pending still. One in the inner lock's list goes on or is pending.
+-- A wait in the inner lock's list, or in its generation's, goes on exactly where it has been notified there, and else is pending still.
 pub record AnswersAtOnce (old : World) (m : Move) (a : Answer) (new : World) : Type 0 where
   pub first_poll : is_first_poll (standing_of old m.party) m.what (entries_in old m.party) ≡ true → TakesAtOnce old m a new
-  pub locking : is_later_poll (standing_of old m.party) m.what ≡ true → 0 < entries_of m.party old.lock_list → (a ≡ answer.Stepped) ⊎ (a ≡ answer.Pending)
+  pub locking : is_later_poll (standing_of old m.party) m.what ≡ true → 0 < entries_of m.party old.lock_list → a ≡ (if is_marked_at (is_party m.party) old.lock_list then answer.Stepped else answer.Pending)
   pub listed : is_later_poll (standing_of old m.party) m.what ≡ true → 0 < entries_of m.party old.list → a ≡ (if is_marked_at (is_party m.party) old.list then answer.Stepped else answer.Pending)

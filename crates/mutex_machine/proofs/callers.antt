@@ -4,3 +4,4 @@ pub mod Holders
 pub mod Callers
 pub mod AloneSeen
 pub mod Released
+pub mod Begun

@@ -17,13 +17,13 @@ use Rattle.lock_world.specs.Standings.{Standing, outside, inputs_of}
 use Rattle.lock_world.proofs.Equations.{some_eq, none_some}
 use Rattle.lock_table.specs.Stages.{stage_at, stands_as}
 use Rattle.lock_table.specs.Tables.{Table}
-use Rattle.mutex_machine.specs.Conduct.{IsUnrefused}
-use Rattle.mutex_machine.specs.Course.{Course, Takes, listed as listed_there}
+use Rattle.mutex_machine.specs.Course.{Course, is_waiting, listed as listed_there}
 use Rattle.mutex_program.specs.declared.calls.Step.{Step as LockStep}
 use Rattle.mutex_program.specs.declared.calls.Step.TheVariants as lock_step
 use Rattle.mutex_program.specs.declared.calls.End.TheVariants as lock_end
 use Rattle.mutex_machine.specs.Mutex.{course_at, holders, starved}
 use Rattle.mutex_machine.proofs.callers.Callers.{out_unlisted, waiting_listed}
+use Rattle.mutex_machine.proofs.callers.Begun.{lock_goes, poll_asks}
 use Rattle.mutex_machine.proofs.callers.Holders as sees
 use Rattle.barrier_program.specs.declared.program.Aim.{Aim}
 use Rattle.barrier_program.specs.declared.program.Aim.TheVariants as aim
@@ -63,23 +63,23 @@ some_entries Out c e l link is own = tt
 some_entries (Made a) c e l link is own = tt
 some_entries (At y) c e l link is own = tt
 
-not_so : (b : Bool) → (b ≡ true → ⊥) → b ≡ false
-not_so true h = absurd (h refl)
-not_so false h = refl
+-- whether it got the inner lock or not, the poll goes on
+got_on : (a : Aim) → answer_by (after_lock a (found.Lock (lock_step.End lock_end.Got))) ≡ answer.Stepped
+got_on aim.Arrive = refl
+got_on aim.Check = refl
 
--- the first step of a call that takes the inner lock isn't refused, and is over at once with the lock where that is free: so it goes on, or is pending where it isn't
-goes_on : (a : Aim) (s : LockStep) (to : Course) (free : Bool) → Takes s to → IsUnrefused s to → (free ≡ true → s ≡ lock_step.End lock_end.Got)
-    → (answer_by (after_lock a (found.Lock s)) ≡ answer.Stepped) ⊎ ((free ≡ false) × (answer_by (after_lock a (found.Lock s)) ≡ answer.Pending))
-goes_on a lock_step.More to free takes kept got = inl refl
-goes_on aim.Arrive (lock_step.End lock_end.Got) to free takes kept got = inl refl
-goes_on aim.Check (lock_step.End lock_end.Got) to free takes kept got = inl refl
-goes_on a (lock_step.End lock_end.Pending) to free takes kept got = inr (not_so free (λ is. (let never = got is in cc never)), refl)
-goes_on a (lock_step.End (lock_end.Refused r)) to free takes kept got = absurd (kept r refl)
-goes_on a (lock_step.End _) to free takes kept got = absurd takes
+goes_on : (a : Aim) (s : LockStep) → (s ≡ lock_step.More) ⊎ (s ≡ lock_step.End lock_end.Got) → answer_by (after_lock a (found.Lock s)) ≡ answer.Stepped
+goes_on a s (inl goes) = ap (λ z. answer_by (after_lock a (found.Lock z))) goes
+goes_on a s (inr gets) = ap (λ z. answer_by (after_lock a (found.Lock z))) gets ∙ got_on a
+
+-- a poll in the inner lock's list goes on where it was told
+told_on : (a : Aim) (told : Bool) → answer_by (after_lock a (found.Lock (if told then lock_step.More else lock_step.End lock_end.Pending))) ≡ (if told then answer.Stepped else answer.Pending)
+told_on a true = refl
+told_on a false = refl
 
 -- the poll of a party in the inner lock's list begins to take the lock there
-begins_there : (s : Standing) (what : What) (x : Position) (c : Course) (from : Place) → is_later_poll s what ≡ true → place_for what x ≡ Some from → fits_lock (in_lock x) c ≡ true → 0 < listed_there c → (b : Aim) × (from ≡ WaitLock b)
-begins_there (outside Pending) (Begin call.Poll i) (Locking b) c from h e link some = (b, sym (some_eq e))
+begins_there : (s : Standing) (what : What) (x : Position) (c : Course) (from : Place) → is_later_poll s what ≡ true → place_for what x ≡ Some from → fits_lock (in_lock x) c ≡ true → 0 < listed_there c → (b : Aim) × (from ≡ WaitLock b) × (is_waiting c ≡ true)
+begins_there (outside Pending) (Begin call.Poll i) (Locking b) c from h e link some = (b, sym (some_eq e), link)
 begins_there (outside Pending) (Begin call.Poll i) (Made b) c from h e link some = let none = out_unlisted c link in absurd (omega arith)
 begins_there (outside Pending) (Begin call.Poll i) Waiting c from h e link some = let none = out_unlisted c link in absurd (omega arith)
 begins_there (outside Pending) (Begin call.Poll i) Out c from h e link some = absurd (none_some e)
@@ -120,7 +120,7 @@ module _ (t u : Table Barrier) (m : Move) (a : Answer) (w : Within) (k : Acting 
   by_step : (b : Aim) (f : Found) → OnLock i p (action_of (EnterLock b)) f t.machine.lock u.machine.lock → a ≡ answer_by (next_of (EnterLock b) f) → TakesAtOnce old m a new
   by_step b (found.Lock s) l e = record {
     takes = ((λ h. old_free ((l.at_once.takes refl).0 h)), (λ h. (l.at_once.takes refl).1 (free_old h)));
-    goes_on = rw e (goes_on b s (course_at u.machine.lock.courses p) (is_free old.lock) l.leads l.unrefused (λ h. (let f = free_old h in l.at_once.ends refl f.0 f.1)));
+    goes_on = rw e (goes_on b s (lock_goes i.memory p s t.machine.lock u.machine.lock l.done));
   }
   by_step b _ l e = absurd l
 
@@ -151,16 +151,19 @@ module _ (t u : Table Barrier) (m : Move) (a : Answer) (w : Within) (k : Acting 
       let P : Place → Type 0 = λ y. Finds i p (action_of y) k.found (t.machine.words) mine t.machine.entries in
       k.answer ∙ (ap (λ y. answer_by (next_of y k.found)) at ∙ asked k.found (subst P at k.acts.finds))
 
-  locking_by : (b : Aim) (f : Found) → OnLock i p (action_of (WaitLock b)) f t.machine.lock u.machine.lock → a ≡ answer_by (next_of (WaitLock b) f) → (a ≡ answer.Stepped) ⊎ (a ≡ answer.Pending)
-  locking_by b (found.Lock s) l e = rw e (elim (goes_on b s (course_at u.machine.lock.courses p) false l.leads l.unrefused (λ h. absurd (cc h))) [ inl goes ↦ inl goes | inr waits ↦ inr waits.1 ])
-  locking_by b _ l e = absurd l
+  abbrev marked_there : Bool
+  marked_there = is_marked_at (is_party p) t.machine.lock.entries
 
-  locking_so : is_later_poll (standing_of old p) m.what ≡ true → 0 < entries_of p old.lock_list → (a ≡ answer.Stepped) ⊎ (a ≡ answer.Pending)
+  locking_by : (b : Aim) (f : Found) → is_waiting c ≡ true → OnLock i p (action_of (WaitLock b)) f t.machine.lock u.machine.lock → a ≡ answer_by (next_of (WaitLock b) f) → a ≡ (if marked_there then answer.Stepped else answer.Pending)
+  locking_by b (found.Lock s) waits l e = e ∙ (ap (λ z. answer_by (after_lock b (found.Lock z))) (poll_asks i.memory p s t.machine.lock u.machine.lock waits l.done) ∙ told_on b marked_there)
+  locking_by b _ waits l e = absurd l
+
+  locking_so : is_later_poll (standing_of old p) m.what ≡ true → 0 < entries_of p old.lock_list → a ≡ (if is_marked_at (is_party p) old.lock_list then answer.Stepped else answer.Pending)
   locking_so h some =
       let own = k.old_laws.lock.owners p in
       let there = begins_there (standing_of old p) m.what x c k.from h k.starts (k.old_laws.links p) (omega arith) in
       let P : Place → Type 0 = λ y. OnLock i p (action_of y) k.found t.machine.lock u.machine.lock in
-      locking_by there.0 k.found (subst P there.1 k.acts.lock) (k.answer ∙ ap (λ y. answer_by (next_of y k.found)) there.1)
+      locking_by there.0 k.found there.2 (subst P there.1 k.acts.lock) (k.answer ∙ ap (λ y. answer_by (next_of y k.found)) there.1)
 
   pub at_once : AnswersAtOnce old m a new
   at_once = record { first_poll = first; locking = locking_so; listed = listed_so }

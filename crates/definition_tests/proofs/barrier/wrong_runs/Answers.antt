@@ -1,10 +1,13 @@
 -- No wrong run of a barrier is legal.
-use Rattle.std.proofs.Common.{◌≡◌, ◌≢◌, ℕ, zero, suc, ◌+◌, ◌*◌, ◌/◌, ◌%◌, ◌≤◌, inl, inr, arith, ap, sym, ◌∙◌, subst}
+use Rattle.std.proofs.Common.{◌≡◌, ◌≢◌, ℕ, zero, suc, ◌+◌, ◌*◌, ◌/◌, ◌%◌, ◌≤◌, inl, inr, if◌then◌else◌, Bool, true, false, arith, ap, sym, ◌∙◌, subst}
 use Rattle.std.proofs.Math.Nat.{mul_comm, div-add-mod}
 use Rattle.std.proofs.lemmas.Bool.{false≢true}
 use Rattle.std.proofs.lemmas.Nat.{le-div}
+use Rattle.lock_event.specs.Lists.{is_marked_at}
+use Rattle.lock_queue.specs.Parties.{is_party}
 use Rattle.lock_world.specs.declared.moves.Answer.{Answer}
 use Rattle.lock_world.specs.declared.moves.Answer.TheVariants as answer
+use Rattle.lock_world.specs.declared.moves.Got.TheVariants as got
 use Rattle.lock_world.specs.declared.moves.Move.{Move}
 use Rattle.lock_world.specs.declared.refusal.Refusal.{Refusal}
 use Rattle.lock_world.specs.declared.refusal.Refusal.TheVariants as refusal
@@ -155,16 +158,14 @@ returns-clause-left_asleep c = λ r. false≢true (sym r.unmarked ∙ r.awake.al
 pub returns-clause-leads_untold : goal.returns-clause-leads_untold
 returns-clause-leads_untold c = λ r. false≢true (sym r.unmarked ∙ r.sound.told r.free r.party r.arrival r.counted r.finished r.listed)
 
+told_or_not : (told leads : Bool) → answer.Ready (got.Leader leads) ≡ (if told then answer.Stepped else answer.Pending) → ⊥
+told_or_not true leads e = cc e
+told_or_not false leads e = cc e
+
 pub returns-clause-ready_untried : goal.returns-clause-ready_untried
 returns-clause-ready_untried c = λ r. elim r.tries as (λ _. ⊥) [
-  | inl first ↦ elim (r.legal.first_poll first).goes_on as (λ _. ⊥) [
-    | inl stepped ↦ (let never = sym r.ready ∙ stepped in cc never)
-    | inr pending ↦ (let never = sym r.ready ∙ pending.1 in cc never)
-  ]
-  | inr there ↦ elim (r.legal.locking there.0 there.1) as (λ _. ⊥) [
-    | inl stepped ↦ (let never = sym r.ready ∙ stepped in cc never)
-    | inr pending ↦ (let never = sym r.ready ∙ pending in cc never)
-  ]
+  | inl first ↦ (let never = sym r.ready ∙ (r.legal.first_poll first).goes_on in cc never)
+  | inr there ↦ told_or_not (is_marked_at (is_party r.step.move.party) r.step.old.lock_list) r.leads (sym r.ready ∙ r.legal.locking there.0 there.1)
 ]
 
 -- a finished wait has to wait no more
