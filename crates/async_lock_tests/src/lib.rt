@@ -28,4 +28,6 @@ mod stories;
 #[cfg(test)]
 mod surface;
 #[cfg(test)]
+mod unlocked;
+#[cfg(test)]
 mod values;

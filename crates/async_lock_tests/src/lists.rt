@@ -40,7 +40,7 @@ type Row = (Deed, Answer, bool, Woken);
 
 /// A list with its entries.
 struct Scene {
-    list: WaitingList,
+    list: WaitingList<Waker>,
     hand: Option<Waker>,
     one: Option<EntryId>,
     two: Option<EntryId>,
@@ -61,7 +61,7 @@ impl Drop for Scene {
 }
 
 impl Scene {
-    fn new(list: WaitingList) -> Scene {
+    fn new(list: WaitingList<Waker>) -> Scene {
         Scene {
             list,
             hand: None,

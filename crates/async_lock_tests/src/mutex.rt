@@ -78,16 +78,13 @@ where
     true
 }
 
-fn add_fifty<R>(mutex: &Mutex<u64, R>, rt: &R)
+// As [`add_by_waiting`]; where memory is refused, once more.
+fn add_again<R>(mutex: &Mutex<u64, R>, rt: &R)
 where
     R: Wait + Clock + RandomSource + AllocGlobal,
 {
-    let mut added = 0u32;
-    // One refusal for memory more than there are rounds.
-    for _ in 0..51u32 {
-        if added < 50 && add_by_waiting(mutex, rt) {
-            added += 1;
-        }
+    if !add_by_waiting(mutex, rt) {
+        add_by_waiting(mutex, rt);
     }
 }
 
@@ -104,8 +101,14 @@ fn contention(rt: HostRuntime) {
     let Ok(mutex) = Mutex::new(rt, 0u64) else {
         return;
     };
-    let add = || add_fifty(&mutex, &rt);
-    thread::join(&rt, &add, &add);
+    thread::scope(thread::scope_env(), &rt, |scope| {
+        for _ in 0..100u32 {
+            if scope.spawn(|| add_again(&mutex, &rt)).is_err() {
+                // The system starts no thread more, so this one does its part.
+                add_again(&mutex, &rt);
+            }
+        }
+    });
     assert_same(&rt, read_blocking(&mutex), Some(100));
 }
 

@@ -138,16 +138,56 @@ const WITH_THE_LAST_OWNER: [Row; 10] = [
     (Deed::Count, Answer::Dropped(1), NOBODY),
 ];
 
-#[test]
-fn the_value_is_dropped_once_with_the_last_owner(rt: HostRuntime) {
+// Plays these rows round an owned mutex of a counted value, and asserts that the value is dropped once.
+fn owned_dropped_once<R>(rt: R, rows: &[Row])
+where
+    R: Wait + Clock + RandomSource + AllocGlobal + Abort + Copy + Drop,
+{
     let Some(props) = Props::new(&rt) else {
         return;
     };
     // Where memory is refused, the value is dropped too.
     if let Some(mutex) = owned(rt, Counted::new(&props)) {
-        play_owned(&rt, mutex, &props, &WITH_THE_LAST_OWNER);
+        play_owned(&rt, mutex, &props, rows);
     }
     assert_same(&rt, props.drops(), 1);
+}
+
+#[test]
+fn the_value_is_dropped_once_with_the_last_owner(rt: HostRuntime) {
+    owned_dropped_once(rt, &WITH_THE_LAST_OWNER);
+}
+
+const WITH_THE_LAST_FUTURE: [Row; 10] = [
+    (Deed::Take, Answer::Got(0), NOBODY),
+    (Deed::Ask(Name::One), Answer::Done, NOBODY),
+    (POLL_ONE, Answer::Pending, NOBODY),
+    (Deed::Ask(Name::Two), Answer::Done, NOBODY),
+    (Deed::Leave, Answer::Done, NOBODY),
+    (Deed::GiveBack, Answer::Done, ONE),
+    // Neither future got the lock. One that was never polled goes first, and the one that was told is the last owner.
+    (Deed::Cancel(Name::Two), Answer::Done, ONE),
+    (Deed::Count, Answer::Dropped(0), ONE),
+    (Deed::Cancel(Name::One), Answer::Done, ONE),
+    (Deed::Count, Answer::Dropped(1), ONE),
+];
+
+#[test]
+fn the_value_is_dropped_once_with_the_last_cancelled_future(rt: HostRuntime) {
+    owned_dropped_once(rt, &WITH_THE_LAST_FUTURE);
+}
+
+const WITH_A_FUTURE_ALONE: [Row; 5] = [
+    (Deed::Ask(Name::One), Answer::Done, NOBODY),
+    (Deed::Leave, Answer::Done, NOBODY),
+    (Deed::Count, Answer::Dropped(0), NOBODY),
+    (Deed::Cancel(Name::One), Answer::Done, NOBODY),
+    (Deed::Count, Answer::Dropped(1), NOBODY),
+];
+
+#[test]
+fn the_value_is_dropped_once_with_a_future_that_was_never_polled(rt: HostRuntime) {
+    owned_dropped_once(rt, &WITH_A_FUTURE_ALONE);
 }
 
 #[test]

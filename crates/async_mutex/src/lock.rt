@@ -192,17 +192,18 @@ impl<T, R> Owned<T, R> {
     }
 }
 
-impl<T, R: Wait> LockArc<T, R> {
+impl<T: Drop, R: Wait + Drop> LockArc<T, R> {
     ghost use Rattle.async_mutex.specs.Sources.{is_finished};
 
     pub(crate) fn new(mutex: Arc<Mutex<T, R>>) -> LockArc<T, R>
         ensures { is_finished result.stage ≡ false }
     {
+        let owned = Owned {
+            mutex,
+            waiting: None,
+        };
         LockArc {
-            stage: Stage::Waits(Owned {
-                mutex,
-                waiting: None,
-            }),
+            stage: Stage::Waits(owned),
         }
     }
 

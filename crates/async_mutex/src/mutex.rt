@@ -126,11 +126,11 @@ impl<T: Drop, R: Wait + Drop> Mutex<T, R> {
     pub fn try_lock_arc(this: &Arc<Mutex<T, R>>) -> Option<MutexGuardArc<T, R>>
         ensures { IfSome result (λ guard. guard ≡ arc_value this.now) }
     {
-        let (seat, hold) = this.raw.take()?;
+        let (mut seat, hold) = this.raw.take()?;
         match Arc::try_clone(this) {
             Ok(mutex) => Some(MutexGuardArc::new(mutex, seat, hold)),
             Err(_) => {
-                this.raw.release(&this.rt, seat, hold);
+                this.raw.release(&this.rt, &mut seat, hold);
                 None
             }
         }

@@ -7,7 +7,10 @@ mod timing;
 
 use async_lock::Mutex;
 use futures::test::MockTask;
-use rows::{BlockingPair, HandOver, HeldTry, LockPair, PendingPoll, StdPair, TryArcPair, TryPair};
+use rows::{
+    BlockingPair, HandOver, HeldTry, LockArcPair, LockPair, PendingPoll, StdPair, TryArcPair,
+    TryPair,
+};
 use std::alloc::AllocGlobal;
 use std::process::ExitCode;
 use std::random::RandomSource;
@@ -46,6 +49,8 @@ where
     let owners = TryArcPair { mutex: owned };
     print(rt, "try_lock_arc and drop", &owners, OFTEN)?;
     print(rt, "lock ready and drop", &LockPair { mutex, task }, OFTEN)?;
+    let ready = LockArcPair { mutex: owned, task };
+    print(rt, "lock_arc ready and drop", &ready, OFTEN)?;
     let blocking = BlockingPair { mutex };
     print(rt, "lock_blocking and drop", &blocking, OFTEN)?;
     let pending = PendingPoll { mutex, task };

@@ -100,6 +100,26 @@ impl<R: Wait + Clock> Row for LockPair<'_, '_, R> {
     }
 }
 
+/// A `lock_arc` that is ready at its first poll, and the guard's drop.
+#[derive(Drop)]
+pub(crate) struct LockArcPair<'a, 'b, R: Wait> {
+    pub mutex: &'a Arc<Mutex<u64, R>>,
+    pub task: &'b MockTask,
+}
+
+impl<R: Wait + Clock + Drop> Row for LockArcPair<'_, '_, R> {
+    fn go(&self, times: u64) {
+        let mutex = self.mutex;
+        self.task.enter(|cx| {
+            for _ in 0..times {
+                if let Turn::Ready(mut guard) = Mutex::lock_arc(black_box(mutex)).poll(cx) {
+                    add_one(&mut guard);
+                }
+            }
+        });
+    }
+}
+
 /// `lock_blocking` of a free mutex, and the guard's drop.
 #[derive(Drop)]
 pub(crate) struct BlockingPair<'a, R: Wait> {

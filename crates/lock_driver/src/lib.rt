@@ -13,4 +13,4 @@ mod waiting_list;
 
 pub use carries::Carries;
 pub use mutex_party::{MutexParty, RawMutex};
-pub use waiting_list::WaitingList;
+pub use waiting_list::{WaitingList, Wakes};

@@ -1,6 +1,7 @@
 //! The mutex's program, carried out on a mutex's words and waiting list.
 
 ghost use Rattle.std.specs.Prelude.{◌≡◌, Bool, true, false, Option, Some, None, IfSome, IfNone, IsSome};
+ghost use Rattle.lock_words.specs.Lock.{cleared};
 ghost use Rattle.lock_words.specs.Tries.{Holds};
 ghost use Rattle.mutex_program.specs.Program.{rest_at, start_of, action_of, next_of};
 ghost use Rattle.mutex_program.specs.declared.program.Action.TheVariants as does;
@@ -24,7 +25,7 @@ pub struct RawMutex<T> {
     /// The words, the right to the value and the value.
     pub words: Words<T>,
     /// Who waits.
-    pub list: WaitingList,
+    pub list: WaitingList<Waker>,
 }
 
 // By hand, so that a drop is one call to prove, and not all of its parts again.
@@ -149,13 +150,16 @@ impl<T> RawMutex<T> {
 
     /// Gives the lock back by the seat that holds it, with the right to its value. The program of a release has no
     /// branch, and so its two actions stand here in their order; that they are the table's is proved (`straight_rows`).
+    ///
+    /// By the contract the seat has given the lock back, and is otherwise as it was. That somebody who waits is then
+    /// notified is tested: no contract sees through the list's lock.
     #[inline]
-    pub fn release<R: Wait>(&self, rt: &R, seat: Seat<T>, hold: Hold<T>)
-        requires { Holds self.now.words seat hold }
+    pub fn release<R: Wait>(&self, rt: &R, seat: &mut Seat<T>, hold: Hold<T>)
+        requires { Holds self.now.words seat.old hold }
+        ensures { seat.new ≡ cleared seat.old }
     {
         straight_rows();
-        let mut seat = seat;
-        self.words.clear(&mut seat, hold);
+        self.words.clear(seat, hold);
         self.list.notify(rt, 1);
     }
 }

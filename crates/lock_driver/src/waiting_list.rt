@@ -9,6 +9,18 @@ use std::alloc::Global;
 use std::sync::atomic::{AtomicBool, Ordering};
 use std::sync::{Mutex, Wait};
 
+/// What an entry keeps to be woken with: the kit's [`Waker`], and a test's own.
+pub trait Wakes: Drop {
+    /// Wakes whoever waits.
+    fn wake(self);
+}
+
+impl Wakes for Waker {
+    fn wake(self) {
+        Waker::wake(self);
+    }
+}
+
 /// The waiting list of a lock that threads share: an event list under a short lock of its own, with the source
 /// that waiting tasks register with.
 ///
@@ -19,15 +31,15 @@ use std::sync::{Mutex, Wait};
 ///
 /// No contract sees through the list's lock: what the calls do to the list is what the functions of [`Event`]
 /// say, and tested.
-pub struct WaitingList {
+pub struct WaitingList<W: Wakes> {
     source: Source,
     // Written under the list's lock alone.
     is_listed: AtomicBool,
-    entries: Mutex<Event<Waker>>,
+    entries: Mutex<Event<W>>,
 }
 
 // By hand, so that a drop is one call to prove, and not all of its parts again.
-impl Drop for WaitingList {
+impl<W: Wakes> Drop for WaitingList<W> {
     fn drop(self) {
         let WaitingList {
             source: _,
@@ -37,9 +49,9 @@ impl Drop for WaitingList {
     }
 }
 
-impl WaitingList {
+impl<W: Wakes> WaitingList<W> {
     /// The empty list. It takes no memory.
-    pub fn new(alloc: Global) -> WaitingList {
+    pub fn new(alloc: Global) -> WaitingList<W> {
         WaitingList {
             source: Source::new(),
             is_listed: AtomicBool::new(false),
@@ -53,15 +65,6 @@ impl WaitingList {
     /// again, and another gives the lock back and then asks here, one of the two finds the other.
     pub fn is_listed(&self) -> bool {
         self.is_listed.load(Ordering::SeqCst)
-    }
-
-    /// Leaves the task's waker in `waker`, and registers with the list's source. A waker of the same task that
-    /// is there already stays.
-    pub fn register(&self, cx: &mut Context<'_>, waker: &mut Option<Waker>)
-        ensures registered { Covers cx.new (λ s. s ≡ self.now.source.id) }
-        ensures kept { Keeps cx.old cx.new }
-    {
-        let _: Poll<()> = cx.register(&self.source, waker);
     }
 
     /// A new waiting entry joins at the back, with no waker. [`Memory`] comes only where memory was refused,
@@ -78,25 +81,20 @@ impl WaitingList {
     /// Asks for the notification of this entry, by [`Event::ask`]. If it has one it leaves the list with it, and
     /// the answer is true. If not, it keeps the waker in hand to be woken with, and what it kept before is in
     /// hand instead. An entry that isn't there any more counts as notified, so that nobody waits for it.
-    pub fn ask<R: Wait>(&self, rt: &R, id: EntryId, waker: &mut Option<Waker>) -> bool {
+    pub fn ask<R: Wait>(&self, rt: &R, id: EntryId, waker: &mut Option<W>) -> bool {
         let asked = self.ask_locked(&mut self.entries.lock(rt), id, waker.take());
         in_hand(asked, waker)
     }
 
     // As `ask`, under the list's lock.
-    fn ask_locked(
-        &self,
-        entries: &mut Event<Waker>,
-        id: EntryId,
-        waker: Option<Waker>,
-    ) -> Asked<Waker> {
+    fn ask_locked(&self, entries: &mut Event<W>, id: EntryId, waker: Option<W>) -> Asked<W> {
         let asked = entries.ask(id, waker);
         self.say_if_empty(entries);
         asked
     }
 
     // Under the list's lock: says that no entry is left, if none is.
-    fn say_if_empty(&self, entries: &Event<Waker>) {
+    fn say_if_empty(&self, entries: &Event<W>) {
         if entries.is_empty() {
             self.is_listed.store(false, Ordering::SeqCst);
         }
@@ -140,14 +138,25 @@ impl WaitingList {
     }
 }
 
+impl WaitingList<Waker> {
+    /// Leaves the task's waker in `waker`, and registers with the list's source. A waker of the same task that
+    /// is there already stays.
+    pub fn register(&self, cx: &mut Context<'_>, waker: &mut Option<Waker>)
+        ensures registered { Covers cx.new (λ s. s ≡ self.now.source.id) }
+        ensures kept { Keeps cx.old cx.new }
+    {
+        let _: Poll<()> = cx.register(&self.source, waker);
+    }
+}
+
 // Notifies so many entries, under the list's lock: the first waker that is due.
-fn notify_locked(entries: &mut Event<Waker>, n: usize) -> Option<Waker> {
+fn notify_locked<W: Wakes>(entries: &mut Event<W>, n: usize) -> Option<W> {
     entries.notify(n);
     entries.next_waker()
 }
 
 // Puts the waker that an entry hands back in hand, and says whether the entry has left the list.
-fn in_hand(asked: Asked<Waker>, waker: &mut Option<Waker>) -> bool {
+fn in_hand<W: Wakes>(asked: Asked<W>, waker: &mut Option<W>) -> bool {
     match asked {
         Asked::Waiting { kept } => {
             *waker = kept;
@@ -164,7 +173,7 @@ fn in_hand(asked: Asked<Waker>, waker: &mut Option<Waker>) -> bool {
     }
 }
 
-fn wake(due: Option<Waker>) {
+fn wake<W: Wakes>(due: Option<W>) {
     if let Some(waker) = due {
         waker.wake();
     }

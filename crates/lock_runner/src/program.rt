@@ -78,7 +78,7 @@ where
     ensures printed { result ≡ 0 → PrintsNumber (O.contents output.old) (O.contents output.new) }
     ensures quiet { result ≡ 0 → Keeps (E.contents errors.old) (E.contents errors.new) }
 {
-    match threads(rt, alloc, workers, output) {
+    match threads(rt, alloc, workers, &Open, output) {
         Ok(()) => 0,
         Err(fault) => report(fault, errors),
     }
@@ -92,14 +92,24 @@ impl Gate for Open {
     fn pass(&self, _worker: u32) {}
 }
 
-/// Lets so many threads each add one under one mutex, and prints the value that they leave.
-fn threads<R, O: Write>(rt: &R, alloc: Global, workers: u32, output: &mut O) -> Result<(), Fault>
+/// Lets so many threads each add one under one mutex, once each has passed this gate, and prints the value that
+/// they leave.
+///
+/// By the contract a number was printed as one line, or the fault is one of the system (`system`). That each worker
+/// passed the gate, and which number they leave, no clause says.
+pub fn threads<R, G: Gate + Sync, O: Write>(
+    rt: &R,
+    alloc: Global,
+    workers: u32,
+    gate: &G,
+    output: &mut O,
+) -> Result<(), Fault>
 where
     R: Threads + Wait + Clock + RandomSource + AllocGlobal + Sync + Copy + Drop,
     ensures printed { OnOk result (PrintsNumber (O.contents output.old) (O.contents output.new)) }
     ensures system { IfErr result (λ fault. status_of fault ≡ 3) }
 {
-    let left = public(rt, alloc, workers, &Open).map_err(stopped)?;
+    let left = public(rt, alloc, workers, gate).map_err(stopped)?;
     print_number(left, output)
 }
 

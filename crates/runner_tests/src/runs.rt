@@ -50,13 +50,13 @@ pub(crate) struct Takes {
 
 /// Keeps what is written, while there is room. A flush fails where it is to.
 #[derive(Drop)]
-struct Sink {
+pub(crate) struct Sink {
     kept: Vec<u8>,
     takes: Takes,
 }
 
 impl Sink {
-    fn new(rt: &impl AllocGlobal, takes: Takes) -> Sink {
+    pub(crate) fn new(rt: &impl AllocGlobal, takes: Takes) -> Sink {
         Sink {
             kept: Vec::new(rt.alloc()),
             takes,
@@ -146,7 +146,7 @@ pub(crate) const SCRIPT: Run = Run {
 };
 
 /// What was kept, as text.
-fn text_of(sink: &Sink) -> &str {
+pub(crate) fn text_of(sink: &Sink) -> &str {
     str::from_utf8(sink.kept.as_slice()).unwrap_or("bytes that are no text")
 }
 

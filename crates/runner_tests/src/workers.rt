@@ -1,10 +1,11 @@
 //! Workers that pass a gate.
 
-use crate::runs::Runs;
+use crate::runs::{ALL, Runs, Sink, text_of};
 use crate::same::assert_same;
 use lock_audit::Book;
 use lock_core::mutex::World;
 use lock_core::{Answer, Got, Move};
+use lock_runner::{Fault, threads};
 use lock_workers::{Gate, Stopped, audited, public};
 use std::process::Abort;
 use std::sync::atomic::{AtomicU64, Ordering};
@@ -209,4 +210,30 @@ fn workers_add_up_beside_one_another(rt: HostRuntime) -> Result<(), Fail> {
         expect_left(&rt, under, workers, holds, numbers)?;
     }
     Ok(())
+}
+
+/// What the program's threads print, of which each passes this gate; once more where memory was refused, to them
+/// or to the output.
+fn printed<R: Runs>(rt: &R, workers: u32, gate: &Turnstile) -> Result<Sink, Fault> {
+    let mut output = Sink::new(rt, ALL);
+    match threads(rt, rt.alloc(), workers, gate, &mut output) {
+        Ok(()) => Ok(output),
+        Err(Fault::Memory | Fault::Write) => {
+            gate.forget();
+            let mut output = Sink::new(rt, ALL);
+            threads(rt, rt.alloc(), workers, gate, &mut output)?;
+            Ok(output)
+        }
+        Err(fault) => Err(fault),
+    }
+}
+
+#[test]
+fn the_programs_threads_are_started_and_print_their_sum(rt: HostRuntime) {
+    let gate = Turnstile::new(true);
+    match printed(&rt, 2, &gate) {
+        Ok(output) => assert_same(&rt, text_of(&output), "2\n"),
+        Err(fault) => assert_same(&rt, fault.status(), 0),
+    }
+    gate.expect(&rt, 2, 1, 1);
 }
