@@ -11,9 +11,9 @@ use Rattle.lock_world.specs.declared.moves.Move.{Move}
 use Rattle.lock_world.specs.declared.moves.What.TheVariants.{Begin, Go}
 use Rattle.lock_world.specs.declared.refusal.Refusal.TheVariants.{Memory}
 use Rattle.lock_world.specs.declared.standing.Kind.TheVariants as kind
-use Rattle.lock_world.specs.declared.standing.Rest.TheVariants.{Pending, Holding}
+use Rattle.lock_world.specs.declared.standing.Rest.TheVariants.{Pending}
 use Rattle.lock_world.specs.declared.standing.Within.{Within}
-use Rattle.lock_world.specs.Frame.{is_drop, is_refusal}
+use Rattle.lock_world.specs.Frame.{is_refusal}
 use Rattle.lock_world.specs.Standings.{outside, inside, is_possible, refused}
 use Rattle.lock_world.specs.Steps.{does, notifies}
 use Rattle.semaphore_machine.specs.Deeds.{for_a_permit}

@@ -1,24 +1,21 @@
 -- No wrong run of a semaphore is legal.
-use Rattle.std.proofs.Common.{◌≡◌, ◌≢◌, ℕ, ◌+◌, ◌-◌, ◌<◌, if◌then◌else◌, Bool, true, false, List, length, get_or, Option, Some, None, refl, arith, ap, sym, ◌∙◌, subst, get_or-set_same}
+use Rattle.std.proofs.Common.{◌≡◌, ℕ, ◌+◌, ◌-◌, if◌then◌else◌, Bool, true, false, Option, None, refl, arith, ap, sym, ◌∙◌, subst}
 use Rattle.std.proofs.lemmas.Bool.{false≢true, true≢false}
 use Rattle.lock_world.specs.declared.moves.Answer.{Answer}
 use Rattle.lock_world.specs.declared.moves.Answer.TheVariants as answer
 use Rattle.lock_world.specs.declared.moves.Inputs.{Inputs}
 use Rattle.lock_world.specs.declared.moves.Move.{Move}
-use Rattle.lock_world.specs.declared.moves.What.{What}
 use Rattle.lock_world.specs.declared.moves.What.TheVariants.{Go}
-use Rattle.lock_world.specs.declared.standing.Kind.{Kind}
 use Rattle.lock_world.specs.declared.standing.Kind.TheVariants as kind
 use Rattle.lock_world.specs.declared.standing.Within.{Within}
 use Rattle.lock_world.specs.Frame.{is_drop}
 use Rattle.lock_world.specs.Standings.{Standing, inside, is_possible}
 use Rattle.lock_world.specs.Steps.{Deed, nothing, changes, does, notifies}
-use Rattle.lock_world.proofs.Equations.{some_none, none_some}
-use Rattle.semaphore_machine.specs.Seats.{Share, nothing_had, one_permit}
+use Rattle.lock_world.proofs.Equations.{none_some}
+use Rattle.semaphore_machine.specs.Seats.{Share}
 use Rattle.semaphore_machine.specs.Deeds.{Change, ListName, takes, gives_back, forgets, raises, gives, for_a_permit}
-use Rattle.semaphore_world.specs.State.{State, World, share_at, has_permit, standing_of, adds_of}
+use Rattle.semaphore_world.specs.State.{State, World, has_permit, standing_of, adds_of}
 use Rattle.semaphore_world.specs.Legal.{HasItsOwn, IsAllowed, state_after, is_forget, added_in, is_add, notice}
-use Rattle.semaphore_world.specs.AtOnce.{is_try}
 use Rattle.definition_tests.proofs.semaphore.wrong_runs.Goals as goal
 
 chosen : (b : Bool) (x y : Answer) → b ≡ true → (if b then x else y) ≡ x
