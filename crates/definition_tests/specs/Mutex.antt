@@ -20,7 +20,7 @@ use Rattle.lock_world.specs.Frame.{is_refusal}
 use Rattle.lock_world.specs.Rosters.{how_many}
 use Rattle.lock_world.specs.Standings.{outside, inside, refused}
 use Rattle.lock_world.specs.Steps.{does, notifies_additionally}
-use Rattle.mutex_world.specs.Bound.{IsSolo, Promises}
+use Rattle.mutex_world.specs.Bound.{IsSolo, IsNotified, Promises}
 use Rattle.mutex_world.specs.Legal.{ListName, DecidesOn, is_first_poll, is_later_poll, Legal, AnswersAtOnce}
 use Rattle.mutex_world.specs.State.{World, standing_of, mark_of, is_free, is_starved}
 
@@ -231,6 +231,16 @@ pub record PassesOverInVain : Type 0 where
   pub free : whole.old.state.holder ≡ None
   pub unstarved : how_many whole.old.state.starved ≡ 0
   pub pending : whole.answer ≡ answer.Pending
+  pub kept : Keeps whole
+
+-- Or it is refused for memory that it doesn't need, and loses its place.
+pub record RefusedInVain : Type 0 where
+  pub whole : Whole
+  pub polls : whole.call ≡ call.Poll
+  pub told : IsNotified whole.old whole.party
+  pub free : whole.old.state.holder ≡ None
+  pub unstarved : how_many whole.old.state.starved ≡ 0
+  pub refused : whole.answer ≡ refused Memory
   pub kept : Keeps whole
 
 -- A party is counted as starved, though nobody was and it hasn't waited for too long.

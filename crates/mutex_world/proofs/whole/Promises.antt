@@ -46,6 +46,7 @@ use Rattle.mutex_world.specs.View.{verdict}
 use Rattle.mutex_world.proofs.step.Acting.{Acting}
 use Rattle.mutex_world.proofs.step.Acting as acting
 use Rattle.mutex_world.proofs.bound.AloneSeen.{waits_listed, poll_seen}
+use Rattle.mutex_world.proofs.bound.Sure.{notified_takes}
 use Rattle.mutex_world.proofs.step.Here.{BeginsOrGoes, same_roles}
 use Rattle.mutex_world.proofs.table.Seen as seen
 use Rattle.mutex_world.proofs.table.Turns.{within}
@@ -179,6 +180,7 @@ module _ (known : ℕ → Account) (w : World) (p : ℕ) (c : Call) (i : Inputs)
   keeps_promises = record {
     first = first;
     solo = λ is solo free. (let R : Call → Type 0 = λ x. Runs known w (moves_of p x i n) (answers_of n a) v in poll_seen known w p i n a v stood stands (subst R is runs) ended solo free);
+    notified = λ is told free why. (let R : Call → Type 0 = λ x. Runs known w (moves_of p x i n) (answers_of n a) v in notified_takes known w p i n a v stood stands (subst R is runs) ended told free why);
     unstarved = unstarved;
     hands_on = hands_on;
   }

@@ -154,6 +154,9 @@ returns-clause-releases_silently c = λ r.
 pub returns-clause-passes_over_in_vain : goal.returns-clause-passes_over_in_vain
 returns-clause-passes_over_in_vain c = λ r. let ready = ((r.kept.solo r.polls r.solo r.free).takes (inr r.unstarved)).ready in absurd (cc (r.pending))
 
+pub returns-clause-refused_in_vain : goal.returns-clause-refused_in_vain
+returns-clause-refused_in_vain c = λ r. let ready = (r.kept.notified r.polls r.told r.free (inr r.unstarved)).ready in absurd (cc (r.refused))
+
 pub returns-clause-starves_unasked : goal.returns-clause-starves_unasked
 returns-clause-starves_unasked c = λ r. true≢false (sym r.starved ∙ r.kept.unstarved r.patient r.unstarved)
 
