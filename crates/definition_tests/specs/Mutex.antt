@@ -251,6 +251,14 @@ pub record StarvesUnasked : Type 0 where
   pub starved : is_starved whole.new.state whole.party ≡ true
   pub kept : Keeps whole
 
+-- Or its call is refused since too many are, as where none may be: it was not to be one of them.
+pub record StarvedAmongNone : Type 0 where
+  pub whole : Whole
+  pub patient : whole.inputs.starving ≡ false
+  pub unstarved : how_many whole.old.state.starved ≡ 0
+  pub refused : whole.answer ≡ refused Starved
+  pub kept : Keeps whole
+
 -- A listed party's poll is refused, and nobody else is told: what it was told is lost.
 pub record KeepsItsTold : Type 0 where
   pub whole : Whole

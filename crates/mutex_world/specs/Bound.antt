@@ -8,10 +8,11 @@ use Rattle.lock_world.specs.declared.moves.Call.{Call}
 use Rattle.lock_world.specs.declared.moves.Call.TheVariants as call
 use Rattle.lock_world.specs.declared.moves.Got.TheVariants.{Value}
 use Rattle.lock_world.specs.declared.moves.Inputs.{Inputs}
+use Rattle.lock_world.specs.declared.refusal.Refusal.TheVariants.{Starved}
 use Rattle.lock_world.specs.Rosters.{how_many}
 use Rattle.lock_world.specs.declared.moves.What.TheVariants.{Begin}
 use Rattle.lock_world.specs.declared.standing.Rest.TheVariants.{Pending}
-use Rattle.lock_world.specs.Standings.{outside}
+use Rattle.lock_world.specs.Standings.{outside, refused}
 use Rattle.lock_world.specs.Frame.{is_refusal}
 use Rattle.lock_world.specs.Bounds as bounds
 use Rattle.mutex_world.specs.State.{World, standing_of, is_starved, is_free}
@@ -56,6 +57,8 @@ pub record Promises (w : World) (p : ℕ) (c : Call) (inputs : Inputs) (a : Answ
   pub notified : c ≡ call.Poll → IsNotified w p → w.state.holder ≡ None → (is_starved w.state p ≡ true) ⊎ (how_many w.state.starved ≡ 0) → Takes w p a v
   -- Where nobody is starved, a party isn't starved at the end that hasn't waited for too long.
   pub unstarved : inputs.starving ≡ false → how_many w.state.starved ≡ 0 → is_starved v.state p ≡ false
+  -- Nor is its call refused then for the number of starved parties.
+  pub patient : inputs.starving ≡ false → how_many w.state.starved ≡ 0 → a ≢ refused Starved
   -- A refused poll of a party that stood in the list hands on what it was told: some entry is marked, if there is any.
   pub hands_on : c ≡ call.Poll → standing_of w p ≡ outside Pending → 0 < entries_of p w.entries → is_refusal a ≡ true → 0 < length v.entries → 0 < marked_count v.entries
 

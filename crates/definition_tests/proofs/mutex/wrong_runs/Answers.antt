@@ -160,5 +160,8 @@ returns-clause-refused_in_vain c = λ r. let ready = (r.kept.notified r.polls r.
 pub returns-clause-starves_unasked : goal.returns-clause-starves_unasked
 returns-clause-starves_unasked c = λ r. true≢false (sym r.starved ∙ r.kept.unstarved r.patient r.unstarved)
 
+pub returns-clause-starved_among_none : goal.returns-clause-starved_among_none
+returns-clause-starved_among_none c = λ r. r.kept.patient r.patient r.unstarved r.refused
+
 pub returns-clause-keeps_its_told : goal.returns-clause-keeps_its_told
 returns-clause-keeps_its_told c = λ r. let some = r.kept.hands_on r.polls r.pending r.listed r.refused r.some in absurd (omega (arith, some, r.none_told))
