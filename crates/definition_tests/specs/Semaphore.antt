@@ -231,3 +231,14 @@ pub record KeepsItsTold : Type 0 where
   pub some : 0 < length whole.new.entries
   pub none_told : marked_count whole.new.entries ≡ 0
   pub kept : Keeps whole
+
+-- A pending party's poll takes one permit of several, and what was told is lost: the others wait though permits are left, while somebody is inside a call.
+pub record TakesWhatWasTold : Type 0 where
+  pub whole : Whole
+  pub polls : whole.call ≡ call.Poll
+  pub was_pending : standing_of whole.old whole.party ≡ outside Pending
+  pub free : is_free whole.old.state ≡ true
+  pub told : 0 < marked_count whole.old.entries
+  pub some : 0 < length whole.new.entries
+  pub none_told : marked_count whole.new.entries ≡ 0
+  pub kept : Keeps whole

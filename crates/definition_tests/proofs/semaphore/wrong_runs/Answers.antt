@@ -140,3 +140,6 @@ returns-clause-passes_over_in_vain c = λ r. let ready = (r.kept.later r.polls r
 
 pub returns-clause-keeps_its_told : goal.returns-clause-keeps_its_told
 returns-clause-keeps_its_told c = λ r. let some = r.kept.hands_on r.polls r.was_pending r.listed r.refused r.some in absurd (omega (arith, some, r.none_told))
+
+pub returns-clause-takes_what_was_told : goal.returns-clause-takes_what_was_told
+returns-clause-takes_what_was_told c = λ r. let some = r.kept.passes_on r.polls r.was_pending r.free r.told r.some in absurd (omega (arith, some, r.none_told))
