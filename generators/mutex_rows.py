@@ -8,7 +8,7 @@ with one finding of its action: what the step changes, and what it decides.
 HEAD = """-- Each action of a party, place by place: what it changes, and what it decides. Written by generators/mutex_rows.py.
 use Rattle.std.proofs.Common.{◌≡◌, ◌<◌, ◌⊎◌, inl, inr, Bool, true, false, Option, Some, None, refl}
 use Rattle.lock_world.specs.declared.refusal.Refusal.TheVariants.{Memory, Starved}
-use Rattle.lock_world.specs.Steps.{Deed, nothing, changes, does, joins, asks, leaves, notifies}
+use Rattle.lock_world.specs.Steps.{Deed, nothing, changes, does, joins, asks, leaves, notifies, notifies_additionally}
 use Rattle.mutex_program.specs.declared.program.Place.{Place}
 use Rattle.mutex_program.specs.declared.program.Place.TheVariants.{Out, Holding, Enter, Try, Clear, CancelUncount, CancelLeave, Join, Look, Ask, Retry, PassOn, Count, JoinStarved, LookAlone, PassOnListed, AskStarved, Seize, Uncount, Leave, RefuseUncount, RefuseLeave, RefuseNotifyMemory, RefuseNotifyStarved, ReleaseNotify}
 use Rattle.mutex_program.specs.declared.program.Action.{Action}
@@ -57,6 +57,8 @@ Starves _ b c = c ≡ b
 abbrev pub Finding : Deed Change ListName → Lock → Place → Type 0
 Finding (changes takes) l from = (holders l ≡ 0) × ((starved l ≡ 0) ⊎ (counted from ≡ 1))
 Finding (changes starves) l from = starved l < l.limit
+Finding (does list (notifies n)) l from = n ≡ 1
+Finding (does list (notifies_additionally n)) l from = ⊥
 Finding _ l from = Unit {0}
 
 abbrev pub decision_by : Next → Option End
@@ -70,7 +72,7 @@ Reason memory l from f Pending = (action_of from ≡ act.Ask) × (f ≡ No) × (
 Reason memory l from f NotFree = (holders l ≡ 1) ⊎ (0 < starved l)
 Reason memory l from f GivenBack = Unit {0}
 Reason memory l from f (Refused Memory) = (memory ≡ false) × (listed from ≡ 0) × (deed_of (action_of from) f ≡ nothing)
-Reason memory l from f (Refused Starved) = starved l ≡ l.limit
+Reason memory l from f (Refused Starved) = (starved l ≡ l.limit) × (counted from ≡ 0) × (deed_of (action_of from) f ≡ nothing)
 Reason memory l from f (Refused _) = ⊥
 
 abbrev pub Judged : Bool → Lock → Place → Found → Option End → Option End → Type 0
@@ -110,7 +112,7 @@ SAYS = {
     TAKEN: 'refl',
     WAITING: '(refl, refl, refl)',
     NO_MEMORY: '(e, refl, refl)',
-    AT_LIMIT: 'e',
+    AT_LIMIT: '(e, refl, refl)',
 }
 
 rows = []
@@ -126,6 +128,8 @@ def row(place, action, found, judged):
         finding = {'Take': '(e.0, inl e.1)', 'TakeAlone': '(e.0, inr refl)', 'Set': '(e, inr refl)'}[action]
     if counts:
         finding = 'e'
+    if action == 'Notify':
+        finding = 'refl'
     room = 'e' if action == 'Join' and found == 'Done' else 'tt'
     holds_on = 'tt' if judged == KEPT else 'refl'
     if place in ('(Uncount true)', '(Uncount false)', 'Leave'):

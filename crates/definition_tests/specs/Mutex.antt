@@ -1,24 +1,27 @@
 -- Runs of a mutex that no user would accept. Each record is one wrong run: what its steps would be, if it were legal.
 use Rattle.std.specs.Prelude.{◌≡◌, ◌≢◌, ℕ, ◌<◌, true, false, length, Some, None}
 use Rattle.lock_event.specs.declared.event.Mark.TheVariants.{Waiting}
-use Rattle.lock_event.specs.Lists.{marked_count}
-use Rattle.lock_queue.specs.Parties.{entries_of}
+use Rattle.lock_event.specs.Lists.{marked_count, is_marked_at}
+use Rattle.lock_queue.specs.Parties.{is_party, entries_of}
 use Rattle.lock_world.specs.declared.moves.Answer.{Answer}
 use Rattle.lock_world.specs.declared.moves.Answer.TheVariants as answer
 use Rattle.lock_world.specs.declared.moves.Call.{Call}
 use Rattle.lock_world.specs.declared.moves.Call.TheVariants as call
+use Rattle.lock_world.specs.declared.moves.Got.{Got}
 use Rattle.lock_world.specs.declared.moves.Inputs.{Inputs}
 use Rattle.lock_world.specs.declared.moves.Move.{Move}
 use Rattle.lock_world.specs.declared.moves.What.TheVariants.{Begin, Go}
-use Rattle.lock_world.specs.declared.refusal.Refusal.TheVariants.{Memory}
+use Rattle.lock_world.specs.declared.refusal.Refusal.TheVariants.{Memory, Starved}
+use Rattle.lock_world.specs.declared.standing.Kind.TheVariants.{Drop}
 use Rattle.lock_world.specs.declared.standing.Rest.{Rest}
-use Rattle.lock_world.specs.declared.standing.Rest.TheVariants.{Pending}
+use Rattle.lock_world.specs.declared.standing.Rest.TheVariants.{Pending, Holding}
 use Rattle.lock_world.specs.declared.standing.Within.{Within}
 use Rattle.lock_world.specs.Frame.{is_refusal}
 use Rattle.lock_world.specs.Rosters.{how_many}
 use Rattle.lock_world.specs.Standings.{outside, inside, refused}
-use Rattle.mutex_world.specs.Bound.{IsSolo, Promises}
-use Rattle.mutex_world.specs.Legal.{DecidesOn, is_first_poll, Legal, AnswersAtOnce}
+use Rattle.lock_world.specs.Steps.{does, notifies_additionally}
+use Rattle.mutex_world.specs.Bound.{IsSolo, IsNotified, Promises}
+use Rattle.mutex_world.specs.Legal.{ListName, DecidesOn, is_first_poll, is_later_poll, Legal, AnswersAtOnce}
 use Rattle.mutex_world.specs.State.{World, standing_of, mark_of, is_free, is_starved}
 
 -- A move of a party, and what it leads to.
@@ -110,6 +113,116 @@ pub record LetsGoUndecided : Type 0 where
   pub let_go : step.new.state.holder ≡ None
   pub legal : IsLegal step
 
+-- A drop begins and isn't decided, so that it may take the lock, or wait for it, again.
+pub record DropsUndecided : Type 0 where
+  pub step : Step
+  pub rest : Rest
+  pub undecided : standing_of step.new step.move.party ≡ inside (record { kind = Drop; was = rest }) None
+  pub legal : IsLegal step
+
+-- A step takes the lock, and decides that its call is refused since too many are starved.
+pub record StarvedHavingTaken : Type 0 where
+  pub step : Step
+  pub took : step.new.state.holder ≢ step.old.state.holder
+  pub refused : DecidesOn step.old step.move step.answer step.new (refused Starved)
+  pub legal : IsLegal step
+
+-- A party that is counted as starved is refused since too many are.
+pub record StarvedTwice : Type 0 where
+  pub step : Step
+  pub starved : is_starved step.old.state step.move.party ≡ true
+  pub refused : DecidesOn step.old step.move step.answer step.new (refused Starved)
+  pub legal : IsLegal step
+
+-- A call is refused for the number of starved parties at its first step, before it has looked at the lock again.
+pub record StarvedAtFirst : Type 0 where
+  pub step : Step
+  pub rest : Rest
+  pub begins : standing_of step.old step.move.party ≡ outside rest
+  pub refused : DecidesOn step.old step.move step.answer step.new (refused Starved)
+  pub legal : IsLegal step
+
+-- A pending party is counted as starved and stands in no list: newcomers leave the lock to it, and nobody ever wakes it.
+pub record StarvesUnlisted : Type 0 where
+  pub step : Step
+  pub party : ℕ
+  pub pending : standing_of step.new party ≡ outside Pending
+  pub unlisted : entries_of party step.new.entries ≡ 0
+  pub starved : is_starved step.new.state party ≡ true
+  pub legal : IsLegal step
+
+-- A party whose call is to be refused holds the lock.
+pub record HoldsRefused : Type 0 where
+  pub step : Step
+  pub party : ℕ
+  pub within : Within
+  pub number : ℕ
+  pub refused : standing_of step.new party ≡ inside within (Some (answer.Refused number))
+  pub holds : step.new.state.holder ≡ Some party
+  pub legal : IsLegal step
+
+-- A party whose call is to be ready has let the lock go again.
+pub record ReadyWithout : Type 0 where
+  pub step : Step
+  pub party : ℕ
+  pub within : Within
+  pub got : Got
+  pub ready : standing_of step.new party ≡ inside within (Some (answer.Ready got))
+  pub without : step.new.state.holder ≡ None
+  pub legal : IsLegal step
+
+-- One party is told beside another that was told and hasn't looked yet, as if two could have the lock.
+pub record TellsMore : Type 0 where
+  pub step : Step
+  pub list : ListName
+  pub more : ℕ
+  pub legal : IsLegal step
+  pub tells : legal.one_change.deed ≡ does list (notifies_additionally more)
+
+-- A try finds the lock held and leaves something behind: it is counted as starved, or notifies.
+pub record TriesAndTells : Type 0 where
+  pub step : Step
+  pub inputs : Inputs
+  pub tries : step.move.what ≡ Begin call.TryLock inputs
+  pub none : step.answer ≡ answer.None
+  pub told : step.new.entries ≢ step.old.entries
+  pub legal : IsAtOnce step
+
+-- A first poll is counted as starved at once, though it has not waited at all.
+pub record StarvesAtFirst : Type 0 where
+  pub step : Step
+  pub first : is_first_poll (standing_of step.old step.move.party) step.move.what (entries_of step.move.party step.old.entries) ≡ true
+  pub stepped : step.answer ≡ answer.Stepped
+  pub counts : step.new.state ≢ step.old.state
+  pub legal : IsAtOnce step
+
+-- A party that waits and wasn't notified polls, and its call goes on: it may be refused, and lose its place.
+pub record PollsUntold : Type 0 where
+  pub step : Step
+  pub polls : is_later_poll (standing_of step.old step.move.party) step.move.what ≡ true
+  pub listed : 0 < entries_of step.move.party step.old.entries
+  pub untold : is_marked_at (is_party step.move.party) step.old.entries ≡ false
+  pub goes_on : step.answer ≡ answer.Stepped
+  pub legal : IsAtOnce step
+
+-- The drop of a guard begins, and the lock is held still: whoever is told before it is given back finds it held.
+pub record ReleasesLate : Type 0 where
+  pub step : Step
+  pub inputs : Inputs
+  pub drops : step.move.what ≡ Begin call.Drop inputs
+  pub holding : standing_of step.old step.move.party ≡ outside Holding
+  pub held : step.new.state.holder ≡ Some step.move.party
+  pub legal : IsAtOnce step
+
+-- The drop of a guard ends, and nobody is told in a list where somebody waits: another may be inside a call that it never goes on with.
+pub record ReleasesSilently : Type 0 where
+  pub step : Step
+  pub releases : standing_of step.old step.move.party ≡ inside (record { kind = Drop; was = Holding }) (Some answer.GivenBack)
+  pub given_back : step.answer ≡ answer.GivenBack
+  pub some : 0 < length step.new.entries
+  pub none_told : marked_count step.new.entries ≡ 0
+  pub legal : IsAtOnce step
+
 -- A notified party polls a free lock alone, where nobody is starved, and waits again: so it may do for ever, or two parties tell each other in turn.
 pub record PassesOverInVain : Type 0 where
   pub whole : Whole
@@ -120,12 +233,30 @@ pub record PassesOverInVain : Type 0 where
   pub pending : whole.answer ≡ answer.Pending
   pub kept : Keeps whole
 
+-- Or it is refused for memory that it doesn't need, and loses its place.
+pub record RefusedInVain : Type 0 where
+  pub whole : Whole
+  pub polls : whole.call ≡ call.Poll
+  pub told : IsNotified whole.old whole.party
+  pub free : whole.old.state.holder ≡ None
+  pub unstarved : how_many whole.old.state.starved ≡ 0
+  pub refused : whole.answer ≡ refused Memory
+  pub kept : Keeps whole
+
 -- A party is counted as starved, though nobody was and it hasn't waited for too long.
 pub record StarvesUnasked : Type 0 where
   pub whole : Whole
   pub patient : whole.inputs.starving ≡ false
   pub unstarved : how_many whole.old.state.starved ≡ 0
   pub starved : is_starved whole.new.state whole.party ≡ true
+  pub kept : Keeps whole
+
+-- Or its call is refused since too many are, as where none may be: it was not to be one of them.
+pub record StarvedAmongNone : Type 0 where
+  pub whole : Whole
+  pub patient : whole.inputs.starving ≡ false
+  pub unstarved : how_many whole.old.state.starved ≡ 0
+  pub refused : whole.answer ≡ refused Starved
   pub kept : Keeps whole
 
 -- A listed party's poll is refused, and nobody else is told: what it was told is lost.

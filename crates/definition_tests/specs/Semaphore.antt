@@ -6,21 +6,24 @@ use Rattle.lock_world.specs.declared.moves.Answer.{Answer}
 use Rattle.lock_world.specs.declared.moves.Answer.TheVariants as answer
 use Rattle.lock_world.specs.declared.moves.Call.{Call}
 use Rattle.lock_world.specs.declared.moves.Call.TheVariants as call
+use Rattle.lock_world.specs.declared.moves.Got.{Got}
+use Rattle.lock_world.specs.declared.moves.Got.TheVariants.{Plain}
 use Rattle.lock_world.specs.declared.moves.Inputs.{Inputs}
 use Rattle.lock_world.specs.declared.moves.Move.{Move}
 use Rattle.lock_world.specs.declared.moves.What.TheVariants.{Begin, Go}
 use Rattle.lock_world.specs.declared.refusal.Refusal.TheVariants.{Memory}
 use Rattle.lock_world.specs.declared.standing.Kind.TheVariants as kind
-use Rattle.lock_world.specs.declared.standing.Rest.TheVariants.{Pending}
+use Rattle.lock_world.specs.declared.standing.Rest.TheVariants.{Idle, Pending, Holding}
 use Rattle.lock_world.specs.declared.standing.Within.{Within}
-use Rattle.lock_world.specs.Frame.{is_refusal}
+use Rattle.lock_world.specs.Frame.{is_drop, is_refusal}
 use Rattle.lock_world.specs.Standings.{outside, inside, is_possible, refused}
-use Rattle.lock_world.specs.Steps.{does, notifies}
-use Rattle.semaphore_machine.specs.Deeds.{for_a_permit}
+use Rattle.lock_world.specs.Steps.{changes, does, notifies, notifies_additionally}
+use Rattle.semaphore_machine.specs.Deeds.{gives_back, gives, for_a_permit}
+use Rattle.semaphore_machine.specs.Seats.{nothing_had}
 use Rattle.semaphore_world.specs.AtOnce.{AnswersAtOnce, is_try, is_first_poll}
 use Rattle.semaphore_world.specs.Bound.{Promises}
-use Rattle.semaphore_world.specs.Legal.{Legal, added_in, is_forget}
-use Rattle.semaphore_world.specs.State.{World, has_permit, is_free, standing_of, adds_of, mark_of}
+use Rattle.semaphore_world.specs.Legal.{Legal, added_in, is_forget, is_poll_call, state_after}
+use Rattle.semaphore_world.specs.State.{World, share_at, has_permit, is_free, standing_of, adds_of, mark_of}
 
 -- A move of a party, and what it leads to.
 pub record Step : Type 0 where
@@ -127,6 +130,88 @@ pub record WaitsUnlisted : Type 0 where
   pub unlisted : mark_of step.new step.move.party ≡ None
   pub legal : IsLegal step
 
+-- A call on what a party has, or an add, begins and isn't decided, so that it may take a permit, or wait for one.
+pub record GoesOnUndecided : Type 0 where
+  pub step : Step
+  pub party : ℕ
+  pub within : Within
+  pub undecided : standing_of step.new party ≡ inside within None
+  pub no_poll : is_poll_call within.kind ≡ false
+  pub legal : IsLegal step
+
+-- A party whose call is to be refused has a permit.
+pub record HasRefused : Type 0 where
+  pub step : Step
+  pub party : ℕ
+  pub within : Within
+  pub number : ℕ
+  pub refused : standing_of step.new party ≡ inside within (Some (answer.Refused number))
+  pub has : has_permit step.new.state party ≡ true
+  pub legal : IsLegal step
+
+-- A party that adds takes a permit for itself.
+pub record AddsAndTakes : Type 0 where
+  pub step : Step
+  pub party : ℕ
+  pub within : Within
+  pub got : Got
+  pub adding : standing_of step.new party ≡ inside within (Some (answer.Granted got))
+  pub has : has_permit step.new.state party ≡ true
+  pub legal : IsLegal step
+
+-- Parties are told beside those that were told and haven't looked yet, as if there were more permits.
+pub record TellsMore : Type 0 where
+  pub step : Step
+  pub more : ℕ
+  pub legal : IsLegal step
+  pub tells : legal.one_change.deed ≡ does for_a_permit (notifies_additionally more)
+
+-- A try finds no permit and notifies.
+pub record TriesAndTells : Type 0 where
+  pub step : Step
+  pub tries : is_try step.move.what ≡ true
+  pub none : step.answer ≡ answer.None
+  pub told : step.new.entries ≢ step.old.entries
+  pub legal : IsAtOnce step
+
+-- The drop of a guard begins, and its permit isn't available yet: whoever is told before it is finds none.
+pub record ReturnsLate : Type 0 where
+  pub step : Step
+  pub drops : is_drop step.move.what ≡ true
+  pub holding : standing_of step.old step.move.party ≡ outside Holding
+  pub kept : step.new.state ≢ state_after step.move.party (changes gives_back) step.old.state
+  pub legal : IsAtOnce step
+
+-- The drop of a guard ends, and nobody is told in a list where somebody waits: another may be inside a call that it never goes on with.
+pub record ReturnsSilently : Type 0 where
+  pub step : Step
+  pub returns : standing_of step.old step.move.party ≡ inside (record { kind = kind.Drop; was = Holding }) (Some answer.GivenBack)
+  pub given_back : step.answer ≡ answer.GivenBack
+  pub some : 0 < length step.new.entries
+  pub none_told : marked_count step.new.entries ≡ 0
+  pub legal : IsAtOnce step
+
+-- So does an add that has given what it adds.
+pub record AddsSilently : Type 0 where
+  pub step : Step
+  pub adding : standing_of step.old step.move.party ≡ inside (record { kind = kind.Add; was = Idle }) (Some (answer.Granted Plain))
+  pub adds : 0 < adds_of step.old step.move.party
+  pub gave : share_at step.old.state step.move.party ≡ nothing_had
+  pub possible : is_possible step.answer ≡ true
+  pub some : 0 < length step.new.entries
+  pub none_told : marked_count step.new.entries ≡ 0
+  pub legal : IsAtOnce step
+
+-- An add notifies before it has given what it adds, so that whoever is told finds none.
+pub record AddsAfterTelling : Type 0 where
+  pub step : Step
+  pub adding : standing_of step.old step.move.party ≡ inside (record { kind = kind.Add; was = Idle }) (Some (answer.Granted Plain))
+  pub adds : 0 < adds_of step.old step.move.party
+  pub under_way : share_at step.old.state step.move.party ≡ record { permit = false; under_way = adds_of step.old step.move.party }
+  pub possible : is_possible step.answer ≡ true
+  pub kept : step.new.state ≢ state_after step.move.party (changes (gives (adds_of step.old step.move.party))) step.old.state
+  pub legal : IsAtOnce step
+
 -- A pending party polls alone, where a permit is available, and waits again.
 pub record PassesOverInVain : Type 0 where
   pub whole : Whole
@@ -143,6 +228,17 @@ pub record KeepsItsTold : Type 0 where
   pub was_pending : standing_of whole.old whole.party ≡ outside Pending
   pub listed : 0 < entries_of whole.party whole.old.entries
   pub refused : is_refusal whole.answer ≡ true
+  pub some : 0 < length whole.new.entries
+  pub none_told : marked_count whole.new.entries ≡ 0
+  pub kept : Keeps whole
+
+-- A pending party's poll takes one permit of several, and what was told is lost: the others wait though permits are left, while somebody is inside a call.
+pub record TakesWhatWasTold : Type 0 where
+  pub whole : Whole
+  pub polls : whole.call ≡ call.Poll
+  pub was_pending : standing_of whole.old whole.party ≡ outside Pending
+  pub free : is_free whole.old.state ≡ true
+  pub told : 0 < marked_count whole.old.entries
   pub some : 0 < length whole.new.entries
   pub none_told : marked_count whole.new.entries ≡ 0
   pub kept : Keeps whole

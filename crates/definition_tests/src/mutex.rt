@@ -4,7 +4,7 @@ ghost use Rattle.definition_tests.specs.Tables.{AreRowsOf, AreRowsOfTwo};
 ghost use Rattle.definition_tests.specs.MutexTable.{beginnings, actions, followings};
 ghost use Rattle.mutex_program.specs.Program.{start_of, action_of, next_of};
 ghost use Rattle.definition_tests.specs.Never.{Never};
-ghost use Rattle.definition_tests.specs.Mutex.{TriesInVain, PollsUnready, WaitsUnlisted, WaitsUnmarked, PendsTooEarly, RefusedAtFirst, RefusedHavingTaken, LetsGoUndecided, PassesOverInVain, StarvesUnasked, KeepsItsTold};
+ghost use Rattle.definition_tests.specs.Mutex.{TriesInVain, PollsUnready, WaitsUnlisted, WaitsUnmarked, PendsTooEarly, RefusedAtFirst, RefusedHavingTaken, LetsGoUndecided, DropsUndecided, StarvedHavingTaken, StarvedTwice, StarvedAtFirst, StarvesUnlisted, HoldsRefused, ReadyWithout, TellsMore, TriesAndTells, StarvesAtFirst, PollsUntold, ReleasesLate, ReleasesSilently, PassesOverInVain, RefusedInVain, StarvesUnasked, StarvedAmongNone, KeepsItsTold};
 
 /// Each clause says of one wrong run that it isn't legal.
 fn wrong_runs()
@@ -16,8 +16,23 @@ fn wrong_runs()
     ensures refused_at_first { Never (RefusedAtFirst) }
     ensures refused_having_taken { Never (RefusedHavingTaken) }
     ensures lets_go_undecided { Never (LetsGoUndecided) }
+    ensures drops_undecided { Never (DropsUndecided) }
+    ensures starved_having_taken { Never (StarvedHavingTaken) }
+    ensures starved_twice { Never (StarvedTwice) }
+    ensures starved_at_first { Never (StarvedAtFirst) }
+    ensures starves_unlisted { Never (StarvesUnlisted) }
+    ensures holds_refused { Never (HoldsRefused) }
+    ensures ready_without { Never (ReadyWithout) }
+    ensures tells_more { Never (TellsMore) }
+    ensures tries_and_tells { Never (TriesAndTells) }
+    ensures starves_at_first { Never (StarvesAtFirst) }
+    ensures polls_untold { Never (PollsUntold) }
+    ensures releases_late { Never (ReleasesLate) }
+    ensures releases_silently { Never (ReleasesSilently) }
     ensures passes_over_in_vain { Never (PassesOverInVain) }
+    ensures refused_in_vain { Never (RefusedInVain) }
     ensures starves_unasked { Never (StarvesUnasked) }
+    ensures starved_among_none { Never (StarvedAmongNone) }
     ensures keeps_its_told { Never (KeepsItsTold) }
 {}
 

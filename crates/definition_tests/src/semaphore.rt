@@ -4,7 +4,7 @@ ghost use Rattle.definition_tests.specs.Tables.{AreRowsOf, AreRowsOfTwo};
 ghost use Rattle.definition_tests.specs.SemaphoreTable.{beginnings, actions, followings};
 ghost use Rattle.semaphore_machine.specs.Program.{start_of, action_of, next_of};
 ghost use Rattle.definition_tests.specs.Never.{Never};
-ghost use Rattle.definition_tests.specs.Semaphore.{TriesInVain, TakesUndecided, GivesBackWithin, GivesBeforeItRaises, NotifiesForOthers, ForgetsInVain, RefusedThoughFree, RefusedAtLast, WaitsUnlisted, PassesOverInVain, KeepsItsTold};
+ghost use Rattle.definition_tests.specs.Semaphore.{TriesInVain, TakesUndecided, GivesBackWithin, GivesBeforeItRaises, NotifiesForOthers, ForgetsInVain, RefusedThoughFree, RefusedAtLast, WaitsUnlisted, GoesOnUndecided, HasRefused, AddsAndTakes, TellsMore, TriesAndTells, ReturnsLate, ReturnsSilently, AddsSilently, AddsAfterTelling, PassesOverInVain, KeepsItsTold, TakesWhatWasTold};
 
 /// Each clause says of one wrong run that it isn't legal.
 fn wrong_runs()
@@ -17,8 +17,18 @@ fn wrong_runs()
     ensures refused_though_free { Never (RefusedThoughFree) }
     ensures refused_at_last { Never (RefusedAtLast) }
     ensures waits_unlisted { Never (WaitsUnlisted) }
+    ensures goes_on_undecided { Never (GoesOnUndecided) }
+    ensures has_refused { Never (HasRefused) }
+    ensures adds_and_takes { Never (AddsAndTakes) }
+    ensures tells_more { Never (TellsMore) }
+    ensures tries_and_tells { Never (TriesAndTells) }
+    ensures returns_late { Never (ReturnsLate) }
+    ensures returns_silently { Never (ReturnsSilently) }
+    ensures adds_silently { Never (AddsSilently) }
+    ensures adds_after_telling { Never (AddsAfterTelling) }
     ensures passes_over_in_vain { Never (PassesOverInVain) }
     ensures keeps_its_told { Never (KeepsItsTold) }
+    ensures takes_what_was_told { Never (TakesWhatWasTold) }
 {}
 
 /// The programs' places, each with its action and what follows what it finds, as docs/PROGRAMS.md lists them.

@@ -5,7 +5,7 @@ use Rattle.lock_event.specs.Lists.{mark_at}
 use Rattle.lock_queue.specs.Parties.{is_party, entries_of}
 use Rattle.lock_world.specs.declared.refusal.Refusal.{Refusal}
 use Rattle.lock_world.specs.declared.refusal.Refusal.TheVariants.{Memory, Starved}
-use Rattle.lock_world.specs.Steps.{Deed, nothing, changes, does, joins}
+use Rattle.lock_world.specs.Steps.{Deed, nothing, changes, does, joins, notifies, notifies_additionally}
 use Rattle.mutex_program.specs.declared.program.Place.{Place}
 use Rattle.mutex_program.specs.declared.program.Place.TheVariants as place
 use Rattle.mutex_program.specs.declared.calls.LockCall.{LockCall}
@@ -43,22 +43,24 @@ decided_then (next.End e) to = Some e
 abbrev pub IsUnrefused : Next → Place → Type 0
 IsUnrefused onward to = (r : Refusal) → decided_then onward to ≡ Some (Refused r) → ⊥
 
--- Why a call may be decided on this end: the party has the lock; it stands waiting in the list; the lock was held or somebody starved; its join found no memory, and changed nothing; or as many parties were starved as may be.
+-- Why a call may be decided on this end: the party has the lock; it stands waiting in the list; the lock was held or somebody starved; its join found no memory, and changed nothing; or as many parties were starved as may be, it was none of them, and changed nothing.
 abbrev pub IsReason : Bool → ℕ → Lock → Lock → End → Type 0
 IsReason memory p old new Got = holder_of new ≡ Some p
 IsReason memory p old new Pending = mark_at (is_party p) new.entries ≡ Some Waiting
 IsReason memory p old new NotFree = (holders old ≡ 1) ⊎ (0 < starved old)
 IsReason memory p old new GivenBack = Unit {0}
 IsReason memory p old new (Refused Memory) = (memory ≡ false) × (entries_of p old.entries ≡ 0) × (new.entries ≡ old.entries) × (holder_of new ≡ holder_of old) × (starved_of new ≡ starved_of old)
-IsReason memory p old new (Refused Starved) = starved old ≡ old.limit
+IsReason memory p old new (Refused Starved) = (starved old ≡ old.limit) × (counted (place_at old.places p) ≡ 0) × (new.entries ≡ old.entries) × (holder_of new ≡ holder_of old) × (starved_of new ≡ starved_of old)
 IsReason memory p old new (Refused _) = ⊥
 
--- Where a change may be made: the lock is taken where nobody holds it, and nobody is starved or the taker is; a party is counted once, below the limit.
+-- Where a change may be made: the lock is taken where nobody holds it, and nobody is starved or the taker is; a party is counted once, below the limit; and a party that notifies notifies for one.
 abbrev pub IsAllowed : ℕ → Deed Change ListName → Lock → Type 0
 IsAllowed p (changes takes) l = (holders l ≡ 0) × ((starved l ≡ 0) ⊎ IsStarved l p)
 IsAllowed p (changes releases) l = Holds l p
 IsAllowed p (changes starves) l = (counted (place_at l.places p) ≡ 0) × (starved l < l.limit)
 IsAllowed p (changes recovers) l = IsStarved l p
+IsAllowed p (does list (notifies n)) l = n ≡ 1
+IsAllowed p (does list (notifies_additionally n)) l = ⊥
 IsAllowed p _ l = Unit {0}
 
 -- An action changes one thing of the mutex where it may, or does one list function, never both, and moves no other party. A join has found memory. A call that was decided only gives back, and keeps its decision; who got the lock keeps it; one that wasn't decided gives nothing up; a refusal for memory does nothing else; and one that is decided now has its reason.

@@ -1,4 +1,5 @@
 -- Solo polls in turn.
 pub mod Alone
 pub mod AloneSeen
+pub mod Sure
 pub mod Bound

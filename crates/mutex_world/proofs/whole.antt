@@ -1,3 +1,4 @@
 -- Whole calls: how many steps they take, and what they promise.
 pub mod Whole
+pub mod Patient
 pub mod Promises

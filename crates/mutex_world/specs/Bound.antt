@@ -1,17 +1,18 @@
 -- How often a free lock may be passed over: whole polls of notified parties, one after the other, each carried out while the others stand still.
 use Rattle.std.specs.Prelude.{◌≡◌, ◌≢◌, ℕ, ◌<◌, ◌⊎◌, true, false, length, Some, None}
-use Rattle.lock_event.specs.Lists.{marked_count}
-use Rattle.lock_queue.specs.Parties.{entries_of}
+use Rattle.lock_event.specs.Lists.{marked_count, is_marked_at}
+use Rattle.lock_queue.specs.Parties.{is_party, entries_of}
 use Rattle.lock_world.specs.declared.moves.Answer.{Answer}
 use Rattle.lock_world.specs.declared.moves.Answer.TheVariants as answer
 use Rattle.lock_world.specs.declared.moves.Call.{Call}
 use Rattle.lock_world.specs.declared.moves.Call.TheVariants as call
 use Rattle.lock_world.specs.declared.moves.Got.TheVariants.{Value}
 use Rattle.lock_world.specs.declared.moves.Inputs.{Inputs}
+use Rattle.lock_world.specs.declared.refusal.Refusal.TheVariants.{Starved}
 use Rattle.lock_world.specs.Rosters.{how_many}
 use Rattle.lock_world.specs.declared.moves.What.TheVariants.{Begin}
 use Rattle.lock_world.specs.declared.standing.Rest.TheVariants.{Pending}
-use Rattle.lock_world.specs.Standings.{outside}
+use Rattle.lock_world.specs.Standings.{outside, refused}
 use Rattle.lock_world.specs.Frame.{is_refusal}
 use Rattle.lock_world.specs.Bounds as bounds
 use Rattle.mutex_world.specs.State.{World, standing_of, is_starved, is_free}
@@ -22,6 +23,11 @@ use Rattle.mutex_world.specs.Whole.{IsWholeCall}
 -- A solo poll is of a pending party whose entry is marked, and it finds memory.
 abbrev pub IsSolo : World → ℕ → Inputs → Type 0
 IsSolo w p inputs = bounds.IsSolo (standing_of w p) w.entries p inputs
+
+-- A pending party whose entry is marked: it was notified, whether or not its poll finds memory.
+pub record IsNotified (w : World) (p : ℕ) : Type 0 where
+  pub pending : standing_of w p ≡ outside Pending
+  pub marked : is_marked_at (is_party p) w.entries ≡ true
 
 -- The poll took the lock: it answers Ready with the value as it was, and its party is the holder.
 pub record Takes (w : World) (p : ℕ) (a : Answer) (v : World) : Type 0 where
@@ -47,8 +53,12 @@ pub record Promises (w : World) (p : ℕ) (c : Call) (inputs : Inputs) (a : Answ
   pub first : is_first_poll (standing_of w p) (Begin c inputs) (entries_of p w.entries) ≡ true → is_free w.state ≡ true → a ≡ answer.Ready (Value w.state.value)
   -- A solo poll of a free lock takes it or gives way.
   pub solo : c ≡ call.Poll → IsSolo w p inputs → w.state.holder ≡ None → SoloPoll w p a v
+  -- A poll of a notified party takes a free lock if it is starved, or if nobody is. It needs no memory.
+  pub notified : c ≡ call.Poll → IsNotified w p → w.state.holder ≡ None → (is_starved w.state p ≡ true) ⊎ (how_many w.state.starved ≡ 0) → Takes w p a v
   -- Where nobody is starved, a party isn't starved at the end that hasn't waited for too long.
   pub unstarved : inputs.starving ≡ false → how_many w.state.starved ≡ 0 → is_starved v.state p ≡ false
+  -- Nor is its call refused then for the number of starved parties.
+  pub patient : inputs.starving ≡ false → how_many w.state.starved ≡ 0 → a ≢ refused Starved
   -- A refused poll of a party that stood in the list hands on what it was told: some entry is marked, if there is any.
   pub hands_on : c ≡ call.Poll → standing_of w p ≡ outside Pending → 0 < entries_of p w.entries → is_refusal a ≡ true → 0 < length v.entries → 0 < marked_count v.entries
 

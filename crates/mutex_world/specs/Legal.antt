@@ -2,7 +2,8 @@
 use Rattle.std.specs.Prelude.{◌≡◌, ◌≢◌, ℕ, ◌<◌, ◌==◌, ◌||◌, ◌↔◌, ◌⊎◌, if◌then◌else◌, Bool, true, false, List, length, Option, Some, None, slice_set}
 use Rattle.lock_event.specs.declared.event.Entry.{Entry}
 use Rattle.lock_event.specs.declared.event.Mark.TheVariants.{Waiting}
-use Rattle.lock_queue.specs.Parties.{entries_of}
+use Rattle.lock_event.specs.Lists.{notified, is_marked_at}
+use Rattle.lock_queue.specs.Parties.{is_party, entries_of}
 use Rattle.lock_world.specs.declared.moves.Answer.{Answer}
 use Rattle.lock_world.specs.declared.moves.Answer.TheVariants as answer
 use Rattle.lock_world.specs.declared.moves.Call.TheVariants as call
@@ -12,12 +13,13 @@ use Rattle.lock_world.specs.declared.moves.What.{What}
 use Rattle.lock_world.specs.declared.moves.What.TheVariants.{Begin}
 use Rattle.lock_world.specs.declared.refusal.Refusal.{Refusal}
 use Rattle.lock_world.specs.declared.refusal.Refusal.TheVariants as refusal
+use Rattle.lock_world.specs.declared.standing.Kind.TheVariants as kind
 use Rattle.lock_world.specs.declared.standing.Rest.TheVariants.{Idle, Pending, Holding, Finished}
 use Rattle.lock_world.specs.declared.standing.Within.{Within}
-use Rattle.lock_world.specs.Standings.{Standing, outside, inside, inputs_of, is_possible, is_decided}
+use Rattle.lock_world.specs.Standings.{Standing, outside, inside, inputs_of, is_possible, is_decided, IsUndecided}
 use Rattle.lock_world.specs.Frame as frame
 use Rattle.lock_world.specs.Frame.{is_drop, is_refusal, put_in}
-use Rattle.lock_world.specs.Steps.{Deed, nothing, changes, does, joins, leaves, list_after, is_parting}
+use Rattle.lock_world.specs.Steps.{Deed, nothing, changes, does, joins, leaves, notifies, notifies_additionally, asked, list_after, is_parting}
 use Rattle.lock_world.specs.Rosters.{how_many}
 use Rattle.mutex_world.specs.Guarded.{knows}
 use Rattle.mutex_world.specs.State.{State, World, standing_of, is_starved, is_free, mark_of, IsClear}
@@ -76,6 +78,12 @@ gives_up (changes recovers) = true
 gives_up (does list leaves) = true
 gives_up _ = false
 
+-- A party that notifies notifies for one, and not beside one that was notified before.
+abbrev pub notifies_one : Deed Change ListName → Bool
+notifies_one (does list (notifies n)) = n == 1
+notifies_one (does list (notifies_additionally n)) = false
+notifies_one _ = true
+
 -- A move changes one thing of the state or does one list function, never both, and moves no other party. A join has found memory; a party whose call is decided only gives back, and no other gives anything up.
 pub record ChangesOneThing (old : World) (m : Move) (new : World) : Type 0 where
   pub deed : Deed Change ListName
@@ -88,6 +96,7 @@ pub record ChangesOneThing (old : World) (m : Move) (new : World) : Type 0 where
   pub found_memory : (list : ListName) → deed ≡ does list joins → (inputs_of m.what).memory ≡ true
   pub parting : is_decided (standing_of old m.party) || is_drop m.what ≡ true → gives_back deed ≡ true
   pub giving_up : gives_up deed ≡ true → is_decided (standing_of old m.party) || is_drop m.what ≡ true
+  pub notice : notifies_one deed ≡ true
 
 -- ---- Who may have the lock
 
@@ -114,10 +123,10 @@ pub record Waits (m : Move) (a : Answer) (new : World) : Type 0 where
   pub waiting : a ≡ answer.Pending → mark_of new m.party ≡ Some Waiting
   pub not_before : (within : Within) → standing_of new m.party ≢ inside within (Some answer.Pending)
 
--- Why a call of a mutex may be refused: a join found no memory, for the move's input said so, and nothing else happened; there are as many starved parties as there may be; or the future had been ready before.
+-- Why a call of a mutex may be refused: a join found no memory, for the move's input said so, and nothing else happened; a party that isn't starved was to be counted so, past its call's first step, where there are as many as there may be, and nothing else happened; or the future had been ready before.
 abbrev pub IsCause : World → Move → World → Refusal → Type 0
 IsCause old m new refusal.Memory = ((inputs_of m.what).memory ≡ false) × (entries_of m.party old.entries ≡ 0) × (new.entries ≡ old.entries) × (new.state ≡ old.state)
-IsCause old m new refusal.Starved = how_many old.state.starved ≡ old.limit
+IsCause old m new refusal.Starved = (how_many old.state.starved ≡ old.limit) × (is_starved old.state m.party ≡ false) × IsUndecided (standing_of old m.party) × (new.entries ≡ old.entries) × (new.state ≡ old.state)
 IsCause old m new refusal.Finished = new ≡ old
 IsCause old m new _ = ⊥
 
@@ -126,13 +135,15 @@ IsRefusedForCause = frame.IsRefusedForCause standing_of IsCause
 
 -- ---- What parties have
 
--- What a party has by how it stands: outside every call it holds the lock exactly if it stands as its holder, and unless it is pending it is in no list and not starved; until its call is decided it has no lock.
+-- What a party has by how it stands: outside every call it holds the lock exactly if it stands as its holder, and unless it is pending it is in no list and not starved; one that is pending is starved only where it stands in the list. Inside a call it holds the lock exactly if the call is decided on being ready; and a drop is decided at its first step.
 abbrev pub HasItsOwn : World → ℕ → Standing → Type 0
 HasItsOwn w p (outside Idle) = IsClear w p × (w.state.holder ≢ Some p)
 HasItsOwn w p (outside Finished) = IsClear w p × (w.state.holder ≢ Some p)
 HasItsOwn w p (outside Holding) = IsClear w p × (w.state.holder ≡ Some p)
-HasItsOwn w p (outside Pending) = w.state.holder ≢ Some p
-HasItsOwn w p (inside within None) = w.state.holder ≢ Some p
+HasItsOwn w p (outside Pending) = (w.state.holder ≢ Some p) × (entries_of p w.entries ≡ 0 → is_starved w.state p ≡ false)
+HasItsOwn w p (inside within None) = (w.state.holder ≢ Some p) × (within.kind ≢ kind.Drop)
+HasItsOwn w p (inside within (Some (answer.Ready got))) = w.state.holder ≡ Some p
+HasItsOwn w p (inside within (Some a)) = w.state.holder ≢ Some p
 HasItsOwn w p _ = Unit {0}
 
 -- Each party has what its standing says; and after a refusal its future is as when it was made, in no list and not starved.
@@ -180,9 +191,23 @@ is_first_poll (outside Finished) (Begin call.Lock inputs) n = true
 is_first_poll (outside Pending) (Begin call.Poll inputs) n = n == 0
 is_first_poll s _ n = false
 
+-- A later poll of a party that has been pending.
+abbrev pub is_later_poll : Standing → What → Bool
+is_later_poll (outside Pending) (Begin call.Poll inputs) = true
+is_later_poll s _ = false
+
 -- A possible try is granted exactly where the lock is free, and else answers None; the first step of a first poll takes the lock exactly where it is free, and is ready then.
 pub record AnswersAtOnce (old : World) (m : Move) (a : Answer) (new : World) : Type 0 where
   pub at_once : is_try m.what ≡ true → is_possible a ≡ true → a ≡ (if is_free old.state then answer.Granted (Value old.state.value) else answer.None)
   pub ready : is_first_poll (standing_of old m.party) m.what (entries_of m.party old.entries) ≡ true → a ≡ (if is_free old.state then answer.Ready (Value old.state.value) else answer.Stepped)
   pub first_poll : is_first_poll (standing_of old m.party) m.what (entries_of m.party old.entries) ≡ true
       → (new.state.holder ≡ Some m.party) ↔ (is_free old.state ≡ true)
+  -- Neither does anything else.
+  pub looks : is_try m.what || is_first_poll (standing_of old m.party) m.what (entries_of m.party old.entries) ≡ true → is_possible a ≡ true
+      → (new.state ≡ (if is_free old.state then state_after m.party (changes takes) old.state else old.state)) × (new.entries ≡ old.entries)
+  -- A poll of a party in the list goes on exactly where it has been notified, and else is pending still: it asks, and does nothing else.
+  pub listed : is_later_poll (standing_of old m.party) m.what ≡ true → 0 < entries_of m.party old.entries
+      → (a ≡ (if is_marked_at (is_party m.party) old.entries then answer.Stepped else answer.Pending)) × (new.state ≡ old.state) × (new.entries ≡ asked m.party old.entries)
+  -- The drop of a guard gives the lock back, and then notifies.
+  pub released : is_drop m.what ≡ true → standing_of old m.party ≡ outside Holding → (a ≡ answer.Stepped) × (new.state ≡ state_after m.party (changes releases) old.state)
+  pub notifies : standing_of old m.party ≡ inside (record { kind = kind.Drop; was = Holding }) (Some answer.GivenBack) → is_possible a ≡ true → (a ≡ answer.GivenBack) × (new.entries ≡ notified old.entries 1)

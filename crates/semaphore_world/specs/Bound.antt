@@ -32,6 +32,8 @@ pub record Promises (w : World) (p : ℕ) (c : Call) (inputs : Inputs) (a : Answ
   pub first : is_first_poll (standing_of w p) (Begin c inputs) (entries_of p w.entries) ≡ true → is_free w.state ≡ true → a ≡ answer.Ready Plain
   -- So is any later poll, a solo poll too, and takes the permit.
   pub later : c ≡ call.Poll → standing_of w p ≡ outside Pending → is_free w.state ≡ true → Takes p a v
+  -- And where some entry was marked, some is then, if there is any: other permits may be left.
+  pub passes_on : c ≡ call.Poll → standing_of w p ≡ outside Pending → is_free w.state ≡ true → 0 < marked_count w.entries → 0 < length v.entries → 0 < marked_count v.entries
   -- A refused poll of a party that stood in the list hands on what it was told: some entry is marked, if there is any.
   pub hands_on : c ≡ call.Poll → standing_of w p ≡ outside Pending → 0 < entries_of p w.entries → is_refusal a ≡ true → 0 < length v.entries → 0 < marked_count v.entries
 

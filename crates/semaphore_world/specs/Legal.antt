@@ -20,7 +20,7 @@ use Rattle.lock_world.specs.declared.standing.Within.{Within}
 use Rattle.lock_world.specs.Standings.{Standing, outside, inside, inputs_of, is_decided, is_outside}
 use Rattle.lock_world.specs.Frame as frame
 use Rattle.lock_world.specs.Frame.{is_drop, is_giving_back, is_refusal}
-use Rattle.lock_world.specs.Steps.{Deed, nothing, changes, does, joins, leaves, notifies, is_parting}
+use Rattle.lock_world.specs.Steps.{Deed, nothing, changes, does, joins, leaves, notifies, notifies_additionally, is_parting}
 use Rattle.semaphore_machine.specs.Seats.{nothing_had, one_permit}
 use Rattle.semaphore_machine.specs.Deeds.{Change, ListName, takes, gives_back, forgets, raises, gives, limit_after, share_after, entries_after}
 use Rattle.semaphore_machine.specs.Machine.{knows}
@@ -73,12 +73,17 @@ abbrev pub is_add : Kind → Bool
 is_add kind.Add = true
 is_add _ = false
 
+abbrev pub is_poll_call : Kind → Bool
+is_poll_call kind.FirstPoll = true
+is_poll_call kind.LaterPoll = true
+is_poll_call _ = false
+
 -- For how many permits a party notifies that stands so: for those that its add adds, else for one.
 abbrev pub notice : Standing → ℕ → ℕ
 notice (inside w decided) adds = if is_add w.kind then adds else 1
 notice s adds = 1
 
--- Where a change may be made. A permit is taken where one is available; a drop gives back what its party has, and a forget ends it; an add raises the limit if that doesn't pass its greatest value, and gives what it raised it by. A party notifies for as many as it gave.
+-- Where a change may be made. A permit is taken where one is available; a drop gives back what its party has, and a forget ends it; an add raises the limit if that doesn't pass its greatest value, and gives what it raised it by. A party notifies for as many as it gave, and not beside those that were notified before.
 abbrev pub IsAllowed : World → Move → Deed Change ListName → Type 0
 IsAllowed w m (changes takes) = (is_free w.state ≡ true) × (share_at w.state m.party ≡ nothing_had)
 IsAllowed w m (changes gives_back) = (share_at w.state m.party ≡ one_permit) × (is_drop m.what ≡ true)
@@ -86,6 +91,7 @@ IsAllowed w m (changes forgets) = (share_at w.state m.party ≡ one_permit) × (
 IsAllowed w m (changes (raises n)) = (added_in m.what ≡ Some n) × (w.state.limit + n ≤ w.most) × (share_at w.state m.party ≡ nothing_had)
 IsAllowed w m (changes (gives n)) = (share_at w.state m.party ≡ record { permit = false; under_way = n }) × (adds_of w m.party ≡ n)
 IsAllowed w m (does list (notifies n)) = notice (standing_of w m.party) (adds_of w m.party) ≡ n
+IsAllowed w m (does list (notifies_additionally n)) = ⊥
 IsAllowed w m _ = Unit {0}
 
 -- A move changes one thing of the state or does one list function, never both, and moves no other party. A join has found memory; a party whose call is decided only gives back, and no other gives anything up.
@@ -132,14 +138,16 @@ IsRefusedForCause = frame.IsRefusedForCause standing_of IsCause
 
 -- ---- What parties have
 
--- What a party has by how it stands: outside every call it has a permit exactly if it stands as one that holds it, and unless it is pending it is in no list; until its call is decided it has nothing, and once it is to be ready it has a permit.
+-- What a party has by how it stands: outside every call it has a permit exactly if it stands as one that holds it, and unless it is pending it is in no list; until its call is decided it has nothing, and only a poll goes on so; once it is to be ready it has a permit, while it adds it has none, and while it gives back or is refused it has nothing.
 abbrev pub HasItsOwn : World → ℕ → Standing → Type 0
 HasItsOwn w p (outside Idle) = (entries_of p w.entries ≡ 0) × (share_at w.state p ≡ nothing_had)
 HasItsOwn w p (outside Finished) = (entries_of p w.entries ≡ 0) × (share_at w.state p ≡ nothing_had)
 HasItsOwn w p (outside Holding) = (entries_of p w.entries ≡ 0) × (share_at w.state p ≡ one_permit)
 HasItsOwn w p (outside Pending) = share_at w.state p ≡ nothing_had
-HasItsOwn w p (inside within None) = share_at w.state p ≡ nothing_had
+HasItsOwn w p (inside within None) = (share_at w.state p ≡ nothing_had) × (is_poll_call within.kind ≡ true)
 HasItsOwn w p (inside within (Some (answer.Ready got))) = share_at w.state p ≡ one_permit
+HasItsOwn w p (inside within (Some (answer.Granted got))) = has_permit w.state p ≡ false
+HasItsOwn w p (inside within (Some a)) = share_at w.state p ≡ nothing_had
 HasItsOwn w p _ = Unit {0}
 
 -- Each party has what its standing says, and outside every call it adds nothing; and after a refusal its future is as when it was made, in no list.

@@ -108,7 +108,7 @@ module _ (l k : Lock) where
   reason memory p NotFree h = elim h as (λ _. (holders (seen l) ≡ 1) ⊎ (0 < starved (seen l))) [ inl held ↦ inl (holders_seen l.places ∙ held) | inr some ↦ inr (rw (starved_seen l.places) some) ]
   reason memory p GivenBack h = tt
   reason memory p (Refused Memory) h = (h.0, h.1, h.2, holder_seen 0 k.places ∙ (h.3 ∙ sym (holder_seen 0 l.places)), roster_seen k.places ∙ (h.4 ∙ sym (roster_seen l.places)))
-  reason memory p (Refused Starved) h = starved_seen l.places ∙ h
+  reason memory p (Refused Starved) h = starved_seen l.places ∙ h.0
   reason memory p (Refused _) h = absurd h
 
   module _ (n : Next) (p : ℕ) (kept : AreKept k.places) where

@@ -12,7 +12,7 @@ use Rattle.lock_event.specs.Lists.{mark_at, is_marked_at, without}
 use Rattle.lock_queue.specs.Parties.{is_party, entries_of}
 use Rattle.lock_queue.proofs.Told.{waits_at}
 use Rattle.lock_world.specs.declared.refusal.Refusal.TheVariants as refusal
-use Rattle.lock_world.specs.Steps.{Deed, nothing, changes, does, joins}
+use Rattle.lock_world.specs.Steps.{Deed, nothing, changes, does, joins, notifies, notifies_additionally}
 use Rattle.lock_world.proofs.Equations.{some_eq, none_some, some_none, chosen}
 use Rattle.mutex_program.specs.declared.program.Place.{Place}
 use Rattle.mutex_program.specs.declared.program.Place.TheVariants.{Out, Holding, Enter, Try, Ask, AskStarved}
@@ -193,6 +193,8 @@ module _ (memory : Bool) (p : ℕ) (from : Place) (f : Found) (l : Lock) (es : L
     allowed_so (changes releases) h s i = is_there (sym holds_from ∙ h.0)
     allowed_so (changes starves) h s i = (sym (sees.counted_bit here) ∙ ap bit (sym counts_from ∙ s.0), i)
     allowed_so (changes recovers) h s i = counts_there (sym counts_from ∙ s.0)
+    allowed_so (does list (notifies n)) h s i = i
+    allowed_so (does list (notifies_additionally n)) h s i = i
     allowed_so (does list g) h s i = tt
 
     list_so : es ≡ entries_after p deed l.entries
@@ -203,13 +205,20 @@ module _ (memory : Bool) (p : ℕ) (from : Place) (f : Found) (l : Lock) (es : L
         let o = asked p (action_of from) f l.entries es k.list a g in
         rw o.1 (waits_at p l.entries (stands_listed ∙ one) o.0)
 
+    unchanged : deed ≡ nothing → (es ≡ l.entries) × (holder_of new ≡ holder_of l) × (starved_of new ≡ starved_of l)
+    unchanged e = (
+      list_so ∙ ap (λ (d : Deed Change ListName). entries_after p d l.entries) e,
+      holder_is deed r.holds ∙ ap (λ (d : Deed Change ListName). holder_after p d (holder_of l)) e,
+      starved_is deed r.starves ∙ ap (λ (d : Deed Change ListName). starved_after p d (starved_of l)) e,
+    )
+
     reason_is : (e : End) → Reason memory l from f e → IsReason memory p l new e
     reason_is Got y = has_it y
     reason_is Pending y = waits_there y.0 y.1 y.2
     reason_is NotFree y = y
     reason_is GivenBack y = tt
-    reason_is (Refused refusal.Memory) y = (y.0, stands_listed ∙ y.1, list_so ∙ ap (λ (d : Deed Change ListName). entries_after p d l.entries) y.2, holder_is deed r.holds ∙ ap (λ (d : Deed Change ListName). holder_after p d (holder_of l)) y.2, starved_is deed r.starves ∙ ap (λ (d : Deed Change ListName). starved_after p d (starved_of l)) y.2)
-    reason_is (Refused refusal.Starved) y = y
+    reason_is (Refused refusal.Memory) y = let same = unchanged y.2 in (y.0, stands_listed ∙ y.1, same.0, same.1, same.2)
+    reason_is (Refused refusal.Starved) y = let same = unchanged y.2 in (y.0, sym k.same.starving ∙ y.1, same.0, same.1, same.2)
     reason_is (Refused _) y = absurd y
 
     decided : decided_then (next_of from f) (place_at new.places p) ≡ decision_by (next_of from f)

@@ -219,7 +219,7 @@ module _ (t u : Table Guarded) (m : Move) (a : Answer) where
 own_right : (w : World) (p : ℕ) (s : Standing) → is_outside s ≡ true → HasItsOwn w p s → (w.state.holder ≡ Some p) ↔ HasByAnswers (account_at s (right_by w.state.holder p)) hold
 own_right w p (outside rest.Idle) o own = ((λ h. absurd (own.1 h)), (λ h. absurd (cc (h.0))))
 own_right w p (outside rest.Finished) o own = ((λ h. absurd (own.1 h)), (λ h. absurd (cc (h.0))))
-own_right w p (outside rest.Pending) o own = ((λ h. absurd (own h)), (λ h. absurd (cc (h.0))))
+own_right w p (outside rest.Pending) o own = ((λ h. absurd (own.0 h)), (λ h. absurd (cc (h.0))))
 own_right w p (outside rest.Holding) o own = ((λ h. (refl, refl)), (λ h. own.1))
 own_right w p (inside u d) o own = absurd (cc o)
 own_right w p forgotten o own = ((λ h. (ap is_some (right_is w.state.holder p h), right_is w.state.holder p h)), (λ h. right_means w.state.holder p h.1))

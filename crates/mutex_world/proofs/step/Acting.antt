@@ -1,5 +1,6 @@
 -- What the lock carries out for a party is a legal step, as callers see it.
 use Rattle.std.proofs.Common.{◌≡◌, ◌≢◌, ℕ, ◌<◌, ◌⊎◌, ◌↔◌, ◌||◌, inl, inr, Bool, true, false, zero, suc, List, [], ◌∷◌, length, Option, Some, None, is_some, refl, arith, ap, sym, ◌∙◌, subst, get_or-set_same}
+use Rattle.std.proofs.lemmas.Bool.Decides.{nat_tests}
 use Rattle.std.proofs.Math.ListN.{set}
 use Rattle.lock_event.specs.declared.event.Entry.{Entry}
 use Rattle.lock_event.specs.declared.event.Mark.TheVariants.{Waiting}
@@ -16,7 +17,7 @@ use Rattle.lock_world.specs.Frame.{is_drop, is_refusal, is_poll_after_ready, put
 use Rattle.lock_world.specs.Refusals.{number_of}
 use Rattle.lock_world.specs.Rosters.{how_many, is_on}
 use Rattle.lock_world.specs.Standings.{inside, inputs_of, call_in, is_possible, is_stepped, may_end, is_decided, decision as decided_on, refused, IsUndecided}
-use Rattle.lock_world.specs.Steps.{Deed, nothing, changes, does, joins}
+use Rattle.lock_world.specs.Steps.{Deed, nothing, changes, does, joins, asks, leaves, notifies, notifies_additionally}
 use Rattle.lock_world.proofs.Equations.{some_eq, none_some}
 use Rattle.lock_table.specs.Stages.{stage_at, stands_as, call_at, polls_again, stage_after}
 use Rattle.lock_table.specs.Tables.{Table}
@@ -34,12 +35,12 @@ use Rattle.mutex_machine.specs.Machine.{Lock, place_at}
 use Rattle.mutex_machine.specs.Acts.{IsMutex, starved}
 use Rattle.mutex_machine.specs.Deeds as lock
 use Rattle.mutex_machine.specs.Legal.{decision, decided_then, IsReason, IsAllowed, IsLegal}
-use Rattle.mutex_program.specs.Roles.{listed}
+use Rattle.mutex_program.specs.Roles.{counted, listed}
 use Rattle.mutex_machine.specs.State.{holder_of, starved_of, is_counted}
 use Rattle.mutex_machine.proofs.legal.Promised.{begins_unrefused}
 use Rattle.mutex_machine.proofs.laws.Seen as sees
 use Rattle.mutex_world.specs.Guarded.{Guarded, knows, place_of, is_try_kind, answer_by, Carries}
-use Rattle.mutex_world.specs.Legal.{Change, ListName, takes, releases, starves, recovers, for_the_lock, state_after, entries_after, gives_back, gives_up, call_of, DecidesOn, ChangesOneThing, IsTakenFairly, OthersKeepTheirs, Carries as CarriesValue, Waits, IsCause, IsRefusedForCause, LeavesClear, IsValueKept, EndsProperly, Legal}
+use Rattle.mutex_world.specs.Legal.{Change, ListName, takes, releases, starves, recovers, for_the_lock, state_after, entries_after, gives_back, gives_up, notifies_one, call_of, DecidesOn, ChangesOneThing, IsTakenFairly, OthersKeepTheirs, Carries as CarriesValue, Waits, IsCause, IsRefusedForCause, LeavesClear, IsValueKept, EndsProperly, Legal}
 use Rattle.mutex_world.specs.State.{State, World, standing_of, is_starved, mark_of}
 use Rattle.mutex_world.specs.Steps.{IsMutexTable}
 use Rattle.mutex_world.specs.View.{answer_on, verdict, view_of}
@@ -73,7 +74,7 @@ same_deed p (changes lock.starves) = record { state = λ h s v. refl; entries = 
 same_deed p (changes lock.recovers) = record { state = λ h s v. refl; entries = λ l. refl; back = refl; up = refl; joins = λ list e. absurd (cc) }
 same_deed p (does lock.for_the_lock f) = record { state = λ h s v. refl; entries = λ l. refl; back = refl; up = refl; joins = λ list e. cc }
 
-made : (h g : Option ℕ) (s t : List Bool) (v u : ℕ) → h ≡ g → s ≡ t → v ≡ u → Path State (record { holder = h; starved = s; value = v }) (record { holder = g; starved = t; value = u })
+pub made : (h g : Option ℕ) (s t : List Bool) (v u : ℕ) → h ≡ g → s ≡ t → v ≡ u → Path State (record { holder = h; starved = s; value = v }) (record { holder = g; starved = t; value = u })
 made h g s t v u e d f = cc
 
 some_other : (p q : ℕ) → Some p ≡ Some q → q ≢ p → ⊥
@@ -170,6 +171,18 @@ six_at _ e = omega (arith, e)
 
 never_six : (x : Place) (r : Refusal) → decision x ≡ Some («end».Refused r) → 6 ≡ number_of r → ⊥
 never_six x r e six = six_at x (ap number_on e ∙ sym six)
+
+one_notified : (p : ℕ) (d : Deed lock.Change lock.ListName) (l : Lock) → IsAllowed p d l → notifies_one (world_deed d) ≡ true
+one_notified p (does lock.for_the_lock (notifies n)) l al = grind (arith, nat_tests)
+one_notified p (does lock.for_the_lock (notifies_additionally n)) l al = absurd al
+one_notified p (does lock.for_the_lock joins) l al = refl
+one_notified p (does lock.for_the_lock asks) l al = refl
+one_notified p (does lock.for_the_lock leaves) l al = refl
+one_notified p nothing l al = refl
+one_notified p (changes lock.takes) l al = refl
+one_notified p (changes lock.releases) l al = refl
+one_notified p (changes lock.starves) l al = refl
+one_notified p (changes lock.recovers) l al = refl
 
 none_at : (bs : List Bool) (q : ℕ) → is_on (set bs q false) q ≡ true → ⊥
 none_at [] q is = cc (is)
@@ -285,6 +298,7 @@ module _ (t u : Table Guarded) (m : Move) (a : Answer) (w : Within) where
       found_memory = λ list e. way.found_memory lock.for_the_lock ((same_deed p d).joins list e);
       parting = λ h. parting (decision from) refl (sym decided_there ∙ h);
       giving_up = λ up. decided_there ∙ giving_up (decision from) refl up;
+      notice = one_notified p d g.lock way.allowed;
     }
 
     -- ---- who has the lock, and who is starved
@@ -381,15 +395,24 @@ module _ (t u : Table Guarded) (m : Move) (a : Answer) (w : Within) where
       not_before = λ within e. owns.not_pending u k.new_laws k.new_fits p within e;
     }
 
-    cause : (c : Refusal) → IsReason memory p g.lock h.lock («end».Refused c) → IsCause old m new c
-    cause refusal.Memory y = (y.0, y.1, y.2, made _ _ _ _ _ _ y.3 y.4 k.carries.carried.value)
-    cause refusal.Starved y = sees.how_many_counted g.lock.places ∙ y
-    cause refusal.Finished y = absurd y
-    cause _ y = absurd y
-
     was_inside : (b : BeginsOrGoes s w x from) → decision from ≡ None → (r : Refusal) → decided_then n to ≡ Some («end».Refused r) → IsUndecided (standing_of old p)
     was_inside (inl b) fresh r now = absurd (begins_unrefused memory p b.0 x from n g.lock h.lock b.1 k.carries.carried.acts there r now)
     was_inside (inr b) fresh r now = (w, stood ∙ (ap (λ z. standing_at v z x) b.0 ∙ ap (λ o. inside w (answer_on v o)) (ap decision (sym b.1) ∙ fresh)))
+
+    not_counted : (y : Place) → counted y ≡ 0 → is_counted y ≡ false
+    not_counted y none = grind (arith, nat_tests)
+
+    cause : (c : Refusal) → decision from ≡ None → decided_then n to ≡ Some («end».Refused c) → IsReason memory p g.lock h.lock («end».Refused c) → IsCause old m new c
+    cause refusal.Memory fresh now y = (y.0, y.1, y.2, made _ _ _ _ _ _ y.3 y.4 k.carries.carried.value)
+    cause refusal.Starved fresh now y = (
+      sees.how_many_counted g.lock.places ∙ y.0,
+      sees.starved_at g.lock.places p ∙ not_counted x y.1,
+      was_inside k.here.begins fresh refusal.Starved now,
+      y.2,
+      made _ _ _ _ _ _ y.3 y.4 k.carries.carried.value,
+    )
+    cause refusal.Finished fresh now y = absurd y
+    cause _ fresh now y = absurd y
 
     never_over : (o : Option End) → decision from ≡ o → (e : End) → decided_then n to ≡ Some e → (r : Refusal) → e ≡ «end».Refused r → 6 ≡ number_of r → ⊥
     never_over None is e now r refuses six = let P : End → Type 0 = IsReason memory p g.lock h.lock in number_six g.lock h.lock memory p r six (subst P refuses (way.reason e is now))
@@ -401,7 +424,7 @@ module _ (t u : Table Guarded) (m : Move) (a : Answer) (w : Within) where
         | inl e ↦ absurd (cc (e))
         | inr y ↦ (let is = ended_as y.ended.trying v y.ended.ends (answer.Refused number) y.ended.is in
             let P : End → Type 0 = IsReason memory p g.lock h.lock in
-            (is.0, is.2, cause is.0 (subst P is.1 y.why)))
+            (is.0, is.2, cause is.0 y.fresh (y.ended.now ∙ ap Some is.1) (subst P is.1 y.why)))
       ];
       memory = λ on. elim (reason (refused refusal.Memory) on) as (λ _. IsUndecided (standing_of old p)) [
         | inl e ↦ absurd (cc (e))

@@ -1,34 +1,49 @@
 -- What the first step of a try and of a first poll answers at once.
 use Rattle.std.specs.Prelude.{is_none}
-use Rattle.std.proofs.Common.{◌≡◌, ℕ, ◌&&◌, ◌==◌, inl, if◌then◌else◌, Bool, true, false, Option, Some, None, refl, arith, ap, sym, ◌∙◌, subst}
+use Rattle.std.proofs.Common.{◌≡◌, ℕ, ◌+◌, ◌&&◌, ◌||◌, ◌==◌, ◌⊎◌, ◌↔◌, inl, inr, if◌then◌else◌, Bool, true, false, List, map, Option, Some, None, refl, arith, ap, sym, ◌∙◌, subst, get_or-set_same}
+use Rattle.std.proofs.lemmas.Bool.{false≢true, true≢false}
 use Rattle.std.proofs.lemmas.Bool.Decides.{nat_tests}
-use Rattle.lock_queue.specs.Parties.{entries_of}
+use Rattle.std.proofs.Math.ListN.{set}
+use Rattle.std.proofs.Math.Seq.{map-set_same}
+use Rattle.std.proofs.lemmas.List.Sums.{sum_by-set}
+use Rattle.std.specs.List.{sum_by}
+use Rattle.lock_event.specs.declared.event.Entry.{Entry}
+use Rattle.lock_event.specs.Lists.{is_marked_at}
+use Rattle.lock_queue.specs.Parties.{is_party, entries_of}
 use Rattle.lock_world.specs.declared.moves.Answer.{Answer}
 use Rattle.lock_world.specs.declared.moves.Answer.TheVariants as answer
 use Rattle.lock_world.specs.declared.moves.Got.TheVariants.{Value}
 use Rattle.lock_world.specs.declared.moves.Move.{Move}
+use Rattle.lock_world.specs.declared.standing.Rest.TheVariants as rest
+use Rattle.lock_world.specs.declared.standing.Stage.{Stage}
+use Rattle.lock_world.specs.declared.standing.Stage.TheVariants.{Outside, Inside, Forgotten}
 use Rattle.lock_world.specs.declared.standing.Within.{Within}
 use Rattle.lock_world.specs.Rosters.{how_many}
-use Rattle.lock_world.specs.Standings.{inputs_of}
-use Rattle.lock_table.specs.Stages.{stage_at}
+use Rattle.lock_world.specs.Standings.{inside, inputs_of}
+use Rattle.lock_world.specs.Steps.{changes, asked}
+use Rattle.lock_table.specs.Stages.{stage_at, stands_as}
 use Rattle.lock_table.specs.Tables.{Table}
+use Rattle.lock_table.proofs.Views.{outside_stage}
 use Rattle.mutex_program.specs.declared.program.Action.TheVariants as act
 use Rattle.mutex_program.specs.declared.program.Found.{Found}
-use Rattle.mutex_program.specs.declared.program.Found.TheVariants.{Free, Held, SomeStarved}
+use Rattle.mutex_program.specs.declared.program.Found.TheVariants.{Free, Held, SomeStarved, Yes, No}
 use Rattle.mutex_program.specs.declared.program.Place.{Place}
-use Rattle.mutex_program.specs.declared.program.Place.TheVariants.{Enter, Try}
+use Rattle.mutex_program.specs.declared.program.Place.TheVariants.{Out, Enter, Try, Clear, Ask, AskStarved, ReleaseNotify}
 use Rattle.mutex_machine.specs.Acts.{Finds, holders, starved}
-use Rattle.mutex_machine.specs.Machine.{Lock}
-use Rattle.mutex_program.specs.Program.{action_of, next_of}
+use Rattle.mutex_machine.specs.Machine.{Lock, SameRoles, place_at}
+use Rattle.mutex_machine.specs.Parties.{OnParties}
+use Rattle.mutex_machine.specs.State.{is_holder, is_counted, holder_from}
+use Rattle.mutex_program.specs.Program.{action_of, next_of, place_after}
+use Rattle.mutex_program.specs.Roles.{bit, holds}
 use Rattle.mutex_machine.proofs.legal.Legal.{entered}
 use Rattle.mutex_machine.proofs.laws.Seen as sees
 use Rattle.mutex_world.specs.Guarded.{Guarded, place_of, answer_by, is_try_kind}
-use Rattle.mutex_world.specs.Legal.{is_first_poll, AnswersAtOnce}
+use Rattle.mutex_world.specs.Legal.{takes, state_after, is_try, is_first_poll, is_later_poll, AnswersAtOnce}
 use Rattle.mutex_world.specs.State.{World, standing_of, is_free}
-use Rattle.mutex_world.specs.View.{view_of}
+use Rattle.mutex_world.specs.View.{verdict, view_of}
 use Rattle.mutex_world.proofs.step.Acting.{Acting}
 use Rattle.mutex_world.proofs.step.Acting as acting
-use Rattle.mutex_world.proofs.step.Here.{same_roles}
+use Rattle.mutex_world.proofs.step.Here.{standing_at, same_roles}
 
 free_test : (h : Option ℕ) (n : ℕ) → h ≡ None → n ≡ 0 → is_none h && (n == 0) ≡ true
 free_test None n h e = rw e refl
@@ -64,6 +79,54 @@ module _ (memory : Bool) (l : Lock) (v : ℕ) (free : Bool) (is : (holders l ≡
     some false h = refl
   tried_now _ e = absurd e
 
+-- ---- what the first step leaves
+
+-- at an entrance nobody is counted as starved
+abbrev IsEntrance : Place → Type 0
+IsEntrance y = (y ≡ Enter) ⊎ (y ≡ Try)
+
+entrance_counts : (y : Place) (f : Found) → IsEntrance y → is_counted (place_after y (next_of y f)) ≡ is_counted y
+entrance_counts Enter Free h = refl
+entrance_counts Enter _ h = refl
+entrance_counts Try Free h = refl
+entrance_counts Try _ h = refl
+entrance_counts _ f h = absurd (elim h as (λ _. ⊥) [ inl e ↦ cc | inr e ↦ cc ])
+
+entrance_holds : (y : Place) → IsEntrance y → is_holder y ≡ false
+entrance_holds Enter h = refl
+entrance_holds Try h = refl
+entrance_holds _ h = absurd (elim h as (λ _. ⊥) [ inl e ↦ cc | inr e ↦ cc ])
+
+entrance_list : (p : ℕ) (y : Place) (f : Found) (es ms : List (Entry ℕ)) → IsEntrance y → OnParties p (action_of y) f es ms → ms ≡ es
+entrance_list p Enter f es ms h o = o
+entrance_list p Try f es ms h o = o
+entrance_list p _ f es ms h o = absurd (elim h as (λ _. ⊥) [ inl e ↦ cc | inr e ↦ cc ])
+
+-- a poll that asks goes on if its party was notified, and changes the list alone
+record Asked (p v : ℕ) (y : Place) (f : Found) (es ms : List (Entry ℕ)) : Type 0 where
+  pub answer : answer_by false v (next_of y f) ≡ (if is_marked_at (is_party p) es then answer.Stepped else answer.Pending)
+  pub entries : ms ≡ asked p es
+  pub holds : is_holder (place_after y (next_of y f)) ≡ is_holder y
+  pub counts : is_counted (place_after y (next_of y f)) ≡ is_counted y
+
+asks_so : (p v : ℕ) (memory : Bool) (l : Lock) (y : Place) (f : Found) (es ms : List (Entry ℕ)) → (y ≡ Ask) ⊎ (y ≡ AskStarved) → Finds memory (action_of y) f l → OnParties p (action_of y) f es ms → Asked p v y f es ms
+asks_so p v memory l Ask Yes es ms h e o = record { answer = rw o.0 refl; entries = rw o.0 o.1; holds = refl; counts = refl }
+asks_so p v memory l Ask No es ms h e o = record { answer = rw o.0 refl; entries = rw o.0 o.1; holds = refl; counts = refl }
+asks_so p v memory l Ask _ es ms h e o = absurd e
+asks_so p v memory l AskStarved Yes es ms h e o = record { answer = rw o.0 refl; entries = rw o.0 o.1; holds = refl; counts = refl }
+asks_so p v memory l AskStarved No es ms h e o = record { answer = rw o.0 refl; entries = rw o.0 o.1; holds = refl; counts = refl }
+asks_so p v memory l AskStarved _ es ms h e o = absurd e
+asks_so p v memory l _ f es ms h e o = absurd (elim h as (λ _. ⊥) [ inl e ↦ cc | inr e ↦ cc ])
+
+not_true : (b : Bool) → (b ≡ true → ⊥) → b ≡ false
+not_true true h = absurd (h refl)
+not_true false h = refl
+
+inside_at : (s : Stage) (d : Option Answer) (u : Within) (e : Option Answer) → stands_as d s ≡ inside u e → s ≡ Inside u
+inside_at (Outside r) d u e h = absurd (cc h)
+inside_at (Inside v) d u e h = cc h
+inside_at Forgotten d u e h = absurd (cc h)
+
 module _ (t u : Table Guarded) (m : Move) (a : Answer) (w : Within) (k : Acting t u m a w) where
   abbrev p : ℕ
   p = m.party
@@ -96,14 +159,98 @@ module _ (t u : Table Guarded) (m : Move) (a : Answer) (w : Within) (k : Acting 
   first_here : is_first_poll (standing_of old p) m.what (entries_of p old.entries) ≡ true → (k.carries.from ≡ Enter) × (is_try_kind w.kind ≡ false)
   first_here first = k.here.first g.value (entries_of p old.entries) (ap (λ z. is_first_poll z m.what (entries_of p old.entries)) (sym (acting.stood t u m a w k)) ∙ first) (k.old_laws.owners p)
 
+  abbrev from : Place
+  from = k.carries.from
+
+  abbrev s : Stage
+  s = stage_at t.stages p
+
+  on_list : (y : Place) → from ≡ y → OnParties p (action_of y) f old.entries new.entries
+  on_list y at = let P : Place → Type 0 = λ z. OnParties p (action_of z) f g.lock.entries u.machine.lock.entries in subst P at k.carries.carried.acts.list
+
+  places : (y : Place) → from ≡ y → u.machine.lock.places ≡ set g.lock.places p (place_after y (next_of y f))
+  places y at = k.carries.carried.acts.places ∙ (ap (λ x. set g.lock.places p (place_after from x)) k.carries.carried.acts.next_is ∙ ap (λ z. set g.lock.places p (place_after z (next_of z f))) at)
+
+  -- its party has as much at its place as where it stood
+  same : SameRoles from (place_of g p)
+  same = same_roles s w (place_of g p) from k.here.begins
+
+  holds_here : (y : Place) → from ≡ y → is_holder y ≡ is_holder (place_of g p)
+  holds_here y at = ap is_holder (sym at) ∙ ap (λ (n : ℕ). n == 1) same.holding
+
+  counts_here : (y : Place) → from ≡ y → is_counted y ≡ is_counted (place_of g p)
+  counts_here y at = ap is_counted (sym at) ∙ ap (λ (n : ℕ). n == 1) same.starving
+
+  same_holder : (y : Place) → from ≡ y → is_holder (place_after y (next_of y f)) ≡ is_holder y → new.state.holder ≡ old.state.holder
+  same_holder y at h = ap (holder_from 0) (places y at) ∙ sees.same_holder 0 g.lock.places p (place_after y (next_of y f)) (h ∙ holds_here y at)
+
+  same_starved : (y : Place) → from ≡ y → is_counted (place_after y (next_of y f)) ≡ is_counted y → new.state.starved ≡ old.state.starved
+  same_starved y at h = ap (map is_counted) (places y at) ∙ map-set_same is_counted g.lock.places p (place_after y (next_of y f)) Out (h ∙ counts_here y at)
+
+  goes : (y : Place) → from ≡ y → IsEntrance y → (new.state.holder ≡ Some p) ↔ ((holders g.lock ≡ 0) × (starved g.lock ≡ 0))
+  goes y at h =
+      let P : Place → Type 0 = IsEntrance in
+      entered (inputs_of m.what).memory p from k.carries.next g.lock u.machine.lock
+      (record { there = acting.there t u m a w k; same = same; one = k.old_laws.one_holder; one_then = k.new_laws.one_holder; own = k.old_laws.owners p })
+      k.carries.carried.acts (subst P (sym at) h)
+
+  lands : (y : Place) → from ≡ y → place_of u.machine p ≡ place_after y (next_of y f)
+  lands y at = ap (λ ps. place_at ps p) (places y at) ∙ get_or-set_same g.lock.places p (place_after y (next_of y f)) Out (acting.there t u m a w k)
+
+  looked : (y : Place) → from ≡ y → IsEntrance y → (b : Bool) → is_free old.state ≡ b → new.state ≡ (if b then state_after p (changes takes) old.state else old.state)
+  looked y at h true free = acting.made _ _ _ _ _ _ ((goes y at h).1 (free_says free)) (same_starved y at (entrance_counts y f h)) k.carries.carried.value
+  looked y at h false free =
+      let out : is_holder (place_after y (next_of y f)) ≡ false = not_true (is_holder (place_after y (next_of y f))) (λ one.
+      let holds_it : holds (place_of u.machine p) ≡ 1 = ap holds (lands y at) ∙ (sym (sees.holds_bit (place_after y (next_of y f))) ∙ ap bit one) in
+      let so = (goes y at h).0 (sees.holds_it u.machine.lock.places p k.new_laws.one_holder holds_it) in
+      true≢false (sym (free_is so.0 so.1) ∙ free)) in
+      acting.made _ _ _ _ _ _ (same_holder y at (out ∙ sym (entrance_holds y h))) (same_starved y at (entrance_counts y f h)) k.carries.carried.value
+
+  abbrev Looked : Type 0
+  Looked = (new.state ≡ (if is_free old.state then state_after p (changes takes) old.state else old.state)) × (new.entries ≡ old.entries)
+
+  looks_at : (y : Place) → from ≡ y → IsEntrance y → Looked
+  looks_at y at h = (looked y at h (is_free old.state) refl, entrance_list p y f old.entries new.entries h (on_list y at))
+
+  looks : (b c : Bool) → is_try m.what ≡ b → is_first_poll (standing_of old p) m.what (entries_of p old.entries) ≡ c → b || c ≡ true → Looked
+  looks true c tries first h = looks_at Try (k.here.tries tries).0 (inr refl)
+  looks false true tries first h = looks_at Enter (first_here first).0 (inl refl)
+  looks false false tries first h = absurd (false≢true h)
+
+  listed_at : (y : Place) → from ≡ y → (y ≡ Ask) ⊎ (y ≡ AskStarved) → is_try_kind w.kind ≡ false
+      → (a ≡ (if is_marked_at (is_party p) old.entries then answer.Stepped else answer.Pending)) × (new.state ≡ old.state) × (new.entries ≡ asked p old.entries)
+  listed_at y at h trying =
+      let so = asks_so p g.value (inputs_of m.what).memory g.lock y f old.entries new.entries h (finds y at) (on_list y at) in (
+        answered y false at trying ∙ so.answer,
+        acting.made _ _ _ _ _ _ (same_holder y at so.holds) (same_starved y at so.counts) k.carries.carried.value,
+        so.entries,
+      )
+
+  -- nobody holds the lock that its holder gave back
+  none_then : from ≡ Clear → new.state.holder ≡ None
+  none_then at =
+      let sum : sum_by holds (set g.lock.places p ReleaseNotify) + holds (place_of g p) ≡ holders g.lock + holds ReleaseNotify = sum_by-set holds g.lock.places p ReleaseNotify Out (acting.there t u m a w k) in
+      let had : holds (place_of g p) ≡ 1 = sym same.holding ∙ ap holds at in
+      ap (holder_from 0) (places Clear at) ∙ sees.none_held 0 (set g.lock.places p ReleaseNotify) (omega (arith, sum, had, k.old_laws.one_holder))
+
   pub at_once : AnswersAtOnce old m a new
   at_once = record {
     at_once = λ tries possible. (let at = k.here.tries tries in answered Try true at.0 at.1 ∙ tried_now (inputs_of m.what).memory g.lock g.value (is_free old.state) free_is free_says f (finds Try at.0));
     ready = λ first. (let at = first_here first in answered Enter false at.0 at.1 ∙ ready_now (inputs_of m.what).memory g.lock g.value (is_free old.state) free_is free_says f (finds Enter at.0));
     first_poll = λ first.
-        let at = first_here first in
-        let goes = entered (inputs_of m.what).memory p k.carries.from k.carries.next g.lock u.machine.lock
-        (record { there = acting.there t u m a w k; same = same_roles (stage_at t.stages p) w (place_of g p) k.carries.from k.here.begins; one = k.old_laws.one_holder; one_then = k.new_laws.one_holder; own = k.old_laws.owners p })
-        k.carries.carried.acts (inl at.0) in
-        ((λ held. let so = goes.0 held in free_is so.0 so.1), (λ free. goes.1 (free_says free)));
+        let both = goes Enter (first_here first).0 (inl refl) in
+        ((λ held. let so = both.0 held in free_is so.0 so.1), (λ free. both.1 (free_says free)));
+    looks = λ which possible. looks (is_try m.what) (is_first_poll (standing_of old p) m.what (entries_of p old.entries)) refl refl which;
+    listed = λ later some.
+        let seen : is_later_poll (standing_at g.value s (place_of g p)) m.what ≡ true = ap (λ z. is_later_poll z m.what) (sym (acting.stood t u m a w k)) ∙ later in
+        let at = k.here.polls g.value seen (omega (arith, some, k.old_laws.owners p)) in
+        listed_at from refl at.0 at.1;
+    released = λ drops holding.
+        let at = k.here.releases drops (outside_stage (verdict g p) s rest.Holding (sym (acting.stood t u m a w k) ∙ holding)) in (
+          answered Clear false at.0 at.1,
+          acting.made _ _ _ _ _ _ (none_then at.0) (same_starved Clear at.0 refl) k.carries.carried.value,
+        );
+    notifies = λ telling possible.
+        let at = k.here.tells (inside_at s (verdict g p) _ _ (sym (acting.stood t u m a w k) ∙ telling)) in
+        (answered ReleaseNotify false at.0 at.1, on_list ReleaseNotify at.0);
   }

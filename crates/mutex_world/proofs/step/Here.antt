@@ -1,12 +1,13 @@
 -- What is so where a move begins or goes on.
-use Rattle.std.proofs.Common.{◌≡◌, ℕ, ◌||◌, ◌⊎◌, inl, inr, true, false, Option, Some, None, is_some, refl, sym}
+use Rattle.std.proofs.Common.{◌≡◌, ℕ, ◌<◌, ◌||◌, ◌⊎◌, inl, inr, true, false, Option, Some, None, is_some, refl, arith, ap, sym, subst}
 use Rattle.lock_world.specs.declared.moves.Answer.{Answer}
 use Rattle.lock_world.specs.declared.moves.What.{What}
 use Rattle.lock_world.specs.declared.standing.Kind.{Kind}
 use Rattle.lock_world.specs.declared.standing.Kind.TheVariants as kind
 use Rattle.lock_world.specs.declared.standing.Rest.{Rest}
+use Rattle.lock_world.specs.declared.standing.Rest.TheVariants as rest
 use Rattle.lock_world.specs.declared.standing.Stage.{Stage}
-use Rattle.lock_world.specs.declared.standing.Stage.TheVariants.{Inside}
+use Rattle.lock_world.specs.declared.standing.Stage.TheVariants.{Outside, Inside}
 use Rattle.lock_world.specs.declared.standing.Within.{Within}
 use Rattle.lock_world.specs.Frame.{is_drop, put_in}
 use Rattle.lock_world.specs.Standings.{Standing, inside, is_decided}
@@ -17,14 +18,15 @@ use Rattle.mutex_program.specs.declared.calls.End.TheVariants as «end»
 use Rattle.mutex_program.specs.declared.calls.LockCall.{LockCall}
 use Rattle.mutex_program.specs.declared.calls.LockCall.TheVariants as lock_call
 use Rattle.mutex_program.specs.declared.program.Place.{Place}
-use Rattle.mutex_program.specs.declared.program.Place.TheVariants.{Enter, Try}
+use Rattle.mutex_program.specs.declared.program.Place.TheVariants.{Enter, Try, Clear, Ask, AskStarved, ReleaseNotify}
 use Rattle.mutex_machine.specs.Legal.{decision}
+use Rattle.mutex_machine.specs.Courses.{is_releasing}
 use Rattle.mutex_machine.specs.Machine.{SameRoles}
 use Rattle.mutex_program.specs.Program.{start_of}
 use Rattle.mutex_program.specs.Roles.{listed}
 use Rattle.mutex_machine.proofs.laws.Starts.{start_same}
 use Rattle.mutex_world.specs.Guarded.{knows, goes_with, is_within, is_try_kind}
-use Rattle.mutex_world.specs.Legal.{is_try, is_first_poll}
+use Rattle.mutex_world.specs.Legal.{is_try, is_first_poll, is_later_poll}
 use Rattle.mutex_world.specs.View.{answer_on}
 use Rattle.mutex_world.proofs.table.Turns.{Turn, turn}
 
@@ -43,6 +45,9 @@ pub record Here (s : Stage) (what : What) (w : Within) (x from : Place) : Type 0
   pub undecided : (v : ℕ) → is_decided (standing_at v s x) ≡ false → (e : End) → decision from ≡ Some e → e ≡ «end».GivenBack
   pub first : (v n : ℕ) → is_first_poll (standing_at v s x) what n ≡ true → n ≡ listed x → (from ≡ Enter) × (is_try_kind w.kind ≡ false)
   pub tries : is_try what ≡ true → (from ≡ Try) × (is_try_kind w.kind ≡ true)
+  pub polls : (v : ℕ) → is_later_poll (standing_at v s x) what ≡ true → 0 < listed x → ((from ≡ Ask) ⊎ (from ≡ AskStarved)) × (is_try_kind w.kind ≡ false)
+  pub releases : is_drop what ≡ true → s ≡ Outside rest.Holding → (from ≡ Clear) × (is_try_kind w.kind ≡ false)
+  pub tells : s ≡ Inside (record { kind = kind.Drop; was = rest.Holding }) → (from ≡ ReleaseNotify) × (is_try_kind w.kind ≡ false)
 
 decides_so : (v : ℕ) (w : Within) (o : Option End) → is_decided (inside w (answer_on v o)) || false ≡ is_some o
 decides_so v w None = refl
@@ -56,18 +61,29 @@ never_tries : (k : Kind) (r : Rest) (x : Place) → is_within k r x ≡ true →
 never_tries kind.Try r x h = absurd (cc)
 never_tries _ r x h = refl
 
+-- inside the drop of a guard the lock is given back, and somebody is to be notified
+told_at : (x : Place) → is_releasing x ≡ true → x ≡ ReleaseNotify
+told_at ReleaseNotify h = refl
+told_at _ h = absurd (cc)
+
+tells_so : (w : Within) (x : Place) → Inside w ≡ Inside (record { kind = kind.Drop; was = rest.Holding }) → is_within w.kind w.was x ≡ true → (x ≡ ReleaseNotify) × (is_try_kind w.kind ≡ false)
+tells_so w x e within =
+    let same : w ≡ record { kind = kind.Drop; was = rest.Holding } = cc e in
+    let W : Within → Type 0 = λ v. is_within v.kind v.was x ≡ true in
+    (told_at x (subst W same within), ap (λ (v : Within). is_try_kind v.kind) same)
+
 pub here : (s : Stage) (what : What) (w : Within) (x : Place) → goes_with s x ≡ true → call_at knows s what ≡ Some w → polls_again s what ≡ false → put_in what ≡ None → Turn Here s what w x
 here = turn Here (record {
-  lock = λ i. record { begins = inl (lock_call.Lock, refl); decides = λ v. refl; kept = λ v u b e. absurd (cc); undecided = λ v h e d. absurd (cc); first = λ v n h l. (refl, refl); tries = λ h. absurd (cc) };
-  try = λ i. record { begins = inl (lock_call.Try, refl); decides = λ v. refl; kept = λ v u b e. absurd (cc); undecided = λ v h e d. absurd (cc); first = λ v n h l. absurd (cc); tries = λ h. (refl, refl) };
-  poll = λ i. record { begins = inl (lock_call.Poll, refl); decides = λ v. refl; kept = λ v u b e. absurd (cc); undecided = λ v h e d. absurd (cc); first = λ v n h l. (refl, refl); tries = λ h. absurd (cc) };
-  poll_listed = λ i. record { begins = inl (lock_call.Poll, refl); decides = λ v. refl; kept = λ v u b e. absurd (cc); undecided = λ v h e d. absurd (cc); first = λ v n h l. absurd (not_one n h l); tries = λ h. absurd (cc) };
-  poll_starved = λ i. record { begins = inl (lock_call.Poll, refl); decides = λ v. refl; kept = λ v u b e. absurd (cc); undecided = λ v h e d. absurd (cc); first = λ v n h l. absurd (not_one n h l); tries = λ h. absurd (cc) };
-  abandon = λ i. record { begins = inl (lock_call.Cancel, refl); decides = λ v. refl; kept = λ v u b e. absurd (cc); undecided = λ v h e d. sym (some_eq d); first = λ v n h l. absurd (cc); tries = λ h. absurd (cc) };
-  cancel = λ i. record { begins = inl (lock_call.Cancel, refl); decides = λ v. refl; kept = λ v u b e. absurd (cc); undecided = λ v h e d. sym (some_eq d); first = λ v n h l. absurd (cc); tries = λ h. absurd (cc) };
-  cancel_starved = λ i. record { begins = inl (lock_call.Cancel, refl); decides = λ v. refl; kept = λ v u b e. absurd (cc); undecided = λ v h e d. sym (some_eq d); first = λ v n h l. absurd (cc); tries = λ h. absurd (cc) };
-  release = λ i. record { begins = inl (lock_call.Release, refl); decides = λ v. refl; kept = λ v u b e. absurd (cc); undecided = λ v h e d. sym (some_eq d); first = λ v n h l. absurd (cc); tries = λ h. absurd (cc) };
-  go = λ w x i within. record { begins = inr (refl, refl); decides = λ v. decides_so v w (decision x); kept = λ v u b e. (cc, never_tries w.kind w.was x within); undecided = λ v h e d. undecided_so v w (decision x) e h d; first = λ v n h l. absurd (cc); tries = λ h. absurd (cc) };
+  lock = λ i. record { begins = inl (lock_call.Lock, refl); decides = λ v. refl; kept = λ v u b e. absurd (cc); undecided = λ v h e d. absurd (cc); first = λ v n h l. (refl, refl); tries = λ h. absurd (cc); polls = λ v h some. absurd (cc); releases = λ h e. absurd (cc); tells = λ e. absurd (cc) };
+  try = λ i. record { begins = inl (lock_call.Try, refl); decides = λ v. refl; kept = λ v u b e. absurd (cc); undecided = λ v h e d. absurd (cc); first = λ v n h l. absurd (cc); tries = λ h. (refl, refl); polls = λ v h some. absurd (cc); releases = λ h e. absurd (cc); tells = λ e. absurd (cc) };
+  poll = λ i. record { begins = inl (lock_call.Poll, refl); decides = λ v. refl; kept = λ v u b e. absurd (cc); undecided = λ v h e d. absurd (cc); first = λ v n h l. (refl, refl); tries = λ h. absurd (cc); polls = λ v h some. absurd (omega (arith, some)); releases = λ h e. absurd (cc); tells = λ e. absurd (cc) };
+  poll_listed = λ i. record { begins = inl (lock_call.Poll, refl); decides = λ v. refl; kept = λ v u b e. absurd (cc); undecided = λ v h e d. absurd (cc); first = λ v n h l. absurd (not_one n h l); tries = λ h. absurd (cc); polls = λ v h some. (inl refl, refl); releases = λ h e. absurd (cc); tells = λ e. absurd (cc) };
+  poll_starved = λ i. record { begins = inl (lock_call.Poll, refl); decides = λ v. refl; kept = λ v u b e. absurd (cc); undecided = λ v h e d. absurd (cc); first = λ v n h l. absurd (not_one n h l); tries = λ h. absurd (cc); polls = λ v h some. (inr refl, refl); releases = λ h e. absurd (cc); tells = λ e. absurd (cc) };
+  abandon = λ i. record { begins = inl (lock_call.Cancel, refl); decides = λ v. refl; kept = λ v u b e. absurd (cc); undecided = λ v h e d. sym (some_eq d); first = λ v n h l. absurd (cc); tries = λ h. absurd (cc); polls = λ v h some. absurd (cc); releases = λ h e. absurd (cc); tells = λ e. absurd (cc) };
+  cancel = λ i. record { begins = inl (lock_call.Cancel, refl); decides = λ v. refl; kept = λ v u b e. absurd (cc); undecided = λ v h e d. sym (some_eq d); first = λ v n h l. absurd (cc); tries = λ h. absurd (cc); polls = λ v h some. absurd (cc); releases = λ h e. absurd (cc); tells = λ e. absurd (cc) };
+  cancel_starved = λ i. record { begins = inl (lock_call.Cancel, refl); decides = λ v. refl; kept = λ v u b e. absurd (cc); undecided = λ v h e d. sym (some_eq d); first = λ v n h l. absurd (cc); tries = λ h. absurd (cc); polls = λ v h some. absurd (cc); releases = λ h e. absurd (cc); tells = λ e. absurd (cc) };
+  release = λ i. record { begins = inl (lock_call.Release, refl); decides = λ v. refl; kept = λ v u b e. absurd (cc); undecided = λ v h e d. sym (some_eq d); first = λ v n h l. absurd (cc); tries = λ h. absurd (cc); polls = λ v h some. absurd (cc); releases = λ h e. (refl, refl); tells = λ e. absurd (cc) };
+  go = λ w x i within. record { begins = inr (refl, refl); decides = λ v. decides_so v w (decision x); kept = λ v u b e. (cc, never_tries w.kind w.was x within); undecided = λ v h e d. undecided_so v w (decision x) e h d; first = λ v n h l. absurd (cc); tries = λ h. absurd (cc); polls = λ v h some. absurd (cc); releases = λ h e. absurd (cc); tells = λ e. tells_so w x e within };
 })
 
 -- a party has as much where its call begins as where it stood

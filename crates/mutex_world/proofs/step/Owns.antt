@@ -1,5 +1,6 @@
 -- What each party has, by how it stands.
-use Rattle.std.proofs.Common.{◌≡◌, ◌≢◌, ℕ, true, false, Option, Some, None, refl, arith, ap, sym, ◌∙◌, subst}
+use Rattle.std.proofs.Common.{◌≡◌, ◌≢◌, ℕ, true, false, Option, Some, refl, arith, ap, sym, ◌∙◌, subst, is_some}
+use Rattle.std.proofs.lemmas.Bool.{true≢false}
 use Rattle.lock_world.specs.declared.moves.Answer.{Answer}
 use Rattle.lock_world.specs.declared.moves.Answer.TheVariants as answer
 use Rattle.lock_world.specs.declared.standing.Kind.{Kind}
@@ -35,12 +36,25 @@ never_within kind.Drop rest.Holding g = cc (g)
 never_within kind.Drop rest.Pending g = cc (g)
 never_within _ _ g = cc (g)
 
-undecided_free : (v : ℕ) (w : Within) (x : Place) → goes_with (Inside w) x ≡ true → answer_on v (decision x) ≡ None → holds x ≡ 0
-undecided_free v w place.Holding g e = absurd (never_within w.kind w.was g)
-undecided_free v w place.Clear g e = absurd (cc)
-undecided_free v w (place.Uncount b) g e = absurd (cc)
-undecided_free v w place.Leave g e = absurd (cc)
-undecided_free v w _ g e = refl
+-- nor is a party inside a call that is about to give it back: that is the call's first step
+never_clears : (k : Kind) (r : Rest) → is_within k r place.Clear ≡ true → ⊥
+never_clears kind.FirstPoll rest.Idle g = cc (g)
+never_clears kind.LaterPoll rest.Pending g = cc (g)
+never_clears kind.Drop rest.Holding g = cc (g)
+never_clears kind.Drop rest.Pending g = cc (g)
+never_clears _ _ g = cc (g)
+
+-- a drop is decided wherever it is
+drop_decided : (r : Rest) (x : Place) → is_within kind.Drop r x ≡ true → is_some (decision x) ≡ true
+drop_decided rest.Holding place.ReleaseNotify g = refl
+drop_decided rest.Holding _ g = absurd (cc (g))
+drop_decided rest.Pending place.CancelUncount g = refl
+drop_decided rest.Pending place.CancelLeave g = refl
+drop_decided rest.Pending _ g = absurd (cc (g))
+drop_decided _ x g = absurd (cc (g))
+
+no_drop : (w : Within) (x : Place) → goes_with (Inside w) x ≡ true → is_some (decision x) ≡ false → w.kind ≢ kind.Drop
+no_drop w x g none is = true≢false (sym (drop_decided w.was x (ap (λ k. is_within k w.was x) (sym is) ∙ g)) ∙ none)
 
 module _ (t : Table Guarded) (laws : IsMutex t.machine.lock) (fits : IsMutexTable t) where
   stands_pending : (d : Option Answer) (s : Stage) (u : Within) → (d ≡ Some answer.Pending → ⊥) → stands_as d s ≢ inside u (Some answer.Pending)
@@ -58,20 +72,32 @@ module _ (t : Table Guarded) (laws : IsMutex t.machine.lock) (fits : IsMutexTabl
   not_holder : (q : ℕ) → holds (place_of t.machine q) ≡ 0 → (view_of t).state.holder ≢ Some q
   not_holder q none h = let one = sees.is_held_by t.machine.lock.places q h in absurd (omega arith)
 
+  inside_has : (q : ℕ) (w : Within) (x : Place) → place_of t.machine q ≡ x → goes_with (Inside w) x ≡ true → HasItsOwn (view_of t) q (inside w (answer_on t.machine.value (decision x)))
+  inside_has q w place.Leave at g = sees.holds_it t.machine.lock.places q laws.one_holder (ap holds at)
+  inside_has q w (place.Uncount b) at g = sees.holds_it t.machine.lock.places q laws.one_holder (ap holds at)
+  inside_has q w place.RefuseUncount at g = not_holder q (ap holds at)
+  inside_has q w (place.RefuseLeave told) at g = not_holder q (ap holds at)
+  inside_has q w place.RefuseNotifyMemory at g = not_holder q (ap holds at)
+  inside_has q w place.RefuseNotifyStarved at g = not_holder q (ap holds at)
+  inside_has q w place.ReleaseNotify at g = not_holder q (ap holds at)
+  inside_has q w place.CancelUncount at g = not_holder q (ap holds at)
+  inside_has q w place.CancelLeave at g = not_holder q (ap holds at)
+  inside_has q w place.Out at g = not_holder q (ap holds at)
+  inside_has q w place.Clear at g = absurd (never_clears w.kind w.was g)
+  inside_has q w place.Holding at g = absurd (never_within w.kind w.was g)
+  inside_has q w x at g = (not_holder q (ap holds at), no_drop w x g refl)
+
   has : (q : ℕ) (s : Stage) (x : Place) → place_of t.machine q ≡ x → goes_with s x ≡ true → HasItsOwn (view_of t) q (stands_as (answer_on t.machine.value (decision x)) s)
   has q (Outside rest.Idle) place.Out at g = (clear_at q (ap listed at) (ap is_counted at), not_holder q (ap holds at))
   has q (Outside rest.Idle) _ at g = absurd (cc)
-  has q (Outside rest.Pending) place.Out at g = not_holder q (ap holds at)
-  has q (Outside rest.Pending) place.Ask at g = not_holder q (ap holds at)
-  has q (Outside rest.Pending) place.AskStarved at g = not_holder q (ap holds at)
+  has q (Outside rest.Pending) place.Out at g = (not_holder q (ap holds at), λ none. (clear_at q (ap listed at) (ap is_counted at)).1)
+  has q (Outside rest.Pending) place.Ask at g = (not_holder q (ap holds at), λ none. sees.starved_at t.machine.lock.places q ∙ ap is_counted at)
+  has q (Outside rest.Pending) place.AskStarved at g = (not_holder q (ap holds at), λ none. let one : listed (place_of t.machine q) ≡ 1 = ap listed at in absurd (omega (arith, none, laws.owners q, one)))
   has q (Outside rest.Pending) _ at g = absurd (cc)
   has q (Outside rest.Holding) place.Holding at g = (clear_at q (ap listed at) (ap is_counted at), sees.holds_it t.machine.lock.places q laws.one_holder (ap holds at))
   has q (Outside rest.Holding) _ at g = absurd (cc)
   has q (Outside rest.Finished) x at g = absurd (cc)
-  has q (Inside w) x at g = inside_has (answer_on t.machine.value (decision x)) refl where
-    inside_has : (o : Option Answer) → answer_on t.machine.value (decision x) ≡ o → HasItsOwn (view_of t) q (inside w o)
-    inside_has None e = not_holder q (ap holds at ∙ undecided_free t.machine.value w x g e)
-    inside_has (Some a) e = tt
+  has q (Inside w) x at g = inside_has q w x at g
   has q Forgotten x at g = tt
 
   pub each : (q : ℕ) → HasItsOwn (view_of t) q (standing_of (view_of t) q)

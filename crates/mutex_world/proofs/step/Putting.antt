@@ -26,7 +26,7 @@ use Rattle.mutex_program.specs.Roles.{bit, holds}
 use Rattle.mutex_machine.specs.State.{is_holder}
 use Rattle.mutex_machine.proofs.laws.Seen as sees
 use Rattle.mutex_world.specs.Guarded.{Guarded, knows, place_of, with_value}
-use Rattle.mutex_world.specs.Legal.{puts, is_first_poll, call_of, HasItsOwn}
+use Rattle.mutex_world.specs.Legal.{puts, is_first_poll, is_later_poll, call_of, HasItsOwn}
 use Rattle.mutex_world.specs.State.{World, standing_of}
 use Rattle.mutex_world.specs.Steps.{IsMutexTable}
 use Rattle.mutex_world.specs.View.{verdict, view_of}
@@ -101,6 +101,7 @@ module _ (t : Table Guarded) (n p : ℕ) (i : Inputs) (laws : IsMutex t.machine.
         parties = length-standings (verdict left.machine) t.stages ∙ sym (length-standings (verdict t.machine) t.stages);
         found_memory = λ list e. absurd (cc);
         giving_up = λ g. absurd (cc);
+        notice = refl;
         parting = λ h. (let never : is_decided (outside rest.Holding) || is_drop m.what ≡ true = rw was at h in absurd (false≢true never));
       };
       taken_fairly = λ q is was. absurd (was is);
@@ -119,5 +120,13 @@ module _ (t : Table Guarded) (n p : ℕ) (i : Inputs) (laws : IsMutex t.machine.
       };
       ends_properly = acting.ends_so standing_of (λ y q. knows) rest.Holding old m a new (within kind.Put rest.Holding) called refl (refl, is) (λ v b e. absurd (outside_inside (sym was ∙ e)));
     };
-    at_once = record { at_once = λ e h. absurd (cc); ready = λ e. absurd (false≢true (sym not_first ∙ e)); first_poll = λ e. absurd (false≢true (sym not_first ∙ e)) };
+    at_once = record {
+      at_once = λ e h. absurd (cc);
+      ready = λ e. absurd (false≢true (sym not_first ∙ e));
+      first_poll = λ e. absurd (false≢true (sym not_first ∙ e));
+      looks = λ e h. absurd (false≢true (sym not_first ∙ e));
+      listed = λ e some. absurd (false≢true (sym (ap (λ z. is_later_poll z m.what) was) ∙ e));
+      released = λ e h. absurd (cc);
+      notifies = λ e h. absurd (outside_inside (sym was ∙ e));
+    };
   }

@@ -1,5 +1,6 @@
 -- What a whole call promises beside its end, and beside what a solo poll does: by what each of its steps does to the machine.
-use Rattle.std.proofs.Common.{◌≡◌, ◌≢◌, ℕ, ◌<◌, inl, inr, Bool, true, false, List, length, Some, arith, ap, sym, ◌∙◌, subst}
+use Rattle.std.proofs.Common.{◌≡◌, ◌≢◌, ℕ, ◌<◌, inl, inr, Bool, true, false, List, length, Some, refl, arith, ap, sym, ◌∙◌, subst}
+use Rattle.std.proofs.lemmas.Bool.{true≢false}
 use Rattle.lock_event.specs.declared.event.Entry.{Entry}
 use Rattle.lock_event.specs.Lists.{marked_count}
 use Rattle.lock_queue.specs.Parties.{entries_of}
@@ -19,8 +20,9 @@ use Rattle.lock_world.specs.declared.standing.Stage.TheVariants.{Outside}
 use Rattle.lock_world.specs.declared.standing.Within.{Within}
 use Rattle.lock_world.specs.Accounts.{Account, accounts_after}
 use Rattle.lock_world.specs.Frame.{is_refusal}
+use Rattle.lock_world.specs.declared.refusal.Refusal.TheVariants as refusal
 use Rattle.lock_world.specs.Rosters.{how_many}
-use Rattle.lock_world.specs.Standings.{outside, inputs_of}
+use Rattle.lock_world.specs.Standings.{outside, inputs_of, refused}
 use Rattle.lock_world.specs.Whole.{going_on, moves_of, answers_of}
 use Rattle.lock_world.proofs.Equations.{some_eq, none_some, chosen}
 use Rattle.lock_frame.specs.Steps.{beginning}
@@ -34,6 +36,7 @@ use Rattle.mutex_program.specs.declared.program.Next.TheVariants as next
 use Rattle.mutex_program.specs.declared.program.Place.{Place}
 use Rattle.mutex_machine.specs.Acts.{starved}
 use Rattle.mutex_machine.specs.Courses.{is_waiting, is_counting, is_told, HeedsClock}
+use Rattle.mutex_machine.specs.Legal.{decision}
 use Rattle.mutex_machine.proofs.legal.Promised.{begins_uncounted, none_counted, HandsOn, told_on, begins_told}
 use Rattle.mutex_machine.proofs.laws.Seen as sees
 use Rattle.mutex_world.specs.Bound.{Promises}
@@ -46,9 +49,11 @@ use Rattle.mutex_world.specs.View.{verdict}
 use Rattle.mutex_world.proofs.step.Acting.{Acting}
 use Rattle.mutex_world.proofs.step.Acting as acting
 use Rattle.mutex_world.proofs.bound.AloneSeen.{waits_listed, poll_seen}
+use Rattle.mutex_world.proofs.bound.Sure.{notified_takes}
 use Rattle.mutex_world.proofs.step.Here.{BeginsOrGoes, same_roles}
 use Rattle.mutex_world.proofs.table.Seen as seen
 use Rattle.mutex_world.proofs.table.Turns.{within}
+use Rattle.mutex_world.proofs.whole.Patient.{is_too_many, refuses_many, calm, begins_calm}
 use Rattle.mutex_world.proofs.whole.Whole.{from_turn, by_step}
 
 abbrev lock_at : World → ℕ → Place
@@ -72,36 +77,40 @@ module _ (p : ℕ) (i : Inputs) where
   Unstarved t = starved t.machine.lock ≡ 0
 
   abbrev Unstarving : Table Guarded → Type 0
-  Unstarving t = Unstarved t × (is_counting (place_of t.machine p) ≡ false)
+  Unstarving t = Unstarved t × (is_counting (place_of t.machine p) ≡ false) × (is_too_many (decision (place_of t.machine p)) ≡ false)
+
+  abbrev Unrefused : Answer → Table Guarded → Type 0
+  Unrefused b t = Unstarved t × (refuses_many b ≡ false)
 
   module _ (patient : i.starving ≡ false) where
-    counts_none : (t u : Table Guarded) (what : What) (a : Answer) → (inputs_of what).starving ≡ false → Unstarved t → (w : Within) (k : Acting t u (record { party = p; what = what }) a w) → is_counting k.carries.from ≡ false → On Unstarving (λ b y. Unstarved y) a u
-    counts_none t u what a quiet none w k not_next =
+    counts_none : (t u : Table Guarded) (what : What) (a : Answer) → (inputs_of what).starving ≡ false → Unstarved t → (w : Within) (k : Acting t u (record { party = p; what = what }) a w) → is_counting k.carries.from ≡ false → is_too_many (decision k.carries.from) ≡ false → On Unstarving Unrefused a u
+    counts_none t u what a quiet none w k not_next not_many =
         let C : Bool → Type 0 = λ b. HeedsClock b k.carries.from k.carries.next in
         let m : Move = record { party = p; what = what } in
         let it = none_counted (inputs_of what).memory p k.carries.from k.carries.next t.machine.lock u.machine.lock k.carries.carried.acts (subst C quiet k.carries.carried.clock) (acting.there t u m a w k)
         (same_roles (stage_at t.stages p) w (place_of t.machine p) k.carries.from k.here.begins) none not_next in
-        record { going = λ e. it; ended = λ e. it.0 }
+        let so = calm (is_try_kind w.kind) t.machine.value k.carries.from k.carries.next k.carries.carried.acts.found a (place_of u.machine p) k.carries.carried.acts.next_is k.carries.answer (acting.lands_at t u m a w k) not_next not_many in
+        record { going = λ e. (it.0, it.1, so.going e); ended = λ e. (it.0, so.answered) }
 
     abbrev Left : Answer → Table Guarded → Type 0
-    Left = On Unstarving (λ b y. Unstarved y)
+    Left = On Unstarving Unrefused
 
-    steps_unstarved : (x : World) (what : What) (a : Answer) (v : World) → (inputs_of what).starving ≡ false → Unstarved x.behind → ((w : Within) (k : Acting x.behind v.behind (record { party = p; what = what }) a w) → is_counting k.carries.from ≡ false) → Steps x (record { party = p; what = what }) a v
-        → Onward (λ y. Unstarving y.behind) (λ b y. Unstarved y.behind) a v
-    steps_unstarved x what a v still none not_next s = of_world Unstarving (λ b y. Unstarved y) a v
+    steps_unstarved : (x : World) (what : What) (a : Answer) (v : World) → (inputs_of what).starving ≡ false → Unstarved x.behind → ((w : Within) (k : Acting x.behind v.behind (record { party = p; what = what }) a w) → (is_counting k.carries.from ≡ false) × (is_too_many (decision k.carries.from) ≡ false)) → Steps x (record { party = p; what = what }) a v
+        → Onward (λ y. Unstarving y.behind) (λ b y. Unrefused b y.behind) a v
+    steps_unstarved x what a v still none not_next s = of_world Unstarving Unrefused a v
         (by_step x.behind v.behind (record { party = p; what = what }) a s.did.stood.mutex s.did.stood.fits s.did.stands.mutex s.did.stands.fits Left
-        (quiet Unstarving (λ b y. Unstarved y) _ x.behind (λ e. cc (e)) none) (quiet Unstarving (λ b y. Unstarved y) _ x.behind (λ e. cc (e)) none)
-        (λ n e. quiet Unstarving (λ b y. Unstarved y) _ v.behind (λ e. cc (e)) (ap (λ (g : Guarded). starved g.lock) e ∙ none))
-        (λ w k. counts_none x.behind v.behind what a still none w k (not_next w k)) s.did.step)
+        (quiet Unstarving Unrefused _ x.behind (λ e. cc (e)) (none, refl)) (quiet Unstarving Unrefused _ x.behind (λ e. cc (e)) (none, refl))
+        (λ n e. quiet Unstarving Unrefused _ v.behind (λ e. cc (e)) (ap (λ (g : Guarded). starved g.lock) e ∙ none, refl))
+        (λ w k. let both = not_next w k in counts_none x.behind v.behind what a still none w k both.0 both.1) s.did.step)
 
-    onward_unstarved : (x : World) (a : Answer) (v : World) → Unstarving x.behind → Steps x (going_on p i) a v → Onward (λ y. Unstarving y.behind) (λ b y. Unstarved y.behind) a v
-    onward_unstarved x a v g s = steps_unstarved x (Go i) a v patient g.0 (λ w k. ap is_counting (sym (from_turn x.behind v.behind (going_on p i) a w k)) ∙ g.1) s
+    onward_unstarved : (x : World) (a : Answer) (v : World) → Unstarving x.behind → Steps x (going_on p i) a v → Onward (λ y. Unstarving y.behind) (λ b y. Unrefused b y.behind) a v
+    onward_unstarved x a v g s = steps_unstarved x (Go i) a v patient g.0 (λ w k. let at = from_turn x.behind v.behind (going_on p i) a w k in (ap is_counting (sym at) ∙ g.1, ap (λ y. is_too_many (decision y)) (sym at) ∙ g.2)) s
 
-    begins_at : (c : Call) (s : Stage) (w : Within) (x from : Place) → call_at knows s (Begin c i) ≡ Some w → BeginsOrGoes s w x from → is_counting from ≡ false
-    begins_at c s w x from e (inl b) = begins_uncounted b.0 x from b.1
+    begins_at : (c : Call) (s : Stage) (w : Within) (x from : Place) → call_at knows s (Begin c i) ≡ Some w → BeginsOrGoes s w x from → (is_counting from ≡ false) × (is_too_many (decision from) ≡ false)
+    begins_at c s w x from e (inl b) = (begins_uncounted b.0 x from b.1, begins_calm b.0 x from b.1)
     begins_at c s w x from e (inr g) = let C : Stage → Type 0 = λ z. call_at knows z (Begin c i) ≡ Some w in absurd (none_some (subst C g.0 e))
 
-    first_unstarved : (c : Call) (x : World) → Unstarved x.behind → (a : Answer) (v : World) → Steps x (beginning p c i) a v → Onward (λ y. Unstarving y.behind) (λ b y. Unstarved y.behind) a v
+    first_unstarved : (c : Call) (x : World) → Unstarved x.behind → (a : Answer) (v : World) → Steps x (beginning p c i) a v → Onward (λ y. Unstarving y.behind) (λ b y. Unrefused b y.behind) a v
     first_unstarved c x none a v s = steps_unstarved x (Begin c i) a v patient none (λ w k. begins_at c (stage_at x.behind.stages p) w (lock_at x p) k.carries.from k.call k.here.begins) s
 
   -- ---- a refused poll of a listed party hands on
@@ -164,10 +173,16 @@ module _ (known : ℕ → Account) (w : World) (p : ℕ) (c : Call) (i : Inputs)
   first : is_first_poll (standing_of w p) (Begin c i) (entries_of p w.entries) ≡ true → is_free w.state ≡ true → a ≡ answer.Ready (Value w.state.value)
   first is free = at_first Steps accounts_after HoldsWell known w p c i n a v (answer.Ready (Value w.state.value)) (λ e. cc (e)) (λ b x s. s.at_once.ready is ∙ chosen (is_free w.state) (answer.Ready (Value w.state.value)) answer.Stepped free) ended runs
 
-  unstarved : i.starving ≡ false → how_many w.state.starved ≡ 0 → is_starved v.state p ≡ false
-  unstarved patient none =
+  unrefused : i.starving ≡ false → how_many w.state.starved ≡ 0 → Unrefused p i a v.behind
+  unrefused patient none =
       let zero : starved w.behind.machine.lock ≡ 0 = sym (starved_behind w stood) ∙ none in
-      not_counted v p stands (along Steps accounts_after HoldsWell p i (λ y. Unstarving p i y.behind) (λ b y. Unstarved p i y.behind) (onward_unstarved p i patient) known n w (beginning p c i) a v (first_unstarved p i patient c w zero) ended runs)
+      along Steps accounts_after HoldsWell p i (λ y. Unstarving p i y.behind) (λ b y. Unrefused p i b y.behind) (onward_unstarved p i patient) known n w (beginning p c i) a v (first_unstarved p i patient c w zero) ended runs
+
+  unstarved : i.starving ≡ false → how_many w.state.starved ≡ 0 → is_starved v.state p ≡ false
+  unstarved patient none = not_counted v p stands (unrefused patient none).0
+
+  patient : i.starving ≡ false → how_many w.state.starved ≡ 0 → a ≢ refused refusal.Starved
+  patient still none is = true≢false (sym (ap refuses_many is) ∙ (unrefused still none).1)
 
   hands_on : c ≡ call.Poll → standing_of w p ≡ outside rest.Pending → 0 < entries_of p w.entries → is_refusal a ≡ true → 0 < length v.entries → 0 < marked_count v.entries
   hands_on is pending some refused there =
@@ -179,6 +194,8 @@ module _ (known : ℕ → Account) (w : World) (p : ℕ) (c : Call) (i : Inputs)
   keeps_promises = record {
     first = first;
     solo = λ is solo free. (let R : Call → Type 0 = λ x. Runs known w (moves_of p x i n) (answers_of n a) v in poll_seen known w p i n a v stood stands (subst R is runs) ended solo free);
+    notified = λ is told free why. (let R : Call → Type 0 = λ x. Runs known w (moves_of p x i n) (answers_of n a) v in notified_takes known w p i n a v stood stands (subst R is runs) ended told free why);
     unstarved = unstarved;
+    patient = patient;
     hands_on = hands_on;
   }

@@ -328,7 +328,7 @@ module _ (t u : Table Semaphore) (m : Move) (a : Answer) (w : Within) where
     allowed_so (does list asks) h = tt
     allowed_so (does list leaves) h = tt
     allowed_so (does list (notifies n)) h = ap (λ z. notice z (adds_of old p)) stood ∙ (ap (notice (stands_as (verdict x) s)) (seen.adds_seen t p) ∙ k.here.told n h)
-    allowed_so (does list (notifies_additionally n)) h = tt
+    allowed_so (does list (notifies_additionally n)) h = h
 
     decided_there : is_decided (standing_of old p) || is_giving_back m.what ≡ is_some (verdict_of from)
     decided_there = ap (λ z. is_decided z || is_giving_back m.what) stood ∙ k.here.decides

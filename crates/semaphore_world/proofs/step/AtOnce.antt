@@ -1,37 +1,41 @@
 -- What the first step of a call decides at once.
-use Rattle.std.proofs.Common.{◌≡◌, ℕ, ◌⊎◌, inl, inr, Bool, true, false, Some, nat_lt, if◌then◌else◌, refl, arith, ap, sym, ◌∙◌, subst}
+use Rattle.std.proofs.Common.{◌≡◌, ℕ, ◌<◌, ◌⊎◌, ◌||◌, inl, inr, Bool, true, false, Option, Some, nat_lt, if◌then◌else◌, refl, arith, ap, sym, ◌∙◌, subst}
+use Rattle.std.proofs.lemmas.Bool.{false≢true}
+use Rattle.lock_event.specs.Lists.{notified}
 use Rattle.lock_queue.specs.Parties.{entries_of}
 use Rattle.lock_world.specs.declared.moves.Answer.{Answer}
 use Rattle.lock_world.specs.declared.moves.Answer.TheVariants as answer
 use Rattle.lock_world.specs.declared.moves.Got.TheVariants.{Plain}
 use Rattle.lock_world.specs.declared.moves.Move.{Move}
 use Rattle.lock_world.specs.declared.moves.What.{What}
+use Rattle.lock_world.specs.declared.standing.Kind.TheVariants as kind
 use Rattle.lock_world.specs.declared.standing.Rest.TheVariants as rest
 use Rattle.lock_world.specs.declared.standing.Stage.{Stage}
 use Rattle.lock_world.specs.declared.standing.Within.{Within}
-use Rattle.lock_world.specs.Standings.{Standing, outside, inputs_of, decision}
+use Rattle.lock_world.specs.Standings.{Standing, outside, inside, inputs_of, decision}
 use Rattle.lock_world.specs.Frame.{is_drop}
-use Rattle.lock_world.specs.Steps.{Deed, changes}
-use Rattle.lock_world.proofs.Equations.{some_eq, not_one}
+use Rattle.lock_world.specs.Steps.{Deed, nothing, changes, does, notifies}
+use Rattle.lock_world.proofs.Equations.{some_eq, not_one, outside_inside}
 use Rattle.lock_table.specs.Stages.{stage_at, stands_as, call_at, polls_again}
 use Rattle.lock_table.specs.Tables.{Table}
 use Rattle.semaphore_machine.specs.declared.program.Action.TheVariants as act
 use Rattle.semaphore_machine.specs.declared.program.Found.{Found}
 use Rattle.semaphore_machine.specs.declared.program.Found.TheVariants.{Done, Taken, NoneLeft, PastLimit, NoMemory, Yes, No}
 use Rattle.semaphore_machine.specs.declared.program.Place.{Place}
-use Rattle.semaphore_machine.specs.declared.program.Place.TheVariants.{Take, Retake, Try, Lower, GiveBack, Raise}
+use Rattle.semaphore_machine.specs.declared.program.Place.TheVariants.{Take, Retake, Try, Lower, GiveBack, GiveBackNotify, Raise, GiveAdded, NotifyAdded}
 use Rattle.semaphore_machine.specs.declared.program.Position.{Position}
+use Rattle.semaphore_machine.specs.declared.program.Position.TheVariants.{At}
 use Rattle.semaphore_machine.specs.Program.{action_of, next_of}
-use Rattle.semaphore_machine.specs.Seats.{Share, share_of, listed, verdict}
-use Rattle.semaphore_machine.specs.Deeds.{Change, ListName, gives_back, forgets, deed_of, Finds, FindsPermit, FindsRoom}
-use Rattle.semaphore_machine.specs.Machine.{Semaphore, knows, goes_with, position_at, answer_by}
+use Rattle.semaphore_machine.specs.Seats.{Share, seat_of, share_of, listed, verdict, verdict_of, adds_at}
+use Rattle.semaphore_machine.specs.Deeds.{Change, ListName, takes, gives_back, forgets, gives, for_a_permit, entries_after, deed_of, Finds, FindsPermit, FindsRoom}
+use Rattle.semaphore_machine.specs.Machine.{Semaphore, knows, goes_with, runs, is_begun, is_returning, is_adding, position_at, answer_by}
 use Rattle.semaphore_machine.proofs.laws.Kept.{after}
-use Rattle.semaphore_world.specs.State.{World, has_permit, is_free, standing_of}
+use Rattle.semaphore_world.specs.State.{World, share_at, has_permit, is_free, standing_of, adds_of}
 use Rattle.semaphore_world.specs.View.{view_of}
 use Rattle.semaphore_world.specs.Legal.{state_after, added_in, is_forget}
 use Rattle.semaphore_world.proofs.table.Seen as seen
 use Rattle.semaphore_world.proofs.step.Rows.{said}
-use Rattle.semaphore_world.specs.AtOnce.{AnswersAtOnce, AddsAtOnce, is_try, is_poll, is_first_poll}
+use Rattle.semaphore_world.specs.AtOnce.{AnswersAtOnce, AddsAtOnce, GivesInTurn, is_try, is_poll, is_first_poll}
 use Rattle.semaphore_machine.proofs.stages.Turns.{Turn, turn}
 use Rattle.semaphore_world.proofs.step.Acting.{Acting}
 use Rattle.semaphore_world.proofs.step.Acting as acting
@@ -46,22 +50,46 @@ pub record EntranceAt (s : Standing) (what : What) (x : Position) (from : Place)
   pub adds : (n : ℕ) → added_in what ≡ Some n → from ≡ Raise n
   pub forgets : is_forget what ≡ true → from ≡ Lower
   pub drops : is_drop what ≡ true → s ≡ outside rest.Holding → from ≡ GiveBack
+  -- and those at which the drop of a guard and an add go on
+  pub returns : s ≡ inside (record { kind = kind.Drop; was = rest.Holding }) (Some answer.GivenBack) → from ≡ GiveBackNotify
+  pub gives : s ≡ inside (record { kind = kind.Add; was = rest.Idle }) (Some (answer.Granted Plain)) → (n : ℕ) × ((from ≡ GiveAdded n) ⊎ (from ≡ NotifyAdded n)) × (x ≡ At from)
 
 abbrev pub Entrance : Stage → What → Within → Position → Place → Type 0
 Entrance s what w x from = EntranceAt (stands_as (verdict x) s) what x from
 
+returning_at : (x : Place) → is_begun x ≡ true → is_returning x ≡ true → x ≡ GiveBackNotify
+returning_at GiveBackNotify b h = refl
+returning_at GiveBack b h = absurd (cc b)
+returning_at _ b h = absurd (cc h)
+
+adding_at : (x : Place) → is_begun x ≡ true → is_adding x ≡ true → (n : ℕ) × ((x ≡ GiveAdded n) ⊎ (x ≡ NotifyAdded n))
+adding_at (GiveAdded n) b h = (n, inl refl)
+adding_at (NotifyAdded n) b h = (n, inr refl)
+adding_at (Raise n) b h = absurd (cc b)
+adding_at _ b h = absurd (cc h)
+
+-- inside the same call
+same_call : (w v : Within) (d e : Option Answer) → inside w d ≡ inside v e → w ≡ v
+same_call w v d e h = cc h
+
+returns_at : (w : Within) (x : Place) → inside w (verdict_of x) ≡ inside (record { kind = kind.Drop; was = rest.Holding }) (Some answer.GivenBack) → is_begun x ≡ true → runs w.kind w.was x ≡ true → x ≡ GiveBackNotify
+returns_at w x e begun here = let R : Within → Type 0 = λ v. runs v.kind v.was x ≡ true in returning_at x begun (subst R (same_call _ _ _ _ e) here)
+
+gives_at : (w : Within) (x : Place) → inside w (verdict_of x) ≡ inside (record { kind = kind.Add; was = rest.Idle }) (Some (answer.Granted Plain)) → is_begun x ≡ true → runs w.kind w.was x ≡ true → (n : ℕ) × ((x ≡ GiveAdded n) ⊎ (x ≡ NotifyAdded n)) × (At x ≡ At x)
+gives_at w x e begun here = let R : Within → Type 0 = λ v. runs v.kind v.was x ≡ true in let at = adding_at x begun (subst R (same_call _ _ _ _ e) here) in (at.0, at.1, refl)
+
 pub entrance : (s : Stage) (what : What) (w : Within) (x : Position) → goes_with s x ≡ true → call_at knows s what ≡ Some w → polls_again s what ≡ false → Turn Entrance s what w x
 entrance = turn Entrance (record {
-  acquire = λ i. record { tries = λ h. absurd (cc); polls = λ h. inl refl; first = λ n h l. refl; adds = λ n e. absurd (cc); forgets = λ h. absurd (cc); drops = λ h e. absurd (cc) };
-  try = λ i. record { tries = λ h. refl; polls = λ h. absurd (cc); first = λ n h l. absurd (cc); adds = λ n e. absurd (cc); forgets = λ h. absurd (cc); drops = λ h e. absurd (cc) };
-  add = λ k i. record { tries = λ h. absurd (cc); polls = λ h. absurd (cc); first = λ n h l. absurd (cc); adds = λ n e. ap Raise (some_eq e); forgets = λ h. absurd (cc); drops = λ h e. absurd (cc) };
-  poll = λ i. record { tries = λ h. absurd (cc); polls = λ h. inl refl; first = λ n h l. refl; adds = λ n e. absurd (cc); forgets = λ h. absurd (cc); drops = λ h e. absurd (cc) };
-  poll_listed = λ i. record { tries = λ h. absurd (cc); polls = λ h. inr refl; first = λ n h l. absurd (not_one n h l); adds = λ n e. absurd (cc); forgets = λ h. absurd (cc); drops = λ h e. absurd (cc) };
-  abandon = λ i. record { tries = λ h. absurd (cc); polls = λ h. absurd (cc); first = λ n h l. absurd (cc); adds = λ n e. absurd (cc); forgets = λ h. absurd (cc); drops = λ h e. absurd (cc) };
-  cancel = λ i. record { tries = λ h. absurd (cc); polls = λ h. absurd (cc); first = λ n h l. absurd (cc); adds = λ n e. absurd (cc); forgets = λ h. absurd (cc); drops = λ h e. absurd (cc) };
-  give_back = λ i. record { tries = λ h. absurd (cc); polls = λ h. absurd (cc); first = λ n h l. absurd (cc); adds = λ n e. absurd (cc); forgets = λ h. absurd (cc); drops = λ h e. refl };
-  forget = λ i. record { tries = λ h. absurd (cc); polls = λ h. absurd (cc); first = λ n h l. absurd (cc); adds = λ n e. absurd (cc); forgets = λ h. refl; drops = λ h e. absurd (cc) };
-  go = λ w x i begun here. record { tries = λ h. absurd (cc); polls = λ h. absurd (cc); first = λ n h l. absurd (cc); adds = λ n e. absurd (cc); forgets = λ h. absurd (cc); drops = λ h e. absurd (cc) };
+  acquire = λ i. record { tries = λ h. absurd (cc); polls = λ h. inl refl; first = λ n h l. refl; adds = λ n e. absurd (cc); forgets = λ h. absurd (cc); drops = λ h e. absurd (cc); returns = λ e. absurd (outside_inside e); gives = λ e. absurd (outside_inside e) };
+  try = λ i. record { tries = λ h. refl; polls = λ h. absurd (cc); first = λ n h l. absurd (cc); adds = λ n e. absurd (cc); forgets = λ h. absurd (cc); drops = λ h e. absurd (cc); returns = λ e. absurd (outside_inside e); gives = λ e. absurd (outside_inside e) };
+  add = λ k i. record { tries = λ h. absurd (cc); polls = λ h. absurd (cc); first = λ n h l. absurd (cc); adds = λ n e. ap Raise (some_eq e); forgets = λ h. absurd (cc); drops = λ h e. absurd (cc); returns = λ e. absurd (outside_inside e); gives = λ e. absurd (outside_inside e) };
+  poll = λ i. record { tries = λ h. absurd (cc); polls = λ h. inl refl; first = λ n h l. refl; adds = λ n e. absurd (cc); forgets = λ h. absurd (cc); drops = λ h e. absurd (cc); returns = λ e. absurd (outside_inside e); gives = λ e. absurd (outside_inside e) };
+  poll_listed = λ i. record { tries = λ h. absurd (cc); polls = λ h. inr refl; first = λ n h l. absurd (not_one n h l); adds = λ n e. absurd (cc); forgets = λ h. absurd (cc); drops = λ h e. absurd (cc); returns = λ e. absurd (outside_inside e); gives = λ e. absurd (outside_inside e) };
+  abandon = λ i. record { tries = λ h. absurd (cc); polls = λ h. absurd (cc); first = λ n h l. absurd (cc); adds = λ n e. absurd (cc); forgets = λ h. absurd (cc); drops = λ h e. absurd (cc); returns = λ e. absurd (outside_inside e); gives = λ e. absurd (outside_inside e) };
+  cancel = λ i. record { tries = λ h. absurd (cc); polls = λ h. absurd (cc); first = λ n h l. absurd (cc); adds = λ n e. absurd (cc); forgets = λ h. absurd (cc); drops = λ h e. absurd (cc); returns = λ e. absurd (outside_inside e); gives = λ e. absurd (outside_inside e) };
+  give_back = λ i. record { tries = λ h. absurd (cc); polls = λ h. absurd (cc); first = λ n h l. absurd (cc); adds = λ n e. absurd (cc); forgets = λ h. absurd (cc); drops = λ h e. refl; returns = λ e. absurd (outside_inside e); gives = λ e. absurd (outside_inside e) };
+  forget = λ i. record { tries = λ h. absurd (cc); polls = λ h. absurd (cc); first = λ n h l. absurd (cc); adds = λ n e. absurd (cc); forgets = λ h. refl; drops = λ h e. absurd (cc); returns = λ e. absurd (outside_inside e); gives = λ e. absurd (outside_inside e) };
+  go = λ w x i begun here. record { tries = λ h. absurd (cc); polls = λ h. absurd (cc); first = λ n h l. absurd (cc); adds = λ n e. absurd (cc); forgets = λ h. absurd (cc); drops = λ h e. absurd (cc); returns = λ e. returns_at w x e begun here; gives = λ e. gives_at w x e begun here };
 })
 
 -- ---- What is found there
@@ -196,10 +224,73 @@ module _ (t u : Table Semaphore) (m : Move) (a : Answer) (w : Within) (k : Actin
       let e = door.forgets h in
       (answered Lower e, acting.state_is t u m a w k ∙ ap (λ (d : Deed Change ListName). state_after p d old.state) (done_there Lower e ∙ lowered k.found (at Lower Found_there e k.acts.finds)))
 
-  returned : is_drop m.what ≡ true → standing_of old p ≡ outside rest.Holding → new.state ≡ state_after p (changes gives_back) old.state
+  returned : is_drop m.what ≡ true → standing_of old p ≡ outside rest.Holding → (a ≡ answer.Stepped) × (new.state ≡ state_after p (changes gives_back) old.state)
   returned h stands =
       let e = door.drops h (sym (acting.stood t u m a w k) ∙ stands) in
-      acting.state_is t u m a w k ∙ ap (λ (d : Deed Change ListName). state_after p d old.state) (done_there GiveBack e ∙ given_back k.found (at GiveBack Found_there e k.acts.finds))
+      (answered GiveBack e, acting.state_is t u m a w k ∙ ap (λ (d : Deed Change ListName). state_after p d old.state) (done_there GiveBack e ∙ given_back k.found (at GiveBack Found_there e k.acts.finds)))
+
+  -- what the action of this place does to the state and to the list
+  state_there : (y : Place) → k.from ≡ y → (d : Deed Change ListName) → deed_of (action_of y) k.found ≡ d → new.state ≡ state_after p d old.state
+  state_there y e d is = acting.state_is t u m a w k ∙ ap (λ (c : Deed Change ListName). state_after p c old.state) (done_there y e ∙ is)
+
+  list_there : (y : Place) → k.from ≡ y → (d : Deed Change ListName) → deed_of (action_of y) k.found ≡ d → new.entries ≡ entries_after p d old.entries
+  list_there y e d is = k.acts.entries ∙ ap (λ (c : Deed Change ListName). entries_after p c old.entries) (done_there y e ∙ is)
+
+  abbrev Looked : Type 0
+  Looked = (new.state ≡ (if is_free old.state then state_after p (changes takes) old.state else old.state)) × (new.entries ≡ old.entries)
+
+  looked : (y : Place) → k.from ≡ y → action_of y ≡ act.Take → (f : Found) → k.found ≡ f → FindsPermit f t.machine.words.available → is_free old.state ≡ is_taken f → Looked
+  looked y e act_is (Taken more) is found free =
+      let deed : deed_of (action_of y) k.found ≡ changes takes = ap (λ b. deed_of b k.found) act_is ∙ ap (deed_of act.Take) is in
+      (rw free (state_there y e (changes takes) deed), list_there y e (changes takes) deed)
+  looked y e act_is NoneLeft is found free =
+      let deed : deed_of (action_of y) k.found ≡ nothing = ap (λ b. deed_of b k.found) act_is ∙ ap (deed_of act.Take) is in
+      (rw free (state_there y e nothing deed), list_there y e nothing deed)
+  looked y e act_is _ is found free = absurd found
+
+  looks_at : (y : Place) → k.from ≡ y → action_of y ≡ act.Take → Looked
+  looks_at y e act_is =
+      let F : _ → Type 0 = λ b. Finds memory p b k.found t.machine.words t.machine.entries in
+      let found : FindsPermit k.found t.machine.words.available = subst F act_is (at y Found_there e k.acts.finds) in
+      looked y e act_is k.found refl found (free_is ∙ found_free k.found t.machine.words.available found)
+
+  looks : (b c : Bool) → is_try m.what ≡ b → is_poll (stands_as (verdict (position_at t.machine.positions p)) (stage_at t.stages p)) m.what ≡ c → b || c ≡ true → Looked
+  looks true c tries polls h = looks_at Try (door.tries tries) refl
+  looks false true tries polls h = elim (door.polls polls) as (λ _. Looked) [ inl e ↦ looks_at (Take false false) e refl | inr e ↦ looks_at Retake e refl ]
+  looks false false tries polls h = absurd (false≢true h)
+
+  told_there : (y : Place) (n : ℕ) → k.from ≡ y → action_of y ≡ act.Notify n → new.entries ≡ notified old.entries n
+  told_there y n e act_is =
+      let F : _ → Type 0 = λ b. Finds memory p b k.found t.machine.words t.machine.entries in
+      list_there y e (does for_a_permit (notifies n)) (ap (λ b. deed_of b k.found) act_is ∙ told_done n k.found (subst F act_is (at y Found_there e k.acts.finds))) where
+        told_done : (n : ℕ) (f : Found) → Finds memory p (act.Notify n) f t.machine.words t.machine.entries → deed_of (act.Notify n) f ≡ does for_a_permit (notifies n)
+        told_done n Done e = refl
+        told_done n _ e = absurd e
+
+  gave : (n : ℕ) (f : Found) → Finds memory p (act.Give n) f t.machine.words t.machine.entries → deed_of (act.Give n) f ≡ changes (gives n)
+  gave n Done e = refl
+  gave n _ e = absurd e
+
+  adds_there : (y : Place) → k.from ≡ y → position_at t.machine.positions p ≡ At k.from → adds_of old p ≡ adds_at (At y)
+  adds_there y e is = seen.adds_seen t p ∙ (ap adds_at is ∙ ap (λ z. adds_at (At z)) e)
+
+  share_there : (y : Place) → k.from ≡ y → share_at old.state p ≡ (seat_of y).share
+  share_there y e = acting.share_old t u m a w k ∙ ap (λ z. (seat_of z).share) e
+
+  gives_so : (n : ℕ) → (k.from ≡ GiveAdded n) ⊎ (k.from ≡ NotifyAdded n) → position_at t.machine.positions p ≡ At k.from → 0 < adds_of old p → GivesInTurn old m a new
+  gives_so n (inl e) is some =
+      let adds : adds_of old p ≡ n = adds_there (GiveAdded n) e is in
+      let deed = gave n k.found (at (GiveAdded n) Found_there e k.acts.finds) in
+      record {
+        given = λ h. (answered (GiveAdded n) e, state_there (GiveAdded n) e (changes (gives n)) deed ∙ ap (λ j. state_after p (changes (gives j)) old.state) (sym adds));
+        told = λ h. (let none : n ≡ 0 = ap (λ (z : Share). z.under_way) (sym (share_there (GiveAdded n) e) ∙ h) in absurd (omega (arith, none, adds, some)));
+      }
+  gives_so n (inr e) is some =
+      let adds : adds_of old p ≡ n = adds_there (NotifyAdded n) e is in
+      record {
+        given = λ h. (let none : 0 ≡ adds_of old p = ap (λ (z : Share). z.under_way) (sym (share_there (NotifyAdded n) e) ∙ h) in absurd (omega (arith, none, some)));
+        told = λ h. (answered (NotifyAdded n) e, told_there (NotifyAdded n) n e refl ∙ ap (notified old.entries) (sym adds));
+      }
 
   seen_poll : is_poll (standing_of old p) m.what ≡ true → is_poll (stands_as (verdict (position_at t.machine.positions p)) (stage_at t.stages p)) m.what ≡ true
   seen_poll h = ap (λ z. is_poll z m.what) (sym (acting.stood t u m a w k)) ∙ h
@@ -215,5 +306,8 @@ module _ (t u : Table Semaphore) (m : Move) (a : Answer) (w : Within) (k : Actin
         answered (Take false false) e ∙ (take_answer k.found ∙ chosen (is_free old.state) (is_taken k.found) (answer.Ready Plain) answer.Stepped free);
     added = λ n e possible. added n e;
     forgotten = λ h possible. forgotten_so h;
+    looks = λ which possible. looks (is_try m.what) (is_poll (stands_as (verdict (position_at t.machine.positions p)) (stage_at t.stages p)) m.what) refl refl (sym (ap (λ z. is_try m.what || is_poll z m.what) (acting.stood t u m a w k)) ∙ which);
     returned = returned;
+    notifies = λ stands possible. let e = door.returns (sym (acting.stood t u m a w k) ∙ stands) in (answered GiveBackNotify e, told_there GiveBackNotify 1 e refl);
+    gives = λ stands possible some. let at = door.gives (sym (acting.stood t u m a w k) ∙ stands) in gives_so at.0 at.1 at.2 some;
   }

@@ -1,5 +1,6 @@
 -- A move that does nothing is a legal step: one that its party may not make, and a poll of a future that has been ready.
-use Rattle.std.proofs.Common.{◌≡◌, ◌≢◌, ℕ, true, false, Some, None, refl, subst}
+use Rattle.std.proofs.Common.{◌≡◌, ◌≢◌, ℕ, ◌||◌, true, false, Option, Some, None, refl, ap, sym, ◌∙◌, subst}
+use Rattle.std.proofs.lemmas.Bool.{false≢true}
 use Rattle.lock_world.specs.declared.moves.Answer.{Answer}
 use Rattle.lock_world.specs.declared.moves.Answer.TheVariants as answer
 use Rattle.lock_world.specs.declared.moves.Call.TheVariants as call
@@ -12,6 +13,7 @@ use Rattle.lock_world.specs.declared.standing.Within.{Within}
 use Rattle.lock_world.specs.Standings.{Standing, outside, inside, is_outside, call_in, refused}
 use Rattle.lock_world.specs.Frame.{is_poll_after_ready, is_drop}
 use Rattle.lock_world.specs.Steps.{nothing}
+use Rattle.lock_world.proofs.Equations.{outside_inside}
 use Rattle.lock_table.proofs.Idle as idle
 use Rattle.lock_table.proofs.Idle.{Idle, same_decides}
 use Rattle.semaphore_machine.specs.Machine.{knows}
@@ -44,10 +46,11 @@ record Again (s : Standing) (what : What) : Type 0 where
   pub add : added_in what ≡ None
   pub forget : is_forget what ≡ false
   pub drop : is_drop what ≡ false
+  pub outside : (u : Within) (d : Option Answer) → s ≢ inside u d
 
 again : (s : Standing) (what : What) → is_poll_after_ready s what ≡ true → Again s what
-again (outside rest.Holding) (Begin call.Poll i) h = record { try = refl; poll = refl; add = refl; forget = refl; drop = refl }
-again (outside rest.Finished) (Begin call.Poll i) h = record { try = refl; poll = refl; add = refl; forget = refl; drop = refl }
+again (outside rest.Holding) (Begin call.Poll i) h = record { try = refl; poll = refl; add = refl; forget = refl; drop = refl; outside = λ u d. outside_inside }
+again (outside rest.Finished) (Begin call.Poll i) h = record { try = refl; poll = refl; add = refl; forget = refl; drop = refl; outside = λ u d. outside_inside }
 again _ _ h = absurd (cc)
 
 -- what holds of any World that stands
@@ -83,7 +86,10 @@ module _ (w : World) (m : Move) (well : StandsWell w) where
     ready = λ h. absurd (poll_possible 0 s m.what (first_polls _ s m.what h) none);
     added = λ n e h. absurd (cc);
     forgotten = λ e h. absurd (cc);
+    looks = λ e h. absurd (cc);
     returned = λ d e. absurd (drop_possible 0 s m.what d e none);
+    notifies = λ e h. absurd (cc);
+    gives = λ e h. absurd (cc);
   }
 
   module _ (h : is_poll_after_ready s m.what ≡ true) where
@@ -110,5 +116,8 @@ module _ (w : World) (m : Move) (well : StandsWell w) where
       ready = λ g. (let never = so.poll in let polls = first_polls _ s m.what g in absurd (cc));
       added = λ n e g. (let never = so.add in absurd (cc));
       forgotten = λ e g. (let never = so.forget in absurd (cc));
+      looks = λ e g. (let never : is_try m.what || is_poll s m.what ≡ false = ap (λ b. b || is_poll s m.what) so.try ∙ so.poll in absurd (false≢true (sym never ∙ e)));
       returned = λ d e. (let never = so.drop in absurd (cc));
+      notifies = λ e g. absurd (so.outside _ _ e);
+      gives = λ e g. absurd (so.outside _ _ e);
     }

@@ -1,30 +1,58 @@
 -- What each party has, by where it stands.
-use Rattle.std.proofs.Common.{◌≡◌, ℕ, true, false, Some, refl, arith, ap, sym, ◌∙◌, subst}
+use Rattle.std.proofs.Common.{◌≡◌, ℕ, true, false, Some, is_some, refl, arith, ap, sym, ◌∙◌, subst}
 use Rattle.lock_queue.specs.Parties.{entries_of}
 use Rattle.lock_world.specs.declared.moves.Answer.TheVariants as answer
+use Rattle.lock_world.specs.declared.standing.Kind.{Kind}
+use Rattle.lock_world.specs.declared.standing.Kind.TheVariants as kind
+use Rattle.lock_world.specs.declared.standing.Rest.{Rest}
 use Rattle.lock_world.specs.declared.standing.Rest.TheVariants as rest
 use Rattle.lock_world.specs.declared.standing.Stage.{Stage}
 use Rattle.lock_world.specs.declared.standing.Stage.TheVariants.{Outside, Inside, Forgotten}
 use Rattle.lock_world.specs.declared.standing.Within.{Within}
 use Rattle.lock_world.specs.Standings.{inside, is_outside}
+use Rattle.lock_world.proofs.Equations.{both}
 use Rattle.lock_table.specs.Stages.{stage_at, stands_as}
 use Rattle.lock_table.specs.Tables.{Table}
 use Rattle.lock_table.proofs.Mapped.{past_last}
 use Rattle.lock_table.proofs.Past.{by_stage, by_stage_or_past}
-use Rattle.semaphore_machine.specs.declared.program.Place.TheVariants.{Take, Retake, Join, Ask, Leave, HandOn, Try, Raise}
+use Rattle.semaphore_machine.specs.declared.program.Place.TheVariants.{Take, Retake, Join, Ask, Leave, HandOn, RefuseNotify, Try, Lower, GiveBack, GiveBackNotify, Raise, GiveAdded, NotifyAdded, CancelLeave, Abandon}
+use Rattle.semaphore_machine.specs.declared.program.Place.{Place}
 use Rattle.semaphore_machine.specs.declared.program.Position.{Position}
 use Rattle.semaphore_machine.specs.declared.program.Position.TheVariants.{Out, Waiting as Waits_here, Holding, At}
-use Rattle.semaphore_machine.specs.Seats.{share_of, listed, verdict, adds_at}
-use Rattle.semaphore_machine.specs.Machine.{Semaphore, IsSemaphore, goes_with, position_at}
+use Rattle.semaphore_machine.specs.Seats.{Share, share_of, listed, verdict, verdict_of, adds_at}
+use Rattle.semaphore_machine.specs.Machine.{Semaphore, IsSemaphore, goes_with, runs, is_begun, position_at}
 use Rattle.semaphore_world.specs.State.{World, share_at, standing_of, adds_of}
 use Rattle.semaphore_world.specs.View.{view_of}
-use Rattle.semaphore_world.specs.Legal.{HasItsOwn}
+use Rattle.semaphore_world.specs.Legal.{is_poll_call, HasItsOwn}
 use Rattle.semaphore_world.specs.Steps.{IsSemaphoreTable}
 use Rattle.semaphore_world.proofs.table.Seen as seen
 use Rattle.semaphore_world.proofs.step.Idle.{StandsWell}
 use Rattle.semaphore_world.proofs.step.Rows.{never_pending}
 
 -- ---- What parties have, by where they stand
+
+-- only a poll goes on undecided
+undecided_polls : (k : Kind) (r : Rest) (x : Place) → is_begun x ≡ true → runs k r x ≡ true → is_some (verdict_of x) ≡ false → is_poll_call k ≡ true
+undecided_polls kind.FirstPoll r x b h e = refl
+undecided_polls kind.LaterPoll r x b h e = refl
+undecided_polls kind.Add rest.Idle (Raise n) b h e = absurd (cc b)
+undecided_polls kind.Add rest.Idle (GiveAdded n) b h e = absurd (cc e)
+undecided_polls kind.Add rest.Idle (NotifyAdded n) b h e = absurd (cc e)
+undecided_polls kind.Add rest.Idle _ b h e = absurd (cc h)
+undecided_polls kind.Drop rest.Pending CancelLeave b h e = absurd (cc b)
+undecided_polls kind.Drop rest.Pending Abandon b h e = absurd (cc b)
+undecided_polls kind.Drop rest.Pending _ b h e = absurd (cc h)
+undecided_polls kind.Drop rest.Holding GiveBack b h e = absurd (cc b)
+undecided_polls kind.Drop rest.Holding GiveBackNotify b h e = absurd (cc e)
+undecided_polls kind.Drop rest.Holding _ b h e = absurd (cc h)
+undecided_polls kind.Try rest.Idle Try b h e = absurd (cc b)
+undecided_polls kind.Try rest.Idle _ b h e = absurd (cc h)
+undecided_polls kind.Forget rest.Holding Lower b h e = absurd (cc b)
+undecided_polls kind.Forget rest.Holding _ b h e = absurd (cc h)
+undecided_polls _ _ x b h e = absurd (cc h)
+
+poll_goes : (u : Within) (x : Place) → goes_with (Inside u) (At x) ≡ true → is_some (verdict_of x) ≡ false → is_poll_call u.kind ≡ true
+poll_goes u x g e = let two = both (is_begun x) (runs u.kind u.was x) g in undecided_polls u.kind u.was x two.0 two.1 e
 
 own_by : (w : World) (p : ℕ) (s : Stage) (x : Position) → goes_with s x ≡ true → entries_of p w.entries ≡ listed x → share_at w.state p ≡ share_of x → HasItsOwn w p (stands_as (verdict x) s)
 own_by w p (Outside rest.Idle) Out g l h = (l, h)
@@ -35,16 +63,23 @@ own_by w p (Outside rest.Pending) _ g l h = absurd (cc)
 own_by w p (Outside rest.Holding) Holding g l h = (l, h)
 own_by w p (Outside rest.Holding) _ g l h = absurd (cc)
 own_by w p (Outside rest.Finished) x g l h = absurd (cc)
-own_by w p (Inside u) (At (Take false told)) g l h = h
-own_by w p (Inside u) (At (Take true told)) g l h = h
-own_by w p (Inside u) (At Retake) g l h = h
-own_by w p (Inside u) (At (Join told)) g l h = h
-own_by w p (Inside u) (At Ask) g l h = h
 own_by w p (Inside u) (At (Leave more)) g l h = h
 own_by w p (Inside u) (At HandOn) g l h = h
-own_by w p (Inside u) (At Try) g l h = h
-own_by w p (Inside u) (At (Raise n)) g l h = h
-own_by w p (Inside u) (At _) g l h = tt
+own_by w p (Inside u) (At RefuseNotify) g l h = h
+own_by w p (Inside u) (At GiveBackNotify) g l h = h
+own_by w p (Inside u) (At (GiveAdded n)) g l h = ap (λ (z : Share). z.permit) h
+own_by w p (Inside u) (At (NotifyAdded n)) g l h = ap (λ (z : Share). z.permit) h
+own_by w p (Inside u) (At Lower) g l h = absurd (cc g)
+own_by w p (Inside u) (At GiveBack) g l h = absurd (cc g)
+own_by w p (Inside u) (At CancelLeave) g l h = absurd (cc g)
+own_by w p (Inside u) (At Abandon) g l h = absurd (cc g)
+own_by w p (Inside u) (At (Take false told)) g l h = (h, poll_goes u (Take false told) g refl)
+own_by w p (Inside u) (At (Take true told)) g l h = (h, poll_goes u (Take true told) g refl)
+own_by w p (Inside u) (At Retake) g l h = (h, poll_goes u Retake g refl)
+own_by w p (Inside u) (At (Join told)) g l h = (h, poll_goes u (Join told) g refl)
+own_by w p (Inside u) (At Ask) g l h = (h, poll_goes u Ask g refl)
+own_by w p (Inside u) (At Try) g l h = (h, poll_goes u Try g refl)
+own_by w p (Inside u) (At (Raise n)) g l h = (h, poll_goes u (Raise n) g refl)
 own_by w p (Inside u) _ g l h = absurd (cc)
 own_by w p Forgotten x g l h = tt
 

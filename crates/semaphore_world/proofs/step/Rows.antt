@@ -8,7 +8,7 @@ use Rattle.lock_world.specs.declared.refusal.Refusal.{Refusal}
 use Rattle.lock_world.specs.declared.refusal.Refusal.TheVariants as refusal
 use Rattle.lock_world.specs.Frame.{is_refusal}
 use Rattle.lock_world.specs.Refusals.{number_of}
-use Rattle.lock_world.specs.Steps.{Deed, nothing, changes, does, joins, notifies}
+use Rattle.lock_world.specs.Steps.{Deed, nothing, changes, does, joins, notifies, notifies_additionally}
 use Rattle.lock_table.specs.Ends.{answer_of}
 use Rattle.semaphore_machine.specs.declared.program.Action.TheVariants as act
 use Rattle.semaphore_machine.specs.declared.program.Found.{Found}
@@ -43,6 +43,7 @@ AllowedAt (changes forgets) x w = x ≡ Lower
 AllowedAt (changes (raises n)) x w = (x ≡ Raise n) × (w.limit + n ≤ w.most)
 AllowedAt (changes (gives n)) x w = x ≡ GiveAdded n
 AllowedAt (does list (notifies n)) x w = action_of x ≡ act.Notify n
+AllowedAt (does list (notifies_additionally n)) x w = ⊥
 AllowedAt _ x w = Unit {0}
 
 abbrev pub is_join : Place → Bool

@@ -48,6 +48,7 @@ use Rattle.semaphore_world.specs.Bound.{Takes, Promises}
 use Rattle.semaphore_world.proofs.step.Acting.{Acting}
 use Rattle.semaphore_world.proofs.step.Acting as acting
 use Rattle.semaphore_world.proofs.step.Stepping.{by_step, door}
+use Rattle.semaphore_world.proofs.whole.Passing.{passes_on}
 use Rattle.semaphore_world.proofs.whole.Whole.{from_turn}
 
 -- a first poll of a semaphore with a permit is ready at its first step
@@ -187,5 +188,6 @@ pub keeps_promises : (known : Known) (w : World) (p : ℕ) (c : Call) (i : Input
 keeps_promises known w p c i n a v runs ended = record {
   first = first_ready known w p c i n a v runs ended;
   later = λ e pending free. (let P : Call → Type 0 = λ c. Runs known w (moves_of p c i n) (answers_of n a) v in later_takes known w p i n a v (subst P e runs) ended pending free);
+  passes_on = λ e pending free told. (let P : Call → Type 0 = λ c. Runs known w (moves_of p c i n) (answers_of n a) v in passes_on p i known w n a v (subst P e runs) ended pending free told);
   hands_on = λ e pending listed. (let P : Call → Type 0 = λ c. Runs known w (moves_of p c i n) (answers_of n a) v in hands_on p i known w n a v (subst P e runs) ended pending listed);
 }

@@ -1,6 +1,9 @@
 -- No wrong run of a semaphore is legal.
-use Rattle.std.proofs.Common.{◌≡◌, ℕ, ◌+◌, ◌-◌, if◌then◌else◌, Bool, true, false, Option, None, refl, arith, ap, sym, ◌∙◌, subst}
+use Rattle.std.proofs.Common.{◌≡◌, ℕ, zero, suc, ◌+◌, ◌-◌, ◌<◌, ◌||◌, if◌then◌else◌, Bool, true, false, List, length, Option, None, refl, arith, ap, sym, ◌∙◌, subst}
 use Rattle.std.proofs.lemmas.Bool.{false≢true, true≢false}
+use Rattle.lock_event.specs.declared.event.Entry.{Entry}
+use Rattle.lock_event.specs.Lists.{notified, marked_count, is_marked_at}
+use Rattle.lock_queue.specs.Parties.{is_party}
 use Rattle.lock_world.specs.declared.moves.Answer.{Answer}
 use Rattle.lock_world.specs.declared.moves.Answer.TheVariants as answer
 use Rattle.lock_world.specs.declared.moves.Inputs.{Inputs}
@@ -12,9 +15,11 @@ use Rattle.lock_world.specs.Frame.{is_drop}
 use Rattle.lock_world.specs.Standings.{Standing, inside, is_possible}
 use Rattle.lock_world.specs.Steps.{Deed, nothing, changes, does, notifies}
 use Rattle.lock_world.proofs.Equations.{none_some}
+use Rattle.lock_world.proofs.Lists.{counted_by}
 use Rattle.semaphore_machine.specs.Seats.{Share}
 use Rattle.semaphore_machine.specs.Deeds.{Change, ListName, takes, gives_back, forgets, raises, gives, for_a_permit}
 use Rattle.semaphore_world.specs.State.{State, World, has_permit, standing_of, adds_of}
+use Rattle.semaphore_world.specs.AtOnce.{is_try}
 use Rattle.semaphore_world.specs.Legal.{HasItsOwn, IsAllowed, state_after, is_forget, added_in, is_add, notice}
 use Rattle.definition_tests.proofs.semaphore.wrong_runs.Goals as goal
 
@@ -34,7 +39,7 @@ returns-clause-takes_undecided c = λ r.
     let p : ℕ = r.step.move.party in
     let P : Standing → Type 0 = HasItsOwn r.step.new p in
     let own : P (inside r.within None) = subst P r.undecided (r.legal.leaves_clear.each p) in
-    true≢false (sym r.took ∙ ap (λ (s : Share). s.permit) own)
+    true≢false (sym r.took ∙ ap (λ (s : Share). s.permit) own.0)
 
 -- a party that goes on neither gives its permit back nor forgets it
 keeps : (w : World) (m : Move) (d : Deed Change ListName) (i : Inputs) → m.what ≡ Go i → IsAllowed w m d → has_permit w.state m.party ≡ true → has_permit (state_after m.party d w.state) m.party ≡ false → ⊥
@@ -85,8 +90,56 @@ returns-clause-refused_at_last c = λ r. let ready = r.kept.first r.first r.free
 pub returns-clause-waits_unlisted : goal.returns-clause-waits_unlisted
 returns-clause-waits_unlisted c = λ r. none_some (sym r.unlisted ∙ r.legal.waits.waiting r.pending)
 
+own_at : (w : World) (p : ℕ) (s : Standing) → standing_of w p ≡ s → HasItsOwn w p (standing_of w p) → HasItsOwn w p s
+own_at w p s e own = subst (HasItsOwn w p) e own
+
+pub returns-clause-goes_on_undecided : goal.returns-clause-goes_on_undecided
+returns-clause-goes_on_undecided c = λ r. false≢true (sym r.no_poll ∙ (own_at r.step.new r.party _ r.undecided (r.legal.leaves_clear.each r.party)).1)
+
+pub returns-clause-has_refused : goal.returns-clause-has_refused
+returns-clause-has_refused c = λ r. true≢false (sym r.has ∙ ap (λ (s : Share). s.permit) (own_at r.step.new r.party _ r.refused (r.legal.leaves_clear.each r.party)))
+
+pub returns-clause-adds_and_takes : goal.returns-clause-adds_and_takes
+returns-clause-adds_and_takes c = λ r. true≢false (sym r.has ∙ own_at r.step.new r.party _ r.adding (r.legal.leaves_clear.each r.party))
+
+pub returns-clause-tells_more : goal.returns-clause-tells_more
+returns-clause-tells_more c = λ r. let P : Deed Change ListName → Type 0 = IsAllowed r.step.old r.step.move in subst P r.tells r.legal.one_change.allowed
+
+either_true : (b c : Bool) → b ≡ true → b || c ≡ true
+either_true true c e = refl
+either_true false c e = absurd (false≢true e)
+
+pub returns-clause-tries_and_tells : goal.returns-clause-tries_and_tells
+returns-clause-tries_and_tells c = λ r. r.told (r.legal.looks (either_true (is_try r.step.move.what) _ r.tries) (none_possible r.step.answer r.none)).1
+
+pub returns-clause-returns_late : goal.returns-clause-returns_late
+returns-clause-returns_late c = λ r. r.kept (r.legal.returned r.drops r.holding).1
+
+-- a list in which some were notified, and that isn't empty, has a marked entry
+told_some : (l m : List (Entry ℕ)) (n : ℕ) → m ≡ notified l n → 0 < n → 0 < length m → 0 < marked_count m
+told_some l m zero e k some = absurd (omega (arith, k))
+told_some l m (suc n) e k some = let counts = counted_by 0 l m (notifies (suc n)) (is_marked_at (is_party 0) l) refl tt e in counts.1 (omega (arith, counts.0))
+
+pub returns-clause-returns_silently : goal.returns-clause-returns_silently
+returns-clause-returns_silently c = λ r.
+    let told = (r.legal.notifies r.returns (ap is_possible r.given_back)).1 in
+    let some = told_some r.step.old.entries r.step.new.entries 1 told (omega arith) r.some in
+    absurd (omega (arith, some, r.none_told))
+
+pub returns-clause-adds_silently : goal.returns-clause-adds_silently
+returns-clause-adds_silently c = λ r.
+    let told = ((r.legal.gives r.adding r.possible r.adds).told r.gave).1 in
+    let some = told_some r.step.old.entries r.step.new.entries (adds_of r.step.old r.step.move.party) told r.adds r.some in
+    absurd (omega (arith, some, r.none_told))
+
+pub returns-clause-adds_after_telling : goal.returns-clause-adds_after_telling
+returns-clause-adds_after_telling c = λ r. r.kept ((r.legal.gives r.adding r.possible r.adds).given r.under_way).1
+
 pub returns-clause-passes_over_in_vain : goal.returns-clause-passes_over_in_vain
 returns-clause-passes_over_in_vain c = λ r. let ready = (r.kept.later r.polls r.was_pending r.free).ready in absurd (cc (r.pending))
 
 pub returns-clause-keeps_its_told : goal.returns-clause-keeps_its_told
 returns-clause-keeps_its_told c = λ r. let some = r.kept.hands_on r.polls r.was_pending r.listed r.refused r.some in absurd (omega (arith, some, r.none_told))
+
+pub returns-clause-takes_what_was_told : goal.returns-clause-takes_what_was_told
+returns-clause-takes_what_was_told c = λ r. let some = r.kept.passes_on r.polls r.was_pending r.free r.told r.some in absurd (omega (arith, some, r.none_told))
