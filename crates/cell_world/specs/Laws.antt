@@ -1,5 +1,5 @@
 -- What always holds of a once-cell's World, between any two moves.
-use Rattle.std.specs.Prelude.{◌≡◌, ℕ, ◌+◌, ◌<◌, ◌≤◌, ◌⊎◌, Bool, true, false, length, Option}
+use Rattle.std.specs.Prelude.{◌≡◌, ◌≢◌, ℕ, ◌+◌, ◌<◌, ◌≤◌, ◌⊎◌, Bool, true, false, length, Option}
 use Rattle.std.specs.List.{list_all}
 use Rattle.lock_event.specs.Lists.{marked_count, is_marked_at, IsMarkedFirst}
 use Rattle.lock_queue.specs.Parties.{is_party, entries_of}
@@ -12,8 +12,9 @@ use Rattle.lock_world.specs.declared.standing.Within.{Within}
 use Rattle.lock_world.specs.Standings.{Standing, outside, inside, forgotten, is_outside}
 use Rattle.cell_program.specs.declared.program.ListName.{ListName}
 use Rattle.cell_program.specs.declared.words.Content.TheVariants.{Empty, BeingMade, Full}
+use Rattle.cell_machine.specs.Seats.{fills_with}
 use Rattle.cell_machine.specs.Machine.{is_maker}
-use Rattle.cell_world.specs.State.{World, list_in, standing_of}
+use Rattle.cell_world.specs.State.{World, list_in, standing_of, task_of}
 use Rattle.cell_world.specs.Legal.{HasItsOwn}
 
 -- The calls of a cell that may take more than one step: a poll, a try, and the drop of a pending future.
@@ -39,6 +40,8 @@ pub record IsSound (w : World) : Type 0 where
   pub maker : (p : ℕ) → is_maker w.cell p ≡ true → may_be_maker (standing_of w p) ≡ true
   -- A party that is inside a call is in a poll, a try or a drop, which it could begin.
   pub inside_calls : (p : ℕ) (u : Within) (decided : Option Answer) → standing_of w p ≡ inside u decided → is_long_call u.kind u.was ≡ true
+  -- Whenever the cell is full, and nobody who filled it has still to tell, each entry of a party outside every call is marked.
+  pub told : (v : ℕ) → w.cell ≡ Full v → ((q n : ℕ) → task_of w q ≢ fills_with n) → (list : ListName) (p : ℕ) → is_outside (standing_of w p) ≡ true → 0 < entries_of p (list_in list w) → is_marked_at (is_party p) (list_in list w) ≡ true
   -- No party has two entries, in both lists together, and the marked entries stand before the waiting ones.
   pub once : (p : ℕ) → entries_of p w.active + entries_of p w.passive ≤ 1
   pub active_in_order : IsMarkedFirst w.active

@@ -1,6 +1,6 @@
 -- Runs of a once-cell that no user would accept. Each record is one wrong run: what its steps would be, if it were legal.
 use Rattle.std.specs.Prelude.{◌≡◌, ◌≢◌, ℕ, ◌<◌, true, false, length, None}
-use Rattle.lock_event.specs.Lists.{marked_count, mark_at}
+use Rattle.lock_event.specs.Lists.{marked_count, mark_at, is_marked_at}
 use Rattle.lock_queue.specs.Parties.{is_party, entries_of}
 use Rattle.lock_world.specs.declared.moves.Answer.{Answer}
 use Rattle.lock_world.specs.declared.moves.Answer.TheVariants as answer
@@ -13,13 +13,14 @@ use Rattle.lock_world.specs.declared.moves.Move.{Move}
 use Rattle.lock_world.specs.declared.moves.What.TheVariants.{Begin, Go}
 use Rattle.lock_world.specs.declared.standing.Rest.TheVariants.{Pending}
 use Rattle.lock_world.specs.Frame.{is_drop, is_refusal}
-use Rattle.lock_world.specs.Standings.{outside, is_possible}
+use Rattle.lock_world.specs.Standings.{outside, is_outside, is_possible}
 use Rattle.cell_program.specs.declared.program.ListName.{ListName}
 use Rattle.cell_program.specs.declared.words.Content.TheVariants.{Empty, BeingMade, Full}
 use Rattle.cell_machine.specs.Seats.{initializes, sets, waits_only, fills_with, failed}
 use Rattle.cell_machine.specs.Machine.{is_maker}
 use Rattle.cell_world.specs.AtOnce.{AnswersAtOnce, is_try, is_first_making}
 use Rattle.cell_world.specs.Bound.{IsSolo, Promises}
+use Rattle.cell_world.specs.Laws.{IsSound}
 use Rattle.cell_world.specs.Legal.{Legal, DecidesOn}
 use Rattle.cell_world.specs.State.{World, list_in, is_empty, standing_of, task_of}
 use Rattle.cell_world.specs.Tasks.{task_then, is_open}
@@ -193,3 +194,16 @@ pub record KeepsItsTold : Type 0 where
   pub some : 0 < length (list_in list whole.new)
   pub none_told : marked_count (list_in list whole.new) ≡ 0
   pub kept : Keeps whole
+
+-- The cell is full and nobody who filled it has still to tell, and a party outside every call stands in a list and hasn't been told, though somebody may be inside a call.
+pub record LeftUntold : Type 0 where
+  pub world : World
+  pub value : ℕ
+  pub list : ListName
+  pub party : ℕ
+  pub full : world.cell ≡ Full value
+  pub none_tells : (q n : ℕ) → task_of world q ≢ fills_with n
+  pub stands : is_outside (standing_of world party) ≡ true
+  pub listed : 0 < entries_of party (list_in list world)
+  pub unmarked : is_marked_at (is_party party) (list_in list world) ≡ false
+  pub sound : IsSound world

@@ -4,7 +4,7 @@ ghost use Rattle.definition_tests.specs.Tables.{AreRowsOf, AreRowsOfTwo};
 ghost use Rattle.definition_tests.specs.CellTable.{beginnings, actions, followings};
 ghost use Rattle.cell_program.specs.Program.{start_of, action_of, next_of};
 ghost use Rattle.definition_tests.specs.Never.{Never};
-ghost use Rattle.definition_tests.specs.Cell.{EntersTwice, EndsByNothing, FillsAnother, MakesAnother, ReadyTooSoon, WaitsWithoutMaking, WaitsInPassive, WaitsInActive, TriesInVain, TriesWhileMade, LosesItsOwn, StaysMade, TellsNobody, PassesOverInVain, KeepsItsTold};
+ghost use Rattle.definition_tests.specs.Cell.{EntersTwice, EndsByNothing, FillsAnother, MakesAnother, ReadyTooSoon, WaitsWithoutMaking, WaitsInPassive, WaitsInActive, TriesInVain, TriesWhileMade, LosesItsOwn, StaysMade, TellsNobody, PassesOverInVain, KeepsItsTold, LeftUntold};
 
 /// Each clause says of one wrong run that it isn't legal.
 fn wrong_runs()
@@ -23,6 +23,7 @@ fn wrong_runs()
     ensures tells_nobody { Never (TellsNobody) }
     ensures passes_over_in_vain { Never (PassesOverInVain) }
     ensures keeps_its_told { Never (KeepsItsTold) }
+    ensures left_untold { Never (LeftUntold) }
 {}
 
 /// The programs' places, each with its action and what follows what it finds, as docs/PROGRAMS.md lists them.

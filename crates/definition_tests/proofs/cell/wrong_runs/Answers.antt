@@ -142,3 +142,6 @@ returns-clause-passes_over_in_vain c = λ r. r.no_maker (pends_so _ r.whole.part
 
 pub returns-clause-keeps_its_told : goal.returns-clause-keeps_its_told
 returns-clause-keeps_its_told c = λ r. let some = r.kept.hands_on r.polls r.was_pending r.list r.listed r.refused r.some in absurd (omega (arith, some, r.none_told))
+
+pub returns-clause-left_untold : goal.returns-clause-left_untold
+returns-clause-left_untold c = λ r. true≢false (sym (r.sound.told r.value r.full r.none_tells r.list r.party r.stands r.listed) ∙ r.unmarked)
