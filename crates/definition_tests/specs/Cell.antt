@@ -1,19 +1,24 @@
 -- Runs of a once-cell that no user would accept. Each record is one wrong run: what its steps would be, if it were legal.
-use Rattle.std.specs.Prelude.{◌≡◌, ◌≢◌, ℕ, ◌<◌, true, false, length, None}
+use Rattle.std.specs.Prelude.{◌≡◌, ◌≢◌, ℕ, ◌<◌, ◌⊎◌, true, false, length, Some, None}
 use Rattle.lock_event.specs.Lists.{marked_count, mark_at, is_marked_at}
 use Rattle.lock_queue.specs.Parties.{is_party, entries_of}
 use Rattle.lock_world.specs.declared.moves.Answer.{Answer}
 use Rattle.lock_world.specs.declared.moves.Answer.TheVariants as answer
 use Rattle.lock_world.specs.declared.moves.Call.{Call}
 use Rattle.lock_world.specs.declared.moves.Call.TheVariants as call
+use Rattle.lock_world.specs.declared.moves.Got.{Got}
 use Rattle.lock_world.specs.declared.moves.Got.TheVariants as got
 use Rattle.lock_world.specs.declared.moves.Inputs.{Inputs}
 use Rattle.lock_world.specs.declared.moves.Made.TheVariants as made
 use Rattle.lock_world.specs.declared.moves.Move.{Move}
 use Rattle.lock_world.specs.declared.moves.What.TheVariants.{Begin, Go}
+use Rattle.lock_world.specs.declared.refusal.Refusal.TheVariants as refusal
+use Rattle.lock_world.specs.declared.standing.Kind.TheVariants as kind
 use Rattle.lock_world.specs.declared.standing.Rest.TheVariants.{Pending}
+use Rattle.lock_world.specs.declared.standing.Within.{Within}
 use Rattle.lock_world.specs.Frame.{is_drop, is_refusal}
-use Rattle.lock_world.specs.Standings.{outside, is_outside, is_possible}
+use Rattle.lock_world.specs.Standings.{outside, inside, is_outside, is_decided, is_possible, refused}
+use Rattle.lock_world.specs.Steps.{does, notifies}
 use Rattle.cell_program.specs.declared.program.ListName.{ListName}
 use Rattle.cell_program.specs.declared.words.Content.TheVariants.{Empty, BeingMade, Full}
 use Rattle.cell_machine.specs.Seats.{initializes, sets, waits_only, fills_with, failed}
@@ -207,3 +212,65 @@ pub record LeftUntold : Type 0 where
   pub listed : 0 < entries_of party (list_in list world)
   pub unmarked : is_marked_at (is_party party) (list_in list world) ≡ false
   pub sound : IsSound world
+
+-- A drop or a try goes on undecided after its first step, as if to take or make something yet.
+pub record GoesOnUndecided : Type 0 where
+  pub step : Step
+  pub within : Within
+  pub undecided : standing_of step.new step.move.party ≡ inside within None
+  pub kind : (within.kind ≡ kind.Drop) ⊎ (within.kind ≡ kind.Try)
+  pub legal : IsLegal step
+
+-- A dropped future that is still under way has an entry in a list yet.
+pub record DropsListed : Type 0 where
+  pub step : Step
+  pub within : Within
+  pub list : ListName
+  pub dropped : standing_of step.new step.move.party ≡ inside within (Some answer.GivenBack)
+  pub listed : 0 < entries_of step.move.party (list_in list step.new)
+  pub legal : IsLegal step
+
+-- A pending maker stands in a list too, so that it takes a notification that is for another.
+pub record MakesAndWaits : Type 0 where
+  pub step : Step
+  pub list : ListName
+  pub pending : standing_of step.new step.move.party ≡ outside Pending
+  pub making : is_maker step.new.cell step.move.party ≡ true
+  pub listed : 0 < entries_of step.move.party (list_in list step.new)
+  pub legal : IsLegal step
+
+-- The maker is refused for memory, though it has nothing to join.
+pub record RefusesMaker : Type 0 where
+  pub step : Step
+  pub making : is_maker step.old.cell step.move.party ≡ true
+  pub refusal : DecidesOn step.old step.move step.answer step.new (refused refusal.Memory)
+  pub legal : IsLegal step
+
+-- A party whose call isn't decided marks one in a list, though it has made nothing empty and isn't refused.
+pub record MarksUndecided : Type 0 where
+  pub step : Step
+  pub list : ListName
+  pub many : ℕ
+  pub undecided : is_decided (standing_of step.old step.move.party) ≡ false
+  pub legal : IsLegal step
+  pub marks : legal.one_change.deed ≡ does list (notifies many)
+
+-- A try is to be granted, and the cell is empty.
+pub record GrantsNothing : Type 0 where
+  pub step : Step
+  pub within : Within
+  pub got : Got
+  pub granted : standing_of step.new step.move.party ≡ inside within (Some (answer.Granted got))
+  pub empty : step.new.cell ≡ Empty
+  pub legal : IsLegal step
+
+-- A set that found the cell full is to have another value back than its own.
+pub record HasAnotherBack : Type 0 where
+  pub step : Step
+  pub within : Within
+  pub own : ℕ
+  pub back : ℕ
+  pub other : back ≢ own
+  pub set : task_of step.new step.move.party ≡ sets own
+  pub taken : standing_of step.new step.move.party ≡ inside within (Some (answer.Ready (got.Taken back)))
+  pub legal : IsLegal step

@@ -4,7 +4,7 @@ ghost use Rattle.definition_tests.specs.Tables.{AreRowsOf, AreRowsOfTwo};
 ghost use Rattle.definition_tests.specs.CellTable.{beginnings, actions, followings};
 ghost use Rattle.cell_program.specs.Program.{start_of, action_of, next_of};
 ghost use Rattle.definition_tests.specs.Never.{Never};
-ghost use Rattle.definition_tests.specs.Cell.{EntersTwice, EndsByNothing, FillsAnother, MakesAnother, ReadyTooSoon, WaitsWithoutMaking, WaitsInPassive, WaitsInActive, TriesInVain, TriesWhileMade, LosesItsOwn, StaysMade, TellsNobody, PassesOverInVain, KeepsItsTold, LeftUntold};
+ghost use Rattle.definition_tests.specs.Cell.{EntersTwice, EndsByNothing, FillsAnother, MakesAnother, ReadyTooSoon, WaitsWithoutMaking, WaitsInPassive, WaitsInActive, TriesInVain, TriesWhileMade, LosesItsOwn, StaysMade, TellsNobody, PassesOverInVain, KeepsItsTold, LeftUntold, GoesOnUndecided, DropsListed, MakesAndWaits, RefusesMaker, MarksUndecided, GrantsNothing, HasAnotherBack};
 
 /// Each clause says of one wrong run that it isn't legal.
 fn wrong_runs()
@@ -24,6 +24,13 @@ fn wrong_runs()
     ensures passes_over_in_vain { Never (PassesOverInVain) }
     ensures keeps_its_told { Never (KeepsItsTold) }
     ensures left_untold { Never (LeftUntold) }
+    ensures goes_on_undecided { Never (GoesOnUndecided) }
+    ensures drops_listed { Never (DropsListed) }
+    ensures makes_and_waits { Never (MakesAndWaits) }
+    ensures refuses_maker { Never (RefusesMaker) }
+    ensures marks_undecided { Never (MarksUndecided) }
+    ensures grants_nothing { Never (GrantsNothing) }
+    ensures has_another_back { Never (HasAnotherBack) }
 {}
 
 /// The programs' places, each with its action and what follows what it finds, as docs/PROGRAMS.md lists them.

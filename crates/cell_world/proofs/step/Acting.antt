@@ -200,9 +200,9 @@ never_over RefusePassive e = let six : Path ℕ 1 6 = finished_number 1 (some_eq
 never_over (LeaveFull k v) e = cc e
 never_over _ e = cc
 
-join_unlisted : (x : Place) → is_join x ≡ true → (in_active (At x) ≡ 0) × (in_passive_at (At x) ≡ 0)
-join_unlisted (JoinActive k told) h = (refl, refl)
-join_unlisted (JoinPassive told) h = (refl, refl)
+join_unlisted : (x : Place) → is_join x ≡ true → (in_active (At x) ≡ 0) × (in_passive_at (At x) ≡ 0) × (makes_at (At x) ≡ false)
+join_unlisted (JoinActive k told) h = (refl, refl, refl)
+join_unlisted (JoinPassive told) h = (refl, refl, refl)
 join_unlisted _ h = absurd (cc)
 
 room_found : (i : Inputs) (p : ℕ) (c : Content) (d : Deed Change ListName) (list : ListName) → Room i p c d → d ≡ does list joins → i.memory ≡ true
@@ -357,7 +357,7 @@ module _ (t u : Table OnceCell) (m : Move) (a : Answer) (w : Within) where
     allowed_so (does list joins) h = its_list list (fits_now (act.Join list) h)
     allowed_so (does list asks) h = its_list list (fits_now (act.Ask list) h)
     allowed_so (does list leaves) h = its_list list (fits_now (act.Leave list) h)
-    allowed_so (does list (notifies n)) h = h
+    allowed_so (does list (notifies n)) h = (h.0, ap is_decided stood ∙ k.here.notifies h.1)
     allowed_so (does list (notifies_additionally n)) h = let fit = fits_now (act.NotifyAll list) h.1 in (fit.0, h.0, (k.old_fits.stands p k.inside).value fit.0 fit.2, task_old ∙ fit.1)
 
     decided_there : is_decided (standing_of old p) || is_giving_back m.what ≡ is_some (verdict_of from)
@@ -489,7 +489,7 @@ module _ (t u : Table OnceCell) (m : Move) (a : Answer) (w : Within) where
     unlisted h Passive = own_passive ∙ (join_unlisted from h).1
 
     cause : (d : Refusal) → Refuses i p c from fnd d → IsCause old m new d
-    cause refusal.Memory y = let n = nothing_listed y.2 in record { input = y.0; unlisted = unlisted y.1; cell = n.0; active = n.1; passive = n.2 }
+    cause refusal.Memory y = let n = nothing_listed y.2 in record { input = y.0; unlisted = unlisted y.1; unmade = sym makes_seen ∙ (join_unlisted from y.1).2; cell = n.0; active = n.1; passive = n.2 }
     cause refusal.Finished y = absurd y
     cause _ y = absurd y
 

@@ -6,14 +6,19 @@ use Rattle.lock_event.specs.Lists.{mark_at}
 use Rattle.lock_queue.specs.Parties.{is_party}
 use Rattle.lock_world.specs.declared.moves.Answer.{Answer}
 use Rattle.lock_world.specs.declared.moves.Answer.TheVariants as answer
+use Rattle.lock_world.specs.declared.moves.Got.TheVariants as got
 use Rattle.lock_world.specs.declared.moves.Inputs.{Inputs}
 use Rattle.lock_world.specs.declared.moves.Made.{Made}
 use Rattle.lock_world.specs.declared.moves.Made.TheVariants as made
 use Rattle.lock_world.specs.declared.moves.Move.{Move}
 use Rattle.lock_world.specs.declared.moves.What.{What}
+use Rattle.lock_world.specs.declared.refusal.Refusal.{Refusal}
+use Rattle.lock_world.specs.declared.refusal.Refusal.TheVariants as refusal
+use Rattle.lock_world.specs.declared.standing.Rest.TheVariants.{Pending}
+use Rattle.lock_world.specs.Refusals.{number_of}
 use Rattle.lock_world.specs.Frame.{is_drop}
-use Rattle.lock_world.specs.Standings.{is_possible, inputs_of}
-use Rattle.lock_world.specs.Steps.{Deed, nothing, changes, does}
+use Rattle.lock_world.specs.Standings.{Standing, outside, inside, is_possible, inputs_of}
+use Rattle.lock_world.specs.Steps.{Deed, nothing, changes, does, notifies}
 use Rattle.lock_world.proofs.Equations.{some_eq, some_none, none_some}
 use Rattle.cell_program.specs.declared.program.ListName.{ListName}
 use Rattle.cell_program.specs.declared.program.ListName.TheVariants.{Active, Passive}
@@ -23,9 +28,9 @@ use Rattle.cell_machine.specs.Seats.{Task, no_task, initializes, sets, waits_onl
 use Rattle.cell_program.specs.Deeds.{Change, begins, fills, empties, content_after}
 use Rattle.cell_machine.specs.Machine.{is_maker}
 use Rattle.cell_machine.proofs.laws.Contents.{maker_is}
-use Rattle.cell_world.specs.State.{World, list_in, is_empty, task_of}
+use Rattle.cell_world.specs.State.{World, list_in, is_empty, standing_of, task_of}
 use Rattle.cell_world.specs.Tasks.{task_in, given, list_for}
-use Rattle.cell_world.specs.Legal.{IsAllowed, IsPendingMaker, WaitsInList}
+use Rattle.cell_world.specs.Legal.{Legal, HasItsOwn, IsCause, IsOutOfMemory, IsAllowed, IsPendingMaker, WaitsInList}
 use Rattle.cell_world.specs.Bound.{ComesTo}
 use Rattle.cell_world.proofs.Values.{stays_full}
 use Rattle.definition_tests.proofs.cell.wrong_runs.Goals as goal
@@ -145,3 +150,49 @@ returns-clause-keeps_its_told c = λ r. let some = r.kept.hands_on r.polls r.was
 
 pub returns-clause-left_untold : goal.returns-clause-left_untold
 returns-clause-left_untold c = λ r. true≢false (sym (r.sound.told r.value r.full r.none_tells r.list r.party r.stands r.listed) ∙ r.unmarked)
+
+-- what a party has that stands so after a legal step
+has_there : (w : World) (m : Move) (a : Answer) (v : World) (s : Standing) → Legal w m a v → standing_of v m.party ≡ s → HasItsOwn v m.party s
+has_there w m a v s l e = let P : Standing → Type 0 = HasItsOwn v m.party in subst P e (l.leaves_clear.each m.party)
+
+pub returns-clause-goes_on_undecided : goal.returns-clause-goes_on_undecided
+returns-clause-goes_on_undecided c = λ r.
+    let own = has_there r.step.old r.step.move r.step.answer r.step.new (inside r.within None) r.legal r.undecided in
+    elim r.kind as (λ _. ⊥) [ inl e ↦ own.0 e | inr e ↦ own.1 e ]
+
+pub returns-clause-drops_listed : goal.returns-clause-drops_listed
+returns-clause-drops_listed c = λ r.
+    let own = has_there r.step.old r.step.move r.step.answer r.step.new (inside r.within (Some answer.GivenBack)) r.legal r.dropped in
+    let none = own.lists r.list in absurd (omega (arith, none, r.listed))
+
+pub returns-clause-makes_and_waits : goal.returns-clause-makes_and_waits
+returns-clause-makes_and_waits c = λ r.
+    let own = has_there r.step.old r.step.move r.step.answer r.step.new (outside Pending) r.legal r.pending in
+    let none = own.alone r.making r.list in absurd (omega (arith, none, r.listed))
+
+-- what is refused for memory has that cause
+memory_cause : (w : World) (m : Move) (v : World) (r : Refusal) → number_of refusal.Memory ≡ number_of r → IsCause w m v r → IsOutOfMemory w m v
+memory_cause w m v refusal.Memory e h = h
+memory_cause w m v _ e h = absurd (omega arith)
+
+pub returns-clause-refuses_maker : goal.returns-clause-refuses_maker
+returns-clause-refuses_maker c = λ r.
+    let why = r.legal.refused_for_cause.cause _ r.refusal in
+    let cause = memory_cause r.step.old r.step.move r.step.new why.0 why.1 why.2 in
+    true≢false (sym r.making ∙ cause.unmade)
+
+pub returns-clause-marks_undecided : goal.returns-clause-marks_undecided
+returns-clause-marks_undecided c = λ r.
+    let P : Deed Change ListName → Type 0 = IsAllowed r.step.old r.step.move in
+    let ok : P (does r.list (notifies r.many)) = subst P r.marks r.legal.one_change.allowed in
+    true≢false (sym ok.1 ∙ r.undecided)
+
+pub returns-clause-grants_nothing : goal.returns-clause-grants_nothing
+returns-clause-grants_nothing c = λ r.
+    let own = has_there r.step.old r.step.move r.step.answer r.step.new (inside r.within (Some (answer.Granted r.got))) r.legal r.granted in
+    elim own.cell as (λ _. ⊥) [ inl made ↦ made_empty r.step.move.party r.step.new.cell made r.empty | inr full ↦ (let never : Full own.value ≡ Empty = sym full ∙ r.empty in cc never) ]
+
+pub returns-clause-has_another_back : goal.returns-clause-has_another_back
+returns-clause-has_another_back c = λ r.
+    let own = has_there r.step.old r.step.move r.step.answer r.step.new (inside r.within (Some (answer.Ready (got.Taken r.back)))) r.legal r.taken in
+    let same : sets r.back ≡ sets r.own = sym own.1 ∙ r.set in r.other (cc same)
