@@ -1,6 +1,7 @@
 -- What the first step of a call decides at once.
-use Rattle.std.specs.Prelude.{◌≡◌, ℕ, ◌==◌, ◌&&◌, if◌then◌else◌, Bool, true, false, Some}
-use Rattle.lock_queue.specs.Parties.{entries_of}
+use Rattle.std.specs.Prelude.{◌≡◌, ℕ, ◌<◌, ◌==◌, ◌&&◌, if◌then◌else◌, Bool, true, false, Some}
+use Rattle.lock_event.specs.Lists.{is_marked_at}
+use Rattle.lock_queue.specs.Parties.{is_party, entries_of}
 use Rattle.lock_world.specs.declared.moves.Answer.{Answer}
 use Rattle.lock_world.specs.declared.moves.Answer.TheVariants as answer
 use Rattle.lock_world.specs.declared.moves.Call.TheVariants as call
@@ -14,11 +15,12 @@ use Rattle.lock_world.specs.declared.moves.What.TheVariants.{Begin}
 use Rattle.lock_world.specs.declared.standing.Rest.TheVariants.{Idle, Pending, Finished}
 use Rattle.lock_world.specs.Frame.{is_drop}
 use Rattle.lock_world.specs.Standings.{Standing, outside, inputs_of, is_possible, decision}
+use Rattle.cell_program.specs.declared.program.ListName.{ListName}
 use Rattle.cell_program.specs.declared.words.Content.{Content}
 use Rattle.cell_program.specs.declared.words.Content.TheVariants.{Empty, BeingMade, Full}
 use Rattle.cell_machine.specs.Seats.{Task, initializes, sets, waits_only}
 use Rattle.cell_machine.specs.Machine.{is_maker}
-use Rattle.cell_world.specs.State.{World, is_empty, standing_of, task_of}
+use Rattle.cell_world.specs.State.{World, list_in, is_empty, standing_of, task_of}
 use Rattle.cell_world.specs.Tasks.{task_then, given}
 
 abbrev pub is_try : What → Bool
@@ -99,3 +101,5 @@ pub record AnswersAtOnce (old : World) (m : Move) (a : Answer) (new : World) : T
   pub waiting : is_first_wait (standing_of old m.party) m.what (task_of old m.party) (entries_of m.party old.passive) ≡ true → a ≡ first_answer waits_only old.cell
   pub maker : is_poll m.what ≡ true → standing_of old m.party ≡ outside Pending → is_maker old.cell m.party ≡ true → PollsMaker old m a new
   pub dropped : is_drop m.what ≡ true → is_possible a ≡ true → is_maker old.cell m.party ≡ true → DropsMaker a new
+  -- The poll of a listed party goes on exactly where it was told, and else it is pending still.
+  pub listed : is_poll m.what ≡ true → standing_of old m.party ≡ outside Pending → (list : ListName) → 0 < entries_of m.party (list_in list old) → a ≡ (if is_marked_at (is_party m.party) (list_in list old) then answer.Stepped else answer.Pending)

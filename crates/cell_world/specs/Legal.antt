@@ -1,7 +1,7 @@
 -- What one move may do to a once-cell, and how it may be answered.
 use Rattle.std.specs.Prelude.{◌≡◌, ◌≢◌, ℕ, ◌<◌, ◌||◌, ◌⊎◌, Bool, true, false, length, Option, Some, None}
 use Rattle.lock_event.specs.declared.event.Mark.TheVariants.{Waiting}
-use Rattle.lock_event.specs.Lists.{mark_at}
+use Rattle.lock_event.specs.Lists.{mark_at, marked_count}
 use Rattle.lock_queue.specs.Parties.{is_party, entries_of}
 use Rattle.lock_world.specs.declared.moves.Answer.{Answer}
 use Rattle.lock_world.specs.declared.moves.Answer.TheVariants as answer
@@ -14,11 +14,12 @@ use Rattle.lock_world.specs.declared.refusal.Refusal.TheVariants as refusal
 use Rattle.lock_world.specs.declared.standing.Kind.TheVariants as kind
 use Rattle.lock_world.specs.declared.standing.Rest.TheVariants.{Idle, Pending, Holding, Finished}
 use Rattle.lock_world.specs.declared.standing.Within.{Within}
-use Rattle.lock_world.specs.Standings.{Standing, outside, inside, inputs_of, is_decided, is_possible, decision}
+use Rattle.lock_world.specs.Standings.{Standing, outside, inside, inputs_of, is_decided, is_possible, refused, decision}
 use Rattle.lock_world.specs.Frame as frame
 use Rattle.lock_world.specs.Frame.{is_drop, is_giving_back, is_refusal}
 use Rattle.lock_world.specs.Steps.{Deed, nothing, changes, does, joins, asks, leaves, notifies, notifies_additionally, is_parting}
 use Rattle.cell_program.specs.declared.program.ListName.{ListName}
+use Rattle.cell_program.specs.declared.program.ListName.TheVariants.{Active}
 use Rattle.cell_program.specs.declared.words.Content.TheVariants.{Empty, BeingMade, Full}
 use Rattle.cell_machine.specs.Seats.{Task, no_task, initializes, sets, fills_with, failed}
 use Rattle.cell_program.specs.Deeds.{Change, begins, fills, empties, content_after, active_after, passive_after, everyone}
@@ -193,6 +194,18 @@ pub record LeavesClear (m : Move) (a : Answer) (new : World) : Type 0 where
   pub refused : is_refusal a ≡ true → (list : ListName) → entries_of m.party (list_in list new) ≡ 0
   pub refused_maker : is_refusal a ≡ true → is_maker new.cell m.party ≡ false
 
+-- ---- Whom a call tells before it ends
+
+-- Some entry of the list is marked, if there is any.
+abbrev pub IsTold : ListName → World → Type 0
+IsTold list w = 0 < length (list_in list w) → 0 < marked_count (list_in list w)
+
+-- Whose maker failed, or who is dropped as the maker, has told one that would make when its call ends; and who is refused after it was told has handed that on. Whoever else is inside a call.
+pub record TellsOthers (old : World) (m : Move) (a : Answer) (new : World) : Type 0 where
+  pub failed : a ≡ answer.Ready got.Failed → IsTold Active new
+  pub dropped : (within : Within) → standing_of old m.party ≡ inside within (Some answer.GivenBack) → is_possible a ≡ true → IsTold Active new
+  pub refused : (within : Within) (list : ListName) → standing_of old m.party ≡ inside within (Some (refused refusal.Memory)) → is_possible a ≡ true → list_for (task_of old m.party) ≡ Some list → IsTold list new
+
 -- ---- How a call ends
 
 abbrev pub EndsProperly : World → Move → Answer → World → Type 0
@@ -209,4 +222,5 @@ pub record Legal (old : World) (m : Move) (a : Answer) (new : World) : Type 0 wh
   pub waits : Waits m a new
   pub refused_for_cause : IsRefusedForCause old m a new
   pub leaves_clear : LeavesClear m a new
+  pub tells_others : TellsOthers old m a new
   pub ends_properly : EndsProperly old m a new

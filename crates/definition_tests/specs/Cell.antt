@@ -23,12 +23,12 @@ use Rattle.cell_program.specs.declared.program.ListName.{ListName}
 use Rattle.cell_program.specs.declared.words.Content.TheVariants.{Empty, BeingMade, Full}
 use Rattle.cell_machine.specs.Seats.{initializes, sets, waits_only, fills_with, failed}
 use Rattle.cell_machine.specs.Machine.{is_maker}
-use Rattle.cell_world.specs.AtOnce.{AnswersAtOnce, is_try, is_first_making}
+use Rattle.cell_world.specs.AtOnce.{AnswersAtOnce, is_try, is_poll, is_first_making}
 use Rattle.cell_world.specs.Bound.{IsSolo, Promises}
 use Rattle.cell_world.specs.Laws.{IsSound}
 use Rattle.cell_world.specs.Legal.{Legal, DecidesOn}
 use Rattle.cell_world.specs.State.{World, list_in, is_empty, standing_of, task_of}
-use Rattle.cell_world.specs.Tasks.{task_then, is_open}
+use Rattle.cell_world.specs.Tasks.{task_then, list_for, is_open}
 
 -- A move of a party, and what it leads to.
 pub record Step : Type 0 where
@@ -274,3 +274,77 @@ pub record HasAnotherBack : Type 0 where
   pub set : task_of step.new step.move.party ≡ sets own
   pub taken : standing_of step.new step.move.party ≡ inside within (Some (answer.Ready (got.Taken back)))
   pub legal : IsLegal step
+
+-- A call is ready with its maker's failure and nobody has been told who would make, though some wait; whoever else is inside a call.
+pub record FailsUntold : Type 0 where
+  pub step : Step
+  pub failed : step.answer ≡ answer.Ready got.Failed
+  pub some : 0 < length step.new.active
+  pub none_told : marked_count step.new.active ≡ 0
+  pub legal : IsLegal step
+
+-- A drop that was under way ends, as a maker's does, and nobody has been told who would make, though some wait; whoever else is inside a call.
+pub record DropsUntold : Type 0 where
+  pub step : Step
+  pub within : Within
+  pub dropped : standing_of step.old step.move.party ≡ inside within (Some answer.GivenBack)
+  pub possible : is_possible step.answer ≡ true
+  pub some : 0 < length step.new.active
+  pub none_told : marked_count step.new.active ≡ 0
+  pub legal : IsLegal step
+
+-- A party was told and is to be refused for memory, and its call ends with nobody else told who waits for the same; whoever else is inside a call.
+pub record RefusedUntold : Type 0 where
+  pub step : Step
+  pub within : Within
+  pub list : ListName
+  pub refusal : standing_of step.old step.move.party ≡ inside within (Some (refused refusal.Memory))
+  pub its : list_for (task_of step.old step.move.party) ≡ Some list
+  pub possible : is_possible step.answer ≡ true
+  pub some : 0 < length (list_in list step.new)
+  pub none_told : marked_count (list_in list step.new) ≡ 0
+  pub legal : IsLegal step
+
+-- A notified party polls, and waits at once without a look at the cell.
+pub record WaitsThoughTold : Type 0 where
+  pub step : Step
+  pub list : ListName
+  pub polls : is_poll step.move.what ≡ true
+  pub was_pending : standing_of step.old step.move.party ≡ outside Pending
+  pub listed : 0 < entries_of step.move.party (list_in list step.old)
+  pub marked : is_marked_at (is_party step.move.party) (list_in list step.old) ≡ true
+  pub pending : step.answer ≡ answer.Pending
+  pub legal : IsAtOnce step
+
+-- A listed party that hasn't been told polls, and doesn't wait on.
+pub record GoesOnUntold : Type 0 where
+  pub step : Step
+  pub list : ListName
+  pub polls : is_poll step.move.what ≡ true
+  pub was_pending : standing_of step.old step.move.party ≡ outside Pending
+  pub listed : 0 < entries_of step.move.party (list_in list step.old)
+  pub unmarked : is_marked_at (is_party step.move.party) (list_in list step.old) ≡ false
+  pub goes_on : step.answer ≢ answer.Pending
+  pub legal : IsAtOnce step
+
+-- A notified party polls alone on a full cell, and waits again, or is refused for memory, which it doesn't need.
+pub record WaitsForFull : Type 0 where
+  pub whole : Whole
+  pub list : ListName
+  pub value : ℕ
+  pub polls : whole.call ≡ call.Poll
+  pub was_pending : standing_of whole.old whole.party ≡ outside Pending
+  pub marked : is_marked_at (is_party whole.party) (list_in list whole.old) ≡ true
+  pub full : whole.old.cell ≡ Full value
+  pub in_vain : (whole.answer ≡ answer.Pending) ⊎ (whole.answer ≡ refused refusal.Memory)
+  pub kept : Keeps whole
+
+-- A notified party polls alone on an empty cell, and is refused for memory, which it doesn't need.
+pub record RefusedToMake : Type 0 where
+  pub whole : Whole
+  pub polls : whole.call ≡ call.Poll
+  pub was_pending : standing_of whole.old whole.party ≡ outside Pending
+  pub marked : is_marked_at (is_party whole.party) whole.old.active ≡ true
+  pub empty : whole.old.cell ≡ Empty
+  pub is_refused : whole.answer ≡ refused refusal.Memory
+  pub kept : Keeps whole

@@ -15,7 +15,7 @@ use Rattle.lock_world.specs.declared.moves.Inputs.{Inputs}
 use Rattle.lock_world.specs.declared.moves.Made.TheVariants as made
 use Rattle.lock_world.specs.declared.moves.Move.{Move}
 use Rattle.lock_world.specs.declared.moves.What.{What}
-use Rattle.lock_world.specs.declared.moves.What.TheVariants.{Begin}
+use Rattle.lock_world.specs.declared.moves.What.TheVariants.{Begin, Go}
 use Rattle.lock_world.specs.declared.refusal.Refusal.{Refusal}
 use Rattle.lock_world.specs.declared.refusal.Refusal.TheVariants as refusal
 use Rattle.lock_world.specs.declared.standing.Kind.{Kind}
@@ -25,11 +25,12 @@ use Rattle.lock_world.specs.declared.standing.Rest.TheVariants as rest
 use Rattle.lock_world.specs.declared.standing.Stage.{Stage}
 use Rattle.lock_world.specs.declared.standing.Stage.TheVariants.{Outside, Inside, Forgotten}
 use Rattle.lock_world.specs.declared.standing.Within.{Within}
-use Rattle.lock_world.specs.Standings.{inputs_of, call_in, is_possible, is_stepped, is_decided, may_end, decision, refused, IsUndecided}
+use Rattle.lock_world.specs.Standings.{inside, inputs_of, call_in, is_possible, is_stepped, is_decided, may_end, decision, refused, IsUndecided}
 use Rattle.lock_world.specs.Frame.{is_drop, is_giving_back, is_poll_after_ready, is_refusal}
 use Rattle.lock_world.specs.Refusals.{number_of}
 use Rattle.lock_world.specs.Steps.{Deed, nothing, changes, does, joins, asks, leaves, notifies, notifies_additionally, list_after}
-use Rattle.lock_world.proofs.Equations.{some_eq, none_some, finished_number}
+use Rattle.lock_world.proofs.Equations.{some_eq, none_some, finished_number, both}
+use Rattle.lock_world.proofs.Lists.{notified_marked}
 use Rattle.lock_table.specs.Stages.{stage_at, stands_as, call_at, polls_again, stage_after}
 use Rattle.lock_table.specs.Tables.{Table}
 use Rattle.lock_table.specs.declared.end.End.TheVariants as «end»
@@ -42,7 +43,7 @@ use Rattle.cell_program.specs.declared.program.Found.TheVariants as found
 use Rattle.cell_program.specs.declared.program.ListName.{ListName}
 use Rattle.cell_program.specs.declared.program.ListName.TheVariants.{Active, Passive}
 use Rattle.cell_program.specs.declared.program.Maker.{Maker}
-use Rattle.cell_program.specs.declared.program.Maker.TheVariants.{Closure}
+use Rattle.cell_program.specs.declared.program.Maker.TheVariants.{Closure, Given}
 use Rattle.cell_program.specs.declared.program.Next.{Next}
 use Rattle.cell_program.specs.declared.program.Next.TheVariants as next
 use Rattle.cell_program.specs.declared.program.Place.{Place}
@@ -53,8 +54,8 @@ use Rattle.cell_program.specs.declared.words.Content.{Content}
 use Rattle.cell_program.specs.declared.words.Content.TheVariants.{Empty, BeingMade}
 use Rattle.cell_program.specs.Program.{place_for, action_of, next_of, position_after}
 use Rattle.cell_machine.specs.Seats.{Task, failed, task_at, task_of as place_task, Seat, makes_at, in_active, in_passive_at, verdict, verdict_of}
-use Rattle.cell_program.specs.Deeds.{Change, begins, fills, empties, deed_of, content_after, active_after, passive_after, Finds}
-use Rattle.cell_machine.specs.Machine.{OnceCell, IsCell, Acts, knows, goes_with, runs, is_polling, is_trying, is_cancelling, is_abandoning, is_maker, position_at, answer_by}
+use Rattle.cell_program.specs.Deeds.{Change, begins, fills, empties, deed_of, content_after, active_after, passive_after, Finds, IsDone}
+use Rattle.cell_machine.specs.Machine.{OnceCell, IsCell, Acts, knows, goes_with, runs, is_begun, is_polling, is_trying, is_cancelling, is_abandoning, is_maker, position_at, answer_by}
 use Rattle.cell_machine.proofs.laws.Kept.{after}
 use Rattle.cell_machine.proofs.stages.Turns.{lands}
 use Rattle.cell_machine.proofs.laws.Contents as contents
@@ -62,7 +63,7 @@ use Rattle.cell_machine.proofs.laws.Told.{in_list}
 use Rattle.cell_world.specs.State.{World, list_in, standing_of, task_of}
 use Rattle.cell_world.specs.View.{view_of}
 use Rattle.cell_world.specs.Tasks.{task_in, or_before, task_then, makes, list_for, given, is_open}
-use Rattle.cell_world.specs.Legal.{call_of, DecidesOn, gives_something_back, IsItsList, IsAllowed, ChangesOneThing, KnowsTask, Carried, IsGranted, Carries, IsPendingMaker, WaitsInList, Waits, IsCause, IsRefusedForCause, LeavesClear, EndsProperly, Legal}
+use Rattle.cell_world.specs.Legal.{call_of, DecidesOn, gives_something_back, IsItsList, IsAllowed, ChangesOneThing, KnowsTask, Carried, IsGranted, Carries, IsPendingMaker, WaitsInList, Waits, IsCause, IsRefusedForCause, LeavesClear, IsTold, TellsOthers, EndsProperly, Legal}
 use Rattle.cell_world.specs.Steps.{IsCellTable}
 use Rattle.cell_world.proofs.table.Seen as seen
 use Rattle.cell_world.proofs.step.Owns as legals
@@ -163,6 +164,78 @@ ends_by kind.Try rest.Finished x f h e = tries_end x f h e
 ends_by kind.Drop rest.Pending x f h e = cancels_end x f h e
 ends_by kind.Drop rest.Finished x f h e = cancels_end x f (abandons_cancel x h) e
 ends_by _ _ x f h e = absurd (cc h)
+
+-- where one is answered that its maker failed, one is notified
+fails_at : (x : Place) (f : Found) → answer_by (next_of x f) ≡ answer.Ready got.Failed → action_of x ≡ act.Notify Active
+fails_at FailNotify f e = refl
+fails_at (Claim Closure told) (found.Full u) e = absurd (cc e)
+fails_at (Claim (Given o) told) (found.Full u) e = absurd (cc e)
+fails_at (LeaveFull Closure v) f e = absurd (cc e)
+fails_at (LeaveFull (Given o) v) f e = absurd (cc e)
+fails_at (Claim k told) found.Empty e = absurd (cc e)
+fails_at (Claim k told) _ e = absurd (cc e)
+fails_at (ClaimListed k) found.Empty e = absurd (cc e)
+fails_at (ClaimListed k) (found.Full u) e = absurd (cc e)
+fails_at (ClaimListed k) _ e = absurd (cc e)
+fails_at (JoinActive k told) found.Done e = absurd (cc e)
+fails_at (JoinActive k true) _ e = absurd (cc e)
+fails_at (JoinActive k false) _ e = absurd (cc e)
+fails_at (AskActive k) found.Yes e = absurd (cc e)
+fails_at (AskActive k) _ e = absurd (cc e)
+fails_at (LeaveToMake k) f e = absurd (cc e)
+fails_at (Make k) (found.Made u) e = absurd (cc e)
+fails_at (Make k) found.Failed e = absurd (cc e)
+fails_at (Make k) _ e = absurd (cc e)
+fails_at (Fill v) f e = absurd (cc e)
+fails_at (NotifyActive v) f e = absurd (cc e)
+fails_at (NotifyPassive v) f e = absurd (cc e)
+fails_at Fail f e = absurd (cc e)
+fails_at (RefuseActive k) f e = absurd (cc e)
+fails_at (Look told) (found.Full u) e = absurd (cc e)
+fails_at (Look told) _ e = absurd (cc e)
+fails_at (JoinPassive told) found.Done e = absurd (cc e)
+fails_at (JoinPassive true) _ e = absurd (cc e)
+fails_at (JoinPassive false) _ e = absurd (cc e)
+fails_at LookListed (found.Full u) e = absurd (cc e)
+fails_at LookListed _ e = absurd (cc e)
+fails_at AskPassive found.Yes e = absurd (cc e)
+fails_at AskPassive _ e = absurd (cc e)
+fails_at (LeavePassive v) f e = absurd (cc e)
+fails_at RefusePassive f e = absurd (cc e)
+fails_at (Try v) found.Empty e = absurd (cc e)
+fails_at (Try v) _ e = absurd (cc e)
+fails_at (TryFill v) f e = absurd (cc e)
+fails_at (TryNotifyActive v) f e = absurd (cc e)
+fails_at (TryNotifyPassive v) f e = absurd (cc e)
+fails_at CancelMake f e = absurd (cc e)
+fails_at CancelNotify f e = absurd (cc e)
+fails_at (CancelLeave list) f e = absurd (cc e)
+fails_at Abandon f e = absurd (cc e)
+
+-- a dropped maker that has begun notifies one, and so does who was refused
+owes_active : (x : Place) → is_begun x ≡ true → verdict_of x ≡ Some answer.GivenBack → action_of x ≡ act.Notify Active
+owes_active CancelNotify b e = refl
+owes_active CancelMake b e = absurd (cc b)
+owes_active (CancelLeave list) b e = absurd (cc b)
+owes_active Abandon b e = absurd (cc b)
+owes_active _ b e = absurd (cc e)
+
+owes_list : (list : ListName) (x : Place) → verdict_of x ≡ Some (refused refusal.Memory) → list_for (place_task x) ≡ Some list → action_of x ≡ act.Notify list
+owes_list list (RefuseActive k) e l = ap act.Notify (some_eq (sym (legals.active_for k) ∙ l))
+owes_list list RefusePassive e l = ap act.Notify (some_eq l)
+owes_list list _ e l = absurd (cc e)
+
+-- a move of a party that is inside a call goes on with it, at a place that the call has come to
+inside_goes : (s : Stage) (what : What) (w u : Within) (x : Position) (o d : Option Answer) → goes_with s x ≡ true → call_at knows s what ≡ Some w → stands_as o s ≡ inside u d → ((i : Inputs) × (what ≡ Go i)) × ((y : Place) → x ≡ At y → is_begun y ≡ true)
+inside_goes (Inside v) (Go i) w u (At z) o d g c e = ((i, refl), λ y eq. (let same : z ≡ y = cc eq in sym (ap is_begun same) ∙ (both (is_begun z) (runs v.kind v.was z) g).0))
+inside_goes (Inside v) (Go i) w u _ o d g c e = absurd (cc g)
+inside_goes (Inside v) (Begin b i) w u x o d g c e = absurd (none_some c)
+inside_goes (Outside r) what w u x o d g c e = absurd (cc e)
+inside_goes Forgotten what w u x o d g c e = absurd (cc e)
+
+notify_deed : (list : ListName) (f : Found) → IsDone f → deed_of (act.Notify list) f ≡ does list (notifies 1)
+notify_deed list found.Done h = refl
+notify_deed list _ h = absurd h
 
 -- ---- What was decided, and what is decided now
 
@@ -521,6 +594,28 @@ module _ (t u : Table OnceCell) (m : Move) (a : Answer) (w : Within) where
       refused_maker = λ h. sym (k.new_laws.makers p) ∙ (ap makes_at lands_at ∙ (cleared h).2);
     }
 
+    told_list : (list : ListName) → deed ≡ does list (notifies 1) → list_in list new ≡ list_after p (notifies 1) (list_in list old)
+    told_list Active e = k.acts.active ∙ ap (λ (d : Deed Change ListName). active_after p d t.machine.active) e
+    told_list Passive e = k.acts.passive ∙ ap (λ (d : Deed Change ListName). passive_after p d t.machine.passive) e
+
+    told : (list : ListName) → action_of from ≡ act.Notify list → IsTold list new
+    told list e =
+        let P : Action → Type 0 = λ b. Finds i p b fnd c t.machine.active t.machine.passive in
+        let is_done : IsDone fnd = subst P e k.acts.finds in
+        notified_marked (list_in list old) (list_in list new) (told_list list (ap (λ b. deed_of b fnd) e ∙ notify_deed list fnd is_done))
+
+    goes_inside : (v : Within) (d : Option Answer) → standing_of old p ≡ inside v d → (x ≡ At from) × (is_begun from ≡ true)
+    goes_inside v d e =
+        let so = inside_goes s m.what w v x (verdict x) d (k.old_fits.stands p k.inside).goes k.call (sym stood ∙ e) in
+        let at : x ≡ At from = k.here.going so.0.0 so.0.1 in (at, so.1 from at)
+
+    tells_others : TellsOthers old m a new
+    tells_others = record {
+      failed = λ e. told Active (fails_at from fnd (sym k.answer ∙ e));
+      dropped = λ v e h. told Active (owes_active from (goes_inside v (Some answer.GivenBack) e).1 (k.here.kept v answer.GivenBack (sym stood ∙ e)));
+      refused = λ v list e h f. told list (owes_list list from (k.here.kept v (refused refusal.Memory) (sym stood ∙ e)) (ap list_for (sym (task_old ∙ ap task_at (goes_inside v (Some (refused refusal.Memory)) e).0)) ∙ f));
+    }
+
     called : call_of old m ≡ Some w
     called = ap (λ z. call_in knows z m.what) stood ∙ (call_seen knows (verdict x) s m.what ∙ k.call)
 
@@ -543,5 +638,6 @@ module _ (t u : Table OnceCell) (m : Move) (a : Answer) (w : Within) where
       waits = waits;
       refused_for_cause = refused_for_cause;
       leaves_clear = leaves_clear;
+      tells_others = tells_others;
       ends_properly = ends_properly;
     }

@@ -1,6 +1,8 @@
 -- What the first step of a call decides at once.
-use Rattle.std.proofs.Common.{◌≡◌, ℕ, ◌<◌, ◌&&◌, ◌==◌, if◌then◌else◌, Bool, true, false, Some, None, refl, arith, ap, sym, ◌∙◌, subst}
-use Rattle.lock_queue.specs.Parties.{entries_of}
+use Rattle.std.proofs.Common.{◌≡◌, ℕ, ◌<◌, ◌&&◌, ◌==◌, if◌then◌else◌, Bool, true, false, List, Some, None, refl, arith, ap, sym, ◌∙◌, subst}
+use Rattle.lock_event.specs.declared.event.Entry.{Entry}
+use Rattle.lock_event.specs.Lists.{is_marked_at}
+use Rattle.lock_queue.specs.Parties.{is_party, entries_of}
 use Rattle.lock_world.specs.declared.moves.Answer.{Answer}
 use Rattle.lock_world.specs.declared.moves.Answer.TheVariants as answer
 use Rattle.lock_world.specs.declared.moves.Call.TheVariants as call
@@ -21,6 +23,8 @@ use Rattle.lock_table.specs.Tables.{Table}
 use Rattle.cell_program.specs.declared.program.Action.TheVariants as act
 use Rattle.cell_program.specs.declared.program.Found.{Found}
 use Rattle.cell_program.specs.declared.program.Found.TheVariants as found
+use Rattle.cell_program.specs.declared.program.ListName.{ListName}
+use Rattle.cell_program.specs.declared.program.ListName.TheVariants.{Active, Passive}
 use Rattle.cell_program.specs.declared.program.Maker.{Maker}
 use Rattle.cell_program.specs.declared.program.Maker.TheVariants.{Closure, Given}
 use Rattle.cell_program.specs.declared.program.Place.{Place}
@@ -31,12 +35,12 @@ use Rattle.cell_program.specs.declared.words.Content.{Content}
 use Rattle.cell_program.specs.declared.words.Content.TheVariants.{Empty}
 use Rattle.cell_program.specs.Program.{action_of, next_of}
 use Rattle.cell_machine.specs.Seats.{no_task, waits_only, task_by, task_at, task_of as place_task, makes_at, in_active, in_passive_at, verdict}
-use Rattle.cell_program.specs.Deeds.{deed_of, content_after, Finds, FindsContent, FindsMade}
+use Rattle.cell_program.specs.Deeds.{deed_of, content_after, Finds, FindsContent, FindsMade, FindsAsk}
 use Rattle.cell_machine.specs.Machine.{OnceCell, knows, goes_with, is_maker, position_at, answer_by}
 use Rattle.cell_machine.proofs.laws.Kept.{after}
 use Rattle.cell_machine.proofs.stages.Turns.{Turn, turn}
 use Rattle.cell_machine.proofs.laws.Contents as contents
-use Rattle.cell_world.specs.State.{World, is_empty, standing_of, task_of}
+use Rattle.cell_world.specs.State.{World, list_in, is_empty, standing_of, task_of}
 use Rattle.cell_world.specs.View.{view_of}
 use Rattle.cell_world.specs.Tasks.{task_in, or_before, task_then, given}
 use Rattle.cell_world.specs.AtOnce.{AnswersAtOnce, TriesAtOnce, MakesAtOnce, PollsMaker, DropsMaker, is_try, is_poll, would_make, is_first_making, waits_for, is_first_wait, first_answer, maker_answer}
@@ -162,6 +166,16 @@ module _ (p : ℕ) (c : Content) where
   look_answer (found.Full u) e = rw e refl
   look_answer _ e = absurd e
 
+  ask_answer : (k : Maker) (l : List (Entry ℕ)) (f : Found) → FindsAsk p f l → answer_by (next_of (AskActive k) f) ≡ (if is_marked_at (is_party p) l then answer.Stepped else answer.Pending)
+  ask_answer k l found.Yes e = rw e refl
+  ask_answer k l found.No e = rw e refl
+  ask_answer k l _ e = absurd e
+
+  ask_passive_answer : (l : List (Entry ℕ)) (f : Found) → FindsAsk p f l → answer_by (next_of AskPassive f) ≡ (if is_marked_at (is_party p) l then answer.Stepped else answer.Pending)
+  ask_passive_answer l found.Yes e = rw e refl
+  ask_passive_answer l found.No e = rw e refl
+  ask_passive_answer l _ e = absurd e
+
 make_answer : (k : Maker) (m : Made) (f : Found) → FindsMade k m f → answer_by (next_of (Make k) f) ≡ maker_answer (task_by k) m
 make_answer (Given v) m f e = ap (λ f. answer_by (next_of (Make (Given v)) f)) e
 make_answer Closure made.Pending f e = ap (λ f. answer_by (next_of (Make Closure) f)) e
@@ -269,6 +283,14 @@ module _ (t u : Table OnceCell) (m : Move) (a : Answer) (w : Within) (k : Acting
       record { empty = content_at CancelMake e ∙ emptied k.found (finds_at CancelMake e); goes_on = answered CancelMake e }
       )
 
+  listed : is_poll m.what ≡ true → stands_as (verdict x) (stage_at t.stages p) ≡ outside rest.Pending → (list : ListName) → 0 < entries_of p (list_in list old) → a ≡ (if is_marked_at (is_party p) (list_in list old) then answer.Stepped else answer.Pending)
+  listed h pending Active some =
+      let d = door.in_active h pending (rw (k.old_laws.active_owners p) at some) in
+      answered (AskActive d.0) d.1 ∙ ask_answer p c d.0 t.machine.active k.found (finds_at (AskActive d.0) d.1)
+  listed h pending Passive some =
+      let e = door.in_passive h pending (rw (k.old_laws.passive_owners p) at some) in
+      answered AskPassive e ∙ ask_passive_answer p c t.machine.passive k.found (finds_at AskPassive e)
+
   pub at_once : AnswersAtOnce old m a new
   at_once = record {
     tried = λ h possible. tried h;
@@ -276,4 +298,5 @@ module _ (t u : Table OnceCell) (m : Move) (a : Answer) (w : Within) (k : Acting
     waiting = λ h. waiting (ap (λ z. is_first_wait z m.what (task_at x) (entries_of p t.machine.passive)) (sym (acting.stood t u m a w k)) ∙ (ap (λ z. is_first_wait (standing_of old p) m.what z (entries_of p t.machine.passive)) (sym (acting.task_old t u m a w k)) ∙ h));
     maker = λ h pending made. polled h (sym (acting.stood t u m a w k) ∙ pending) made;
     dropped = λ h possible made. dropped h made;
+    listed = λ h pending list some. listed h (sym (acting.stood t u m a w k) ∙ pending) list some;
   }

@@ -2,7 +2,7 @@
 use Rattle.std.proofs.Common.{◌≡◌, ◌≢◌, ℕ, ◌<◌, ◌⊎◌, inl, inr, if◌then◌else◌, Bool, true, false, Option, Some, None, refl, arith, ap, sym, ◌∙◌, subst}
 use Rattle.std.proofs.lemmas.Bool.{false≢true, true≢false}
 use Rattle.lock_event.specs.declared.event.Mark.TheVariants.{Waiting}
-use Rattle.lock_event.specs.Lists.{mark_at}
+use Rattle.lock_event.specs.Lists.{mark_at, is_marked_at}
 use Rattle.lock_queue.specs.Parties.{is_party}
 use Rattle.lock_world.specs.declared.moves.Answer.{Answer}
 use Rattle.lock_world.specs.declared.moves.Answer.TheVariants as answer
@@ -17,7 +17,7 @@ use Rattle.lock_world.specs.declared.refusal.Refusal.TheVariants as refusal
 use Rattle.lock_world.specs.declared.standing.Rest.TheVariants.{Pending}
 use Rattle.lock_world.specs.Refusals.{number_of}
 use Rattle.lock_world.specs.Frame.{is_drop}
-use Rattle.lock_world.specs.Standings.{Standing, outside, inside, is_possible, inputs_of}
+use Rattle.lock_world.specs.Standings.{Standing, outside, inside, is_possible, inputs_of, refused}
 use Rattle.lock_world.specs.Steps.{Deed, nothing, changes, does, notifies}
 use Rattle.lock_world.proofs.Equations.{some_eq, some_none, none_some}
 use Rattle.cell_program.specs.declared.program.ListName.{ListName}
@@ -143,7 +143,7 @@ pub returns-clause-tells_nobody : goal.returns-clause-tells_nobody
 returns-clause-tells_nobody c = λ r. let some = (r.kept.dropped r.drops r.was_pending r.making).1.notified r.some in absurd (omega (arith, some, r.none_told))
 
 pub returns-clause-passes_over_in_vain : goal.returns-clause-passes_over_in_vain
-returns-clause-passes_over_in_vain c = λ r. r.no_maker (pends_so _ r.whole.party r.whole.answer r.whole.new (r.kept.solo r.polls r.solo r.empty) r.pending)
+returns-clause-passes_over_in_vain c = λ r. r.no_maker (pends_so _ r.whole.party r.whole.answer r.whole.new (r.kept.solo r.polls r.solo.pending r.solo.marked r.empty) r.pending)
 
 pub returns-clause-keeps_its_told : goal.returns-clause-keeps_its_told
 returns-clause-keeps_its_told c = λ r. let some = r.kept.hands_on r.polls r.was_pending r.list r.listed r.refused r.some in absurd (omega (arith, some, r.none_told))
@@ -196,3 +196,37 @@ pub returns-clause-has_another_back : goal.returns-clause-has_another_back
 returns-clause-has_another_back c = λ r.
     let own = has_there r.step.old r.step.move r.step.answer r.step.new (inside r.within (Some (answer.Ready (got.Taken r.back)))) r.legal r.taken in
     let same : sets r.back ≡ sets r.own = sym own.1 ∙ r.set in r.other (cc same)
+
+pub returns-clause-fails_untold : goal.returns-clause-fails_untold
+returns-clause-fails_untold c = λ r. let some = r.legal.tells_others.failed r.failed r.some in absurd (omega (arith, some, r.none_told))
+
+pub returns-clause-drops_untold : goal.returns-clause-drops_untold
+returns-clause-drops_untold c = λ r. let some = r.legal.tells_others.dropped r.within r.dropped r.possible r.some in absurd (omega (arith, some, r.none_told))
+
+pub returns-clause-refused_untold : goal.returns-clause-refused_untold
+returns-clause-refused_untold c = λ r. let some = r.legal.tells_others.refused r.within r.list r.refusal r.possible r.its r.some in absurd (omega (arith, some, r.none_told))
+
+pub returns-clause-waits_though_told : goal.returns-clause-waits_though_told
+returns-clause-waits_though_told c = λ r.
+    let so : answer.Pending ≡ answer.Stepped = sym r.pending ∙ (r.legal.listed r.polls r.was_pending r.list r.listed ∙ chosen (is_marked_at (is_party r.step.move.party) (list_in r.list r.step.old)) true answer.Stepped answer.Pending r.marked) in cc so
+
+pub returns-clause-goes_on_untold : goal.returns-clause-goes_on_untold
+returns-clause-goes_on_untold c = λ r.
+    r.goes_on (r.legal.listed r.polls r.was_pending r.list r.listed ∙ chosen (is_marked_at (is_party r.step.move.party) (list_in r.list r.step.old)) false answer.Stepped answer.Pending r.unmarked)
+
+pub returns-clause-waits_for_full : goal.returns-clause-waits_for_full
+returns-clause-waits_for_full c = λ r.
+    let ready = r.kept.full r.polls r.was_pending r.list r.value r.marked r.full in
+    elim r.in_vain as (λ _. ⊥) [ inl e ↦ (let never = sym e ∙ ready in cc never) | inr e ↦ (let never = sym e ∙ ready in cc never) ]
+
+-- who makes isn't refused
+never_refused : (t : Task) (p : ℕ) (a : Answer) (v : World) → ComesTo t p a v → a ≡ refused refusal.Memory → ⊥
+never_refused (fills_with x) p a v h e = let never = sym h.0 ∙ e in cc never
+never_refused failed p a v h e = let never = sym h.0 ∙ e in cc never
+never_refused no_task p a v h e = let never = sym h.0 ∙ e in cc never
+never_refused initializes p a v h e = let never = sym h.0 ∙ e in cc never
+never_refused (sets x) p a v h e = let never = sym h.0 ∙ e in cc never
+never_refused waits_only p a v h e = let never = sym h.0 ∙ e in cc never
+
+pub returns-clause-refused_to_make : goal.returns-clause-refused_to_make
+returns-clause-refused_to_make c = λ r. never_refused _ r.whole.party r.whole.answer r.whole.new (r.kept.solo r.polls r.was_pending r.marked r.empty) r.is_refused
