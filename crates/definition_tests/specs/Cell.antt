@@ -25,7 +25,7 @@ use Rattle.cell_machine.specs.Seats.{initializes, sets, waits_only, fills_with, 
 use Rattle.cell_machine.specs.Machine.{is_maker}
 use Rattle.cell_world.specs.AtOnce.{AnswersAtOnce, is_try, is_poll, is_first_making}
 use Rattle.cell_world.specs.Bound.{IsSolo, Promises}
-use Rattle.cell_world.specs.Laws.{IsSound}
+use Rattle.cell_world.specs.Laws.{IsSound, is_due}
 use Rattle.cell_world.specs.Legal.{Legal, DecidesOn}
 use Rattle.cell_world.specs.State.{World, list_in, is_empty, standing_of, task_of}
 use Rattle.cell_world.specs.Tasks.{task_then, list_for, is_open}
@@ -348,3 +348,14 @@ pub record RefusedToMake : Type 0 where
   pub empty : whole.old.cell ≡ Empty
   pub is_refused : whole.answer ≡ refused refusal.Memory
   pub kept : Keeps whole
+
+-- The cell is empty, a party outside every call waits to make its value, and nobody there has been told, nor does anybody have to tell or to look, though somebody may be inside a call, as a wait is.
+pub record LeftToNobody : Type 0 where
+  pub world : World
+  pub party : ℕ
+  pub empty : world.cell ≡ Empty
+  pub stands : is_outside (standing_of world party) ≡ true
+  pub listed : 0 < entries_of party world.active
+  pub none_told : marked_count world.active ≡ 0
+  pub none_due : (q : ℕ) → is_due (standing_of world q) (task_of world q) ≡ false
+  pub sound : IsSound world

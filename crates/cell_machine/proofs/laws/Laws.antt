@@ -34,6 +34,7 @@ is_cell c xs q r k ordered ordered_passive = record {
   passive_owners = k.passive_owners;
   active_in_order = ordered;
   passive_in_order = ordered_passive;
+  owed = λ empty some. k.sound.owed (is_free c empty) some;
   wakes = λ rest empty some. paid_at_rest roles (0 < free_of c) xs (length q.entries) (marked_count q.entries) (all_rest xs rest) k.sound.in_list k.sound.owed (is_free c empty) some;
   active_told = k.active_told;
   passive_told = k.passive_told;

@@ -230,3 +230,6 @@ never_refused waits_only p a v h e = let never = sym h.0 ∙ e in cc never
 
 pub returns-clause-refused_to_make : goal.returns-clause-refused_to_make
 returns-clause-refused_to_make c = λ r. never_refused _ r.whole.party r.whole.answer r.whole.new (r.kept.solo r.polls r.was_pending r.marked r.empty) r.is_refused
+
+pub returns-clause-left_to_nobody : goal.returns-clause-left_to_nobody
+returns-clause-left_to_nobody c = λ r. elim (r.sound.told_or_due r.empty r.party r.stands r.listed) as (λ _. ⊥) [ inl some ↦ absurd (omega (arith, some, r.none_told)) | inr q ↦ true≢false (sym q.1.due ∙ r.none_due q.0) ]
