@@ -1,5 +1,5 @@
--- What the first step of a call decides at once.
-use Rattle.std.specs.Prelude.{◌≡◌, ℕ, ◌<◌, ◌==◌, ◌&&◌, if◌then◌else◌, Bool, true, false, Some}
+-- What the first step of a call decides at once, and the one that asks a maker.
+use Rattle.std.specs.Prelude.{◌≡◌, ℕ, ◌<◌, ◌==◌, ◌&&◌, if◌then◌else◌, Bool, true, false, Some, None}
 use Rattle.lock_event.specs.Lists.{is_marked_at}
 use Rattle.lock_queue.specs.Parties.{is_party, entries_of}
 use Rattle.lock_world.specs.declared.moves.Answer.{Answer}
@@ -13,8 +13,9 @@ use Rattle.lock_world.specs.declared.moves.Move.{Move}
 use Rattle.lock_world.specs.declared.moves.What.{What}
 use Rattle.lock_world.specs.declared.moves.What.TheVariants.{Begin}
 use Rattle.lock_world.specs.declared.standing.Rest.TheVariants.{Idle, Pending, Finished}
+use Rattle.lock_world.specs.declared.standing.Within.{Within}
 use Rattle.lock_world.specs.Frame.{is_drop}
-use Rattle.lock_world.specs.Standings.{Standing, outside, inputs_of, is_possible, decision}
+use Rattle.lock_world.specs.Standings.{Standing, outside, inside, inputs_of, is_possible, decision}
 use Rattle.cell_program.specs.declared.program.ListName.{ListName}
 use Rattle.cell_program.specs.declared.words.Content.{Content}
 use Rattle.cell_program.specs.declared.words.Content.TheVariants.{Empty, BeingMade, Full}
@@ -84,7 +85,7 @@ pub record MakesAtOnce (old : World) (m : Move) (a : Answer) (new : World) : Typ
   pub answered : a ≡ first_answer (task_then m.what (task_of old m.party)) old.cell
   pub begins : is_maker new.cell m.party ≡ is_empty old.cell
 
--- The poll of the party that makes asks its maker, and the cell stays as it is.
+-- The party that makes asks its maker, and the cell stays as it is.
 pub record PollsMaker (old : World) (m : Move) (a : Answer) (new : World) : Type 0 where
   pub answered : a ≡ maker_answer (task_of old m.party) (inputs_of m.what).made
   pub task : task_of new m.party ≡ given (task_of old m.party) (inputs_of m.what).made
@@ -101,5 +102,7 @@ pub record AnswersAtOnce (old : World) (m : Move) (a : Answer) (new : World) : T
   pub waiting : is_first_wait (standing_of old m.party) m.what (task_of old m.party) (entries_of m.party old.passive) ≡ true → a ≡ first_answer waits_only old.cell
   pub maker : is_poll m.what ≡ true → standing_of old m.party ≡ outside Pending → is_maker old.cell m.party ≡ true → PollsMaker old m a new
   pub dropped : is_drop m.what ≡ true → is_possible a ≡ true → is_maker old.cell m.party ≡ true → DropsMaker a new
+  -- So is the maker asked at the next step of a call in which its party has begun to make, once that stands in no list.
+  pub asked : (within : Within) → standing_of old m.party ≡ inside within None → is_possible a ≡ true → is_maker old.cell m.party ≡ true → would_make (task_of old m.party) ≡ true → entries_of m.party old.active ≡ 0 → PollsMaker old m a new
   -- The poll of a listed party goes on exactly where it was told, and else it is pending still.
   pub listed : is_poll m.what ≡ true → standing_of old m.party ≡ outside Pending → (list : ListName) → 0 < entries_of m.party (list_in list old) → a ≡ (if is_marked_at (is_party m.party) (list_in list old) then answer.Stepped else answer.Pending)

@@ -17,9 +17,10 @@ use Rattle.lock_world.specs.declared.standing.Kind.TheVariants as kind
 use Rattle.lock_world.specs.declared.standing.Rest.TheVariants.{Pending}
 use Rattle.lock_world.specs.declared.standing.Within.{Within}
 use Rattle.lock_world.specs.Frame.{is_drop, is_refusal}
-use Rattle.lock_world.specs.Standings.{outside, inside, is_outside, is_decided, is_possible, refused}
+use Rattle.lock_world.specs.Standings.{outside, inside, inputs_of, is_outside, is_decided, is_possible, refused}
 use Rattle.lock_world.specs.Steps.{does, notifies}
 use Rattle.cell_program.specs.declared.program.ListName.{ListName}
+use Rattle.cell_program.specs.declared.program.ListName.TheVariants.{Passive}
 use Rattle.cell_program.specs.declared.words.Content.TheVariants.{Empty, BeingMade, Full}
 use Rattle.cell_machine.specs.Seats.{initializes, sets, waits_only, fills_with, failed}
 use Rattle.cell_machine.specs.Machine.{is_maker}
@@ -359,3 +360,37 @@ pub record LeftToNobody : Type 0 where
   pub none_told : marked_count world.active ≡ 0
   pub none_due : (q : ℕ) → is_due (standing_of world q) (task_of world q) ≡ false
   pub sound : IsSound world
+
+-- A party that is to be ready with a value tells one party of its own choice, though it made nothing empty and isn't refused.
+pub record TellsAnyone : Type 0 where
+  pub step : Step
+  pub within : Within
+  pub value : ℕ
+  pub list : ListName
+  pub many : ℕ
+  pub ready : standing_of step.old step.move.party ≡ inside within (Some (answer.Ready (got.Value value)))
+  pub legal : IsLegal step
+  pub tells : legal.one_change.deed ≡ does list (notifies many)
+
+-- A dropped maker, or one that failed, tells a wait, which may not make, in place of one that would.
+pub record TellsPassive : Type 0 where
+  pub step : Step
+  pub within : Within
+  pub many : ℕ
+  pub decided : (standing_of step.old step.move.party ≡ inside within (Some answer.GivenBack)) ⊎ (standing_of step.old step.move.party ≡ inside within (Some (answer.Ready got.Failed)))
+  pub legal : IsLegal step
+  pub tells : legal.one_change.deed ≡ does Passive (notifies many)
+
+-- An initialisation that has begun to make, and stands in no list, goes on with a value at hand, and doesn't ask for it: what its maker gave is lost.
+pub record LosesWhatWasMade : Type 0 where
+  pub step : Step
+  pub within : Within
+  pub value : ℕ
+  pub undecided : standing_of step.old step.move.party ≡ inside within None
+  pub possible : is_possible step.answer ≡ true
+  pub making : is_maker step.old.cell step.move.party ≡ true
+  pub task : task_of step.old step.move.party ≡ initializes
+  pub unlisted : entries_of step.move.party step.old.active ≡ 0
+  pub gave : (inputs_of step.move.what).made ≡ made.Value value
+  pub lost : task_of step.new step.move.party ≢ fills_with value
+  pub legal : IsAtOnce step

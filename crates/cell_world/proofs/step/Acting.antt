@@ -25,7 +25,7 @@ use Rattle.lock_world.specs.declared.standing.Rest.TheVariants as rest
 use Rattle.lock_world.specs.declared.standing.Stage.{Stage}
 use Rattle.lock_world.specs.declared.standing.Stage.TheVariants.{Outside, Inside, Forgotten}
 use Rattle.lock_world.specs.declared.standing.Within.{Within}
-use Rattle.lock_world.specs.Standings.{inside, inputs_of, call_in, is_possible, is_stepped, is_decided, may_end, decision, refused, IsUndecided}
+use Rattle.lock_world.specs.Standings.{Standing, inside, inputs_of, call_in, is_possible, is_stepped, is_decided, may_end, decision, refused, IsUndecided}
 use Rattle.lock_world.specs.Frame.{is_drop, is_giving_back, is_poll_after_ready, is_refusal}
 use Rattle.lock_world.specs.Refusals.{number_of}
 use Rattle.lock_world.specs.Steps.{Deed, nothing, changes, does, joins, asks, leaves, notifies, notifies_additionally, list_after}
@@ -63,12 +63,12 @@ use Rattle.cell_machine.proofs.laws.Told.{in_list}
 use Rattle.cell_world.specs.State.{World, list_in, standing_of, task_of}
 use Rattle.cell_world.specs.View.{view_of}
 use Rattle.cell_world.specs.Tasks.{task_in, or_before, task_then, makes, list_for, given, is_open}
-use Rattle.cell_world.specs.Legal.{call_of, DecidesOn, gives_something_back, IsItsList, IsAllowed, ChangesOneThing, KnowsTask, Carried, IsGranted, Carries, IsPendingMaker, WaitsInList, Waits, IsCause, IsRefusedForCause, LeavesClear, IsTold, TellsOthers, EndsProperly, Legal}
+use Rattle.cell_world.specs.Legal.{call_of, DecidesOn, gives_something_back, IsItsList, MayTell, IsAllowed, ChangesOneThing, KnowsTask, Carried, IsGranted, Carries, IsPendingMaker, WaitsInList, Waits, IsCause, IsRefusedForCause, LeavesClear, IsTold, TellsOthers, EndsProperly, Legal}
 use Rattle.cell_world.specs.Steps.{IsCellTable}
 use Rattle.cell_world.proofs.table.Seen as seen
 use Rattle.cell_world.proofs.step.Owns as legals
 use Rattle.cell_world.proofs.step.Owns.{each_has, never_pending}
-use Rattle.cell_world.proofs.step.Rows.{said, open_at, is_join, content_then, AllowedAt, Refuses, Reason, Judged, Room, Row, row}
+use Rattle.cell_world.proofs.step.Rows.{said, open_at, is_join, is_notify, content_then, AllowedAt, Refuses, Reason, Judged, Room, Row, row}
 use Rattle.cell_world.proofs.step.Here.{Here, TaskFits}
 
 -- ---- Answers
@@ -232,6 +232,21 @@ inside_goes (Inside v) (Go i) w u _ o d g c e = absurd (cc g)
 inside_goes (Inside v) (Begin b i) w u x o d g c e = absurd (none_some c)
 inside_goes (Outside r) what w u x o d g c e = absurd (cc e)
 inside_goes Forgotten what w u x o d g c e = absurd (cc e)
+
+-- who is decided is so inside a call
+decided_is : (z : Standing) → is_decided z ≡ true → (u : Within) × (d : Answer) × (z ≡ inside u (Some d))
+decided_is (inside u (Some d)) h = (u, d, refl)
+decided_is _ h = absurd (cc h)
+
+same_list : (list name : ListName) → act.Notify list ≡ act.Notify name → name ≡ list
+same_list list name e = cc e
+
+notifies_at : (list : ListName) (x : Place) → action_of x ≡ act.Notify list → is_notify x ≡ true
+notifies_at list FailNotify e = refl
+notifies_at list (RefuseActive k) e = refl
+notifies_at list RefusePassive e = refl
+notifies_at list CancelNotify e = refl
+notifies_at list _ e = absurd (cc e)
 
 notify_deed : (list : ListName) (f : Found) → IsDone f → deed_of (act.Notify list) f ≡ does list (notifies 1)
 notify_deed list found.Done h = refl
@@ -419,6 +434,26 @@ module _ (t u : Table OnceCell) (m : Move) (a : Answer) (w : Within) where
     not_asked : (list : ListName) → is_marked_at (is_party p) (list_in list old) ≡ false → list_after p asks (list_in list old) ≡ list_in list old
     not_asked list e = rw e refl
 
+    pub goes_inside : (v : Within) (d : Option Answer) → standing_of old p ≡ inside v d → (x ≡ At from) × (is_begun from ≡ true)
+    goes_inside v d e =
+        let so = inside_goes s m.what w v x (verdict x) d (k.old_fits.stands p k.inside).goes k.call (sym stood ∙ e) in
+        let at : x ≡ At from = k.here.going so.0.0 so.0.1 in (at, so.1 from at)
+
+    -- whom a party tells, by where it stands
+    tells_by : (list : ListName) (y : Place) (v : Within) (d : Answer) → action_of y ≡ act.Notify list → verdict_of y ≡ Some d → task_of old p ≡ place_task y → MayTell old m list (inside v (Some d))
+    tells_by list FailNotify v d e h task = let P : Answer → Type 0 = λ z. MayTell old m list (inside v (Some z)) in subst P (some_eq h) (same_list Active list e)
+    tells_by list CancelNotify v d e h task = let P : Answer → Type 0 = λ z. MayTell old m list (inside v (Some z)) in subst P (some_eq h) (same_list Active list e)
+    tells_by list (RefuseActive z) v d e h task = let P : Answer → Type 0 = λ z. MayTell old m list (inside v (Some z)) in subst P (some_eq h) (ap list_for task ∙ (legals.active_for z ∙ ap Some (sym (same_list Active list e))))
+    tells_by list RefusePassive v d e h task = let P : Answer → Type 0 = λ z. MayTell old m list (inside v (Some z)) in subst P (some_eq h) (ap list_for task ∙ ap Some (sym (same_list Passive list e)))
+    tells_by list _ v d e h task = absurd (cc e)
+
+    may_tell : (list : ListName) → action_of from ≡ act.Notify list → MayTell old m list (standing_of old p)
+    may_tell list e =
+        let q = decided_is (standing_of old p) (ap is_decided stood ∙ k.here.notifies (notifies_at list from e)) in
+        let at : x ≡ At from = (goes_inside q.0 (Some q.1) q.2).0 in
+        let P : Standing → Type 0 = MayTell old m list in
+        subst P (sym q.2) (tells_by list from q.0 q.1 e (k.here.kept q.0 q.1 (sym stood ∙ q.2)) (task_old ∙ ap task_at at))
+
     its_list : (list : ListName) → list_for (task_at x) ≡ Some list → IsItsList old m list
     its_list list h = ap list_for task_old ∙ h
 
@@ -430,7 +465,7 @@ module _ (t u : Table OnceCell) (m : Move) (a : Answer) (w : Within) where
     allowed_so (does list joins) h = its_list list (fits_now (act.Join list) h)
     allowed_so (does list asks) h = its_list list (fits_now (act.Ask list) h)
     allowed_so (does list leaves) h = its_list list (fits_now (act.Leave list) h)
-    allowed_so (does list (notifies n)) h = (h.0, ap is_decided stood ∙ k.here.notifies h.1)
+    allowed_so (does list (notifies n)) h = (h.0, may_tell list h.1)
     allowed_so (does list (notifies_additionally n)) h = let fit = fits_now (act.NotifyAll list) h.1 in (fit.0, h.0, (k.old_fits.stands p k.inside).value fit.0 fit.2, task_old ∙ fit.1)
 
     decided_there : is_decided (standing_of old p) || is_giving_back m.what ≡ is_some (verdict_of from)
@@ -603,11 +638,6 @@ module _ (t u : Table OnceCell) (m : Move) (a : Answer) (w : Within) where
         let P : Action → Type 0 = λ b. Finds i p b fnd c t.machine.active t.machine.passive in
         let is_done : IsDone fnd = subst P e k.acts.finds in
         notified_marked (list_in list old) (list_in list new) (told_list list (ap (λ b. deed_of b fnd) e ∙ notify_deed list fnd is_done))
-
-    goes_inside : (v : Within) (d : Option Answer) → standing_of old p ≡ inside v d → (x ≡ At from) × (is_begun from ≡ true)
-    goes_inside v d e =
-        let so = inside_goes s m.what w v x (verdict x) d (k.old_fits.stands p k.inside).goes k.call (sym stood ∙ e) in
-        let at : x ≡ At from = k.here.going so.0.0 so.0.1 in (at, so.1 from at)
 
     tells_others : TellsOthers old m a new
     tells_others = record {

@@ -16,7 +16,7 @@ use Rattle.lock_world.specs.declared.standing.Rest.{Rest}
 use Rattle.lock_world.specs.declared.standing.Rest.TheVariants as rest
 use Rattle.lock_world.specs.declared.standing.Stage.{Stage}
 use Rattle.lock_world.specs.declared.standing.Within.{Within}
-use Rattle.lock_world.specs.Standings.{Standing, outside, inputs_of, decision}
+use Rattle.lock_world.specs.Standings.{Standing, outside, inside, inputs_of, decision}
 use Rattle.lock_world.specs.Frame.{is_drop}
 use Rattle.lock_table.specs.Stages.{stage_at, stands_as, call_at, polls_again}
 use Rattle.lock_table.specs.Tables.{Table}
@@ -28,7 +28,7 @@ use Rattle.cell_program.specs.declared.program.ListName.TheVariants.{Active, Pas
 use Rattle.cell_program.specs.declared.program.Maker.{Maker}
 use Rattle.cell_program.specs.declared.program.Maker.TheVariants.{Closure, Given}
 use Rattle.cell_program.specs.declared.program.Place.{Place}
-use Rattle.cell_program.specs.declared.program.Place.TheVariants.{Claim, AskActive, Make, Look, AskPassive, Try, CancelMake}
+use Rattle.cell_program.specs.declared.program.Place.TheVariants.{Claim, AskActive, LeaveToMake, Make, Fill, Fail, Look, AskPassive, Try, TryFill, CancelMake, CancelLeave}
 use Rattle.cell_program.specs.declared.program.Position.{Position}
 use Rattle.cell_program.specs.declared.program.Position.TheVariants.{At}
 use Rattle.cell_program.specs.declared.words.Content.{Content}
@@ -188,6 +188,18 @@ make_task Closure made.Pending f e = ap (λ f. task_at (after (Make Closure) f))
 make_task Closure (made.Value v) f e = ap (λ f. task_at (after (Make Closure) f)) e
 make_task Closure made.Fail f e = ap (λ f. task_at (after (Make Closure) f)) e
 
+-- who makes, would make yet and stands in no list asks its maker
+asks_at : (y : Place) → makes_at (At y) ≡ true → would_make (place_task y) ≡ true → in_active (At y) ≡ 0 → (k : Maker) × (y ≡ Make k)
+asks_at (Make k) h would none = (k, refl)
+asks_at (LeaveToMake k) h would none = absurd (omega (arith, none))
+asks_at (Fill v) h would none = absurd (cc would)
+asks_at Fail h would none = absurd (cc would)
+asks_at (TryFill v) h would none = absurd (cc would)
+asks_at CancelMake h would none = absurd (cc would)
+asks_at (CancelLeave Active) h would none = absurd (cc h)
+asks_at (CancelLeave Passive) h would none = absurd (cc h)
+asks_at _ h would none = absurd (cc h)
+
 module _ (t u : Table OnceCell) (m : Move) (a : Answer) (w : Within) (k : Acting t u m a w) (door : Entrance (stage_at t.stages m.party) m.what w (position_at t.machine.positions m.party) k.from) where
   abbrev p : ℕ
   p = m.party
@@ -255,6 +267,20 @@ module _ (t u : Table OnceCell) (m : Move) (a : Answer) (w : Within) (k : Acting
       let e = door.waiting (entries_of p t.machine.passive) h (k.old_laws.passive_owners p) in
       answered (Look false) e ∙ look_answer p c k.found (finds_at (Look false) e)
 
+  polls_at : (y : Maker) → k.from ≡ Make y → task_of old p ≡ task_by y → PollsMaker old m a new
+  polls_at y e task = record {
+    answered = answered (Make y) e ∙ (make_answer y i.made k.found (finds_at (Make y) e) ∙ ap (λ z. maker_answer z i.made) (sym task));
+    task = acting.task_new t u m a w k ∙ (ap (λ z. task_at (after z k.found)) e ∙ (make_task y i.made k.found (finds_at (Make y) e) ∙ ap (λ z. given z i.made) (sym task)));
+    cell = content_at (Make y) e;
+  }
+
+  asked : (v : Within) → standing_of old p ≡ inside v None → is_maker c p ≡ true → would_make (task_of old p) ≡ true → entries_of p t.machine.active ≡ 0 → PollsMaker old m a new
+  asked v e made would none =
+      let at : x ≡ At k.from = (acting.goes_inside t u m a w k v None e).0 in
+      let task : task_of old p ≡ place_task k.from = acting.task_old t u m a w k ∙ ap task_at at in
+      let y = asks_at k.from (acting.makes_seen t u m a w k ∙ made) (ap would_make (sym task) ∙ would) (sym (acting.own_active t u m a w k) ∙ none) in
+      polls_at y.0 y.1 (task ∙ ap place_task y.1)
+
   polled_task : is_poll m.what ≡ true → task_in m.what ≡ None
   polled_task h = by_what m.what h where
     by_what : (what : What) → is_poll what ≡ true → task_in what ≡ None
@@ -264,13 +290,8 @@ module _ (t u : Table OnceCell) (m : Move) (a : Answer) (w : Within) (k : Acting
   polled : is_poll m.what ≡ true → stands_as (verdict x) (stage_at t.stages p) ≡ outside rest.Pending → is_maker c p ≡ true → PollsMaker old m a new
   polled h pending made = (
       let d = door.maker h pending (k.old_laws.makers p ∙ made) in
-      let y : Place = Make d.0 in
-      let task : task_of old p ≡ task_by d.0 = sym (ap (λ z. or_before z (task_of old p)) (polled_task h)) ∙ task_at_place y d.1 in
-      record {
-        answered = answered y d.1 ∙ (make_answer d.0 i.made k.found (finds_at y d.1) ∙ ap (λ z. maker_answer z i.made) (sym task));
-        task = acting.task_new t u m a w k ∙ (ap (λ z. task_at (after z k.found)) d.1 ∙ (make_task d.0 i.made k.found (finds_at y d.1) ∙ ap (λ z. given z i.made) (sym task)));
-        cell = content_at y d.1;
-      }
+      let task : task_of old p ≡ task_by d.0 = sym (ap (λ z. or_before z (task_of old p)) (polled_task h)) ∙ task_at_place (Make d.0) d.1 in
+      polls_at d.0 d.1 task
       )
 
   emptied : (f : Found) → Finds i p act.Empty f c t.machine.active t.machine.passive → content_after p (deed_of act.Empty f) c ≡ Empty
@@ -298,5 +319,6 @@ module _ (t u : Table OnceCell) (m : Move) (a : Answer) (w : Within) (k : Acting
     waiting = λ h. waiting (ap (λ z. is_first_wait z m.what (task_at x) (entries_of p t.machine.passive)) (sym (acting.stood t u m a w k)) ∙ (ap (λ z. is_first_wait (standing_of old p) m.what z (entries_of p t.machine.passive)) (sym (acting.task_old t u m a w k)) ∙ h));
     maker = λ h pending made. polled h (sym (acting.stood t u m a w k) ∙ pending) made;
     dropped = λ h possible made. dropped h made;
+    asked = λ v e possible made would none. asked v e made would none;
     listed = λ h pending list some. listed h (sym (acting.stood t u m a w k) ∙ pending) list some;
   }

@@ -72,7 +72,7 @@ module _ (i : Inputs) (p : ℕ) (c : Content) where
   AllowedAt (does list joins) x = action_of x ≡ act.Join list
   AllowedAt (does list asks) x = action_of x ≡ act.Ask list
   AllowedAt (does list leaves) x = action_of x ≡ act.Leave list
-  AllowedAt (does list (notifies n)) x = (n ≡ 1) × (is_notify x ≡ true)
+  AllowedAt (does list (notifies n)) x = (n ≡ 1) × (action_of x ≡ act.Notify list)
   AllowedAt (does list (notifies_additionally n)) x = (n ≡ everyone) × (action_of x ≡ act.NotifyAll list)
 
   -- why a call is refused

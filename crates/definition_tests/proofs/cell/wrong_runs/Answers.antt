@@ -17,7 +17,7 @@ use Rattle.lock_world.specs.declared.refusal.Refusal.TheVariants as refusal
 use Rattle.lock_world.specs.declared.standing.Rest.TheVariants.{Pending}
 use Rattle.lock_world.specs.Refusals.{number_of}
 use Rattle.lock_world.specs.Frame.{is_drop}
-use Rattle.lock_world.specs.Standings.{Standing, outside, inside, is_possible, inputs_of, refused}
+use Rattle.lock_world.specs.Standings.{Standing, outside, inside, is_decided, is_possible, inputs_of, refused}
 use Rattle.lock_world.specs.Steps.{Deed, nothing, changes, does, notifies}
 use Rattle.lock_world.proofs.Equations.{some_eq, some_none, none_some}
 use Rattle.cell_program.specs.declared.program.ListName.{ListName}
@@ -30,7 +30,8 @@ use Rattle.cell_machine.specs.Machine.{is_maker}
 use Rattle.cell_machine.proofs.laws.Contents.{maker_is}
 use Rattle.cell_world.specs.State.{World, list_in, is_empty, standing_of, task_of}
 use Rattle.cell_world.specs.Tasks.{task_in, given, list_for}
-use Rattle.cell_world.specs.Legal.{Legal, HasItsOwn, IsCause, IsOutOfMemory, IsAllowed, IsPendingMaker, WaitsInList}
+use Rattle.cell_world.specs.Legal.{Legal, HasItsOwn, IsCause, IsOutOfMemory, MayTell, IsAllowed, IsPendingMaker, WaitsInList}
+use Rattle.cell_world.specs.AtOnce.{would_make}
 use Rattle.cell_world.specs.Bound.{ComesTo}
 use Rattle.cell_world.proofs.Values.{stays_full}
 use Rattle.definition_tests.proofs.cell.wrong_runs.Goals as goal
@@ -181,11 +182,24 @@ returns-clause-refuses_maker c = λ r.
     let cause = memory_cause r.step.old r.step.move r.step.new why.0 why.1 why.2 in
     true≢false (sym r.making ∙ cause.unmade)
 
+-- who may tell is decided
+tells_decided : (w : World) (m : Move) (list : ListName) (s : Standing) → MayTell w m list s → is_decided s ≡ true
+tells_decided w m list (inside u (Some (answer.Ready got.Failed))) h = refl
+tells_decided w m list (inside u (Some answer.GivenBack)) h = refl
+tells_decided w m list (inside u (Some (answer.Refused n))) h = refl
+tells_decided w m list _ h = absurd h
+
+-- whom this party may tell that did so
+told_there : (w : World) (m : Move) (d : Deed Change ListName) (list : ListName) (n : ℕ) (s : Standing) → IsAllowed w m d → d ≡ does list (notifies n) → standing_of w m.party ≡ s → MayTell w m list s
+told_there w m d list n s ok e stands =
+    let P : Deed Change ListName → Type 0 = IsAllowed w m in
+    let Q : Standing → Type 0 = MayTell w m list in
+    let here : P (does list (notifies n)) = subst P e ok in subst Q stands here.1
+
 pub returns-clause-marks_undecided : goal.returns-clause-marks_undecided
 returns-clause-marks_undecided c = λ r.
-    let P : Deed Change ListName → Type 0 = IsAllowed r.step.old r.step.move in
-    let ok : P (does r.list (notifies r.many)) = subst P r.marks r.legal.one_change.allowed in
-    true≢false (sym ok.1 ∙ r.undecided)
+    let may = told_there r.step.old r.step.move r.legal.one_change.deed r.list r.many (standing_of r.step.old r.step.move.party) r.legal.one_change.allowed r.marks refl in
+    true≢false (sym (tells_decided r.step.old r.step.move r.list (standing_of r.step.old r.step.move.party) may) ∙ r.undecided)
 
 pub returns-clause-grants_nothing : goal.returns-clause-grants_nothing
 returns-clause-grants_nothing c = λ r.
@@ -233,3 +247,20 @@ returns-clause-refused_to_make c = λ r. never_refused _ r.whole.party r.whole.a
 
 pub returns-clause-left_to_nobody : goal.returns-clause-left_to_nobody
 returns-clause-left_to_nobody c = λ r. elim (r.sound.told_or_due r.empty r.party r.stands r.listed) as (λ _. ⊥) [ inl some ↦ absurd (omega (arith, some, r.none_told)) | inr q ↦ true≢false (sym q.1.due ∙ r.none_due q.0) ]
+
+pub returns-clause-tells_anyone : goal.returns-clause-tells_anyone
+returns-clause-tells_anyone c = λ r. told_there r.step.old r.step.move r.legal.one_change.deed r.list r.many (inside r.within (Some (answer.Ready (got.Value r.value)))) r.legal.one_change.allowed r.tells r.ready
+
+not_active : Passive ≡ Active → ⊥
+not_active e = cc e
+
+pub returns-clause-tells_passive : goal.returns-clause-tells_passive
+returns-clause-tells_passive c = λ r. elim r.decided as (λ _. ⊥) [
+  | inl e ↦ not_active (told_there r.step.old r.step.move r.legal.one_change.deed Passive r.many (inside r.within (Some answer.GivenBack)) r.legal.one_change.allowed r.tells e)
+  | inr e ↦ not_active (told_there r.step.old r.step.move r.legal.one_change.deed Passive r.many (inside r.within (Some (answer.Ready got.Failed))) r.legal.one_change.allowed r.tells e)
+]
+
+pub returns-clause-loses_what_was_made : goal.returns-clause-loses_what_was_made
+returns-clause-loses_what_was_made c = λ r.
+    let asked = r.legal.asked r.within r.undecided r.possible r.making (ap would_make r.task) r.unlisted in
+    r.lost (asked.task ∙ (ap (λ z. given z (inputs_of r.step.move.what).made) r.task ∙ ap (given initializes) r.gave))
