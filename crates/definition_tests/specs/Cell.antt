@@ -24,7 +24,7 @@ use Rattle.cell_program.specs.declared.program.ListName.TheVariants.{Passive}
 use Rattle.cell_program.specs.declared.words.Content.TheVariants.{Empty, BeingMade, Full}
 use Rattle.cell_machine.specs.Seats.{initializes, sets, waits_only, fills_with, failed}
 use Rattle.cell_machine.specs.Machine.{is_maker}
-use Rattle.cell_world.specs.AtOnce.{AnswersAtOnce, is_try, is_poll, is_first_making}
+use Rattle.cell_world.specs.AtOnce.{AnswersAtOnce, is_try, is_poll, is_first_making, is_first_wait}
 use Rattle.cell_world.specs.Bound.{IsSolo, Promises}
 use Rattle.cell_world.specs.Laws.{IsSound, is_due}
 use Rattle.cell_world.specs.Legal.{Legal, DecidesOn}
@@ -393,4 +393,22 @@ pub record LosesWhatWasMade : Type 0 where
   pub unlisted : entries_of step.move.party step.old.active ≡ 0
   pub gave : (inputs_of step.move.what).made ≡ made.Value value
   pub lost : task_of step.new step.move.party ≢ fills_with value
+  pub legal : IsAtOnce step
+
+-- The first step of a first wait changes the list of those that wait, before it has looked at the cell.
+pub record JoinsUnlooked : Type 0 where
+  pub step : Step
+  pub first : is_first_wait (standing_of step.old step.move.party) step.move.what (task_of step.old step.move.party) (entries_of step.move.party step.old.passive) ≡ true
+  pub joined : step.new.passive ≢ step.old.passive
+  pub legal : IsAtOnce step
+
+-- A told party polls and looks at the cell, and what it was told stays in the list, so that another that waits isn't told meanwhile.
+pub record KeepsItsMark : Type 0 where
+  pub step : Step
+  pub list : ListName
+  pub polls : is_poll step.move.what ≡ true
+  pub was_pending : standing_of step.old step.move.party ≡ outside Pending
+  pub listed : 0 < entries_of step.move.party (list_in list step.old)
+  pub marked : is_marked_at (is_party step.move.party) (list_in list step.old) ≡ true
+  pub stays : marked_count (list_in list step.new) ≡ marked_count (list_in list step.old)
   pub legal : IsAtOnce step

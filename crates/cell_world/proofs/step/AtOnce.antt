@@ -17,6 +17,7 @@ use Rattle.lock_world.specs.declared.standing.Rest.TheVariants as rest
 use Rattle.lock_world.specs.declared.standing.Stage.{Stage}
 use Rattle.lock_world.specs.declared.standing.Within.{Within}
 use Rattle.lock_world.specs.Standings.{Standing, outside, inside, inputs_of, decision}
+use Rattle.lock_world.specs.Steps.{Deed, does, asks}
 use Rattle.lock_world.specs.Frame.{is_drop}
 use Rattle.lock_table.specs.Stages.{stage_at, stands_as, call_at, polls_again}
 use Rattle.lock_table.specs.Tables.{Table}
@@ -35,7 +36,7 @@ use Rattle.cell_program.specs.declared.words.Content.{Content}
 use Rattle.cell_program.specs.declared.words.Content.TheVariants.{Empty}
 use Rattle.cell_program.specs.Program.{action_of, next_of}
 use Rattle.cell_machine.specs.Seats.{no_task, waits_only, task_by, task_at, task_of as place_task, makes_at, in_active, in_passive_at, verdict}
-use Rattle.cell_program.specs.Deeds.{deed_of, content_after, Finds, FindsContent, FindsMade, FindsAsk}
+use Rattle.cell_program.specs.Deeds.{Change, deed_of, content_after, active_after, passive_after, Finds, FindsContent, FindsMade, FindsAsk}
 use Rattle.cell_machine.specs.Machine.{OnceCell, knows, goes_with, is_maker, position_at, answer_by}
 use Rattle.cell_machine.proofs.laws.Kept.{after}
 use Rattle.cell_machine.proofs.stages.Turns.{Turn, turn}
@@ -43,7 +44,7 @@ use Rattle.cell_machine.proofs.laws.Contents as contents
 use Rattle.cell_world.specs.State.{World, list_in, is_empty, standing_of, task_of}
 use Rattle.cell_world.specs.View.{view_of}
 use Rattle.cell_world.specs.Tasks.{task_in, or_before, task_then, given}
-use Rattle.cell_world.specs.AtOnce.{AnswersAtOnce, TriesAtOnce, MakesAtOnce, PollsMaker, DropsMaker, is_try, is_poll, would_make, is_first_making, waits_for, is_first_wait, first_answer, maker_answer}
+use Rattle.cell_world.specs.AtOnce.{AnswersAtOnce, KeepsLists, TriesAtOnce, MakesAtOnce, WaitsAtOnce, PollsMaker, DropsMaker, AsksAtOnce, is_try, is_poll, would_make, is_first_making, waits_for, is_first_wait, first_answer, maker_answer}
 use Rattle.cell_world.proofs.step.Rows.{said, content_then}
 use Rattle.cell_world.proofs.step.Acting.{Acting}
 use Rattle.cell_world.proofs.step.Acting as acting
@@ -176,6 +177,20 @@ module _ (p : ℕ) (c : Content) where
   ask_passive_answer l found.No e = rw e refl
   ask_passive_answer l _ e = absurd e
 
+  ask_deed : (list : ListName) (l : List (Entry ℕ)) (f : Found) → FindsAsk p f l → deed_of (act.Ask list) f ≡ does list asks
+  ask_deed list l found.Yes e = refl
+  ask_deed list l found.No e = refl
+  ask_deed list l _ e = absurd e
+
+-- a claim is of the cell alone
+claimed_active : (p : ℕ) (f : Found) (l : List (Entry ℕ)) → active_after p (deed_of act.Claim f) l ≡ l
+claimed_active p found.Empty l = refl
+claimed_active p _ l = refl
+
+claimed_passive : (p : ℕ) (f : Found) (l : List (Entry ℕ)) → passive_after p (deed_of act.Claim f) l ≡ l
+claimed_passive p found.Empty l = refl
+claimed_passive p _ l = refl
+
 make_answer : (k : Maker) (m : Made) (f : Found) → FindsMade k m f → answer_by (next_of (Make k) f) ≡ maker_answer (task_by k) m
 make_answer (Given v) m f e = ap (λ f. answer_by (next_of (Make (Given v)) f)) e
 make_answer Closure made.Pending f e = ap (λ f. answer_by (next_of (Make Closure) f)) e
@@ -241,6 +256,18 @@ module _ (t u : Table OnceCell) (m : Move) (a : Answer) (w : Within) (k : Acting
   unmade : (y : Place) → k.from ≡ y → makes_at (At y) ≡ false → is_maker c p ≡ false
   unmade y e h = sym (acting.makes_seen t u m a w k) ∙ (ap (λ z. makes_at (At z)) e ∙ h)
 
+  active_at : (y : Place) → k.from ≡ y → new.active ≡ active_after p (deed_of (action_of y) k.found) t.machine.active
+  active_at y e = k.acts.active ∙ ap (λ z. active_after p (deed_of (action_of z) k.found) t.machine.active) e
+
+  passive_at : (y : Place) → k.from ≡ y → new.passive ≡ passive_after p (deed_of (action_of y) k.found) t.machine.passive
+  passive_at y e = k.acts.passive ∙ ap (λ z. passive_after p (deed_of (action_of z) k.found) t.machine.passive) e
+
+  claim_keeps : (y : Place) → k.from ≡ y → action_of y ≡ act.Claim → KeepsLists old new
+  claim_keeps y e claim = record {
+    active = active_at y e ∙ (ap (λ b. active_after p (deed_of b k.found) t.machine.active) claim ∙ claimed_active p k.found t.machine.active);
+    passive = passive_at y e ∙ (ap (λ b. passive_after p (deed_of b k.found) t.machine.passive) claim ∙ claimed_passive p k.found t.machine.passive);
+  }
+
   tried : is_try m.what ≡ true → TriesAtOnce old m a new
   tried h = (
       let v = (door.tries h).0 in
@@ -248,6 +275,7 @@ module _ (t u : Table OnceCell) (m : Move) (a : Answer) (w : Within) (k : Acting
       record {
         answered = answered (Try v) e ∙ try_answer p c v k.found (finds_at (Try v) e);
         begins = ap (λ z. is_maker z p) (content_at (Try v) e) ∙ claims p c k.found (finds_at (Try v) e) (unmade (Try v) e refl);
+        lists = claim_keeps (Try v) e refl;
         granted = λ empty. decided (Try v) e ∙ ap (λ f. said (next_of (Try v) f)) (found_empty k.found c (finds_at (Try v) e) empty);
       }
       )
@@ -259,19 +287,25 @@ module _ (t u : Table OnceCell) (m : Move) (a : Answer) (w : Within) (k : Acting
       record {
         answered = answered y d.1 ∙ (claim_answer p c d.0 k.found (finds_at y d.1) ∙ ap (λ z. first_answer z c) (sym (task_at_place y d.1)));
         begins = ap (λ z. is_maker z p) (content_at y d.1) ∙ claims p c k.found (finds_at y d.1) (unmade y d.1 refl);
+        lists = claim_keeps y d.1 refl;
       }
       )
 
-  waiting : is_first_wait (stands_as (verdict x) (stage_at t.stages p)) m.what (task_at x) (entries_of p t.machine.passive) ≡ true → a ≡ first_answer waits_only c
-  waiting h =
+  waiting : is_first_wait (stands_as (verdict x) (stage_at t.stages p)) m.what (task_at x) (entries_of p t.machine.passive) ≡ true → WaitsAtOnce old a new
+  waiting h = (
       let e = door.waiting (entries_of p t.machine.passive) h (k.old_laws.passive_owners p) in
-      answered (Look false) e ∙ look_answer p c k.found (finds_at (Look false) e)
+      record {
+        answered = answered (Look false) e ∙ look_answer p c k.found (finds_at (Look false) e);
+        lists = record { active = active_at (Look false) e; passive = passive_at (Look false) e };
+      }
+      )
 
   polls_at : (y : Maker) → k.from ≡ Make y → task_of old p ≡ task_by y → PollsMaker old m a new
   polls_at y e task = record {
     answered = answered (Make y) e ∙ (make_answer y i.made k.found (finds_at (Make y) e) ∙ ap (λ z. maker_answer z i.made) (sym task));
     task = acting.task_new t u m a w k ∙ (ap (λ z. task_at (after z k.found)) e ∙ (make_task y i.made k.found (finds_at (Make y) e) ∙ ap (λ z. given z i.made) (sym task)));
     cell = content_at (Make y) e;
+    lists = record { active = active_at (Make y) e; passive = passive_at (Make y) e };
   }
 
   asked : (v : Within) → standing_of old p ≡ inside v None → is_maker c p ≡ true → would_make (task_of old p) ≡ true → entries_of p t.machine.active ≡ 0 → PollsMaker old m a new
@@ -304,13 +338,21 @@ module _ (t u : Table OnceCell) (m : Move) (a : Answer) (w : Within) (k : Acting
       record { empty = content_at CancelMake e ∙ emptied k.found (finds_at CancelMake e); goes_on = answered CancelMake e }
       )
 
-  listed : is_poll m.what ≡ true → stands_as (verdict x) (stage_at t.stages p) ≡ outside rest.Pending → (list : ListName) → 0 < entries_of p (list_in list old) → a ≡ (if is_marked_at (is_party p) (list_in list old) then answer.Stepped else answer.Pending)
-  listed h pending Active some =
+  listed : is_poll m.what ≡ true → stands_as (verdict x) (stage_at t.stages p) ≡ outside rest.Pending → (list : ListName) → 0 < entries_of p (list_in list old) → AsksAtOnce old m a new list
+  listed h pending Active some = (
       let d = door.in_active h pending (rw (k.old_laws.active_owners p) at some) in
-      answered (AskActive d.0) d.1 ∙ ask_answer p c d.0 t.machine.active k.found (finds_at (AskActive d.0) d.1)
-  listed h pending Passive some =
+      record {
+        answered = answered (AskActive d.0) d.1 ∙ ask_answer p c d.0 t.machine.active k.found (finds_at (AskActive d.0) d.1);
+        asked = active_at (AskActive d.0) d.1 ∙ ap (λ (b : Deed Change ListName). active_after p b t.machine.active) (ask_deed p c Active t.machine.active k.found (finds_at (AskActive d.0) d.1));
+      }
+      )
+  listed h pending Passive some = (
       let e = door.in_passive h pending (rw (k.old_laws.passive_owners p) at some) in
-      answered AskPassive e ∙ ask_passive_answer p c t.machine.passive k.found (finds_at AskPassive e)
+      record {
+        answered = answered AskPassive e ∙ ask_passive_answer p c t.machine.passive k.found (finds_at AskPassive e);
+        asked = passive_at AskPassive e ∙ ap (λ (b : Deed Change ListName). passive_after p b t.machine.passive) (ask_deed p c Passive t.machine.passive k.found (finds_at AskPassive e));
+      }
+      )
 
   pub at_once : AnswersAtOnce old m a new
   at_once = record {

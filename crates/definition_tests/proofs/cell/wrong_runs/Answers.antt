@@ -1,8 +1,10 @@
 -- No wrong run of a once-cell is legal.
-use Rattle.std.proofs.Common.{◌≡◌, ◌≢◌, ℕ, ◌<◌, ◌⊎◌, inl, inr, if◌then◌else◌, Bool, true, false, Option, Some, None, refl, arith, ap, sym, ◌∙◌, subst}
+use Rattle.std.proofs.Common.{◌≡◌, ◌≢◌, ℕ, ◌+◌, ◌<◌, ◌⊎◌, inl, inr, if◌then◌else◌, Bool, true, false, List, Option, Some, None, refl, arith, ap, sym, ◌∙◌, subst}
 use Rattle.std.proofs.lemmas.Bool.{false≢true, true≢false}
+use Rattle.lock_event.specs.declared.event.Entry.{Entry}
 use Rattle.lock_event.specs.declared.event.Mark.TheVariants.{Waiting}
-use Rattle.lock_event.specs.Lists.{mark_at, is_marked_at}
+use Rattle.lock_event.specs.Lists.{mark_at, is_marked_at, marked_count}
+use Rattle.lock_event.proofs.Counts.{marked_count-without_marked}
 use Rattle.lock_queue.specs.Parties.{is_party}
 use Rattle.lock_world.specs.declared.moves.Answer.{Answer}
 use Rattle.lock_world.specs.declared.moves.Answer.TheVariants as answer
@@ -18,7 +20,7 @@ use Rattle.lock_world.specs.declared.standing.Rest.TheVariants.{Pending}
 use Rattle.lock_world.specs.Refusals.{number_of}
 use Rattle.lock_world.specs.Frame.{is_drop}
 use Rattle.lock_world.specs.Standings.{Standing, outside, inside, is_decided, is_possible, inputs_of, refused}
-use Rattle.lock_world.specs.Steps.{Deed, nothing, changes, does, notifies}
+use Rattle.lock_world.specs.Steps.{Deed, nothing, changes, does, notifies, asks, list_after}
 use Rattle.lock_world.proofs.Equations.{some_eq, some_none, none_some}
 use Rattle.cell_program.specs.declared.program.ListName.{ListName}
 use Rattle.cell_program.specs.declared.program.ListName.TheVariants.{Active, Passive}
@@ -222,11 +224,11 @@ returns-clause-refused_untold c = λ r. let some = r.legal.tells_others.refused 
 
 pub returns-clause-waits_though_told : goal.returns-clause-waits_though_told
 returns-clause-waits_though_told c = λ r.
-    let so : answer.Pending ≡ answer.Stepped = sym r.pending ∙ (r.legal.listed r.polls r.was_pending r.list r.listed ∙ chosen (is_marked_at (is_party r.step.move.party) (list_in r.list r.step.old)) true answer.Stepped answer.Pending r.marked) in cc so
+    let so : answer.Pending ≡ answer.Stepped = sym r.pending ∙ ((r.legal.listed r.polls r.was_pending r.list r.listed).answered ∙ chosen (is_marked_at (is_party r.step.move.party) (list_in r.list r.step.old)) true answer.Stepped answer.Pending r.marked) in cc so
 
 pub returns-clause-goes_on_untold : goal.returns-clause-goes_on_untold
 returns-clause-goes_on_untold c = λ r.
-    r.goes_on (r.legal.listed r.polls r.was_pending r.list r.listed ∙ chosen (is_marked_at (is_party r.step.move.party) (list_in r.list r.step.old)) false answer.Stepped answer.Pending r.unmarked)
+    r.goes_on ((r.legal.listed r.polls r.was_pending r.list r.listed).answered ∙ chosen (is_marked_at (is_party r.step.move.party) (list_in r.list r.step.old)) false answer.Stepped answer.Pending r.unmarked)
 
 pub returns-clause-waits_for_full : goal.returns-clause-waits_for_full
 returns-clause-waits_for_full c = λ r.
@@ -264,3 +266,14 @@ pub returns-clause-loses_what_was_made : goal.returns-clause-loses_what_was_made
 returns-clause-loses_what_was_made c = λ r.
     let asked = r.legal.asked r.within r.undecided r.possible r.making (ap would_make r.task) r.unlisted in
     r.lost (asked.task ∙ (ap (λ z. given z (inputs_of r.step.move.what).made) r.task ∙ ap (given initializes) r.gave))
+
+pub returns-clause-joins_unlooked : goal.returns-clause-joins_unlooked
+returns-clause-joins_unlooked c = λ r. r.joined (r.legal.waiting r.first).lists.passive
+
+told_goes : (p : ℕ) (l m : List (Entry ℕ)) → is_marked_at (is_party p) l ≡ true → m ≡ list_after p asks l → marked_count m + 1 ≡ marked_count l
+told_goes p l m marked e = rw (e, marked) (marked_count-without_marked (is_party p) l marked)
+
+pub returns-clause-keeps_its_mark : goal.returns-clause-keeps_its_mark
+returns-clause-keeps_its_mark c = λ r.
+    let fewer = told_goes r.step.move.party (list_in r.list r.step.old) (list_in r.list r.step.new) r.marked (r.legal.listed r.polls r.was_pending r.list r.listed).asked in
+    absurd (omega (arith, fewer, r.stays))
