@@ -121,6 +121,8 @@ pub record AnswersAtOnce (old : World) (m : Move) (a : Answer) (new : World) : T
   pub waiting : is_first_wait (standing_of old m.party) m.what (task_of old m.party) (entries_of m.party old.passive) ≡ true → WaitsAtOnce old a new
   pub maker : is_poll m.what ≡ true → standing_of old m.party ≡ outside Pending → is_maker old.cell m.party ≡ true → PollsMaker old m a new
   pub dropped : is_drop m.what ≡ true → is_possible a ≡ true → is_maker old.cell m.party ≡ true → DropsMaker a new
+  -- Any other drop is over at once.
+  pub gone : is_drop m.what ≡ true → is_possible a ≡ true → is_maker old.cell m.party ≡ false → a ≡ answer.GivenBack
   -- So is the maker asked at the next step of a call in which its party has begun to make, once that stands in no list.
   pub asked : (within : Within) → standing_of old m.party ≡ inside within None → is_possible a ≡ true → is_maker old.cell m.party ≡ true → would_make (task_of old m.party) ≡ true → entries_of m.party old.active ≡ 0 → PollsMaker old m a new
   pub listed : is_poll m.what ≡ true → standing_of old m.party ≡ outside Pending → (list : ListName) → 0 < entries_of m.party (list_in list old) → AsksAtOnce old m a new list

@@ -412,3 +412,11 @@ pub record KeepsItsMark : Type 0 where
   pub marked : is_marked_at (is_party step.move.party) (list_in list step.old) ≡ true
   pub stays : marked_count (list_in list step.new) ≡ marked_count (list_in list step.old)
   pub legal : IsAtOnce step
+
+-- The drop of a party that doesn't make goes on after its first step.
+pub record DropsOn : Type 0 where
+  pub step : Step
+  pub drops : is_drop step.move.what ≡ true
+  pub other : is_maker step.old.cell step.move.party ≡ false
+  pub goes_on : step.answer ≡ answer.Stepped
+  pub legal : IsAtOnce step

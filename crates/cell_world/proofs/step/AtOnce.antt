@@ -59,6 +59,7 @@ pub record EntranceAt (s : Standing) (what : What) (x : Position) (from : Place)
   pub waiting : (n : ℕ) → is_first_wait s what (task_at x) n ≡ true → n ≡ in_passive_at x → from ≡ Look false
   pub maker : is_poll what ≡ true → s ≡ outside rest.Pending → makes_at x ≡ true → (k : Maker) × (from ≡ Make k)
   pub dropped : is_drop what ≡ true → makes_at x ≡ true → from ≡ CancelMake
+  pub gone : is_drop what ≡ true → makes_at x ≡ false → (f : Found) → answer_by (next_of from f) ≡ answer.GivenBack
   pub in_active : is_poll what ≡ true → s ≡ outside rest.Pending → 0 < in_active x → (k : Maker) × (from ≡ AskActive k)
   pub in_passive : is_poll what ≡ true → s ≡ outside rest.Pending → 0 < in_passive_at x → from ≡ AskPassive
 
@@ -112,22 +113,22 @@ first_making_try v rest.Holding i n b h = cc h
 
 pub entrance : (s : Stage) (what : What) (w : Within) (x : Position) → goes_with s x ≡ true → call_at knows s what ≡ Some w → polls_again s what ≡ false → Turn Entrance s what w x
 entrance = turn Entrance (record {
-  initialize = λ r i g h. record { tries = λ h. absurd (cc h); making = λ n b h l d. (Closure, refl); waiting = λ n h l. absurd (first_wait_init r i n h); maker = λ h e d. absurd (cc h); dropped = λ h d. absurd (cc h); in_active = λ h e some. absurd (omega arith); in_passive = λ h e some. absurd (omega arith) };
-  set = λ v r i g h. record { tries = λ h. absurd (cc h); making = λ n b h l d. (Given v, refl); waiting = λ n h l. absurd (first_wait_set v r i n h); maker = λ h e d. absurd (cc h); dropped = λ h d. absurd (cc h); in_active = λ h e some. absurd (omega arith); in_passive = λ h e some. absurd (omega arith) };
-  wait = λ r i g h. record { tries = λ h. absurd (cc h); making = λ n b h l d. absurd (first_making_wait r i n b h); waiting = λ n h l. refl; maker = λ h e d. absurd (cc h); dropped = λ h d. absurd (cc h); in_active = λ h e some. absurd (omega arith); in_passive = λ h e some. absurd (omega arith) };
-  try = λ v r i g h. record { tries = λ h. (v, refl); making = λ n b h l d. absurd (first_making_try v r i n b h); waiting = λ n h l. absurd (first_wait_try v r i n h); maker = λ h e d. absurd (cc h); dropped = λ h d. absurd (cc h); in_active = λ h e some. absurd (omega arith); in_passive = λ h e some. absurd (omega arith) };
-  poll = λ k i. record { tries = λ h. absurd (cc h); making = λ n b h l d. (k, refl); waiting = λ n h l. absurd (maker_waits k (n == 0) h); maker = λ h e d. absurd (cc d); dropped = λ h d. absurd (cc h); in_active = λ h e some. absurd (omega arith); in_passive = λ h e some. absurd (omega arith) };
-  poll_listed = λ k i. record { tries = λ h. absurd (cc h); making = λ n b h l d. absurd (not_first k n b h l); waiting = λ n h l. absurd (maker_waits k (n == 0) h); maker = λ h e d. absurd (cc d); dropped = λ h d. absurd (cc h); in_active = λ h e some. (k, refl); in_passive = λ h e some. absurd (omega arith) };
-  poll_maker = λ k i. record { tries = λ h. absurd (cc h); making = λ n b h l d. absurd (not_first_maker k n b h d); waiting = λ n h l. absurd (maker_waits k (n == 0) h); maker = λ h e d. (k, refl); dropped = λ h d. absurd (cc h); in_active = λ h e some. absurd (omega arith); in_passive = λ h e some. absurd (omega arith) };
-  poll_wait = λ i. record { tries = λ h. absurd (cc h); making = λ n b h l d. absurd (cc h); waiting = λ n h l. refl; maker = λ h e d. absurd (cc d); dropped = λ h d. absurd (cc h); in_active = λ h e some. absurd (omega arith); in_passive = λ h e some. absurd (omega arith) };
-  poll_waiting = λ i. record { tries = λ h. absurd (cc h); making = λ n b h l d. absurd (cc h); waiting = λ n h l. absurd (not_one n h l); maker = λ h e d. absurd (cc d); dropped = λ h d. absurd (cc h); in_active = λ h e some. absurd (omega arith); in_passive = λ h e some. refl };
-  cancel = λ k i. record { tries = λ h. absurd (cc h); making = λ n b h l d. absurd (cc h); waiting = λ n h l. absurd (cc h); maker = λ h e d. absurd (cc h); dropped = λ h d. absurd (cc d); in_active = λ h e some. absurd (cc h); in_passive = λ h e some. absurd (omega arith) };
-  cancel_maker = λ k i. record { tries = λ h. absurd (cc h); making = λ n b h l d. absurd (cc h); waiting = λ n h l. absurd (cc h); maker = λ h e d. absurd (cc h); dropped = λ h d. refl; in_active = λ h e some. absurd (omega arith); in_passive = λ h e some. absurd (omega arith) };
-  cancel_wait = λ i. record { tries = λ h. absurd (cc h); making = λ n b h l d. absurd (cc h); waiting = λ n h l. absurd (cc h); maker = λ h e d. absurd (cc h); dropped = λ h d. absurd (cc d); in_active = λ h e some. absurd (omega arith); in_passive = λ h e some. absurd (cc h) };
-  abandon = λ k i. record { tries = λ h. absurd (cc h); making = λ n b h l d. absurd (cc h); waiting = λ n h l. absurd (cc h); maker = λ h e d. absurd (cc h); dropped = λ h d. absurd (cc d); in_active = λ h e some. absurd (omega arith); in_passive = λ h e some. absurd (omega arith) };
-  abandon_wait = λ i. record { tries = λ h. absurd (cc h); making = λ n b h l d. absurd (cc h); waiting = λ n h l. absurd (cc h); maker = λ h e d. absurd (cc h); dropped = λ h d. absurd (cc d); in_active = λ h e some. absurd (omega arith); in_passive = λ h e some. absurd (omega arith) };
-  drop_finished = λ i. record { tries = λ h. absurd (cc h); making = λ n b h l d. absurd (cc h); waiting = λ n h l. absurd (cc h); maker = λ h e d. absurd (cc h); dropped = λ h d. absurd (cc d); in_active = λ h e some. absurd (omega arith); in_passive = λ h e some. absurd (omega arith) };
-  go = λ w x i begun here. record { tries = λ h. absurd (cc h); making = λ n b h l d. absurd (cc h); waiting = λ n h l. absurd (cc h); maker = λ h e d. absurd (cc h); dropped = λ h d. absurd (cc h); in_active = λ h e some. absurd (cc h); in_passive = λ h e some. absurd (cc h) };
+  initialize = λ r i g h. record { tries = λ h. absurd (cc h); making = λ n b h l d. (Closure, refl); waiting = λ n h l. absurd (first_wait_init r i n h); maker = λ h e d. absurd (cc h); dropped = λ h d. absurd (cc h); gone = λ h d f. absurd (cc h); in_active = λ h e some. absurd (omega arith); in_passive = λ h e some. absurd (omega arith) };
+  set = λ v r i g h. record { tries = λ h. absurd (cc h); making = λ n b h l d. (Given v, refl); waiting = λ n h l. absurd (first_wait_set v r i n h); maker = λ h e d. absurd (cc h); dropped = λ h d. absurd (cc h); gone = λ h d f. absurd (cc h); in_active = λ h e some. absurd (omega arith); in_passive = λ h e some. absurd (omega arith) };
+  wait = λ r i g h. record { tries = λ h. absurd (cc h); making = λ n b h l d. absurd (first_making_wait r i n b h); waiting = λ n h l. refl; maker = λ h e d. absurd (cc h); dropped = λ h d. absurd (cc h); gone = λ h d f. absurd (cc h); in_active = λ h e some. absurd (omega arith); in_passive = λ h e some. absurd (omega arith) };
+  try = λ v r i g h. record { tries = λ h. (v, refl); making = λ n b h l d. absurd (first_making_try v r i n b h); waiting = λ n h l. absurd (first_wait_try v r i n h); maker = λ h e d. absurd (cc h); dropped = λ h d. absurd (cc h); gone = λ h d f. absurd (cc h); in_active = λ h e some. absurd (omega arith); in_passive = λ h e some. absurd (omega arith) };
+  poll = λ k i. record { tries = λ h. absurd (cc h); making = λ n b h l d. (k, refl); waiting = λ n h l. absurd (maker_waits k (n == 0) h); maker = λ h e d. absurd (cc d); dropped = λ h d. absurd (cc h); gone = λ h d f. absurd (cc h); in_active = λ h e some. absurd (omega arith); in_passive = λ h e some. absurd (omega arith) };
+  poll_listed = λ k i. record { tries = λ h. absurd (cc h); making = λ n b h l d. absurd (not_first k n b h l); waiting = λ n h l. absurd (maker_waits k (n == 0) h); maker = λ h e d. absurd (cc d); dropped = λ h d. absurd (cc h); gone = λ h d f. absurd (cc h); in_active = λ h e some. (k, refl); in_passive = λ h e some. absurd (omega arith) };
+  poll_maker = λ k i. record { tries = λ h. absurd (cc h); making = λ n b h l d. absurd (not_first_maker k n b h d); waiting = λ n h l. absurd (maker_waits k (n == 0) h); maker = λ h e d. (k, refl); dropped = λ h d. absurd (cc h); gone = λ h d f. absurd (cc h); in_active = λ h e some. absurd (omega arith); in_passive = λ h e some. absurd (omega arith) };
+  poll_wait = λ i. record { tries = λ h. absurd (cc h); making = λ n b h l d. absurd (cc h); waiting = λ n h l. refl; maker = λ h e d. absurd (cc d); dropped = λ h d. absurd (cc h); gone = λ h d f. absurd (cc h); in_active = λ h e some. absurd (omega arith); in_passive = λ h e some. absurd (omega arith) };
+  poll_waiting = λ i. record { tries = λ h. absurd (cc h); making = λ n b h l d. absurd (cc h); waiting = λ n h l. absurd (not_one n h l); maker = λ h e d. absurd (cc d); dropped = λ h d. absurd (cc h); gone = λ h d f. absurd (cc h); in_active = λ h e some. absurd (omega arith); in_passive = λ h e some. refl };
+  cancel = λ k i. record { tries = λ h. absurd (cc h); making = λ n b h l d. absurd (cc h); waiting = λ n h l. absurd (cc h); maker = λ h e d. absurd (cc h); dropped = λ h d. absurd (cc d); gone = λ h d f. refl; in_active = λ h e some. absurd (cc h); in_passive = λ h e some. absurd (omega arith) };
+  cancel_maker = λ k i. record { tries = λ h. absurd (cc h); making = λ n b h l d. absurd (cc h); waiting = λ n h l. absurd (cc h); maker = λ h e d. absurd (cc h); dropped = λ h d. refl; gone = λ h d f. absurd (cc d); in_active = λ h e some. absurd (omega arith); in_passive = λ h e some. absurd (omega arith) };
+  cancel_wait = λ i. record { tries = λ h. absurd (cc h); making = λ n b h l d. absurd (cc h); waiting = λ n h l. absurd (cc h); maker = λ h e d. absurd (cc h); dropped = λ h d. absurd (cc d); gone = λ h d f. refl; in_active = λ h e some. absurd (omega arith); in_passive = λ h e some. absurd (cc h) };
+  abandon = λ k i. record { tries = λ h. absurd (cc h); making = λ n b h l d. absurd (cc h); waiting = λ n h l. absurd (cc h); maker = λ h e d. absurd (cc h); dropped = λ h d. absurd (cc d); gone = λ h d f. refl; in_active = λ h e some. absurd (omega arith); in_passive = λ h e some. absurd (omega arith) };
+  abandon_wait = λ i. record { tries = λ h. absurd (cc h); making = λ n b h l d. absurd (cc h); waiting = λ n h l. absurd (cc h); maker = λ h e d. absurd (cc h); dropped = λ h d. absurd (cc d); gone = λ h d f. refl; in_active = λ h e some. absurd (omega arith); in_passive = λ h e some. absurd (omega arith) };
+  drop_finished = λ i. record { tries = λ h. absurd (cc h); making = λ n b h l d. absurd (cc h); waiting = λ n h l. absurd (cc h); maker = λ h e d. absurd (cc h); dropped = λ h d. absurd (cc d); gone = λ h d f. refl; in_active = λ h e some. absurd (omega arith); in_passive = λ h e some. absurd (omega arith) };
+  go = λ w x i begun here. record { tries = λ h. absurd (cc h); making = λ n b h l d. absurd (cc h); waiting = λ n h l. absurd (cc h); maker = λ h e d. absurd (cc h); dropped = λ h d. absurd (cc h); gone = λ h d f. absurd (cc h); in_active = λ h e some. absurd (cc h); in_passive = λ h e some. absurd (cc h) };
 })
 
 -- ---- What is found there
@@ -361,6 +362,7 @@ module _ (t u : Table OnceCell) (m : Move) (a : Answer) (w : Within) (k : Acting
     waiting = λ h. waiting (ap (λ z. is_first_wait z m.what (task_at x) (entries_of p t.machine.passive)) (sym (acting.stood t u m a w k)) ∙ (ap (λ z. is_first_wait (standing_of old p) m.what z (entries_of p t.machine.passive)) (sym (acting.task_old t u m a w k)) ∙ h));
     maker = λ h pending made. polled h (sym (acting.stood t u m a w k) ∙ pending) made;
     dropped = λ h possible made. dropped h made;
+    gone = λ h possible unmade. k.answer ∙ door.gone h (k.old_laws.makers p ∙ unmade) k.found;
     asked = λ v e possible made would none. asked v e made would none;
     listed = λ h pending list some. listed h (sym (acting.stood t u m a w k) ∙ pending) list some;
   }

@@ -101,6 +101,7 @@ module _ (w : World) (m : Move) (well : Standing_well w) where
     waiting = λ h. absurd (waiting_possible (task_of w m.party) (entries_of m.party w.passive) false s m.what h none);
     maker = λ h e made. absurd (poll_possible s m.what h e none);
     dropped = λ d h made. absurd (cc h);
+    gone = λ d h unmade. absurd (cc h);
     asked = λ u e h made t none_listed. absurd (cc h);
     listed = λ h e list some. absurd (poll_possible s m.what h e none);
   }
@@ -134,6 +135,7 @@ module _ (w : World) (m : Move) (well : Standing_well w) where
       waiting = λ g. (let never = so.waiting (task_of w m.party) (entries_of m.party w.passive) in absurd (cc (g, never)));
       maker = λ g e made. absurd (so.pending e);
       dropped = λ d g made. (let never = so.drop in absurd (cc (d, never)));
+      gone = λ d g unmade. (let never = so.drop in absurd (cc (d, never)));
       asked = λ u e g made t none_listed. absurd (so.outside u None e);
       listed = λ g e list some. absurd (so.pending e);
     }

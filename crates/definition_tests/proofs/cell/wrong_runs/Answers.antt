@@ -277,3 +277,7 @@ pub returns-clause-keeps_its_mark : goal.returns-clause-keeps_its_mark
 returns-clause-keeps_its_mark c = λ r.
     let fewer = told_goes r.step.move.party (list_in r.list r.step.old) (list_in r.list r.step.new) r.marked (r.legal.listed r.polls r.was_pending r.list r.listed).asked in
     absurd (omega (arith, fewer, r.stays))
+
+pub returns-clause-drops_on : goal.returns-clause-drops_on
+returns-clause-drops_on c = λ r.
+    let so : answer.Stepped ≡ answer.GivenBack = sym r.goes_on ∙ r.legal.gone r.drops (possible_by r.step.answer answer.Stepped r.goes_on refl) r.other in cc so
