@@ -2,8 +2,9 @@
 use Rattle.std.specs.Prelude.{◌≡◌, ℕ, ◌<◌, ◌≤◌, ◌==◌, ◌&&◌, Bool, true, false, List, [], ◌∷◌, length, Option, Some, slice_index_or, slice_set, replicate}
 use Rattle.std.specs.List.{sum_by}
 use Rattle.lock_event.specs.declared.event.Entry.{Entry}
-use Rattle.lock_event.specs.Lists.{marked_count, is_marked_at, IsMarkedFirst}
-use Rattle.lock_queue.specs.Parties.{is_party, entries_of, is_unmarked}
+use Rattle.lock_event.specs.Lists.{marked_count, IsMarkedFirst}
+use Rattle.lock_queue.specs.Parties.{entries_of, is_unmarked}
+use Rattle.lock_queue.specs.Debts.{IsOwed}
 use Rattle.lock_queue.specs.Queues.{Queue}
 use Rattle.lock_world.specs.declared.moves.Answer.{Answer}
 use Rattle.lock_world.specs.declared.moves.Answer.TheVariants as answer
@@ -33,7 +34,7 @@ use Rattle.cell_program.specs.declared.program.Place.TheVariants.{Claim, ClaimLi
 use Rattle.cell_program.specs.declared.program.Position.{Position}
 use Rattle.cell_program.specs.declared.program.Position.TheVariants.{Out, ToMake, WaitingToMake, Making, ToWait, Waiting, At}
 use Rattle.cell_program.specs.Program.{place_for, action_of, next_of, position_after}
-use Rattle.cell_machine.specs.Seats.{makes_at, in_active, in_passive_at, value_known, is_late, will_tell, is_resting}
+use Rattle.cell_machine.specs.Seats.{makes_at, in_active, in_passive_at, waits, owes, value_known, is_late, will_tell, is_resting}
 use Rattle.cell_program.specs.Deeds.{Finds, deed_of, content_after, active_after, passive_after}
 use Rattle.cell_program.specs.Words.{refilled}
 use Rattle.cell_machine.specs.Tally.{IsSound, tally_of, counts_of}
@@ -82,16 +83,17 @@ abbrev pub IsAtRest : List Position → Type 0
 IsAtRest [] = Unit {0}
 IsAtRest (x ∷ xs) = (is_resting x ≡ true) × IsAtRest xs
 
--- What callers may rest on: one party at most makes, and stands where makers do; a party's entries are told by where it stands; at rest, where the cell is empty and somebody is listed in `active`, some entry there is marked, and where it is full, every entry of both lists is.
+-- What callers may rest on: one party at most makes, and stands where makers do; a party's entries are told by where it stands; at rest, where the cell is empty and somebody is listed in `active`, some entry there is marked. Whenever the cell is empty and somebody waits in `active`, some entry there is marked or somebody owes it a notification or a look. Where the cell is full and nobody is about to tell a list, every entry there is marked but of parties that haven't looked yet or are about to leave.
 pub record IsCell (s : OnceCell) : Type 0 where
   pub makers : (p : ℕ) → makes_at (position_at s.positions p) ≡ is_maker s.content p
   pub active_owners : (p : ℕ) → entries_of p s.active ≡ in_active (position_at s.positions p)
   pub passive_owners : (p : ℕ) → entries_of p s.passive ≡ in_passive_at (position_at s.positions p)
   pub active_in_order : IsMarkedFirst s.active
   pub passive_in_order : IsMarkedFirst s.passive
+  pub owed : IsOwed (s.content ≡ content.Empty) (sum_by waits s.positions) (sum_by owes s.positions) (marked_count s.active)
   pub wakes : IsAtRest s.positions → s.content ≡ content.Empty → 0 < length s.active → 0 < marked_count s.active
-  pub active_told : IsAtRest s.positions → (v : ℕ) → s.content ≡ content.Full v → (p : ℕ) → 0 < entries_of p s.active → is_marked_at (is_party p) s.active ≡ true
-  pub passive_told : IsAtRest s.positions → (v : ℕ) → s.content ≡ content.Full v → (p : ℕ) → 0 < entries_of p s.passive → is_marked_at (is_party p) s.passive ≡ true
+  pub active_told : AllTold Active s.content s.positions s.active
+  pub passive_told : AllTold Passive s.content s.positions s.passive
 
 -- ---- Which parties stand where
 

@@ -1,6 +1,7 @@
--- What the first step of a call decides at once.
-use Rattle.std.specs.Prelude.{◌≡◌, ℕ, ◌==◌, ◌&&◌, if◌then◌else◌, Bool, true, false, Some}
-use Rattle.lock_queue.specs.Parties.{entries_of}
+-- What the first step of a call decides at once, and the one that asks a maker.
+use Rattle.std.specs.Prelude.{◌≡◌, ℕ, ◌<◌, ◌==◌, ◌&&◌, if◌then◌else◌, Bool, true, false, Some, None}
+use Rattle.lock_event.specs.Lists.{is_marked_at}
+use Rattle.lock_queue.specs.Parties.{is_party, entries_of}
 use Rattle.lock_world.specs.declared.moves.Answer.{Answer}
 use Rattle.lock_world.specs.declared.moves.Answer.TheVariants as answer
 use Rattle.lock_world.specs.declared.moves.Call.TheVariants as call
@@ -12,13 +13,16 @@ use Rattle.lock_world.specs.declared.moves.Move.{Move}
 use Rattle.lock_world.specs.declared.moves.What.{What}
 use Rattle.lock_world.specs.declared.moves.What.TheVariants.{Begin}
 use Rattle.lock_world.specs.declared.standing.Rest.TheVariants.{Idle, Pending, Finished}
+use Rattle.lock_world.specs.declared.standing.Within.{Within}
 use Rattle.lock_world.specs.Frame.{is_drop}
-use Rattle.lock_world.specs.Standings.{Standing, outside, inputs_of, is_possible, decision}
+use Rattle.lock_world.specs.Steps.{asks, list_after}
+use Rattle.lock_world.specs.Standings.{Standing, outside, inside, inputs_of, is_possible, decision}
+use Rattle.cell_program.specs.declared.program.ListName.{ListName}
 use Rattle.cell_program.specs.declared.words.Content.{Content}
 use Rattle.cell_program.specs.declared.words.Content.TheVariants.{Empty, BeingMade, Full}
 use Rattle.cell_machine.specs.Seats.{Task, initializes, sets, waits_only}
 use Rattle.cell_machine.specs.Machine.{is_maker}
-use Rattle.cell_world.specs.State.{World, is_empty, standing_of, task_of}
+use Rattle.cell_world.specs.State.{World, list_in, is_empty, standing_of, task_of}
 use Rattle.cell_world.specs.Tasks.{task_then, given}
 
 abbrev pub is_try : What → Bool
@@ -71,31 +75,54 @@ abbrev pub maker_answer : Task → Made → Answer
 maker_answer initializes made.Pending = answer.Pending
 maker_answer t m = answer.Stepped
 
+-- The step leaves both lists as they are.
+pub record KeepsLists (old new : World) : Type 0 where
+  pub active : new.active ≡ old.active
+  pub passive : new.passive ≡ old.passive
+
 -- A try begins to make exactly on an empty cell, and then is to be granted; else it answers None.
 pub record TriesAtOnce (old : World) (m : Move) (a : Answer) (new : World) : Type 0 where
   pub answered : a ≡ (if is_empty old.cell then answer.Stepped else answer.None)
   pub begins : is_maker new.cell m.party ≡ is_empty old.cell
+  pub lists : KeepsLists old new
   pub granted : is_empty old.cell ≡ true → decision a (standing_of new m.party) ≡ Some (answer.Granted got.Plain)
 
 -- The first step of a first initialisation or set begins to make exactly on an empty cell, and is ready on a full one.
 pub record MakesAtOnce (old : World) (m : Move) (a : Answer) (new : World) : Type 0 where
   pub answered : a ≡ first_answer (task_then m.what (task_of old m.party)) old.cell
   pub begins : is_maker new.cell m.party ≡ is_empty old.cell
+  pub lists : KeepsLists old new
 
--- The poll of the party that makes asks its maker, and the cell stays as it is.
+-- The first step of a first wait is ready exactly on a full cell, and joins no list before it has looked.
+pub record WaitsAtOnce (old : World) (a : Answer) (new : World) : Type 0 where
+  pub answered : a ≡ first_answer waits_only old.cell
+  pub lists : KeepsLists old new
+
+-- The party that makes asks its maker, and the cell and the lists stay as they are.
 pub record PollsMaker (old : World) (m : Move) (a : Answer) (new : World) : Type 0 where
   pub answered : a ≡ maker_answer (task_of old m.party) (inputs_of m.what).made
   pub task : task_of new m.party ≡ given (task_of old m.party) (inputs_of m.what).made
   pub cell : new.cell ≡ old.cell
+  pub lists : KeepsLists old new
 
 -- A dropped maker leaves the cell empty at its first step, and goes on, to notify.
 pub record DropsMaker (a : Answer) (new : World) : Type 0 where
   pub empty : new.cell ≡ Empty
   pub goes_on : a ≡ answer.Stepped
 
+-- The poll of a listed party goes on exactly where it was told, and its entry is gone; else it is pending still.
+pub record AsksAtOnce (old : World) (m : Move) (a : Answer) (new : World) (list : ListName) : Type 0 where
+  pub answered : a ≡ (if is_marked_at (is_party m.party) (list_in list old) then answer.Stepped else answer.Pending)
+  pub asked : list_in list new ≡ list_after m.party asks (list_in list old)
+
 pub record AnswersAtOnce (old : World) (m : Move) (a : Answer) (new : World) : Type 0 where
   pub tried : is_try m.what ≡ true → is_possible a ≡ true → TriesAtOnce old m a new
   pub making : is_first_making (standing_of old m.party) m.what (task_of old m.party) (entries_of m.party old.active) (is_maker old.cell m.party) ≡ true → MakesAtOnce old m a new
-  pub waiting : is_first_wait (standing_of old m.party) m.what (task_of old m.party) (entries_of m.party old.passive) ≡ true → a ≡ first_answer waits_only old.cell
+  pub waiting : is_first_wait (standing_of old m.party) m.what (task_of old m.party) (entries_of m.party old.passive) ≡ true → WaitsAtOnce old a new
   pub maker : is_poll m.what ≡ true → standing_of old m.party ≡ outside Pending → is_maker old.cell m.party ≡ true → PollsMaker old m a new
   pub dropped : is_drop m.what ≡ true → is_possible a ≡ true → is_maker old.cell m.party ≡ true → DropsMaker a new
+  -- Any other drop is over at once.
+  pub gone : is_drop m.what ≡ true → is_possible a ≡ true → is_maker old.cell m.party ≡ false → a ≡ answer.GivenBack
+  -- So is the maker asked at the next step of a call in which its party has begun to make, once that stands in no list.
+  pub asked : (within : Within) → standing_of old m.party ≡ inside within None → is_possible a ≡ true → is_maker old.cell m.party ≡ true → would_make (task_of old m.party) ≡ true → entries_of m.party old.active ≡ 0 → PollsMaker old m a new
+  pub listed : is_poll m.what ≡ true → standing_of old m.party ≡ outside Pending → (list : ListName) → 0 < entries_of m.party (list_in list old) → AsksAtOnce old m a new list

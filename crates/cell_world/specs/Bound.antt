@@ -1,7 +1,7 @@
 -- What whole calls promise, and how often an empty cell may be passed over: whole polls of notified parties, one after the other, each carried out while the others stand still.
 use Rattle.std.specs.Prelude.{◌≡◌, ℕ, ◌<◌, true, length}
-use Rattle.lock_event.specs.Lists.{marked_count}
-use Rattle.lock_queue.specs.Parties.{entries_of}
+use Rattle.lock_event.specs.Lists.{marked_count, is_marked_at}
+use Rattle.lock_queue.specs.Parties.{is_party, entries_of}
 use Rattle.lock_world.specs.declared.moves.Answer.{Answer}
 use Rattle.lock_world.specs.declared.moves.Answer.TheVariants as answer
 use Rattle.lock_world.specs.declared.moves.Call.{Call}
@@ -19,7 +19,7 @@ use Rattle.cell_machine.specs.Seats.{Task, no_task, fills_with, failed}
 use Rattle.cell_machine.specs.Machine.{is_maker}
 use Rattle.cell_world.specs.State.{World, list_in, standing_of, task_of}
 use Rattle.cell_world.specs.Tasks.{task_then, given}
-use Rattle.cell_world.specs.AtOnce.{is_first_making}
+use Rattle.cell_world.specs.AtOnce.{is_first_making, got_by}
 use Rattle.cell_world.specs.Whole.{IsWholeCall}
 
 -- A solo poll is of a pending party whose entry in `active` is marked, and it finds memory.
@@ -46,11 +46,13 @@ Takes w p inputs a v = ComesTo (given (task_of w p) inputs.made) p a v
 pub record Promises (w : World) (p : ℕ) (c : Call) (inputs : Inputs) (a : Answer) (v : World) : Type 0 where
   -- The first poll of an initialisation or a set makes where the cell is empty.
   pub first : is_first_making (standing_of w p) (Begin c inputs) (task_of w p) (entries_of p w.active) (is_maker w.cell p) ≡ true → w.cell ≡ Empty → ComesTo (given (task_then (Begin c inputs) (task_of w p)) inputs.made) p a v
-  -- So does a solo poll, and the poll of the party that makes.
-  pub solo : c ≡ call.Poll → IsSolo w p inputs → w.cell ≡ Empty → Takes w p inputs a v
+  -- So does the poll of a party that was told to make, whether it finds memory or not, and the poll of the party that makes.
+  pub solo : c ≡ call.Poll → standing_of w p ≡ outside Pending → is_marked_at (is_party p) w.active ≡ true → w.cell ≡ Empty → Takes w p inputs a v
   pub maker : c ≡ call.Poll → standing_of w p ≡ outside Pending → is_maker w.cell p ≡ true → Takes w p inputs a v
   -- A dropped maker leaves the cell empty, and one that waits notified.
   pub dropped : c ≡ call.Drop → standing_of w p ≡ outside Pending → is_maker w.cell p ≡ true → ComesTo no_task p a v
+  -- On a full cell the poll of a party that was told is ready, whether it finds memory or not.
+  pub full : c ≡ call.Poll → standing_of w p ≡ outside Pending → (list : ListName) (x : ℕ) → is_marked_at (is_party p) (list_in list w) ≡ true → w.cell ≡ Full x → a ≡ answer.Ready (got_by (task_of w p) x)
   -- A refused poll of a party that stood in a list hands on what it was told: some entry there is marked, if there is any.
   pub hands_on : c ≡ call.Poll → standing_of w p ≡ outside Pending → (list : ListName) → 0 < entries_of p (list_in list w) → is_refusal a ≡ true → 0 < length (list_in list v) → 0 < marked_count (list_in list v)
 

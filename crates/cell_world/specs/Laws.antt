@@ -1,9 +1,11 @@
 -- What always holds of a once-cell's World, between any two moves.
-use Rattle.std.specs.Prelude.{◌≡◌, ℕ, ◌+◌, ◌<◌, ◌≤◌, ◌⊎◌, Bool, true, false, length, Option}
+use Rattle.std.specs.Prelude.{◌≡◌, ◌≢◌, ℕ, ◌+◌, ◌<◌, ◌≤◌, ◌⊎◌, Bool, true, false, length, Option, Some, None}
 use Rattle.std.specs.List.{list_all}
 use Rattle.lock_event.specs.Lists.{marked_count, is_marked_at, IsMarkedFirst}
 use Rattle.lock_queue.specs.Parties.{is_party, entries_of}
 use Rattle.lock_world.specs.declared.moves.Answer.{Answer}
+use Rattle.lock_world.specs.declared.moves.Answer.TheVariants as answer
+use Rattle.lock_world.specs.declared.moves.Got.TheVariants as got
 use Rattle.lock_world.specs.declared.standing.Kind.{Kind}
 use Rattle.lock_world.specs.declared.standing.Kind.TheVariants as kind
 use Rattle.lock_world.specs.declared.standing.Rest.{Rest}
@@ -12,8 +14,10 @@ use Rattle.lock_world.specs.declared.standing.Within.{Within}
 use Rattle.lock_world.specs.Standings.{Standing, outside, inside, forgotten, is_outside}
 use Rattle.cell_program.specs.declared.program.ListName.{ListName}
 use Rattle.cell_program.specs.declared.words.Content.TheVariants.{Empty, BeingMade, Full}
+use Rattle.cell_machine.specs.Seats.{Task, fills_with}
 use Rattle.cell_machine.specs.Machine.{is_maker}
-use Rattle.cell_world.specs.State.{World, list_in, standing_of}
+use Rattle.cell_world.specs.State.{World, list_in, standing_of, task_of}
+use Rattle.cell_world.specs.AtOnce.{would_make}
 use Rattle.cell_world.specs.Legal.{HasItsOwn}
 
 -- The calls of a cell that may take more than one step: a poll, a try, and the drop of a pending future.
@@ -33,12 +37,28 @@ may_be_maker (inside within decided) = true
 may_be_maker forgotten = true
 may_be_maker _ = false
 
+-- Whether a party that stands so, with this task, has still to tell one of those that would make, or to look at the cell itself: one that would make in a poll that isn't decided, or whoever has just made the cell empty.
+abbrev pub is_due : Standing → Task → Bool
+is_due (inside within None) t = would_make t
+is_due (inside within (Some (answer.Ready got.Failed))) t = true
+is_due (inside within (Some answer.GivenBack)) t = true
+is_due s t = false
+
+-- Such a party, in no list of those that would make.
+pub record IsDue (w : World) (p : ℕ) : Type 0 where
+  pub due : is_due (standing_of w p) (task_of w p) ≡ true
+  pub unlisted : entries_of p w.active ≡ 0
+
 pub record IsSound (w : World) : Type 0 where
   -- Each party has what its standing says.
   pub each : (p : ℕ) → HasItsOwn w p (standing_of w p)
   pub maker : (p : ℕ) → is_maker w.cell p ≡ true → may_be_maker (standing_of w p) ≡ true
   -- A party that is inside a call is in a poll, a try or a drop, which it could begin.
   pub inside_calls : (p : ℕ) (u : Within) (decided : Option Answer) → standing_of w p ≡ inside u decided → is_long_call u.kind u.was ≡ true
+  -- Whenever the cell is empty, and a party outside every call waits to make its value, some entry there is marked, or somebody has still to tell one or to look.
+  pub told_or_due : w.cell ≡ Empty → (p : ℕ) → is_outside (standing_of w p) ≡ true → 0 < entries_of p w.active → (0 < marked_count w.active) ⊎ ((q : ℕ) × IsDue w q)
+  -- Whenever the cell is full, and nobody who filled it has still to tell, each entry of a party outside every call is marked.
+  pub told : (v : ℕ) → w.cell ≡ Full v → ((q n : ℕ) → task_of w q ≢ fills_with n) → (list : ListName) (p : ℕ) → is_outside (standing_of w p) ≡ true → 0 < entries_of p (list_in list w) → is_marked_at (is_party p) (list_in list w) ≡ true
   -- No party has two entries, in both lists together, and the marked entries stand before the waiting ones.
   pub once : (p : ℕ) → entries_of p w.active + entries_of p w.passive ≤ 1
   pub active_in_order : IsMarkedFirst w.active

@@ -1,7 +1,7 @@
 -- What one move may do to a once-cell, and how it may be answered.
 use Rattle.std.specs.Prelude.{◌≡◌, ◌≢◌, ℕ, ◌<◌, ◌||◌, ◌⊎◌, Bool, true, false, length, Option, Some, None}
 use Rattle.lock_event.specs.declared.event.Mark.TheVariants.{Waiting}
-use Rattle.lock_event.specs.Lists.{mark_at}
+use Rattle.lock_event.specs.Lists.{mark_at, marked_count}
 use Rattle.lock_queue.specs.Parties.{is_party, entries_of}
 use Rattle.lock_world.specs.declared.moves.Answer.{Answer}
 use Rattle.lock_world.specs.declared.moves.Answer.TheVariants as answer
@@ -11,13 +11,15 @@ use Rattle.lock_world.specs.declared.moves.Made.TheVariants as made
 use Rattle.lock_world.specs.declared.moves.Move.{Move}
 use Rattle.lock_world.specs.declared.refusal.Refusal.{Refusal}
 use Rattle.lock_world.specs.declared.refusal.Refusal.TheVariants as refusal
+use Rattle.lock_world.specs.declared.standing.Kind.TheVariants as kind
 use Rattle.lock_world.specs.declared.standing.Rest.TheVariants.{Idle, Pending, Holding, Finished}
 use Rattle.lock_world.specs.declared.standing.Within.{Within}
-use Rattle.lock_world.specs.Standings.{Standing, outside, inside, inputs_of, is_decided, is_possible, decision}
+use Rattle.lock_world.specs.Standings.{Standing, outside, inside, inputs_of, is_decided, is_possible, refused, decision}
 use Rattle.lock_world.specs.Frame as frame
 use Rattle.lock_world.specs.Frame.{is_drop, is_giving_back, is_refusal}
 use Rattle.lock_world.specs.Steps.{Deed, nothing, changes, does, joins, asks, leaves, notifies, notifies_additionally, is_parting}
 use Rattle.cell_program.specs.declared.program.ListName.{ListName}
+use Rattle.cell_program.specs.declared.program.ListName.TheVariants.{Active}
 use Rattle.cell_program.specs.declared.words.Content.TheVariants.{Empty, BeingMade, Full}
 use Rattle.cell_machine.specs.Seats.{Task, no_task, initializes, sets, fills_with, failed}
 use Rattle.cell_program.specs.Deeds.{Change, begins, fills, empties, content_after, active_after, passive_after, everyone}
@@ -57,7 +59,14 @@ gives_up _ = false
 abbrev pub IsItsList : World → Move → ListName → Type 0
 IsItsList w m list = list_for (task_of w m.party) ≡ Some list
 
--- Where a change may be made. Making begins only in an empty cell, by a party that may make. It ends only by its maker: by the value that the maker gave, which enters; or with no value, where the maker failed or is dropped. A party joins, asks in and leaves its own list only. One notifies one at a time; but who has filled the cell notifies all.
+-- Whom a party tells, by what its call is decided on: one that would make, where its maker failed or it is dropped; and one that waits as it did, where it is refused.
+abbrev pub MayTell : World → Move → ListName → Standing → Type 0
+MayTell w m list (inside within (Some (answer.Ready got.Failed))) = list ≡ Active
+MayTell w m list (inside within (Some answer.GivenBack)) = list ≡ Active
+MayTell w m list (inside within (Some (answer.Refused n))) = IsItsList w m list
+MayTell w m list s = ⊥
+
+-- Where a change may be made. Making begins only in an empty cell, by a party that may make. It ends only by its maker: by the value that the maker gave, which enters; or with no value, where the maker failed or is dropped. A party joins, asks in and leaves its own list only. One notifies one at a time, whom one may tell; but who has filled the cell notifies all.
 abbrev pub IsAllowed : World → Move → Deed Change ListName → Type 0
 IsAllowed w m (changes begins) = (w.cell ≡ Empty) × (makes (task_then m.what (task_of w m.party)) ≡ true)
 IsAllowed w m (changes (fills v)) = (w.cell ≡ BeingMade m.party) × (task_of w m.party ≡ fills_with v)
@@ -65,7 +74,7 @@ IsAllowed w m (changes empties) = (w.cell ≡ BeingMade m.party) × ((is_drop m.
 IsAllowed w m (does list joins) = IsItsList w m list
 IsAllowed w m (does list asks) = IsItsList w m list
 IsAllowed w m (does list leaves) = IsItsList w m list
-IsAllowed w m (does list (notifies n)) = n ≡ 1
+IsAllowed w m (does list (notifies n)) = (n ≡ 1) × MayTell w m list (standing_of w m.party)
 IsAllowed w m (does list (notifies_additionally n)) = (v : ℕ) × (n ≡ everyone) × (w.cell ≡ Full v) × (task_of w m.party ≡ fills_with v)
 IsAllowed w m nothing = Unit {0}
 
@@ -129,10 +138,11 @@ pub record Waits (m : Move) (a : Answer) (new : World) : Type 0 where
   pub waiting : a ≡ answer.Pending → IsPendingMaker m new ⊎ WaitsInList m new
   pub not_before : (within : Within) → standing_of new m.party ≢ inside within (Some answer.Pending)
 
--- Why a call of a cell may be refused: a join found no memory, for the move's input said so, and nothing else happened; or the future had been ready before.
+-- Why a call of a cell may be refused: a join found no memory, for the move's input said so, by a party that neither is listed nor makes, and nothing else happened; or the future had been ready before.
 pub record IsOutOfMemory (old : World) (m : Move) (new : World) : Type 0 where
   pub input : (inputs_of m.what).memory ≡ false
   pub unlisted : (list : ListName) → entries_of m.party (list_in list old) ≡ 0
+  pub unmade : is_maker old.cell m.party ≡ false
   pub cell : new.cell ≡ old.cell
   pub active : new.active ≡ old.active
   pub passive : new.passive ≡ old.passive
@@ -147,10 +157,11 @@ IsRefusedForCause = frame.IsRefusedForCause standing_of IsCause
 
 -- ---- What parties have
 
--- A party that stands in a list stands in that of its future, and who makes may make.
+-- A party that stands in a list stands in that of its future, and who makes may make and stands in none.
 pub record HasByTask (w : World) (p : ℕ) : Type 0 where
   pub lists : (list : ListName) → 0 < entries_of p (list_in list w) → list_for (task_of w p) ≡ Some list
   pub making : is_maker w.cell p ≡ true → makes (task_of w p) ≡ true
+  pub alone : is_maker w.cell p ≡ true → (list : ListName) → entries_of p (list_in list w) ≡ 0
 
 -- A party with no future is in no list and doesn't make.
 pub record HasNothing (w : World) (p : ℕ) : Type 0 where
@@ -158,15 +169,30 @@ pub record HasNothing (w : World) (p : ℕ) : Type 0 where
   pub making : is_maker w.cell p ≡ false
   pub task : task_of w p ≡ no_task
 
--- What a party has by how it stands. Once its call is to be ready, the cell is full, with the value that it is to be answered; or it has failed, and makes no more.
+-- A party is in no list and doesn't make.
+pub record IsClear (w : World) (p : ℕ) : Type 0 where
+  pub lists : (list : ListName) → entries_of p (list_in list w) ≡ 0
+  pub making : is_maker w.cell p ≡ false
+
+-- A try that is to be granted makes the cell's value, or has filled the cell with it.
+pub record HasGranted (w : World) (p : ℕ) : Type 0 where
+  pub value : ℕ
+  pub task : task_of w p ≡ fills_with value
+  pub cell : (w.cell ≡ BeingMade p) ⊎ (w.cell ≡ Full value)
+
+-- What a party has by how it stands. A drop and a try are decided at their first step. Once its call is to be ready, the cell is full, with the value that it is to be answered, and a set that has its own back is that set; and whose maker failed, who is dropped and who is to be refused has nothing any more.
 abbrev pub HasItsOwn : World → ℕ → Standing → Type 0
 HasItsOwn w p (outside Idle) = HasNothing w p
 HasItsOwn w p (outside Finished) = HasNothing w p
 HasItsOwn w p (outside Pending) = HasByTask w p
 HasItsOwn w p (outside Holding) = ⊥
+HasItsOwn w p (inside within None) = (within.kind ≢ kind.Drop) × (within.kind ≢ kind.Try)
 HasItsOwn w p (inside within (Some (answer.Ready (got.Value v)))) = w.cell ≡ Full v
-HasItsOwn w p (inside within (Some (answer.Ready (got.Taken own)))) = is_full w.cell ≡ true
-HasItsOwn w p (inside within (Some (answer.Ready got.Failed))) = is_maker w.cell p ≡ false
+HasItsOwn w p (inside within (Some (answer.Ready (got.Taken own)))) = (is_full w.cell ≡ true) × (task_of w p ≡ sets own)
+HasItsOwn w p (inside within (Some (answer.Ready got.Failed))) = IsClear w p
+HasItsOwn w p (inside within (Some (answer.Granted g))) = HasGranted w p
+HasItsOwn w p (inside within (Some answer.GivenBack)) = IsClear w p
+HasItsOwn w p (inside within (Some (answer.Refused n))) = IsClear w p
 HasItsOwn w p _ = Unit {0}
 
 -- Each party has what its standing says; and after a refusal its future is as when it was made, in no list.
@@ -174,6 +200,18 @@ pub record LeavesClear (m : Move) (a : Answer) (new : World) : Type 0 where
   pub each : (p : ℕ) → HasItsOwn new p (standing_of new p)
   pub refused : is_refusal a ≡ true → (list : ListName) → entries_of m.party (list_in list new) ≡ 0
   pub refused_maker : is_refusal a ≡ true → is_maker new.cell m.party ≡ false
+
+-- ---- Whom a call tells before it ends
+
+-- Some entry of the list is marked, if there is any.
+abbrev pub IsTold : ListName → World → Type 0
+IsTold list w = 0 < length (list_in list w) → 0 < marked_count (list_in list w)
+
+-- Whose maker failed, or who is dropped as the maker, has told one that would make when its call ends; and who is refused after it was told has handed that on. Whoever else is inside a call.
+pub record TellsOthers (old : World) (m : Move) (a : Answer) (new : World) : Type 0 where
+  pub failed : a ≡ answer.Ready got.Failed → IsTold Active new
+  pub dropped : (within : Within) → standing_of old m.party ≡ inside within (Some answer.GivenBack) → is_possible a ≡ true → IsTold Active new
+  pub refused : (within : Within) (list : ListName) → standing_of old m.party ≡ inside within (Some (refused refusal.Memory)) → is_possible a ≡ true → list_for (task_of old m.party) ≡ Some list → IsTold list new
 
 -- ---- How a call ends
 
@@ -191,4 +229,5 @@ pub record Legal (old : World) (m : Move) (a : Answer) (new : World) : Type 0 wh
   pub waits : Waits m a new
   pub refused_for_cause : IsRefusedForCause old m a new
   pub leaves_clear : LeavesClear m a new
+  pub tells_others : TellsOthers old m a new
   pub ends_properly : EndsProperly old m a new

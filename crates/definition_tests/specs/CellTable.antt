@@ -25,32 +25,51 @@ beginnings =
     (call.Set 4, position.Out, Some (place.Claim (maker.Given 4) false)) ∷
     (call.Wait, position.Out, Some (place.Look false)) ∷
     (call.TrySet 3, position.Out, Some (place.Try 3)) ∷
+    (call.Poll, position.ToMake maker.Closure, Some (place.Claim maker.Closure false)) ∷
     (call.Poll, position.ToMake (maker.Given 4), Some (place.Claim (maker.Given 4) false)) ∷
     (call.Poll, position.WaitingToMake maker.Closure, Some (place.AskActive maker.Closure)) ∷
+    (call.Poll, position.WaitingToMake (maker.Given 4), Some (place.AskActive (maker.Given 4))) ∷
     (call.Poll, position.Making maker.Closure, Some (place.Make maker.Closure)) ∷
+    (call.Poll, position.Making (maker.Given 4), Some (place.Make (maker.Given 4))) ∷
     (call.Poll, position.ToWait, Some (place.Look false)) ∷
     (call.Poll, position.Waiting, Some place.AskPassive) ∷
+    (call.Drop, position.WaitingToMake maker.Closure, Some (place.CancelLeave list.Active)) ∷
     (call.Drop, position.WaitingToMake (maker.Given 4), Some (place.CancelLeave list.Active)) ∷
     (call.Drop, position.Making maker.Closure, Some place.CancelMake) ∷
+    (call.Drop, position.Making (maker.Given 4), Some place.CancelMake) ∷
     (call.Drop, position.Waiting, Some (place.CancelLeave list.Passive)) ∷
     (call.Drop, position.ToMake maker.Closure, Some place.Abandon) ∷
+    (call.Drop, position.ToMake (maker.Given 4), Some place.Abandon) ∷
     (call.Drop, position.ToWait, Some place.Abandon) ∷
     (call.Drop, position.Out, Some place.Abandon) ∷
     (call.Poll, position.Out, None) ∷
     (call.Lock, position.Out, None) ∷
     (call.Wait, position.Waiting, None) ∷
+    (call.Initialize, position.WaitingToMake maker.Closure, None) ∷
+    (call.Set 4, position.ToMake (maker.Given 4), None) ∷
+    (call.TrySet 3, position.Making maker.Closure, None) ∷
+    (call.TrySet 3, position.ToWait, None) ∷
     (call.Poll, position.At place.AskPassive, None) ∷
+    (call.Drop, position.At place.CancelNotify, None) ∷
     []
 
 -- What is done at a place.
 abbrev pub actions : List (Place × Action)
 actions =
     (place.Claim maker.Closure false, act.Claim) ∷
+    (place.Claim maker.Closure true, act.Claim) ∷
+    (place.Claim (maker.Given 4) false, act.Claim) ∷
     (place.Claim (maker.Given 4) true, act.Claim) ∷
     (place.ClaimListed maker.Closure, act.Claim) ∷
+    (place.ClaimListed (maker.Given 4), act.Claim) ∷
     (place.JoinActive maker.Closure false, act.Join list.Active) ∷
+    (place.JoinActive maker.Closure true, act.Join list.Active) ∷
+    (place.JoinActive (maker.Given 4) false, act.Join list.Active) ∷
+    (place.JoinActive (maker.Given 4) true, act.Join list.Active) ∷
+    (place.AskActive maker.Closure, act.Ask list.Active) ∷
     (place.AskActive (maker.Given 4), act.Ask list.Active) ∷
     (place.LeaveToMake maker.Closure, act.Leave list.Active) ∷
+    (place.LeaveToMake (maker.Given 4), act.Leave list.Active) ∷
     (place.Make maker.Closure, act.Make maker.Closure) ∷
     (place.Make (maker.Given 4), act.Make (maker.Given 4)) ∷
     (place.Fill 3, act.Fill 3) ∷
@@ -59,9 +78,13 @@ actions =
     (place.Fail, act.Empty) ∷
     (place.FailNotify, act.Notify list.Active) ∷
     (place.LeaveFull maker.Closure 3, act.Leave list.Active) ∷
+    (place.LeaveFull (maker.Given 4) 3, act.Leave list.Active) ∷
     (place.RefuseActive maker.Closure, act.Notify list.Active) ∷
+    (place.RefuseActive (maker.Given 4), act.Notify list.Active) ∷
     (place.Look false, act.Look) ∷
+    (place.Look true, act.Look) ∷
     (place.JoinPassive false, act.Join list.Passive) ∷
+    (place.JoinPassive true, act.Join list.Passive) ∷
     (place.LookListed, act.Look) ∷
     (place.AskPassive, act.Ask list.Passive) ∷
     (place.LeavePassive 3, act.Leave list.Passive) ∷
@@ -83,24 +106,39 @@ followings =
     (place.Claim maker.Closure false, found.Empty, next.Do (place.Make maker.Closure)) ∷
     (place.Claim maker.Closure false, found.BeingMade, next.Do (place.JoinActive maker.Closure false)) ∷
     (place.Claim maker.Closure false, found.Full 9, next.Ready (got.Value 9)) ∷
+    (place.Claim (maker.Given 4) false, found.Empty, next.Do (place.Make (maker.Given 4))) ∷
+    (place.Claim (maker.Given 4) false, found.BeingMade, next.Do (place.JoinActive (maker.Given 4) false)) ∷
     (place.Claim (maker.Given 4) false, found.Full 9, next.Ready (got.Taken 4)) ∷
     (place.Claim maker.Closure true, found.Empty, next.Do (place.Make maker.Closure)) ∷
     (place.Claim maker.Closure true, found.BeingMade, next.Do (place.JoinActive maker.Closure true)) ∷
     (place.Claim maker.Closure true, found.Full 9, next.Ready (got.Value 9)) ∷
+    (place.Claim (maker.Given 4) true, found.Empty, next.Do (place.Make (maker.Given 4))) ∷
+    (place.Claim (maker.Given 4) true, found.BeingMade, next.Do (place.JoinActive (maker.Given 4) true)) ∷
     (place.Claim (maker.Given 4) true, found.Full 9, next.Ready (got.Taken 4)) ∷
     (place.ClaimListed maker.Closure, found.Empty, next.Do (place.LeaveToMake maker.Closure)) ∷
     (place.ClaimListed maker.Closure, found.BeingMade, next.Do (place.AskActive maker.Closure)) ∷
     (place.ClaimListed maker.Closure, found.Full 9, next.Do (place.LeaveFull maker.Closure 9)) ∷
+    (place.ClaimListed (maker.Given 4), found.Empty, next.Do (place.LeaveToMake (maker.Given 4))) ∷
+    (place.ClaimListed (maker.Given 4), found.BeingMade, next.Do (place.AskActive (maker.Given 4))) ∷
+    (place.ClaimListed (maker.Given 4), found.Full 9, next.Do (place.LeaveFull (maker.Given 4) 9)) ∷
+    (place.JoinActive maker.Closure false, found.Done, next.Do (place.ClaimListed maker.Closure)) ∷
+    (place.JoinActive maker.Closure true, found.Done, next.Do (place.ClaimListed maker.Closure)) ∷
+    (place.JoinActive maker.Closure false, found.NoMemory, next.End (ended.Refused refusal.Memory)) ∷
+    (place.JoinActive maker.Closure true, found.NoMemory, next.Do (place.RefuseActive maker.Closure)) ∷
     (place.JoinActive (maker.Given 4) false, found.Done, next.Do (place.ClaimListed (maker.Given 4))) ∷
     (place.JoinActive (maker.Given 4) true, found.Done, next.Do (place.ClaimListed (maker.Given 4))) ∷
     (place.JoinActive (maker.Given 4) false, found.NoMemory, next.End (ended.Refused refusal.Memory)) ∷
     (place.JoinActive (maker.Given 4) true, found.NoMemory, next.Do (place.RefuseActive (maker.Given 4))) ∷
     (place.AskActive maker.Closure, found.Yes, next.Do (place.Claim maker.Closure true)) ∷
     (place.AskActive maker.Closure, found.No, next.End ended.Pending) ∷
+    (place.AskActive (maker.Given 4), found.Yes, next.Do (place.Claim (maker.Given 4) true)) ∷
+    (place.AskActive (maker.Given 4), found.No, next.End ended.Pending) ∷
     (place.LeaveToMake maker.Closure, found.Done, next.Do (place.Make maker.Closure)) ∷
+    (place.LeaveToMake (maker.Given 4), found.Done, next.Do (place.Make (maker.Given 4))) ∷
     (place.Make maker.Closure, found.NotYet, next.End ended.Pending) ∷
     (place.Make maker.Closure, found.Made 7, next.Do (place.Fill 7)) ∷
     (place.Make maker.Closure, found.Failed, next.Do place.Fail) ∷
+    (place.Make (maker.Given 4), found.Made 4, next.Do (place.Fill 4)) ∷
     (place.Fill 7, found.Done, next.Do (place.NotifyActive 7)) ∷
     (place.NotifyActive 7, found.Done, next.Do (place.NotifyPassive 7)) ∷
     (place.NotifyPassive 7, found.Done, next.Ready (got.Value 7)) ∷
@@ -108,6 +146,7 @@ followings =
     (place.FailNotify, found.Done, next.Ready got.Failed) ∷
     (place.LeaveFull maker.Closure 9, found.Done, next.Ready (got.Value 9)) ∷
     (place.LeaveFull (maker.Given 4) 9, found.Done, next.Ready (got.Taken 4)) ∷
+    (place.RefuseActive maker.Closure, found.Done, next.End (ended.Refused refusal.Memory)) ∷
     (place.RefuseActive (maker.Given 4), found.Done, next.End (ended.Refused refusal.Memory)) ∷
     (place.Look false, found.Full 9, next.Ready (got.Value 9)) ∷
     (place.Look false, found.Empty, next.Do (place.JoinPassive false)) ∷

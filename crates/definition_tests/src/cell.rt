@@ -4,7 +4,7 @@ ghost use Rattle.definition_tests.specs.Tables.{AreRowsOf, AreRowsOfTwo};
 ghost use Rattle.definition_tests.specs.CellTable.{beginnings, actions, followings};
 ghost use Rattle.cell_program.specs.Program.{start_of, action_of, next_of};
 ghost use Rattle.definition_tests.specs.Never.{Never};
-ghost use Rattle.definition_tests.specs.Cell.{EntersTwice, EndsByNothing, FillsAnother, MakesAnother, ReadyTooSoon, WaitsWithoutMaking, WaitsInPassive, WaitsInActive, TriesInVain, TriesWhileMade, LosesItsOwn, StaysMade, TellsNobody, PassesOverInVain, KeepsItsTold};
+ghost use Rattle.definition_tests.specs.Cell.{EntersTwice, EndsByNothing, FillsAnother, MakesAnother, ReadyTooSoon, WaitsWithoutMaking, WaitsInPassive, WaitsInActive, TriesInVain, TriesWhileMade, LosesItsOwn, StaysMade, TellsNobody, PassesOverInVain, KeepsItsTold, LeftUntold, GoesOnUndecided, DropsListed, MakesAndWaits, RefusesMaker, MarksUndecided, GrantsNothing, HasAnotherBack, FailsUntold, DropsUntold, RefusedUntold, WaitsThoughTold, GoesOnUntold, WaitsForFull, RefusedToMake, LeftToNobody, TellsAnyone, TellsPassive, LosesWhatWasMade, JoinsUnlooked, KeepsItsMark, DropsOn};
 
 /// Each clause says of one wrong run that it isn't legal.
 fn wrong_runs()
@@ -23,6 +23,28 @@ fn wrong_runs()
     ensures tells_nobody { Never (TellsNobody) }
     ensures passes_over_in_vain { Never (PassesOverInVain) }
     ensures keeps_its_told { Never (KeepsItsTold) }
+    ensures left_untold { Never (LeftUntold) }
+    ensures goes_on_undecided { Never (GoesOnUndecided) }
+    ensures drops_listed { Never (DropsListed) }
+    ensures makes_and_waits { Never (MakesAndWaits) }
+    ensures refuses_maker { Never (RefusesMaker) }
+    ensures marks_undecided { Never (MarksUndecided) }
+    ensures grants_nothing { Never (GrantsNothing) }
+    ensures has_another_back { Never (HasAnotherBack) }
+    ensures fails_untold { Never (FailsUntold) }
+    ensures drops_untold { Never (DropsUntold) }
+    ensures refused_untold { Never (RefusedUntold) }
+    ensures waits_though_told { Never (WaitsThoughTold) }
+    ensures goes_on_untold { Never (GoesOnUntold) }
+    ensures waits_for_full { Never (WaitsForFull) }
+    ensures refused_to_make { Never (RefusedToMake) }
+    ensures left_to_nobody { Never (LeftToNobody) }
+    ensures tells_anyone { Never (TellsAnyone) }
+    ensures tells_passive { Never (TellsPassive) }
+    ensures loses_what_was_made { Never (LosesWhatWasMade) }
+    ensures joins_unlooked { Never (JoinsUnlooked) }
+    ensures keeps_its_mark { Never (KeepsItsMark) }
+    ensures drops_on { Never (DropsOn) }
 {}
 
 /// The programs' places, each with its action and what follows what it finds, as docs/PROGRAMS.md lists them.

@@ -20,7 +20,7 @@ use Rattle.cell_machine.specs.Machine.{IsKept, position_at}
 use Rattle.lock_queue.proofs.Marks.{else_marked}
 
 -- where some term of a sum isn't nothing, one party has it
-some_term : (f : Position → ℕ) (xs : List Position) → 0 < sum_by f xs → (p : ℕ) × (0 < f (position_at xs p))
+pub some_term : (f : Position → ℕ) (xs : List Position) → 0 < sum_by f xs → (p : ℕ) × (0 < f (position_at xs p))
 some_term f [] h = absurd (omega arith)
 some_term f (x ∷ xs) h = by_first (f x) refl (some_term f xs) where
   by_first : (n : ℕ) → f x ≡ n → (0 < sum_by f xs → (p : ℕ) × (0 < f (position_at xs p))) → (p : ℕ) × (0 < f (position_at (x ∷ xs) p))

@@ -14,7 +14,7 @@ use Rattle.cell_world.proofs.whole.Promises.{keeps_promises}
 never_passed : (w : World) (p : ℕ) (i : Inputs) (a : Answer) (v : World) → PassesOver w p i a v → ⊥
 never_passed w p i a v o =
     let kept = keeps_promises (known_of w) w p call.Poll i o.whole.more a v o.whole.runs o.whole.ended in
-    o.not_taken (kept.solo refl o.solo o.free)
+    o.not_taken (kept.solo refl o.solo.pending o.solo.marked o.free)
 
 pub bounded : (w : World) → IsSound w → IsAwake w → IsFreeAndWanted w → IsBounded w
 bounded w sound awake wanted =

@@ -15,7 +15,7 @@ use Rattle.lock_world.specs.declared.moves.Inputs.{Inputs}
 use Rattle.lock_world.specs.declared.moves.Made.TheVariants as made
 use Rattle.lock_world.specs.declared.moves.Move.{Move}
 use Rattle.lock_world.specs.declared.moves.What.{What}
-use Rattle.lock_world.specs.declared.moves.What.TheVariants.{Begin}
+use Rattle.lock_world.specs.declared.moves.What.TheVariants.{Begin, Go}
 use Rattle.lock_world.specs.declared.refusal.Refusal.{Refusal}
 use Rattle.lock_world.specs.declared.refusal.Refusal.TheVariants as refusal
 use Rattle.lock_world.specs.declared.standing.Kind.{Kind}
@@ -25,11 +25,12 @@ use Rattle.lock_world.specs.declared.standing.Rest.TheVariants as rest
 use Rattle.lock_world.specs.declared.standing.Stage.{Stage}
 use Rattle.lock_world.specs.declared.standing.Stage.TheVariants.{Outside, Inside, Forgotten}
 use Rattle.lock_world.specs.declared.standing.Within.{Within}
-use Rattle.lock_world.specs.Standings.{inputs_of, call_in, is_possible, is_stepped, is_decided, may_end, decision, refused, IsUndecided}
+use Rattle.lock_world.specs.Standings.{Standing, inside, inputs_of, call_in, is_possible, is_stepped, is_decided, may_end, decision, refused, IsUndecided}
 use Rattle.lock_world.specs.Frame.{is_drop, is_giving_back, is_poll_after_ready, is_refusal}
 use Rattle.lock_world.specs.Refusals.{number_of}
 use Rattle.lock_world.specs.Steps.{Deed, nothing, changes, does, joins, asks, leaves, notifies, notifies_additionally, list_after}
-use Rattle.lock_world.proofs.Equations.{some_eq, none_some, finished_number}
+use Rattle.lock_world.proofs.Equations.{some_eq, none_some, finished_number, both}
+use Rattle.lock_world.proofs.Lists.{notified_marked}
 use Rattle.lock_table.specs.Stages.{stage_at, stands_as, call_at, polls_again, stage_after}
 use Rattle.lock_table.specs.Tables.{Table}
 use Rattle.lock_table.specs.declared.end.End.TheVariants as «end»
@@ -42,7 +43,7 @@ use Rattle.cell_program.specs.declared.program.Found.TheVariants as found
 use Rattle.cell_program.specs.declared.program.ListName.{ListName}
 use Rattle.cell_program.specs.declared.program.ListName.TheVariants.{Active, Passive}
 use Rattle.cell_program.specs.declared.program.Maker.{Maker}
-use Rattle.cell_program.specs.declared.program.Maker.TheVariants.{Closure}
+use Rattle.cell_program.specs.declared.program.Maker.TheVariants.{Closure, Given}
 use Rattle.cell_program.specs.declared.program.Next.{Next}
 use Rattle.cell_program.specs.declared.program.Next.TheVariants as next
 use Rattle.cell_program.specs.declared.program.Place.{Place}
@@ -53,8 +54,8 @@ use Rattle.cell_program.specs.declared.words.Content.{Content}
 use Rattle.cell_program.specs.declared.words.Content.TheVariants.{Empty, BeingMade}
 use Rattle.cell_program.specs.Program.{place_for, action_of, next_of, position_after}
 use Rattle.cell_machine.specs.Seats.{Task, failed, task_at, task_of as place_task, Seat, makes_at, in_active, in_passive_at, verdict, verdict_of}
-use Rattle.cell_program.specs.Deeds.{Change, begins, fills, empties, deed_of, content_after, active_after, passive_after, Finds}
-use Rattle.cell_machine.specs.Machine.{OnceCell, IsCell, Acts, knows, goes_with, runs, is_polling, is_trying, is_cancelling, is_abandoning, is_maker, position_at, answer_by}
+use Rattle.cell_program.specs.Deeds.{Change, begins, fills, empties, deed_of, content_after, active_after, passive_after, Finds, IsDone}
+use Rattle.cell_machine.specs.Machine.{OnceCell, IsCell, Acts, knows, goes_with, runs, is_begun, is_polling, is_trying, is_cancelling, is_abandoning, is_maker, position_at, answer_by}
 use Rattle.cell_machine.proofs.laws.Kept.{after}
 use Rattle.cell_machine.proofs.stages.Turns.{lands}
 use Rattle.cell_machine.proofs.laws.Contents as contents
@@ -62,12 +63,12 @@ use Rattle.cell_machine.proofs.laws.Told.{in_list}
 use Rattle.cell_world.specs.State.{World, list_in, standing_of, task_of}
 use Rattle.cell_world.specs.View.{view_of}
 use Rattle.cell_world.specs.Tasks.{task_in, or_before, task_then, makes, list_for, given, is_open}
-use Rattle.cell_world.specs.Legal.{call_of, DecidesOn, gives_something_back, IsItsList, IsAllowed, ChangesOneThing, KnowsTask, Carried, IsGranted, Carries, IsPendingMaker, WaitsInList, Waits, IsCause, IsRefusedForCause, LeavesClear, EndsProperly, Legal}
+use Rattle.cell_world.specs.Legal.{call_of, DecidesOn, gives_something_back, IsItsList, MayTell, IsAllowed, ChangesOneThing, KnowsTask, Carried, IsGranted, Carries, IsPendingMaker, WaitsInList, Waits, IsCause, IsRefusedForCause, LeavesClear, IsTold, TellsOthers, EndsProperly, Legal}
 use Rattle.cell_world.specs.Steps.{IsCellTable}
 use Rattle.cell_world.proofs.table.Seen as seen
 use Rattle.cell_world.proofs.step.Owns as legals
 use Rattle.cell_world.proofs.step.Owns.{each_has, never_pending}
-use Rattle.cell_world.proofs.step.Rows.{said, open_at, is_join, content_then, AllowedAt, Refuses, Reason, Judged, Room, Row, row}
+use Rattle.cell_world.proofs.step.Rows.{said, open_at, is_join, is_notify, content_then, AllowedAt, Refuses, Reason, Judged, Room, Row, row}
 use Rattle.cell_world.proofs.step.Here.{Here, TaskFits}
 
 -- ---- Answers
@@ -164,6 +165,93 @@ ends_by kind.Drop rest.Pending x f h e = cancels_end x f h e
 ends_by kind.Drop rest.Finished x f h e = cancels_end x f (abandons_cancel x h) e
 ends_by _ _ x f h e = absurd (cc h)
 
+-- where one is answered that its maker failed, one is notified
+fails_at : (x : Place) (f : Found) → answer_by (next_of x f) ≡ answer.Ready got.Failed → action_of x ≡ act.Notify Active
+fails_at FailNotify f e = refl
+fails_at (Claim Closure told) (found.Full u) e = absurd (cc e)
+fails_at (Claim (Given o) told) (found.Full u) e = absurd (cc e)
+fails_at (LeaveFull Closure v) f e = absurd (cc e)
+fails_at (LeaveFull (Given o) v) f e = absurd (cc e)
+fails_at (Claim k told) found.Empty e = absurd (cc e)
+fails_at (Claim k told) _ e = absurd (cc e)
+fails_at (ClaimListed k) found.Empty e = absurd (cc e)
+fails_at (ClaimListed k) (found.Full u) e = absurd (cc e)
+fails_at (ClaimListed k) _ e = absurd (cc e)
+fails_at (JoinActive k told) found.Done e = absurd (cc e)
+fails_at (JoinActive k true) _ e = absurd (cc e)
+fails_at (JoinActive k false) _ e = absurd (cc e)
+fails_at (AskActive k) found.Yes e = absurd (cc e)
+fails_at (AskActive k) _ e = absurd (cc e)
+fails_at (LeaveToMake k) f e = absurd (cc e)
+fails_at (Make k) (found.Made u) e = absurd (cc e)
+fails_at (Make k) found.Failed e = absurd (cc e)
+fails_at (Make k) _ e = absurd (cc e)
+fails_at (Fill v) f e = absurd (cc e)
+fails_at (NotifyActive v) f e = absurd (cc e)
+fails_at (NotifyPassive v) f e = absurd (cc e)
+fails_at Fail f e = absurd (cc e)
+fails_at (RefuseActive k) f e = absurd (cc e)
+fails_at (Look told) (found.Full u) e = absurd (cc e)
+fails_at (Look told) _ e = absurd (cc e)
+fails_at (JoinPassive told) found.Done e = absurd (cc e)
+fails_at (JoinPassive true) _ e = absurd (cc e)
+fails_at (JoinPassive false) _ e = absurd (cc e)
+fails_at LookListed (found.Full u) e = absurd (cc e)
+fails_at LookListed _ e = absurd (cc e)
+fails_at AskPassive found.Yes e = absurd (cc e)
+fails_at AskPassive _ e = absurd (cc e)
+fails_at (LeavePassive v) f e = absurd (cc e)
+fails_at RefusePassive f e = absurd (cc e)
+fails_at (Try v) found.Empty e = absurd (cc e)
+fails_at (Try v) _ e = absurd (cc e)
+fails_at (TryFill v) f e = absurd (cc e)
+fails_at (TryNotifyActive v) f e = absurd (cc e)
+fails_at (TryNotifyPassive v) f e = absurd (cc e)
+fails_at CancelMake f e = absurd (cc e)
+fails_at CancelNotify f e = absurd (cc e)
+fails_at (CancelLeave list) f e = absurd (cc e)
+fails_at Abandon f e = absurd (cc e)
+
+-- a dropped maker that has begun notifies one, and so does who was refused
+owes_active : (x : Place) → is_begun x ≡ true → verdict_of x ≡ Some answer.GivenBack → action_of x ≡ act.Notify Active
+owes_active CancelNotify b e = refl
+owes_active CancelMake b e = absurd (cc b)
+owes_active (CancelLeave list) b e = absurd (cc b)
+owes_active Abandon b e = absurd (cc b)
+owes_active _ b e = absurd (cc e)
+
+owes_list : (list : ListName) (x : Place) → verdict_of x ≡ Some (refused refusal.Memory) → list_for (place_task x) ≡ Some list → action_of x ≡ act.Notify list
+owes_list list (RefuseActive k) e l = ap act.Notify (some_eq (sym (legals.active_for k) ∙ l))
+owes_list list RefusePassive e l = ap act.Notify (some_eq l)
+owes_list list _ e l = absurd (cc e)
+
+-- a move of a party that is inside a call goes on with it, at a place that the call has come to
+inside_goes : (s : Stage) (what : What) (w u : Within) (x : Position) (o d : Option Answer) → goes_with s x ≡ true → call_at knows s what ≡ Some w → stands_as o s ≡ inside u d → ((i : Inputs) × (what ≡ Go i)) × ((y : Place) → x ≡ At y → is_begun y ≡ true)
+inside_goes (Inside v) (Go i) w u (At z) o d g c e = ((i, refl), λ y eq. (let same : z ≡ y = cc eq in sym (ap is_begun same) ∙ (both (is_begun z) (runs v.kind v.was z) g).0))
+inside_goes (Inside v) (Go i) w u _ o d g c e = absurd (cc g)
+inside_goes (Inside v) (Begin b i) w u x o d g c e = absurd (none_some c)
+inside_goes (Outside r) what w u x o d g c e = absurd (cc e)
+inside_goes Forgotten what w u x o d g c e = absurd (cc e)
+
+-- who is decided is so inside a call
+decided_is : (z : Standing) → is_decided z ≡ true → (u : Within) × (d : Answer) × (z ≡ inside u (Some d))
+decided_is (inside u (Some d)) h = (u, d, refl)
+decided_is _ h = absurd (cc h)
+
+same_list : (list name : ListName) → act.Notify list ≡ act.Notify name → name ≡ list
+same_list list name e = cc e
+
+notifies_at : (list : ListName) (x : Place) → action_of x ≡ act.Notify list → is_notify x ≡ true
+notifies_at list FailNotify e = refl
+notifies_at list (RefuseActive k) e = refl
+notifies_at list RefusePassive e = refl
+notifies_at list CancelNotify e = refl
+notifies_at list _ e = absurd (cc e)
+
+notify_deed : (list : ListName) (f : Found) → IsDone f → deed_of (act.Notify list) f ≡ does list (notifies 1)
+notify_deed list found.Done h = refl
+notify_deed list _ h = absurd h
+
 -- ---- What was decided, and what is decided now
 
 module _ (i : Inputs) (p : ℕ) (c : Content) (x : Place) (f : Found) where
@@ -200,9 +288,9 @@ never_over RefusePassive e = let six : Path ℕ 1 6 = finished_number 1 (some_eq
 never_over (LeaveFull k v) e = cc e
 never_over _ e = cc
 
-join_unlisted : (x : Place) → is_join x ≡ true → (in_active (At x) ≡ 0) × (in_passive_at (At x) ≡ 0)
-join_unlisted (JoinActive k told) h = (refl, refl)
-join_unlisted (JoinPassive told) h = (refl, refl)
+join_unlisted : (x : Place) → is_join x ≡ true → (in_active (At x) ≡ 0) × (in_passive_at (At x) ≡ 0) × (makes_at (At x) ≡ false)
+join_unlisted (JoinActive k told) h = (refl, refl, refl)
+join_unlisted (JoinPassive told) h = (refl, refl, refl)
 join_unlisted _ h = absurd (cc)
 
 room_found : (i : Inputs) (p : ℕ) (c : Content) (d : Deed Change ListName) (list : ListName) → Room i p c d → d ≡ does list joins → i.memory ≡ true
@@ -346,6 +434,26 @@ module _ (t u : Table OnceCell) (m : Move) (a : Answer) (w : Within) where
     not_asked : (list : ListName) → is_marked_at (is_party p) (list_in list old) ≡ false → list_after p asks (list_in list old) ≡ list_in list old
     not_asked list e = rw e refl
 
+    pub goes_inside : (v : Within) (d : Option Answer) → standing_of old p ≡ inside v d → (x ≡ At from) × (is_begun from ≡ true)
+    goes_inside v d e =
+        let so = inside_goes s m.what w v x (verdict x) d (k.old_fits.stands p k.inside).goes k.call (sym stood ∙ e) in
+        let at : x ≡ At from = k.here.going so.0.0 so.0.1 in (at, so.1 from at)
+
+    -- whom a party tells, by where it stands
+    tells_by : (list : ListName) (y : Place) (v : Within) (d : Answer) → action_of y ≡ act.Notify list → verdict_of y ≡ Some d → task_of old p ≡ place_task y → MayTell old m list (inside v (Some d))
+    tells_by list FailNotify v d e h task = let P : Answer → Type 0 = λ z. MayTell old m list (inside v (Some z)) in subst P (some_eq h) (same_list Active list e)
+    tells_by list CancelNotify v d e h task = let P : Answer → Type 0 = λ z. MayTell old m list (inside v (Some z)) in subst P (some_eq h) (same_list Active list e)
+    tells_by list (RefuseActive z) v d e h task = let P : Answer → Type 0 = λ z. MayTell old m list (inside v (Some z)) in subst P (some_eq h) (ap list_for task ∙ (legals.active_for z ∙ ap Some (sym (same_list Active list e))))
+    tells_by list RefusePassive v d e h task = let P : Answer → Type 0 = λ z. MayTell old m list (inside v (Some z)) in subst P (some_eq h) (ap list_for task ∙ ap Some (sym (same_list Passive list e)))
+    tells_by list _ v d e h task = absurd (cc e)
+
+    may_tell : (list : ListName) → action_of from ≡ act.Notify list → MayTell old m list (standing_of old p)
+    may_tell list e =
+        let q = decided_is (standing_of old p) (ap is_decided stood ∙ k.here.notifies (notifies_at list from e)) in
+        let at : x ≡ At from = (goes_inside q.0 (Some q.1) q.2).0 in
+        let P : Standing → Type 0 = MayTell old m list in
+        subst P (sym q.2) (tells_by list from q.0 q.1 e (k.here.kept q.0 q.1 (sym stood ∙ q.2)) (task_old ∙ ap task_at at))
+
     its_list : (list : ListName) → list_for (task_at x) ≡ Some list → IsItsList old m list
     its_list list h = ap list_for task_old ∙ h
 
@@ -357,7 +465,7 @@ module _ (t u : Table OnceCell) (m : Move) (a : Answer) (w : Within) where
     allowed_so (does list joins) h = its_list list (fits_now (act.Join list) h)
     allowed_so (does list asks) h = its_list list (fits_now (act.Ask list) h)
     allowed_so (does list leaves) h = its_list list (fits_now (act.Leave list) h)
-    allowed_so (does list (notifies n)) h = h
+    allowed_so (does list (notifies n)) h = (h.0, may_tell list h.1)
     allowed_so (does list (notifies_additionally n)) h = let fit = fits_now (act.NotifyAll list) h.1 in (fit.0, h.0, (k.old_fits.stands p k.inside).value fit.0 fit.2, task_old ∙ fit.1)
 
     decided_there : is_decided (standing_of old p) || is_giving_back m.what ≡ is_some (verdict_of from)
@@ -489,7 +597,7 @@ module _ (t u : Table OnceCell) (m : Move) (a : Answer) (w : Within) where
     unlisted h Passive = own_passive ∙ (join_unlisted from h).1
 
     cause : (d : Refusal) → Refuses i p c from fnd d → IsCause old m new d
-    cause refusal.Memory y = let n = nothing_listed y.2 in record { input = y.0; unlisted = unlisted y.1; cell = n.0; active = n.1; passive = n.2 }
+    cause refusal.Memory y = let n = nothing_listed y.2 in record { input = y.0; unlisted = unlisted y.1; unmade = sym makes_seen ∙ (join_unlisted from y.1).2; cell = n.0; active = n.1; passive = n.2 }
     cause refusal.Finished y = absurd y
     cause _ y = absurd y
 
@@ -521,6 +629,23 @@ module _ (t u : Table OnceCell) (m : Move) (a : Answer) (w : Within) where
       refused_maker = λ h. sym (k.new_laws.makers p) ∙ (ap makes_at lands_at ∙ (cleared h).2);
     }
 
+    told_list : (list : ListName) → deed ≡ does list (notifies 1) → list_in list new ≡ list_after p (notifies 1) (list_in list old)
+    told_list Active e = k.acts.active ∙ ap (λ (d : Deed Change ListName). active_after p d t.machine.active) e
+    told_list Passive e = k.acts.passive ∙ ap (λ (d : Deed Change ListName). passive_after p d t.machine.passive) e
+
+    told : (list : ListName) → action_of from ≡ act.Notify list → IsTold list new
+    told list e =
+        let P : Action → Type 0 = λ b. Finds i p b fnd c t.machine.active t.machine.passive in
+        let is_done : IsDone fnd = subst P e k.acts.finds in
+        notified_marked (list_in list old) (list_in list new) (told_list list (ap (λ b. deed_of b fnd) e ∙ notify_deed list fnd is_done))
+
+    tells_others : TellsOthers old m a new
+    tells_others = record {
+      failed = λ e. told Active (fails_at from fnd (sym k.answer ∙ e));
+      dropped = λ v e h. told Active (owes_active from (goes_inside v (Some answer.GivenBack) e).1 (k.here.kept v answer.GivenBack (sym stood ∙ e)));
+      refused = λ v list e h f. told list (owes_list list from (k.here.kept v (refused refusal.Memory) (sym stood ∙ e)) (ap list_for (sym (task_old ∙ ap task_at (goes_inside v (Some (refused refusal.Memory)) e).0)) ∙ f));
+    }
+
     called : call_of old m ≡ Some w
     called = ap (λ z. call_in knows z m.what) stood ∙ (call_seen knows (verdict x) s m.what ∙ k.call)
 
@@ -543,5 +668,6 @@ module _ (t u : Table OnceCell) (m : Move) (a : Answer) (w : Within) where
       waits = waits;
       refused_for_cause = refused_for_cause;
       leaves_clear = leaves_clear;
+      tells_others = tells_others;
       ends_properly = ends_properly;
     }

@@ -1,6 +1,8 @@
 -- What the first step of a call decides at once.
-use Rattle.std.proofs.Common.{◌≡◌, ℕ, ◌<◌, ◌&&◌, ◌==◌, if◌then◌else◌, Bool, true, false, Some, None, refl, arith, ap, sym, ◌∙◌, subst}
-use Rattle.lock_queue.specs.Parties.{entries_of}
+use Rattle.std.proofs.Common.{◌≡◌, ℕ, ◌<◌, ◌&&◌, ◌==◌, if◌then◌else◌, Bool, true, false, List, Some, None, refl, arith, ap, sym, ◌∙◌, subst}
+use Rattle.lock_event.specs.declared.event.Entry.{Entry}
+use Rattle.lock_event.specs.Lists.{is_marked_at}
+use Rattle.lock_queue.specs.Parties.{is_party, entries_of}
 use Rattle.lock_world.specs.declared.moves.Answer.{Answer}
 use Rattle.lock_world.specs.declared.moves.Answer.TheVariants as answer
 use Rattle.lock_world.specs.declared.moves.Call.TheVariants as call
@@ -14,32 +16,35 @@ use Rattle.lock_world.specs.declared.standing.Rest.{Rest}
 use Rattle.lock_world.specs.declared.standing.Rest.TheVariants as rest
 use Rattle.lock_world.specs.declared.standing.Stage.{Stage}
 use Rattle.lock_world.specs.declared.standing.Within.{Within}
-use Rattle.lock_world.specs.Standings.{Standing, outside, inputs_of, decision}
+use Rattle.lock_world.specs.Standings.{Standing, outside, inside, inputs_of, decision}
+use Rattle.lock_world.specs.Steps.{Deed, does, asks}
 use Rattle.lock_world.specs.Frame.{is_drop}
 use Rattle.lock_table.specs.Stages.{stage_at, stands_as, call_at, polls_again}
 use Rattle.lock_table.specs.Tables.{Table}
 use Rattle.cell_program.specs.declared.program.Action.TheVariants as act
 use Rattle.cell_program.specs.declared.program.Found.{Found}
 use Rattle.cell_program.specs.declared.program.Found.TheVariants as found
+use Rattle.cell_program.specs.declared.program.ListName.{ListName}
+use Rattle.cell_program.specs.declared.program.ListName.TheVariants.{Active, Passive}
 use Rattle.cell_program.specs.declared.program.Maker.{Maker}
 use Rattle.cell_program.specs.declared.program.Maker.TheVariants.{Closure, Given}
 use Rattle.cell_program.specs.declared.program.Place.{Place}
-use Rattle.cell_program.specs.declared.program.Place.TheVariants.{Claim, AskActive, Make, Look, AskPassive, Try, CancelMake}
+use Rattle.cell_program.specs.declared.program.Place.TheVariants.{Claim, AskActive, LeaveToMake, Make, Fill, Fail, Look, AskPassive, Try, TryFill, CancelMake, CancelLeave}
 use Rattle.cell_program.specs.declared.program.Position.{Position}
 use Rattle.cell_program.specs.declared.program.Position.TheVariants.{At}
 use Rattle.cell_program.specs.declared.words.Content.{Content}
 use Rattle.cell_program.specs.declared.words.Content.TheVariants.{Empty}
 use Rattle.cell_program.specs.Program.{action_of, next_of}
 use Rattle.cell_machine.specs.Seats.{no_task, waits_only, task_by, task_at, task_of as place_task, makes_at, in_active, in_passive_at, verdict}
-use Rattle.cell_program.specs.Deeds.{deed_of, content_after, Finds, FindsContent, FindsMade}
+use Rattle.cell_program.specs.Deeds.{Change, deed_of, content_after, active_after, passive_after, Finds, FindsContent, FindsMade, FindsAsk}
 use Rattle.cell_machine.specs.Machine.{OnceCell, knows, goes_with, is_maker, position_at, answer_by}
 use Rattle.cell_machine.proofs.laws.Kept.{after}
 use Rattle.cell_machine.proofs.stages.Turns.{Turn, turn}
 use Rattle.cell_machine.proofs.laws.Contents as contents
-use Rattle.cell_world.specs.State.{World, is_empty, standing_of, task_of}
+use Rattle.cell_world.specs.State.{World, list_in, is_empty, standing_of, task_of}
 use Rattle.cell_world.specs.View.{view_of}
 use Rattle.cell_world.specs.Tasks.{task_in, or_before, task_then, given}
-use Rattle.cell_world.specs.AtOnce.{AnswersAtOnce, TriesAtOnce, MakesAtOnce, PollsMaker, DropsMaker, is_try, is_poll, would_make, is_first_making, waits_for, is_first_wait, first_answer, maker_answer}
+use Rattle.cell_world.specs.AtOnce.{AnswersAtOnce, KeepsLists, TriesAtOnce, MakesAtOnce, WaitsAtOnce, PollsMaker, DropsMaker, AsksAtOnce, is_try, is_poll, would_make, is_first_making, waits_for, is_first_wait, first_answer, maker_answer}
 use Rattle.cell_world.proofs.step.Rows.{said, content_then}
 use Rattle.cell_world.proofs.step.Acting.{Acting}
 use Rattle.cell_world.proofs.step.Acting as acting
@@ -54,6 +59,7 @@ pub record EntranceAt (s : Standing) (what : What) (x : Position) (from : Place)
   pub waiting : (n : ℕ) → is_first_wait s what (task_at x) n ≡ true → n ≡ in_passive_at x → from ≡ Look false
   pub maker : is_poll what ≡ true → s ≡ outside rest.Pending → makes_at x ≡ true → (k : Maker) × (from ≡ Make k)
   pub dropped : is_drop what ≡ true → makes_at x ≡ true → from ≡ CancelMake
+  pub gone : is_drop what ≡ true → makes_at x ≡ false → (f : Found) → answer_by (next_of from f) ≡ answer.GivenBack
   pub in_active : is_poll what ≡ true → s ≡ outside rest.Pending → 0 < in_active x → (k : Maker) × (from ≡ AskActive k)
   pub in_passive : is_poll what ≡ true → s ≡ outside rest.Pending → 0 < in_passive_at x → from ≡ AskPassive
 
@@ -107,22 +113,22 @@ first_making_try v rest.Holding i n b h = cc h
 
 pub entrance : (s : Stage) (what : What) (w : Within) (x : Position) → goes_with s x ≡ true → call_at knows s what ≡ Some w → polls_again s what ≡ false → Turn Entrance s what w x
 entrance = turn Entrance (record {
-  initialize = λ r i g h. record { tries = λ h. absurd (cc h); making = λ n b h l d. (Closure, refl); waiting = λ n h l. absurd (first_wait_init r i n h); maker = λ h e d. absurd (cc h); dropped = λ h d. absurd (cc h); in_active = λ h e some. absurd (omega arith); in_passive = λ h e some. absurd (omega arith) };
-  set = λ v r i g h. record { tries = λ h. absurd (cc h); making = λ n b h l d. (Given v, refl); waiting = λ n h l. absurd (first_wait_set v r i n h); maker = λ h e d. absurd (cc h); dropped = λ h d. absurd (cc h); in_active = λ h e some. absurd (omega arith); in_passive = λ h e some. absurd (omega arith) };
-  wait = λ r i g h. record { tries = λ h. absurd (cc h); making = λ n b h l d. absurd (first_making_wait r i n b h); waiting = λ n h l. refl; maker = λ h e d. absurd (cc h); dropped = λ h d. absurd (cc h); in_active = λ h e some. absurd (omega arith); in_passive = λ h e some. absurd (omega arith) };
-  try = λ v r i g h. record { tries = λ h. (v, refl); making = λ n b h l d. absurd (first_making_try v r i n b h); waiting = λ n h l. absurd (first_wait_try v r i n h); maker = λ h e d. absurd (cc h); dropped = λ h d. absurd (cc h); in_active = λ h e some. absurd (omega arith); in_passive = λ h e some. absurd (omega arith) };
-  poll = λ k i. record { tries = λ h. absurd (cc h); making = λ n b h l d. (k, refl); waiting = λ n h l. absurd (maker_waits k (n == 0) h); maker = λ h e d. absurd (cc d); dropped = λ h d. absurd (cc h); in_active = λ h e some. absurd (omega arith); in_passive = λ h e some. absurd (omega arith) };
-  poll_listed = λ k i. record { tries = λ h. absurd (cc h); making = λ n b h l d. absurd (not_first k n b h l); waiting = λ n h l. absurd (maker_waits k (n == 0) h); maker = λ h e d. absurd (cc d); dropped = λ h d. absurd (cc h); in_active = λ h e some. (k, refl); in_passive = λ h e some. absurd (omega arith) };
-  poll_maker = λ k i. record { tries = λ h. absurd (cc h); making = λ n b h l d. absurd (not_first_maker k n b h d); waiting = λ n h l. absurd (maker_waits k (n == 0) h); maker = λ h e d. (k, refl); dropped = λ h d. absurd (cc h); in_active = λ h e some. absurd (omega arith); in_passive = λ h e some. absurd (omega arith) };
-  poll_wait = λ i. record { tries = λ h. absurd (cc h); making = λ n b h l d. absurd (cc h); waiting = λ n h l. refl; maker = λ h e d. absurd (cc d); dropped = λ h d. absurd (cc h); in_active = λ h e some. absurd (omega arith); in_passive = λ h e some. absurd (omega arith) };
-  poll_waiting = λ i. record { tries = λ h. absurd (cc h); making = λ n b h l d. absurd (cc h); waiting = λ n h l. absurd (not_one n h l); maker = λ h e d. absurd (cc d); dropped = λ h d. absurd (cc h); in_active = λ h e some. absurd (omega arith); in_passive = λ h e some. refl };
-  cancel = λ k i. record { tries = λ h. absurd (cc h); making = λ n b h l d. absurd (cc h); waiting = λ n h l. absurd (cc h); maker = λ h e d. absurd (cc h); dropped = λ h d. absurd (cc d); in_active = λ h e some. absurd (cc h); in_passive = λ h e some. absurd (omega arith) };
-  cancel_maker = λ k i. record { tries = λ h. absurd (cc h); making = λ n b h l d. absurd (cc h); waiting = λ n h l. absurd (cc h); maker = λ h e d. absurd (cc h); dropped = λ h d. refl; in_active = λ h e some. absurd (omega arith); in_passive = λ h e some. absurd (omega arith) };
-  cancel_wait = λ i. record { tries = λ h. absurd (cc h); making = λ n b h l d. absurd (cc h); waiting = λ n h l. absurd (cc h); maker = λ h e d. absurd (cc h); dropped = λ h d. absurd (cc d); in_active = λ h e some. absurd (omega arith); in_passive = λ h e some. absurd (cc h) };
-  abandon = λ k i. record { tries = λ h. absurd (cc h); making = λ n b h l d. absurd (cc h); waiting = λ n h l. absurd (cc h); maker = λ h e d. absurd (cc h); dropped = λ h d. absurd (cc d); in_active = λ h e some. absurd (omega arith); in_passive = λ h e some. absurd (omega arith) };
-  abandon_wait = λ i. record { tries = λ h. absurd (cc h); making = λ n b h l d. absurd (cc h); waiting = λ n h l. absurd (cc h); maker = λ h e d. absurd (cc h); dropped = λ h d. absurd (cc d); in_active = λ h e some. absurd (omega arith); in_passive = λ h e some. absurd (omega arith) };
-  drop_finished = λ i. record { tries = λ h. absurd (cc h); making = λ n b h l d. absurd (cc h); waiting = λ n h l. absurd (cc h); maker = λ h e d. absurd (cc h); dropped = λ h d. absurd (cc d); in_active = λ h e some. absurd (omega arith); in_passive = λ h e some. absurd (omega arith) };
-  go = λ w x i begun here. record { tries = λ h. absurd (cc h); making = λ n b h l d. absurd (cc h); waiting = λ n h l. absurd (cc h); maker = λ h e d. absurd (cc h); dropped = λ h d. absurd (cc h); in_active = λ h e some. absurd (cc h); in_passive = λ h e some. absurd (cc h) };
+  initialize = λ r i g h. record { tries = λ h. absurd (cc h); making = λ n b h l d. (Closure, refl); waiting = λ n h l. absurd (first_wait_init r i n h); maker = λ h e d. absurd (cc h); dropped = λ h d. absurd (cc h); gone = λ h d f. absurd (cc h); in_active = λ h e some. absurd (omega arith); in_passive = λ h e some. absurd (omega arith) };
+  set = λ v r i g h. record { tries = λ h. absurd (cc h); making = λ n b h l d. (Given v, refl); waiting = λ n h l. absurd (first_wait_set v r i n h); maker = λ h e d. absurd (cc h); dropped = λ h d. absurd (cc h); gone = λ h d f. absurd (cc h); in_active = λ h e some. absurd (omega arith); in_passive = λ h e some. absurd (omega arith) };
+  wait = λ r i g h. record { tries = λ h. absurd (cc h); making = λ n b h l d. absurd (first_making_wait r i n b h); waiting = λ n h l. refl; maker = λ h e d. absurd (cc h); dropped = λ h d. absurd (cc h); gone = λ h d f. absurd (cc h); in_active = λ h e some. absurd (omega arith); in_passive = λ h e some. absurd (omega arith) };
+  try = λ v r i g h. record { tries = λ h. (v, refl); making = λ n b h l d. absurd (first_making_try v r i n b h); waiting = λ n h l. absurd (first_wait_try v r i n h); maker = λ h e d. absurd (cc h); dropped = λ h d. absurd (cc h); gone = λ h d f. absurd (cc h); in_active = λ h e some. absurd (omega arith); in_passive = λ h e some. absurd (omega arith) };
+  poll = λ k i. record { tries = λ h. absurd (cc h); making = λ n b h l d. (k, refl); waiting = λ n h l. absurd (maker_waits k (n == 0) h); maker = λ h e d. absurd (cc d); dropped = λ h d. absurd (cc h); gone = λ h d f. absurd (cc h); in_active = λ h e some. absurd (omega arith); in_passive = λ h e some. absurd (omega arith) };
+  poll_listed = λ k i. record { tries = λ h. absurd (cc h); making = λ n b h l d. absurd (not_first k n b h l); waiting = λ n h l. absurd (maker_waits k (n == 0) h); maker = λ h e d. absurd (cc d); dropped = λ h d. absurd (cc h); gone = λ h d f. absurd (cc h); in_active = λ h e some. (k, refl); in_passive = λ h e some. absurd (omega arith) };
+  poll_maker = λ k i. record { tries = λ h. absurd (cc h); making = λ n b h l d. absurd (not_first_maker k n b h d); waiting = λ n h l. absurd (maker_waits k (n == 0) h); maker = λ h e d. (k, refl); dropped = λ h d. absurd (cc h); gone = λ h d f. absurd (cc h); in_active = λ h e some. absurd (omega arith); in_passive = λ h e some. absurd (omega arith) };
+  poll_wait = λ i. record { tries = λ h. absurd (cc h); making = λ n b h l d. absurd (cc h); waiting = λ n h l. refl; maker = λ h e d. absurd (cc d); dropped = λ h d. absurd (cc h); gone = λ h d f. absurd (cc h); in_active = λ h e some. absurd (omega arith); in_passive = λ h e some. absurd (omega arith) };
+  poll_waiting = λ i. record { tries = λ h. absurd (cc h); making = λ n b h l d. absurd (cc h); waiting = λ n h l. absurd (not_one n h l); maker = λ h e d. absurd (cc d); dropped = λ h d. absurd (cc h); gone = λ h d f. absurd (cc h); in_active = λ h e some. absurd (omega arith); in_passive = λ h e some. refl };
+  cancel = λ k i. record { tries = λ h. absurd (cc h); making = λ n b h l d. absurd (cc h); waiting = λ n h l. absurd (cc h); maker = λ h e d. absurd (cc h); dropped = λ h d. absurd (cc d); gone = λ h d f. refl; in_active = λ h e some. absurd (cc h); in_passive = λ h e some. absurd (omega arith) };
+  cancel_maker = λ k i. record { tries = λ h. absurd (cc h); making = λ n b h l d. absurd (cc h); waiting = λ n h l. absurd (cc h); maker = λ h e d. absurd (cc h); dropped = λ h d. refl; gone = λ h d f. absurd (cc d); in_active = λ h e some. absurd (omega arith); in_passive = λ h e some. absurd (omega arith) };
+  cancel_wait = λ i. record { tries = λ h. absurd (cc h); making = λ n b h l d. absurd (cc h); waiting = λ n h l. absurd (cc h); maker = λ h e d. absurd (cc h); dropped = λ h d. absurd (cc d); gone = λ h d f. refl; in_active = λ h e some. absurd (omega arith); in_passive = λ h e some. absurd (cc h) };
+  abandon = λ k i. record { tries = λ h. absurd (cc h); making = λ n b h l d. absurd (cc h); waiting = λ n h l. absurd (cc h); maker = λ h e d. absurd (cc h); dropped = λ h d. absurd (cc d); gone = λ h d f. refl; in_active = λ h e some. absurd (omega arith); in_passive = λ h e some. absurd (omega arith) };
+  abandon_wait = λ i. record { tries = λ h. absurd (cc h); making = λ n b h l d. absurd (cc h); waiting = λ n h l. absurd (cc h); maker = λ h e d. absurd (cc h); dropped = λ h d. absurd (cc d); gone = λ h d f. refl; in_active = λ h e some. absurd (omega arith); in_passive = λ h e some. absurd (omega arith) };
+  drop_finished = λ i. record { tries = λ h. absurd (cc h); making = λ n b h l d. absurd (cc h); waiting = λ n h l. absurd (cc h); maker = λ h e d. absurd (cc h); dropped = λ h d. absurd (cc d); gone = λ h d f. refl; in_active = λ h e some. absurd (omega arith); in_passive = λ h e some. absurd (omega arith) };
+  go = λ w x i begun here. record { tries = λ h. absurd (cc h); making = λ n b h l d. absurd (cc h); waiting = λ n h l. absurd (cc h); maker = λ h e d. absurd (cc h); dropped = λ h d. absurd (cc h); gone = λ h d f. absurd (cc h); in_active = λ h e some. absurd (cc h); in_passive = λ h e some. absurd (cc h) };
 })
 
 -- ---- What is found there
@@ -162,6 +168,30 @@ module _ (p : ℕ) (c : Content) where
   look_answer (found.Full u) e = rw e refl
   look_answer _ e = absurd e
 
+  ask_answer : (k : Maker) (l : List (Entry ℕ)) (f : Found) → FindsAsk p f l → answer_by (next_of (AskActive k) f) ≡ (if is_marked_at (is_party p) l then answer.Stepped else answer.Pending)
+  ask_answer k l found.Yes e = rw e refl
+  ask_answer k l found.No e = rw e refl
+  ask_answer k l _ e = absurd e
+
+  ask_passive_answer : (l : List (Entry ℕ)) (f : Found) → FindsAsk p f l → answer_by (next_of AskPassive f) ≡ (if is_marked_at (is_party p) l then answer.Stepped else answer.Pending)
+  ask_passive_answer l found.Yes e = rw e refl
+  ask_passive_answer l found.No e = rw e refl
+  ask_passive_answer l _ e = absurd e
+
+  ask_deed : (list : ListName) (l : List (Entry ℕ)) (f : Found) → FindsAsk p f l → deed_of (act.Ask list) f ≡ does list asks
+  ask_deed list l found.Yes e = refl
+  ask_deed list l found.No e = refl
+  ask_deed list l _ e = absurd e
+
+-- a claim is of the cell alone
+claimed_active : (p : ℕ) (f : Found) (l : List (Entry ℕ)) → active_after p (deed_of act.Claim f) l ≡ l
+claimed_active p found.Empty l = refl
+claimed_active p _ l = refl
+
+claimed_passive : (p : ℕ) (f : Found) (l : List (Entry ℕ)) → passive_after p (deed_of act.Claim f) l ≡ l
+claimed_passive p found.Empty l = refl
+claimed_passive p _ l = refl
+
 make_answer : (k : Maker) (m : Made) (f : Found) → FindsMade k m f → answer_by (next_of (Make k) f) ≡ maker_answer (task_by k) m
 make_answer (Given v) m f e = ap (λ f. answer_by (next_of (Make (Given v)) f)) e
 make_answer Closure made.Pending f e = ap (λ f. answer_by (next_of (Make Closure) f)) e
@@ -173,6 +203,18 @@ make_task (Given v) m f e = ap (λ f. task_at (after (Make (Given v)) f)) e
 make_task Closure made.Pending f e = ap (λ f. task_at (after (Make Closure) f)) e
 make_task Closure (made.Value v) f e = ap (λ f. task_at (after (Make Closure) f)) e
 make_task Closure made.Fail f e = ap (λ f. task_at (after (Make Closure) f)) e
+
+-- who makes, would make yet and stands in no list asks its maker
+asks_at : (y : Place) → makes_at (At y) ≡ true → would_make (place_task y) ≡ true → in_active (At y) ≡ 0 → (k : Maker) × (y ≡ Make k)
+asks_at (Make k) h would none = (k, refl)
+asks_at (LeaveToMake k) h would none = absurd (omega (arith, none))
+asks_at (Fill v) h would none = absurd (cc would)
+asks_at Fail h would none = absurd (cc would)
+asks_at (TryFill v) h would none = absurd (cc would)
+asks_at CancelMake h would none = absurd (cc would)
+asks_at (CancelLeave Active) h would none = absurd (cc h)
+asks_at (CancelLeave Passive) h would none = absurd (cc h)
+asks_at _ h would none = absurd (cc h)
 
 module _ (t u : Table OnceCell) (m : Move) (a : Answer) (w : Within) (k : Acting t u m a w) (door : Entrance (stage_at t.stages m.party) m.what w (position_at t.machine.positions m.party) k.from) where
   abbrev p : ℕ
@@ -215,6 +257,18 @@ module _ (t u : Table OnceCell) (m : Move) (a : Answer) (w : Within) (k : Acting
   unmade : (y : Place) → k.from ≡ y → makes_at (At y) ≡ false → is_maker c p ≡ false
   unmade y e h = sym (acting.makes_seen t u m a w k) ∙ (ap (λ z. makes_at (At z)) e ∙ h)
 
+  active_at : (y : Place) → k.from ≡ y → new.active ≡ active_after p (deed_of (action_of y) k.found) t.machine.active
+  active_at y e = k.acts.active ∙ ap (λ z. active_after p (deed_of (action_of z) k.found) t.machine.active) e
+
+  passive_at : (y : Place) → k.from ≡ y → new.passive ≡ passive_after p (deed_of (action_of y) k.found) t.machine.passive
+  passive_at y e = k.acts.passive ∙ ap (λ z. passive_after p (deed_of (action_of z) k.found) t.machine.passive) e
+
+  claim_keeps : (y : Place) → k.from ≡ y → action_of y ≡ act.Claim → KeepsLists old new
+  claim_keeps y e claim = record {
+    active = active_at y e ∙ (ap (λ b. active_after p (deed_of b k.found) t.machine.active) claim ∙ claimed_active p k.found t.machine.active);
+    passive = passive_at y e ∙ (ap (λ b. passive_after p (deed_of b k.found) t.machine.passive) claim ∙ claimed_passive p k.found t.machine.passive);
+  }
+
   tried : is_try m.what ≡ true → TriesAtOnce old m a new
   tried h = (
       let v = (door.tries h).0 in
@@ -222,6 +276,7 @@ module _ (t u : Table OnceCell) (m : Move) (a : Answer) (w : Within) (k : Acting
       record {
         answered = answered (Try v) e ∙ try_answer p c v k.found (finds_at (Try v) e);
         begins = ap (λ z. is_maker z p) (content_at (Try v) e) ∙ claims p c k.found (finds_at (Try v) e) (unmade (Try v) e refl);
+        lists = claim_keeps (Try v) e refl;
         granted = λ empty. decided (Try v) e ∙ ap (λ f. said (next_of (Try v) f)) (found_empty k.found c (finds_at (Try v) e) empty);
       }
       )
@@ -233,13 +288,33 @@ module _ (t u : Table OnceCell) (m : Move) (a : Answer) (w : Within) (k : Acting
       record {
         answered = answered y d.1 ∙ (claim_answer p c d.0 k.found (finds_at y d.1) ∙ ap (λ z. first_answer z c) (sym (task_at_place y d.1)));
         begins = ap (λ z. is_maker z p) (content_at y d.1) ∙ claims p c k.found (finds_at y d.1) (unmade y d.1 refl);
+        lists = claim_keeps y d.1 refl;
       }
       )
 
-  waiting : is_first_wait (stands_as (verdict x) (stage_at t.stages p)) m.what (task_at x) (entries_of p t.machine.passive) ≡ true → a ≡ first_answer waits_only c
-  waiting h =
+  waiting : is_first_wait (stands_as (verdict x) (stage_at t.stages p)) m.what (task_at x) (entries_of p t.machine.passive) ≡ true → WaitsAtOnce old a new
+  waiting h = (
       let e = door.waiting (entries_of p t.machine.passive) h (k.old_laws.passive_owners p) in
-      answered (Look false) e ∙ look_answer p c k.found (finds_at (Look false) e)
+      record {
+        answered = answered (Look false) e ∙ look_answer p c k.found (finds_at (Look false) e);
+        lists = record { active = active_at (Look false) e; passive = passive_at (Look false) e };
+      }
+      )
+
+  polls_at : (y : Maker) → k.from ≡ Make y → task_of old p ≡ task_by y → PollsMaker old m a new
+  polls_at y e task = record {
+    answered = answered (Make y) e ∙ (make_answer y i.made k.found (finds_at (Make y) e) ∙ ap (λ z. maker_answer z i.made) (sym task));
+    task = acting.task_new t u m a w k ∙ (ap (λ z. task_at (after z k.found)) e ∙ (make_task y i.made k.found (finds_at (Make y) e) ∙ ap (λ z. given z i.made) (sym task)));
+    cell = content_at (Make y) e;
+    lists = record { active = active_at (Make y) e; passive = passive_at (Make y) e };
+  }
+
+  asked : (v : Within) → standing_of old p ≡ inside v None → is_maker c p ≡ true → would_make (task_of old p) ≡ true → entries_of p t.machine.active ≡ 0 → PollsMaker old m a new
+  asked v e made would none =
+      let at : x ≡ At k.from = (acting.goes_inside t u m a w k v None e).0 in
+      let task : task_of old p ≡ place_task k.from = acting.task_old t u m a w k ∙ ap task_at at in
+      let y = asks_at k.from (acting.makes_seen t u m a w k ∙ made) (ap would_make (sym task) ∙ would) (sym (acting.own_active t u m a w k) ∙ none) in
+      polls_at y.0 y.1 (task ∙ ap place_task y.1)
 
   polled_task : is_poll m.what ≡ true → task_in m.what ≡ None
   polled_task h = by_what m.what h where
@@ -250,13 +325,8 @@ module _ (t u : Table OnceCell) (m : Move) (a : Answer) (w : Within) (k : Acting
   polled : is_poll m.what ≡ true → stands_as (verdict x) (stage_at t.stages p) ≡ outside rest.Pending → is_maker c p ≡ true → PollsMaker old m a new
   polled h pending made = (
       let d = door.maker h pending (k.old_laws.makers p ∙ made) in
-      let y : Place = Make d.0 in
-      let task : task_of old p ≡ task_by d.0 = sym (ap (λ z. or_before z (task_of old p)) (polled_task h)) ∙ task_at_place y d.1 in
-      record {
-        answered = answered y d.1 ∙ (make_answer d.0 i.made k.found (finds_at y d.1) ∙ ap (λ z. maker_answer z i.made) (sym task));
-        task = acting.task_new t u m a w k ∙ (ap (λ z. task_at (after z k.found)) d.1 ∙ (make_task d.0 i.made k.found (finds_at y d.1) ∙ ap (λ z. given z i.made) (sym task)));
-        cell = content_at y d.1;
-      }
+      let task : task_of old p ≡ task_by d.0 = sym (ap (λ z. or_before z (task_of old p)) (polled_task h)) ∙ task_at_place (Make d.0) d.1 in
+      polls_at d.0 d.1 task
       )
 
   emptied : (f : Found) → Finds i p act.Empty f c t.machine.active t.machine.passive → content_after p (deed_of act.Empty f) c ≡ Empty
@@ -269,6 +339,22 @@ module _ (t u : Table OnceCell) (m : Move) (a : Answer) (w : Within) (k : Acting
       record { empty = content_at CancelMake e ∙ emptied k.found (finds_at CancelMake e); goes_on = answered CancelMake e }
       )
 
+  listed : is_poll m.what ≡ true → stands_as (verdict x) (stage_at t.stages p) ≡ outside rest.Pending → (list : ListName) → 0 < entries_of p (list_in list old) → AsksAtOnce old m a new list
+  listed h pending Active some = (
+      let d = door.in_active h pending (rw (k.old_laws.active_owners p) at some) in
+      record {
+        answered = answered (AskActive d.0) d.1 ∙ ask_answer p c d.0 t.machine.active k.found (finds_at (AskActive d.0) d.1);
+        asked = active_at (AskActive d.0) d.1 ∙ ap (λ (b : Deed Change ListName). active_after p b t.machine.active) (ask_deed p c Active t.machine.active k.found (finds_at (AskActive d.0) d.1));
+      }
+      )
+  listed h pending Passive some = (
+      let e = door.in_passive h pending (rw (k.old_laws.passive_owners p) at some) in
+      record {
+        answered = answered AskPassive e ∙ ask_passive_answer p c t.machine.passive k.found (finds_at AskPassive e);
+        asked = passive_at AskPassive e ∙ ap (λ (b : Deed Change ListName). passive_after p b t.machine.passive) (ask_deed p c Passive t.machine.passive k.found (finds_at AskPassive e));
+      }
+      )
+
   pub at_once : AnswersAtOnce old m a new
   at_once = record {
     tried = λ h possible. tried h;
@@ -276,4 +362,7 @@ module _ (t u : Table OnceCell) (m : Move) (a : Answer) (w : Within) (k : Acting
     waiting = λ h. waiting (ap (λ z. is_first_wait z m.what (task_at x) (entries_of p t.machine.passive)) (sym (acting.stood t u m a w k)) ∙ (ap (λ z. is_first_wait (standing_of old p) m.what z (entries_of p t.machine.passive)) (sym (acting.task_old t u m a w k)) ∙ h));
     maker = λ h pending made. polled h (sym (acting.stood t u m a w k) ∙ pending) made;
     dropped = λ h possible made. dropped h made;
+    gone = λ h possible unmade. k.answer ∙ door.gone h (k.old_laws.makers p ∙ unmade) k.found;
+    asked = λ v e possible made would none. asked v e made would none;
+    listed = λ h pending list some. listed h (sym (acting.stood t u m a w k) ∙ pending) list some;
   }

@@ -15,7 +15,7 @@ use Rattle.cell_program.specs.declared.program.Action.{Action}
 use Rattle.cell_program.specs.declared.program.Action.TheVariants as act
 use Rattle.cell_program.specs.declared.program.Maker.{Maker}
 use Rattle.cell_program.specs.declared.program.Place.{Place}
-use Rattle.cell_program.specs.declared.program.Place.TheVariants.{JoinActive, AskActive, LeaveToMake, Make, Fill, NotifyActive, NotifyPassive, Fail, LeaveFull, JoinPassive, AskPassive, LeavePassive, Try, TryFill, TryNotifyActive, TryNotifyPassive, CancelMake, CancelLeave}
+use Rattle.cell_program.specs.declared.program.Place.TheVariants.{JoinActive, AskActive, LeaveToMake, Make, Fill, NotifyActive, NotifyPassive, Fail, FailNotify, LeaveFull, RefuseActive, JoinPassive, AskPassive, LeavePassive, RefusePassive, Try, TryFill, TryNotifyActive, TryNotifyPassive, CancelMake, CancelNotify, CancelLeave}
 use Rattle.cell_program.specs.declared.program.Position.{Position}
 use Rattle.cell_program.specs.declared.program.Position.TheVariants.{At}
 use Rattle.cell_program.specs.Program.{action_of}
@@ -23,7 +23,7 @@ use Rattle.cell_machine.specs.Seats.{Task, fills_with, failed, task_at, task_of 
 use Rattle.cell_machine.specs.Machine.{knows, goes_with, is_begun}
 use Rattle.cell_machine.proofs.stages.Turns.{Turn, turn}
 use Rattle.cell_world.specs.Tasks.{task_in, or_before, list_for}
-use Rattle.cell_world.proofs.step.Rows.{is_join}
+use Rattle.cell_world.proofs.step.Rows.{is_join, is_notify}
 use Rattle.cell_world.proofs.step.Owns.{active_for}
 
 -- what an action needs of the party's task: who joins, asks or leaves does so in the list of its future; who fills has the value; who empties drops, or its maker failed; who tells all knows what the cell has
@@ -45,6 +45,7 @@ pub record Here (s : Stage) (what : What) (w : Within) (x : Position) (from : Pl
   pub joins : is_join from ≡ true → IsUndecided (stands_as (verdict x) s)
   pub drop : from ≡ CancelMake → is_drop what ≡ true
   pub tries : (v : ℕ) → from ≡ Try v → task_in what ≡ Some (fills_with v)
+  pub notifies : is_notify from ≡ true → is_decided (stands_as (verdict x) s) ≡ true
   pub fits : TaskFits (action_of from) what x
   pub making : (t : Task) → task_in what ≡ Some t → (k : Maker) → from ≡ Make k → ⊥
   pub going : (i : Inputs) → what ≡ Go i → x ≡ At from
@@ -53,6 +54,13 @@ joins_so : (w : Within) (x : Place) → is_join x ≡ true → IsUndecided (insi
 joins_so w (JoinActive k told) h = (w, refl)
 joins_so w (JoinPassive told) h = (w, refl)
 joins_so w _ h = absurd (cc)
+
+notifies_so : (w : Within) (x : Place) → is_notify x ≡ true → is_decided (inside w (verdict_of x)) ≡ true
+notifies_so w FailNotify h = refl
+notifies_so w (RefuseActive k) h = refl
+notifies_so w RefusePassive h = refl
+notifies_so w CancelNotify h = refl
+notifies_so w _ h = absurd (cc h)
 
 -- a place at which a call has begun isn't one at which it only begins
 only_begins : (x y : Place) → is_begun y ≡ false → is_begun x ≡ true → x ≡ y → ⊥
@@ -79,21 +87,21 @@ fits_so _ i b = tt
 
 pub here : (s : Stage) (what : What) (w : Within) (x : Position) → goes_with s x ≡ true → call_at knows s what ≡ Some w → polls_again s what ≡ false → Turn Here s what w x
 here = turn Here (record {
-  initialize = λ r i g h. record { same = refl; task = refl; decides = refl; kept = λ u b e. absurd (cc); undecided = λ h b e. cc; joins = λ h. absurd (cc); drop = λ e. absurd (cc); tries = λ n e. absurd (cc); fits = tt; making = λ t e m f. cc; going = λ j e. absurd (cc) };
-  set = λ v r i g h. record { same = refl; task = refl; decides = refl; kept = λ u b e. absurd (cc); undecided = λ h b e. cc; joins = λ h. absurd (cc); drop = λ e. absurd (cc); tries = λ n e. absurd (cc); fits = tt; making = λ t e m f. cc; going = λ j e. absurd (cc) };
-  wait = λ r i g h. record { same = refl; task = refl; decides = refl; kept = λ u b e. absurd (cc); undecided = λ h b e. cc; joins = λ h. absurd (cc); drop = λ e. absurd (cc); tries = λ n e. absurd (cc); fits = tt; making = λ t e m f. cc; going = λ j e. absurd (cc) };
-  try = λ v r i g h. record { same = refl; task = refl; decides = refl; kept = λ u b e. absurd (cc); undecided = λ h b e. cc; joins = λ h. absurd (cc); drop = λ e. absurd (cc); tries = λ n e. cc; fits = tt; making = λ t e m f. cc; going = λ j e. absurd (cc) };
-  poll = λ k i. record { same = refl; task = refl; decides = refl; kept = λ u b e. absurd (cc); undecided = λ h b e. cc; joins = λ h. absurd (cc); drop = λ e. absurd (cc); tries = λ n e. absurd (cc); fits = tt; making = λ t e m f. cc e; going = λ j e. absurd (cc) };
-  poll_listed = λ k i. record { same = refl; task = refl; decides = refl; kept = λ u b e. absurd (cc); undecided = λ h b e. cc; joins = λ h. absurd (cc); drop = λ e. absurd (cc); tries = λ n e. absurd (cc); fits = active_for k; making = λ t e m f. cc e; going = λ j e. absurd (cc) };
-  poll_maker = λ k i. record { same = refl; task = refl; decides = refl; kept = λ u b e. absurd (cc); undecided = λ h b e. cc; joins = λ h. absurd (cc); drop = λ e. absurd (cc); tries = λ n e. absurd (cc); fits = tt; making = λ t e m f. cc e; going = λ j e. absurd (cc) };
-  poll_wait = λ i. record { same = refl; task = refl; decides = refl; kept = λ u b e. absurd (cc); undecided = λ h b e. cc; joins = λ h. absurd (cc); drop = λ e. absurd (cc); tries = λ n e. absurd (cc); fits = tt; making = λ t e m f. cc e; going = λ j e. absurd (cc) };
-  poll_waiting = λ i. record { same = refl; task = refl; decides = refl; kept = λ u b e. absurd (cc); undecided = λ h b e. cc; joins = λ h. absurd (cc); drop = λ e. absurd (cc); tries = λ n e. absurd (cc); fits = refl; making = λ t e m f. cc e; going = λ j e. absurd (cc) };
-  cancel = λ k i. record { same = refl; task = refl; decides = refl; kept = λ u b e. absurd (cc); undecided = λ h b e. cc; joins = λ h. absurd (cc); drop = λ e. absurd (cc); tries = λ n e. absurd (cc); fits = active_for k; making = λ t e m f. cc; going = λ j e. absurd (cc) };
-  cancel_maker = λ k i. record { same = refl; task = refl; decides = refl; kept = λ u b e. absurd (cc); undecided = λ h b e. cc; joins = λ h. absurd (cc); drop = λ e. refl; tries = λ n e. absurd (cc); fits = inl refl; making = λ t e m f. cc; going = λ j e. absurd (cc) };
-  cancel_wait = λ i. record { same = refl; task = refl; decides = refl; kept = λ u b e. absurd (cc); undecided = λ h b e. cc; joins = λ h. absurd (cc); drop = λ e. absurd (cc); tries = λ n e. absurd (cc); fits = refl; making = λ t e m f. cc; going = λ j e. absurd (cc) };
-  abandon = λ k i. record { same = refl; task = refl; decides = refl; kept = λ u b e. absurd (cc); undecided = λ h b e. cc; joins = λ h. absurd (cc); drop = λ e. absurd (cc); tries = λ n e. absurd (cc); fits = tt; making = λ t e m f. cc; going = λ j e. absurd (cc) };
-  abandon_wait = λ i. record { same = refl; task = refl; decides = refl; kept = λ u b e. absurd (cc); undecided = λ h b e. cc; joins = λ h. absurd (cc); drop = λ e. absurd (cc); tries = λ n e. absurd (cc); fits = tt; making = λ t e m f. cc; going = λ j e. absurd (cc) };
-  drop_finished = λ i. record { same = refl; task = refl; decides = refl; kept = λ u b e. absurd (cc); undecided = λ h b e. cc; joins = λ h. absurd (cc); drop = λ e. absurd (cc); tries = λ n e. absurd (cc); fits = tt; making = λ t e m f. cc; going = λ j e. absurd (cc) };
+  initialize = λ r i g h. record { same = refl; task = refl; decides = refl; kept = λ u b e. absurd (cc); undecided = λ h b e. cc; joins = λ h. absurd (cc); drop = λ e. absurd (cc); tries = λ n e. absurd (cc); notifies = λ h. absurd (cc h); fits = tt; making = λ t e m f. cc; going = λ j e. absurd (cc) };
+  set = λ v r i g h. record { same = refl; task = refl; decides = refl; kept = λ u b e. absurd (cc); undecided = λ h b e. cc; joins = λ h. absurd (cc); drop = λ e. absurd (cc); tries = λ n e. absurd (cc); notifies = λ h. absurd (cc h); fits = tt; making = λ t e m f. cc; going = λ j e. absurd (cc) };
+  wait = λ r i g h. record { same = refl; task = refl; decides = refl; kept = λ u b e. absurd (cc); undecided = λ h b e. cc; joins = λ h. absurd (cc); drop = λ e. absurd (cc); tries = λ n e. absurd (cc); notifies = λ h. absurd (cc h); fits = tt; making = λ t e m f. cc; going = λ j e. absurd (cc) };
+  try = λ v r i g h. record { same = refl; task = refl; decides = refl; kept = λ u b e. absurd (cc); undecided = λ h b e. cc; joins = λ h. absurd (cc); drop = λ e. absurd (cc); tries = λ n e. cc; notifies = λ h. absurd (cc h); fits = tt; making = λ t e m f. cc; going = λ j e. absurd (cc) };
+  poll = λ k i. record { same = refl; task = refl; decides = refl; kept = λ u b e. absurd (cc); undecided = λ h b e. cc; joins = λ h. absurd (cc); drop = λ e. absurd (cc); tries = λ n e. absurd (cc); notifies = λ h. absurd (cc h); fits = tt; making = λ t e m f. cc e; going = λ j e. absurd (cc) };
+  poll_listed = λ k i. record { same = refl; task = refl; decides = refl; kept = λ u b e. absurd (cc); undecided = λ h b e. cc; joins = λ h. absurd (cc); drop = λ e. absurd (cc); tries = λ n e. absurd (cc); notifies = λ h. absurd (cc h); fits = active_for k; making = λ t e m f. cc e; going = λ j e. absurd (cc) };
+  poll_maker = λ k i. record { same = refl; task = refl; decides = refl; kept = λ u b e. absurd (cc); undecided = λ h b e. cc; joins = λ h. absurd (cc); drop = λ e. absurd (cc); tries = λ n e. absurd (cc); notifies = λ h. absurd (cc h); fits = tt; making = λ t e m f. cc e; going = λ j e. absurd (cc) };
+  poll_wait = λ i. record { same = refl; task = refl; decides = refl; kept = λ u b e. absurd (cc); undecided = λ h b e. cc; joins = λ h. absurd (cc); drop = λ e. absurd (cc); tries = λ n e. absurd (cc); notifies = λ h. absurd (cc h); fits = tt; making = λ t e m f. cc e; going = λ j e. absurd (cc) };
+  poll_waiting = λ i. record { same = refl; task = refl; decides = refl; kept = λ u b e. absurd (cc); undecided = λ h b e. cc; joins = λ h. absurd (cc); drop = λ e. absurd (cc); tries = λ n e. absurd (cc); notifies = λ h. absurd (cc h); fits = refl; making = λ t e m f. cc e; going = λ j e. absurd (cc) };
+  cancel = λ k i. record { same = refl; task = refl; decides = refl; kept = λ u b e. absurd (cc); undecided = λ h b e. cc; joins = λ h. absurd (cc); drop = λ e. absurd (cc); tries = λ n e. absurd (cc); notifies = λ h. absurd (cc h); fits = active_for k; making = λ t e m f. cc; going = λ j e. absurd (cc) };
+  cancel_maker = λ k i. record { same = refl; task = refl; decides = refl; kept = λ u b e. absurd (cc); undecided = λ h b e. cc; joins = λ h. absurd (cc); drop = λ e. refl; tries = λ n e. absurd (cc); notifies = λ h. absurd (cc h); fits = inl refl; making = λ t e m f. cc; going = λ j e. absurd (cc) };
+  cancel_wait = λ i. record { same = refl; task = refl; decides = refl; kept = λ u b e. absurd (cc); undecided = λ h b e. cc; joins = λ h. absurd (cc); drop = λ e. absurd (cc); tries = λ n e. absurd (cc); notifies = λ h. absurd (cc h); fits = refl; making = λ t e m f. cc; going = λ j e. absurd (cc) };
+  abandon = λ k i. record { same = refl; task = refl; decides = refl; kept = λ u b e. absurd (cc); undecided = λ h b e. cc; joins = λ h. absurd (cc); drop = λ e. absurd (cc); tries = λ n e. absurd (cc); notifies = λ h. absurd (cc h); fits = tt; making = λ t e m f. cc; going = λ j e. absurd (cc) };
+  abandon_wait = λ i. record { same = refl; task = refl; decides = refl; kept = λ u b e. absurd (cc); undecided = λ h b e. cc; joins = λ h. absurd (cc); drop = λ e. absurd (cc); tries = λ n e. absurd (cc); notifies = λ h. absurd (cc h); fits = tt; making = λ t e m f. cc; going = λ j e. absurd (cc) };
+  drop_finished = λ i. record { same = refl; task = refl; decides = refl; kept = λ u b e. absurd (cc); undecided = λ h b e. cc; joins = λ h. absurd (cc); drop = λ e. absurd (cc); tries = λ n e. absurd (cc); notifies = λ h. absurd (cc h); fits = tt; making = λ t e m f. cc; going = λ j e. absurd (cc) };
   go = λ w x i begun here. record {
     same = refl;
     task = refl;
@@ -103,6 +111,7 @@ here = turn Here (record {
     joins = λ h. joins_so w x h;
     drop = λ e. absurd (only_begins x CancelMake refl begun e);
     tries = λ v e. absurd (only_begins x (Try v) refl begun e);
+    notifies = λ h. notifies_so w x h;
     fits = fits_so x i begun;
     making = λ t e m f. cc e;
     going = λ j e. refl;

@@ -1,5 +1,5 @@
 -- A move that does nothing is a legal step: one that its party may not make, and a poll of a future that has been ready.
-use Rattle.std.proofs.Common.{◌≡◌, ℕ, inl, Bool, true, false, None, refl, sym, ◌∙◌, subst}
+use Rattle.std.proofs.Common.{◌≡◌, ℕ, inl, Bool, true, false, Option, Some, None, refl, sym, ◌∙◌, subst}
 use Rattle.lock_queue.specs.Parties.{entries_of}
 use Rattle.lock_world.specs.declared.moves.Answer.{Answer}
 use Rattle.lock_world.specs.declared.moves.Answer.TheVariants as answer
@@ -9,7 +9,8 @@ use Rattle.lock_world.specs.declared.moves.What.{What}
 use Rattle.lock_world.specs.declared.moves.What.TheVariants.{Begin}
 use Rattle.lock_world.specs.declared.refusal.Refusal.TheVariants as refusal
 use Rattle.lock_world.specs.declared.standing.Rest.TheVariants as rest
-use Rattle.lock_world.specs.Standings.{Standing, outside, call_in, refused}
+use Rattle.lock_world.specs.declared.standing.Within.{Within}
+use Rattle.lock_world.specs.Standings.{Standing, outside, inside, call_in, refused}
 use Rattle.lock_world.specs.Frame.{is_drop, is_poll_after_ready}
 use Rattle.lock_world.specs.Steps.{nothing}
 use Rattle.lock_world.proofs.Equations.{none_some}
@@ -50,12 +51,13 @@ pub record Again (s : Standing) (what : What) : Type 0 where
   pub making : (t : Task) (n : ℕ) (b : Bool) → is_first_making s what t n b ≡ false
   pub waiting : (t : Task) (n : ℕ) → is_first_wait s what t n ≡ false
   pub pending : s ≡ outside rest.Pending → ⊥
+  pub outside : (u : Within) (d : Option Answer) → s ≡ inside u d → ⊥
   pub drop : is_drop what ≡ false
   pub task : task_in what ≡ None
 
 pub again : (s : Standing) (what : What) → is_poll_after_ready s what ≡ true → Again s what
-again (outside rest.Holding) (Begin call.Poll i) h = record { try = refl; making = λ t n b. refl; waiting = λ t n. refl; pending = λ e. cc; drop = refl; task = refl }
-again (outside rest.Finished) (Begin call.Poll i) h = record { try = refl; making = λ t n b. refl; waiting = λ t n. refl; pending = λ e. cc; drop = refl; task = refl }
+again (outside rest.Holding) (Begin call.Poll i) h = record { try = refl; making = λ t n b. refl; waiting = λ t n. refl; pending = λ e. cc; outside = λ u d e. cc e; drop = refl; task = refl }
+again (outside rest.Finished) (Begin call.Poll i) h = record { try = refl; making = λ t n b. refl; waiting = λ t n. refl; pending = λ e. cc; outside = λ u d e. cc e; drop = refl; task = refl }
 again _ _ h = absurd (cc)
 
 module _ (w : World) (m : Move) (well : Standing_well w) where
@@ -88,6 +90,7 @@ module _ (w : World) (m : Move) (well : Standing_well w) where
     waits = record { waiting = λ e. absurd (cc); not_before = well.never_pending m.party };
     refused_for_cause = still.refused_for_cause;
     leaves_clear = record { each = well.each; refused = λ h. absurd (cc); refused_maker = λ h. absurd (cc) };
+    tells_others = record { failed = λ e. absurd (cc e); dropped = λ u e h. absurd (cc h); refused = λ u list e h f. absurd (cc h) };
     ends_properly = still.ends_properly;
   }
 
@@ -98,6 +101,9 @@ module _ (w : World) (m : Move) (well : Standing_well w) where
     waiting = λ h. absurd (waiting_possible (task_of w m.party) (entries_of m.party w.passive) false s m.what h none);
     maker = λ h e made. absurd (poll_possible s m.what h e none);
     dropped = λ d h made. absurd (cc h);
+    gone = λ d h unmade. absurd (cc h);
+    asked = λ u e h made t none_listed. absurd (cc h);
+    listed = λ h e list some. absurd (poll_possible s m.what h e none);
   }
 
   module _ (h : is_poll_after_ready s m.what ≡ true) where
@@ -118,6 +124,7 @@ module _ (w : World) (m : Move) (well : Standing_well w) where
       waits = record { waiting = λ e. absurd (cc); not_before = well.never_pending m.party };
       refused_for_cause = still.refused_for_cause;
       leaves_clear = record { each = well.each; refused = λ h. absurd (cc); refused_maker = λ h. absurd (cc) };
+      tells_others = record { failed = λ e. absurd (cc e); dropped = λ u e g. absurd (so.outside u (Some answer.GivenBack) e); refused = λ u list e g f. absurd (so.outside u (Some (refused refusal.Memory)) e) };
       ends_properly = still.ends_properly;
     }
 
@@ -128,4 +135,7 @@ module _ (w : World) (m : Move) (well : Standing_well w) where
       waiting = λ g. (let never = so.waiting (task_of w m.party) (entries_of m.party w.passive) in absurd (cc (g, never)));
       maker = λ g e made. absurd (so.pending e);
       dropped = λ d g made. (let never = so.drop in absurd (cc (d, never)));
+      gone = λ d g unmade. (let never = so.drop in absurd (cc (d, never)));
+      asked = λ u e g made t none_listed. absurd (so.outside u None e);
+      listed = λ g e list some. absurd (so.pending e);
     }

@@ -1,13 +1,16 @@
 -- What parties have, by where they stand.
-use Rattle.std.proofs.Common.{◌≡◌, ◌≢◌, ℕ, ◌<◌, true, Some, None, refl, arith, ap, sym, ◌∙◌, subst}
+use Rattle.std.proofs.Common.{◌≡◌, ◌≢◌, ℕ, ◌<◌, ◌⊎◌, inl, inr, true, false, Some, None, refl, arith, ap, sym, ◌∙◌, subst}
 use Rattle.lock_queue.specs.Parties.{entries_of}
 use Rattle.lock_world.specs.declared.moves.Answer.TheVariants as answer
+use Rattle.lock_world.specs.declared.standing.Kind.{Kind}
+use Rattle.lock_world.specs.declared.standing.Kind.TheVariants as kind
+use Rattle.lock_world.specs.declared.standing.Rest.{Rest}
 use Rattle.lock_world.specs.declared.standing.Rest.TheVariants as rest
 use Rattle.lock_world.specs.declared.standing.Stage.{Stage}
 use Rattle.lock_world.specs.declared.standing.Stage.TheVariants.{Outside, Inside, Forgotten}
 use Rattle.lock_world.specs.declared.standing.Within.{Within}
 use Rattle.lock_world.specs.Standings.{inside}
-use Rattle.lock_world.proofs.Equations.{none_some}
+use Rattle.lock_world.proofs.Equations.{none_some, both}
 use Rattle.lock_table.specs.Stages.{stage_at, stands_as}
 use Rattle.lock_table.specs.Tables.{Table}
 use Rattle.lock_table.proofs.Mapped.{past_last}
@@ -17,18 +20,19 @@ use Rattle.cell_program.specs.declared.program.ListName.TheVariants.{Active, Pas
 use Rattle.cell_program.specs.declared.program.Maker.{Maker}
 use Rattle.cell_program.specs.declared.program.Maker.TheVariants.{Closure, Given}
 use Rattle.cell_program.specs.declared.program.Place.{Place}
-use Rattle.cell_program.specs.declared.program.Place.TheVariants.{NotifyActive, NotifyPassive, FailNotify, LeaveFull, LeavePassive}
+use Rattle.cell_program.specs.declared.program.Place.TheVariants.{NotifyActive, NotifyPassive, FailNotify, LeaveFull, RefuseActive, LeavePassive, RefusePassive, Try, TryFill, TryNotifyActive, TryNotifyPassive, CancelMake, CancelNotify, CancelLeave, Abandon}
 use Rattle.cell_program.specs.declared.program.Position.{Position}
 use Rattle.cell_program.specs.declared.program.Position.TheVariants.{Out, ToMake, WaitingToMake, Making, ToWait, Waiting, At}
-use Rattle.cell_program.specs.declared.words.Content.TheVariants.{Full}
+use Rattle.cell_program.specs.declared.words.Content.TheVariants.{BeingMade, Full}
 use Rattle.cell_program.specs.Program.{got_of}
-use Rattle.cell_machine.specs.Seats.{task_by, task_at, makes_at, in_active, in_passive_at, value_known, verdict, verdict_of}
-use Rattle.cell_machine.specs.Machine.{OnceCell, IsCell, goes_with, is_pending, is_maker, position_at}
+use Rattle.cell_machine.specs.Seats.{fills_with, task_by, task_at, task_of as place_task, makes_at, in_active, in_passive_at, value_known, verdict, verdict_of}
+use Rattle.cell_machine.specs.Machine.{OnceCell, IsCell, goes_with, runs, is_begun, is_trying, is_cancelling, is_abandoning, is_pending, is_maker, position_at}
+use Rattle.cell_machine.proofs.laws.Contents as contents
 use Rattle.cell_machine.proofs.laws.Told.{in_list}
 use Rattle.cell_world.specs.State.{World, is_full, list_in, standing_of, task_of}
 use Rattle.cell_world.specs.View.{view_of}
 use Rattle.cell_world.specs.Tasks.{makes, list_for}
-use Rattle.cell_world.specs.Legal.{HasByTask, HasItsOwn}
+use Rattle.cell_world.specs.Legal.{HasByTask, IsClear, HasGranted, HasItsOwn}
 use Rattle.cell_world.specs.Steps.{IsCellTable}
 use Rattle.cell_world.proofs.table.Seen as seen
 
@@ -73,6 +77,12 @@ pending_makes (Making k) h m = may_make k
 pending_makes (At y) h m = absurd (cc h)
 pending_makes _ h m = absurd (cc m)
 
+pending_alone : (list : ListName) (x : Position) → is_pending x ≡ true → makes_at x ≡ true → in_list list x ≡ 0
+pending_alone Active (Making k) h m = refl
+pending_alone Passive (Making k) h m = refl
+pending_alone list (At y) h m = absurd (cc h)
+pending_alone list _ h m = absurd (cc m)
+
 listed_as : (w : World) (p : ℕ) (x : Position) → Facts w p x → (list : ListName) → entries_of p (list_in list w) ≡ in_list list x
 listed_as w p x k Active = k.active
 listed_as w p x k Passive = k.passive
@@ -81,11 +91,29 @@ by_task : (w : World) (p : ℕ) (x : Position) → is_pending x ≡ true → Fac
 by_task w p x h k = record {
   lists = λ list some. (let here : 0 < in_list list x = rw (listed_as w p x k list) at some in ap list_for k.task ∙ pending_lists list x h here);
   making = λ m. ap makes k.task ∙ pending_makes x h (k.makes ∙ m);
+  alone = λ m list. listed_as w p x k list ∙ pending_alone list x h (k.makes ∙ m);
 }
 
-own_full : (w : World) (p : ℕ) (u : Within) (k : Maker) (v : ℕ) → w.cell ≡ Full v → HasItsOwn w p (inside u (Some (answer.Ready (got_of k v))))
-own_full w p u Closure v full = full
-own_full w p u (Given own) v full = ap is_full full
+-- a party that stands so is in no list and doesn't make
+clear : (w : World) (p : ℕ) (x : Position) → in_active x ≡ 0 → in_passive_at x ≡ 0 → makes_at x ≡ false → Facts w p x → IsClear w p
+clear w p x a b d k = record { lists = no_lists w p (k.active ∙ a) (k.passive ∙ b); making = sym k.makes ∙ d }
+
+granted : (w : World) (p v : ℕ) (y : Place) → place_task y ≡ fills_with v → (w.cell ≡ BeingMade p) ⊎ (w.cell ≡ Full v) → Facts w p (At y) → HasGranted w p
+granted w p v y task cell k = record { value = v; task = k.task ∙ task; cell = cell }
+
+-- a call that goes on undecided is a poll
+polls_on : (k : Kind) (r : Rest) (y : Place) → is_cancelling y ≡ false → is_abandoning y ≡ false → is_trying y ≡ false → runs k r y ≡ true → (k ≢ kind.Drop) × (k ≢ kind.Try)
+polls_on kind.Drop rest.Pending y a b d h = absurd (cc (a, h))
+polls_on kind.Drop rest.Finished y a b d h = absurd (cc (b, h))
+polls_on kind.Drop _ y a b d h = absurd (cc h)
+polls_on kind.Try rest.Idle y a b d h = absurd (cc (d, h))
+polls_on kind.Try rest.Finished y a b d h = absurd (cc (d, h))
+polls_on kind.Try _ y a b d h = absurd (cc h)
+polls_on _ r y a b d h = (λ e. cc e, λ e. cc e)
+
+own_full : (w : World) (p : ℕ) (u : Within) (k : Maker) (v : ℕ) → w.cell ≡ Full v → task_of w p ≡ task_by k → HasItsOwn w p (inside u (Some (answer.Ready (got_of k v))))
+own_full w p u Closure v full task = full
+own_full w p u (Given own) v full task = (ap is_full full, task)
 
 own_by : (w : World) (p : ℕ) (s : Stage) (x : Position) → goes_with s x ≡ true → Facts w p x → HasItsOwn w p (stands_as (verdict x) s)
 own_by w p (Outside rest.Idle) Out g k = record { lists = no_lists w p k.active k.passive; making = sym k.makes; task = k.task }
@@ -96,10 +124,20 @@ own_by w p (Outside rest.Pending) x g k = by_task w p x g k
 own_by w p (Outside rest.Holding) x g k = absurd (cc g)
 own_by w p (Inside u) (At (NotifyActive v)) g k = k.value v refl
 own_by w p (Inside u) (At (NotifyPassive v)) g k = k.value v refl
-own_by w p (Inside u) (At (LeaveFull m v)) g k = own_full w p u m v (k.value v refl)
+own_by w p (Inside u) (At (LeaveFull m v)) g k = own_full w p u m v (k.value v refl) k.task
 own_by w p (Inside u) (At (LeavePassive v)) g k = k.value v refl
-own_by w p (Inside u) (At FailNotify) g k = sym k.makes
-own_by w p (Inside u) (At _) g k = tt
+own_by w p (Inside u) (At FailNotify) g k = clear w p (At FailNotify) refl refl refl k
+own_by w p (Inside u) (At CancelNotify) g k = clear w p (At CancelNotify) refl refl refl k
+own_by w p (Inside u) (At (RefuseActive m)) g k = clear w p (At (RefuseActive m)) refl refl refl k
+own_by w p (Inside u) (At RefusePassive) g k = clear w p (At RefusePassive) refl refl refl k
+own_by w p (Inside u) (At (TryFill v)) g k = granted w p v (TryFill v) refl (inl (contents.maker_is w.cell p (sym k.makes))) k
+own_by w p (Inside u) (At (TryNotifyActive v)) g k = granted w p v (TryNotifyActive v) refl (inr (k.value v refl)) k
+own_by w p (Inside u) (At (TryNotifyPassive v)) g k = granted w p v (TryNotifyPassive v) refl (inr (k.value v refl)) k
+own_by w p (Inside u) (At (Try v)) g k = absurd (cc g)
+own_by w p (Inside u) (At CancelMake) g k = absurd (cc g)
+own_by w p (Inside u) (At (CancelLeave list)) g k = absurd (cc g)
+own_by w p (Inside u) (At Abandon) g k = absurd (cc g)
+own_by w p (Inside u) (At y) g k = polls_on u.kind u.was y refl refl refl (both (is_begun y) (runs u.kind u.was y) g).1
 own_by w p (Inside u) _ g k = absurd (cc g)
 own_by w p Forgotten x g k = tt
 

@@ -48,6 +48,13 @@ is_join (JoinActive k told) = true
 is_join (JoinPassive told) = true
 is_join _ = false
 
+abbrev pub is_notify : Place → Bool
+is_notify FailNotify = true
+is_notify (RefuseActive k) = true
+is_notify RefusePassive = true
+is_notify CancelNotify = true
+is_notify _ = false
+
 -- a party that stands so has a future or a try
 abbrev pub open_at : Position → Bool
 open_at Out = false
@@ -65,7 +72,7 @@ module _ (i : Inputs) (p : ℕ) (c : Content) where
   AllowedAt (does list joins) x = action_of x ≡ act.Join list
   AllowedAt (does list asks) x = action_of x ≡ act.Ask list
   AllowedAt (does list leaves) x = action_of x ≡ act.Leave list
-  AllowedAt (does list (notifies n)) x = n ≡ 1
+  AllowedAt (does list (notifies n)) x = (n ≡ 1) × (action_of x ≡ act.Notify list)
   AllowedAt (does list (notifies_additionally n)) x = (n ≡ everyone) × (action_of x ≡ act.NotifyAll list)
 
   -- why a call is refused
@@ -193,11 +200,11 @@ module _ (i : Inputs) (p : ℕ) (c : Content) where
   row q r (TryNotifyPassive v) _ e = absurd e
   row q r Fail found.Done e = record { allowed = (refl, refl); judged = (refl, refl); room = tt; held_on = λ h. refl; clear = λ h. cc; task = λ o. inl refl; filled = λ n m full. absurd (cc full); emptied = λ m empty. inr refl }
   row q r Fail _ e = absurd e
-  row q r FailNotify found.Done e = record { allowed = refl; judged = (refl, refl); room = tt; held_on = λ h. cc; clear = λ h. cc; task = λ o. absurd (cc o); filled = λ n m full. absurd (no_fill n m full); emptied = λ m empty. absurd (no_empty m empty) }
+  row q r FailNotify found.Done e = record { allowed = (refl, refl); judged = (refl, refl); room = tt; held_on = λ h. cc; clear = λ h. cc; task = λ o. absurd (cc o); filled = λ n m full. absurd (no_fill n m full); emptied = λ m empty. absurd (no_empty m empty) }
   row q r FailNotify _ e = absurd e
   row q r (LeaveFull k v) found.Done e = record { allowed = refl; judged = (refl, refl); room = tt; held_on = λ h. refl; clear = λ h. cc; task = λ o. absurd (cc o); filled = λ n m full. absurd (no_fill n m full); emptied = λ m empty. absurd (no_empty m empty) }
   row q r (LeaveFull k v) _ e = absurd e
-  row q r (RefuseActive k) found.Done e = record { allowed = refl; judged = (refl, refl); room = tt; held_on = λ h. cc; clear = λ h. (refl, refl, refl); task = λ o. inl refl; filled = λ n m full. absurd (no_fill n m full); emptied = λ m empty. absurd (no_empty m empty) }
+  row q r (RefuseActive k) found.Done e = record { allowed = (refl, refl); judged = (refl, refl); room = tt; held_on = λ h. cc; clear = λ h. (refl, refl, refl); task = λ o. inl refl; filled = λ n m full. absurd (no_fill n m full); emptied = λ m empty. absurd (no_empty m empty) }
   row q r (RefuseActive k) _ e = absurd e
   row q r (Look true) (found.Full u) e = record { allowed = tt; judged = (e, λ own s. cc s); room = tt; held_on = λ h. cc; clear = λ h. cc; task = λ o. absurd (cc o); filled = λ n m full. absurd (no_fill n m full); emptied = λ m empty. absurd (no_empty m empty) }
   row q r (Look true) found.Empty e = record { allowed = tt; judged = tt; room = tt; held_on = λ h. cc; clear = λ h. cc; task = λ o. inl refl; filled = λ n m full. absurd (no_fill n m full); emptied = λ m empty. absurd (no_empty m empty) }
@@ -220,7 +227,7 @@ module _ (i : Inputs) (p : ℕ) (c : Content) where
   row q r AskPassive _ e = absurd e
   row q r (LeavePassive v) found.Done e = record { allowed = refl; judged = (refl, refl); room = tt; held_on = λ h. refl; clear = λ h. cc; task = λ o. absurd (cc o); filled = λ n m full. absurd (no_fill n m full); emptied = λ m empty. absurd (no_empty m empty) }
   row q r (LeavePassive v) _ e = absurd e
-  row q r RefusePassive found.Done e = record { allowed = refl; judged = (refl, refl); room = tt; held_on = λ h. cc; clear = λ h. (refl, refl, refl); task = λ o. inl refl; filled = λ n m full. absurd (no_fill n m full); emptied = λ m empty. absurd (no_empty m empty) }
+  row q r RefusePassive found.Done e = record { allowed = (refl, refl); judged = (refl, refl); room = tt; held_on = λ h. cc; clear = λ h. (refl, refl, refl); task = λ o. inl refl; filled = λ n m full. absurd (no_fill n m full); emptied = λ m empty. absurd (no_empty m empty) }
   row q r RefusePassive _ e = absurd e
   row q r (Try v) found.Empty e = record { allowed = (e, refl); judged = (refl, e, refl, (v, refl)); room = tt; held_on = λ h. cc; clear = λ h. cc; task = λ o. inl refl; filled = λ n m full. absurd (cc full); emptied = λ m empty. absurd (cc empty) }
   row q r (Try v) found.BeingMade e = record { allowed = tt; judged = tt; room = tt; held_on = λ h. cc; clear = λ h. cc; task = λ o. absurd (cc o); filled = λ n m full. absurd (no_fill n m full); emptied = λ m empty. absurd (no_empty m empty) }
@@ -230,7 +237,7 @@ module _ (i : Inputs) (p : ℕ) (c : Content) where
   row q r (TryFill v) _ e = absurd e
   row q r CancelMake found.Done e = record { allowed = (refl, refl); judged = (refl, refl); room = tt; held_on = λ h. refl; clear = λ h. cc; task = λ o. inl refl; filled = λ n m full. absurd (cc full); emptied = λ m empty. inl refl }
   row q r CancelMake _ e = absurd e
-  row q r CancelNotify found.Done e = record { allowed = refl; judged = (refl, refl); room = tt; held_on = λ h. cc; clear = λ h. cc; task = λ o. absurd (cc o); filled = λ n m full. absurd (no_fill n m full); emptied = λ m empty. absurd (no_empty m empty) }
+  row q r CancelNotify found.Done e = record { allowed = (refl, refl); judged = (refl, refl); room = tt; held_on = λ h. cc; clear = λ h. cc; task = λ o. absurd (cc o); filled = λ n m full. absurd (no_fill n m full); emptied = λ m empty. absurd (no_empty m empty) }
   row q r CancelNotify _ e = absurd e
   row q r (CancelLeave Active) found.Done e = record { allowed = refl; judged = (refl, refl); room = tt; held_on = λ h. refl; clear = λ h. cc; task = λ o. absurd (cc o); filled = λ n m full. absurd (no_fill n m full); emptied = λ m empty. absurd (no_empty m empty) }
   row q r (CancelLeave Active) _ e = absurd e

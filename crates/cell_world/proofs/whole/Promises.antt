@@ -7,6 +7,7 @@ use Rattle.lock_world.specs.declared.moves.Answer.{Answer}
 use Rattle.lock_world.specs.declared.moves.Answer.TheVariants as answer
 use Rattle.lock_world.specs.declared.moves.Call.{Call}
 use Rattle.lock_world.specs.declared.moves.Call.TheVariants as call
+use Rattle.lock_world.specs.declared.moves.Got.{Got}
 use Rattle.lock_world.specs.declared.moves.Got.TheVariants as got
 use Rattle.lock_world.specs.declared.moves.Inputs.{Inputs}
 use Rattle.lock_world.specs.declared.moves.Move.{Move}
@@ -32,6 +33,7 @@ use Rattle.cell_program.specs.declared.program.Found.{Found}
 use Rattle.cell_program.specs.declared.program.Found.TheVariants as found
 use Rattle.cell_program.specs.declared.program.ListName.{ListName}
 use Rattle.cell_program.specs.declared.program.ListName.TheVariants.{Active, Passive}
+use Rattle.cell_program.specs.declared.program.Maker.{Maker}
 use Rattle.cell_program.specs.declared.program.Maker.TheVariants.{Closure, Given}
 use Rattle.cell_program.specs.declared.program.Place.{Place}
 use Rattle.cell_program.specs.declared.program.Place.TheVariants.{Claim, ClaimListed, JoinActive, AskActive, LeaveToMake, Make, Fill, NotifyActive, NotifyPassive, Fail, FailNotify, LeaveFull, RefuseActive, Look, JoinPassive, LookListed, AskPassive, LeavePassive, RefusePassive, CancelMake, CancelNotify}
@@ -39,7 +41,7 @@ use Rattle.cell_program.specs.declared.program.Position.{Position}
 use Rattle.cell_program.specs.declared.program.Position.TheVariants.{Out, At}
 use Rattle.cell_program.specs.declared.words.Content.{Content}
 use Rattle.cell_program.specs.declared.words.Content.TheVariants.{Empty, BeingMade, Full}
-use Rattle.cell_program.specs.Program.{action_of, next_of}
+use Rattle.cell_program.specs.Program.{got_of, action_of, next_of}
 use Rattle.cell_machine.specs.Seats.{Task, no_task, initializes, sets, waits_only, fills_with, failed, task_by, task_at, task_of as place_task, in_active, verdict}
 use Rattle.cell_program.specs.Deeds.{list_of, deed_of, content_after, active_after, passive_after, Finds}
 use Rattle.cell_machine.specs.Machine.{OnceCell, IsCell, knows, goes_with, runs, is_maker, position_at, answer_by}
@@ -50,7 +52,7 @@ use Rattle.cell_world.specs.State.{World, list_in, standing_of, task_of}
 use Rattle.cell_world.specs.View.{view_of}
 use Rattle.cell_world.specs.Tasks.{or_before, task_then, given}
 use Rattle.cell_world.specs.Legal.{call_of}
-use Rattle.cell_world.specs.AtOnce.{is_first_making}
+use Rattle.cell_world.specs.AtOnce.{is_first_making, got_by}
 use Rattle.cell_world.specs.Steps.{IsCellTable, TableSteps, Stands, Steps}
 use Rattle.cell_world.proofs.table.Seen as seen
 use Rattle.std.proofs.Common.{◌-◌}
@@ -62,7 +64,7 @@ use Rattle.lock_world.proofs.Bounds.{marked_listed}
 use Rattle.lock_frame.specs.Steps.{beginning}
 use Rattle.lock_frame.proofs.Runs.{Onward, along}
 use Rattle.cell_world.specs.Runs.{Known, HoldsWell, learn, Runs}
-use Rattle.cell_world.specs.Bound.{IsSolo, ComesTo, Promises}
+use Rattle.cell_world.specs.Bound.{ComesTo, Promises}
 use Rattle.cell_world.proofs.step.Rows.{content_then, gave, gave_failure, pends, never_found}
 use Rattle.cell_world.proofs.step.Idle.{again, making_possible}
 use Rattle.cell_world.proofs.step.Acting.{Acting}
@@ -309,19 +311,19 @@ module _ (p : ℕ) (i : Inputs) (w : World) where
   poll_task : (b : Answer) (y : World) (s : Steps w (beginning p call.Poll i) b y) (z : Within) (k : Acting w.behind y.behind (beginning p call.Poll i) b z) → task_of w p ≡ place_task k.from
   poll_task b y s z k = task_is w p s.did.stood ∙ k.here.task
 
-  -- a solo poll
-  solo_begins : IsSolo w p i → w.cell ≡ Empty → Begins p i (given (task_of w p) i.made) w call.Poll
-  solo_begins solo empty = record {
-    possible = λ none. poll_possible (standing_of w p) i call.Poll (inl refl) solo.pending none;
-    first = λ f. pending_first (standing_of w p) (Begin call.Poll i) solo.pending f;
+  -- the poll of a party that was told
+  solo_begins : standing_of w p ≡ outside rest.Pending → is_marked_at (is_party p) w.active ≡ true → w.cell ≡ Empty → Begins p i (given (task_of w p) i.made) w call.Poll
+  solo_begins pending marked empty = record {
+    possible = λ none. poll_possible (standing_of w p) i call.Poll (inl refl) pending none;
+    first = λ f. pending_first (standing_of w p) (Begin call.Poll i) pending f;
     from = λ b y s z k. (
         let st = s.did.stood in
-        let listed : 0 < entries_of p w.active = marked_listed p w.active solo.marked in
+        let listed : 0 < entries_of p w.active = marked_listed p w.active marked in
         let some : 0 < in_active x = rw (sym (ap (entries_of p) (active_is w st) ∙ st.cell.active_owners p)) listed in
-        let d = (entered_at w (beginning p call.Poll i) b y s z k).in_active refl (standing_at w p st ∙ solo.pending) some in
+        let d = (entered_at w (beginning p call.Poll i) b y s z k).in_active refl (standing_at w p st ∙ pending) some in
         let task : task_of w p ≡ task_by d.0 = poll_task b y s z k ∙ ap place_task d.1 in
         let R : Place → Type 0 = λ e. Coming p i (given (task_of w p) i.made) e w.behind.machine.content w.behind.machine.active in
-        subst R (sym d.1) (ap (is_marked_at (is_party p)) (sym (active_is w st)) ∙ solo.marked, sym (cell_is w st) ∙ empty, ap (λ e. given e i.made) (sym task))
+        subst R (sym d.1) (ap (is_marked_at (is_party p)) (sym (active_is w st)) ∙ marked, sym (cell_is w st) ∙ empty, ap (λ e. given e i.made) (sym task))
         );
   }
 
@@ -479,11 +481,122 @@ module _ (p : ℕ) (i : Inputs) (list : ListName) where
   pub hands_on : (known : Known) (w : World) (n : ℕ) (a : Answer) (v : World) → Runs known w (moves_of p call.Poll i n) (answers_of n a) v → a ≢ answer.Stepped → standing_of w p ≡ outside rest.Pending → 0 < entries_of p (list_in list w) → HandsOn a v
   hands_on known w n a v runs ended pending listed = along Steps learn HoldsWell p i IsHanding HandsOn hands_going known n w (beginning p call.Poll i) a v (λ b x s. hands_begun w b x pending listed s) ended runs
 
+-- ---- on a full cell a notified party's poll is ready
+
+got_so : (k : Maker) (v : ℕ) → got_of k v ≡ got_by (task_by k) v
+got_so Closure v = refl
+got_so (Given own) v = refl
+
+empty_full : (v : ℕ) (c : Content) → c ≡ Empty → c ≡ Full v → ⊥
+empty_full v c e full = let never : Empty ≡ Full v = sym e ∙ full in cc never
+
+made_full : (q v : ℕ) (c : Content) → c ≡ BeingMade q → c ≡ Full v → ⊥
+made_full q v c e full = let never : BeingMade q ≡ Full v = sym e ∙ full in cc never
+
+same_value : (u v : ℕ) (c : Content) → c ≡ Full u → c ≡ Full v → u ≡ v
+same_value u v c e full = let same : Full u ≡ Full v = sym e ∙ full in cc same
+
+module _ (p : ℕ) (i : Inputs) (g : Got) (v : ℕ) where
+  -- a place where the cell is looked at, and from where this is got
+  abbrev Looks : Place → Type 0
+  Looks (Claim k told) = got_of k v ≡ g
+  Looks (Look told) = got.Value v ≡ g
+  Looks _ = ⊥
+
+  abbrev Asks : Place → List (Entry ℕ) → List (Entry ℕ) → Type 0
+  Asks (AskActive k) q r = (is_marked_at (is_party p) q ≡ true) × (got_of k v ≡ g)
+  Asks AskPassive q r = (is_marked_at (is_party p) r ≡ true) × (got.Value v ≡ g)
+  Asks _ q r = ⊥
+
+  module _ (c : Content) (q r : List (Entry ℕ)) (full : c ≡ Full v) where
+    looks : (y : Place) (f : Found) → Finds i p (action_of y) f c q r → Looks y → answer_by (next_of y f) ≡ answer.Ready g
+    looks (Claim k told) (found.Full u) e h = ap answer.Ready (ap (got_of k) (same_value u v c e full) ∙ h)
+    looks (Claim k told) found.Empty e h = absurd (empty_full v c e full)
+    looks (Claim k told) found.BeingMade e h = absurd (made_full e.0 v c e.1 full)
+    looks (Claim k told) _ e h = absurd e
+    looks (Look told) (found.Full u) e h = ap answer.Ready (ap got.Value (same_value u v c e full) ∙ h)
+    looks (Look told) found.Empty e h = absurd (empty_full v c e full)
+    looks (Look told) found.BeingMade e h = absurd (made_full e.0 v c e.1 full)
+    looks (Look told) _ e h = absurd e
+    looks _ f e h = absurd h
+
+    -- who asks and was told goes on to look
+    asks : (y : Place) (f : Found) → Finds i p (action_of y) f c q r → Asks y q r → (answer_by (next_of y f) ≡ answer.Stepped) × (content_then i p c y f ≡ Full v) × ((z : Place) × (after y f ≡ At z) × Looks z)
+    asks (AskActive k) found.Yes e h = (refl, full, (Claim k true, refl, h.1))
+    asks (AskActive k) found.No e h = absurd (cc (e, h.0))
+    asks (AskActive k) _ e h = absurd e
+    asks AskPassive found.Yes e h = (refl, full, (Look true, refl, h.1))
+    asks AskPassive found.No e h = absurd (cc (e, h.0))
+    asks AskPassive _ e h = absurd e
+    asks _ f e h = absurd h
+
+  abbrev IsLooking : World → Type 0
+  IsLooking x = (y : Place) × (position_at x.behind.machine.positions p ≡ At y) × Looks y × (x.cell ≡ Full v)
+
+  abbrev IsReady : Answer → World → Type 0
+  IsReady a u = a ≡ answer.Ready g
+
+  abbrev Readies : Answer → World → Type 0
+  Readies a u = Onward IsLooking IsReady a u
+
+  finds_so : (t u : Table OnceCell) (what : What) (a : Answer) (w : Within) (k : Acting t u (record { party = p; what = what }) a w) → inputs_of what ≡ i → Finds i p (action_of k.from) k.found t.machine.content t.machine.active t.machine.passive
+  finds_so t u what a w k same = let P : Inputs → Type 0 = λ j. Finds j p (action_of k.from) k.found t.machine.content t.machine.active t.machine.passive in subst P same k.acts.finds
+
+  looked : (t u : Table OnceCell) (what : What) (a : Answer) (w : Within) (k : Acting t u (record { party = p; what = what }) a w) → inputs_of what ≡ i → t.machine.content ≡ Full v → Looks k.from → Readies a (view_of u)
+  looked t u what a w k same full h = (
+      let ready : a ≡ answer.Ready g = k.answer ∙ looks t.machine.content t.machine.active t.machine.passive full k.from k.found (finds_so t u what a w k same) h in
+      record { going = λ e. (let never : answer.Stepped ≡ answer.Ready g = sym e ∙ ready in absurd (cc never)); ended = λ n. ready }
+      )
+
+  asked : (t u : Table OnceCell) (what : What) (a : Answer) (w : Within) (k : Acting t u (record { party = p; what = what }) a w) → inputs_of what ≡ i → t.machine.content ≡ Full v → Asks k.from t.machine.active t.machine.passive → Readies a (view_of u)
+  asked t u what a w k same full h = (
+      let rows = asks t.machine.content t.machine.active t.machine.passive full k.from k.found (finds_so t u what a w k same) h in
+      record {
+        going = λ e. (rows.2.0, acting.lands_at t u (record { party = p; what = what }) a w k ∙ rows.2.1, rows.2.2, k.acts.content ∙ rows.1);
+        ended = λ n. absurd (n (k.answer ∙ rows.0));
+      }
+      )
+
+  looks_on : (x : World) (b : Answer) (y : World) → IsLooking x → Steps x (going_on p i) b y → Readies b y
+  looks_on x b y h s = subst (λ z. Readies b z) (sym s.did.stands.seen) (by_step x.behind y.behind (going_on p i) b s.did.stood.cell s.did.stood.fits s.did.stands.cell s.did.stands.fits (λ c z. Readies c (view_of z))
+      (λ e. absurd (may_go x.behind p i h.0 s.did.stood.fits h.1 e)) (λ w e f. absurd (again_goes i (stage_at x.behind.stages p) f))
+      (λ w k. (let at : h.0 ≡ k.from = at_same h.0 k.from (sym h.1 ∙ from_turn x.behind y.behind (going_on p i) b w k) in let Q : Place → Type 0 = Looks in looked x.behind y.behind (Go i) b w k refl (sym (cell_is x s.did.stood) ∙ h.3) (subst Q at h.2))) s.did.step)
+
+  module _ (w : World) (pending : standing_of w p ≡ outside rest.Pending) (full : w.cell ≡ Full v) (gets : got_by (task_of w p) v ≡ g) where
+    asks_there : (st : Stands w) (from : Place) (z : Within) → Entrance (stage_at w.behind.stages p) (Begin call.Poll i) z (position_at w.behind.machine.positions p) from → task_of w p ≡ place_task from → (list : ListName) → is_marked_at (is_party p) (list_in list w) ≡ true → Asks from w.behind.machine.active w.behind.machine.passive
+    asks_there st from z d task Active marked =
+        let listed : 0 < entries_of p w.active = marked_listed p w.active marked in
+        let at = d.in_active refl (standing_at w p st ∙ pending) (rw (sym (ap (entries_of p) (active_is w st) ∙ st.cell.active_owners p)) listed) in
+        let R : Place → Type 0 = λ e. Asks e w.behind.machine.active w.behind.machine.passive in
+        subst R (sym at.1) (ap (is_marked_at (is_party p)) (sym (active_is w st)) ∙ marked, got_so at.0 v ∙ (ap (λ e. got_by e v) (sym (task ∙ ap place_task at.1)) ∙ gets))
+    asks_there st from z d task Passive marked =
+        let listed : 0 < entries_of p w.passive = marked_listed p w.passive marked in
+        let at = d.in_passive refl (standing_at w p st ∙ pending) (rw (sym (ap (entries_of p) (passive_is w st) ∙ st.cell.passive_owners p)) listed) in
+        let R : Place → Type 0 = λ e. Asks e w.behind.machine.active w.behind.machine.passive in
+        subst R (sym at) (ap (is_marked_at (is_party p)) (sym (passive_is w st)) ∙ marked, ap (λ e. got_by e v) (sym (task ∙ ap place_task at)) ∙ gets)
+
+    asks_begun : (list : ListName) → is_marked_at (is_party p) (list_in list w) ≡ true → (b : Answer) (y : World) → Steps w (beginning p call.Poll i) b y → Readies b y
+    asks_begun list marked b y s = subst (λ z. Readies b z) (sym s.did.stands.seen) (by_step w.behind y.behind (beginning p call.Poll i) b s.did.stood.cell s.did.stood.fits s.did.stands.cell s.did.stands.fits (λ d z. Readies d (view_of z))
+        (λ e. absurd (poll_possible (standing_of w p) i call.Poll (inl refl) pending (called_so ∙ e))) (λ z e f. absurd (pending_first (standing_of w p) (Begin call.Poll i) pending (again_so ∙ f)))
+        (λ z k. asked w.behind y.behind (Begin call.Poll i) b z k refl (sym (cell_is w s.did.stood) ∙ full) (asks_there s.did.stood k.from z (entered_at w (beginning p call.Poll i) b y s z k) (poll_task p i w b y s z k) list marked)) s.did.step) where
+          standing_so : standing_of w p ≡ stands_as (verdict (position_at w.behind.machine.positions p)) (stage_at w.behind.stages p)
+          standing_so = sym (standing_at w p s.did.stood)
+
+          called_so : call_of w (beginning p call.Poll i) ≡ call_at knows (stage_at w.behind.stages p) (Begin call.Poll i)
+          called_so = ap (λ z. call_in knows z (Begin call.Poll i)) standing_so ∙ call_seen knows (verdict (position_at w.behind.machine.positions p)) (stage_at w.behind.stages p) (Begin call.Poll i)
+
+          again_so : is_poll_after_ready (standing_of w p) (Begin call.Poll i) ≡ polls_again (stage_at w.behind.stages p) (Begin call.Poll i)
+          again_so = ap (λ z. is_poll_after_ready z (Begin call.Poll i)) standing_so ∙ again_seen (verdict (position_at w.behind.machine.positions p)) (stage_at w.behind.stages p) (Begin call.Poll i)
+
+  pub ready_told : (w : World) → got_by (task_of w p) v ≡ g → (known : Known) (n : ℕ) (a : Answer) (u : World) → Runs known w (moves_of p call.Poll i n) (answers_of n a) u → a ≢ answer.Stepped → standing_of w p ≡ outside rest.Pending → (list : ListName) → is_marked_at (is_party p) (list_in list w) ≡ true → w.cell ≡ Full v → a ≡ answer.Ready g
+  ready_told w gets known n a u runs ended pending list marked full = along Steps learn HoldsWell p i IsLooking IsReady looks_on known n w (beginning p call.Poll i) a u (λ b x s. asks_begun w pending full gets list marked b x s) ended runs
+
 pub keeps_promises : (known : Known) (w : World) (p : ℕ) (c : Call) (i : Inputs) (n : ℕ) (a : Answer) (v : World) → Runs known w (moves_of p c i n) (answers_of n a) v → a ≢ answer.Stepped → Promises w p c i a v
 keeps_promises known w p c i n a v runs ended = record {
   first = λ h empty. comes_to p i (given (task_then (Begin c i) (task_of w p)) i.made) known w c n a v runs ended (first_begins p i w c h empty);
-  solo = λ e solo empty. (let P : Call → Type 0 = λ c. Runs known w (moves_of p c i n) (answers_of n a) v in comes_to p i (given (task_of w p) i.made) known w call.Poll n a v (subst P e runs) ended (solo_begins p i w solo empty));
+  solo = λ e pending marked empty. (let P : Call → Type 0 = λ c. Runs known w (moves_of p c i n) (answers_of n a) v in comes_to p i (given (task_of w p) i.made) known w call.Poll n a v (subst P e runs) ended (solo_begins p i w pending marked empty));
   maker = λ e pending making. (let P : Call → Type 0 = λ c. Runs known w (moves_of p c i n) (answers_of n a) v in comes_to p i (given (task_of w p) i.made) known w call.Poll n a v (subst P e runs) ended (maker_begins p i w pending making));
   dropped = λ e pending making. (let P : Call → Type 0 = λ c. Runs known w (moves_of p c i n) (answers_of n a) v in comes_to p i no_task known w call.Drop n a v (subst P e runs) ended (drop_begins p i w pending making));
+  full = λ e pending list x marked full. (let P : Call → Type 0 = λ c. Runs known w (moves_of p c i n) (answers_of n a) v in ready_told p i (got_by (task_of w p) x) x w refl known n a v (subst P e runs) ended pending list marked full);
   hands_on = λ e pending list listed. (let P : Call → Type 0 = λ c. Runs known w (moves_of p c i n) (answers_of n a) v in hands_on p i list known w n a v (subst P e runs) ended pending listed);
 }

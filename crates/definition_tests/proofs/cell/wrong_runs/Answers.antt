@@ -1,28 +1,39 @@
 -- No wrong run of a once-cell is legal.
-use Rattle.std.proofs.Common.{◌≡◌, ℕ, ◌⊎◌, inl, inr, if◌then◌else◌, Bool, true, false, Some, None, refl, arith, ap, sym, ◌∙◌}
-use Rattle.std.proofs.lemmas.Bool.{true≢false}
+use Rattle.std.proofs.Common.{◌≡◌, ◌≢◌, ℕ, ◌+◌, ◌<◌, ◌⊎◌, inl, inr, if◌then◌else◌, Bool, true, false, List, Option, Some, None, refl, arith, ap, sym, ◌∙◌, subst}
+use Rattle.std.proofs.lemmas.Bool.{false≢true, true≢false}
+use Rattle.lock_event.specs.declared.event.Entry.{Entry}
 use Rattle.lock_event.specs.declared.event.Mark.TheVariants.{Waiting}
-use Rattle.lock_event.specs.Lists.{mark_at}
+use Rattle.lock_event.specs.Lists.{mark_at, is_marked_at, marked_count}
+use Rattle.lock_event.proofs.Counts.{marked_count-without_marked}
 use Rattle.lock_queue.specs.Parties.{is_party}
 use Rattle.lock_world.specs.declared.moves.Answer.{Answer}
 use Rattle.lock_world.specs.declared.moves.Answer.TheVariants as answer
+use Rattle.lock_world.specs.declared.moves.Got.TheVariants as got
+use Rattle.lock_world.specs.declared.moves.Inputs.{Inputs}
+use Rattle.lock_world.specs.declared.moves.Made.{Made}
 use Rattle.lock_world.specs.declared.moves.Made.TheVariants as made
 use Rattle.lock_world.specs.declared.moves.Move.{Move}
 use Rattle.lock_world.specs.declared.moves.What.{What}
+use Rattle.lock_world.specs.declared.refusal.Refusal.{Refusal}
+use Rattle.lock_world.specs.declared.refusal.Refusal.TheVariants as refusal
+use Rattle.lock_world.specs.declared.standing.Rest.TheVariants.{Pending}
+use Rattle.lock_world.specs.Refusals.{number_of}
 use Rattle.lock_world.specs.Frame.{is_drop}
-use Rattle.lock_world.specs.Standings.{is_possible, inputs_of}
-use Rattle.lock_world.specs.Steps.{Deed, nothing, changes, does}
-use Rattle.lock_world.proofs.Equations.{some_eq, none_some}
+use Rattle.lock_world.specs.Standings.{Standing, outside, inside, is_decided, is_possible, inputs_of, refused}
+use Rattle.lock_world.specs.Steps.{Deed, nothing, changes, does, notifies, asks, list_after}
+use Rattle.lock_world.proofs.Equations.{some_eq, some_none, none_some}
 use Rattle.cell_program.specs.declared.program.ListName.{ListName}
 use Rattle.cell_program.specs.declared.program.ListName.TheVariants.{Active, Passive}
 use Rattle.cell_program.specs.declared.words.Content.{Content}
 use Rattle.cell_program.specs.declared.words.Content.TheVariants.{Empty, BeingMade, Full}
 use Rattle.cell_machine.specs.Seats.{Task, no_task, initializes, sets, waits_only, fills_with, failed}
 use Rattle.cell_program.specs.Deeds.{Change, begins, fills, empties, content_after}
+use Rattle.cell_machine.specs.Machine.{is_maker}
 use Rattle.cell_machine.proofs.laws.Contents.{maker_is}
-use Rattle.cell_world.specs.State.{World, list_in, is_empty, task_of}
+use Rattle.cell_world.specs.State.{World, list_in, is_empty, standing_of, task_of}
 use Rattle.cell_world.specs.Tasks.{task_in, given, list_for}
-use Rattle.cell_world.specs.Legal.{IsAllowed, IsPendingMaker, WaitsInList}
+use Rattle.cell_world.specs.Legal.{Legal, HasItsOwn, IsCause, IsOutOfMemory, MayTell, IsAllowed, IsPendingMaker, WaitsInList}
+use Rattle.cell_world.specs.AtOnce.{would_make}
 use Rattle.cell_world.specs.Bound.{ComesTo}
 use Rattle.cell_world.proofs.Values.{stays_full}
 use Rattle.definition_tests.proofs.cell.wrong_runs.Goals as goal
@@ -135,7 +146,138 @@ pub returns-clause-tells_nobody : goal.returns-clause-tells_nobody
 returns-clause-tells_nobody c = λ r. let some = (r.kept.dropped r.drops r.was_pending r.making).1.notified r.some in absurd (omega (arith, some, r.none_told))
 
 pub returns-clause-passes_over_in_vain : goal.returns-clause-passes_over_in_vain
-returns-clause-passes_over_in_vain c = λ r. r.no_maker (pends_so _ r.whole.party r.whole.answer r.whole.new (r.kept.solo r.polls r.solo r.empty) r.pending)
+returns-clause-passes_over_in_vain c = λ r. r.no_maker (pends_so _ r.whole.party r.whole.answer r.whole.new (r.kept.solo r.polls r.solo.pending r.solo.marked r.empty) r.pending)
 
 pub returns-clause-keeps_its_told : goal.returns-clause-keeps_its_told
 returns-clause-keeps_its_told c = λ r. let some = r.kept.hands_on r.polls r.was_pending r.list r.listed r.refused r.some in absurd (omega (arith, some, r.none_told))
+
+pub returns-clause-left_untold : goal.returns-clause-left_untold
+returns-clause-left_untold c = λ r. true≢false (sym (r.sound.told r.value r.full r.none_tells r.list r.party r.stands r.listed) ∙ r.unmarked)
+
+-- what a party has that stands so after a legal step
+has_there : (w : World) (m : Move) (a : Answer) (v : World) (s : Standing) → Legal w m a v → standing_of v m.party ≡ s → HasItsOwn v m.party s
+has_there w m a v s l e = let P : Standing → Type 0 = HasItsOwn v m.party in subst P e (l.leaves_clear.each m.party)
+
+pub returns-clause-goes_on_undecided : goal.returns-clause-goes_on_undecided
+returns-clause-goes_on_undecided c = λ r.
+    let own = has_there r.step.old r.step.move r.step.answer r.step.new (inside r.within None) r.legal r.undecided in
+    elim r.kind as (λ _. ⊥) [ inl e ↦ own.0 e | inr e ↦ own.1 e ]
+
+pub returns-clause-drops_listed : goal.returns-clause-drops_listed
+returns-clause-drops_listed c = λ r.
+    let own = has_there r.step.old r.step.move r.step.answer r.step.new (inside r.within (Some answer.GivenBack)) r.legal r.dropped in
+    let none = own.lists r.list in absurd (omega (arith, none, r.listed))
+
+pub returns-clause-makes_and_waits : goal.returns-clause-makes_and_waits
+returns-clause-makes_and_waits c = λ r.
+    let own = has_there r.step.old r.step.move r.step.answer r.step.new (outside Pending) r.legal r.pending in
+    let none = own.alone r.making r.list in absurd (omega (arith, none, r.listed))
+
+-- what is refused for memory has that cause
+memory_cause : (w : World) (m : Move) (v : World) (r : Refusal) → number_of refusal.Memory ≡ number_of r → IsCause w m v r → IsOutOfMemory w m v
+memory_cause w m v refusal.Memory e h = h
+memory_cause w m v _ e h = absurd (omega arith)
+
+pub returns-clause-refuses_maker : goal.returns-clause-refuses_maker
+returns-clause-refuses_maker c = λ r.
+    let why = r.legal.refused_for_cause.cause _ r.refusal in
+    let cause = memory_cause r.step.old r.step.move r.step.new why.0 why.1 why.2 in
+    true≢false (sym r.making ∙ cause.unmade)
+
+-- who may tell is decided
+tells_decided : (w : World) (m : Move) (list : ListName) (s : Standing) → MayTell w m list s → is_decided s ≡ true
+tells_decided w m list (inside u (Some (answer.Ready got.Failed))) h = refl
+tells_decided w m list (inside u (Some answer.GivenBack)) h = refl
+tells_decided w m list (inside u (Some (answer.Refused n))) h = refl
+tells_decided w m list _ h = absurd h
+
+-- whom this party may tell that did so
+told_there : (w : World) (m : Move) (d : Deed Change ListName) (list : ListName) (n : ℕ) (s : Standing) → IsAllowed w m d → d ≡ does list (notifies n) → standing_of w m.party ≡ s → MayTell w m list s
+told_there w m d list n s ok e stands =
+    let P : Deed Change ListName → Type 0 = IsAllowed w m in
+    let Q : Standing → Type 0 = MayTell w m list in
+    let here : P (does list (notifies n)) = subst P e ok in subst Q stands here.1
+
+pub returns-clause-marks_undecided : goal.returns-clause-marks_undecided
+returns-clause-marks_undecided c = λ r.
+    let may = told_there r.step.old r.step.move r.legal.one_change.deed r.list r.many (standing_of r.step.old r.step.move.party) r.legal.one_change.allowed r.marks refl in
+    true≢false (sym (tells_decided r.step.old r.step.move r.list (standing_of r.step.old r.step.move.party) may) ∙ r.undecided)
+
+pub returns-clause-grants_nothing : goal.returns-clause-grants_nothing
+returns-clause-grants_nothing c = λ r.
+    let own = has_there r.step.old r.step.move r.step.answer r.step.new (inside r.within (Some (answer.Granted r.got))) r.legal r.granted in
+    elim own.cell as (λ _. ⊥) [ inl made ↦ made_empty r.step.move.party r.step.new.cell made r.empty | inr full ↦ (let never : Full own.value ≡ Empty = sym full ∙ r.empty in cc never) ]
+
+pub returns-clause-has_another_back : goal.returns-clause-has_another_back
+returns-clause-has_another_back c = λ r.
+    let own = has_there r.step.old r.step.move r.step.answer r.step.new (inside r.within (Some (answer.Ready (got.Taken r.back)))) r.legal r.taken in
+    let same : sets r.back ≡ sets r.own = sym own.1 ∙ r.set in r.other (cc same)
+
+pub returns-clause-fails_untold : goal.returns-clause-fails_untold
+returns-clause-fails_untold c = λ r. let some = r.legal.tells_others.failed r.failed r.some in absurd (omega (arith, some, r.none_told))
+
+pub returns-clause-drops_untold : goal.returns-clause-drops_untold
+returns-clause-drops_untold c = λ r. let some = r.legal.tells_others.dropped r.within r.dropped r.possible r.some in absurd (omega (arith, some, r.none_told))
+
+pub returns-clause-refused_untold : goal.returns-clause-refused_untold
+returns-clause-refused_untold c = λ r. let some = r.legal.tells_others.refused r.within r.list r.refusal r.possible r.its r.some in absurd (omega (arith, some, r.none_told))
+
+pub returns-clause-waits_though_told : goal.returns-clause-waits_though_told
+returns-clause-waits_though_told c = λ r.
+    let so : answer.Pending ≡ answer.Stepped = sym r.pending ∙ ((r.legal.listed r.polls r.was_pending r.list r.listed).answered ∙ chosen (is_marked_at (is_party r.step.move.party) (list_in r.list r.step.old)) true answer.Stepped answer.Pending r.marked) in cc so
+
+pub returns-clause-goes_on_untold : goal.returns-clause-goes_on_untold
+returns-clause-goes_on_untold c = λ r.
+    r.goes_on ((r.legal.listed r.polls r.was_pending r.list r.listed).answered ∙ chosen (is_marked_at (is_party r.step.move.party) (list_in r.list r.step.old)) false answer.Stepped answer.Pending r.unmarked)
+
+pub returns-clause-waits_for_full : goal.returns-clause-waits_for_full
+returns-clause-waits_for_full c = λ r.
+    let ready = r.kept.full r.polls r.was_pending r.list r.value r.marked r.full in
+    elim r.in_vain as (λ _. ⊥) [ inl e ↦ (let never = sym e ∙ ready in cc never) | inr e ↦ (let never = sym e ∙ ready in cc never) ]
+
+-- who makes isn't refused
+never_refused : (t : Task) (p : ℕ) (a : Answer) (v : World) → ComesTo t p a v → a ≡ refused refusal.Memory → ⊥
+never_refused (fills_with x) p a v h e = let never = sym h.0 ∙ e in cc never
+never_refused failed p a v h e = let never = sym h.0 ∙ e in cc never
+never_refused no_task p a v h e = let never = sym h.0 ∙ e in cc never
+never_refused initializes p a v h e = let never = sym h.0 ∙ e in cc never
+never_refused (sets x) p a v h e = let never = sym h.0 ∙ e in cc never
+never_refused waits_only p a v h e = let never = sym h.0 ∙ e in cc never
+
+pub returns-clause-refused_to_make : goal.returns-clause-refused_to_make
+returns-clause-refused_to_make c = λ r. never_refused _ r.whole.party r.whole.answer r.whole.new (r.kept.solo r.polls r.was_pending r.marked r.empty) r.is_refused
+
+pub returns-clause-left_to_nobody : goal.returns-clause-left_to_nobody
+returns-clause-left_to_nobody c = λ r. elim (r.sound.told_or_due r.empty r.party r.stands r.listed) as (λ _. ⊥) [ inl some ↦ absurd (omega (arith, some, r.none_told)) | inr q ↦ true≢false (sym q.1.due ∙ r.none_due q.0) ]
+
+pub returns-clause-tells_anyone : goal.returns-clause-tells_anyone
+returns-clause-tells_anyone c = λ r. told_there r.step.old r.step.move r.legal.one_change.deed r.list r.many (inside r.within (Some (answer.Ready (got.Value r.value)))) r.legal.one_change.allowed r.tells r.ready
+
+not_active : Passive ≡ Active → ⊥
+not_active e = cc e
+
+pub returns-clause-tells_passive : goal.returns-clause-tells_passive
+returns-clause-tells_passive c = λ r. elim r.decided as (λ _. ⊥) [
+  | inl e ↦ not_active (told_there r.step.old r.step.move r.legal.one_change.deed Passive r.many (inside r.within (Some answer.GivenBack)) r.legal.one_change.allowed r.tells e)
+  | inr e ↦ not_active (told_there r.step.old r.step.move r.legal.one_change.deed Passive r.many (inside r.within (Some (answer.Ready got.Failed))) r.legal.one_change.allowed r.tells e)
+]
+
+pub returns-clause-loses_what_was_made : goal.returns-clause-loses_what_was_made
+returns-clause-loses_what_was_made c = λ r.
+    let asked = r.legal.asked r.within r.undecided r.possible r.making (ap would_make r.task) r.unlisted in
+    r.lost (asked.task ∙ (ap (λ z. given z (inputs_of r.step.move.what).made) r.task ∙ ap (given initializes) r.gave))
+
+pub returns-clause-joins_unlooked : goal.returns-clause-joins_unlooked
+returns-clause-joins_unlooked c = λ r. r.joined (r.legal.waiting r.first).lists.passive
+
+told_goes : (p : ℕ) (l m : List (Entry ℕ)) → is_marked_at (is_party p) l ≡ true → m ≡ list_after p asks l → marked_count m + 1 ≡ marked_count l
+told_goes p l m marked e = rw (e, marked) (marked_count-without_marked (is_party p) l marked)
+
+pub returns-clause-keeps_its_mark : goal.returns-clause-keeps_its_mark
+returns-clause-keeps_its_mark c = λ r.
+    let fewer = told_goes r.step.move.party (list_in r.list r.step.old) (list_in r.list r.step.new) r.marked (r.legal.listed r.polls r.was_pending r.list r.listed).asked in
+    absurd (omega (arith, fewer, r.stays))
+
+pub returns-clause-drops_on : goal.returns-clause-drops_on
+returns-clause-drops_on c = λ r.
+    let so : answer.Stepped ≡ answer.GivenBack = sym r.goes_on ∙ r.legal.gone r.drops (possible_by r.step.answer answer.Stepped r.goes_on refl) r.other in cc so
