@@ -420,3 +420,22 @@ pub record DropsOn : Type 0 where
   pub other : is_maker step.old.cell step.move.party ≡ false
   pub goes_on : step.answer ≡ answer.Stepped
   pub legal : IsAtOnce step
+
+-- A maker gave its value, and its party goes on without filling the cell.
+pub record LingersWithValue : Type 0 where
+  pub step : Step
+  pub value : ℕ
+  pub possible : is_possible step.answer ≡ true
+  pub making : is_maker step.old.cell step.move.party ≡ true
+  pub gave : task_of step.old step.move.party ≡ fills_with value
+  pub unfilled : step.new.cell ≢ Full value
+  pub legal : IsAtOnce step
+
+-- A maker failed, and its party goes on to make.
+pub record MakesAfterFailure : Type 0 where
+  pub step : Step
+  pub possible : is_possible step.answer ≡ true
+  pub making : is_maker step.old.cell step.move.party ≡ true
+  pub failed : task_of step.old step.move.party ≡ failed
+  pub goes_on : step.new.cell ≡ BeingMade step.move.party
+  pub legal : IsAtOnce step

@@ -15,12 +15,14 @@ use Rattle.lock_world.specs.declared.moves.What.TheVariants.{Begin}
 use Rattle.lock_world.specs.declared.standing.Rest.{Rest}
 use Rattle.lock_world.specs.declared.standing.Rest.TheVariants as rest
 use Rattle.lock_world.specs.declared.standing.Stage.{Stage}
+use Rattle.lock_world.specs.declared.standing.Stage.TheVariants.{Outside, Inside, Forgotten}
 use Rattle.lock_world.specs.declared.standing.Within.{Within}
 use Rattle.lock_world.specs.Standings.{Standing, outside, inside, inputs_of, decision}
 use Rattle.lock_world.specs.Steps.{Deed, does, asks}
 use Rattle.lock_world.specs.Frame.{is_drop}
 use Rattle.lock_table.specs.Stages.{stage_at, stands_as, call_at, polls_again}
 use Rattle.lock_table.specs.Tables.{Table}
+use Rattle.cell_program.specs.declared.program.Action.{Action}
 use Rattle.cell_program.specs.declared.program.Action.TheVariants as act
 use Rattle.cell_program.specs.declared.program.Found.{Found}
 use Rattle.cell_program.specs.declared.program.Found.TheVariants as found
@@ -31,12 +33,12 @@ use Rattle.cell_program.specs.declared.program.Maker.TheVariants.{Closure, Given
 use Rattle.cell_program.specs.declared.program.Place.{Place}
 use Rattle.cell_program.specs.declared.program.Place.TheVariants.{Claim, AskActive, LeaveToMake, Make, Fill, Fail, Look, AskPassive, Try, TryFill, CancelMake, CancelLeave}
 use Rattle.cell_program.specs.declared.program.Position.{Position}
-use Rattle.cell_program.specs.declared.program.Position.TheVariants.{At}
+use Rattle.cell_program.specs.declared.program.Position.TheVariants.{Making, At}
 use Rattle.cell_program.specs.declared.words.Content.{Content}
-use Rattle.cell_program.specs.declared.words.Content.TheVariants.{Empty}
+use Rattle.cell_program.specs.declared.words.Content.TheVariants.{Empty, Full}
 use Rattle.cell_program.specs.Program.{action_of, next_of}
-use Rattle.cell_machine.specs.Seats.{no_task, waits_only, task_by, task_at, task_of as place_task, makes_at, in_active, in_passive_at, verdict}
-use Rattle.cell_program.specs.Deeds.{Change, deed_of, content_after, active_after, passive_after, Finds, FindsContent, FindsMade, FindsAsk}
+use Rattle.cell_machine.specs.Seats.{no_task, waits_only, fills_with, failed, task_by, task_at, task_of as place_task, makes_at, in_active, in_passive_at, verdict}
+use Rattle.cell_program.specs.Deeds.{Change, deed_of, content_after, active_after, passive_after, Finds, FindsContent, FindsMade, FindsAsk, IsDone}
 use Rattle.cell_machine.specs.Machine.{OnceCell, knows, goes_with, is_maker, position_at, answer_by}
 use Rattle.cell_machine.proofs.laws.Kept.{after}
 use Rattle.cell_machine.proofs.stages.Turns.{Turn, turn}
@@ -216,6 +218,59 @@ asks_at (CancelLeave Active) h would none = absurd (cc h)
 asks_at (CancelLeave Passive) h would none = absurd (cc h)
 asks_at _ h would none = absurd (cc h)
 
+-- a party outside every call is at no place
+outside_never : (r : Rest) (z : Place) → goes_with (Outside r) (At z) ≡ true → ⊥
+outside_never rest.Idle z g = cc g
+outside_never rest.Pending z g = cc g
+outside_never rest.Holding z g = cc g
+outside_never rest.Finished z g = cc g
+
+-- who makes and has what its maker gave stands inside a call, where it fills the cell, or empties it
+filler_at : (x : Position) (v : ℕ) → makes_at x ≡ true → task_at x ≡ fills_with v → (y : Place) × (x ≡ At y)
+filler_at (At y) v h e = (y, refl)
+filler_at (Making Closure) v h e = absurd (cc e)
+filler_at (Making (Given o)) v h e = absurd (cc e)
+filler_at _ v h e = absurd (cc h)
+
+failure_at : (x : Position) → makes_at x ≡ true → task_at x ≡ failed → (y : Place) × (x ≡ At y)
+failure_at (At y) h e = (y, refl)
+failure_at (Making Closure) h e = absurd (cc e)
+failure_at (Making (Given o)) h e = absurd (cc e)
+failure_at _ h e = absurd (cc h)
+
+inside_at : (s : Stage) (x : Position) (y : Place) → goes_with s x ≡ true → x ≡ At y → (u : Within) × (s ≡ Inside u)
+inside_at (Inside u) x y g e = (u, refl)
+inside_at (Outside r) (At z) y g e = absurd (outside_never r z g)
+inside_at (Outside r) _ y g e = absurd (cc e)
+inside_at Forgotten (At z) y g e = absurd (cc g)
+inside_at Forgotten _ y g e = absurd (cc e)
+
+fills_at : (v : ℕ) (y : Place) → makes_at (At y) ≡ true → place_task y ≡ fills_with v → action_of y ≡ act.Fill v
+fills_at v (Fill u) h e = let same : u ≡ v = cc e in ap act.Fill same
+fills_at v (TryFill u) h e = let same : u ≡ v = cc e in ap act.Fill same
+fills_at v (Make Closure) h e = absurd (cc e)
+fills_at v (Make (Given o)) h e = absurd (cc e)
+fills_at v (LeaveToMake Closure) h e = absurd (cc e)
+fills_at v (LeaveToMake (Given o)) h e = absurd (cc e)
+fills_at v Fail h e = absurd (cc e)
+fills_at v CancelMake h e = absurd (cc e)
+fills_at v (CancelLeave Active) h e = absurd (cc h)
+fills_at v (CancelLeave Passive) h e = absurd (cc h)
+fills_at v _ h e = absurd (cc h)
+
+empties_at : (y : Place) → makes_at (At y) ≡ true → place_task y ≡ failed → action_of y ≡ act.Empty
+empties_at Fail h e = refl
+empties_at (Fill u) h e = absurd (cc e)
+empties_at (TryFill u) h e = absurd (cc e)
+empties_at (Make Closure) h e = absurd (cc e)
+empties_at (Make (Given o)) h e = absurd (cc e)
+empties_at (LeaveToMake Closure) h e = absurd (cc e)
+empties_at (LeaveToMake (Given o)) h e = absurd (cc e)
+empties_at CancelMake h e = absurd (cc e)
+empties_at (CancelLeave Active) h e = absurd (cc h)
+empties_at (CancelLeave Passive) h e = absurd (cc h)
+empties_at _ h e = absurd (cc h)
+
 module _ (t u : Table OnceCell) (m : Move) (a : Answer) (w : Within) (k : Acting t u m a w) (door : Entrance (stage_at t.stages m.party) m.what w (position_at t.machine.positions m.party) k.from) where
   abbrev p : ℕ
   p = m.party
@@ -333,6 +388,32 @@ module _ (t u : Table OnceCell) (m : Move) (a : Answer) (w : Within) (k : Acting
   emptied found.Done e = refl
   emptied _ e = absurd e
 
+  stands_in : (y : Place) → x ≡ At y → x ≡ At k.from
+  stands_in y e =
+      let q = inside_at (stage_at t.stages p) x y (k.old_fits.stands p k.inside).goes e in
+      (acting.goes_inside t u m a w k q.0 (verdict x) (acting.stood t u m a w k ∙ ap (stands_as (verdict x)) q.1)).0
+
+  content_by : (b : Action) → action_of k.from ≡ b → (new.cell ≡ content_after p (deed_of b k.found) c) × Finds i p b k.found c t.machine.active t.machine.passive
+  content_by b e = (k.acts.content ∙ ap (λ z. content_after p (deed_of z k.found) c) e, (let P : Action → Type 0 = λ z. Finds i p z k.found c t.machine.active t.machine.passive in subst P e k.acts.finds))
+
+  fills_in : (v : ℕ) (f : Found) → IsDone f → content_after p (deed_of (act.Fill v) f) c ≡ Full v
+  fills_in v found.Done e = refl
+  fills_in v _ e = absurd e
+
+  filled : (v : ℕ) → is_maker c p ≡ true → task_of old p ≡ fills_with v → new.cell ≡ Full v
+  filled v made e =
+      let task : task_at x ≡ fills_with v = sym (acting.task_old t u m a w k) ∙ e in
+      let y = filler_at x v (k.old_laws.makers p ∙ made) task in
+      let so = content_by (act.Fill v) (fills_at v k.from (acting.makes_seen t u m a w k ∙ made) (sym (ap task_at (stands_in y.0 y.1)) ∙ task)) in
+      so.0 ∙ fills_in v k.found so.1
+
+  fails : is_maker c p ≡ true → task_of old p ≡ failed → new.cell ≡ Empty
+  fails made e =
+      let task : task_at x ≡ failed = sym (acting.task_old t u m a w k) ∙ e in
+      let y = failure_at x (k.old_laws.makers p ∙ made) task in
+      let so = content_by act.Empty (empties_at k.from (acting.makes_seen t u m a w k ∙ made) (sym (ap task_at (stands_in y.0 y.1)) ∙ task)) in
+      so.0 ∙ emptied k.found so.1
+
   dropped : is_drop m.what ≡ true → is_maker c p ≡ true → DropsMaker a new
   dropped h made = (
       let e = door.dropped h (k.old_laws.makers p ∙ made) in
@@ -364,5 +445,7 @@ module _ (t u : Table OnceCell) (m : Move) (a : Answer) (w : Within) (k : Acting
     dropped = λ h possible made. dropped h made;
     gone = λ h possible unmade. k.answer ∙ door.gone h (k.old_laws.makers p ∙ unmade) k.found;
     asked = λ v e possible made would none. asked v e made would none;
+    filled = λ v possible made e. filled v made e;
+    failed = λ possible made e. fails made e;
     listed = λ h pending list some. listed h (sym (acting.stood t u m a w k) ∙ pending) list some;
   }

@@ -21,7 +21,7 @@ use Rattle.cell_machine.specs.Seats.{Task}
 use Rattle.cell_machine.specs.Machine.{knows, is_maker}
 use Rattle.cell_world.specs.State.{World, standing_of, task_of}
 use Rattle.cell_world.specs.Tasks.{task_in}
-use Rattle.cell_world.specs.Legal.{call_of, IsCause, ChangesOneThing, Legal}
+use Rattle.cell_world.specs.Legal.{call_of, IsCause, HasItsOwn, ChangesOneThing, Legal}
 use Rattle.cell_world.specs.AtOnce.{AnswersAtOnce, is_try, is_poll, is_first_making, is_first_wait}
 use Rattle.cell_world.proofs.step.Owns.{Standing_well}
 
@@ -59,6 +59,11 @@ pub again : (s : Standing) (what : What) → is_poll_after_ready s what ≡ true
 again (outside rest.Holding) (Begin call.Poll i) h = record { try = refl; making = λ t n b. refl; waiting = λ t n. refl; pending = λ e. cc; outside = λ u d e. cc e; drop = refl; task = refl }
 again (outside rest.Finished) (Begin call.Poll i) h = record { try = refl; making = λ t n b. refl; waiting = λ t n. refl; pending = λ e. cc; outside = λ u d e. cc e; drop = refl; task = refl }
 again _ _ h = absurd (cc)
+
+idle_maker : (w : World) (p : ℕ) (s : Standing) (what : What) → is_poll_after_ready s what ≡ true → HasItsOwn w p s → is_maker w.cell p ≡ false
+idle_maker w p (outside rest.Finished) what h own = own.making
+idle_maker w p (outside rest.Holding) what h own = absurd own
+idle_maker w p _ _ h own = absurd (cc h)
 
 module _ (w : World) (m : Move) (well : Standing_well w) where
   abbrev s : Standing
@@ -103,6 +108,8 @@ module _ (w : World) (m : Move) (well : Standing_well w) where
     dropped = λ d h made. absurd (cc h);
     gone = λ d h unmade. absurd (cc h);
     asked = λ u e h made t none_listed. absurd (cc h);
+    filled = λ v h made e. absurd (cc h);
+    failed = λ h made e. absurd (cc h);
     listed = λ h e list some. absurd (poll_possible s m.what h e none);
   }
 
@@ -137,5 +144,7 @@ module _ (w : World) (m : Move) (well : Standing_well w) where
       dropped = λ d g made. (let never = so.drop in absurd (cc (d, never)));
       gone = λ d g unmade. (let never = so.drop in absurd (cc (d, never)));
       asked = λ u e g made t none_listed. absurd (so.outside u None e);
+      filled = λ v g made e. (let never = idle_maker w m.party s m.what h (well.each m.party) in absurd (cc (made, never)));
+      failed = λ g made e. (let never = idle_maker w m.party s m.what h (well.each m.party) in absurd (cc (made, never)));
       listed = λ g e list some. absurd (so.pending e);
     }

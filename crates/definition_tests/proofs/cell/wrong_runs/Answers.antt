@@ -281,3 +281,9 @@ returns-clause-keeps_its_mark c = λ r.
 pub returns-clause-drops_on : goal.returns-clause-drops_on
 returns-clause-drops_on c = λ r.
     let so : answer.Stepped ≡ answer.GivenBack = sym r.goes_on ∙ r.legal.gone r.drops (possible_by r.step.answer answer.Stepped r.goes_on refl) r.other in cc so
+
+pub returns-clause-lingers_with_value : goal.returns-clause-lingers_with_value
+returns-clause-lingers_with_value c = λ r. r.unfilled (r.legal.filled r.value r.possible r.making r.gave)
+
+pub returns-clause-makes_after_failure : goal.returns-clause-makes_after_failure
+returns-clause-makes_after_failure c = λ r. made_empty r.step.move.party r.step.new.cell r.goes_on (r.legal.failed r.possible r.making r.failed)
