@@ -18,7 +18,7 @@ use Rattle.lock_world.specs.declared.standing.Rest.TheVariants.{Pending}
 use Rattle.lock_world.specs.declared.standing.Within.{Within}
 use Rattle.lock_world.specs.Frame.{is_drop, is_refusal}
 use Rattle.lock_world.specs.Standings.{outside, inside, inputs_of, is_outside, is_decided, is_possible, refused}
-use Rattle.lock_world.specs.Steps.{does, notifies}
+use Rattle.lock_world.specs.Steps.{does, joins, notifies}
 use Rattle.cell_program.specs.declared.program.ListName.{ListName}
 use Rattle.cell_program.specs.declared.program.ListName.TheVariants.{Passive}
 use Rattle.cell_program.specs.declared.words.Content.TheVariants.{Empty, BeingMade, Full}
@@ -439,3 +439,11 @@ pub record MakesAfterFailure : Type 0 where
   pub failed : task_of step.old step.move.party ≡ failed
   pub goes_on : step.new.cell ≡ BeingMade step.move.party
   pub legal : IsAtOnce step
+
+-- The maker joins a list, as if to wait for the value that it makes itself.
+pub record MakerJoins : Type 0 where
+  pub step : Step
+  pub list : ListName
+  pub making : is_maker step.old.cell step.move.party ≡ true
+  pub legal : IsLegal step
+  pub joined : legal.one_change.deed ≡ does list joins

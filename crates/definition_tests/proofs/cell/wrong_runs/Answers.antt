@@ -20,7 +20,7 @@ use Rattle.lock_world.specs.declared.standing.Rest.TheVariants.{Pending}
 use Rattle.lock_world.specs.Refusals.{number_of}
 use Rattle.lock_world.specs.Frame.{is_drop}
 use Rattle.lock_world.specs.Standings.{Standing, outside, inside, is_decided, is_possible, inputs_of, refused}
-use Rattle.lock_world.specs.Steps.{Deed, nothing, changes, does, notifies, asks, list_after}
+use Rattle.lock_world.specs.Steps.{Deed, nothing, changes, does, joins, notifies, asks, list_after}
 use Rattle.lock_world.proofs.Equations.{some_eq, some_none, none_some}
 use Rattle.cell_program.specs.declared.program.ListName.{ListName}
 use Rattle.cell_program.specs.declared.program.ListName.TheVariants.{Active, Passive}
@@ -287,3 +287,9 @@ returns-clause-lingers_with_value c = λ r. r.unfilled (r.legal.filled r.value r
 
 pub returns-clause-makes_after_failure : goal.returns-clause-makes_after_failure
 returns-clause-makes_after_failure c = λ r. made_empty r.step.move.party r.step.new.cell r.goes_on (r.legal.failed r.possible r.making r.failed)
+
+pub returns-clause-maker_joins : goal.returns-clause-maker_joins
+returns-clause-maker_joins c = λ r.
+    let P : Deed Change ListName → Type 0 = IsAllowed r.step.old r.step.move in
+    let ok : P (does r.list joins) = subst P r.joined r.legal.one_change.allowed in
+    true≢false (sym r.making ∙ ok.1)
