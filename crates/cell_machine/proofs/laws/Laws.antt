@@ -1,5 +1,5 @@
 -- What always holds of a cell, as callers see it.
-use Rattle.std.proofs.Common.{◌≡◌, ℕ, ◌<◌, true, List, [], ◌∷◌, length, refl, arith, ap}
+use Rattle.std.proofs.Common.{◌≡◌, ◌<◌, true, List, [], ◌∷◌, length, refl, arith, ap}
 use Rattle.lock_event.specs.Lists.{marked_count, IsMarkedFirst}
 use Rattle.lock_queue.specs.Queues.{Queue}
 use Rattle.lock_queue.specs.Debts.{Roles, Rests, AllRest}
