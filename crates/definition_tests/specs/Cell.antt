@@ -1,5 +1,5 @@
 -- Runs of a once-cell that no user would accept. Each record is one wrong run: what its steps would be, if it were legal.
-use Rattle.std.specs.Prelude.{◌≡◌, ◌≢◌, ℕ, ◌<◌, ◌⊎◌, true, false, length, Some, None}
+use Rattle.std.specs.Prelude.{◌≡◌, ◌≢◌, ℕ, ◌<◌, ◌≤◌, ◌⊎◌, true, false, length, Some, None}
 use Rattle.lock_event.specs.Lists.{marked_count, mark_at, is_marked_at}
 use Rattle.lock_queue.specs.Parties.{is_party, entries_of}
 use Rattle.lock_world.specs.declared.moves.Answer.{Answer}
@@ -447,3 +447,11 @@ pub record MakerJoins : Type 0 where
   pub making : is_maker step.old.cell step.move.party ≡ true
   pub legal : IsLegal step
   pub joined : legal.one_change.deed ≡ does list joins
+
+-- The cell is being made by a party that there isn't, so that nobody ever fills it.
+pub record MadeByNobody : Type 0 where
+  pub world : World
+  pub party : ℕ
+  pub making : world.cell ≡ BeingMade party
+  pub past : length world.standings ≤ party
+  pub sound : IsSound world

@@ -26,7 +26,8 @@ use Rattle.cell_program.specs.declared.words.Content.{Content}
 use Rattle.cell_program.specs.declared.words.Content.TheVariants.{Empty, BeingMade, Full}
 use Rattle.cell_machine.specs.Seats.{Task, no_task, initializes, sets, waits_only, fills_with, failed}
 use Rattle.cell_program.specs.Deeds.{Change, begins, fills, empties, content_after}
-use Rattle.cell_machine.proofs.laws.Contents.{maker_is}
+use Rattle.cell_machine.specs.Machine.{is_maker}
+use Rattle.cell_machine.proofs.laws.Contents.{maker_is, is_its_maker}
 use Rattle.cell_world.specs.State.{World, list_in, is_empty, standing_of, task_of}
 use Rattle.cell_world.specs.Tasks.{task_in, given, list_for}
 use Rattle.cell_world.specs.Legal.{Legal, HasItsOwn, IsCause, IsOutOfMemory, MayTell, IsAllowed, IsPendingMaker, WaitsInList}
@@ -290,3 +291,8 @@ returns-clause-maker_joins c = λ r.
     let P : Deed Change ListName → Type 0 = IsAllowed r.step.old r.step.move in
     let ok : P (does r.list joins) = subst P r.joined r.legal.one_change.allowed in
     true≢false (sym r.making ∙ ok.1)
+
+pub returns-clause-made_by_nobody : goal.returns-clause-made_by_nobody
+returns-clause-made_by_nobody c = λ r.
+    let there = r.sound.maker_there r.party (ap (λ e. is_maker e r.party) r.making ∙ is_its_maker r.party) in
+    absurd (omega (arith, there, r.past))
