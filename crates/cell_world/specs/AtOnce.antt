@@ -16,7 +16,7 @@ use Rattle.lock_world.specs.declared.standing.Rest.TheVariants.{Idle, Pending, F
 use Rattle.lock_world.specs.declared.standing.Within.{Within}
 use Rattle.lock_world.specs.Frame.{is_drop}
 use Rattle.lock_world.specs.Steps.{asks, list_after}
-use Rattle.lock_world.specs.Standings.{Standing, outside, inside, inputs_of, is_possible, decision}
+use Rattle.lock_world.specs.Standings.{Standing, outside, inside, inputs_of, is_possible, is_stepped, decision}
 use Rattle.cell_program.specs.declared.program.ListName.{ListName}
 use Rattle.cell_program.specs.declared.words.Content.{Content}
 use Rattle.cell_program.specs.declared.words.Content.TheVariants.{Empty, BeingMade, Full}
@@ -129,4 +129,6 @@ pub record AnswersAtOnce (old : World) (m : Move) (a : Answer) (new : World) : T
   -- What the maker gave enters at its party's next step, and its failure empties the cell.
   pub filled : (v : ℕ) → is_possible a ≡ true → is_maker old.cell m.party ≡ true → task_of old m.party ≡ fills_with v → new.cell ≡ Full v
   pub failed : is_possible a ≡ true → is_maker old.cell m.party ≡ true → task_of old m.party ≡ seats.failed → new.cell ≡ Empty
+  -- Once the call of a party whose value entered ends, each entry of those that only wait is marked, whoever else is inside a call.
+  pub told_all : (v : ℕ) → is_possible a ≡ true → is_stepped a ≡ false → task_of old m.party ≡ fills_with v → (q : ℕ) → 0 < entries_of q new.passive → is_marked_at (is_party q) new.passive ≡ true
   pub listed : is_poll m.what ≡ true → standing_of old m.party ≡ outside Pending → (list : ListName) → 0 < entries_of m.party (list_in list old) → AsksAtOnce old m a new list

@@ -17,7 +17,7 @@ use Rattle.lock_world.specs.declared.standing.Kind.TheVariants as kind
 use Rattle.lock_world.specs.declared.standing.Rest.TheVariants.{Pending}
 use Rattle.lock_world.specs.declared.standing.Within.{Within}
 use Rattle.lock_world.specs.Frame.{is_drop, is_refusal}
-use Rattle.lock_world.specs.Standings.{outside, inside, inputs_of, is_outside, is_decided, is_possible, refused}
+use Rattle.lock_world.specs.Standings.{outside, inside, inputs_of, is_outside, is_decided, is_possible, is_stepped, refused}
 use Rattle.lock_world.specs.Steps.{does, joins, notifies}
 use Rattle.cell_program.specs.declared.program.ListName.{ListName}
 use Rattle.cell_program.specs.declared.program.ListName.TheVariants.{Passive}
@@ -455,3 +455,15 @@ pub record MadeByNobody : Type 0 where
   pub making : world.cell ≡ BeingMade party
   pub past : length world.standings ≤ party
   pub sound : IsSound world
+
+-- The call of a party whose value entered ends, and one that only waits hasn't been told, whoever else is inside a call.
+pub record FillsUntold : Type 0 where
+  pub step : Step
+  pub value : ℕ
+  pub waiter : ℕ
+  pub possible : is_possible step.answer ≡ true
+  pub ended : is_stepped step.answer ≡ false
+  pub filled : task_of step.old step.move.party ≡ fills_with value
+  pub listed : 0 < entries_of waiter step.new.passive
+  pub unmarked : is_marked_at (is_party waiter) step.new.passive ≡ false
+  pub legal : IsAtOnce step

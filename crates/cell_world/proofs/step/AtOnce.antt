@@ -1,8 +1,10 @@
 -- What the first step of a call decides at once.
-use Rattle.std.proofs.Common.{◌≡◌, ℕ, ◌<◌, ◌&&◌, ◌==◌, if◌then◌else◌, Bool, true, false, List, Some, None, refl, arith, ap, sym, ◌∙◌, subst}
+use Rattle.std.proofs.Common.{◌≡◌, ℕ, ◌<◌, ◌≤◌, ◌&&◌, ◌==◌, if◌then◌else◌, Bool, true, false, List, length, Some, None, refl, arith, ap, sym, ◌∙◌, subst}
 use Rattle.lock_event.specs.declared.event.Entry.{Entry}
 use Rattle.lock_event.specs.Lists.{is_marked_at}
-use Rattle.lock_queue.specs.Parties.{is_party, entries_of}
+use Rattle.lock_queue.specs.Parties.{is_party, entries_of, is_unmarked}
+use Rattle.lock_queue.proofs.Marks.{all_marked, else_marked}
+use Rattle.lock_event.specs.declared.event.Mark.TheVariants as mark
 use Rattle.lock_world.specs.declared.moves.Answer.{Answer}
 use Rattle.lock_world.specs.declared.moves.Answer.TheVariants as answer
 use Rattle.lock_world.specs.declared.moves.Call.TheVariants as call
@@ -17,7 +19,7 @@ use Rattle.lock_world.specs.declared.standing.Rest.TheVariants as rest
 use Rattle.lock_world.specs.declared.standing.Stage.{Stage}
 use Rattle.lock_world.specs.declared.standing.Stage.TheVariants.{Outside, Inside, Forgotten}
 use Rattle.lock_world.specs.declared.standing.Within.{Within}
-use Rattle.lock_world.specs.Standings.{Standing, outside, inside, inputs_of, decision}
+use Rattle.lock_world.specs.Standings.{Standing, outside, inside, inputs_of, is_stepped, decision}
 use Rattle.lock_world.specs.Steps.{Deed, does, asks}
 use Rattle.lock_world.specs.Frame.{is_drop}
 use Rattle.lock_table.specs.Stages.{stage_at, stands_as, call_at, polls_again}
@@ -31,15 +33,15 @@ use Rattle.cell_program.specs.declared.program.ListName.TheVariants.{Active, Pas
 use Rattle.cell_program.specs.declared.program.Maker.{Maker}
 use Rattle.cell_program.specs.declared.program.Maker.TheVariants.{Closure, Given}
 use Rattle.cell_program.specs.declared.program.Place.{Place}
-use Rattle.cell_program.specs.declared.program.Place.TheVariants.{Claim, AskActive, LeaveToMake, Make, Fill, Fail, Look, AskPassive, Try, TryFill, CancelMake, CancelLeave}
+use Rattle.cell_program.specs.declared.program.Place.TheVariants.{Claim, ClaimListed, JoinActive, AskActive, LeaveToMake, Make, Fill, NotifyActive, NotifyPassive, Fail, LeaveFull, RefuseActive, Look, AskPassive, Try, TryFill, TryNotifyActive, TryNotifyPassive, CancelMake, CancelLeave}
 use Rattle.cell_program.specs.declared.program.Position.{Position}
-use Rattle.cell_program.specs.declared.program.Position.TheVariants.{Making, At}
+use Rattle.cell_program.specs.declared.program.Position.TheVariants.{ToMake, WaitingToMake, Making, At}
 use Rattle.cell_program.specs.declared.words.Content.{Content}
 use Rattle.cell_program.specs.declared.words.Content.TheVariants.{Empty, Full}
 use Rattle.cell_program.specs.Program.{action_of, next_of}
 use Rattle.cell_machine.specs.Seats.{no_task, waits_only, fills_with, failed, task_by, task_at, task_of as place_task, makes_at, in_active, in_passive_at, verdict}
-use Rattle.cell_program.specs.Deeds.{Change, deed_of, content_after, active_after, passive_after, Finds, FindsContent, FindsMade, FindsAsk, IsDone}
-use Rattle.cell_machine.specs.Machine.{OnceCell, knows, goes_with, is_maker, position_at, answer_by}
+use Rattle.cell_program.specs.Deeds.{Change, deed_of, content_after, active_after, passive_after, Finds, FindsContent, FindsMade, FindsAsk, IsDone, everyone}
+use Rattle.cell_machine.specs.Machine.{OnceCell, knows, goes_with, is_begun, is_maker, position_at, answer_by}
 use Rattle.cell_machine.proofs.laws.Kept.{after}
 use Rattle.cell_machine.proofs.stages.Turns.{Turn, turn}
 use Rattle.cell_machine.proofs.laws.Contents as contents
@@ -217,6 +219,40 @@ asks_at CancelMake h would none = absurd (cc would)
 asks_at (CancelLeave Active) h would none = absurd (cc h)
 asks_at (CancelLeave Passive) h would none = absurd (cc h)
 asks_at _ h would none = absurd (cc h)
+
+-- who has a value to enter, or whose value entered, stands inside a call, and ends it by telling all that only wait
+task_never : (k : Maker) (v : ℕ) → task_by k ≡ fills_with v → ⊥
+task_never Closure v e = cc e
+task_never (Given o) v e = cc e
+
+teller_at : (x : Position) (v : ℕ) → task_at x ≡ fills_with v → (y : Place) × (x ≡ At y)
+teller_at (At y) v e = (y, refl)
+teller_at (ToMake k) v e = absurd (task_never k v e)
+teller_at (WaitingToMake k) v e = absurd (task_never k v e)
+teller_at (Making k) v e = absurd (task_never k v e)
+teller_at _ v e = absurd (cc e)
+
+ends_telling : (v : ℕ) (y : Place) (f : Found) → place_task y ≡ fills_with v → is_begun y ≡ true → is_stepped (answer_by (next_of y f)) ≡ false → action_of y ≡ act.NotifyAll Passive
+ends_telling v (NotifyPassive u) f e b n = refl
+ends_telling v (TryNotifyPassive u) f e b n = refl
+ends_telling v (Fill u) f e b n = absurd (cc n)
+ends_telling v (NotifyActive u) f e b n = absurd (cc n)
+ends_telling v (TryFill u) f e b n = absurd (cc n)
+ends_telling v (TryNotifyActive u) f e b n = absurd (cc n)
+ends_telling v (Try u) f e b n = absurd (cc b)
+ends_telling v (Claim k told) f e b n = absurd (task_never k v e)
+ends_telling v (ClaimListed k) f e b n = absurd (task_never k v e)
+ends_telling v (JoinActive k told) f e b n = absurd (task_never k v e)
+ends_telling v (AskActive k) f e b n = absurd (task_never k v e)
+ends_telling v (LeaveToMake k) f e b n = absurd (task_never k v e)
+ends_telling v (Make k) f e b n = absurd (task_never k v e)
+ends_telling v (LeaveFull k u) f e b n = absurd (task_never k v e)
+ends_telling v (RefuseActive k) f e b n = absurd (task_never k v e)
+ends_telling v _ f e b n = absurd (cc e)
+
+told_everyone : (p q : ℕ) (f : Found) (l m : List (Entry ℕ)) → IsDone f → length l ≤ everyone → m ≡ passive_after p (deed_of (act.NotifyAll Passive) f) l → 0 < entries_of q m → is_marked_at (is_party q) m ≡ true
+told_everyone p q found.Done l m h few e some = else_marked q m some (λ u. (let P : List (Entry ℕ) → Type 0 = λ z. is_unmarked q z ≡ true in all_marked q mark.Additional everyone l refl few (subst P e u)))
+told_everyone p q _ l m h few e some = absurd h
 
 -- a party outside every call is at no place
 outside_never : (r : Rest) (z : Place) → goes_with (Outside r) (At z) ≡ true → ⊥
@@ -407,6 +443,16 @@ module _ (t u : Table OnceCell) (m : Move) (a : Answer) (w : Within) (k : Acting
       let so = content_by (act.Fill v) (fills_at v k.from (acting.makes_seen t u m a w k ∙ made) (sym (ap task_at (stands_in y.0 y.1)) ∙ task)) in
       so.0 ∙ fills_in v k.found so.1
 
+  told_all : (v : ℕ) → is_stepped a ≡ false → task_of old p ≡ fills_with v → (q : ℕ) → 0 < entries_of q new.passive → is_marked_at (is_party q) new.passive ≡ true
+  told_all v ended e q =
+      let task : task_at x ≡ fills_with v = sym (acting.task_old t u m a w k) ∙ e in
+      let y = teller_at x v task in
+      let z = inside_at (stage_at t.stages p) x y.0 (k.old_fits.stands p k.inside).goes y.1 in
+      let here = acting.goes_inside t u m a w k z.0 (verdict x) (acting.stood t u m a w k ∙ ap (stands_as (verdict x)) z.1) in
+      let tells = ends_telling v k.from k.found (sym (ap task_at here.0) ∙ task) here.1 (ap is_stepped (sym k.answer) ∙ ended) in
+      let so = content_by (act.NotifyAll Passive) tells in
+      told_everyone p q k.found t.machine.passive u.machine.passive so.1 k.old_laws.passive_few (k.acts.passive ∙ ap (λ b. passive_after p (deed_of b k.found) t.machine.passive) tells)
+
   fails : is_maker c p ≡ true → task_of old p ≡ failed → new.cell ≡ Empty
   fails made e =
       let task : task_at x ≡ failed = sym (acting.task_old t u m a w k) ∙ e in
@@ -447,5 +493,6 @@ module _ (t u : Table OnceCell) (m : Move) (a : Answer) (w : Within) (k : Acting
     asked = λ v e possible made would none. asked v e made would none;
     filled = λ v possible made e. filled v made e;
     failed = λ possible made e. fails made e;
+    told_all = λ v possible ended e q some. told_all v ended e q some;
     listed = λ h pending list some. listed h (sym (acting.stood t u m a w k) ∙ pending) list some;
   }

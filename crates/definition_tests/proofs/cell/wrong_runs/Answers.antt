@@ -296,3 +296,6 @@ pub returns-clause-made_by_nobody : goal.returns-clause-made_by_nobody
 returns-clause-made_by_nobody c = λ r.
     let there = r.sound.maker_there r.party (ap (λ e. is_maker e r.party) r.making ∙ is_its_maker r.party) in
     absurd (omega (arith, there, r.past))
+
+pub returns-clause-fills_untold : goal.returns-clause-fills_untold
+returns-clause-fills_untold c = λ r. true≢false (sym (r.legal.told_all r.value r.possible r.ended r.filled r.waiter r.listed) ∙ r.unmarked)
