@@ -35,7 +35,7 @@ use Rattle.cell_program.specs.declared.program.Position.{Position}
 use Rattle.cell_program.specs.declared.program.Position.TheVariants.{Out, ToMake, WaitingToMake, Making, ToWait, Waiting, At}
 use Rattle.cell_program.specs.Program.{place_for, action_of, next_of, position_after}
 use Rattle.cell_machine.specs.Seats.{makes_at, in_active, in_passive_at, waits, owes, value_known, is_late, will_tell, is_resting}
-use Rattle.cell_program.specs.Deeds.{Finds, deed_of, content_after, active_after, passive_after}
+use Rattle.cell_program.specs.Deeds.{Finds, deed_of, content_after, active_after, passive_after, everyone}
 use Rattle.cell_program.specs.Words.{refilled}
 use Rattle.cell_machine.specs.Tally.{IsSound, tally_of, counts_of}
 
@@ -83,7 +83,7 @@ abbrev pub IsAtRest : List Position → Type 0
 IsAtRest [] = Unit {0}
 IsAtRest (x ∷ xs) = (is_resting x ≡ true) × IsAtRest xs
 
--- What callers may rest on: one party at most makes, and stands where makers do; a party's entries are told by where it stands; at rest, where the cell is empty and somebody is listed in `active`, some entry there is marked. Whenever the cell is empty and somebody waits in `active`, some entry there is marked or somebody owes it a notification or a look. Where the cell is full and nobody is about to tell a list, every entry there is marked but of parties that haven't looked yet or are about to leave.
+-- What callers may rest on: one party at most makes, and stands where makers do; a party's entries are told by where it stands; at rest, where the cell is empty and somebody is listed in `active`, some entry there is marked. Whenever the cell is empty and somebody waits in `active`, some entry there is marked or somebody owes it a notification or a look. Where the cell is full and nobody is about to tell a list, every entry there is marked but of parties that haven't looked yet or are about to leave. No more stand in `passive` than can be notified at once.
 pub record IsCell (s : OnceCell) : Type 0 where
   pub makers : (p : ℕ) → makes_at (position_at s.positions p) ≡ is_maker s.content p
   pub active_owners : (p : ℕ) → entries_of p s.active ≡ in_active (position_at s.positions p)
@@ -93,6 +93,7 @@ pub record IsCell (s : OnceCell) : Type 0 where
   pub owed : IsOwed (s.content ≡ content.Empty) (sum_by waits s.positions) (sum_by owes s.positions) (marked_count s.active)
   pub wakes : IsAtRest s.positions → s.content ≡ content.Empty → 0 < length s.active → 0 < marked_count s.active
   pub active_told : AllTold Active s.content s.positions s.active
+  pub passive_few : length s.passive ≤ everyone
   pub passive_told : AllTold Passive s.content s.positions s.passive
 
 -- ---- Which parties stand where

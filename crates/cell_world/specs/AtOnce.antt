@@ -1,4 +1,4 @@
--- What the first step of a call decides at once, and the one that asks a maker.
+-- What the first step of a call decides at once, and the steps that ask a maker and take what it gave.
 use Rattle.std.specs.Prelude.{◌≡◌, ℕ, ◌<◌, ◌==◌, ◌&&◌, if◌then◌else◌, Bool, true, false, Some, None}
 use Rattle.lock_event.specs.Lists.{is_marked_at}
 use Rattle.lock_queue.specs.Parties.{is_party, entries_of}
@@ -16,11 +16,12 @@ use Rattle.lock_world.specs.declared.standing.Rest.TheVariants.{Idle, Pending, F
 use Rattle.lock_world.specs.declared.standing.Within.{Within}
 use Rattle.lock_world.specs.Frame.{is_drop}
 use Rattle.lock_world.specs.Steps.{asks, list_after}
-use Rattle.lock_world.specs.Standings.{Standing, outside, inside, inputs_of, is_possible, decision}
+use Rattle.lock_world.specs.Standings.{Standing, outside, inside, inputs_of, is_possible, is_stepped, decision}
 use Rattle.cell_program.specs.declared.program.ListName.{ListName}
 use Rattle.cell_program.specs.declared.words.Content.{Content}
 use Rattle.cell_program.specs.declared.words.Content.TheVariants.{Empty, BeingMade, Full}
-use Rattle.cell_machine.specs.Seats.{Task, initializes, sets, waits_only}
+use Rattle.cell_machine.specs.Seats.{Task, initializes, sets, waits_only, fills_with}
+use Rattle.cell_machine.specs.Seats as seats
 use Rattle.cell_machine.specs.Machine.{is_maker}
 use Rattle.cell_world.specs.State.{World, list_in, is_empty, standing_of, task_of}
 use Rattle.cell_world.specs.Tasks.{task_then, given}
@@ -123,6 +124,11 @@ pub record AnswersAtOnce (old : World) (m : Move) (a : Answer) (new : World) : T
   pub dropped : is_drop m.what ≡ true → is_possible a ≡ true → is_maker old.cell m.party ≡ true → DropsMaker a new
   -- Any other drop is over at once.
   pub gone : is_drop m.what ≡ true → is_possible a ≡ true → is_maker old.cell m.party ≡ false → a ≡ answer.GivenBack
-  -- So is the maker asked at the next step of a call in which its party has begun to make, once that stands in no list.
+  -- The maker is asked too at the next step of a call in which its party has begun to make, once that stands in no list.
   pub asked : (within : Within) → standing_of old m.party ≡ inside within None → is_possible a ≡ true → is_maker old.cell m.party ≡ true → would_make (task_of old m.party) ≡ true → entries_of m.party old.active ≡ 0 → PollsMaker old m a new
+  -- What the maker gave enters at its party's next step, and its failure empties the cell.
+  pub filled : (v : ℕ) → is_possible a ≡ true → is_maker old.cell m.party ≡ true → task_of old m.party ≡ fills_with v → new.cell ≡ Full v
+  pub failed : is_possible a ≡ true → is_maker old.cell m.party ≡ true → task_of old m.party ≡ seats.failed → new.cell ≡ Empty
+  -- Once the call of a party whose value entered ends, each entry of those that only wait is marked, whoever else is inside a call.
+  pub told_all : (v : ℕ) → is_possible a ≡ true → is_stepped a ≡ false → task_of old m.party ≡ fills_with v → (q : ℕ) → 0 < entries_of q new.passive → is_marked_at (is_party q) new.passive ≡ true
   pub listed : is_poll m.what ≡ true → standing_of old m.party ≡ outside Pending → (list : ListName) → 0 < entries_of m.party (list_in list old) → AsksAtOnce old m a new list

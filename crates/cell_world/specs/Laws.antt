@@ -53,6 +53,9 @@ pub record IsSound (w : World) : Type 0 where
   -- Each party has what its standing says.
   pub each : (p : ℕ) → HasItsOwn w p (standing_of w p)
   pub maker : (p : ℕ) → is_maker w.cell p ≡ true → may_be_maker (standing_of w p) ≡ true
+  -- Who makes, and who has an entry, is a party of this World.
+  pub maker_there : (p : ℕ) → is_maker w.cell p ≡ true → p < length w.standings
+  pub listed_there : (list : ListName) (p : ℕ) → 0 < entries_of p (list_in list w) → p < length w.standings
   -- A party that is inside a call is in a poll, a try or a drop, which it could begin.
   pub inside_calls : (p : ℕ) (u : Within) (decided : Option Answer) → standing_of w p ≡ inside u decided → is_long_call u.kind u.was ≡ true
   -- Whenever the cell is empty, and a party outside every call waits to make its value, some entry there is marked, or somebody has still to tell one or to look.

@@ -66,13 +66,13 @@ MayTell w m list (inside within (Some answer.GivenBack)) = list ≡ Active
 MayTell w m list (inside within (Some (answer.Refused n))) = IsItsList w m list
 MayTell w m list s = ⊥
 
--- Where a change may be made. Making begins only in an empty cell, by a party that may make. It ends only by its maker: by the value that the maker gave, which enters; or with no value, where the maker failed or is dropped. A party joins, asks in and leaves its own list only. One notifies one at a time, whom one may tell; but who has filled the cell notifies all.
+-- Where a change may be made. Making begins only in an empty cell, by a party that may make. It ends only by its maker: by the value that the maker gave, which enters; or with no value, where the maker failed or is dropped. A party joins, asks in and leaves its own list only, and who makes neither joins nor asks. One notifies one at a time, whom one may tell; but who has filled the cell notifies all.
 abbrev pub IsAllowed : World → Move → Deed Change ListName → Type 0
 IsAllowed w m (changes begins) = (w.cell ≡ Empty) × (makes (task_then m.what (task_of w m.party)) ≡ true)
 IsAllowed w m (changes (fills v)) = (w.cell ≡ BeingMade m.party) × (task_of w m.party ≡ fills_with v)
 IsAllowed w m (changes empties) = (w.cell ≡ BeingMade m.party) × ((is_drop m.what ≡ true) ⊎ (task_of w m.party ≡ failed))
-IsAllowed w m (does list joins) = IsItsList w m list
-IsAllowed w m (does list asks) = IsItsList w m list
+IsAllowed w m (does list joins) = IsItsList w m list × (is_maker w.cell m.party ≡ false)
+IsAllowed w m (does list asks) = IsItsList w m list × (is_maker w.cell m.party ≡ false)
 IsAllowed w m (does list leaves) = IsItsList w m list
 IsAllowed w m (does list (notifies n)) = (n ≡ 1) × MayTell w m list (standing_of w m.party)
 IsAllowed w m (does list (notifies_additionally n)) = (v : ℕ) × (n ≡ everyone) × (w.cell ≡ Full v) × (task_of w m.party ≡ fills_with v)

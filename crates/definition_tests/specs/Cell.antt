@@ -1,5 +1,5 @@
 -- Runs of a once-cell that no user would accept. Each record is one wrong run: what its steps would be, if it were legal.
-use Rattle.std.specs.Prelude.{◌≡◌, ◌≢◌, ℕ, ◌<◌, ◌⊎◌, true, false, length, Some, None}
+use Rattle.std.specs.Prelude.{◌≡◌, ◌≢◌, ℕ, ◌<◌, ◌≤◌, ◌⊎◌, true, false, length, Some, None}
 use Rattle.lock_event.specs.Lists.{marked_count, mark_at, is_marked_at}
 use Rattle.lock_queue.specs.Parties.{is_party, entries_of}
 use Rattle.lock_world.specs.declared.moves.Answer.{Answer}
@@ -17,8 +17,8 @@ use Rattle.lock_world.specs.declared.standing.Kind.TheVariants as kind
 use Rattle.lock_world.specs.declared.standing.Rest.TheVariants.{Pending}
 use Rattle.lock_world.specs.declared.standing.Within.{Within}
 use Rattle.lock_world.specs.Frame.{is_drop, is_refusal}
-use Rattle.lock_world.specs.Standings.{outside, inside, inputs_of, is_outside, is_decided, is_possible, refused}
-use Rattle.lock_world.specs.Steps.{does, notifies}
+use Rattle.lock_world.specs.Standings.{outside, inside, inputs_of, is_outside, is_decided, is_possible, is_stepped, refused}
+use Rattle.lock_world.specs.Steps.{does, joins, notifies}
 use Rattle.cell_program.specs.declared.program.ListName.{ListName}
 use Rattle.cell_program.specs.declared.program.ListName.TheVariants.{Passive}
 use Rattle.cell_program.specs.declared.words.Content.TheVariants.{Empty, BeingMade, Full}
@@ -419,4 +419,51 @@ pub record DropsOn : Type 0 where
   pub drops : is_drop step.move.what ≡ true
   pub other : is_maker step.old.cell step.move.party ≡ false
   pub goes_on : step.answer ≡ answer.Stepped
+  pub legal : IsAtOnce step
+
+-- A maker gave its value, and its party goes on without filling the cell.
+pub record LingersWithValue : Type 0 where
+  pub step : Step
+  pub value : ℕ
+  pub possible : is_possible step.answer ≡ true
+  pub making : is_maker step.old.cell step.move.party ≡ true
+  pub gave : task_of step.old step.move.party ≡ fills_with value
+  pub unfilled : step.new.cell ≢ Full value
+  pub legal : IsAtOnce step
+
+-- A maker failed, and its party goes on to make.
+pub record MakesAfterFailure : Type 0 where
+  pub step : Step
+  pub possible : is_possible step.answer ≡ true
+  pub making : is_maker step.old.cell step.move.party ≡ true
+  pub failed : task_of step.old step.move.party ≡ failed
+  pub goes_on : step.new.cell ≡ BeingMade step.move.party
+  pub legal : IsAtOnce step
+
+-- The maker joins a list, as if to wait for the value that it makes itself.
+pub record MakerJoins : Type 0 where
+  pub step : Step
+  pub list : ListName
+  pub making : is_maker step.old.cell step.move.party ≡ true
+  pub legal : IsLegal step
+  pub joined : legal.one_change.deed ≡ does list joins
+
+-- The cell is being made by a party that there isn't, so that nobody ever fills it.
+pub record MadeByNobody : Type 0 where
+  pub world : World
+  pub party : ℕ
+  pub making : world.cell ≡ BeingMade party
+  pub past : length world.standings ≤ party
+  pub sound : IsSound world
+
+-- The call of a party whose value entered ends, and one that only waits hasn't been told, whoever else is inside a call.
+pub record FillsUntold : Type 0 where
+  pub step : Step
+  pub value : ℕ
+  pub waiter : ℕ
+  pub possible : is_possible step.answer ≡ true
+  pub ended : is_stepped step.answer ≡ false
+  pub filled : task_of step.old step.move.party ≡ fills_with value
+  pub listed : 0 < entries_of waiter step.new.passive
+  pub unmarked : is_marked_at (is_party waiter) step.new.passive ≡ false
   pub legal : IsAtOnce step

@@ -4,7 +4,7 @@ ghost use Rattle.definition_tests.specs.Tables.{AreRowsOf, AreRowsOfTwo};
 ghost use Rattle.definition_tests.specs.CellTable.{beginnings, actions, followings};
 ghost use Rattle.cell_program.specs.Program.{start_of, action_of, next_of};
 ghost use Rattle.definition_tests.specs.Never.{Never};
-ghost use Rattle.definition_tests.specs.Cell.{EntersTwice, EndsByNothing, FillsAnother, MakesAnother, ReadyTooSoon, WaitsWithoutMaking, WaitsInPassive, WaitsInActive, TriesInVain, TriesWhileMade, LosesItsOwn, StaysMade, TellsNobody, PassesOverInVain, KeepsItsTold, LeftUntold, GoesOnUndecided, DropsListed, MakesAndWaits, RefusesMaker, MarksUndecided, GrantsNothing, HasAnotherBack, FailsUntold, DropsUntold, RefusedUntold, WaitsThoughTold, GoesOnUntold, WaitsForFull, RefusedToMake, LeftToNobody, TellsAnyone, TellsPassive, LosesWhatWasMade, JoinsUnlooked, KeepsItsMark, DropsOn};
+ghost use Rattle.definition_tests.specs.Cell.{EntersTwice, EndsByNothing, FillsAnother, MakesAnother, ReadyTooSoon, WaitsWithoutMaking, WaitsInPassive, WaitsInActive, TriesInVain, TriesWhileMade, LosesItsOwn, StaysMade, TellsNobody, PassesOverInVain, KeepsItsTold, LeftUntold, GoesOnUndecided, DropsListed, MakesAndWaits, RefusesMaker, MarksUndecided, GrantsNothing, HasAnotherBack, FailsUntold, DropsUntold, RefusedUntold, WaitsThoughTold, GoesOnUntold, WaitsForFull, RefusedToMake, LeftToNobody, TellsAnyone, TellsPassive, LosesWhatWasMade, JoinsUnlooked, KeepsItsMark, DropsOn, LingersWithValue, MakesAfterFailure, MakerJoins, MadeByNobody, FillsUntold};
 
 /// Each clause says of one wrong run that it isn't legal.
 fn wrong_runs()
@@ -45,6 +45,11 @@ fn wrong_runs()
     ensures joins_unlooked { Never (JoinsUnlooked) }
     ensures keeps_its_mark { Never (KeepsItsMark) }
     ensures drops_on { Never (DropsOn) }
+    ensures lingers_with_value { Never (LingersWithValue) }
+    ensures makes_after_failure { Never (MakesAfterFailure) }
+    ensures maker_joins { Never (MakerJoins) }
+    ensures made_by_nobody { Never (MadeByNobody) }
+    ensures fills_untold { Never (FillsUntold) }
 {}
 
 /// The programs' places, each with its action and what follows what it finds, as docs/PROGRAMS.md lists them.

@@ -1,5 +1,5 @@
 -- What always holds of a cell, as callers see it.
-use Rattle.std.proofs.Common.{◌≡◌, ℕ, ◌<◌, true, List, [], ◌∷◌, length, refl, arith, ap}
+use Rattle.std.proofs.Common.{◌≡◌, ◌<◌, true, List, [], ◌∷◌, length, refl, arith, ap}
 use Rattle.lock_event.specs.Lists.{marked_count, IsMarkedFirst}
 use Rattle.lock_queue.specs.Queues.{Queue}
 use Rattle.lock_queue.specs.Debts.{Roles, Rests, AllRest}
@@ -8,7 +8,8 @@ use Rattle.cell_program.specs.declared.program.Position.{Position}
 use Rattle.cell_program.specs.declared.program.Position.TheVariants.{At}
 use Rattle.cell_program.specs.declared.words.Content.{Content}
 use Rattle.cell_program.specs.declared.words.Content.TheVariants as content
-use Rattle.cell_machine.specs.Seats.{in_active, waits, owes, is_resting}
+use Rattle.cell_machine.specs.Seats.{in_active, in_passive_at, waits, owes, is_resting}
+use Rattle.cell_machine.proofs.laws.Locks.{fits_all, bounded_passive}
 use Rattle.cell_machine.specs.Tally.{free_of}
 use Rattle.cell_machine.specs.Machine.{IsKept, IsAtRest, IsCell}
 
@@ -37,5 +38,6 @@ is_cell c xs q r k ordered ordered_passive = record {
   owed = λ empty some. k.sound.owed (is_free c empty) some;
   wakes = λ rest empty some. paid_at_rest roles (0 < free_of c) xs (length q.entries) (marked_count q.entries) (all_rest xs rest) k.sound.in_list k.sound.owed (is_free c empty) some;
   active_told = k.active_told;
+  passive_few = fits_all in_passive_at xs (length r.entries) bounded_passive k.passive_listed k.few;
   passive_told = k.passive_told;
 }

@@ -321,7 +321,7 @@ bounded (At (CancelLeave Passive)) = omega arith
 bounded (At _) = omega arith
 bounded _ = omega arith
 
-bounded_passive : (x : Position) → in_passive_at x ≤ 1
+pub bounded_passive : (x : Position) → in_passive_at x ≤ 1
 bounded_passive Waiting = omega arith
 bounded_passive (At LookListed) = omega arith
 bounded_passive (At AskPassive) = omega arith
@@ -332,7 +332,7 @@ bounded_passive (At _) = omega arith
 bounded_passive _ = omega arith
 
 -- no list has more entries than can be notified at once
-fits_all : (g : Position → ℕ) (xs : List Position) (n : ℕ) → ((x : Position) → g x ≤ 1) → sum_by g xs ≡ n → length xs ≤ 4294967295 → n ≤ everyone
+pub fits_all : (g : Position → ℕ) (xs : List Position) (n : ℕ) → ((x : Position) → g x ≤ 1) → sum_by g xs ≡ n → length xs ≤ 4294967295 → n ≤ everyone
 fits_all g xs n most e few =
     let sum : sum_by g xs ≤ length xs * 1 = sum_by-le g 1 xs (λ k d h. most (get_or xs k d)) in
     omega arith

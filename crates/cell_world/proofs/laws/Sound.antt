@@ -19,7 +19,7 @@ use Rattle.lock_table.specs.Stages.{stage_at, stands_as}
 use Rattle.lock_table.specs.Tables.{Table}
 use Rattle.lock_table.proofs.Mapped.{past_last}
 use Rattle.lock_table.proofs.Past.{by_stage_or_past, by_stage_or_past_at}
-use Rattle.lock_table.proofs.Views.{rest_seen, outside_at}
+use Rattle.lock_table.proofs.Views.{rest_seen, outside_at, length-standings}
 use Rattle.cell_program.specs.declared.program.ListName.{ListName}
 use Rattle.cell_program.specs.declared.program.ListName.TheVariants.{Active, Passive}
 use Rattle.cell_program.specs.declared.program.Maker.TheVariants.{Closure, Given}
@@ -221,6 +221,12 @@ module _ (t : Table OnceCell) (laws : IsCell t.machine) (fits : IsCellTable t) w
       (λ past. ap is_resting (past_last xs q Out (omega (arith, past, fits.as_many))))
       (λ inside. resting (stage_at t.stages q) (position_at xs q) (fits.stands q inside).goes (outside_stage (stage_at t.stages q) (verdict (position_at xs q)) (ap is_outside (sym (seen.standing_seen t q)) ∙ out)))
 
+  -- a party that isn't out is in the table
+  in_table : (q : ℕ) → (position_at xs q ≡ Out → ⊥) → q < length (view_of t).standings
+  in_table q some = by_stage_or_past t.stages q (q < length (view_of t).standings)
+      (λ past. absurd (some (past_last xs q Out (omega (arith, past, fits.as_many)))))
+      (λ inside. rw (length-standings (λ p. verdict (position_at xs p)) t.stages) inside)
+
   due : t.machine.content ≡ Empty → (q : ℕ) → 0 < owes (position_at xs q) → IsDue (view_of t) q
   due empty q some = by_stage_or_past t.stages q (IsDue (view_of t) q)
       (λ past. (let none : owes (position_at xs q) ≡ 0 = ap owes (past_last xs q Out (omega (arith, past, fits.as_many))) in absurd (omega (arith, some, none))))
@@ -257,6 +263,8 @@ module _ (t : Table OnceCell) (laws : IsCell t.machine) (fits : IsCellTable t) w
     maker = λ q h. by_stage_or_past_at t.stages q (may_be_maker (standing_of (view_of t) q) ≡ true)
         (λ past. ap may_be_maker (seen.standing_seen t q ∙ ap (stands_as (verdict (position_at xs q))) past))
         (λ inside. ap may_be_maker (seen.standing_seen t q) ∙ makes_so (stage_at t.stages q) (position_at xs q) (verdict (position_at xs q)) (fits.stands q inside).goes (laws.makers q ∙ h));
+    maker_there = λ q h. in_table q (λ past. (let none : makes_at (position_at xs q) ≡ false = ap makes_at past in let one : makes_at (position_at xs q) ≡ true = laws.makers q ∙ h in cc (one, none)));
+    listed_there = λ list q some. in_table q (λ past. (let none : in_list list (position_at xs q) ≡ 0 = ap (in_list list) past ∙ never_out list in let zero_entries : entries_of q (list_in list (view_of t)) ≡ 0 = listed_seen list q ∙ none in absurd (omega (arith, some, zero_entries))));
     inside_calls = λ q u d e. by_stage_or_past_at t.stages q (is_long_call u.kind u.was ≡ true)
         (λ past. (let h : stands_as (verdict (position_at xs q)) Forgotten ≡ inside u d = ap (stands_as (verdict (position_at xs q))) (sym past) ∙ (sym (seen.standing_seen t q) ∙ e) in absurd (cc (h))))
         (λ inside. long_at (stage_at t.stages q) (position_at xs q) (verdict (position_at xs q)) u d (fits.stands q inside).goes (sym (seen.standing_seen t q) ∙ e));

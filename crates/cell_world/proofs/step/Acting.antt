@@ -238,6 +238,17 @@ decided_is : (z : Standing) → is_decided z ≡ true → (u : Within) × (d : A
 decided_is (inside u (Some d)) h = (u, d, refl)
 decided_is _ h = absurd (cc h)
 
+-- who joins or asks doesn't make
+joins_unmade : (list : ListName) (x : Place) → action_of x ≡ act.Join list → makes_at (At x) ≡ false
+joins_unmade list (JoinActive k told) e = refl
+joins_unmade list (JoinPassive told) e = refl
+joins_unmade list _ e = absurd (cc e)
+
+asks_unmade : (list : ListName) (x : Place) → action_of x ≡ act.Ask list → makes_at (At x) ≡ false
+asks_unmade list (AskActive k) e = refl
+asks_unmade list AskPassive e = refl
+asks_unmade list _ e = absurd (cc e)
+
 same_list : (list name : ListName) → act.Notify list ≡ act.Notify name → name ≡ list
 same_list list name e = cc e
 
@@ -462,8 +473,8 @@ module _ (t u : Table OnceCell) (m : Move) (a : Answer) (w : Within) where
     allowed_so (changes begins) h = (h.0, ap makes task_now ∙ h.1)
     allowed_so (changes (fills v)) h = (maker_of h.0, task_old ∙ fits_now (act.Fill v) h.1)
     allowed_so (changes empties) h = (maker_of h.0, elim (fits_now act.Empty h.1) as (λ _. (is_drop m.what ≡ true) ⊎ (task_of old p ≡ failed)) [ inl d ↦ inl d | inr e ↦ inr (task_old ∙ e) ])
-    allowed_so (does list joins) h = its_list list (fits_now (act.Join list) h)
-    allowed_so (does list asks) h = its_list list (fits_now (act.Ask list) h)
+    allowed_so (does list joins) h = (its_list list (fits_now (act.Join list) h), sym makes_seen ∙ joins_unmade list from h)
+    allowed_so (does list asks) h = (its_list list (fits_now (act.Ask list) h), sym makes_seen ∙ asks_unmade list from h)
     allowed_so (does list leaves) h = its_list list (fits_now (act.Leave list) h)
     allowed_so (does list (notifies n)) h = (h.0, may_tell list h.1)
     allowed_so (does list (notifies_additionally n)) h = let fit = fits_now (act.NotifyAll list) h.1 in (fit.0, h.0, (k.old_fits.stands p k.inside).value fit.0 fit.2, task_old ∙ fit.1)

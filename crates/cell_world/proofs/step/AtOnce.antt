@@ -1,8 +1,10 @@
 -- What the first step of a call decides at once.
-use Rattle.std.proofs.Common.{◌≡◌, ℕ, ◌<◌, ◌&&◌, ◌==◌, if◌then◌else◌, Bool, true, false, List, Some, None, refl, arith, ap, sym, ◌∙◌, subst}
+use Rattle.std.proofs.Common.{◌≡◌, ℕ, ◌<◌, ◌≤◌, ◌&&◌, ◌==◌, if◌then◌else◌, Bool, true, false, List, length, Some, None, refl, arith, ap, sym, ◌∙◌, subst}
 use Rattle.lock_event.specs.declared.event.Entry.{Entry}
 use Rattle.lock_event.specs.Lists.{is_marked_at}
-use Rattle.lock_queue.specs.Parties.{is_party, entries_of}
+use Rattle.lock_queue.specs.Parties.{is_party, entries_of, is_unmarked}
+use Rattle.lock_queue.proofs.Marks.{all_marked, else_marked}
+use Rattle.lock_event.specs.declared.event.Mark.TheVariants as mark
 use Rattle.lock_world.specs.declared.moves.Answer.{Answer}
 use Rattle.lock_world.specs.declared.moves.Answer.TheVariants as answer
 use Rattle.lock_world.specs.declared.moves.Call.TheVariants as call
@@ -15,12 +17,14 @@ use Rattle.lock_world.specs.declared.moves.What.TheVariants.{Begin}
 use Rattle.lock_world.specs.declared.standing.Rest.{Rest}
 use Rattle.lock_world.specs.declared.standing.Rest.TheVariants as rest
 use Rattle.lock_world.specs.declared.standing.Stage.{Stage}
+use Rattle.lock_world.specs.declared.standing.Stage.TheVariants.{Outside, Inside, Forgotten}
 use Rattle.lock_world.specs.declared.standing.Within.{Within}
-use Rattle.lock_world.specs.Standings.{Standing, outside, inside, inputs_of, decision}
+use Rattle.lock_world.specs.Standings.{Standing, outside, inside, inputs_of, is_stepped, decision}
 use Rattle.lock_world.specs.Steps.{Deed, does, asks}
 use Rattle.lock_world.specs.Frame.{is_drop}
 use Rattle.lock_table.specs.Stages.{stage_at, stands_as, call_at, polls_again}
 use Rattle.lock_table.specs.Tables.{Table}
+use Rattle.cell_program.specs.declared.program.Action.{Action}
 use Rattle.cell_program.specs.declared.program.Action.TheVariants as act
 use Rattle.cell_program.specs.declared.program.Found.{Found}
 use Rattle.cell_program.specs.declared.program.Found.TheVariants as found
@@ -29,15 +33,15 @@ use Rattle.cell_program.specs.declared.program.ListName.TheVariants.{Active, Pas
 use Rattle.cell_program.specs.declared.program.Maker.{Maker}
 use Rattle.cell_program.specs.declared.program.Maker.TheVariants.{Closure, Given}
 use Rattle.cell_program.specs.declared.program.Place.{Place}
-use Rattle.cell_program.specs.declared.program.Place.TheVariants.{Claim, AskActive, LeaveToMake, Make, Fill, Fail, Look, AskPassive, Try, TryFill, CancelMake, CancelLeave}
+use Rattle.cell_program.specs.declared.program.Place.TheVariants.{Claim, ClaimListed, JoinActive, AskActive, LeaveToMake, Make, Fill, NotifyActive, NotifyPassive, Fail, LeaveFull, RefuseActive, Look, AskPassive, Try, TryFill, TryNotifyActive, TryNotifyPassive, CancelMake, CancelLeave}
 use Rattle.cell_program.specs.declared.program.Position.{Position}
-use Rattle.cell_program.specs.declared.program.Position.TheVariants.{At}
+use Rattle.cell_program.specs.declared.program.Position.TheVariants.{ToMake, WaitingToMake, Making, At}
 use Rattle.cell_program.specs.declared.words.Content.{Content}
-use Rattle.cell_program.specs.declared.words.Content.TheVariants.{Empty}
+use Rattle.cell_program.specs.declared.words.Content.TheVariants.{Empty, Full}
 use Rattle.cell_program.specs.Program.{action_of, next_of}
-use Rattle.cell_machine.specs.Seats.{no_task, waits_only, task_by, task_at, task_of as place_task, makes_at, in_active, in_passive_at, verdict}
-use Rattle.cell_program.specs.Deeds.{Change, deed_of, content_after, active_after, passive_after, Finds, FindsContent, FindsMade, FindsAsk}
-use Rattle.cell_machine.specs.Machine.{OnceCell, knows, goes_with, is_maker, position_at, answer_by}
+use Rattle.cell_machine.specs.Seats.{no_task, waits_only, fills_with, failed, task_by, task_at, task_of as place_task, makes_at, in_active, in_passive_at, verdict}
+use Rattle.cell_program.specs.Deeds.{Change, deed_of, content_after, active_after, passive_after, Finds, FindsContent, FindsMade, FindsAsk, IsDone, everyone}
+use Rattle.cell_machine.specs.Machine.{OnceCell, knows, goes_with, is_begun, is_maker, position_at, answer_by}
 use Rattle.cell_machine.proofs.laws.Kept.{after}
 use Rattle.cell_machine.proofs.stages.Turns.{Turn, turn}
 use Rattle.cell_machine.proofs.laws.Contents as contents
@@ -216,6 +220,93 @@ asks_at (CancelLeave Active) h would none = absurd (cc h)
 asks_at (CancelLeave Passive) h would none = absurd (cc h)
 asks_at _ h would none = absurd (cc h)
 
+-- who has a value to enter, or whose value entered, stands inside a call, and ends it by telling all that only wait
+task_never : (k : Maker) (v : ℕ) → task_by k ≡ fills_with v → ⊥
+task_never Closure v e = cc e
+task_never (Given o) v e = cc e
+
+teller_at : (x : Position) (v : ℕ) → task_at x ≡ fills_with v → (y : Place) × (x ≡ At y)
+teller_at (At y) v e = (y, refl)
+teller_at (ToMake k) v e = absurd (task_never k v e)
+teller_at (WaitingToMake k) v e = absurd (task_never k v e)
+teller_at (Making k) v e = absurd (task_never k v e)
+teller_at _ v e = absurd (cc e)
+
+ends_telling : (v : ℕ) (y : Place) (f : Found) → place_task y ≡ fills_with v → is_begun y ≡ true → is_stepped (answer_by (next_of y f)) ≡ false → action_of y ≡ act.NotifyAll Passive
+ends_telling v (NotifyPassive u) f e b n = refl
+ends_telling v (TryNotifyPassive u) f e b n = refl
+ends_telling v (Fill u) f e b n = absurd (cc n)
+ends_telling v (NotifyActive u) f e b n = absurd (cc n)
+ends_telling v (TryFill u) f e b n = absurd (cc n)
+ends_telling v (TryNotifyActive u) f e b n = absurd (cc n)
+ends_telling v (Try u) f e b n = absurd (cc b)
+ends_telling v (Claim k told) f e b n = absurd (task_never k v e)
+ends_telling v (ClaimListed k) f e b n = absurd (task_never k v e)
+ends_telling v (JoinActive k told) f e b n = absurd (task_never k v e)
+ends_telling v (AskActive k) f e b n = absurd (task_never k v e)
+ends_telling v (LeaveToMake k) f e b n = absurd (task_never k v e)
+ends_telling v (Make k) f e b n = absurd (task_never k v e)
+ends_telling v (LeaveFull k u) f e b n = absurd (task_never k v e)
+ends_telling v (RefuseActive k) f e b n = absurd (task_never k v e)
+ends_telling v _ f e b n = absurd (cc e)
+
+told_everyone : (p q : ℕ) (f : Found) (l m : List (Entry ℕ)) → IsDone f → length l ≤ everyone → m ≡ passive_after p (deed_of (act.NotifyAll Passive) f) l → 0 < entries_of q m → is_marked_at (is_party q) m ≡ true
+told_everyone p q found.Done l m h few e some = else_marked q m some (λ u. (let P : List (Entry ℕ) → Type 0 = λ z. is_unmarked q z ≡ true in all_marked q mark.Additional everyone l refl few (subst P e u)))
+told_everyone p q _ l m h few e some = absurd h
+
+-- a party outside every call is at no place
+outside_never : (r : Rest) (z : Place) → goes_with (Outside r) (At z) ≡ true → ⊥
+outside_never rest.Idle z g = cc g
+outside_never rest.Pending z g = cc g
+outside_never rest.Holding z g = cc g
+outside_never rest.Finished z g = cc g
+
+-- who makes and has what its maker gave stands inside a call, where it fills the cell, or empties it
+filler_at : (x : Position) (v : ℕ) → makes_at x ≡ true → task_at x ≡ fills_with v → (y : Place) × (x ≡ At y)
+filler_at (At y) v h e = (y, refl)
+filler_at (Making Closure) v h e = absurd (cc e)
+filler_at (Making (Given o)) v h e = absurd (cc e)
+filler_at _ v h e = absurd (cc h)
+
+failure_at : (x : Position) → makes_at x ≡ true → task_at x ≡ failed → (y : Place) × (x ≡ At y)
+failure_at (At y) h e = (y, refl)
+failure_at (Making Closure) h e = absurd (cc e)
+failure_at (Making (Given o)) h e = absurd (cc e)
+failure_at _ h e = absurd (cc h)
+
+inside_at : (s : Stage) (x : Position) (y : Place) → goes_with s x ≡ true → x ≡ At y → (u : Within) × (s ≡ Inside u)
+inside_at (Inside u) x y g e = (u, refl)
+inside_at (Outside r) (At z) y g e = absurd (outside_never r z g)
+inside_at (Outside r) _ y g e = absurd (cc e)
+inside_at Forgotten (At z) y g e = absurd (cc g)
+inside_at Forgotten _ y g e = absurd (cc e)
+
+fills_at : (v : ℕ) (y : Place) → makes_at (At y) ≡ true → place_task y ≡ fills_with v → action_of y ≡ act.Fill v
+fills_at v (Fill u) h e = let same : u ≡ v = cc e in ap act.Fill same
+fills_at v (TryFill u) h e = let same : u ≡ v = cc e in ap act.Fill same
+fills_at v (Make Closure) h e = absurd (cc e)
+fills_at v (Make (Given o)) h e = absurd (cc e)
+fills_at v (LeaveToMake Closure) h e = absurd (cc e)
+fills_at v (LeaveToMake (Given o)) h e = absurd (cc e)
+fills_at v Fail h e = absurd (cc e)
+fills_at v CancelMake h e = absurd (cc e)
+fills_at v (CancelLeave Active) h e = absurd (cc h)
+fills_at v (CancelLeave Passive) h e = absurd (cc h)
+fills_at v _ h e = absurd (cc h)
+
+empties_at : (y : Place) → makes_at (At y) ≡ true → place_task y ≡ failed → action_of y ≡ act.Empty
+empties_at Fail h e = refl
+empties_at (Fill u) h e = absurd (cc e)
+empties_at (TryFill u) h e = absurd (cc e)
+empties_at (Make Closure) h e = absurd (cc e)
+empties_at (Make (Given o)) h e = absurd (cc e)
+empties_at (LeaveToMake Closure) h e = absurd (cc e)
+empties_at (LeaveToMake (Given o)) h e = absurd (cc e)
+empties_at CancelMake h e = absurd (cc e)
+empties_at (CancelLeave Active) h e = absurd (cc h)
+empties_at (CancelLeave Passive) h e = absurd (cc h)
+empties_at _ h e = absurd (cc h)
+
 module _ (t u : Table OnceCell) (m : Move) (a : Answer) (w : Within) (k : Acting t u m a w) (door : Entrance (stage_at t.stages m.party) m.what w (position_at t.machine.positions m.party) k.from) where
   abbrev p : ℕ
   p = m.party
@@ -333,6 +424,42 @@ module _ (t u : Table OnceCell) (m : Move) (a : Answer) (w : Within) (k : Acting
   emptied found.Done e = refl
   emptied _ e = absurd e
 
+  stands_in : (y : Place) → x ≡ At y → x ≡ At k.from
+  stands_in y e =
+      let q = inside_at (stage_at t.stages p) x y (k.old_fits.stands p k.inside).goes e in
+      (acting.goes_inside t u m a w k q.0 (verdict x) (acting.stood t u m a w k ∙ ap (stands_as (verdict x)) q.1)).0
+
+  content_by : (b : Action) → action_of k.from ≡ b → (new.cell ≡ content_after p (deed_of b k.found) c) × Finds i p b k.found c t.machine.active t.machine.passive
+  content_by b e = (k.acts.content ∙ ap (λ z. content_after p (deed_of z k.found) c) e, (let P : Action → Type 0 = λ z. Finds i p z k.found c t.machine.active t.machine.passive in subst P e k.acts.finds))
+
+  fills_in : (v : ℕ) (f : Found) → IsDone f → content_after p (deed_of (act.Fill v) f) c ≡ Full v
+  fills_in v found.Done e = refl
+  fills_in v _ e = absurd e
+
+  filled : (v : ℕ) → is_maker c p ≡ true → task_of old p ≡ fills_with v → new.cell ≡ Full v
+  filled v made e =
+      let task : task_at x ≡ fills_with v = sym (acting.task_old t u m a w k) ∙ e in
+      let y = filler_at x v (k.old_laws.makers p ∙ made) task in
+      let so = content_by (act.Fill v) (fills_at v k.from (acting.makes_seen t u m a w k ∙ made) (sym (ap task_at (stands_in y.0 y.1)) ∙ task)) in
+      so.0 ∙ fills_in v k.found so.1
+
+  told_all : (v : ℕ) → is_stepped a ≡ false → task_of old p ≡ fills_with v → (q : ℕ) → 0 < entries_of q new.passive → is_marked_at (is_party q) new.passive ≡ true
+  told_all v ended e q =
+      let task : task_at x ≡ fills_with v = sym (acting.task_old t u m a w k) ∙ e in
+      let y = teller_at x v task in
+      let z = inside_at (stage_at t.stages p) x y.0 (k.old_fits.stands p k.inside).goes y.1 in
+      let here = acting.goes_inside t u m a w k z.0 (verdict x) (acting.stood t u m a w k ∙ ap (stands_as (verdict x)) z.1) in
+      let tells = ends_telling v k.from k.found (sym (ap task_at here.0) ∙ task) here.1 (ap is_stepped (sym k.answer) ∙ ended) in
+      let so = content_by (act.NotifyAll Passive) tells in
+      told_everyone p q k.found t.machine.passive u.machine.passive so.1 k.old_laws.passive_few (k.acts.passive ∙ ap (λ b. passive_after p (deed_of b k.found) t.machine.passive) tells)
+
+  fails : is_maker c p ≡ true → task_of old p ≡ failed → new.cell ≡ Empty
+  fails made e =
+      let task : task_at x ≡ failed = sym (acting.task_old t u m a w k) ∙ e in
+      let y = failure_at x (k.old_laws.makers p ∙ made) task in
+      let so = content_by act.Empty (empties_at k.from (acting.makes_seen t u m a w k ∙ made) (sym (ap task_at (stands_in y.0 y.1)) ∙ task)) in
+      so.0 ∙ emptied k.found so.1
+
   dropped : is_drop m.what ≡ true → is_maker c p ≡ true → DropsMaker a new
   dropped h made = (
       let e = door.dropped h (k.old_laws.makers p ∙ made) in
@@ -364,5 +491,8 @@ module _ (t u : Table OnceCell) (m : Move) (a : Answer) (w : Within) (k : Acting
     dropped = λ h possible made. dropped h made;
     gone = λ h possible unmade. k.answer ∙ door.gone h (k.old_laws.makers p ∙ unmade) k.found;
     asked = λ v e possible made would none. asked v e made would none;
+    filled = λ v possible made e. filled v made e;
+    failed = λ possible made e. fails made e;
+    told_all = λ v possible ended e q some. told_all v ended e q some;
     listed = λ h pending list some. listed h (sym (acting.stood t u m a w k) ∙ pending) list some;
   }

@@ -17,11 +17,11 @@ use Rattle.lock_world.proofs.Equations.{none_some}
 use Rattle.lock_table.proofs.Idle as idle
 use Rattle.lock_table.proofs.Idle.{Idle, same_decides}
 use Rattle.cell_program.specs.declared.words.Content.TheVariants.{Empty, BeingMade, Full}
-use Rattle.cell_machine.specs.Seats.{Task}
+use Rattle.cell_machine.specs.Seats.{Task, no_task, fills_with}
 use Rattle.cell_machine.specs.Machine.{knows, is_maker}
 use Rattle.cell_world.specs.State.{World, standing_of, task_of}
 use Rattle.cell_world.specs.Tasks.{task_in}
-use Rattle.cell_world.specs.Legal.{call_of, IsCause, ChangesOneThing, Legal}
+use Rattle.cell_world.specs.Legal.{call_of, IsCause, HasItsOwn, ChangesOneThing, Legal}
 use Rattle.cell_world.specs.AtOnce.{AnswersAtOnce, is_try, is_poll, is_first_making, is_first_wait}
 use Rattle.cell_world.proofs.step.Owns.{Standing_well}
 
@@ -59,6 +59,16 @@ pub again : (s : Standing) (what : What) → is_poll_after_ready s what ≡ true
 again (outside rest.Holding) (Begin call.Poll i) h = record { try = refl; making = λ t n b. refl; waiting = λ t n. refl; pending = λ e. cc; outside = λ u d e. cc e; drop = refl; task = refl }
 again (outside rest.Finished) (Begin call.Poll i) h = record { try = refl; making = λ t n b. refl; waiting = λ t n. refl; pending = λ e. cc; outside = λ u d e. cc e; drop = refl; task = refl }
 again _ _ h = absurd (cc)
+
+idle_maker : (w : World) (p : ℕ) (s : Standing) (what : What) → is_poll_after_ready s what ≡ true → HasItsOwn w p s → is_maker w.cell p ≡ false
+idle_maker w p (outside rest.Finished) what h own = own.making
+idle_maker w p (outside rest.Holding) what h own = absurd own
+idle_maker w p _ _ h own = absurd (cc h)
+
+idle_fills : (w : World) (p v : ℕ) (s : Standing) (what : What) → is_poll_after_ready s what ≡ true → HasItsOwn w p s → task_of w p ≡ fills_with v → ⊥
+idle_fills w p v (outside rest.Finished) what h own e = let never : no_task ≡ fills_with v = sym own.task ∙ e in cc never
+idle_fills w p v (outside rest.Holding) what h own e = own
+idle_fills w p v _ _ h own e = cc h
 
 module _ (w : World) (m : Move) (well : Standing_well w) where
   abbrev s : Standing
@@ -103,6 +113,9 @@ module _ (w : World) (m : Move) (well : Standing_well w) where
     dropped = λ d h made. absurd (cc h);
     gone = λ d h unmade. absurd (cc h);
     asked = λ u e h made t none_listed. absurd (cc h);
+    filled = λ v h made e. absurd (cc h);
+    failed = λ h made e. absurd (cc h);
+    told_all = λ v h ended e. absurd (cc h);
     listed = λ h e list some. absurd (poll_possible s m.what h e none);
   }
 
@@ -137,5 +150,8 @@ module _ (w : World) (m : Move) (well : Standing_well w) where
       dropped = λ d g made. (let never = so.drop in absurd (cc (d, never)));
       gone = λ d g unmade. (let never = so.drop in absurd (cc (d, never)));
       asked = λ u e g made t none_listed. absurd (so.outside u None e);
+      filled = λ v g made e. (let never = idle_maker w m.party s m.what h (well.each m.party) in absurd (cc (made, never)));
+      told_all = λ v g ended e. absurd (idle_fills w m.party v s m.what h (well.each m.party) e);
+      failed = λ g made e. (let never = idle_maker w m.party s m.what h (well.each m.party) in absurd (cc (made, never)));
       listed = λ g e list some. absurd (so.pending e);
     }

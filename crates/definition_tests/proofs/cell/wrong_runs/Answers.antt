@@ -1,6 +1,6 @@
 -- No wrong run of a once-cell is legal.
-use Rattle.std.proofs.Common.{◌≡◌, ◌≢◌, ℕ, ◌+◌, ◌<◌, ◌⊎◌, inl, inr, if◌then◌else◌, Bool, true, false, List, Option, Some, None, refl, arith, ap, sym, ◌∙◌, subst}
-use Rattle.std.proofs.lemmas.Bool.{false≢true, true≢false}
+use Rattle.std.proofs.Common.{◌≡◌, ◌≢◌, ℕ, ◌+◌, ◌⊎◌, inl, inr, if◌then◌else◌, Bool, true, false, List, Some, None, refl, arith, ap, sym, ◌∙◌, subst}
+use Rattle.std.proofs.lemmas.Bool.{true≢false}
 use Rattle.lock_event.specs.declared.event.Entry.{Entry}
 use Rattle.lock_event.specs.declared.event.Mark.TheVariants.{Waiting}
 use Rattle.lock_event.specs.Lists.{mark_at, is_marked_at, marked_count}
@@ -9,8 +9,6 @@ use Rattle.lock_queue.specs.Parties.{is_party}
 use Rattle.lock_world.specs.declared.moves.Answer.{Answer}
 use Rattle.lock_world.specs.declared.moves.Answer.TheVariants as answer
 use Rattle.lock_world.specs.declared.moves.Got.TheVariants as got
-use Rattle.lock_world.specs.declared.moves.Inputs.{Inputs}
-use Rattle.lock_world.specs.declared.moves.Made.{Made}
 use Rattle.lock_world.specs.declared.moves.Made.TheVariants as made
 use Rattle.lock_world.specs.declared.moves.Move.{Move}
 use Rattle.lock_world.specs.declared.moves.What.{What}
@@ -20,8 +18,8 @@ use Rattle.lock_world.specs.declared.standing.Rest.TheVariants.{Pending}
 use Rattle.lock_world.specs.Refusals.{number_of}
 use Rattle.lock_world.specs.Frame.{is_drop}
 use Rattle.lock_world.specs.Standings.{Standing, outside, inside, is_decided, is_possible, inputs_of, refused}
-use Rattle.lock_world.specs.Steps.{Deed, nothing, changes, does, notifies, asks, list_after}
-use Rattle.lock_world.proofs.Equations.{some_eq, some_none, none_some}
+use Rattle.lock_world.specs.Steps.{Deed, nothing, changes, does, joins, notifies, asks, list_after}
+use Rattle.lock_world.proofs.Equations.{some_eq, none_some}
 use Rattle.cell_program.specs.declared.program.ListName.{ListName}
 use Rattle.cell_program.specs.declared.program.ListName.TheVariants.{Active, Passive}
 use Rattle.cell_program.specs.declared.words.Content.{Content}
@@ -29,7 +27,7 @@ use Rattle.cell_program.specs.declared.words.Content.TheVariants.{Empty, BeingMa
 use Rattle.cell_machine.specs.Seats.{Task, no_task, initializes, sets, waits_only, fills_with, failed}
 use Rattle.cell_program.specs.Deeds.{Change, begins, fills, empties, content_after}
 use Rattle.cell_machine.specs.Machine.{is_maker}
-use Rattle.cell_machine.proofs.laws.Contents.{maker_is}
+use Rattle.cell_machine.proofs.laws.Contents.{maker_is, is_its_maker}
 use Rattle.cell_world.specs.State.{World, list_in, is_empty, standing_of, task_of}
 use Rattle.cell_world.specs.Tasks.{task_in, given, list_for}
 use Rattle.cell_world.specs.Legal.{Legal, HasItsOwn, IsCause, IsOutOfMemory, MayTell, IsAllowed, IsPendingMaker, WaitsInList}
@@ -281,3 +279,23 @@ returns-clause-keeps_its_mark c = λ r.
 pub returns-clause-drops_on : goal.returns-clause-drops_on
 returns-clause-drops_on c = λ r.
     let so : answer.Stepped ≡ answer.GivenBack = sym r.goes_on ∙ r.legal.gone r.drops (possible_by r.step.answer answer.Stepped r.goes_on refl) r.other in cc so
+
+pub returns-clause-lingers_with_value : goal.returns-clause-lingers_with_value
+returns-clause-lingers_with_value c = λ r. r.unfilled (r.legal.filled r.value r.possible r.making r.gave)
+
+pub returns-clause-makes_after_failure : goal.returns-clause-makes_after_failure
+returns-clause-makes_after_failure c = λ r. made_empty r.step.move.party r.step.new.cell r.goes_on (r.legal.failed r.possible r.making r.failed)
+
+pub returns-clause-maker_joins : goal.returns-clause-maker_joins
+returns-clause-maker_joins c = λ r.
+    let P : Deed Change ListName → Type 0 = IsAllowed r.step.old r.step.move in
+    let ok : P (does r.list joins) = subst P r.joined r.legal.one_change.allowed in
+    true≢false (sym r.making ∙ ok.1)
+
+pub returns-clause-made_by_nobody : goal.returns-clause-made_by_nobody
+returns-clause-made_by_nobody c = λ r.
+    let there = r.sound.maker_there r.party (ap (λ e. is_maker e r.party) r.making ∙ is_its_maker r.party) in
+    absurd (omega (arith, there, r.past))
+
+pub returns-clause-fills_untold : goal.returns-clause-fills_untold
+returns-clause-fills_untold c = λ r. true≢false (sym (r.legal.told_all r.value r.possible r.ended r.filled r.waiter r.listed) ∙ r.unmarked)
