@@ -1,6 +1,6 @@
 //! The futures of a mutex.
 
-ghost use Rattle.std.specs.Prelude.{◌≡◌, ℕ, false};
+ghost use Rattle.std.specs.Prelude.{◌≡◌, ℕ, false, IfSome};
 ghost use Rattle.std.specs.Arc.{arc_value};
 ghost use Rattle.futures.specs.Task.{Covers, Keeps};
 ghost use Rattle.lock_words.specs.Turns.{OnPending};
@@ -10,7 +10,7 @@ use crate::guard::{MutexGuard, MutexGuardArc};
 use crate::mutex::Mutex;
 use crate::waiting::{Outcome, Waiting};
 use futures::task::Context;
-use lock_words::{Polled, Turn};
+use lock_words::{Hold, Polled, Seat, Turn};
 use lock_world::Refusal;
 use std::marker::Model;
 use std::sync::{Arc, Wait};
@@ -145,8 +145,12 @@ impl<T, R: Wait> fmt::Debug for Lock<'_, T, R> {
 }
 
 /// A future of a mutex's lock that owns its share of the mutex, and borrows nothing. Otherwise it is as [`Lock`].
+///
+/// In clauses it is how far it is.
 pub struct LockArc<T, R: Wait> {
     stage: Stage<T, R>,
+    // `None` before the first poll that didn't get the lock, and once it was ready.
+    waiting: Option<Waiting<T>>,
 }
 
 /// How far an owned future is.
@@ -154,40 +158,61 @@ pub struct LockArc<T, R: Wait> {
 pub enum Stage<T, R> {
     /// No share of the mutex could be had.
     Unowned,
-    /// It hasn't been ready.
-    Waits(Owned<T, R>),
+    /// It hasn't been ready, and has this share.
+    Waits(Arc<Mutex<T, R>>),
     /// It was ready, and its share went to the guard.
     Finished,
 }
 
-/// A future's share of the mutex, with its party once it was polled.
-#[derive(Drop)]
-pub struct Owned<T, R> {
-    mutex: Arc<Mutex<T, R>>,
-    waiting: Option<Waiting<T>>,
-}
-
-impl<T, R> Model for Owned<T, R> {
+impl<T, R: Wait> Model for LockArc<T, R> {
     ghost use Rattle.std.specs.Prelude.{IfSome};
-    ghost use Rattle.std.specs.Arc.{arc_value};
-    ghost use Rattle.async_mutex.specs.Outcomes.{Waits};
-    ghost use Rattle.async_mutex.specs.declared.mutex.Mutex.{Mutex};
+    ghost use Rattle.async_mutex.specs.declared.lock.Stage.{Stage};
+    ghost use Rattle.async_mutex.specs.Sources.{WaitsAs};
 
-    ghost Value = { Mutex T R };
+    ghost Value = { Stage T R };
 
-    ghost view = { λ o. arc_value o.mutex };
+    ghost view = { λ l. l.stage };
 
-    ghost invariant = { λ o. IfSome o.waiting (Waits (arc_value o.mutex).raw.words) };
+    ghost invariant = { λ l. IfSome l.waiting (WaitsAs l.stage) };
 }
 
-impl<T, R> Owned<T, R> {
-    fn new(mutex: Arc<Mutex<T, R>>, waiting: Waiting<T>) -> Owned<T, R>
-        requires { Waits (arc_value mutex).raw.words waiting }
-        ensures { result ≡ arc_value mutex }
+impl<T, R: Wait> Stage<T, R> {
+    ghost use Rattle.async_mutex.specs.Sources.{GotAt, IsOf};
+
+    // The lock, if it can be had at once.
+    #[inline]
+    fn take(&self) -> Option<(Seat<T>, Hold<T>)>
+        ensures { IfSome result (λ r. GotAt self.now r.0 r.1) }
     {
-        Owned {
-            mutex,
-            waiting: Some(waiting),
+        match self {
+            Stage::Waits(mutex) => mutex.raw.take(),
+            Stage::Unowned | Stage::Finished => None,
+        }
+    }
+
+    // The guard of a future that got the lock, with its share of the mutex.
+    #[inline]
+    fn into_guard(self, seat: Seat<T>, hold: Hold<T>) -> MutexGuardArc<T, R>
+        requires { GotAt self seat hold }
+        ensures { IsOf self result }
+    {
+        match self {
+            Stage::Waits(mutex) => MutexGuardArc::new(mutex, seat, hold),
+            Stage::Unowned | Stage::Finished => unreachable!(),
+        }
+    }
+}
+
+impl<T: Drop, R: Wait + Drop> Stage<T, R> {
+    ghost use Rattle.async_mutex.specs.Sources.{is_finished};
+
+    #[inline]
+    fn first(mutex: Option<Arc<Mutex<T, R>>>) -> Stage<T, R>
+        ensures { is_finished result ≡ false }
+    {
+        match mutex {
+            Some(mutex) => Stage::Waits(mutex),
+            None => Stage::Unowned,
         }
     }
 }
@@ -195,23 +220,14 @@ impl<T, R> Owned<T, R> {
 impl<T: Drop, R: Wait + Drop> LockArc<T, R> {
     ghost use Rattle.async_mutex.specs.Sources.{is_finished};
 
-    pub(crate) fn new(mutex: Arc<Mutex<T, R>>) -> LockArc<T, R>
-        ensures { is_finished result.stage ≡ false }
+    // With a share of the mutex, or without one where none could be had.
+    #[inline]
+    pub(crate) fn new(mutex: Option<Arc<Mutex<T, R>>>) -> LockArc<T, R>
+        ensures { is_finished result ≡ false }
     {
-        let owned = Owned {
-            mutex,
+        LockArc {
+            stage: Stage::first(mutex),
             waiting: None,
-        };
-        LockArc {
-            stage: Stage::Waits(owned),
-        }
-    }
-
-    pub(crate) fn unowned() -> LockArc<T, R>
-        ensures { is_finished result.stage ≡ false }
-    {
-        LockArc {
-            stage: Stage::Unowned,
         }
     }
 }
@@ -221,9 +237,26 @@ impl<T: Drop, R: Wait + Clock + Drop> LockArc<T, R> {
     ghost use Rattle.async_mutex.specs.Futures.{IsTurn};
 
     /// One poll, as [`Lock::poll`]. Ready, the guard gets the future's share of the mutex.
+    #[inline]
     pub fn poll(&mut self, cx: &mut Context<'_>) -> Turn<MutexGuardArc<T, R>>
-        ensures turn { IsTurn (IsOf self.old.stage) (is_finished self.old.stage) result (is_finished self.new.stage) }
-        ensures registered { OnPending result (Covers cx.new (WaitsAt self.old.stage)) }
+        ensures turn { IsTurn (IsOf self.old) (is_finished self.old) result (is_finished self.new) }
+        ensures registered { OnPending result (Covers cx.new (WaitsAt self.old)) }
+        ensures kept { Keeps cx.old cx.new }
+    {
+        if self.waiting.is_none() {
+            if let Some((seat, hold)) = self.stage.take() {
+                let stage = mem::replace(&mut self.stage, Stage::Finished);
+                return Turn::Ready(stage.into_guard(seat, hold));
+            }
+        }
+        self.go_on(cx)
+    }
+
+    // A poll that doesn't get the lock at once, as of [`Lock`].
+    #[inline(never)]
+    fn go_on(&mut self, cx: &mut Context<'_>) -> Turn<MutexGuardArc<T, R>>
+        ensures turn { IsTurn (IsOf self.old) (is_finished self.old) result (is_finished self.new) }
+        ensures registered { OnPending result (Covers cx.new (WaitsAt self.old)) }
         ensures kept { Keeps cx.old cx.new }
     {
         match mem::replace(&mut self.stage, Stage::Finished) {
@@ -232,48 +265,26 @@ impl<T: Drop, R: Wait + Clock + Drop> LockArc<T, R> {
                 self.stage = Stage::Unowned;
                 Turn::Refused(Refusal::Memory)
             }
-            Stage::Waits(owned) => {
-                let (stage, turn) = owned.poll(cx);
-                self.stage = stage;
-                turn
-            }
-        }
-    }
-}
-
-impl<T: Drop, R: Wait + Clock + Drop> Owned<T, R> {
-    ghost use Rattle.async_mutex.specs.Sources.{is_finished};
-    ghost use Rattle.async_mutex.specs.Futures.{IsTurn};
-
-    // One poll of a future that wasn't ready before, and how far it is then.
-    fn poll(self, cx: &mut Context<'_>) -> (Stage<T, R>, Turn<MutexGuardArc<T, R>>)
-        ensures turn { IsTurn (λ m. m ≡ self) false result.1 (is_finished result.0) }
-        ensures registered { OnPending result.1 (Covers cx.new (λ s. s ≡ self.raw.list.source.id)) }
-        ensures kept { Keeps cx.old cx.new }
-    {
-        let Owned { mutex, waiting } = self;
-        let waiting = match waiting {
-            Some(waiting) => waiting,
-            None => match mutex.raw.take() {
-                Some((seat, hold)) => {
-                    let guard = MutexGuardArc::new(mutex, seat, hold);
-                    return (Stage::Finished, Turn::Ready(guard));
+            Stage::Waits(mutex) => {
+                let waiting = match self.waiting.take() {
+                    Some(waiting) => waiting,
+                    None => mutex.first(),
+                };
+                match mutex.poll_waiting(cx, waiting) {
+                    Outcome::Got(seat, hold) => {
+                        Turn::Ready(MutexGuardArc::new(mutex, seat, hold))
+                    }
+                    Outcome::Waits(waiting) => {
+                        self.stage = Stage::Waits(mutex);
+                        self.waiting = Some(waiting);
+                        Turn::Pending
+                    }
+                    Outcome::Refused(refusal, waiting) => {
+                        self.stage = Stage::Waits(mutex);
+                        self.waiting = Some(waiting);
+                        Turn::Refused(refusal)
+                    }
                 }
-                None => mutex.first(),
-            },
-        };
-        match mutex.poll_waiting(cx, waiting) {
-            Outcome::Got(seat, hold) => {
-                let guard = MutexGuardArc::new(mutex, seat, hold);
-                (Stage::Finished, Turn::Ready(guard))
-            }
-            Outcome::Waits(waiting) => {
-                let owned = Owned::new(mutex, waiting);
-                (Stage::Waits(owned), Turn::Pending)
-            }
-            Outcome::Refused(refusal, waiting) => {
-                let owned = Owned::new(mutex, waiting);
-                (Stage::Waits(owned), Turn::Refused(refusal))
             }
         }
     }
@@ -288,19 +299,25 @@ impl<T: Drop, R: Wait + Clock + Drop> Polled for LockArc<T, R> {
 }
 
 impl<T: Drop, R: Wait + Drop> Drop for LockArc<T, R> {
+    #[inline]
     fn drop(self) {
-        let Self { stage } = self;
-        match stage {
-            Stage::Unowned | Stage::Finished => (),
-            Stage::Waits(owned) => {
-                let Owned { mutex, waiting } = owned;
-                if let Some(waiting) = waiting {
-                    mutex.cancel(waiting);
-                }
-                drop(mutex);
-            }
+        let Self { stage, waiting } = self;
+        if let Stage::Waits(mutex) = stage {
+            leave(mutex, waiting);
         }
     }
+}
+
+// What a dropped future gives back that hasn't been ready, its share of the mutex last. It stands apart, so that the drop of
+// one that was ready is short.
+#[inline(never)]
+fn leave<T: Drop, R: Wait + Drop>(mutex: Arc<Mutex<T, R>>, waiting: Option<Waiting<T>>)
+    requires { IfSome waiting (Waits (arc_value mutex).raw.words) }
+{
+    if let Some(waiting) = waiting {
+        mutex.cancel(waiting);
+    }
+    drop(mutex);
 }
 
 impl<T, R: Wait> fmt::Debug for LockArc<T, R> {

@@ -138,13 +138,11 @@ impl<T: Drop, R: Wait + Drop> Mutex<T, R> {
 
     /// As [`Mutex::lock`], for a future that owns its share of the mutex and gives it to its guard. Where that share
     /// can't be had, its polls are refused as [`Refusal::Memory`].
+    #[inline]
     pub fn lock_arc(this: &Arc<Mutex<T, R>>) -> LockArc<T, R>
-        ensures { is_finished result.stage ≡ false }
+        ensures { is_finished result ≡ false }
     {
-        match Arc::try_clone(this) {
-            Ok(mutex) => LockArc::new(mutex),
-            Err(_) => LockArc::unowned(),
-        }
+        LockArc::new(Arc::try_clone(this).ok())
     }
 }
 
