@@ -18,7 +18,7 @@ use Rattle.lock_world.specs.declared.standing.Rest.TheVariants.{Pending, Holding
 use Rattle.lock_world.specs.declared.standing.Within.{Within}
 use Rattle.lock_world.specs.Frame.{is_refusal}
 use Rattle.lock_world.specs.Rosters.{how_many}
-use Rattle.lock_world.specs.Standings.{outside, inside, refused}
+use Rattle.lock_world.specs.Standings.{outside, inside, may_end, refused}
 use Rattle.lock_world.specs.Steps.{does, notifies_additionally}
 use Rattle.mutex_world.specs.Bound.{IsSolo, IsNotified, Promises}
 use Rattle.mutex_world.specs.Legal.{ListName, DecidesOn, is_first_poll, is_later_poll, Legal, AnswersAtOnce}
@@ -118,6 +118,16 @@ pub record DropsUndecided : Type 0 where
   pub step : Step
   pub rest : Rest
   pub undecided : standing_of step.new step.move.party ≡ inside (record { kind = Drop; was = rest }) None
+  pub legal : IsLegal step
+
+-- A call is decided on an answer with which it never ends, as a drop on having what it dropped.
+pub record DecidesInVain : Type 0 where
+  pub step : Step
+  pub party : ℕ
+  pub within : Within
+  pub by : Answer
+  pub decided : standing_of step.new party ≡ inside within (Some by)
+  pub never : may_end within.kind by ≡ false
   pub legal : IsLegal step
 
 -- A step takes the lock, and decides that its call is refused since too many are starved.

@@ -16,7 +16,7 @@ use Rattle.lock_world.specs.declared.standing.Kind.TheVariants as kind
 use Rattle.lock_world.specs.declared.standing.Rest.TheVariants.{Idle, Pending, Holding}
 use Rattle.lock_world.specs.declared.standing.Within.{Within}
 use Rattle.lock_world.specs.Frame.{is_drop, is_refusal}
-use Rattle.lock_world.specs.Standings.{outside, inside, is_possible, refused}
+use Rattle.lock_world.specs.Standings.{outside, inside, is_possible, may_end, refused}
 use Rattle.lock_world.specs.Steps.{changes, does, notifies, notifies_additionally}
 use Rattle.semaphore_machine.specs.Deeds.{gives_back, gives, for_a_permit}
 use Rattle.semaphore_machine.specs.Seats.{nothing_had}
@@ -137,6 +137,16 @@ pub record GoesOnUndecided : Type 0 where
   pub within : Within
   pub undecided : standing_of step.new party ≡ inside within None
   pub no_poll : is_poll_call within.kind ≡ false
+  pub legal : IsLegal step
+
+-- A call is decided on an answer with which it never ends, as a drop on having what it dropped.
+pub record DecidesInVain : Type 0 where
+  pub step : Step
+  pub party : ℕ
+  pub within : Within
+  pub by : Answer
+  pub decided : standing_of step.new party ≡ inside within (Some by)
+  pub never : may_end within.kind by ≡ false
   pub legal : IsLegal step
 
 -- A party whose call is to be refused has a permit.

@@ -27,19 +27,32 @@ beginnings =
     (call.Drop, position.Waiting, Some place.CancelLeave) ∷
     (call.Drop, position.Holding, Some place.GiveBack) ∷
     (call.Forget, position.Holding, Some place.Lower) ∷
-    (call.Forget, position.Waiting, None) ∷
+    (call.Acquire, position.Waiting, None) ∷
     (call.Acquire, position.Holding, None) ∷
+    (call.Poll, position.Holding, None) ∷
     (call.Poll, position.At place.Ask, None) ∷
+    (call.TryAcquire, position.Waiting, None) ∷
+    (call.TryAcquire, position.Holding, None) ∷
+    (call.AddPermits 7, position.Waiting, None) ∷
+    (call.AddPermits 7, position.Holding, None) ∷
+    (call.Drop, position.At place.Ask, None) ∷
+    (call.Forget, position.Out, None) ∷
+    (call.Forget, position.Waiting, None) ∷
+    (call.Lock, position.Out, None) ∷
     []
 
 -- What is done at a place.
 abbrev pub actions : List (Place × Action)
 actions =
     (place.Take false false, act.Take) ∷
+    (place.Take false true, act.Take) ∷
+    (place.Take true false, act.Take) ∷
     (place.Take true true, act.Take) ∷
     (place.Retake, act.Take) ∷
+    (place.Join false, act.Join) ∷
     (place.Join true, act.Join) ∷
     (place.Ask, act.Ask) ∷
+    (place.Leave false, act.Leave) ∷
     (place.Leave true, act.Leave) ∷
     (place.HandOn, act.Notify 1) ∷
     (place.RefuseNotify, act.Notify 1) ∷

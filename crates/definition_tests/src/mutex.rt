@@ -4,7 +4,7 @@ ghost use Rattle.definition_tests.specs.Tables.{AreRowsOf, AreRowsOfTwo};
 ghost use Rattle.definition_tests.specs.MutexTable.{beginnings, actions, followings};
 ghost use Rattle.mutex_program.specs.Program.{start_of, action_of, next_of};
 ghost use Rattle.definition_tests.specs.Never.{Never};
-ghost use Rattle.definition_tests.specs.Mutex.{TriesInVain, PollsUnready, WaitsUnlisted, WaitsUnmarked, PendsTooEarly, RefusedAtFirst, RefusedHavingTaken, LetsGoUndecided, DropsUndecided, StarvedHavingTaken, StarvedTwice, StarvedAtFirst, StarvesUnlisted, HoldsRefused, ReadyWithout, TellsMore, TriesAndTells, StarvesAtFirst, PollsUntold, ReleasesLate, ReleasesSilently, PassesOverInVain, RefusedInVain, StarvesUnasked, StarvedAmongNone, KeepsItsTold};
+ghost use Rattle.definition_tests.specs.Mutex.{TriesInVain, PollsUnready, WaitsUnlisted, WaitsUnmarked, PendsTooEarly, RefusedAtFirst, RefusedHavingTaken, LetsGoUndecided, DropsUndecided, DecidesInVain, StarvedHavingTaken, StarvedTwice, StarvedAtFirst, StarvesUnlisted, HoldsRefused, ReadyWithout, TellsMore, TriesAndTells, StarvesAtFirst, PollsUntold, ReleasesLate, ReleasesSilently, PassesOverInVain, RefusedInVain, StarvesUnasked, StarvedAmongNone, KeepsItsTold};
 
 /// Each clause says of one wrong run that it isn't legal.
 fn wrong_runs()
@@ -17,6 +17,7 @@ fn wrong_runs()
     ensures refused_having_taken { Never (RefusedHavingTaken) }
     ensures lets_go_undecided { Never (LetsGoUndecided) }
     ensures drops_undecided { Never (DropsUndecided) }
+    ensures decides_in_vain { Never (DecidesInVain) }
     ensures starved_having_taken { Never (StarvedHavingTaken) }
     ensures starved_twice { Never (StarvedTwice) }
     ensures starved_at_first { Never (StarvedAtFirst) }

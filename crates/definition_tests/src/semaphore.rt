@@ -4,7 +4,7 @@ ghost use Rattle.definition_tests.specs.Tables.{AreRowsOf, AreRowsOfTwo};
 ghost use Rattle.definition_tests.specs.SemaphoreTable.{beginnings, actions, followings};
 ghost use Rattle.semaphore_machine.specs.Program.{start_of, action_of, next_of};
 ghost use Rattle.definition_tests.specs.Never.{Never};
-ghost use Rattle.definition_tests.specs.Semaphore.{TriesInVain, TakesUndecided, GivesBackWithin, GivesBeforeItRaises, NotifiesForOthers, ForgetsInVain, RefusedThoughFree, RefusedAtLast, WaitsUnlisted, GoesOnUndecided, HasRefused, AddsAndTakes, TellsMore, TriesAndTells, ReturnsLate, ReturnsSilently, AddsSilently, AddsAfterTelling, PassesOverInVain, KeepsItsTold, TakesWhatWasTold};
+ghost use Rattle.definition_tests.specs.Semaphore.{TriesInVain, TakesUndecided, GivesBackWithin, GivesBeforeItRaises, NotifiesForOthers, ForgetsInVain, RefusedThoughFree, RefusedAtLast, WaitsUnlisted, GoesOnUndecided, DecidesInVain, HasRefused, AddsAndTakes, TellsMore, TriesAndTells, ReturnsLate, ReturnsSilently, AddsSilently, AddsAfterTelling, PassesOverInVain, KeepsItsTold, TakesWhatWasTold};
 
 /// Each clause says of one wrong run that it isn't legal.
 fn wrong_runs()
@@ -18,6 +18,7 @@ fn wrong_runs()
     ensures refused_at_last { Never (RefusedAtLast) }
     ensures waits_unlisted { Never (WaitsUnlisted) }
     ensures goes_on_undecided { Never (GoesOnUndecided) }
+    ensures decides_in_vain { Never (DecidesInVain) }
     ensures has_refused { Never (HasRefused) }
     ensures adds_and_takes { Never (AddsAndTakes) }
     ensures tells_more { Never (TellsMore) }

@@ -16,7 +16,7 @@ use Rattle.lock_world.specs.declared.refusal.Refusal.TheVariants as refusal
 use Rattle.lock_world.specs.declared.standing.Kind.TheVariants as kind
 use Rattle.lock_world.specs.declared.standing.Rest.TheVariants.{Idle, Pending, Holding, Finished}
 use Rattle.lock_world.specs.declared.standing.Within.{Within}
-use Rattle.lock_world.specs.Standings.{Standing, outside, inside, inputs_of, is_possible, is_decided, IsUndecided}
+use Rattle.lock_world.specs.Standings.{Standing, outside, inside, inputs_of, is_possible, is_decided, may_end, IsUndecided}
 use Rattle.lock_world.specs.Frame as frame
 use Rattle.lock_world.specs.Frame.{is_drop, is_refusal, put_in}
 use Rattle.lock_world.specs.Steps.{Deed, nothing, changes, does, joins, leaves, notifies, notifies_additionally, asked, list_after, is_parting}
@@ -146,9 +146,10 @@ HasItsOwn w p (inside within (Some (answer.Ready got))) = w.state.holder ≡ Som
 HasItsOwn w p (inside within (Some a)) = w.state.holder ≢ Some p
 HasItsOwn w p _ = Unit {0}
 
--- Each party has what its standing says; and after a refusal its future is as when it was made, in no list and not starved.
+-- Each party has what its standing says, and its call is decided only on an answer with which such a call may end; and after a refusal its future is as when it was made, in no list and not starved.
 pub record LeavesClear (m : Move) (a : Answer) (new : World) : Type 0 where
   pub each : (p : ℕ) → HasItsOwn new p (standing_of new p)
+  pub decided : (p : ℕ) (within : Within) (b : Answer) → standing_of new p ≡ inside within (Some b) → may_end within.kind b ≡ true
   pub refused : is_refusal a ≡ true → IsClear new m.party
 
 -- ---- The value

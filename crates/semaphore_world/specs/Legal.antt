@@ -17,7 +17,7 @@ use Rattle.lock_world.specs.declared.standing.Kind.{Kind}
 use Rattle.lock_world.specs.declared.standing.Kind.TheVariants as kind
 use Rattle.lock_world.specs.declared.standing.Rest.TheVariants.{Idle, Pending, Holding, Finished}
 use Rattle.lock_world.specs.declared.standing.Within.{Within}
-use Rattle.lock_world.specs.Standings.{Standing, outside, inside, inputs_of, is_decided, is_outside}
+use Rattle.lock_world.specs.Standings.{Standing, outside, inside, inputs_of, is_decided, is_outside, may_end}
 use Rattle.lock_world.specs.Frame as frame
 use Rattle.lock_world.specs.Frame.{is_drop, is_giving_back, is_refusal}
 use Rattle.lock_world.specs.Steps.{Deed, nothing, changes, does, joins, leaves, notifies, notifies_additionally, is_parting}
@@ -150,9 +150,10 @@ HasItsOwn w p (inside within (Some (answer.Granted got))) = has_permit w.state p
 HasItsOwn w p (inside within (Some a)) = share_at w.state p ≡ nothing_had
 HasItsOwn w p _ = Unit {0}
 
--- Each party has what its standing says, and outside every call it adds nothing; and after a refusal its future is as when it was made, in no list.
+-- Each party has what its standing says, its call is decided only on an answer with which such a call may end, and outside every call it adds nothing; and after a refusal its future is as when it was made, in no list.
 pub record LeavesClear (m : Move) (a : Answer) (new : World) : Type 0 where
   pub each : (p : ℕ) → HasItsOwn new p (standing_of new p)
+  pub decided : (p : ℕ) (within : Within) (b : Answer) → standing_of new p ≡ inside within (Some b) → may_end within.kind b ≡ true
   pub adds : (p : ℕ) → is_outside (standing_of new p) ≡ true → adds_of new p ≡ 0
   pub refused : is_refusal a ≡ true → entries_of m.party new.entries ≡ 0
 

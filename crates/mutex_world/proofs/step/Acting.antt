@@ -442,6 +442,7 @@ module _ (t u : Table Guarded) (m : Move) (a : Answer) (w : Within) where
     leaves_clear : LeavesClear m a new
     leaves_clear = record {
       each = owns.each u k.new_laws k.new_fits;
+      decided = owns.ends_well u k.new_laws k.new_fits;
       refused = λ is. (let out : to ≡ Out = lands_at ∙ refused_out trying v from n (ap is_refusal (sym k.carries.answer) ∙ is) in owns.clear_at u k.new_laws k.new_fits p (ap listed out) (ap is_counted out));
     }
 

@@ -13,7 +13,7 @@ use Rattle.lock_world.specs.declared.standing.Kind.TheVariants as kind
 use Rattle.lock_world.specs.declared.standing.Rest.TheVariants as rest
 use Rattle.lock_world.specs.declared.standing.Within.{Within}
 use Rattle.lock_world.specs.Frame.{is_drop, is_poll_after_ready, put_in}
-use Rattle.lock_world.specs.Standings.{Standing, outside, inside, call_in, refused}
+use Rattle.lock_world.specs.Standings.{Standing, outside, inside, call_in, may_end, refused}
 use Rattle.lock_world.specs.Steps.{nothing}
 use Rattle.lock_world.proofs.Equations.{outside_inside}
 use Rattle.lock_table.proofs.Idle as idle
@@ -53,6 +53,7 @@ again _ _ h = absurd (cc)
 -- what holds of any World that stands
 pub record StandsWell (w : World) : Type 0 where
   pub each : (p : ℕ) → HasItsOwn w p (standing_of w p)
+  pub ends : (p : ℕ) (u : Within) (b : Answer) → standing_of w p ≡ inside u (Some b) → may_end u.kind b ≡ true
   pub never_pending : (p : ℕ) (u : Within) → standing_of w p ≢ inside u (Some answer.Pending)
 
 -- a legal step, answered at once where it should be
@@ -79,7 +80,7 @@ module _ (w : World) (m : Move) (well : StandsWell w) where
           carries = record { ready = λ got d. (let e = same_decides s answer.NotPossible (answer.Ready got) d in absurd (cc)); granted = λ got d. (let e = same_decides s answer.NotPossible (answer.Granted got) d in absurd (cc)) };
           waits = record { waiting = λ e. absurd (cc); not_before = well.never_pending m.party };
           refused_for_cause = still.refused_for_cause;
-          leaves_clear = record { each = well.each; refused = λ h. absurd (cc) };
+          leaves_clear = record { each = well.each; decided = well.ends; refused = λ h. absurd (cc) };
           value_kept = record { put = λ v e h. absurd (cc); kept = λ h. refl };
           ends_properly = still.ends_properly;
         };
@@ -107,7 +108,7 @@ module _ (w : World) (m : Move) (well : StandsWell w) where
           carries = record { ready = λ got d. (let e = same_decides s (refused refusal.Finished) (answer.Ready got) d in absurd (cc)); granted = λ got d. (let e = same_decides s (refused refusal.Finished) (answer.Granted got) d in absurd (cc)) };
           waits = record { waiting = λ e. absurd (cc); not_before = well.never_pending m.party };
           refused_for_cause = still.refused_for_cause;
-          leaves_clear = record { each = well.each; refused = λ h. absurd (cc) };
+          leaves_clear = record { each = well.each; decided = well.ends; refused = λ h. absurd (cc) };
           value_kept = record { put = λ v e p. (let never = so.put in absurd (cc)); kept = λ h. refl };
           ends_properly = still.ends_properly;
         };

@@ -10,10 +10,11 @@ use Rattle.lock_world.specs.declared.standing.Rest.TheVariants as rest
 use Rattle.lock_world.specs.declared.standing.Stage.{Stage}
 use Rattle.lock_world.specs.declared.standing.Stage.TheVariants.{Outside, Inside, Forgotten}
 use Rattle.lock_world.specs.declared.standing.Within.{Within}
-use Rattle.lock_world.specs.Standings.{inside}
+use Rattle.lock_world.specs.Standings.{inside, may_end}
+use Rattle.lock_world.proofs.Equations.{some_eq}
 use Rattle.lock_table.specs.Stages.{stage_at, stands_as}
 use Rattle.lock_table.specs.Tables.{Table}
-use Rattle.lock_table.proofs.Past.{by_stage}
+use Rattle.lock_table.proofs.Past.{by_stage, by_stage_or_past_at}
 use Rattle.mutex_program.specs.declared.program.Place.{Place}
 use Rattle.mutex_program.specs.declared.program.Place.TheVariants as place
 use Rattle.mutex_machine.specs.Acts.{IsMutex}
@@ -55,6 +56,45 @@ drop_decided _ x g = absurd (cc (g))
 
 no_drop : (w : Within) (x : Place) → goes_with (Inside w) x ≡ true → is_some (decision x) ≡ false → w.kind ≢ kind.Drop
 no_drop w x g none is = true≢false (sym (drop_decided w.was x (ap (λ k. is_within k w.was x) (sym is) ∙ g)) ∙ none)
+
+-- a call is decided on an answer with which it may end
+abbrev Ends : Kind → Answer → Type 0
+Ends k b = may_end k b ≡ true
+
+decided_ends : (v : ℕ) (k : Kind) (r : Rest) (x : Place) (b : Answer) → is_within k r x ≡ true → answer_on v (decision x) ≡ Some b → Ends k b
+decided_ends v kind.FirstPoll rest.Idle place.Leave b g e = subst (Ends kind.FirstPoll) (some_eq e) refl
+decided_ends v kind.FirstPoll rest.Idle (place.Uncount stands) b g e = subst (Ends kind.FirstPoll) (some_eq e) refl
+decided_ends v kind.FirstPoll rest.Idle place.RefuseUncount b g e = subst (Ends kind.FirstPoll) (some_eq e) refl
+decided_ends v kind.FirstPoll rest.Idle (place.RefuseLeave told) b g e = subst (Ends kind.FirstPoll) (some_eq e) refl
+decided_ends v kind.FirstPoll rest.Idle place.RefuseNotifyMemory b g e = subst (Ends kind.FirstPoll) (some_eq e) refl
+decided_ends v kind.FirstPoll rest.Idle place.RefuseNotifyStarved b g e = subst (Ends kind.FirstPoll) (some_eq e) refl
+decided_ends v kind.FirstPoll rest.Idle _ b g e = absurd (cc)
+decided_ends v kind.LaterPoll rest.Pending place.Leave b g e = subst (Ends kind.LaterPoll) (some_eq e) refl
+decided_ends v kind.LaterPoll rest.Pending (place.Uncount stands) b g e = subst (Ends kind.LaterPoll) (some_eq e) refl
+decided_ends v kind.LaterPoll rest.Pending place.RefuseUncount b g e = subst (Ends kind.LaterPoll) (some_eq e) refl
+decided_ends v kind.LaterPoll rest.Pending (place.RefuseLeave told) b g e = subst (Ends kind.LaterPoll) (some_eq e) refl
+decided_ends v kind.LaterPoll rest.Pending place.RefuseNotifyMemory b g e = subst (Ends kind.LaterPoll) (some_eq e) refl
+decided_ends v kind.LaterPoll rest.Pending place.RefuseNotifyStarved b g e = subst (Ends kind.LaterPoll) (some_eq e) refl
+decided_ends v kind.LaterPoll rest.Pending _ b g e = absurd (cc)
+decided_ends v kind.Drop rest.Holding place.ReleaseNotify b g e = subst (Ends kind.Drop) (some_eq e) refl
+decided_ends v kind.Drop rest.Holding _ b g e = absurd (cc (g))
+decided_ends v kind.Drop rest.Pending place.CancelUncount b g e = subst (Ends kind.Drop) (some_eq e) refl
+decided_ends v kind.Drop rest.Pending place.CancelLeave b g e = subst (Ends kind.Drop) (some_eq e) refl
+decided_ends v kind.Drop rest.Pending _ b g e = absurd (cc (g))
+decided_ends v _ _ x b g e = absurd (cc (g))
+
+same_call : (w u : Within) (d e : Option Answer) → inside w d ≡ inside u e → w ≡ u
+same_call w u d e h = cc h
+
+same_decision : (w u : Within) (d e : Option Answer) → inside w d ≡ inside u e → d ≡ e
+same_decision w u d e h = cc h
+
+ends_at : (v : ℕ) (s : Stage) (x : Place) (u : Within) (b : Answer) → goes_with s x ≡ true → stands_as (answer_on v (decision x)) s ≡ inside u (Some b) → Ends u.kind b
+ends_at v (Outside r) x u b g h = absurd (cc h)
+ends_at v Forgotten x u b g h = absurd (cc h)
+ends_at v (Inside w) x u b g h =
+    let W : Within → Type 0 = λ z. Ends z.kind b in
+    subst W (same_call w u (answer_on v (decision x)) (Some b) h) (decided_ends v w.kind w.was x b g (same_decision w u (answer_on v (decision x)) (Some b) h))
 
 module _ (t : Table Guarded) (laws : IsMutex t.machine.lock) (fits : IsMutexTable t) where
   stands_pending : (d : Option Answer) (s : Stage) (u : Within) → (d ≡ Some answer.Pending → ⊥) → stands_as d s ≢ inside u (Some answer.Pending)
@@ -99,6 +139,11 @@ module _ (t : Table Guarded) (laws : IsMutex t.machine.lock) (fits : IsMutexTabl
   has q (Outside rest.Finished) x at g = absurd (cc)
   has q (Inside w) x at g = inside_has q w x at g
   has q Forgotten x at g = tt
+
+  pub ends_well : (q : ℕ) (u : Within) (b : Answer) → standing_of (view_of t) q ≡ inside u (Some b) → Ends u.kind b
+  ends_well q u b e = by_stage_or_past_at t.stages q (Ends u.kind b)
+      (λ past. (let h : stands_as (verdict t.machine q) Forgotten ≡ inside u (Some b) = ap (stands_as (verdict t.machine q)) (sym past) ∙ (sym (stands_seen t q) ∙ e) in absurd (cc (h))))
+      (λ inside. ends_at t.machine.value (stage_at t.stages q) (place_of t.machine q) u b (fits.stands q inside) (sym (stands_seen t q) ∙ e))
 
   pub each : (q : ℕ) → HasItsOwn (view_of t) q (standing_of (view_of t) q)
   each q = subst (HasItsOwn (view_of t) q) (sym (stands_seen t q)) (by_stage t.stages q (λ s. HasItsOwn (view_of t) q (stands_as (verdict t.machine q) s)) tt

@@ -113,7 +113,7 @@ module _ (t : Table Guarded) (n p : ℕ) (i : Inputs) (laws : IsMutex t.machine.
         memory = λ d. absurd (unlike (refused refusal.Memory) d.1 refl);
         after_ready = ((λ e. absurd (true≢false (ap is_granted e))), (λ e. (let never : false ≡ true = sym (ap (λ z. is_poll_after_ready z m.what) was) ∙ e in absurd (false≢true never))));
       };
-      leaves_clear = record { each = owns.each left laws left_fits; refused = λ h. absurd (false≢true h) };
+      leaves_clear = record { each = owns.each left laws left_fits; decided = owns.ends_well left laws left_fits; refused = λ h. absurd (false≢true h) };
       value_kept = record {
         put = λ v e h. (let same : n ≡ v = some_eq e in (ap (λ x. answer.Granted (Value x)) same, same));
         kept = λ h. elim h as (λ _. n ≡ t.machine.value) [ inl e ↦ absurd (none_some (sym e)) | inr e ↦ absurd (true≢false (ap is_possible e)) ];

@@ -72,7 +72,7 @@ module _ (t u : Table Guarded) (m : Move) (a : Answer) (tl : IsMutex t.machine.l
       }
 
   well : StandsWell (view_of t)
-  well = record { each = owns.each t tl tf; never_pending = owns.not_pending t tl tf }
+  well = record { each = owns.each t tl tf; ends = owns.ends_well t tl tf; never_pending = owns.not_pending t tl tf }
 
   call_is : call_of (view_of t) m ≡ call_at knows s m.what
   call_is = ap (λ z. call_in knows z m.what) (seen.stands_seen t m.party) ∙ call_seen knows (verdict t.machine m.party) s m.what

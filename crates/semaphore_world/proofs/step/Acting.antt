@@ -57,7 +57,7 @@ use Rattle.semaphore_world.proofs.table.Seen as seen
 use Rattle.semaphore_world.proofs.step.Rows.{said, SharesSo, AllowedAt, is_join, Refuses, Reason, Judged, Room, Row, row, never_pending}
 use Rattle.semaphore_world.proofs.step.Here.{Here}
 use Rattle.semaphore_world.proofs.step.Owns as legals
-use Rattle.semaphore_world.proofs.step.Owns.{each_has, none_added}
+use Rattle.semaphore_world.proofs.step.Owns.{each_has, ends_well, none_added}
 
 -- ---- Answers
 
@@ -425,6 +425,7 @@ module _ (t u : Table Semaphore) (m : Move) (a : Answer) (w : Within) where
     leaves_clear : LeavesClear m a new
     leaves_clear = record {
       each = each_has u k.new_laws k.new_fits;
+      decided = ends_well u k.new_laws k.new_fits;
       adds = none_added u k.new_laws k.new_fits;
       refused = λ h. k.new_laws.owners p ∙ (ap listed lands ∙ r.clear (ap is_refusal (sym k.answer) ∙ h));
     }

@@ -10,7 +10,7 @@ use Rattle.lock_world.specs.declared.moves.What.TheVariants.{Begin}
 use Rattle.lock_world.specs.declared.refusal.Refusal.TheVariants as refusal
 use Rattle.lock_world.specs.declared.standing.Rest.TheVariants as rest
 use Rattle.lock_world.specs.declared.standing.Within.{Within}
-use Rattle.lock_world.specs.Standings.{Standing, outside, inside, is_outside, call_in, refused}
+use Rattle.lock_world.specs.Standings.{Standing, outside, inside, is_outside, call_in, may_end, refused}
 use Rattle.lock_world.specs.Frame.{is_poll_after_ready, is_drop}
 use Rattle.lock_world.specs.Steps.{nothing}
 use Rattle.lock_world.proofs.Equations.{outside_inside}
@@ -57,6 +57,7 @@ again _ _ h = absurd (cc)
 pub record StandsWell (w : World) : Type 0 where
   pub each : (p : ℕ) → HasItsOwn w p (standing_of w p)
   pub adds : (p : ℕ) → is_outside (standing_of w p) ≡ true → adds_of w p ≡ 0
+  pub ends : (p : ℕ) (u : Within) (b : Answer) → standing_of w p ≡ inside u (Some b) → may_end u.kind b ≡ true
   pub never_pending : (p : ℕ) (u : Within) → standing_of w p ≢ inside u (Some answer.Pending)
 
 module _ (w : World) (m : Move) (well : StandsWell w) where
@@ -74,7 +75,7 @@ module _ (w : World) (m : Move) (well : StandsWell w) where
     carries = record { ready = λ got d. (let e = same_decides s answer.NotPossible (answer.Ready got) d in absurd (cc)); granted = λ got d. (let e = same_decides s answer.NotPossible (answer.Granted got) d in absurd (cc)) };
     waits = record { waiting = λ e. absurd (cc); not_before = well.never_pending m.party };
     refused_for_cause = still.refused_for_cause;
-    leaves_clear = record { each = well.each; adds = well.adds; refused = λ h. absurd (cc) };
+    leaves_clear = record { each = well.each; decided = well.ends; adds = well.adds; refused = λ h. absurd (cc) };
     ends_properly = still.ends_properly;
   }
 
@@ -104,7 +105,7 @@ module _ (w : World) (m : Move) (well : StandsWell w) where
       carries = record { ready = λ got d. (let e = same_decides s (refused refusal.Finished) (answer.Ready got) d in absurd (cc)); granted = λ got d. (let e = same_decides s (refused refusal.Finished) (answer.Granted got) d in absurd (cc)) };
       waits = record { waiting = λ e. absurd (cc); not_before = well.never_pending m.party };
       refused_for_cause = still.refused_for_cause;
-      leaves_clear = record { each = well.each; adds = well.adds; refused = λ h. absurd (cc) };
+      leaves_clear = record { each = well.each; decided = well.ends; adds = well.adds; refused = λ h. absurd (cc) };
       ends_properly = still.ends_properly;
     }
 

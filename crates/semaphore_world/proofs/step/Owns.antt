@@ -1,5 +1,5 @@
 -- What each party has, by where it stands.
-use Rattle.std.proofs.Common.{◌≡◌, ℕ, true, false, Some, is_some, refl, arith, ap, sym, ◌∙◌, subst}
+use Rattle.std.proofs.Common.{◌≡◌, ℕ, true, false, Option, Some, is_some, refl, arith, ap, sym, ◌∙◌, subst}
 use Rattle.lock_queue.specs.Parties.{entries_of}
 use Rattle.lock_world.specs.declared.moves.Answer.TheVariants as answer
 use Rattle.lock_world.specs.declared.standing.Kind.{Kind}
@@ -9,12 +9,13 @@ use Rattle.lock_world.specs.declared.standing.Rest.TheVariants as rest
 use Rattle.lock_world.specs.declared.standing.Stage.{Stage}
 use Rattle.lock_world.specs.declared.standing.Stage.TheVariants.{Outside, Inside, Forgotten}
 use Rattle.lock_world.specs.declared.standing.Within.{Within}
-use Rattle.lock_world.specs.Standings.{inside, is_outside}
-use Rattle.lock_world.proofs.Equations.{both}
+use Rattle.lock_world.specs.declared.moves.Answer.{Answer}
+use Rattle.lock_world.specs.Standings.{inside, is_outside, may_end}
+use Rattle.lock_world.proofs.Equations.{both, some_eq, none_some}
 use Rattle.lock_table.specs.Stages.{stage_at, stands_as}
 use Rattle.lock_table.specs.Tables.{Table}
 use Rattle.lock_table.proofs.Mapped.{past_last}
-use Rattle.lock_table.proofs.Past.{by_stage, by_stage_or_past}
+use Rattle.lock_table.proofs.Past.{by_stage, by_stage_or_past, by_stage_or_past_at}
 use Rattle.semaphore_machine.specs.declared.program.Place.TheVariants.{Take, Retake, Join, Ask, Leave, HandOn, RefuseNotify, Try, Lower, GiveBack, GiveBackNotify, Raise, GiveAdded, NotifyAdded, CancelLeave, Abandon}
 use Rattle.semaphore_machine.specs.declared.program.Place.{Place}
 use Rattle.semaphore_machine.specs.declared.program.Position.{Position}
@@ -94,6 +95,49 @@ adds_by (Outside rest.Finished) (At y) g o = absurd (cc)
 adds_by (Inside u) x g o = absurd (cc)
 adds_by Forgotten x g o = absurd (cc)
 
+-- a call is decided on an answer with which it may end
+abbrev Ends : Kind → Answer → Type 0
+Ends k b = may_end k b ≡ true
+
+decided_ends : (k : Kind) (r : Rest) (x : Place) (b : Answer) → runs k r x ≡ true → verdict_of x ≡ Some b → Ends k b
+decided_ends kind.FirstPoll rest.Idle (Leave more) b g e = subst (Ends kind.FirstPoll) (some_eq e) refl
+decided_ends kind.FirstPoll rest.Idle HandOn b g e = subst (Ends kind.FirstPoll) (some_eq e) refl
+decided_ends kind.FirstPoll rest.Idle RefuseNotify b g e = subst (Ends kind.FirstPoll) (some_eq e) refl
+decided_ends kind.FirstPoll rest.Idle _ b g e = absurd (cc)
+decided_ends kind.LaterPoll rest.Pending (Leave more) b g e = subst (Ends kind.LaterPoll) (some_eq e) refl
+decided_ends kind.LaterPoll rest.Pending HandOn b g e = subst (Ends kind.LaterPoll) (some_eq e) refl
+decided_ends kind.LaterPoll rest.Pending RefuseNotify b g e = subst (Ends kind.LaterPoll) (some_eq e) refl
+decided_ends kind.LaterPoll rest.Pending _ b g e = absurd (cc)
+decided_ends kind.Add rest.Idle (GiveAdded n) b g e = subst (Ends kind.Add) (some_eq e) refl
+decided_ends kind.Add rest.Idle (NotifyAdded n) b g e = subst (Ends kind.Add) (some_eq e) refl
+decided_ends kind.Add rest.Idle _ b g e = absurd (cc)
+decided_ends kind.Drop rest.Holding GiveBack b g e = subst (Ends kind.Drop) (some_eq e) refl
+decided_ends kind.Drop rest.Holding GiveBackNotify b g e = subst (Ends kind.Drop) (some_eq e) refl
+decided_ends kind.Drop rest.Holding _ b g e = absurd (cc)
+decided_ends kind.Drop rest.Pending CancelLeave b g e = subst (Ends kind.Drop) (some_eq e) refl
+decided_ends kind.Drop rest.Pending Abandon b g e = subst (Ends kind.Drop) (some_eq e) refl
+decided_ends kind.Drop rest.Pending _ b g e = absurd (cc)
+decided_ends kind.Forget rest.Holding Lower b g e = subst (Ends kind.Forget) (some_eq e) refl
+decided_ends kind.Forget rest.Holding _ b g e = absurd (cc)
+decided_ends kind.Try rest.Idle Try b g e = absurd (none_some e)
+decided_ends kind.Try rest.Idle _ b g e = absurd (cc)
+decided_ends _ _ x b g e = absurd (cc)
+
+same_call : (w u : Within) (d e : Option Answer) → inside w d ≡ inside u e → w ≡ u
+same_call w u d e h = cc h
+
+same_decision : (w u : Within) (d e : Option Answer) → inside w d ≡ inside u e → d ≡ e
+same_decision w u d e h = cc h
+
+ends_at : (s : Stage) (x : Position) (u : Within) (b : Answer) → goes_with s x ≡ true → stands_as (verdict x) s ≡ inside u (Some b) → Ends u.kind b
+ends_at (Outside r) x u b g h = absurd (cc h)
+ends_at Forgotten x u b g h = absurd (cc h)
+ends_at (Inside w) (At y) u b g h =
+    let W : Within → Type 0 = λ z. Ends z.kind b in
+    let two = both (is_begun y) (runs w.kind w.was y) g in
+    subst W (same_call w u (verdict_of y) (Some b) h) (decided_ends w.kind w.was y b two.1 (same_decision w u (verdict_of y) (Some b) h))
+ends_at (Inside w) _ u b g h = absurd (cc g)
+
 pends_by : (s : Stage) (x : Position) (u : Within) → stands_as (verdict x) s ≡ inside u (Some answer.Pending) → ⊥
 pends_by (Outside r) x u e = cc
 pends_by (Inside w) (At y) u e = never_pending y (cc)
@@ -107,6 +151,11 @@ module _ (t : Table Semaphore) (laws : IsSemaphore t.machine) (fits : IsSemaphor
   each_has q = subst (HasItsOwn (view_of t) q) (sym (seen.stands_seen t q)) (by_stage t.stages q (λ s. HasItsOwn (view_of t) q (stands_as (verdict (position_at t.machine.positions q)) s)) tt
       (λ inside. own_by (view_of t) q (stage_at t.stages q) (position_at t.machine.positions q) (fits.stands q inside) (laws.owners q) (seen.share_seen t q)))
 
+  pub ends_well : (q : ℕ) (u : Within) (b : Answer) → standing_of (view_of t) q ≡ inside u (Some b) → Ends u.kind b
+  ends_well q u b e = by_stage_or_past_at t.stages q (Ends u.kind b)
+      (λ past. (let h : stands_as (verdict (position_at t.machine.positions q)) Forgotten ≡ inside u (Some b) = ap (stands_as (verdict (position_at t.machine.positions q))) (sym past) ∙ (sym (seen.stands_seen t q) ∙ e) in absurd (cc (h))))
+      (λ inside. ends_at (stage_at t.stages q) (position_at t.machine.positions q) u b (fits.stands q inside) (sym (seen.stands_seen t q) ∙ e))
+
   pub none_added : (q : ℕ) → is_outside (standing_of (view_of t) q) ≡ true → adds_of (view_of t) q ≡ 0
   none_added q out = seen.adds_seen t q ∙ by_stage_or_past t.stages q (adds_at (position_at t.machine.positions q) ≡ 0)
       (λ past. ap adds_at (past_last t.machine.positions q Out (omega (arith, fits.as_many))))
@@ -115,6 +164,7 @@ module _ (t : Table Semaphore) (laws : IsSemaphore t.machine) (fits : IsSemaphor
   pub well : StandsWell (view_of t)
   well = record {
     each = each_has;
+    ends = ends_well;
     adds = none_added;
     never_pending = λ q u e. pends_by (stage_at t.stages q) (position_at t.machine.positions q) u (sym (seen.stands_seen t q) ∙ e);
   }

@@ -85,6 +85,9 @@ starved_cause : (m : Move) (old new : World) (r : Refusal) → number_of refusal
 starved_cause m old new refusal.Starved e h = h
 starved_cause m old new _ e h = absurd (cc)
 
+pub returns-clause-decides_in_vain : goal.returns-clause-decides_in_vain
+returns-clause-decides_in_vain c = λ r. true≢false (sym (r.legal.leaves_clear.decided r.party r.within r.by r.decided) ∙ r.never)
+
 pub returns-clause-starved_having_taken : goal.returns-clause-starved_having_taken
 returns-clause-starved_having_taken c = λ r.
     let why = r.legal.refused_for_cause.cause (number_of refusal.Starved) r.refused in

@@ -96,6 +96,9 @@ own_at w p s e own = subst (HasItsOwn w p) e own
 pub returns-clause-goes_on_undecided : goal.returns-clause-goes_on_undecided
 returns-clause-goes_on_undecided c = λ r. false≢true (sym r.no_poll ∙ (own_at r.step.new r.party _ r.undecided (r.legal.leaves_clear.each r.party)).1)
 
+pub returns-clause-decides_in_vain : goal.returns-clause-decides_in_vain
+returns-clause-decides_in_vain c = λ r. true≢false (sym (r.legal.leaves_clear.decided r.party r.within r.by r.decided) ∙ r.never)
+
 pub returns-clause-has_refused : goal.returns-clause-has_refused
 returns-clause-has_refused c = λ r. true≢false (sym r.has ∙ ap (λ (s : Share). s.permit) (own_at r.step.new r.party _ r.refused (r.legal.leaves_clear.each r.party)))
 
