@@ -1,5 +1,5 @@
 -- No wrong run of a once-cell is legal.
-use Rattle.std.proofs.Common.{◌≡◌, ◌≢◌, ℕ, ◌+◌, ◌⊎◌, inl, inr, if◌then◌else◌, Bool, true, false, List, Some, None, refl, arith, ap, sym, ◌∙◌, subst}
+use Rattle.std.proofs.Common.{◌≡◌, ℕ, ◌+◌, ◌⊎◌, inl, inr, if◌then◌else◌, Bool, true, false, List, Some, None, refl, arith, ap, sym, ◌∙◌, subst}
 use Rattle.std.proofs.lemmas.Bool.{true≢false}
 use Rattle.lock_event.specs.declared.event.Entry.{Entry}
 use Rattle.lock_event.specs.declared.event.Mark.TheVariants.{Waiting}
