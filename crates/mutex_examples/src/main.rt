@@ -1,0 +1,66 @@
+//! The mutex as its users meet it: shared by two threads, on an executor, cancelled, and owned by its guard. Each
+//! module is one example. The program runs them all, and prints a line for each.
+#![tactic(auto)]
+
+mod cancelled;
+mod executor;
+mod owned;
+mod two_threads;
+
+use async_lock::{Mutex, Refusal};
+use futures::test::MockTask;
+use std::process::ExitCode;
+use std::random::RandomSource;
+use std::sync::Wait;
+use std::thread::Threads;
+use std::time::Clock;
+
+// What each example returns, in order.
+struct Results {
+    sum: u64,
+    read: u64,
+    is_passed_on: bool,
+    owned: u64,
+}
+
+fn run_all<R>(rt: R) -> Result<Results, Refusal>
+where
+    R: Wait + Clock + RandomSource + AllocGlobal + Threads + Sync + Copy + Drop,
+{
+    let sum = two_threads::run(rt)?;
+    let mutex = Mutex::new(rt, 7_u64)?;
+    let read = executor::read(&rt, &mutex)?;
+    let Ok(task) = MockTask::new(&rt) else {
+        return Err(Refusal::Memory);
+    };
+    let guard = mutex.lock_blocking()?;
+    let is_passed_on = cancelled::second_gets_it(&mutex, guard, &task)?;
+    let guard = owned::locked(rt, 9)?;
+    let owned = *guard;
+    Ok(Results {
+        sum,
+        read,
+        is_passed_on,
+        owned,
+    })
+}
+
+fn main(rt: HostRuntime) -> ExitCode {
+    let Ok(
+        Results {
+            sum,
+            read,
+            is_passed_on,
+            owned,
+        },
+    ) = run_all(rt)
+    else {
+        return ExitCode::FAILURE;
+    };
+    match println!(rt;
+        "two threads: {sum}\nexecutor: {read}\ncancelled: {is_passed_on}\nowned: {owned}"
+    ) {
+        Ok(()) => ExitCode::SUCCESS,
+        Err(_) => ExitCode::FAILURE,
+    }
+}

@@ -1,0 +1,20 @@
+//! A guard that owns its share of the mutex, and outlives the function that locked it.
+
+use async_lock::{Mutex, MutexGuardArc, Refusal};
+use std::alloc::AllocGlobal;
+use std::random::RandomSource;
+use std::sync::{Arc, Wait};
+use std::time::Clock;
+
+/// Makes a mutex, locks it, and returns the guard alone: the guard is the mutex's last owner.
+pub(crate) fn locked<R>(rt: R, value: u64) -> Result<MutexGuardArc<u64, R>, Refusal>
+where
+    R: Wait + Clock + RandomSource + AllocGlobal + Drop,
+{
+    let alloc = rt.alloc();
+    let mutex = Mutex::new(rt, value)?;
+    let Ok(shared) = Arc::new(alloc, mutex) else {
+        return Err(Refusal::Memory);
+    };
+    Mutex::lock_arc_blocking(&shared)
+}

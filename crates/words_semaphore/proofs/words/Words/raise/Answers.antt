@@ -1,0 +1,6 @@
+use Rattle.std.proofs.Common.{rules, sym, ap, ◌∙◌}
+use Rattle.words_semaphore.proofs.Keeps.{raises}
+use Rattle.words_semaphore.proofs.words.Words.raise.Goals as goal
+
+pub compare_exchange-requires : goal.compare_exchange-requires
+compare_exchange-requires c = (c.requires.table ∙ sym (ap (λ w. w.table) c.self.view_is), search rules, raises _ _ _ _ _ _ (search rules) (search rules))
