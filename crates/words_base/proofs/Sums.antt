@@ -1,5 +1,5 @@
 -- What one seat's change does to the sums over all views.
-use Rattle.std.proofs.Common.{◌≡◌, ℕ, zero, suc, ◌+◌, ◌≤◌, Bool, List, [], ◌∷◌, ◌++◌, set, sym, ap, arith}
+use Rattle.std.proofs.Common.{◌≡◌, ℕ, zero, suc, ◌+◌, ◌≤◌, Bool, false, List, [], ◌∷◌, ◌++◌, set, sym, ap, arith}
 use mathlib.Core.Option.{some, some-injective, some-ne-none}
 use lib.ListN.{get_elem?}
 use Rattle.words_base.specs.Sums.{weight, number, total}
@@ -18,6 +18,11 @@ module _ {V : Type 0} where
   pub number-snoc : (flag : V → Bool) (l : List V) (w : V) → number flag (l ++ w ∷ []) ≡ number flag l + weight (flag w)
   number-snoc flag [] w = omega arith
   number-snoc flag (x ∷ xs) w = let r = number-snoc flag xs w in omega arith
+
+  -- a new view without the flag
+  pub number-none : (flag : V → Bool) (l : List V) (w : V) → flag w ≡ false → number flag (l ++ w ∷ []) ≡ number flag l
+  number-none flag [] w e = let is : weight (flag w) ≡ 0 = ap weight e in omega arith
+  number-none flag (x ∷ xs) w e = ap (λ (n : ℕ). weight (flag x) + n) (number-none flag xs w e)
 
   pub total-set : (f : V → ℕ) (l : List V) (i : ℕ) (v w : V) → get_elem? l i ≡ some v → total f (set l i w) + f v ≡ total f l + f w
   total-set f [] i v w e = absurd (some-ne-none v (sym e))

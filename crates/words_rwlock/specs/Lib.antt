@@ -1,0 +1,4 @@
+pub mod Rule
+pub mod Steps
+pub mod Tries
+pub mod Words

@@ -1,0 +1,369 @@
+//! The words of a read-write lock, and the tries on them.
+
+ghost use Rattle.std.specs.Prelude.{◌≡◌, ◌≢◌, ℕ, ◌+◌, ◌*◌, ◌<◌, ◌≤◌, ◌%◌, ◌/◌, true, false, [], ◌∷◌, IfOk, MatchBool, min};
+ghost use Rattle.words_rwlock.specs.Steps.{first_view, having_found, with_turn, without_turn, with_count, without_count, with_read, without_read, with_mark, with_write, upgraded, downgraded, without_mark};
+ghost use Rattle.words_rwlock.specs.Tries.{OnTaking, OnAlone, OnSetting, OnReading, OnAdding, OnCounting, OnReaders};
+
+use crate::found::{Adding, Counting, Readers, Reading, Setting, Taking, TakingAlone};
+use crate::rule::{
+    AddsStep, ClearsStep, CountsStep, DownsStep, KeptStep, LooksStep, MarksStep, OffsStep,
+    ReadsStep, RwRule, SeesStep, TookStep, TriesUpgradeStep, TriesWriteStep, UncountsStep,
+    UnmarksStep, UpgradesStep, WasSetStep,
+};
+use crate::view::{Seat, View};
+use atomic_table::Table;
+use std::alloc::{AllocError, Global};
+use std::marker::Model;
+use words_base::Nothing;
+
+/// The greatest number of seats that are counted as starved for the turn at once.
+pub const STARVED_LIMIT: u64 = 1_073_741_823;
+
+/// The greatest number of readers.
+pub const READERS_LIMIT: u64 = 1_073_741_823;
+
+// The turn's word is 1 while the turn is held, and 2 more for each starved seat.
+const TURN: usize = 0;
+
+// The state word is 1 while the writer's bit is set, and 2 more for each reader.
+const STATE: usize = 1;
+
+/// A read-write lock without its value and its waiting lists: its turn, the writer's bit, and its readers.
+///
+/// Contracts see which lock it is, and its two limits. Each call by a seat is a single try or step on one word, and
+/// waits for nobody.
+pub struct Words {
+    table: Table<Nothing, View, (), RwRule, Global>,
+    starved_limit: u64,
+    readers_limit: u64,
+}
+
+// By hand, so that a drop is one call to prove, and not all of its parts again.
+impl Drop for Words {
+    fn drop(self) {
+        let Words {
+            table: _,
+            starved_limit: _,
+            readers_limit: _,
+        } = self;
+    }
+}
+
+impl Model for Words {
+    ghost use Rattle.std.specs.Prelude.{◌≡◌, ◌≤◌};
+    ghost use Rattle.words_rwlock.specs.Words.{Lock, lock_coded};
+
+    ghost Value = { Lock };
+
+    ghost coded = { lock_coded };
+
+    ghost view = { λ w. record { table = w.table.shared.table_id; starved = w.starved_limit; readers = w.readers_limit } };
+
+    ghost invariant = { λ w. (w.table.shared.table_id.words ≡ 2) × (w.starved_limit ≤ 1073741823) × (w.readers_limit ≤ 1073741823) };
+}
+
+impl Words {
+    /// Makes a free lock with the greatest limits. It fails only if memory is refused.
+    pub fn new(alloc: Global) -> Result<Words, AllocError>
+        ensures { IfOk result (λ words. (words.starved ≡ 1073741823) × (words.readers ≡ 1073741823)) }
+    {
+        Words::with_limits(alloc, STARVED_LIMIT, READERS_LIMIT)
+    }
+
+    /// Makes a free lock whose turn counts at most this many seats as starved, and that has at most this many
+    /// readers. A larger number stands for the greatest limit. It fails only if memory is refused.
+    pub fn with_limits(alloc: Global, starved: u64, readers: u64) -> Result<Words, AllocError>
+        ensures { IfOk result (λ words. (words.starved ≡ min starved 1073741823) × (words.readers ≡ min readers 1073741823)) }
+    {
+        match Table::of_words(alloc, &[0, 0], &()) {
+            Ok((table, _first)) => Ok(Words {
+                table,
+                starved_limit: starved.min(STARVED_LIMIT),
+                readers_limit: readers.min(READERS_LIMIT),
+            }),
+            Err(_) => Err(AllocError),
+        }
+    }
+
+    /// Returns a new seat, which has no right. It costs one load, and takes no memory.
+    pub fn sit(&self) -> Seat
+        ensures { (result.inner.table_id ≡ self.now.table) × (result.inner.me ≡ (first_view, [])) }
+    {
+        Seat {
+            inner: self.table.shared.load_new_seat::<KeptStep>(STATE).1,
+        }
+    }
+
+    /// Ends a seat that has no right and isn't counted as starved.
+    pub fn rise(&self, seat: Seat)
+        requires table { seat.inner.table_id ≡ self.now.table }
+        requires turn { (seat.inner.me.0.holds ≡ false) × (seat.inner.me.0.starved ≡ false) }
+        requires state { (seat.inner.me.0.marks ≡ false) × (seat.inner.me.0.reads ≡ false) × (seat.inner.me.0.writes ≡ false) }
+    {
+        let Seat { inner: _ } = seat;
+    }
+
+    /// Takes the turn if it is free and nobody is starved for it: one try.
+    pub fn take(&self, seat: &mut Seat) -> Taking
+        requires table { seat.old.inner.table_id ≡ self.now.table }
+        ensures same { (seat.new.inner.table_id ≡ seat.old.inner.table_id) × (seat.new.inner.id ≡ seat.old.inner.id) }
+        ensures step { OnTaking result (seat.new.inner.me ≡ (with_turn (having_found seat.new.inner.me.0.found seat.old.inner.me.0), seat.old.inner.me.1)) ((seat.new.inner.me ≡ (having_found seat.new.inner.me.0.found seat.old.inner.me.0, seat.old.inner.me.1)) × (seat.new.inner.me.0.found ≡ 1)) ((seat.new.inner.me ≡ (having_found seat.new.inner.me.0.found seat.old.inner.me.0, seat.old.inner.me.1)) × (2 ≤ seat.new.inner.me.0.found)) }
+    {
+        let shared = &self.table.shared;
+        let seen = shared.load::<SeesStep>(&mut seat.inner, TURN);
+        if seen > 1 {
+            return Taking::Starved;
+        }
+        if seen == 1 {
+            return Taking::Held;
+        }
+        let found = shared.compare_exchange::<TookStep>(&mut seat.inner, TURN, 0, 1);
+        if found == 0 {
+            Taking::Got
+        } else if found == 1 {
+            Taking::Held
+        } else {
+            Taking::Starved
+        }
+    }
+
+    /// Takes the turn if it is free and one seat is starved for it: one try. The starved seat is the one that
+    /// tries.
+    pub fn take_alone(&self, seat: &mut Seat) -> TakingAlone
+        requires table { seat.old.inner.table_id ≡ self.now.table }
+        ensures same { (seat.new.inner.table_id ≡ seat.old.inner.table_id) × (seat.new.inner.id ≡ seat.old.inner.id) }
+        ensures step { OnAlone result (seat.new.inner.me ≡ (with_turn (having_found seat.new.inner.me.0.found seat.old.inner.me.0), seat.old.inner.me.1)) ((seat.new.inner.me ≡ (having_found seat.new.inner.me.0.found seat.old.inner.me.0, seat.old.inner.me.1)) × (seat.new.inner.me.0.found % 2 ≡ 1)) ((seat.new.inner.me ≡ (having_found seat.new.inner.me.0.found seat.old.inner.me.0, seat.old.inner.me.1)) × (seat.new.inner.me.0.found % 2 ≡ 0) × (seat.new.inner.me.0.found ≢ 2)) }
+    {
+        let shared = &self.table.shared;
+        let found = shared.compare_exchange::<TookStep>(&mut seat.inner, TURN, 2, 3);
+        if found == 2 {
+            TakingAlone::Got
+        } else if found % 2 == 1 {
+            TakingAlone::Held
+        } else {
+            TakingAlone::FreeWithOthers
+        }
+    }
+
+    /// Sets the turn's bit, whoever is starved, and takes the turn if it was free: one step.
+    pub fn set(&self, seat: &mut Seat) -> Setting
+        requires table { seat.old.inner.table_id ≡ self.now.table }
+        ensures same { (seat.new.inner.table_id ≡ seat.old.inner.table_id) × (seat.new.inner.id ≡ seat.old.inner.id) }
+        ensures step { OnSetting result (seat.new.inner.me ≡ (with_turn (having_found seat.new.inner.me.0.found seat.old.inner.me.0), seat.old.inner.me.1)) ((seat.new.inner.me ≡ (having_found seat.new.inner.me.0.found seat.old.inner.me.0, seat.old.inner.me.1)) × (seat.new.inner.me.0.found % 2 ≡ 1)) }
+    {
+        let found = self
+            .table
+            .shared
+            .fetch_or::<WasSetStep>(&mut seat.inner, TURN, 1);
+        if found % 2 == 0 {
+            Setting::Got
+        } else {
+            Setting::WasSet
+        }
+    }
+
+    /// Counts the seat as starved for the turn, below the limit: one try.
+    pub fn count(&self, seat: &mut Seat) -> Counting
+        requires table { seat.old.inner.table_id ≡ self.now.table }
+        requires one { seat.old.inner.me.0.starved ≡ false }
+        ensures same { (seat.new.inner.table_id ≡ seat.old.inner.table_id) × (seat.new.inner.id ≡ seat.old.inner.id) }
+        ensures step { OnCounting result (seat.new.inner.me ≡ (with_count (having_found seat.new.inner.me.0.found seat.old.inner.me.0), seat.old.inner.me.1)) ((seat.new.inner.me ≡ (having_found seat.new.inner.me.0.found seat.old.inner.me.0, seat.old.inner.me.1)) × (self.now.starved ≤ seat.new.inner.me.0.found / 2)) (seat.new.inner.me ≡ (having_found seat.new.inner.me.0.found seat.old.inner.me.0, seat.old.inner.me.1)) }
+    {
+        let shared = &self.table.shared;
+        let found = shared.load::<SeesStep>(&mut seat.inner, TURN);
+        if found / 2 >= self.starved_limit {
+            return Counting::AtLimit;
+        }
+        let more = found + 2;
+        if shared.compare_exchange::<CountsStep>(&mut seat.inner, TURN, found, more) == found {
+            Counting::Counted
+        } else {
+            Counting::Changed
+        }
+    }
+
+    /// Takes the seat's count off: one step.
+    pub fn uncount(&self, seat: &mut Seat)
+        requires table { seat.old.inner.table_id ≡ self.now.table }
+        requires starved { seat.old.inner.me.0.starved ≡ true }
+        ensures same { (seat.new.inner.table_id ≡ seat.old.inner.table_id) × (seat.new.inner.id ≡ seat.old.inner.id) }
+        ensures step { seat.new.inner.me ≡ (without_count seat.old.inner.me.0, seat.old.inner.me.1) }
+    {
+        self.table
+            .shared
+            .fetch_sub::<UncountsStep>(&mut seat.inner, TURN, 2);
+    }
+
+    /// Gives the turn back: one step. The seat has cleared the writer's bit before.
+    pub fn clear(&self, seat: &mut Seat)
+        requires table { seat.old.inner.table_id ≡ self.now.table }
+        requires turn { (seat.old.inner.me.0.holds ≡ true) × (seat.old.inner.me.0.marks ≡ false) }
+        ensures same { (seat.new.inner.table_id ≡ seat.old.inner.table_id) × (seat.new.inner.id ≡ seat.old.inner.id) }
+        ensures step { seat.new.inner.me ≡ (without_turn seat.old.inner.me.0, seat.old.inner.me.1) }
+    {
+        self.table
+            .shared
+            .fetch_sub::<ClearsStep>(&mut seat.inner, TURN, 1);
+    }
+
+    /// Reads, if the writer's bit is clear and the readers are below their limit: one try.
+    pub fn read(&self, seat: &mut Seat) -> Reading
+        requires table { seat.old.inner.table_id ≡ self.now.table }
+        requires idle { seat.old.inner.me.0.reads ≡ false }
+        ensures same { (seat.new.inner.table_id ≡ seat.old.inner.table_id) × (seat.new.inner.id ≡ seat.old.inner.id) }
+        ensures step { OnReading result (seat.new.inner.me ≡ (with_read (having_found seat.new.inner.me.0.found seat.old.inner.me.0), seat.old.inner.me.1)) ((seat.new.inner.me ≡ (having_found seat.new.inner.me.0.found seat.old.inner.me.0, seat.old.inner.me.1)) × (seat.new.inner.me.0.found % 2 ≡ 1)) ((seat.new.inner.me ≡ (having_found seat.new.inner.me.0.found seat.old.inner.me.0, seat.old.inner.me.1)) × (self.now.readers ≤ seat.new.inner.me.0.found / 2)) (seat.new.inner.me ≡ (having_found seat.new.inner.me.0.found seat.old.inner.me.0, seat.old.inner.me.1)) }
+    {
+        let shared = &self.table.shared;
+        let found = shared.load::<SeesStep>(&mut seat.inner, STATE);
+        if found % 2 == 1 {
+            return Reading::Writer;
+        }
+        if found / 2 >= self.readers_limit {
+            return Reading::Full;
+        }
+        let more = found + 2;
+        if shared.compare_exchange::<ReadsStep>(&mut seat.inner, STATE, found, more) == found {
+            Reading::Reads
+        } else {
+            Reading::Changed
+        }
+    }
+
+    /// Reads no more: one step. Returns whether readers are left, whatever the writer's bit is.
+    pub fn off(&self, seat: &mut Seat) -> Readers
+        requires table { seat.old.inner.table_id ≡ self.now.table }
+        requires reads { seat.old.inner.me.0.reads ≡ true }
+        ensures same { (seat.new.inner.table_id ≡ seat.old.inner.table_id) × (seat.new.inner.id ≡ seat.old.inner.id) }
+        ensures step { seat.new.inner.me ≡ (without_read (having_found seat.new.inner.me.0.found seat.old.inner.me.0), seat.old.inner.me.1) }
+    {
+        let found = self
+            .table
+            .shared
+            .fetch_sub::<OffsStep>(&mut seat.inner, STATE, 2);
+        if found / 2 == 1 {
+            Readers::NoneLeft
+        } else {
+            Readers::SomeLeft
+        }
+    }
+
+    /// Reads how many readers there are: one load.
+    pub fn load(&self, seat: &mut Seat) -> u64
+        requires table { seat.old.inner.table_id ≡ self.now.table }
+        ensures same { (seat.new.inner.table_id ≡ seat.old.inner.table_id) × (seat.new.inner.id ≡ seat.old.inner.id) }
+        ensures step { (seat.new.inner.me ≡ (having_found seat.new.inner.me.0.found seat.old.inner.me.0, seat.old.inner.me.1)) × (result ≡ seat.new.inner.me.0.found / 2) }
+    {
+        self.table.shared.load::<SeesStep>(&mut seat.inner, STATE) / 2
+    }
+
+    /// Reads, by the seat that has the turn, if the readers are below their limit: one try.
+    pub fn add(&self, seat: &mut Seat) -> Adding
+        requires table { seat.old.inner.table_id ≡ self.now.table }
+        requires turn { (seat.old.inner.me.0.holds ≡ true) × (seat.old.inner.me.0.marks ≡ false) × (seat.old.inner.me.0.reads ≡ false) }
+        ensures same { (seat.new.inner.table_id ≡ seat.old.inner.table_id) × (seat.new.inner.id ≡ seat.old.inner.id) }
+        ensures step { OnAdding result (seat.new.inner.me ≡ (with_read (having_found seat.new.inner.me.0.found seat.old.inner.me.0), seat.old.inner.me.1)) ((seat.new.inner.me ≡ (having_found seat.new.inner.me.0.found seat.old.inner.me.0, seat.old.inner.me.1)) × (self.now.readers ≤ seat.new.inner.me.0.found / 2)) (seat.new.inner.me ≡ (having_found seat.new.inner.me.0.found seat.old.inner.me.0, seat.old.inner.me.1)) }
+    {
+        let shared = &self.table.shared;
+        let found = shared.load::<SeesStep>(&mut seat.inner, STATE);
+        if found / 2 >= self.readers_limit {
+            return Adding::Full;
+        }
+        let more = found + 2;
+        if shared.compare_exchange::<AddsStep>(&mut seat.inner, STATE, found, more) == found {
+            Adding::Reads
+        } else {
+            Adding::Changed
+        }
+    }
+
+    /// Sets the writer's bit: one step. If no reader is left the seat writes at once, else it waits to.
+    pub fn mark(&self, seat: &mut Seat) -> Readers
+        requires table { seat.old.inner.table_id ≡ self.now.table }
+        requires turn { (seat.old.inner.me.0.holds ≡ true) × (seat.old.inner.me.0.marks ≡ false) }
+        ensures same { (seat.new.inner.table_id ≡ seat.old.inner.table_id) × (seat.new.inner.id ≡ seat.old.inner.id) }
+        ensures step { OnReaders result (seat.new.inner.me ≡ (with_write seat.old.inner.me.0, seat.old.inner.me.1)) (seat.new.inner.me ≡ (with_mark seat.old.inner.me.0, seat.old.inner.me.1)) }
+    {
+        if self
+            .table
+            .shared
+            .fetch_add::<MarksStep>(&mut seat.inner, STATE, 1)
+            == 0
+        {
+            Readers::NoneLeft
+        } else {
+            Readers::SomeLeft
+        }
+    }
+
+    /// Sets the writer's bit and writes, if nobody reads: one try. Returns whether it writes.
+    pub fn try_write(&self, seat: &mut Seat) -> bool
+        requires table { seat.old.inner.table_id ≡ self.now.table }
+        requires turn { seat.old.inner.me.0.holds ≡ true }
+        ensures same { (seat.new.inner.table_id ≡ seat.old.inner.table_id) × (seat.new.inner.id ≡ seat.old.inner.id) }
+        ensures step { MatchBool result (seat.new.inner.me ≡ (with_write seat.old.inner.me.0, seat.old.inner.me.1)) ((seat.new.inner.me ≡ (having_found seat.new.inner.me.0.found seat.old.inner.me.0, seat.old.inner.me.1)) × (seat.new.inner.me.0.found ≢ 0)) }
+    {
+        let shared = &self.table.shared;
+        shared.compare_exchange::<TriesWriteStep>(&mut seat.inner, STATE, 0, 1) == 0
+    }
+
+    /// Looks whether readers are left, by the seat that waits to write: one load. If none is, it writes.
+    pub fn look(&self, seat: &mut Seat) -> Readers
+        requires table { seat.old.inner.table_id ≡ self.now.table }
+        requires waits { (seat.old.inner.me.0.marks ≡ true) × (seat.old.inner.me.0.reads ≡ false) }
+        ensures same { (seat.new.inner.table_id ≡ seat.old.inner.table_id) × (seat.new.inner.id ≡ seat.old.inner.id) }
+        ensures step { OnReaders result (seat.new.inner.me ≡ (with_write seat.old.inner.me.0, seat.old.inner.me.1)) ((seat.new.inner.me ≡ (having_found seat.new.inner.me.0.found seat.old.inner.me.0, seat.old.inner.me.1)) × (seat.new.inner.me.0.found ≢ 1)) }
+    {
+        if self.table.shared.load::<LooksStep>(&mut seat.inner, STATE) == 1 {
+            Readers::NoneLeft
+        } else {
+            Readers::SomeLeft
+        }
+    }
+
+    /// Writes in place of reading, by the upgradable reader that reads alone: one try. Returns whether it writes.
+    pub fn try_upgrade(&self, seat: &mut Seat) -> bool
+        requires table { seat.old.inner.table_id ≡ self.now.table }
+        requires turn { (seat.old.inner.me.0.holds ≡ true) × (seat.old.inner.me.0.marks ≡ false) × (seat.old.inner.me.0.reads ≡ true) }
+        ensures same { (seat.new.inner.table_id ≡ seat.old.inner.table_id) × (seat.new.inner.id ≡ seat.old.inner.id) }
+        ensures step { MatchBool result (seat.new.inner.me ≡ (with_write seat.old.inner.me.0, seat.old.inner.me.1)) ((seat.new.inner.me ≡ (having_found seat.new.inner.me.0.found seat.old.inner.me.0, seat.old.inner.me.1)) × (seat.new.inner.me.0.found ≢ 2)) }
+    {
+        let shared = &self.table.shared;
+        shared.compare_exchange::<TriesUpgradeStep>(&mut seat.inner, STATE, 2, 1) == 2
+    }
+
+    /// Waits to write in place of reading, by the upgradable reader: one step.
+    pub fn upgrade(&self, seat: &mut Seat)
+        requires table { seat.old.inner.table_id ≡ self.now.table }
+        requires turn { (seat.old.inner.me.0.holds ≡ true) × (seat.old.inner.me.0.marks ≡ false) × (seat.old.inner.me.0.reads ≡ true) }
+        ensures same { (seat.new.inner.table_id ≡ seat.old.inner.table_id) × (seat.new.inner.id ≡ seat.old.inner.id) }
+        ensures step { seat.new.inner.me ≡ (upgraded seat.old.inner.me.0, seat.old.inner.me.1) }
+    {
+        self.table
+            .shared
+            .fetch_sub::<UpgradesStep>(&mut seat.inner, STATE, 1);
+    }
+
+    /// Reads in place of writing: one step.
+    pub fn down(&self, seat: &mut Seat)
+        requires table { seat.old.inner.table_id ≡ self.now.table }
+        requires writes { seat.old.inner.me.0.writes ≡ true }
+        ensures same { (seat.new.inner.table_id ≡ seat.old.inner.table_id) × (seat.new.inner.id ≡ seat.old.inner.id) }
+        ensures step { seat.new.inner.me ≡ (downgraded seat.old.inner.me.0, seat.old.inner.me.1) }
+    {
+        self.table
+            .shared
+            .fetch_add::<DownsStep>(&mut seat.inner, STATE, 1);
+    }
+
+    /// Clears the writer's bit: one step. The seat neither writes nor waits to any more.
+    pub fn unmark(&self, seat: &mut Seat)
+        requires table { seat.old.inner.table_id ≡ self.now.table }
+        requires marks { seat.old.inner.me.0.marks ≡ true }
+        ensures same { (seat.new.inner.table_id ≡ seat.old.inner.table_id) × (seat.new.inner.id ≡ seat.old.inner.id) }
+        ensures step { seat.new.inner.me ≡ (without_mark seat.old.inner.me.0, seat.old.inner.me.1) }
+    {
+        self.table
+            .shared
+            .fetch_sub::<UnmarksStep>(&mut seat.inner, STATE, 1);
+    }
+}
