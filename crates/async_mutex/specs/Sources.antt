@@ -12,7 +12,7 @@ use Rattle.lock_words.specs.Tries.{Holds}
 
 -- the sources at which it waits: its mutex's own
 abbrev pub WaitsAt : {T R : Type 0} → Stage T R → ℕ → Type 0
-WaitsAt (Waits mutex) s = s ≡ (arc_value mutex).raw.list.source.id
+WaitsAt (Waits mutex) s = s ≡ (arc_value mutex).raw.words.list
 WaitsAt _ s = ⊥
 
 -- its party waits at its mutex between two polls

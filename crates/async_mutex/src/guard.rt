@@ -107,23 +107,15 @@ impl<T, R: Wait> DerefMut for MutexGuardArc<T, R> {
 
 impl<T, R: Wait> Drop for MutexGuard<'_, T, R> {
     fn drop(self) {
-        let Self {
-            mutex,
-            mut seat,
-            hold,
-        } = self;
-        mutex.raw.release(&mutex.rt, &mut seat, hold);
+        let Self { mutex, seat, hold } = self;
+        mutex.release(seat, hold);
     }
 }
 
 impl<T: Drop, R: Wait + Drop> Drop for MutexGuardArc<T, R> {
     fn drop(self) {
-        let Self {
-            mutex,
-            mut seat,
-            hold,
-        } = self;
-        mutex.raw.release(&mutex.rt, &mut seat, hold);
+        let Self { mutex, seat, hold } = self;
+        mutex.release(seat, hold);
         drop(mutex);
     }
 }

@@ -8,7 +8,7 @@ ghost use Rattle.async_mutex.specs.Outcomes.{Waits};
 
 use crate::guard::{MutexGuard, MutexGuardArc};
 use crate::mutex::Mutex;
-use crate::waiting::{Outcome, Waiting};
+use crate::waiting::{Outcome, Waiting, nothing};
 use futures::task::Context;
 use lock_words::{Hold, Polled, Seat, Turn};
 use lock_world::Refusal;
@@ -69,7 +69,7 @@ impl<'a, T, R: Wait + Clock> Lock<'a, T, R> {
     pub fn poll(&mut self, cx: &mut Context<'_>) -> Turn<MutexGuard<'a, T, R>>
         ensures turn { IsTurn (λ guard. guard.mutex.now ≡ self.old.mutex) self.old.is_over result self.new.is_over }
         ensures mutex { self.new.mutex ≡ self.old.mutex }
-        ensures registered { OnPending result (Covers cx.new (λ s. s ≡ self.old.mutex.raw.list.source.id)) }
+        ensures registered { OnPending result (Covers cx.new (λ s. s ≡ self.old.mutex.raw.words.list)) }
         ensures kept { Keeps cx.old cx.new }
     {
         let mutex = self.mutex;
@@ -92,7 +92,7 @@ impl<'a, T, R: Wait + Clock> Lock<'a, T, R> {
         requires { self.old.is_over ≡ false }
         ensures turn { IsTurn (λ guard. guard.mutex.now ≡ self.old.mutex) false result self.new.is_over }
         ensures mutex { self.new.mutex ≡ self.old.mutex }
-        ensures registered { OnPending result (Covers cx.new (λ s. s ≡ self.old.mutex.raw.list.source.id)) }
+        ensures registered { OnPending result (Covers cx.new (λ s. s ≡ self.old.mutex.raw.words.list)) }
         ensures kept { Keeps cx.old cx.new }
     {
         let mutex = self.mutex;
@@ -106,11 +106,11 @@ impl<'a, T, R: Wait + Clock> Lock<'a, T, R> {
                 Turn::Ready(MutexGuard::new(mutex, seat, hold))
             }
             Outcome::Waits(waiting) => {
-                self.waiting = Some(waiting);
+                waiting.store(&mut self.waiting);
                 Turn::Pending
             }
             Outcome::Refused(refusal, waiting) => {
-                self.waiting = Some(waiting);
+                waiting.store(&mut self.waiting);
                 Turn::Refused(refusal)
             }
         }
@@ -276,12 +276,12 @@ impl<T: Drop, R: Wait + Clock + Drop> LockArc<T, R> {
                     }
                     Outcome::Waits(waiting) => {
                         self.stage = Stage::Waits(mutex);
-                        self.waiting = Some(waiting);
+                        waiting.store(&mut self.waiting);
                         Turn::Pending
                     }
                     Outcome::Refused(refusal, waiting) => {
                         self.stage = Stage::Waits(mutex);
-                        self.waiting = Some(waiting);
+                        waiting.store(&mut self.waiting);
                         Turn::Refused(refusal)
                     }
                 }
@@ -302,8 +302,9 @@ impl<T: Drop, R: Wait + Drop> Drop for LockArc<T, R> {
     #[inline]
     fn drop(self) {
         let Self { stage, waiting } = self;
-        if let Stage::Waits(mutex) = stage {
-            leave(mutex, waiting);
+        match stage {
+            Stage::Waits(mutex) => leave(mutex, waiting),
+            Stage::Unowned | Stage::Finished => nothing(waiting),
         }
     }
 }

@@ -5,6 +5,7 @@ ghost use Rattle.std.specs.Arc.{arc_value};
 ghost use Rattle.futures.specs.Task.{Covers, Keeps};
 ghost use Rattle.async_mutex.specs.Outcomes.{OnOutcome, OnWaits, Waits};
 ghost use Rattle.lock_driver.specs.Parties.{Stands};
+ghost use Rattle.lock_words.specs.Tries.{Holds};
 ghost use Rattle.mutex_program.specs.declared.program.Place.TheVariants as at;
 
 use crate::guard::{MutexGuard, MutexGuardArc};
@@ -12,8 +13,8 @@ use crate::lock::{Lock, LockArc};
 use crate::waiting::{Outcome, Waiting};
 use futures::executor::block_on;
 use futures::task::Context;
-use lock_driver::{MutexParty, RawMutex, WaitingList};
-use lock_words::{Settled, Words};
+use lock_driver::{MutexParty, RawMutex};
+use lock_words::{Hold, Seat, Settled, Words};
 use lock_world::Refusal;
 use mutex_program::calls::{End, LockCall};
 use mutex_program::program::Place;
@@ -48,9 +49,8 @@ impl<T: Drop, R: AllocGlobal + Drop> Mutex<T, R> {
         let Ok(words) = Words::new(alloc, value) else {
             return Err(Refusal::Memory);
         };
-        let list = WaitingList::new(alloc);
         Ok(Mutex {
-            raw: RawMutex { words, list },
+            raw: RawMutex { words },
             rt,
         })
     }
@@ -105,16 +105,24 @@ impl<T, R: Wait> Mutex<T, R> {
         Lock::new(self)
     }
 
+    // Gives the lock back that a guard has that is dropped.
+    #[inline]
+    pub(crate) fn release(&self, seat: Seat<T>, hold: Hold<T>)
+        requires { Holds self.now.raw.words seat hold × (seat.starved ≡ false) }
+    {
+        self.raw.release(&self.rt, seat, hold);
+    }
+
     // Gives back what a future has that is dropped.
     pub(crate) fn cancel(&self, waiting: Waiting<T>)
         requires { Waits self.now.raw.words waiting }
     {
         let Waiting {
-            mut party,
+            party,
             place,
             since: _,
         } = waiting;
-        let _ = self.raw.call(&self.rt, &mut party, LockCall::Cancel, place);
+        self.raw.cancel(&self.rt, party, place);
     }
 }
 
@@ -126,11 +134,11 @@ impl<T: Drop, R: Wait + Drop> Mutex<T, R> {
     pub fn try_lock_arc(this: &Arc<Mutex<T, R>>) -> Option<MutexGuardArc<T, R>>
         ensures { IfSome result (λ guard. guard ≡ arc_value this.now) }
     {
-        let (mut seat, hold) = this.raw.take()?;
+        let (seat, hold) = this.raw.take()?;
         match Arc::try_clone(this) {
             Ok(mutex) => Some(MutexGuardArc::new(mutex, seat, hold)),
             Err(_) => {
-                this.raw.release(&this.rt, &mut seat, hold);
+                this.release(seat, hold);
                 None
             }
         }
@@ -151,7 +159,7 @@ impl<T, R: Wait + Clock> Mutex<T, R> {
     pub(crate) fn poll_waiting(&self, cx: &mut Context<'_>, waiting: Waiting<T>) -> Outcome<T>
         requires { Waits self.now.raw.words waiting }
         ensures outcome { OnOutcome self.now.raw.words result }
-        ensures registered { OnWaits result (Covers cx.new (λ s. s ≡ self.now.raw.list.source.id)) }
+        ensures registered { OnWaits result (Covers cx.new (λ s. s ≡ self.now.raw.words.list)) }
         ensures kept { Keeps cx.old cx.new }
     {
         let Waiting {
@@ -170,7 +178,7 @@ impl<T, R: Wait + Clock> Mutex<T, R> {
             End::Refused(refusal) => Outcome::Refused(refusal, anew(&self.raw.words, party)),
             // The waker that the entry kept is in hand. It is registered into, and the entry asks again with it.
             End::Pending | End::NotFree | End::GivenBack => {
-                self.raw.list.register(cx, &mut party.waker);
+                self.raw.words.register(cx, &mut party.waker);
                 let (end, place) = self.raw.call(&self.rt, &mut party, poll, place);
                 match end {
                     End::Got => {

@@ -9,8 +9,7 @@
 
 mod carries;
 mod mutex_party;
-mod waiting_list;
 
 pub use carries::Carries;
+pub use lock_words::{WaitingList, Wakes};
 pub use mutex_party::{MutexParty, RawMutex};
-pub use waiting_list::{WaitingList, Wakes};

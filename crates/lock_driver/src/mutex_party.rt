@@ -1,6 +1,6 @@
 //! The mutex's program, carried out on a mutex's words and waiting list.
 
-ghost use Rattle.std.specs.Prelude.{◌≡◌, Bool, true, false, Option, Some, None, IfSome, IfNone, IsSome};
+ghost use Rattle.std.specs.Prelude.{◌≡◌, Bool, true, false, not, Option, Some, None, IfSome, IfNone, IsSome, is_some};
 ghost use Rattle.lock_words.specs.Lock.{cleared};
 ghost use Rattle.lock_words.specs.Tries.{Holds};
 ghost use Rattle.mutex_program.specs.Program.{rest_at, start_of, action_of, next_of};
@@ -12,54 +12,43 @@ ghost use Rattle.mutex_program.specs.declared.program.Next.TheVariants as next;
 ghost use Rattle.mutex_program.specs.declared.program.Place.TheVariants as at;
 
 use crate::carries::Carries;
-use crate::waiting_list::WaitingList;
 use futures::task::Waker;
-use lock_event::EntryId;
-use lock_words::{Counting, Hold, Seat, Setting, Taking, TakingAlone, Words};
+use lock_words::{
+    Counting, Heard, Hold, ListId, Listed, Owed, Seat, Setting, Taking, TakingAlone, Words,
+};
 use mutex_program::calls::{End, LockCall};
 use mutex_program::program::{Action, Found, Next, Place, action_at, decide, start};
+use std::mem;
 use std::sync::Wait;
 
 /// A mutex without its runtime: its words, with the value, and its waiting list.
 pub struct RawMutex<T> {
-    /// The words, the right to the value and the value.
+    /// The words, the right to the value, the value, and who waits.
     pub words: Words<T>,
-    /// Who waits.
-    pub list: WaitingList<Waker>,
 }
 
 // By hand, so that a drop is one call to prove, and not all of its parts again.
 impl<T: Drop> Drop for RawMutex<T> {
     fn drop(self) {
-        let RawMutex { words: _, list: _ } = self;
+        let RawMutex { words: _ } = self;
     }
 }
 
-/// What a party has that is inside a call on a mutex, or waits between two polls.
+/// What a party has that is inside a call on a mutex, or waits between two polls. It has no `Drop`: it gives back
+/// what it has, by a call, and ends by [`MutexParty::end`] or [`MutexParty::into_held`].
 pub struct MutexParty<T> {
     /// Steps on the mutex's words.
     pub seat: Seat<T>,
     /// The right to the value, while the seat holds the lock.
     pub hold: Option<Hold<T>>,
     /// The party's entry, while it stands in the list.
-    pub entry: Option<EntryId>,
+    pub entry: Option<Listed>,
+    /// A notification that the party has to pass on, while it has taken one or has given the lock back.
+    pub owed: Option<Owed>,
     /// A waker in hand: what the entry is to keep when the party next asks, and what it kept before.
     pub waker: Option<Waker>,
     /// The party has waited for too long.
     pub is_starving: bool,
-}
-
-// By hand, so that a drop is one call to prove, and not all of its parts again.
-impl<T> Drop for MutexParty<T> {
-    fn drop(self) {
-        let MutexParty {
-            seat: _,
-            hold: _,
-            entry: _,
-            waker: _,
-            is_starving: _,
-        } = self;
-    }
 }
 
 impl<T> MutexParty<T> {
@@ -74,14 +63,36 @@ impl<T> MutexParty<T> {
         let MutexParty {
             seat,
             hold,
-            entry: _,
+            entry,
+            owed,
             waker: _,
             is_starving: _,
         } = self;
+        nothing(entry);
+        nothing(owed);
         match hold {
             Some(hold) => (seat, hold),
             None => unreachable!(),
         }
+    }
+
+    /// Ends a party that is outside every call, without the lock.
+    pub fn end(self, words: &Words<T>)
+        requires { Stands words.now self at.Out }
+    {
+        let _ = words;
+        let MutexParty {
+            seat,
+            hold,
+            entry,
+            owed,
+            waker: _,
+            is_starving: _,
+        } = self;
+        nothing(hold);
+        nothing(entry);
+        nothing(owed);
+        seat.rise();
     }
 }
 
@@ -90,8 +101,7 @@ impl<T> RawMutex<T> {
 
     /// The value, also of a mutex that a forgotten seat left held. It waits for nobody and takes no memory.
     pub fn into_inner(self) -> T {
-        let RawMutex { words, list } = self;
-        drop(list);
+        let RawMutex { words } = self;
         words.into_inner()
     }
 
@@ -103,6 +113,7 @@ impl<T> RawMutex<T> {
             seat: self.words.sit(),
             hold: None,
             entry: None,
+            owed: None,
             waker: None,
             is_starving: false,
         }
@@ -120,13 +131,16 @@ impl<T> RawMutex<T> {
         let mut seat = self.words.sit();
         match self.words.take(&mut seat) {
             Taking::Got(hold) => Some((seat, hold)),
-            Taking::Held | Taking::Starved => None,
+            Taking::Held(_) | Taking::Starved => {
+                seat.rise();
+                None
+            }
         }
     }
 }
 
 impl<T> RawMutex<T> {
-    ghost use Rattle.lock_driver.specs.Parties.{Stands, EndsAt};
+    ghost use Rattle.lock_driver.specs.Parties.{Stands, EndsAt, CanPoll};
 
     /// Carries out a call of a party that stands at `place`, until it ends: how it ends, and where the party
     /// stands then (`ended`), with what it has there (`stands`). The call has to be one that may begin there.
@@ -151,16 +165,40 @@ impl<T> RawMutex<T> {
     /// Gives the lock back by the seat that holds it, with the right to its value. The program of a release has no
     /// branch, and so its two actions stand here in their order; that they are the table's is proved (`straight_rows`).
     ///
-    /// By the contract the seat has given the lock back, and is otherwise as it was. That somebody who waits is then
-    /// notified is tested: no contract sees through the list's lock.
+    /// By their types the seat can't end before it has given the lock back, nor the call before somebody who waits is
+    /// notified.
     #[inline]
-    pub fn release<R: Wait>(&self, rt: &R, seat: &mut Seat<T>, hold: Hold<T>)
-        requires { Holds self.now.words seat.old hold }
-        ensures { seat.new ≡ cleared seat.old }
+    pub fn release<R: Wait>(&self, rt: &R, seat: Seat<T>, hold: Hold<T>)
+        requires holds { Holds self.now.words seat hold }
+        requires starved { seat.starved ≡ false }
     {
         straight_rows();
-        self.words.clear(seat, hold);
-        self.list.notify(rt, 1);
+        let mut seat = seat;
+        let owed = self.words.clear(&mut seat, hold);
+        self.words.list().notify(rt, 1, owed);
+        seat.rise();
+    }
+
+    /// Gives back what a party has that waits between two polls. The program of it has no branch, and so its actions
+    /// stand here in their order; that they are the table's is proved (`cancel_rows`).
+    pub fn cancel<R: Wait>(&self, rt: &R, party: MutexParty<T>, place: Place)
+        requires stands { Stands self.now.words party place }
+        requires waits { CanPoll place }
+    {
+        cancel_rows();
+        let mut party = party;
+        match place {
+            Place::Ask => {
+                party.leave(self, rt);
+                party.end(&self.words);
+            }
+            Place::AskStarved => {
+                party.uncount(self);
+                party.leave(self, rt);
+                party.end(&self.words);
+            }
+            _ => party.end(&self.words),
+        }
     }
 }
 
@@ -174,6 +212,46 @@ fn straight_rows()
     ensures clears { (action_of at.Clear ≡ does.Clear) × (next_of at.Clear finds.Done ≡ next.Do does.Notify at.ReleaseNotify) }
     ensures notifies { next_of at.ReleaseNotify finds.Done ≡ next.End ends.GivenBack }
 {}
+
+// The rows of the program's table that `RawMutex::cancel` carries out straight.
+#[inline]
+fn cancel_rows()
+    ensures waiting { (start_of calls.Cancel at.Ask ≡ Some at.CancelLeave) × (action_of at.CancelLeave ≡ does.Leave) × (next_of at.CancelLeave finds.Done ≡ next.End ends.GivenBack) }
+    ensures starved { (start_of calls.Cancel at.AskStarved ≡ Some at.CancelUncount) × (action_of at.CancelUncount ≡ does.Uncount) × (next_of at.CancelUncount finds.Done ≡ next.Do does.Leave at.CancelLeave) }
+    ensures out { (start_of calls.Cancel at.Out ≡ Some at.Out) × (next_of at.Out finds.Done ≡ next.End ends.GivenBack) }
+{}
+
+// Fills what is empty.
+fn put<X>(place: &mut Option<X>, value: X)
+    requires { is_some place.old ≡ false }
+    ensures { place.new ≡ Some value }
+{
+    match mem::replace(place, Some(value)) {
+        None => {}
+        Some(_) => unreachable!(),
+    }
+}
+
+// Ends what is empty.
+fn nothing<X>(none: Option<X>)
+    requires { is_some none ≡ false }
+{
+    match none {
+        None => {}
+        Some(_) => unreachable!(),
+    }
+}
+
+// A duty to notify, if there was none.
+fn owe(owed: &mut Option<Owed>, list: ListId)
+    requires { IfSome owed.old (λ o. o.list.id ≡ list.id) }
+    ensures some { is_some owed.new ≡ true }
+    ensures list { IfSome owed.new (λ o. o.list.id ≡ list.id) }
+{
+    if owed.is_none() {
+        put(owed, Owed::new(list));
+    }
+}
 
 impl<T> Carries for MutexParty<T> {
     ghost use Rattle.lock_driver.specs.Parties.{Stands, next_place, end_after as ended_by};
@@ -216,15 +294,17 @@ fn rest(place: Place, end: End) -> Place
 }
 
 impl<T> MutexParty<T> {
-    ghost use Rattle.lock_driver.specs.Parties.{IsSeated, CanDo, CanFind, after, having_of};
+    ghost use Rattle.lock_driver.specs.Parties.{IsSeated, IsTied, CanDo, CanFind, after, having_of};
 
     // Carries out one action.
     fn carry_out<R: Wait>(&mut self, raw: &RawMutex<T>, rt: &R, action: Action) -> Option<Found>
         requires seated { IsSeated raw.now.words self.old.seat self.old.hold }
-        requires can { CanDo action (having_of self.old.seat self.old.entry) }
+        requires tied { IsTied raw.now.words.list self.old.entry self.old.owed }
+        requires can { CanDo action (having_of self.old.seat self.old.entry self.old.owed) }
         ensures seated { IsSeated raw.now.words self.new.seat self.new.hold }
-        ensures found { IfSome result (λ found. CanFind action found × (having_of self.new.seat self.new.entry ≡ after action found (having_of self.old.seat self.old.entry))) }
-        ensures again { IfNone result (having_of self.new.seat self.new.entry ≡ having_of self.old.seat self.old.entry) }
+        ensures tied { IsTied raw.now.words.list self.new.entry self.new.owed }
+        ensures found { IfSome result (λ found. CanFind action found × (having_of self.new.seat self.new.entry self.new.owed ≡ after action found (having_of self.old.seat self.old.entry self.old.owed))) }
+        ensures again { IfNone result (having_of self.new.seat self.new.entry self.new.owed ≡ having_of self.old.seat self.old.entry self.old.owed) }
     {
         match action {
             Action::Nothing => Some(Found::Done),
@@ -237,81 +317,99 @@ impl<T> MutexParty<T> {
             Action::Join => Some(self.join(raw, rt)),
             Action::Ask => Some(self.ask(raw, rt)),
             Action::Leave => Some(self.leave(raw, rt)),
-            Action::Notify => {
-                raw.list.notify(rt, 1);
-                Some(Found::Done)
-            }
+            Action::Notify => Some(self.notify(raw, rt)),
         }
     }
 
     fn take(&mut self, raw: &RawMutex<T>) -> Found
         requires seated { IsSeated raw.now.words self.old.seat self.old.hold }
+        requires tied { IsTied raw.now.words.list self.old.entry self.old.owed }
         requires idle { self.old.seat.holds ≡ false }
         ensures seated { IsSeated raw.now.words self.new.seat self.new.hold }
-        ensures found { CanFind does.Take result × (having_of self.new.seat self.new.entry ≡ after does.Take result (having_of self.old.seat self.old.entry)) }
+        ensures tied { IsTied raw.now.words.list self.new.entry self.new.owed }
+        ensures found { CanFind does.Take result × (having_of self.new.seat self.new.entry self.new.owed ≡ after does.Take result (having_of self.old.seat self.old.entry self.old.owed)) }
     {
         match raw.words.take(&mut self.seat) {
-            Taking::Got(hold) => {
-                self.hold = Some(hold);
-                Found::Free
+            Taking::Got(hold) => self.got(raw, hold),
+            Taking::Held(held) => {
+                if self.is_starving || self.entry.is_some() {
+                    if let Some(owed) = self.owed.take() {
+                        owed.leave(&held);
+                    }
+                }
+                Found::Held {
+                    starving: self.is_starving,
+                }
             }
-            Taking::Held => Found::Held {
-                starving: self.is_starving,
-            },
             Taking::Starved => Found::SomeStarved,
         }
     }
 
     fn take_alone(&mut self, raw: &RawMutex<T>) -> Found
         requires seated { IsSeated raw.now.words self.old.seat self.old.hold }
+        requires tied { IsTied raw.now.words.list self.old.entry self.old.owed }
         requires idle { self.old.seat.holds ≡ false }
         ensures seated { IsSeated raw.now.words self.new.seat self.new.hold }
-        ensures found { CanFind does.TakeAlone result × (having_of self.new.seat self.new.entry ≡ after does.TakeAlone result (having_of self.old.seat self.old.entry)) }
+        ensures tied { IsTied raw.now.words.list self.new.entry self.new.owed }
+        ensures found { CanFind does.TakeAlone result × (having_of self.new.seat self.new.entry self.new.owed ≡ after does.TakeAlone result (having_of self.old.seat self.old.entry self.old.owed)) }
     {
         match raw.words.take_alone(&mut self.seat) {
-            TakingAlone::Got(hold) => {
-                self.hold = Some(hold);
-                Found::Free
+            TakingAlone::Got(hold) => self.got(raw, hold),
+            TakingAlone::Held(held) => {
+                if let Some(owed) = self.owed.take() {
+                    owed.leave(&held);
+                }
+                Found::Held { starving: false }
             }
-            TakingAlone::Held => Found::Held { starving: false },
             TakingAlone::FreeWithOthers => Found::SomeStarved,
         }
     }
 
     fn set(&mut self, raw: &RawMutex<T>) -> Found
         requires seated { IsSeated raw.now.words self.old.seat self.old.hold }
+        requires tied { IsTied raw.now.words.list self.old.entry self.old.owed }
         requires idle { self.old.seat.holds ≡ false }
         ensures seated { IsSeated raw.now.words self.new.seat self.new.hold }
-        ensures found { CanFind does.Set result × (having_of self.new.seat self.new.entry ≡ after does.Set result (having_of self.old.seat self.old.entry)) }
+        ensures tied { IsTied raw.now.words.list self.new.entry self.new.owed }
+        ensures found { CanFind does.Set result × (having_of self.new.seat self.new.entry self.new.owed ≡ after does.Set result (having_of self.old.seat self.old.entry self.old.owed)) }
     {
         match raw.words.set(&mut self.seat) {
-            Setting::Got(hold) => {
-                self.hold = Some(hold);
-                Found::Free
-            }
+            Setting::Got(hold) => self.got(raw, hold),
             Setting::WasSet => Found::Held { starving: false },
         }
     }
 
     fn count(&mut self, raw: &RawMutex<T>) -> Option<Found>
         requires seated { IsSeated raw.now.words self.old.seat self.old.hold }
+        requires tied { IsTied raw.now.words.list self.old.entry self.old.owed }
         requires one { self.old.seat.starved ≡ false }
         ensures seated { IsSeated raw.now.words self.new.seat self.new.hold }
-        ensures found { IfSome result (λ found. CanFind does.Count found × (having_of self.new.seat self.new.entry ≡ after does.Count found (having_of self.old.seat self.old.entry))) }
-        ensures again { IfNone result (having_of self.new.seat self.new.entry ≡ having_of self.old.seat self.old.entry) }
+        ensures tied { IsTied raw.now.words.list self.new.entry self.new.owed }
+        ensures found { IfSome result (λ found. CanFind does.Count found × (having_of self.new.seat self.new.entry self.new.owed ≡ after does.Count found (having_of self.old.seat self.old.entry self.old.owed))) }
+        ensures again { IfNone result (having_of self.new.seat self.new.entry self.new.owed ≡ having_of self.old.seat self.old.entry self.old.owed) }
     {
         match raw.words.count(&mut self.seat) {
-            Counting::Counted => Some(Found::Done),
-            Counting::AtLimit => Some(Found::AtLimit),
+            Counting::Counted => {
+                self.is_counted(raw);
+                Some(Found::Done)
+            }
+            Counting::AtLimit => {
+                if self.entry.is_none() {
+                    owe(&mut self.owed, raw.words.list().id());
+                }
+                Some(Found::AtLimit)
+            }
             Counting::Changed => None,
         }
     }
 
     fn uncount(&mut self, raw: &RawMutex<T>) -> Found
         requires seated { IsSeated raw.now.words self.old.seat self.old.hold }
+        requires tied { IsTied raw.now.words.list self.old.entry self.old.owed }
         requires counted { self.old.seat.starved ≡ true }
         ensures seated { IsSeated raw.now.words self.new.seat self.new.hold }
-        ensures found { CanFind does.Uncount result × (having_of self.new.seat self.new.entry ≡ after does.Uncount result (having_of self.old.seat self.old.entry)) }
+        ensures tied { IsTied raw.now.words.list self.new.entry self.new.owed }
+        ensures found { CanFind does.Uncount result × (having_of self.new.seat self.new.entry self.new.owed ≡ after does.Uncount result (having_of self.old.seat self.old.entry self.old.owed)) }
     {
         raw.words.uncount(&mut self.seat);
         Found::Done
@@ -319,26 +417,32 @@ impl<T> MutexParty<T> {
 
     fn clear(&mut self, raw: &RawMutex<T>) -> Found
         requires seated { IsSeated raw.now.words self.old.seat self.old.hold }
+        requires tied { IsTied raw.now.words.list self.old.entry self.old.owed }
         requires holds { self.old.seat.holds ≡ true }
+        requires pays { is_some self.old.owed ≡ false }
         ensures seated { IsSeated raw.now.words self.new.seat self.new.hold }
-        ensures found { CanFind does.Clear result × (having_of self.new.seat self.new.entry ≡ after does.Clear result (having_of self.old.seat self.old.entry)) }
+        ensures tied { IsTied raw.now.words.list self.new.entry self.new.owed }
+        ensures found { CanFind does.Clear result × (having_of self.new.seat self.new.entry self.new.owed ≡ after does.Clear result (having_of self.old.seat self.old.entry self.old.owed)) }
     {
         let Some(hold) = self.hold.take() else {
             unreachable!()
         };
-        raw.words.clear(&mut self.seat, hold);
+        let owed = raw.words.clear(&mut self.seat, hold);
+        put(&mut self.owed, owed);
         Found::Done
     }
 
     fn join<R: Wait>(&mut self, raw: &RawMutex<T>, rt: &R) -> Found
         requires seated { IsSeated raw.now.words self.old.seat self.old.hold }
+        requires tied { IsTied raw.now.words.list self.old.entry self.old.owed }
         requires unlisted { self.old.entry ≡ None }
         ensures seated { IsSeated raw.now.words self.new.seat self.new.hold }
-        ensures found { CanFind does.Join result × (having_of self.new.seat self.new.entry ≡ after does.Join result (having_of self.old.seat self.old.entry)) }
+        ensures tied { IsTied raw.now.words.list self.new.entry self.new.owed }
+        ensures found { CanFind does.Join result × (having_of self.new.seat self.new.entry self.new.owed ≡ after does.Join result (having_of self.old.seat self.old.entry self.old.owed)) }
     {
-        match raw.list.join(rt) {
-            Ok(id) => {
-                self.entry = Some(id);
+        match raw.words.list().join(rt) {
+            Ok(entry) => {
+                put(&mut self.entry, entry);
                 Found::Done
             }
             Err(_) => Found::NoMemory,
@@ -347,29 +451,90 @@ impl<T> MutexParty<T> {
 
     fn ask<R: Wait>(&mut self, raw: &RawMutex<T>, rt: &R) -> Found
         requires seated { IsSeated raw.now.words self.old.seat self.old.hold }
+        requires tied { IsTied raw.now.words.list self.old.entry self.old.owed }
         requires listed { IsSome self.old.entry }
+        requires pays { is_some self.old.owed ≡ false }
         ensures seated { IsSeated raw.now.words self.new.seat self.new.hold }
-        ensures found { CanFind does.Ask result × (having_of self.new.seat self.new.entry ≡ after does.Ask result (having_of self.old.seat self.old.entry)) }
+        ensures tied { IsTied raw.now.words.list self.new.entry self.new.owed }
+        ensures found { CanFind does.Ask result × (having_of self.new.seat self.new.entry self.new.owed ≡ after does.Ask result (having_of self.old.seat self.old.entry self.old.owed)) }
     {
-        let Some(id) = self.entry else { unreachable!() };
-        if raw.list.ask(rt, id, &mut self.waker) {
-            self.entry = None;
-            Found::Yes
-        } else {
-            Found::No
+        let Some(entry) = self.entry.take() else {
+            unreachable!()
+        };
+        match raw.words.list().ask(rt, entry, &mut self.waker) {
+            Heard::Notified(owed) => {
+                put(&mut self.owed, owed);
+                Found::Yes
+            }
+            Heard::Waiting(entry) => {
+                put(&mut self.entry, entry);
+                Found::No
+            }
         }
     }
 
     fn leave<R: Wait>(&mut self, raw: &RawMutex<T>, rt: &R) -> Found
         requires seated { IsSeated raw.now.words self.old.seat self.old.hold }
+        requires tied { IsTied raw.now.words.list self.old.entry self.old.owed }
         requires listed { IsSome self.old.entry }
         ensures seated { IsSeated raw.now.words self.new.seat self.new.hold }
-        ensures found { CanFind does.Leave result × (having_of self.new.seat self.new.entry ≡ after does.Leave result (having_of self.old.seat self.old.entry)) }
+        ensures tied { IsTied raw.now.words.list self.new.entry self.new.owed }
+        ensures found { CanFind does.Leave result × (having_of self.new.seat self.new.entry self.new.owed ≡ after does.Leave result (having_of self.old.seat self.old.entry self.old.owed)) }
     {
-        let Some(id) = self.entry.take() else {
+        let Some(entry) = self.entry.take() else {
             unreachable!()
         };
-        raw.list.leave(rt, id);
+        raw.words.list().leave(rt, entry);
         Found::Done
+    }
+
+    fn notify<R: Wait>(&mut self, raw: &RawMutex<T>, rt: &R) -> Found
+        requires seated { IsSeated raw.now.words self.old.seat self.old.hold }
+        requires tied { IsTied raw.now.words.list self.old.entry self.old.owed }
+        requires owes { is_some self.old.owed ≡ true }
+        ensures seated { IsSeated raw.now.words self.new.seat self.new.hold }
+        ensures tied { IsTied raw.now.words.list self.new.entry self.new.owed }
+        ensures found { CanFind does.Notify result × (having_of self.new.seat self.new.entry self.new.owed ≡ after does.Notify result (having_of self.old.seat self.old.entry self.old.owed)) }
+    {
+        let Some(owed) = self.owed.take() else {
+            unreachable!()
+        };
+        raw.words.list().notify(rt, 1, owed);
+        Found::Done
+    }
+
+    // The seat has got the lock. Whatever it owed it pays when it gives the lock back.
+    fn got(&mut self, raw: &RawMutex<T>, hold: Hold<T>) -> Found
+        requires holds { Holds raw.now.words self.old.seat hold }
+        requires empty { is_some self.old.hold ≡ false }
+        requires tied { IsTied raw.now.words.list self.old.entry self.old.owed }
+        ensures seated { IsSeated raw.now.words self.new.seat self.new.hold }
+        ensures tied { IsTied raw.now.words.list self.new.entry self.new.owed }
+        ensures found { (result ≡ finds.Free) × (self.new.seat ≡ self.old.seat) × (self.new.entry ≡ self.old.entry) × (self.new.owed ≡ None) }
+    {
+        let _ = raw;
+        put(&mut self.hold, hold);
+        if let Some(owed) = self.owed.take() {
+            owed.put_off(&self.seat);
+        }
+        Found::Free
+    }
+
+    // The seat is counted as starved: in the list it waits, and else it owes a look on behalf of the others.
+    fn is_counted(&mut self, raw: &RawMutex<T>)
+        requires starved { self.old.seat.starved ≡ true }
+        requires tied { IsTied raw.now.words.list self.old.entry self.old.owed }
+        ensures tied { IsTied raw.now.words.list self.new.entry self.new.owed }
+        ensures same { (self.new.seat ≡ self.old.seat) × (self.new.hold ≡ self.old.hold) × (self.new.entry ≡ self.old.entry) }
+        ensures owes { is_some self.new.owed ≡ not (is_some self.old.entry) }
+    {
+        match &self.entry {
+            None => owe(&mut self.owed, raw.words.list().id()),
+            Some(entry) => {
+                if let Some(owed) = self.owed.take() {
+                    owed.wait(&self.seat, entry);
+                }
+            }
+        }
     }
 }

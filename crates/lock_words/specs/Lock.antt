@@ -13,13 +13,14 @@ pub record LockId : Type 0 where
 abbrev pub lock_id_coded : Coded LockId
 lock_id_coded = code_by (TableId × (RoomId × ℕ)) (coded× table_id_coded (coded× room_id_coded coded_ℕ)) (λ l. (l.table, (l.room, l.deed))) (λ p. record { table = p.0; room = p.1.0; deed = p.1.1 }) (λ _. refl)
 
--- Which lock it is, and where its value lies now.
+-- Which lock it is, where its value lies now, and in which list its waiters stand.
 pub record Lock : Type 0 where
   pub lock : LockId
   pub room : RoomId
+  pub list : ℕ
 
 abbrev pub lock_coded : Coded Lock
-lock_coded = code_by (LockId × RoomId) (coded× lock_id_coded room_id_coded) (λ l. (l.lock, l.room)) (λ p. record { lock = p.0; room = p.1 }) (λ _. refl)
+lock_coded = code_by (LockId × (RoomId × ℕ)) (coded× lock_id_coded (coded× room_id_coded coded_ℕ)) (λ l. (l.lock, (l.room, l.list))) (λ p. record { lock = p.0; room = p.1.0; list = p.1.1 }) (λ _. refl)
 
 -- A seat: which lock it is of, whether it holds that lock, whether it is counted as starved, and how many were starved when it last got the lock.
 pub record Seated : Type 0 where

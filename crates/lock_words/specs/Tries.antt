@@ -17,12 +17,12 @@ Holds w seat hold = (seat.lock ≡ w.lock) × (seat.holds ≡ true) × (hold.roo
 
 abbrev pub OnTaking : {T : Type 0} → Taking T → (Hold T → Type 0) → Type 0 → Type 0
 OnTaking (taking.Got hold) got not = got hold
-OnTaking taking.Held got not = not
+OnTaking (taking.Held held) got not = not
 OnTaking taking.Starved got not = not
 
 abbrev pub OnAlone : {T : Type 0} → TakingAlone T → (Hold T → Type 0) → Type 0 → Type 0
 OnAlone (alone.Got hold) got not = got hold
-OnAlone alone.Held got not = not
+OnAlone (alone.Held held) got not = not
 OnAlone alone.FreeWithOthers got not = not
 
 abbrev pub OnSetting : {T : Type 0} → Setting T → (Hold T → Type 0) → Type 0 → Type 0

@@ -3,34 +3,43 @@
 use lock_place::Hold;
 
 /// What [`take`](crate::Words::take) found.
-#[derive(Drop)]
 pub enum Taking<T> {
     /// The lock was free and nobody was starved. The seat holds it now.
     Got(Hold<T>),
     /// The lock was held, and nobody was starved.
-    Held,
+    Held(WasHeld),
     /// Somebody was starved, whether the lock was held or not.
     Starved,
 }
 
 /// What [`take_alone`](crate::Words::take_alone) found.
-#[derive(Drop)]
 pub enum TakingAlone<T> {
     /// The lock was free and one waiter was starved. The seat holds it now.
     Got(Hold<T>),
     /// The lock was held.
-    Held,
+    Held(WasHeld),
     /// The lock was free, and the number of the starved was not one.
     FreeWithOthers,
 }
 
 /// What [`set`](crate::Words::set) found.
-#[derive(Drop)]
 pub enum Setting<T> {
     /// The lock was free. The seat holds it now.
     Got(Hold<T>),
     /// The lock was held.
     WasSet,
+}
+
+/// A try found the lock held. Whoever held it notifies once it has given the lock back.
+#[derive(Drop)]
+pub struct WasHeld {
+    seal: (),
+}
+
+impl WasHeld {
+    pub(crate) fn new() -> WasHeld {
+        WasHeld { seal: () }
+    }
 }
 
 /// What [`count`](crate::Words::count) found.

@@ -7,16 +7,22 @@
 #![tactic(auto)]
 
 mod found;
+mod list_id;
+mod owed;
 mod rested;
 mod rule;
 mod seat;
 mod settled;
 mod turn;
+mod waiting_list;
 mod words;
 
-pub use found::{Counting, Setting, Taking, TakingAlone};
+pub use found::{Counting, Setting, Taking, TakingAlone, WasHeld};
+pub use list_id::ListId;
 pub use lock_place::{Hold, Room};
+pub use owed::Owed;
 pub use seat::Seat;
 pub use settled::{Polled, Settled};
 pub use turn::Turn;
+pub use waiting_list::{Heard, Listed, WaitingList, Wakes};
 pub use words::{STARVED_LIMIT, Words};

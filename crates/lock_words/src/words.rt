@@ -5,6 +5,7 @@
 //! step tells the seat that makes it stands in specs/Steps.antt.
 
 ghost use Rattle.std.specs.Prelude.{◌≡◌, ℕ, ◌<◌, ◌≤◌, ◌%◌, ◌/◌, true, false, [], ◌∷◌, IfSome, IfNone, IsSome, IfOk, OnErr};
+ghost use Rattle.futures.specs.Task.{Covers, Keeps};
 ghost use Rattle.lock_words.specs.Lock.{fresh, holding, cleared, counted, uncounted};
 ghost use Rattle.lock_words.specs.Tries.{Holds, OnTaking, OnAlone, OnSetting, OnCounting};
 ghost use Rattle.lock_words.specs.Right.{IsRight};
@@ -12,11 +13,14 @@ ghost use Rattle.lock_words.specs.Seats.{HasSlots};
 ghost use Rattle.lock_words.specs.Steps.{with_holds, without_holds};
 ghost use Rattle.lock_words.specs.declared.rested.Rested.{Rested};
 
-use crate::found::{Counting, Setting, Taking, TakingAlone};
+use crate::found::{Counting, Setting, Taking, TakingAlone, WasHeld};
+use crate::owed::Owed;
 use crate::rested::Rested;
 use crate::rule::{Clear, Count, Keep, MutexRule, Set, Take, Uncount};
 use crate::seat::{Seat, View};
+use crate::waiting_list::WaitingList;
 use atomic_table::{Seat as TableSeat, Shared, Table};
+use futures::task::{Context, Waker};
 use lock_place::{Hold, Place, Room, Spare, Ticket};
 use std::alloc::{AllocError, Global};
 use std::marker::Model;
@@ -50,6 +54,7 @@ pub struct Words<T> {
     // A forgotten seat left the lock held, and the value has been lent past it. The lock stays held then,
     // and the right that the seat had is worth nothing.
     is_left: bool,
+    list: WaitingList<Waker>,
 }
 
 // By hand, so that a drop is one call to prove, and not all of its parts again.
@@ -60,6 +65,7 @@ impl<T: Drop> Drop for Words<T> {
             place: _,
             spare: _,
             is_left: _,
+            list: _,
         } = self;
     }
 }
@@ -73,7 +79,7 @@ impl<T> Model for Words<T> {
 
     ghost use Rattle.std.specs.Prelude.{◌≡◌, false, IsSome};
 
-    ghost view = { λ w. record { lock = record { table = w.table.shared.table_id; room = w.table.shared.key.room_id; deed = w.table.shared.key.deed }; room = w.place.room.room_id } };
+    ghost view = { λ w. record { lock = record { table = w.table.shared.table_id; room = w.table.shared.key.room_id; deed = w.table.shared.key.deed }; room = w.place.room.room_id; list = w.list.source.id } };
 
     ghost invariant = { λ w. (w.table.shared.table_id.words ≡ 1) × (w.table.shared.table_id.slots ≡ 1) × (w.spare.room_id ≡ w.place.room.room_id) × (w.is_left ≡ false → (w.table.shared.key.room_id ≡ w.place.room.room_id) × (w.table.shared.key.deed ≡ w.spare.deed) × IsSome w.spare.value) };
 }
@@ -96,6 +102,7 @@ impl<T> Words<T> {
                 place,
                 spare,
                 is_left: false,
+                list: WaitingList::new(alloc),
             }),
             Err(error) => Err(error),
         }
@@ -109,7 +116,9 @@ impl<T> Words<T> {
             place,
             spare,
             is_left: _,
+            list,
         } = self;
+        drop(list);
         drop(table);
         drop(spare);
         place.into_inner()
@@ -137,6 +146,21 @@ impl<T> Words<T> {
         &self.place.room
     }
 
+    /// Who waits.
+    pub fn list(&self) -> &WaitingList<Waker>
+        ensures { result.now.source.id ≡ self.now.list }
+    {
+        &self.list
+    }
+
+    /// Registers a task with the list's source, as [`WaitingList::register`].
+    pub fn register(&self, cx: &mut Context<'_>, waker: &mut Option<Waker>)
+        ensures registered { Covers cx.new (λ s. s ≡ self.now.list) }
+        ensures kept { Keeps cx.old cx.new }
+    {
+        self.list.register(cx, waker);
+    }
+
     /// Takes the lock if it is free and nobody is starved: one try, which is no exchange where the lock
     /// isn't free to take.
     ///
@@ -151,7 +175,7 @@ impl<T> Words<T> {
             Ok(hold) => Taking::Got(hold),
             Err(found) => {
                 if found < STARVED {
-                    Taking::Held
+                    Taking::Held(WasHeld::new())
                 } else {
                     Taking::Starved
                 }
@@ -172,7 +196,7 @@ impl<T> Words<T> {
             Ok(hold) => TakingAlone::Got(hold),
             Err(found) => {
                 if found % STARVED == HELD {
-                    TakingAlone::Held
+                    TakingAlone::Held(WasHeld::new())
                 } else {
                     TakingAlone::FreeWithOthers
                 }
@@ -251,13 +275,15 @@ impl<T> Words<T> {
             .fetch_sub::<Uncount>(&mut seat.inner, WORD, STARVED);
     }
 
-    /// Gives the lock back, and its right with it: one step.
-    pub fn clear(&self, seat: &mut Seat<T>, hold: Hold<T>)
+    /// Gives the lock back, and its right with it: one step. Whoever did so owes a notification.
+    pub fn clear(&self, seat: &mut Seat<T>, hold: Hold<T>) -> Owed
         requires { Holds self.now seat.old hold }
-        ensures { seat.new ≡ cleared seat.old }
+        ensures seat { seat.new ≡ cleared seat.old }
+        ensures owed { result.list.id ≡ self.now.list }
     {
         let right = Rested::Present(hold.park());
         give_back(&self.table.shared, &mut seat.inner, right);
+        Owed::new(self.list.id())
     }
 
     /// The value, whatever became of the seats and the rights. It waits for nobody and takes no memory.
@@ -265,11 +291,12 @@ impl<T> Words<T> {
     /// A free lock is free afterwards. A lock that a forgotten seat left held stays held for good, as in the
     /// Rust crate, and only this call and [`Words::into_inner`] reach its value.
     pub fn get_mut(&mut self) -> &mut T {
-        let mut regained = None;
-        if !self.is_left {
+        let regained = if self.is_left {
+            None
+        } else {
             let table = &self.table;
-            regained = regain(&table.shared, &mut self.spare, &mut self.place);
-        }
+            regain(&table.shared, &mut self.spare, &mut self.place)
+        };
         let hold = match regained {
             Some(hold) => hold,
             None => {

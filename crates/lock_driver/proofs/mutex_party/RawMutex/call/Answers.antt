@@ -12,7 +12,7 @@ unreachable-requires g c =
     cc
 
 pub drive-requires : goal.drive-requires
-drive-requires g c = (c.requires.stands.0, c.requires.stands.1 ∙ begins _ _ _ (sym c.start.ensures ∙ c.in-Some.is))
+drive-requires g c = let b = begins _ _ _ (sym c.start.ensures ∙ c.in-Some.is) in (c.requires.stands.0, c.requires.stands.1 ∙ b.0, b.1, c.requires.stands.3)
 
 pub returns-clause-stands : goal.returns-clause-stands
 returns-clause-stands g c = c.drive.ensures.stands

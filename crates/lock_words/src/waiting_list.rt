@@ -1,8 +1,11 @@
 //! The waiting list of a lock that threads share.
 
-ghost use Rattle.std.specs.Prelude.{◌≡◌, ℕ};
+ghost use Rattle.std.specs.Prelude.{◌≡◌, ℕ, ◌≤◌, IfOk};
+ghost use Rattle.lock_words.specs.Heard.{IsOf};
 ghost use Rattle.futures.specs.Task.{Covers, Keeps};
 
+use crate::list_id::ListId;
+use crate::owed::Owed;
 use futures::task::{Context, Poll, Source, Waker};
 use lock_event::{Asked, EntryId, Event, Memory};
 use std::alloc::Global;
@@ -21,11 +24,26 @@ impl Wakes for Waker {
     }
 }
 
+/// An entry in a list. It has no `Drop`: only [`WaitingList::leave`] ends it, and a
+/// [`WaitingList::ask`] that was notified.
+pub struct Listed {
+    id: EntryId,
+    /// The list.
+    pub list: ListId,
+}
+
+/// What an entry that asked has heard.
+pub enum Heard {
+    /// It was notified, and has left the list. The notification goes on, or ends with the lock.
+    Notified(Owed),
+    /// It waits.
+    Waiting(Listed),
+}
+
 /// The waiting list of a lock that threads share: an event list under a short lock of its own, with the source
 /// that waiting tasks register with.
 ///
-/// Each call takes that lock for one function of the list and lets it go again, so a caller's id may have left
-/// meanwhile; each call is fine with any id. Wakers are called and dropped when the lock has been let go. A
+/// Each call takes that lock for one function of the list and lets it go again. Wakers are called and dropped when the lock has been let go. A
 /// waker of the kit's `futures` that is dropped wakes its task, so [`WaitingList::ask`] hands the old one out,
 /// to be registered into, and none is replaced in vain.
 ///
@@ -59,6 +77,13 @@ impl<W: Wakes> WaitingList<W> {
         }
     }
 
+    /// Which list it is.
+    pub fn id(&self) -> ListId
+        ensures { result.id ≡ self.now.source.id }
+    {
+        ListId::of(&self.source)
+    }
+
     /// Whether the list had entries at some moment of the call. It waits for nobody.
     ///
     /// Whoever joins says so before the list's lock is let go. So if a party joins and then looks at its lock
@@ -69,21 +94,31 @@ impl<W: Wakes> WaitingList<W> {
 
     /// A new waiting entry joins at the back, with no waker. [`Memory`] comes only where memory was refused,
     /// and the list then is as it was.
-    pub fn join<R: Wait>(&self, rt: &R) -> Result<EntryId, Memory> {
+    pub fn join<R: Wait>(&self, rt: &R) -> Result<Listed, Memory>
+        ensures { IfOk result (λ entry. entry.list.id ≡ self.now.source.id) }
+    {
         let mut entries = self.entries.lock(rt);
-        let joined = entries.listen();
-        if joined.is_ok() {
-            self.is_listed.store(true, Ordering::SeqCst);
+        match entries.listen() {
+            Ok(id) => {
+                self.is_listed.store(true, Ordering::SeqCst);
+                Ok(Listed {
+                    id,
+                    list: self.id(),
+                })
+            }
+            Err(memory) => Err(memory),
         }
-        joined
     }
 
     /// Asks for the notification of this entry, by [`Event::ask`]. If it has one it leaves the list with it, and
     /// the answer is true. If not, it keeps the waker in hand to be woken with, and what it kept before is in
     /// hand instead. An entry that isn't there any more counts as notified, so that nobody waits for it.
-    pub fn ask<R: Wait>(&self, rt: &R, id: EntryId, waker: &mut Option<W>) -> bool {
-        let asked = self.ask_locked(&mut self.entries.lock(rt), id, waker.take());
-        in_hand(asked, waker)
+    pub fn ask<R: Wait>(&self, rt: &R, entry: Listed, waker: &mut Option<W>) -> Heard
+        requires { entry.list.id ≡ self.now.source.id }
+        ensures { IsOf self.now.source.id result }
+    {
+        let asked = self.ask_locked(&mut self.entries.lock(rt), entry.id, waker.take());
+        told(asked, entry, waker)
     }
 
     // As `ask`, under the list's lock.
@@ -102,7 +137,10 @@ impl<W: Wakes> WaitingList<W> {
 
     /// This entry leaves the list without asking. A notification that it had goes on to the next, whose waker
     /// is called. Its own waker is dropped, by which the kit wakes its task once more.
-    pub fn leave<R: Wait>(&self, rt: &R, id: EntryId) {
+    pub fn leave<R: Wait>(&self, rt: &R, entry: Listed)
+        requires { entry.list.id ≡ self.now.source.id }
+    {
+        let Listed { id, list: _ } = entry;
         let (kept, due) = {
             let mut entries = self.entries.lock(rt);
             let kept = entries.withdraw(id);
@@ -116,16 +154,23 @@ impl<W: Wakes> WaitingList<W> {
     /// Notifies waiting entries from the front on until `n` are marked or none waits, and calls their wakers,
     /// each once. A list without entries isn't asked for its lock.
     #[inline]
-    pub fn notify<R: Wait>(&self, rt: &R, n: usize) {
+    pub fn notify<R: Wait>(&self, rt: &R, n: usize, owed: Owed)
+        requires some { 1 ≤ n }
+        requires list { owed.list.id ≡ self.now.source.id }
+    {
         if self.is_listed() {
-            self.notify_listed(rt, n);
+            self.notify_listed(rt, n, owed);
+        } else {
+            owed.pay();
         }
     }
 
     // As `notify`, of a list that had entries.
     #[inline(never)]
-    fn notify_listed<R: Wait>(&self, rt: &R, n: usize) {
-        let mut due = notify_locked(&mut self.entries.lock(rt), n);
+    fn notify_listed<R: Wait>(&self, rt: &R, n: usize, owed: Owed)
+        requires { 1 ≤ n }
+    {
+        let mut due = notify_locked(&mut self.entries.lock(rt), n, owed);
         // At most n wakers have become due.
         for _ in 1..n {
             let Some(waker) = due else {
@@ -150,25 +195,32 @@ impl WaitingList<Waker> {
 }
 
 // Notifies so many entries, under the list's lock: the first waker that is due.
-fn notify_locked<W: Wakes>(entries: &mut Event<W>, n: usize) -> Option<W> {
+fn notify_locked<W: Wakes>(entries: &mut Event<W>, n: usize, owed: Owed) -> Option<W>
+    requires { 1 ≤ n }
+{
     entries.notify(n);
+    owed.pay();
     entries.next_waker()
 }
 
 // Puts the waker that an entry hands back in hand, and says whether the entry has left the list.
-fn in_hand<W: Wakes>(asked: Asked<W>, waker: &mut Option<W>) -> bool {
+fn told<W: Wakes>(asked: Asked<W>, entry: Listed, waker: &mut Option<W>) -> Heard
+    ensures { IsOf entry.list.id result }
+{
     match asked {
         Asked::Waiting { kept } => {
             *waker = kept;
-            false
+            Heard::Waiting(entry)
         }
         Asked::Notified { kept, unused } => {
             *waker = unused.or(kept);
-            true
+            let Listed { id: _, list } = entry;
+            Heard::Notified(Owed::new(list))
         }
         Asked::Unlisted { unused } => {
             *waker = unused;
-            true
+            let Listed { id: _, list } = entry;
+            Heard::Notified(Owed::new(list))
         }
     }
 }
