@@ -18,6 +18,8 @@ mod spare;
 mod strip;
 mod swap;
 
-pub use owned::{Place, Refused};
+pub use owned::{room_for, Place, Refused};
 pub use room::{Hold, Parked, Room, Seen};
+pub use send_lease::SendLease;
 pub use spare::{Spare, Ticket};
+pub use strip::Strip;

@@ -25,7 +25,7 @@ pub struct Refused<T> {
 }
 
 // A row of one place. What tells its size is a list that holds the value meanwhile.
-fn room_for<T, A: Allocator>(
+pub fn room_for<T, A: Allocator>(
     alloc: &A,
     value: T,
 ) -> Result<((Slots<T>, Lease<T, A>), T), Refused<T>>

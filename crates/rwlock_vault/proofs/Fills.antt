@@ -7,7 +7,7 @@ use seplogic.Ra.Pcs.{mem-op_comm, op_assoc_left, op_assoc_right}
 use base.Fraction.{full_share, op}
 use base.Fml.{Share}
 use base.Algebras.{pcs, shares}
-use Rattle.lock_words.specs.Word.{weight, number}
+use Rattle.words_base.specs.Sums.{weight, number}
 use Rattle.rwlock_vault.specs.Vault.{Cell, emptied, is_one, is_more, cell_reads, cell_writes, pick, Fills}
 
 pub pick_case : {A B Z : Type 0} (b : Bool) → pick b A B → (b ≡ true → A → Z) → (b ≡ false → B → Z) → Z

@@ -22,7 +22,7 @@ use types.Owned.{named_past}
 use Rattle.atomic_table.specs.Seated as table
 use Rattle.lock_place.specs.Held.{age, room_owns, room_shares, seen_owns}
 use Rattle.lock_place.proofs.Ages.{room_laws, lends_room, begins}
-use Rattle.rwlock_vault.proofs.Lends.{calm_vault}
+use Rattle.rwlock_vault.proofs.Lending.{calm_vault}
 use Rattle.rwlock_vault.specs.Kept.{VaultId, rights, views, body, inside, live, live_with, form, vault_owns, vault_shares}
 
 module _ {M : Type 1} {𝓤 : Ura M} (𝓛 : Logic 𝓤) (R : RattleType) (z : VaultId) where

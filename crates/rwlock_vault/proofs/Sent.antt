@@ -12,7 +12,7 @@ use Rattle.atomic_table.proofs.Sent.{roster_keyless, shares_keyless}
 use Rattle.lock_place.specs.Held.{age}
 use Rattle.lock_place.proofs.Sent.{room_keyless, hold_keyless}
 use Rattle.words_rwlock.specs.declared.view.View.{View}
-use Rattle.words_rwlock.specs.contracts.view.Nothing as slot
+use Rattle.words_base.specs.contracts.Nothing as slot
 use Rattle.words_rwlock.specs.Rule.{Ruled}
 use Rattle.rwlock_vault.specs.Vault.{Cell, pledged, pledges, mode}
 use Rattle.rwlock_vault.specs.Kept.{VaultId, rights, views, body, inside, live, form, vault_owns, vault_shares, glance_owns, grip_owns}

@@ -12,7 +12,7 @@ use denote.Sharing.{within}
 use Rattle.lock_place.specs.Held.{RoomId, room_id_coded, age, room_owns, room_shares, hold_owns, seen_at}
 use Rattle.words_rwlock.specs.declared.view.View.{View}
 use Rattle.words_rwlock.specs.contracts.view.View as view
-use Rattle.words_rwlock.specs.contracts.view.Nothing as slot
+use Rattle.words_base.specs.contracts.Nothing as slot
 use Rattle.words_rwlock.specs.Rule.{Ruled}
 use Rattle.rwlock_vault.specs.Vault.{fact, Rights, reading, writing, sight, desk, pledge, vault}
 

@@ -8,8 +8,9 @@ ghost use Rattle.rwlock_vault.specs.Kept.{VaultId, vault_id_coded, vault_owns, v
 
 use atomic_table::{Badge, Shared};
 use lock_place::Strip;
-use words_rwlock::{Nothing, RwRule, View};
 use std::marker::{Model, PhantomData};
+use words_base::Nothing;
+use words_rwlock::{RwRule, View};
 
 /// Where the value lies, with the account of who reads and writes it.
 pub struct Vault<T> {

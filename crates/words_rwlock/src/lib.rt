@@ -13,5 +13,5 @@ mod words;
 
 pub use found::{Adding, Counting, Readers, Reading, Setting, Taking, TakingAlone};
 pub use rule::RwRule;
-pub use view::{Seat, View};
+pub use view::{Pledge, Seat, View};
 pub use words::{READERS_LIMIT, STARVED_LIMIT, Words};

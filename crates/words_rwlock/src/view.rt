@@ -2,7 +2,7 @@
 
 ghost use Rattle.std.specs.Prelude.{ℕ, Bool};
 
-use atomic_table::Seat as TableSeat;
+use atomic_table::{Badge, Seat as TableSeat};
 use std::marker::Model;
 use words_base::Nothing;
 
@@ -34,4 +34,14 @@ impl Model for View {
 /// counted as starved.
 pub struct Seat {
     pub(crate) inner: TableSeat<Nothing, View>,
+}
+
+/// A seat in pledge, while what its view says is lent on. It takes no bytes.
+///
+/// It is not `Drop`: [`Words::redeem`](crate::Words::redeem) alone ends it, which gives the seat back.
+pub struct Pledge {
+    /// The seat, as a badge. It is blank while the seat's view is lent on.
+    pub badge: Badge<View>,
+    // Keeps a pledge from being taken apart outside of this crate.
+    pub(crate) seal: (),
 }

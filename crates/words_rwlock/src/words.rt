@@ -2,6 +2,7 @@
 
 ghost use Rattle.std.specs.Prelude.{◌≡◌, ◌≢◌, ℕ, ◌+◌, ◌*◌, ◌<◌, ◌≤◌, ◌%◌, ◌/◌, true, false, [], ◌∷◌, IfOk, MatchBool, min};
 ghost use Rattle.words_rwlock.specs.Steps.{first_view, having_found, with_turn, without_turn, with_count, without_count, with_read, without_read, with_mark, with_write, upgraded, downgraded, without_mark};
+ghost use Rattle.words_rwlock.specs.declared.view.View.{View as SeatView};
 ghost use Rattle.words_rwlock.specs.Tries.{OnTaking, OnAlone, OnSetting, OnReading, OnAdding, OnCounting, OnReaders};
 
 use crate::found::{Adding, Counting, Readers, Reading, Setting, Taking, TakingAlone};
@@ -10,8 +11,8 @@ use crate::rule::{
     ReadsStep, RwRule, SeesStep, TookStep, TriesUpgradeStep, TriesWriteStep, UncountsStep,
     UnmarksStep, UpgradesStep, WasSetStep,
 };
-use crate::view::{Seat, View};
-use atomic_table::Table;
+use crate::view::{Pledge, Seat, View};
+use atomic_table::{Shared, Table};
 use std::alloc::{AllocError, Global};
 use std::marker::Model;
 use words_base::Nothing;
@@ -101,6 +102,39 @@ impl Words {
         requires state { (seat.inner.me.0.marks ≡ false) × (seat.inner.me.0.reads ≡ false) × (seat.inner.me.0.writes ≡ false) }
     {
         let Seat { inner: _ } = seat;
+    }
+
+    /// Lends the table, against which a value is lent to the seats' views.
+    pub fn shared(&self) -> &Shared<Nothing, View, (), RwRule>
+        ensures { result.now.table_id ≡ self.now.table }
+    {
+        &self.table.shared
+    }
+
+    /// Puts a seat in pledge.
+    pub fn pledge(&self, seat: Seat) -> Pledge
+        requires table { seat.inner.table_id ≡ self.now.table }
+        requires slots { seat.inner.me.1 ≡ [] }
+        ensures { (result.badge.table_id ≡ seat.inner.table_id) × (result.badge.id ≡ seat.inner.id) × (result.badge.views ≡ seat.inner.me.0 ∷ []) }
+    {
+        let Seat { inner } = seat;
+        Pledge {
+            badge: inner.into_badge(),
+            seal: (),
+        }
+    }
+
+    /// Gives the seat back that was in pledge, with the view that it had.
+    pub fn redeem(&self, pledge: Pledge) -> Seat
+        requires table { pledge.badge.table_id ≡ self.now.table }
+        requires whole { (v : SeatView) × (pledge.badge.views ≡ v ∷ []) }
+        ensures same { (result.inner.table_id ≡ pledge.badge.table_id) × (result.inner.id ≡ pledge.badge.id) }
+        ensures view { (pledge.badge.views ≡ result.inner.me.0 ∷ []) × (result.inner.me.1 ≡ []) }
+    {
+        let Pledge { badge, seal: () } = pledge;
+        Seat {
+            inner: badge.into_seat(),
+        }
     }
 
     /// Takes the turn if it is free and nobody is starved for it: one try.

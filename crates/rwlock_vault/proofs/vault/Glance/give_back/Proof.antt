@@ -7,7 +7,7 @@ use Rattle.atomic_table.specs.contracts.badge.Badge as badge
 use Rattle.words_rwlock.specs.contracts.view.View as view
 use Rattle.rwlock_vault.specs.Kept.{VaultId, glance_owns, rights, views}
 use Rattle.rwlock_vault.specs.Vault.{seat}
-use Rattle.rwlock_vault.proofs.Lends.{reads_no_more}
+use Rattle.rwlock_vault.proofs.Lending.{reads_no_more}
 use denote.Param.Laws.{param_laws}
 use Rattle.rwlock_vault.specs.contracts.vault.Vault as vault
 use Rattle.rwlock_vault.specs.contracts.vault.Glance as glance

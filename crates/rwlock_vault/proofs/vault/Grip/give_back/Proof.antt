@@ -12,7 +12,7 @@ use base.Fml.{Incl-refl}
 use Rattle.lock_place.specs.Held.{age, seen_owns}
 use Rattle.lock_place.proofs.Ages.{begins}
 use Rattle.rwlock_vault.specs.Vault.{seat}
-use Rattle.rwlock_vault.proofs.Lends.{writes_no_more}
+use Rattle.rwlock_vault.proofs.Lending.{writes_no_more}
 use denote.Param.Laws.{param_laws}
 use Rattle.rwlock_vault.specs.contracts.vault.Vault as vault
 use Rattle.rwlock_vault.specs.contracts.vault.Grip as grip

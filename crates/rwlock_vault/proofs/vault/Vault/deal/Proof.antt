@@ -12,7 +12,7 @@ use Rattle.atomic_table.specs.contracts.shared.Shared as table
 use Rattle.words_rwlock.specs.contracts.rule.RwRuleTableRuleNothingViewUnit.TheImpl as imp
 use Rattle.words_rwlock.specs.contracts.rule.RwRule as rule
 use Rattle.words_rwlock.specs.contracts.view.View as view
-use Rattle.words_rwlock.specs.contracts.view.Nothing as slot
+use Rattle.words_base.specs.contracts.Nothing as slot
 use Rattle.lock_place.specs.contracts.strip.Strip as strips
 use Rattle.lock_place.specs.Held.{RoomId}
 use Rattle.lock_place.proofs.Fields.{strip_of, Ptr-Good, strip_good, strip_told}

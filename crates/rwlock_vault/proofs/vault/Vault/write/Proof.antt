@@ -14,14 +14,14 @@ use Rattle.atomic_table.specs.contracts.badge.Badge as badge
 use Rattle.words_rwlock.specs.contracts.rule.RwRuleTableRuleNothingViewUnit.TheImpl as imp
 use Rattle.words_rwlock.specs.contracts.rule.RwRule as rule
 use Rattle.words_rwlock.specs.contracts.view.View as view
-use Rattle.words_rwlock.specs.contracts.view.Nothing as slot
+use Rattle.words_base.specs.contracts.Nothing as slot
 use Rattle.words_rwlock.specs.declared.view.View.{View}
 use Rattle.words_rwlock.specs.Rule.{Ruled}
 use Rattle.words_rwlock.proofs.Keeps.{alone}
 use Rattle.rwlock_vault.specs.Vault.{writing, pledge, stock}
 use base.Fraction.{full_share}
 use Rattle.rwlock_vault.proofs.Grips.{grips}
-use Rattle.rwlock_vault.proofs.Lends.{writes}
+use Rattle.rwlock_vault.proofs.Lending.{writes}
 use Rattle.rwlock_vault.specs.Kept.{VaultId, rights, views, grip_owns}
 use Rattle.rwlock_vault.specs.contracts.vault.Vault as vault
 use Rattle.rwlock_vault.specs.contracts.vault.Grip as grip

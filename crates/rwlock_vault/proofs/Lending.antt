@@ -29,8 +29,8 @@ use denote.RawPtr.{Ptr}
 use Rattle.atomic_table.proofs.Lists.{set_again}
 use Rattle.atomic_table.proofs.Roster.{Moved, moves, Joined, joins, apart}
 use Rattle.lock_place.specs.Held.{RoomId, age, held, seen_at}
-use Rattle.lock_words.specs.Word.{weight, number}
-use Rattle.lock_words.proofs.Word as word
+use Rattle.words_base.specs.Sums.{weight, number}
+use Rattle.words_base.proofs.Sums as word
 use Rattle.rwlock_vault.specs.Vault.{fact, Cell, cell_coded, reading, writing, emptied, is_one, is_more, cell_reads, cell_writes, Fills, Rights, Excludes, seat, pledged, pledges, waits, sight, stock, desk, pledge, calm_with, calm, busy, mode, vault_at, either_way, vault}
 use Rattle.rwlock_vault.proofs.Fills.{fills_more, fills_less, fills_all, whole_fills, number-more}
 
@@ -247,7 +247,7 @@ module _ {M : Type 1} {𝓤 : Ura M} (𝓛 : Logic 𝓤) (R : RattleType) (L : R
         -- S, P', D', G', busy, stock
         move ! (4 ∷ []) $ fpick ! (λ h. drop ! $ move ! (2 ∷ 1 ∷ 4 ∷ []) $
         use3 𝓛 (raw Vault) (calm_vault (set l j (emptied w₀)) (a, (full_share, y)) (let n = word.number-set cell_writes l j w₀ (emptied w₀) at in let z₁ = h.0 in omega arith)
-            (whole_fills a (set l j (emptied w₀)) (let n = word.number-set cell_reads l j w₀ (emptied w₀) at in let z₁ = h.1 in omega arith))) $
+        (whole_fills a (set l j (emptied w₀)) (let n = word.number-set cell_reads l j w₀ (emptied w₀) at in let z₁ = h.1 in omega arith))) $
         suffices ! _ (upd_i 𝓤 Y₀) $ keep ! (0 ∷ 1 ∷ []) $ done !))
     given_back l true = qed 𝓛 (‵ (vault_at R z cv k t δ l true) ∷ ‵ (G j w₀) ∷ ‵ (Stock a full_share y) ∷ []) ∵ fsplit3 ! $ move ! (0 ∷ 3 ∷ []) $
         use2 𝓛 (given (get_elem? l j ≡ some w₀) (raw (base.Logic.all 𝓤 (Moved 𝓛 cc δ 0 l j j)))) (moves 𝓛 cc δ l 0 j j w₀ (omega arith)) $ learn ! (λ at. drop ! $ move ! (1 ∷ []) $
