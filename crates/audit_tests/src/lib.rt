@@ -14,6 +14,8 @@ mod rwlock;
 #[cfg(test)]
 mod same;
 #[cfg(test)]
+mod sizes;
+#[cfg(test)]
 mod tables;
 #[cfg(test)]
 mod worlds;

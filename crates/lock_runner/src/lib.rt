@@ -3,7 +3,7 @@
 
 mod program;
 
-pub use program::{run, threads};
+pub use program::{Open, run, threads};
 pub use script_runner::fault::Fault;
 pub use script_runner::script::{LIMIT, report};
 pub use script_runner::task::arguments;

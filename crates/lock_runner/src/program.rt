@@ -1,6 +1,6 @@
 //! A whole run, from its arguments to its status, over any reader and writers.
 
-ghost use Rattle.std.specs.Prelude.{◌≡◌, ◌≢◌, ◌⊎◌, ◌+◌, ◌<◌, ◌≤◌, ℕ, length, map, string_bytes, Some, None, Ok, Err, IfErr, OnOk, IfSome};
+ghost use Rattle.std.specs.Prelude.{◌≡◌, ◌≢◌, ◌↔◌, ◌⊎◌, ◌+◌, ◌<◌, ◌≤◌, ℕ, length, map, string_bytes, Some, None, Ok, Err, IfErr, OnOk, IfSome};
 ghost use Rattle.std.specs.Io.KnownBytes.{Keeps};
 ghost use Rattle.script_runner.specs.Plays.{IsAtFault, IsPlayed, PrintsNumber};
 ghost use Rattle.script_runner.specs.Scripts.{asked, AsksFor, IsScript};
@@ -20,7 +20,7 @@ use std::time::Clock;
 
 /// Carries out the program on these arguments, the words after its name: with the one word `script` it
 /// answers the lines of the input, and with `threads` and a number it lets so many threads each add one under
-/// one mutex, and prints the value that they leave.
+/// one mutex, once each has passed this gate ([`Open`] in the program), and prints the value that they leave.
 ///
 /// The status is 0 where the whole script was answered (clauses `script` and `played`), or where the threads'
 /// number was printed (`threads`); 1 where the input is at fault, longer than [`LIMIT`] or with a line that is
@@ -28,10 +28,11 @@ use std::time::Clock;
 /// too long (`long`); 2 for other arguments (`usage`, `asked`); and 3 where reading or writing failed, memory
 /// was refused, or a thread wasn't started. Each status but 0 is told of in one line of the error output, and
 /// with status 0 it gets nothing (`quiet`).
-pub fn run<R, I: Read, O: Write, E: Write>(
+pub fn run<R, G: Gate + Sync, I: Read, O: Write, E: Write>(
     rt: &R,
     alloc: Global,
     words: &[String],
+    gate: &G,
     input: &mut I,
     output: &mut O,
     errors: &mut E,
@@ -59,16 +60,17 @@ where
 {
     match task::parse(words) {
         Some(Task::Script) => run_script(alloc, input, output, errors),
-        Some(Task::Threads(workers)) => run_threads(rt, alloc, workers, output, errors),
+        Some(Task::Threads(workers)) => run_threads(rt, alloc, workers, gate, output, errors),
         None => report(Fault::Usage, errors),
     }
 }
 
 /// Lets so many threads work, and tells of what ended them early.
-fn run_threads<R, O: Write, E: Write>(
+fn run_threads<R, G: Gate + Sync, O: Write, E: Write>(
     rt: &R,
     alloc: Global,
     workers: u32,
+    gate: &G,
     output: &mut O,
     errors: &mut E,
 ) -> u8
@@ -78,15 +80,15 @@ where
     ensures printed { result ≡ 0 → PrintsNumber (O.contents output.old) (O.contents output.new) }
     ensures quiet { result ≡ 0 → Keeps (E.contents errors.old) (E.contents errors.new) }
 {
-    match threads(rt, alloc, workers, &Open, output) {
+    match threads(rt, alloc, workers, gate, output) {
         Ok(()) => 0,
         Err(fault) => report(fault, errors),
     }
 }
 
-/// What each worker passes that need not wait.
+/// The gate of workers that need not wait.
 #[derive(Drop)]
-struct Open;
+pub struct Open;
 
 impl Gate for Open {
     fn pass(&self, _worker: u32) {}
@@ -115,7 +117,9 @@ where
 
 /// Why workers stopped, as a fault. No worker over a mutex is given an answer.
 fn stopped(why: Stopped) -> Fault
-    ensures { status_of result ≡ 3 }
+    ensures status { status_of result ≡ 3 }
+    ensures memory { result ≡ Fault.Memory ↔ (why ≡ Stopped.Memory) }
+    ensures thread { why ≢ Stopped.Memory → result ≡ Fault.Thread }
 {
     match why {
         Stopped::Memory => Fault::Memory,

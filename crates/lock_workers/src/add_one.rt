@@ -22,14 +22,15 @@ const INPUTS: Inputs = Inputs {
 
 /// Takes the lock, adds one to its value, and releases it, as one party of an audited World.
 #[derive(Drop)]
-struct AddOne<'x, L: Ledgers, R: Wait> {
+struct AddOne<'x, L: Ledgers, R: Wait, G> {
     rt: &'x R,
+    gate: &'x G,
     audited: &'x Audited<World, L>,
     // A worker was stopped by a refused record, so the others stop too.
     stopped: &'x AtomicBool,
 }
 
-impl<L: Ledgers, R: Wait> Work<Share<L>> for AddOne<'_, L, R> {
+impl<L: Ledgers, R: Wait, G: Gate> Work<Share<L>> for AddOne<'_, L, R, G> {
     fn work(&self, worker: u32, given: Share<L>) -> Result<Share<L>, Stopped> {
         let mut share = given;
         match self.add_one(worker, &mut share) {
@@ -42,9 +43,10 @@ impl<L: Ledgers, R: Wait> Work<Share<L>> for AddOne<'_, L, R> {
     }
 }
 
-impl<L: Ledgers, R: Wait> AddOne<'_, L, R> {
+impl<L: Ledgers, R: Wait, G: Gate> AddOne<'_, L, R, G> {
     fn add_one(&self, party: u32, share: &mut Share<L>) -> Result<(), Stopped> {
         let value = self.lock(party, share)?;
+        self.gate.hold(party);
         self.whole(party, share, Call::Put(value.saturating_add(1)))?;
         self.whole(party, share, Call::Drop)?;
         Ok(())
@@ -102,6 +104,7 @@ fn book_of<L: Ledgers + Send + Sync, G: Gate + Sync, R: Threads + Wait + Sync>(
     let stopped = AtomicBool::new(false);
     let work = AddOne {
         rt,
+        gate,
         audited: &audited,
         stopped: &stopped,
     };

@@ -34,6 +34,10 @@ pub enum Stopped {
 pub trait Gate {
     /// Returns once the worker of this number may go on.
     fn pass(&self, worker: u32);
+
+    /// Returns once the worker of this number may go on that holds the lock, has read the value, and hasn't written
+    /// it yet. Each worker calls it once.
+    fn hold(&self, _worker: u32) {}
 }
 
 /// What each worker does once it has passed the gate, with a `T` that it is given and hands back.

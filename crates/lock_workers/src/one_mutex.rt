@@ -8,17 +8,18 @@ use std::sync::Wait;
 use std::thread::Threads;
 use std::time::Clock;
 
-/// Takes the lock, adds one to its value, and releases it.
+/// Takes the lock, adds one to its value, and releases it. The gate holds it in between.
 #[derive(Drop)]
-struct AddOne<'x, R: Wait> {
+struct AddOne<'x, R: Wait, G> {
     mutex: &'x Mutex<u64, R>,
+    gate: &'x G,
 }
 
-impl<R: Wait + Clock + RandomSource + AllocGlobal> Work<()> for AddOne<'_, R> {
-    fn work(&self, _worker: u32, _given: ()) -> Result<(), Stopped> {
+impl<R: Wait + Clock + RandomSource + AllocGlobal, G: Gate> Work<()> for AddOne<'_, R, G> {
+    fn work(&self, worker: u32, _given: ()) -> Result<(), Stopped> {
         match self.mutex.lock_blocking() {
             Ok(mut guard) => {
-                add_one(&mut guard);
+                add_one(&mut guard, worker, self.gate);
                 Ok(())
             }
             Err(_) => Err(Stopped::Memory),
@@ -26,8 +27,10 @@ impl<R: Wait + Clock + RandomSource + AllocGlobal> Work<()> for AddOne<'_, R> {
     }
 }
 
-fn add_one(value: &mut u64) {
-    *value = value.saturating_add(1);
+fn add_one<G: Gate>(value: &mut u64, worker: u32, gate: &G) {
+    let found = *value;
+    gate.hold(worker);
+    *value = found.saturating_add(1);
 }
 
 /// What so many workers are given: nothing.
@@ -57,7 +60,11 @@ where
     let Ok(mutex) = Mutex::new(*rt, 0_u64) else {
         return Err(Stopped::Memory);
     };
-    let ended = in_threads(rt, alloc, &AddOne { mutex: &mutex }, gate, given);
+    let work = AddOne {
+        mutex: &mutex,
+        gate,
+    };
+    let ended = in_threads(rt, alloc, &work, gate, given);
     match ended {
         Ok(_) => Ok(mutex.into_inner()),
         Err(stopped) => Err(stopped),

@@ -1,7 +1,7 @@
 //! Carries out a script of moves on the Worlds of the locks, and prints each answer.
 #![tactic(auto)]
 
-use lock_runner::Fault;
+use lock_runner::{Fault, Open};
 use std::io::BufWriter;
 use std::process::ExitCode;
 
@@ -18,6 +18,7 @@ fn main(rt: HostRuntime) -> ExitCode {
         &rt,
         rt.alloc(),
         words.as_slice(),
+        &Open,
         &mut rt.stdin(),
         &mut output,
         &mut rt.stderr(),

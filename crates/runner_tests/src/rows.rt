@@ -545,6 +545,30 @@ given back
 mutex locked=0 starved=0 value=5 list=[1n]
 stepped
 ready 5
+== sixty-four-parties
+mutex 64 0
+do 63 lock
+rwlock 64 0
+do 63 read
+semaphore 64 64
+do 63 acquire
+cell 64
+do 63 init
+barrier 64 64
+do 63 wait
+do 64 wait
+=>
+ok
+ready 0
+ok
+ready 0
+ok
+ready
+ok
+pending
+ok
+pending
+not possible
 == starved-goes-first
 mutex 4 0
 do 0 lock

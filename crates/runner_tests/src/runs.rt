@@ -1,6 +1,6 @@
 //! Runs of the program from and into memory, and what is wanted of them.
 
-use lock_runner::run;
+use lock_runner::{Open, run};
 use std::io;
 use std::io::{ErrorKind, Read, Write};
 use std::process::Abort;
@@ -11,10 +11,10 @@ use std::time::Clock;
 
 /// Gives its text, and once that is given fails in this way, or ends.
 #[derive(Drop)]
-struct Source<'a> {
-    rest: &'a [u8],
-    failure: Option<ErrorKind>,
-    given: usize,
+pub(crate) struct Source<'a> {
+    pub(crate) rest: &'a [u8],
+    pub(crate) failure: Option<ErrorKind>,
+    pub(crate) given: usize,
 }
 
 impl Read for Source<'_> {
@@ -48,11 +48,14 @@ pub(crate) struct Takes {
     pub(crate) flushes: bool,
 }
 
-/// Keeps what is written, while there is room. A flush fails where it is to.
+/// Keeps what is written, while there is room. A flush fails where it is to. It counts the writes, and the bytes that
+/// were written since the last flush.
 #[derive(Drop)]
 pub(crate) struct Sink {
     kept: Vec<u8>,
     takes: Takes,
+    writes: usize,
+    unflushed: usize,
 }
 
 impl Sink {
@@ -60,6 +63,8 @@ impl Sink {
         Sink {
             kept: Vec::new(rt.alloc()),
             takes,
+            writes: 0,
+            unflushed: 0,
         }
     }
 }
@@ -72,11 +77,14 @@ impl Write for Sink {
         }
         self.kept.extend_from_slice(&buf[..count])?;
         self.takes.room -= count;
+        self.writes = self.writes.saturating_add(1);
+        self.unflushed = self.unflushed.saturating_add(count);
         Ok(count)
     }
 
     fn flush(&mut self) -> io::Result<()> {
         if self.takes.flushes {
+            self.unflushed = 0;
             Ok(())
         } else {
             Err(io::Error::from(ErrorKind::BrokenPipe))
@@ -151,7 +159,7 @@ pub(crate) fn text_of(sink: &Sink) -> &str {
 }
 
 /// These words, as the arguments of a run.
-fn arguments(rt: &(impl AllocGlobal + Abort), words: &[&str]) -> Vec<String> {
+pub(crate) fn arguments(rt: &(impl AllocGlobal + Abort), words: &[&str]) -> Vec<String> {
     let mut all = Vec::new(rt.alloc());
     for word in words {
         let text = String::from_str(rt.alloc(), *word).expect(rt, "ample memory");
@@ -172,6 +180,20 @@ fn assert_ended(rt: &impl Abort, wanted: &Run, text: &[u8], ended: Ended<'_>) {
     assert_eq!(rt; ended, wanted_end, "{:?} of {shown:?}", wanted.words);
 }
 
+/// Stops the test unless the error output was written at once and flushed, and the answers were flushed where they
+/// are all there.
+fn assert_flushed(rt: &impl Abort, wanted: &Run, answers: &Sink, faults: &Sink) {
+    let told = wanted.faults.room < usize::MAX || faults.writes <= 1;
+    let seen = !wanted.faults.flushes || faults.unflushed == 0;
+    let answered = wanted.status != 0 || answers.unflushed == 0;
+    assert_eq!(rt;
+        (told, seen, answered),
+        (true, true, true),
+        "{:?}",
+        wanted.words
+    );
+}
+
 /// Runs the program on this text, which ends as it is to.
 pub(crate) fn expect<R: Runs>(rt: &R, text: &[u8], wanted: &Run) {
     let words = arguments(rt, wanted.words);
@@ -186,12 +208,14 @@ pub(crate) fn expect<R: Runs>(rt: &R, text: &[u8], wanted: &Run) {
         rt,
         rt.alloc(),
         words.as_slice(),
+        &Open,
         &mut source,
         &mut answers,
         &mut faults,
     );
     let ended = (text_of(&answers), text_of(&faults), source.given, status);
     assert_ended(rt, wanted, text, ended);
+    assert_flushed(rt, wanted, &answers, &faults);
 }
 
 /// Runs the program on each text, which ends as it is to.

@@ -1,11 +1,11 @@
 //! Workers that pass a gate.
 
-use crate::runs::{ALL, Runs, Sink, text_of};
+use crate::runs::{ALL, Runs, Sink, Source, arguments, text_of};
 use crate::same::assert_same;
 use lock_audit::Book;
 use lock_core::mutex::World;
 use lock_core::{Answer, Got, Move};
-use lock_runner::{Fault, threads};
+use lock_runner::run;
 use lock_workers::{Gate, Stopped, audited, public};
 use std::process::Abort;
 use std::sync::atomic::{AtomicU64, Ordering};
@@ -13,12 +13,16 @@ use std::test::Fail;
 use std::thread;
 
 /// Counts who passes: all together, and the sum of their numbers. Where it is to, it holds worker 0 until
-/// another one comes, for so many looks at most, and notes whether one came.
+/// another one comes, for so many looks at most, and notes whether one came. Of those that hold the lock it
+/// counts how many had passed before, and notes whether two held it at once.
 #[derive(Drop)]
 struct Turnstile {
     passed: AtomicU64,
     numbers: AtomicU64,
     met: AtomicU64,
+    holders: AtomicU64,
+    inside: AtomicU64,
+    overlaps: AtomicU64,
     holds: bool,
 }
 
@@ -28,6 +32,9 @@ impl Turnstile {
             passed: AtomicU64::new(0),
             numbers: AtomicU64::new(0),
             met: AtomicU64::new(0),
+            holders: AtomicU64::new(0),
+            inside: AtomicU64::new(0),
+            overlaps: AtomicU64::new(0),
             holds,
         }
     }
@@ -37,10 +44,13 @@ impl Turnstile {
         self.passed.store(0, Ordering::SeqCst);
         self.numbers.store(0, Ordering::SeqCst);
         self.met.store(0, Ordering::SeqCst);
+        self.holders.store(0, Ordering::SeqCst);
+        self.inside.store(0, Ordering::SeqCst);
+        self.overlaps.store(0, Ordering::SeqCst);
     }
 
     /// Waits until another worker comes than worker 0, which adds nothing to the numbers.
-    fn hold(&self) {
+    fn wait_for_another(&self) {
         for _ in 0..10_000_000u32 {
             if self.numbers.load(Ordering::SeqCst) > 0 {
                 self.met.store(1, Ordering::SeqCst);
@@ -50,7 +60,8 @@ impl Turnstile {
         }
     }
 
-    /// Stops the test unless so many passed, with this sum of numbers, and so many were held until one came.
+    /// Stops the test unless so many passed, with this sum of numbers, and so many were held until one came; and
+    /// unless each held the lock once it had passed, and no two at once.
     fn expect(&self, rt: &impl Abort, passed: u64, numbers: u64, met: u64) {
         let seen = (
             self.passed.load(Ordering::SeqCst),
@@ -58,6 +69,11 @@ impl Turnstile {
             self.met.load(Ordering::SeqCst),
         );
         assert_same(rt, seen, (passed, numbers, met));
+        let held = (
+            self.holders.load(Ordering::SeqCst),
+            self.overlaps.load(Ordering::SeqCst),
+        );
+        assert_same(rt, held, (passed, 0));
     }
 }
 
@@ -66,8 +82,22 @@ impl Gate for Turnstile {
         self.passed.fetch_add(1, Ordering::SeqCst);
         self.numbers.fetch_add(u64::from(worker), Ordering::SeqCst);
         if self.holds && worker == 0 {
-            self.hold();
+            self.wait_for_another();
         }
+    }
+
+    // The worker that holds the lock gives the others time to come in beside it.
+    fn hold(&self, _worker: u32) {
+        if self.inside.fetch_add(1, Ordering::SeqCst) > 0 {
+            self.overlaps.store(1, Ordering::SeqCst);
+        }
+        if self.holders.load(Ordering::SeqCst) < self.passed.load(Ordering::SeqCst) {
+            self.holders.fetch_add(1, Ordering::SeqCst);
+        }
+        for _ in 0..100u32 {
+            thread::yield_now();
+        }
+        self.inside.fetch_sub(1, Ordering::SeqCst);
     }
 }
 
@@ -212,28 +242,37 @@ fn workers_add_up_beside_one_another(rt: HostRuntime) -> Result<(), Fail> {
     Ok(())
 }
 
-/// What the program's threads print, of which each passes this gate; once more where memory was refused, to them
-/// or to the output.
-fn printed<R: Runs>(rt: &R, workers: u32, gate: &Turnstile) -> Result<Sink, Fault> {
+/// What the program prints for two threads that pass this gate, and its status.
+fn printed<R: Runs>(rt: &R, gate: &Turnstile) -> (Sink, u8) {
+    let words = arguments(rt, &["threads", "2"]);
+    let mut nothing = Source {
+        rest: b"",
+        failure: None,
+        given: 0,
+    };
     let mut output = Sink::new(rt, ALL);
-    match threads(rt, rt.alloc(), workers, gate, &mut output) {
-        Ok(()) => Ok(output),
-        Err(Fault::Memory | Fault::Write) => {
-            gate.forget();
-            let mut output = Sink::new(rt, ALL);
-            threads(rt, rt.alloc(), workers, gate, &mut output)?;
-            Ok(output)
-        }
-        Err(fault) => Err(fault),
-    }
+    let mut errors = Sink::new(rt, ALL);
+    let status = run(
+        rt,
+        rt.alloc(),
+        words.as_slice(),
+        gate,
+        &mut nothing,
+        &mut output,
+        &mut errors,
+    );
+    (output, status)
 }
 
 #[test]
 fn the_programs_threads_are_started_and_print_their_sum(rt: HostRuntime) {
     let gate = Turnstile::new(true);
-    match printed(&rt, 2, &gate) {
-        Ok(output) => assert_same(&rt, text_of(&output), "2\n"),
-        Err(fault) => assert_same(&rt, fault.status(), 0),
+    let (mut output, mut status) = printed(&rt, &gate);
+    // Memory that is refused once is there the next time.
+    if status == 3 {
+        gate.forget();
+        (output, status) = printed(&rt, &gate);
     }
+    assert_same(&rt, (text_of(&output), status), ("2\n", 0));
     gate.expect(&rt, 2, 1, 1);
 }

@@ -12,6 +12,7 @@ ghost use Rattle.script_runner.specs.Faults.{status_of, text_of};
 ghost use Rattle.lock_answers.specs.Answers.{Prints};
 
 use crate::fault::Fault;
+use arrayvec::ArrayVec;
 use lock_answers::answer;
 use lock_answers::played::Reply;
 use lock_play::world::World;
@@ -24,6 +25,9 @@ use std::io::{ErrorKind, Read, Write};
 
 /// The greatest number of bytes that a script may have.
 pub const LIMIT: usize = 1_048_576;
+
+/// More bytes than the line of any fault has.
+const LONGEST_FAULT: usize = 64;
 
 /// How many bytes one read asks for.
 const CHUNK: usize = 16_384;
@@ -62,11 +66,16 @@ pub fn report<E: Write>(fault: Fault, errors: &mut E) -> u8
     fault.status()
 }
 
-/// Writes the fault as one line.
+/// Writes the fault as one line, by one write: so two processes that share the error output don't mix theirs.
 fn tell<E: Write>(fault: Fault, errors: &mut E) -> io::Result<()>
     ensures { Prints (E.contents errors.old) (E.contents errors.new) result (text_of fault) }
 {
-    writeln!(errors, "{fault}")
+    let mut line = ArrayVec::<u8, LONGEST_FAULT>::new();
+    match writeln!(line, "{fault}") {
+        Ok(()) => errors.write_all(line.as_slice()),
+        // No fault's line is as long as that.
+        Err(_) => writeln!(errors, "{fault}"),
+    }
 }
 
 /// Writes this number as one line, and flushes it.

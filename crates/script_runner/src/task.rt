@@ -1,6 +1,6 @@
 //! The arguments, and what they ask for.
 
-ghost use Rattle.std.specs.Prelude.{◌≡◌, ◌↔◌, ◌⊎◌, ℕ, codes, length, map, string_bytes, None, IfSome, IfNone, IfErr, IsTrue};
+ghost use Rattle.std.specs.Prelude.{◌≡◌, ◌≢◌, ◌↔◌, ◌⊎◌, ℕ, codes, length, map, string_bytes, None, IfSome, IfNone, IfErr, IsTrue};
 ghost use Rattle.script_runner.specs.Scripts.{asked, AsksFor, IsWorkers};
 ghost use Rattle.script_runner.specs.declared.task.Task.{Task};
 
@@ -34,11 +34,19 @@ pub fn arguments<R: Env + AllocGlobal>(rt: &R) -> Result<Vec<String>, Fault>
 {
     match env::args(rt) {
         Ok(all) => after_name(rt.alloc(), all),
-        // An argument that is no text is not the word that is asked for.
-        Err(e) => match e.kind() {
-            ErrorKind::OutOfMemory => Err(Fault::Memory),
-            _ => Err(Fault::Usage),
-        },
+        Err(e) => Err(fault_of(e.kind())),
+    }
+}
+
+/// What it means for the run that the arguments can't be had: an argument that is no text is not the word that
+/// is asked for.
+fn fault_of(kind: ErrorKind) -> Fault
+    ensures memory { result ≡ Fault.Memory ↔ (kind ≡ ErrorKind.OutOfMemory) }
+    ensures usage { kind ≢ ErrorKind.OutOfMemory → result ≡ Fault.Usage }
+{
+    match kind {
+        ErrorKind::OutOfMemory => Fault::Memory,
+        _ => Fault::Usage,
     }
 }
 

@@ -1,7 +1,7 @@
 //! What the tries find.
 
 /// What a try to take permits found.
-#[derive(Clone, Copy, PartialEq, Eq)]
+#[derive(Clone, Copy, Debug, PartialEq, Eq)]
 pub enum Taking {
     /// The seat has the permits now, and this many are left.
     Left(u64),
@@ -12,7 +12,7 @@ pub enum Taking {
 }
 
 /// What a try to raise the limit found.
-#[derive(Clone, Copy, PartialEq, Eq)]
+#[derive(Clone, Copy, Debug, PartialEq, Eq)]
 pub enum Raising {
     /// The limit is raised, and the seat has the new permits under way.
     Raised,

@@ -1,0 +1,130 @@
+//! A once-cell's word.
+
+ghost use Rattle.std.specs.Prelude.{◌≡◌};
+
+use std::process::Abort;
+use std::thread;
+use words_once_cell::{State, Words};
+
+// One try to claim by a new seat, which fills the cell or leaves it empty: what the cell was before.
+fn claim_once(words: &Words, fills: bool) -> State {
+    let mut seat = words.sit();
+    match words.claim(&mut seat) {
+        State::Empty => {
+            if fills {
+                words.fill(&mut seat);
+                words.rise(seat);
+            } else {
+                words.empty(&mut seat);
+                words.rise(seat);
+            }
+            State::Empty
+        }
+        State::Making => {
+            words.rise(seat);
+            State::Making
+        }
+        State::Full => {
+            words.rise(seat);
+            State::Full
+        }
+    }
+}
+
+fn look_once(words: &Words) -> State {
+    let mut seat = words.sit();
+    let state = words.look(&mut seat);
+    words.rise(seat);
+    state
+}
+
+fn take_once(words: &Words) -> bool {
+    let mut seat = words.sit();
+    let was_full = words.take(&mut seat);
+    words.rise(seat);
+    was_full
+}
+
+// How often this thread found the cell empty and filled it, while others do the same. Each of its failed makers
+// leaves the cell empty.
+fn fill_a_thousand_times(words: &Words) -> u32 {
+    let mut filled: u32 = 0;
+    for round in 0..1000u32 {
+        if claim_once(words, round % 2 == 1) == State::Empty && round % 2 == 1 {
+            filled = filled.saturating_add(1);
+        }
+    }
+    filled
+}
+
+fn expect(rt: &impl Abort, what: &str, is_so: bool) {
+    if !is_so {
+        panic!(rt; "{what}");
+    }
+}
+
+#[test]
+fn a_cell_is_claimed_filled_and_emptied(rt: HostRuntime) {
+    let Ok(words) = Words::new(rt.alloc()) else {
+        return;
+    };
+    expect(
+        &rt,
+        "it is empty",
+        look_once(&words) == State::Empty && !words.is_full(),
+    );
+    expect(
+        &rt,
+        "a maker fails",
+        claim_once(&words, false) == State::Empty,
+    );
+    expect(&rt, "it is empty again", look_once(&words) == State::Empty);
+    expect(&rt, "nothing can be taken", !take_once(&words));
+    expect(
+        &rt,
+        "a maker fills it",
+        claim_once(&words, true) == State::Empty,
+    );
+    expect(
+        &rt,
+        "it is full",
+        look_once(&words) == State::Full && words.is_full(),
+    );
+    expect(
+        &rt,
+        "nobody makes of a full cell",
+        claim_once(&words, true) == State::Full,
+    );
+    expect(&rt, "its value is taken", take_once(&words));
+    expect(
+        &rt,
+        "it is empty once more",
+        look_once(&words) == State::Empty,
+    );
+}
+
+#[test]
+fn a_cell_that_begins_full(rt: HostRuntime) {
+    let Ok(words) = Words::full(rt.alloc()) else {
+        return;
+    };
+    expect(
+        &rt,
+        "it is full",
+        words.is_full() && look_once(&words) == State::Full,
+    );
+}
+
+#[test]
+fn one_of_two_threads_fills(rt: HostRuntime) {
+    let Ok(words) = Words::new(rt.alloc()) else {
+        return;
+    };
+    let fills = || fill_a_thousand_times(&words);
+    let (one, other) = thread::join(&rt, &fills, &fills);
+    expect(
+        &rt,
+        "one value has entered",
+        one.saturating_add(other) == 1 && words.is_full(),
+    );
+}
