@@ -1,12 +1,12 @@
 //! The waiting list that the locks share, row by row.
 
 ghost use Rattle.std.specs.Prelude.{◌≡◌, IfSome};
+ghost use Rattle.lock_words.specs.Heard.{IsOf};
 
 use crate::polls::{Name, Tasks};
 use crate::same::assert_same;
 use crate::stories::{BOTH, NOBODY, ONE, Woken};
-use futures::task::Waker;
-use futures::test::MockTask;
+use futures::task::{Context, Source, Waker};
 use lock_words::{Heard, Listed, Owed, WaitingList};
 use std::alloc::AllocGlobal;
 use std::marker::Model;
@@ -21,9 +21,9 @@ enum Deed {
     Look,
     /// A join that is refused is tried once more.
     Join(Name),
-    /// This task registers into the hand.
-    Register(Name),
-    /// An entry asks with the hand.
+    /// An entry is polled for its task.
+    Poll(Name),
+    /// An entry asks with what is in the hand.
     Ask(Name),
     Leave(Name),
     Notify(usize),
@@ -44,6 +44,7 @@ type Row = (Deed, Answer, bool, Woken);
 /// A list with its entries.
 struct Scene {
     list: WaitingList<Waker>,
+    source: Source,
     hand: Option<Waker>,
     // The notifications that entries took.
     owed: Option<Owed>,
@@ -58,15 +59,16 @@ impl Model for Scene {
 
     ghost Value = { ℕ };
 
-    ghost view = { λ s. s.list.source.id };
+    ghost view = { λ s. s.list.name.id };
 
-    ghost invariant = { λ s. IfSome s.owed (λ o. o.list.id ≡ s.list.source.id) × IfSome s.one (λ e. e.list.id ≡ s.list.source.id) × IfSome s.two (λ e. e.list.id ≡ s.list.source.id) × IfSome s.three (λ e. e.list.id ≡ s.list.source.id) };
+    ghost invariant = { λ s. IfSome s.owed (λ o. o.list.id ≡ s.list.name.id) × IfSome s.one (λ e. e.list.id ≡ s.list.name.id) × IfSome s.two (λ e. e.list.id ≡ s.list.name.id) × IfSome s.three (λ e. e.list.id ≡ s.list.name.id) };
 }
 
 impl Scene {
     fn new(list: WaitingList<Waker>) -> Scene {
         Scene {
             list,
+            source: Source::new(),
             hand: None,
             owed: None,
             one: None,
@@ -79,12 +81,14 @@ impl Scene {
     fn end<R: Wait>(self, rt: &R) {
         let Scene {
             list,
+            source,
             hand,
             owed,
             one,
             two,
             three,
         } = self;
+        drop(source);
         drop(hand);
         leave(rt, &list, one);
         leave(rt, &list, two);
@@ -128,14 +132,11 @@ impl Scene {
         }
     }
 
-    fn register(&mut self, task: &MockTask) {
-        let (list, hand) = (&self.list, &mut self.hand);
-        task.enter(|cx| list.register(cx, hand));
-    }
-
-    fn ask<R: Wait>(&mut self, rt: &R, name: Name) -> Answer {
-        let entry = self.take(name)?;
-        let is_notified = match self.list.ask(rt, entry, &mut self.hand) {
+    // What an entry heard: whether it counts as notified.
+    fn hears<R: Wait>(&mut self, rt: &R, name: Name, heard: Heard) -> bool
+        requires { IsOf self.old heard }
+    {
+        match heard {
             Heard::Notified(owed) => {
                 let old = mem::replace(&mut self.owed, Some(owed));
                 pay(rt, &self.list, old);
@@ -145,7 +146,20 @@ impl Scene {
                 self.store(rt, name, entry);
                 false
             }
-        };
+        }
+    }
+
+    fn poll<R: Wait>(&mut self, rt: &R, name: Name, cx: &mut Context<'_>) -> Answer {
+        let entry = self.take(name)?;
+        let heard = self.list.poll(rt, entry, &self.source, cx);
+        let is_notified = self.hears(rt, name, heard);
+        Some((is_notified, self.hand.is_some()))
+    }
+
+    fn ask<R: Wait>(&mut self, rt: &R, name: Name) -> Answer {
+        let entry = self.take(name)?;
+        let heard = self.list.ask(rt, entry, &mut self.hand);
+        let is_notified = self.hears(rt, name, heard);
         Some((is_notified, self.hand.is_some()))
     }
 
@@ -164,7 +178,7 @@ impl Scene {
         match deed {
             Deed::Look => {}
             Deed::Join(name) => self.join(rt, name),
-            Deed::Register(name) => self.register(tasks.of(name)),
+            Deed::Poll(name) => return tasks.of(name).enter(|cx| self.poll(rt, name, cx)),
             Deed::Ask(name) => return self.ask(rt, name),
             Deed::Leave(name) => self.leave(rt, name),
             Deed::Notify(count) => self.notify(rt, count),
@@ -186,7 +200,7 @@ impl Scene {
 
 // Leaves the list, if there is an entry.
 fn leave<R: Wait>(rt: &R, list: &WaitingList<Waker>, entry: Option<Listed>)
-    requires { IfSome entry (λ e. e.list.id ≡ list.now.source.id) }
+    requires { IfSome entry (λ e. e.list.id ≡ list.now.name.id) }
 {
     if let Some(entry) = entry {
         list.leave(rt, entry);
@@ -195,7 +209,7 @@ fn leave<R: Wait>(rt: &R, list: &WaitingList<Waker>, entry: Option<Listed>)
 
 // Notifies one, if somebody is to be.
 fn pay<R: Wait>(rt: &R, list: &WaitingList<Waker>, owed: Option<Owed>)
-    requires { IfSome owed (λ o. o.list.id ≡ list.now.source.id) }
+    requires { IfSome owed (λ o. o.list.id ≡ list.now.name.id) }
 {
     if let Some(owed) = owed {
         list.notify(rt, 1, owed);
@@ -232,17 +246,14 @@ fn a_list_says_whether_it_has_entries(rt: HostRuntime) {
 
 const ALL: Woken = (true, true, true);
 
-const NOTIFIES: [Row; 13] = [
+const NOTIFIES: [Row; 10] = [
     (Deed::Notify(1), None, false, NOBODY),
     (Deed::Join(Name::One), None, true, NOBODY),
-    (Deed::Register(Name::One), None, true, NOBODY),
-    (Deed::Ask(Name::One), WAITS, true, NOBODY),
+    (Deed::Poll(Name::One), WAITS, true, NOBODY),
     (Deed::Join(Name::Two), None, true, NOBODY),
-    (Deed::Register(Name::Two), None, true, NOBODY),
-    (Deed::Ask(Name::Two), WAITS, true, NOBODY),
+    (Deed::Poll(Name::Two), WAITS, true, NOBODY),
     (Deed::Join(Name::Three), None, true, NOBODY),
-    (Deed::Register(Name::Three), None, true, NOBODY),
-    (Deed::Ask(Name::Three), WAITS, true, NOBODY),
+    (Deed::Poll(Name::Three), WAITS, true, NOBODY),
     (Deed::Notify(2), None, true, BOTH),
     // Those that are notified already count.
     (Deed::Notify(2), None, true, BOTH),
@@ -254,13 +265,11 @@ fn those_that_are_notified_are_woken_and_no_others(rt: HostRuntime) {
     play(&rt, &NOTIFIES);
 }
 
-const PASSES_ITS_NOTIFICATION_ON: [Row; 8] = [
+const PASSES_ITS_NOTIFICATION_ON: [Row; 6] = [
     (Deed::Join(Name::One), None, true, NOBODY),
-    (Deed::Register(Name::One), None, true, NOBODY),
-    (Deed::Ask(Name::One), WAITS, true, NOBODY),
+    (Deed::Poll(Name::One), WAITS, true, NOBODY),
     (Deed::Join(Name::Two), None, true, NOBODY),
-    (Deed::Register(Name::Two), None, true, NOBODY),
-    (Deed::Ask(Name::Two), WAITS, true, NOBODY),
+    (Deed::Poll(Name::Two), WAITS, true, NOBODY),
     (Deed::Notify(1), None, true, ONE),
     (Deed::Leave(Name::One), None, true, BOTH),
 ];
@@ -270,14 +279,13 @@ fn an_entry_that_leaves_passes_its_notification_on(rt: HostRuntime) {
     play(&rt, &PASSES_ITS_NOTIFICATION_ON);
 }
 
-const GIVES_ITS_WAKER_BACK: [Row; 8] = [
+const GIVES_ITS_WAKER_BACK: [Row; 7] = [
     (Deed::Join(Name::One), None, true, NOBODY),
-    (Deed::Register(Name::One), None, true, NOBODY),
-    (Deed::Ask(Name::One), WAITS, true, NOBODY),
+    (Deed::Poll(Name::One), WAITS, true, NOBODY),
     (Deed::Ask(Name::One), WAITS_AND_GIVES_BACK, true, NOBODY),
-    // The same task registers into it, and it goes back: nobody is woken.
-    (Deed::Register(Name::One), None, true, NOBODY),
     (Deed::Ask(Name::One), WAITS, true, NOBODY),
+    // A waker of the same task stays: nobody is woken.
+    (Deed::Poll(Name::One), WAITS, true, NOBODY),
     (Deed::Notify(1), None, true, ONE),
     (Deed::Ask(Name::One), NOTIFIED, false, ONE),
 ];

@@ -75,7 +75,7 @@ impl Wakes for Looks {
 
 /// A new entry. Where memory is refused, it is tried once more.
 fn joined<R: Wait>(rt: &R, list: &WaitingList<Looks>) -> Option<Listed>
-    ensures { IfSome result (λ e. e.list.id ≡ list.now.source.id) }
+    ensures { IfSome result (λ e. e.list.id ≡ list.now.name.id) }
 {
     match list.join(rt) {
         Ok(entry) => Some(entry),
@@ -85,7 +85,7 @@ fn joined<R: Wait>(rt: &R, list: &WaitingList<Looks>) -> Option<Listed>
 
 /// A waiting entry with a waker.
 fn waits<R: Wait>(rt: &R, list: &WaitingList<Looks>, meeting: &Arc<Meeting>) -> Option<Listed>
-    ensures { IfSome result (λ e. e.list.id ≡ list.now.source.id) }
+    ensures { IfSome result (λ e. e.list.id ≡ list.now.name.id) }
 {
     let meeting = Arc::try_clone(meeting).ok()?;
     let mut hand = Some(Looks { meeting });
@@ -100,8 +100,8 @@ fn asks<R: Wait>(
     entry: Listed,
     hand: &mut Option<Looks>,
 ) -> Option<Listed>
-    requires { entry.list.id ≡ list.now.source.id }
-    ensures { IfSome result (λ e. e.list.id ≡ list.now.source.id) }
+    requires { entry.list.id ≡ list.now.name.id }
+    ensures { IfSome result (λ e. e.list.id ≡ list.now.name.id) }
 {
     match list.ask(rt, entry, hand) {
         Heard::Waiting(entry) => Some(entry),
@@ -113,7 +113,7 @@ fn asks<R: Wait>(
 }
 
 fn asks_at_last<R: Wait>(rt: &R, list: &WaitingList<Looks>, entry: Option<Listed>)
-    requires { IfSome entry (λ e. e.list.id ≡ list.now.source.id) }
+    requires { IfSome entry (λ e. e.list.id ≡ list.now.name.id) }
 {
     if let Some(entry) = entry {
         let left = asks(rt, list, entry, &mut None);
@@ -122,7 +122,7 @@ fn asks_at_last<R: Wait>(rt: &R, list: &WaitingList<Looks>, entry: Option<Listed
 }
 
 fn leaves<R: Wait>(rt: &R, list: &WaitingList<Looks>, entry: Option<Listed>)
-    requires { IfSome entry (λ e. e.list.id ≡ list.now.source.id) }
+    requires { IfSome entry (λ e. e.list.id ≡ list.now.name.id) }
 {
     if let Some(entry) = entry {
         list.leave(rt, entry);
@@ -143,26 +143,13 @@ fn tell<R: Wait>(rt: &R, list: &WaitingList<Looks>, meeting: &Arc<Meeting>) {
     leaves(rt, list, last);
 }
 
-/// Takes the list's lock by a join, once this waker is called. A join calls none itself.
-fn look<R: Wait>(rt: &R, list: &WaitingList<Looks>, meeting: &Meeting, round: u64) -> Option<Listed>
-    ensures { IfSome result (λ e. e.list.id ≡ list.now.source.id) }
-{
-    has_come(&meeting.called, round);
-    let joined = list.join(rt).ok();
-    meeting.had.store(round, Ordering::SeqCst);
-    joined
-}
-
-/// Looks once for each of four wakers, while that one is called.
-fn look_at_all<R: Wait>(rt: &R, list: &WaitingList<Looks>, meeting: &Meeting) {
-    let one = look(rt, list, meeting, 1);
-    let two = look(rt, list, meeting, 2);
-    let three = look(rt, list, meeting, 3);
-    let four = look(rt, list, meeting, 4);
-    leaves(rt, list, one);
-    leaves(rt, list, two);
-    leaves(rt, list, three);
-    leaves(rt, list, four);
+/// Takes the list's lock once for each of four wakers, while that one is called.
+fn look<R: Wait>(rt: &R, list: &WaitingList<Looks>, meeting: &Meeting) {
+    for round in 1..5u64 {
+        has_come(&meeting.called, round);
+        list.entry(rt, 0);
+        meeting.had.store(round, Ordering::SeqCst);
+    }
 }
 
 /// Plays both parts, each in a thread, and says whether the system started the other one.
@@ -171,7 +158,7 @@ where
     R: Threads + Wait + Sync,
 {
     thread::scope(thread::scope_env(), rt, |scope| {
-        let is_started = scope.spawn(move || look_at_all(rt, list, meeting)).is_ok();
+        let is_started = scope.spawn(move || look(rt, list, meeting)).is_ok();
         if is_started {
             tell(rt, list, meeting);
         }

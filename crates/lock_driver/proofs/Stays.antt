@@ -1,7 +1,10 @@
 -- What a party has at a place is what its action there needs, and what that action leaves is what it has next.
 use Rattle.std.specs.Bool.{⊤}
+use Rattle.std.specs.Option.{IfSome}
 use Rattle.std.proofs.Common.{◌≡◌, true, false, Option, Some, None, refl, ap, sym, subst, ◌∙◌}
-use Rattle.lock_driver.specs.Parties.{CanDo, CanFind, Having, IsReached, after, having_at, next_place}
+use Rattle.lock_driver.specs.Parties.{AsksNo, CanDo, CanFind, Having, IfPending, IsReached, Stands, after, end_after, having_at, next_place}
+use Rattle.lock_driver.specs.declared.mutex_party.MutexParty.{MutexParty}
+use Rattle.lock_driver.specs.declared.mutex_party.RawMutex.{RawMutex}
 use Rattle.mutex_program.specs.declared.program.Action.{Action}
 use Rattle.mutex_program.specs.declared.program.Found.{Found}
 use Rattle.mutex_program.specs.declared.program.Found.TheVariants.{Done, Free, Held, SomeStarved, AtLimit, NoMemory, Yes, No}
@@ -30,6 +33,11 @@ on_start c p = tt
 
 pub begins : (c : LockCall) (p q : Place) → start_of c p ≡ Some q → (having_at p ≡ having_at q) × IsReached q
 begins c p q is = subst (λ o. OnStart o p) is (on_start c p)
+
+pub starts : (T : Type 0) (c : LockCall) (p : Place) (o : Option Place) → o ≡ start_of c p
+    → IfSome o (λ first. (raw : RawMutex T) (party : MutexParty T) → Stands raw.words party p → Stands raw.words party first)
+starts T c p None is = tt
+starts T c p (Some q) is = λ raw party s. let b = begins c p q (sym is) in (s.0, s.1 ∙ b.0, b.1, s.3)
 
 can_at : (p : Place) → CanDo (action_of p) (having_at p)
 can_at Out = tt
@@ -100,3 +108,67 @@ pub goes_on : (a : Action) (p : Place) (f : Found) (new old : Having) → a ≡ 
 goes_on a p f new old acts has r x is =
     let so = found_so p f r (subst (λ b. CanFind b f) acts x) in
     (is ∙ ap (λ b. after b f old) acts ∙ ap (λ k. after (action_of p) f k) has ∙ so.0, so.1)
+
+-- only a party that asked in vain ends pending
+waits_so : (R : Type 0) (p : Place) (f : Found) → CanFind (action_of p) f → AsksNo (action_of p) f R → IfSome (end_after p f) (λ e. IfPending e R)
+waits_so R Out Done x r = tt
+waits_so R Holding Done x r = tt
+waits_so R Enter Free x r = tt
+waits_so R Enter (Held true) x r = tt
+waits_so R Enter (Held false) x r = tt
+waits_so R Enter SomeStarved x r = tt
+waits_so R Try Free x r = tt
+waits_so R Try (Held true) x r = tt
+waits_so R Try (Held false) x r = tt
+waits_so R Try SomeStarved x r = tt
+waits_so R (Join true) Done x r = tt
+waits_so R (Join true) NoMemory x r = tt
+waits_so R (Join false) Done x r = tt
+waits_so R (Join false) NoMemory x r = tt
+waits_so R (Look true) Free x r = tt
+waits_so R (Look false) Free x r = tt
+waits_so R (Look true) (Held s) x r = tt
+waits_so R (Look false) (Held s) x r = tt
+waits_so R (Look true) SomeStarved x r = tt
+waits_so R (Look false) SomeStarved x r = tt
+waits_so R Ask Yes x r = tt
+waits_so R Ask No x r = r
+waits_so R Retry Free x r = tt
+waits_so R Retry (Held true) x r = tt
+waits_so R Retry (Held false) x r = tt
+waits_so R Retry SomeStarved x r = tt
+waits_so R PassOn Done x r = tt
+waits_so R (Count true true) Done x r = tt
+waits_so R (Count true false) Done x r = tt
+waits_so R (Count true true) AtLimit x r = tt
+waits_so R (Count true false) AtLimit x r = tt
+waits_so R (Count false true) Done x r = tt
+waits_so R (Count false true) AtLimit x r = tt
+waits_so R JoinStarved Done x r = tt
+waits_so R JoinStarved NoMemory x r = tt
+waits_so R LookAlone Free x r = tt
+waits_so R LookAlone (Held s) x r = tt
+waits_so R LookAlone SomeStarved x r = tt
+waits_so R PassOnListed Done x r = tt
+waits_so R AskStarved Yes x r = tt
+waits_so R AskStarved No x r = r
+waits_so R Seize Free x r = tt
+waits_so R Seize (Held s) x r = tt
+waits_so R (Uncount true) Done x r = tt
+waits_so R (Uncount false) Done x r = tt
+waits_so R Leave Done x r = tt
+waits_so R RefuseUncount Done x r = tt
+waits_so R (RefuseLeave true) Done x r = tt
+waits_so R (RefuseLeave false) Done x r = tt
+waits_so R RefuseNotifyMemory Done x r = tt
+waits_so R RefuseNotifyStarved Done x r = tt
+waits_so R ReleaseNotify Done x r = tt
+waits_so R Clear Done x r = tt
+waits_so R CancelUncount Done x r = tt
+waits_so R CancelLeave Done x r = tt
+waits_so R (Count false false) Done x r = tt
+waits_so R (Count false false) AtLimit x r = tt
+waits_so R p f x r = absurd x
+
+pub waits : (R : Type 0) (a : Action) (p : Place) (f : Found) → a ≡ action_of p → CanFind a f → AsksNo a f R → IfSome (end_after p f) (λ e. IfPending e R)
+waits R a p f acts x r = waits_so R p f (subst (λ b. CanFind b f) acts x) (subst (λ b. AsksNo b f R) acts r)

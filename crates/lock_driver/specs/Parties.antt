@@ -1,9 +1,12 @@
 -- What a party of a mutex has at a place of its call, and what an action does to that.
-use Rattle.std.specs.Prelude.{◌≡◌, ℕ, IfSome, Bool, true, false, not, ◌==◌, is_some, Option, Some, None, ⊤}
+use Rattle.std.specs.Prelude.{◌≡◌, ℕ, IfSome, IsSomeAnd, Bool, true, false, not, ◌==◌, is_some, Option, Some, None, ⊤}
 use Rattle.lock_driver.specs.declared.mutex_party.MutexParty.{MutexParty}
 use Rattle.lock_place.specs.declared.room.Hold.{Hold}
+use Rattle.futures.specs.Task.{Covers}
+use Rattle.futures.specs.declared.task.context.Context.{Context}
+use Rattle.lock_words.specs.Heard.{IsKept}
 use Rattle.lock_words.specs.Lock.{Lock, Seated}
-use Rattle.lock_words.specs.declared.owed.Owed.{Owed}
+use Rattle.lock_words.specs.declared.duty.Owed.{Owed}
 use Rattle.lock_words.specs.declared.waiting_list.Listed.{Listed}
 use Rattle.lock_world.specs.declared.refusal.Refusal.{Refusal}
 use Rattle.lock_world.specs.declared.refusal.Refusal.TheVariants.{Memory, Starved}
@@ -170,3 +173,18 @@ EndsAt ending.Pending p = CanPoll p
 EndsAt ending.NotFree p = p ≡ Out
 EndsAt ending.GivenBack p = p ≡ Out
 EndsAt (ending.Refused refusal) p = (p ≡ Out) × IsGivenUp refusal
+
+-- The receipt of a party that waits: an entry in the lock's list, which keeps a waker of the task that the context polls; and the task
+-- has registered with the lock's source.
+abbrev pub IsReceipt : Lock → Context → Option Listed → Type 0
+IsReceipt w cx entry = IsSomeAnd entry (λ e. (e.list.id ≡ w.list) × IsKept cx e.keeps) × Covers cx (λ s. s ≡ w.source)
+
+-- a fact of a party that asked in vain
+abbrev pub AsksNo : Action → Found → Type 0 → Type 0
+AsksNo act.Ask No fact = fact
+AsksNo _ _ fact = ⊤
+
+-- a fact of a call that ends pending
+abbrev pub IfPending : End → Type 0 → Type 0
+IfPending ending.Pending fact = fact
+IfPending _ fact = ⊤

@@ -1,6 +1,8 @@
 //! The mutex's program, carried out on a mutex's words and waiting list.
 
 ghost use Rattle.std.specs.Prelude.{◌≡◌, Bool, true, false, not, Option, Some, None, IfSome, IfNone, IsSome, is_some};
+ghost use Rattle.futures.specs.Task.{Keeps};
+ghost use Rattle.lock_driver.specs.Parties.{IsReceipt, IfPending, AsksNo};
 ghost use Rattle.lock_words.specs.Lock.{cleared};
 ghost use Rattle.lock_words.specs.Tries.{Holds};
 ghost use Rattle.mutex_program.specs.Program.{rest_at, start_of, action_of, next_of};
@@ -12,14 +14,18 @@ ghost use Rattle.mutex_program.specs.declared.program.Next.TheVariants as next;
 ghost use Rattle.mutex_program.specs.declared.program.Place.TheVariants as at;
 
 use crate::carries::Carries;
-use futures::task::Waker;
+use futures::task::Context;
 use lock_words::{
     Counting, Heard, Hold, ListId, Listed, Owed, Seat, Setting, Taking, TakingAlone, Words,
+    nothing, put,
 };
 use mutex_program::calls::{End, LockCall};
 use mutex_program::program::{Action, Found, Next, Place, action_at, decide, start};
-use std::mem;
 use std::sync::Wait;
+use std::time::{Clock, Duration, Instant};
+
+/// How long a waiter is overtaken by newcomers before it counts as starved, in microseconds.
+const PATIENCE: u64 = 500;
 
 /// A mutex without its runtime: its words, with the value, and its waiting list.
 pub struct RawMutex<T> {
@@ -45,10 +51,8 @@ pub struct MutexParty<T> {
     pub entry: Option<Listed>,
     /// A notification that the party has to pass on, while it has taken one or has given the lock back.
     pub owed: Option<Owed>,
-    /// A waker in hand: what the entry is to keep when the party next asks, and what it kept before.
-    pub waker: Option<Waker>,
-    /// The party has waited for too long.
-    pub is_starving: bool,
+    /// When it first waited. A clock that couldn't be read is tried again.
+    pub since: Option<Instant>,
 }
 
 impl<T> MutexParty<T> {
@@ -65,8 +69,7 @@ impl<T> MutexParty<T> {
             hold,
             entry,
             owed,
-            waker: _,
-            is_starving: _,
+            since: _,
         } = self;
         nothing(entry);
         nothing(owed);
@@ -86,8 +89,7 @@ impl<T> MutexParty<T> {
             hold,
             entry,
             owed,
-            waker: _,
-            is_starving: _,
+            since: _,
         } = self;
         nothing(hold);
         nothing(entry);
@@ -114,8 +116,7 @@ impl<T> RawMutex<T> {
             hold: None,
             entry: None,
             owed: None,
-            waker: None,
-            is_starving: false,
+            since: None,
         }
     }
 
@@ -129,9 +130,12 @@ impl<T> RawMutex<T> {
     {
         straight_rows();
         let mut seat = self.words.sit();
-        match self.words.take(&mut seat) {
+        let mut owed = None;
+        let taking = self.words.take(&mut seat, &mut owed);
+        nothing(owed);
+        match taking {
             Taking::Got(hold) => Some((seat, hold)),
-            Taking::Held(_) | Taking::Starved => {
+            Taking::Held | Taking::Starved => {
                 seat.rise();
                 None
             }
@@ -142,24 +146,30 @@ impl<T> RawMutex<T> {
 impl<T> RawMutex<T> {
     ghost use Rattle.lock_driver.specs.Parties.{Stands, EndsAt, CanPoll};
 
-    /// Carries out a call of a party that stands at `place`, until it ends: how it ends, and where the party
-    /// stands then (`ended`), with what it has there (`stands`). The call has to be one that may begin there.
-    pub fn call<R: Wait>(
+    /// Polls a party that stands at `place`, until the poll ends: how it ends, and where the party
+    /// stands then (`ended`), with what it has there (`stands`).
+    ///
+    /// Pending, the party has an entry in the lock's list, which keeps a waker of the task that polls, and the task has
+    /// registered with the lock's source (`pending`).
+    pub fn poll<R: Wait + Clock>(
         &self,
         rt: &R,
+        cx: &mut Context<'_>,
         party: &mut MutexParty<T>,
-        call: LockCall,
         place: Place,
     ) -> (End, Place)
         requires stands { Stands self.now.words party.old place }
-        requires begins { IsSome (start_of call place) }
+        requires begins { CanPoll place }
         ensures stands { Stands self.now.words party.new result.1 }
         ensures ended { EndsAt result.0 result.1 }
+        ensures pending { IfPending result.0 (IsReceipt self.now.words cx.new party.new.entry) }
+        ensures kept { Keeps cx.old cx.new }
     {
-        let Some(first) = start(call, place) else {
-            unreachable!()
-        };
-        party.drive(self, rt, first)
+        let (end, place) = party.call(self, rt, cx, LockCall::Poll, place);
+        if let End::Pending = end {
+            party.waits(rt);
+        }
+        (end, place)
     }
 
     /// Gives the lock back by the seat that holds it, with the right to its value. The program of a release has no
@@ -221,27 +231,6 @@ fn cancel_rows()
     ensures out { (start_of calls.Cancel at.Out ≡ Some at.Out) × (next_of at.Out finds.Done ≡ next.End ends.GivenBack) }
 {}
 
-// Fills what is empty.
-fn put<X>(place: &mut Option<X>, value: X)
-    requires { is_some place.old ≡ false }
-    ensures { place.new ≡ Some value }
-{
-    match mem::replace(place, Some(value)) {
-        None => {}
-        Some(_) => unreachable!(),
-    }
-}
-
-// Ends what is empty.
-fn nothing<X>(none: Option<X>)
-    requires { is_some none ≡ false }
-{
-    match none {
-        None => {}
-        Some(_) => unreachable!(),
-    }
-}
-
 // A duty to notify, if there was none.
 fn owe(owed: &mut Option<Owed>, list: ListId)
     requires { IfSome owed.old (λ o. o.list.id ≡ list.id) }
@@ -258,6 +247,8 @@ impl<T> Carries for MutexParty<T> {
 
     type Shared = RawMutex<T>;
 
+    type Call = LockCall;
+
     type Place = Place;
 
     type Found = Found;
@@ -266,12 +257,26 @@ impl<T> Carries for MutexParty<T> {
 
     ghost stands = { λ raw party place. Stands raw.words party place };
 
+    ghost first_place = { start_of };
+
     ghost place_after = { next_place };
 
     ghost end_after = { ended_by };
 
-    fn act<R: Wait>(&mut self, shared: &RawMutex<T>, rt: &R, place: Place) -> Option<Found> {
-        self.carry_out(shared, rt, action_at(place))
+    ghost tells = { λ raw cx party end. IfPending end (IsReceipt raw.words cx party.entry) };
+
+    fn start(call: LockCall, place: Place) -> Option<Place> {
+        start(call, place)
+    }
+
+    fn act<R: Wait + Clock>(
+        &mut self,
+        shared: &RawMutex<T>,
+        rt: &R,
+        cx: &mut Context<'_>,
+        place: Place,
+    ) -> Option<Found> {
+        self.carry_out(shared, rt, cx, action_at(place))
     }
 
     fn decide(place: Place, found: Found) -> (Place, Option<End>) {
@@ -294,34 +299,41 @@ fn rest(place: Place, end: End) -> Place
 }
 
 impl<T> MutexParty<T> {
-    ghost use Rattle.lock_driver.specs.Parties.{IsSeated, IsTied, CanDo, CanFind, after, having_of};
+    ghost use Rattle.lock_driver.specs.Parties.{IsSeated, IsTied, CanDo, CanFind, after, having, having_of, still};
 
     // Carries out one action.
-    fn carry_out<R: Wait>(&mut self, raw: &RawMutex<T>, rt: &R, action: Action) -> Option<Found>
+    fn carry_out<R: Wait + Clock>(
+        &mut self,
+        raw: &RawMutex<T>,
+        rt: &R,
+        cx: &mut Context<'_>,
+        action: Action,
+    ) -> Option<Found>
         requires seated { IsSeated raw.now.words self.old.seat self.old.hold }
         requires tied { IsTied raw.now.words.list self.old.entry self.old.owed }
         requires can { CanDo action (having_of self.old.seat self.old.entry self.old.owed) }
         ensures seated { IsSeated raw.now.words self.new.seat self.new.hold }
         ensures tied { IsTied raw.now.words.list self.new.entry self.new.owed }
-        ensures found { IfSome result (λ found. CanFind action found × (having_of self.new.seat self.new.entry self.new.owed ≡ after action found (having_of self.old.seat self.old.entry self.old.owed))) }
+        ensures found { IfSome result (λ found. CanFind action found × (having_of self.new.seat self.new.entry self.new.owed ≡ after action found (having_of self.old.seat self.old.entry self.old.owed)) × AsksNo action found (IsReceipt raw.now.words cx.new self.new.entry)) }
         ensures again { IfNone result (having_of self.new.seat self.new.entry self.new.owed ≡ having_of self.old.seat self.old.entry self.old.owed) }
+        ensures kept { Keeps cx.old cx.new }
     {
         match action {
             Action::Nothing => Some(Found::Done),
-            Action::Take => Some(self.take(raw)),
+            Action::Take => Some(self.take(raw, rt)),
             Action::TakeAlone => Some(self.take_alone(raw)),
             Action::Set => Some(self.set(raw)),
             Action::Count => self.count(raw),
             Action::Uncount => Some(self.uncount(raw)),
             Action::Clear => Some(self.clear(raw)),
             Action::Join => Some(self.join(raw, rt)),
-            Action::Ask => Some(self.ask(raw, rt)),
+            Action::Ask => Some(self.ask(raw, rt, cx)),
             Action::Leave => Some(self.leave(raw, rt)),
             Action::Notify => Some(self.notify(raw, rt)),
         }
     }
 
-    fn take(&mut self, raw: &RawMutex<T>) -> Found
+    fn take<R: Clock>(&mut self, raw: &RawMutex<T>, rt: &R) -> Found
         requires seated { IsSeated raw.now.words self.old.seat self.old.hold }
         requires tied { IsTied raw.now.words.list self.old.entry self.old.owed }
         requires idle { self.old.seat.holds ≡ false }
@@ -329,20 +341,32 @@ impl<T> MutexParty<T> {
         ensures tied { IsTied raw.now.words.list self.new.entry self.new.owed }
         ensures found { CanFind does.Take result × (having_of self.new.seat self.new.entry self.new.owed ≡ after does.Take result (having_of self.old.seat self.old.entry self.old.owed)) }
     {
-        match raw.words.take(&mut self.seat) {
+        let owes = self.owed.is_some();
+        match raw.words.take(&mut self.seat, &mut self.owed) {
             Taking::Got(hold) => self.got(raw, hold),
-            Taking::Held(held) => {
-                if self.is_starving || self.entry.is_some() {
-                    if let Some(owed) = self.owed.take() {
-                        owed.leave(&held);
-                    }
-                }
-                Found::Held {
-                    starving: self.is_starving,
-                }
-            }
+            Taking::Held => self.finds_held(raw, rt, owes),
             Taking::Starved => Found::SomeStarved,
         }
+    }
+
+    // A take found the lock held. A party that took a notification, and has not waited for too long, joins the list with it: if
+    // its entry is refused, it has to notify.
+    fn finds_held<R: Clock>(&mut self, raw: &RawMutex<T>, rt: &R, owes: bool) -> Found
+        requires seated { IsSeated raw.now.words self.old.seat self.old.hold }
+        requires tied { IsTied raw.now.words.list self.old.entry self.old.owed }
+        requires owed { self.old.owed ≡ None }
+        ensures seated { IsSeated raw.now.words self.new.seat self.new.hold }
+        ensures tied { IsTied raw.now.words.list self.new.entry self.new.owed }
+        ensures found { (starving : Bool) × (result ≡ finds.Held starving) × (having_of self.new.seat self.new.entry self.new.owed ≡ having self.old.seat.holds self.old.seat.starved (is_some self.old.entry) (still owes (is_some self.old.entry) starving)) }
+    {
+        if !owes || self.entry.is_some() {
+            return Found::Held { starving: false };
+        }
+        let starving = has_waited_long(rt, &self.since);
+        if !starving {
+            put(&mut self.owed, Owed::new(raw.words.list().id()));
+        }
+        Found::Held { starving }
     }
 
     fn take_alone(&mut self, raw: &RawMutex<T>) -> Found
@@ -353,14 +377,9 @@ impl<T> MutexParty<T> {
         ensures tied { IsTied raw.now.words.list self.new.entry self.new.owed }
         ensures found { CanFind does.TakeAlone result × (having_of self.new.seat self.new.entry self.new.owed ≡ after does.TakeAlone result (having_of self.old.seat self.old.entry self.old.owed)) }
     {
-        match raw.words.take_alone(&mut self.seat) {
+        match raw.words.take_alone(&mut self.seat, &mut self.owed) {
             TakingAlone::Got(hold) => self.got(raw, hold),
-            TakingAlone::Held(held) => {
-                if let Some(owed) = self.owed.take() {
-                    owed.leave(&held);
-                }
-                Found::Held { starving: false }
-            }
+            TakingAlone::Held => Found::Held { starving: false },
             TakingAlone::FreeWithOthers => Found::SomeStarved,
         }
     }
@@ -393,7 +412,7 @@ impl<T> MutexParty<T> {
                 self.is_counted(raw);
                 Some(Found::Done)
             }
-            Counting::AtLimit => {
+            Counting::AtLimit { .. } => {
                 if self.entry.is_none() {
                     owe(&mut self.owed, raw.words.list().id());
                 }
@@ -449,7 +468,7 @@ impl<T> MutexParty<T> {
         }
     }
 
-    fn ask<R: Wait>(&mut self, raw: &RawMutex<T>, rt: &R) -> Found
+    fn ask<R: Wait>(&mut self, raw: &RawMutex<T>, rt: &R, cx: &mut Context<'_>) -> Found
         requires seated { IsSeated raw.now.words self.old.seat self.old.hold }
         requires tied { IsTied raw.now.words.list self.old.entry self.old.owed }
         requires listed { IsSome self.old.entry }
@@ -457,11 +476,13 @@ impl<T> MutexParty<T> {
         ensures seated { IsSeated raw.now.words self.new.seat self.new.hold }
         ensures tied { IsTied raw.now.words.list self.new.entry self.new.owed }
         ensures found { CanFind does.Ask result × (having_of self.new.seat self.new.entry self.new.owed ≡ after does.Ask result (having_of self.old.seat self.old.entry self.old.owed)) }
+        ensures waits { AsksNo does.Ask result (IsReceipt raw.now.words cx.new self.new.entry) }
+        ensures kept { Keeps cx.old cx.new }
     {
         let Some(entry) = self.entry.take() else {
             unreachable!()
         };
-        match raw.words.list().ask(rt, entry, &mut self.waker) {
+        match raw.words.poll(rt, entry, cx) {
             Heard::Notified(owed) => {
                 put(&mut self.owed, owed);
                 Found::Yes
@@ -512,10 +533,9 @@ impl<T> MutexParty<T> {
         ensures tied { IsTied raw.now.words.list self.new.entry self.new.owed }
         ensures found { (result ≡ finds.Free) × (self.new.seat ≡ self.old.seat) × (self.new.entry ≡ self.old.entry) × (self.new.owed ≡ None) }
     {
-        let _ = raw;
         put(&mut self.hold, hold);
         if let Some(owed) = self.owed.take() {
-            owed.put_off(&self.seat);
+            owed.put_off(&raw.words, &self.seat);
         }
         Found::Free
     }
@@ -523,6 +543,7 @@ impl<T> MutexParty<T> {
     // The seat is counted as starved: in the list it waits, and else it owes a look on behalf of the others.
     fn is_counted(&mut self, raw: &RawMutex<T>)
         requires starved { self.old.seat.starved ≡ true }
+        requires lock { self.old.seat.lock ≡ raw.now.words.lock }
         requires tied { IsTied raw.now.words.list self.old.entry self.old.owed }
         ensures tied { IsTied raw.now.words.list self.new.entry self.new.owed }
         ensures same { (self.new.seat ≡ self.old.seat) × (self.new.hold ≡ self.old.hold) × (self.new.entry ≡ self.old.entry) }
@@ -532,9 +553,31 @@ impl<T> MutexParty<T> {
             None => owe(&mut self.owed, raw.words.list().id()),
             Some(entry) => {
                 if let Some(owed) = self.owed.take() {
-                    owed.wait(&self.seat, entry);
+                    owed.wait(&raw.words, &self.seat, entry);
                 }
             }
         }
+    }
+}
+
+impl<T> MutexParty<T> {
+    // It waits, for the first time or still.
+    fn waits<R: Clock>(&mut self, rt: &R)
+        ensures { (self.new.seat ≡ self.old.seat) × (self.new.hold ≡ self.old.hold) × (self.new.entry ≡ self.old.entry) × (self.new.owed ≡ self.old.owed) }
+    {
+        if self.since.is_none() {
+            self.since = Instant::now(rt).ok();
+        }
+    }
+}
+
+// More than 500 microseconds since then. A clock that can't be read says no.
+fn has_waited_long<R: Clock>(rt: &R, since: &Option<Instant>) -> bool {
+    match since {
+        Some(since) => match since.elapsed(rt) {
+            Ok(waited) => waited > Duration::from_micros(PATIENCE),
+            Err(_) => false,
+        },
+        None => false,
     }
 }

@@ -1,5 +1,7 @@
 //! What the tries find.
 
+ghost use Rattle.std.specs.Prelude.{◌≡◌, ◌%◌};
+
 use lock_place::Hold;
 
 /// What [`take`](crate::Words::take) found.
@@ -7,7 +9,7 @@ pub enum Taking<T> {
     /// The lock was free and nobody was starved. The seat holds it now.
     Got(Hold<T>),
     /// The lock was held, and nobody was starved.
-    Held(WasHeld),
+    Held,
     /// Somebody was starved, whether the lock was held or not.
     Starved,
 }
@@ -17,7 +19,7 @@ pub enum TakingAlone<T> {
     /// The lock was free and one waiter was starved. The seat holds it now.
     Got(Hold<T>),
     /// The lock was held.
-    Held(WasHeld),
+    Held,
     /// The lock was free, and the number of the starved was not one.
     FreeWithOthers,
 }
@@ -30,14 +32,18 @@ pub enum Setting<T> {
     WasSet,
 }
 
-/// A try found the lock held. Whoever held it notifies once it has given the lock back.
+/// A step found the lock held.
 #[derive(Drop)]
 pub struct WasHeld {
     seal: (),
 }
 
 impl WasHeld {
-    pub(crate) fn new() -> WasHeld {
+    // The word was this.
+    pub(crate) fn of(word: u64) -> WasHeld
+        requires { word % 2 ≡ 1 }
+    {
+        let _ = word;
         WasHeld { seal: () }
     }
 }
@@ -47,8 +53,11 @@ impl WasHeld {
 pub enum Counting {
     /// The seat is counted as starved now.
     Counted,
-    /// As many are starved as may be.
-    AtLimit,
+    /// So many are starved, as may be.
+    AtLimit {
+        /// How many are.
+        starved: u64,
+    },
     /// The word changed meanwhile: try again.
     Changed,
 }

@@ -1,15 +1,15 @@
 //! The waiting list of a lock that threads share.
 
-ghost use Rattle.std.specs.Prelude.{◌≡◌, ℕ, ◌≤◌, IfOk};
-ghost use Rattle.lock_words.specs.Heard.{IsOf};
+ghost use Rattle.std.specs.Prelude.{◌≡◌, ℕ, ◌≤◌, IfOk, IfSome};
+ghost use Rattle.lock_words.specs.Heard.{IsOf, OnPolled, OnWaiting, IsTaskOf, KeepsAt, IsKept};
 ghost use Rattle.futures.specs.Task.{Covers, Keeps};
 
+use crate::duty::{Flag, Owed};
 use crate::list_id::ListId;
-use crate::owed::Owed;
+use crate::task_id::TaskId;
 use futures::task::{Context, Poll, Source, Waker};
-use lock_event::{Asked, EntryId, Event, Memory};
+use lock_event::{Asked, EntryId, Event, Mark, Memory};
 use std::alloc::Global;
-use std::sync::atomic::{AtomicBool, Ordering};
 use std::sync::{Mutex, Wait};
 
 /// What an entry keeps to be woken with: the kit's [`Waker`], and a test's own.
@@ -24,15 +24,24 @@ impl Wakes for Waker {
     }
 }
 
-/// An entry in a list. It has no `Drop`: only [`WaitingList::leave`] ends it, and a
-/// [`WaitingList::ask`] that was notified.
+/// An entry in a list.
+///
+/// Only [`WaitingList::leave`] ends it, and a poll that finds it notified: it has no `Drop`. In clauses it is its list,
+/// and the task whose waker the entry keeps, once it has been polled.
 pub struct Listed {
     id: EntryId,
-    /// The list.
     pub list: ListId,
+    pub keeps: Option<TaskId>,
 }
 
-/// What an entry that asked has heard.
+impl Listed {
+    /// The id of the entry, as [`WaitingList::entry`] shows it.
+    pub fn id(&self) -> EntryId {
+        self.id
+    }
+}
+
+/// What an entry has heard.
 pub enum Heard {
     /// It was notified, and has left the list. The notification goes on, or ends with the lock.
     Notified(Owed),
@@ -40,19 +49,26 @@ pub enum Heard {
     Waiting(Listed),
 }
 
-/// The waiting list of a lock that threads share: an event list under a short lock of its own, with the source
-/// that waiting tasks register with.
+/// What a poll of an entry found, under the list's lock.
+pub enum Polled {
+    /// The entry was notified, and has left with what it kept.
+    Notified(Option<Waker>),
+    /// The entry waits, and keeps a waker of this task.
+    Waiting(Option<TaskId>),
+}
+
+/// The waiting list of a lock that threads share: an event list under a short lock of its own.
 ///
-/// Each call takes that lock for one function of the list and lets it go again. Wakers are called and dropped when the lock has been let go. A
-/// waker of the kit's `futures` that is dropped wakes its task, so [`WaitingList::ask`] hands the old one out,
-/// to be registered into, and none is replaced in vain.
+/// Each call takes that lock for one function of the list and releases it. Wakers are called when it has been released, each
+/// once. A waker of the kit's `futures` that is dropped wakes its task, so a poll registers into the waker that the entry
+/// keeps, and none is replaced in vain.
 ///
 /// No contract sees through the list's lock: what the calls do to the list is what the functions of [`Event`]
 /// say, and tested.
 pub struct WaitingList<W: Wakes> {
-    source: Source,
-    // Written under the list's lock alone.
-    is_listed: AtomicBool,
+    // Which list it is. Nobody registers with it.
+    name: Source,
+    is_listed: Flag,
     entries: Mutex<Event<W>>,
 }
 
@@ -60,7 +76,7 @@ pub struct WaitingList<W: Wakes> {
 impl<W: Wakes> Drop for WaitingList<W> {
     fn drop(self) {
         let WaitingList {
-            source: _,
+            name: _,
             is_listed: _,
             entries: _,
         } = self;
@@ -68,87 +84,105 @@ impl<W: Wakes> Drop for WaitingList<W> {
 }
 
 impl<W: Wakes> WaitingList<W> {
-    /// The empty list. It takes no memory.
+    /// Creates an empty list. It takes no memory.
     pub fn new(alloc: Global) -> WaitingList<W> {
         WaitingList {
-            source: Source::new(),
-            is_listed: AtomicBool::new(false),
+            name: Source::new(),
+            is_listed: Flag::new(),
             entries: Mutex::new(Event::new(alloc)),
         }
     }
 
-    /// Which list it is.
+    /// Returns which list it is.
     pub fn id(&self) -> ListId
-        ensures { result.id ≡ self.now.source.id }
+        ensures { result.id ≡ self.now.name.id }
     {
-        ListId::of(&self.source)
+        ListId::of(&self.name)
     }
 
-    /// Whether the list had entries at some moment of the call. It waits for nobody.
+    /// Returns whether the list had entries at some moment of the call. It waits for nobody.
     ///
-    /// Whoever joins says so before the list's lock is let go. So if a party joins and then looks at its lock
-    /// again, and another gives the lock back and then asks here, one of the two finds the other.
+    /// Whoever joins says so before the list's lock is released. So if a party joins and then looks at its lock
+    /// again, and another releases the lock and then asks here, one of the two finds the other.
     pub fn is_listed(&self) -> bool {
-        self.is_listed.load(Ordering::SeqCst)
+        self.is_listed.is_set()
     }
 
-    /// A new waiting entry joins at the back, with no waker. [`Memory`] comes only where memory was refused,
+    /// Returns the entry at this index, counted from the front, with its mark. It is for tests.
+    pub fn entry<R: Wait>(&self, rt: &R, index: usize) -> Option<(EntryId, Mark)> {
+        let entries = self.entries.lock(rt);
+        if index < entries.len() {
+            let entry = entries.entry(index);
+            Some((entry.key.id, entry.mark))
+        } else {
+            None
+        }
+    }
+
+    /// Adds a waiting entry at the back, with no waker. [`Memory`] comes only if memory was refused,
     /// and the list then is as it was.
     pub fn join<R: Wait>(&self, rt: &R) -> Result<Listed, Memory>
-        ensures { IfOk result (λ entry. entry.list.id ≡ self.now.source.id) }
+        ensures { IfOk result (λ entry. entry.list.id ≡ self.now.name.id) }
     {
-        let mut entries = self.entries.lock(rt);
-        match entries.listen() {
-            Ok(id) => {
-                self.is_listed.store(true, Ordering::SeqCst);
-                Ok(Listed {
-                    id,
-                    list: self.id(),
-                })
-            }
+        match join_locked(&mut self.entries.lock(rt), &self.is_listed) {
+            Ok(id) => Ok(Listed {
+                id,
+                list: self.id(),
+                keeps: None,
+            }),
             Err(memory) => Err(memory),
         }
     }
 
-    /// Asks for the notification of this entry, by [`Event::ask`]. If it has one it leaves the list with it, and
-    /// the answer is true. If not, it keeps the waker in hand to be woken with, and what it kept before is in
-    /// hand instead. An entry that isn't there any more counts as notified, so that nobody waits for it.
+    /// Asks for the notification of this entry, by [`Event::ask`], with a waker in hand. A notified entry leaves the list. A
+    /// waiting one keeps the waker, and what it kept before is in hand instead. It is [`WaitingList::poll`] for other wakers
+    /// than the kit's.
     pub fn ask<R: Wait>(&self, rt: &R, entry: Listed, waker: &mut Option<W>) -> Heard
-        requires { entry.list.id ≡ self.now.source.id }
-        ensures { IsOf self.now.source.id result }
+        requires { entry.list.id ≡ self.now.name.id }
+        ensures { IsOf self.now.name.id result }
     {
-        let asked = self.ask_locked(&mut self.entries.lock(rt), entry.id, waker.take());
-        told(asked, entry, waker)
-    }
-
-    // As `ask`, under the list's lock.
-    fn ask_locked(&self, entries: &mut Event<W>, id: EntryId, waker: Option<W>) -> Asked<W> {
-        let asked = entries.ask(id, waker);
-        self.say_if_empty(entries);
-        asked
-    }
-
-    // Under the list's lock: says that no entry is left, if none is.
-    fn say_if_empty(&self, entries: &Event<W>) {
-        if entries.is_empty() {
-            self.is_listed.store(false, Ordering::SeqCst);
+        let Listed { id, list, keeps: _ } = entry;
+        let asked = ask_locked(
+            &mut self.entries.lock(rt),
+            &self.is_listed,
+            id,
+            waker.take(),
+        );
+        match asked {
+            Asked::Waiting { kept } => {
+                *waker = kept;
+                Heard::Waiting(Listed {
+                    id,
+                    list,
+                    keeps: None,
+                })
+            }
+            Asked::Notified { kept, unused } => {
+                *waker = unused.or(kept);
+                Heard::Notified(Owed::new(list))
+            }
+            Asked::Unlisted { unused } => {
+                *waker = unused;
+                Heard::Notified(Owed::new(list))
+            }
         }
     }
 
-    /// This entry leaves the list without asking. A notification that it had goes on to the next, whose waker
+    /// Takes this entry out of the list without asking. A notification that it had goes on to the next, whose waker
     /// is called. Its own waker is dropped, by which the kit wakes its task once more.
     pub fn leave<R: Wait>(&self, rt: &R, entry: Listed)
-        requires { entry.list.id ≡ self.now.source.id }
+        requires { entry.list.id ≡ self.now.name.id }
     {
-        let Listed { id, list: _ } = entry;
-        let (kept, due) = {
-            let mut entries = self.entries.lock(rt);
-            let kept = entries.withdraw(id);
-            self.say_if_empty(&entries);
-            (kept, entries.next_waker())
-        };
+        let Listed {
+            id,
+            list: _,
+            keeps: _,
+        } = entry;
+        let (kept, due) = leave_locked(&mut self.entries.lock(rt), &self.is_listed, id);
         drop(kept);
-        wake(due);
+        if let Some(waker) = due {
+            waker.wake();
+        }
     }
 
     /// Notifies waiting entries from the front on until `n` are marked or none waits, and calls their wakers,
@@ -156,12 +190,10 @@ impl<W: Wakes> WaitingList<W> {
     #[inline]
     pub fn notify<R: Wait>(&self, rt: &R, n: usize, owed: Owed)
         requires some { 1 ≤ n }
-        requires list { owed.list.id ≡ self.now.source.id }
+        requires list { owed.list.id ≡ self.now.name.id }
     {
-        if self.is_listed() {
+        if let Some(owed) = owed.unless_listed(&self.is_listed) {
             self.notify_listed(rt, n, owed);
-        } else {
-            owed.pay();
         }
     }
 
@@ -179,54 +211,114 @@ impl<W: Wakes> WaitingList<W> {
             waker.wake();
             due = self.entries.lock(rt).next_waker();
         }
-        wake(due);
+        if let Some(waker) = due {
+            waker.wake();
+        }
     }
 }
 
 impl WaitingList<Waker> {
-    /// Leaves the task's waker in `waker`, and registers with the list's source. A waker of the same task that
-    /// is there already stays.
-    pub fn register(&self, cx: &mut Context<'_>, waker: &mut Option<Waker>)
-        ensures registered { Covers cx.new (λ s. s ≡ self.now.source.id) }
+    /// Polls this entry, for the task of `cx`. A notified entry leaves the list. A waiting one keeps a waker of the task,
+    /// which has registered with `source`; a waker of the same task that it keeps already stays.
+    ///
+    /// A waiting entry is the receipt of that (`waits`). An entry that isn't there counts as notified.
+    pub fn poll<R: Wait>(
+        &self,
+        rt: &R,
+        entry: Listed,
+        source: &Source,
+        cx: &mut Context<'_>,
+    ) -> Heard
+        requires { entry.list.id ≡ self.now.name.id }
+        ensures list { IsOf self.now.name.id result }
+        ensures waits { OnWaiting result (λ entry. IsKept cx.new entry.keeps × Covers cx.new (λ s. s ≡ source.now.id)) }
         ensures kept { Keeps cx.old cx.new }
     {
-        let _: Poll<()> = cx.register(&self.source, waker);
+        let Listed { id, list, keeps: _ } = entry;
+        let polled = poll_locked(&mut self.entries.lock(rt), &self.is_listed, id, source, cx);
+        match polled {
+            Polled::Waiting(keeps) => Heard::Waiting(Listed { id, list, keeps }),
+            Polled::Notified(waker) => {
+                drop(waker);
+                Heard::Notified(Owed::new(list))
+            }
+        }
     }
 }
 
-// Notifies so many entries, under the list's lock: the first waker that is due.
+// The calls as they are under the list's lock.
+
+fn join_locked<W: Wakes>(entries: &mut Event<W>, is_listed: &Flag) -> Result<EntryId, Memory> {
+    let joined = entries.listen();
+    is_listed.follow(entries);
+    joined
+}
+
+fn ask_locked<W: Wakes>(
+    entries: &mut Event<W>,
+    is_listed: &Flag,
+    id: EntryId,
+    waker: Option<W>,
+) -> Asked<W> {
+    let asked = entries.ask(id, waker);
+    is_listed.follow(entries);
+    asked
+}
+
+// What the entry kept, and the waker that is due then.
+fn leave_locked<W: Wakes>(
+    entries: &mut Event<W>,
+    is_listed: &Flag,
+    id: EntryId,
+) -> (Option<W>, Option<W>) {
+    let kept = entries.withdraw(id);
+    is_listed.follow(entries);
+    (kept, entries.next_waker())
+}
+
+// Notifies so many entries: the first waker that is due.
 fn notify_locked<W: Wakes>(entries: &mut Event<W>, n: usize, owed: Owed) -> Option<W>
     requires { 1 ≤ n }
 {
-    entries.notify(n);
-    owed.pay();
+    owed.notify(entries, n);
     entries.next_waker()
 }
 
-// Puts the waker that an entry hands back in hand, and says whether the entry has left the list.
-fn told<W: Wakes>(asked: Asked<W>, entry: Listed, waker: &mut Option<W>) -> Heard
-    ensures { IsOf entry.list.id result }
+// By the contract an entry that waits keeps a waker of the task that is answered.
+fn poll_locked(
+    entries: &mut Event<Waker>,
+    is_listed: &Flag,
+    id: EntryId,
+    source: &Source,
+    cx: &mut Context<'_>,
+) -> Polled
+    ensures waits { OnPolled result (λ keeps. KeepsAt id keeps entries.new.entries × IsKept cx.new keeps × Covers cx.new (λ s. s ≡ source.now.id)) }
+    ensures kept { Keeps cx.old cx.new }
 {
-    match asked {
-        Asked::Waiting { kept } => {
-            *waker = kept;
-            Heard::Waiting(entry)
+    let mut waker = match entries.ask(id, None) {
+        Asked::Waiting { kept } => kept,
+        Asked::Notified { kept, .. } => {
+            is_listed.follow(entries);
+            return Polled::Notified(kept);
         }
-        Asked::Notified { kept, unused } => {
-            *waker = unused.or(kept);
-            let Listed { id: _, list } = entry;
-            Heard::Notified(Owed::new(list))
-        }
-        Asked::Unlisted { unused } => {
-            *waker = unused;
-            let Listed { id: _, list } = entry;
-            Heard::Notified(Owed::new(list))
-        }
+        Asked::Unlisted { .. } => return Polled::Notified(None),
+    };
+    let _: Poll<()> = cx.register(source, &mut waker);
+    let keeps = task_of(&waker);
+    match entries.ask(id, waker) {
+        Asked::Waiting { .. } => Polled::Waiting(keeps),
+        // It waited just now.
+        Asked::Notified { kept, .. } => Polled::Notified(kept),
+        Asked::Unlisted { unused } => Polled::Notified(unused),
     }
 }
 
-fn wake<W: Wakes>(due: Option<W>) {
-    if let Some(waker) = due {
-        waker.wake();
+// The task of a waker, if there is one.
+fn task_of(waker: &Option<Waker>) -> Option<TaskId>
+    ensures { IsTaskOf waker.now result }
+{
+    match waker {
+        Some(waker) => Some(TaskId::of(waker)),
+        None => None,
     }
 }

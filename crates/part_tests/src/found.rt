@@ -7,7 +7,7 @@ ghost use Rattle.std.specs.Prelude.{◌≡◌, true, false, IfSome, IfNone};
 ghost use Rattle.lock_words.specs.Lock.{cleared};
 ghost use Rattle.lock_words.specs.Tries.{Holds};
 
-use lock_words::{Counting, Hold, Seat, Setting, Taking, TakingAlone, Words};
+use lock_words::{Counting, Hold, Seat, Setting, Taking, TakingAlone, Words, nothing};
 use std::mem;
 use std::sync::Wait;
 
@@ -82,9 +82,12 @@ fn taken_by<T>(words: &Words<T>, seat: &mut Seat<T>) -> Option<Hold<T>>
     ensures not { IfNone result (seat.new.holds ≡ false) }
     ensures starved { seat.new.starved ≡ seat.old.starved }
 {
-    match words.take(seat) {
+    let mut owed = None;
+    let taking = words.take(seat, &mut owed);
+    nothing(owed);
+    match taking {
         Taking::Got(hold) => Some(hold),
-        Taking::Held(_) | Taking::Starved => None,
+        Taking::Held | Taking::Starved => None,
     }
 }
 
@@ -110,7 +113,7 @@ fn counted<T>(words: &Words<T>) -> Option<Starved<'_, T>> {
     let mut seat = words.sit();
     match words.count(&mut seat) {
         Counting::Counted => Some(Starved { words, seat }),
-        Counting::AtLimit | Counting::Changed => {
+        Counting::AtLimit { .. } | Counting::Changed => {
             seat.rise();
             None
         }
@@ -120,12 +123,15 @@ fn counted<T>(words: &Words<T>) -> Option<Starved<'_, T>> {
 // What `take` finds. If it got the lock, gives it back.
 fn by_take<T, R: Wait>(rt: &R, words: &Words<T>) -> Found {
     let mut seat = words.sit();
-    let found = match words.take(&mut seat) {
+    let mut owed = None;
+    let taking = words.take(&mut seat, &mut owed);
+    nothing(owed);
+    let found = match taking {
         Taking::Got(hold) => {
             give_back(rt, words, &mut seat, hold);
             Found::Got
         }
-        Taking::Held(_) => Found::Held,
+        Taking::Held => Found::Held,
         Taking::Starved => Found::Starved,
     };
     seat.rise();
@@ -135,12 +141,15 @@ fn by_take<T, R: Wait>(rt: &R, words: &Words<T>) -> Found {
 // What `take_alone` finds. If it got the lock, gives it back.
 fn by_take_alone<T, R: Wait>(rt: &R, words: &Words<T>) -> Found {
     let mut seat = words.sit();
-    let found = match words.take_alone(&mut seat) {
+    let mut owed = None;
+    let taking = words.take_alone(&mut seat, &mut owed);
+    nothing(owed);
+    let found = match taking {
         TakingAlone::Got(hold) => {
             give_back(rt, words, &mut seat, hold);
             Found::Got
         }
-        TakingAlone::Held(_) => Found::Held,
+        TakingAlone::Held => Found::Held,
         TakingAlone::FreeWithOthers => Found::FreeWithOthers,
     };
     seat.rise();
