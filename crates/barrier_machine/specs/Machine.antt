@@ -9,7 +9,6 @@ use Rattle.lock_world.specs.declared.moves.Answer.{Answer}
 use Rattle.lock_world.specs.declared.moves.Answer.TheVariants as answer
 use Rattle.lock_world.specs.declared.moves.Call.{Call}
 use Rattle.lock_world.specs.declared.moves.Call.TheVariants as call
-use Rattle.lock_world.specs.declared.moves.Got.TheVariants.{Plain}
 use Rattle.lock_world.specs.declared.moves.Inputs.{Inputs}
 use Rattle.lock_world.specs.declared.moves.What.{What}
 use Rattle.lock_world.specs.declared.standing.Kind.{Kind}
@@ -22,18 +21,18 @@ use Rattle.lock_world.specs.declared.standing.Within.{Within}
 use Rattle.lock_world.specs.Standings.{inputs_of}
 use Rattle.lock_table.specs.Ends.{answer_of}
 use Rattle.mutex_machine.specs.Mutex.{Mutex, new_mutex, course_at, IsMutex, holders, steps_left as lock_steps_left}
-use Rattle.barrier_program.specs.declared.program.Aim.TheVariants as aim
-use Rattle.barrier_program.specs.declared.program.Found.{Found}
-use Rattle.barrier_program.specs.declared.program.Next.{Next}
-use Rattle.barrier_program.specs.declared.program.Next.TheVariants as next
-use Rattle.barrier_program.specs.declared.program.Place.{Place}
-use Rattle.barrier_program.specs.declared.program.Place.TheVariants.{EnterLock, WaitLock, CancelLock, CancellingLock, CancelLeave, Abandon}
-use Rattle.barrier_program.specs.declared.program.Position.{Position}
-use Rattle.barrier_program.specs.declared.program.Position.TheVariants.{Out, Made, Locking, Waiting, At}
+use Rattle.sync_program.specs.declared.barrier.Aim.TheVariants as aim
+use Rattle.sync_program.specs.declared.barrier.Found.{Found}
+use Rattle.barrier_program.specs.Program.{Next}
+use Rattle.lock_program.specs.declared.end.Next.TheVariants as next
+use Rattle.sync_program.specs.declared.barrier.Place.{Place}
+use Rattle.sync_program.specs.declared.barrier.Place.TheVariants.{EnterLock, WaitLock, CancelLock, CancellingLock, CancelLeave, Abandon}
+use Rattle.sync_program.specs.declared.barrier.Position.{Position}
+use Rattle.sync_program.specs.declared.barrier.Position.TheVariants.{Out, Made, Locking, Waiting, At}
 use Rattle.barrier_program.specs.declared.words.Progress.{Progress}
 use Rattle.barrier_program.specs.declared.words.Words.{Words}
 use Rattle.barrier_program.specs.Words.{progress, new_words, IsSound, IsPast, IsWithin, IsFollower}
-use Rattle.barrier_program.specs.Program.{place_for, action_of, next_of, position_after}
+use Rattle.barrier_program.specs.Program.{place_for, action_of, next_of, position_after, got_left}
 use Rattle.barrier_program.specs.Deeds.{Finds, words_after, arrival_after, entries_after}
 use Rattle.barrier_program.specs.Locks.{OnLock}
 use Rattle.barrier_machine.specs.Ranks.{left, left_at, left_then}
@@ -206,8 +205,7 @@ left_after n s p = left_then n (is_own_marked s p) (lock_steps_left s.lock p)
 -- what a call's next is answered
 abbrev pub answer_by : Next → Answer
 answer_by (next.Do x) = answer.Stepped
-answer_by (next.Ready got) = answer.Ready got
-answer_by (next.End e x) = answer_of Plain e
+answer_by (next.End e x) = answer_of (got_left x) e
 
 -- A party does the action of this place, which finds this, and goes where its program says.
 pub record Acts (inputs : Inputs) (p : ℕ) (from : Place) (found : Found) (s t : Barrier) : Type 0 where

@@ -1,17 +1,17 @@
 -- How many steps of a party's call are left, if the others stand still.
 use Rattle.std.specs.Prelude.{ℕ, ◌+◌, if◌then◌else◌, Bool}
-use Rattle.mutex_program.specs.declared.calls.LockCall.TheVariants as lock_call
+use Rattle.lock_program.specs.declared.mutex.LockCall.TheVariants as lock_call
 use Rattle.mutex_machine.specs.Deeds.{most_steps as most_lock_steps}
-use Rattle.barrier_program.specs.declared.program.Aim.{Aim}
-use Rattle.barrier_program.specs.declared.program.Aim.TheVariants as aim
-use Rattle.barrier_program.specs.declared.program.Ending.{Ending}
-use Rattle.barrier_program.specs.declared.program.Ending.TheVariants as ending
-use Rattle.barrier_program.specs.declared.program.Next.{Next}
-use Rattle.barrier_program.specs.declared.program.Next.TheVariants as next
-use Rattle.barrier_program.specs.declared.program.Place.{Place}
-use Rattle.barrier_program.specs.declared.program.Place.TheVariants.{EnterLock, WaitLock, TakeLock, Look, Join, Arrive, Complete, NotifyAll, Check, JoinAgain, ReleaseLock, ReleasingLock, Ask, CancelLock, CancellingLock, CancelLeave, Abandon}
-use Rattle.barrier_program.specs.declared.program.Position.{Position}
-use Rattle.barrier_program.specs.declared.program.Position.TheVariants.{At}
+use Rattle.sync_program.specs.declared.barrier.Aim.{Aim}
+use Rattle.sync_program.specs.declared.barrier.Aim.TheVariants as aim
+use Rattle.sync_program.specs.declared.barrier.Ending.{Ending}
+use Rattle.sync_program.specs.declared.barrier.Ending.TheVariants as ending
+use Rattle.barrier_program.specs.Program.{Next}
+use Rattle.lock_program.specs.declared.end.Next.TheVariants as next
+use Rattle.sync_program.specs.declared.barrier.Place.{Place}
+use Rattle.sync_program.specs.declared.barrier.Place.TheVariants.{EnterLock, WaitLock, TakeLock, Look, Join, Arrive, Complete, NotifyAll, Check, JoinAgain, ReleaseLock, ReleasingLock, Ask, CancelLock, CancellingLock, CancelLeave, Abandon}
+use Rattle.sync_program.specs.declared.barrier.Position.{Position}
+use Rattle.sync_program.specs.declared.barrier.Position.TheVariants.{At}
 
 -- once a poll has the inner lock
 abbrev pub left_with_lock : Aim → ℕ

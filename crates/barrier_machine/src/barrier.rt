@@ -2,22 +2,24 @@
 
 ghost use Rattle.std.specs.Prelude.{◌≡◌, ◌<◌, length, slice_get, replicate, IfOk};
 ghost use Rattle.barrier_program.specs.Program.{place_for as place_for_lem, position_after};
-ghost use Rattle.barrier_program.specs.declared.program.Position.TheVariants.{Out};
+ghost use Rattle.sync_program.specs.declared.barrier.Position.TheVariants.{Out};
 ghost use Rattle.barrier_program.specs.Words.{progress};
 ghost use Rattle.barrier_machine.specs.Machine.{new_barrier, IsBarrier, answer_by, position_at, arrival_at};
 ghost use Rattle.barrier_machine.specs.Waits.{is_counted, wait_of, wait_at};
 
+use barrier_program::calls::{got_left, position_left, start};
 use barrier_program::deeds::carry_out;
-use barrier_program::program::{Aim, Ending, Next, Place, Position, action_at, decide, start};
 use barrier_program::words::{Progress, Words};
 use lock_event::Entry;
+use lock_program::Next;
 use lock_queue::WaitQueue;
-use lock_table::Machine;
+use lock_table::{Machine, answer};
 use lock_world::standing::{Rest, Within};
-use lock_world::{Answer, Call, Got, Inputs, What};
+use lock_world::{Answer, Call, Inputs, What};
 use mutex_machine::Mutex;
 use std::alloc::{AllocError, Global};
 use std::marker::Model;
+use sync_program::barrier::{Aim, Ending, Left, Place, Position, action_at, decide};
 
 /// A barrier, and where each of its parties stands.
 ///
@@ -59,13 +61,12 @@ impl Model for Barrier {
 }
 
 /// Where a party stands after this.
-fn after(next: Next) -> Position
+fn after(next: Next<Place, Left>) -> Position
     ensures { result ≡ position_after next }
 {
     match next {
         Next::Do(place) => Position::At(place),
-        Next::Ready(_) => Position::Out,
-        Next::End(_, position) => position,
+        Next::End(_, left) => position_left(left),
     }
 }
 
@@ -230,13 +231,12 @@ impl Barrier {
 }
 
 /// What a call's next is answered.
-fn answer_to(next: Next) -> Answer
+fn answer_to(next: Next<Place, Left>) -> Answer
     ensures { result ≡ answer_by next }
 {
     match next {
         Next::Do(_) => Answer::Stepped,
-        Next::Ready(got) => Answer::Ready(got),
-        Next::End(end, _) => end.answer(Got::Plain),
+        Next::End(end, left) => answer(end, got_left(left)),
     }
 }
 

@@ -1,17 +1,17 @@
 -- What an action does to the inner lock: a step of its party's call there, or nothing.
 use Rattle.std.specs.Prelude.{◌≡◌, ℕ, ◌<◌, true}
 use Rattle.lock_world.specs.declared.moves.Inputs.{Inputs}
-use Rattle.mutex_program.specs.declared.calls.LockCall.{LockCall}
-use Rattle.mutex_program.specs.declared.calls.Step.{Step as LockStep}
+use Rattle.lock_program.specs.declared.mutex.LockCall.{LockCall}
+use Rattle.lock_program.specs.declared.mutex.Step.{Step as LockStep}
 use Rattle.mutex_machine.specs.Course.{decision, is_told, Begins, GoesOn}
 use Rattle.mutex_machine.specs.Deeds.{decided_by, most_steps}
 use Rattle.mutex_machine.specs.Mutex.{Mutex, course_at, TakenFairly, left_after, steps_left}
 use Rattle.mutex_machine.specs.Conduct.{IsLegal, IsUnrefused, TakesAtOnce, HeedsClock, CountsNobody, HandsOn, BeginsToHandOn}
 use Rattle.mutex_machine.specs.Alone.{HasBegun, HasGoneOn}
-use Rattle.barrier_program.specs.declared.program.Action.{Action}
-use Rattle.barrier_program.specs.declared.program.Action.TheVariants as act
-use Rattle.barrier_program.specs.declared.program.Found.{Found}
-use Rattle.barrier_program.specs.declared.program.Found.TheVariants as found
+use Rattle.sync_program.specs.declared.barrier.Action.{Action}
+use Rattle.sync_program.specs.declared.barrier.Action.TheVariants as act
+use Rattle.sync_program.specs.declared.barrier.Found.{Found}
+use Rattle.sync_program.specs.declared.barrier.Found.TheVariants as found
 
 -- the first step of a call on the inner lock, and all that the mutex says of it
 pub record LockBegins (i : Inputs) (p : ℕ) (c : LockCall) (s : LockStep) (old new : Mutex) : Type 0 where

@@ -1,41 +1,41 @@
--- The places of a barrier's calls: the action at each, and what comes after what it finds.
-use Rattle.std.specs.Prelude.{true, false, Option, Some, None}
+-- What a World's move asks of a barrier's programs, and what is told and left after what comes next.
+use Rattle.std.specs.Prelude.{Option, Some, None}
+use Rattle.lock_program.specs.declared.end.Next.{Next as TableNext}
+use Rattle.lock_program.specs.declared.end.Next.TheVariants as next
 use Rattle.lock_world.specs.declared.moves.Call.{Call}
 use Rattle.lock_world.specs.declared.moves.Call.TheVariants as call
+use Rattle.lock_world.specs.declared.moves.Got.{Got}
 use Rattle.lock_world.specs.declared.moves.Got.TheVariants as got
 use Rattle.lock_world.specs.declared.moves.What.{What}
 use Rattle.lock_world.specs.declared.moves.What.TheVariants.{Begin, Go}
-use Rattle.lock_world.specs.declared.refusal.Refusal.TheVariants.{Memory, Generations}
-use Rattle.lock_table.specs.declared.end.End.TheVariants.{Pending, GivenBack, Refused}
-use Rattle.mutex_program.specs.declared.calls.LockCall.TheVariants as lock_call
-use Rattle.mutex_program.specs.declared.calls.Step.TheVariants as lock_step
-use Rattle.mutex_program.specs.declared.calls.End.TheVariants as lock_end
-use Rattle.barrier_program.specs.declared.program.Action.{Action}
-use Rattle.barrier_program.specs.declared.program.Action.TheVariants as act
-use Rattle.barrier_program.specs.declared.program.Aim.{Aim}
-use Rattle.barrier_program.specs.declared.program.Aim.TheVariants as aim
-use Rattle.barrier_program.specs.declared.program.Ending.{Ending}
-use Rattle.barrier_program.specs.declared.program.Ending.TheVariants as ending
-use Rattle.barrier_program.specs.declared.program.Found.{Found}
-use Rattle.barrier_program.specs.declared.program.Found.TheVariants as found
-use Rattle.barrier_program.specs.declared.program.Next.{Next}
-use Rattle.barrier_program.specs.declared.program.Next.TheVariants as next
-use Rattle.barrier_program.specs.declared.program.Place.{Place}
-use Rattle.barrier_program.specs.declared.program.Place.TheVariants.{EnterLock, WaitLock, TakeLock, Look, Join, Arrive, Complete, NotifyAll, Check, JoinAgain, ReleaseLock, ReleasingLock, Ask, CancelLock, CancellingLock, CancelLeave, Abandon}
-use Rattle.barrier_program.specs.declared.program.Position.{Position}
-use Rattle.barrier_program.specs.declared.program.Position.TheVariants.{Out, Made, Locking, Waiting, At}
+use Rattle.sync_program.specs.declared.barrier.BarrierCall.{BarrierCall}
+use Rattle.sync_program.specs.declared.barrier.BarrierCall.TheVariants as asks
+use Rattle.sync_program.specs.declared.barrier.Left.{Left}
+use Rattle.sync_program.specs.declared.barrier.Left.TheVariants.{Ready, Outside}
+use Rattle.sync_program.specs.declared.barrier.Place.{Place}
+use Rattle.sync_program.specs.declared.barrier.Position.{Position}
+use Rattle.sync_program.specs.declared.barrier.Position.TheVariants.{Out, At}
+use Rattle.sync_program.specs.Barrier as table
+pub use Rattle.sync_program.specs.Barrier.{action_of, with_lock, after_lock, after_cancel, released, after_release, next_of}
+
+-- what comes next after a place
+abbrev pub Next : Type 0
+Next = TableNext Place Left
+
+-- what a call asks of the programs; nothing, if it is none of theirs
+abbrev pub asked_of : Call → Option BarrierCall
+asked_of call.Wait = Some asks.Wait
+asked_of call.Poll = Some asks.Poll
+asked_of call.Drop = Some asks.Drop
+asked_of _ = None
 
 -- the place at which a call begins
+abbrev pub started : Option BarrierCall → Position → Option Place
+started (Some c) x = table.start_of c x
+started None x = None
+
 abbrev pub start_of : Call → Position → Option Place
-start_of call.Wait Out = Some (EnterLock aim.Arrive)
-start_of call.Poll (Made a) = Some (EnterLock a)
-start_of call.Poll (Locking a) = Some (WaitLock a)
-start_of call.Poll Waiting = Some Ask
-start_of call.Drop (Locking a) = Some CancelLock
-start_of call.Drop Waiting = Some CancelLeave
-start_of call.Drop Out = Some Abandon
-start_of call.Drop (Made a) = Some Abandon
-start_of _ _ = None
+start_of c x = started (asked_of c) x
 
 -- the place whose action a move carries out
 abbrev pub place_for : What → Position → Option Place
@@ -43,84 +43,16 @@ place_for (Begin c inputs) x = start_of c x
 place_for (Go inputs) (At place) = Some place
 place_for (Go inputs) _ = None
 
--- the action at a place
-abbrev pub action_of : Place → Action
-action_of (EnterLock a) = act.Begin lock_call.Lock
-action_of (WaitLock a) = act.Begin lock_call.Poll
-action_of (TakeLock a) = act.Go
-action_of Look = act.Look
-action_of Join = act.Join
-action_of Arrive = act.Arrive
-action_of Complete = act.Complete
-action_of NotifyAll = act.NotifyAll
-action_of Check = act.Check
-action_of JoinAgain = act.Join
-action_of (ReleaseLock e) = act.Begin lock_call.Release
-action_of (ReleasingLock e) = act.Go
-action_of Ask = act.Ask
-action_of CancelLock = act.Begin lock_call.Cancel
-action_of CancellingLock = act.Go
-action_of CancelLeave = act.Leave
-action_of Abandon = act.Nothing
+-- what a call that has ended got, and where its party stands
+abbrev pub got_left : Left → Got
+got_left (Ready leads) = got.Leader leads
+got_left (Outside x) = got.Plain
 
--- where a poll goes on that has the inner lock
-abbrev pub with_lock : Aim → Place
-with_lock aim.Arrive = Look
-with_lock aim.Check = Check
-
--- what comes after a step of a poll that takes the inner lock
-abbrev pub after_lock : Aim → Found → Next
-after_lock a (found.Lock lock_step.More) = next.Do (TakeLock a)
-after_lock a (found.Lock (lock_step.End lock_end.Got)) = next.Do (with_lock a)
-after_lock a (found.Lock (lock_step.End (lock_end.Refused r))) = next.End (Refused r) (Made a)
-after_lock a _ = next.End Pending (Locking a)
-
--- what comes after a step of the drop of a future that waits for the inner lock
-abbrev pub after_cancel : Found → Next
-after_cancel (found.Lock lock_step.More) = next.Do CancellingLock
-after_cancel _ = next.End GivenBack Out
-
--- what comes once the inner lock is released
-abbrev pub released : Ending → Next
-released ending.Wait = next.Do Ask
-released ending.Follow = next.Ready (got.Leader false)
-released ending.Lead = next.Ready (got.Leader true)
-released ending.RefuseGenerations = next.End (Refused Generations) (Made aim.Arrive)
-released (ending.RefuseMemory a) = next.End (Refused Memory) (Made a)
-
--- what comes after a step of its release
-abbrev pub after_release : Ending → Found → Next
-after_release e (found.Lock lock_step.More) = next.Do (ReleasingLock e)
-after_release e _ = released e
-
--- what comes after a place where this was found
-abbrev pub next_of : Place → Found → Next
-next_of (EnterLock a) f = after_lock a f
-next_of (WaitLock a) f = after_lock a f
-next_of (TakeLock a) f = after_lock a f
-next_of Look found.MustWait = next.Do Join
-next_of Look found.Leads = next.Do Complete
-next_of Look _ = next.Do (ReleaseLock ending.RefuseGenerations)
-next_of Join found.Done = next.Do Arrive
-next_of Join _ = next.Do (ReleaseLock (ending.RefuseMemory aim.Arrive))
-next_of Arrive _ = next.Do (ReleaseLock ending.Wait)
-next_of Complete _ = next.Do NotifyAll
-next_of NotifyAll _ = next.Do (ReleaseLock ending.Lead)
-next_of Check found.Finished = next.Do (ReleaseLock ending.Follow)
-next_of Check _ = next.Do JoinAgain
-next_of JoinAgain found.Done = next.Do (ReleaseLock ending.Wait)
-next_of JoinAgain _ = next.Do (ReleaseLock (ending.RefuseMemory aim.Check))
-next_of (ReleaseLock e) f = after_release e f
-next_of (ReleasingLock e) f = after_release e f
-next_of Ask found.Yes = next.Do (EnterLock aim.Check)
-next_of Ask _ = next.End Pending Waiting
-next_of CancelLock f = after_cancel f
-next_of CancellingLock f = after_cancel f
-next_of CancelLeave _ = next.End GivenBack Out
-next_of Abandon _ = next.End GivenBack Out
+abbrev pub position_left : Left → Position
+position_left (Ready leads) = Out
+position_left (Outside x) = x
 
 -- where a party stands after this
 abbrev pub position_after : Next → Position
 position_after (next.Do place) = At place
-position_after (next.Ready got) = Out
-position_after (next.End e x) = x
+position_after (next.End e x) = position_left x

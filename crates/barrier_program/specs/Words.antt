@@ -1,7 +1,7 @@
 -- The words of a barrier: how many parties it waits for, how many generations it may finish, and how far it is.
 use Rattle.std.specs.Prelude.{◌≡◌, ◌≢◌, ℕ, zero, suc, ◌+◌, ◌*◌, ◌<◌, ◌≤◌}
-use Rattle.barrier_program.specs.declared.program.Found.{Found}
-use Rattle.barrier_program.specs.declared.program.Found.TheVariants.{MustWait, Leads, Past, Finished, Unfinished}
+use Rattle.sync_program.specs.declared.barrier.Found.{Found}
+use Rattle.sync_program.specs.declared.barrier.Found.TheVariants.{MustWait, Leads, Past, Finished, Unfinished}
 use Rattle.barrier_program.specs.declared.words.Progress.{Progress}
 use Rattle.barrier_program.specs.declared.words.Words.{Words}
 

@@ -3,11 +3,11 @@
 ghost use Rattle.std.specs.Prelude.{◌≡◌, ◌<◌};
 ghost use Rattle.lock_queue.specs.Queues.{queue};
 ghost use Rattle.lock_queue.specs.Parties.{entries_of};
-ghost use Rattle.barrier_program.specs.declared.program.Action.TheVariants as acts;
+ghost use Rattle.sync_program.specs.declared.barrier.Action.TheVariants as acts;
 ghost use Rattle.barrier_program.specs.Deeds.{CanDo, Finds, FindsJoin, FindsAsk, words_after, arrival_after, entries_after};
 ghost use Rattle.barrier_program.specs.Locks.{OnLock};
 
-use crate::program::{Action, Found};
+use sync_program::barrier::{Action, Found};
 use crate::words::{Progress, Words};
 use lock_queue::WaitQueue;
 use lock_world::Inputs;

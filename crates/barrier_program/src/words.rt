@@ -3,7 +3,7 @@
 ghost use Rattle.std.specs.Prelude.{◌≡◌, ◌+◌, ◌<◌};
 ghost use Rattle.barrier_program.specs.Words.{FindsLook, FindsCheck, arrivals_at, progress, with_progress, new_words};
 
-use crate::program::Found;
+use sync_program::barrier::Found;
 
 /// How far a barrier is: how many generations are finished, and how many arrivals are counted towards the
 /// next one. Just after an arrival it tells that arrival's number.

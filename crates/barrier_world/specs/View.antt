@@ -4,7 +4,7 @@ use Rattle.lock_world.specs.declared.moves.Answer.{Answer}
 use Rattle.lock_table.specs.Tables.{Table}
 use Rattle.lock_table.specs.Views.{standings}
 use Rattle.mutex_machine.specs.Mutex.{course_at, holder_of, starved_of}
-use Rattle.barrier_program.specs.declared.program.Position.{Position}
+use Rattle.sync_program.specs.declared.barrier.Position.{Position}
 use Rattle.barrier_program.specs.declared.words.Progress.{Progress}
 use Rattle.barrier_program.specs.Words.{progress, arrivals_at}
 use Rattle.barrier_machine.specs.Waits.{Wait, wait_at, verdict}

@@ -10,7 +10,7 @@ ghost use Rattle.lock_world.specs.Rosters.{how_many};
 ghost use Rattle.lock_world.specs.Accounts.{Account};
 ghost use Rattle.lock_world.specs.declared.moves.Answer.{Answer as AnswerOf};
 ghost use Rattle.lock_world.specs.declared.moves.Move.{Move as MoveOf};
-ghost use Rattle.lock_world.specs.declared.refusal.Refusal.TheVariants as refusals;
+ghost use Rattle.lock_program.specs.declared.refusal.Refusal.TheVariants as refusals;
 ghost use Rattle.barrier_machine.specs.Waits.{number_of};
 ghost use Rattle.barrier_world.specs.Numbers.{generations_of, count_of};
 ghost use Rattle.barrier_world.specs.State.{new_world, list_in, wait_of, World as WorldOf};
@@ -23,7 +23,8 @@ use barrier_machine::Barrier;
 use lock_event::Entry;
 use lock_frame::AnyWorld;
 use lock_table::Table;
-use lock_world::{Answer, Move, Refusal};
+use lock_program::Refusal;
+use lock_world::{Answer, Move};
 use std::alloc::Global;
 use std::marker::Model;
 

@@ -10,7 +10,6 @@ use Rattle.lock_world.specs.declared.moves.Answer.{Answer}
 use Rattle.lock_world.specs.declared.moves.Answer.TheVariants as answer
 use Rattle.lock_world.specs.declared.moves.Call.{Call}
 use Rattle.lock_world.specs.declared.moves.Call.TheVariants as call
-use Rattle.lock_world.specs.declared.moves.Got.TheVariants.{Plain}
 use Rattle.lock_world.specs.declared.moves.Inputs.{Inputs}
 use Rattle.lock_world.specs.declared.moves.What.{What}
 use Rattle.lock_world.specs.declared.standing.Kind.{Kind}
@@ -24,15 +23,15 @@ use Rattle.lock_world.specs.Standings.{inputs_of}
 use Rattle.lock_table.specs.Ends.{answer_of}
 use Rattle.cell_program.specs.declared.words.Content.{Content}
 use Rattle.cell_program.specs.declared.words.Content.TheVariants as content
-use Rattle.cell_program.specs.declared.program.Found.{Found}
-use Rattle.cell_program.specs.declared.program.ListName.{ListName}
-use Rattle.cell_program.specs.declared.program.ListName.TheVariants.{Active, Passive}
-use Rattle.cell_program.specs.declared.program.Next.{Next}
-use Rattle.cell_program.specs.declared.program.Next.TheVariants as next
-use Rattle.cell_program.specs.declared.program.Place.{Place}
-use Rattle.cell_program.specs.declared.program.Place.TheVariants.{Claim, ClaimListed, JoinActive, AskActive, LeaveToMake, Make, Fill, NotifyActive, NotifyPassive, Fail, FailNotify, LeaveFull, RefuseActive, Look, JoinPassive, LookListed, AskPassive, LeavePassive, RefusePassive, Try, TryFill, TryNotifyActive, TryNotifyPassive, CancelMake, CancelNotify, CancelLeave, Abandon}
-use Rattle.cell_program.specs.declared.program.Position.{Position}
-use Rattle.cell_program.specs.declared.program.Position.TheVariants.{Out, ToMake, WaitingToMake, Making, ToWait, Waiting, At}
+use Rattle.cell_program.specs.Program.{Found, got_left}
+use Rattle.sync_program.specs.declared.once_cell.ListName.{ListName}
+use Rattle.sync_program.specs.declared.once_cell.ListName.TheVariants.{Active, Passive}
+use Rattle.cell_program.specs.Program.{Next}
+use Rattle.lock_program.specs.declared.end.Next.TheVariants as next
+use Rattle.cell_program.specs.Program.{Place}
+use Rattle.sync_program.specs.declared.once_cell.Place.TheVariants.{Claim, ClaimListed, JoinActive, AskActive, LeaveToMake, Make, Fill, NotifyActive, NotifyPassive, Fail, FailNotify, LeaveFull, RefuseActive, Look, JoinPassive, LookListed, AskPassive, LeavePassive, RefusePassive, Try, TryFill, TryNotifyActive, TryNotifyPassive, CancelMake, CancelNotify, CancelLeave, Abandon}
+use Rattle.cell_program.specs.Program.{Position}
+use Rattle.sync_program.specs.declared.once_cell.Position.TheVariants.{Out, ToMake, WaitingToMake, Making, ToWait, Waiting, At}
 use Rattle.cell_program.specs.Program.{place_for, action_of, next_of, position_after}
 use Rattle.cell_machine.specs.Seats.{makes_at, in_active, in_passive_at, waits, owes, value_known, is_late, will_tell, is_resting}
 use Rattle.cell_program.specs.Deeds.{Finds, deed_of, content_after, active_after, passive_after, everyone}
@@ -208,8 +207,7 @@ with_value s v = record s { content = refilled s.content v }
 -- what a call's next is answered
 abbrev pub answer_by : Next → Answer
 answer_by (next.Do x) = answer.Stepped
-answer_by (next.Ready got) = answer.Ready got
-answer_by (next.End e) = answer_of Plain e
+answer_by (next.End e x) = answer_of (got_left x) e
 
 -- A party does the action of this place, which finds this, and goes where its program says.
 pub record Acts (inputs : Inputs) (p : ℕ) (from : Place) (found : Found) (s t : OnceCell) : Type 0 where
@@ -217,7 +215,7 @@ pub record Acts (inputs : Inputs) (p : ℕ) (from : Place) (found : Found) (s t 
   pub content : t.content ≡ content_after p (deed_of (action_of from) found) s.content
   pub active : t.active ≡ active_after p (deed_of (action_of from) found) s.active
   pub passive : t.passive ≡ passive_after p (deed_of (action_of from) found) s.passive
-  pub positions : t.positions ≡ slice_set s.positions p (position_after from (next_of from found))
+  pub positions : t.positions ≡ slice_set s.positions p (position_after (next_of from found))
 
 -- A move of the party, answered so.
 pub record Moves (s : OnceCell) (p : ℕ) (w : Within) (what : What) (a : Answer) (t : OnceCell) : Type 0 where

@@ -6,8 +6,8 @@ use Rattle.lock_world.specs.declared.standing.Stage.TheVariants.{Outside, Inside
 use Rattle.lock_world.specs.Standings.{is_outside_stage, forgets}
 use Rattle.lock_world.proofs.Equations.{none_some}
 use Rattle.std.proofs.Common.{refl}
-use Rattle.cell_program.specs.declared.program.Position.{Position}
-use Rattle.cell_program.specs.declared.program.Position.TheVariants.{Out, ToMake, WaitingToMake, Making, ToWait, Waiting, At}
+use Rattle.cell_program.specs.Program.{Position}
+use Rattle.sync_program.specs.declared.once_cell.Position.TheVariants.{Out, ToMake, WaitingToMake, Making, ToWait, Waiting, At}
 use Rattle.cell_machine.specs.Seats.{value_known, is_resting}
 use Rattle.cell_machine.specs.Machine.{OnceCell, Stands, goes_with, position_at, with_value}
 

@@ -6,7 +6,7 @@ use Rattle.lock_event.specs.Lists.{marked_count}
 use Rattle.lock_queue.specs.Debts.{IsOwed}
 use Rattle.cell_program.specs.declared.words.Content.{Content}
 use Rattle.cell_program.specs.declared.words.Content.TheVariants as content
-use Rattle.cell_program.specs.declared.program.Position.{Position}
+use Rattle.cell_program.specs.Program.{Position}
 use Rattle.cell_machine.specs.Seats.{in_active, waits, owes}
 
 -- whether the cell is empty, one or none, and the length and marked entries of `active`

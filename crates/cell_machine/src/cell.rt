@@ -1,22 +1,24 @@
 //! The once-cell's machine: what is in it, its lists, and where each party stands in its program.
 
 ghost use Rattle.std.specs.Prelude.{◌≡◌, ◌<◌, length, slice_get, replicate, IfOk};
-ghost use Rattle.cell_program.specs.declared.program.Position.TheVariants.{Out};
-ghost use Rattle.cell_program.specs.Program.{place_for as place_for_lem, position_after, pending_at as pending_at_lem, refused_at as refused_at_lem};
+ghost use Rattle.sync_program.specs.declared.once_cell.Position.TheVariants.{Out};
+ghost use Rattle.cell_program.specs.Program.{place_for as place_for_lem, position_after};
 ghost use Rattle.cell_program.specs.Deeds.{list_of};
 ghost use Rattle.cell_machine.specs.Machine.{new_cell, IsCell, answer_by};
 ghost use Rattle.cell_program.specs.Words.{content_of, kept_of};
 
 use cell_program::deeds::carry_out;
-use cell_program::program::{ListName, Next, Place, Position, action_at, decide, start};
+use cell_program::calls::{got_left, position_left, start};
 use cell_program::words::{Content, Words};
 use lock_event::Entry;
 use lock_queue::WaitQueue;
-use lock_table::{End, Machine, Valued};
+use lock_program::Next;
+use lock_table::{Machine, Valued, answer};
 use lock_world::standing::{Rest, Within};
-use lock_world::{Answer, Call, Got, Inputs, Made, What};
+use lock_world::{Answer, Call, What};
 use std::alloc::{AllocError, Global};
 use std::marker::Model;
+use sync_program::once_cell::{Left, ListName, Place, Position, action_at, decide};
 
 /// A once-cell, and where each of its parties stands.
 ///
@@ -26,7 +28,7 @@ pub struct OnceCell {
     words: Words,
     active: WaitQueue,
     passive: WaitQueue,
-    positions: Vec<Position>,
+    positions: Vec<Position<u64>>,
 }
 
 // By hand, so that a drop is one call to prove, and not all of its parts again.
@@ -52,43 +54,18 @@ impl Model for OnceCell {
     ghost invariant = { λ s. IsKept (kept_of s.words) s.positions.items s.active s.passive };
 }
 
-/// Where a party stands that was answered Pending at this place.
-fn pending_at(from: Place) -> Position
-    ensures { result ≡ pending_at_lem from }
-{
-    match from {
-        Place::Make(maker) => Position::Making(maker),
-        Place::AskActive(maker) => Position::WaitingToMake(maker),
-        Place::AskPassive => Position::Waiting,
-        _ => Position::Out,
-    }
-}
-
-/// Where a party stands that was refused at this place.
-fn refused_at(from: Place) -> Position
-    ensures { result ≡ refused_at_lem from }
-{
-    match from {
-        Place::JoinActive { maker, .. } | Place::RefuseActive(maker) => Position::ToMake(maker),
-        Place::JoinPassive { .. } | Place::RefusePassive => Position::ToWait,
-        _ => Position::Out,
-    }
-}
-
 /// Where a party stands after this.
-fn after(from: Place, next: Next) -> Position
-    ensures { result ≡ position_after from next }
+fn after(next: Next<Place<u64>, Left<u64>>) -> Position<u64>
+    ensures { result ≡ position_after next }
 {
     match next {
         Next::Do(place) => Position::At(place),
-        Next::End(End::Pending) => pending_at(from),
-        Next::End(End::Refused(_)) => refused_at(from),
-        Next::End(_) | Next::Ready(_) => Position::Out,
+        Next::End(_, left) => position_left(left),
     }
 }
 
 /// The place whose action a move carries out.
-fn place_for(what: What, at: Position) -> Option<Place>
+fn place_for(what: What, at: Position<u64>) -> Option<Place<u64>>
     ensures { result ≡ place_for_lem what at }
 {
     match what {
@@ -101,7 +78,7 @@ fn place_for(what: What, at: Position) -> Option<Place>
 }
 
 /// So many parties, each of which is out.
-fn all_out(alloc: Global, parties: u32) -> Result<Vec<Position>, AllocError>
+fn all_out(alloc: Global, parties: u32) -> Result<Vec<Position<u64>>, AllocError>
     ensures { IfOk result (λ v. v.items ≡ replicate parties Out) }
 {
     let mut positions = Vec::new(alloc);
@@ -164,13 +141,12 @@ impl OnceCell {
 }
 
 /// What a call's next is answered.
-fn answer_to(next: Next) -> Answer
+fn answer_to(next: Next<Place<u64>, Left<u64>>) -> Answer
     ensures { result ≡ answer_by next }
 {
     match next {
         Next::Do(_) => Answer::Stepped,
-        Next::Ready(got) => Answer::Ready(got),
-        Next::End(end) => end.answer(Got::Plain),
+        Next::End(end, left) => answer(end, got_left(left)),
     }
 }
 
@@ -215,7 +191,7 @@ impl Machine for OnceCell {
             what.inputs(),
         );
         let next = decide(from, found);
-        self.positions[at] = after(from, next);
+        self.positions[at] = after(next);
         answer_to(next)
     }
 }

@@ -2,18 +2,18 @@
 
 ghost use Rattle.std.specs.Prelude.{◌≡◌};
 ghost use Rattle.lock_queue.specs.Queues.{queue};
-ghost use Rattle.cell_program.specs.declared.program.Action.TheVariants as acts;
-ghost use Rattle.cell_program.specs.declared.program.ListName.TheVariants as lists;
+ghost use Rattle.sync_program.specs.declared.once_cell.Action.TheVariants as acts;
+ghost use Rattle.sync_program.specs.declared.once_cell.ListName.TheVariants as lists;
 ghost use Rattle.cell_program.specs.Deeds.{CanDo, CanList, Finds, FindsJoin, FindsAsk, FindsMade, deed_of, content_after, active_after, passive_after};
 ghost use Rattle.cell_program.specs.Words.{content_of, kept_of};
 
-use crate::program::{Action, Found, ListName, Maker};
 use crate::words::Words;
 use lock_queue::WaitQueue;
 use lock_world::{Inputs, Made};
+use sync_program::once_cell::{Action, Found, ListName, Maker};
 
 /// What the maker of an initialisation gives.
-fn polled(maker: Maker, made: Made) -> Found
+fn polled(maker: Maker<u64>, made: Made) -> Found<u64>
     ensures { FindsMade maker made result }
 {
     match maker {
@@ -27,7 +27,7 @@ fn polled(maker: Maker, made: Made) -> Found
 }
 
 /// A party joins a list, where there is memory.
-fn join_in(list: &mut WaitQueue, party: u32, memory: bool) -> Found
+fn join_in(list: &mut WaitQueue, party: u32, memory: bool) -> Found<u64>
     requires { CanList party (acts.Join lists.Active) list.old }
     ensures finds { FindsJoin memory result }
     ensures list { list.new ≡ queue list.old.parties (active_after party (deed_of (acts.Join lists.Active) result) list.old.entries) }
@@ -41,7 +41,7 @@ fn join_in(list: &mut WaitQueue, party: u32, memory: bool) -> Found
 }
 
 /// A party asks for its notification in a list.
-fn ask_in(list: &mut WaitQueue, party: u32) -> Found
+fn ask_in(list: &mut WaitQueue, party: u32) -> Found<u64>
     requires { CanList party (acts.Ask lists.Active) list.old }
     ensures finds { FindsAsk party result list.old.entries }
     ensures list { list.new ≡ queue list.old.parties (active_after party (deed_of (acts.Ask lists.Active) result) list.old.entries) }
@@ -59,9 +59,9 @@ pub fn carry_out(
     active: &mut WaitQueue,
     passive: &mut WaitQueue,
     party: u32,
-    action: Action,
+    action: Action<u64>,
     inputs: Inputs,
-) -> Found
+) -> Found<u64>
     requires can { CanDo party action active.old passive.old }
     requires kept { kept_of words.old ≡ content_of words.old }
     ensures finds { Finds inputs party action result (content_of words.old) active.old.entries passive.old.entries }

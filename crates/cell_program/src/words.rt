@@ -5,7 +5,7 @@ ghost use Rattle.cell_program.specs.Deeds.{FindsContent, claimed_after};
 ghost use Rattle.cell_program.specs.Words.{content_of, kept_of, value_in};
 ghost use Rattle.cell_program.specs.declared.words.Content.TheVariants as contents;
 
-use crate::program::Found;
+use sync_program::once_cell::Found;
 
 /// What a once-cell has in it.
 #[derive(Clone, Copy, Debug, PartialEq, Eq)]
@@ -80,7 +80,7 @@ impl Words {
     }
 
     /// What a look finds.
-    pub fn look(&self) -> Found
+    pub fn look(&self) -> Found<u64>
         ensures { FindsContent result (content_of self.now) }
     {
         match self.content() {
@@ -91,7 +91,7 @@ impl Words {
     }
 
     /// The party begins to make the value, if the cell is empty. What it found is what stood before.
-    pub fn claim(&mut self, party: u32) -> Found
+    pub fn claim(&mut self, party: u32) -> Found<u64>
         requires { kept_of self.old ≡ content_of self.old }
         ensures finds { FindsContent result (content_of self.old) }
         ensures content { content_of self.new ≡ claimed_after party result (content_of self.old) }

@@ -3,7 +3,7 @@ use Rattle.std.proofs.Common.{◌≡◌, ℕ, ◌+◌, ◌≤◌, if◌then◌el
 use Rattle.lock_world.specs.declared.moves.Answer.{Answer}
 use Rattle.lock_world.specs.declared.moves.Move.{Move}
 use Rattle.lock_world.specs.Steps.{Deed, nothing, changes, does}
-use Rattle.cell_program.specs.declared.program.ListName.{ListName}
+use Rattle.sync_program.specs.declared.once_cell.ListName.{ListName}
 use Rattle.cell_program.specs.declared.words.Content.{Content}
 use Rattle.cell_program.specs.declared.words.Content.TheVariants.{Empty, BeingMade, Full}
 use Rattle.cell_program.specs.Deeds.{Change, begins, fills, empties, content_after}

@@ -17,7 +17,7 @@ use Rattle.lock_world.specs.declared.standing.Within.{Within}
 use Rattle.lock_world.specs.Frame.{is_drop}
 use Rattle.lock_world.specs.Steps.{asks, list_after}
 use Rattle.lock_world.specs.Standings.{Standing, outside, inside, inputs_of, is_possible, is_stepped, decision}
-use Rattle.cell_program.specs.declared.program.ListName.{ListName}
+use Rattle.sync_program.specs.declared.once_cell.ListName.{ListName}
 use Rattle.cell_program.specs.declared.words.Content.{Content}
 use Rattle.cell_program.specs.declared.words.Content.TheVariants.{Empty, BeingMade, Full}
 use Rattle.cell_machine.specs.Seats.{Task, initializes, sets, waits_only, fills_with}

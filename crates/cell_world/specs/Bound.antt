@@ -13,7 +13,7 @@ use Rattle.lock_world.specs.declared.standing.Rest.TheVariants.{Pending}
 use Rattle.lock_world.specs.Standings.{outside}
 use Rattle.lock_world.specs.Frame.{is_refusal}
 use Rattle.lock_world.specs.Bounds as bounds
-use Rattle.cell_program.specs.declared.program.ListName.{ListName}
+use Rattle.sync_program.specs.declared.once_cell.ListName.{ListName}
 use Rattle.cell_program.specs.declared.words.Content.TheVariants.{Empty, BeingMade, Full}
 use Rattle.cell_machine.specs.Seats.{Task, no_task, fills_with, failed}
 use Rattle.cell_machine.specs.Machine.{is_maker}

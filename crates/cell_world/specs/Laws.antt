@@ -12,7 +12,7 @@ use Rattle.lock_world.specs.declared.standing.Rest.{Rest}
 use Rattle.lock_world.specs.declared.standing.Rest.TheVariants.{Idle, Pending, Finished}
 use Rattle.lock_world.specs.declared.standing.Within.{Within}
 use Rattle.lock_world.specs.Standings.{Standing, outside, inside, forgotten, is_outside}
-use Rattle.cell_program.specs.declared.program.ListName.{ListName}
+use Rattle.sync_program.specs.declared.once_cell.ListName.{ListName}
 use Rattle.cell_program.specs.declared.words.Content.TheVariants.{Empty, BeingMade, Full}
 use Rattle.cell_machine.specs.Seats.{Task, fills_with}
 use Rattle.cell_machine.specs.Machine.{is_maker}

@@ -9,8 +9,8 @@ use Rattle.lock_world.specs.declared.moves.Got.{Got}
 use Rattle.lock_world.specs.declared.moves.Got.TheVariants as got
 use Rattle.lock_world.specs.declared.moves.Made.TheVariants as made
 use Rattle.lock_world.specs.declared.moves.Move.{Move}
-use Rattle.lock_world.specs.declared.refusal.Refusal.{Refusal}
-use Rattle.lock_world.specs.declared.refusal.Refusal.TheVariants as refusal
+use Rattle.lock_program.specs.declared.refusal.Refusal.{Refusal}
+use Rattle.lock_program.specs.declared.refusal.Refusal.TheVariants as refusal
 use Rattle.lock_world.specs.declared.standing.Kind.TheVariants as kind
 use Rattle.lock_world.specs.declared.standing.Rest.TheVariants.{Idle, Pending, Holding, Finished}
 use Rattle.lock_world.specs.declared.standing.Within.{Within}
@@ -18,8 +18,8 @@ use Rattle.lock_world.specs.Standings.{Standing, outside, inside, inputs_of, is_
 use Rattle.lock_world.specs.Frame as frame
 use Rattle.lock_world.specs.Frame.{is_drop, is_giving_back, is_refusal}
 use Rattle.lock_world.specs.Steps.{Deed, nothing, changes, does, joins, asks, leaves, notifies, notifies_additionally, is_parting}
-use Rattle.cell_program.specs.declared.program.ListName.{ListName}
-use Rattle.cell_program.specs.declared.program.ListName.TheVariants.{Active}
+use Rattle.sync_program.specs.declared.once_cell.ListName.{ListName}
+use Rattle.sync_program.specs.declared.once_cell.ListName.TheVariants.{Active}
 use Rattle.cell_program.specs.declared.words.Content.TheVariants.{Empty, BeingMade, Full}
 use Rattle.cell_machine.specs.Seats.{Task, no_task, initializes, sets, fills_with, failed}
 use Rattle.cell_program.specs.Deeds.{Change, begins, fills, empties, content_after, active_after, passive_after, everyone}

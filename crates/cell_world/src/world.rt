@@ -8,7 +8,7 @@
 ghost use Rattle.std.specs.Prelude.{◌≡◌, ◌<◌, ◌≤◌, ℕ, Bool, true, None, List, IfOk, IfErr, length, slice_get};
 ghost use Rattle.lock_world.specs.declared.moves.Answer.{Answer as AnswerOf};
 ghost use Rattle.lock_world.specs.declared.moves.Move.{Move as MoveOf};
-ghost use Rattle.lock_world.specs.declared.refusal.Refusal.TheVariants as refusals;
+ghost use Rattle.lock_program.specs.declared.refusal.Refusal.TheVariants as refusals;
 ghost use Rattle.cell_world.specs.State.{new_world, list_in, is_full, World as WorldOf};
 ghost use Rattle.cell_program.specs.Words.{value_in};
 ghost use Rattle.cell_world.specs.Steps.{Steps};
@@ -21,12 +21,13 @@ ghost use Rattle.std.specs.Option.{option_copied_mut};
 
 use cell_machine::OnceCell;
 use cell_program::Content;
-use cell_program::program::ListName;
+use sync_program::once_cell::ListName;
 use cell_program::words::take_from;
 use lock_event::Entry;
 use lock_frame::AnyWorld;
 use lock_table::Table;
-use lock_world::{Answer, Move, Refusal};
+use lock_program::Refusal;
+use lock_world::{Answer, Move};
 use std::alloc::Global;
 use std::marker::Model;
 

@@ -1,25 +1,25 @@
 -- The places of a barrier's programs, row by row.
 use Rattle.std.specs.Prelude.{true, false, List, [], ◌∷◌, Option, Some, None}
-use Rattle.barrier_program.specs.declared.program.Action.TheVariants as act
-use Rattle.barrier_program.specs.declared.program.Action.{Action}
-use Rattle.barrier_program.specs.declared.program.Aim.TheVariants as aim
-use Rattle.barrier_program.specs.declared.program.Ending.TheVariants as ending
-use Rattle.barrier_program.specs.declared.program.Found.TheVariants as found
-use Rattle.barrier_program.specs.declared.program.Found.{Found}
-use Rattle.barrier_program.specs.declared.program.Next.TheVariants as next
-use Rattle.barrier_program.specs.declared.program.Next.{Next}
-use Rattle.barrier_program.specs.declared.program.Place.TheVariants as place
-use Rattle.barrier_program.specs.declared.program.Place.{Place}
-use Rattle.barrier_program.specs.declared.program.Position.TheVariants as position
-use Rattle.barrier_program.specs.declared.program.Position.{Position}
-use Rattle.lock_table.specs.declared.end.End.TheVariants as ended
+use Rattle.sync_program.specs.declared.barrier.Action.TheVariants as act
+use Rattle.sync_program.specs.declared.barrier.Action.{Action}
+use Rattle.sync_program.specs.declared.barrier.Aim.TheVariants as aim
+use Rattle.sync_program.specs.declared.barrier.Ending.TheVariants as ending
+use Rattle.sync_program.specs.declared.barrier.Found.TheVariants as found
+use Rattle.sync_program.specs.declared.barrier.Found.{Found}
+use Rattle.lock_program.specs.declared.end.Next.TheVariants as next
+use Rattle.lock_program.specs.declared.end.Next.{Next}
+use Rattle.sync_program.specs.declared.barrier.Place.TheVariants as place
+use Rattle.sync_program.specs.declared.barrier.Place.{Place}
+use Rattle.sync_program.specs.declared.barrier.Position.TheVariants as position
+use Rattle.sync_program.specs.declared.barrier.Position.{Position}
+use Rattle.lock_program.specs.declared.end.End.TheVariants as ended
 use Rattle.lock_world.specs.declared.moves.Call.TheVariants as call
 use Rattle.lock_world.specs.declared.moves.Call.{Call}
-use Rattle.lock_world.specs.declared.moves.Got.TheVariants as got
-use Rattle.lock_world.specs.declared.refusal.Refusal.TheVariants as refusal
-use Rattle.mutex_program.specs.declared.calls.Step.TheVariants as lock_step
-use Rattle.mutex_program.specs.declared.calls.End.TheVariants as lock_end
-use Rattle.mutex_program.specs.declared.calls.LockCall.TheVariants as lock_call
+use Rattle.sync_program.specs.declared.barrier.Left.{Left}
+use Rattle.sync_program.specs.declared.barrier.Left.TheVariants as left
+use Rattle.lock_program.specs.declared.refusal.Refusal.TheVariants as refusal
+use Rattle.lock_program.specs.declared.mutex.Step.TheVariants as lock_step
+use Rattle.lock_program.specs.declared.mutex.LockCall.TheVariants as lock_call
 
 -- Where a call begins for a party that stands there; None where it can't.
 abbrev pub beginnings : List (Call × Position × Option Place)
@@ -83,38 +83,38 @@ actions =
     []
 
 -- What comes after a place whose action found this: each place, with each finding that its action can make.
-abbrev pub followings : List (Place × Found × Next)
+abbrev pub followings : List (Place × Found × Next Place Left)
 followings =
     (place.EnterLock aim.Arrive, found.Lock lock_step.More, next.Do (place.TakeLock aim.Arrive)) ∷
-    (place.EnterLock aim.Arrive, found.Lock (lock_step.End lock_end.Pending), next.End ended.Pending (position.Locking aim.Arrive)) ∷
-    (place.EnterLock aim.Arrive, found.Lock (lock_step.End (lock_end.Refused refusal.Memory)), next.End (ended.Refused refusal.Memory) (position.Made aim.Arrive)) ∷
-    (place.EnterLock aim.Arrive, found.Lock (lock_step.End (lock_end.Refused refusal.Starved)), next.End (ended.Refused refusal.Starved) (position.Made aim.Arrive)) ∷
+    (place.EnterLock aim.Arrive, found.Lock (lock_step.End ended.Pending), next.End ended.Pending (left.Outside (position.Locking aim.Arrive))) ∷
+    (place.EnterLock aim.Arrive, found.Lock (lock_step.End (ended.Refused refusal.Memory)), next.End (ended.Refused refusal.Memory) (left.Outside (position.Made aim.Arrive))) ∷
+    (place.EnterLock aim.Arrive, found.Lock (lock_step.End (ended.Refused refusal.Starved)), next.End (ended.Refused refusal.Starved) (left.Outside (position.Made aim.Arrive))) ∷
     (place.EnterLock aim.Check, found.Lock lock_step.More, next.Do (place.TakeLock aim.Check)) ∷
-    (place.EnterLock aim.Check, found.Lock (lock_step.End lock_end.Pending), next.End ended.Pending (position.Locking aim.Check)) ∷
-    (place.EnterLock aim.Check, found.Lock (lock_step.End (lock_end.Refused refusal.Memory)), next.End (ended.Refused refusal.Memory) (position.Made aim.Check)) ∷
-    (place.EnterLock aim.Check, found.Lock (lock_step.End (lock_end.Refused refusal.Starved)), next.End (ended.Refused refusal.Starved) (position.Made aim.Check)) ∷
-    (place.EnterLock aim.Arrive, found.Lock (lock_step.End lock_end.Got), next.Do place.Look) ∷
-    (place.EnterLock aim.Check, found.Lock (lock_step.End lock_end.Got), next.Do place.Check) ∷
+    (place.EnterLock aim.Check, found.Lock (lock_step.End ended.Pending), next.End ended.Pending (left.Outside (position.Locking aim.Check))) ∷
+    (place.EnterLock aim.Check, found.Lock (lock_step.End (ended.Refused refusal.Memory)), next.End (ended.Refused refusal.Memory) (left.Outside (position.Made aim.Check))) ∷
+    (place.EnterLock aim.Check, found.Lock (lock_step.End (ended.Refused refusal.Starved)), next.End (ended.Refused refusal.Starved) (left.Outside (position.Made aim.Check))) ∷
+    (place.EnterLock aim.Arrive, found.Lock (lock_step.End ended.Got), next.Do place.Look) ∷
+    (place.EnterLock aim.Check, found.Lock (lock_step.End ended.Got), next.Do place.Check) ∷
     (place.WaitLock aim.Arrive, found.Lock lock_step.More, next.Do (place.TakeLock aim.Arrive)) ∷
-    (place.WaitLock aim.Arrive, found.Lock (lock_step.End lock_end.Pending), next.End ended.Pending (position.Locking aim.Arrive)) ∷
-    (place.WaitLock aim.Arrive, found.Lock (lock_step.End (lock_end.Refused refusal.Memory)), next.End (ended.Refused refusal.Memory) (position.Made aim.Arrive)) ∷
-    (place.WaitLock aim.Arrive, found.Lock (lock_step.End (lock_end.Refused refusal.Starved)), next.End (ended.Refused refusal.Starved) (position.Made aim.Arrive)) ∷
+    (place.WaitLock aim.Arrive, found.Lock (lock_step.End ended.Pending), next.End ended.Pending (left.Outside (position.Locking aim.Arrive))) ∷
+    (place.WaitLock aim.Arrive, found.Lock (lock_step.End (ended.Refused refusal.Memory)), next.End (ended.Refused refusal.Memory) (left.Outside (position.Made aim.Arrive))) ∷
+    (place.WaitLock aim.Arrive, found.Lock (lock_step.End (ended.Refused refusal.Starved)), next.End (ended.Refused refusal.Starved) (left.Outside (position.Made aim.Arrive))) ∷
     (place.WaitLock aim.Check, found.Lock lock_step.More, next.Do (place.TakeLock aim.Check)) ∷
-    (place.WaitLock aim.Check, found.Lock (lock_step.End lock_end.Pending), next.End ended.Pending (position.Locking aim.Check)) ∷
-    (place.WaitLock aim.Check, found.Lock (lock_step.End (lock_end.Refused refusal.Memory)), next.End (ended.Refused refusal.Memory) (position.Made aim.Check)) ∷
-    (place.WaitLock aim.Check, found.Lock (lock_step.End (lock_end.Refused refusal.Starved)), next.End (ended.Refused refusal.Starved) (position.Made aim.Check)) ∷
-    (place.WaitLock aim.Arrive, found.Lock (lock_step.End lock_end.Got), next.Do place.Look) ∷
-    (place.WaitLock aim.Check, found.Lock (lock_step.End lock_end.Got), next.Do place.Check) ∷
+    (place.WaitLock aim.Check, found.Lock (lock_step.End ended.Pending), next.End ended.Pending (left.Outside (position.Locking aim.Check))) ∷
+    (place.WaitLock aim.Check, found.Lock (lock_step.End (ended.Refused refusal.Memory)), next.End (ended.Refused refusal.Memory) (left.Outside (position.Made aim.Check))) ∷
+    (place.WaitLock aim.Check, found.Lock (lock_step.End (ended.Refused refusal.Starved)), next.End (ended.Refused refusal.Starved) (left.Outside (position.Made aim.Check))) ∷
+    (place.WaitLock aim.Arrive, found.Lock (lock_step.End ended.Got), next.Do place.Look) ∷
+    (place.WaitLock aim.Check, found.Lock (lock_step.End ended.Got), next.Do place.Check) ∷
     (place.TakeLock aim.Arrive, found.Lock lock_step.More, next.Do (place.TakeLock aim.Arrive)) ∷
-    (place.TakeLock aim.Arrive, found.Lock (lock_step.End lock_end.Pending), next.End ended.Pending (position.Locking aim.Arrive)) ∷
-    (place.TakeLock aim.Arrive, found.Lock (lock_step.End (lock_end.Refused refusal.Memory)), next.End (ended.Refused refusal.Memory) (position.Made aim.Arrive)) ∷
-    (place.TakeLock aim.Arrive, found.Lock (lock_step.End (lock_end.Refused refusal.Starved)), next.End (ended.Refused refusal.Starved) (position.Made aim.Arrive)) ∷
+    (place.TakeLock aim.Arrive, found.Lock (lock_step.End ended.Pending), next.End ended.Pending (left.Outside (position.Locking aim.Arrive))) ∷
+    (place.TakeLock aim.Arrive, found.Lock (lock_step.End (ended.Refused refusal.Memory)), next.End (ended.Refused refusal.Memory) (left.Outside (position.Made aim.Arrive))) ∷
+    (place.TakeLock aim.Arrive, found.Lock (lock_step.End (ended.Refused refusal.Starved)), next.End (ended.Refused refusal.Starved) (left.Outside (position.Made aim.Arrive))) ∷
     (place.TakeLock aim.Check, found.Lock lock_step.More, next.Do (place.TakeLock aim.Check)) ∷
-    (place.TakeLock aim.Check, found.Lock (lock_step.End lock_end.Pending), next.End ended.Pending (position.Locking aim.Check)) ∷
-    (place.TakeLock aim.Check, found.Lock (lock_step.End (lock_end.Refused refusal.Memory)), next.End (ended.Refused refusal.Memory) (position.Made aim.Check)) ∷
-    (place.TakeLock aim.Check, found.Lock (lock_step.End (lock_end.Refused refusal.Starved)), next.End (ended.Refused refusal.Starved) (position.Made aim.Check)) ∷
-    (place.TakeLock aim.Arrive, found.Lock (lock_step.End lock_end.Got), next.Do place.Look) ∷
-    (place.TakeLock aim.Check, found.Lock (lock_step.End lock_end.Got), next.Do place.Check) ∷
+    (place.TakeLock aim.Check, found.Lock (lock_step.End ended.Pending), next.End ended.Pending (left.Outside (position.Locking aim.Check))) ∷
+    (place.TakeLock aim.Check, found.Lock (lock_step.End (ended.Refused refusal.Memory)), next.End (ended.Refused refusal.Memory) (left.Outside (position.Made aim.Check))) ∷
+    (place.TakeLock aim.Check, found.Lock (lock_step.End (ended.Refused refusal.Starved)), next.End (ended.Refused refusal.Starved) (left.Outside (position.Made aim.Check))) ∷
+    (place.TakeLock aim.Arrive, found.Lock (lock_step.End ended.Got), next.Do place.Look) ∷
+    (place.TakeLock aim.Check, found.Lock (lock_step.End ended.Got), next.Do place.Check) ∷
     (place.Look, found.MustWait, next.Do place.Join) ∷
     (place.Look, found.Leads, next.Do place.Complete) ∷
     (place.Look, found.Past, next.Do (place.ReleaseLock ending.RefuseGenerations)) ∷
@@ -139,24 +139,24 @@ followings =
     (place.ReleasingLock ending.RefuseGenerations, found.Lock lock_step.More, next.Do (place.ReleasingLock ending.RefuseGenerations)) ∷
     (place.ReleasingLock (ending.RefuseMemory aim.Arrive), found.Lock lock_step.More, next.Do (place.ReleasingLock (ending.RefuseMemory aim.Arrive))) ∷
     (place.ReleasingLock (ending.RefuseMemory aim.Check), found.Lock lock_step.More, next.Do (place.ReleasingLock (ending.RefuseMemory aim.Check))) ∷
-    (place.ReleaseLock ending.Follow, found.Lock (lock_step.End lock_end.GivenBack), next.Ready (got.Leader false)) ∷
-    (place.ReleaseLock ending.Lead, found.Lock (lock_step.End lock_end.GivenBack), next.Ready (got.Leader true)) ∷
-    (place.ReleaseLock ending.Wait, found.Lock (lock_step.End lock_end.GivenBack), next.Do place.Ask) ∷
-    (place.ReleaseLock ending.RefuseGenerations, found.Lock (lock_step.End lock_end.GivenBack), next.End (ended.Refused refusal.Generations) (position.Made aim.Arrive)) ∷
-    (place.ReleaseLock (ending.RefuseMemory aim.Arrive), found.Lock (lock_step.End lock_end.GivenBack), next.End (ended.Refused refusal.Memory) (position.Made aim.Arrive)) ∷
-    (place.ReleaseLock (ending.RefuseMemory aim.Check), found.Lock (lock_step.End lock_end.GivenBack), next.End (ended.Refused refusal.Memory) (position.Made aim.Check)) ∷
-    (place.ReleasingLock ending.Follow, found.Lock (lock_step.End lock_end.GivenBack), next.Ready (got.Leader false)) ∷
-    (place.ReleasingLock ending.Lead, found.Lock (lock_step.End lock_end.GivenBack), next.Ready (got.Leader true)) ∷
-    (place.ReleasingLock ending.Wait, found.Lock (lock_step.End lock_end.GivenBack), next.Do place.Ask) ∷
-    (place.ReleasingLock ending.RefuseGenerations, found.Lock (lock_step.End lock_end.GivenBack), next.End (ended.Refused refusal.Generations) (position.Made aim.Arrive)) ∷
-    (place.ReleasingLock (ending.RefuseMemory aim.Arrive), found.Lock (lock_step.End lock_end.GivenBack), next.End (ended.Refused refusal.Memory) (position.Made aim.Arrive)) ∷
-    (place.ReleasingLock (ending.RefuseMemory aim.Check), found.Lock (lock_step.End lock_end.GivenBack), next.End (ended.Refused refusal.Memory) (position.Made aim.Check)) ∷
+    (place.ReleaseLock ending.Follow, found.Lock (lock_step.End ended.GivenBack), next.End ended.Got (left.Ready false)) ∷
+    (place.ReleaseLock ending.Lead, found.Lock (lock_step.End ended.GivenBack), next.End ended.Got (left.Ready true)) ∷
+    (place.ReleaseLock ending.Wait, found.Lock (lock_step.End ended.GivenBack), next.Do place.Ask) ∷
+    (place.ReleaseLock ending.RefuseGenerations, found.Lock (lock_step.End ended.GivenBack), next.End (ended.Refused refusal.Generations) (left.Outside (position.Made aim.Arrive))) ∷
+    (place.ReleaseLock (ending.RefuseMemory aim.Arrive), found.Lock (lock_step.End ended.GivenBack), next.End (ended.Refused refusal.Memory) (left.Outside (position.Made aim.Arrive))) ∷
+    (place.ReleaseLock (ending.RefuseMemory aim.Check), found.Lock (lock_step.End ended.GivenBack), next.End (ended.Refused refusal.Memory) (left.Outside (position.Made aim.Check))) ∷
+    (place.ReleasingLock ending.Follow, found.Lock (lock_step.End ended.GivenBack), next.End ended.Got (left.Ready false)) ∷
+    (place.ReleasingLock ending.Lead, found.Lock (lock_step.End ended.GivenBack), next.End ended.Got (left.Ready true)) ∷
+    (place.ReleasingLock ending.Wait, found.Lock (lock_step.End ended.GivenBack), next.Do place.Ask) ∷
+    (place.ReleasingLock ending.RefuseGenerations, found.Lock (lock_step.End ended.GivenBack), next.End (ended.Refused refusal.Generations) (left.Outside (position.Made aim.Arrive))) ∷
+    (place.ReleasingLock (ending.RefuseMemory aim.Arrive), found.Lock (lock_step.End ended.GivenBack), next.End (ended.Refused refusal.Memory) (left.Outside (position.Made aim.Arrive))) ∷
+    (place.ReleasingLock (ending.RefuseMemory aim.Check), found.Lock (lock_step.End ended.GivenBack), next.End (ended.Refused refusal.Memory) (left.Outside (position.Made aim.Check))) ∷
     (place.Ask, found.Yes, next.Do (place.EnterLock aim.Check)) ∷
-    (place.Ask, found.No, next.End ended.Pending position.Waiting) ∷
+    (place.Ask, found.No, next.End ended.Pending (left.Outside position.Waiting)) ∷
     (place.CancelLock, found.Lock lock_step.More, next.Do place.CancellingLock) ∷
-    (place.CancelLock, found.Lock (lock_step.End lock_end.GivenBack), next.End ended.GivenBack position.Out) ∷
+    (place.CancelLock, found.Lock (lock_step.End ended.GivenBack), next.End ended.GivenBack (left.Outside position.Out)) ∷
     (place.CancellingLock, found.Lock lock_step.More, next.Do place.CancellingLock) ∷
-    (place.CancellingLock, found.Lock (lock_step.End lock_end.GivenBack), next.End ended.GivenBack position.Out) ∷
-    (place.CancelLeave, found.Done, next.End ended.GivenBack position.Out) ∷
-    (place.Abandon, found.Done, next.End ended.GivenBack position.Out) ∷
+    (place.CancellingLock, found.Lock (lock_step.End ended.GivenBack), next.End ended.GivenBack (left.Outside position.Out)) ∷
+    (place.CancelLeave, found.Done, next.End ended.GivenBack (left.Outside position.Out)) ∷
+    (place.Abandon, found.Done, next.End ended.GivenBack (left.Outside position.Out)) ∷
     []

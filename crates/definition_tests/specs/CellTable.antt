@@ -1,22 +1,23 @@
 -- The places of a once-cell's programs, row by row.
 use Rattle.std.specs.Prelude.{true, false, List, [], ◌∷◌, Option, Some, None}
-use Rattle.cell_program.specs.declared.program.Action.TheVariants as act
-use Rattle.cell_program.specs.declared.program.Action.{Action}
-use Rattle.cell_program.specs.declared.program.Found.TheVariants as found
-use Rattle.cell_program.specs.declared.program.Found.{Found}
-use Rattle.cell_program.specs.declared.program.ListName.TheVariants as list
-use Rattle.cell_program.specs.declared.program.Maker.TheVariants as maker
-use Rattle.cell_program.specs.declared.program.Next.TheVariants as next
-use Rattle.cell_program.specs.declared.program.Next.{Next}
-use Rattle.cell_program.specs.declared.program.Place.TheVariants as place
-use Rattle.cell_program.specs.declared.program.Place.{Place}
-use Rattle.cell_program.specs.declared.program.Position.TheVariants as position
-use Rattle.cell_program.specs.declared.program.Position.{Position}
-use Rattle.lock_table.specs.declared.end.End.TheVariants as ended
+use Rattle.sync_program.specs.declared.once_cell.Action.TheVariants as act
+use Rattle.cell_program.specs.Program.{Action}
+use Rattle.sync_program.specs.declared.once_cell.Found.TheVariants as found
+use Rattle.cell_program.specs.Program.{Found}
+use Rattle.sync_program.specs.declared.once_cell.ListName.TheVariants as list
+use Rattle.sync_program.specs.declared.once_cell.Maker.TheVariants as maker
+use Rattle.lock_program.specs.declared.end.Next.TheVariants as next
+use Rattle.cell_program.specs.Program.{Next}
+use Rattle.sync_program.specs.declared.once_cell.Place.TheVariants as place
+use Rattle.cell_program.specs.Program.{Place}
+use Rattle.sync_program.specs.declared.once_cell.Position.TheVariants as position
+use Rattle.cell_program.specs.Program.{Position}
+use Rattle.lock_program.specs.declared.end.End.TheVariants as ended
 use Rattle.lock_world.specs.declared.moves.Call.TheVariants as call
 use Rattle.lock_world.specs.declared.moves.Call.{Call}
-use Rattle.lock_world.specs.declared.moves.Got.TheVariants as got
-use Rattle.lock_world.specs.declared.refusal.Refusal.TheVariants as refusal
+use Rattle.sync_program.specs.declared.once_cell.Got.TheVariants as got
+use Rattle.sync_program.specs.declared.once_cell.Left.TheVariants as left
+use Rattle.lock_program.specs.declared.refusal.Refusal.TheVariants as refusal
 
 -- Where a call begins for a party that stands there; None where it can't.
 abbrev pub beginnings : List (Call × Position × Option Place)
@@ -105,16 +106,16 @@ abbrev pub followings : List (Place × Found × Next)
 followings =
     (place.Claim maker.Closure false, found.Empty, next.Do (place.Make maker.Closure)) ∷
     (place.Claim maker.Closure false, found.BeingMade, next.Do (place.JoinActive maker.Closure false)) ∷
-    (place.Claim maker.Closure false, found.Full 9, next.Ready (got.Value 9)) ∷
+    (place.Claim maker.Closure false, found.Full 9, next.End ended.Got (left.Ready (got.Value 9))) ∷
     (place.Claim (maker.Given 4) false, found.Empty, next.Do (place.Make (maker.Given 4))) ∷
     (place.Claim (maker.Given 4) false, found.BeingMade, next.Do (place.JoinActive (maker.Given 4) false)) ∷
-    (place.Claim (maker.Given 4) false, found.Full 9, next.Ready (got.Taken 4)) ∷
+    (place.Claim (maker.Given 4) false, found.Full 9, next.End ended.Got (left.Ready (got.Taken 4))) ∷
     (place.Claim maker.Closure true, found.Empty, next.Do (place.Make maker.Closure)) ∷
     (place.Claim maker.Closure true, found.BeingMade, next.Do (place.JoinActive maker.Closure true)) ∷
-    (place.Claim maker.Closure true, found.Full 9, next.Ready (got.Value 9)) ∷
+    (place.Claim maker.Closure true, found.Full 9, next.End ended.Got (left.Ready (got.Value 9))) ∷
     (place.Claim (maker.Given 4) true, found.Empty, next.Do (place.Make (maker.Given 4))) ∷
     (place.Claim (maker.Given 4) true, found.BeingMade, next.Do (place.JoinActive (maker.Given 4) true)) ∷
-    (place.Claim (maker.Given 4) true, found.Full 9, next.Ready (got.Taken 4)) ∷
+    (place.Claim (maker.Given 4) true, found.Full 9, next.End ended.Got (left.Ready (got.Taken 4))) ∷
     (place.ClaimListed maker.Closure, found.Empty, next.Do (place.LeaveToMake maker.Closure)) ∷
     (place.ClaimListed maker.Closure, found.BeingMade, next.Do (place.AskActive maker.Closure)) ∷
     (place.ClaimListed maker.Closure, found.Full 9, next.Do (place.LeaveFull maker.Closure 9)) ∷
@@ -123,57 +124,57 @@ followings =
     (place.ClaimListed (maker.Given 4), found.Full 9, next.Do (place.LeaveFull (maker.Given 4) 9)) ∷
     (place.JoinActive maker.Closure false, found.Done, next.Do (place.ClaimListed maker.Closure)) ∷
     (place.JoinActive maker.Closure true, found.Done, next.Do (place.ClaimListed maker.Closure)) ∷
-    (place.JoinActive maker.Closure false, found.NoMemory, next.End (ended.Refused refusal.Memory)) ∷
+    (place.JoinActive maker.Closure false, found.NoMemory, next.End (ended.Refused refusal.Memory) (left.Outside (position.ToMake maker.Closure))) ∷
     (place.JoinActive maker.Closure true, found.NoMemory, next.Do (place.RefuseActive maker.Closure)) ∷
     (place.JoinActive (maker.Given 4) false, found.Done, next.Do (place.ClaimListed (maker.Given 4))) ∷
     (place.JoinActive (maker.Given 4) true, found.Done, next.Do (place.ClaimListed (maker.Given 4))) ∷
-    (place.JoinActive (maker.Given 4) false, found.NoMemory, next.End (ended.Refused refusal.Memory)) ∷
+    (place.JoinActive (maker.Given 4) false, found.NoMemory, next.End (ended.Refused refusal.Memory) (left.Outside (position.ToMake (maker.Given 4)))) ∷
     (place.JoinActive (maker.Given 4) true, found.NoMemory, next.Do (place.RefuseActive (maker.Given 4))) ∷
     (place.AskActive maker.Closure, found.Yes, next.Do (place.Claim maker.Closure true)) ∷
-    (place.AskActive maker.Closure, found.No, next.End ended.Pending) ∷
+    (place.AskActive maker.Closure, found.No, next.End ended.Pending (left.Outside (position.WaitingToMake maker.Closure))) ∷
     (place.AskActive (maker.Given 4), found.Yes, next.Do (place.Claim (maker.Given 4) true)) ∷
-    (place.AskActive (maker.Given 4), found.No, next.End ended.Pending) ∷
+    (place.AskActive (maker.Given 4), found.No, next.End ended.Pending (left.Outside (position.WaitingToMake (maker.Given 4)))) ∷
     (place.LeaveToMake maker.Closure, found.Done, next.Do (place.Make maker.Closure)) ∷
     (place.LeaveToMake (maker.Given 4), found.Done, next.Do (place.Make (maker.Given 4))) ∷
-    (place.Make maker.Closure, found.NotYet, next.End ended.Pending) ∷
+    (place.Make maker.Closure, found.NotYet, next.End ended.Pending (left.Outside (position.Making maker.Closure))) ∷
     (place.Make maker.Closure, found.Made 7, next.Do (place.Fill 7)) ∷
     (place.Make maker.Closure, found.Failed, next.Do place.Fail) ∷
     (place.Make (maker.Given 4), found.Made 4, next.Do (place.Fill 4)) ∷
     (place.Fill 7, found.Done, next.Do (place.NotifyActive 7)) ∷
     (place.NotifyActive 7, found.Done, next.Do (place.NotifyPassive 7)) ∷
-    (place.NotifyPassive 7, found.Done, next.Ready (got.Value 7)) ∷
+    (place.NotifyPassive 7, found.Done, next.End ended.Got (left.Ready (got.Value 7))) ∷
     (place.Fail, found.Done, next.Do place.FailNotify) ∷
-    (place.FailNotify, found.Done, next.Ready got.Failed) ∷
-    (place.LeaveFull maker.Closure 9, found.Done, next.Ready (got.Value 9)) ∷
-    (place.LeaveFull (maker.Given 4) 9, found.Done, next.Ready (got.Taken 4)) ∷
-    (place.RefuseActive maker.Closure, found.Done, next.End (ended.Refused refusal.Memory)) ∷
-    (place.RefuseActive (maker.Given 4), found.Done, next.End (ended.Refused refusal.Memory)) ∷
-    (place.Look false, found.Full 9, next.Ready (got.Value 9)) ∷
+    (place.FailNotify, found.Done, next.End ended.Got (left.Ready got.Failed)) ∷
+    (place.LeaveFull maker.Closure 9, found.Done, next.End ended.Got (left.Ready (got.Value 9))) ∷
+    (place.LeaveFull (maker.Given 4) 9, found.Done, next.End ended.Got (left.Ready (got.Taken 4))) ∷
+    (place.RefuseActive maker.Closure, found.Done, next.End (ended.Refused refusal.Memory) (left.Outside (position.ToMake maker.Closure))) ∷
+    (place.RefuseActive (maker.Given 4), found.Done, next.End (ended.Refused refusal.Memory) (left.Outside (position.ToMake (maker.Given 4)))) ∷
+    (place.Look false, found.Full 9, next.End ended.Got (left.Ready (got.Value 9))) ∷
     (place.Look false, found.Empty, next.Do (place.JoinPassive false)) ∷
     (place.Look false, found.BeingMade, next.Do (place.JoinPassive false)) ∷
-    (place.Look true, found.Full 9, next.Ready (got.Value 9)) ∷
+    (place.Look true, found.Full 9, next.End ended.Got (left.Ready (got.Value 9))) ∷
     (place.Look true, found.Empty, next.Do (place.JoinPassive true)) ∷
     (place.Look true, found.BeingMade, next.Do (place.JoinPassive true)) ∷
     (place.JoinPassive false, found.Done, next.Do place.LookListed) ∷
     (place.JoinPassive true, found.Done, next.Do place.LookListed) ∷
-    (place.JoinPassive false, found.NoMemory, next.End (ended.Refused refusal.Memory)) ∷
+    (place.JoinPassive false, found.NoMemory, next.End (ended.Refused refusal.Memory) (left.Outside position.ToWait)) ∷
     (place.JoinPassive true, found.NoMemory, next.Do place.RefusePassive) ∷
     (place.LookListed, found.Empty, next.Do place.AskPassive) ∷
     (place.LookListed, found.BeingMade, next.Do place.AskPassive) ∷
     (place.LookListed, found.Full 9, next.Do (place.LeavePassive 9)) ∷
     (place.AskPassive, found.Yes, next.Do (place.Look true)) ∷
-    (place.AskPassive, found.No, next.End ended.Pending) ∷
-    (place.LeavePassive 9, found.Done, next.Ready (got.Value 9)) ∷
-    (place.RefusePassive, found.Done, next.End (ended.Refused refusal.Memory)) ∷
+    (place.AskPassive, found.No, next.End ended.Pending (left.Outside position.Waiting)) ∷
+    (place.LeavePassive 9, found.Done, next.End ended.Got (left.Ready (got.Value 9))) ∷
+    (place.RefusePassive, found.Done, next.End (ended.Refused refusal.Memory) (left.Outside position.ToWait)) ∷
     (place.Try 3, found.Empty, next.Do (place.TryFill 3)) ∷
-    (place.Try 3, found.BeingMade, next.End ended.NotFree) ∷
-    (place.Try 3, found.Full 9, next.End ended.NotFree) ∷
+    (place.Try 3, found.BeingMade, next.End ended.NotFree (left.Outside position.Out)) ∷
+    (place.Try 3, found.Full 9, next.End ended.NotFree (left.Outside position.Out)) ∷
     (place.TryFill 3, found.Done, next.Do (place.TryNotifyActive 3)) ∷
     (place.TryNotifyActive 3, found.Done, next.Do (place.TryNotifyPassive 3)) ∷
-    (place.TryNotifyPassive 3, found.Done, next.End ended.Granted) ∷
+    (place.TryNotifyPassive 3, found.Done, next.End ended.Granted (left.Outside position.Out)) ∷
     (place.CancelMake, found.Done, next.Do place.CancelNotify) ∷
-    (place.CancelNotify, found.Done, next.End ended.GivenBack) ∷
-    (place.CancelLeave list.Active, found.Done, next.End ended.GivenBack) ∷
-    (place.CancelLeave list.Passive, found.Done, next.End ended.GivenBack) ∷
-    (place.Abandon, found.Done, next.End ended.GivenBack) ∷
+    (place.CancelNotify, found.Done, next.End ended.GivenBack (left.Outside position.Out)) ∷
+    (place.CancelLeave list.Active, found.Done, next.End ended.GivenBack (left.Outside position.Out)) ∷
+    (place.CancelLeave list.Passive, found.Done, next.End ended.GivenBack (left.Outside position.Out)) ∷
+    (place.Abandon, found.Done, next.End ended.GivenBack (left.Outside position.Out)) ∷
     []

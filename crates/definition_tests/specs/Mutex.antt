@@ -11,7 +11,7 @@ use Rattle.lock_world.specs.declared.moves.Got.{Got}
 use Rattle.lock_world.specs.declared.moves.Inputs.{Inputs}
 use Rattle.lock_world.specs.declared.moves.Move.{Move}
 use Rattle.lock_world.specs.declared.moves.What.TheVariants.{Begin, Go}
-use Rattle.lock_world.specs.declared.refusal.Refusal.TheVariants.{Memory, Starved}
+use Rattle.lock_program.specs.declared.refusal.Refusal.TheVariants.{Memory, Starved}
 use Rattle.lock_world.specs.declared.standing.Kind.TheVariants.{Drop}
 use Rattle.lock_world.specs.declared.standing.Rest.{Rest}
 use Rattle.lock_world.specs.declared.standing.Rest.TheVariants.{Pending, Holding}

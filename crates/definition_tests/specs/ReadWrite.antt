@@ -9,7 +9,7 @@ use Rattle.lock_world.specs.declared.moves.Call.TheVariants as call
 use Rattle.lock_world.specs.declared.moves.Inputs.{Inputs}
 use Rattle.lock_world.specs.declared.moves.Move.{Move}
 use Rattle.lock_world.specs.declared.moves.What.TheVariants.{Begin, Go}
-use Rattle.lock_world.specs.declared.refusal.Refusal.TheVariants.{Memory, Readers, Starved}
+use Rattle.lock_program.specs.declared.refusal.Refusal.TheVariants.{Memory, Readers, Starved}
 use Rattle.lock_world.specs.declared.standing.Kind.TheVariants.{Downgrade, Drop}
 use Rattle.lock_world.specs.declared.standing.Rest.{Rest}
 use Rattle.lock_world.specs.declared.standing.Rest.TheVariants.{Pending, Holding}

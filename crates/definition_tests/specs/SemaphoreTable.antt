@@ -1,19 +1,19 @@
 -- The places of a semaphore's programs, row by row.
 use Rattle.std.specs.Prelude.{true, false, List, [], ◌∷◌, Option, Some, None}
-use Rattle.lock_table.specs.declared.end.End.TheVariants as ended
+use Rattle.lock_program.specs.declared.end.End.TheVariants as ended
 use Rattle.lock_world.specs.declared.moves.Call.TheVariants as call
 use Rattle.lock_world.specs.declared.moves.Call.{Call}
-use Rattle.lock_world.specs.declared.refusal.Refusal.TheVariants as refusal
-use Rattle.semaphore_machine.specs.declared.program.Action.TheVariants as act
-use Rattle.semaphore_machine.specs.declared.program.Action.{Action}
-use Rattle.semaphore_machine.specs.declared.program.Found.TheVariants as found
-use Rattle.semaphore_machine.specs.declared.program.Found.{Found}
-use Rattle.semaphore_machine.specs.declared.program.Next.TheVariants as next
-use Rattle.semaphore_machine.specs.declared.program.Next.{Next}
-use Rattle.semaphore_machine.specs.declared.program.Place.TheVariants as place
-use Rattle.semaphore_machine.specs.declared.program.Place.{Place}
-use Rattle.semaphore_machine.specs.declared.program.Position.TheVariants as position
-use Rattle.semaphore_machine.specs.declared.program.Position.{Position}
+use Rattle.lock_program.specs.declared.refusal.Refusal.TheVariants as refusal
+use Rattle.sync_program.specs.declared.semaphore.Action.TheVariants as act
+use Rattle.sync_program.specs.declared.semaphore.Action.{Action}
+use Rattle.sync_program.specs.declared.semaphore.Found.TheVariants as found
+use Rattle.sync_program.specs.declared.semaphore.Found.{Found}
+use Rattle.lock_program.specs.declared.end.Next.TheVariants as next
+use Rattle.lock_program.specs.declared.end.Next.{Next}
+use Rattle.sync_program.specs.declared.semaphore.Place.TheVariants as place
+use Rattle.sync_program.specs.declared.semaphore.Place.{Place}
+use Rattle.sync_program.specs.declared.semaphore.Position.TheVariants as position
+use Rattle.sync_program.specs.declared.semaphore.Position.{Position}
 
 -- Where a call begins for a party that stands there; None where it can't.
 abbrev pub beginnings : List (Call × Position × Option Place)
@@ -68,10 +68,10 @@ actions =
     []
 
 -- What comes after a place whose action found this.
-abbrev pub followings : List (Place × Found × Next)
+abbrev pub followings : List (Place × Found × Next Place Position)
 followings =
-    (place.Take false false, found.Taken true, next.End ended.Got) ∷
-    (place.Take false false, found.Taken false, next.End ended.Got) ∷
+    (place.Take false false, found.Taken true, next.End ended.Got position.Holding) ∷
+    (place.Take false false, found.Taken false, next.End ended.Got position.Holding) ∷
     (place.Take true false, found.Taken true, next.Do (place.Leave false)) ∷
     (place.Take true false, found.Taken false, next.Do (place.Leave false)) ∷
     (place.Take false false, found.NoneLeft, next.Do (place.Join false)) ∷
@@ -79,7 +79,7 @@ followings =
     (place.Take true false, found.NoneLeft, next.Do place.Ask) ∷
     (place.Take true true, found.NoneLeft, next.Do place.Ask) ∷
     (place.Take false true, found.Taken true, next.Do place.HandOn) ∷
-    (place.Take false true, found.Taken false, next.End ended.Got) ∷
+    (place.Take false true, found.Taken false, next.End ended.Got position.Holding) ∷
     (place.Take true true, found.Taken true, next.Do (place.Leave true)) ∷
     (place.Take true true, found.Taken false, next.Do (place.Leave false)) ∷
     (place.Retake, found.Taken true, next.Do (place.Leave false)) ∷
@@ -87,24 +87,24 @@ followings =
     (place.Retake, found.NoneLeft, next.Do place.Ask) ∷
     (place.Join false, found.Done, next.Do (place.Take true false)) ∷
     (place.Join true, found.Done, next.Do (place.Take true true)) ∷
-    (place.Join false, found.NoMemory, next.End (ended.Refused refusal.Memory)) ∷
+    (place.Join false, found.NoMemory, next.End (ended.Refused refusal.Memory) position.Out) ∷
     (place.Join true, found.NoMemory, next.Do place.RefuseNotify) ∷
     (place.Ask, found.Yes, next.Do (place.Take false true)) ∷
-    (place.Ask, found.No, next.End ended.Pending) ∷
+    (place.Ask, found.No, next.End ended.Pending position.Waiting) ∷
     (place.Leave true, found.Done, next.Do place.HandOn) ∷
-    (place.Leave false, found.Done, next.End ended.Got) ∷
-    (place.HandOn, found.Done, next.End ended.Got) ∷
-    (place.RefuseNotify, found.Done, next.End (ended.Refused refusal.Memory)) ∷
-    (place.Try, found.Taken true, next.End ended.Granted) ∷
-    (place.Try, found.Taken false, next.End ended.Granted) ∷
-    (place.Try, found.NoneLeft, next.End ended.NotFree) ∷
-    (place.Lower, found.Done, next.End ended.GivenBack) ∷
+    (place.Leave false, found.Done, next.End ended.Got position.Holding) ∷
+    (place.HandOn, found.Done, next.End ended.Got position.Holding) ∷
+    (place.RefuseNotify, found.Done, next.End (ended.Refused refusal.Memory) position.Out) ∷
+    (place.Try, found.Taken true, next.End ended.Granted position.Holding) ∷
+    (place.Try, found.Taken false, next.End ended.Granted position.Holding) ∷
+    (place.Try, found.NoneLeft, next.End ended.NotFree position.Out) ∷
+    (place.Lower, found.Done, next.End ended.GivenBack position.Out) ∷
     (place.GiveBack, found.Done, next.Do place.GiveBackNotify) ∷
-    (place.GiveBackNotify, found.Done, next.End ended.GivenBack) ∷
+    (place.GiveBackNotify, found.Done, next.End ended.GivenBack position.Out) ∷
     (place.Raise 2, found.Done, next.Do (place.GiveAdded 2)) ∷
-    (place.Raise 2, found.PastLimit, next.End (ended.Refused refusal.Permits)) ∷
+    (place.Raise 2, found.PastLimit, next.End (ended.Refused refusal.Permits) position.Out) ∷
     (place.GiveAdded 2, found.Done, next.Do (place.NotifyAdded 2)) ∷
-    (place.NotifyAdded 2, found.Done, next.End ended.Granted) ∷
-    (place.CancelLeave, found.Done, next.End ended.GivenBack) ∷
-    (place.Abandon, found.Done, next.End ended.GivenBack) ∷
+    (place.NotifyAdded 2, found.Done, next.End ended.Granted position.Out) ∷
+    (place.CancelLeave, found.Done, next.End ended.GivenBack position.Out) ∷
+    (place.Abandon, found.Done, next.End ended.GivenBack position.Out) ∷
     []

@@ -2,7 +2,8 @@
 
 ghost use Rattle.definition_tests.specs.Tables.{AreRowsOf, AreRowsOfTwo};
 ghost use Rattle.definition_tests.specs.CellTable.{beginnings, actions, followings};
-ghost use Rattle.cell_program.specs.Program.{start_of, action_of, next_of};
+ghost use Rattle.sync_program.specs.OnceCell.{action_of, next_of};
+ghost use Rattle.cell_program.specs.Program.{start_of};
 ghost use Rattle.definition_tests.specs.Never.{Never};
 ghost use Rattle.definition_tests.specs.Cell.{EntersTwice, EndsByNothing, FillsAnother, MakesAnother, ReadyTooSoon, WaitsWithoutMaking, WaitsInPassive, WaitsInActive, TriesInVain, TriesWhileMade, LosesItsOwn, StaysMade, TellsNobody, PassesOverInVain, KeepsItsTold, LeftUntold, GoesOnUndecided, DropsListed, MakesAndWaits, RefusesMaker, MarksUndecided, GrantsNothing, HasAnotherBack, FailsUntold, DropsUntold, RefusedUntold, WaitsThoughTold, GoesOnUntold, WaitsForFull, RefusedToMake, LeftToNobody, TellsAnyone, TellsPassive, LosesWhatWasMade, JoinsUnlooked, KeepsItsMark, DropsOn, LingersWithValue, MakesAfterFailure, MakerJoins, MadeByNobody, FillsUntold};
 

@@ -2,7 +2,7 @@
 
 ghost use Rattle.definition_tests.specs.Tables.{AreRowsOf, AreRowsOfTwo};
 ghost use Rattle.definition_tests.specs.MutexTable.{beginnings, actions, followings};
-ghost use Rattle.mutex_program.specs.Program.{start_of, action_of, next_of};
+ghost use Rattle.lock_program.specs.Mutex.{start_of, action_of, next_of};
 ghost use Rattle.definition_tests.specs.Never.{Never};
 ghost use Rattle.definition_tests.specs.Mutex.{TriesInVain, PollsUnready, WaitsUnlisted, WaitsUnmarked, PendsTooEarly, RefusedAtFirst, RefusedHavingTaken, LetsGoUndecided, DropsUndecided, DecidesInVain, StarvedHavingTaken, StarvedTwice, StarvedAtFirst, StarvesUnlisted, HoldsRefused, ReadyWithout, TellsMore, TriesAndTells, StarvesAtFirst, PollsUntold, ReleasesLate, ReleasesSilently, PassesOverInVain, RefusedInVain, StarvesUnasked, StarvedAmongNone, KeepsItsTold};
 

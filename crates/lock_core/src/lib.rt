@@ -22,7 +22,7 @@ pub mod semaphore {
 /// A once-cell, from the crate `cell_world`.
 pub mod cell {
     pub use cell_program::Content;
-    pub use cell_program::program::ListName;
+    pub use sync_program::once_cell::ListName;
     pub use cell_world::World;
 }
 
@@ -33,4 +33,5 @@ pub mod barrier {
 
 pub use lock_event::{Entry, Mark, Memory};
 pub use lock_frame::AnyWorld;
-pub use lock_world::{Answer, Call, Got, Inputs, Made, Move, Refusal, What};
+pub use lock_program::Refusal;
+pub use lock_world::{Answer, Call, Got, Inputs, Made, Move, What};

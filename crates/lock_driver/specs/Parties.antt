@@ -8,21 +8,21 @@ use Rattle.lock_words.specs.Heard.{IsKept}
 use Rattle.lock_words.specs.Lock.{Lock, Seated}
 use Rattle.lock_words.specs.declared.duty.Owed.{Owed}
 use Rattle.lock_words.specs.declared.waiting_list.Listed.{Listed}
-use Rattle.lock_world.specs.declared.refusal.Refusal.{Refusal}
-use Rattle.lock_world.specs.declared.refusal.Refusal.TheVariants.{Memory, Starved}
+use Rattle.lock_program.specs.declared.refusal.Refusal.{Refusal}
+use Rattle.lock_program.specs.declared.refusal.Refusal.TheVariants.{Memory, Starved}
 use Rattle.lock_words.specs.Tries.{Holds}
-use Rattle.mutex_program.specs.declared.program.Action.{Action}
-use Rattle.mutex_program.specs.declared.program.Action.TheVariants as act
-use Rattle.mutex_program.specs.declared.calls.End.{End}
-use Rattle.mutex_program.specs.declared.calls.End.TheVariants as ending
-use Rattle.mutex_program.specs.declared.program.Found.{Found}
-use Rattle.mutex_program.specs.declared.program.Found.TheVariants.{Done, Free, Held, SomeStarved, AtLimit, NoMemory, Yes, No}
-use Rattle.mutex_program.specs.declared.program.Next.{Next}
-use Rattle.mutex_program.specs.declared.program.Next.TheVariants as next
-use Rattle.mutex_program.specs.declared.program.Place.{Place}
-use Rattle.mutex_program.specs.declared.program.Place.TheVariants.{Out, Holding, Join, Look, Ask, Retry, PassOn, Count, JoinStarved, LookAlone, PassOnListed, AskStarved, Seize, RefuseUncount, RefuseLeave, RefuseNotifyMemory, RefuseNotifyStarved, ReleaseNotify}
-use Rattle.mutex_program.specs.Program.{next_of, place_after}
-use Rattle.mutex_program.specs.Roles.{listed, is_holder, is_counted}
+use Rattle.lock_program.specs.declared.mutex.Action.{Action}
+use Rattle.lock_program.specs.declared.mutex.Action.TheVariants as act
+use Rattle.lock_program.specs.declared.end.End.{End}
+use Rattle.lock_program.specs.declared.end.End.TheVariants as ending
+use Rattle.lock_program.specs.declared.mutex.Found.{Found}
+use Rattle.lock_program.specs.declared.mutex.Found.TheVariants.{Done, Free, Held, SomeStarved, AtLimit, NoMemory, Yes, No}
+use Rattle.lock_program.specs.declared.end.Next.{Next}
+use Rattle.lock_program.specs.declared.end.Next.TheVariants as next
+use Rattle.lock_program.specs.declared.mutex.Place.{Place}
+use Rattle.lock_program.specs.declared.mutex.Place.TheVariants.{Out, Holding, Join, Look, Ask, Retry, PassOn, Count, JoinStarved, LookAlone, PassOnListed, AskStarved, Seize, RefuseUncount, RefuseLeave, RefuseNotifyMemory, RefuseNotifyStarved, ReleaseNotify}
+use Rattle.lock_program.specs.Mutex.{next_of, place_after}
+use Rattle.lock_program.specs.MutexRoles.{listed, is_holder, is_counted}
 
 -- what a party has: the right to the value, a count as starved, an entry in the list, a notification to pass on
 pub record Having : Type 0 where

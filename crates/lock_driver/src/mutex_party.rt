@@ -5,13 +5,13 @@ ghost use Rattle.futures.specs.Task.{Keeps};
 ghost use Rattle.lock_driver.specs.Parties.{IsReceipt, IfPending, AsksNo};
 ghost use Rattle.lock_words.specs.Lock.{cleared};
 ghost use Rattle.lock_words.specs.Tries.{Holds};
-ghost use Rattle.mutex_program.specs.Program.{rest_at, start_of, action_of, next_of};
-ghost use Rattle.mutex_program.specs.declared.program.Action.TheVariants as does;
-ghost use Rattle.mutex_program.specs.declared.calls.End.TheVariants as ends;
-ghost use Rattle.mutex_program.specs.declared.program.Found.TheVariants as finds;
-ghost use Rattle.mutex_program.specs.declared.calls.LockCall.TheVariants as calls;
-ghost use Rattle.mutex_program.specs.declared.program.Next.TheVariants as next;
-ghost use Rattle.mutex_program.specs.declared.program.Place.TheVariants as at;
+ghost use Rattle.lock_program.specs.Mutex.{rest_at, start_of, action_of, next_of};
+ghost use Rattle.lock_program.specs.declared.mutex.Action.TheVariants as does;
+ghost use Rattle.lock_program.specs.declared.end.End.TheVariants as ends;
+ghost use Rattle.lock_program.specs.declared.mutex.Found.TheVariants as finds;
+ghost use Rattle.lock_program.specs.declared.mutex.LockCall.TheVariants as calls;
+ghost use Rattle.lock_program.specs.declared.end.Next.TheVariants as next;
+ghost use Rattle.lock_program.specs.declared.mutex.Place.TheVariants as at;
 
 use crate::carries::Carries;
 use futures::task::Context;
@@ -19,8 +19,10 @@ use lock_words::{
     Counting, Heard, Hold, ListId, Listed, Owed, Seat, Setting, Taking, TakingAlone, Words,
     nothing, put,
 };
-use mutex_program::calls::{End, LockCall};
-use mutex_program::program::{Action, Found, Next, Place, action_at, decide, start};
+use lock_program::mutex::LockCall;
+use lock_program::End;
+use lock_program::mutex::{Action, Found, Place, action_at, decide, start};
+use lock_program::Next;
 use std::sync::Wait;
 use std::time::{Clock, Duration, Instant};
 

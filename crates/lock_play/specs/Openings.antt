@@ -8,8 +8,8 @@ use Rattle.rwlock_world.specs.State as rwlock
 use Rattle.semaphore_world.specs.State as semaphore
 use Rattle.cell_world.specs.State as cell
 use Rattle.barrier_world.specs.State as barrier
-use Rattle.lock_world.specs.declared.refusal.Refusal.{Refusal}
-use Rattle.lock_world.specs.declared.refusal.Refusal.TheVariants.{Memory, Permits}
+use Rattle.lock_program.specs.declared.refusal.Refusal.{Refusal}
+use Rattle.lock_program.specs.declared.refusal.Refusal.TheVariants.{Memory, Permits}
 use Rattle.lock_script.specs.declared.command.Model.{Model}
 use Rattle.lock_script.specs.declared.command.Model.TheVariants as model
 use Rattle.lock_play.specs.declared.world.World.{World}

@@ -2,7 +2,7 @@
 
 ghost use Rattle.std.specs.Prelude.{◌≡◌, ℕ, List, IfOk, IfErr};
 ghost use Rattle.lock_script.specs.declared.command.Model.TheVariants as model;
-ghost use Rattle.lock_world.specs.declared.refusal.Refusal.{Refusal};
+ghost use Rattle.lock_program.specs.declared.refusal.Refusal.{Refusal};
 ghost use Rattle.lock_answers.specs.Answers.{Prints};
 ghost use Rattle.lock_play.specs.Openings.{world_of, HasTooManyPermits, IsRefusedFor};
 ghost use Rattle.lock_play.specs.Worlds.{CarriesOut};

@@ -7,8 +7,8 @@ use Rattle.lock_world.specs.declared.moves.Call.TheVariants.{Poll}
 use Rattle.lock_world.specs.declared.moves.Move.{Move}
 use Rattle.lock_world.specs.declared.moves.What.{What}
 use Rattle.lock_world.specs.declared.moves.What.TheVariants.{Begin}
-use Rattle.lock_world.specs.declared.refusal.Refusal.{Refusal}
-use Rattle.lock_world.specs.declared.refusal.Refusal.TheVariants as refusal
+use Rattle.lock_program.specs.declared.refusal.Refusal.{Refusal}
+use Rattle.lock_program.specs.declared.refusal.Refusal.TheVariants as refusal
 use Rattle.lock_world.specs.declared.standing.Kind.TheVariants.{LaterPoll}
 use Rattle.lock_world.specs.declared.standing.Rest.{Rest}
 use Rattle.lock_world.specs.declared.standing.Rest.TheVariants.{Holding, Finished}

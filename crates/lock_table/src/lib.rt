@@ -7,6 +7,6 @@ mod machine;
 mod stages;
 mod table;
 
-pub use end::End;
+pub use end::answer;
 pub use machine::{Machine, Valued};
 pub use table::Table;

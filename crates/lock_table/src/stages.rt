@@ -5,7 +5,8 @@ ghost use Rattle.lock_world.specs.Standings.{may_begin as may_begin_lem, rest_af
 ghost use Rattle.lock_table.specs.Stages.{stage_after as stage_after_lem, polls_again as polls_again_lem};
 
 use lock_world::standing::{Kind, Rest, Stage, Within};
-use lock_world::{Answer, Call, Refusal, What};
+use lock_program::Refusal;
+use lock_world::{Answer, Call, What};
 
 /// Whether a party that stands so may begin a call of this kind.
 pub(crate) fn may_begin(was: Rest, kind: Kind) -> bool

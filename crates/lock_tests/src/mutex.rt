@@ -2,8 +2,10 @@
 
 use crate::same::assert_same;
 use mutex_machine::{Lock, Mutex};
-use mutex_program::calls::{End, LockCall, Step};
-use mutex_program::program::{Next, Place};
+use lock_program::mutex::{LockCall, Step};
+use lock_program::End;
+use lock_program::mutex::Place;
+use mutex_program::led::Next;
 use std::alloc::{AllocError, Global};
 
 /// Whether a lock is held, how many are starved and wait, and whether its list ends there.

@@ -2,7 +2,7 @@
 
 use crate::room;
 use crate::same::assert_same;
-use lock_world::Refusal;
+use lock_program::Refusal;
 use std::alloc::Global;
 use std::io::Write;
 use std::test::Fail;

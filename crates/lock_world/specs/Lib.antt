@@ -1,4 +1,3 @@
-pub mod Refusals
 pub mod Standings
 pub mod Steps
 pub mod Rights

@@ -144,7 +144,7 @@ pub enum Answer {
     GivenBack,
     /// The upgrade began.
     Waiting,
-    /// The call gave up, for the reason of this number: see [`Refusal`](crate::Refusal).
+    /// The call gave up, for the reason of this number: see `lock_program::Refusal`.
     Refused(u8),
     /// The party couldn't make this move. Nothing changed.
     NotPossible,

@@ -3,14 +3,14 @@ use Rattle.std.specs.Prelude.{◌≡◌, ◌≢◌, ℕ, zero, suc, ◌+◌, ◌
 use Rattle.std.specs.List.{sum_by}
 use Rattle.lock_event.specs.Lists.{marked_count, is_marked_at}
 use Rattle.lock_queue.specs.Parties.{is_party}
-use Rattle.lock_world.specs.declared.refusal.Refusal.TheVariants.{Starved}
-use Rattle.mutex_program.specs.declared.calls.LockCall.{LockCall}
-use Rattle.mutex_program.specs.declared.calls.LockCall.TheVariants as call
-use Rattle.mutex_program.specs.declared.calls.End.{End}
-use Rattle.mutex_program.specs.declared.calls.End.TheVariants.{Got, Pending, Refused}
-use Rattle.mutex_program.specs.declared.program.Next.{Next}
-use Rattle.mutex_program.specs.declared.calls.Step.{Step}
-use Rattle.mutex_program.specs.declared.calls.Step.TheVariants as step
+use Rattle.lock_program.specs.declared.refusal.Refusal.TheVariants.{Starved}
+use Rattle.lock_program.specs.declared.mutex.LockCall.{LockCall}
+use Rattle.lock_program.specs.declared.mutex.LockCall.TheVariants as call
+use Rattle.lock_program.specs.declared.end.End.{End}
+use Rattle.lock_program.specs.declared.end.End.TheVariants.{Got, Pending, Refused}
+use Rattle.mutex_program.specs.declared.led.Next.{Next}
+use Rattle.lock_program.specs.declared.mutex.Step.{Step}
+use Rattle.lock_program.specs.declared.mutex.Step.TheVariants as step
 use Rattle.mutex_machine.specs.Course.{counted, is_waiting, out, holding, waiting}
 use Rattle.mutex_machine.specs.Behind.{reveal}
 use Rattle.mutex_machine.specs.Mutex.{Mutex, course_at, holders, starved, IsStarved, IsAtRest}

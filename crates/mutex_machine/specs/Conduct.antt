@@ -4,15 +4,15 @@ use Rattle.lock_event.specs.declared.event.Entry.{Entry}
 use Rattle.lock_event.specs.declared.event.Mark.TheVariants.{Waiting}
 use Rattle.lock_event.specs.Lists.{mark_at, marked_count}
 use Rattle.lock_queue.specs.Parties.{is_party, entries_of}
-use Rattle.lock_world.specs.declared.refusal.Refusal.{Refusal}
-use Rattle.lock_world.specs.declared.refusal.Refusal.TheVariants.{Memory, Starved}
+use Rattle.lock_program.specs.declared.refusal.Refusal.{Refusal}
+use Rattle.lock_program.specs.declared.refusal.Refusal.TheVariants.{Memory, Starved}
 use Rattle.lock_world.specs.Steps.{Deed, nothing, changes, does, joins}
-use Rattle.mutex_program.specs.declared.calls.LockCall.{LockCall}
-use Rattle.mutex_program.specs.declared.calls.LockCall.TheVariants as call
-use Rattle.mutex_program.specs.declared.calls.End.{End}
-use Rattle.mutex_program.specs.declared.calls.End.TheVariants.{Got, Pending, NotFree, GivenBack, Refused}
-use Rattle.mutex_program.specs.declared.calls.Step.{Step}
-use Rattle.mutex_program.specs.declared.calls.Step.TheVariants as step
+use Rattle.lock_program.specs.declared.mutex.LockCall.{LockCall}
+use Rattle.lock_program.specs.declared.mutex.LockCall.TheVariants as call
+use Rattle.lock_program.specs.declared.end.End.{End}
+use Rattle.lock_program.specs.declared.end.End.TheVariants.{Got, Pending, NotFree, GivenBack, Refused}
+use Rattle.lock_program.specs.declared.mutex.Step.{Step}
+use Rattle.lock_program.specs.declared.mutex.Step.TheVariants as step
 use Rattle.mutex_machine.specs.Course.{Course, counted, decision, is_waiting, is_called, is_counting, is_told}
 use Rattle.mutex_machine.specs.Deeds.{Change, takes, releases, starves, recovers, ListName, holder_after, starved_after, entries_after, gives_back, gives_up, is_release, is_fresh}
 use Rattle.mutex_machine.specs.Mutex.{Mutex, course_at, holders, starved, Holds, IsStarved, holder_of, starved_of}
@@ -34,7 +34,7 @@ IsReason memory p old new NotFree = (holders old ≡ 1) ⊎ (0 < starved old)
 IsReason memory p old new GivenBack = Unit {0}
 IsReason memory p old new (Refused Memory) = (memory ≡ false) × (entries_of p old.entries ≡ 0) × (new.entries ≡ old.entries) × (holder_of new ≡ holder_of old) × (starved_of new ≡ starved_of old)
 IsReason memory p old new (Refused Starved) = starved old ≡ old.limit
-IsReason memory p old new (Refused _) = ⊥
+IsReason memory p old new _ = ⊥
 
 -- Where a change may be made: the lock is taken where nobody holds it, and nobody is starved or the taker is; a party is counted once, below the limit.
 abbrev pub IsAllowed : ℕ → Deed Change ListName → Mutex → Type 0

@@ -1,14 +1,14 @@
 -- Where a party's call on a mutex is, as those see it who build on one: by its course, and not by the places of its program.
 use Rattle.std.specs.Prelude.{◌≡◌, ℕ, Bool, true, false, Option, Some, None}
-pub use Rattle.mutex_program.specs.Roles.{bit}
-use Rattle.lock_world.specs.declared.refusal.Refusal.{Refusal}
-use Rattle.lock_world.specs.declared.refusal.Refusal.TheVariants.{Memory, Starved}
-use Rattle.mutex_program.specs.declared.calls.LockCall.{LockCall}
-use Rattle.mutex_program.specs.declared.calls.LockCall.TheVariants as call
-use Rattle.mutex_program.specs.declared.calls.End.{End}
-use Rattle.mutex_program.specs.declared.calls.End.TheVariants.{Got, Pending, NotFree, GivenBack, Refused}
-use Rattle.mutex_program.specs.declared.calls.Step.{Step}
-use Rattle.mutex_program.specs.declared.calls.Step.TheVariants as step
+pub use Rattle.lock_program.specs.MutexRoles.{bit}
+use Rattle.lock_program.specs.declared.refusal.Refusal.{Refusal}
+use Rattle.lock_program.specs.declared.refusal.Refusal.TheVariants.{Memory, Starved}
+use Rattle.lock_program.specs.declared.mutex.LockCall.{LockCall}
+use Rattle.lock_program.specs.declared.mutex.LockCall.TheVariants as call
+use Rattle.lock_program.specs.declared.end.End.{End}
+use Rattle.lock_program.specs.declared.end.End.TheVariants.{Got, Pending, NotFree, GivenBack, Refused}
+use Rattle.lock_program.specs.declared.mutex.Step.{Step}
+use Rattle.lock_program.specs.declared.mutex.Step.TheVariants as step
 
 -- How far a poll is: nothing is decided yet; its party was notified, and looks at the lock next; it is about to be counted as starved; it has the lock; or it gives up for this reason.
 pub data Progress : Type 0 where

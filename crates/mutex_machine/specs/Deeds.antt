@@ -2,10 +2,10 @@
 use Rattle.std.specs.Prelude.{ℕ, ◌==◌, Bool, true, false, List, Option, Some, None, slice_set}
 use Rattle.lock_event.specs.declared.event.Entry.{Entry}
 use Rattle.lock_world.specs.Steps.{Deed, nothing, changes, does, leaves, list_after, is_parting}
-use Rattle.mutex_program.specs.declared.calls.LockCall.{LockCall}
-use Rattle.mutex_program.specs.declared.calls.LockCall.TheVariants as call
-use Rattle.mutex_program.specs.declared.calls.End.{End}
-use Rattle.mutex_program.specs.declared.calls.End.TheVariants.{GivenBack}
+use Rattle.lock_program.specs.declared.mutex.LockCall.{LockCall}
+use Rattle.lock_program.specs.declared.mutex.LockCall.TheVariants as call
+use Rattle.lock_program.specs.declared.end.End.{End}
+use Rattle.lock_program.specs.declared.end.End.TheVariants.{GivenBack}
 
 -- The changes of a mutex: the party takes the lock or gives it back, is counted as starved or no more.
 pub data Change : Type 0 where

@@ -3,19 +3,19 @@ use Rattle.std.specs.Prelude.{◌≡◌, ◌≢◌, ℕ, ◌<◌, ◌⊎◌, ◌
 use Rattle.lock_event.specs.declared.event.Mark.TheVariants.{Waiting}
 use Rattle.lock_event.specs.Lists.{mark_at}
 use Rattle.lock_queue.specs.Parties.{is_party, entries_of}
-use Rattle.lock_world.specs.declared.refusal.Refusal.{Refusal}
-use Rattle.lock_world.specs.declared.refusal.Refusal.TheVariants.{Memory, Starved}
+use Rattle.lock_program.specs.declared.refusal.Refusal.{Refusal}
+use Rattle.lock_program.specs.declared.refusal.Refusal.TheVariants.{Memory, Starved}
 use Rattle.lock_world.specs.Steps.{Deed, nothing, changes, does, joins, notifies, notifies_additionally}
-use Rattle.mutex_program.specs.declared.program.Place.{Place}
-use Rattle.mutex_program.specs.declared.program.Place.TheVariants as place
-use Rattle.mutex_program.specs.declared.calls.LockCall.{LockCall}
-use Rattle.mutex_program.specs.declared.calls.End.{End}
-use Rattle.mutex_program.specs.declared.calls.End.TheVariants.{Got, Pending, NotFree, GivenBack, Refused}
-use Rattle.mutex_program.specs.declared.program.Next.{Next}
-use Rattle.mutex_program.specs.declared.program.Next.TheVariants as next
+use Rattle.lock_program.specs.declared.mutex.Place.{Place}
+use Rattle.lock_program.specs.declared.mutex.Place.TheVariants as place
+use Rattle.lock_program.specs.declared.mutex.LockCall.{LockCall}
+use Rattle.lock_program.specs.declared.end.End.{End}
+use Rattle.lock_program.specs.declared.end.End.TheVariants.{Got, Pending, NotFree, GivenBack, Refused}
+use Rattle.mutex_program.specs.declared.led.Next.{Next}
+use Rattle.mutex_program.specs.declared.led.Next.TheVariants as next
 use Rattle.mutex_machine.specs.Machine.{Lock, place_at}
 use Rattle.mutex_machine.specs.Acts.{holders, starved, Holds, IsStarved}
-use Rattle.mutex_program.specs.Roles.{counted}
+use Rattle.lock_program.specs.MutexRoles.{counted}
 use Rattle.mutex_machine.specs.State.{holder_of, starved_of}
 use Rattle.mutex_machine.specs.Deeds.{Change, takes, releases, starves, recovers, ListName, holder_after, starved_after, entries_after, gives_back, gives_up, is_release, is_fresh}
 
@@ -51,7 +51,7 @@ IsReason memory p old new NotFree = (holders old ≡ 1) ⊎ (0 < starved old)
 IsReason memory p old new GivenBack = Unit {0}
 IsReason memory p old new (Refused Memory) = (memory ≡ false) × (entries_of p old.entries ≡ 0) × (new.entries ≡ old.entries) × (holder_of new ≡ holder_of old) × (starved_of new ≡ starved_of old)
 IsReason memory p old new (Refused Starved) = (starved old ≡ old.limit) × (counted (place_at old.places p) ≡ 0) × (new.entries ≡ old.entries) × (holder_of new ≡ holder_of old) × (starved_of new ≡ starved_of old)
-IsReason memory p old new (Refused _) = ⊥
+IsReason memory p old new _ = ⊥
 
 -- Where a change may be made: the lock is taken where nobody holds it, and nobody is starved or the taker is; a party is counted once, below the limit; and a party that notifies notifies for one.
 abbrev pub IsAllowed : ℕ → Deed Change ListName → Lock → Type 0

@@ -1,10 +1,10 @@
 -- A mutex: where each party stands, and who waits in its list.
 use Rattle.std.specs.Prelude.{◌≡◌, ℕ, List, [], length, slice_index_or, replicate}
 use Rattle.lock_event.specs.declared.event.Entry.{Entry}
-use Rattle.mutex_program.specs.declared.program.Place.{Place}
-use Rattle.mutex_program.specs.declared.program.Place.TheVariants.{Out}
+use Rattle.lock_program.specs.declared.mutex.Place.{Place}
+use Rattle.lock_program.specs.declared.mutex.Place.TheVariants.{Out}
 use Rattle.mutex_program.specs.declared.word.Word.{Word}
-use Rattle.mutex_program.specs.Roles.{holds, counted, listed, waits, owes}
+use Rattle.lock_program.specs.MutexRoles.{holds, counted, listed, waits, owes}
 use Rattle.lock_queue.specs.Parties.{entries_of}
 use Rattle.lock_queue.specs.Queues.{Queue}
 use Rattle.mutex_machine.specs.Tally.{IsSound, tally_of, counts_of}

@@ -1,8 +1,8 @@
 -- How a machine is seen by those who build on a mutex. No clause of theirs reads it.
 use Rattle.std.specs.Prelude.{◌≡◌, ℕ, ◌+◌, Bool, true, false, List, [], ◌∷◌, map}
-use Rattle.lock_world.specs.declared.refusal.Refusal.TheVariants.{Memory, Starved}
-use Rattle.mutex_program.specs.declared.program.Place.{Place}
-use Rattle.mutex_program.specs.declared.program.Place.TheVariants as place
+use Rattle.lock_program.specs.declared.refusal.Refusal.TheVariants.{Memory, Starved}
+use Rattle.lock_program.specs.declared.mutex.Place.{Place}
+use Rattle.lock_program.specs.declared.mutex.Place.TheVariants as place
 use Rattle.mutex_machine.specs.Machine.{Lock, place_at}
 use Rattle.mutex_machine.specs.Ranks.{left, is_own_marked, is_open}
 use Rattle.mutex_machine.specs.Course.{Course, out, holding, waiting, taking, releasing, cancelling, undecided, called, counting, has_lock, gives_up}

@@ -3,17 +3,17 @@ use Rattle.std.specs.Prelude.{◌≡◌, ◌≢◌, ℕ, zero, suc, ◌+◌, ◌
 use Rattle.std.specs.List.{sum_by}
 use Rattle.lock_event.specs.Lists.{marked_count, is_marked_at}
 use Rattle.lock_queue.specs.Parties.{is_party}
-use Rattle.lock_world.specs.declared.refusal.Refusal.TheVariants.{Starved}
-use Rattle.mutex_program.specs.declared.program.Place.TheVariants.{Out, Holding, Ask, AskStarved}
-use Rattle.mutex_program.specs.declared.program.Action.{Action}
-use Rattle.mutex_program.specs.declared.program.Place.{Place}
-use Rattle.mutex_program.specs.declared.calls.LockCall.TheVariants as call
-use Rattle.mutex_program.specs.declared.calls.End.{End}
-use Rattle.mutex_program.specs.declared.calls.End.TheVariants.{Got, Pending, Refused}
-use Rattle.mutex_program.specs.declared.program.Next.{Next}
-use Rattle.mutex_program.specs.declared.program.Next.TheVariants as next
+use Rattle.lock_program.specs.declared.refusal.Refusal.TheVariants.{Starved}
+use Rattle.lock_program.specs.declared.mutex.Place.TheVariants.{Out, Holding, Ask, AskStarved}
+use Rattle.lock_program.specs.declared.mutex.Action.{Action}
+use Rattle.lock_program.specs.declared.mutex.Place.{Place}
+use Rattle.lock_program.specs.declared.mutex.LockCall.TheVariants as call
+use Rattle.lock_program.specs.declared.end.End.{End}
+use Rattle.lock_program.specs.declared.end.End.TheVariants.{Got, Pending, Refused}
+use Rattle.mutex_program.specs.declared.led.Next.{Next}
+use Rattle.mutex_program.specs.declared.led.Next.TheVariants as next
 use Rattle.mutex_program.specs.Program.{start_of}
-use Rattle.mutex_program.specs.Roles.{counted}
+use Rattle.lock_program.specs.MutexRoles.{counted}
 use Rattle.mutex_machine.specs.Courses.{is_waiting}
 use Rattle.mutex_machine.specs.Machine.{Lock, place_at}
 use Rattle.mutex_machine.specs.Acts.{Acts, IsAtRest, IsStarved, holders, starved}

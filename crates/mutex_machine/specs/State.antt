@@ -1,7 +1,7 @@
 -- A mutex as those see it who don't know its places: who holds it, and who is starved.
 use Rattle.std.specs.Prelude.{ℕ, ◌+◌, if◌then◌else◌, Bool, List, [], ◌∷◌, map, Option, Some, None}
-use Rattle.mutex_program.specs.declared.program.Place.{Place}
-pub use Rattle.mutex_program.specs.Roles.{is_holder, is_counted}
+use Rattle.lock_program.specs.declared.mutex.Place.{Place}
+pub use Rattle.lock_program.specs.MutexRoles.{is_holder, is_counted}
 use Rattle.mutex_machine.specs.Machine.{Lock}
 
 -- the first of which this is so, counted from n

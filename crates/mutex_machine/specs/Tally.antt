@@ -4,9 +4,9 @@ use Rattle.std.specs.List.{sum_by}
 use Rattle.lock_event.specs.declared.event.Entry.{Entry}
 use Rattle.lock_event.specs.Lists.{marked_count}
 use Rattle.lock_queue.specs.Debts.{IsOwed}
-use Rattle.mutex_program.specs.declared.program.Place.{Place}
+use Rattle.lock_program.specs.declared.mutex.Place.{Place}
 use Rattle.mutex_program.specs.declared.word.Word.{Word}
-use Rattle.mutex_program.specs.Roles.{bit, holds, counted, listed as stands, waits, owes}
+use Rattle.lock_program.specs.MutexRoles.{bit, holds, counted, listed as stands, waits, owes}
 
 -- the word, and the list's length and marked entries
 pub record Tally : Type 0 where

@@ -8,9 +8,9 @@ ghost use Rattle.std.specs.Prelude.{◌≡◌, ◌<◌, length, Some, None, slic
 
 use lock_event::Entry;
 use lock_queue::WaitQueue;
-use mutex_program::calls::LockCall;
+use lock_program::mutex::{LockCall, Place, action_at, decide, start};
 use mutex_program::deeds::carry_out;
-use mutex_program::program::{Next, Place, action_at, after, decide, start};
+use mutex_program::led::{Next, after, led};
 use mutex_program::word::Word;
 use std::alloc::{AllocError, Global};
 use std::marker::Model;
@@ -51,7 +51,7 @@ ghost use Rattle.mutex_machine.specs.Acts.{Acts, TakenFairly, IsMutex, holders, 
 ghost use Rattle.mutex_machine.specs.Legal.{IsLegal, IsUnrefused, TakesAtOnce, TakesFrom, decision};
 ghost use Rattle.mutex_machine.specs.Deeds.{decided_by};
 ghost use Rattle.mutex_program.specs.Program.{start_of};
-ghost use Rattle.mutex_program.specs.Roles.{bit};
+ghost use Rattle.lock_program.specs.MutexRoles.{bit};
 ghost use Rattle.mutex_machine.specs.Courses.{Begins, GoesOn, HeedsClock};
 ghost use Rattle.mutex_machine.specs.Solo.{SoloPolls};
 ghost use Rattle.mutex_machine.specs.Ranks.{left, left_after, is_own_marked, is_open, steps_left, most_steps};
@@ -184,7 +184,7 @@ impl Lock {
             starving,
         );
         let next = decide(from, found);
-        self.places[at] = after(from, next);
-        next
+        self.places[at] = after(next);
+        led(next)
     }
 }

@@ -9,8 +9,8 @@ ghost use Rattle.std.specs.Prelude.{◌≡◌, ◌<◌, true, length, slice_get,
 
 use crate::lock::Lock;
 use lock_event::Entry;
-use mutex_program::calls::{LockCall, Step};
-use mutex_program::program::step_after;
+use lock_program::mutex::{LockCall, Step};
+use mutex_program::led::step_after;
 use std::alloc::{AllocError, Global};
 use std::marker::Model;
 

@@ -2,10 +2,10 @@
 use Rattle.std.specs.Prelude.{◌≡◌, ℕ, Bool}
 use Rattle.lock_queue.specs.Queues.{Queue}
 use Rattle.mutex_program.specs.declared.word.Word.{Word}
-use Rattle.mutex_program.specs.declared.program.Action.{Action}
-use Rattle.mutex_program.specs.declared.program.Action.TheVariants as act
-use Rattle.mutex_program.specs.declared.program.Found.{Found}
-use Rattle.mutex_program.specs.declared.program.Found.TheVariants.{Held}
+use Rattle.lock_program.specs.declared.mutex.Action.{Action}
+use Rattle.lock_program.specs.declared.mutex.Action.TheVariants as act
+use Rattle.lock_program.specs.declared.mutex.Found.{Found}
+use Rattle.lock_program.specs.declared.mutex.Found.TheVariants.{Held}
 use Rattle.mutex_program.specs.Words.{OnWord}
 use Rattle.mutex_program.specs.Seats.{OnList}
 

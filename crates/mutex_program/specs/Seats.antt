@@ -4,10 +4,10 @@ use Rattle.lock_event.specs.Lists.{joined, notified, left, without, is_marked_at
 use Rattle.lock_queue.specs.Parties.{is_party, entries_of}
 use Rattle.lock_queue.specs.Queues.{Queue, queue}
 use Rattle.mutex_program.specs.declared.word.Word.{Word}
-use Rattle.mutex_program.specs.declared.program.Action.{Action}
-use Rattle.mutex_program.specs.declared.program.Action.TheVariants as act
-use Rattle.mutex_program.specs.declared.program.Found.{Found}
-use Rattle.mutex_program.specs.declared.program.Found.TheVariants.{Done, NoMemory, Yes, No}
+use Rattle.lock_program.specs.declared.mutex.Action.{Action}
+use Rattle.lock_program.specs.declared.mutex.Action.TheVariants as act
+use Rattle.lock_program.specs.declared.mutex.Found.{Found}
+use Rattle.lock_program.specs.declared.mutex.Found.TheVariants.{Done, NoMemory, Yes, No}
 
 -- actions on the list; one on the word leaves the list alone
 abbrev pub OnList : ℕ → Bool → Action → Found → Queue → Queue → Type 0

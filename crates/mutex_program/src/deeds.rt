@@ -3,7 +3,7 @@
 ghost use Rattle.mutex_program.specs.Carried.{Carried};
 ghost use Rattle.mutex_program.specs.Seats.{CanDo};
 
-use crate::program::{Action, Found};
+use lock_program::mutex::{Action, Found};
 use crate::word::Word;
 use lock_queue::WaitQueue;
 

@@ -1,11 +1,10 @@
-//! The programs of a mutex, its word, and what one action does.
+//! A mutex's word, what one action does, and what a step of the mutex's machine leads to.
 //!
-//! [`calls`] are what is asked of a mutex and what that comes to; [`program`] is the pure table that says what comes next; [`word`]
-//! is what a mutex has in it beside its list; and [`deeds`] carries out one action on both. The crate `mutex_machine` keeps the
-//! places of all parties.
+//! The programs themselves are the table `lock_program::mutex`. [`word`] is what a mutex has in it beside its list; [`deeds`] carries
+//! out one action on both; and [`led`] says what a step leads to by the table. The crate `mutex_machine` keeps the places of all
+//! parties.
 #![tactic(auto)]
 
-pub mod calls;
 pub mod deeds;
-pub mod program;
+pub mod led;
 pub mod word;

@@ -1,10 +1,10 @@
 //! The word of a mutex: whether it is held, and how many parties are counted as starved.
 
 ghost use Rattle.std.specs.Prelude.{◌≡◌, ℕ, ◌<◌, ◌≤◌, ◌^◌, Bool, true, false};
-ghost use Rattle.mutex_program.specs.declared.program.Action.TheVariants as act;
+ghost use Rattle.lock_program.specs.declared.mutex.Action.TheVariants as act;
 ghost use Rattle.mutex_program.specs.Words.{OnWord, new_word};
 
-use crate::program::Found;
+use lock_program::mutex::Found;
 
 /// The word of a mutex: whether it is held, how many parties are starved, and how many may be.
 #[derive(Clone, Copy)]

@@ -16,17 +16,15 @@ use Rattle.lock_world.specs.declared.standing.Stage.TheVariants.{Outside, Inside
 use Rattle.lock_world.specs.declared.standing.Within.{Within}
 use Rattle.lock_world.specs.Frame.{put_in}
 use Rattle.lock_world.specs.Standings.{inputs_of}
-use Rattle.lock_table.specs.declared.end.End.{End}
-use Rattle.lock_table.specs.declared.end.End.TheVariants as «end»
+use Rattle.lock_program.specs.declared.end.End.{End}
+use Rattle.lock_program.specs.declared.end.End.TheVariants as «end»
 use Rattle.lock_table.specs.Ends.{answer_of}
-use Rattle.mutex_program.specs.declared.calls.End.{End as LockEnd}
-use Rattle.mutex_program.specs.declared.calls.End.TheVariants as lock_end
-use Rattle.mutex_program.specs.declared.calls.LockCall.{LockCall}
-use Rattle.mutex_program.specs.declared.calls.LockCall.TheVariants as lock_call
-use Rattle.mutex_program.specs.declared.program.Next.{Next}
-use Rattle.mutex_program.specs.declared.program.Next.TheVariants as next
-use Rattle.mutex_program.specs.declared.program.Place.{Place}
-use Rattle.mutex_program.specs.declared.program.Place.TheVariants as place
+use Rattle.lock_program.specs.declared.mutex.LockCall.{LockCall}
+use Rattle.lock_program.specs.declared.mutex.LockCall.TheVariants as lock_call
+use Rattle.mutex_program.specs.declared.led.Next.{Next}
+use Rattle.mutex_program.specs.declared.led.Next.TheVariants as next
+use Rattle.lock_program.specs.declared.mutex.Place.{Place}
+use Rattle.lock_program.specs.declared.mutex.Place.TheVariants as place
 use Rattle.mutex_program.specs.Program.{start_of}
 use Rattle.mutex_machine.specs.Machine.{Lock, place_at, new_lock}
 use Rattle.mutex_machine.specs.Acts.{Acts}
@@ -110,13 +108,15 @@ abbrev pub is_try_kind : Kind → Bool
 is_try_kind kind.Try = true
 is_try_kind _ = false
 
--- how a call of the lock ended, a try or another
-abbrev pub end_of : Bool → LockEnd → End
-end_of trying lock_end.Got = if trying then «end».Granted else «end».Got
-end_of trying lock_end.Pending = «end».Pending
-end_of trying lock_end.NotFree = «end».NotFree
-end_of trying lock_end.GivenBack = «end».GivenBack
-end_of trying (lock_end.Refused r) = «end».Refused r
+-- what a call's end is told as: a try that got the lock is granted; no call on a mutex's machine ends as granted or waiting
+abbrev pub end_of : Bool → End → End
+end_of trying «end».Got = if trying then «end».Granted else «end».Got
+end_of trying «end».Pending = «end».Pending
+end_of trying «end».NotFree = «end».NotFree
+end_of trying «end».Waiting = «end».NotFree
+end_of trying «end».Granted = «end».NotFree
+end_of trying «end».GivenBack = «end».GivenBack
+end_of trying («end».Refused r) = «end».Refused r
 
 -- what a try's next is answered, or another call's, over this value
 abbrev pub answer_by : Bool → ℕ → Next → Answer

@@ -3,8 +3,8 @@ use Rattle.std.specs.Prelude.{ℕ, false, Option, Some, None}
 use Rattle.lock_world.specs.declared.moves.Answer.{Answer}
 use Rattle.lock_table.specs.Tables.{Table}
 use Rattle.lock_table.specs.Views.{standings}
-use Rattle.mutex_program.specs.declared.calls.End.{End}
-use Rattle.mutex_program.specs.declared.program.Next.TheVariants as next
+use Rattle.lock_program.specs.declared.end.End.{End}
+use Rattle.mutex_program.specs.declared.led.Next.TheVariants as next
 use Rattle.mutex_machine.specs.Legal.{decision}
 use Rattle.mutex_machine.specs.State.{holder_of, starved_of}
 use Rattle.mutex_world.specs.Guarded.{Guarded, place_of, answer_by}

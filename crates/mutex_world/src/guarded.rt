@@ -4,12 +4,13 @@ ghost use Rattle.std.specs.Prelude.{◌≡◌, ◌<◌, length, IfOk, IsSome, Is
 ghost use Rattle.mutex_machine.specs.Acts.{IsMutex};
 ghost use Rattle.mutex_world.specs.Guarded.{new_guarded, place_of, place_for, lock_call_of, end_of, answer_by, is_try_kind, Carried};
 
-use lock_table::{End, Machine, Valued};
+use lock_table::{Machine, Valued, answer};
 use lock_world::standing::{Kind, Rest, Within};
 use lock_world::{Answer, Call, Got, What};
 use mutex_machine::Lock;
-use mutex_program::calls::{End as LockEnd, LockCall};
-use mutex_program::program::Next;
+use lock_program::mutex::LockCall;
+use lock_program::End;
+use mutex_program::led::Next;
 use std::alloc::{AllocError, Global};
 use std::marker::Model;
 
@@ -42,17 +43,15 @@ fn lock_call(was: Rest, call: Call) -> Option<LockCall>
     }
 }
 
-/// How a call of the lock ended, a try or another.
-fn ended(trying: bool, end: LockEnd) -> End
+/// What a call's end is told as: a try that got the lock is granted.
+fn ended(trying: bool, end: End) -> End
     ensures { result ≡ end_of trying end }
 {
     match end {
-        LockEnd::Got if trying => End::Granted,
-        LockEnd::Got => End::Got,
-        LockEnd::Pending => End::Pending,
-        LockEnd::NotFree => End::NotFree,
-        LockEnd::GivenBack => End::GivenBack,
-        LockEnd::Refused(refusal) => End::Refused(refusal),
+        End::Got if trying => End::Granted,
+        // No call on a mutex's machine ends so.
+        End::Granted | End::Waiting => End::NotFree,
+        other => other,
     }
 }
 
@@ -110,7 +109,10 @@ fn answer_to(kind: Kind, value: u64, next: Next) -> Answer
 {
     match next {
         Next::Do(_, _) => Answer::Stepped,
-        Next::End(end) => ended(matches!(kind, Kind::Try), end).answer(Got::Value(value)),
+        Next::End(end) => {
+            let end = ended(matches!(kind, Kind::Try), end);
+            answer(end, Got::Value(value))
+        }
     }
 }
 

@@ -16,7 +16,8 @@ use crate::guarded::Guarded;
 use lock_event::Entry;
 use lock_frame::AnyWorld;
 use lock_table::Table;
-use lock_world::{Answer, Move, Refusal};
+use lock_program::Refusal;
+use lock_world::{Answer, Move};
 use std::alloc::Global;
 use std::marker::Model;
 

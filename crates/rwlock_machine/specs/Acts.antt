@@ -5,12 +5,12 @@ use Rattle.lock_event.specs.Lists.{marked_count, IsMarkedFirst}
 use Rattle.lock_queue.specs.Parties.{entries_of}
 use Rattle.mutex_machine.specs.Mutex.{course_at as turn_at, IsMutex, holders}
 use Rattle.mutex_machine.specs.Course.{holds}
-use Rattle.rwlock_program.specs.declared.program.Place.{Place}
-use Rattle.rwlock_program.specs.declared.program.Action.{Action}
-use Rattle.rwlock_program.specs.declared.program.Action.TheVariants as act
-use Rattle.rwlock_program.specs.declared.program.Found.{Found}
-use Rattle.rwlock_program.specs.declared.program.Found.TheVariants.{Done, Writer, Full, NoneLeft, SomeLeft, NotFree, NoMemory, Yes, No, Turn}
-use Rattle.rwlock_program.specs.declared.program.Next.{Next}
+use Rattle.lock_program.specs.declared.rwlock.Place.{Place}
+use Rattle.lock_program.specs.declared.rwlock.Action.{Action}
+use Rattle.lock_program.specs.declared.rwlock.Action.TheVariants as act
+use Rattle.lock_program.specs.declared.rwlock.Found.{Found}
+use Rattle.lock_program.specs.declared.rwlock.Found.TheVariants.{Done, Writer, Full, NoneLeft, SomeLeft, NotFree, NoMemory, Yes, No, Turn}
+use Rattle.rwlock_program.specs.declared.led.Next.{Next}
 use Rattle.rwlock_program.specs.Program.{action_of, next_of, place_after}
 use Rattle.rwlock_machine.specs.Roles.{reads, marks, only_turns, has_turn, writes, in_no_writer, in_no_readers, fits_turn, is_resting}
 use Rattle.rwlock_program.specs.Parties.{OnNoWriter, OnNoReaders}

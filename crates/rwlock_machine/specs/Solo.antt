@@ -3,17 +3,17 @@ use Rattle.std.specs.Prelude.{◌≡◌, ℕ, ◌<◌, ◌⊎◌, Bool, true, fa
 use Rattle.lock_event.specs.Lists.{is_marked_at}
 use Rattle.lock_queue.specs.Parties.{is_party}
 use Rattle.lock_world.specs.declared.moves.Call.TheVariants as call
-use Rattle.lock_world.specs.declared.refusal.Refusal.TheVariants.{Starved}
-use Rattle.mutex_program.specs.declared.calls.End.TheVariants as turn_end
+use Rattle.lock_program.specs.declared.refusal.Refusal.TheVariants.{Starved}
+use Rattle.lock_program.specs.declared.end.End.TheVariants as turn_end
 use Rattle.mutex_machine.specs.Mutex.{IsStarved, holders, starved}
 use Rattle.mutex_machine.specs.Alone.{GaveWay}
-use Rattle.rwlock_program.specs.declared.program.Place.{Place}
-use Rattle.rwlock_program.specs.declared.program.Place.TheVariants.{Made, Reading, Upgradable, Writing, AskNoWriter, WaitTurn, AwaitNoReaders, LookUnlisted}
-use Rattle.rwlock_program.specs.declared.program.Action.{Action}
-use Rattle.lock_table.specs.declared.end.End.{End}
-use Rattle.lock_table.specs.declared.end.End.TheVariants.{Got, Pending, Refused}
-use Rattle.rwlock_program.specs.declared.program.Next.{Next}
-use Rattle.rwlock_program.specs.declared.program.Next.TheVariants as next
+use Rattle.lock_program.specs.declared.rwlock.Place.{Place}
+use Rattle.lock_program.specs.declared.rwlock.Place.TheVariants.{Made, Reading, Upgradable, Writing, AskNoWriter, WaitTurn, AwaitNoReaders, LookUnlisted}
+use Rattle.lock_program.specs.declared.rwlock.Action.{Action}
+use Rattle.lock_program.specs.declared.end.End.{End}
+use Rattle.lock_program.specs.declared.end.End.TheVariants.{Got, Pending, Refused}
+use Rattle.rwlock_program.specs.declared.led.Next.{Next}
+use Rattle.rwlock_program.specs.declared.led.Next.TheVariants as next
 use Rattle.rwlock_program.specs.Program.{start_of}
 use Rattle.rwlock_machine.specs.Machine.{RwLock, place_at}
 use Rattle.rwlock_machine.specs.Acts.{Acts, IsAtRest, readers, marked}

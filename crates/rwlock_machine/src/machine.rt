@@ -8,7 +8,7 @@
 
 ghost use Rattle.std.specs.Prelude.{◌≡◌, ◌<◌, length, slice_get, replicate, IfOk, IsSome, IsSomeAnd};
 ghost use Rattle.mutex_machine.specs.Mutex.{TakenFairly};
-ghost use Rattle.rwlock_program.specs.declared.program.Place.TheVariants as place;
+ghost use Rattle.lock_program.specs.declared.rwlock.Place.TheVariants as place;
 ghost use Rattle.rwlock_program.specs.Program.{start_of, place_after};
 ghost use Rattle.rwlock_machine.specs.Roles.{bit};
 ghost use Rattle.rwlock_machine.specs.Machine.{SameRoles, place_at, new_rwlock};
@@ -17,11 +17,13 @@ ghost use Rattle.rwlock_machine.specs.Solo.{SoloPolls};
 ghost use Rattle.rwlock_machine.specs.Ranks.{left_from, left_after, steps_left, most_steps};
 
 use lock_event::Entry;
+use lock_program::rwlock::{Place, action_at, decide};
 use lock_queue::WaitQueue;
 use lock_world::Call;
 use mutex_machine::Mutex;
 use rwlock_program::deeds::carry_out;
-use rwlock_program::program::{Next, Place, action_at, decide, start};
+use rwlock_program::calls::start;
+use rwlock_program::led::{Next, led};
 use rwlock_program::word::Word;
 use std::alloc::{AllocError, Global};
 use std::marker::Model;
@@ -228,7 +230,7 @@ impl RwLock {
             memory,
             starving,
         );
-        let next = decide(from, found);
+        let next = led(decide(from, found));
         self.places[at] = after(next);
         next
     }

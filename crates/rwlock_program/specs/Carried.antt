@@ -3,8 +3,8 @@ use Rattle.std.specs.Prelude.{◌≡◌, ℕ, Bool}
 use Rattle.lock_queue.specs.Queues.{Queue}
 use Rattle.mutex_machine.specs.Mutex.{Mutex}
 use Rattle.rwlock_program.specs.declared.word.Word.{Word}
-use Rattle.rwlock_program.specs.declared.program.Action.{Action}
-use Rattle.rwlock_program.specs.declared.program.Found.{Found}
+use Rattle.lock_program.specs.declared.rwlock.Action.{Action}
+use Rattle.lock_program.specs.declared.rwlock.Found.{Found}
 use Rattle.rwlock_program.specs.Words.{OnWord}
 use Rattle.rwlock_program.specs.Parties.{FindsMemory, OnNoWriter, OnNoReaders}
 use Rattle.rwlock_program.specs.Turns.{OnTurn}

@@ -5,8 +5,8 @@ use Rattle.lock_queue.specs.Queues.{Queue}
 use Rattle.mutex_machine.specs.Mutex.{Mutex, course_at}
 use Rattle.mutex_machine.specs.Course.{may_begin}
 use Rattle.rwlock_program.specs.declared.word.Word.{Word}
-use Rattle.rwlock_program.specs.declared.program.Action.{Action}
-use Rattle.rwlock_program.specs.declared.program.Action.TheVariants as act
+use Rattle.lock_program.specs.declared.rwlock.Action.{Action}
+use Rattle.lock_program.specs.declared.rwlock.Action.TheVariants as act
 
 -- what an action needs of the word, of the two lists and of the turn
 abbrev pub CanDo : ℕ → Action → Word → Queue → Queue → Mutex → Type 0

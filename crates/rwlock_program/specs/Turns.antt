@@ -1,16 +1,16 @@
 -- What an action does to the turn: a step of its party's call on the turn's mutex, or nothing.
 use Rattle.std.specs.Prelude.{◌≡◌, ℕ, ◌<◌, Bool, true}
-use Rattle.mutex_program.specs.declared.calls.LockCall.{LockCall}
-use Rattle.mutex_program.specs.declared.calls.Step.{Step as TurnStep}
+use Rattle.lock_program.specs.declared.mutex.LockCall.{LockCall}
+use Rattle.lock_program.specs.declared.mutex.Step.{Step as TurnStep}
 use Rattle.mutex_machine.specs.Course.{decision, is_told, Begins, GoesOn}
 use Rattle.mutex_machine.specs.Deeds.{decided_by, most_steps}
 use Rattle.mutex_machine.specs.Mutex.{Mutex, course_at, TakenFairly, left_after, steps_left}
 use Rattle.mutex_machine.specs.Conduct.{IsLegal, IsUnrefused, TakesAtOnce, HeedsClock, CountsNobody, HandsOn, BeginsToHandOn}
 use Rattle.mutex_machine.specs.Alone.{HasBegun, HasGoneOn}
-use Rattle.rwlock_program.specs.declared.program.Action.{Action}
-use Rattle.rwlock_program.specs.declared.program.Action.TheVariants as act
-use Rattle.rwlock_program.specs.declared.program.Found.{Found}
-use Rattle.rwlock_program.specs.declared.program.Found.TheVariants.{Turn}
+use Rattle.lock_program.specs.declared.rwlock.Action.{Action}
+use Rattle.lock_program.specs.declared.rwlock.Action.TheVariants as act
+use Rattle.lock_program.specs.declared.rwlock.Found.{Found}
+use Rattle.lock_program.specs.declared.rwlock.Found.TheVariants.{Turn}
 
 -- the first step of a call on the turn, and all that the mutex says of it
 pub record TurnBegins (memory starving : Bool) (p : ℕ) (c : LockCall) (s : TurnStep) (old new : Mutex) : Type 0 where

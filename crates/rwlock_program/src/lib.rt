@@ -1,9 +1,11 @@
-//! The programs of a read-write lock with upgradable reads, its word, and what one action does.
+//! A read-write lock's word, what one action does, and which calls are asked of its programs.
 //!
-//! [`program`] is the pure table that says what comes next; [`word`] is what a lock has in it beside its lists and its turn;
-//! and [`deeds`] carries out one action on all of them. The crate `rwlock_machine` keeps the places of all parties.
+//! The programs themselves are the table `lock_program::rwlock`. [`word`] is what a lock has in it beside its lists and its turn;
+//! [`deeds`] carries out one action on all of them; [`calls`] says which call of the programs a move of a party is; and [`led`] what a
+//! step leads to by the table. The crate `rwlock_machine` keeps the places of all parties.
 #![tactic(auto)]
 
+pub mod calls;
 pub mod deeds;
-pub mod program;
+pub mod led;
 pub mod word;

@@ -6,8 +6,8 @@ use Rattle.lock_world.specs.declared.standing.Rest.TheVariants.{Idle, Pending, H
 use Rattle.lock_world.specs.declared.standing.Stage.{Stage}
 use Rattle.lock_world.specs.declared.standing.Stage.TheVariants.{Outside, Inside, Forgotten}
 use Rattle.lock_world.specs.Standings.{forgets, is_outside_stage}
-use Rattle.rwlock_program.specs.declared.program.Place.{Place}
-use Rattle.rwlock_program.specs.declared.program.Place.TheVariants as place
+use Rattle.lock_program.specs.declared.rwlock.Place.{Place}
+use Rattle.lock_program.specs.declared.rwlock.Place.TheVariants as place
 use Rattle.rwlock_machine.specs.Roles.{is_resting}
 use Rattle.rwlock_world.specs.Guarded.{Guarded, parties, place_of, with_value, Stands}
 use Rattle.rwlock_world.specs.Stages.{is_future, is_guard}

@@ -1,6 +1,6 @@
 -- How callers see what stands behind a read-write lock's World.
 use Rattle.std.specs.Prelude.{ℕ, ◌==◌, Bool, true, false, List, map, Option, Some, None}
-use Rattle.lock_world.specs.declared.refusal.Refusal.TheVariants.{Memory, Readers}
+use Rattle.lock_program.specs.declared.refusal.Refusal.TheVariants.{Memory, Readers}
 use Rattle.lock_world.specs.declared.moves.Answer.{Answer}
 use Rattle.lock_world.specs.declared.moves.Answer.TheVariants as answer
 use Rattle.lock_world.specs.declared.moves.Got.TheVariants.{Value}
@@ -10,13 +10,13 @@ use Rattle.lock_table.specs.Stages.{stands_as}
 use Rattle.lock_table.specs.Tables.{Table}
 use Rattle.lock_table.specs.Views.{standings}
 use Rattle.mutex_machine.specs.Course.{Course as TurnCourse, decision}
-use Rattle.mutex_program.specs.declared.calls.End.{End as TurnEnd}
-use Rattle.mutex_program.specs.declared.calls.End.TheVariants as turn_end
+use Rattle.lock_program.specs.declared.end.End.{End as TurnEnd}
+use Rattle.lock_program.specs.declared.end.End.TheVariants as turn_end
 use Rattle.mutex_machine.specs.Mutex.{course_at as turn_at, holder_of, starved_of}
-use Rattle.rwlock_program.specs.declared.program.Ending.{Ending}
-use Rattle.rwlock_program.specs.declared.program.Ending.TheVariants as ending
-use Rattle.rwlock_program.specs.declared.program.Place.{Place}
-use Rattle.rwlock_program.specs.declared.program.Place.TheVariants as place
+use Rattle.lock_program.specs.declared.rwlock.Ending.{Ending}
+use Rattle.lock_program.specs.declared.rwlock.Ending.TheVariants as ending
+use Rattle.lock_program.specs.declared.rwlock.Place.{Place}
+use Rattle.lock_program.specs.declared.rwlock.Place.TheVariants as place
 use Rattle.rwlock_machine.specs.Roles as roles
 use Rattle.rwlock_machine.specs.Machine.{RwLock, place_at}
 use Rattle.rwlock_world.specs.Guarded.{Guarded}

@@ -6,11 +6,12 @@ ghost use Rattle.rwlock_machine.specs.Machine.{place_at};
 ghost use Rattle.rwlock_machine.specs.Acts.{Acts, IsRwLock};
 ghost use Rattle.rwlock_world.specs.Guarded.{new_guarded, answer_by, place_for};
 
-use lock_table::{Machine, Valued};
+use lock_table::{Machine, Valued, answer};
 use lock_world::standing::{Rest, Within};
 use lock_world::{Answer, Call, Got, What};
 use rwlock_machine::RwLock;
-use rwlock_program::program::{self, Next};
+use rwlock_program::calls;
+use rwlock_program::led::Next;
 use std::alloc::{AllocError, Global};
 use std::marker::Model;
 
@@ -39,7 +40,7 @@ fn answer_to(value: u64, next: Next) -> Answer
 {
     match next {
         Next::Do(_, _) => Answer::Stepped,
-        Next::End(end, _) => end.answer(Got::Value(value)),
+        Next::End(end, _) => answer(end, Got::Value(value)),
         Next::Wait(_) => Answer::Waiting,
     }
 }
@@ -111,7 +112,7 @@ impl Machine for Guarded {
     ghost acts = { guarded.Moves };
 
     fn knows(&self, party: u32, call: Call) -> bool {
-        program::is_known(self.lock.place(party), call)
+        calls::is_known(self.lock.place(party), call)
     }
 
     fn ready(&self) -> Rest {

@@ -14,8 +14,8 @@ use Rattle.lock_script.specs.declared.command.Model.{Model}
 use Rattle.script_words.specs.Verbs.{name_of}
 use Rattle.lock_script.specs.Commands.{verb_of, Asks}
 use Rattle.script_words.specs.Lines.{lines_of, words_of, is_byte, IsPrintable, IsTrimmed}
-use Rattle.lock_world.specs.declared.refusal.Refusal.{Refusal}
-use Rattle.lock_world.specs.declared.refusal.Refusal.TheVariants.{Permits}
+use Rattle.lock_program.specs.declared.refusal.Refusal.{Refusal}
+use Rattle.lock_program.specs.declared.refusal.Refusal.TheVariants.{Permits}
 use Rattle.lock_play.specs.Openings.{world_of, HasTooManyPermits, IsRefusedFor}
 use Rattle.script_runner.specs.Plays.{Leads, Makes, Plays, PlaysLine, IsPlayed}
 use Rattle.lock_answers.proofs.Texts.{Appends-more}

@@ -17,7 +17,7 @@ use lock_answers::answer;
 use lock_answers::played::Reply;
 use lock_play::world::World;
 use lock_script::command::{self, Command, Model};
-use lock_world::Refusal;
+use lock_program::Refusal;
 use script_words::line;
 use std::alloc::{AllocError, Global};
 use std::io;

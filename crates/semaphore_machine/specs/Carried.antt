@@ -2,8 +2,8 @@
 use Rattle.std.specs.Prelude.{◌≡◌, ℕ, Bool}
 use Rattle.lock_queue.specs.Queues.{Queue, queue}
 use Rattle.semaphore_machine.specs.declared.words.Words.{Words}
-use Rattle.semaphore_machine.specs.declared.program.Action.{Action}
-use Rattle.semaphore_machine.specs.declared.program.Found.{Found}
+use Rattle.sync_program.specs.declared.semaphore.Action.{Action}
+use Rattle.sync_program.specs.declared.semaphore.Found.{Found}
 use Rattle.semaphore_machine.specs.Deeds.{Finds, deed_of, words_after, entries_after}
 
 -- the words and the list before the action, and then after it

@@ -5,10 +5,10 @@ use Rattle.lock_event.specs.Lists.{is_marked_at}
 use Rattle.lock_queue.specs.Parties.{is_party, entries_of}
 use Rattle.lock_queue.specs.Queues.{Queue}
 use Rattle.lock_world.specs.Steps.{Deed, nothing, changes, does, joins, asks, leaves, notifies, list_after}
-use Rattle.semaphore_machine.specs.declared.program.Action.{Action}
-use Rattle.semaphore_machine.specs.declared.program.Action.TheVariants as act
-use Rattle.semaphore_machine.specs.declared.program.Found.{Found}
-use Rattle.semaphore_machine.specs.declared.program.Found.TheVariants.{Done, Taken, NoneLeft, PastLimit, NoMemory, Yes, No}
+use Rattle.sync_program.specs.declared.semaphore.Action.{Action}
+use Rattle.sync_program.specs.declared.semaphore.Action.TheVariants as act
+use Rattle.sync_program.specs.declared.semaphore.Found.{Found}
+use Rattle.sync_program.specs.declared.semaphore.Found.TheVariants.{Done, Taken, NoneLeft, PastLimit, NoMemory, Yes, No}
 use Rattle.semaphore_machine.specs.declared.words.Words.{Words}
 use Rattle.semaphore_machine.specs.Seats.{Share, nothing_had, one_permit}
 

@@ -20,13 +20,13 @@ use Rattle.lock_world.specs.declared.standing.Stage.TheVariants.{Outside, Inside
 use Rattle.lock_world.specs.declared.standing.Within.{Within}
 use Rattle.lock_world.specs.Standings.{inputs_of}
 use Rattle.lock_table.specs.Ends.{answer_of}
-use Rattle.semaphore_machine.specs.declared.program.Found.{Found}
-use Rattle.semaphore_machine.specs.declared.program.Next.{Next}
-use Rattle.semaphore_machine.specs.declared.program.Next.TheVariants as next
-use Rattle.semaphore_machine.specs.declared.program.Place.{Place}
-use Rattle.semaphore_machine.specs.declared.program.Place.TheVariants.{Take, Retake, Join, Ask, Leave, HandOn, RefuseNotify, Try, Lower, GiveBack, GiveBackNotify, Raise, GiveAdded, NotifyAdded, CancelLeave, Abandon}
-use Rattle.semaphore_machine.specs.declared.program.Position.{Position}
-use Rattle.semaphore_machine.specs.declared.program.Position.TheVariants.{Out, Waiting, Holding, At}
+use Rattle.sync_program.specs.declared.semaphore.Found.{Found}
+use Rattle.semaphore_machine.specs.Program.{Next}
+use Rattle.lock_program.specs.declared.end.Next.TheVariants as next
+use Rattle.sync_program.specs.declared.semaphore.Place.{Place}
+use Rattle.sync_program.specs.declared.semaphore.Place.TheVariants.{Take, Retake, Join, Ask, Leave, HandOn, RefuseNotify, Try, Lower, GiveBack, GiveBackNotify, Raise, GiveAdded, NotifyAdded, CancelLeave, Abandon}
+use Rattle.sync_program.specs.declared.semaphore.Position.{Position}
+use Rattle.sync_program.specs.declared.semaphore.Position.TheVariants.{Out, Waiting, Holding, At}
 use Rattle.semaphore_machine.specs.declared.words.Words.{Words}
 use Rattle.semaphore_machine.specs.Program.{place_for, action_of, next_of, position_after}
 use Rattle.semaphore_machine.specs.Seats.{permits_at, under_way_at, listed, is_resting}
@@ -154,14 +154,14 @@ Stands s p stage = goes_with stage (position_at s.positions p) ≡ true
 -- what a call's next is answered
 abbrev pub answer_by : Next → Answer
 answer_by (next.Do x) = Stepped
-answer_by (next.End e) = answer_of Plain e
+answer_by (next.End e x) = answer_of Plain e
 
 -- A party does the action of this place, which finds this, and goes where its program says.
 pub record Acts (memory : Bool) (p : ℕ) (from : Place) (found : Found) (s t : Semaphore) : Type 0 where
   pub finds : Finds memory p (action_of from) found s.words s.entries
   pub words : t.words ≡ words_after (deed_of (action_of from) found) s.words
   pub entries : t.entries ≡ entries_after p (deed_of (action_of from) found) s.entries
-  pub positions : t.positions ≡ slice_set s.positions p (position_after from (next_of from found))
+  pub positions : t.positions ≡ slice_set s.positions p (position_after (next_of from found))
 
 -- A move of the party, answered so.
 pub record Moves (s : Semaphore) (p : ℕ) (w : Within) (what : What) (a : Answer) (t : Semaphore) : Type 0 where

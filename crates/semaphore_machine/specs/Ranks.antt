@@ -2,10 +2,10 @@
 use Rattle.std.specs.Prelude.{ℕ, if◌then◌else◌, Bool, true, false}
 use Rattle.lock_event.specs.Lists.{is_marked_at}
 use Rattle.lock_queue.specs.Parties.{is_party}
-use Rattle.semaphore_machine.specs.declared.program.Place.{Place}
-use Rattle.semaphore_machine.specs.declared.program.Place.TheVariants.{Take, Retake, Join, Ask, Leave, GiveBack, Raise, GiveAdded}
-use Rattle.semaphore_machine.specs.declared.program.Position.{Position}
-use Rattle.semaphore_machine.specs.declared.program.Position.TheVariants.{At}
+use Rattle.sync_program.specs.declared.semaphore.Place.{Place}
+use Rattle.sync_program.specs.declared.semaphore.Place.TheVariants.{Take, Retake, Join, Ask, Leave, GiveBack, Raise, GiveAdded}
+use Rattle.sync_program.specs.declared.semaphore.Position.{Position}
+use Rattle.sync_program.specs.declared.semaphore.Position.TheVariants.{At}
 use Rattle.semaphore_machine.specs.Machine.{Semaphore, position_at}
 
 -- How many steps are left at most from a place, by whether the party's own entry is marked.

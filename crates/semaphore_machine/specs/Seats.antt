@@ -4,12 +4,12 @@ pub use Rattle.lock_world.specs.Rosters.{bit}
 use Rattle.lock_world.specs.declared.moves.Answer.{Answer}
 use Rattle.lock_world.specs.declared.moves.Answer.TheVariants.{Ready, Granted, GivenBack}
 use Rattle.lock_world.specs.declared.moves.Got.TheVariants.{Plain}
-use Rattle.lock_world.specs.declared.refusal.Refusal.TheVariants.{Memory}
+use Rattle.lock_program.specs.declared.refusal.Refusal.TheVariants.{Memory}
 use Rattle.lock_world.specs.Standings.{refused}
-use Rattle.semaphore_machine.specs.declared.program.Place.{Place}
-use Rattle.semaphore_machine.specs.declared.program.Place.TheVariants.{Take, Retake, Join, Ask, Leave, HandOn, RefuseNotify, Try, Lower, GiveBack, GiveBackNotify, Raise, GiveAdded, NotifyAdded, CancelLeave, Abandon}
-use Rattle.semaphore_machine.specs.declared.program.Position.{Position}
-use Rattle.semaphore_machine.specs.declared.program.Position.TheVariants.{Out, Waiting, Holding, At}
+use Rattle.sync_program.specs.declared.semaphore.Place.{Place}
+use Rattle.sync_program.specs.declared.semaphore.Place.TheVariants.{Take, Retake, Join, Ask, Leave, HandOn, RefuseNotify, Try, Lower, GiveBack, GiveBackNotify, Raise, GiveAdded, NotifyAdded, CancelLeave, Abandon}
+use Rattle.sync_program.specs.declared.semaphore.Position.{Position}
+use Rattle.sync_program.specs.declared.semaphore.Position.TheVariants.{Out, Waiting, Holding, At}
 
 -- What a party has of a semaphore: whether a permit, and how many permits are under way in its add.
 pub record Share : Type 0 where

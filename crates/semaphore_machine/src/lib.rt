@@ -1,10 +1,10 @@
-//! The machine of a semaphore: its programs, and the words and the list that carry them out.
+//! The machine of a semaphore: the words and the list that carry its programs out.
 //!
-//! [`program`] is the pure table that says what comes next; [`Semaphore`] is the words, the list and where
-//! each party stands.
+//! The programs themselves are the table `sync_program::semaphore`; [`Semaphore`] is the words, the list and where each party
+//! stands.
 #![tactic(auto)]
 
-pub mod program;
+mod calls;
 mod semaphore;
 mod words;
 

@@ -3,21 +3,23 @@
 ghost use Rattle.std.specs.Prelude.{◌≡◌, ℕ, ◌<◌, ◌≤◌, length, slice_get, replicate, IfOk};
 ghost use Rattle.lock_world.specs.declared.standing.Stage.TheVariants.{Outside};
 ghost use Rattle.lock_world.specs.declared.standing.Rest.TheVariants.{Idle};
-ghost use Rattle.semaphore_machine.specs.declared.program.Position.TheVariants.{Out};
+ghost use Rattle.sync_program.specs.declared.semaphore.Position.TheVariants.{Out};
 ghost use Rattle.semaphore_machine.specs.Program.{place_for as place_for_lem, position_after};
 ghost use Rattle.semaphore_machine.specs.Deeds.{CanDo};
 ghost use Rattle.semaphore_machine.specs.Carried.{Carried};
 ghost use Rattle.semaphore_machine.specs.Machine.{new_semaphore, IsSemaphore, answer_by};
 
-use crate::program::{Action, Found, Next, Place, Position, action_at, decide, start};
+use crate::calls::start;
 use crate::words::Words;
 use lock_event::Entry;
 use lock_queue::WaitQueue;
-use lock_table::{End, Machine};
+use lock_program::Next;
+use lock_table::{Machine, answer};
 use lock_world::standing::{Rest, Within};
 use lock_world::{Answer, Call, Got, What};
 use std::alloc::{AllocError, Global};
 use std::marker::Model;
+use sync_program::semaphore::{Action, Found, Place, Position, action_at, decide};
 
 /// A semaphore, and where each of its parties stands.
 ///
@@ -104,18 +106,12 @@ fn carry_out(
 }
 
 /// Where a party stands after this.
-fn after(from: Place, next: Next) -> Position
-    ensures { result ≡ position_after from next }
+fn after(next: Next<Place, Position>) -> Position
+    ensures { result ≡ position_after next }
 {
     match next {
         Next::Do(place) => Position::At(place),
-        Next::End(End::Granted) => match from {
-            Place::Try => Position::Holding,
-            _ => Position::Out,
-        },
-        Next::End(End::Got) => Position::Holding,
-        Next::End(End::Pending) => Position::Waiting,
-        Next::End(_) => Position::Out,
+        Next::End(_, position) => position,
     }
 }
 
@@ -205,12 +201,12 @@ impl Semaphore {
 }
 
 /// What a call's next is answered.
-fn answer_to(next: Next) -> Answer
+fn answer_to(next: Next<Place, Position>) -> Answer
     ensures { result ≡ answer_by next }
 {
     match next {
         Next::Do(_) => Answer::Stepped,
-        Next::End(end) => end.answer(Got::Plain),
+        Next::End(end, _) => answer(end, Got::Plain),
     }
 }
 
@@ -258,7 +254,7 @@ impl Machine for Semaphore {
             what.inputs().memory,
         );
         let next = decide(from, found);
-        self.positions[at] = after(from, next);
+        self.positions[at] = after(next);
         answer_to(next)
     }
 }

@@ -6,7 +6,7 @@
 //! what a step may do, specs/AtOnce what it decides at once.
 
 ghost use Rattle.std.specs.Prelude.{◌≡◌, ◌<◌, ◌≤◌, ◌^◌, ◌-◌, ℕ, Bool, true, None, IfOk, IfErr, OnErr, length, slice_get};
-ghost use Rattle.lock_world.specs.declared.refusal.Refusal.TheVariants as refusals;
+ghost use Rattle.lock_program.specs.declared.refusal.Refusal.TheVariants as refusals;
 ghost use Rattle.semaphore_world.specs.State.{new_world, available};
 ghost use Rattle.semaphore_world.specs.Steps.{Steps};
 ghost use Rattle.semaphore_world.specs.Laws.{IsSound, IsAwake, IsFreeAndWanted, is_at_rest};
@@ -16,7 +16,8 @@ ghost use Rattle.semaphore_world.specs.Limits.{IsRefusedFor};
 use lock_event::Entry;
 use lock_frame::AnyWorld;
 use lock_table::Table;
-use lock_world::{Answer, Move, Refusal};
+use lock_program::Refusal;
+use lock_world::{Answer, Move};
 use semaphore_machine::{Semaphore, may_begin_with};
 use std::alloc::Global;
 use std::marker::Model;

@@ -5,19 +5,19 @@ use Rattle.lock_event.specs.Lists.{is_marked_at}
 use Rattle.lock_queue.specs.Parties.{is_party, entries_of}
 use Rattle.lock_world.specs.declared.moves.Inputs.{Inputs}
 use Rattle.lock_world.proofs.Lists.{joined_unmarked}
-use Rattle.mutex_program.specs.declared.calls.Step.{Step as LockStep}
-use Rattle.mutex_program.specs.declared.calls.Step.TheVariants as lock_step
-use Rattle.mutex_program.specs.declared.calls.End.TheVariants as lock_end
+use Rattle.lock_program.specs.declared.mutex.Step.{Step as LockStep}
+use Rattle.lock_program.specs.declared.mutex.Step.TheVariants as lock_step
+use Rattle.lock_program.specs.declared.end.End.TheVariants as lock_end
 use Rattle.mutex_machine.specs.Mutex.{Mutex, left_after as lock_left_after, steps_left as lock_steps_left}
-use Rattle.barrier_program.specs.declared.program.Aim.{Aim}
-use Rattle.barrier_program.specs.declared.program.Aim.TheVariants as aim
-use Rattle.barrier_program.specs.declared.program.Ending.{Ending}
-use Rattle.barrier_program.specs.declared.program.Ending.TheVariants as ending
-use Rattle.barrier_program.specs.declared.program.Found.{Found}
-use Rattle.barrier_program.specs.declared.program.Found.TheVariants as found
-use Rattle.barrier_program.specs.declared.program.Place.{Place}
-use Rattle.barrier_program.specs.declared.program.Place.TheVariants.{EnterLock, WaitLock, TakeLock, Look, Join, Arrive, Complete, NotifyAll, Check, JoinAgain, ReleaseLock, ReleasingLock, Ask, CancelLock, CancellingLock, CancelLeave, Abandon}
-use Rattle.barrier_program.specs.declared.program.Position.TheVariants.{At}
+use Rattle.sync_program.specs.declared.barrier.Aim.{Aim}
+use Rattle.sync_program.specs.declared.barrier.Aim.TheVariants as aim
+use Rattle.sync_program.specs.declared.barrier.Ending.{Ending}
+use Rattle.sync_program.specs.declared.barrier.Ending.TheVariants as ending
+use Rattle.sync_program.specs.declared.barrier.Found.{Found}
+use Rattle.sync_program.specs.declared.barrier.Found.TheVariants as found
+use Rattle.sync_program.specs.declared.barrier.Place.{Place}
+use Rattle.sync_program.specs.declared.barrier.Place.TheVariants.{EnterLock, WaitLock, TakeLock, Look, Join, Arrive, Complete, NotifyAll, Check, JoinAgain, ReleaseLock, ReleasingLock, Ask, CancelLock, CancellingLock, CancelLeave, Abandon}
+use Rattle.sync_program.specs.declared.barrier.Position.TheVariants.{At}
 use Rattle.barrier_program.specs.Program.{action_of, next_of, after_lock, after_cancel, after_release, released}
 use Rattle.barrier_program.specs.declared.words.Progress.{Progress}
 use Rattle.barrier_program.specs.declared.words.Words.{Words}

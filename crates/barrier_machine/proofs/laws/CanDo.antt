@@ -5,10 +5,10 @@ use Rattle.lock_queue.specs.Queues.{Queue}
 use Rattle.lock_world.specs.declared.standing.Within.{Within}
 use Rattle.mutex_machine.specs.Mutex.{Mutex, course_at}
 use Rattle.mutex_machine.proofs.callers.Callers.{may_lock, may_poll, may_cancel, may_release}
-use Rattle.barrier_program.specs.declared.program.Place.{Place}
-use Rattle.barrier_program.specs.declared.program.Place.TheVariants.{EnterLock, WaitLock, TakeLock, Join, Arrive, Complete, JoinAgain, ReleaseLock, ReleasingLock, Ask, CancelLock, CancellingLock, CancelLeave}
-use Rattle.barrier_program.specs.declared.program.Position.{Position}
-use Rattle.barrier_program.specs.declared.program.Position.TheVariants.{At}
+use Rattle.sync_program.specs.declared.barrier.Place.{Place}
+use Rattle.sync_program.specs.declared.barrier.Place.TheVariants.{EnterLock, WaitLock, TakeLock, Join, Arrive, Complete, JoinAgain, ReleaseLock, ReleasingLock, Ask, CancelLock, CancellingLock, CancelLeave}
+use Rattle.sync_program.specs.declared.barrier.Position.{Position}
+use Rattle.sync_program.specs.declared.barrier.Position.TheVariants.{At}
 use Rattle.barrier_program.specs.declared.words.Progress.{Progress}
 use Rattle.barrier_program.specs.declared.words.Words.{Words}
 use Rattle.barrier_program.specs.Program.{action_of}

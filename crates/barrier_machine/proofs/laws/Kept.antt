@@ -17,12 +17,12 @@ use Rattle.mutex_machine.specs.Course.{Course, is_holding}
 use Rattle.mutex_machine.specs.Mutex.{Mutex, course_at, IsMutex, holder_from}
 use Rattle.mutex_machine.proofs.callers.Callers.{holding_holds}
 use Rattle.mutex_machine.proofs.callers.Holders.{held_at}
-use Rattle.barrier_program.specs.declared.program.Ending.TheVariants as ending
-use Rattle.barrier_program.specs.declared.program.Found.{Found}
-use Rattle.barrier_program.specs.declared.program.Place.{Place}
-use Rattle.barrier_program.specs.declared.program.Place.TheVariants.{Arrive, Complete, ReleaseLock, ReleasingLock}
-use Rattle.barrier_program.specs.declared.program.Position.{Position}
-use Rattle.barrier_program.specs.declared.program.Position.TheVariants.{Out, At}
+use Rattle.sync_program.specs.declared.barrier.Ending.TheVariants as ending
+use Rattle.sync_program.specs.declared.barrier.Found.{Found}
+use Rattle.sync_program.specs.declared.barrier.Place.{Place}
+use Rattle.sync_program.specs.declared.barrier.Place.TheVariants.{Arrive, Complete, ReleaseLock, ReleasingLock}
+use Rattle.sync_program.specs.declared.barrier.Position.{Position}
+use Rattle.sync_program.specs.declared.barrier.Position.TheVariants.{Out, At}
 use Rattle.barrier_program.specs.declared.words.Progress.{Progress}
 use Rattle.barrier_program.specs.declared.words.Words.{Words}
 use Rattle.barrier_program.specs.Words.{progress, IsPast, IsWithin, IsFollower}

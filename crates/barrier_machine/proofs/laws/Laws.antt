@@ -9,9 +9,9 @@ use Rattle.lock_queue.specs.Queues.{Queue}
 use Rattle.mutex_machine.specs.Course.{Course, holds, is_resting as rests_there}
 use Rattle.mutex_machine.specs.Mutex.{Mutex, course_at, IsMutex, holders, IsAtRest as LockAtRest}
 use Rattle.mutex_machine.proofs.callers.Callers.{out_free, waiting_free, holding_holds, out_rests, waiting_rests}
-use Rattle.barrier_program.specs.declared.program.Place.TheVariants.{Arrive, NotifyAll}
-use Rattle.barrier_program.specs.declared.program.Position.{Position}
-use Rattle.barrier_program.specs.declared.program.Position.TheVariants.{Out, Made, Locking, Waiting, At}
+use Rattle.sync_program.specs.declared.barrier.Place.TheVariants.{Arrive, NotifyAll}
+use Rattle.sync_program.specs.declared.barrier.Position.{Position}
+use Rattle.sync_program.specs.declared.barrier.Position.TheVariants.{Out, Made, Locking, Waiting, At}
 use Rattle.barrier_program.specs.declared.words.Progress.{Progress}
 use Rattle.barrier_program.specs.declared.words.Words.{Words}
 use Rattle.barrier_machine.specs.Roles.{fits_lock, in_lock, is_late, will_tell, is_resting}

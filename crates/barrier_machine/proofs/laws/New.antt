@@ -5,7 +5,7 @@ use Rattle.lock_queue.specs.Queues.{queue}
 use Rattle.lock_world.proofs.Alike.{all_alike, none_of_all}
 use Rattle.mutex_machine.specs.Mutex.{new_mutex}
 use Rattle.mutex_machine.proofs.callers.Callers.{new_is_out, new_parties}
-use Rattle.barrier_program.specs.declared.program.Position.TheVariants.{Out}
+use Rattle.sync_program.specs.declared.barrier.Position.TheVariants.{Out}
 use Rattle.barrier_program.specs.Words.{progress, new_words}
 use Rattle.barrier_machine.specs.Roles.{listed}
 use Rattle.lock_world.specs.declared.standing.Rest.TheVariants.{Idle}

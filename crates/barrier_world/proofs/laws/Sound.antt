@@ -22,14 +22,14 @@ use Rattle.mutex_machine.specs.Course.{Course, bit, counted as starved_there, li
 use Rattle.mutex_machine.specs.Mutex.{course_at, IsAtRest as LockAtRest}
 use Rattle.mutex_machine.proofs.callers.Callers.{out_rests, waiting_rests, out_unlisted, holding_unlisted, listed_once}
 use Rattle.mutex_machine.proofs.callers.Holders as sees
-use Rattle.barrier_program.specs.declared.program.Aim.{Aim}
-use Rattle.barrier_program.specs.declared.program.Aim.TheVariants as aim
-use Rattle.barrier_program.specs.declared.program.Ending.{Ending}
-use Rattle.barrier_program.specs.declared.program.Ending.TheVariants as ending
-use Rattle.barrier_program.specs.declared.program.Place.{Place}
-use Rattle.barrier_program.specs.declared.program.Place.TheVariants.{EnterLock, WaitLock, TakeLock, Arrive, NotifyAll, Check, JoinAgain, ReleaseLock, ReleasingLock, Ask, CancelLeave, Abandon}
-use Rattle.barrier_program.specs.declared.program.Position.{Position}
-use Rattle.barrier_program.specs.declared.program.Position.TheVariants.{Out, Made, Locking, Waiting, At}
+use Rattle.sync_program.specs.declared.barrier.Aim.{Aim}
+use Rattle.sync_program.specs.declared.barrier.Aim.TheVariants as aim
+use Rattle.sync_program.specs.declared.barrier.Ending.{Ending}
+use Rattle.sync_program.specs.declared.barrier.Ending.TheVariants as ending
+use Rattle.sync_program.specs.declared.barrier.Place.{Place}
+use Rattle.sync_program.specs.declared.barrier.Place.TheVariants.{EnterLock, WaitLock, TakeLock, Arrive, NotifyAll, Check, JoinAgain, ReleaseLock, ReleasingLock, Ask, CancelLeave, Abandon}
+use Rattle.sync_program.specs.declared.barrier.Position.{Position}
+use Rattle.sync_program.specs.declared.barrier.Position.TheVariants.{Out, Made, Locking, Waiting, At}
 use Rattle.barrier_program.specs.declared.words.Progress.{Progress}
 use Rattle.barrier_program.specs.declared.words.Words.{Words}
 use Rattle.barrier_program.specs.Words.{arrivals_at, IsFollower}

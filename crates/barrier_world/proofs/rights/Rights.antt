@@ -15,8 +15,8 @@ use Rattle.lock_table.specs.Stages.{stage_at}
 use Rattle.lock_table.specs.Tables.{Table}
 use Rattle.lock_table.proofs.Rights.{idle_account, again_account}
 use Rattle.lock_table.proofs.Ways.{way, by_way}
-use Rattle.barrier_program.specs.declared.program.Place.{Place}
-use Rattle.barrier_program.specs.declared.program.Position.{Position}
+use Rattle.sync_program.specs.declared.barrier.Place.{Place}
+use Rattle.sync_program.specs.declared.barrier.Position.{Position}
 use Rattle.barrier_program.specs.Program.{place_for}
 use Rattle.barrier_machine.specs.Machine.{Barrier, Moves, position_at}
 use Rattle.barrier_world.specs.State.{World}

@@ -6,14 +6,14 @@ use Rattle.lock_world.specs.declared.moves.Answer.TheVariants as answer
 use Rattle.lock_world.specs.declared.moves.Inputs.{Inputs}
 use Rattle.lock_world.specs.declared.moves.Move.{Move}
 use Rattle.lock_world.specs.declared.moves.What.{What}
-use Rattle.lock_world.specs.declared.refusal.Refusal.{Refusal}
-use Rattle.lock_world.specs.declared.refusal.Refusal.TheVariants as refusal
+use Rattle.lock_program.specs.declared.refusal.Refusal.{Refusal}
+use Rattle.lock_program.specs.declared.refusal.Refusal.TheVariants as refusal
 use Rattle.lock_world.specs.declared.standing.Rest.TheVariants as rest
 use Rattle.lock_world.specs.declared.standing.Stage.{Stage}
 use Rattle.lock_world.specs.declared.standing.Within.{Within}
 use Rattle.lock_world.specs.Standings.{Standing, inside, inputs_of, call_in, is_possible, is_stepped, is_decided, may_end, decision, refused, IsUndecided}
 use Rattle.lock_world.specs.Frame.{is_drop, is_poll_after_ready, is_refusal}
-use Rattle.lock_world.specs.Refusals.{number_of}
+use Rattle.lock_program.specs.Refusals.{number_of}
 use Rattle.lock_world.specs.Rosters.{is_on}
 use Rattle.lock_world.specs.Steps.{Deed, nothing, changes, does}
 use Rattle.lock_world.proofs.Equations.{some_eq, none_some}
@@ -23,16 +23,16 @@ use Rattle.lock_table.proofs.Acting as acting
 use Rattle.lock_table.proofs.Calls.{call_seen, again_seen, stands_seen, decided_after, decision_seen}
 use Rattle.mutex_machine.specs.Course.{Course}
 use Rattle.mutex_machine.specs.Mutex.{Mutex, course_at}
-use Rattle.barrier_program.specs.declared.program.Action.{Action}
-use Rattle.barrier_program.specs.declared.program.Action.TheVariants as act
-use Rattle.barrier_program.specs.declared.program.Aim.{Aim}
-use Rattle.barrier_program.specs.declared.program.Found.{Found}
-use Rattle.barrier_program.specs.declared.program.Found.TheVariants as found
-use Rattle.barrier_program.specs.declared.program.Next.{Next}
-use Rattle.barrier_program.specs.declared.program.Place.{Place}
-use Rattle.barrier_program.specs.declared.program.Place.TheVariants.{Arrive, Complete}
-use Rattle.barrier_program.specs.declared.program.Position.{Position}
-use Rattle.barrier_program.specs.declared.program.Position.TheVariants.{Out, Made}
+use Rattle.sync_program.specs.declared.barrier.Action.{Action}
+use Rattle.sync_program.specs.declared.barrier.Action.TheVariants as act
+use Rattle.sync_program.specs.declared.barrier.Aim.{Aim}
+use Rattle.sync_program.specs.declared.barrier.Found.{Found}
+use Rattle.sync_program.specs.declared.barrier.Found.TheVariants as found
+use Rattle.barrier_program.specs.Program.{Next}
+use Rattle.sync_program.specs.declared.barrier.Place.{Place}
+use Rattle.sync_program.specs.declared.barrier.Place.TheVariants.{Arrive, Complete}
+use Rattle.sync_program.specs.declared.barrier.Position.{Position}
+use Rattle.sync_program.specs.declared.barrier.Position.TheVariants.{Out, Made}
 use Rattle.barrier_program.specs.declared.words.Progress.{Progress}
 use Rattle.barrier_program.specs.declared.words.Words.{Words}
 use Rattle.barrier_program.specs.Words.{progress, arrivals_at}

@@ -3,7 +3,7 @@ use Rattle.std.proofs.Common.{◌≡◌, true, false, Some, refl, ap, ◌∙◌}
 use Rattle.lock_world.specs.declared.moves.Answer.{Answer}
 use Rattle.lock_world.specs.declared.moves.Answer.TheVariants as answer
 use Rattle.lock_world.specs.declared.moves.Call.TheVariants as call
-use Rattle.lock_world.specs.declared.moves.Got.TheVariants as got
+use Rattle.lock_world.specs.declared.moves.Got.{Got}
 use Rattle.lock_world.specs.declared.moves.What.{What}
 use Rattle.lock_world.specs.declared.moves.What.TheVariants.{Begin, Go}
 use Rattle.lock_world.specs.declared.standing.Kind.{Kind}
@@ -12,23 +12,22 @@ use Rattle.lock_world.specs.declared.standing.Rest.{Rest}
 use Rattle.lock_world.specs.declared.standing.Rest.TheVariants as rest
 use Rattle.lock_world.specs.Standings.{is_possible, is_stepped, may_end}
 use Rattle.lock_table.specs.Ends.{answer_of}
-use Rattle.lock_table.specs.declared.end.End.{End}
-use Rattle.lock_table.specs.declared.end.End.TheVariants as «end»
+use Rattle.lock_program.specs.declared.end.End.{End}
+use Rattle.lock_program.specs.declared.end.End.TheVariants as «end»
 use Rattle.lock_table.proofs.Calls.{decided_after}
 use Rattle.mutex_machine.specs.Course.{Course}
-use Rattle.mutex_program.specs.declared.calls.Step.TheVariants as lock_step
-use Rattle.mutex_program.specs.declared.calls.End.TheVariants as lock_end
-use Rattle.barrier_program.specs.declared.program.Aim.{Aim}
-use Rattle.barrier_program.specs.declared.program.Aim.TheVariants as aim
-use Rattle.barrier_program.specs.declared.program.Ending.{Ending}
-use Rattle.barrier_program.specs.declared.program.Ending.TheVariants as ending
-use Rattle.barrier_program.specs.declared.program.Found.{Found}
-use Rattle.barrier_program.specs.declared.program.Found.TheVariants as found
-use Rattle.barrier_program.specs.declared.program.Next.{Next}
-use Rattle.barrier_program.specs.declared.program.Next.TheVariants as next
-use Rattle.barrier_program.specs.declared.program.Place.{Place}
-use Rattle.barrier_program.specs.declared.program.Place.TheVariants.{EnterLock, WaitLock, TakeLock, Look, Join, Arrive, Complete, NotifyAll, Check, JoinAgain, ReleaseLock, ReleasingLock, Ask, CancelLock, CancellingLock, CancelLeave, Abandon}
-use Rattle.barrier_program.specs.Program.{next_of, position_after, after_lock, after_cancel, after_release, released}
+use Rattle.lock_program.specs.declared.mutex.Step.TheVariants as lock_step
+use Rattle.sync_program.specs.declared.barrier.Aim.{Aim}
+use Rattle.sync_program.specs.declared.barrier.Aim.TheVariants as aim
+use Rattle.sync_program.specs.declared.barrier.Ending.{Ending}
+use Rattle.sync_program.specs.declared.barrier.Ending.TheVariants as ending
+use Rattle.sync_program.specs.declared.barrier.Found.{Found}
+use Rattle.sync_program.specs.declared.barrier.Found.TheVariants as found
+use Rattle.barrier_program.specs.Program.{Next}
+use Rattle.lock_program.specs.declared.end.Next.TheVariants as next
+use Rattle.sync_program.specs.declared.barrier.Place.{Place}
+use Rattle.sync_program.specs.declared.barrier.Place.TheVariants.{EnterLock, WaitLock, TakeLock, Look, Join, Arrive, Complete, NotifyAll, Check, JoinAgain, ReleaseLock, ReleasingLock, Ask, CancelLock, CancellingLock, CancelLeave, Abandon}
+use Rattle.barrier_program.specs.Program.{next_of, position_after, after_lock, after_cancel, after_release, released, got_left}
 use Rattle.barrier_machine.specs.Waits.{Wait, verdict}
 use Rattle.barrier_machine.specs.Machine.{runs, is_polling, is_cancelling, is_abandoning, answer_by}
 use Rattle.barrier_world.specs.Changes.{wait_then}
@@ -38,28 +37,27 @@ use Rattle.barrier_world.proofs.step.Turns.{said}
 -- what a call is decided on after this
 pub said_so : (n : Next) (c : Course) → decided_after (answer_by n) (verdict (position_after n) c) ≡ said n c
 said_so (next.Do y) c = refl
-said_so (next.Ready g) c = refl
 said_so (next.End «end».Got x) c = refl
 said_so (next.End «end».Granted x) c = refl
 said_so (next.End «end».Pending x) c = refl
 said_so (next.End «end».NotFree x) c = refl
+said_so (next.End «end».Waiting x) c = refl
 said_so (next.End «end».GivenBack x) c = refl
 said_so (next.End («end».Refused r) x) c = refl
 
 pub possible_by : (n : Next) → is_possible (answer_by n) ≡ true
 possible_by (next.Do y) = refl
-possible_by (next.Ready g) = refl
 possible_by (next.End «end».Got x) = refl
 possible_by (next.End «end».Granted x) = refl
 possible_by (next.End «end».Pending x) = refl
 possible_by (next.End «end».NotFree x) = refl
+possible_by (next.End «end».Waiting x) = refl
 possible_by (next.End «end».GivenBack x) = refl
 possible_by (next.End («end».Refused r) x) = refl
 
 -- what is answered, and doesn't go on, was decided
 pub said_then : (n : Next) (c : Course) (b : Answer) → is_stepped b ≡ false → answer_by n ≡ b → said n c ≡ Some b
 said_then (next.Do y) c b h e = let never : is_stepped answer.Stepped ≡ false = ap is_stepped e ∙ h in absurd (cc)
-said_then (next.Ready g) c b h e = ap Some e
 said_then (next.End f x) c b h e = ap Some e
 
 -- ---- by which answers
@@ -69,9 +67,9 @@ Ends k n = is_stepped (answer_by n) ≡ false → may_end k (answer_by n) ≡ tr
 
 lock_ends : (a : Aim) (f : Found) → Ends kind.FirstPoll (after_lock a f)
 lock_ends a (found.Lock lock_step.More) e = absurd (cc e)
-lock_ends aim.Arrive (found.Lock (lock_step.End lock_end.Got)) e = absurd (cc e)
-lock_ends aim.Check (found.Lock (lock_step.End lock_end.Got)) e = absurd (cc e)
-lock_ends a (found.Lock (lock_step.End (lock_end.Refused r))) e = refl
+lock_ends aim.Arrive (found.Lock (lock_step.End «end».Got)) e = absurd (cc e)
+lock_ends aim.Check (found.Lock (lock_step.End «end».Got)) e = absurd (cc e)
+lock_ends a (found.Lock (lock_step.End («end».Refused r))) e = refl
 lock_ends a (found.Lock (lock_step.End _)) e = refl
 lock_ends a _ e = refl
 
@@ -141,30 +139,33 @@ ends_by _ _ x f h e = absurd (cc h)
 
 -- ---- what becomes of a wait
 
-at_end : (what : What) (e : End) (b : Wait) → wait_then what (answer_of got.Plain e) b ≡ ends (answer_of got.Plain e) (wait_then what answer.Stepped b)
-at_end what «end».Got b = refl
-at_end (Begin call.Wait i) «end».Granted b = refl
-at_end (Begin call.Drop i) «end».Granted b = refl
-at_end (Begin _ i) «end».Granted b = refl
-at_end (Go i) «end».Granted b = refl
-at_end (Begin call.Wait i) «end».Pending b = refl
-at_end (Begin call.Drop i) «end».Pending b = refl
-at_end (Begin _ i) «end».Pending b = refl
-at_end (Go i) «end».Pending b = refl
-at_end (Begin call.Wait i) «end».NotFree b = refl
-at_end (Begin call.Drop i) «end».NotFree b = refl
-at_end (Begin _ i) «end».NotFree b = refl
-at_end (Go i) «end».NotFree b = refl
-at_end (Begin call.Wait i) «end».GivenBack b = refl
-at_end (Begin call.Drop i) «end».GivenBack b = refl
-at_end (Begin _ i) «end».GivenBack b = refl
-at_end (Go i) «end».GivenBack b = refl
-at_end (Begin call.Wait i) («end».Refused r) b = refl
-at_end (Begin call.Drop i) («end».Refused r) b = refl
-at_end (Begin _ i) («end».Refused r) b = refl
-at_end (Go i) («end».Refused r) b = refl
+at_end : (what : What) (g : Got) (e : End) (b : Wait) → wait_then what (answer_of g e) b ≡ ends (answer_of g e) (wait_then what answer.Stepped b)
+at_end what g «end».Got b = refl
+at_end (Begin call.Wait i) g «end».Granted b = refl
+at_end (Begin call.Drop i) g «end».Granted b = refl
+at_end (Begin _ i) g «end».Granted b = refl
+at_end (Go i) g «end».Granted b = refl
+at_end (Begin call.Wait i) g «end».Pending b = refl
+at_end (Begin call.Drop i) g «end».Pending b = refl
+at_end (Begin _ i) g «end».Pending b = refl
+at_end (Go i) g «end».Pending b = refl
+at_end (Begin call.Wait i) g «end».NotFree b = refl
+at_end (Begin call.Drop i) g «end».NotFree b = refl
+at_end (Begin _ i) g «end».NotFree b = refl
+at_end (Go i) g «end».NotFree b = refl
+at_end (Begin call.Wait i) g «end».Waiting b = refl
+at_end (Begin call.Drop i) g «end».Waiting b = refl
+at_end (Begin _ i) g «end».Waiting b = refl
+at_end (Go i) g «end».Waiting b = refl
+at_end (Begin call.Wait i) g «end».GivenBack b = refl
+at_end (Begin call.Drop i) g «end».GivenBack b = refl
+at_end (Begin _ i) g «end».GivenBack b = refl
+at_end (Go i) g «end».GivenBack b = refl
+at_end (Begin call.Wait i) g («end».Refused r) b = refl
+at_end (Begin call.Drop i) g («end».Refused r) b = refl
+at_end (Begin _ i) g («end».Refused r) b = refl
+at_end (Go i) g («end».Refused r) b = refl
 
 pub wait_goes : (what : What) (n : Next) (b : Wait) → wait_then what (answer_by n) b ≡ ends (answer_by n) (wait_then what answer.Stepped b)
 wait_goes what (next.Do y) b = refl
-wait_goes what (next.Ready g) b = refl
-wait_goes what (next.End e x) b = at_end what e b
+wait_goes what (next.End e x) b = at_end what (got_left x) e b

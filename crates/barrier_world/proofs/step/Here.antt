@@ -18,12 +18,12 @@ use Rattle.lock_world.specs.Frame.{is_drop}
 use Rattle.lock_world.proofs.Equations.{some_eq, both, not_one}
 use Rattle.lock_table.specs.Stages.{stands_as, call_at, polls_again}
 use Rattle.mutex_machine.specs.Course.{Course}
-use Rattle.barrier_program.specs.declared.program.Aim.{Aim}
-use Rattle.barrier_program.specs.declared.program.Aim.TheVariants as aim
-use Rattle.barrier_program.specs.declared.program.Place.{Place}
-use Rattle.barrier_program.specs.declared.program.Place.TheVariants.{EnterLock, WaitLock, Ask, CancelLock, CancelLeave, Abandon}
-use Rattle.barrier_program.specs.declared.program.Position.{Position}
-use Rattle.barrier_program.specs.declared.program.Position.TheVariants.{Out, Made, Locking, Waiting, At}
+use Rattle.sync_program.specs.declared.barrier.Aim.{Aim}
+use Rattle.sync_program.specs.declared.barrier.Aim.TheVariants as aim
+use Rattle.sync_program.specs.declared.barrier.Place.{Place}
+use Rattle.sync_program.specs.declared.barrier.Place.TheVariants.{EnterLock, WaitLock, Ask, CancelLock, CancelLeave, Abandon}
+use Rattle.sync_program.specs.declared.barrier.Position.{Position}
+use Rattle.sync_program.specs.declared.barrier.Position.TheVariants.{Out, Made, Locking, Waiting, At}
 use Rattle.barrier_program.specs.Program.{place_for}
 use Rattle.barrier_machine.specs.Roles.{listed}
 use Rattle.barrier_machine.specs.Waits.{wait_at, wait_of as place_wait, verdict, verdict_of}

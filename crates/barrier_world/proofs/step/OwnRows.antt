@@ -8,7 +8,7 @@ use Rattle.lock_queue.proofs.Told.{waits_at}
 use Rattle.lock_world.specs.declared.moves.Answer.TheVariants as answer
 use Rattle.lock_world.specs.declared.moves.Got.TheVariants as got
 use Rattle.lock_world.specs.declared.moves.Move.{Move}
-use Rattle.lock_world.specs.declared.refusal.Refusal.TheVariants as refusal
+use Rattle.lock_program.specs.declared.refusal.Refusal.TheVariants as refusal
 use Rattle.lock_world.specs.declared.standing.Within.{Within}
 use Rattle.lock_world.specs.Steps.{nothing, changes, does, joins, asks, leaves, notifies, list_after}
 use Rattle.lock_table.specs.Tables.{Table}
@@ -16,10 +16,10 @@ use Rattle.mutex_machine.specs.Course.{is_holding}
 use Rattle.mutex_machine.specs.Mutex.{Mutex, holder_of, starved_of}
 use Rattle.mutex_machine.proofs.callers.Callers.{holding_holds, holding_unlisted}
 use Rattle.mutex_machine.proofs.callers.Holders as sees
-use Rattle.barrier_program.specs.declared.program.Found.{Found}
-use Rattle.barrier_program.specs.declared.program.Found.TheVariants as found
-use Rattle.barrier_program.specs.declared.program.Place.{Place}
-use Rattle.barrier_program.specs.declared.program.Place.TheVariants.{Look, Join, Arrive, Complete, NotifyAll, Check, JoinAgain, Ask, CancelLeave, Abandon}
+use Rattle.sync_program.specs.declared.barrier.Found.{Found}
+use Rattle.sync_program.specs.declared.barrier.Found.TheVariants as found
+use Rattle.sync_program.specs.declared.barrier.Place.{Place}
+use Rattle.sync_program.specs.declared.barrier.Place.TheVariants.{Look, Join, Arrive, Complete, NotifyAll, Check, JoinAgain, Ask, CancelLeave, Abandon}
 use Rattle.barrier_program.specs.declared.words.Progress.{Progress}
 use Rattle.barrier_program.specs.declared.words.Words.{Words}
 use Rattle.barrier_program.specs.Words.{arrivals_at}

@@ -13,19 +13,19 @@ use Rattle.lock_table.specs.Tables.{Table}
 use Rattle.lock_table.proofs.Mapped.{past_last}
 use Rattle.lock_table.proofs.Past.{by_stage_or_past_at, by_stage_or_past}
 use Rattle.mutex_machine.specs.Course.{Course, holds, is_out, decision}
-use Rattle.mutex_program.specs.declared.calls.End.{End}
-use Rattle.mutex_program.specs.declared.calls.End.TheVariants as lock_end
+use Rattle.lock_program.specs.declared.end.End.{End}
+use Rattle.lock_program.specs.declared.end.End.TheVariants as lock_end
 use Rattle.mutex_machine.specs.Mutex.{course_at}
 use Rattle.mutex_machine.proofs.callers.Callers.{out_unlisted, out_free, out_unstarved, waiting_free, holding_holds}
 use Rattle.mutex_machine.proofs.callers.Holders as sees
-use Rattle.barrier_program.specs.declared.program.Aim.{Aim}
-use Rattle.barrier_program.specs.declared.program.Aim.TheVariants as aim
-use Rattle.barrier_program.specs.declared.program.Ending.{Ending}
-use Rattle.barrier_program.specs.declared.program.Ending.TheVariants as ending
-use Rattle.barrier_program.specs.declared.program.Place.{Place}
-use Rattle.barrier_program.specs.declared.program.Place.TheVariants.{EnterLock, WaitLock, TakeLock, Look, Join, Arrive, Complete, NotifyAll, Check, JoinAgain, ReleaseLock, ReleasingLock, Ask, CancelLock, CancellingLock, CancelLeave, Abandon}
-use Rattle.barrier_program.specs.declared.program.Position.{Position}
-use Rattle.barrier_program.specs.declared.program.Position.TheVariants.{Out, Made, Locking, Waiting, At}
+use Rattle.sync_program.specs.declared.barrier.Aim.{Aim}
+use Rattle.sync_program.specs.declared.barrier.Aim.TheVariants as aim
+use Rattle.sync_program.specs.declared.barrier.Ending.{Ending}
+use Rattle.sync_program.specs.declared.barrier.Ending.TheVariants as ending
+use Rattle.sync_program.specs.declared.barrier.Place.{Place}
+use Rattle.sync_program.specs.declared.barrier.Place.TheVariants.{EnterLock, WaitLock, TakeLock, Look, Join, Arrive, Complete, NotifyAll, Check, JoinAgain, ReleaseLock, ReleasingLock, Ask, CancelLock, CancellingLock, CancelLeave, Abandon}
+use Rattle.sync_program.specs.declared.barrier.Position.{Position}
+use Rattle.sync_program.specs.declared.barrier.Position.TheVariants.{Out, Made, Locking, Waiting, At}
 use Rattle.barrier_program.specs.declared.words.Progress.{Progress}
 use Rattle.barrier_program.specs.Words.{arrivals_at}
 use Rattle.barrier_machine.specs.Roles.{fits_lock, in_lock, InLock, listed, HasOutcome, Outcome, holds as holds_there}

@@ -7,27 +7,27 @@ use Rattle.lock_world.specs.declared.moves.Answer.TheVariants as answer
 use Rattle.lock_world.specs.declared.moves.Got.TheVariants as got
 use Rattle.lock_world.specs.declared.moves.Inputs.{Inputs}
 use Rattle.lock_world.specs.declared.moves.Move.{Move}
-use Rattle.lock_world.specs.declared.refusal.Refusal.{Refusal}
-use Rattle.lock_world.specs.declared.refusal.Refusal.TheVariants as refusal
+use Rattle.lock_program.specs.declared.refusal.Refusal.{Refusal}
+use Rattle.lock_program.specs.declared.refusal.Refusal.TheVariants as refusal
 use Rattle.lock_world.specs.declared.standing.Within.{Within}
 use Rattle.lock_world.specs.Frame.{is_drop, is_refusal}
-use Rattle.lock_world.specs.Refusals.{number_of}
+use Rattle.lock_program.specs.Refusals.{number_of}
 use Rattle.lock_world.specs.Standings.{inside, inputs_of, refused}
 use Rattle.lock_world.specs.Steps.{Deed, does, joins}
 use Rattle.lock_table.specs.Ends.{answer_of}
 use Rattle.lock_table.specs.Tables.{Table}
 use Rattle.mutex_machine.specs.Course.{Course}
 use Rattle.mutex_machine.specs.Mutex.{course_at}
-use Rattle.barrier_program.specs.declared.program.Aim.{Aim}
-use Rattle.barrier_program.specs.declared.program.Found.{Found}
-use Rattle.barrier_program.specs.declared.program.Next.{Next}
-use Rattle.barrier_program.specs.declared.program.Next.TheVariants as next
-use Rattle.barrier_program.specs.declared.program.Place.{Place}
-use Rattle.barrier_program.specs.declared.program.Position.TheVariants.{Made, At}
+use Rattle.sync_program.specs.declared.barrier.Aim.{Aim}
+use Rattle.sync_program.specs.declared.barrier.Found.{Found}
+use Rattle.barrier_program.specs.Program.{Next}
+use Rattle.lock_program.specs.declared.end.Next.TheVariants as next
+use Rattle.sync_program.specs.declared.barrier.Place.{Place}
+use Rattle.sync_program.specs.declared.barrier.Position.TheVariants.{Made, At}
 use Rattle.barrier_program.specs.declared.words.Progress.{Progress}
 use Rattle.barrier_program.specs.declared.words.Words.{Words}
 use Rattle.barrier_program.specs.Words.{arrivals_at, IsFollower}
-use Rattle.barrier_program.specs.Program.{action_of, next_of, position_after}
+use Rattle.barrier_program.specs.Program.{action_of, next_of, position_after, got_left}
 use Rattle.barrier_program.specs.Deeds.{Finds, words_after, arrival_after, entries_after}
 use Rattle.barrier_program.specs.Locks.{OnLock}
 use Rattle.barrier_machine.specs.Roles.{fits_lock, in_lock, listed, follows, Sure, HasOutcome}
@@ -46,8 +46,7 @@ use Rattle.barrier_world.proofs.step.Locks.{wait_by}
 -- what a call is decided on after this
 abbrev pub said : Next → Course → Option Answer
 said (next.Do y) c = verdict_of y c
-said (next.Ready g) c = Some (answer.Ready g)
-said (next.End e x) c = Some (answer_of got.Plain e)
+said (next.End e x) c = Some (answer_of (got_left x) e)
 
 abbrev pub words_of : Place → Words → Words
 words_of y v = words_after (action_of y) v

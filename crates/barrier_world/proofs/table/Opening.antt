@@ -3,7 +3,7 @@ use Rattle.std.proofs.Common.{◌≡◌, ℕ, zero, suc, ◌∷◌, replicate, r
 use Rattle.lock_table.specs.Tables.{new_table}
 use Rattle.lock_table.proofs.Views.{all_idle}
 use Rattle.mutex_machine.proofs.callers.Callers.{new_has_no_holder, new_has_none_starved}
-use Rattle.barrier_program.specs.declared.program.Position.TheVariants.{Out}
+use Rattle.sync_program.specs.declared.barrier.Position.TheVariants.{Out}
 use Rattle.barrier_machine.specs.Waits.{no_wait}
 use Rattle.barrier_program.specs.Words.{progress, arrivals_at}
 use Rattle.barrier_machine.specs.Machine.{new_barrier}

@@ -5,7 +5,7 @@ use Rattle.lock_table.specs.Stages.{stage_at, stands_as}
 use Rattle.lock_table.specs.Tables.{Table}
 use Rattle.lock_table.proofs.Views.{standings_at}
 use Rattle.mutex_machine.specs.Mutex.{course_at}
-use Rattle.barrier_program.specs.declared.program.Position.{Position}
+use Rattle.sync_program.specs.declared.barrier.Position.{Position}
 use Rattle.barrier_program.specs.declared.words.Progress.{Progress}
 use Rattle.barrier_machine.specs.Waits.{no_wait, wait_at, verdict}
 use Rattle.barrier_program.specs.Words.{arrivals_at}

@@ -4,7 +4,7 @@ use Rattle.std.proofs.Math.ListN.{set}
 use Rattle.lock_world.specs.declared.moves.Answer.{Answer}
 use Rattle.lock_world.specs.declared.moves.Answer.TheVariants as answer
 use Rattle.lock_world.specs.declared.moves.Call.{Call}
-use Rattle.lock_world.specs.declared.moves.Got.TheVariants.{Plain}
+use Rattle.lock_world.specs.declared.moves.Got.{Got}
 use Rattle.lock_world.specs.declared.moves.Inputs.{Inputs}
 use Rattle.lock_world.specs.declared.moves.Move.{Move}
 use Rattle.lock_world.specs.declared.moves.What.{What}
@@ -19,21 +19,21 @@ use Rattle.lock_world.specs.Whole.{going_on, moves_of, answers_of}
 use Rattle.lock_world.proofs.Equations.{some_eq}
 use Rattle.lock_frame.specs.Steps.{beginning}
 use Rattle.lock_frame.proofs.Runs.{Onward, along}
-use Rattle.lock_table.specs.declared.end.End.{End}
-use Rattle.lock_table.specs.declared.end.End.TheVariants as «end»
+use Rattle.lock_program.specs.declared.end.End.{End}
+use Rattle.lock_program.specs.declared.end.End.TheVariants as «end»
 use Rattle.lock_table.specs.Ends.{answer_of}
 use Rattle.lock_table.specs.Stages.{stage_at, call_at, polls_again, stage_after}
 use Rattle.lock_table.specs.Tables.{Table, Acted}
 use Rattle.lock_table.proofs.Past.{inside_or_past}
 use Rattle.lock_table.proofs.Ways.{acted}
-use Rattle.barrier_program.specs.declared.program.Found.{Found}
-use Rattle.barrier_program.specs.declared.program.Next.{Next}
-use Rattle.barrier_program.specs.declared.program.Next.TheVariants as next
-use Rattle.barrier_program.specs.declared.program.Place.{Place}
-use Rattle.barrier_program.specs.declared.program.Position.{Position}
-use Rattle.barrier_program.specs.declared.program.Position.TheVariants.{Out, At}
+use Rattle.sync_program.specs.declared.barrier.Found.{Found}
+use Rattle.barrier_program.specs.Program.{Next}
+use Rattle.lock_program.specs.declared.end.Next.TheVariants as next
+use Rattle.sync_program.specs.declared.barrier.Place.{Place}
+use Rattle.sync_program.specs.declared.barrier.Position.{Position}
+use Rattle.sync_program.specs.declared.barrier.Position.TheVariants.{Out, At}
 use Rattle.barrier_program.specs.Words.{progress}
-use Rattle.barrier_program.specs.Program.{place_for, action_of, next_of, position_after}
+use Rattle.barrier_program.specs.Program.{place_for, action_of, next_of, position_after, position_left, got_left}
 use Rattle.barrier_program.specs.Deeds.{arrival_after}
 use Rattle.barrier_machine.specs.Machine.{Barrier, IsBarrier, Acts, Moves, knows, goes_with, position_at, arrival_at, answer_by}
 use Rattle.barrier_world.specs.State.{World}
@@ -113,13 +113,14 @@ module _ (t u : Table Barrier) (p : ℕ) (a : Answer) (tl : IsBarrier t.machine)
 
 -- ---- the whole call
 
-ends_not : (e : End) → answer_of Plain e ≡ answer.Stepped → ⊥
-ends_not «end».Got h = cc h
-ends_not «end».Granted h = cc h
-ends_not «end».Pending h = cc h
-ends_not «end».NotFree h = cc h
-ends_not «end».GivenBack h = cc h
-ends_not («end».Refused r) h = cc h
+ends_not : (g : Got) (e : End) → answer_of g e ≡ answer.Stepped → ⊥
+ends_not g «end».Got h = cc h
+ends_not g «end».Granted h = cc h
+ends_not g «end».Pending h = cc h
+ends_not g «end».NotFree h = cc h
+ends_not g «end».Waiting h = cc h
+ends_not g «end».GivenBack h = cc h
+ends_not g («end».Refused r) h = cc h
 
 -- What goes on so from place to place, and comes to that where the call ends; the others stay where they were at this table.
 module _ (t : Table Barrier) (p : ℕ) (i : Inputs) (Going : Position → Barrier → Type 0) (AtEnd : Answer → Position → Barrier → Type 0) where
@@ -138,23 +139,20 @@ module _ (t : Table Barrier) (p : ℕ) (i : Inputs) (Going : Position → Barrie
   ends_at : (n : Next) (a : Answer) (v : World) (e : Answer) (z : Position) → a ≡ e → position_at v.behind.machine.positions p ≡ z → AtEnd e z v.behind.machine → AtEnd a (position_at v.behind.machine.positions p) v.behind.machine
   ends_at n a v e z is to h = let P : Answer → Type 0 = λ b. AtEnd b (position_at v.behind.machine.positions p) v.behind.machine in let Q : Position → Type 0 = λ y. AtEnd e y v.behind.machine in subst P (sym is) (subst Q (sym to) h)
 
-  outside_then : (w : Within) (e : End) → is_outside_stage (stage_after rest.Finished w (answer_of Plain e)) ≡ true
-  outside_then w «end».Got = refl
-  outside_then w «end».Granted = refl
-  outside_then w «end».Pending = refl
-  outside_then w «end».NotFree = refl
-  outside_then w «end».GivenBack = refl
-  outside_then w («end».Refused r) = refl
+  outside_then : (w : Within) (g : Got) (e : End) → is_outside_stage (stage_after rest.Finished w (answer_of g e)) ≡ true
+  outside_then w g «end».Got = refl
+  outside_then w g «end».Granted = refl
+  outside_then w g «end».Pending = refl
+  outside_then w g «end».NotFree = refl
+  outside_then w g «end».Waiting = refl
+  outside_then w g «end».GivenBack = refl
+  outside_then w g («end».Refused r) = refl
 
   on_by : (n : Next) (a : Answer) (v : World) (w : Within) → a ≡ answer_by n → position_at v.behind.machine.positions p ≡ position_after n → Elsewhere v → stage_at v.behind.stages p ≡ stage_after rest.Finished w a → Then Going AtEnd n v.behind.machine → Onward GoesAt EndsAt a v
   on_by (next.Do place) a v w is to others own h = record { going = λ e. record { going = (let P : Position → Type 0 = λ z. Going z v.behind.machine in subst P (sym to) h); elsewhere = others }; ended = λ n. absurd (n is) }
-  on_by (next.Ready g) a v w is to others own h = record {
-    going = λ e. (let never : answer.Ready g ≡ answer.Stepped = sym is ∙ e in absurd (cc never));
-    ended = λ n. record { ended = ends_at (next.Ready g) a v (answer.Ready g) Out is to h; elsewhere = others; outside = ap is_outside_stage (own ∙ ap (stage_after rest.Finished w) is) };
-  }
   on_by (next.End e x) a v w is to others own h = record {
-    going = λ s. absurd (ends_not e (sym is ∙ s));
-    ended = λ n. record { ended = ends_at (next.End e x) a v (answer_of Plain e) x is to h; elsewhere = others; outside = ap is_outside_stage (own ∙ ap (stage_after rest.Finished w) is) ∙ outside_then w e };
+    going = λ s. absurd (ends_not (got_left x) e (sym is ∙ s));
+    ended = λ n. record { ended = ends_at (next.End e x) a v (answer_of (got_left x) e) (position_left x) is to h; elsewhere = others; outside = ap is_outside_stage (own ∙ ap (stage_after rest.Finished w) is) ∙ outside_then w (got_left x) e };
   }
 
   -- each step from inside leads on

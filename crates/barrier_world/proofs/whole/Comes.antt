@@ -6,26 +6,26 @@ use Rattle.lock_queue.specs.Parties.{entries_of}
 use Rattle.lock_queue.proofs.Told.{waits_at}
 use Rattle.lock_world.specs.declared.moves.Answer.{Answer}
 use Rattle.lock_world.specs.declared.moves.Answer.TheVariants as answer
-use Rattle.lock_world.specs.declared.refusal.Refusal.TheVariants as refusal
+use Rattle.lock_program.specs.declared.refusal.Refusal.TheVariants as refusal
 use Rattle.lock_world.specs.declared.standing.Stage.{Stage}
 use Rattle.lock_world.specs.Standings.{is_outside_stage}
 use Rattle.lock_table.specs.Stages.{stage_at}
 use Rattle.lock_table.specs.Tables.{Table}
 use Rattle.lock_table.proofs.Views.{rest_seen, outside_at}
-use Rattle.mutex_program.specs.declared.calls.Step.TheVariants as lock_step
-use Rattle.mutex_program.specs.declared.calls.End.{End as LockEnd}
-use Rattle.mutex_program.specs.declared.calls.End.TheVariants as lock_end
+use Rattle.lock_program.specs.declared.mutex.Step.TheVariants as lock_step
+use Rattle.lock_program.specs.declared.end.End.{End as LockEnd}
+use Rattle.lock_program.specs.declared.end.End.TheVariants as lock_end
 use Rattle.mutex_machine.specs.Alone.{GaveWay, StandsBack}
 use Rattle.mutex_machine.specs.Mutex.{starved}
 use Rattle.mutex_machine.proofs.callers.Callers.{gave_way}
 use Rattle.mutex_machine.proofs.callers.Holders.{none_held}
-use Rattle.barrier_program.specs.declared.program.Aim.{Aim}
-use Rattle.barrier_program.specs.declared.program.Aim.TheVariants as aim
-use Rattle.barrier_program.specs.declared.program.Ending.{Ending}
-use Rattle.barrier_program.specs.declared.program.Ending.TheVariants as ending
-use Rattle.barrier_program.specs.declared.program.Found.TheVariants as found
-use Rattle.barrier_program.specs.declared.program.Position.{Position}
-use Rattle.barrier_program.specs.declared.program.Position.TheVariants.{Locking, Waiting}
+use Rattle.sync_program.specs.declared.barrier.Aim.{Aim}
+use Rattle.sync_program.specs.declared.barrier.Aim.TheVariants as aim
+use Rattle.sync_program.specs.declared.barrier.Ending.{Ending}
+use Rattle.sync_program.specs.declared.barrier.Ending.TheVariants as ending
+use Rattle.sync_program.specs.declared.barrier.Found.TheVariants as found
+use Rattle.sync_program.specs.declared.barrier.Position.{Position}
+use Rattle.sync_program.specs.declared.barrier.Position.TheVariants.{Locking, Waiting}
 use Rattle.barrier_program.specs.declared.words.Progress.{Progress}
 use Rattle.barrier_program.specs.declared.words.Words.{Words}
 use Rattle.barrier_machine.specs.Waits.{uncounted, counted, wait_for, wait_at}

@@ -13,24 +13,24 @@ use Rattle.lock_world.specs.Standings.{outside}
 use Rattle.lock_world.specs.Whole.{moves_of, answers_of}
 use Rattle.lock_table.specs.Tables.{Table}
 use Rattle.lock_world.proofs.Lists.{joined_unmarked}
-use Rattle.mutex_program.specs.declared.calls.Step.{Step as LockStep}
-use Rattle.mutex_program.specs.declared.calls.Step.TheVariants as lock_step
-use Rattle.mutex_program.specs.declared.calls.End.TheVariants as lock_end
+use Rattle.lock_program.specs.declared.mutex.Step.{Step as LockStep}
+use Rattle.lock_program.specs.declared.mutex.Step.TheVariants as lock_step
+use Rattle.lock_program.specs.declared.end.End.TheVariants as lock_end
 use Rattle.mutex_machine.specs.Conduct.{HandsOn}
 use Rattle.mutex_machine.specs.Course.{is_told, is_waiting}
 use Rattle.mutex_machine.specs.Mutex.{course_at}
 use Rattle.mutex_machine.proofs.callers.Released.{release_goes, released_marks}
-use Rattle.barrier_program.specs.declared.program.Aim.{Aim}
-use Rattle.barrier_program.specs.declared.program.Aim.TheVariants as aim
-use Rattle.barrier_program.specs.declared.program.Ending.{Ending}
-use Rattle.barrier_program.specs.declared.program.Ending.TheVariants as ending
-use Rattle.barrier_program.specs.declared.program.Found.{Found}
-use Rattle.barrier_program.specs.declared.program.Found.TheVariants as found
-use Rattle.barrier_program.specs.declared.program.Next.{Next}
-use Rattle.barrier_program.specs.declared.program.Place.{Place}
-use Rattle.barrier_program.specs.declared.program.Place.TheVariants.{WaitLock, TakeLock, Look, Join, Arrive, Complete, NotifyAll, Check, JoinAgain, ReleaseLock, ReleasingLock, Ask}
-use Rattle.barrier_program.specs.declared.program.Position.{Position}
-use Rattle.barrier_program.specs.declared.program.Position.TheVariants.{At}
+use Rattle.sync_program.specs.declared.barrier.Aim.{Aim}
+use Rattle.sync_program.specs.declared.barrier.Aim.TheVariants as aim
+use Rattle.sync_program.specs.declared.barrier.Ending.{Ending}
+use Rattle.sync_program.specs.declared.barrier.Ending.TheVariants as ending
+use Rattle.sync_program.specs.declared.barrier.Found.{Found}
+use Rattle.sync_program.specs.declared.barrier.Found.TheVariants as found
+use Rattle.barrier_program.specs.Program.{Next}
+use Rattle.sync_program.specs.declared.barrier.Place.{Place}
+use Rattle.sync_program.specs.declared.barrier.Place.TheVariants.{WaitLock, TakeLock, Look, Join, Arrive, Complete, NotifyAll, Check, JoinAgain, ReleaseLock, ReleasingLock, Ask}
+use Rattle.sync_program.specs.declared.barrier.Position.{Position}
+use Rattle.sync_program.specs.declared.barrier.Position.TheVariants.{At}
 use Rattle.barrier_program.specs.Program.{with_lock, after_lock, after_release, released, action_of, next_of}
 use Rattle.barrier_program.specs.Deeds.{entries_after}
 use Rattle.barrier_machine.specs.Roles.{fits_lock, in_lock, listed}
@@ -89,6 +89,8 @@ module _ (p : ℕ) where
   takes a (lock_step.End (lock_end.Refused r)) y h = λ _. h
   takes a (lock_step.End lock_end.Pending) y h = λ r. absurd (cc r)
   takes a (lock_step.End lock_end.NotFree) y h = λ r. absurd (cc r)
+  takes a (lock_step.End lock_end.Granted) y h = λ r. absurd (cc r)
+  takes a (lock_step.End lock_end.Waiting) y h = λ r. absurd (cc r)
   takes a (lock_step.End lock_end.GivenBack) y h = λ r. absurd (cc r)
 
   kept : (e : Ending) (x y : Barrier) → y.entries ≡ x.entries → Joined e x → Joined e y

@@ -4,24 +4,24 @@ use Rattle.lock_event.specs.Lists.{is_marked_at}
 use Rattle.lock_queue.specs.Parties.{is_party}
 use Rattle.lock_world.specs.declared.moves.Answer.{Answer}
 use Rattle.lock_world.specs.declared.moves.Inputs.{Inputs}
-use Rattle.lock_world.specs.declared.refusal.Refusal.TheVariants.{Starved}
-use Rattle.mutex_program.specs.declared.calls.Step.{Step as LockStep}
-use Rattle.mutex_program.specs.declared.calls.Step.TheVariants as lock_step
-use Rattle.mutex_program.specs.declared.calls.End.{End as LockEnd}
-use Rattle.mutex_program.specs.declared.calls.End.TheVariants as lock_end
-use Rattle.mutex_program.specs.declared.calls.LockCall.TheVariants as lock_call
+use Rattle.lock_program.specs.declared.refusal.Refusal.TheVariants.{Starved}
+use Rattle.lock_program.specs.declared.mutex.Step.{Step as LockStep}
+use Rattle.lock_program.specs.declared.mutex.Step.TheVariants as lock_step
+use Rattle.lock_program.specs.declared.end.End.{End as LockEnd}
+use Rattle.lock_program.specs.declared.end.End.TheVariants as lock_end
+use Rattle.lock_program.specs.declared.mutex.LockCall.TheVariants as lock_call
 use Rattle.mutex_machine.specs.Alone.{HasBegun, HasGoneOn, GoesOnAlone, last, further, PollsAlone, at_once, begun, IsCalled, GaveWay, StandsBack, SoloPolls, Took}
 use Rattle.mutex_machine.specs.Mutex.{Mutex, holders, starved}
-use Rattle.barrier_program.specs.declared.program.Aim.{Aim}
-use Rattle.barrier_program.specs.declared.program.Aim.TheVariants as aim
-use Rattle.barrier_program.specs.declared.program.Found.{Found}
-use Rattle.barrier_program.specs.declared.program.Found.TheVariants as found
-use Rattle.barrier_program.specs.declared.program.Next.{Next}
-use Rattle.barrier_program.specs.declared.program.Next.TheVariants as next
-use Rattle.barrier_program.specs.declared.program.Place.{Place}
-use Rattle.barrier_program.specs.declared.program.Place.TheVariants.{EnterLock, WaitLock, TakeLock, Ask}
-use Rattle.barrier_program.specs.declared.program.Position.{Position}
-use Rattle.barrier_program.specs.declared.program.Position.TheVariants.{At}
+use Rattle.sync_program.specs.declared.barrier.Aim.{Aim}
+use Rattle.sync_program.specs.declared.barrier.Aim.TheVariants as aim
+use Rattle.sync_program.specs.declared.barrier.Found.{Found}
+use Rattle.sync_program.specs.declared.barrier.Found.TheVariants as found
+use Rattle.barrier_program.specs.Program.{Next}
+use Rattle.lock_program.specs.declared.end.Next.TheVariants as next
+use Rattle.sync_program.specs.declared.barrier.Place.{Place}
+use Rattle.sync_program.specs.declared.barrier.Place.TheVariants.{EnterLock, WaitLock, TakeLock, Ask}
+use Rattle.sync_program.specs.declared.barrier.Position.{Position}
+use Rattle.sync_program.specs.declared.barrier.Position.TheVariants.{At}
 use Rattle.barrier_program.specs.Program.{with_lock, after_lock, next_of, position_after}
 use Rattle.barrier_machine.specs.Machine.{Barrier, answer_by}
 use Rattle.barrier_world.proofs.whole.Served.{Step, Same, Then, Came, Serves, ServesThen}
@@ -60,7 +60,6 @@ module _ (p : ℕ) (b : Aim) (s : Barrier) where
 
   pub then_entered : (n : Next) (y : Barrier) → ServesThen p b s n y → EntersThen n y
   then_entered (next.Do z) y h = enters_served z y h
-  then_entered (next.Ready g) y h = h
   then_entered (next.End e x) y h = h
 
   -- a party that was notified enters
@@ -103,7 +102,6 @@ module _ (p : ℕ) (b : Aim) (s : Barrier) where
 
   pub then_served : (n : Next) (y : Barrier) → ServesThen p b s n y → SoloThen n y
   then_served (next.Do z) y h = goes_served z y h
-  then_served (next.Ready g) y h = inl h
   then_served (next.End e x) y h = inl h
 
   gets_there : (a : Aim) (y : Barrier) → a ≡ b → Same p b s y → SoloThen (next.Do (with_lock a)) y

@@ -28,18 +28,18 @@ use Rattle.lock_table.proofs.Past.{inside_or_past}
 use Rattle.lock_table.proofs.Views.{outside_stage}
 use Rattle.mutex_machine.specs.Course.{bit, is_waiting}
 use Rattle.mutex_machine.specs.Alone.{IsCalled, SoloPolls, StandsBack}
-use Rattle.mutex_program.specs.declared.calls.End.{End as LockEnd}
-use Rattle.mutex_program.specs.declared.calls.End.TheVariants as lock_end
+use Rattle.lock_program.specs.declared.end.End.{End as LockEnd}
+use Rattle.lock_program.specs.declared.end.End.TheVariants as lock_end
 use Rattle.mutex_machine.specs.Mutex.{Mutex, course_at, holders, starved, holder_of, starved_of, IsStarved}
 use Rattle.mutex_machine.proofs.callers.AloneSeen.{solo_polls as lock_law}
 use Rattle.mutex_machine.proofs.callers.Callers.{out_unlisted, waiting_listed}
 use Rattle.mutex_machine.proofs.callers.Holders as sees
-use Rattle.barrier_program.specs.declared.program.Aim.{Aim}
-use Rattle.barrier_program.specs.declared.program.Aim.TheVariants as aim
-use Rattle.barrier_program.specs.declared.program.Place.{Place}
-use Rattle.barrier_program.specs.declared.program.Place.TheVariants.{EnterLock, WaitLock, Ask}
-use Rattle.barrier_program.specs.declared.program.Position.{Position}
-use Rattle.barrier_program.specs.declared.program.Position.TheVariants.{Out, Made, Locking, Waiting, At}
+use Rattle.sync_program.specs.declared.barrier.Aim.{Aim}
+use Rattle.sync_program.specs.declared.barrier.Aim.TheVariants as aim
+use Rattle.sync_program.specs.declared.barrier.Place.{Place}
+use Rattle.sync_program.specs.declared.barrier.Place.TheVariants.{EnterLock, WaitLock, Ask}
+use Rattle.sync_program.specs.declared.barrier.Position.{Position}
+use Rattle.sync_program.specs.declared.barrier.Position.TheVariants.{Out, Made, Locking, Waiting, At}
 use Rattle.barrier_program.specs.Program.{start_of}
 use Rattle.barrier_machine.specs.Roles.{fits_lock, in_lock, listed, follows}
 use Rattle.barrier_machine.specs.Waits.{wait_for, wait_at}

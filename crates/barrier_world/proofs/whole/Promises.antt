@@ -22,13 +22,13 @@ use Rattle.mutex_machine.specs.Course.{Course, is_counting}
 use Rattle.mutex_machine.specs.Mutex.{Mutex, course_at, starved}
 use Rattle.mutex_machine.proofs.callers.Callers.{out_uncounted, waiting_uncounted}
 use Rattle.mutex_machine.proofs.callers.Holders as sees
-use Rattle.barrier_program.specs.declared.program.Action.{Action}
-use Rattle.barrier_program.specs.declared.program.Action.TheVariants as act
-use Rattle.barrier_program.specs.declared.program.Found.{Found}
-use Rattle.barrier_program.specs.declared.program.Found.TheVariants as found
-use Rattle.barrier_program.specs.declared.program.Place.{Place}
-use Rattle.barrier_program.specs.declared.program.Position.{Position}
-use Rattle.barrier_program.specs.declared.program.Position.TheVariants.{Out, Made, Locking, Waiting, At}
+use Rattle.sync_program.specs.declared.barrier.Action.{Action}
+use Rattle.sync_program.specs.declared.barrier.Action.TheVariants as act
+use Rattle.sync_program.specs.declared.barrier.Found.{Found}
+use Rattle.sync_program.specs.declared.barrier.Found.TheVariants as found
+use Rattle.sync_program.specs.declared.barrier.Place.{Place}
+use Rattle.sync_program.specs.declared.barrier.Position.{Position}
+use Rattle.sync_program.specs.declared.barrier.Position.TheVariants.{Out, Made, Locking, Waiting, At}
 use Rattle.barrier_program.specs.Program.{start_of, action_of}
 use Rattle.barrier_program.specs.Locks.{OnLock}
 use Rattle.barrier_machine.specs.Roles.{fits_lock, in_lock}

@@ -6,33 +6,33 @@ use Rattle.lock_world.specs.declared.moves.Answer.{Answer}
 use Rattle.lock_world.specs.declared.moves.Answer.TheVariants as answer
 use Rattle.lock_world.specs.declared.moves.Got.TheVariants.{Leader}
 use Rattle.lock_world.specs.declared.moves.Inputs.{Inputs}
-use Rattle.lock_world.specs.declared.refusal.Refusal.TheVariants as refusal
+use Rattle.lock_program.specs.declared.refusal.Refusal.TheVariants as refusal
 use Rattle.lock_world.specs.Standings.{refused}
 use Rattle.lock_world.specs.Steps.{Deed, nothing, changes, does}
 use Rattle.lock_world.proofs.Lists.{joined_unmarked}
-use Rattle.mutex_program.specs.declared.calls.Step.{Step as LockStep}
-use Rattle.mutex_program.specs.declared.calls.Step.TheVariants as lock_step
-use Rattle.mutex_program.specs.declared.calls.End.TheVariants as lock_end
-use Rattle.mutex_program.specs.declared.calls.LockCall.TheVariants as lock_call
+use Rattle.lock_program.specs.declared.mutex.Step.{Step as LockStep}
+use Rattle.lock_program.specs.declared.mutex.Step.TheVariants as lock_step
+use Rattle.lock_program.specs.declared.end.End.TheVariants as lock_end
+use Rattle.lock_program.specs.declared.mutex.LockCall.TheVariants as lock_call
 use Rattle.mutex_machine.specs.Course.{is_holding, is_releasing, holds}
 use Rattle.mutex_machine.specs.Deeds.{Change, takes, releases, starves, recovers, ListName, holder_after, gives_back}
 use Rattle.mutex_machine.specs.Mutex.{Mutex, course_at, IsMutex, holder_of}
 use Rattle.mutex_machine.proofs.callers.Callers.{holding_holds, releasing_free, releasing_decided}
 use Rattle.mutex_machine.proofs.callers.Holders.{holds_it, is_held_by}
 use Rattle.mutex_machine.proofs.callers.Released.{release_goes, released_marks}
-use Rattle.barrier_program.specs.declared.program.Action.TheVariants as act
-use Rattle.barrier_program.specs.declared.program.Aim.{Aim}
-use Rattle.barrier_program.specs.declared.program.Aim.TheVariants as aim
-use Rattle.barrier_program.specs.declared.program.Ending.{Ending}
-use Rattle.barrier_program.specs.declared.program.Ending.TheVariants as ending
-use Rattle.barrier_program.specs.declared.program.Found.{Found}
-use Rattle.barrier_program.specs.declared.program.Found.TheVariants as found
-use Rattle.barrier_program.specs.declared.program.Next.{Next}
-use Rattle.barrier_program.specs.declared.program.Next.TheVariants as next
-use Rattle.barrier_program.specs.declared.program.Place.{Place}
-use Rattle.barrier_program.specs.declared.program.Place.TheVariants.{Look, Join, Arrive, Complete, NotifyAll, Check, JoinAgain, ReleaseLock, ReleasingLock, Ask}
-use Rattle.barrier_program.specs.declared.program.Position.{Position}
-use Rattle.barrier_program.specs.declared.program.Position.TheVariants.{Out, Made, Waiting, At}
+use Rattle.sync_program.specs.declared.barrier.Action.TheVariants as act
+use Rattle.sync_program.specs.declared.barrier.Aim.{Aim}
+use Rattle.sync_program.specs.declared.barrier.Aim.TheVariants as aim
+use Rattle.sync_program.specs.declared.barrier.Ending.{Ending}
+use Rattle.sync_program.specs.declared.barrier.Ending.TheVariants as ending
+use Rattle.sync_program.specs.declared.barrier.Found.{Found}
+use Rattle.sync_program.specs.declared.barrier.Found.TheVariants as found
+use Rattle.barrier_program.specs.Program.{Next}
+use Rattle.lock_program.specs.declared.end.Next.TheVariants as next
+use Rattle.sync_program.specs.declared.barrier.Place.{Place}
+use Rattle.sync_program.specs.declared.barrier.Place.TheVariants.{Look, Join, Arrive, Complete, NotifyAll, Check, JoinAgain, ReleaseLock, ReleasingLock, Ask}
+use Rattle.sync_program.specs.declared.barrier.Position.{Position}
+use Rattle.sync_program.specs.declared.barrier.Position.TheVariants.{Out, Made, Waiting, At}
 use Rattle.barrier_program.specs.declared.words.Progress.{Progress}
 use Rattle.barrier_program.specs.declared.words.Words.{Words}
 use Rattle.barrier_program.specs.Words.{progress, with_progress}

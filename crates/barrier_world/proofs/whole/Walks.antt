@@ -2,12 +2,12 @@
 use Rattle.std.proofs.Common.{◌≡◌, ℕ, true, refl, sym, subst}
 use Rattle.lock_world.specs.declared.moves.Inputs.{Inputs}
 use Rattle.mutex_machine.specs.Alone.{IsCalled, SoloPolls}
-use Rattle.barrier_program.specs.declared.program.Aim.{Aim}
-use Rattle.barrier_program.specs.declared.program.Found.{Found}
-use Rattle.barrier_program.specs.declared.program.Place.{Place}
-use Rattle.barrier_program.specs.declared.program.Place.TheVariants.{EnterLock, TakeLock}
-use Rattle.barrier_program.specs.declared.program.Position.{Position}
-use Rattle.barrier_program.specs.declared.program.Position.TheVariants.{At}
+use Rattle.sync_program.specs.declared.barrier.Aim.{Aim}
+use Rattle.sync_program.specs.declared.barrier.Found.{Found}
+use Rattle.sync_program.specs.declared.barrier.Place.{Place}
+use Rattle.sync_program.specs.declared.barrier.Place.TheVariants.{EnterLock, TakeLock}
+use Rattle.sync_program.specs.declared.barrier.Position.{Position}
+use Rattle.sync_program.specs.declared.barrier.Position.TheVariants.{At}
 use Rattle.barrier_program.specs.Program.{next_of}
 use Rattle.barrier_machine.specs.Machine.{Barrier, IsBarrier, position_at}
 use Rattle.barrier_world.proofs.whole.Served.{Step, IsSupplied, Serves, serves}

@@ -3,7 +3,7 @@ use Rattle.std.proofs.Common.{◌≡◌, ℕ, ◌+◌, ◌<◌, ◌≤◌, Bool,
 use Rattle.lock_world.specs.declared.moves.Answer.{Answer}
 use Rattle.lock_world.specs.declared.moves.Call.{Call}
 use Rattle.lock_world.specs.declared.moves.Call.TheVariants as call
-use Rattle.lock_world.specs.declared.moves.Got.TheVariants.{Plain}
+use Rattle.lock_world.specs.declared.moves.Got.{Got}
 use Rattle.lock_world.specs.declared.moves.Inputs.{Inputs}
 use Rattle.lock_world.specs.declared.moves.Move.{Move}
 use Rattle.lock_world.specs.declared.moves.What.TheVariants.{Go}
@@ -12,21 +12,21 @@ use Rattle.lock_world.specs.declared.standing.Within.{Within}
 use Rattle.lock_world.specs.Whole.{going_on}
 use Rattle.lock_world.proofs.Equations.{some_eq, none_some}
 use Rattle.lock_frame.specs.Steps.{left_by, beginning}
-use Rattle.lock_table.specs.declared.end.End.{End}
-use Rattle.lock_table.specs.declared.end.End.TheVariants as «end»
+use Rattle.lock_program.specs.declared.end.End.{End}
+use Rattle.lock_program.specs.declared.end.End.TheVariants as «end»
 use Rattle.lock_table.specs.Ends.{answer_of}
 use Rattle.lock_table.specs.Tables.{Table, Acted}
 use Rattle.lock_table.proofs.Ways.{way, by_way}
 use Rattle.mutex_machine.specs.Mutex.{steps_left as lock_steps_left}
-use Rattle.barrier_program.specs.declared.program.Aim.{Aim}
-use Rattle.barrier_program.specs.declared.program.Aim.TheVariants as aim
-use Rattle.barrier_program.specs.declared.program.Next.{Next}
-use Rattle.barrier_program.specs.declared.program.Next.TheVariants as next
-use Rattle.barrier_program.specs.declared.program.Place.{Place}
-use Rattle.barrier_program.specs.declared.program.Place.TheVariants.{EnterLock, WaitLock, TakeLock, ReleaseLock, ReleasingLock, Ask, CancelLock, CancellingLock}
-use Rattle.barrier_program.specs.declared.program.Position.{Position}
-use Rattle.barrier_program.specs.declared.program.Position.TheVariants.{Out, Made, Locking, Waiting, At}
-use Rattle.barrier_program.specs.Program.{start_of, place_for, next_of, position_after}
+use Rattle.sync_program.specs.declared.barrier.Aim.{Aim}
+use Rattle.sync_program.specs.declared.barrier.Aim.TheVariants as aim
+use Rattle.barrier_program.specs.Program.{Next}
+use Rattle.lock_program.specs.declared.end.Next.TheVariants as next
+use Rattle.sync_program.specs.declared.barrier.Place.{Place}
+use Rattle.sync_program.specs.declared.barrier.Place.TheVariants.{EnterLock, WaitLock, TakeLock, ReleaseLock, ReleasingLock, Ask, CancelLock, CancellingLock}
+use Rattle.sync_program.specs.declared.barrier.Position.{Position}
+use Rattle.sync_program.specs.declared.barrier.Position.TheVariants.{Out, Made, Locking, Waiting, At}
+use Rattle.barrier_program.specs.Program.{start_of, place_for, next_of, position_after, got_left}
 use Rattle.barrier_machine.specs.Ranks.{left, left_at, left_asking}
 use Rattle.barrier_machine.specs.Machine.{Barrier, IsBarrier, Moves, position_at, answer_by, is_own_marked, steps_left, left_from, left_after}
 use Rattle.barrier_world.specs.Steps.{IsBarrierTable, TableSteps}
@@ -93,19 +93,19 @@ place_of : (i : Inputs) (x : Position) (from : Place) → place_for (Go i) x ≡
 place_of i (At y) from e = ap At (some_eq e)
 place_of i _ from e = absurd (none_some e)
 
-none_left : (e : End) (n : ℕ) → left_by (answer_of Plain e) n ≡ 0
-none_left «end».Got n = refl
-none_left «end».Granted n = refl
-none_left «end».Pending n = refl
-none_left «end».NotFree n = refl
-none_left «end».GivenBack n = refl
-none_left («end».Refused r) n = refl
+none_left : (g : Got) (e : End) (n : ℕ) → left_by (answer_of g e) n ≡ 0
+none_left g «end».Got n = refl
+none_left g «end».Granted n = refl
+none_left g «end».Pending n = refl
+none_left g «end».NotFree n = refl
+none_left g «end».Waiting n = refl
+none_left g «end».GivenBack n = refl
+none_left g («end».Refused r) n = refl
 
 -- what is left by the answer is left after what the step decided
 left_is : (n : Next) (y : Barrier) (p : ℕ) → position_at y.positions p ≡ position_after n → left_by (answer_by n) (steps_left y p) ≡ left_after n y p
 left_is (next.Do x) y p to = ap (λ z. left_at z (is_own_marked y p) (lock_steps_left y.lock p)) to
-left_is (next.Ready g) y p to = refl
-left_is (next.End e x) y p to = none_left e (steps_left y p)
+left_is (next.End e x) y p to = none_left (got_left x) e (steps_left y p)
 
 module _ (t u : Table Barrier) (m : Move) (a : Answer) (tf : IsBarrierTable t) where
   abbrev p : ℕ

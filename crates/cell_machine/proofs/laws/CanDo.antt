@@ -2,10 +2,10 @@
 use Rattle.std.proofs.Common.{◌≡◌, ℕ, ◌<◌, List, length, refl, arith, sym, ◌∙◌, ap}
 use Rattle.lock_queue.specs.Parties.{entries_of}
 use Rattle.lock_queue.specs.Queues.{Queue}
-use Rattle.cell_program.specs.declared.program.ListName.TheVariants.{Active, Passive}
-use Rattle.cell_program.specs.declared.program.Place.{Place}
-use Rattle.cell_program.specs.declared.program.Place.TheVariants.{JoinActive, AskActive, LeaveToMake, LeaveFull, JoinPassive, AskPassive, LeavePassive, CancelLeave}
-use Rattle.cell_program.specs.declared.program.Position.{Position}
+use Rattle.sync_program.specs.declared.once_cell.ListName.TheVariants.{Active, Passive}
+use Rattle.cell_program.specs.Program.{Place}
+use Rattle.sync_program.specs.declared.once_cell.Place.TheVariants.{JoinActive, AskActive, LeaveToMake, LeaveFull, JoinPassive, AskPassive, LeavePassive, CancelLeave}
+use Rattle.cell_program.specs.Program.{Position}
 use Rattle.cell_program.specs.declared.words.Content.{Content}
 use Rattle.cell_program.specs.Program.{action_of}
 use Rattle.cell_machine.specs.Seats.{Seat, seat_of, seated}

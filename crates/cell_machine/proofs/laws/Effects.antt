@@ -8,11 +8,11 @@ use Rattle.lock_queue.specs.Queues.{Queue}
 use Rattle.lock_world.specs.declared.moves.Inputs.{Inputs}
 use Rattle.lock_world.specs.Steps.{joins, asks, leaves, notifies, notifies_additionally}
 use Rattle.lock_world.proofs.Lists.{counted, mark_some}
-use Rattle.cell_program.specs.declared.program.Action.{Action}
-use Rattle.cell_program.specs.declared.program.Action.TheVariants as act
-use Rattle.cell_program.specs.declared.program.Found.{Found}
-use Rattle.cell_program.specs.declared.program.Found.TheVariants as found
-use Rattle.cell_program.specs.declared.program.ListName.TheVariants.{Active, Passive}
+use Rattle.cell_program.specs.Program.{Action}
+use Rattle.sync_program.specs.declared.once_cell.Action.TheVariants as act
+use Rattle.cell_program.specs.Program.{Found}
+use Rattle.sync_program.specs.declared.once_cell.Found.TheVariants as found
+use Rattle.sync_program.specs.declared.once_cell.ListName.TheVariants.{Active, Passive}
 use Rattle.cell_program.specs.declared.words.Content.{Content}
 use Rattle.cell_program.specs.Deeds.{CanDo, Finds, deed_of, content_after, active_after, everyone}
 use Rattle.cell_machine.specs.Tally.{tally_of, free_of}

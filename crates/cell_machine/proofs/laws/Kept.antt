@@ -1,19 +1,19 @@
 -- Each step keeps what always holds of the numbers.
 use Rattle.std.proofs.Common.{◌≡◌, ◌+◌, ◌<◌, ◌≤◌, true, false, arith}
 use Rattle.lock_queue.proofs.Debts.{still_owed}
-use Rattle.cell_program.specs.declared.program.Found.{Found}
-use Rattle.cell_program.specs.declared.program.Found.TheVariants as found
-use Rattle.cell_program.specs.declared.program.ListName.TheVariants.{Active, Passive}
-use Rattle.cell_program.specs.declared.program.Place.{Place}
-use Rattle.cell_program.specs.declared.program.Place.TheVariants.{Claim, ClaimListed, JoinActive, AskActive, LeaveToMake, Make, Fill, NotifyActive, NotifyPassive, Fail, FailNotify, LeaveFull, RefuseActive, Look, JoinPassive, LookListed, AskPassive, LeavePassive, RefusePassive, Try, TryFill, TryNotifyActive, TryNotifyPassive, CancelMake, CancelNotify, CancelLeave, Abandon}
-use Rattle.cell_program.specs.declared.program.Position.{Position}
-use Rattle.cell_program.specs.declared.program.Position.TheVariants.{At}
+use Rattle.cell_program.specs.Program.{Found}
+use Rattle.sync_program.specs.declared.once_cell.Found.TheVariants as found
+use Rattle.sync_program.specs.declared.once_cell.ListName.TheVariants.{Active, Passive}
+use Rattle.cell_program.specs.Program.{Place}
+use Rattle.sync_program.specs.declared.once_cell.Place.TheVariants.{Claim, ClaimListed, JoinActive, AskActive, LeaveToMake, Make, Fill, NotifyActive, NotifyPassive, Fail, FailNotify, LeaveFull, RefuseActive, Look, JoinPassive, LookListed, AskPassive, LeavePassive, RefusePassive, Try, TryFill, TryNotifyActive, TryNotifyPassive, CancelMake, CancelNotify, CancelLeave, Abandon}
+use Rattle.cell_program.specs.Program.{Position}
+use Rattle.sync_program.specs.declared.once_cell.Position.TheVariants.{At}
 use Rattle.cell_program.specs.Program.{action_of, next_of, position_after}
 use Rattle.cell_machine.specs.Tally.{Tally, Counts, IsSound}
 use Rattle.cell_machine.proofs.laws.Steps.{Effect, Goes}
 
 abbrev pub after : Place → Found → Position
-after x f = position_after x (next_of x f)
+after x f = position_after (next_of x f)
 
 -- an entry left, and what was owed is still owed
 still : (s t : Tally) (a b : Counts) → (t.size + 1 ≡ s.size) → (0 < t.size → 0 < s.marked → 0 < t.marked) → b.listed ≡ t.size → b.waiting ≤ b.listed → b.owing ≡ a.owing → 0 < b.waiting → 0 < a.owing + s.marked → 0 < b.owing + t.marked

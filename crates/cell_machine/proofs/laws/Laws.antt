@@ -4,8 +4,8 @@ use Rattle.lock_event.specs.Lists.{marked_count, IsMarkedFirst}
 use Rattle.lock_queue.specs.Queues.{Queue}
 use Rattle.lock_queue.specs.Debts.{Roles, Rests, AllRest}
 use Rattle.lock_queue.proofs.Debts.{paid_at_rest}
-use Rattle.cell_program.specs.declared.program.Position.{Position}
-use Rattle.cell_program.specs.declared.program.Position.TheVariants.{At}
+use Rattle.cell_program.specs.Program.{Position}
+use Rattle.sync_program.specs.declared.once_cell.Position.TheVariants.{At}
 use Rattle.cell_program.specs.declared.words.Content.{Content}
 use Rattle.cell_program.specs.declared.words.Content.TheVariants as content
 use Rattle.cell_machine.specs.Seats.{in_active, in_passive_at, waits, owes, is_resting}

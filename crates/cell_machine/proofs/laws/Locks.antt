@@ -19,16 +19,16 @@ use Rattle.lock_table.specs.Stages.{call_at, polls_again, stage_after}
 use Rattle.lock_table.specs.Tables.{Keeps}
 use Rattle.lock_world.proofs.Lists as lists
 use Rattle.lock_world.proofs.Lists.{CanList, joined_own, asked_own, asked_not, left_own, notified_own, notified_additionally_own}
-use Rattle.cell_program.specs.declared.program.Action.{Action}
-use Rattle.cell_program.specs.declared.program.Action.TheVariants as act
-use Rattle.cell_program.specs.declared.program.Found.{Found}
-use Rattle.cell_program.specs.declared.program.Found.TheVariants as found
-use Rattle.cell_program.specs.declared.program.ListName.{ListName}
-use Rattle.cell_program.specs.declared.program.ListName.TheVariants.{Active, Passive}
-use Rattle.cell_program.specs.declared.program.Place.{Place}
-use Rattle.cell_program.specs.declared.program.Place.TheVariants.{Claim, ClaimListed, JoinActive, AskActive, LeaveToMake, Make, Fill, NotifyActive, NotifyPassive, Fail, FailNotify, LeaveFull, RefuseActive, Look, JoinPassive, LookListed, AskPassive, LeavePassive, RefusePassive, Try, TryFill, TryNotifyActive, TryNotifyPassive, CancelMake, CancelNotify, CancelLeave, Abandon}
-use Rattle.cell_program.specs.declared.program.Position.{Position}
-use Rattle.cell_program.specs.declared.program.Position.TheVariants.{Out, WaitingToMake, Waiting, At}
+use Rattle.cell_program.specs.Program.{Action}
+use Rattle.sync_program.specs.declared.once_cell.Action.TheVariants as act
+use Rattle.cell_program.specs.Program.{Found}
+use Rattle.sync_program.specs.declared.once_cell.Found.TheVariants as found
+use Rattle.sync_program.specs.declared.once_cell.ListName.{ListName}
+use Rattle.sync_program.specs.declared.once_cell.ListName.TheVariants.{Active, Passive}
+use Rattle.cell_program.specs.Program.{Place}
+use Rattle.sync_program.specs.declared.once_cell.Place.TheVariants.{Claim, ClaimListed, JoinActive, AskActive, LeaveToMake, Make, Fill, NotifyActive, NotifyPassive, Fail, FailNotify, LeaveFull, RefuseActive, Look, JoinPassive, LookListed, AskPassive, LeavePassive, RefusePassive, Try, TryFill, TryNotifyActive, TryNotifyPassive, CancelMake, CancelNotify, CancelLeave, Abandon}
+use Rattle.cell_program.specs.Program.{Position}
+use Rattle.sync_program.specs.declared.once_cell.Position.TheVariants.{Out, WaitingToMake, Waiting, At}
 use Rattle.cell_program.specs.declared.words.Content.{Content}
 use Rattle.cell_program.specs.Program.{place_for, action_of, next_of}
 use Rattle.cell_machine.specs.Seats.{Seat, seat_of, seated, makes_at, in_active, in_passive_at, waits, owes, value_known}

@@ -3,7 +3,8 @@ use Rattle.std.proofs.Common.{◌≡◌, ℕ, ◌≤◌, [], replicate, refl, sy
 use Rattle.std.proofs.lemmas.List.{length-replicate}
 use Rattle.lock_queue.specs.Queues.{queue}
 use Rattle.lock_world.proofs.Alike.{all_alike, none_of_all}
-use Rattle.cell_program.specs.declared.program.Position.TheVariants.{Out}
+use Rattle.cell_program.specs.Program.{Position}
+use Rattle.sync_program.specs.declared.once_cell.Position.TheVariants.{Out}
 use Rattle.cell_program.specs.declared.words.Content.TheVariants as content
 use Rattle.cell_machine.specs.Seats.{in_active, in_passive_at, waits}
 use Rattle.cell_machine.specs.Machine.{IsKept}
@@ -14,13 +15,13 @@ not_full v e = cc
 pub new_is : (n : ℕ) → n ≤ 4294967295 → IsKept content.Empty (replicate n Out) (queue n []) (queue n [])
 new_is n few = record {
   sound = record { in_list = none_of_all in_active Out refl n; owed = λ free some. absurd (omega (arith, none_of_all waits Out refl n)) };
-  makers = λ p. rw (all_alike Out n p) refl;
+  makers = λ p. rw (all_alike {A = Position} Out n p) refl;
   active_told = λ v full quiet p h. absurd (not_full v full);
   passive_told = λ v full quiet p h. absurd (not_full v full);
-  active_owners = λ p. rw (all_alike Out n p) refl;
-  passive_owners = λ p. rw (all_alike Out n p) refl;
+  active_owners = λ p. rw (all_alike {A = Position} Out n p) refl;
+  passive_owners = λ p. rw (all_alike {A = Position} Out n p) refl;
   passive_listed = none_of_all in_passive_at Out refl n;
-  active_parties = sym (length-replicate n Out);
-  passive_parties = sym (length-replicate n Out);
-  few = rw (length-replicate n Out) few;
+  active_parties = sym (length-replicate {A = Position} n Out);
+  passive_parties = sym (length-replicate {A = Position} n Out);
+  few = rw (length-replicate {A = Position} n Out) few;
 }

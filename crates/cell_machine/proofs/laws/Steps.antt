@@ -2,12 +2,12 @@
 use Rattle.std.proofs.Common.{◌≡◌, ◌+◌, ◌<◌, ◌≤◌, Bool, true, false}
 use Rattle.lock_world.specs.Steps.{ListFunction, joins, asks, leaves, notifies, notifies_additionally}
 use Rattle.lock_world.proofs.Lists.{Counted}
-use Rattle.cell_program.specs.declared.program.Action.{Action}
-use Rattle.cell_program.specs.declared.program.Action.TheVariants as act
-use Rattle.cell_program.specs.declared.program.Found.{Found}
-use Rattle.cell_program.specs.declared.program.Found.TheVariants as found
-use Rattle.cell_program.specs.declared.program.ListName.TheVariants.{Active}
-use Rattle.cell_program.specs.declared.program.Position.{Position}
+use Rattle.cell_program.specs.Program.{Action}
+use Rattle.sync_program.specs.declared.once_cell.Action.TheVariants as act
+use Rattle.cell_program.specs.Program.{Found}
+use Rattle.sync_program.specs.declared.once_cell.Found.TheVariants as found
+use Rattle.sync_program.specs.declared.once_cell.ListName.TheVariants.{Active}
+use Rattle.cell_program.specs.Program.{Position}
 use Rattle.cell_program.specs.Deeds.{everyone}
 use Rattle.cell_machine.specs.Seats.{in_active, waits, owes}
 use Rattle.cell_machine.specs.Tally.{Tally, Counts}

@@ -6,10 +6,10 @@ use Rattle.lock_event.specs.Lists.{marked_count, is_marked_at, without}
 use Rattle.lock_event.proofs.Counts.{marked_count-without_marked}
 use Rattle.lock_queue.specs.Parties.{is_party, entries_of}
 use Rattle.lock_queue.specs.Queues.{Queue}
-use Rattle.cell_program.specs.declared.program.ListName.TheVariants.{Active, Passive}
-use Rattle.cell_program.specs.declared.program.Place.TheVariants.{NotifyActive, TryNotifyActive, AskActive, CancelLeave}
-use Rattle.cell_program.specs.declared.program.Position.{Position}
-use Rattle.cell_program.specs.declared.program.Position.TheVariants.{WaitingToMake, At}
+use Rattle.sync_program.specs.declared.once_cell.ListName.TheVariants.{Active, Passive}
+use Rattle.sync_program.specs.declared.once_cell.Place.TheVariants.{NotifyActive, TryNotifyActive, AskActive, CancelLeave}
+use Rattle.cell_program.specs.Program.{Position}
+use Rattle.sync_program.specs.declared.once_cell.Position.TheVariants.{WaitingToMake, At}
 use Rattle.cell_program.specs.declared.words.Content.TheVariants as content
 use Rattle.cell_program.specs.declared.words.State.{State}
 use Rattle.cell_program.specs.declared.words.State.TheVariants as state

@@ -14,16 +14,16 @@ use Rattle.lock_world.specs.declared.standing.Stage.TheVariants.{Outside, Inside
 use Rattle.lock_world.specs.declared.standing.Within.{Within}
 use Rattle.lock_world.proofs.Equations.{some_eq, none_some, both}
 use Rattle.lock_table.specs.Stages.{call_at, polls_again, stage_after}
-use Rattle.cell_program.specs.declared.program.Found.{Found}
-use Rattle.cell_program.specs.declared.program.Found.TheVariants as found
-use Rattle.cell_program.specs.declared.program.ListName.{ListName}
-use Rattle.cell_program.specs.declared.program.ListName.TheVariants.{Active, Passive}
-use Rattle.cell_program.specs.declared.program.Maker.{Maker}
-use Rattle.cell_program.specs.declared.program.Maker.TheVariants.{Closure, Given}
-use Rattle.cell_program.specs.declared.program.Place.{Place}
-use Rattle.cell_program.specs.declared.program.Place.TheVariants.{Claim, ClaimListed, JoinActive, AskActive, LeaveToMake, Make, Fill, NotifyActive, NotifyPassive, Fail, FailNotify, LeaveFull, RefuseActive, Look, JoinPassive, LookListed, AskPassive, LeavePassive, RefusePassive, Try, TryFill, TryNotifyActive, TryNotifyPassive, CancelMake, CancelNotify, CancelLeave, Abandon}
-use Rattle.cell_program.specs.declared.program.Position.{Position}
-use Rattle.cell_program.specs.declared.program.Position.TheVariants.{Out, ToMake, WaitingToMake, Making, ToWait, Waiting, At}
+use Rattle.cell_program.specs.Program.{Found}
+use Rattle.sync_program.specs.declared.once_cell.Found.TheVariants as found
+use Rattle.sync_program.specs.declared.once_cell.ListName.{ListName}
+use Rattle.sync_program.specs.declared.once_cell.ListName.TheVariants.{Active, Passive}
+use Rattle.cell_program.specs.Program.{Maker}
+use Rattle.sync_program.specs.declared.once_cell.Maker.TheVariants.{Closure, Given}
+use Rattle.cell_program.specs.Program.{Place}
+use Rattle.sync_program.specs.declared.once_cell.Place.TheVariants.{Claim, ClaimListed, JoinActive, AskActive, LeaveToMake, Make, Fill, NotifyActive, NotifyPassive, Fail, FailNotify, LeaveFull, RefuseActive, Look, JoinPassive, LookListed, AskPassive, LeavePassive, RefusePassive, Try, TryFill, TryNotifyActive, TryNotifyPassive, CancelMake, CancelNotify, CancelLeave, Abandon}
+use Rattle.cell_program.specs.Program.{Position}
+use Rattle.sync_program.specs.declared.once_cell.Position.TheVariants.{Out, ToMake, WaitingToMake, Making, ToWait, Waiting, At}
 use Rattle.cell_program.specs.Program.{place_for, next_of}
 use Rattle.cell_machine.specs.Seats.{seat_of, seated, value_known, is_late, will_tell}
 use Rattle.cell_machine.specs.Machine.{knows, runs, is_polling, is_trying, is_cancelling, is_begun, goes_with, answer_by}

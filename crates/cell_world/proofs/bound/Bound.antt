@@ -3,7 +3,7 @@ use Rattle.std.proofs.Common.{ℕ, refl}
 use Rattle.lock_world.specs.declared.moves.Answer.{Answer}
 use Rattle.lock_world.specs.declared.moves.Call.TheVariants as call
 use Rattle.lock_world.specs.declared.moves.Inputs.{Inputs}
-use Rattle.cell_program.specs.declared.program.ListName.TheVariants.{Active}
+use Rattle.sync_program.specs.declared.once_cell.ListName.TheVariants.{Active}
 use Rattle.cell_world.specs.State.{World}
 use Rattle.cell_world.specs.Laws.{IsSound, IsAwake, IsFreeAndWanted}
 use Rattle.lock_table.proofs.Bounds.{first_takes, first_marked}

@@ -20,13 +20,13 @@ use Rattle.lock_table.specs.Tables.{Table}
 use Rattle.lock_table.proofs.Mapped.{past_last}
 use Rattle.lock_table.proofs.Past.{by_stage_or_past, by_stage_or_past_at}
 use Rattle.lock_table.proofs.Views.{rest_seen, outside_at, length-standings}
-use Rattle.cell_program.specs.declared.program.ListName.{ListName}
-use Rattle.cell_program.specs.declared.program.ListName.TheVariants.{Active, Passive}
-use Rattle.cell_program.specs.declared.program.Maker.TheVariants.{Closure, Given}
-use Rattle.cell_program.specs.declared.program.Place.{Place}
-use Rattle.cell_program.specs.declared.program.Place.TheVariants.{Claim, ClaimListed, AskActive, LeaveToMake, NotifyActive, NotifyPassive, TryNotifyActive, TryNotifyPassive, FailNotify, CancelNotify, LeaveFull, LookListed, AskPassive, LeavePassive, CancelLeave, Abandon}
-use Rattle.cell_program.specs.declared.program.Position.{Position}
-use Rattle.cell_program.specs.declared.program.Position.TheVariants.{Out, ToMake, WaitingToMake, Making, ToWait, Waiting, At}
+use Rattle.sync_program.specs.declared.once_cell.ListName.{ListName}
+use Rattle.sync_program.specs.declared.once_cell.ListName.TheVariants.{Active, Passive}
+use Rattle.sync_program.specs.declared.once_cell.Maker.TheVariants.{Closure, Given}
+use Rattle.cell_program.specs.Program.{Place}
+use Rattle.sync_program.specs.declared.once_cell.Place.TheVariants.{Claim, ClaimListed, AskActive, LeaveToMake, NotifyActive, NotifyPassive, TryNotifyActive, TryNotifyPassive, FailNotify, CancelNotify, LeaveFull, LookListed, AskPassive, LeavePassive, CancelLeave, Abandon}
+use Rattle.cell_program.specs.Program.{Position}
+use Rattle.sync_program.specs.declared.once_cell.Position.TheVariants.{Out, ToMake, WaitingToMake, Making, ToWait, Waiting, At}
 use Rattle.cell_program.specs.declared.words.Content.{Content}
 use Rattle.cell_program.specs.declared.words.Content.TheVariants.{Empty, Full}
 use Rattle.cell_machine.specs.Seats.{fills_with, task_at, makes_at, in_active, in_passive_at, waits, owes, value_known, is_late, will_tell, verdict, is_resting}

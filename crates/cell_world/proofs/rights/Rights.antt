@@ -15,8 +15,8 @@ use Rattle.lock_world.proofs.Equations.{some_eq}
 use Rattle.lock_table.specs.Stages.{stage_at, call_at, polls_again}
 use Rattle.lock_table.specs.Tables.{Table}
 use Rattle.lock_table.proofs.Rights.{idle_account, again_account}
-use Rattle.cell_program.specs.declared.program.Place.{Place}
-use Rattle.cell_program.specs.declared.program.Position.{Position}
+use Rattle.cell_program.specs.Program.{Place}
+use Rattle.cell_program.specs.Program.{Position}
 use Rattle.cell_program.specs.declared.words.Content.{Content}
 use Rattle.cell_program.specs.declared.words.Content.TheVariants.{Full}
 use Rattle.cell_machine.specs.Machine.{OnceCell, IsCell, knows, goes_with, position_at}

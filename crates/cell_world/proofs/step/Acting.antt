@@ -16,8 +16,8 @@ use Rattle.lock_world.specs.declared.moves.Made.TheVariants as made
 use Rattle.lock_world.specs.declared.moves.Move.{Move}
 use Rattle.lock_world.specs.declared.moves.What.{What}
 use Rattle.lock_world.specs.declared.moves.What.TheVariants.{Begin, Go}
-use Rattle.lock_world.specs.declared.refusal.Refusal.{Refusal}
-use Rattle.lock_world.specs.declared.refusal.Refusal.TheVariants as refusal
+use Rattle.lock_program.specs.declared.refusal.Refusal.{Refusal}
+use Rattle.lock_program.specs.declared.refusal.Refusal.TheVariants as refusal
 use Rattle.lock_world.specs.declared.standing.Kind.{Kind}
 use Rattle.lock_world.specs.declared.standing.Kind.TheVariants as kind
 use Rattle.lock_world.specs.declared.standing.Rest.{Rest}
@@ -27,29 +27,29 @@ use Rattle.lock_world.specs.declared.standing.Stage.TheVariants.{Outside, Inside
 use Rattle.lock_world.specs.declared.standing.Within.{Within}
 use Rattle.lock_world.specs.Standings.{Standing, inside, inputs_of, call_in, is_possible, is_stepped, is_decided, may_end, decision, refused, IsUndecided}
 use Rattle.lock_world.specs.Frame.{is_drop, is_giving_back, is_poll_after_ready, is_refusal}
-use Rattle.lock_world.specs.Refusals.{number_of}
+use Rattle.lock_program.specs.Refusals.{number_of}
 use Rattle.lock_world.specs.Steps.{Deed, nothing, changes, does, joins, asks, leaves, notifies, notifies_additionally, list_after}
 use Rattle.lock_world.proofs.Equations.{some_eq, none_some, finished_number, both}
 use Rattle.lock_world.proofs.Lists.{notified_marked}
 use Rattle.lock_table.specs.Stages.{stage_at, stands_as, call_at, polls_again, stage_after}
 use Rattle.lock_table.specs.Tables.{Table}
-use Rattle.lock_table.specs.declared.end.End.TheVariants as «end»
+use Rattle.lock_program.specs.declared.end.End.TheVariants as «end»
 use Rattle.lock_table.proofs.Acting as acting
 use Rattle.lock_table.proofs.Calls.{call_seen, again_seen, stands_seen, decided_after, decision_seen, later_ends}
-use Rattle.cell_program.specs.declared.program.Action.{Action}
-use Rattle.cell_program.specs.declared.program.Action.TheVariants as act
-use Rattle.cell_program.specs.declared.program.Found.{Found}
-use Rattle.cell_program.specs.declared.program.Found.TheVariants as found
-use Rattle.cell_program.specs.declared.program.ListName.{ListName}
-use Rattle.cell_program.specs.declared.program.ListName.TheVariants.{Active, Passive}
-use Rattle.cell_program.specs.declared.program.Maker.{Maker}
-use Rattle.cell_program.specs.declared.program.Maker.TheVariants.{Closure, Given}
-use Rattle.cell_program.specs.declared.program.Next.{Next}
-use Rattle.cell_program.specs.declared.program.Next.TheVariants as next
-use Rattle.cell_program.specs.declared.program.Place.{Place}
-use Rattle.cell_program.specs.declared.program.Place.TheVariants.{Claim, ClaimListed, JoinActive, AskActive, LeaveToMake, Make, Fill, NotifyActive, NotifyPassive, Fail, FailNotify, LeaveFull, RefuseActive, Look, JoinPassive, LookListed, AskPassive, LeavePassive, RefusePassive, Try, TryFill, TryNotifyActive, TryNotifyPassive, CancelMake, CancelNotify, CancelLeave, Abandon}
-use Rattle.cell_program.specs.declared.program.Position.{Position}
-use Rattle.cell_program.specs.declared.program.Position.TheVariants.{Out, ToMake, WaitingToMake, Making, ToWait, Waiting, At}
+use Rattle.cell_program.specs.Program.{Action}
+use Rattle.sync_program.specs.declared.once_cell.Action.TheVariants as act
+use Rattle.cell_program.specs.Program.{Found}
+use Rattle.sync_program.specs.declared.once_cell.Found.TheVariants as found
+use Rattle.sync_program.specs.declared.once_cell.ListName.{ListName}
+use Rattle.sync_program.specs.declared.once_cell.ListName.TheVariants.{Active, Passive}
+use Rattle.cell_program.specs.Program.{Maker}
+use Rattle.sync_program.specs.declared.once_cell.Maker.TheVariants.{Closure, Given}
+use Rattle.cell_program.specs.Program.{Next}
+use Rattle.lock_program.specs.declared.end.Next.TheVariants as next
+use Rattle.cell_program.specs.Program.{Place}
+use Rattle.sync_program.specs.declared.once_cell.Place.TheVariants.{Claim, ClaimListed, JoinActive, AskActive, LeaveToMake, Make, Fill, NotifyActive, NotifyPassive, Fail, FailNotify, LeaveFull, RefuseActive, Look, JoinPassive, LookListed, AskPassive, LeavePassive, RefusePassive, Try, TryFill, TryNotifyActive, TryNotifyPassive, CancelMake, CancelNotify, CancelLeave, Abandon}
+use Rattle.cell_program.specs.Program.{Position}
+use Rattle.sync_program.specs.declared.once_cell.Position.TheVariants.{Out, ToMake, WaitingToMake, Making, ToWait, Waiting, At}
 use Rattle.cell_program.specs.declared.words.Content.{Content}
 use Rattle.cell_program.specs.declared.words.Content.TheVariants.{Empty, BeingMade}
 use Rattle.cell_program.specs.Program.{place_for, action_of, next_of, position_after}
@@ -74,31 +74,30 @@ use Rattle.cell_world.proofs.step.Here.{Here, TaskFits}
 -- ---- Answers
 
 -- what a call is decided on after this
-said_so : (x : Place) (n : Next) → decided_after (answer_by n) (verdict (position_after x n)) ≡ said n
+said_so : (x : Place) (n : Next) → decided_after (answer_by n) (verdict (position_after n)) ≡ said n
 said_so x (next.Do y) = refl
-said_so x (next.Ready g) = refl
-said_so x (next.End «end».Got) = refl
-said_so x (next.End «end».Granted) = refl
-said_so x (next.End «end».Pending) = refl
-said_so x (next.End «end».NotFree) = refl
-said_so x (next.End «end».GivenBack) = refl
-said_so x (next.End («end».Refused r)) = refl
+said_so x (next.End «end».Got y) = refl
+said_so x (next.End «end».Granted y) = refl
+said_so x (next.End «end».Pending y) = refl
+said_so x (next.End «end».NotFree y) = refl
+said_so x (next.End «end».Waiting y) = refl
+said_so x (next.End «end».GivenBack y) = refl
+said_so x (next.End («end».Refused r) y) = refl
 
 possible_by : (n : Next) → is_possible (answer_by n) ≡ true
 possible_by (next.Do y) = refl
-possible_by (next.Ready g) = refl
-possible_by (next.End «end».Got) = refl
-possible_by (next.End «end».Granted) = refl
-possible_by (next.End «end».Pending) = refl
-possible_by (next.End «end».NotFree) = refl
-possible_by (next.End «end».GivenBack) = refl
-possible_by (next.End («end».Refused r)) = refl
+possible_by (next.End «end».Got y) = refl
+possible_by (next.End «end».Granted y) = refl
+possible_by (next.End «end».Pending y) = refl
+possible_by (next.End «end».NotFree y) = refl
+possible_by (next.End «end».Waiting y) = refl
+possible_by (next.End «end».GivenBack y) = refl
+possible_by (next.End («end».Refused r) y) = refl
 
 -- what is answered, and doesn't go on, was decided
 said_then : (n : Next) (b : Answer) → is_stepped b ≡ false → answer_by n ≡ b → said n ≡ Some b
 said_then (next.Do y) b h e = let never : is_stepped answer.Stepped ≡ false = ap is_stepped e ∙ h in absurd (cc)
-said_then (next.Ready g) b h e = ap Some e
-said_then (next.End f) b h e = ap Some e
+said_then (next.End f y) b h e = ap Some e
 
 polls_end : (x : Place) (f : Found) → is_polling x ≡ true → is_stepped (answer_by (next_of x f)) ≡ false → may_end kind.FirstPoll (answer_by (next_of x f)) ≡ true
 polls_end (Claim k told) (found.Full u) h e = refl
@@ -249,7 +248,7 @@ asks_unmade list (AskActive k) e = refl
 asks_unmade list AskPassive e = refl
 asks_unmade list _ e = absurd (cc e)
 
-same_list : (list name : ListName) → act.Notify list ≡ act.Notify name → name ≡ list
+same_list : (list name : ListName) → ◌≡◌ {A = Action} (act.Notify list) (act.Notify name) → name ≡ list
 same_list list name e = cc e
 
 notifies_at : (list : ListName) (x : Place) → action_of x ≡ act.Notify list → is_notify x ≡ true

@@ -11,13 +11,13 @@ use Rattle.lock_world.specs.Standings.{inside, is_decided, IsUndecided}
 use Rattle.lock_world.specs.Frame.{is_drop, is_giving_back}
 use Rattle.lock_table.proofs.Calls.{decides_so, undecided_so}
 use Rattle.lock_table.specs.Stages.{stands_as, call_at, polls_again}
-use Rattle.cell_program.specs.declared.program.Action.{Action}
-use Rattle.cell_program.specs.declared.program.Action.TheVariants as act
-use Rattle.cell_program.specs.declared.program.Maker.{Maker}
-use Rattle.cell_program.specs.declared.program.Place.{Place}
-use Rattle.cell_program.specs.declared.program.Place.TheVariants.{JoinActive, AskActive, LeaveToMake, Make, Fill, NotifyActive, NotifyPassive, Fail, FailNotify, LeaveFull, RefuseActive, JoinPassive, AskPassive, LeavePassive, RefusePassive, Try, TryFill, TryNotifyActive, TryNotifyPassive, CancelMake, CancelNotify, CancelLeave}
-use Rattle.cell_program.specs.declared.program.Position.{Position}
-use Rattle.cell_program.specs.declared.program.Position.TheVariants.{At}
+use Rattle.cell_program.specs.Program.{Action}
+use Rattle.sync_program.specs.declared.once_cell.Action.TheVariants as act
+use Rattle.cell_program.specs.Program.{Maker}
+use Rattle.cell_program.specs.Program.{Place}
+use Rattle.sync_program.specs.declared.once_cell.Place.TheVariants.{JoinActive, AskActive, LeaveToMake, Make, Fill, NotifyActive, NotifyPassive, Fail, FailNotify, LeaveFull, RefuseActive, JoinPassive, AskPassive, LeavePassive, RefusePassive, Try, TryFill, TryNotifyActive, TryNotifyPassive, CancelMake, CancelNotify, CancelLeave}
+use Rattle.cell_program.specs.Program.{Position}
+use Rattle.sync_program.specs.declared.once_cell.Position.TheVariants.{At}
 use Rattle.cell_program.specs.Program.{action_of}
 use Rattle.cell_machine.specs.Seats.{Task, fills_with, failed, task_at, task_of as place_task, seat_of, seated, value_known, verdict, verdict_of}
 use Rattle.cell_machine.specs.Machine.{knows, goes_with, is_begun}

@@ -3,7 +3,7 @@ use Rattle.std.proofs.Common.{◌≡◌, ℕ, List}
 use Rattle.lock_event.specs.declared.event.Entry.{Entry}
 use Rattle.lock_world.specs.Standings.{Standing}
 use Rattle.lock_table.specs.Tables.{Table}
-use Rattle.cell_program.specs.declared.program.Position.TheVariants.{Out}
+use Rattle.sync_program.specs.declared.once_cell.Position.TheVariants.{Out}
 use Rattle.cell_program.specs.declared.words.Content.{Content}
 use Rattle.cell_program.specs.declared.words.Content.TheVariants.{Empty}
 use Rattle.cell_machine.specs.Seats.{Task, task_at, verdict}

@@ -4,8 +4,8 @@ use Rattle.lock_table.specs.Stages.{stage_at, stands_as}
 use Rattle.lock_table.specs.Tables.{Table}
 use Rattle.lock_table.proofs.Mapped.{mapped_at}
 use Rattle.lock_table.proofs.Views.{standings_at}
-use Rattle.cell_program.specs.declared.program.Position.{Position}
-use Rattle.cell_program.specs.declared.program.Position.TheVariants.{Out}
+use Rattle.cell_program.specs.Program.{Position}
+use Rattle.sync_program.specs.declared.once_cell.Position.TheVariants.{Out}
 use Rattle.cell_machine.specs.Seats.{task_at, verdict}
 use Rattle.cell_machine.specs.Machine.{OnceCell, position_at}
 use Rattle.cell_world.specs.State.{standing_of, task_of}

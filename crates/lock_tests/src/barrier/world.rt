@@ -14,7 +14,8 @@ use Deed::{
 use barrier_world::{ListName, World};
 use lock_event::{Mark, Memory};
 use lock_frame::AnyWorld;
-use lock_world::{Answer, Call, Got, Inputs, Move, Refusal, What};
+use lock_program::Refusal;
+use lock_world::{Answer, Call, Got, Inputs, Move, What};
 use std::alloc::Global;
 use std::process::Abort;
 use std::test::Fail;

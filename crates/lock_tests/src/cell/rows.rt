@@ -1,7 +1,7 @@
 //! The rows of which the tests of a once-cell's World are made.
 
 use cell_program::Content;
-use cell_program::program::ListName;
+use sync_program::once_cell::ListName;
 use lock_event::Mark;
 use lock_world::{Answer, Call, Inputs, Made, What};
 

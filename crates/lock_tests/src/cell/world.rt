@@ -9,11 +9,12 @@ use super::rows::Deed::{
 use super::rows::Seen::{self, Answered, Is, State, Told, Value};
 use super::rows::{ACTIVE, GO, INPUTS, NO_MEMORY, PASSIVE};
 use cell_program::Content;
-use cell_program::program::ListName;
+use sync_program::once_cell::ListName;
 use cell_world::World;
 use lock_event::Mark;
 use lock_frame::AnyWorld;
-use lock_world::{Answer, Call, Got, Inputs, Made, Move, Refusal, What};
+use lock_program::Refusal;
+use lock_world::{Answer, Call, Got, Inputs, Made, Move, What};
 use std::alloc::Global;
 use std::process::Abort;
 use std::test::Fail;

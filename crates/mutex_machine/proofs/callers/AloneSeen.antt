@@ -3,10 +3,10 @@ use Rattle.std.proofs.Common.{◌≡◌, ℕ, zero, suc, ◌<◌, ◌⊎◌, inl
 use Rattle.std.specs.List.{sum_by}
 use Rattle.std.proofs.lemmas.List.Sums.{sum_by-cons}
 use Rattle.lock_event.specs.declared.event.Entry.{Entry}
-use Rattle.lock_world.specs.declared.refusal.Refusal.TheVariants.{Starved}
-use Rattle.mutex_program.specs.declared.calls.End.{End}
-use Rattle.mutex_program.specs.declared.calls.End.TheVariants.{Pending, Refused}
-use Rattle.mutex_program.specs.declared.program.Next.{Next}
+use Rattle.lock_program.specs.declared.refusal.Refusal.TheVariants.{Starved}
+use Rattle.lock_program.specs.declared.end.End.{End}
+use Rattle.lock_program.specs.declared.end.End.TheVariants.{Pending, Refused}
+use Rattle.mutex_program.specs.declared.led.Next.{Next}
 use Rattle.mutex_machine.specs.Acts as acts
 use Rattle.mutex_machine.specs.Acts.{Acts}
 use Rattle.mutex_machine.specs.Solo as by

@@ -3,15 +3,15 @@ use Rattle.std.proofs.Common.{◌≡◌, ℕ, ◌⊎◌, inl, inr, if◌then◌e
 use Rattle.lock_event.specs.declared.event.Entry.{Entry}
 use Rattle.lock_event.specs.Lists.{is_marked_at}
 use Rattle.lock_queue.specs.Parties.{is_party}
-use Rattle.mutex_program.specs.declared.program.Action.TheVariants as act
-use Rattle.mutex_program.specs.declared.calls.End.TheVariants.{Got, Pending}
-use Rattle.mutex_program.specs.declared.calls.LockCall.TheVariants as call
-use Rattle.mutex_program.specs.declared.calls.Step.{Step}
-use Rattle.mutex_program.specs.declared.calls.Step.TheVariants as step
-use Rattle.mutex_program.specs.declared.program.Found.{Found}
-use Rattle.mutex_program.specs.declared.program.Found.TheVariants.{Free, Yes}
-use Rattle.mutex_program.specs.declared.program.Place.{Place}
-use Rattle.mutex_program.specs.declared.program.Place.TheVariants.{Out, Enter, Ask, AskStarved}
+use Rattle.lock_program.specs.declared.mutex.Action.TheVariants as act
+use Rattle.lock_program.specs.declared.end.End.TheVariants.{Got, Pending}
+use Rattle.lock_program.specs.declared.mutex.LockCall.TheVariants as call
+use Rattle.lock_program.specs.declared.mutex.Step.{Step}
+use Rattle.lock_program.specs.declared.mutex.Step.TheVariants as step
+use Rattle.lock_program.specs.declared.mutex.Found.{Found}
+use Rattle.lock_program.specs.declared.mutex.Found.TheVariants.{Free, Yes}
+use Rattle.lock_program.specs.declared.mutex.Place.{Place}
+use Rattle.lock_program.specs.declared.mutex.Place.TheVariants.{Out, Enter, Ask, AskStarved}
 use Rattle.mutex_program.specs.Program.{start_of, next_of, step_of}
 use Rattle.mutex_machine.specs.Acts.{Acts}
 use Rattle.mutex_machine.specs.Alone.{HasBegun}

@@ -3,13 +3,13 @@ use Rattle.std.proofs.Common.{◌≡◌, ℕ, ◌+◌, ◌<◌, ◌≤◌, ◌�
 use Rattle.std.proofs.lemmas.Bool.{false≢true}
 use Rattle.std.proofs.lemmas.List.{length-replicate}
 use Rattle.lock_queue.specs.Parties.{entries_of}
-use Rattle.lock_world.specs.declared.refusal.Refusal.{Refusal}
+use Rattle.lock_program.specs.declared.refusal.Refusal.{Refusal}
 use Rattle.lock_world.specs.Bounds as bounds
 use Rattle.lock_world.proofs.Alike.{all_alike}
 use Rattle.lock_world.proofs.Bounds.{some_listed}
-use Rattle.mutex_program.specs.declared.calls.LockCall.TheVariants as call
-use Rattle.mutex_program.specs.declared.calls.End.{End}
-use Rattle.mutex_program.specs.declared.calls.End.TheVariants.{Got, Pending, GivenBack, Refused}
+use Rattle.lock_program.specs.declared.mutex.LockCall.TheVariants as call
+use Rattle.lock_program.specs.declared.end.End.{End}
+use Rattle.lock_program.specs.declared.end.End.TheVariants.{Got, Pending, GivenBack, Refused}
 use Rattle.mutex_machine.specs.Course.{Course, out, holding, waiting, taking, releasing, cancelling, undecided, called, counting, has_lock, gives_up, holds, listed, decision, is_out, is_holding, is_waiting, is_taking, is_releasing, is_cancelling, is_resting, is_counting, may_begin}
 use Rattle.mutex_machine.specs.Mutex.{Mutex, course_at, new_mutex, is_counted, holder_from, holder_of, starved_of}
 use Rattle.mutex_machine.specs.Alone.{GaveWay}

@@ -1,12 +1,12 @@
 -- A release takes a second step, which leaves some entry of the list marked, unless the list is empty.
 use Rattle.std.proofs.Common.{◌≡◌, ℕ, ◌<◌, Bool, true, length, IsSomeAnd, refl, ap, sym, ◌∙◌}
 use Rattle.lock_event.specs.Lists.{marked_count}
-use Rattle.mutex_program.specs.declared.calls.Step.{Step}
-use Rattle.mutex_program.specs.declared.calls.Step.TheVariants as step
-use Rattle.mutex_program.specs.declared.program.Action.TheVariants as act
-use Rattle.mutex_program.specs.declared.calls.LockCall.TheVariants as call
-use Rattle.mutex_program.specs.declared.program.Place.{Place}
-use Rattle.mutex_program.specs.declared.program.Place.TheVariants.{Holding, Clear, ReleaseNotify}
+use Rattle.lock_program.specs.declared.mutex.Step.{Step}
+use Rattle.lock_program.specs.declared.mutex.Step.TheVariants as step
+use Rattle.lock_program.specs.declared.mutex.Action.TheVariants as act
+use Rattle.lock_program.specs.declared.mutex.LockCall.TheVariants as call
+use Rattle.lock_program.specs.declared.mutex.Place.{Place}
+use Rattle.lock_program.specs.declared.mutex.Place.TheVariants.{Holding, Clear, ReleaseNotify}
 use Rattle.mutex_program.specs.Program.{start_of, action_of, step_of}
 use Rattle.mutex_machine.specs.Course.{is_releasing}
 use Rattle.mutex_machine.specs.Mutex.{Mutex, course_at}

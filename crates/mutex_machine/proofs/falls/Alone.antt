@@ -10,18 +10,18 @@ use Rattle.lock_event.specs.Lists.{is_marked_at}
 use Rattle.lock_queue.specs.Parties.{is_party, entries_of}
 use Rattle.lock_world.proofs.Equations.{some_eq}
 use Rattle.lock_world.proofs.Lists.{joined_unmarked}
-use Rattle.mutex_program.specs.declared.program.Place.{Place}
-use Rattle.mutex_program.specs.declared.program.Place.TheVariants.{Out, Holding, Enter, Try, Clear, CancelUncount, CancelLeave, Join, Look, Ask, Retry, PassOn, Count, JoinStarved, LookAlone, PassOnListed, AskStarved, Seize, Uncount, Leave, RefuseUncount, RefuseLeave, RefuseNotifyMemory, RefuseNotifyStarved, ReleaseNotify}
-use Rattle.mutex_program.specs.declared.calls.LockCall.{LockCall}
-use Rattle.mutex_program.specs.declared.calls.LockCall.TheVariants as call
-use Rattle.mutex_program.specs.declared.program.Action.{Action}
-use Rattle.mutex_program.specs.declared.program.Action.TheVariants as act
-use Rattle.mutex_program.specs.declared.program.Next.{Next}
-use Rattle.mutex_program.specs.declared.program.Next.TheVariants as next
-use Rattle.mutex_program.specs.declared.program.Found.{Found}
-use Rattle.mutex_program.specs.declared.program.Found.TheVariants.{Done, Free, Held, SomeStarved, AtLimit, Yes}
+use Rattle.lock_program.specs.declared.mutex.Place.{Place}
+use Rattle.lock_program.specs.declared.mutex.Place.TheVariants.{Out, Holding, Enter, Try, Clear, CancelUncount, CancelLeave, Join, Look, Ask, Retry, PassOn, Count, JoinStarved, LookAlone, PassOnListed, AskStarved, Seize, Uncount, Leave, RefuseUncount, RefuseLeave, RefuseNotifyMemory, RefuseNotifyStarved, ReleaseNotify}
+use Rattle.lock_program.specs.declared.mutex.LockCall.{LockCall}
+use Rattle.lock_program.specs.declared.mutex.LockCall.TheVariants as call
+use Rattle.lock_program.specs.declared.mutex.Action.{Action}
+use Rattle.lock_program.specs.declared.mutex.Action.TheVariants as act
+use Rattle.mutex_program.specs.declared.led.Next.{Next}
+use Rattle.mutex_program.specs.declared.led.Next.TheVariants as next
+use Rattle.lock_program.specs.declared.mutex.Found.{Found}
+use Rattle.lock_program.specs.declared.mutex.Found.TheVariants.{Done, Free, Held, SomeStarved, AtLimit, Yes}
 use Rattle.mutex_program.specs.Program.{action_of, next_of, place_after, start_of}
-use Rattle.mutex_program.specs.Roles.{holds, listed}
+use Rattle.lock_program.specs.MutexRoles.{holds, listed}
 use Rattle.mutex_machine.specs.Parties.{OnParties}
 use Rattle.mutex_machine.specs.Machine.{Lock, place_at, SameRoles}
 use Rattle.mutex_machine.specs.Acts.{Acts, Finds, holders}

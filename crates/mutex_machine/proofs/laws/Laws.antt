@@ -4,14 +4,14 @@ use Rattle.lock_event.specs.Lists.{marked_count, IsMarkedFirst}
 use Rattle.lock_queue.specs.Queues.{Queue}
 use Rattle.lock_queue.specs.Debts.{Roles, Rests, AllRest}
 use Rattle.lock_queue.proofs.Debts.{paid_at_rest}
-use Rattle.mutex_program.specs.declared.program.Place.{Place}
-use Rattle.mutex_program.specs.declared.program.Place.TheVariants.{Out, Holding, Ask, AskStarved}
-use Rattle.mutex_program.specs.declared.program.Action.{Action}
-use Rattle.mutex_program.specs.declared.program.Action.TheVariants as act
-use Rattle.mutex_program.specs.declared.program.Found.{Found}
-use Rattle.mutex_program.specs.declared.program.Found.TheVariants.{Done, Free, Held, SomeStarved, AtLimit, NoMemory, Yes, No}
+use Rattle.lock_program.specs.declared.mutex.Place.{Place}
+use Rattle.lock_program.specs.declared.mutex.Place.TheVariants.{Out, Holding, Ask, AskStarved}
+use Rattle.lock_program.specs.declared.mutex.Action.{Action}
+use Rattle.lock_program.specs.declared.mutex.Action.TheVariants as act
+use Rattle.lock_program.specs.declared.mutex.Found.{Found}
+use Rattle.lock_program.specs.declared.mutex.Found.TheVariants.{Done, Free, Held, SomeStarved, AtLimit, NoMemory, Yes, No}
 use Rattle.mutex_program.specs.declared.word.Word.{Word}
-use Rattle.mutex_program.specs.Roles.{bit, counted, listed, waits, owes, is_resting}
+use Rattle.lock_program.specs.MutexRoles.{bit, counted, listed, waits, owes, is_resting}
 use Rattle.mutex_program.specs.Words.{OnWord}
 use Rattle.mutex_program.specs.Seats.{OnList}
 use Rattle.mutex_machine.specs.Machine.{Lock, IsLock, place_at}

@@ -5,11 +5,11 @@ use Rattle.std.proofs.Math.Decide.{ℕ_discrete}
 use Rattle.lock_queue.specs.Queues.{Queue}
 use Rattle.lock_queue.specs.Parties.{entries_of}
 use Rattle.lock_world.proofs.Lists.{OneAtMost, own_by, others_by}
-use Rattle.mutex_program.specs.declared.program.Place.{Place}
-use Rattle.mutex_program.specs.declared.program.Place.TheVariants.{Out}
-use Rattle.mutex_program.specs.Roles.{listed}
+use Rattle.lock_program.specs.declared.mutex.Place.{Place}
+use Rattle.lock_program.specs.declared.mutex.Place.TheVariants.{Out}
+use Rattle.lock_program.specs.MutexRoles.{listed}
 use Rattle.mutex_machine.specs.Parties.{OnParties}
-use Rattle.mutex_program.specs.declared.program.Found.{Found}
+use Rattle.lock_program.specs.declared.mutex.Found.{Found}
 use Rattle.mutex_program.specs.declared.word.Word.{Word}
 use Rattle.mutex_program.specs.Program.{action_of}
 use Rattle.mutex_program.specs.Words.{OnWord}

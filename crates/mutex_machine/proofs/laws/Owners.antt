@@ -6,10 +6,10 @@ use Rattle.lock_queue.specs.Queues.{Queue}
 use Rattle.lock_world.specs.Steps.{joins, asks, leaves, notifies}
 use Rattle.lock_world.proofs.Equations.{chosen}
 use Rattle.lock_world.proofs.Lists.{OneAtMost, unchanged, done}
-use Rattle.mutex_program.specs.declared.program.Action.{Action}
-use Rattle.mutex_program.specs.declared.program.Action.TheVariants as act
-use Rattle.mutex_program.specs.declared.program.Found.{Found}
-use Rattle.mutex_program.specs.declared.program.Found.TheVariants.{Done, NoMemory, Yes, No}
+use Rattle.lock_program.specs.declared.mutex.Action.{Action}
+use Rattle.lock_program.specs.declared.mutex.Action.TheVariants as act
+use Rattle.lock_program.specs.declared.mutex.Found.{Found}
+use Rattle.lock_program.specs.declared.mutex.Found.TheVariants.{Done, NoMemory, Yes, No}
 use Rattle.mutex_program.specs.declared.word.Word.{Word}
 use Rattle.mutex_machine.specs.Parties.{OnParties}
 use Rattle.mutex_program.specs.Seats.{OnList, CanDo}

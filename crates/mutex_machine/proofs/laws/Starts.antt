@@ -2,10 +2,10 @@
 use Rattle.std.proofs.Common.{◌≡◌, Some, refl}
 use Rattle.lock_world.proofs.Equations.{none_some}
 use Rattle.lock_world.proofs.Equations.{some_eq}
-use Rattle.mutex_program.specs.declared.program.Place.{Place}
-use Rattle.mutex_program.specs.declared.program.Place.TheVariants.{Out, Holding, Ask, AskStarved}
-use Rattle.mutex_program.specs.declared.calls.LockCall.{LockCall}
-use Rattle.mutex_program.specs.declared.calls.LockCall.TheVariants as call
+use Rattle.lock_program.specs.declared.mutex.Place.{Place}
+use Rattle.lock_program.specs.declared.mutex.Place.TheVariants.{Out, Holding, Ask, AskStarved}
+use Rattle.lock_program.specs.declared.mutex.LockCall.{LockCall}
+use Rattle.lock_program.specs.declared.mutex.LockCall.TheVariants as call
 use Rattle.mutex_program.specs.Program.{start_of}
 use Rattle.mutex_machine.specs.Machine.{SameRoles}
 

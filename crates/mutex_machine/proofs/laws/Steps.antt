@@ -2,13 +2,13 @@
 use Rattle.std.proofs.Common.{◌≡◌, ◌+◌, ◌<◌, ◌≤◌, ◌≢◌, Bool, true, false}
 use Rattle.lock_world.specs.Steps.{ListFunction, joins, asks, leaves, notifies}
 use Rattle.lock_world.proofs.Lists.{Counted}
-use Rattle.mutex_program.specs.declared.program.Place.{Place}
-use Rattle.mutex_program.specs.declared.program.Action.{Action}
-use Rattle.mutex_program.specs.declared.program.Action.TheVariants as act
-use Rattle.mutex_program.specs.declared.program.Found.{Found}
-use Rattle.mutex_program.specs.declared.program.Found.TheVariants.{Done, Free, Held, SomeStarved, AtLimit, NoMemory, Yes, No}
+use Rattle.lock_program.specs.declared.mutex.Place.{Place}
+use Rattle.lock_program.specs.declared.mutex.Action.{Action}
+use Rattle.lock_program.specs.declared.mutex.Action.TheVariants as act
+use Rattle.lock_program.specs.declared.mutex.Found.{Found}
+use Rattle.lock_program.specs.declared.mutex.Found.TheVariants.{Done, Free, Held, SomeStarved, AtLimit, NoMemory, Yes, No}
 use Rattle.mutex_machine.specs.Tally.{Tally, Counts}
-use Rattle.mutex_program.specs.Roles.{holds, counted, listed as stands, waits, owes}
+use Rattle.lock_program.specs.MutexRoles.{holds, counted, listed as stands, waits, owes}
 
 abbrev pub SameWord : Tally → Tally → Type 0
 SameWord s t = (t.held ≡ s.held) × (t.starved ≡ s.starved) × (t.limit ≡ s.limit)

@@ -2,20 +2,20 @@
 use Rattle.std.proofs.Common.{◌≡◌, ℕ, suc, ◌<◌, ◌⊎◌, inl, inr, Bool, true, false, List, [], ◌∷◌, length, Option, Some, IsSome, refl, sym, ap, arith, subst, ◌∙◌, get_or-set_same}
 use Rattle.lock_event.specs.declared.event.Entry.{Entry}
 use Rattle.lock_queue.specs.Parties.{entries_of}
-use Rattle.lock_world.specs.declared.refusal.Refusal.TheVariants.{Memory, Starved}
+use Rattle.lock_program.specs.declared.refusal.Refusal.TheVariants.{Memory, Starved}
 use Rattle.lock_world.specs.Steps.{Deed, nothing, changes, does}
-use Rattle.mutex_program.specs.declared.program.Place.{Place}
-use Rattle.mutex_program.specs.declared.program.Place.TheVariants as place
-use Rattle.mutex_program.specs.declared.calls.LockCall.{LockCall}
-use Rattle.mutex_program.specs.declared.calls.LockCall.TheVariants as call
-use Rattle.mutex_program.specs.declared.program.Found.{Found}
-use Rattle.mutex_program.specs.declared.program.Found.TheVariants.{Free, Held, SomeStarved}
-use Rattle.mutex_program.specs.declared.calls.End.{End}
-use Rattle.mutex_program.specs.declared.calls.End.TheVariants.{Got, Pending, NotFree, GivenBack, Refused}
-use Rattle.mutex_program.specs.declared.program.Next.{Next}
-use Rattle.mutex_program.specs.declared.program.Next.TheVariants as next
+use Rattle.lock_program.specs.declared.mutex.Place.{Place}
+use Rattle.lock_program.specs.declared.mutex.Place.TheVariants as place
+use Rattle.lock_program.specs.declared.mutex.LockCall.{LockCall}
+use Rattle.lock_program.specs.declared.mutex.LockCall.TheVariants as call
+use Rattle.lock_program.specs.declared.mutex.Found.{Found}
+use Rattle.lock_program.specs.declared.mutex.Found.TheVariants.{Free, Held, SomeStarved}
+use Rattle.lock_program.specs.declared.end.End.{End}
+use Rattle.lock_program.specs.declared.end.End.TheVariants.{Got, Pending, NotFree, GivenBack, Refused}
+use Rattle.mutex_program.specs.declared.led.Next.{Next}
+use Rattle.mutex_program.specs.declared.led.Next.TheVariants as next
 use Rattle.mutex_program.specs.Program.{start_of, action_of, next_of, place_after, step_of}
-use Rattle.mutex_program.specs.Roles as by
+use Rattle.lock_program.specs.MutexRoles as by
 use Rattle.mutex_machine.specs.Courses as way
 use Rattle.mutex_machine.specs.Acts as acts
 use Rattle.mutex_machine.specs.Acts.{Acts, Finds}
@@ -49,6 +49,7 @@ told_there (next.End Got) x l h = tt
 told_there (next.End Pending) x l h = tt
 told_there (next.End NotFree) x l h = tt
 told_there (next.End GivenBack) x l h = tt
+told_there (next.End _) x l h = tt
 
 pub known_there : (l : Lock) (m : Mutex) (p : ℕ) → seen l ≡ m → p < length m.courses → p < length l.places
 known_there l m p e h = omega (arith, h, ap (λ x. length x.courses) e, length_seen l.places)
@@ -109,7 +110,7 @@ module _ (l k : Lock) where
   reason memory p GivenBack h = tt
   reason memory p (Refused Memory) h = (h.0, h.1, h.2, holder_seen 0 k.places ∙ (h.3 ∙ sym (holder_seen 0 l.places)), roster_seen k.places ∙ (h.4 ∙ sym (roster_seen l.places)))
   reason memory p (Refused Starved) h = starved_seen l.places ∙ h.0
-  reason memory p (Refused _) h = absurd h
+  reason memory p _ h = absurd h
 
   module _ (n : Next) (p : ℕ) (kept : AreKept k.places) where
     then : decided_then (step_of n) (course_at (seen k).courses p) ≡ legal.decided_then n (place_at k.places p)

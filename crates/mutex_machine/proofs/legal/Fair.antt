@@ -2,13 +2,13 @@
 use Rattle.std.proofs.Common.{◌≡◌, ℕ, ◌<◌, ◌⊎◌, inl, inr, Bool, true, false, length, refl, arith, sym, ◌∙◌, subst, get_or-set_same, get_or-set_other}
 use Rattle.std.proofs.Math.ListN.{set}
 use Rattle.std.proofs.Math.Decide.{ℕ_discrete}
-use Rattle.mutex_program.specs.declared.program.Place.{Place}
-use Rattle.mutex_program.specs.declared.program.Place.TheVariants.{Out, Holding, Enter, Try, Clear, CancelUncount, CancelLeave, Join, Look, Ask, Retry, PassOn, Count, JoinStarved, LookAlone, PassOnListed, AskStarved, Seize, Uncount, Leave, RefuseUncount, RefuseLeave, RefuseNotifyMemory, RefuseNotifyStarved, ReleaseNotify}
-use Rattle.mutex_program.specs.declared.program.Next.{Next}
-use Rattle.mutex_program.specs.declared.program.Found.{Found}
-use Rattle.mutex_program.specs.declared.program.Found.TheVariants.{Done, Free, Held, SomeStarved, AtLimit, NoMemory, Yes, No}
+use Rattle.lock_program.specs.declared.mutex.Place.{Place}
+use Rattle.lock_program.specs.declared.mutex.Place.TheVariants.{Out, Holding, Enter, Try, Clear, CancelUncount, CancelLeave, Join, Look, Ask, Retry, PassOn, Count, JoinStarved, LookAlone, PassOnListed, AskStarved, Seize, Uncount, Leave, RefuseUncount, RefuseLeave, RefuseNotifyMemory, RefuseNotifyStarved, ReleaseNotify}
+use Rattle.mutex_program.specs.declared.led.Next.{Next}
+use Rattle.lock_program.specs.declared.mutex.Found.{Found}
+use Rattle.lock_program.specs.declared.mutex.Found.TheVariants.{Done, Free, Held, SomeStarved, AtLimit, NoMemory, Yes, No}
 use Rattle.mutex_program.specs.Program.{action_of, place_after}
-use Rattle.mutex_program.specs.Roles.{holds, counted}
+use Rattle.lock_program.specs.MutexRoles.{holds, counted}
 use Rattle.mutex_machine.specs.Machine.{Lock, place_at, SameRoles}
 use Rattle.mutex_machine.specs.Acts.{Acts, Finds, holders, starved, TakenFairly}
 use Rattle.mutex_machine.proofs.laws.Kept.{after}

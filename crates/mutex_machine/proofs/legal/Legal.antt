@@ -11,23 +11,23 @@ use Rattle.lock_event.specs.declared.event.Mark.TheVariants.{Waiting}
 use Rattle.lock_event.specs.Lists.{mark_at, is_marked_at, without}
 use Rattle.lock_queue.specs.Parties.{is_party, entries_of}
 use Rattle.lock_queue.proofs.Told.{waits_at}
-use Rattle.lock_world.specs.declared.refusal.Refusal.TheVariants as refusal
+use Rattle.lock_program.specs.declared.refusal.Refusal.TheVariants as refusal
 use Rattle.lock_world.specs.Steps.{Deed, nothing, changes, does, joins, notifies, notifies_additionally}
 use Rattle.lock_world.proofs.Equations.{some_eq, none_some, some_none, chosen}
-use Rattle.mutex_program.specs.declared.program.Place.{Place}
-use Rattle.mutex_program.specs.declared.program.Place.TheVariants.{Out, Holding, Enter, Try, Ask, AskStarved}
-use Rattle.mutex_program.specs.declared.calls.LockCall.{LockCall}
-use Rattle.mutex_program.specs.declared.calls.LockCall.TheVariants as call
-use Rattle.mutex_program.specs.declared.program.Action.{Action}
-use Rattle.mutex_program.specs.declared.program.Action.TheVariants as act
-use Rattle.mutex_program.specs.declared.program.Found.{Found}
-use Rattle.mutex_program.specs.declared.program.Found.TheVariants.{Done, Free, Held, SomeStarved, AtLimit, NoMemory, Yes, No}
-use Rattle.mutex_program.specs.declared.program.Next.{Next}
-use Rattle.mutex_program.specs.declared.program.Next.TheVariants as next
-use Rattle.mutex_program.specs.declared.calls.End.{End}
-use Rattle.mutex_program.specs.declared.calls.End.TheVariants.{Got, Pending, NotFree, GivenBack, Refused}
+use Rattle.lock_program.specs.declared.mutex.Place.{Place}
+use Rattle.lock_program.specs.declared.mutex.Place.TheVariants.{Out, Holding, Enter, Try, Ask, AskStarved}
+use Rattle.lock_program.specs.declared.mutex.LockCall.{LockCall}
+use Rattle.lock_program.specs.declared.mutex.LockCall.TheVariants as call
+use Rattle.lock_program.specs.declared.mutex.Action.{Action}
+use Rattle.lock_program.specs.declared.mutex.Action.TheVariants as act
+use Rattle.lock_program.specs.declared.mutex.Found.{Found}
+use Rattle.lock_program.specs.declared.mutex.Found.TheVariants.{Done, Free, Held, SomeStarved, AtLimit, NoMemory, Yes, No}
+use Rattle.mutex_program.specs.declared.led.Next.{Next}
+use Rattle.mutex_program.specs.declared.led.Next.TheVariants as next
+use Rattle.lock_program.specs.declared.end.End.{End}
+use Rattle.lock_program.specs.declared.end.End.TheVariants.{Got, Pending, NotFree, GivenBack, Refused}
 use Rattle.mutex_program.specs.Program.{start_of, action_of, next_of}
-use Rattle.mutex_program.specs.Roles.{bit, holds, counted, listed}
+use Rattle.lock_program.specs.MutexRoles.{bit, holds, counted, listed}
 use Rattle.mutex_machine.specs.Parties.{OnParties}
 use Rattle.mutex_machine.specs.Machine.{Lock, SameRoles, place_at}
 use Rattle.mutex_machine.specs.Acts.{Acts, Finds, holders, starved}
@@ -100,6 +100,7 @@ kept_lock (Some Pending) d h e = absurd (cc)
 kept_lock (Some NotFree) d h e = absurd (cc)
 kept_lock (Some GivenBack) d h e = absurd (cc)
 kept_lock (Some (Refused r)) d h e = absurd (cc)
+kept_lock (Some _) d h e = absurd (cc)
 
 -- an end is decided by what comes next, wherever it leads
 then_same : (from : Place) (f : Found) → decided_then (next_of from f) (after from f) ≡ decision_by (next_of from f)
@@ -219,7 +220,7 @@ module _ (memory : Bool) (p : ℕ) (from : Place) (f : Found) (l : Lock) (es : L
     reason_is GivenBack y = tt
     reason_is (Refused refusal.Memory) y = let same = unchanged y.2 in (y.0, stands_listed ∙ y.1, same.0, same.1, same.2)
     reason_is (Refused refusal.Starved) y = let same = unchanged y.2 in (y.0, sym k.same.starving ∙ y.1, same.0, same.1, same.2)
-    reason_is (Refused _) y = absurd y
+    reason_is _ y = absurd y
 
     decided : decided_then (next_of from f) (place_at new.places p) ≡ decision_by (next_of from f)
     decided = ap (decided_then (next_of from f)) lands ∙ then_same from f

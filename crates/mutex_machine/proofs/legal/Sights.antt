@@ -5,21 +5,21 @@ use Rattle.std.proofs.Math.ListN.{set}
 use Rattle.std.specs.Prelude.{◌==◌, if◌then◌else◌}
 use Rattle.std.specs.List.{sum_by}
 use Rattle.std.proofs.lemmas.List.Sums.{sum_by-cons}
-use Rattle.lock_world.specs.declared.refusal.Refusal.TheVariants.{Memory, Starved}
-use Rattle.mutex_program.specs.declared.program.Place.{Place}
-use Rattle.mutex_program.specs.declared.program.Place.TheVariants as place
-use Rattle.mutex_program.specs.declared.calls.LockCall.{LockCall}
-use Rattle.mutex_program.specs.declared.calls.LockCall.TheVariants as call
-use Rattle.mutex_program.specs.declared.program.Action.{Action}
-use Rattle.mutex_program.specs.declared.program.Found.{Found}
-use Rattle.mutex_program.specs.declared.program.Found.TheVariants.{Done, Free, Held, AtLimit, Yes}
-use Rattle.mutex_program.specs.declared.calls.End.{End}
-use Rattle.mutex_program.specs.declared.calls.End.TheVariants.{Got, Pending, NotFree, GivenBack, Refused}
-use Rattle.mutex_program.specs.declared.program.Next.{Next}
-use Rattle.mutex_program.specs.declared.program.Next.TheVariants as next
-use Rattle.mutex_program.specs.declared.calls.Step.TheVariants as step
+use Rattle.lock_program.specs.declared.refusal.Refusal.TheVariants.{Memory, Starved}
+use Rattle.lock_program.specs.declared.mutex.Place.{Place}
+use Rattle.lock_program.specs.declared.mutex.Place.TheVariants as place
+use Rattle.lock_program.specs.declared.mutex.LockCall.{LockCall}
+use Rattle.lock_program.specs.declared.mutex.LockCall.TheVariants as call
+use Rattle.lock_program.specs.declared.mutex.Action.{Action}
+use Rattle.lock_program.specs.declared.mutex.Found.{Found}
+use Rattle.lock_program.specs.declared.mutex.Found.TheVariants.{Done, Free, Held, AtLimit, Yes}
+use Rattle.lock_program.specs.declared.end.End.{End}
+use Rattle.lock_program.specs.declared.end.End.TheVariants.{Got, Pending, NotFree, GivenBack, Refused}
+use Rattle.mutex_program.specs.declared.led.Next.{Next}
+use Rattle.mutex_program.specs.declared.led.Next.TheVariants as next
+use Rattle.lock_program.specs.declared.mutex.Step.TheVariants as step
 use Rattle.mutex_program.specs.Program.{start_of, place_after, step_of}
-use Rattle.mutex_program.specs.Roles as by
+use Rattle.lock_program.specs.MutexRoles as by
 use Rattle.mutex_machine.specs.Courses as way
 use Rattle.mutex_machine.specs.Legal as legal
 use Rattle.mutex_machine.specs.State as state

@@ -3,7 +3,7 @@ use Rattle.std.proofs.Common.{ℕ, ◌<◌, ap, arith, ◌∙◌}
 use Rattle.lock_queue.specs.Parties.{entries_of}
 use Rattle.lock_world.specs.Bounds as bounds
 use Rattle.lock_world.proofs.Bounds.{some_listed}
-use Rattle.mutex_program.specs.declared.calls.End.TheVariants.{Pending}
+use Rattle.lock_program.specs.declared.end.End.TheVariants.{Pending}
 use Rattle.mutex_machine.specs.Machine.{Lock}
 use Rattle.mutex_machine.specs.State.{is_counted, starved_of}
 use Rattle.mutex_machine.specs.Solo.{GaveWay}

@@ -13,18 +13,18 @@ use Rattle.lock_event.proofs.Counts.{length-joined, length-without, marked_count
 use Rattle.lock_queue.specs.Parties.{is_party, entries_of}
 use Rattle.lock_queue.proofs.Rekeyed.{entries_of-joined, entries_of-mark_waiting, entries_of-without_own, entries_of-without_other}
 use Rattle.lock_queue.proofs.Queues.{own_one, other_one}
-use Rattle.lock_world.specs.declared.refusal.Refusal.TheVariants as refusal
+use Rattle.lock_program.specs.declared.refusal.Refusal.TheVariants as refusal
 pub use Rattle.lock_world.proofs.Bounds.{first_marked}
 use Rattle.lock_world.proofs.Lists.{is_there}
-use Rattle.mutex_program.specs.declared.program.Place.{Place}
-use Rattle.mutex_program.specs.declared.program.Place.TheVariants.{Out, Holding, Ask, AskStarved}
-use Rattle.mutex_program.specs.declared.calls.LockCall.TheVariants as call
-use Rattle.mutex_program.specs.declared.program.Next.{Next}
-use Rattle.mutex_program.specs.declared.program.Next.TheVariants as next
-use Rattle.mutex_program.specs.declared.calls.End.{End}
-use Rattle.mutex_program.specs.declared.calls.End.TheVariants.{Got, Pending, Refused}
+use Rattle.lock_program.specs.declared.mutex.Place.{Place}
+use Rattle.lock_program.specs.declared.mutex.Place.TheVariants.{Out, Holding, Ask, AskStarved}
+use Rattle.lock_program.specs.declared.mutex.LockCall.TheVariants as call
+use Rattle.mutex_program.specs.declared.led.Next.{Next}
+use Rattle.mutex_program.specs.declared.led.Next.TheVariants as next
+use Rattle.lock_program.specs.declared.end.End.{End}
+use Rattle.lock_program.specs.declared.end.End.TheVariants.{Got, Pending, Refused}
 use Rattle.mutex_program.specs.Program.{start_of}
-use Rattle.mutex_program.specs.Roles.{holds, counted, listed, is_resting}
+use Rattle.lock_program.specs.MutexRoles.{holds, counted, listed, is_resting}
 use Rattle.mutex_machine.specs.Courses.{is_waiting}
 use Rattle.mutex_machine.specs.Machine.{Lock, place_at}
 use Rattle.mutex_machine.specs.Acts.{Acts, IsMutex, IsAtRest, IsStarved, holders, starved}

@@ -22,13 +22,13 @@ use Rattle.lock_frame.specs.Steps.{beginning}
 use Rattle.lock_table.specs.Stages.{stage_at, call_at, polls_again, stage_after}
 use Rattle.lock_table.specs.Tables.{Table, Acted}
 use Rattle.lock_table.proofs.Ways.{acted}
-use Rattle.mutex_program.specs.declared.program.Action.{Action}
-use Rattle.mutex_program.specs.declared.calls.End.{End}
-use Rattle.mutex_program.specs.declared.calls.End.TheVariants as «end»
-use Rattle.mutex_program.specs.declared.calls.LockCall.TheVariants as lock_call
-use Rattle.mutex_program.specs.declared.program.Next.{Next}
-use Rattle.mutex_program.specs.declared.program.Next.TheVariants as next
-use Rattle.mutex_program.specs.declared.program.Place.{Place}
+use Rattle.lock_program.specs.declared.mutex.Action.{Action}
+use Rattle.lock_program.specs.declared.end.End.{End}
+use Rattle.lock_program.specs.declared.end.End.TheVariants as «end»
+use Rattle.lock_program.specs.declared.mutex.LockCall.TheVariants as lock_call
+use Rattle.mutex_program.specs.declared.led.Next.{Next}
+use Rattle.mutex_program.specs.declared.led.Next.TheVariants as next
+use Rattle.lock_program.specs.declared.mutex.Place.{Place}
 use Rattle.mutex_machine.specs.Acts.{Acts}
 use Rattle.mutex_program.specs.Program.{start_of}
 use Rattle.mutex_machine.specs.Solo.{GoesOnAlone, last, step, PollsAlone, at_once, begun, BeginsPoll}
@@ -49,6 +49,8 @@ goes v (next.Do a to) h = (a, to, refl)
 goes v (next.End «end».Got) h = absurd (cc)
 goes v (next.End «end».Pending) h = absurd (cc)
 goes v (next.End «end».NotFree) h = absurd (cc)
+goes v (next.End «end».Granted) h = absurd (cc)
+goes v (next.End «end».Waiting) h = absurd (cc)
 goes v (next.End «end».GivenBack) h = absurd (cc)
 goes v (next.End («end».Refused r)) h = absurd (cc)
 

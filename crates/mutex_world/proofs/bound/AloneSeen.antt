@@ -8,7 +8,7 @@ use Rattle.lock_world.specs.declared.moves.Answer.TheVariants as answer
 use Rattle.lock_world.specs.declared.moves.Call.TheVariants as call
 use Rattle.lock_world.specs.declared.moves.Got.TheVariants.{Value}
 use Rattle.lock_world.specs.declared.moves.Inputs.{Inputs}
-use Rattle.lock_world.specs.declared.refusal.Refusal.TheVariants as refusal
+use Rattle.lock_program.specs.declared.refusal.Refusal.TheVariants as refusal
 use Rattle.lock_world.specs.declared.standing.Rest.TheVariants as rest
 use Rattle.lock_world.specs.declared.standing.Stage.TheVariants.{Outside}
 use Rattle.lock_world.specs.Accounts.{Account}
@@ -21,14 +21,14 @@ use Rattle.lock_table.specs.Stages.{stage_at, stage_after}
 use Rattle.lock_table.specs.Tables.{Table}
 use Rattle.lock_table.proofs.Past.{by_stage_or_past_at}
 use Rattle.lock_table.proofs.Views.{rest_seen, outside_stage}
-use Rattle.mutex_program.specs.declared.calls.End.{End}
-use Rattle.mutex_program.specs.declared.calls.End.TheVariants as «end»
-use Rattle.mutex_program.specs.declared.program.Next.TheVariants as next
-use Rattle.mutex_program.specs.declared.program.Place.{Place}
-use Rattle.mutex_program.specs.declared.program.Place.TheVariants as place
+use Rattle.lock_program.specs.declared.end.End.{End}
+use Rattle.lock_program.specs.declared.end.End.TheVariants as «end»
+use Rattle.mutex_program.specs.declared.led.Next.TheVariants as next
+use Rattle.lock_program.specs.declared.mutex.Place.{Place}
+use Rattle.lock_program.specs.declared.mutex.Place.TheVariants as place
 use Rattle.mutex_machine.specs.Acts.{IsMutex, IsStarved, starved}
 use Rattle.mutex_machine.specs.Courses.{is_waiting}
-use Rattle.mutex_program.specs.Roles.{bit, holds, listed}
+use Rattle.lock_program.specs.MutexRoles.{bit, holds, listed}
 use Rattle.mutex_machine.specs.Solo.{IsCalled, Took, StandsBack, GaveWay, PollsAlone}
 use Rattle.mutex_machine.specs.State.{is_counted}
 use Rattle.mutex_machine.proofs.solo_polls.Parts.{gave_way}

@@ -27,17 +27,17 @@ use Rattle.lock_table.specs.Stages.{stage_at}
 use Rattle.lock_table.specs.Tables.{Table}
 use Rattle.lock_table.proofs.Past.{by_stage_or_past_at}
 use Rattle.lock_table.proofs.Views.{outside_stage}
-use Rattle.mutex_program.specs.declared.calls.End.TheVariants as «end»
-use Rattle.mutex_program.specs.declared.calls.LockCall.TheVariants as lock_call
-use Rattle.mutex_program.specs.declared.program.Action.TheVariants as act
-use Rattle.mutex_program.specs.declared.program.Found.{Found}
-use Rattle.mutex_program.specs.declared.program.Found.TheVariants.{Done, Free, Held, SomeStarved, Yes, No}
-use Rattle.mutex_program.specs.declared.program.Next.{Next}
-use Rattle.mutex_program.specs.declared.program.Next.TheVariants as next
-use Rattle.mutex_program.specs.declared.program.Place.{Place}
-use Rattle.mutex_program.specs.declared.program.Place.TheVariants as place
+use Rattle.lock_program.specs.declared.end.End.TheVariants as «end»
+use Rattle.lock_program.specs.declared.mutex.LockCall.TheVariants as lock_call
+use Rattle.lock_program.specs.declared.mutex.Action.TheVariants as act
+use Rattle.lock_program.specs.declared.mutex.Found.{Found}
+use Rattle.lock_program.specs.declared.mutex.Found.TheVariants.{Done, Free, Held, SomeStarved, Yes, No}
+use Rattle.mutex_program.specs.declared.led.Next.{Next}
+use Rattle.mutex_program.specs.declared.led.Next.TheVariants as next
+use Rattle.lock_program.specs.declared.mutex.Place.{Place}
+use Rattle.lock_program.specs.declared.mutex.Place.TheVariants as place
 use Rattle.mutex_program.specs.Program.{start_of, action_of, next_of, place_after}
-use Rattle.mutex_program.specs.Roles.{bit, holds, counted, listed}
+use Rattle.lock_program.specs.MutexRoles.{bit, holds, counted, listed}
 use Rattle.mutex_machine.specs.Acts.{Acts, Finds, IsMutex, IsStarved, holders, starved}
 use Rattle.mutex_machine.specs.Courses.{is_waiting}
 use Rattle.mutex_machine.specs.Machine.{Lock, place_at}

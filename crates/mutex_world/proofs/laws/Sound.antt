@@ -20,12 +20,12 @@ use Rattle.lock_table.specs.Tables.{Table}
 use Rattle.lock_table.proofs.Lending.{lent_seen}
 use Rattle.lock_table.proofs.Past.{by_stage_or_past_at}
 use Rattle.lock_table.proofs.Views.{rest_seen, outside_at}
-use Rattle.mutex_program.specs.declared.program.Place.{Place}
-use Rattle.mutex_program.specs.declared.program.Place.TheVariants as place
+use Rattle.lock_program.specs.declared.mutex.Place.{Place}
+use Rattle.lock_program.specs.declared.mutex.Place.TheVariants as place
 use Rattle.mutex_machine.specs.Acts as lock
 use Rattle.mutex_machine.specs.Acts.{IsMutex}
 use Rattle.mutex_machine.specs.Machine.{place_at}
-use Rattle.mutex_program.specs.Roles.{counted, listed, is_resting}
+use Rattle.lock_program.specs.MutexRoles.{counted, listed, is_resting}
 use Rattle.mutex_machine.specs.State.{is_counted}
 use Rattle.mutex_machine.proofs.laws.CanDo.{once}
 use Rattle.mutex_machine.proofs.laws.Seen as sees

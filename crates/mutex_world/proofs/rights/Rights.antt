@@ -9,7 +9,7 @@ use Rattle.lock_world.specs.declared.moves.Inputs.{Inputs}
 use Rattle.lock_world.specs.declared.moves.Move.{Move}
 use Rattle.lock_world.specs.declared.moves.What.{What}
 use Rattle.lock_world.specs.declared.moves.What.TheVariants.{Begin, Go}
-use Rattle.lock_world.specs.declared.refusal.Refusal.TheVariants as refusal
+use Rattle.lock_program.specs.declared.refusal.Refusal.TheVariants as refusal
 use Rattle.lock_world.specs.declared.standing.Kind.{Kind}
 use Rattle.lock_world.specs.declared.standing.Kind.TheVariants as kind
 use Rattle.lock_world.specs.declared.standing.Rest.{Rest}
@@ -29,13 +29,13 @@ use Rattle.lock_table.specs.Tables.{Table, Acted}
 use Rattle.lock_table.proofs.Acting.{stands}
 use Rattle.lock_table.proofs.Rights.{tells_on, idle_account, again_account}
 use Rattle.lock_table.proofs.Ways.{way, by_way}
-use Rattle.mutex_program.specs.declared.calls.End.TheVariants as «end»
-use Rattle.mutex_program.specs.declared.program.Found.{Found}
-use Rattle.mutex_program.specs.declared.calls.LockCall.TheVariants as lock_call
-use Rattle.mutex_program.specs.declared.program.Next.{Next}
-use Rattle.mutex_program.specs.declared.program.Next.TheVariants as next
-use Rattle.mutex_program.specs.declared.program.Place.{Place}
-use Rattle.mutex_program.specs.declared.program.Place.TheVariants.{Out, Enter, Try, Ask, AskStarved}
+use Rattle.lock_program.specs.declared.end.End.TheVariants as «end»
+use Rattle.lock_program.specs.declared.mutex.Found.{Found}
+use Rattle.lock_program.specs.declared.mutex.LockCall.TheVariants as lock_call
+use Rattle.mutex_program.specs.declared.led.Next.{Next}
+use Rattle.mutex_program.specs.declared.led.Next.TheVariants as next
+use Rattle.lock_program.specs.declared.mutex.Place.{Place}
+use Rattle.lock_program.specs.declared.mutex.Place.TheVariants.{Out, Enter, Try, Ask, AskStarved}
 use Rattle.mutex_machine.specs.Acts.{IsMutex}
 use Rattle.mutex_machine.specs.Courses.{Takes, Tries, Cancels, GoesOn}
 use Rattle.mutex_program.specs.Program.{next_of}

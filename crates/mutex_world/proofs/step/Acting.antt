@@ -8,13 +8,13 @@ use Rattle.lock_world.specs.declared.moves.Answer.{Answer}
 use Rattle.lock_world.specs.declared.moves.Answer.TheVariants as answer
 use Rattle.lock_world.specs.declared.moves.Got.TheVariants.{Value}
 use Rattle.lock_world.specs.declared.moves.Move.{Move}
-use Rattle.lock_world.specs.declared.refusal.Refusal.{Refusal}
-use Rattle.lock_world.specs.declared.refusal.Refusal.TheVariants as refusal
+use Rattle.lock_program.specs.declared.refusal.Refusal.{Refusal}
+use Rattle.lock_program.specs.declared.refusal.Refusal.TheVariants as refusal
 use Rattle.lock_world.specs.declared.standing.Rest.TheVariants as rest
 use Rattle.lock_world.specs.declared.standing.Stage.{Stage}
 use Rattle.lock_world.specs.declared.standing.Within.{Within}
 use Rattle.lock_world.specs.Frame.{is_drop, is_refusal, is_poll_after_ready, put_in}
-use Rattle.lock_world.specs.Refusals.{number_of}
+use Rattle.lock_program.specs.Refusals.{number_of}
 use Rattle.lock_world.specs.Rosters.{how_many, is_on}
 use Rattle.lock_world.specs.Standings.{inside, inputs_of, call_in, is_possible, is_stepped, may_end, is_decided, decision as decided_on, refused, IsUndecided}
 use Rattle.lock_world.specs.Steps.{Deed, nothing, changes, does, joins, asks, leaves, notifies, notifies_additionally}
@@ -23,19 +23,19 @@ use Rattle.lock_table.specs.Stages.{stage_at, stands_as, call_at, polls_again, s
 use Rattle.lock_table.specs.Tables.{Table}
 use Rattle.lock_table.proofs.Acting as acting
 use Rattle.lock_table.proofs.Calls.{decided_after, call_seen, again_seen, stands_seen}
-use Rattle.mutex_program.specs.declared.calls.End.{End}
-use Rattle.mutex_program.specs.declared.calls.End.TheVariants as «end»
-use Rattle.mutex_program.specs.declared.program.Next.{Next}
-use Rattle.mutex_program.specs.declared.program.Next.TheVariants as next
-use Rattle.mutex_program.specs.declared.program.Place.{Place}
-use Rattle.mutex_program.specs.declared.program.Place.TheVariants as place
-use Rattle.mutex_program.specs.declared.program.Place.TheVariants.{Out}
+use Rattle.lock_program.specs.declared.end.End.{End}
+use Rattle.lock_program.specs.declared.end.End.TheVariants as «end»
+use Rattle.mutex_program.specs.declared.led.Next.{Next}
+use Rattle.mutex_program.specs.declared.led.Next.TheVariants as next
+use Rattle.lock_program.specs.declared.mutex.Place.{Place}
+use Rattle.lock_program.specs.declared.mutex.Place.TheVariants as place
+use Rattle.lock_program.specs.declared.mutex.Place.TheVariants.{Out}
 use Rattle.mutex_program.specs.Program.{place_after}
 use Rattle.mutex_machine.specs.Machine.{Lock, place_at}
 use Rattle.mutex_machine.specs.Acts.{IsMutex, starved}
 use Rattle.mutex_machine.specs.Deeds as lock
 use Rattle.mutex_machine.specs.Legal.{decision, decided_then, IsReason, IsAllowed, IsLegal}
-use Rattle.mutex_program.specs.Roles.{counted, listed}
+use Rattle.lock_program.specs.MutexRoles.{counted, listed}
 use Rattle.mutex_machine.specs.State.{holder_of, starved_of, is_counted}
 use Rattle.mutex_machine.proofs.legal.Promised.{begins_unrefused}
 use Rattle.mutex_machine.proofs.laws.Seen as sees
@@ -111,6 +111,8 @@ said_so true v (next.End «end».Got) o = refl
 said_so false v (next.End «end».Got) o = refl
 said_so trying v (next.End «end».Pending) o = refl
 said_so trying v (next.End «end».NotFree) o = refl
+said_so trying v (next.End «end».Granted) o = refl
+said_so trying v (next.End «end».Waiting) o = refl
 said_so trying v (next.End «end».GivenBack) o = refl
 said_so trying v (next.End («end».Refused r)) o = refl
 
@@ -127,6 +129,8 @@ ended_as true v «end».Got b is = subst (AsEnd v «end».Got) (sym is) (refl, r
 ended_as false v «end».Got b is = subst (AsEnd v «end».Got) (sym is) (refl, refl)
 ended_as trying v «end».Pending b is = subst (AsEnd v «end».Pending) (sym is) refl
 ended_as trying v «end».NotFree b is = subst (AsEnd v «end».NotFree) (sym is) tt
+ended_as trying v «end».Granted b is = subst (AsEnd v «end».Granted) (sym is) tt
+ended_as trying v «end».Waiting b is = subst (AsEnd v «end».Waiting) (sym is) tt
 ended_as trying v «end».GivenBack b is = subst (AsEnd v «end».GivenBack) (sym is) tt
 ended_as trying v («end».Refused r) b is = subst (AsEnd v («end».Refused r)) (sym is) (r, refl, refl)
 
@@ -141,6 +145,8 @@ refused_out true v from (next.End «end».Got) h = absurd (cc (h))
 refused_out false v from (next.End «end».Got) h = absurd (cc (h))
 refused_out trying v from (next.End «end».Pending) h = absurd (cc (h))
 refused_out trying v from (next.End «end».NotFree) h = absurd (cc (h))
+refused_out trying v from (next.End «end».Granted) h = absurd (cc (h))
+refused_out trying v from (next.End «end».Waiting) h = absurd (cc (h))
 refused_out trying v from (next.End «end».GivenBack) h = absurd (cc (h))
 refused_out trying v from (next.End («end».Refused r)) h = refl
 
@@ -150,6 +156,8 @@ possible_by true v (next.End «end».Got) = refl
 possible_by false v (next.End «end».Got) = refl
 possible_by trying v (next.End «end».Pending) = refl
 possible_by trying v (next.End «end».NotFree) = refl
+possible_by trying v (next.End «end».Granted) = refl
+possible_by trying v (next.End «end».Waiting) = refl
 possible_by trying v (next.End «end».GivenBack) = refl
 possible_by trying v (next.End («end».Refused r)) = refl
 

@@ -24,17 +24,17 @@ use Rattle.lock_world.specs.Steps.{changes, asked}
 use Rattle.lock_table.specs.Stages.{stage_at, stands_as}
 use Rattle.lock_table.specs.Tables.{Table}
 use Rattle.lock_table.proofs.Views.{outside_stage}
-use Rattle.mutex_program.specs.declared.program.Action.TheVariants as act
-use Rattle.mutex_program.specs.declared.program.Found.{Found}
-use Rattle.mutex_program.specs.declared.program.Found.TheVariants.{Free, Held, SomeStarved, Yes, No}
-use Rattle.mutex_program.specs.declared.program.Place.{Place}
-use Rattle.mutex_program.specs.declared.program.Place.TheVariants.{Out, Enter, Try, Clear, Ask, AskStarved, ReleaseNotify}
+use Rattle.lock_program.specs.declared.mutex.Action.TheVariants as act
+use Rattle.lock_program.specs.declared.mutex.Found.{Found}
+use Rattle.lock_program.specs.declared.mutex.Found.TheVariants.{Free, Held, SomeStarved, Yes, No}
+use Rattle.lock_program.specs.declared.mutex.Place.{Place}
+use Rattle.lock_program.specs.declared.mutex.Place.TheVariants.{Out, Enter, Try, Clear, Ask, AskStarved, ReleaseNotify}
 use Rattle.mutex_machine.specs.Acts.{Finds, holders, starved}
 use Rattle.mutex_machine.specs.Machine.{Lock, SameRoles, place_at}
 use Rattle.mutex_machine.specs.Parties.{OnParties}
 use Rattle.mutex_machine.specs.State.{is_holder, is_counted, holder_from}
 use Rattle.mutex_program.specs.Program.{action_of, next_of, place_after}
-use Rattle.mutex_program.specs.Roles.{bit, holds}
+use Rattle.lock_program.specs.MutexRoles.{bit, holds}
 use Rattle.mutex_machine.proofs.legal.Legal.{entered}
 use Rattle.mutex_machine.proofs.laws.Seen as sees
 use Rattle.mutex_world.specs.Guarded.{Guarded, place_of, answer_by, is_try_kind}

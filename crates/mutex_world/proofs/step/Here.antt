@@ -13,17 +13,17 @@ use Rattle.lock_world.specs.Frame.{is_drop, put_in}
 use Rattle.lock_world.specs.Standings.{Standing, inside, is_decided}
 use Rattle.lock_world.proofs.Equations.{some_eq, not_one}
 use Rattle.lock_table.specs.Stages.{stands_as, call_at, polls_again}
-use Rattle.mutex_program.specs.declared.calls.End.{End}
-use Rattle.mutex_program.specs.declared.calls.End.TheVariants as «end»
-use Rattle.mutex_program.specs.declared.calls.LockCall.{LockCall}
-use Rattle.mutex_program.specs.declared.calls.LockCall.TheVariants as lock_call
-use Rattle.mutex_program.specs.declared.program.Place.{Place}
-use Rattle.mutex_program.specs.declared.program.Place.TheVariants.{Enter, Try, Clear, Ask, AskStarved, ReleaseNotify}
+use Rattle.lock_program.specs.declared.end.End.{End}
+use Rattle.lock_program.specs.declared.end.End.TheVariants as «end»
+use Rattle.lock_program.specs.declared.mutex.LockCall.{LockCall}
+use Rattle.lock_program.specs.declared.mutex.LockCall.TheVariants as lock_call
+use Rattle.lock_program.specs.declared.mutex.Place.{Place}
+use Rattle.lock_program.specs.declared.mutex.Place.TheVariants.{Enter, Try, Clear, Ask, AskStarved, ReleaseNotify}
 use Rattle.mutex_machine.specs.Legal.{decision}
 use Rattle.mutex_machine.specs.Courses.{is_releasing}
 use Rattle.mutex_machine.specs.Machine.{SameRoles}
 use Rattle.mutex_program.specs.Program.{start_of}
-use Rattle.mutex_program.specs.Roles.{listed}
+use Rattle.lock_program.specs.MutexRoles.{listed}
 use Rattle.mutex_machine.proofs.laws.Starts.{start_same}
 use Rattle.mutex_world.specs.Guarded.{knows, goes_with, is_within, is_try_kind}
 use Rattle.mutex_world.specs.Legal.{is_try, is_first_poll, is_later_poll}

@@ -9,7 +9,7 @@ use Rattle.lock_world.specs.declared.moves.Got.TheVariants.{Value}
 use Rattle.lock_world.specs.declared.moves.Inputs.{Inputs}
 use Rattle.lock_world.specs.declared.moves.Move.{Move}
 use Rattle.lock_world.specs.declared.moves.What.TheVariants.{Begin}
-use Rattle.lock_world.specs.declared.refusal.Refusal.TheVariants as refusal
+use Rattle.lock_program.specs.declared.refusal.Refusal.TheVariants as refusal
 use Rattle.lock_world.specs.declared.standing.Kind.TheVariants as kind
 use Rattle.lock_world.specs.declared.standing.Rest.TheVariants as rest
 use Rattle.lock_world.specs.declared.standing.Stage.TheVariants.{Outside}
@@ -22,7 +22,7 @@ use Rattle.lock_table.specs.Tables.{Table}
 use Rattle.lock_table.proofs.Acting as acting
 use Rattle.lock_table.proofs.Views.{length-standings}
 use Rattle.mutex_machine.specs.Acts.{IsMutex}
-use Rattle.mutex_program.specs.Roles.{bit, holds}
+use Rattle.lock_program.specs.MutexRoles.{bit, holds}
 use Rattle.mutex_machine.specs.State.{is_holder}
 use Rattle.mutex_machine.proofs.laws.Seen as sees
 use Rattle.mutex_world.specs.Guarded.{Guarded, knows, place_of, with_value}

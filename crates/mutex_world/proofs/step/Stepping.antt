@@ -19,7 +19,7 @@ use Rattle.lock_table.specs.Tables.{Table, Acted}
 use Rattle.lock_table.proofs.Calls.{call_seen, again_seen}
 use Rattle.lock_table.proofs.Mapped.{set_same}
 use Rattle.lock_table.proofs.Ways.{way, by_way}
-use Rattle.mutex_program.specs.declared.program.Place.{Place}
+use Rattle.lock_program.specs.declared.mutex.Place.{Place}
 use Rattle.mutex_machine.specs.Acts.{IsMutex}
 use Rattle.mutex_world.specs.Guarded.{Guarded, knows, Moves, MovesBy, Carries, with_value, place_of}
 use Rattle.mutex_world.specs.Legal.{call_of}

@@ -8,9 +8,9 @@ use Rattle.lock_world.specs.Frame.{put_in}
 use Rattle.lock_world.proofs.Equations.{some_eq}
 use Rattle.lock_table.specs.Stages.{stage_after}
 use Rattle.lock_table.specs.Tables.{Keeps, Called}
-use Rattle.mutex_program.specs.declared.program.Place.{Place}
-use Rattle.mutex_program.specs.declared.program.Place.TheVariants.{Out}
-use Rattle.mutex_program.specs.declared.program.Next.{Next}
+use Rattle.lock_program.specs.declared.mutex.Place.{Place}
+use Rattle.lock_program.specs.declared.mutex.Place.TheVariants.{Out}
+use Rattle.mutex_program.specs.declared.led.Next.{Next}
 use Rattle.mutex_program.specs.Program.{next_of, place_after}
 use Rattle.mutex_machine.specs.Machine.{place_at}
 use Rattle.mutex_world.specs.Guarded.{Guarded, knows, Stands, place_of, goes_with, Carries}

@@ -7,10 +7,10 @@ use Rattle.lock_world.specs.declared.moves.What.TheVariants.{Begin, Go}
 use Rattle.lock_world.specs.declared.standing.Rest.{Rest}
 use Rattle.lock_world.specs.Standings.{inputs_of}
 use Rattle.lock_world.proofs.Equations.{is_some_and, some_eq, witness}
-use Rattle.mutex_program.specs.declared.calls.End.{End as LockEnd}
-use Rattle.mutex_program.specs.declared.calls.LockCall.{LockCall}
-use Rattle.mutex_program.specs.declared.program.Next.{Next}
-use Rattle.mutex_program.specs.declared.program.Place.{Place}
+use Rattle.lock_program.specs.declared.end.End.{End as LockEnd}
+use Rattle.lock_program.specs.declared.mutex.LockCall.{LockCall}
+use Rattle.mutex_program.specs.declared.led.Next.{Next}
+use Rattle.lock_program.specs.declared.mutex.Place.{Place}
 use Rattle.mutex_machine.specs.Acts.{Acts}
 use Rattle.mutex_machine.specs.Courses.{HeedsClock}
 use Rattle.mutex_machine.specs.Deeds.{decided_by}

@@ -3,7 +3,7 @@ use Rattle.std.proofs.Common.{◌≡◌, ℕ, ◌+◌, zero, suc, replicate, Non
 use Rattle.lock_table.specs.Tables.{new_table}
 use Rattle.lock_table.proofs.Mapped.{mapped_alike}
 use Rattle.lock_table.proofs.Views.{all_idle}
-use Rattle.mutex_program.specs.declared.program.Place.TheVariants.{Out}
+use Rattle.lock_program.specs.declared.mutex.Place.TheVariants.{Out}
 use Rattle.mutex_machine.specs.State.{is_counted, holder_from}
 use Rattle.mutex_world.specs.Guarded.{new_guarded}
 use Rattle.mutex_world.specs.State.{new_world}

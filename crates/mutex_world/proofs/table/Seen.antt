@@ -5,11 +5,11 @@ use Rattle.lock_world.proofs.Equations.{some_eq}
 use Rattle.lock_table.specs.Stages.{stage_at, stands_as}
 use Rattle.lock_table.specs.Tables.{Table}
 use Rattle.lock_table.proofs.Acting.{stood}
-use Rattle.mutex_program.specs.declared.calls.End.TheVariants as «end»
-use Rattle.mutex_program.specs.declared.program.Place.{Place}
-use Rattle.mutex_program.specs.declared.program.Place.TheVariants as place
+use Rattle.lock_program.specs.declared.end.End.TheVariants as «end»
+use Rattle.lock_program.specs.declared.mutex.Place.{Place}
+use Rattle.lock_program.specs.declared.mutex.Place.TheVariants as place
 use Rattle.mutex_machine.specs.Legal.{decision}
-use Rattle.mutex_program.specs.Roles.{holds, listed}
+use Rattle.lock_program.specs.MutexRoles.{holds, listed}
 use Rattle.mutex_world.specs.Guarded.{Guarded}
 use Rattle.mutex_world.specs.State.{standing_of}
 use Rattle.mutex_world.specs.View.{answer_on, verdict, view_of}

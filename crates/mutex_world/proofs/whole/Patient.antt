@@ -3,18 +3,18 @@ use Rattle.std.proofs.Common.{◌≡◌, ℕ, ◌==◌, Bool, true, false, Optio
 use Rattle.std.proofs.lemmas.Bool.{true≢false}
 use Rattle.lock_world.specs.declared.moves.Answer.{Answer}
 use Rattle.lock_world.specs.declared.moves.Answer.TheVariants as answer
-use Rattle.lock_world.specs.declared.refusal.Refusal.TheVariants as refusal
-use Rattle.lock_world.specs.Refusals.{number_of}
-use Rattle.mutex_program.specs.declared.calls.End.{End}
-use Rattle.mutex_program.specs.declared.calls.End.TheVariants as «end»
-use Rattle.mutex_program.specs.declared.calls.LockCall.{LockCall}
-use Rattle.mutex_program.specs.declared.calls.LockCall.TheVariants as call
-use Rattle.mutex_program.specs.declared.program.Found.{Found}
-use Rattle.mutex_program.specs.declared.program.Found.TheVariants.{Done, Free, Held, Yes}
-use Rattle.mutex_program.specs.declared.program.Next.{Next}
-use Rattle.mutex_program.specs.declared.program.Next.TheVariants as next
-use Rattle.mutex_program.specs.declared.program.Place.{Place}
-use Rattle.mutex_program.specs.declared.program.Place.TheVariants.{Out, Holding, Enter, Try, Clear, CancelUncount, CancelLeave, Join, Look, Ask, Retry, PassOn, Count, JoinStarved, LookAlone, PassOnListed, AskStarved, Seize, Uncount, Leave, RefuseUncount, RefuseLeave, RefuseNotifyMemory, RefuseNotifyStarved, ReleaseNotify}
+use Rattle.lock_program.specs.declared.refusal.Refusal.TheVariants as refusal
+use Rattle.lock_program.specs.Refusals.{number_of}
+use Rattle.lock_program.specs.declared.end.End.{End}
+use Rattle.lock_program.specs.declared.end.End.TheVariants as «end»
+use Rattle.lock_program.specs.declared.mutex.LockCall.{LockCall}
+use Rattle.lock_program.specs.declared.mutex.LockCall.TheVariants as call
+use Rattle.lock_program.specs.declared.mutex.Found.{Found}
+use Rattle.lock_program.specs.declared.mutex.Found.TheVariants.{Done, Free, Held, Yes}
+use Rattle.mutex_program.specs.declared.led.Next.{Next}
+use Rattle.mutex_program.specs.declared.led.Next.TheVariants as next
+use Rattle.lock_program.specs.declared.mutex.Place.{Place}
+use Rattle.lock_program.specs.declared.mutex.Place.TheVariants.{Out, Holding, Enter, Try, Clear, CancelUncount, CancelLeave, Join, Look, Ask, Retry, PassOn, Count, JoinStarved, LookAlone, PassOnListed, AskStarved, Seize, Uncount, Leave, RefuseUncount, RefuseLeave, RefuseNotifyMemory, RefuseNotifyStarved, ReleaseNotify}
 use Rattle.mutex_program.specs.Program.{start_of, next_of, place_after}
 use Rattle.mutex_machine.specs.Courses.{is_counting}
 use Rattle.mutex_machine.specs.Deeds.{decided_by as by_call}
@@ -92,6 +92,8 @@ stays_calm true v from (next.End «end».Got) d = record { going = λ e. absurd 
 stays_calm false v from (next.End «end».Got) d = record { going = λ e. absurd (cc (e)); answered = refl }
 stays_calm trying v from (next.End «end».Pending) d = record { going = λ e. absurd (cc (e)); answered = refl }
 stays_calm trying v from (next.End «end».NotFree) d = record { going = λ e. absurd (cc (e)); answered = refl }
+stays_calm trying v from (next.End «end».Granted) d = record { going = λ e. absurd (cc (e)); answered = refl }
+stays_calm trying v from (next.End «end».Waiting) d = record { going = λ e. absurd (cc (e)); answered = refl }
 stays_calm trying v from (next.End «end».GivenBack) d = record { going = λ e. absurd (cc (e)); answered = refl }
 stays_calm trying v from (next.End («end».Refused refusal.Starved)) d = absurd (true≢false d)
 stays_calm trying v from (next.End («end».Refused _)) d = record { going = λ e. absurd (cc (e)); answered = refl }

@@ -20,7 +20,7 @@ use Rattle.lock_world.specs.declared.standing.Stage.TheVariants.{Outside}
 use Rattle.lock_world.specs.declared.standing.Within.{Within}
 use Rattle.lock_world.specs.Accounts.{Account, accounts_after}
 use Rattle.lock_world.specs.Frame.{is_refusal}
-use Rattle.lock_world.specs.declared.refusal.Refusal.TheVariants as refusal
+use Rattle.lock_program.specs.declared.refusal.Refusal.TheVariants as refusal
 use Rattle.lock_world.specs.Rosters.{how_many}
 use Rattle.lock_world.specs.Standings.{outside, inputs_of, refused}
 use Rattle.lock_world.specs.Whole.{going_on, moves_of, answers_of}
@@ -30,10 +30,10 @@ use Rattle.lock_frame.proofs.Runs.{along, at_first, Onward}
 use Rattle.lock_table.specs.Stages.{stage_at, call_at}
 use Rattle.lock_table.specs.Tables.{Table}
 use Rattle.lock_table.proofs.Views.{outside_stage}
-use Rattle.mutex_program.specs.declared.calls.End.TheVariants as «end»
-use Rattle.mutex_program.specs.declared.program.Next.{Next}
-use Rattle.mutex_program.specs.declared.program.Next.TheVariants as next
-use Rattle.mutex_program.specs.declared.program.Place.{Place}
+use Rattle.lock_program.specs.declared.end.End.TheVariants as «end»
+use Rattle.mutex_program.specs.declared.led.Next.{Next}
+use Rattle.mutex_program.specs.declared.led.Next.TheVariants as next
+use Rattle.lock_program.specs.declared.mutex.Place.{Place}
 use Rattle.mutex_machine.specs.Acts.{starved}
 use Rattle.mutex_machine.specs.Courses.{is_waiting, is_counting, is_told, HeedsClock}
 use Rattle.mutex_machine.specs.Legal.{decision}
@@ -127,6 +127,8 @@ module _ (p : ℕ) (i : Inputs) where
   on_by false n (next.End «end».Got) at l a e h = ((λ s. absurd (cc)), (λ r. absurd (cc (sym (ap is_refusal e) ∙ r))))
   on_by trying n (next.End «end».Pending) at l a e h = ((λ s. absurd (cc)), (λ r. absurd (cc (sym (ap is_refusal e) ∙ r))))
   on_by trying n (next.End «end».NotFree) at l a e h = ((λ s. absurd (cc)), (λ r. absurd (cc (sym (ap is_refusal e) ∙ r))))
+  on_by trying n (next.End «end».Granted) at l a e h = ((λ s. absurd (cc)), (λ r. absurd (cc (sym (ap is_refusal e) ∙ r))))
+  on_by trying n (next.End «end».Waiting) at l a e h = ((λ s. absurd (cc)), (λ r. absurd (cc (sym (ap is_refusal e) ∙ r))))
   on_by trying n (next.End «end».GivenBack) at l a e h = ((λ s. absurd (cc)), (λ r. absurd (cc (sym (ap is_refusal e) ∙ r))))
   on_by trying n (next.End («end».Refused r)) at l a e h = ((λ s. absurd (cc)), (λ _. h))
 

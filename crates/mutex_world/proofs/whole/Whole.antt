@@ -9,7 +9,7 @@ use Rattle.lock_world.specs.declared.moves.Inputs.{Inputs}
 use Rattle.lock_world.specs.declared.moves.Move.{Move}
 use Rattle.lock_world.specs.declared.moves.What.{What}
 use Rattle.lock_world.specs.declared.moves.What.TheVariants.{Begin, Go}
-use Rattle.lock_world.specs.declared.refusal.Refusal.TheVariants.{Finished}
+use Rattle.lock_program.specs.declared.refusal.Refusal.TheVariants.{Finished}
 use Rattle.lock_world.specs.declared.standing.Rest.TheVariants as rest
 use Rattle.lock_world.specs.declared.standing.Stage.{Stage}
 use Rattle.lock_world.specs.declared.standing.Within.{Within}
@@ -21,11 +21,11 @@ use Rattle.lock_frame.specs.Steps.{beginning, left_by}
 use Rattle.lock_table.specs.Stages.{stage_at, call_at, polls_again}
 use Rattle.lock_table.specs.Tables.{Table, Acted}
 use Rattle.lock_table.proofs.Ways.{way, by_way}
-use Rattle.mutex_program.specs.declared.calls.End.TheVariants as «end»
-use Rattle.mutex_program.specs.declared.program.Next.{Next}
-use Rattle.mutex_program.specs.declared.program.Next.TheVariants as next
-use Rattle.mutex_program.specs.declared.program.Place.{Place}
-use Rattle.mutex_program.specs.declared.program.Place.TheVariants.{Ask, AskStarved}
+use Rattle.lock_program.specs.declared.end.End.TheVariants as «end»
+use Rattle.mutex_program.specs.declared.led.Next.{Next}
+use Rattle.mutex_program.specs.declared.led.Next.TheVariants as next
+use Rattle.lock_program.specs.declared.mutex.Place.{Place}
+use Rattle.lock_program.specs.declared.mutex.Place.TheVariants.{Ask, AskStarved}
 use Rattle.mutex_machine.specs.Acts.{IsMutex}
 use Rattle.mutex_machine.specs.Machine.{Lock}
 use Rattle.mutex_machine.specs.Ranks.{left, steps_left, left_after, is_own_marked, is_open}
@@ -76,6 +76,8 @@ left_said true v (next.End «end».Got) l p = refl
 left_said false v (next.End «end».Got) l p = refl
 left_said trying v (next.End «end».Pending) l p = refl
 left_said trying v (next.End «end».NotFree) l p = refl
+left_said trying v (next.End «end».Granted) l p = refl
+left_said trying v (next.End «end».Waiting) l p = refl
 left_said trying v (next.End «end».GivenBack) l p = refl
 left_said trying v (next.End («end».Refused r)) l p = refl
 

@@ -6,13 +6,13 @@ use Rattle.lock_world.specs.declared.moves.Call.{Call}
 use Rattle.lock_world.specs.declared.moves.Call.TheVariants as call
 use Rattle.lock_world.proofs.Equations.{some_eq, none_some}
 use Rattle.mutex_machine.specs.Mutex.{steps_left as turn_steps_left}
-use Rattle.rwlock_program.specs.declared.program.Wanted.TheVariants as wanted
-use Rattle.rwlock_program.specs.declared.program.Purpose.TheVariants as purpose
-use Rattle.rwlock_program.specs.declared.program.Place.{Place}
-use Rattle.rwlock_program.specs.declared.program.Place.TheVariants.{Out, Made, Reading, Upgradable, Writing, JoinNoWriter, AskNoWriter, WaitTurn, JoinNoReaders, AwaitNoReaders, LookUnlisted}
-use Rattle.rwlock_program.specs.declared.program.Action.TheVariants as act
-use Rattle.rwlock_program.specs.declared.program.Next.{Next}
-use Rattle.rwlock_program.specs.declared.program.Next.TheVariants as next
+use Rattle.lock_program.specs.declared.rwlock.Wanted.TheVariants as wanted
+use Rattle.lock_program.specs.declared.rwlock.Purpose.TheVariants as purpose
+use Rattle.lock_program.specs.declared.rwlock.Place.{Place}
+use Rattle.lock_program.specs.declared.rwlock.Place.TheVariants.{Out, Made, Reading, Upgradable, Writing, JoinNoWriter, AskNoWriter, WaitTurn, JoinNoReaders, AwaitNoReaders, LookUnlisted}
+use Rattle.lock_program.specs.declared.rwlock.Action.TheVariants as act
+use Rattle.rwlock_program.specs.declared.led.Next.{Next}
+use Rattle.rwlock_program.specs.declared.led.Next.TheVariants as next
 use Rattle.rwlock_program.specs.Program.{action_of, place_after, start_of}
 use Rattle.rwlock_machine.specs.Roles.{in_no_writer, in_no_readers}
 use Rattle.rwlock_machine.specs.Machine.{RwLock, SameRoles, place_at}

@@ -7,8 +7,8 @@ use Rattle.lock_queue.specs.Queues.{Queue}
 use Rattle.mutex_machine.specs.Mutex.{Mutex, course_at as turn_at}
 use Rattle.mutex_machine.proofs.callers.Callers.{may_lock, may_try, may_poll, may_cancel, may_release}
 use Rattle.rwlock_program.specs.declared.word.Word.{Word}
-use Rattle.rwlock_program.specs.declared.program.Place.{Place}
-use Rattle.rwlock_program.specs.declared.program.Place.TheVariants.{Out, JoinNoWriter, AskNoWriter, LeaveNoWriter, RefuseLeave, CancelRead, EnterTurn, WaitTurn, TakeTurn, TryTurn, CancelTurn, CancellingTurn, ReleaseTurn, ReleasingTurn, Upgrade, JoinNoReaders, AskNoReaders, LeaveNoReaders, DropRead, DropUpgradable, CancelAwait, Down}
+use Rattle.lock_program.specs.declared.rwlock.Place.{Place}
+use Rattle.lock_program.specs.declared.rwlock.Place.TheVariants.{Out, JoinNoWriter, AskNoWriter, LeaveNoWriter, RefuseLeave, CancelRead, EnterTurn, WaitTurn, TakeTurn, TryTurn, CancelTurn, CancellingTurn, ReleaseTurn, ReleasingTurn, Upgrade, JoinNoReaders, AskNoReaders, LeaveNoReaders, DropRead, DropUpgradable, CancelAwait, Down}
 use Rattle.rwlock_program.specs.Program.{action_of}
 use Rattle.rwlock_machine.specs.Roles.{reads, writes, in_no_writer, in_no_readers, fits_turn}
 use Rattle.rwlock_program.specs.Effects.{CanDo}

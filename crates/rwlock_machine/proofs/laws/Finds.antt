@@ -3,11 +3,11 @@ use Rattle.std.proofs.Common.{◌≡◌, ℕ, ◌<◌, Bool, true, false, List, 
 use Rattle.lock_queue.specs.Queues.{Queue}
 use Rattle.mutex_machine.specs.Mutex.{Mutex}
 use Rattle.rwlock_program.specs.declared.word.Word.{Word}
-use Rattle.rwlock_program.specs.declared.program.Place.{Place}
-use Rattle.rwlock_program.specs.declared.program.Action.{Action}
-use Rattle.rwlock_program.specs.declared.program.Action.TheVariants as act
-use Rattle.rwlock_program.specs.declared.program.Found.{Found}
-use Rattle.rwlock_program.specs.declared.program.Found.TheVariants.{Done, Writer, Full, NoneLeft, SomeLeft, NotFree, NoMemory, Yes, No, Turn}
+use Rattle.lock_program.specs.declared.rwlock.Place.{Place}
+use Rattle.lock_program.specs.declared.rwlock.Action.{Action}
+use Rattle.lock_program.specs.declared.rwlock.Action.TheVariants as act
+use Rattle.lock_program.specs.declared.rwlock.Found.{Found}
+use Rattle.lock_program.specs.declared.rwlock.Found.TheVariants.{Done, Writer, Full, NoneLeft, SomeLeft, NotFree, NoMemory, Yes, No, Turn}
 use Rattle.rwlock_machine.specs.Roles.{bit}
 use Rattle.rwlock_program.specs.Words.{OnWord}
 use Rattle.rwlock_program.specs.Parties.{FindsMemory, OnNoWriter, OnNoReaders}

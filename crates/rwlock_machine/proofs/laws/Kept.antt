@@ -6,11 +6,11 @@ use Rattle.lock_event.specs.Lists.{marked_count}
 use Rattle.lock_queue.specs.Debts.{IsOwed}
 use Rattle.lock_queue.proofs.Debts.{debt_kept}
 use Rattle.rwlock_program.specs.declared.word.Word.{Word}
-use Rattle.rwlock_program.specs.declared.program.Place.{Place}
-use Rattle.rwlock_program.specs.declared.program.Action.{Action}
-use Rattle.rwlock_program.specs.declared.program.Action.TheVariants as act
-use Rattle.rwlock_program.specs.declared.program.Found.{Found}
-use Rattle.rwlock_program.specs.declared.program.Found.TheVariants.{Done, Writer, Full, NoneLeft, SomeLeft, NotFree, Yes, No}
+use Rattle.lock_program.specs.declared.rwlock.Place.{Place}
+use Rattle.lock_program.specs.declared.rwlock.Action.{Action}
+use Rattle.lock_program.specs.declared.rwlock.Action.TheVariants as act
+use Rattle.lock_program.specs.declared.rwlock.Found.{Found}
+use Rattle.lock_program.specs.declared.rwlock.Found.TheVariants.{Done, Writer, Full, NoneLeft, SomeLeft, NotFree, Yes, No}
 use Rattle.rwlock_machine.specs.Roles.{bit, reads, marks, only_turns, writes, in_no_writer, waits_no_writer, owes_no_writer, in_no_readers, waits_no_readers, owes_no_readers}
 use Rattle.rwlock_program.specs.Words.{OnWord}
 use Rattle.rwlock_program.specs.Parties.{OnNoWriter, OnNoReaders}

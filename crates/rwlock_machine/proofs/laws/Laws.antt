@@ -9,8 +9,8 @@ use Rattle.mutex_machine.specs.Course.{Course as TurnCourse, listed, is_resting 
 use Rattle.mutex_machine.specs.Mutex.{Mutex, course_at as turn_at, IsMutex, IsAtRest as IsTurnAtRest}
 use Rattle.mutex_machine.proofs.callers.Callers.{out_rests, holding_rests, waiting_rests, out_unlisted, holding_unlisted, listed_once}
 use Rattle.rwlock_program.specs.declared.word.Word.{Word}
-use Rattle.rwlock_program.specs.declared.program.Place.{Place}
-use Rattle.rwlock_program.specs.declared.program.Place.TheVariants.{Out, Made, Reading, Upgradable, Writing, LookNoWriter, AskNoWriter, LeaveNoWriter, RefuseLeave, CancelRead, WaitTurn, LookNoReaders, AskNoReaders, AwaitNoReaders, LookUnlisted, LeaveNoReaders, CancelAwait}
+use Rattle.lock_program.specs.declared.rwlock.Place.{Place}
+use Rattle.lock_program.specs.declared.rwlock.Place.TheVariants.{Out, Made, Reading, Upgradable, Writing, LookNoWriter, AskNoWriter, LeaveNoWriter, RefuseLeave, CancelRead, WaitTurn, LookNoReaders, AskNoReaders, AwaitNoReaders, LookUnlisted, LeaveNoReaders, CancelAwait}
 use Rattle.rwlock_machine.specs.Roles.{bit, reads, marks, only_turns, writes, in_no_writer, in_no_readers, for_no_writer, for_no_readers, fits_turn, is_resting}
 use Rattle.rwlock_machine.specs.Machine.{RwLock, IsMachine, place_at}
 use Rattle.rwlock_machine.specs.Acts.{IsRwLock}

@@ -6,10 +6,10 @@ use Rattle.lock_queue.specs.Parties.{is_party, entries_of}
 use Rattle.lock_world.specs.Steps.{ListFunction, joins, asks, leaves, notifies, list_after}
 use Rattle.lock_world.proofs.Equations.{chosen}
 use Rattle.lock_world.proofs.Lists.{CanList, done, counted_by, own_by, others_by, notified_marked}
-use Rattle.rwlock_program.specs.declared.program.Action.{Action}
-use Rattle.rwlock_program.specs.declared.program.Action.TheVariants as act
-use Rattle.rwlock_program.specs.declared.program.Found.{Found}
-use Rattle.rwlock_program.specs.declared.program.Found.TheVariants.{Done, NoMemory, Yes, No}
+use Rattle.lock_program.specs.declared.rwlock.Action.{Action}
+use Rattle.lock_program.specs.declared.rwlock.Action.TheVariants as act
+use Rattle.lock_program.specs.declared.rwlock.Found.{Found}
+use Rattle.lock_program.specs.declared.rwlock.Found.TheVariants.{Done, NoMemory, Yes, No}
 use Rattle.rwlock_program.specs.Parties.{Joins, Asks, Leaves, Notifies, OnNoWriter, OnNoReaders}
 use Rattle.rwlock_machine.proofs.laws.Steps.{in_w, out_w, in_r, out_r, taken_w, taken_r}
 

@@ -8,9 +8,9 @@ use Rattle.lock_queue.specs.Parties.{entries_of}
 use Rattle.lock_queue.specs.Queues.{Queue}
 use Rattle.mutex_machine.specs.Mutex.{Mutex, course_at as turn_at, IsMutex}
 use Rattle.rwlock_program.specs.declared.word.Word.{Word}
-use Rattle.rwlock_program.specs.declared.program.Place.{Place}
-use Rattle.rwlock_program.specs.declared.program.Place.TheVariants.{Out}
-use Rattle.rwlock_program.specs.declared.program.Found.{Found}
+use Rattle.lock_program.specs.declared.rwlock.Place.{Place}
+use Rattle.lock_program.specs.declared.rwlock.Place.TheVariants.{Out}
+use Rattle.lock_program.specs.declared.rwlock.Found.{Found}
 use Rattle.rwlock_program.specs.Program.{action_of, next_of, place_after}
 use Rattle.rwlock_machine.specs.Roles.{reads, marks, only_turns, writes, in_no_writer, waits_no_writer, owes_no_writer, in_no_readers, waits_no_readers, owes_no_readers, fits_turn}
 use Rattle.rwlock_program.specs.Words.{OnWord}

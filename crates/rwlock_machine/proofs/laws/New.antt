@@ -5,7 +5,7 @@ use Rattle.lock_queue.specs.Queues.{queue}
 use Rattle.lock_world.proofs.Alike.{all_alike, none_of_all}
 use Rattle.mutex_machine.specs.Mutex.{new_mutex}
 use Rattle.mutex_machine.proofs.callers.Callers.{new_is_out, new_parties}
-use Rattle.rwlock_program.specs.declared.program.Place.TheVariants.{Out}
+use Rattle.lock_program.specs.declared.rwlock.Place.TheVariants.{Out}
 use Rattle.rwlock_machine.specs.Roles.{reads, marks, in_no_writer, waits_no_writer, in_no_readers, waits_no_readers}
 use Rattle.rwlock_program.specs.Words.{new_word}
 use Rattle.rwlock_machine.specs.Machine.{IsMachine}

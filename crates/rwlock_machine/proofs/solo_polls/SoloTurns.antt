@@ -3,26 +3,26 @@ use Rattle.std.proofs.Common.{◌≡◌, ℕ, ◌<◌, ◌⊎◌, zero, suc, inl
 use Rattle.std.proofs.Math.ListN.{set}
 use Rattle.std.specs.List.{sum_by}
 use Rattle.std.proofs.lemmas.List.Sums.{sum_by-set}
-use Rattle.lock_world.specs.declared.refusal.Refusal.TheVariants.{Starved}
-use Rattle.mutex_program.specs.declared.calls.LockCall.TheVariants as turn_call
-use Rattle.mutex_program.specs.declared.calls.Step.{Step as TurnStep}
-use Rattle.mutex_program.specs.declared.calls.Step.TheVariants as turn_step
-use Rattle.mutex_program.specs.declared.calls.End.{End as TurnEnd}
-use Rattle.mutex_program.specs.declared.calls.End.TheVariants as turn_end
+use Rattle.lock_program.specs.declared.refusal.Refusal.TheVariants.{Starved}
+use Rattle.lock_program.specs.declared.mutex.LockCall.TheVariants as turn_call
+use Rattle.lock_program.specs.declared.mutex.Step.{Step as TurnStep}
+use Rattle.lock_program.specs.declared.mutex.Step.TheVariants as turn_step
+use Rattle.lock_program.specs.declared.end.End.{End as TurnEnd}
+use Rattle.lock_program.specs.declared.end.End.TheVariants as turn_end
 use Rattle.mutex_machine.specs.Mutex.{Mutex, IsStarved, holders, starved}
 use Rattle.mutex_machine.specs.Alone as turn
 use Rattle.mutex_machine.proofs.callers.AloneSeen.{solo_polls as turn_law}
-use Rattle.rwlock_program.specs.declared.program.Purpose.{Purpose}
-use Rattle.rwlock_program.specs.declared.program.Purpose.TheVariants as purpose
-use Rattle.rwlock_program.specs.declared.program.Place.{Place}
-use Rattle.rwlock_program.specs.declared.program.Place.TheVariants.{Out, Upgradable, Writing, WaitTurn, TakeTurn, Add, Mark, JoinNoReaders, LookNoReaders, AskNoReaders, LookUnlisted, LeaveNoReaders}
-use Rattle.rwlock_program.specs.declared.program.Action.TheVariants as act
-use Rattle.rwlock_program.specs.declared.program.Found.{Found}
-use Rattle.rwlock_program.specs.declared.program.Found.TheVariants.{Done, Full, NoneLeft, NoMemory, Yes, Turn}
-use Rattle.lock_table.specs.declared.end.End.{End}
-use Rattle.lock_table.specs.declared.end.End.TheVariants.{Got, Pending, Refused}
-use Rattle.rwlock_program.specs.declared.program.Next.{Next}
-use Rattle.rwlock_program.specs.declared.program.Next.TheVariants as next
+use Rattle.lock_program.specs.declared.rwlock.Purpose.{Purpose}
+use Rattle.lock_program.specs.declared.rwlock.Purpose.TheVariants as purpose
+use Rattle.lock_program.specs.declared.rwlock.Place.{Place}
+use Rattle.lock_program.specs.declared.rwlock.Place.TheVariants.{Out, Upgradable, Writing, WaitTurn, TakeTurn, Add, Mark, JoinNoReaders, LookNoReaders, AskNoReaders, LookUnlisted, LeaveNoReaders}
+use Rattle.lock_program.specs.declared.rwlock.Action.TheVariants as act
+use Rattle.lock_program.specs.declared.rwlock.Found.{Found}
+use Rattle.lock_program.specs.declared.rwlock.Found.TheVariants.{Done, Full, NoneLeft, NoMemory, Yes, Turn}
+use Rattle.lock_program.specs.declared.end.End.{End}
+use Rattle.lock_program.specs.declared.end.End.TheVariants.{Got, Pending, Refused}
+use Rattle.rwlock_program.specs.declared.led.Next.{Next}
+use Rattle.rwlock_program.specs.declared.led.Next.TheVariants as next
 use Rattle.rwlock_program.specs.Program.{action_of, next_of, after_lock, with_turn, place_after, go_to, ends}
 use Rattle.rwlock_machine.specs.Roles.{reads}
 use Rattle.rwlock_program.specs.Turns.{OnTurn}

@@ -3,9 +3,9 @@ use Rattle.std.proofs.Common.{◌≡◌, Some, refl, true}
 use Rattle.lock_world.specs.declared.moves.Call.{Call}
 use Rattle.lock_world.specs.declared.moves.Call.TheVariants as call
 use Rattle.lock_world.proofs.Equations.{some_eq, none_some}
-use Rattle.rwlock_program.specs.declared.program.Wanted.TheVariants as wanted
-use Rattle.rwlock_program.specs.declared.program.Place.{Place}
-use Rattle.rwlock_program.specs.declared.program.Place.TheVariants.{Out, Made, Reading, Upgradable, Writing, AskNoWriter, WaitTurn, AwaitNoReaders, LookUnlisted}
+use Rattle.lock_program.specs.declared.rwlock.Wanted.TheVariants as wanted
+use Rattle.lock_program.specs.declared.rwlock.Place.{Place}
+use Rattle.lock_program.specs.declared.rwlock.Place.TheVariants.{Out, Made, Reading, Upgradable, Writing, AskNoWriter, WaitTurn, AwaitNoReaders, LookUnlisted}
 use Rattle.rwlock_program.specs.Program.{start_of}
 use Rattle.rwlock_machine.specs.Machine.{SameRoles}
 

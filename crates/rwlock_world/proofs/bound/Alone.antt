@@ -1,12 +1,12 @@
 -- A whole poll of a pending party is one that the machine carries out alone.
 use Rattle.std.proofs.Common.{◌≡◌, ◌≢◌, ℕ, zero, suc, ◌<◌, Bool, true, [], ◌∷◌, ◌++◌, length, replicate, refl, sym, ap, ◌∙◌, subst, arith, get_or-set_same, length-set, set-set}
 use Rattle.std.proofs.Math.ListN.{set}
-use Rattle.lock_table.specs.declared.end.End.{End}
-use Rattle.lock_table.specs.declared.end.End.TheVariants as «end»
-use Rattle.rwlock_program.specs.declared.program.Action.{Action}
-use Rattle.rwlock_program.specs.declared.program.Place.{Place}
-use Rattle.rwlock_program.specs.declared.program.Next.{Next}
-use Rattle.rwlock_program.specs.declared.program.Next.TheVariants as next
+use Rattle.lock_program.specs.declared.end.End.{End}
+use Rattle.lock_program.specs.declared.end.End.TheVariants as «end»
+use Rattle.lock_program.specs.declared.rwlock.Action.{Action}
+use Rattle.lock_program.specs.declared.rwlock.Place.{Place}
+use Rattle.rwlock_program.specs.declared.led.Next.{Next}
+use Rattle.rwlock_program.specs.declared.led.Next.TheVariants as next
 use Rattle.lock_world.specs.declared.moves.Answer.{Answer}
 use Rattle.lock_world.specs.declared.moves.Answer.TheVariants as answer
 use Rattle.lock_world.specs.declared.moves.Call.TheVariants as call
@@ -54,6 +54,7 @@ goes v (next.End «end».Got to) h = absurd (cc)
 goes v (next.End «end».Granted to) h = absurd (cc)
 goes v (next.End «end».Pending to) h = absurd (cc)
 goes v (next.End «end».NotFree to) h = absurd (cc)
+goes v (next.End «end».Waiting to) h = absurd (cc)
 goes v (next.End «end».GivenBack to) h = absurd (cc)
 goes v (next.End («end».Refused r) to) h = absurd (cc)
 

@@ -3,7 +3,7 @@ use Rattle.std.proofs.Common.{◌≡◌, ℕ, ◌<◌, inl, inr, Bool, true, fal
 use Rattle.std.proofs.lemmas.List.{length-map}
 use Rattle.std.proofs.lemmas.Bool.{and_parts}
 use Rattle.lock_world.specs.declared.moves.Answer.{Answer}
-use Rattle.lock_world.specs.declared.refusal.Refusal.TheVariants as refusal
+use Rattle.lock_program.specs.declared.refusal.Refusal.TheVariants as refusal
 use Rattle.lock_world.specs.declared.standing.Kind.{Kind}
 use Rattle.lock_world.specs.declared.standing.Kind.TheVariants as kind
 use Rattle.lock_world.specs.declared.standing.Rest.{Rest}
@@ -13,9 +13,9 @@ use Rattle.lock_world.specs.declared.standing.Stage.TheVariants.{Outside, Inside
 use Rattle.lock_world.specs.declared.standing.Within.{Within}
 use Rattle.lock_world.specs.Standings.{inside}
 use Rattle.mutex_machine.specs.Mutex.{course_at as turn_at}
-use Rattle.rwlock_program.specs.declared.program.Ending.TheVariants as ending
-use Rattle.rwlock_program.specs.declared.program.Place.{Place}
-use Rattle.rwlock_program.specs.declared.program.Place.TheVariants as place
+use Rattle.lock_program.specs.declared.rwlock.Ending.TheVariants as ending
+use Rattle.lock_program.specs.declared.rwlock.Place.{Place}
+use Rattle.lock_program.specs.declared.rwlock.Place.TheVariants as place
 use Rattle.rwlock_machine.specs.Machine.{RwLock, place_at}
 use Rattle.lock_table.specs.Stages.{stage_at}
 use Rattle.rwlock_world.specs.Stages.{Course, drops, upgrades, tries_upgrade, course_of, is_on_course, is_inside, goes_with, sought_at}

@@ -1,6 +1,6 @@
 -- What the answer to a party's own move tells of its right is how it stands then.
 use Rattle.std.proofs.Common.{◌≡◌, ◌&&◌, ◌⊎◌, if◌then◌else◌, inl, inr, Bool, true, false, Option, Some, None, is_some, refl, ap, sym, ◌∙◌, subst}
-use Rattle.lock_world.specs.declared.refusal.Refusal.TheVariants as refusal
+use Rattle.lock_program.specs.declared.refusal.Refusal.TheVariants as refusal
 use Rattle.lock_world.specs.declared.moves.Answer.{Answer}
 use Rattle.lock_world.specs.declared.moves.Answer.TheVariants as answer
 use Rattle.lock_world.specs.declared.moves.Call.{Call}

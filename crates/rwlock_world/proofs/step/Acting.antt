@@ -9,7 +9,7 @@ use Rattle.lock_world.specs.declared.moves.Got.TheVariants.{Value}
 use Rattle.lock_world.specs.declared.moves.Move.{Move}
 use Rattle.lock_world.specs.declared.moves.What.{What}
 use Rattle.lock_world.specs.declared.moves.What.TheVariants.{Begin, Go}
-use Rattle.lock_world.specs.declared.refusal.Refusal.TheVariants as refusal
+use Rattle.lock_program.specs.declared.refusal.Refusal.TheVariants as refusal
 use Rattle.lock_world.specs.declared.standing.Kind.TheVariants as kind
 use Rattle.lock_world.specs.declared.standing.Rest.TheVariants as rest
 use Rattle.lock_world.specs.declared.standing.Stage.{Stage}
@@ -24,9 +24,9 @@ use Rattle.lock_table.proofs.Calls.{call_seen, again_seen}
 use Rattle.lock_table.proofs.Ways as ways
 use Rattle.mutex_machine.specs.Course.{Course as TurnCourse}
 use Rattle.mutex_machine.specs.Mutex.{course_at as turn_at}
-use Rattle.rwlock_program.specs.declared.program.Next.{Next}
-use Rattle.rwlock_program.specs.declared.program.Place.{Place}
-use Rattle.rwlock_program.specs.declared.program.Place.TheVariants as place
+use Rattle.rwlock_program.specs.declared.led.Next.{Next}
+use Rattle.lock_program.specs.declared.rwlock.Place.{Place}
+use Rattle.lock_program.specs.declared.rwlock.Place.TheVariants as place
 use Rattle.rwlock_program.specs.Program.{action_of, next_of, place_after}
 use Rattle.rwlock_machine.specs.Roles.{fits_turn}
 use Rattle.rwlock_program.specs.Turns.{OnTurn}

@@ -9,7 +9,7 @@ use Rattle.lock_world.specs.declared.moves.Got.TheVariants.{Value}
 use Rattle.lock_world.specs.declared.moves.Inputs.{Inputs}
 use Rattle.lock_world.specs.declared.moves.What.{What}
 use Rattle.lock_world.specs.declared.moves.What.TheVariants.{Begin}
-use Rattle.lock_world.specs.declared.refusal.Refusal.TheVariants as refusal
+use Rattle.lock_program.specs.declared.refusal.Refusal.TheVariants as refusal
 use Rattle.lock_world.specs.declared.standing.Kind.{Kind}
 use Rattle.lock_world.specs.declared.standing.Kind.TheVariants as kind
 use Rattle.lock_world.specs.declared.standing.Rest.{Rest}
@@ -20,22 +20,22 @@ use Rattle.lock_world.specs.Rights.{Right, read, upgradable, write}
 use Rattle.lock_world.specs.Frame.{put_in}
 use Rattle.lock_world.specs.Standings.{Standing, outside, inside}
 use Rattle.mutex_machine.specs.Course.{Course as TurnCourse, is_out, holds}
-use Rattle.mutex_program.specs.declared.calls.LockCall.TheVariants as turn_call
-use Rattle.mutex_program.specs.declared.calls.Step.TheVariants as turn_step
-use Rattle.mutex_program.specs.declared.calls.End.TheVariants as turn_end
+use Rattle.lock_program.specs.declared.mutex.LockCall.TheVariants as turn_call
+use Rattle.lock_program.specs.declared.mutex.Step.TheVariants as turn_step
+use Rattle.lock_program.specs.declared.end.End.TheVariants as turn_end
 use Rattle.mutex_machine.specs.Mutex.{Mutex, course_at as turn_at, holder_of, holders, starved}
 use Rattle.mutex_machine.proofs.callers.Callers.{out_free}
 use Rattle.mutex_machine.proofs.callers.Holders as sees
-use Rattle.rwlock_program.specs.declared.program.Purpose.{Purpose}
+use Rattle.lock_program.specs.declared.rwlock.Purpose.{Purpose}
 use Rattle.rwlock_program.specs.Turns.{OnTurn}
 use Rattle.rwlock_machine.proofs.stages.Leads.{Led}
-use Rattle.rwlock_program.specs.declared.program.Found.{Found}
-use Rattle.rwlock_program.specs.declared.program.Found.TheVariants as found
-use Rattle.rwlock_program.specs.declared.program.Action.TheVariants as act
-use Rattle.rwlock_program.specs.declared.program.Wanted.TheVariants as wanted
-use Rattle.rwlock_program.specs.declared.program.Purpose.TheVariants as purpose
-use Rattle.rwlock_program.specs.declared.program.Place.{Place}
-use Rattle.rwlock_program.specs.declared.program.Place.TheVariants as place
+use Rattle.lock_program.specs.declared.rwlock.Found.{Found}
+use Rattle.lock_program.specs.declared.rwlock.Found.TheVariants as found
+use Rattle.lock_program.specs.declared.rwlock.Action.TheVariants as act
+use Rattle.lock_program.specs.declared.rwlock.Wanted.TheVariants as wanted
+use Rattle.lock_program.specs.declared.rwlock.Purpose.TheVariants as purpose
+use Rattle.lock_program.specs.declared.rwlock.Place.{Place}
+use Rattle.lock_program.specs.declared.rwlock.Place.TheVariants as place
 use Rattle.rwlock_program.specs.Program.{next_of, place_after, first_poll}
 use Rattle.rwlock_machine.specs.Roles.{in_no_writer, in_no_readers}
 use Rattle.rwlock_machine.specs.Machine.{RwLock}

@@ -9,13 +9,13 @@ use Rattle.lock_world.specs.declared.standing.Rest.TheVariants as rest
 use Rattle.lock_world.specs.declared.standing.Within.{Within}
 use Rattle.lock_world.specs.Frame.{is_refusal}
 use Rattle.lock_world.specs.Standings.{outside, inside}
-use Rattle.lock_table.specs.declared.end.End.{End}
-use Rattle.lock_table.specs.declared.end.End.TheVariants.{Got, Granted, Pending, NotFree, GivenBack, Refused}
+use Rattle.lock_program.specs.declared.end.End.{End}
+use Rattle.lock_program.specs.declared.end.End.TheVariants.{Got, Granted, Pending, NotFree, GivenBack, Refused}
 use Rattle.mutex_machine.specs.Course.{Course as TurnCourse}
-use Rattle.rwlock_program.specs.declared.program.Next.{Next}
-use Rattle.rwlock_program.specs.declared.program.Next.TheVariants as next
-use Rattle.rwlock_program.specs.declared.program.Place.{Place}
-use Rattle.rwlock_program.specs.declared.program.Place.TheVariants.{LookUnlisted}
+use Rattle.rwlock_program.specs.declared.led.Next.{Next}
+use Rattle.rwlock_program.specs.declared.led.Next.TheVariants as next
+use Rattle.lock_program.specs.declared.rwlock.Place.{Place}
+use Rattle.lock_program.specs.declared.rwlock.Place.TheVariants.{LookUnlisted}
 use Rattle.rwlock_program.specs.Program.{place_after}
 use Rattle.rwlock_world.specs.Guarded.{answer_by}
 use Rattle.rwlock_world.specs.Stages.{Course, polls, tries, drops, downgrades, upgrades, tries_upgrade, course_of, is_on_course}
@@ -24,6 +24,7 @@ use Rattle.rwlock_world.proofs.table.Begun.{within}
 use Rattle.rwlock_world.proofs.step.Paths.{ends_in, Keeps}
 use Rattle.rwlock_world.proofs.step.Rows.{verdict_then, KeepsUpgrade, RefusedAt, is_made}
 use Rattle.rwlock_world.proofs.table.Stages.{on_course, stage_then}
+use Rattle.lock_program.specs.declared.end.End.TheVariants as ended_by
 
 -- ---- refusals
 
@@ -41,6 +42,7 @@ given_not_refused v u (next.End Got q) e h = cc
 given_not_refused v u (next.End Granted q) e h = cc
 given_not_refused v u (next.End Pending q) e h = cc
 given_not_refused v u (next.End NotFree q) e h = cc
+given_not_refused v u (next.End ended_by.Waiting q) e h = cc
 given_not_refused v u (next.End GivenBack q) e h = cc
 given_not_refused v u (next.End (Refused r) q) e h = cc
 
@@ -53,6 +55,7 @@ waiting_upgrades v x (next.End Got q) h e = absurd (cc)
 waiting_upgrades v x (next.End Granted q) h e = absurd (cc)
 waiting_upgrades v x (next.End Pending q) h e = absurd (cc)
 waiting_upgrades v x (next.End NotFree q) h e = absurd (cc)
+waiting_upgrades v x (next.End ended_by.Waiting q) h e = h
 waiting_upgrades v x (next.End GivenBack q) h e = absurd (cc)
 waiting_upgrades v x (next.End (Refused r) q) h e = absurd (cc)
 
@@ -123,5 +126,6 @@ undecided_upgrades w x v u (next.End Got q) g not is y e = absurd (cc)
 undecided_upgrades w x v u (next.End Granted q) g not is y e = absurd (cc)
 undecided_upgrades w x v u (next.End Pending q) g not is y e = absurd (cc)
 undecided_upgrades w x v u (next.End NotFree q) g not is y e = absurd (cc)
+undecided_upgrades w x v u (next.End ended_by.Waiting q) g not is y e = absurd (cc)
 undecided_upgrades w x v u (next.End GivenBack q) g not is y e = absurd (cc)
 undecided_upgrades w x v u (next.End (Refused r) q) g not is y e = absurd (cc)

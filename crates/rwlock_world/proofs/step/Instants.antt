@@ -25,11 +25,11 @@ use Rattle.mutex_machine.specs.Course.{Course as TurnCourse, listed}
 use Rattle.mutex_machine.specs.Mutex.{course_at as turn_at, holder_of, holders, starved}
 use Rattle.mutex_machine.proofs.callers.Callers.{waiting_listed}
 use Rattle.mutex_machine.proofs.callers.Holders as sees
-use Rattle.rwlock_program.specs.declared.program.Found.{Found}
-use Rattle.rwlock_program.specs.declared.program.Place.{Place}
-use Rattle.rwlock_program.specs.declared.program.Place.TheVariants as place
-use Rattle.rwlock_program.specs.declared.program.Purpose.{Purpose}
-use Rattle.rwlock_program.specs.declared.program.Purpose.TheVariants as purpose
+use Rattle.lock_program.specs.declared.rwlock.Found.{Found}
+use Rattle.lock_program.specs.declared.rwlock.Place.{Place}
+use Rattle.lock_program.specs.declared.rwlock.Place.TheVariants as place
+use Rattle.lock_program.specs.declared.rwlock.Purpose.{Purpose}
+use Rattle.lock_program.specs.declared.rwlock.Purpose.TheVariants as purpose
 use Rattle.rwlock_program.specs.Program.{action_of, next_of, place_after}
 use Rattle.rwlock_machine.specs.Roles.{only_turns, fits_turn}
 use Rattle.rwlock_machine.specs.Machine.{SameRoles, place_at}

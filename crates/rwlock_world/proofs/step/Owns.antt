@@ -3,7 +3,7 @@ use Rattle.std.proofs.Common.{◌≡◌, ◌≢◌, ℕ, ◌≤◌, ◌⊎◌, i
 use Rattle.std.proofs.lemmas.Bool.{and_parts}
 use Rattle.lock_world.specs.declared.moves.Answer.{Answer}
 use Rattle.lock_world.specs.declared.moves.Answer.TheVariants as answer
-use Rattle.lock_world.specs.declared.refusal.Refusal.TheVariants as refusal
+use Rattle.lock_program.specs.declared.refusal.Refusal.TheVariants as refusal
 use Rattle.lock_world.specs.declared.standing.Kind.{Kind}
 use Rattle.lock_world.specs.declared.standing.Kind.TheVariants as kind
 use Rattle.lock_world.specs.declared.standing.Rest.{Rest}
@@ -13,16 +13,16 @@ use Rattle.lock_world.specs.declared.standing.Stage.TheVariants.{Outside, Inside
 use Rattle.lock_world.specs.declared.standing.Within.{Within}
 use Rattle.lock_world.specs.Rights.{Right, read, upgradable, write}
 use Rattle.lock_world.specs.Standings.{inside}
-use Rattle.mutex_program.specs.declared.calls.End.{End as TurnEnd}
-use Rattle.mutex_program.specs.declared.calls.End.TheVariants as turn_end
+use Rattle.lock_program.specs.declared.end.End.{End as TurnEnd}
+use Rattle.lock_program.specs.declared.end.End.TheVariants as turn_end
 use Rattle.mutex_machine.specs.Course.{Course as TurnCourse, decision, is_out, is_holding, holds, listed}
 use Rattle.mutex_machine.specs.Mutex.{course_at as turn_at, is_holder, is_counted, holder_of}
 use Rattle.mutex_machine.proofs.callers.Callers.{out_unlisted, holding_unlisted, out_free, out_unstarved, holding_unstarved, waiting_free}
 use Rattle.mutex_machine.proofs.callers.Holders as sees
-use Rattle.rwlock_program.specs.declared.program.Ending.{Ending}
-use Rattle.rwlock_program.specs.declared.program.Ending.TheVariants as ending
-use Rattle.rwlock_program.specs.declared.program.Place.{Place}
-use Rattle.rwlock_program.specs.declared.program.Place.TheVariants as place
+use Rattle.lock_program.specs.declared.rwlock.Ending.{Ending}
+use Rattle.lock_program.specs.declared.rwlock.Ending.TheVariants as ending
+use Rattle.lock_program.specs.declared.rwlock.Place.{Place}
+use Rattle.lock_program.specs.declared.rwlock.Place.TheVariants as place
 use Rattle.rwlock_machine.specs.Roles.{has_turn, in_no_writer, in_no_readers, fits_turn}
 use Rattle.rwlock_machine.specs.Machine.{RwLock, place_at}
 use Rattle.rwlock_machine.specs.Acts.{IsRwLock}

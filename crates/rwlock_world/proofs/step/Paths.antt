@@ -1,21 +1,21 @@
 -- Where each action leads, place by place. Written by generators/rwlock_world_rows.py.
 use Rattle.std.proofs.Common.{◌≡◌, ◌&&◌, Bool, true, false, refl}
-use Rattle.lock_world.specs.declared.refusal.Refusal.{Refusal}
-use Rattle.lock_world.specs.declared.refusal.Refusal.TheVariants as refusal
+use Rattle.lock_program.specs.declared.refusal.Refusal.{Refusal}
+use Rattle.lock_program.specs.declared.refusal.Refusal.TheVariants as refusal
 use Rattle.mutex_machine.specs.Course.{Course as TurnCourse}
-use Rattle.mutex_program.specs.declared.calls.Step.TheVariants as turn_step
-use Rattle.mutex_program.specs.declared.calls.End.TheVariants as turn_end
-use Rattle.rwlock_program.specs.declared.program.Purpose.TheVariants as purpose
-use Rattle.rwlock_program.specs.declared.program.Ending.TheVariants as ending
-use Rattle.lock_table.specs.declared.end.End.{End}
-use Rattle.lock_table.specs.declared.end.End.TheVariants.{Got, Granted, Pending, NotFree, GivenBack, Refused}
-use Rattle.rwlock_program.specs.declared.program.Next.{Next}
-use Rattle.rwlock_program.specs.declared.program.Next.TheVariants as next
-use Rattle.rwlock_program.specs.declared.program.Found.{Found}
-use Rattle.rwlock_program.specs.declared.program.Found.TheVariants.{Done, Writer, Full, NoneLeft, SomeLeft, NoMemory, Yes, No, Turn}
-use Rattle.rwlock_program.specs.declared.program.Found.TheVariants as found
-use Rattle.rwlock_program.specs.declared.program.Place.{Place}
-use Rattle.rwlock_program.specs.declared.program.Place.TheVariants.{Out, Made, Reading, Upgradable, Writing, EnterRead, JoinNoWriter, LookNoWriter, AskNoWriter, PassOn, LeaveNoWriter, RefuseLeave, RefuseNotify, CancelRead, TryRead, EnterTurn, WaitTurn, TakeTurn, TryTurn, CancelTurn, CancellingTurn, ReleaseTurn, ReleasingTurn, Add, TryUpgrade, Upgrade, Mark, TryWrite, JoinNoReaders, LookNoReaders, AskNoReaders, AwaitNoReaders, LookUnlisted, LeaveNoReaders, DropRead, DropReadNotify, DropUpgradable, DropUpgradableNotify, DropWrite, CancelAwait, Unmark, UnmarkNotify, Down, DownNotify, DowngradeNotify}
+use Rattle.lock_program.specs.declared.mutex.Step.TheVariants as turn_step
+use Rattle.lock_program.specs.declared.end.End.TheVariants as turn_end
+use Rattle.lock_program.specs.declared.rwlock.Purpose.TheVariants as purpose
+use Rattle.lock_program.specs.declared.rwlock.Ending.TheVariants as ending
+use Rattle.lock_program.specs.declared.end.End.{End}
+use Rattle.lock_program.specs.declared.end.End.TheVariants.{Got, Granted, Pending, NotFree, GivenBack, Refused}
+use Rattle.rwlock_program.specs.declared.led.Next.{Next}
+use Rattle.rwlock_program.specs.declared.led.Next.TheVariants as next
+use Rattle.lock_program.specs.declared.rwlock.Found.{Found}
+use Rattle.lock_program.specs.declared.rwlock.Found.TheVariants.{Done, Writer, Full, NoneLeft, SomeLeft, NoMemory, Yes, No, Turn}
+use Rattle.lock_program.specs.declared.rwlock.Found.TheVariants as found
+use Rattle.lock_program.specs.declared.rwlock.Place.{Place}
+use Rattle.lock_program.specs.declared.rwlock.Place.TheVariants.{Out, Made, Reading, Upgradable, Writing, EnterRead, JoinNoWriter, LookNoWriter, AskNoWriter, PassOn, LeaveNoWriter, RefuseLeave, RefuseNotify, CancelRead, TryRead, EnterTurn, WaitTurn, TakeTurn, TryTurn, CancelTurn, CancellingTurn, ReleaseTurn, ReleasingTurn, Add, TryUpgrade, Upgrade, Mark, TryWrite, JoinNoReaders, LookNoReaders, AskNoReaders, AwaitNoReaders, LookUnlisted, LeaveNoReaders, DropRead, DropReadNotify, DropUpgradable, DropUpgradableNotify, DropWrite, CancelAwait, Unmark, UnmarkNotify, Down, DownNotify, DowngradeNotify}
 use Rattle.rwlock_program.specs.Program.{action_of, next_of}
 use Rattle.rwlock_machine.specs.Machine.{RwLock}
 use Rattle.rwlock_machine.specs.Acts.{Finds}

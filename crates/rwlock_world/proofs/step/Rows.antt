@@ -6,27 +6,27 @@ use Rattle.lock_queue.specs.Parties.{is_party}
 use Rattle.lock_world.specs.declared.moves.Answer.{Answer}
 use Rattle.lock_world.specs.declared.moves.Answer.TheVariants as answer
 use Rattle.lock_world.specs.declared.moves.Got.TheVariants.{Value}
-use Rattle.lock_world.specs.declared.refusal.Refusal.{Refusal}
-use Rattle.lock_world.specs.declared.refusal.Refusal.TheVariants as refusal
-use Rattle.lock_world.specs.Refusals.{number_of}
+use Rattle.lock_program.specs.declared.refusal.Refusal.{Refusal}
+use Rattle.lock_program.specs.declared.refusal.Refusal.TheVariants as refusal
+use Rattle.lock_program.specs.Refusals.{number_of}
 use Rattle.lock_world.specs.Rights.{Right, read, upgradable}
 use Rattle.lock_world.specs.Steps.{Deed, nothing, changes, does, joins, asks, leaves, notifies}
 use Rattle.lock_world.proofs.Equations.{chosen}
 use Rattle.mutex_machine.specs.Course.{Course as TurnCourse, is_out as is_out_there, is_holding}
-use Rattle.rwlock_program.specs.declared.program.Action.{Action}
-use Rattle.rwlock_program.specs.declared.program.Action.TheVariants as act
-use Rattle.lock_table.specs.declared.end.End.TheVariants.{Pending, Refused}
-use Rattle.rwlock_program.specs.declared.program.Next.{Next}
-use Rattle.rwlock_program.specs.declared.program.Next.TheVariants as next
-use Rattle.rwlock_program.specs.declared.program.Found.{Found}
-use Rattle.rwlock_program.specs.declared.program.Found.TheVariants.{Done, Writer, Full, NoneLeft, SomeLeft, NoMemory, Yes, No, Turn}
-use Rattle.rwlock_program.specs.declared.program.Found.TheVariants as found
-use Rattle.mutex_program.specs.declared.calls.Step.TheVariants as turn_step
-use Rattle.mutex_program.specs.declared.calls.End.TheVariants as turn_end
-use Rattle.rwlock_program.specs.declared.program.Purpose.TheVariants as purpose
-use Rattle.rwlock_program.specs.declared.program.Ending.TheVariants as ending
-use Rattle.rwlock_program.specs.declared.program.Place.{Place}
-use Rattle.rwlock_program.specs.declared.program.Place.TheVariants.{Out, Made, Reading, Upgradable, Writing, EnterRead, JoinNoWriter, LookNoWriter, AskNoWriter, PassOn, LeaveNoWriter, RefuseLeave, RefuseNotify, CancelRead, TryRead, EnterTurn, WaitTurn, TakeTurn, TryTurn, CancelTurn, CancellingTurn, ReleaseTurn, ReleasingTurn, Add, TryUpgrade, Upgrade, Mark, TryWrite, JoinNoReaders, LookNoReaders, AskNoReaders, AwaitNoReaders, LookUnlisted, LeaveNoReaders, DropRead, DropReadNotify, DropUpgradable, DropUpgradableNotify, DropWrite, CancelAwait, Unmark, UnmarkNotify, Down, DownNotify, DowngradeNotify}
+use Rattle.lock_program.specs.declared.rwlock.Action.{Action}
+use Rattle.lock_program.specs.declared.rwlock.Action.TheVariants as act
+use Rattle.lock_program.specs.declared.end.End.TheVariants.{Pending, Refused}
+use Rattle.rwlock_program.specs.declared.led.Next.{Next}
+use Rattle.rwlock_program.specs.declared.led.Next.TheVariants as next
+use Rattle.lock_program.specs.declared.rwlock.Found.{Found}
+use Rattle.lock_program.specs.declared.rwlock.Found.TheVariants.{Done, Writer, Full, NoneLeft, SomeLeft, NoMemory, Yes, No, Turn}
+use Rattle.lock_program.specs.declared.rwlock.Found.TheVariants as found
+use Rattle.lock_program.specs.declared.mutex.Step.TheVariants as turn_step
+use Rattle.lock_program.specs.declared.end.End.TheVariants as turn_end
+use Rattle.lock_program.specs.declared.rwlock.Purpose.TheVariants as purpose
+use Rattle.lock_program.specs.declared.rwlock.Ending.TheVariants as ending
+use Rattle.lock_program.specs.declared.rwlock.Place.{Place}
+use Rattle.lock_program.specs.declared.rwlock.Place.TheVariants.{Out, Made, Reading, Upgradable, Writing, EnterRead, JoinNoWriter, LookNoWriter, AskNoWriter, PassOn, LeaveNoWriter, RefuseLeave, RefuseNotify, CancelRead, TryRead, EnterTurn, WaitTurn, TakeTurn, TryTurn, CancelTurn, CancellingTurn, ReleaseTurn, ReleasingTurn, Add, TryUpgrade, Upgrade, Mark, TryWrite, JoinNoReaders, LookNoReaders, AskNoReaders, AwaitNoReaders, LookUnlisted, LeaveNoReaders, DropRead, DropReadNotify, DropUpgradable, DropUpgradableNotify, DropWrite, CancelAwait, Unmark, UnmarkNotify, Down, DownNotify, DowngradeNotify}
 use Rattle.rwlock_program.specs.Program.{action_of, next_of, place_after}
 use Rattle.rwlock_machine.specs.Roles.{has_turn, in_no_writer, in_no_readers, fits_turn}
 use Rattle.rwlock_program.specs.Parties.{OnNoWriter, OnNoReaders}
@@ -181,6 +181,7 @@ keeps_what_it_has o d = not (gives_up d) || is_judged o
 abbrev pub KeepsUpgrade : ℕ → Place → Next → Type 0
 KeepsUpgrade v x (next.Do a q) = (t : TurnCourse) → verdict v q t ≡ None → is_upgrade q ≡ is_upgrade x
 KeepsUpgrade v x (next.Wait q) = is_upgrade q ≡ true
+KeepsUpgrade v x (next.End turn_end.Waiting q) = is_upgrade q ≡ true
 KeepsUpgrade v x (next.End Pending q) = is_upgrade q ≡ is_upgrade x
 KeepsUpgrade v x (next.End (Refused r) q) = is_upgrade q ≡ is_upgrade x
 KeepsUpgrade v x (next.End _ q) = Unit {0}

@@ -6,32 +6,32 @@ use Rattle.lock_event.specs.declared.event.Mark.TheVariants.{Waiting}
 use Rattle.lock_world.specs.declared.moves.Answer.{Answer}
 use Rattle.lock_world.specs.declared.moves.Answer.TheVariants as answer
 use Rattle.lock_world.specs.declared.moves.Move.{Move}
-use Rattle.lock_world.specs.declared.refusal.Refusal.{Refusal}
-use Rattle.lock_world.specs.declared.refusal.Refusal.TheVariants as refusal
+use Rattle.lock_program.specs.declared.refusal.Refusal.{Refusal}
+use Rattle.lock_program.specs.declared.refusal.Refusal.TheVariants as refusal
 use Rattle.lock_world.specs.declared.standing.Stage.{Stage}
 use Rattle.lock_world.specs.Standings.{inputs_of, refused}
 use Rattle.lock_world.specs.Steps.{Deed, changes, does, joins}
 use Rattle.mutex_machine.specs.Course.{Course as TurnCourse, is_out, is_taking, Takes, Tries, Releases, Cancels, holds, decision}
 use Rattle.mutex_machine.specs.Course as course
-use Rattle.mutex_program.specs.declared.calls.LockCall.{LockCall}
-use Rattle.mutex_program.specs.declared.calls.LockCall.TheVariants as turn_call
-use Rattle.mutex_program.specs.declared.calls.Step.{Step as TurnStep}
-use Rattle.mutex_program.specs.declared.calls.Step.TheVariants as turn_step
-use Rattle.mutex_program.specs.declared.calls.End.{End as TurnEnd}
-use Rattle.mutex_program.specs.declared.calls.End.TheVariants as turn_end
+use Rattle.lock_program.specs.declared.mutex.LockCall.{LockCall}
+use Rattle.lock_program.specs.declared.mutex.LockCall.TheVariants as turn_call
+use Rattle.lock_program.specs.declared.mutex.Step.{Step as TurnStep}
+use Rattle.lock_program.specs.declared.mutex.Step.TheVariants as turn_step
+use Rattle.lock_program.specs.declared.end.End.{End as TurnEnd}
+use Rattle.lock_program.specs.declared.end.End.TheVariants as turn_end
 use Rattle.mutex_machine.specs.Mutex.{course_at as turn_at, holder_of}
 use Rattle.mutex_machine.specs.Deeds as mutex
 use Rattle.mutex_machine.specs.Conduct.{decided_then, IsReason}
 use Rattle.mutex_machine.specs.Deeds.{decided_by}
 use Rattle.mutex_machine.proofs.callers.Callers.{out_free, waiting_free, releasing_free, releasing_decided, cancelling_decided, IsPolls, taking_decided, holding_holds}
 use Rattle.mutex_machine.proofs.callers.Holders as sees
-use Rattle.rwlock_program.specs.declared.program.Found.{Found}
-use Rattle.rwlock_program.specs.declared.program.Found.TheVariants.{Turn}
-use Rattle.rwlock_program.specs.declared.program.Ending.TheVariants as ending
-use Rattle.rwlock_program.specs.declared.program.Purpose.{Purpose}
-use Rattle.rwlock_program.specs.declared.program.Purpose.TheVariants as purpose
-use Rattle.rwlock_program.specs.declared.program.Place.{Place}
-use Rattle.rwlock_program.specs.declared.program.Place.TheVariants as place
+use Rattle.lock_program.specs.declared.rwlock.Found.{Found}
+use Rattle.lock_program.specs.declared.rwlock.Found.TheVariants.{Turn}
+use Rattle.lock_program.specs.declared.rwlock.Ending.TheVariants as ending
+use Rattle.lock_program.specs.declared.rwlock.Purpose.{Purpose}
+use Rattle.lock_program.specs.declared.rwlock.Purpose.TheVariants as purpose
+use Rattle.lock_program.specs.declared.rwlock.Place.{Place}
+use Rattle.lock_program.specs.declared.rwlock.Place.TheVariants as place
 use Rattle.rwlock_program.specs.Program.{action_of, next_of, place_after, after_lock, after_turn}
 use Rattle.rwlock_machine.specs.Roles.{in_no_writer, in_no_readers, fits_turn}
 use Rattle.rwlock_program.specs.Turns.{OnTurn, TurnBegins, TurnGoesOn}
@@ -216,6 +216,8 @@ module _ (m : Move) (l k : RwLock) (ss : List Stage) (opening : ℕ) (ts : List 
   waits_then pr (turn_step.End turn_end.Pending) h e w = w
   waits_then pr (turn_step.End turn_end.Got) h e w = absurd (cc)
   waits_then pr (turn_step.End turn_end.NotFree) h e w = absurd h
+  waits_then pr (turn_step.End turn_end.Granted) h e w = absurd h
+  waits_then pr (turn_step.End turn_end.Waiting) h e w = absurd h
   waits_then pr (turn_step.End turn_end.GivenBack) h e w = absurd h
   waits_then pr (turn_step.End (turn_end.Refused r)) h e w = absurd (cc)
 
@@ -225,6 +227,8 @@ module _ (m : Move) (l k : RwLock) (ss : List Stage) (opening : ℕ) (ts : List 
   undecided x to d None why causes waits idle = tt
   undecided x to d (Some turn_end.Got) why causes waits idle = tt
   undecided x to d (Some turn_end.NotFree) why causes waits idle = tt
+  undecided x to d (Some turn_end.Granted) why causes waits idle = tt
+  undecided x to d (Some turn_end.Waiting) why causes waits idle = tt
   undecided x to d (Some turn_end.GivenBack) why causes waits idle = tt
   undecided x to d (Some turn_end.Pending) why causes waits idle = waits refl (why turn_end.Pending refl)
   undecided x to d (Some (turn_end.Refused r)) why causes waits idle = (r, refl, causes r (why (turn_end.Refused r) refl), idle r refl)

@@ -17,12 +17,12 @@ use Rattle.lock_world.specs.Frame.{put_in}
 use Rattle.lock_world.specs.Standings.{kind_of, may_begin}
 use Rattle.lock_world.proofs.Equations.{some_eq, none_some, some_none}
 use Rattle.lock_table.specs.Stages.{call_at, polls_again}
-use Rattle.rwlock_program.specs.declared.program.Wanted.{Wanted}
-use Rattle.rwlock_program.specs.declared.program.Purpose.{Purpose}
-use Rattle.rwlock_program.specs.declared.program.Purpose.TheVariants as purpose
-use Rattle.rwlock_program.specs.declared.program.Ending.TheVariants as ending
-use Rattle.rwlock_program.specs.declared.program.Place.{Place}
-use Rattle.rwlock_program.specs.declared.program.Place.TheVariants as place
+use Rattle.lock_program.specs.declared.rwlock.Wanted.{Wanted}
+use Rattle.lock_program.specs.declared.rwlock.Purpose.{Purpose}
+use Rattle.lock_program.specs.declared.rwlock.Purpose.TheVariants as purpose
+use Rattle.lock_program.specs.declared.rwlock.Ending.TheVariants as ending
+use Rattle.lock_program.specs.declared.rwlock.Place.{Place}
+use Rattle.lock_program.specs.declared.rwlock.Place.TheVariants as place
 use Rattle.rwlock_program.specs.Program.{first_poll}
 use Rattle.rwlock_program.specs.Calls.{knows_at, may_upgrade, may_downgrade, may_put}
 use Rattle.rwlock_world.specs.Guarded.{place_for}

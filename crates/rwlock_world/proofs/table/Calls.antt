@@ -7,7 +7,7 @@ use Rattle.lock_world.specs.declared.moves.Call.TheVariants as call
 use Rattle.lock_world.specs.declared.moves.Inputs.{Inputs}
 use Rattle.lock_world.specs.declared.moves.What.{What}
 use Rattle.lock_world.specs.declared.moves.What.TheVariants.{Begin, Go}
-use Rattle.lock_world.specs.declared.refusal.Refusal.TheVariants as refusal
+use Rattle.lock_program.specs.declared.refusal.Refusal.TheVariants as refusal
 use Rattle.lock_world.specs.declared.standing.Kind.TheVariants as kind
 use Rattle.lock_world.specs.declared.standing.Rest.{Rest}
 use Rattle.lock_world.specs.declared.standing.Rest.TheVariants as rest
@@ -19,16 +19,16 @@ use Rattle.lock_world.specs.Frame.{is_drop, is_giving_back, put_in}
 use Rattle.lock_world.specs.Rights.{Right}
 use Rattle.lock_world.specs.Standings.{inside, is_decided}
 use Rattle.lock_world.proofs.Equations.{some_eq}
-use Rattle.lock_table.specs.declared.end.End.TheVariants.{NotFree}
+use Rattle.lock_program.specs.declared.end.End.TheVariants.{NotFree}
 use Rattle.lock_table.specs.Stages.{call_at, polls_again}
 use Rattle.mutex_machine.specs.Course.{Course as TurnCourse}
-use Rattle.rwlock_program.specs.declared.program.Wanted.TheVariants as wanted
-use Rattle.rwlock_program.specs.declared.program.Purpose.TheVariants as purpose
-use Rattle.rwlock_program.specs.declared.program.Ending.TheVariants as ending
-use Rattle.rwlock_program.specs.declared.program.Next.{Next}
-use Rattle.rwlock_program.specs.declared.program.Next.TheVariants as next
-use Rattle.rwlock_program.specs.declared.program.Place.{Place}
-use Rattle.rwlock_program.specs.declared.program.Place.TheVariants as place
+use Rattle.lock_program.specs.declared.rwlock.Wanted.TheVariants as wanted
+use Rattle.lock_program.specs.declared.rwlock.Purpose.TheVariants as purpose
+use Rattle.lock_program.specs.declared.rwlock.Ending.TheVariants as ending
+use Rattle.rwlock_program.specs.declared.led.Next.{Next}
+use Rattle.rwlock_program.specs.declared.led.Next.TheVariants as next
+use Rattle.lock_program.specs.declared.rwlock.Place.{Place}
+use Rattle.lock_program.specs.declared.rwlock.Place.TheVariants as place
 use Rattle.rwlock_program.specs.Program.{place_after, first_poll}
 use Rattle.rwlock_machine.specs.Machine.{SameRoles}
 use Rattle.rwlock_machine.proofs.stages.Starts.{start_same}

@@ -18,9 +18,9 @@ use Rattle.lock_world.proofs.Equations.{some_eq, none_some, witness}
 use Rattle.lock_table.specs.Stages.{call_at, stage_after}
 use Rattle.lock_table.specs.Tables.{Keeps as KeepsStanding, Called}
 use Rattle.mutex_machine.specs.Mutex.{course_at as turn_at}
-use Rattle.rwlock_program.specs.declared.program.Next.{Next}
-use Rattle.rwlock_program.specs.declared.program.Place.{Place}
-use Rattle.rwlock_program.specs.declared.program.Place.TheVariants as place
+use Rattle.rwlock_program.specs.declared.led.Next.{Next}
+use Rattle.lock_program.specs.declared.rwlock.Place.{Place}
+use Rattle.lock_program.specs.declared.rwlock.Place.TheVariants as place
 use Rattle.rwlock_program.specs.Program.{place_after}
 use Rattle.rwlock_machine.specs.Roles.{fits_turn}
 use Rattle.rwlock_machine.specs.Machine.{RwLock, place_at}

@@ -4,7 +4,7 @@ use Rattle.lock_table.specs.Tables.{new_table}
 use Rattle.lock_table.proofs.Mapped.{mapped_alike}
 use Rattle.lock_table.proofs.Views.{all_idle}
 use Rattle.mutex_machine.proofs.callers.Callers.{new_has_no_holder, new_has_none_starved}
-use Rattle.rwlock_program.specs.declared.program.Place.TheVariants as place
+use Rattle.lock_program.specs.declared.rwlock.Place.TheVariants as place
 use Rattle.rwlock_world.specs.Guarded.{new_guarded}
 use Rattle.rwlock_world.specs.Stages.{sought_at}
 use Rattle.rwlock_world.specs.State.{new_world}

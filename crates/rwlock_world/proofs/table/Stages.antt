@@ -1,7 +1,7 @@
 -- A party's stage, and what it seeks, go with its place after each action.
 use Rattle.std.proofs.Common.{◌≡◌, ℕ, true, false, refl}
 use Rattle.std.proofs.lemmas.Bool.{and_parts}
-use Rattle.lock_world.specs.declared.refusal.Refusal.TheVariants as refusal
+use Rattle.lock_program.specs.declared.refusal.Refusal.TheVariants as refusal
 use Rattle.lock_world.specs.declared.standing.Kind.{Kind}
 use Rattle.lock_world.specs.declared.standing.Kind.TheVariants as kind
 use Rattle.lock_world.specs.declared.standing.Rest.{Rest}
@@ -9,17 +9,18 @@ use Rattle.lock_world.specs.declared.standing.Rest.TheVariants as rest
 use Rattle.lock_world.specs.declared.standing.Stage.{Stage}
 use Rattle.lock_world.specs.declared.standing.Within.{Within}
 use Rattle.lock_world.specs.Standings.{may_end, is_stepped, is_possible}
-use Rattle.lock_table.specs.declared.end.End.{End}
-use Rattle.lock_table.specs.declared.end.End.TheVariants.{Got, Granted, Pending, NotFree, GivenBack, Refused}
+use Rattle.lock_program.specs.declared.end.End.{End}
+use Rattle.lock_program.specs.declared.end.End.TheVariants.{Got, Granted, Pending, NotFree, GivenBack, Refused}
 use Rattle.lock_table.specs.Stages.{stage_after}
-use Rattle.rwlock_program.specs.declared.program.Next.{Next}
-use Rattle.rwlock_program.specs.declared.program.Next.TheVariants as next
-use Rattle.rwlock_program.specs.declared.program.Place.{Place}
+use Rattle.rwlock_program.specs.declared.led.Next.{Next}
+use Rattle.rwlock_program.specs.declared.led.Next.TheVariants as next
+use Rattle.lock_program.specs.declared.rwlock.Place.{Place}
 use Rattle.rwlock_program.specs.Program.{place_after}
 use Rattle.rwlock_world.specs.Guarded.{answer_by}
 use Rattle.rwlock_world.specs.Stages.{Course, polls, tries, drops, downgrades, upgrades, tries_upgrade, strays, course_of, is_on_course, is_future, goes_with}
 use Rattle.rwlock_world.proofs.table.Begun.{within}
 use Rattle.rwlock_world.proofs.step.Paths.{ends_in, Keeps}
+use Rattle.lock_program.specs.declared.end.End.TheVariants as ended_by
 
 -- ---- the calls of each course
 
@@ -148,5 +149,6 @@ always_possible v (next.End Got q) = refl
 always_possible v (next.End Granted q) = refl
 always_possible v (next.End Pending q) = refl
 always_possible v (next.End NotFree q) = refl
+always_possible v (next.End ended_by.Waiting q) = refl
 always_possible v (next.End GivenBack q) = refl
 always_possible v (next.End (Refused r) q) = refl

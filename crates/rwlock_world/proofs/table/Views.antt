@@ -6,9 +6,9 @@ use Rattle.lock_world.specs.Rosters.{how_many}
 use Rattle.lock_table.specs.Tables.{IsTable}
 use Rattle.lock_table.proofs.Mapped.{mapped_at}
 use Rattle.mutex_machine.proofs.callers.Rosters as rosters
-use Rattle.rwlock_program.specs.declared.program.Place.{Place}
-use Rattle.rwlock_program.specs.declared.program.Place.TheVariants as place
-use Rattle.rwlock_program.specs.declared.program.Ending.TheVariants as ending
+use Rattle.lock_program.specs.declared.rwlock.Place.{Place}
+use Rattle.lock_program.specs.declared.rwlock.Place.TheVariants as place
+use Rattle.lock_program.specs.declared.rwlock.Ending.TheVariants as ending
 use Rattle.rwlock_machine.specs.Roles.{bit, reads}
 use Rattle.rwlock_machine.specs.Machine.{RwLock, place_at}
 use Rattle.rwlock_world.specs.Guarded.{parties, Stands}

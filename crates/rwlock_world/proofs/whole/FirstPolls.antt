@@ -16,17 +16,17 @@ use Rattle.lock_world.specs.Rights.{upgradable, write}
 use Rattle.lock_world.specs.Whole.{going_on, moves_of, answers_of}
 use Rattle.lock_frame.specs.Steps.{beginning}
 use Rattle.lock_frame.proofs.Runs.{along, Onward}
-use Rattle.mutex_program.specs.declared.calls.LockCall.TheVariants as turn_call
+use Rattle.lock_program.specs.declared.mutex.LockCall.TheVariants as turn_call
 use Rattle.mutex_machine.specs.Mutex.{Mutex, holder_of, holders, starved}
 use Rattle.mutex_machine.proofs.callers.Holders as sees
-use Rattle.rwlock_program.specs.declared.program.Action.TheVariants as act
-use Rattle.lock_table.specs.declared.end.End.TheVariants.{Got}
-use Rattle.rwlock_program.specs.declared.program.Found.{Found}
-use Rattle.rwlock_program.specs.declared.program.Found.TheVariants.{Done, Full, NoneLeft, SomeLeft, Turn}
-use Rattle.rwlock_program.specs.declared.program.Place.{Place}
-use Rattle.rwlock_program.specs.declared.program.Place.TheVariants as place
-use Rattle.rwlock_program.specs.declared.program.Purpose.{Purpose}
-use Rattle.rwlock_program.specs.declared.program.Purpose.TheVariants as purpose
+use Rattle.lock_program.specs.declared.rwlock.Action.TheVariants as act
+use Rattle.lock_program.specs.declared.end.End.TheVariants.{Got}
+use Rattle.lock_program.specs.declared.rwlock.Found.{Found}
+use Rattle.lock_program.specs.declared.rwlock.Found.TheVariants.{Done, Full, NoneLeft, SomeLeft, Turn}
+use Rattle.lock_program.specs.declared.rwlock.Place.{Place}
+use Rattle.lock_program.specs.declared.rwlock.Place.TheVariants as place
+use Rattle.lock_program.specs.declared.rwlock.Purpose.{Purpose}
+use Rattle.lock_program.specs.declared.rwlock.Purpose.TheVariants as purpose
 use Rattle.rwlock_machine.specs.Acts.{Finds, readers}
 use Rattle.rwlock_machine.specs.Machine.{RwLock, place_at}
 use Rattle.rwlock_program.specs.Program.{action_of, next_of, place_after, with_turn, go_to, ends}

@@ -24,28 +24,28 @@ use Rattle.lock_world.specs.Whole.{going_on, moves_of, answers_of}
 use Rattle.lock_world.proofs.Equations.{some_eq}
 use Rattle.lock_frame.specs.Steps.{beginning}
 use Rattle.lock_frame.proofs.Runs.{along, Onward}
-use Rattle.lock_table.specs.declared.end.End.TheVariants.{Got, Granted, Pending, NotFree, GivenBack, Refused}
+use Rattle.lock_program.specs.declared.end.End.TheVariants.{Got, Granted, Pending, NotFree, GivenBack, Refused}
 use Rattle.lock_table.specs.Stages.{call_at, polls_again}
 use Rattle.lock_world.proofs.Lists.{others, notified_marked}
 use Rattle.mutex_machine.specs.Course.{Course as TurnCourse, is_waiting, is_told, listed}
-use Rattle.mutex_program.specs.declared.calls.Step.{Step as TurnStep}
-use Rattle.mutex_program.specs.declared.calls.Step.TheVariants as turn_step
-use Rattle.mutex_program.specs.declared.calls.End.TheVariants as turn_end
+use Rattle.lock_program.specs.declared.mutex.Step.{Step as TurnStep}
+use Rattle.lock_program.specs.declared.mutex.Step.TheVariants as turn_step
+use Rattle.lock_program.specs.declared.end.End.TheVariants as turn_end
 use Rattle.mutex_machine.specs.Conduct.{HandsOn}
 use Rattle.mutex_machine.specs.Mutex.{Mutex, course_at as turn_at}
 use Rattle.mutex_machine.proofs.callers.Callers.{out_unlisted, holding_unlisted}
 use Rattle.mutex_machine.proofs.callers.Released.{release_goes, released_marks}
-use Rattle.rwlock_program.specs.declared.program.Action.{Action}
-use Rattle.rwlock_program.specs.declared.program.Action.TheVariants as act
-use Rattle.rwlock_program.specs.declared.program.Found.{Found}
-use Rattle.rwlock_program.specs.declared.program.Found.TheVariants.{Done, Writer, NoneLeft, Yes, Turn}
-use Rattle.rwlock_program.specs.declared.program.Ending.TheVariants as ending
-use Rattle.rwlock_program.specs.declared.program.Next.{Next}
-use Rattle.rwlock_program.specs.declared.program.Next.TheVariants as next
-use Rattle.rwlock_program.specs.declared.program.Place.{Place}
-use Rattle.rwlock_program.specs.declared.program.Place.TheVariants as place
-use Rattle.rwlock_program.specs.declared.program.Purpose.{Purpose}
-use Rattle.rwlock_program.specs.declared.program.Purpose.TheVariants as purpose
+use Rattle.lock_program.specs.declared.rwlock.Action.{Action}
+use Rattle.lock_program.specs.declared.rwlock.Action.TheVariants as act
+use Rattle.lock_program.specs.declared.rwlock.Found.{Found}
+use Rattle.lock_program.specs.declared.rwlock.Found.TheVariants.{Done, Writer, NoneLeft, Yes, Turn}
+use Rattle.lock_program.specs.declared.rwlock.Ending.TheVariants as ending
+use Rattle.rwlock_program.specs.declared.led.Next.{Next}
+use Rattle.rwlock_program.specs.declared.led.Next.TheVariants as next
+use Rattle.lock_program.specs.declared.rwlock.Place.{Place}
+use Rattle.lock_program.specs.declared.rwlock.Place.TheVariants as place
+use Rattle.lock_program.specs.declared.rwlock.Purpose.{Purpose}
+use Rattle.lock_program.specs.declared.rwlock.Purpose.TheVariants as purpose
 use Rattle.rwlock_program.specs.Program.{start_of, action_of, next_of, place_after, after_lock}
 use Rattle.rwlock_machine.specs.Roles.{in_no_writer, in_no_readers, has_turn, fits_turn}
 use Rattle.rwlock_program.specs.Parties.{OnNoWriter}
@@ -141,6 +141,8 @@ polled purpose.UpgradableRead (turn_step.End turn_end.Got) u l h = refl
 polled purpose.Write (turn_step.End turn_end.Got) u l h = refl
 polled q (turn_step.End turn_end.Pending) u l h = tt
 polled q (turn_step.End turn_end.NotFree) u l h = tt
+polled q (turn_step.End turn_end.Granted) u l h = tt
+polled q (turn_step.End turn_end.Waiting) u l h = tt
 polled q (turn_step.End turn_end.GivenBack) u l h = tt
 polled q (turn_step.End (turn_end.Refused r)) u l h = h
 
@@ -209,6 +211,7 @@ answered P H n (next.End Got q) a e s = ((λ h. absurd (cc)), (λ r. absurd (fal
 answered P H n (next.End Granted q) a e s = ((λ h. absurd (cc)), (λ r. absurd (false≢true (sym (ap is_refusal e) ∙ r))))
 answered P H n (next.End Pending q) a e s = ((λ h. absurd (cc)), (λ r. absurd (false≢true (sym (ap is_refusal e) ∙ r))))
 answered P H n (next.End NotFree q) a e s = ((λ h. absurd (cc)), (λ r. absurd (false≢true (sym (ap is_refusal e) ∙ r))))
+answered P H n (next.End turn_end.Waiting q) a e s = ((λ h. absurd (cc)), (λ r. absurd (false≢true (sym (ap is_refusal e) ∙ r))))
 answered P H n (next.End GivenBack q) a e s = ((λ h. absurd (cc)), (λ r. absurd (false≢true (sym (ap is_refusal e) ∙ r))))
 answered P H n (next.End (Refused r) q) a e s = ((λ h. absurd (cc)), (λ x. s))
 
@@ -233,6 +236,7 @@ module _ (p : ℕ) (i : Inputs) where
   said_reading a (next.End Granted q) f l m r o = tt
   said_reading a (next.End Pending q) f l m r o = tt
   said_reading a (next.End NotFree q) f l m r o = tt
+  said_reading a (next.End turn_end.Waiting q) f l m r o = tt
   said_reading a (next.End GivenBack q) f l m r o = tt
   said_reading a (next.Wait q) f l m r o = tt
 
@@ -266,6 +270,7 @@ module _ (p : ℕ) (i : Inputs) where
   said_taking (next.End Granted q) t l h = tt
   said_taking (next.End Pending q) t l h = tt
   said_taking (next.End NotFree q) t l h = tt
+  said_taking (next.End turn_end.Waiting q) t l h = tt
   said_taking (next.End GivenBack q) t l h = tt
   said_taking (next.Wait q) t l h = tt
 

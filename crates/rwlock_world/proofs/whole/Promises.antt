@@ -6,7 +6,7 @@ use Rattle.lock_world.specs.declared.moves.Answer.TheVariants as answer
 use Rattle.lock_world.specs.declared.moves.Call.{Call}
 use Rattle.lock_world.specs.declared.moves.Got.TheVariants.{Value}
 use Rattle.lock_world.specs.declared.moves.Inputs.{Inputs}
-use Rattle.lock_world.specs.declared.refusal.Refusal.TheVariants as refusal
+use Rattle.lock_program.specs.declared.refusal.Refusal.TheVariants as refusal
 use Rattle.lock_world.specs.declared.moves.What.{What}
 use Rattle.lock_world.specs.declared.moves.What.TheVariants.{Begin, Go}
 use Rattle.lock_world.specs.declared.standing.Stage.{Stage}
@@ -20,11 +20,11 @@ use Rattle.mutex_machine.specs.Course.{Course as TurnCourse, is_counting}
 use Rattle.mutex_machine.specs.Mutex.{starved, Mutex, course_at as turn_at}
 use Rattle.mutex_machine.proofs.callers.Callers.{out_uncounted, holding_uncounted, waiting_uncounted}
 use Rattle.mutex_machine.proofs.callers.Holders as sees
-use Rattle.rwlock_program.specs.declared.program.Action.{Action}
-use Rattle.rwlock_program.specs.declared.program.Action.TheVariants as act
-use Rattle.rwlock_program.specs.declared.program.Found.{Found}
-use Rattle.rwlock_program.specs.declared.program.Found.TheVariants.{Turn}
-use Rattle.rwlock_program.specs.declared.program.Place.{Place}
+use Rattle.lock_program.specs.declared.rwlock.Action.{Action}
+use Rattle.lock_program.specs.declared.rwlock.Action.TheVariants as act
+use Rattle.lock_program.specs.declared.rwlock.Found.{Found}
+use Rattle.lock_program.specs.declared.rwlock.Found.TheVariants.{Turn}
+use Rattle.lock_program.specs.declared.rwlock.Place.{Place}
 use Rattle.rwlock_machine.specs.Machine.{place_at}
 use Rattle.rwlock_program.specs.Program.{action_of}
 use Rattle.rwlock_machine.specs.Roles.{fits_turn}

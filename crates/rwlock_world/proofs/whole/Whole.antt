@@ -10,18 +10,18 @@ use Rattle.lock_world.specs.declared.moves.Got.TheVariants.{Value}
 use Rattle.lock_world.specs.declared.moves.Inputs.{Inputs}
 use Rattle.lock_world.specs.declared.moves.What.{What}
 use Rattle.lock_world.specs.declared.moves.What.TheVariants.{Begin, Go}
-use Rattle.lock_world.specs.declared.refusal.Refusal.TheVariants as refusal
+use Rattle.lock_program.specs.declared.refusal.Refusal.TheVariants as refusal
 use Rattle.lock_world.specs.declared.standing.Within.{Within}
 use Rattle.lock_world.specs.Standings.{inputs_of, refused}
 use Rattle.lock_world.specs.Whole.{going_on}
 use Rattle.lock_world.proofs.Equations.{some_eq}
 use Rattle.lock_frame.specs.Steps.{left_by as left_of}
 use Rattle.mutex_machine.specs.Mutex.{steps_left as turn_steps_left}
-use Rattle.lock_table.specs.declared.end.End.TheVariants as «end»
-use Rattle.rwlock_program.specs.declared.program.Next.{Next}
-use Rattle.rwlock_program.specs.declared.program.Next.TheVariants as next
-use Rattle.rwlock_program.specs.declared.program.Place.{Place}
-use Rattle.rwlock_program.specs.declared.program.Place.TheVariants.{LookNoWriter, AskNoWriter, JoinNoReaders, LookNoReaders, AskNoReaders, AwaitNoReaders, LookUnlisted, CancellingTurn, TakeTurn, ReleasingTurn, Down}
+use Rattle.lock_program.specs.declared.end.End.TheVariants as «end»
+use Rattle.rwlock_program.specs.declared.led.Next.{Next}
+use Rattle.rwlock_program.specs.declared.led.Next.TheVariants as next
+use Rattle.lock_program.specs.declared.rwlock.Place.{Place}
+use Rattle.lock_program.specs.declared.rwlock.Place.TheVariants.{LookNoWriter, AskNoWriter, JoinNoReaders, LookNoReaders, AskNoReaders, AwaitNoReaders, LookUnlisted, CancellingTurn, TakeTurn, ReleasingTurn, Down}
 use Rattle.rwlock_machine.specs.Acts.{IsRwLock}
 use Rattle.rwlock_machine.specs.Machine.{RwLock, place_at}
 use Rattle.rwlock_machine.specs.Ranks.{left, left_from, steps_left, left_after}
@@ -67,6 +67,7 @@ left_said v (next.End «end».Got q) t p = refl
 left_said v (next.End «end».Granted q) t p = refl
 left_said v (next.End «end».Pending q) t p = refl
 left_said v (next.End «end».NotFree q) t p = refl
+left_said v (next.End «end».Waiting q) t p = refl
 left_said v (next.End «end».GivenBack q) t p = refl
 left_said v (next.End («end».Refused r) q) t p = refl
 

@@ -5,10 +5,10 @@ use Rattle.lock_queue.specs.Parties.{is_party}
 use Rattle.lock_queue.specs.Queues.{Queue}
 use Rattle.lock_world.specs.Steps.{joins, asks, leaves, notifies}
 use Rattle.lock_world.proofs.Lists.{Counted, counted}
-use Rattle.semaphore_machine.specs.declared.program.Action.{Action}
-use Rattle.semaphore_machine.specs.declared.program.Action.TheVariants as act
-use Rattle.semaphore_machine.specs.declared.program.Found.{Found}
-use Rattle.semaphore_machine.specs.declared.program.Found.TheVariants.{Done, Taken, NoneLeft, PastLimit, NoMemory, Yes, No}
+use Rattle.sync_program.specs.declared.semaphore.Action.{Action}
+use Rattle.sync_program.specs.declared.semaphore.Action.TheVariants as act
+use Rattle.sync_program.specs.declared.semaphore.Found.{Found}
+use Rattle.sync_program.specs.declared.semaphore.Found.TheVariants.{Done, Taken, NoneLeft, PastLimit, NoMemory, Yes, No}
 use Rattle.semaphore_machine.specs.declared.words.Words.{Words}
 use Rattle.semaphore_machine.specs.Deeds.{CanDo, Finds, deed_of, words_after, entries_after}
 use Rattle.semaphore_machine.specs.Tally.{tally_of}

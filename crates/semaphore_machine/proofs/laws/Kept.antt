@@ -1,18 +1,18 @@
 -- Each step keeps what always holds of the numbers.
 use Rattle.std.proofs.Common.{◌≡◌, ◌+◌, ◌<◌, ◌≤◌, zero, suc, true, false, arith}
 use Rattle.lock_queue.proofs.Debts.{still_owed}
-use Rattle.semaphore_machine.specs.declared.program.Found.{Found}
-use Rattle.semaphore_machine.specs.declared.program.Found.TheVariants.{Done, Taken, NoneLeft, PastLimit, NoMemory, Yes, No}
-use Rattle.semaphore_machine.specs.declared.program.Place.{Place}
-use Rattle.semaphore_machine.specs.declared.program.Place.TheVariants.{Take, Retake, Join, Ask, Leave, HandOn, RefuseNotify, Try, Lower, GiveBack, GiveBackNotify, Raise, GiveAdded, NotifyAdded, CancelLeave, Abandon}
-use Rattle.semaphore_machine.specs.declared.program.Position.{Position}
-use Rattle.semaphore_machine.specs.declared.program.Position.TheVariants.{At}
+use Rattle.sync_program.specs.declared.semaphore.Found.{Found}
+use Rattle.sync_program.specs.declared.semaphore.Found.TheVariants.{Done, Taken, NoneLeft, PastLimit, NoMemory, Yes, No}
+use Rattle.sync_program.specs.declared.semaphore.Place.{Place}
+use Rattle.sync_program.specs.declared.semaphore.Place.TheVariants.{Take, Retake, Join, Ask, Leave, HandOn, RefuseNotify, Try, Lower, GiveBack, GiveBackNotify, Raise, GiveAdded, NotifyAdded, CancelLeave, Abandon}
+use Rattle.sync_program.specs.declared.semaphore.Position.{Position}
+use Rattle.sync_program.specs.declared.semaphore.Position.TheVariants.{At}
 use Rattle.semaphore_machine.specs.Program.{action_of, next_of, position_after}
 use Rattle.semaphore_machine.specs.Tally.{Tally, Counts, IsSound}
 use Rattle.semaphore_machine.proofs.laws.Steps.{Effect, Goes}
 
 abbrev pub after : Place → Found → Position
-after x f = position_after x (next_of x f)
+after x f = position_after (next_of x f)
 
 -- an entry left, and what was owed is still owed
 still : (s t : Tally) (a b : Counts) → (t.size + 1 ≡ s.size) → (0 < t.size → 0 < s.marked → 0 < t.marked) → b.listed ≡ t.size → b.waiting ≤ b.listed → b.owing ≡ a.owing → 0 < b.waiting → 0 < a.owing + s.marked → 0 < b.owing + t.marked

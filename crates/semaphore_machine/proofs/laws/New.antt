@@ -3,7 +3,7 @@ use Rattle.std.proofs.Common.{ℕ, ◌≤◌, [], replicate, refl, sym, arith}
 use Rattle.std.proofs.lemmas.List.{length-replicate}
 use Rattle.lock_queue.specs.Queues.{queue}
 use Rattle.lock_world.proofs.Alike.{all_alike, none_of_all}
-use Rattle.semaphore_machine.specs.declared.program.Position.TheVariants.{Out}
+use Rattle.sync_program.specs.declared.semaphore.Position.TheVariants.{Out}
 use Rattle.semaphore_machine.specs.Deeds.{words}
 use Rattle.semaphore_machine.specs.Seats.{permits_at, under_way_at, listed, waits}
 use Rattle.semaphore_machine.specs.Machine.{IsKept}

@@ -2,11 +2,11 @@
 use Rattle.std.proofs.Common.{◌≡◌, ℕ, ◌+◌, ◌<◌, ◌≤◌, Bool, true, false}
 use Rattle.lock_world.specs.Steps.{ListFunction, joins, asks, leaves, notifies}
 use Rattle.lock_world.proofs.Lists.{Counted}
-use Rattle.semaphore_machine.specs.declared.program.Action.{Action}
-use Rattle.semaphore_machine.specs.declared.program.Action.TheVariants as act
-use Rattle.semaphore_machine.specs.declared.program.Found.{Found}
-use Rattle.semaphore_machine.specs.declared.program.Found.TheVariants.{Done, Taken, NoneLeft, PastLimit, NoMemory, Yes, No}
-use Rattle.semaphore_machine.specs.declared.program.Position.{Position}
+use Rattle.sync_program.specs.declared.semaphore.Action.{Action}
+use Rattle.sync_program.specs.declared.semaphore.Action.TheVariants as act
+use Rattle.sync_program.specs.declared.semaphore.Found.{Found}
+use Rattle.sync_program.specs.declared.semaphore.Found.TheVariants.{Done, Taken, NoneLeft, PastLimit, NoMemory, Yes, No}
+use Rattle.sync_program.specs.declared.semaphore.Position.{Position}
 use Rattle.semaphore_machine.specs.Seats.{permits_at, under_way_at, listed as stands, waits, owes}
 use Rattle.semaphore_machine.specs.Tally.{Tally, Counts}
 

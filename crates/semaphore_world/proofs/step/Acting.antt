@@ -15,8 +15,8 @@ use Rattle.lock_world.specs.declared.moves.Got.TheVariants.{Plain}
 use Rattle.lock_world.specs.declared.moves.Move.{Move}
 use Rattle.lock_world.specs.declared.moves.What.{What}
 use Rattle.lock_world.specs.declared.moves.What.TheVariants.{Begin}
-use Rattle.lock_world.specs.declared.refusal.Refusal.{Refusal}
-use Rattle.lock_world.specs.declared.refusal.Refusal.TheVariants as refusal
+use Rattle.lock_program.specs.declared.refusal.Refusal.{Refusal}
+use Rattle.lock_program.specs.declared.refusal.Refusal.TheVariants as refusal
 use Rattle.lock_world.specs.declared.standing.Kind.{Kind}
 use Rattle.lock_world.specs.declared.standing.Kind.TheVariants as kind
 use Rattle.lock_world.specs.declared.standing.Rest.{Rest}
@@ -26,7 +26,7 @@ use Rattle.lock_world.specs.declared.standing.Stage.TheVariants.{Outside, Inside
 use Rattle.lock_world.specs.declared.standing.Within.{Within}
 use Rattle.lock_world.specs.Standings.{inputs_of, call_in, is_possible, is_stepped, is_decided, may_end, decision, refused, IsUndecided}
 use Rattle.lock_world.specs.Frame.{is_giving_back, is_poll_after_ready, is_refusal}
-use Rattle.lock_world.specs.Refusals.{number_of}
+use Rattle.lock_program.specs.Refusals.{number_of}
 use Rattle.lock_world.specs.Steps.{Deed, nothing, changes, does, joins, asks, leaves, notifies, notifies_additionally}
 use Rattle.lock_world.proofs.Equations.{some_eq, none_some, finished_number}
 use Rattle.lock_table.specs.Stages.{stage_at, stands_as, call_at, polls_again, stage_after}
@@ -34,15 +34,15 @@ use Rattle.lock_table.specs.Tables.{Table}
 use Rattle.lock_table.proofs.Mapped.{set_same}
 use Rattle.lock_table.proofs.Acting as acting
 use Rattle.lock_table.proofs.Calls.{call_seen, again_seen, stands_seen, decided_after, decision_seen, later_ends}
-use Rattle.semaphore_machine.specs.declared.program.Found.{Found}
-use Rattle.semaphore_machine.specs.declared.program.Found.TheVariants.{Done, Taken, PastLimit, Yes, No}
-use Rattle.semaphore_machine.specs.declared.program.Next.{Next}
-use Rattle.semaphore_machine.specs.declared.program.Next.TheVariants as next
-use Rattle.lock_table.specs.declared.end.End.TheVariants as «end»
-use Rattle.semaphore_machine.specs.declared.program.Place.{Place}
-use Rattle.semaphore_machine.specs.declared.program.Place.TheVariants.{Take, Retake, Join, Ask, Leave, HandOn, RefuseNotify, Try, Lower, GiveBack, GiveBackNotify, Raise, GiveAdded, NotifyAdded, CancelLeave, Abandon}
-use Rattle.semaphore_machine.specs.declared.program.Position.{Position}
-use Rattle.semaphore_machine.specs.declared.program.Position.TheVariants.{Out, At}
+use Rattle.sync_program.specs.declared.semaphore.Found.{Found}
+use Rattle.sync_program.specs.declared.semaphore.Found.TheVariants.{Done, Taken, PastLimit, Yes, No}
+use Rattle.semaphore_machine.specs.Program.{Next}
+use Rattle.lock_program.specs.declared.end.Next.TheVariants as next
+use Rattle.lock_program.specs.declared.end.End.TheVariants as «end»
+use Rattle.sync_program.specs.declared.semaphore.Place.{Place}
+use Rattle.sync_program.specs.declared.semaphore.Place.TheVariants.{Take, Retake, Join, Ask, Leave, HandOn, RefuseNotify, Try, Lower, GiveBack, GiveBackNotify, Raise, GiveAdded, NotifyAdded, CancelLeave, Abandon}
+use Rattle.sync_program.specs.declared.semaphore.Position.{Position}
+use Rattle.sync_program.specs.declared.semaphore.Position.TheVariants.{Out, At}
 use Rattle.semaphore_machine.specs.declared.words.Words.{Words}
 use Rattle.semaphore_machine.specs.Program.{place_for, action_of, next_of, position_after}
 use Rattle.semaphore_machine.specs.Seats.{Seat, Share, seat_of, share_of, listed, verdict, verdict_of, adds_at}
@@ -62,28 +62,30 @@ use Rattle.semaphore_world.proofs.step.Owns.{each_has, ends_well, none_added}
 -- ---- Answers
 
 -- what a call is decided on after this
-said_so : (x : Place) (n : Next) → decided_after (answer_by n) (verdict (position_after x n)) ≡ said n
+said_so : (x : Place) (n : Next) → decided_after (answer_by n) (verdict (position_after n)) ≡ said n
 said_so x (next.Do y) = refl
-said_so x (next.End «end».Got) = refl
-said_so x (next.End «end».Granted) = refl
-said_so x (next.End «end».Pending) = refl
-said_so x (next.End «end».NotFree) = refl
-said_so x (next.End «end».GivenBack) = refl
-said_so x (next.End («end».Refused r)) = refl
+said_so x (next.End «end».Got y) = refl
+said_so x (next.End «end».Granted y) = refl
+said_so x (next.End «end».Pending y) = refl
+said_so x (next.End «end».NotFree y) = refl
+said_so x (next.End «end».Waiting y) = refl
+said_so x (next.End «end».GivenBack y) = refl
+said_so x (next.End («end».Refused r) y) = refl
 
 possible_by : (n : Next) → is_possible (answer_by n) ≡ true
 possible_by (next.Do y) = refl
-possible_by (next.End «end».Got) = refl
-possible_by (next.End «end».Granted) = refl
-possible_by (next.End «end».Pending) = refl
-possible_by (next.End «end».NotFree) = refl
-possible_by (next.End «end».GivenBack) = refl
-possible_by (next.End («end».Refused r)) = refl
+possible_by (next.End «end».Got y) = refl
+possible_by (next.End «end».Granted y) = refl
+possible_by (next.End «end».Pending y) = refl
+possible_by (next.End «end».NotFree y) = refl
+possible_by (next.End «end».Waiting y) = refl
+possible_by (next.End «end».GivenBack y) = refl
+possible_by (next.End («end».Refused r) y) = refl
 
 -- what is answered, and doesn't go on, was decided
 said_then : (n : Next) (b : Answer) → is_stepped b ≡ false → answer_by n ≡ b → said n ≡ Some b
 said_then (next.Do y) b h e = let never : is_stepped answer.Stepped ≡ false = ap is_stepped e ∙ h in absurd (cc)
-said_then (next.End f) b h e = ap Some e
+said_then (next.End f y) b h e = ap Some e
 
 polls_end : (x : Place) (f : Found) → is_polling x ≡ true → is_stepped (answer_by (next_of x f)) ≡ false → may_end kind.FirstPoll (answer_by (next_of x f)) ≡ true
 polls_end (Take true told) (Taken more) h e = absurd (cc)

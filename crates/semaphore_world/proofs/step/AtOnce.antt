@@ -18,13 +18,13 @@ use Rattle.lock_world.specs.Steps.{Deed, nothing, changes, does, notifies}
 use Rattle.lock_world.proofs.Equations.{some_eq, not_one, outside_inside}
 use Rattle.lock_table.specs.Stages.{stage_at, stands_as, call_at, polls_again}
 use Rattle.lock_table.specs.Tables.{Table}
-use Rattle.semaphore_machine.specs.declared.program.Action.TheVariants as act
-use Rattle.semaphore_machine.specs.declared.program.Found.{Found}
-use Rattle.semaphore_machine.specs.declared.program.Found.TheVariants.{Done, Taken, NoneLeft, PastLimit, NoMemory, Yes, No}
-use Rattle.semaphore_machine.specs.declared.program.Place.{Place}
-use Rattle.semaphore_machine.specs.declared.program.Place.TheVariants.{Take, Retake, Try, Lower, GiveBack, GiveBackNotify, Raise, GiveAdded, NotifyAdded}
-use Rattle.semaphore_machine.specs.declared.program.Position.{Position}
-use Rattle.semaphore_machine.specs.declared.program.Position.TheVariants.{At}
+use Rattle.sync_program.specs.declared.semaphore.Action.TheVariants as act
+use Rattle.sync_program.specs.declared.semaphore.Found.{Found}
+use Rattle.sync_program.specs.declared.semaphore.Found.TheVariants.{Done, Taken, NoneLeft, PastLimit, NoMemory, Yes, No}
+use Rattle.sync_program.specs.declared.semaphore.Place.{Place}
+use Rattle.sync_program.specs.declared.semaphore.Place.TheVariants.{Take, Retake, Try, Lower, GiveBack, GiveBackNotify, Raise, GiveAdded, NotifyAdded}
+use Rattle.sync_program.specs.declared.semaphore.Position.{Position}
+use Rattle.sync_program.specs.declared.semaphore.Position.TheVariants.{At}
 use Rattle.semaphore_machine.specs.Program.{action_of, next_of}
 use Rattle.semaphore_machine.specs.Seats.{Share, seat_of, share_of, listed, verdict, verdict_of, adds_at}
 use Rattle.semaphore_machine.specs.Deeds.{Change, ListName, takes, gives_back, forgets, gives, for_a_permit, entries_after, deed_of, Finds, FindsPermit, FindsRoom}

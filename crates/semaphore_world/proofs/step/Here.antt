@@ -15,11 +15,11 @@ use Rattle.lock_world.specs.Frame.{is_drop, is_giving_back}
 use Rattle.lock_world.specs.Standings.{inside, is_decided, IsUndecided}
 use Rattle.lock_table.proofs.Calls.{decides_so, undecided_so}
 use Rattle.lock_table.specs.Stages.{stands_as, call_at, polls_again}
-use Rattle.semaphore_machine.specs.declared.program.Action.TheVariants as act
-use Rattle.semaphore_machine.specs.declared.program.Place.{Place}
-use Rattle.semaphore_machine.specs.declared.program.Place.TheVariants.{Join, HandOn, RefuseNotify, Try, Lower, GiveBack, GiveBackNotify, Raise, GiveAdded, NotifyAdded, CancelLeave, Abandon}
-use Rattle.semaphore_machine.specs.declared.program.Position.{Position}
-use Rattle.semaphore_machine.specs.declared.program.Position.TheVariants.{Out, At}
+use Rattle.sync_program.specs.declared.semaphore.Action.TheVariants as act
+use Rattle.sync_program.specs.declared.semaphore.Place.{Place}
+use Rattle.sync_program.specs.declared.semaphore.Place.TheVariants.{Join, HandOn, RefuseNotify, Try, Lower, GiveBack, GiveBackNotify, Raise, GiveAdded, NotifyAdded, CancelLeave, Abandon}
+use Rattle.sync_program.specs.declared.semaphore.Position.{Position}
+use Rattle.sync_program.specs.declared.semaphore.Position.TheVariants.{Out, At}
 use Rattle.semaphore_machine.specs.Program.{action_of}
 use Rattle.semaphore_machine.specs.Seats.{seat_of, seated, verdict, verdict_of, adds_at}
 use Rattle.semaphore_machine.specs.Machine.{knows, goes_with, runs, is_begun, is_polling, is_adding, is_returning}

@@ -16,10 +16,10 @@ use Rattle.lock_table.specs.Stages.{stage_at, stands_as}
 use Rattle.lock_table.specs.Tables.{Table}
 use Rattle.lock_table.proofs.Mapped.{past_last}
 use Rattle.lock_table.proofs.Past.{by_stage, by_stage_or_past, by_stage_or_past_at}
-use Rattle.semaphore_machine.specs.declared.program.Place.TheVariants.{Take, Retake, Join, Ask, Leave, HandOn, RefuseNotify, Try, Lower, GiveBack, GiveBackNotify, Raise, GiveAdded, NotifyAdded, CancelLeave, Abandon}
-use Rattle.semaphore_machine.specs.declared.program.Place.{Place}
-use Rattle.semaphore_machine.specs.declared.program.Position.{Position}
-use Rattle.semaphore_machine.specs.declared.program.Position.TheVariants.{Out, Waiting as Waits_here, Holding, At}
+use Rattle.sync_program.specs.declared.semaphore.Place.TheVariants.{Take, Retake, Join, Ask, Leave, HandOn, RefuseNotify, Try, Lower, GiveBack, GiveBackNotify, Raise, GiveAdded, NotifyAdded, CancelLeave, Abandon}
+use Rattle.sync_program.specs.declared.semaphore.Place.{Place}
+use Rattle.sync_program.specs.declared.semaphore.Position.{Position}
+use Rattle.sync_program.specs.declared.semaphore.Position.TheVariants.{Out, Waiting as Waits_here, Holding, At}
 use Rattle.semaphore_machine.specs.Seats.{Share, share_of, listed, verdict, verdict_of, adds_at}
 use Rattle.semaphore_machine.specs.Machine.{Semaphore, IsSemaphore, goes_with, runs, is_begun, position_at}
 use Rattle.semaphore_world.specs.State.{World, share_at, standing_of, adds_of}

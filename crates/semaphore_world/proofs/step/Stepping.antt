@@ -4,7 +4,7 @@ use Rattle.lock_world.specs.declared.moves.Answer.{Answer}
 use Rattle.lock_world.specs.declared.moves.Answer.TheVariants as answer
 use Rattle.lock_world.specs.declared.moves.Call.{Call}
 use Rattle.lock_world.specs.declared.moves.Move.{Move}
-use Rattle.lock_world.specs.declared.refusal.Refusal.TheVariants as refusal
+use Rattle.lock_program.specs.declared.refusal.Refusal.TheVariants as refusal
 use Rattle.lock_world.specs.declared.standing.Rest.TheVariants as rest
 use Rattle.lock_world.specs.declared.standing.Within.{Within}
 use Rattle.lock_world.specs.Frame.{is_poll_after_ready}
@@ -14,7 +14,7 @@ use Rattle.lock_table.specs.Stages.{stage_at, call_at, polls_again}
 use Rattle.lock_table.specs.Tables.{Table, Acted}
 use Rattle.lock_table.proofs.Calls.{call_seen, again_seen}
 use Rattle.lock_table.proofs.Ways.{way, by_way}
-use Rattle.semaphore_machine.specs.declared.program.Place.{Place}
+use Rattle.sync_program.specs.declared.semaphore.Place.{Place}
 use Rattle.semaphore_machine.specs.Seats.{verdict}
 use Rattle.semaphore_machine.specs.Machine.{Semaphore, IsSemaphore, Moves, knows, position_at}
 use Rattle.semaphore_world.specs.State.{standing_of}

@@ -5,7 +5,7 @@ use Rattle.lock_world.specs.Standings.{Standing}
 use Rattle.lock_table.specs.Tables.{Table, new_table}
 use Rattle.lock_table.proofs.Mapped.{mapped_alike}
 use Rattle.lock_table.proofs.Views.{all_idle}
-use Rattle.semaphore_machine.specs.declared.program.Position.TheVariants.{Out}
+use Rattle.sync_program.specs.declared.semaphore.Position.TheVariants.{Out}
 use Rattle.semaphore_machine.specs.Seats.{Share, share_of, adds_at, verdict}
 use Rattle.semaphore_machine.specs.Machine.{Semaphore, new_semaphore, position_at}
 use Rattle.semaphore_world.specs.State.{World, new_world}

@@ -6,8 +6,8 @@ use Rattle.lock_table.specs.Stages.{stage_at, stands_as}
 use Rattle.lock_table.specs.Tables.{Table}
 use Rattle.lock_table.proofs.Mapped.{mapped_at, sum_mapped}
 use Rattle.lock_table.proofs.Views.{standings_at}
-use Rattle.semaphore_machine.specs.declared.program.Position.{Position}
-use Rattle.semaphore_machine.specs.declared.program.Position.TheVariants.{Out}
+use Rattle.sync_program.specs.declared.semaphore.Position.{Position}
+use Rattle.sync_program.specs.declared.semaphore.Position.TheVariants.{Out}
 use Rattle.semaphore_machine.specs.Seats.{permits_of, permits_at, under_way_at, share_of, adds_at, verdict}
 use Rattle.semaphore_machine.specs.Machine.{Semaphore, IsSemaphore, position_at}
 use Rattle.semaphore_world.specs.State.{held, under_way, available, is_free, share_at, standing_of, adds_of}

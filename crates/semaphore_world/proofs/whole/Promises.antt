@@ -14,7 +14,7 @@ use Rattle.lock_world.specs.declared.moves.Got.TheVariants.{Plain}
 use Rattle.lock_world.specs.declared.moves.Inputs.{Inputs}
 use Rattle.lock_world.specs.declared.moves.Move.{Move}
 use Rattle.lock_world.specs.declared.moves.What.TheVariants.{Begin}
-use Rattle.lock_world.specs.declared.refusal.Refusal.TheVariants as refusal
+use Rattle.lock_program.specs.declared.refusal.Refusal.TheVariants as refusal
 use Rattle.lock_world.specs.declared.standing.Kind.TheVariants as kind
 use Rattle.lock_world.specs.declared.standing.Rest.TheVariants as rest
 use Rattle.lock_world.specs.declared.standing.Within.{Within}
@@ -26,12 +26,12 @@ use Rattle.lock_frame.proofs.Endings.{ends_on}
 use Rattle.lock_frame.proofs.Runs.{Onward, along, at_first, last_of}
 use Rattle.lock_world.proofs.Equations.{chosen}
 use Rattle.lock_table.specs.Tables.{Table}
-use Rattle.semaphore_machine.specs.declared.program.Action.TheVariants as act
-use Rattle.semaphore_machine.specs.declared.program.Found.{Found}
-use Rattle.semaphore_machine.specs.declared.program.Found.TheVariants.{Done, Taken, Yes}
-use Rattle.semaphore_machine.specs.declared.program.Place.{Place}
-use Rattle.semaphore_machine.specs.declared.program.Place.TheVariants.{Take, Retake, Join, Ask, Leave, HandOn, RefuseNotify}
-use Rattle.semaphore_machine.specs.declared.program.Position.TheVariants.{At}
+use Rattle.sync_program.specs.declared.semaphore.Action.TheVariants as act
+use Rattle.sync_program.specs.declared.semaphore.Found.{Found}
+use Rattle.sync_program.specs.declared.semaphore.Found.TheVariants.{Done, Taken, Yes}
+use Rattle.sync_program.specs.declared.semaphore.Place.{Place}
+use Rattle.sync_program.specs.declared.semaphore.Place.TheVariants.{Take, Retake, Join, Ask, Leave, HandOn, RefuseNotify}
+use Rattle.sync_program.specs.declared.semaphore.Position.TheVariants.{At}
 use Rattle.semaphore_machine.specs.declared.words.Words.{Words}
 use Rattle.semaphore_machine.specs.Program.{action_of, next_of}
 use Rattle.semaphore_machine.specs.Seats.{Share, seat_of}

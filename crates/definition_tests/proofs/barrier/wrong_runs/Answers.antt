@@ -9,10 +9,10 @@ use Rattle.lock_world.specs.declared.moves.Answer.{Answer}
 use Rattle.lock_world.specs.declared.moves.Answer.TheVariants as answer
 use Rattle.lock_world.specs.declared.moves.Got.TheVariants as got
 use Rattle.lock_world.specs.declared.moves.Move.{Move}
-use Rattle.lock_world.specs.declared.refusal.Refusal.{Refusal}
-use Rattle.lock_world.specs.declared.refusal.Refusal.TheVariants as refusal
+use Rattle.lock_program.specs.declared.refusal.Refusal.{Refusal}
+use Rattle.lock_program.specs.declared.refusal.Refusal.TheVariants as refusal
 use Rattle.lock_world.specs.declared.standing.Rest.TheVariants.{Pending}
-use Rattle.lock_world.specs.Refusals.{number_of}
+use Rattle.lock_program.specs.Refusals.{number_of}
 use Rattle.lock_world.specs.Standings.{outside, refused}
 use Rattle.lock_world.specs.Steps.{Deed, nothing, changes, does}
 use Rattle.barrier_machine.specs.Waits.{Wait, no_wait, uncounted, counted}

@@ -8,11 +8,11 @@ use Rattle.lock_world.specs.declared.moves.Got.TheVariants.{Value}
 use Rattle.lock_world.specs.declared.moves.Move.{Move}
 use Rattle.lock_world.specs.declared.moves.What.{What}
 use Rattle.lock_world.specs.declared.moves.What.TheVariants.{Go}
-use Rattle.lock_world.specs.declared.refusal.Refusal.{Refusal}
-use Rattle.lock_world.specs.declared.refusal.Refusal.TheVariants as refusal
+use Rattle.lock_program.specs.declared.refusal.Refusal.{Refusal}
+use Rattle.lock_program.specs.declared.refusal.Refusal.TheVariants as refusal
 use Rattle.lock_world.specs.declared.standing.Within.{Within}
 use Rattle.lock_world.specs.Frame.{is_drop}
-use Rattle.lock_world.specs.Refusals.{number_of}
+use Rattle.lock_program.specs.Refusals.{number_of}
 use Rattle.lock_world.specs.Standings.{Standing, inside, is_decided, is_possible}
 use Rattle.lock_world.specs.Steps.{Deed, nothing, changes, does}
 use Rattle.lock_world.proofs.Equations.{some_none, none_some, outside_inside}

@@ -1,8 +1,8 @@
 -- What each action does: all else stays as it was.
 use Rattle.std.proofs.Common.{◌≡◌, Bool, true, false, refl, sym, ap, ◌∙◌}
 use Rattle.std.proofs.lemmas.Bool.{false≢true}
-use Rattle.mutex_program.specs.declared.program.Action.{Action}
-use Rattle.mutex_program.specs.declared.program.Action.TheVariants as act
+use Rattle.lock_program.specs.declared.mutex.Action.{Action}
+use Rattle.lock_program.specs.declared.mutex.Action.TheVariants as act
 use Rattle.mutex_program.proofs.deeds.carry_out.Goals as goal
 
 abbrev is_take : Action → Bool

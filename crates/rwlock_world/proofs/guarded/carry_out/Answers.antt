@@ -3,7 +3,7 @@ use Rattle.std.proofs.Common.{Option, IsSomeAnd, ap, sym, subst}
 use Rattle.lock_world.specs.declared.moves.Inputs.{Inputs}
 use Rattle.lock_world.specs.Standings.{inputs_of}
 use Rattle.lock_world.proofs.Equations.{is_some_and}
-use Rattle.rwlock_program.specs.declared.program.Place.{Place}
+use Rattle.lock_program.specs.declared.rwlock.Place.{Place}
 use Rattle.rwlock_machine.specs.Acts.{Acts}
 use Rattle.rwlock_machine.specs.Machine.{place_at}
 use Rattle.rwlock_program.specs.Program.{start_of}

@@ -18,7 +18,7 @@ invariant_of-self c =
     let stood : Stands (record { content = content_of c.self.inside.words; positions = xs; active = c.self.inside.active.entries; passive = c.self.inside.passive.entries }) c.args.party c.requires.called.stage = rw (← c.self.view_is) at c.requires.called.stands in
     let start = began xs c.args.party c.index.result.now c.args._within c.args.what c.requires.called.stage c.in-Some.from known c.index.ensures (sym c.place_for.ensures ∙ c.in-Some.is)
     stood.goes c.requires.called.call c.requires.called.first in
-    let to : c.after.result ≡ after c.in-Some.from c.carry_out-found.result = c.after.ensures ∙ ap (position_after c.in-Some.from) c.decide-next.ensures in
+    let to : c.after.result ≡ after c.in-Some.from c.carry_out-found.result = c.after.ensures ∙ ap position_after c.decide-next.ensures in
     let settled_words : content_of c.settle.new.self ≡ content_of c.self.inside.words = c.settle.ensures.content in
     let words : content_of c.carry_out-found.new.words ≡ content_after c.args.party (deed_of (action_of c.in-Some.from) c.carry_out-found.result) (content_of c.self.inside.words) = rw settled_words at (rw c.action_at.ensures at c.carry_out-found.ensures.words) in
     let active : c.carry_out-found.new.active ≡ queue c.self.inside.active.parties (active_after c.args.party (deed_of (action_of c.in-Some.from) c.carry_out-found.result) c.self.inside.active.entries) = rw c.action_at.ensures at c.carry_out-found.ensures.active in
@@ -35,7 +35,7 @@ returns-clause-acts c =
     let stood : Stands (record { content = content_of c.self.inside.words; positions = xs; active = c.self.inside.active.entries; passive = c.self.inside.passive.entries }) c.args.party c.requires.called.stage = rw (← c.self.view_is) at c.requires.called.stands in
     let start = began xs c.args.party c.index.result.now c.args._within c.args.what c.requires.called.stage c.in-Some.from known c.index.ensures (sym c.place_for.ensures ∙ c.in-Some.is)
     stood.goes c.requires.called.call c.requires.called.first in
-    let to : c.after.result ≡ after c.in-Some.from c.carry_out-found.result = c.after.ensures ∙ ap (position_after c.in-Some.from) c.decide-next.ensures in
+    let to : c.after.result ≡ after c.in-Some.from c.carry_out-found.result = c.after.ensures ∙ ap position_after c.decide-next.ensures in
     let settled_words : content_of c.settle.new.self ≡ content_of c.self.inside.words = c.settle.ensures.content in
     let words : content_of c.carry_out-found.new.words ≡ content_after c.args.party (deed_of (action_of c.in-Some.from) c.carry_out-found.result) (content_of c.self.inside.words) = rw settled_words at (rw c.action_at.ensures at c.carry_out-found.ensures.words) in
     let active : c.carry_out-found.new.active ≡ queue c.self.inside.active.parties (active_after c.args.party (deed_of (action_of c.in-Some.from) c.carry_out-found.result) c.self.inside.active.entries) = rw c.action_at.ensures at c.carry_out-found.ensures.active in
@@ -65,7 +65,7 @@ returns-clause-keeps c =
     let stood : Stands (record { content = content_of c.self.inside.words; positions = xs; active = c.self.inside.active.entries; passive = c.self.inside.passive.entries }) c.args.party c.requires.called.stage = rw (← c.self.view_is) at c.requires.called.stands in
     let start = began xs c.args.party c.index.result.now c.args._within c.args.what c.requires.called.stage c.in-Some.from known c.index.ensures (sym c.place_for.ensures ∙ c.in-Some.is)
     stood.goes c.requires.called.call c.requires.called.first in
-    let to : c.after.result ≡ after c.in-Some.from c.carry_out-found.result = c.after.ensures ∙ ap (position_after c.in-Some.from) c.decide-next.ensures in
+    let to : c.after.result ≡ after c.in-Some.from c.carry_out-found.result = c.after.ensures ∙ ap position_after c.decide-next.ensures in
     let settled_words : content_of c.settle.new.self ≡ content_of c.self.inside.words = c.settle.ensures.content in
     let words : content_of c.carry_out-found.new.words ≡ content_after c.args.party (deed_of (action_of c.in-Some.from) c.carry_out-found.result) (content_of c.self.inside.words) = rw settled_words at (rw c.action_at.ensures at c.carry_out-found.ensures.words) in
     let active : c.carry_out-found.new.active ≡ queue c.self.inside.active.parties (active_after c.args.party (deed_of (action_of c.in-Some.from) c.carry_out-found.result) c.self.inside.active.entries) = rw c.action_at.ensures at c.carry_out-found.ensures.active in

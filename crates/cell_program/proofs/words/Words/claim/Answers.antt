@@ -2,7 +2,7 @@
 use Rattle.std.proofs.Common.{sym, ap}
 use Rattle.cell_program.specs.Deeds.{claimed_after}
 use Rattle.cell_program.specs.Words.{content_of}
-use Rattle.cell_program.specs.declared.program.Found.{Found}
+use Rattle.cell_program.specs.Program.{Found}
 use Rattle.cell_program.proofs.words.Words.claim.Goals as goal
 
 pub returns-in-Empty-clause-content : goal.returns-in-Empty-clause-content

@@ -6,8 +6,8 @@ use Rattle.mutex_machine.proofs.legal.Courses.{begins_so}
 use Rattle.mutex_machine.proofs.falls.Alone.{begun_within}
 use Rattle.mutex_machine.proofs.legal.Promised.{begins_unrefused}
 use Rattle.lock_queue.specs.Parties.{entries_of}
-use Rattle.mutex_program.specs.declared.calls.End.{End}
-use Rattle.mutex_program.specs.Roles.{listed}
+use Rattle.lock_program.specs.declared.end.End.{End}
+use Rattle.lock_program.specs.MutexRoles.{listed}
 use Rattle.mutex_machine.specs.Legal.{IsLegal, decision}
 use Rattle.mutex_machine.specs.Deeds.{decided_by}
 use Rattle.mutex_machine.proofs.legal.Legal.{begins_decided, begins_fresh}

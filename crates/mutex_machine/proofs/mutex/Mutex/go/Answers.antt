@@ -1,6 +1,6 @@
 -- What the machine did, said of the mutex.
 use Rattle.std.proofs.Common.{refl, sym, subst}
-use Rattle.mutex_program.specs.declared.calls.End.{End}
+use Rattle.lock_program.specs.declared.end.End.{End}
 use Rattle.mutex_machine.specs.Machine.{place_at}
 use Rattle.std.specs.Prelude.{Option}
 use Rattle.mutex_machine.specs.Conduct.{IsLegal}

@@ -1,8 +1,8 @@
 -- What is found of a held word says whether the taker has waited for too long.
 use Rattle.std.specs.Prelude.{Bool, false}
 use Rattle.std.proofs.Common.{ap, sym}
-use Rattle.mutex_program.specs.declared.program.Found.{Found}
-use Rattle.mutex_program.specs.declared.program.Found.TheVariants.{Held}
+use Rattle.lock_program.specs.declared.mutex.Found.{Found}
+use Rattle.lock_program.specs.declared.mutex.Found.TheVariants.{Held}
 use Rattle.mutex_program.proofs.word.Word.take.Goals as goal
 
 starving_of : Found → Bool

@@ -1,7 +1,7 @@
 -- An action of one party keeps what always holds.
 use Rattle.std.proofs.Common.{◌≡◌, ◌<◌, length, ap, ◌∙◌}
 use Rattle.std.proofs.Math.ListN.{set}
-use Rattle.rwlock_program.specs.Program.{action_of, next_of, place_after}
+use Rattle.rwlock_program.specs.Program.{action_of, next_of, place_after, led_by}
 use Rattle.rwlock_program.specs.Words.{OnWord}
 use Rattle.rwlock_program.specs.Parties.{FindsMemory, OnNoWriter, OnNoReaders}
 use Rattle.rwlock_program.specs.Turns.{OnTurn}
@@ -26,7 +26,7 @@ pub invariant_of-self : goal.invariant_of-self
 invariant_of-self c =
     let known : c.args.party < length c.self.inside.places.items = rw (ap (λ m. length m.places) c.self.view_is) c.requires.known in
     let same : SameRoles c.args.from (place_at c.self.inside.places.items c.args.party) = rw (ap (λ m. m.places) c.self.view_is) c.requires.begins in
-    let to : c.after.result ≡ place_after (next_of c.args.from c.carry_out-found.result) = c.after.ensures ∙ ap place_after c.decide-next.ensures in
+    let to : c.after.result ≡ place_after (next_of c.args.from c.carry_out-found.result) = c.after.ensures ∙ ap place_after (c.led-next.ensures ∙ ap led_by c.decide.ensures) in
     let ew : OnWord (action_of c.args.from) c.carry_out-found.result c.self.inside.word c.carry_out-found.new.word = rw c.action_at.ensures at c.carry_out-found.ensures.word in
     let el : OnNoWriter c.args.party (action_of c.args.from) c.carry_out-found.result c.self.inside.no_writer.entries c.carry_out-found.new.no_writer.entries = rw c.action_at.ensures at c.carry_out-found.ensures.no_writer in
     let em : OnNoReaders c.args.party (action_of c.args.from) c.carry_out-found.result c.self.inside.no_readers.entries c.carry_out-found.new.no_readers.entries = rw c.action_at.ensures at c.carry_out-found.ensures.no_readers in
@@ -47,7 +47,7 @@ returns-clause-acts c =
       found = c.carry_out-found.result;
       finds = finds c.args.memory c.args.starving c.args.party c.self.inside.word c.carry_out-found.new.word c.self.inside.places.items c.self.inside.no_writer c.self.inside.no_readers c.carry_out-found.new.no_writer c.carry_out-found.new.no_readers c.self.inside.turn c.carry_out-found.new.turn
           c.self.invariant (action_of c.args.from) c.carry_out-found.result ew el em et ef;
-      next_is = c.decide-next.ensures;
+      next_is = (c.led-next.ensures ∙ ap led_by c.decide.ensures);
       no_writer = el;
       no_readers = em;
       turn = et;
@@ -66,4 +66,4 @@ returns-clause-falls c =
     let own_r : entries_of c.args.party c.self.inside.no_readers.entries ≡ in_no_readers (place_at c.self.inside.places.items c.args.party) = c.self.invariant.no_readers c.args.party in
     let here : entries_of c.args.party c.args.self.now.no_writer ≡ in_no_writer (place_at c.args.self.now.places c.args.party) = rw (← ap (λ m. m.no_writer) c.self.view_is, ← ap (λ m. m.places) c.self.view_is) own_w in
     let there : entries_of c.args.party c.args.self.now.no_readers ≡ in_no_readers (place_at c.args.self.now.places c.args.party) = rw (← ap (λ m. m.no_readers) c.self.view_is, ← ap (λ m. m.places) c.self.view_is) own_r in
-    fewer c.args.memory c.args.starving c.args.party c.args.from c.decide-next.result c.args.self.now _ c.requires.known c.requires.begins here there (returns-clause-acts c)
+    fewer c.args.memory c.args.starving c.args.party c.args.from c.led-next.result c.args.self.now _ c.requires.known c.requires.begins here there (returns-clause-acts c)

@@ -17,7 +17,7 @@ invariant_of-self c =
     let known : c.args.party < length xs = rw (ap (λ s. length s.positions) c.self.view_is) c.requires.known in
     let start = began xs c.args.party c.index.result.now c.args._within c.args.what c.requires.called.stage c.in-Some.from known c.index.ensures (sym c.place_for.ensures ∙ c.in-Some.is)
     (rw (ap (λ s. s.positions) c.self.view_is) c.requires.called.stands) c.requires.called.call c.requires.called.first in
-    let to : c.after.result ≡ after c.in-Some.from c.carry_out-found.result = c.after.ensures ∙ ap (position_after c.in-Some.from) c.decide-next.ensures in
+    let to : c.after.result ≡ after c.in-Some.from c.carry_out-found.result = c.after.ensures ∙ ap position_after c.decide-next.ensures in
     let words : c.carry_out-found.new.words ≡ words_after (deed_of (action_of c.in-Some.from) c.carry_out-found.result) c.self.inside.words = rw c.action_at.ensures at c.carry_out-found.ensures.words in
     let list : c.carry_out-found.new.list ≡ queue c.self.inside.list.parties (entries_after c.args.party (deed_of (action_of c.in-Some.from) c.carry_out-found.result) c.self.inside.list.entries) = rw c.action_at.ensures at c.carry_out-found.ensures.list in
     let finds : Finds (c.inputs.result.memory) c.args.party (action_of c.in-Some.from) c.carry_out-found.result c.self.inside.words c.self.inside.list.entries = rw c.action_at.ensures at c.carry_out-found.ensures.finds in
@@ -30,7 +30,7 @@ returns-clause-acts c =
     let known : c.args.party < length xs = rw (ap (λ s. length s.positions) c.self.view_is) c.requires.known in
     let start = began xs c.args.party c.index.result.now c.args._within c.args.what c.requires.called.stage c.in-Some.from known c.index.ensures (sym c.place_for.ensures ∙ c.in-Some.is)
     (rw (ap (λ s. s.positions) c.self.view_is) c.requires.called.stands) c.requires.called.call c.requires.called.first in
-    let to : c.after.result ≡ after c.in-Some.from c.carry_out-found.result = c.after.ensures ∙ ap (position_after c.in-Some.from) c.decide-next.ensures in
+    let to : c.after.result ≡ after c.in-Some.from c.carry_out-found.result = c.after.ensures ∙ ap position_after c.decide-next.ensures in
     let words : c.carry_out-found.new.words ≡ words_after (deed_of (action_of c.in-Some.from) c.carry_out-found.result) c.self.inside.words = rw c.action_at.ensures at c.carry_out-found.ensures.words in
     let list : c.carry_out-found.new.list ≡ queue c.self.inside.list.parties (entries_after c.args.party (deed_of (action_of c.in-Some.from) c.carry_out-found.result) c.self.inside.list.entries) = rw c.action_at.ensures at c.carry_out-found.ensures.list in
     let finds : Finds (c.inputs.result.memory) c.args.party (action_of c.in-Some.from) c.carry_out-found.result c.self.inside.words c.self.inside.list.entries = rw c.action_at.ensures at c.carry_out-found.ensures.finds in

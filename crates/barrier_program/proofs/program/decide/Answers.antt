@@ -1,6 +1,0 @@
--- The inner lock is released before a party waits.
-use Rattle.std.proofs.Common.{refl}
-use Rattle.barrier_program.proofs.program.decide.Goals as goal
-
-pub returns-in-Arrive : goal.returns-in-Arrive
-returns-in-Arrive c = rw c.in-Arrive.is refl

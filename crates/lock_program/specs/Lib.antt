@@ -1,0 +1,4 @@
+pub mod Refusals
+pub mod Mutex
+pub mod MutexRoles
+pub mod ReadWrite

@@ -1,6 +1,0 @@
--- Who is refused as starved is told so.
-use Rattle.std.proofs.Common.{refl}
-use Rattle.lock_world.proofs.refusal.Refusal.number.Goals as goal
-
-pub returns-in-Starved : goal.returns-in-Starved
-returns-in-Starved c = rw c.in-Starved.is refl

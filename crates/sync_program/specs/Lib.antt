@@ -1,0 +1,3 @@
+pub mod Semaphore
+pub mod OnceCell
+pub mod Barrier
