@@ -21,7 +21,7 @@ use Rattle.lock_program.specs.declared.end.Next.{Next}
 use Rattle.lock_program.specs.declared.end.Next.TheVariants as next
 use Rattle.lock_program.specs.declared.mutex.Place.{Place}
 use Rattle.lock_program.specs.declared.mutex.Place.TheVariants.{Out, Holding, Join, Look, Ask, Retry, PassOn, Count, JoinStarved, LookAlone, PassOnListed, AskStarved, Seize, RefuseUncount, RefuseLeave, RefuseNotifyMemory, RefuseNotifyStarved, ReleaseNotify}
-use Rattle.lock_program.specs.Mutex.{next_of, place_after}
+use Rattle.lock_program.specs.Mutex.{next_of}
 use Rattle.lock_program.specs.MutexRoles.{listed, is_holder, is_counted}
 
 -- what a party has: the right to the value, a count as starved, an entry in the list, a notification to pass on
@@ -143,13 +143,18 @@ IsTied list entry owed = IfSome entry (λ e. e.list.id ≡ list) × IfSome owed 
 abbrev pub Stands : {T : Type 0} → Lock → MutexParty T → Place → Type 0
 Stands w q p = IsSeated w q.seat q.hold × (having_of q.seat q.entry q.owed ≡ having_at p) × IsReached p × IsTied w.list q.entry q.owed
 
+-- where a party stands by what comes next, and how its call has ended by that
+abbrev pub place_of : Next Place Place → Place
+place_of (next.Do p) = p
+place_of (next.End e p) = p
+
+abbrev pub end_of : Next Place Place → Option End
+end_of (next.Do p) = None
+end_of (next.End e p) = Some e
+
 -- the place after one where this was found, and how the call has ended by that
 abbrev pub next_place : Place → Found → Place
-next_place p f = place_after p (next_of p f)
-
-abbrev pub end_of : Next → Option End
-end_of (next.Do action p) = None
-end_of (next.End e) = Some e
+next_place p f = place_of (next_of p f)
 
 abbrev pub end_after : Place → Found → Option End
 end_after p f = end_of (next_of p f)
@@ -169,7 +174,9 @@ IsGivenUp _ = ⊥
 
 abbrev pub EndsAt : End → Place → Type 0
 EndsAt ending.Got p = p ≡ Holding
+EndsAt ending.Granted p = ⊥
 EndsAt ending.Pending p = CanPoll p
+EndsAt ending.Waiting p = ⊥
 EndsAt ending.NotFree p = p ≡ Out
 EndsAt ending.GivenBack p = p ≡ Out
 EndsAt (ending.Refused refusal) p = (p ≡ Out) × IsGivenUp refusal
