@@ -276,7 +276,9 @@ pub fn start(call: RwLockCall, at: Place) -> Option<Place>
             ending: Ending::Reading,
         }),
         (RwLockCall::Downgrade, Place::Writing) => Some(Place::Down { keeps_turn: false }),
-        (RwLockCall::DowngradeToUpgradable, Place::Writing) => Some(Place::Down { keeps_turn: true }),
+        (RwLockCall::DowngradeToUpgradable, Place::Writing) => Some(Place::Down {
+            keeps_turn: true,
+        }),
         _ => None,
     }
 }

@@ -226,7 +226,10 @@ pub fn decide(place: Place, found: Found) -> Next<Place, Left>
             _ => Next::End(End::Pending, Left::Outside(Position::Waiting)),
         },
         Place::CancelLock | Place::CancellingLock => after_cancel(found),
-        Place::CancelLeave | Place::Abandon => Next::End(End::GivenBack, Left::Outside(Position::Out)),
+        Place::CancelLeave | Place::Abandon => Next::End(
+            End::GivenBack,
+            Left::Outside(Position::Out),
+        ),
     }
 }
 
@@ -311,7 +314,10 @@ fn released(ending: Ending) -> Next<Place, Left>
             Left::Outside(Position::Made(Aim::Arrive)),
         ),
         Ending::RefuseMemory(aim) => {
-            Next::End(End::Refused(Refusal::Memory), Left::Outside(Position::Made(aim)))
+            Next::End(
+                End::Refused(Refusal::Memory),
+                Left::Outside(Position::Made(aim)),
+            )
         }
     }
 }

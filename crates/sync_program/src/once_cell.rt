@@ -285,7 +285,10 @@ pub fn decide<V: Copy>(place: Place<V>, found: Found<V>) -> Next<Place<V>, Left<
         Place::JoinActive { maker, told } => match found {
             Found::Done => Next::Do(Place::ClaimListed(maker)),
             _ if told => Next::Do(Place::RefuseActive(maker)),
-            _ => Next::End(End::Refused(Refusal::Memory), Left::Outside(Position::ToMake(maker))),
+            _ => Next::End(
+                End::Refused(Refusal::Memory),
+                Left::Outside(Position::ToMake(maker)),
+            ),
         },
         Place::AskActive(maker) => match found {
             Found::Yes => Next::Do(Place::Claim { maker, told: true }),
@@ -303,7 +306,10 @@ pub fn decide<V: Copy>(place: Place<V>, found: Found<V>) -> Next<Place<V>, Left<
         Place::JoinPassive { told } => match found {
             Found::Done => Next::Do(Place::LookListed),
             _ if told => Next::Do(Place::RefusePassive),
-            _ => Next::End(End::Refused(Refusal::Memory), Left::Outside(Position::ToWait)),
+            _ => Next::End(
+                End::Refused(Refusal::Memory),
+                Left::Outside(Position::ToWait),
+            ),
         },
         Place::LookListed => match found {
             Found::Full(value) => Next::Do(Place::LeavePassive(value)),
@@ -314,14 +320,23 @@ pub fn decide<V: Copy>(place: Place<V>, found: Found<V>) -> Next<Place<V>, Left<
             _ => Next::End(End::Pending, Left::Outside(Position::Waiting)),
         },
         Place::LeavePassive(value) => Next::End(End::Got, Left::Ready(Got::Value(value))),
-        Place::RefuseActive(maker) => Next::End(End::Refused(Refusal::Memory), Left::Outside(Position::ToMake(maker))),
-        Place::RefusePassive => Next::End(End::Refused(Refusal::Memory), Left::Outside(Position::ToWait)),
+        Place::RefuseActive(maker) => Next::End(
+            End::Refused(Refusal::Memory),
+            Left::Outside(Position::ToMake(maker)),
+        ),
+        Place::RefusePassive => Next::End(
+            End::Refused(Refusal::Memory),
+            Left::Outside(Position::ToWait),
+        ),
         Place::Try(value) => after_try(value, found),
         Place::TryFill(value) => Next::Do(Place::TryNotifyActive(value)),
         Place::TryNotifyActive(value) => Next::Do(Place::TryNotifyPassive(value)),
         Place::TryNotifyPassive(_) => Next::End(End::Granted, Left::Outside(Position::Out)),
         Place::CancelMake => Next::Do(Place::CancelNotify),
-        Place::CancelNotify | Place::CancelLeave(_) | Place::Abandon => Next::End(End::GivenBack, Left::Outside(Position::Out)),
+        Place::CancelNotify | Place::CancelLeave(_) | Place::Abandon => Next::End(
+            End::GivenBack,
+            Left::Outside(Position::Out),
+        ),
     }
 }
 
