@@ -1,7 +1,9 @@
 //! What the clock says of a waiter.
 
 use crate::polls::Name;
-use crate::stories::{Answer, Deed, NOBODY, ONE, POLL_ONE, Row, of_timed};
+use crate::stories::{
+    Answer, Deed, NOBODY, ONE, POLL_ONE, POLL_TWO, Row, TWO, of_limited, of_timed,
+};
 use async_mutex::Refusal;
 use std::alloc::{Alloc, AllocGlobal, Global};
 use std::io;
@@ -93,6 +95,98 @@ fn more_than_500_microseconds_are_long(rt: HostRuntime) {
 fn a_clock_that_cannot_be_read_says_no(rt: HostRuntime) {
     of_timed(rt, &overtaken(7, HOUR + 1, NOT_STARVED));
     of_timed(rt, &overtaken(HOUR + 1, 1000, NOT_STARVED));
+}
+
+const FROM_ITS_FIRST_POLL: [Row; 12] = [
+    (Deed::Take, Answer::Got(1), NOBODY),
+    (Deed::Ask(Name::One), Answer::Done, NOBODY),
+    (POLL_ONE, Answer::Pending, NOBODY),
+    (Deed::At(400), Answer::Done, NOBODY),
+    (POLL_ONE, Answer::Pending, NOBODY),
+    (Deed::At(600), Answer::Done, NOBODY),
+    (Deed::GiveBack, Answer::Done, ONE),
+    (Deed::Take, Answer::Got(1), ONE),
+    (POLL_ONE, Answer::Pending, NOBODY),
+    (Deed::GiveBack, Answer::Done, ONE),
+    (Deed::Look, STARVED, ONE),
+    (POLL_ONE, Answer::Got(1), NOBODY),
+];
+
+#[test]
+fn a_poll_in_between_begins_no_new_wait(rt: HostRuntime) {
+    of_timed(rt, &FROM_ITS_FIRST_POLL);
+}
+
+const PASSES_ON_TO_THE_STARVED: [Row; 16] = [
+    (Deed::Take, Answer::Got(1), NOBODY),
+    (Deed::Ask(Name::One), Answer::Done, NOBODY),
+    (POLL_ONE, Answer::Pending, NOBODY),
+    (Deed::Ask(Name::Two), Answer::Done, NOBODY),
+    (POLL_TWO, Answer::Pending, NOBODY),
+    (Deed::At(501), Answer::Done, NOBODY),
+    (Deed::GiveBack, Answer::Done, ONE),
+    (Deed::Take, Answer::Got(1), ONE),
+    // One is starved, and stands behind Two.
+    (POLL_ONE, Answer::Pending, NOBODY),
+    (Deed::GiveBack, Answer::Done, TWO),
+    (Deed::Take, STARVED, TWO),
+    // Two leaves the lock to the starved one, which is notified.
+    (POLL_TWO, Answer::Pending, ONE),
+    (POLL_ONE, Answer::Got(1), NOBODY),
+    (Deed::GiveBack, Answer::Done, TWO),
+    (POLL_TWO, Answer::Got(1), NOBODY),
+    (Deed::GiveBack, Answer::Done, NOBODY),
+];
+
+#[test]
+fn a_notification_goes_on_to_the_starved(rt: HostRuntime) {
+    of_timed(rt, &PASSES_ON_TO_THE_STARVED);
+}
+
+// Nobody may be starved: who would be is refused, and its notification goes on.
+const NOBODY_MAY_STARVE: [Row; 16] = [
+    (Deed::Take, Answer::Got(1), NOBODY),
+    (Deed::Ask(Name::One), Answer::Done, NOBODY),
+    (POLL_ONE, Answer::Pending, NOBODY),
+    (Deed::Ask(Name::Two), Answer::Done, NOBODY),
+    (POLL_TWO, Answer::Pending, NOBODY),
+    (Deed::At(501), Answer::Done, NOBODY),
+    (Deed::GiveBack, Answer::Done, ONE),
+    (Deed::Take, Answer::Got(1), ONE),
+    (POLL_ONE, Answer::Refused(Refusal::Starved), TWO),
+    (Deed::GiveBack, Answer::Done, TWO),
+    (Deed::Look, NOT_STARVED, TWO),
+    // It is as when it was made.
+    (POLL_ONE, Answer::Got(1), TWO),
+    (Deed::GiveBack, Answer::Done, TWO),
+    (POLL_TWO, Answer::Got(1), NOBODY),
+    (Deed::GiveBack, Answer::Done, NOBODY),
+    (Deed::Look, NOT_STARVED, NOBODY),
+];
+
+// One may be starved, and another that finds it so is refused.
+const ONE_MAY_STARVE: [Row; 14] = [
+    (Deed::Take, Answer::Got(1), NOBODY),
+    (Deed::Ask(Name::One), Answer::Done, NOBODY),
+    (POLL_ONE, Answer::Pending, NOBODY),
+    (Deed::Ask(Name::Two), Answer::Done, NOBODY),
+    (Deed::At(501), Answer::Done, NOBODY),
+    (Deed::GiveBack, Answer::Done, ONE),
+    (Deed::Take, Answer::Got(1), ONE),
+    (POLL_ONE, Answer::Pending, NOBODY),
+    // A new one finds somebody starved, and would count itself too.
+    (POLL_TWO, Answer::Refused(Refusal::Starved), NOBODY),
+    (Deed::GiveBack, Answer::Done, ONE),
+    (POLL_TWO, Answer::Refused(Refusal::Starved), ONE),
+    (POLL_ONE, Answer::Got(1), NOBODY),
+    (Deed::GiveBack, Answer::Done, NOBODY),
+    (POLL_TWO, Answer::Got(1), NOBODY),
+];
+
+#[test]
+fn no_more_are_starved_than_may_be(rt: HostRuntime) {
+    of_limited(rt, 0, &NOBODY_MAY_STARVE);
+    of_limited(rt, 1, &ONE_MAY_STARVE);
 }
 
 const CANNOT_WAIT: [Row; 6] = [

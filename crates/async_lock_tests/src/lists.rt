@@ -1,13 +1,16 @@
 //! The waiting list that the locks share, row by row.
 
+ghost use Rattle.std.specs.Prelude.{◌≡◌, IfSome};
+ghost use Rattle.lock_words.specs.Heard.{IsOf};
+
 use crate::polls::{Name, Tasks};
 use crate::same::assert_same;
 use crate::stories::{BOTH, NOBODY, ONE, Woken};
-use futures::task::Waker;
-use futures::test::MockTask;
-use lock_driver::WaitingList;
-use lock_event::EntryId;
+use futures::task::{Context, Source, Waker};
+use lock_words::{Heard, Listed, Owed, WaitingList};
 use std::alloc::AllocGlobal;
+use std::marker::Model;
+use std::mem;
 use std::process::Abort;
 use std::random::RandomSource;
 use std::sync::Wait;
@@ -18,9 +21,9 @@ enum Deed {
     Look,
     /// A join that is refused is tried once more.
     Join(Name),
-    /// This task registers into the hand.
-    Register(Name),
-    /// An entry asks with the hand.
+    /// An entry is polled for its task.
+    Poll(Name),
+    /// An entry asks with what is in the hand.
     Ask(Name),
     Leave(Name),
     Notify(usize),
@@ -41,80 +44,144 @@ type Row = (Deed, Answer, bool, Woken);
 /// A list with its entries.
 struct Scene {
     list: WaitingList<Waker>,
+    source: Source,
     hand: Option<Waker>,
-    one: Option<EntryId>,
-    two: Option<EntryId>,
-    three: Option<EntryId>,
+    // The notifications that entries took.
+    owed: Option<Owed>,
+    one: Option<Listed>,
+    two: Option<Listed>,
+    three: Option<Listed>,
 }
 
-// By hand, so that a drop is one call to prove, and not all of its parts again.
-impl Drop for Scene {
-    fn drop(self) {
-        let Scene {
-            list: _,
-            hand: _,
-            one: _,
-            two: _,
-            three: _,
-        } = self;
-    }
+// Its entries, and the notification that one took, are of its list.
+impl Model for Scene {
+    ghost use Rattle.std.specs.Prelude.{◌≡◌, ℕ, IfSome};
+
+    ghost Value = { ℕ };
+
+    ghost view = { λ s. s.list.name.id };
+
+    ghost invariant = { λ s. IfSome s.owed (λ o. o.list.id ≡ s.list.name.id) × IfSome s.one (λ e. e.list.id ≡ s.list.name.id) × IfSome s.two (λ e. e.list.id ≡ s.list.name.id) × IfSome s.three (λ e. e.list.id ≡ s.list.name.id) };
 }
 
 impl Scene {
     fn new(list: WaitingList<Waker>) -> Scene {
         Scene {
             list,
+            source: Source::new(),
             hand: None,
+            owed: None,
             one: None,
             two: None,
             three: None,
         }
     }
 
-    fn place(&mut self, name: Name) -> &mut Option<EntryId> {
+    // The entries leave, and who has to be notified is.
+    fn end<R: Wait>(self, rt: &R) {
+        let Scene {
+            list,
+            source,
+            hand,
+            owed,
+            one,
+            two,
+            three,
+        } = self;
+        drop(source);
+        drop(hand);
+        leave(rt, &list, one);
+        leave(rt, &list, two);
+        leave(rt, &list, three);
+        pay(rt, &list, owed);
+        drop(list);
+    }
+
+    // The entry of this name, which has it no longer.
+    fn take(&mut self, name: Name) -> Option<Listed>
+        ensures entry { IfSome result (λ e. e.list.id ≡ self.new) }
+        ensures list { self.new ≡ self.old }
+    {
         match name {
-            Name::One => &mut self.one,
-            Name::Two => &mut self.two,
-            Name::Three => &mut self.three,
+            Name::One => self.one.take(),
+            Name::Two => self.two.take(),
+            Name::Three => self.three.take(),
         }
     }
 
-    fn id(&mut self, rt: &impl Abort, name: Name) -> EntryId {
-        (*self.place(name)).expect(rt, "an entry of this name")
+    // The entry has this name. One that had it leaves.
+    fn store<R: Wait>(&mut self, rt: &R, name: Name, entry: Listed)
+        requires { entry.list.id ≡ self.old }
+    {
+        let old = match name {
+            Name::One => mem::replace(&mut self.one, Some(entry)),
+            Name::Two => mem::replace(&mut self.two, Some(entry)),
+            Name::Three => mem::replace(&mut self.three, Some(entry)),
+        };
+        leave(rt, &self.list, old);
     }
 
     fn join<R: Wait>(&mut self, rt: &R, name: Name) {
-        let joined = match self.list.join(rt) {
-            Ok(id) => Some(id),
-            Err(_) => self.list.join(rt).ok(),
-        };
-        *self.place(name) = joined;
+        match self.list.join(rt) {
+            Ok(entry) => self.store(rt, name, entry),
+            Err(_) => {
+                if let Ok(entry) = self.list.join(rt) {
+                    self.store(rt, name, entry);
+                }
+            }
+        }
     }
 
-    fn register(&mut self, task: &MockTask) {
-        let (list, hand) = (&self.list, &mut self.hand);
-        task.enter(|cx| list.register(cx, hand));
+    // What an entry heard: whether it counts as notified.
+    fn hears<R: Wait>(&mut self, rt: &R, name: Name, heard: Heard) -> bool
+        requires { IsOf self.old heard }
+    {
+        match heard {
+            Heard::Notified(owed) => {
+                let old = mem::replace(&mut self.owed, Some(owed));
+                pay(rt, &self.list, old);
+                true
+            }
+            Heard::Waiting(entry) => {
+                self.store(rt, name, entry);
+                false
+            }
+        }
     }
 
-    fn ask<R: Wait + Abort>(&mut self, rt: &R, name: Name) -> Answer {
-        let id = self.id(rt, name);
-        let is_notified = self.list.ask(rt, id, &mut self.hand);
+    fn poll<R: Wait>(&mut self, rt: &R, name: Name, cx: &mut Context<'_>) -> Answer {
+        let entry = self.take(name)?;
+        let heard = self.list.poll(rt, entry, &self.source, cx);
+        let is_notified = self.hears(rt, name, heard);
         Some((is_notified, self.hand.is_some()))
     }
 
-    fn leave<R: Wait + Abort>(&mut self, rt: &R, name: Name) {
-        let id = self.id(rt, name);
-        self.list.leave(rt, id);
+    fn ask<R: Wait>(&mut self, rt: &R, name: Name) -> Answer {
+        let entry = self.take(name)?;
+        let heard = self.list.ask(rt, entry, &mut self.hand);
+        let is_notified = self.hears(rt, name, heard);
+        Some((is_notified, self.hand.is_some()))
     }
 
-    fn carry_out<R: Wait + Abort>(&mut self, rt: &R, tasks: &Tasks, deed: Deed) -> Answer {
+    fn leave<R: Wait>(&mut self, rt: &R, name: Name) {
+        let entry = self.take(name);
+        leave(rt, &self.list, entry);
+    }
+
+    fn notify<R: Wait>(&self, rt: &R, count: usize) {
+        if count > 0 {
+            self.list.notify(rt, count, Owed::new(self.list.id()));
+        }
+    }
+
+    fn carry_out<R: Wait>(&mut self, rt: &R, tasks: &Tasks, deed: Deed) -> Answer {
         match deed {
             Deed::Look => {}
             Deed::Join(name) => self.join(rt, name),
-            Deed::Register(name) => self.register(tasks.of(name)),
+            Deed::Poll(name) => return tasks.of(name).enter(|cx| self.poll(rt, name, cx)),
             Deed::Ask(name) => return self.ask(rt, name),
             Deed::Leave(name) => self.leave(rt, name),
-            Deed::Notify(count) => self.list.notify(rt, count),
+            Deed::Notify(count) => self.notify(rt, count),
         }
         None
     }
@@ -131,13 +198,33 @@ impl Scene {
     }
 }
 
+// Leaves the list, if there is an entry.
+fn leave<R: Wait>(rt: &R, list: &WaitingList<Waker>, entry: Option<Listed>)
+    requires { IfSome entry (λ e. e.list.id ≡ list.now.name.id) }
+{
+    if let Some(entry) = entry {
+        list.leave(rt, entry);
+    }
+}
+
+// Notifies one, if somebody is to be.
+fn pay<R: Wait>(rt: &R, list: &WaitingList<Waker>, owed: Option<Owed>)
+    requires { IfSome owed (λ o. o.list.id ≡ list.now.name.id) }
+{
+    if let Some(owed) = owed {
+        list.notify(rt, 1, owed);
+    }
+}
+
 // Carries out these rows with a list, and compares. It is not done where memory is refused.
 fn play<R>(rt: &R, rows: &[Row])
 where
     R: Wait + RandomSource + AllocGlobal + Abort,
 {
     if let Some(tasks) = Tasks::new(rt) {
-        Scene::new(WaitingList::new(rt.alloc())).play(rt, &tasks, rows);
+        let mut scene = Scene::new(WaitingList::new(rt.alloc()));
+        scene.play(rt, &tasks, rows);
+        scene.end(rt);
     }
 }
 
@@ -159,18 +246,14 @@ fn a_list_says_whether_it_has_entries(rt: HostRuntime) {
 
 const ALL: Woken = (true, true, true);
 
-const NOTIFIES: [Row; 14] = [
+const NOTIFIES: [Row; 10] = [
     (Deed::Notify(1), None, false, NOBODY),
     (Deed::Join(Name::One), None, true, NOBODY),
-    (Deed::Register(Name::One), None, true, NOBODY),
-    (Deed::Ask(Name::One), WAITS, true, NOBODY),
+    (Deed::Poll(Name::One), WAITS, true, NOBODY),
     (Deed::Join(Name::Two), None, true, NOBODY),
-    (Deed::Register(Name::Two), None, true, NOBODY),
-    (Deed::Ask(Name::Two), WAITS, true, NOBODY),
+    (Deed::Poll(Name::Two), WAITS, true, NOBODY),
     (Deed::Join(Name::Three), None, true, NOBODY),
-    (Deed::Register(Name::Three), None, true, NOBODY),
-    (Deed::Ask(Name::Three), WAITS, true, NOBODY),
-    (Deed::Notify(0), None, true, NOBODY),
+    (Deed::Poll(Name::Three), WAITS, true, NOBODY),
     (Deed::Notify(2), None, true, BOTH),
     // Those that are notified already count.
     (Deed::Notify(2), None, true, BOTH),
@@ -182,13 +265,11 @@ fn those_that_are_notified_are_woken_and_no_others(rt: HostRuntime) {
     play(&rt, &NOTIFIES);
 }
 
-const PASSES_ITS_NOTIFICATION_ON: [Row; 8] = [
+const PASSES_ITS_NOTIFICATION_ON: [Row; 6] = [
     (Deed::Join(Name::One), None, true, NOBODY),
-    (Deed::Register(Name::One), None, true, NOBODY),
-    (Deed::Ask(Name::One), WAITS, true, NOBODY),
+    (Deed::Poll(Name::One), WAITS, true, NOBODY),
     (Deed::Join(Name::Two), None, true, NOBODY),
-    (Deed::Register(Name::Two), None, true, NOBODY),
-    (Deed::Ask(Name::Two), WAITS, true, NOBODY),
+    (Deed::Poll(Name::Two), WAITS, true, NOBODY),
     (Deed::Notify(1), None, true, ONE),
     (Deed::Leave(Name::One), None, true, BOTH),
 ];
@@ -198,14 +279,13 @@ fn an_entry_that_leaves_passes_its_notification_on(rt: HostRuntime) {
     play(&rt, &PASSES_ITS_NOTIFICATION_ON);
 }
 
-const GIVES_ITS_WAKER_BACK: [Row; 8] = [
+const GIVES_ITS_WAKER_BACK: [Row; 7] = [
     (Deed::Join(Name::One), None, true, NOBODY),
-    (Deed::Register(Name::One), None, true, NOBODY),
-    (Deed::Ask(Name::One), WAITS, true, NOBODY),
+    (Deed::Poll(Name::One), WAITS, true, NOBODY),
     (Deed::Ask(Name::One), WAITS_AND_GIVES_BACK, true, NOBODY),
-    // The same task registers into it, and it goes back: nobody is woken.
-    (Deed::Register(Name::One), None, true, NOBODY),
     (Deed::Ask(Name::One), WAITS, true, NOBODY),
+    // A waker of the same task stays: nobody is woken.
+    (Deed::Poll(Name::One), WAITS, true, NOBODY),
     (Deed::Notify(1), None, true, ONE),
     (Deed::Ask(Name::One), NOTIFIED, false, ONE),
 ];
@@ -213,16 +293,4 @@ const GIVES_ITS_WAKER_BACK: [Row; 8] = [
 #[test]
 fn an_entry_that_asks_gives_its_waker_back(rt: HostRuntime) {
     play(&rt, &GIVES_ITS_WAKER_BACK);
-}
-
-const IS_GONE: [Row; 4] = [
-    (Deed::Join(Name::One), None, true, NOBODY),
-    (Deed::Leave(Name::One), None, false, NOBODY),
-    (Deed::Ask(Name::One), NOTIFIED, false, NOBODY),
-    (Deed::Leave(Name::One), None, false, NOBODY),
-];
-
-#[test]
-fn an_entry_that_is_gone_counts_as_notified(rt: HostRuntime) {
-    play(&rt, &IS_GONE);
 }

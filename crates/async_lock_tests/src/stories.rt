@@ -3,6 +3,8 @@
 //! One scene carries out the rows of all stories, over any form, so that the prover follows what a mutex
 //! promises through the scene once, and not through each story.
 
+ghost use Rattle.std.specs.Prelude.{◌≤◌};
+
 use crate::clocks::Fake;
 use crate::forms::{Form, Number, owned};
 use crate::polls::{Name, Tasks, Waiter, poll_again};
@@ -353,6 +355,22 @@ where
         return false;
     };
     let Ok(mutex) = Mutex::new(Fake::new(rt, &props.micros), 1u64) else {
+        return false;
+    };
+    play_borrowed(&rt, &mutex, &props, rows);
+    true
+}
+
+/// As [`of_timed`], of a mutex where so many waiters may be starved.
+pub(crate) fn of_limited<R>(rt: R, limit: u64, rows: &[Row]) -> bool
+where
+    R: Wait + Clock + RandomSource + AllocGlobal + Abort + Copy + Drop,
+    requires { limit ≤ 1073741823 }
+{
+    let Some(props) = Props::new(&rt) else {
+        return false;
+    };
+    let Ok(mutex) = Mutex::with_limit(Fake::new(rt, &props.micros), 1u64, limit) else {
         return false;
     };
     play_borrowed(&rt, &mutex, &props, rows);

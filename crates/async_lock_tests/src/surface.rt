@@ -77,7 +77,9 @@ fn the_example_gives_what_was_written(rt: HostRuntime) {
 fn a_mutex_is_shown_with_its_value_or_as_locked(rt: HostRuntime) {
     let mutex = fresh(rt, 7u64);
     assert_text(&rt, &mutex, "Mutex { data: 7 }");
+    // To show it leaves it free.
     let guard = mutex.try_lock();
+    assert!(rt; guard.is_some());
     assert_text(&rt, &mutex, "Mutex { data: <locked> }");
     drop(guard);
 }

@@ -1,8 +1,9 @@
 //! The list's lock is free whenever one of its wakers is called or dropped: another thread takes it meanwhile.
 
+ghost use Rattle.std.specs.Prelude.{◌≡◌, IfSome};
+
 use crate::same::assert_same;
-use lock_driver::{WaitingList, Wakes};
-use lock_event::EntryId;
+use lock_words::{Heard, Listed, Owed, WaitingList, Wakes};
 use std::alloc::AllocGlobal;
 use std::sync::atomic::{AtomicU64, Ordering};
 use std::sync::{Arc, Wait};
@@ -72,37 +73,81 @@ impl Wakes for Looks {
     }
 }
 
-/// A waiting entry with a waker. Where memory is refused, it is tried once more.
-fn waits<R: Wait>(rt: &R, list: &WaitingList<Looks>, meeting: &Arc<Meeting>) -> Option<EntryId> {
+/// A new entry. Where memory is refused, it is tried once more.
+fn joined<R: Wait>(rt: &R, list: &WaitingList<Looks>) -> Option<Listed>
+    ensures { IfSome result (λ e. e.list.id ≡ list.now.name.id) }
+{
+    match list.join(rt) {
+        Ok(entry) => Some(entry),
+        Err(_) => list.join(rt).ok(),
+    }
+}
+
+/// A waiting entry with a waker.
+fn waits<R: Wait>(rt: &R, list: &WaitingList<Looks>, meeting: &Arc<Meeting>) -> Option<Listed>
+    ensures { IfSome result (λ e. e.list.id ≡ list.now.name.id) }
+{
     let meeting = Arc::try_clone(meeting).ok()?;
     let mut hand = Some(Looks { meeting });
-    let id = match list.join(rt) {
-        Ok(id) => id,
-        Err(_) => list.join(rt).ok()?,
-    };
-    list.ask(rt, id, &mut hand);
-    Some(id)
+    let entry = joined(rt, list)?;
+    asks(rt, list, entry, &mut hand)
+}
+
+/// The entry asks: what is left of it. A notification that it took goes on.
+fn asks<R: Wait>(
+    rt: &R,
+    list: &WaitingList<Looks>,
+    entry: Listed,
+    hand: &mut Option<Looks>,
+) -> Option<Listed>
+    requires { entry.list.id ≡ list.now.name.id }
+    ensures { IfSome result (λ e. e.list.id ≡ list.now.name.id) }
+{
+    match list.ask(rt, entry, hand) {
+        Heard::Waiting(entry) => Some(entry),
+        Heard::Notified(owed) => {
+            list.notify(rt, 1, owed);
+            None
+        }
+    }
+}
+
+fn asks_at_last<R: Wait>(rt: &R, list: &WaitingList<Looks>, entry: Option<Listed>)
+    requires { IfSome entry (λ e. e.list.id ≡ list.now.name.id) }
+{
+    if let Some(entry) = entry {
+        let left = asks(rt, list, entry, &mut None);
+        leaves(rt, list, left);
+    }
+}
+
+fn leaves<R: Wait>(rt: &R, list: &WaitingList<Looks>, entry: Option<Listed>)
+    requires { IfSome entry (λ e. e.list.id ≡ list.now.name.id) }
+{
+    if let Some(entry) = entry {
+        list.leave(rt, entry);
+    }
 }
 
 /// Four wakers are called or dropped: two by a notification, one with its entry, and one by a notification that is
 /// passed on.
-fn tell<R: Wait>(rt: &R, list: &WaitingList<Looks>, meeting: &Arc<Meeting>) -> Option<()> {
-    let told = waits(rt, list, meeting)?;
-    let ends = waits(rt, list, meeting)?;
-    let leaves = waits(rt, list, meeting)?;
-    waits(rt, list, meeting)?;
-    list.notify(rt, 2);
-    list.ask(rt, ends, &mut None);
-    list.leave(rt, leaves);
-    list.leave(rt, told);
-    Some(())
+fn tell<R: Wait>(rt: &R, list: &WaitingList<Looks>, meeting: &Arc<Meeting>) {
+    let told = waits(rt, list, meeting);
+    let asked = waits(rt, list, meeting);
+    let left = waits(rt, list, meeting);
+    let last = waits(rt, list, meeting);
+    list.notify(rt, 2, Owed::new(list.id()));
+    asks_at_last(rt, list, asked);
+    leaves(rt, list, left);
+    leaves(rt, list, told);
+    leaves(rt, list, last);
 }
 
-/// Takes the list's lock once for each of four wakers, while that one is called. A join calls none itself.
+/// Takes the list's lock once for each of four wakers, while that one is called.
 fn look<R: Wait>(rt: &R, list: &WaitingList<Looks>, meeting: &Meeting) {
     for round in 1..5u64 {
         has_come(&meeting.called, round);
-        let _ = list.join(rt);
+        list.entry(rt, 0);
         meeting.had.store(round, Ordering::SeqCst);
     }
 }

@@ -1,3 +1,4 @@
 pub mod Futures
+pub mod Guards
 pub mod Outcomes
 pub mod Sources

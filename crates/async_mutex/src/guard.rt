@@ -22,7 +22,7 @@ pub struct MutexGuard<'a, T, R: Wait> {
     ghost uncounted: { seat.starved ≡ false },
 }
 
-/// A guard that owns its share of the mutex, and borrows nothing. In clauses it is the mutex that it holds.
+/// A guard that owns its share of the mutex, and borrows nothing. In clauses it is the mutex that it holds, and the value.
 pub struct MutexGuardArc<T, R: Wait> {
     mutex: Arc<Mutex<T, R>>,
     seat: Seat<T>,
@@ -33,11 +33,11 @@ impl<T, R: Wait> Model for MutexGuardArc<T, R> {
     ghost use Rattle.std.specs.Prelude.{◌≡◌, false};
     ghost use Rattle.std.specs.Arc.{arc_value};
     ghost use Rattle.lock_words.specs.Tries.{Holds};
-    ghost use Rattle.async_mutex.specs.declared.mutex.Mutex.{Mutex};
+    ghost use Rattle.async_mutex.specs.Guards.{Held};
 
-    ghost Value = { Mutex T R };
+    ghost Value = { Held T R };
 
-    ghost view = { λ g. arc_value g.mutex };
+    ghost view = { λ g. record { mutex = arc_value g.mutex; value = g.hold.value } };
 
     ghost invariant = { λ g. Holds (arc_value g.mutex).raw.words g.seat g.hold × (g.seat.starved ≡ false) };
 }
@@ -61,14 +61,14 @@ impl<'a, T, R: Wait> MutexGuard<'a, T, R> {
 impl<T, R: Wait> MutexGuardArc<T, R> {
     pub(crate) fn new(mutex: Arc<Mutex<T, R>>, seat: Seat<T>, hold: Hold<T>) -> MutexGuardArc<T, R>
         requires { Holds (arc_value mutex).raw.words seat hold × (seat.starved ≡ false) }
-        ensures { result ≡ arc_value mutex }
+        ensures { result.mutex ≡ arc_value mutex }
     {
         MutexGuardArc { mutex, seat, hold }
     }
 
     /// The mutex that the guard holds.
     pub fn source(guard: &MutexGuardArc<T, R>) -> &Arc<Mutex<T, R>>
-        ensures { arc_value result.now ≡ guard.now }
+        ensures { arc_value result.now ≡ guard.now.mutex }
     {
         &guard.mutex
     }
@@ -77,6 +77,8 @@ impl<T, R: Wait> MutexGuardArc<T, R> {
 impl<T, R: Wait> Deref for MutexGuard<'_, T, R> {
     type Target = T;
 
+    ghost deref_gives = { λ guard value. value ≡ guard.hold.value };
+
     fn deref(&self) -> &T {
         let mutex = self.mutex;
         self.hold.get(mutex.raw.words.room())
@@ -84,6 +86,8 @@ impl<T, R: Wait> Deref for MutexGuard<'_, T, R> {
 }
 
 impl<T, R: Wait> DerefMut for MutexGuard<'_, T, R> {
+    ghost deref_mut_gives = { λ guard value. value ≡ guard.hold.value };
+
     fn deref_mut(&mut self) -> &mut T {
         let mutex = self.mutex;
         self.hold.get_mut(mutex.raw.words.room())
@@ -93,12 +97,16 @@ impl<T, R: Wait> DerefMut for MutexGuard<'_, T, R> {
 impl<T, R: Wait> Deref for MutexGuardArc<T, R> {
     type Target = T;
 
+    ghost deref_gives = { λ guard value. value ≡ guard.value };
+
     fn deref(&self) -> &T {
         self.hold.get(self.mutex.raw.words.room())
     }
 }
 
 impl<T, R: Wait> DerefMut for MutexGuardArc<T, R> {
+    ghost deref_mut_gives = { λ guard value. value ≡ guard.value };
+
     fn deref_mut(&mut self) -> &mut T {
         let mutex = &self.mutex;
         self.hold.get_mut(mutex.raw.words.room())
@@ -107,23 +115,15 @@ impl<T, R: Wait> DerefMut for MutexGuardArc<T, R> {
 
 impl<T, R: Wait> Drop for MutexGuard<'_, T, R> {
     fn drop(self) {
-        let Self {
-            mutex,
-            mut seat,
-            hold,
-        } = self;
-        mutex.raw.release(&mutex.rt, &mut seat, hold);
+        let Self { mutex, seat, hold } = self;
+        mutex.release(seat, hold);
     }
 }
 
 impl<T: Drop, R: Wait + Drop> Drop for MutexGuardArc<T, R> {
     fn drop(self) {
-        let Self {
-            mutex,
-            mut seat,
-            hold,
-        } = self;
-        mutex.raw.release(&mutex.rt, &mut seat, hold);
+        let Self { mutex, seat, hold } = self;
+        mutex.release(seat, hold);
         drop(mutex);
     }
 }

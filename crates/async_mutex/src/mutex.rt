@@ -1,30 +1,23 @@
 //! The mutex.
 
-ghost use Rattle.std.specs.Prelude.{◌≡◌, ℕ, IfSome, false};
+ghost use Rattle.std.specs.Prelude.{◌≡◌, IfSome, IfOk, IfErr, None, ◌≤◌, false};
 ghost use Rattle.std.specs.Arc.{arc_value};
-ghost use Rattle.futures.specs.Task.{Covers, Keeps};
-ghost use Rattle.async_mutex.specs.Outcomes.{OnOutcome, OnWaits, Waits};
-ghost use Rattle.lock_driver.specs.Parties.{Stands};
-ghost use Rattle.mutex_program.specs.declared.program.Place.TheVariants as at;
+ghost use Rattle.async_mutex.specs.Outcomes.{Waits};
+ghost use Rattle.lock_words.specs.Tries.{Holds};
+ghost use Rattle.lock_world.specs.declared.refusal.Refusal.{Refusal};
 
 use crate::guard::{MutexGuard, MutexGuardArc};
 use crate::lock::{Lock, LockArc};
-use crate::waiting::{Outcome, Waiting};
+use crate::waiting::Waiting;
 use futures::executor::block_on;
-use futures::task::Context;
-use lock_driver::{MutexParty, RawMutex, WaitingList};
-use lock_words::{Settled, Words};
+use lock_driver::RawMutex;
+use lock_words::{Hold, STARVED_LIMIT, Seat, Settled, Words};
 use lock_world::Refusal;
-use mutex_program::calls::{End, LockCall};
-use mutex_program::program::Place;
 use std::alloc::AllocGlobal;
 use std::fmt;
 use std::random::RandomSource;
 use std::sync::{Arc, Wait};
-use std::time::{Clock, Duration, Instant};
-
-/// How long a waiter is overtaken by newcomers before it counts as starved, in microseconds.
-const PATIENCE: u64 = 500;
+use std::time::Clock;
 
 /// A value that one task at a time reads and writes.
 ///
@@ -42,15 +35,28 @@ impl<T: Drop, R: Drop> Drop for Mutex<T, R> {
 }
 
 impl<T: Drop, R: AllocGlobal + Drop> Mutex<T, R> {
-    /// A free mutex over a value. It is [`Refusal::Memory`] where memory was refused; the value is dropped then.
-    pub fn new(rt: R, value: T) -> Result<Mutex<T, R>, Refusal> {
+    /// Creates a free mutex over a value. If memory is refused, it returns [`Refusal::Memory`] and drops the value.
+    ///
+    /// No forgotten guard has left the mutex held (`is_left`).
+    pub fn new(rt: R, value: T) -> Result<Mutex<T, R>, Refusal>
+        ensures memory { IfErr result (λ refusal. refusal ≡ Refusal.Memory) }
+        ensures is_left { IfOk result (λ mutex. mutex.raw.words.is_left ≡ false) }
+    {
+        Mutex::with_limit(rt, value, STARVED_LIMIT)
+    }
+
+    /// Creates a free mutex as [`Mutex::new`] does, where at most `limit` waiters may be starved at once. It is for tests.
+    pub fn with_limit(rt: R, value: T, limit: u64) -> Result<Mutex<T, R>, Refusal>
+        requires { limit ≤ 1073741823 }
+        ensures memory { IfErr result (λ refusal. refusal ≡ Refusal.Memory) }
+        ensures is_left { IfOk result (λ mutex. mutex.raw.words.is_left ≡ false) }
+    {
         let alloc = rt.alloc();
-        let Ok(words) = Words::new(alloc, value) else {
+        let Ok(words) = Words::with_limit(alloc, value, limit) else {
             return Err(Refusal::Memory);
         };
-        let list = WaitingList::new(alloc);
         Ok(Mutex {
-            raw: RawMutex { words, list },
+            raw: RawMutex { words },
             rt,
         })
     }
@@ -72,17 +78,6 @@ impl<T, R> Mutex<T, R> {
     pub fn get_mut(&mut self) -> &mut T {
         self.raw.words.get_mut()
     }
-
-    // A party that waits to be polled for the first time.
-    pub(crate) fn first(&self) -> Waiting<T>
-        ensures { Waits self.now.raw.words result }
-    {
-        Waiting {
-            party: self.raw.party(),
-            place: Place::Out,
-            since: None,
-        }
-    }
 }
 
 impl<T, R: Wait> Mutex<T, R> {
@@ -100,105 +95,58 @@ impl<T, R: Wait> Mutex<T, R> {
 
     /// A future of the lock, which does nothing until it is polled.
     pub fn lock(&self) -> Lock<'_, T, R>
-        ensures { result ≡ future self.now false }
+        ensures { result ≡ future self.now false None }
     {
         Lock::new(self)
+    }
+
+    // Gives the lock back that a guard has that is dropped.
+    #[inline]
+    pub(crate) fn release(&self, seat: Seat<T>, hold: Hold<T>)
+        requires { Holds self.now.raw.words seat hold × (seat.starved ≡ false) }
+    {
+        self.raw.release(&self.rt, seat, hold);
     }
 
     // Gives back what a future has that is dropped.
     pub(crate) fn cancel(&self, waiting: Waiting<T>)
         requires { Waits self.now.raw.words waiting }
     {
-        let Waiting {
-            mut party,
-            place,
-            since: _,
-        } = waiting;
-        let _ = self.raw.call(&self.rt, &mut party, LockCall::Cancel, place);
+        let Waiting { party, place } = waiting;
+        self.raw.cancel(&self.rt, party, place);
     }
 }
 
 impl<T: Drop, R: Wait + Drop> Mutex<T, R> {
-    ghost use Rattle.async_mutex.specs.Sources.{is_finished};
+    ghost use Rattle.async_mutex.specs.Sources.{IsFor};
 
     /// As [`Mutex::try_lock`], for a guard that owns its share of the mutex. It is `None` too where that share
     /// can't be had.
     pub fn try_lock_arc(this: &Arc<Mutex<T, R>>) -> Option<MutexGuardArc<T, R>>
-        ensures { IfSome result (λ guard. guard ≡ arc_value this.now) }
+        ensures { IfSome result (λ guard. guard.mutex ≡ arc_value this.now) }
     {
-        let (mut seat, hold) = this.raw.take()?;
-        match Arc::try_clone(this) {
-            Ok(mutex) => Some(MutexGuardArc::new(mutex, seat, hold)),
-            Err(_) => {
-                this.raw.release(&this.rt, &mut seat, hold);
-                None
-            }
-        }
+        let mutex = Arc::try_clone(this).ok()?;
+        let (seat, hold) = mutex.raw.take()?;
+        Some(MutexGuardArc::new(mutex, seat, hold))
     }
 
     /// As [`Mutex::lock`], for a future that owns its share of the mutex and gives it to its guard. Where that share
     /// can't be had, its polls are refused as [`Refusal::Memory`].
     #[inline]
     pub fn lock_arc(this: &Arc<Mutex<T, R>>) -> LockArc<T, R>
-        ensures { is_finished result ≡ false }
+        ensures mutex { IsFor result.stage (arc_value this.now) }
+        ensures entry { result.entry ≡ None }
     {
         LockArc::new(Arc::try_clone(this).ok())
     }
 }
 
-impl<T, R: Wait + Clock> Mutex<T, R> {
-    // One poll.
-    pub(crate) fn poll_waiting(&self, cx: &mut Context<'_>, waiting: Waiting<T>) -> Outcome<T>
-        requires { Waits self.now.raw.words waiting }
-        ensures outcome { OnOutcome self.now.raw.words result }
-        ensures registered { OnWaits result (Covers cx.new (λ s. s ≡ self.now.raw.list.source.id)) }
-        ensures kept { Keeps cx.old cx.new }
-    {
-        let Waiting {
-            mut party,
-            place,
-            since,
-        } = waiting;
-        party.is_starving = has_waited_long(&self.rt, &since);
-        let poll = LockCall::Poll;
-        let (end, place) = self.raw.call(&self.rt, &mut party, poll, place);
-        match end {
-            End::Got => {
-                let (seat, hold) = party.into_held(&self.raw.words);
-                Outcome::Got(seat, hold)
-            }
-            End::Refused(refusal) => Outcome::Refused(refusal, anew(&self.raw.words, party)),
-            // The waker that the entry kept is in hand. It is registered into, and the entry asks again with it.
-            End::Pending | End::NotFree | End::GivenBack => {
-                self.raw.list.register(cx, &mut party.waker);
-                let (end, place) = self.raw.call(&self.rt, &mut party, poll, place);
-                match end {
-                    End::Got => {
-                        let (seat, hold) = party.into_held(&self.raw.words);
-                        Outcome::Got(seat, hold)
-                    }
-                    End::Refused(refusal) => Outcome::Refused(
-                        refusal,
-                        anew(&self.raw.words, party),
-                    ),
-                    End::Pending | End::NotFree | End::GivenBack => {
-                        let since = since.or_else(|| Instant::now(&self.rt).ok());
-                        Outcome::Waits(Waiting {
-                            party,
-                            place,
-                            since,
-                        })
-                    }
-                }
-            }
-        }
-    }
-}
-
 impl<T: Drop, R: Wait + Clock + RandomSource + AllocGlobal> Mutex<T, R> {
-    /// Takes the lock, and holds the calling thread up until it is had. Any error of `block_on` is
+    /// Acquires the lock, blocking the calling thread until it is available. Any error of `block_on` is
     /// [`Refusal::Memory`].
-    pub fn lock_blocking(&self) -> Result<MutexGuard<'_, T, R>, Refusal> {
+    pub fn lock_blocking(&self) -> Result<MutexGuard<'_, T, R>, Refusal>
+        ensures { IfOk result (λ guard. guard.mutex.now ≡ self.now) }
+    {
         if let Some(guard) = self.try_lock() {
             return Ok(guard);
         }
@@ -211,7 +159,9 @@ impl<T: Drop, R: Wait + Clock + RandomSource + AllocGlobal> Mutex<T, R> {
 
 impl<T: Drop, R: Wait + Clock + RandomSource + AllocGlobal + Drop> Mutex<T, R> {
     /// As [`Mutex::lock_blocking`], for a guard that owns its share of the mutex.
-    pub fn lock_arc_blocking(this: &Arc<Mutex<T, R>>) -> Result<MutexGuardArc<T, R>, Refusal> {
+    pub fn lock_arc_blocking(this: &Arc<Mutex<T, R>>) -> Result<MutexGuardArc<T, R>, Refusal>
+        ensures { IfOk result (λ guard. guard.mutex ≡ arc_value this.now) }
+    {
         if let Some(guard) = Mutex::try_lock_arc(this) {
             return Ok(guard);
         }
@@ -242,28 +192,5 @@ struct Locked;
 impl fmt::Debug for Locked {
     fn fmt<W: fmt::Write>(&self, f: &mut fmt::Formatter<W>) -> fmt::Result {
         f.write_str("<locked>")
-    }
-}
-
-// More than 500 microseconds since then. A clock that can't be read says no.
-fn has_waited_long<R: Clock>(rt: &R, since: &Option<Instant>) -> bool {
-    match since {
-        Some(since) => match since.elapsed(rt) {
-            Ok(waited) => waited > Duration::from_micros(PATIENCE),
-            Err(_) => false,
-        },
-        None => false,
-    }
-}
-
-// What a refused poll leaves: a future as when it was made.
-fn anew<T>(words: &Words<T>, party: MutexParty<T>) -> Waiting<T>
-    requires { Stands words.now party at.Out }
-    ensures { Waits words.now result }
-{
-    Waiting {
-        party,
-        place: Place::Out,
-        since: None,
     }
 }

@@ -1,27 +1,113 @@
-//! What a lock's future keeps between its polls.
+//! What a lock's future keeps between its polls, and one poll of it.
 
-use lock_driver::MutexParty;
-use lock_words::{Hold, Seat};
+ghost use Rattle.std.specs.Prelude.{◌≡◌, IfSome, IsSomeAnd, IsSome, None};
+ghost use Rattle.futures.specs.Task.{Keeps};
+ghost use Rattle.async_mutex.specs.Futures.{entry_of};
+ghost use Rattle.async_mutex.specs.Outcomes.{OnOutcome, OnWaits, Polled, Waits};
+ghost use Rattle.lock_driver.specs.Parties.{IsReceipt, Stands};
+ghost use Rattle.mutex_program.specs.declared.program.Place.TheVariants as at;
+
+use futures::task::Context;
+use lock_driver::{MutexParty, RawMutex};
+use lock_words::{Hold, Seat, put};
 use lock_world::Refusal;
+use mutex_program::calls::End;
 use mutex_program::program::Place;
-use std::time::Instant;
+use std::sync::Wait;
+use std::time::Clock;
 
-/// A party of a mutex between two polls.
-#[derive(Drop)]
+/// A party of a mutex between two polls. It has no `Drop`: a poll goes on with it, or a cancel ends it.
 pub struct Waiting<T> {
     pub(crate) party: MutexParty<T>,
     pub(crate) place: Place,
-    // When it first found the lock not free. A clock that couldn't be read is tried again.
-    pub(crate) since: Option<Instant>,
 }
 
 /// How a poll went.
-#[derive(Drop)]
 pub enum Outcome<T> {
     /// The lock, by this seat, with the right to its value.
     Got(Seat<T>, Hold<T>),
     /// It waits.
-    Waits(Waiting<T>),
+    Waits,
     /// It gave up, and is as when it was made.
-    Refused(Refusal, Waiting<T>),
+    Refused(Refusal),
+}
+
+/// Polls a party in place. There is none before the first poll that waits, nor after the last.
+///
+/// By the contract the party has what its place says whenever there is one. It waits only with a receipt of the lock's
+/// list (`receipt`).
+pub(crate) fn poll_waiting<T, R: Wait + Clock>(
+    raw: &RawMutex<T>,
+    rt: &R,
+    cx: &mut Context<'_>,
+    waiting: &mut Option<Waiting<T>>,
+) -> Outcome<T>
+    requires { IfSome waiting.old (Waits raw.now.words) }
+    ensures waiting { IfSome waiting.new (Waits raw.now.words) }
+    ensures outcome { OnOutcome raw.now.words result waiting.new }
+    ensures receipt { OnWaits result (IsReceipt raw.now.words cx.new (entry_of waiting.new)) }
+    ensures kept { Keeps cx.old cx.new }
+{
+    match poll_in_place(raw, rt, cx, waiting) {
+        End::Pending => Outcome::Waits,
+        End::Got => {
+            let (seat, hold) = taken(waiting).into_held(&raw.words);
+            Outcome::Got(seat, hold)
+        }
+        End::Refused(refusal) => {
+            taken(waiting).end(&raw.words);
+            Outcome::Refused(refusal)
+        }
+        // No poll of the program ends so.
+        End::NotFree | End::GivenBack => {
+            taken(waiting).end(&raw.words);
+            Outcome::Refused(Refusal::Memory)
+        }
+    }
+}
+
+// The party of a call that is over.
+fn taken<T>(waiting: &mut Option<Waiting<T>>) -> MutexParty<T>
+    requires { IsSome waiting.old }
+    ensures party { IfSome waiting.old (λ q. result ≡ q.party) }
+    ensures none { waiting.new ≡ None }
+{
+    match waiting.take() {
+        Some(Waiting { party, place: _ }) => party,
+        None => unreachable!(),
+    }
+}
+
+// One poll, from the place where the party stands: how it ends.
+fn poll_in_place<T, R: Wait + Clock>(
+    raw: &RawMutex<T>,
+    rt: &R,
+    cx: &mut Context<'_>,
+    waiting: &mut Option<Waiting<T>>,
+) -> End
+    requires { IfSome waiting.old (Waits raw.now.words) }
+    ensures polled { IsSomeAnd waiting.new (λ q. Polled raw.now.words cx.new result q) }
+    ensures kept { Keeps cx.old cx.new }
+{
+    if waiting.is_none() {
+        put(waiting, first(raw));
+    }
+    match waiting {
+        Some(inside) => {
+            let (end, place) = raw.poll(rt, cx, &mut inside.party, inside.place);
+            inside.place = place;
+            end
+        }
+        None => unreachable!(),
+    }
+}
+
+// A party that waits to be polled for the first time.
+fn first<T>(raw: &RawMutex<T>) -> Waiting<T>
+    ensures { Waits raw.now.words result }
+{
+    Waiting {
+        party: raw.party(),
+        place: Place::Out,
+    }
 }

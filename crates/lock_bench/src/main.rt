@@ -4,13 +4,11 @@
 mod rows;
 mod threads;
 mod timing;
+mod waiting;
 
 use async_lock::Mutex;
 use futures::test::MockTask;
-use rows::{
-    BlockingPair, HandOver, HeldTry, LockArcPair, LockPair, PendingPoll, StdPair, TryArcPair,
-    TryPair,
-};
+use rows::{BlockingPair, HeldTry, LockArcPair, LockPair, NewPair, StdPair, TryArcPair, TryPair};
 use std::alloc::AllocGlobal;
 use std::process::ExitCode;
 use std::random::RandomSource;
@@ -19,8 +17,9 @@ use std::sync::{Arc, Wait};
 use std::thread::Threads;
 use std::time::Clock;
 use std::{env, io};
-use threads::median_of_threads;
+use threads::{median_of_contenders, median_of_threads};
 use timing::{Row, median};
+use waiting::{Part, median_of};
 
 /// How often a run does what is timed, where it takes some ten nanoseconds, and where it takes more.
 const OFTEN: u64 = 500_000;
@@ -52,26 +51,52 @@ where
     let ready = LockArcPair { mutex: owned, task };
     print(rt, "lock_arc ready and drop", &ready, OFTEN)?;
     let blocking = BlockingPair { mutex };
-    print(rt, "lock_blocking and drop", &blocking, OFTEN)?;
-    let pending = PendingPoll { mutex, task };
-    print(rt, "poll to pending and drop", &pending, SELDOM)
+    print(rt, "lock_blocking and drop", &blocking, OFTEN)
 }
 
-/// A lock that goes from one future to the next.
-fn print_hand_overs<R>(rt: &R, mutex: &Mutex<u64, R>, task: &MockTask) -> io::Result<()>
+/// What is timed of futures that wait, and with how many of them.
+const WAITS: [(&str, Part, [u64; 5]); 8] = [
+    (
+        "poll to pending and drop of one more",
+        Part::OneMore,
+        [0, 1, 100, 10_000, 0],
+    ),
+    ("join", Part::Register, [1, 100, 10_000, 0, 0]),
+    ("poll again", Part::PollAgain, [1, 100, 10_000, 0, 0]),
+    (
+        "cancel the first",
+        Part::CancelFirst,
+        [1, 100, 10_000, 0, 0],
+    ),
+    (
+        "cancel the middle",
+        Part::CancelMiddle,
+        [1, 100, 10_000, 0, 0],
+    ),
+    ("cancel the last", Part::CancelLast, [1, 100, 10_000, 0, 0]),
+    (
+        "hand-over and a new one",
+        Part::HandOver,
+        [1, 10, 100, 1000, 10_000],
+    ),
+    ("hand-over", Part::HandOverAlone, [1, 10, 100, 1000, 10_000]),
+];
+
+/// A lock that futures wait for.
+fn print_waits<R>(rt: &R, mutex: &Mutex<u64, R>, task: &MockTask) -> io::Result<()>
 where
-    R: Wait + Clock + Print + AllocGlobal + RandomSource + Drop,
+    R: Wait + Clock + Print + AllocGlobal,
 {
-    let alloc = rt.alloc();
-    for waiting in [1, 10, 1000] {
-        let row = HandOver {
-            mutex,
-            task,
-            alloc,
-            waiting,
-        };
-        println!(rt; "{waiting} waiting:")?;
-        print(rt, "hand-over", &row, SELDOM)?;
+    for (name, part, counts) in WAITS {
+        for (at, waiting) in counts.into_iter().enumerate() {
+            // Behind the first, 0 fills the table.
+            if at > 0 && waiting == 0 {
+                continue;
+            }
+            let tenths = median_of(rt, mutex, task, part, waiting, SELDOM)?;
+            println!(rt; "{waiting} waiting:")?;
+            print_tenths(rt, name, tenths)?;
+        }
     }
     Ok(())
 }
@@ -88,6 +113,19 @@ where
     Ok(())
 }
 
+/// A lock that threads contend for.
+fn print_contenders<R>(rt: &R, mutex: &Mutex<u64, R>) -> io::Result<()>
+where
+    R: Threads + Wait + Clock + Print + AllocGlobal + RandomSource + Sync + Drop,
+{
+    println!(rt; "2 threads:")?;
+    let two = median_of_contenders(rt, mutex, false, SELDOM)?;
+    print_tenths(rt, "contended lock_blocking and drop", two)?;
+    println!(rt; "4 threads:")?;
+    let four = median_of_contenders(rt, mutex, true, SELDOM)?;
+    print_tenths(rt, "contended lock_blocking and drop", four)
+}
+
 /// The rows of one mutex.
 fn print_rows<R>(rt: &R, owned: &Arc<Mutex<u64, R>>) -> io::Result<()>
 where
@@ -95,7 +133,7 @@ where
 {
     let task = &MockTask::new(rt)?;
     print_pairs(rt, owned, task)?;
-    print_hand_overs(rt, owned, task)
+    print_waits(rt, owned, task)
 }
 
 /// All rows, or none where memory is refused.
@@ -116,6 +154,8 @@ where
     };
     print(&rt, "std lock and unlock", &std_pair, OFTEN)?;
     print_rows(&rt, &owned)?;
+    print(&rt, "new and drop", &NewPair { rt: &rt }, SELDOM)?;
+    print_contenders(&rt, &owned)?;
     print_threads(&rt)
 }
 

@@ -1,11 +1,9 @@
 //! What is timed: each row a loop over one use of a lock.
 
 use crate::timing::Row;
-use async_lock::lock_futures::Lock;
-use async_lock::{Mutex, MutexGuard, Turn};
-use futures::task::Context;
+use async_lock::{Mutex, Turn};
 use futures::test::MockTask;
-use std::alloc::{AllocGlobal, Global};
+use std::alloc::AllocGlobal;
 use std::hint::black_box;
 use std::random::RandomSource;
 use std::sync::{Arc, Wait};
@@ -136,80 +134,16 @@ impl<R: Wait + Clock + RandomSource + AllocGlobal> Row for BlockingPair<'_, R> {
     }
 }
 
-/// A poll of a new future to pending, and the future's drop.
+/// A new mutex, and its drop.
 #[derive(Drop)]
-pub(crate) struct PendingPoll<'a, 'b, R: Wait> {
-    pub mutex: &'a Mutex<u64, R>,
-    pub task: &'b MockTask,
+pub(crate) struct NewPair<'a, R> {
+    pub rt: &'a R,
 }
 
-impl<R: Wait + Clock> Row for PendingPoll<'_, '_, R> {
+impl<R: AllocGlobal + Copy + Drop> Row for NewPair<'_, R> {
     fn go(&self, times: u64) {
-        let mutex = self.mutex;
-        let held = mutex.try_lock();
-        self.task.enter(|cx| {
-            for _ in 0..times {
-                black_box(mutex).lock().poll(cx);
-            }
-        });
-        drop(held);
-    }
-}
-
-/// Hand-over with so many futures waiting: the guard is dropped, the first future in the list gets the lock, and a new
-/// one joins in its place.
-#[derive(Drop)]
-pub(crate) struct HandOver<'a, 'b, R: Wait> {
-    pub mutex: &'a Mutex<u64, R>,
-    pub task: &'b MockTask,
-    pub alloc: Global,
-    pub waiting: u64,
-}
-
-impl<R: Wait + Clock> Row for HandOver<'_, '_, R> {
-    fn go(&self, times: u64) {
-        let Some(held) = self.mutex.try_lock() else {
-            return;
-        };
-        let mutex = self.mutex;
-        let mut futures = Vec::new(self.alloc);
-        let waiting = self.waiting;
-        self.task.enter(|cx| {
-            for _ in 0..waiting {
-                if futures.push(joined(mutex, cx)).is_err() {
-                    return;
-                }
-            }
-            hand_over(mutex, held, &mut futures, times, cx);
-        });
-    }
-}
-
-fn joined<'a, R: Wait + Clock>(mutex: &'a Mutex<u64, R>, cx: &mut Context<'_>) -> Lock<'a, u64, R> {
-    let mut future = mutex.lock();
-    black_box(matches!(future.poll(cx), Turn::Pending));
-    future
-}
-
-fn hand_over<'a, R: Wait + Clock>(
-    mutex: &'a Mutex<u64, R>,
-    held: MutexGuard<'a, u64, R>,
-    futures: &mut Vec<Lock<'a, u64, R>>,
-    times: u64,
-    cx: &mut Context<'_>,
-) {
-    let mut held = held;
-    let mut at = 0;
-    for _ in 0..times {
-        drop(held);
-        let Some(future) = futures.get_mut(at) else {
-            return;
-        };
-        let Turn::Ready(guard) = future.poll(cx) else {
-            return;
-        };
-        held = guard;
-        *future = joined(mutex, cx);
-        at = if at + 1 < futures.len() { at + 1 } else { 0 };
+        for _ in 0..times {
+            drop(black_box(Mutex::new(*self.rt, black_box(7_u64))));
+        }
     }
 }

@@ -2,14 +2,15 @@
 //! runtime.
 
 use crate::timing::{RUNS, nanoseconds, tenths};
+use async_lock::Mutex;
 use lock_workers::{Gate, public};
 use std::alloc::{AllocGlobal, Global};
 use std::hint::black_box;
-use std::io;
 use std::random::RandomSource;
 use std::sync::Wait;
 use std::thread::Threads;
 use std::time::{Clock, Instant};
+use std::{io, thread};
 
 /// What a worker passes that need not wait.
 #[derive(Drop)]
@@ -39,4 +40,42 @@ where
         *slot = nanoseconds(start.elapsed(rt)?);
     }
     Ok(tenths(&mut found, times))
+}
+
+// A thread that takes the lock so often.
+fn hammer<R: Wait + Clock + RandomSource + AllocGlobal>(mutex: &Mutex<u64, R>, times: u64) {
+    for _ in 0..times {
+        if let Ok(mut guard) = mutex.lock_blocking() {
+            *guard = guard.wrapping_add(1);
+        }
+    }
+}
+
+/// The tenths of nanoseconds that a `lock_blocking` and the guard's drop take of two threads that contend for a mutex, or
+/// of four: the median of [`RUNS`] runs of so many times for each thread.
+pub(crate) fn median_of_contenders<R>(
+    rt: &R,
+    mutex: &Mutex<u64, R>,
+    four: bool,
+    times: u64,
+) -> io::Result<u64>
+where
+    R: Threads + Wait + Clock + RandomSource + AllocGlobal + Sync + Drop,
+{
+    let contend = || hammer(mutex, times);
+    let two = || {
+        thread::join(rt, &contend, &contend);
+    };
+    let mut found = [0_u64; RUNS];
+    for slot in found.iter_mut() {
+        let start = Instant::now(rt)?;
+        if four {
+            thread::join(rt, &two, &two);
+        } else {
+            two();
+        }
+        *slot = nanoseconds(start.elapsed(rt)?);
+    }
+    let threads = if four { 4 } else { 2 };
+    Ok(tenths(&mut found, times.saturating_mul(threads)))
 }

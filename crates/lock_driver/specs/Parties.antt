@@ -1,9 +1,13 @@
 -- What a party of a mutex has at a place of its call, and what an action does to that.
-use Rattle.std.specs.Prelude.{◌≡◌, Bool, true, false, ◌==◌, is_some, Option, Some, None, ⊤}
+use Rattle.std.specs.Prelude.{◌≡◌, ℕ, IfSome, IsSomeAnd, Bool, true, false, not, ◌==◌, is_some, Option, Some, None, ⊤}
 use Rattle.lock_driver.specs.declared.mutex_party.MutexParty.{MutexParty}
-use Rattle.lock_event.specs.declared.event.EntryId.{EntryId}
 use Rattle.lock_place.specs.declared.room.Hold.{Hold}
+use Rattle.futures.specs.Task.{Covers}
+use Rattle.futures.specs.declared.task.context.Context.{Context}
+use Rattle.lock_words.specs.Heard.{IsKept}
 use Rattle.lock_words.specs.Lock.{Lock, Seated}
+use Rattle.lock_words.specs.declared.duty.Owed.{Owed}
+use Rattle.lock_words.specs.declared.waiting_list.Listed.{Listed}
 use Rattle.lock_world.specs.declared.refusal.Refusal.{Refusal}
 use Rattle.lock_world.specs.declared.refusal.Refusal.TheVariants.{Memory, Starved}
 use Rattle.lock_words.specs.Tries.{Holds}
@@ -16,34 +20,73 @@ use Rattle.mutex_program.specs.declared.program.Found.TheVariants.{Done, Free, H
 use Rattle.mutex_program.specs.declared.program.Next.{Next}
 use Rattle.mutex_program.specs.declared.program.Next.TheVariants as next
 use Rattle.mutex_program.specs.declared.program.Place.{Place}
-use Rattle.mutex_program.specs.declared.program.Place.TheVariants.{Out, Holding, Ask, AskStarved}
+use Rattle.mutex_program.specs.declared.program.Place.TheVariants.{Out, Holding, Join, Look, Ask, Retry, PassOn, Count, JoinStarved, LookAlone, PassOnListed, AskStarved, Seize, RefuseUncount, RefuseLeave, RefuseNotifyMemory, RefuseNotifyStarved, ReleaseNotify}
 use Rattle.mutex_program.specs.Program.{next_of, place_after}
 use Rattle.mutex_program.specs.Roles.{listed, is_holder, is_counted}
 
--- what a party has: the right to the value, a count as starved, an entry in the list
+-- what a party has: the right to the value, a count as starved, an entry in the list, a notification to pass on
 pub record Having : Type 0 where
   pub right : Bool
   pub count : Bool
   pub entry : Bool
+  pub owes : Bool
 
-abbrev pub having : Bool → Bool → Bool → Having
-having right count entry = record { right = right; count = count; entry = entry }
+abbrev pub having : Bool → Bool → Bool → Bool → Having
+having right count entry owes = record { right = right; count = count; entry = entry; owes = owes }
+
+-- It has a notification to pass on: one that it took in this poll, until it stands in the list and has found the lock held or has passed it on;
+-- and one for the lock that it has given back.
+abbrev pub has_owed : Place → Bool
+has_owed (Join told) = told
+has_owed (Look told) = told
+has_owed Retry = true
+has_owed PassOn = true
+has_owed (Count true told) = told
+has_owed JoinStarved = true
+has_owed LookAlone = true
+has_owed PassOnListed = true
+has_owed Seize = true
+has_owed RefuseUncount = true
+has_owed (RefuseLeave told) = told
+has_owed RefuseNotifyMemory = true
+has_owed RefuseNotifyStarved = true
+has_owed ReleaseNotify = true
+has_owed _ = false
 
 -- what a party has at this place
 abbrev pub having_at : Place → Having
-having_at p = having (is_holder p) (is_counted p) (listed p == 1)
+having_at p = having (is_holder p) (is_counted p) (listed p == 1) (has_owed p)
+
+-- no party counts itself that isn't listed and wasn't notified
+abbrev pub IsReached : Place → Type 0
+IsReached (Count false false) = ⊥
+IsReached _ = ⊤
+
+-- whether a party that found the lock held still has its notification to pass on: not if it stands in the list, or counts as starved next
+abbrev pub still : Bool → Bool → Bool → Bool
+still owes false false = owes
+still owes false true = false
+still owes true starving = false
+
+abbrev pub at_limit : Bool → Bool → Bool
+at_limit owes true = owes
+at_limit owes false = true
 
 -- what an action that found this leaves
 abbrev pub after : Action → Found → Having → Having
-after act.Take Free h = having true h.count h.entry
-after act.TakeAlone Free h = having true h.count h.entry
-after act.Set Free h = having true h.count h.entry
-after act.Count Done h = having h.right true h.entry
-after act.Uncount Done h = having h.right false h.entry
-after act.Clear Done h = having false h.count h.entry
-after act.Join Done h = having h.right h.count true
-after act.Ask Yes h = having h.right h.count false
-after act.Leave Done h = having h.right h.count false
+after act.Take Free h = having true h.count h.entry false
+after act.Take (Held starving) h = having h.right h.count h.entry (still h.owes h.entry starving)
+after act.TakeAlone Free h = having true h.count h.entry false
+after act.TakeAlone (Held starving) h = having h.right h.count h.entry false
+after act.Set Free h = having true h.count h.entry false
+after act.Count Done h = having h.right true h.entry (not h.entry)
+after act.Count AtLimit h = having h.right h.count h.entry (at_limit h.owes h.entry)
+after act.Uncount Done h = having h.right false h.entry h.owes
+after act.Clear Done h = having false h.count h.entry true
+after act.Join Done h = having h.right h.count true h.owes
+after act.Ask Yes h = having h.right h.count false true
+after act.Leave Done h = having h.right h.count false h.owes
+after act.Notify Done h = having h.right h.count h.entry false
 after _ _ h = h
 
 -- what an action may find
@@ -76,24 +119,29 @@ CanDo act.TakeAlone h = h.right ≡ false
 CanDo act.Set h = h.right ≡ false
 CanDo act.Count h = h.count ≡ false
 CanDo act.Uncount h = h.count ≡ true
-CanDo act.Clear h = h.right ≡ true
+CanDo act.Clear h = (h.right ≡ true) × (h.owes ≡ false)
 CanDo act.Join h = h.entry ≡ false
-CanDo act.Ask h = h.entry ≡ true
+CanDo act.Ask h = (h.entry ≡ true) × (h.owes ≡ false)
 CanDo act.Leave h = h.entry ≡ true
+CanDo act.Notify h = h.owes ≡ true
 CanDo _ h = ⊤
 
 -- What a party has by its seat and its entry.
-abbrev pub having_of : Seated → Option EntryId → Having
-having_of seat entry = having seat.holds seat.starved (is_some entry)
+abbrev pub having_of : Seated → Option Listed → Option Owed → Having
+having_of seat entry owed = having seat.holds seat.starved (is_some entry) (is_some owed)
 
 -- The seat is the lock's, and the party has the right to the lock's value exactly where the seat holds the lock.
 abbrev pub IsSeated : {T : Type 0} → Lock → Seated → Option (Hold T) → Type 0
 IsSeated w seat (Some hold) = Holds w seat hold
 IsSeated w seat None = (seat.lock ≡ w.lock) × (seat.holds ≡ false)
 
+-- Its entry stands in this list, and whoever it owes a notification does.
+abbrev pub IsTied : ℕ → Option Listed → Option Owed → Type 0
+IsTied list entry owed = IfSome entry (λ e. e.list.id ≡ list) × IfSome owed (λ o. o.list.id ≡ list)
+
 -- The party has what it has at this place.
 abbrev pub Stands : {T : Type 0} → Lock → MutexParty T → Place → Type 0
-Stands w q p = IsSeated w q.seat q.hold × (having_of q.seat q.entry ≡ having_at p)
+Stands w q p = IsSeated w q.seat q.hold × (having_of q.seat q.entry q.owed ≡ having_at p) × IsReached p × IsTied w.list q.entry q.owed
 
 -- the place after one where this was found, and how the call has ended by that
 abbrev pub next_place : Place → Found → Place
@@ -125,3 +173,18 @@ EndsAt ending.Pending p = CanPoll p
 EndsAt ending.NotFree p = p ≡ Out
 EndsAt ending.GivenBack p = p ≡ Out
 EndsAt (ending.Refused refusal) p = (p ≡ Out) × IsGivenUp refusal
+
+-- The receipt of a party that waits: an entry in the lock's list, which keeps a waker of the task that the context polls; and the task
+-- has registered with the lock's source.
+abbrev pub IsReceipt : Lock → Context → Option Listed → Type 0
+IsReceipt w cx entry = IsSomeAnd entry (λ e. (e.list.id ≡ w.list) × IsKept cx e.keeps) × Covers cx (λ s. s ≡ w.source)
+
+-- a fact of a party that asked in vain
+abbrev pub AsksNo : Action → Found → Type 0 → Type 0
+AsksNo act.Ask No fact = fact
+AsksNo _ _ fact = ⊤
+
+-- a fact of a call that ends pending
+abbrev pub IfPending : End → Type 0 → Type 0
+IfPending ending.Pending fact = fact
+IfPending _ fact = ⊤

@@ -1,5 +1,5 @@
-//! What the shells of all locks share: the driver that carries out a lock's program one action at a time, and
-//! the waiting list of a lock that threads share. Beside it stands the mutex's own program, carried out.
+//! What the shells of all locks share: the driver that carries out a lock's program one action at a time. Beside it stands
+//! the mutex's own program, carried out.
 //!
 //! The programs themselves are tables ([`mutex_program::program`] has the mutex's): at a place one action is
 //! done, and what it finds gives the next place. [`Carries::drive`] does what the table says. An action is a
@@ -9,8 +9,6 @@
 
 mod carries;
 mod mutex_party;
-mod waiting_list;
 
 pub use carries::Carries;
 pub use mutex_party::{MutexParty, RawMutex};
-pub use waiting_list::{WaitingList, Wakes};

@@ -1,6 +1,8 @@
 //! The mutex's program, carried out on a mutex's words and waiting list.
 
-ghost use Rattle.std.specs.Prelude.{◌≡◌, Bool, true, false, Option, Some, None, IfSome, IfNone, IsSome};
+ghost use Rattle.std.specs.Prelude.{◌≡◌, Bool, true, false, not, Option, Some, None, IfSome, IfNone, IsSome, is_some};
+ghost use Rattle.futures.specs.Task.{Keeps};
+ghost use Rattle.lock_driver.specs.Parties.{IsReceipt, IfPending, AsksNo};
 ghost use Rattle.lock_words.specs.Lock.{cleared};
 ghost use Rattle.lock_words.specs.Tries.{Holds};
 ghost use Rattle.mutex_program.specs.Program.{rest_at, start_of, action_of, next_of};
@@ -12,54 +14,45 @@ ghost use Rattle.mutex_program.specs.declared.program.Next.TheVariants as next;
 ghost use Rattle.mutex_program.specs.declared.program.Place.TheVariants as at;
 
 use crate::carries::Carries;
-use crate::waiting_list::WaitingList;
-use futures::task::Waker;
-use lock_event::EntryId;
-use lock_words::{Counting, Hold, Seat, Setting, Taking, TakingAlone, Words};
+use futures::task::Context;
+use lock_words::{
+    Counting, Heard, Hold, ListId, Listed, Owed, Seat, Setting, Taking, TakingAlone, Words,
+    nothing, put,
+};
 use mutex_program::calls::{End, LockCall};
 use mutex_program::program::{Action, Found, Next, Place, action_at, decide, start};
 use std::sync::Wait;
+use std::time::{Clock, Duration, Instant};
+
+/// How long a waiter is overtaken by newcomers before it counts as starved, in microseconds.
+const PATIENCE: u64 = 500;
 
 /// A mutex without its runtime: its words, with the value, and its waiting list.
 pub struct RawMutex<T> {
-    /// The words, the right to the value and the value.
+    /// The words, the right to the value, the value, and who waits.
     pub words: Words<T>,
-    /// Who waits.
-    pub list: WaitingList<Waker>,
 }
 
 // By hand, so that a drop is one call to prove, and not all of its parts again.
 impl<T: Drop> Drop for RawMutex<T> {
     fn drop(self) {
-        let RawMutex { words: _, list: _ } = self;
+        let RawMutex { words: _ } = self;
     }
 }
 
-/// What a party has that is inside a call on a mutex, or waits between two polls.
+/// What a party has that is inside a call on a mutex, or waits between two polls. It has no `Drop`: it gives back
+/// what it has, by a call, and ends by [`MutexParty::end`] or [`MutexParty::into_held`].
 pub struct MutexParty<T> {
     /// Steps on the mutex's words.
     pub seat: Seat<T>,
     /// The right to the value, while the seat holds the lock.
     pub hold: Option<Hold<T>>,
     /// The party's entry, while it stands in the list.
-    pub entry: Option<EntryId>,
-    /// A waker in hand: what the entry is to keep when the party next asks, and what it kept before.
-    pub waker: Option<Waker>,
-    /// The party has waited for too long.
-    pub is_starving: bool,
-}
-
-// By hand, so that a drop is one call to prove, and not all of its parts again.
-impl<T> Drop for MutexParty<T> {
-    fn drop(self) {
-        let MutexParty {
-            seat: _,
-            hold: _,
-            entry: _,
-            waker: _,
-            is_starving: _,
-        } = self;
-    }
+    pub entry: Option<Listed>,
+    /// A notification that the party has to pass on, while it has taken one or has given the lock back.
+    pub owed: Option<Owed>,
+    /// When it first waited. A clock that couldn't be read is tried again.
+    pub since: Option<Instant>,
 }
 
 impl<T> MutexParty<T> {
@@ -74,14 +67,34 @@ impl<T> MutexParty<T> {
         let MutexParty {
             seat,
             hold,
-            entry: _,
-            waker: _,
-            is_starving: _,
+            entry,
+            owed,
+            since: _,
         } = self;
+        nothing(entry);
+        nothing(owed);
         match hold {
             Some(hold) => (seat, hold),
             None => unreachable!(),
         }
+    }
+
+    /// Ends a party that is outside every call, without the lock.
+    pub fn end(self, words: &Words<T>)
+        requires { Stands words.now self at.Out }
+    {
+        let _ = words;
+        let MutexParty {
+            seat,
+            hold,
+            entry,
+            owed,
+            since: _,
+        } = self;
+        nothing(hold);
+        nothing(entry);
+        nothing(owed);
+        seat.rise();
     }
 }
 
@@ -90,8 +103,7 @@ impl<T> RawMutex<T> {
 
     /// The value, also of a mutex that a forgotten seat left held. It waits for nobody and takes no memory.
     pub fn into_inner(self) -> T {
-        let RawMutex { words, list } = self;
-        drop(list);
+        let RawMutex { words } = self;
         words.into_inner()
     }
 
@@ -103,8 +115,8 @@ impl<T> RawMutex<T> {
             seat: self.words.sit(),
             hold: None,
             entry: None,
-            waker: None,
-            is_starving: false,
+            owed: None,
+            since: None,
         }
     }
 
@@ -118,49 +130,85 @@ impl<T> RawMutex<T> {
     {
         straight_rows();
         let mut seat = self.words.sit();
-        match self.words.take(&mut seat) {
+        let mut owed = None;
+        let taking = self.words.take(&mut seat, &mut owed);
+        nothing(owed);
+        match taking {
             Taking::Got(hold) => Some((seat, hold)),
-            Taking::Held | Taking::Starved => None,
+            Taking::Held | Taking::Starved => {
+                seat.rise();
+                None
+            }
         }
     }
 }
 
 impl<T> RawMutex<T> {
-    ghost use Rattle.lock_driver.specs.Parties.{Stands, EndsAt};
+    ghost use Rattle.lock_driver.specs.Parties.{Stands, EndsAt, CanPoll};
 
-    /// Carries out a call of a party that stands at `place`, until it ends: how it ends, and where the party
-    /// stands then (`ended`), with what it has there (`stands`). The call has to be one that may begin there.
-    pub fn call<R: Wait>(
+    /// Polls a party that stands at `place`, until the poll ends: how it ends, and where the party
+    /// stands then (`ended`), with what it has there (`stands`).
+    ///
+    /// Pending, the party has an entry in the lock's list, which keeps a waker of the task that polls, and the task has
+    /// registered with the lock's source (`pending`).
+    pub fn poll<R: Wait + Clock>(
         &self,
         rt: &R,
+        cx: &mut Context<'_>,
         party: &mut MutexParty<T>,
-        call: LockCall,
         place: Place,
     ) -> (End, Place)
         requires stands { Stands self.now.words party.old place }
-        requires begins { IsSome (start_of call place) }
+        requires begins { CanPoll place }
         ensures stands { Stands self.now.words party.new result.1 }
         ensures ended { EndsAt result.0 result.1 }
+        ensures pending { IfPending result.0 (IsReceipt self.now.words cx.new party.new.entry) }
+        ensures kept { Keeps cx.old cx.new }
     {
-        let Some(first) = start(call, place) else {
-            unreachable!()
-        };
-        party.drive(self, rt, first)
+        let (end, place) = party.call(self, rt, cx, LockCall::Poll, place);
+        if let End::Pending = end {
+            party.waits(rt);
+        }
+        (end, place)
     }
 
     /// Gives the lock back by the seat that holds it, with the right to its value. The program of a release has no
     /// branch, and so its two actions stand here in their order; that they are the table's is proved (`straight_rows`).
     ///
-    /// By the contract the seat has given the lock back, and is otherwise as it was. That somebody who waits is then
-    /// notified is tested: no contract sees through the list's lock.
+    /// By their types the seat can't end before it has given the lock back, nor the call before somebody who waits is
+    /// notified.
     #[inline]
-    pub fn release<R: Wait>(&self, rt: &R, seat: &mut Seat<T>, hold: Hold<T>)
-        requires { Holds self.now.words seat.old hold }
-        ensures { seat.new ≡ cleared seat.old }
+    pub fn release<R: Wait>(&self, rt: &R, seat: Seat<T>, hold: Hold<T>)
+        requires holds { Holds self.now.words seat hold }
+        requires starved { seat.starved ≡ false }
     {
         straight_rows();
-        self.words.clear(seat, hold);
-        self.list.notify(rt, 1);
+        let mut seat = seat;
+        let owed = self.words.clear(&mut seat, hold);
+        self.words.list().notify(rt, 1, owed);
+        seat.rise();
+    }
+
+    /// Gives back what a party has that waits between two polls. The program of it has no branch, and so its actions
+    /// stand here in their order; that they are the table's is proved (`cancel_rows`).
+    pub fn cancel<R: Wait>(&self, rt: &R, party: MutexParty<T>, place: Place)
+        requires stands { Stands self.now.words party place }
+        requires waits { CanPoll place }
+    {
+        cancel_rows();
+        let mut party = party;
+        match place {
+            Place::Ask => {
+                party.leave(self, rt);
+                party.end(&self.words);
+            }
+            Place::AskStarved => {
+                party.uncount(self);
+                party.leave(self, rt);
+                party.end(&self.words);
+            }
+            _ => party.end(&self.words),
+        }
     }
 }
 
@@ -175,10 +223,31 @@ fn straight_rows()
     ensures notifies { next_of at.ReleaseNotify finds.Done ≡ next.End ends.GivenBack }
 {}
 
+// The rows of the program's table that `RawMutex::cancel` carries out straight.
+#[inline]
+fn cancel_rows()
+    ensures waiting { (start_of calls.Cancel at.Ask ≡ Some at.CancelLeave) × (action_of at.CancelLeave ≡ does.Leave) × (next_of at.CancelLeave finds.Done ≡ next.End ends.GivenBack) }
+    ensures starved { (start_of calls.Cancel at.AskStarved ≡ Some at.CancelUncount) × (action_of at.CancelUncount ≡ does.Uncount) × (next_of at.CancelUncount finds.Done ≡ next.Do does.Leave at.CancelLeave) }
+    ensures out { (start_of calls.Cancel at.Out ≡ Some at.Out) × (next_of at.Out finds.Done ≡ next.End ends.GivenBack) }
+{}
+
+// A duty to notify, if there was none.
+fn owe(owed: &mut Option<Owed>, list: ListId)
+    requires { IfSome owed.old (λ o. o.list.id ≡ list.id) }
+    ensures some { is_some owed.new ≡ true }
+    ensures list { IfSome owed.new (λ o. o.list.id ≡ list.id) }
+{
+    if owed.is_none() {
+        put(owed, Owed::new(list));
+    }
+}
+
 impl<T> Carries for MutexParty<T> {
     ghost use Rattle.lock_driver.specs.Parties.{Stands, next_place, end_after as ended_by};
 
     type Shared = RawMutex<T>;
+
+    type Call = LockCall;
 
     type Place = Place;
 
@@ -188,12 +257,26 @@ impl<T> Carries for MutexParty<T> {
 
     ghost stands = { λ raw party place. Stands raw.words party place };
 
+    ghost first_place = { start_of };
+
     ghost place_after = { next_place };
 
     ghost end_after = { ended_by };
 
-    fn act<R: Wait>(&mut self, shared: &RawMutex<T>, rt: &R, place: Place) -> Option<Found> {
-        self.carry_out(shared, rt, action_at(place))
+    ghost tells = { λ raw cx party end. IfPending end (IsReceipt raw.words cx party.entry) };
+
+    fn start(call: LockCall, place: Place) -> Option<Place> {
+        start(call, place)
+    }
+
+    fn act<R: Wait + Clock>(
+        &mut self,
+        shared: &RawMutex<T>,
+        rt: &R,
+        cx: &mut Context<'_>,
+        place: Place,
+    ) -> Option<Found> {
+        self.carry_out(shared, rt, cx, action_at(place))
     }
 
     fn decide(place: Place, found: Found) -> (Place, Option<End>) {
@@ -216,63 +299,86 @@ fn rest(place: Place, end: End) -> Place
 }
 
 impl<T> MutexParty<T> {
-    ghost use Rattle.lock_driver.specs.Parties.{IsSeated, CanDo, CanFind, after, having_of};
+    ghost use Rattle.lock_driver.specs.Parties.{IsSeated, IsTied, CanDo, CanFind, after, having, having_of, still};
 
     // Carries out one action.
-    fn carry_out<R: Wait>(&mut self, raw: &RawMutex<T>, rt: &R, action: Action) -> Option<Found>
+    fn carry_out<R: Wait + Clock>(
+        &mut self,
+        raw: &RawMutex<T>,
+        rt: &R,
+        cx: &mut Context<'_>,
+        action: Action,
+    ) -> Option<Found>
         requires seated { IsSeated raw.now.words self.old.seat self.old.hold }
-        requires can { CanDo action (having_of self.old.seat self.old.entry) }
+        requires tied { IsTied raw.now.words.list self.old.entry self.old.owed }
+        requires can { CanDo action (having_of self.old.seat self.old.entry self.old.owed) }
         ensures seated { IsSeated raw.now.words self.new.seat self.new.hold }
-        ensures found { IfSome result (λ found. CanFind action found × (having_of self.new.seat self.new.entry ≡ after action found (having_of self.old.seat self.old.entry))) }
-        ensures again { IfNone result (having_of self.new.seat self.new.entry ≡ having_of self.old.seat self.old.entry) }
+        ensures tied { IsTied raw.now.words.list self.new.entry self.new.owed }
+        ensures found { IfSome result (λ found. CanFind action found × (having_of self.new.seat self.new.entry self.new.owed ≡ after action found (having_of self.old.seat self.old.entry self.old.owed)) × AsksNo action found (IsReceipt raw.now.words cx.new self.new.entry)) }
+        ensures again { IfNone result (having_of self.new.seat self.new.entry self.new.owed ≡ having_of self.old.seat self.old.entry self.old.owed) }
+        ensures kept { Keeps cx.old cx.new }
     {
         match action {
             Action::Nothing => Some(Found::Done),
-            Action::Take => Some(self.take(raw)),
+            Action::Take => Some(self.take(raw, rt)),
             Action::TakeAlone => Some(self.take_alone(raw)),
             Action::Set => Some(self.set(raw)),
             Action::Count => self.count(raw),
             Action::Uncount => Some(self.uncount(raw)),
             Action::Clear => Some(self.clear(raw)),
             Action::Join => Some(self.join(raw, rt)),
-            Action::Ask => Some(self.ask(raw, rt)),
+            Action::Ask => Some(self.ask(raw, rt, cx)),
             Action::Leave => Some(self.leave(raw, rt)),
-            Action::Notify => {
-                raw.list.notify(rt, 1);
-                Some(Found::Done)
-            }
+            Action::Notify => Some(self.notify(raw, rt)),
         }
     }
 
-    fn take(&mut self, raw: &RawMutex<T>) -> Found
+    fn take<R: Clock>(&mut self, raw: &RawMutex<T>, rt: &R) -> Found
         requires seated { IsSeated raw.now.words self.old.seat self.old.hold }
+        requires tied { IsTied raw.now.words.list self.old.entry self.old.owed }
         requires idle { self.old.seat.holds ≡ false }
         ensures seated { IsSeated raw.now.words self.new.seat self.new.hold }
-        ensures found { CanFind does.Take result × (having_of self.new.seat self.new.entry ≡ after does.Take result (having_of self.old.seat self.old.entry)) }
+        ensures tied { IsTied raw.now.words.list self.new.entry self.new.owed }
+        ensures found { CanFind does.Take result × (having_of self.new.seat self.new.entry self.new.owed ≡ after does.Take result (having_of self.old.seat self.old.entry self.old.owed)) }
     {
-        match raw.words.take(&mut self.seat) {
-            Taking::Got(hold) => {
-                self.hold = Some(hold);
-                Found::Free
-            }
-            Taking::Held => Found::Held {
-                starving: self.is_starving,
-            },
+        let owes = self.owed.is_some();
+        match raw.words.take(&mut self.seat, &mut self.owed) {
+            Taking::Got(hold) => self.got(raw, hold),
+            Taking::Held => self.finds_held(raw, rt, owes),
             Taking::Starved => Found::SomeStarved,
         }
     }
 
+    // A take found the lock held. A party that took a notification, and has not waited for too long, joins the list with it: if
+    // its entry is refused, it has to notify.
+    fn finds_held<R: Clock>(&mut self, raw: &RawMutex<T>, rt: &R, owes: bool) -> Found
+        requires seated { IsSeated raw.now.words self.old.seat self.old.hold }
+        requires tied { IsTied raw.now.words.list self.old.entry self.old.owed }
+        requires owed { self.old.owed ≡ None }
+        ensures seated { IsSeated raw.now.words self.new.seat self.new.hold }
+        ensures tied { IsTied raw.now.words.list self.new.entry self.new.owed }
+        ensures found { (starving : Bool) × (result ≡ finds.Held starving) × (having_of self.new.seat self.new.entry self.new.owed ≡ having self.old.seat.holds self.old.seat.starved (is_some self.old.entry) (still owes (is_some self.old.entry) starving)) }
+    {
+        if !owes || self.entry.is_some() {
+            return Found::Held { starving: false };
+        }
+        let starving = has_waited_long(rt, &self.since);
+        if !starving {
+            put(&mut self.owed, Owed::new(raw.words.list().id()));
+        }
+        Found::Held { starving }
+    }
+
     fn take_alone(&mut self, raw: &RawMutex<T>) -> Found
         requires seated { IsSeated raw.now.words self.old.seat self.old.hold }
+        requires tied { IsTied raw.now.words.list self.old.entry self.old.owed }
         requires idle { self.old.seat.holds ≡ false }
         ensures seated { IsSeated raw.now.words self.new.seat self.new.hold }
-        ensures found { CanFind does.TakeAlone result × (having_of self.new.seat self.new.entry ≡ after does.TakeAlone result (having_of self.old.seat self.old.entry)) }
+        ensures tied { IsTied raw.now.words.list self.new.entry self.new.owed }
+        ensures found { CanFind does.TakeAlone result × (having_of self.new.seat self.new.entry self.new.owed ≡ after does.TakeAlone result (having_of self.old.seat self.old.entry self.old.owed)) }
     {
-        match raw.words.take_alone(&mut self.seat) {
-            TakingAlone::Got(hold) => {
-                self.hold = Some(hold);
-                Found::Free
-            }
+        match raw.words.take_alone(&mut self.seat, &mut self.owed) {
+            TakingAlone::Got(hold) => self.got(raw, hold),
             TakingAlone::Held => Found::Held { starving: false },
             TakingAlone::FreeWithOthers => Found::SomeStarved,
         }
@@ -280,38 +386,49 @@ impl<T> MutexParty<T> {
 
     fn set(&mut self, raw: &RawMutex<T>) -> Found
         requires seated { IsSeated raw.now.words self.old.seat self.old.hold }
+        requires tied { IsTied raw.now.words.list self.old.entry self.old.owed }
         requires idle { self.old.seat.holds ≡ false }
         ensures seated { IsSeated raw.now.words self.new.seat self.new.hold }
-        ensures found { CanFind does.Set result × (having_of self.new.seat self.new.entry ≡ after does.Set result (having_of self.old.seat self.old.entry)) }
+        ensures tied { IsTied raw.now.words.list self.new.entry self.new.owed }
+        ensures found { CanFind does.Set result × (having_of self.new.seat self.new.entry self.new.owed ≡ after does.Set result (having_of self.old.seat self.old.entry self.old.owed)) }
     {
         match raw.words.set(&mut self.seat) {
-            Setting::Got(hold) => {
-                self.hold = Some(hold);
-                Found::Free
-            }
+            Setting::Got(hold) => self.got(raw, hold),
             Setting::WasSet => Found::Held { starving: false },
         }
     }
 
     fn count(&mut self, raw: &RawMutex<T>) -> Option<Found>
         requires seated { IsSeated raw.now.words self.old.seat self.old.hold }
+        requires tied { IsTied raw.now.words.list self.old.entry self.old.owed }
         requires one { self.old.seat.starved ≡ false }
         ensures seated { IsSeated raw.now.words self.new.seat self.new.hold }
-        ensures found { IfSome result (λ found. CanFind does.Count found × (having_of self.new.seat self.new.entry ≡ after does.Count found (having_of self.old.seat self.old.entry))) }
-        ensures again { IfNone result (having_of self.new.seat self.new.entry ≡ having_of self.old.seat self.old.entry) }
+        ensures tied { IsTied raw.now.words.list self.new.entry self.new.owed }
+        ensures found { IfSome result (λ found. CanFind does.Count found × (having_of self.new.seat self.new.entry self.new.owed ≡ after does.Count found (having_of self.old.seat self.old.entry self.old.owed))) }
+        ensures again { IfNone result (having_of self.new.seat self.new.entry self.new.owed ≡ having_of self.old.seat self.old.entry self.old.owed) }
     {
         match raw.words.count(&mut self.seat) {
-            Counting::Counted => Some(Found::Done),
-            Counting::AtLimit => Some(Found::AtLimit),
+            Counting::Counted => {
+                self.is_counted(raw);
+                Some(Found::Done)
+            }
+            Counting::AtLimit { .. } => {
+                if self.entry.is_none() {
+                    owe(&mut self.owed, raw.words.list().id());
+                }
+                Some(Found::AtLimit)
+            }
             Counting::Changed => None,
         }
     }
 
     fn uncount(&mut self, raw: &RawMutex<T>) -> Found
         requires seated { IsSeated raw.now.words self.old.seat self.old.hold }
+        requires tied { IsTied raw.now.words.list self.old.entry self.old.owed }
         requires counted { self.old.seat.starved ≡ true }
         ensures seated { IsSeated raw.now.words self.new.seat self.new.hold }
-        ensures found { CanFind does.Uncount result × (having_of self.new.seat self.new.entry ≡ after does.Uncount result (having_of self.old.seat self.old.entry)) }
+        ensures tied { IsTied raw.now.words.list self.new.entry self.new.owed }
+        ensures found { CanFind does.Uncount result × (having_of self.new.seat self.new.entry self.new.owed ≡ after does.Uncount result (having_of self.old.seat self.old.entry self.old.owed)) }
     {
         raw.words.uncount(&mut self.seat);
         Found::Done
@@ -319,57 +436,148 @@ impl<T> MutexParty<T> {
 
     fn clear(&mut self, raw: &RawMutex<T>) -> Found
         requires seated { IsSeated raw.now.words self.old.seat self.old.hold }
+        requires tied { IsTied raw.now.words.list self.old.entry self.old.owed }
         requires holds { self.old.seat.holds ≡ true }
+        requires pays { is_some self.old.owed ≡ false }
         ensures seated { IsSeated raw.now.words self.new.seat self.new.hold }
-        ensures found { CanFind does.Clear result × (having_of self.new.seat self.new.entry ≡ after does.Clear result (having_of self.old.seat self.old.entry)) }
+        ensures tied { IsTied raw.now.words.list self.new.entry self.new.owed }
+        ensures found { CanFind does.Clear result × (having_of self.new.seat self.new.entry self.new.owed ≡ after does.Clear result (having_of self.old.seat self.old.entry self.old.owed)) }
     {
         let Some(hold) = self.hold.take() else {
             unreachable!()
         };
-        raw.words.clear(&mut self.seat, hold);
+        let owed = raw.words.clear(&mut self.seat, hold);
+        put(&mut self.owed, owed);
         Found::Done
     }
 
     fn join<R: Wait>(&mut self, raw: &RawMutex<T>, rt: &R) -> Found
         requires seated { IsSeated raw.now.words self.old.seat self.old.hold }
+        requires tied { IsTied raw.now.words.list self.old.entry self.old.owed }
         requires unlisted { self.old.entry ≡ None }
         ensures seated { IsSeated raw.now.words self.new.seat self.new.hold }
-        ensures found { CanFind does.Join result × (having_of self.new.seat self.new.entry ≡ after does.Join result (having_of self.old.seat self.old.entry)) }
+        ensures tied { IsTied raw.now.words.list self.new.entry self.new.owed }
+        ensures found { CanFind does.Join result × (having_of self.new.seat self.new.entry self.new.owed ≡ after does.Join result (having_of self.old.seat self.old.entry self.old.owed)) }
     {
-        match raw.list.join(rt) {
-            Ok(id) => {
-                self.entry = Some(id);
+        match raw.words.list().join(rt) {
+            Ok(entry) => {
+                put(&mut self.entry, entry);
                 Found::Done
             }
             Err(_) => Found::NoMemory,
         }
     }
 
-    fn ask<R: Wait>(&mut self, raw: &RawMutex<T>, rt: &R) -> Found
+    fn ask<R: Wait>(&mut self, raw: &RawMutex<T>, rt: &R, cx: &mut Context<'_>) -> Found
         requires seated { IsSeated raw.now.words self.old.seat self.old.hold }
+        requires tied { IsTied raw.now.words.list self.old.entry self.old.owed }
         requires listed { IsSome self.old.entry }
+        requires pays { is_some self.old.owed ≡ false }
         ensures seated { IsSeated raw.now.words self.new.seat self.new.hold }
-        ensures found { CanFind does.Ask result × (having_of self.new.seat self.new.entry ≡ after does.Ask result (having_of self.old.seat self.old.entry)) }
+        ensures tied { IsTied raw.now.words.list self.new.entry self.new.owed }
+        ensures found { CanFind does.Ask result × (having_of self.new.seat self.new.entry self.new.owed ≡ after does.Ask result (having_of self.old.seat self.old.entry self.old.owed)) }
+        ensures waits { AsksNo does.Ask result (IsReceipt raw.now.words cx.new self.new.entry) }
+        ensures kept { Keeps cx.old cx.new }
     {
-        let Some(id) = self.entry else { unreachable!() };
-        if raw.list.ask(rt, id, &mut self.waker) {
-            self.entry = None;
-            Found::Yes
-        } else {
-            Found::No
+        let Some(entry) = self.entry.take() else {
+            unreachable!()
+        };
+        match raw.words.poll(rt, entry, cx) {
+            Heard::Notified(owed) => {
+                put(&mut self.owed, owed);
+                Found::Yes
+            }
+            Heard::Waiting(entry) => {
+                put(&mut self.entry, entry);
+                Found::No
+            }
         }
     }
 
     fn leave<R: Wait>(&mut self, raw: &RawMutex<T>, rt: &R) -> Found
         requires seated { IsSeated raw.now.words self.old.seat self.old.hold }
+        requires tied { IsTied raw.now.words.list self.old.entry self.old.owed }
         requires listed { IsSome self.old.entry }
         ensures seated { IsSeated raw.now.words self.new.seat self.new.hold }
-        ensures found { CanFind does.Leave result × (having_of self.new.seat self.new.entry ≡ after does.Leave result (having_of self.old.seat self.old.entry)) }
+        ensures tied { IsTied raw.now.words.list self.new.entry self.new.owed }
+        ensures found { CanFind does.Leave result × (having_of self.new.seat self.new.entry self.new.owed ≡ after does.Leave result (having_of self.old.seat self.old.entry self.old.owed)) }
     {
-        let Some(id) = self.entry.take() else {
+        let Some(entry) = self.entry.take() else {
             unreachable!()
         };
-        raw.list.leave(rt, id);
+        raw.words.list().leave(rt, entry);
         Found::Done
+    }
+
+    fn notify<R: Wait>(&mut self, raw: &RawMutex<T>, rt: &R) -> Found
+        requires seated { IsSeated raw.now.words self.old.seat self.old.hold }
+        requires tied { IsTied raw.now.words.list self.old.entry self.old.owed }
+        requires owes { is_some self.old.owed ≡ true }
+        ensures seated { IsSeated raw.now.words self.new.seat self.new.hold }
+        ensures tied { IsTied raw.now.words.list self.new.entry self.new.owed }
+        ensures found { CanFind does.Notify result × (having_of self.new.seat self.new.entry self.new.owed ≡ after does.Notify result (having_of self.old.seat self.old.entry self.old.owed)) }
+    {
+        let Some(owed) = self.owed.take() else {
+            unreachable!()
+        };
+        raw.words.list().notify(rt, 1, owed);
+        Found::Done
+    }
+
+    // The seat has got the lock. Whatever it owed it pays when it gives the lock back.
+    fn got(&mut self, raw: &RawMutex<T>, hold: Hold<T>) -> Found
+        requires holds { Holds raw.now.words self.old.seat hold }
+        requires empty { is_some self.old.hold ≡ false }
+        requires tied { IsTied raw.now.words.list self.old.entry self.old.owed }
+        ensures seated { IsSeated raw.now.words self.new.seat self.new.hold }
+        ensures tied { IsTied raw.now.words.list self.new.entry self.new.owed }
+        ensures found { (result ≡ finds.Free) × (self.new.seat ≡ self.old.seat) × (self.new.entry ≡ self.old.entry) × (self.new.owed ≡ None) }
+    {
+        put(&mut self.hold, hold);
+        if let Some(owed) = self.owed.take() {
+            owed.put_off(&raw.words, &self.seat);
+        }
+        Found::Free
+    }
+
+    // The seat is counted as starved: in the list it waits, and else it owes a look on behalf of the others.
+    fn is_counted(&mut self, raw: &RawMutex<T>)
+        requires starved { self.old.seat.starved ≡ true }
+        requires lock { self.old.seat.lock ≡ raw.now.words.lock }
+        requires tied { IsTied raw.now.words.list self.old.entry self.old.owed }
+        ensures tied { IsTied raw.now.words.list self.new.entry self.new.owed }
+        ensures same { (self.new.seat ≡ self.old.seat) × (self.new.hold ≡ self.old.hold) × (self.new.entry ≡ self.old.entry) }
+        ensures owes { is_some self.new.owed ≡ not (is_some self.old.entry) }
+    {
+        match &self.entry {
+            None => owe(&mut self.owed, raw.words.list().id()),
+            Some(entry) => {
+                if let Some(owed) = self.owed.take() {
+                    owed.wait(&raw.words, &self.seat, entry);
+                }
+            }
+        }
+    }
+}
+
+impl<T> MutexParty<T> {
+    // It waits, for the first time or still.
+    fn waits<R: Clock>(&mut self, rt: &R)
+        ensures { (self.new.seat ≡ self.old.seat) × (self.new.hold ≡ self.old.hold) × (self.new.entry ≡ self.old.entry) × (self.new.owed ≡ self.old.owed) }
+    {
+        if self.since.is_none() {
+            self.since = Instant::now(rt).ok();
+        }
+    }
+}
+
+// More than 500 microseconds since then. A clock that can't be read says no.
+fn has_waited_long<R: Clock>(rt: &R, since: &Option<Instant>) -> bool {
+    match since {
+        Some(since) => match since.elapsed(rt) {
+            Ok(waited) => waited > Duration::from_micros(PATIENCE),
+            Err(_) => false,
+        },
+        None => false,
     }
 }

@@ -172,12 +172,6 @@ impl<T> Hold<T> {
     }
 }
 
-impl<T> Drop for Hold<T> {
-    fn drop(self) {
-        let Self { marker: _ } = self;
-    }
-}
-
 impl<T> Drop for Parked<T> {
     fn drop(self) {
         let Self { marker: _ } = self;

@@ -1,3 +1,4 @@
 pub mod Keeps
+pub mod Kept
 pub mod Seats
 pub mod Word

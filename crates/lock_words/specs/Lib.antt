@@ -1,3 +1,4 @@
+pub mod Heard
 pub mod Lock
 pub mod Right
 pub mod Rule

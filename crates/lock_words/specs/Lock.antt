@@ -13,13 +13,18 @@ pub record LockId : Type 0 where
 abbrev pub lock_id_coded : Coded LockId
 lock_id_coded = code_by (TableId × (RoomId × ℕ)) (coded× table_id_coded (coded× room_id_coded coded_ℕ)) (λ l. (l.table, (l.room, l.deed))) (λ p. record { table = p.0; room = p.1.0; deed = p.1.1 }) (λ _. refl)
 
--- Which lock it is, and where its value lies now.
+-- Which lock it is, where its value lies now, with which source its waiters register, in which list they stand, how many may
+-- be starved, and whether a forgotten seat left it held, and its value was lent past that seat.
 pub record Lock : Type 0 where
   pub lock : LockId
   pub room : RoomId
+  pub source : ℕ
+  pub list : ℕ
+  pub limit : ℕ
+  pub is_left : Bool
 
 abbrev pub lock_coded : Coded Lock
-lock_coded = code_by (LockId × RoomId) (coded× lock_id_coded room_id_coded) (λ l. (l.lock, l.room)) (λ p. record { lock = p.0; room = p.1 }) (λ _. refl)
+lock_coded = code_by (LockId × (RoomId × (ℕ × (ℕ × (ℕ × Bool))))) (coded× lock_id_coded (coded× room_id_coded (coded× coded_ℕ (coded× coded_ℕ (coded× coded_ℕ coded_bool))))) (λ l. (l.lock, (l.room, (l.source, (l.list, (l.limit, l.is_left)))))) (λ p. record { lock = p.0; room = p.1.0; source = p.1.1.0; list = p.1.1.1.0; limit = p.1.1.1.1.0; is_left = p.1.1.1.1.1 }) (λ _. refl)
 
 -- A seat: which lock it is of, whether it holds that lock, whether it is counted as starved, and how many were starved when it last got the lock.
 pub record Seated : Type 0 where

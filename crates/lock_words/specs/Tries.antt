@@ -1,7 +1,8 @@
 -- What a try answers, by cases.
-use Rattle.std.specs.Prelude.{◌≡◌, true}
+use Rattle.std.specs.Prelude.{◌≡◌, ℕ, ◌≤◌, true, Option, None}
 use Rattle.lock_place.specs.declared.room.Hold.{Hold}
 use Rattle.lock_words.specs.Lock.{Lock, Seated}
+use Rattle.lock_words.specs.declared.duty.Owed.{Owed}
 use Rattle.lock_words.specs.declared.found.Taking.{Taking}
 use Rattle.lock_words.specs.declared.found.Taking.TheVariants as taking
 use Rattle.lock_words.specs.declared.found.TakingAlone.{TakingAlone}
@@ -29,7 +30,19 @@ abbrev pub OnSetting : {T : Type 0} → Setting T → (Hold T → Type 0) → Ty
 OnSetting (setting.Got hold) got not = got hold
 OnSetting setting.WasSet got not = not
 
-abbrev pub OnCounting : Counting → Type 0 → Type 0 → Type 0
-OnCounting Counted counted not = counted
-OnCounting AtLimit counted not = not
-OnCounting Changed counted not = not
+-- what is left of a duty to notify after a try: whoever holds the lock has it, where the lock was found held
+abbrev pub left_by_taking : {T : Type 0} → Taking T → Option Owed → Option Owed
+left_by_taking (taking.Got hold) owed = owed
+left_by_taking taking.Held owed = None
+left_by_taking taking.Starved owed = owed
+
+abbrev pub left_by_alone : {T : Type 0} → TakingAlone T → Option Owed → Option Owed
+left_by_alone (alone.Got hold) owed = owed
+left_by_alone alone.Held owed = None
+left_by_alone alone.FreeWithOthers owed = owed
+
+-- It counts the seat, or changes nothing, and says that the limit was met only of so many.
+abbrev pub OnCounting : ℕ → Counting → Type 0 → Type 0 → Type 0
+OnCounting limit Counted counted not = counted
+OnCounting limit (AtLimit starved) counted not = (limit ≤ starved) × not
+OnCounting limit Changed counted not = not

@@ -1,9 +1,10 @@
 //! What the tries find.
 
+ghost use Rattle.std.specs.Prelude.{◌≡◌, ◌%◌};
+
 use lock_place::Hold;
 
 /// What [`take`](crate::Words::take) found.
-#[derive(Drop)]
 pub enum Taking<T> {
     /// The lock was free and nobody was starved. The seat holds it now.
     Got(Hold<T>),
@@ -14,7 +15,6 @@ pub enum Taking<T> {
 }
 
 /// What [`take_alone`](crate::Words::take_alone) found.
-#[derive(Drop)]
 pub enum TakingAlone<T> {
     /// The lock was free and one waiter was starved. The seat holds it now.
     Got(Hold<T>),
@@ -25,7 +25,6 @@ pub enum TakingAlone<T> {
 }
 
 /// What [`set`](crate::Words::set) found.
-#[derive(Drop)]
 pub enum Setting<T> {
     /// The lock was free. The seat holds it now.
     Got(Hold<T>),
@@ -33,13 +32,32 @@ pub enum Setting<T> {
     WasSet,
 }
 
+/// A step found the lock held.
+#[derive(Drop)]
+pub struct WasHeld {
+    seal: (),
+}
+
+impl WasHeld {
+    // The word was this.
+    pub(crate) fn of(word: u64) -> WasHeld
+        requires { word % 2 ≡ 1 }
+    {
+        let _ = word;
+        WasHeld { seal: () }
+    }
+}
+
 /// What [`count`](crate::Words::count) found.
 #[derive(Clone, Copy, PartialEq, Eq)]
 pub enum Counting {
     /// The seat is counted as starved now.
     Counted,
-    /// As many are starved as may be.
-    AtLimit,
+    /// So many are starved, as may be.
+    AtLimit {
+        /// How many are.
+        starved: u64,
+    },
     /// The word changed meanwhile: try again.
     Changed,
 }

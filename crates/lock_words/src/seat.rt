@@ -1,6 +1,6 @@
 //! What a party steps with.
 
-ghost use Rattle.std.specs.Prelude.{◌≡◌, ℕ};
+ghost use Rattle.std.specs.Prelude.{◌≡◌, ℕ, false};
 ghost use Rattle.lock_place.specs.Held.{RoomId, room_id_coded};
 
 use crate::rested::Rested;
@@ -28,8 +28,8 @@ impl Model for View {
 ///
 /// It has no bytes, borrows nothing and costs no memory, and may go to another thread. In clauses it is
 /// which lock it is of (`lock`), whether it holds that lock (`holds`), whether it is counted as starved
-/// (`starved`), and how many were starved when it last got the lock (`passed`). Dropped or forgotten, it
-/// leaves what it has as it is: the lock held, the count counted. Whoever has one gives these back first.
+/// (`starved`), and how many were starved when it last got the lock (`passed`). It has no `Drop`: only
+/// [`Seat::rise`] ends it, once it has given back what it has.
 pub struct Seat<T> {
     pub(crate) inner: TableSeat<Rested<T>, View>,
 }
@@ -48,8 +48,12 @@ impl<T> Model for Seat<T> {
     ghost invariant = { λ s. HasSlots s.inner.me.0.holds s.inner.me.1 };
 }
 
-impl<T> Drop for Seat<T> {
-    fn drop(self) {
+impl<T> Seat<T> {
+    /// Ends a seat that has nothing to give back.
+    pub fn rise(self)
+        requires holds { self.holds ≡ false }
+        requires starved { self.starved ≡ false }
+    {
         let Self { inner } = self;
         drop(inner);
     }

@@ -1,8 +1,8 @@
 //! A lock's future as a `Future`.
 
-ghost use Rattle.std.specs.Prelude.{◌≡◌, ℕ, ⊤};
+ghost use Rattle.std.specs.Prelude.{◌≡◌, ℕ, ⊤, IfOk};
 ghost use Rattle.futures.specs.Task.{Covers, Keeps};
-ghost use Rattle.lock_words.specs.Turns.{OnPending};
+ghost use Rattle.lock_words.specs.Turns.{OnPending, OnReady};
 
 use crate::turn::Turn;
 use futures::Future;
@@ -17,10 +17,16 @@ pub trait Polled: Drop {
     /// What a poll needs of the future.
     ghost can_poll: { Self → Type 0 } = { λ _. ⊤ };
 
-    /// One poll. Pending, it has registered with a source that covers the task.
+    /// What the future may give.
+    ghost gives: { Self → Self.Got → Type 0 } = { λ _ _. ⊤ };
+
+    /// One poll. Pending, it has registered with a source that covers the task. What it gives is what it gave promise of
+    /// before.
     fn poll_turn(&mut self, cx: &mut Context<'_>) -> Turn<Self::Got>
         requires { can_poll self.old }
         ensures again { can_poll self.new }
+        ensures got { OnReady result (gives self.old) }
+        ensures same { OnPending result ((got : Self.Got) → gives self.new got → gives self.old got) }
         ensures registered { OnPending result (Covers cx.new (λ _. ⊥)) }
         ensures kept { Keeps cx.old cx.new };
 }
@@ -33,6 +39,8 @@ impl<F: Polled> Future for Settled<F> {
     type Output = Result<F::Got, Refusal>;
 
     ghost can_poll = { λ s. F.can_poll s.0 };
+
+    ghost gives = { λ s result. IfOk result (F.gives s.0) };
 
     fn poll(&mut self, cx: &mut Context<'_>) -> Poll<Result<F::Got, Refusal>> {
         match self.0.poll_turn(cx) {

@@ -4,22 +4,28 @@
 //! word counts the starved seats, and while nobody holds the lock the right to the value is at home. What a
 //! step tells the seat that makes it stands in specs/Steps.antt.
 
-ghost use Rattle.std.specs.Prelude.{◌≡◌, ℕ, ◌<◌, ◌≤◌, ◌%◌, ◌/◌, true, false, [], ◌∷◌, IfSome, IfNone, IsSome, IfOk, OnErr};
+ghost use Rattle.std.specs.Prelude.{◌≡◌, ℕ, ◌<◌, ◌≤◌, ◌%◌, ◌/◌, true, false, [], ◌∷◌, IfSome, IsSome, IfOk, OnErr, None};
+ghost use Rattle.futures.specs.Task.{Covers, Keeps};
 ghost use Rattle.lock_words.specs.Lock.{fresh, holding, cleared, counted, uncounted};
-ghost use Rattle.lock_words.specs.Tries.{Holds, OnTaking, OnAlone, OnSetting, OnCounting};
+ghost use Rattle.lock_words.specs.Heard.{IsOf, OnWaiting, IsKept};
+ghost use Rattle.lock_words.specs.Tries.{Holds, OnTaking, OnAlone, OnSetting, OnCounting, left_by_taking, left_by_alone};
 ghost use Rattle.lock_words.specs.Right.{IsRight};
 ghost use Rattle.lock_words.specs.Seats.{HasSlots};
 ghost use Rattle.lock_words.specs.Steps.{with_holds, without_holds};
 ghost use Rattle.lock_words.specs.declared.rested.Rested.{Rested};
 
-use crate::found::{Counting, Setting, Taking, TakingAlone};
+use crate::duty::Owed;
+use crate::found::{Counting, Setting, Taking, TakingAlone, WasHeld};
 use crate::rested::Rested;
 use crate::rule::{Clear, Count, Keep, MutexRule, Set, Take, Uncount};
 use crate::seat::{Seat, View};
+use crate::waiting_list::{Heard, Listed, WaitingList};
 use atomic_table::{Seat as TableSeat, Shared, Table};
+use futures::task::{Context, Source, Waker};
 use lock_place::{Hold, Place, Room, Spare, Ticket};
 use std::alloc::{AllocError, Global};
 use std::marker::Model;
+use std::sync::Wait;
 
 /// The greatest number of seats that are counted as starved at once. [`Words::count`] meets it by name.
 pub const STARVED_LIMIT: u64 = 1_073_741_823;
@@ -49,7 +55,12 @@ pub struct Words<T> {
     spare: Spare<T>,
     // A forgotten seat left the lock held, and the value has been lent past it. The lock stays held then,
     // and the right that the seat had is worth nothing.
-    is_left: bool,
+    left: Option<WasHeld>,
+    // How many may be starved. It stands beside the words, and only a count reads it.
+    limit: u64,
+    // What tasks register with that wait.
+    source: Source,
+    list: WaitingList<Waker>,
 }
 
 // By hand, so that a drop is one call to prove, and not all of its parts again.
@@ -59,7 +70,10 @@ impl<T: Drop> Drop for Words<T> {
             table: _,
             place: _,
             spare: _,
-            is_left: _,
+            left: _,
+            limit: _,
+            source: _,
+            list: _,
         } = self;
     }
 }
@@ -71,19 +85,31 @@ impl<T> Model for Words<T> {
 
     ghost coded = { lock_coded };
 
-    ghost use Rattle.std.specs.Prelude.{◌≡◌, false, IsSome};
+    ghost use Rattle.std.specs.Prelude.{◌≡◌, ◌≤◌, false, IsSome, is_some};
 
-    ghost view = { λ w. record { lock = record { table = w.table.shared.table_id; room = w.table.shared.key.room_id; deed = w.table.shared.key.deed }; room = w.place.room.room_id } };
+    ghost view = { λ w. record { lock = record { table = w.table.shared.table_id; room = w.table.shared.key.room_id; deed = w.table.shared.key.deed }; room = w.place.room.room_id; source = w.source.id; list = w.list.name.id; limit = w.limit; is_left = is_some w.left } };
 
-    ghost invariant = { λ w. (w.table.shared.table_id.words ≡ 1) × (w.table.shared.table_id.slots ≡ 1) × (w.spare.room_id ≡ w.place.room.room_id) × (w.is_left ≡ false → (w.table.shared.key.room_id ≡ w.place.room.room_id) × (w.table.shared.key.deed ≡ w.spare.deed) × IsSome w.spare.value) };
+    ghost invariant = { λ w. (w.limit ≤ 1073741823) × (w.table.shared.table_id.words ≡ 1) × (w.table.shared.table_id.slots ≡ 1) × (w.spare.room_id ≡ w.place.room.room_id) × (is_some w.left ≡ false → (w.table.shared.key.room_id ≡ w.place.room.room_id) × (w.table.shared.key.deed ≡ w.spare.deed) × IsSome w.spare.value) };
 }
 
 impl<T> Words<T> {
-    /// A free lock over a value, with nobody starved. Refused for memory, the value is
-    /// dropped.
+    /// Creates a free lock over a value, with nobody starved. If memory is refused, the value is dropped.
     pub fn new(alloc: Global, value: T) -> Result<Words<T>, AllocError>
     where
         T: Drop,
+        ensures is_left { IfOk result (λ words. words.is_left ≡ false) }
+        ensures limit { IfOk result (λ words. words.limit ≡ 1073741823) }
+    {
+        Words::with_limit(alloc, value, STARVED_LIMIT)
+    }
+
+    /// Creates a free lock as [`Words::new`] does, where fewer may be starved. It is for tests.
+    pub fn with_limit(alloc: Global, value: T, limit: u64) -> Result<Words<T>, AllocError>
+    where
+        T: Drop,
+        requires { limit ≤ 1073741823 }
+        ensures is_left { IfOk result (λ words. words.is_left ≡ false) }
+        ensures limit { IfOk result (λ words. words.limit ≡ limit) }
     {
         let Ok((place, hold)) = Place::new(alloc, value) else {
             return Err(AllocError);
@@ -95,7 +121,10 @@ impl<T> Words<T> {
                 table,
                 place,
                 spare,
-                is_left: false,
+                left: None,
+                limit,
+                source: Source::new(),
+                list: WaitingList::new(alloc),
             }),
             Err(error) => Err(error),
         }
@@ -108,8 +137,13 @@ impl<T> Words<T> {
             table,
             place,
             spare,
-            is_left: _,
+            left: _,
+            limit: _,
+            source,
+            list,
         } = self;
+        drop(source);
+        drop(list);
         drop(table);
         drop(spare);
         place.into_inner()
@@ -137,20 +171,42 @@ impl<T> Words<T> {
         &self.place.room
     }
 
+    /// Who waits.
+    pub fn list(&self) -> &WaitingList<Waker>
+        ensures { result.now.name.id ≡ self.now.list }
+    {
+        &self.list
+    }
+
+    /// Polls an entry of the lock's list, as [`WaitingList::poll`]. A waiting task registers with the lock's source.
+    pub fn poll<R: Wait>(&self, rt: &R, entry: Listed, cx: &mut Context<'_>) -> Heard
+        requires { entry.list.id ≡ self.now.list }
+        ensures list { IsOf self.now.list result }
+        ensures waits { OnWaiting result (λ entry. IsKept cx.new entry.keeps × Covers cx.new (λ s. s ≡ self.now.source)) }
+        ensures kept { Keeps cx.old cx.new }
+    {
+        self.list.poll(rt, entry, &self.source, cx)
+    }
+
     /// Takes the lock if it is free and nobody is starved: one try, which is no exchange where the lock
     /// isn't free to take.
     ///
     /// By the contract a seat that got the lock found nobody starved (`passed` is 0) and holds it with the
-    /// right to its value, and any other seat is as it was. Which of the two other answers comes is tested.
-    pub fn take(&self, seat: &mut Seat<T>) -> Taking<T>
+    /// right to its value, and any other seat is as it was. A duty to notify ends where the lock was found held, since
+    /// its holder notifies later (`owed`). Which of the two other answers comes is tested.
+    #[inline]
+    pub fn take(&self, seat: &mut Seat<T>, owed: &mut Option<Owed>) -> Taking<T>
         requires lock { seat.old.lock ≡ self.now.lock }
         requires idle { seat.old.holds ≡ false }
-        ensures { OnTaking result (λ hold. (seat.new ≡ holding seat.old 0) × Holds self.now seat.new hold) (seat.new ≡ seat.old) }
+        requires list { IfSome owed.old (λ o. o.list.id ≡ self.now.list) }
+        ensures seat { OnTaking result (λ hold. (seat.new ≡ holding seat.old 0) × Holds self.now seat.new hold) (seat.new ≡ seat.old) }
+        ensures owed { owed.new ≡ left_by_taking result owed.old }
     {
         match self.take_from(seat, FREE) {
             Ok(hold) => Taking::Got(hold),
             Err(found) => {
-                if found < STARVED {
+                if found == HELD {
+                    leave_to_holder(owed, found);
                     Taking::Held
                 } else {
                     Taking::Starved
@@ -162,16 +218,19 @@ impl<T> Words<T> {
     /// Takes the lock if it is free and one waiter alone is starved, who is mostly the caller: one try.
     ///
     /// By the contract a seat that got the lock found one starved (`passed` is 1) and holds it with the
-    /// right to its value, and any other seat is as it was.
-    pub fn take_alone(&self, seat: &mut Seat<T>) -> TakingAlone<T>
+    /// right to its value, and any other seat is as it was. A duty to notify ends where the lock was found held (`owed`).
+    pub fn take_alone(&self, seat: &mut Seat<T>, owed: &mut Option<Owed>) -> TakingAlone<T>
         requires lock { seat.old.lock ≡ self.now.lock }
         requires idle { seat.old.holds ≡ false }
-        ensures { OnAlone result (λ hold. (seat.new ≡ holding seat.old 1) × Holds self.now seat.new hold) (seat.new ≡ seat.old) }
+        requires list { IfSome owed.old (λ o. o.list.id ≡ self.now.list) }
+        ensures seat { OnAlone result (λ hold. (seat.new ≡ holding seat.old 1) × Holds self.now seat.new hold) (seat.new ≡ seat.old) }
+        ensures owed { owed.new ≡ left_by_alone result owed.old }
     {
         match self.take_from(seat, STARVED) {
             Ok(hold) => TakingAlone::Got(hold),
             Err(found) => {
                 if found % STARVED == HELD {
+                    leave_to_holder(owed, found);
                     TakingAlone::Held
                 } else {
                     TakingAlone::FreeWithOthers
@@ -192,7 +251,7 @@ impl<T> Words<T> {
     {
         let shared = &self.table.shared;
         let seen = shared.peek(WORD);
-        if seen != free || self.is_left {
+        if seen != free || self.left.is_some() {
             return Err(seen);
         }
         let found = shared.compare_exchange::<Take>(&mut seat.inner, WORD, free, free + HELD);
@@ -209,28 +268,30 @@ impl<T> Words<T> {
         requires idle { seat.old.holds ≡ false }
         ensures { OnSetting result (λ hold. (seat.new ≡ holding seat.old seat.new.passed) × Holds self.now seat.new hold) (seat.new ≡ seat.old) }
     {
-        if self.is_left {
+        if self.left.is_some() {
             return Setting::WasSet;
         }
         match seize(&self.table.shared, &self.spare, &mut seat.inner) {
-            Some(hold) => Setting::Got(hold),
-            None => Setting::WasSet,
+            Ok(hold) => Setting::Got(hold),
+            Err(_) => Setting::WasSet,
         }
     }
 
-    /// Counts the seat as starved: one try, which says by name where [`STARVED_LIMIT`] seats are counted
-    /// already and where the word changed meanwhile. In both cases nothing changes.
+    /// Counts the seat as starved: one try, which says by name where as many seats are counted as may be
+    /// (`limit`) and where the word changed meanwhile. In both cases nothing changes.
     ///
-    /// By the table's rule no count passes the limit.
+    /// By the table's rule no count passes [`STARVED_LIMIT`].
     pub fn count(&self, seat: &mut Seat<T>) -> Counting
         requires lock { seat.old.lock ≡ self.now.lock }
         requires one { seat.old.starved ≡ false }
-        ensures { OnCounting result (seat.new ≡ counted seat.old) (seat.new ≡ seat.old) }
+        ensures { OnCounting self.now.limit result (seat.new ≡ counted seat.old) (seat.new ≡ seat.old) }
     {
         let shared = &self.table.shared;
         let found = shared.peek(WORD);
-        if found / STARVED >= STARVED_LIMIT {
-            return Counting::AtLimit;
+        if found / STARVED >= self.limit {
+            return Counting::AtLimit {
+                starved: found / STARVED,
+            };
         }
         let more = found + STARVED;
         if shared.compare_exchange::<Count>(&mut seat.inner, WORD, found, more) == found {
@@ -251,13 +312,15 @@ impl<T> Words<T> {
             .fetch_sub::<Uncount>(&mut seat.inner, WORD, STARVED);
     }
 
-    /// Gives the lock back, and its right with it: one step.
-    pub fn clear(&self, seat: &mut Seat<T>, hold: Hold<T>)
+    /// Gives the lock back, and its right with it: one step. Whoever did so owes a notification.
+    pub fn clear(&self, seat: &mut Seat<T>, hold: Hold<T>) -> Owed
         requires { Holds self.now seat.old hold }
-        ensures { seat.new ≡ cleared seat.old }
+        ensures seat { seat.new ≡ cleared seat.old }
+        ensures owed { result.list.id ≡ self.now.list }
     {
         let right = Rested::Present(hold.park());
         give_back(&self.table.shared, &mut seat.inner, right);
+        Owed::new(self.list.id())
     }
 
     /// The value, whatever became of the seats and the rights. It waits for nobody and takes no memory.
@@ -265,20 +328,31 @@ impl<T> Words<T> {
     /// A free lock is free afterwards. A lock that a forgotten seat left held stays held for good, as in the
     /// Rust crate, and only this call and [`Words::into_inner`] reach its value.
     pub fn get_mut(&mut self) -> &mut T {
-        let mut regained = None;
-        if !self.is_left {
+        let hold = if self.left.is_some() {
+            renew(&mut self.spare, &mut self.place)
+        } else {
             let table = &self.table;
-            regained = regain(&table.shared, &mut self.spare, &mut self.place);
-        }
-        let hold = match regained {
-            Some(hold) => hold,
-            None => {
-                self.is_left = true;
-                renew(&mut self.spare, &mut self.place)
+            match regain(&table.shared, &mut self.spare, &mut self.place) {
+                Ok(hold) => hold,
+                Err(held) => {
+                    self.left = Some(held);
+                    renew(&mut self.spare, &mut self.place)
+                }
             }
         };
         let place = &self.place;
         self.spare.lend(hold, place)
+    }
+}
+
+// The lock was held, and so its holder notifies later.
+#[inline]
+fn leave_to_holder(owed: &mut Option<Owed>, word: u64)
+    requires { word % 2 ≡ 1 }
+    ensures { owed.new ≡ None }
+{
+    if let Some(owed) = owed.take() {
+        owed.leave_to_holder(word);
     }
 }
 
@@ -330,18 +404,19 @@ fn seize<T>(
     shared: &Ruled<T>,
     spare: &Spare<T>,
     inner: &mut TableSeat<Rested<T>, View>,
-) -> Option<Hold<T>>
+) -> Result<Hold<T>, WasHeld>
     requires table { (inner.old.table_id ≡ shared.now.table_id) × (shared.now.table_id.words ≡ 1) }
     requires idle { inner.old.me.1 ≡ [] }
     requires key { (inner.old.me.0.room ≡ spare.now.room_id) × (inner.old.me.0.deed ≡ spare.now.deed) }
     requires spare { IsSome spare.now.value }
-    ensures got { IfSome result (λ hold. (hold.room_id ≡ spare.now.room_id) × (inner.new.table_id ≡ inner.old.table_id) × (inner.new.me.0 ≡ with_holds inner.old.me.0 inner.new.me.0.passed) × HasSlots true inner.new.me.1) }
-    ensures not { IfNone result ((inner.new.table_id ≡ inner.old.table_id) × (inner.new.me ≡ inner.old.me)) }
+    ensures got { IfOk result (λ hold. (hold.room_id ≡ spare.now.room_id) × (inner.new.table_id ≡ inner.old.table_id) × (inner.new.me.0 ≡ with_holds inner.old.me.0 inner.new.me.0.passed) × HasSlots true inner.new.me.1) }
+    ensures not { OnErr result ((inner.new.table_id ≡ inner.old.table_id) × (inner.new.me ≡ inner.old.me)) }
 {
-    if shared.fetch_or::<Set>(inner, WORD, HELD) % STARVED == HELD {
-        return None;
+    let word = shared.fetch_or::<Set>(inner, WORD, HELD);
+    if word % STARVED == HELD {
+        return Err(WasHeld::of(word));
     }
-    Some(take_right(shared, spare, inner))
+    Ok(take_right(shared, spare, inner))
 }
 
 // Lays the right into the slot, and gives the lock back with it.
@@ -360,17 +435,18 @@ fn regain<T>(
     shared: &Ruled<T>,
     spare: &mut Spare<T>,
     place: &mut Place<T, Global>,
-) -> Option<Hold<T>>
+) -> Result<Hold<T>, WasHeld>
     requires size { (shared.now.table_id.words ≡ 1) × (shared.now.table_id.slots ≡ 1) }
     requires key { (shared.now.key.room_id ≡ place.old.room.room_id) × (shared.now.key.deed ≡ spare.old.deed) × (spare.old.room_id ≡ place.old.room.room_id) × IsSome spare.old.value }
     ensures same { (place.new.room.room_id ≡ place.old.room.room_id) × (spare.new.room_id ≡ spare.old.room_id) × (spare.new.deed ≡ spare.old.deed) }
-    ensures hold { IfSome result (λ hold. hold.room_id ≡ place.old.room.room_id) }
+    ensures hold { IfOk result (λ hold. hold.room_id ≡ place.old.room.room_id) }
 {
     let mut inner = shared.load_new_seat::<Keep>(WORD).1;
-    let Some(hold) = seize(shared, spare, &mut inner) else {
-        return None;
+    let hold = match seize(shared, spare, &mut inner) {
+        Ok(hold) => hold,
+        Err(held) => return Err(held),
     };
     let (hold, ticket) = spare.reissue(hold, place);
     give_back(shared, &mut inner, Rested::Spared(ticket));
-    Some(hold)
+    Ok(hold)
 }

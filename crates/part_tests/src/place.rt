@@ -17,14 +17,20 @@ fn written(alloc: Global) -> Option<[u64; 3]> {
     let second = *seen.get(&place.room);
     let mut hold = seen.unshare();
     *hold.get_mut(&place.room) = 9;
+    drop(hold.park());
     Some([first, second, place.into_inner()])
 }
 
 // What a place of 1 and one of 2 have once they have swapped.
 fn swapped(alloc: Global) -> Option<[u64; 2]> {
     let (one, mut first) = Place::new(alloc, 1u64).ok()?;
-    let (two, mut second) = Place::new(alloc, 2u64).ok()?;
+    let Ok((two, mut second)) = Place::new(alloc, 2u64) else {
+        drop(first.park());
+        return None;
+    };
     first.swap(&one.room, &mut second, &two.room);
+    drop(first.park());
+    drop(second.park());
     Some([one.into_inner(), two.into_inner()])
 }
 
@@ -33,7 +39,7 @@ fn swapped(alloc: Global) -> Option<[u64; 2]> {
 fn renewed(alloc: Global) -> Option<[u64; 2]> {
     let (mut place, mut hold) = Place::new(alloc, 7u64).ok()?;
     *hold.get_mut(&place.room) = 8;
-    mem::forget(hold);
+    mem::forget(hold.park());
     let mut hold = place.renew();
     let read = *hold.get(&place.room);
     *hold.get_mut(&place.room) = 9;
@@ -52,6 +58,7 @@ fn redeemed(alloc: Global) -> Option<[u64; 3]> {
     *spare.lend(hold, &place) = 9;
     let hold = ticket.redeem(&spare);
     let second = *hold.get(&place.room);
+    drop(hold.park());
     Some([first, second, place.into_inner()])
 }
 
@@ -60,7 +67,7 @@ fn overwritten(alloc: Global, drops: &AtomicU64) -> Option<u64> {
     let (place, mut hold) = Place::new(alloc, Counted { drops, number: 1 }).ok()?;
     *hold.get_mut(&place.room) = Counted { drops, number: 1 };
     let dropped = drops.load(Ordering::SeqCst);
-    mem::forget(hold);
+    mem::forget(hold.park());
     drop(place);
     Some(dropped)
 }

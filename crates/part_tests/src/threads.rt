@@ -9,9 +9,9 @@ use std::thread;
 
 // Counts a seat and takes its count off, if it can, then adds one under the lock. It waits for the lock.
 fn count_and_add<R: Wait>(rt: &R, words: &Words<u64>) {
-    while_counted(words);
+    while_counted(rt, words);
     for _ in rt.forever() {
-        if add_one(words).is_some() {
+        if add_one(rt, words).is_some() {
             break;
         }
     }

@@ -4,12 +4,13 @@
 
 use crate::found::Found::{FreeWithOthers, Got, Held, Starved, WasSet};
 use crate::found::{
-    Tries, add_one, drop_holder, is_counted, is_counted_for_good, is_found_held, tries,
-    while_counted, write_and_forget,
+    Tries, add_one, forget_holder, is_counted_for_good, is_found_held, tries, while_counted,
+    write_and_forget,
 };
 use crate::same::{assert_none_wrong, assert_same};
 use lock_words::Words;
 use std::process::Abort;
+use std::sync::Wait;
 
 /// What is done or looked at, and what is to be seen of it.
 #[derive(Clone, Copy)]
@@ -17,12 +18,10 @@ pub(crate) enum Row {
     /// What a take, a take alone and a set find. Each gives back what it got.
     Find(Tries),
     IsLocked(bool),
-    /// A seat takes the lock, and it and its right are dropped.
-    DropHolder,
-    /// A seat is counted as starved, and dropped.
-    Count,
+    /// A seat takes the lock, and it and its right are forgotten.
+    ForgetHolder,
     /// A seat is counted as starved, and forgotten.
-    ForgetCounted,
+    Count,
     /// What tries find while a seat holds the lock.
     WhileHeld(Tries),
     /// What tries find while a seat is counted as starved.
@@ -38,22 +37,21 @@ pub(crate) enum Row {
 }
 
 use Row::{
-    AddOne, Count, DropHolder, Find, ForgetCounted, IsLocked, Lend, Lent, WhileCounted, WhileHeld,
+    AddOne, Count, Find, ForgetHolder, IsLocked, Lend, Lent, WhileCounted, WhileHeld,
     WriteAndForget,
 };
 
 // Does what the row says, and whether that is seen as wanted.
-fn is_seen(words: &mut Words<u64>, row: Row) -> bool {
+fn is_seen<R: Wait>(rt: &R, words: &mut Words<u64>, row: Row) -> bool {
     match row {
-        Find(wanted) => tries(words) == wanted,
+        Find(wanted) => tries(rt, words) == wanted,
         IsLocked(wanted) => words.is_locked() == wanted,
-        DropHolder => drop_holder(words),
-        Count => is_counted(words),
-        ForgetCounted => is_counted_for_good(words),
-        WhileHeld(wanted) => is_found_held(words, wanted),
-        WhileCounted(wanted) => while_counted(words) == Some(wanted),
-        AddOne(number) => add_one(words) == Some(number),
-        WriteAndForget(number) => write_and_forget(words, number),
+        ForgetHolder => forget_holder(rt, words),
+        Count => is_counted_for_good(words),
+        WhileHeld(wanted) => is_found_held(rt, words, wanted),
+        WhileCounted(wanted) => while_counted(rt, words) == Some(wanted),
+        AddOne(number) => add_one(rt, words) == Some(number),
+        WriteAndForget(number) => write_and_forget(rt, words, number),
         Lend(number) => {
             *words.get_mut() = number;
             true
@@ -63,9 +61,9 @@ fn is_seen(words: &mut Words<u64>, row: Row) -> bool {
 }
 
 // The first row that isn't seen as wanted.
-fn first_wrong(words: &mut Words<u64>, rows: &[Row]) -> Option<usize> {
+fn first_wrong<R: Wait>(rt: &R, words: &mut Words<u64>, rows: &[Row]) -> Option<usize> {
     for (at, row) in rows.iter().enumerate() {
-        if !is_seen(words, *row) {
+        if !is_seen(rt, words, *row) {
             return Some(at);
         }
     }
@@ -73,15 +71,21 @@ fn first_wrong(words: &mut Words<u64>, rows: &[Row]) -> Option<usize> {
 }
 
 /// Each of these rows is as wanted, and this is the value at last.
-pub(crate) fn play(rt: &impl Abort, table: &str, words: Words<u64>, rows: &[Row], last: u64) {
+pub(crate) fn play<R: Wait + Abort>(
+    rt: &R,
+    table: &str,
+    words: Words<u64>,
+    rows: &[Row],
+    last: u64,
+) {
     let mut words = words;
-    let wrong = first_wrong(&mut words, rows);
+    let wrong = first_wrong(rt, &mut words, rows);
     assert_none_wrong(rt, table, wrong);
     assert_same(rt, words.into_inner(), last);
 }
 
 // The same of a lock over 7. Refused memory for its lock, a test ends well.
-fn expect(rt: &(impl AllocGlobal + Abort), table: &str, rows: &[Row], last: u64) {
+fn expect<R: AllocGlobal + Wait + Abort>(rt: &R, table: &str, rows: &[Row], last: u64) {
     if let Ok(words) = Words::new(rt.alloc(), 7) {
         play(rt, table, words, rows, last);
     }
@@ -109,7 +113,7 @@ const STARVED: &[Row] = &[
 ];
 
 const HELD_AND_STARVED: &[Row] = &[
-    DropHolder,
+    ForgetHolder,
     Count,
     Find((Starved, Held, WasSet)),
     IsLocked(true),
@@ -157,7 +161,7 @@ const LENT: &[Row] = &[
 ];
 
 const PAST_A_WAITER: &[Row] = &[
-    ForgetCounted,
+    Count,
     Lend(8),
     IsLocked(false),
     Find((Starved, Got, Got)),

@@ -1,4 +1,5 @@
+use Rattle.futures.specs.Task.{Keeps}
 use Rattle.lock_driver.proofs.carries.Carries.drive.Given as goal
 
 abbrev pub invariant-loop : goal.invariant-loop
-invariant-loop g l = g.Self.Carries.stands l.shared l.self l.place
+invariant-loop g l = g.Self.Carries.stands l.shared l.self l.place × Keeps l.fn.cx l.cx

@@ -1,0 +1,5 @@
+use Rattle.lock_driver.proofs.Stays.{starts}
+use Rattle.lock_driver.proofs.mutex_party.MutexPartyCarries.start.Goals as goal
+
+pub returns-clause-stands : goal.returns-clause-stands
+returns-clause-stands g c = starts _ c.args.call c.args.place _ c.start.ensures
