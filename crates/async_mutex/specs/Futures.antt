@@ -6,7 +6,7 @@ use Rattle.lock_driver.specs.Parties.{IsGivenUp}
 use Rattle.lock_words.specs.declared.turn.Turn.{Turn}
 use Rattle.lock_words.specs.declared.turn.Turn.TheVariants.{Pending, Ready, Refused}
 use Rattle.lock_words.specs.declared.waiting_list.Listed.{Listed}
-use Rattle.lock_world.specs.declared.refusal.Refusal.TheVariants.{Finished}
+use Rattle.lock_program.specs.declared.refusal.Refusal.TheVariants.{Finished}
 
 -- its mutex, whether it was ready before, and its entry in the mutex's list
 pub record Future (T R : Type 0) : Type 0 where

@@ -7,7 +7,7 @@ use Rattle.futures.specs.declared.task.context.Context.{Context}
 use Rattle.lock_driver.specs.Parties.{Stands, CanPoll, EndsAt, IfPending, IsGivenUp, IsReceipt}
 use Rattle.lock_words.specs.Lock.{Lock}
 use Rattle.lock_words.specs.Tries.{Holds}
-use Rattle.mutex_program.specs.declared.calls.End.{End}
+use Rattle.lock_program.specs.declared.end.End.{End}
 
 -- the party has what it has at its place, and may be polled there
 abbrev pub Waits : {T : Type 0} → Lock → Waiting T → Type 0

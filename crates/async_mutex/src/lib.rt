@@ -18,5 +18,5 @@ pub mod lock_futures {
 
 pub use guard::{MutexGuard, MutexGuardArc};
 pub use lock_words::{Polled, Settled, Turn};
-pub use lock_world::Refusal;
+pub use lock_program::Refusal;
 pub use mutex::Mutex;

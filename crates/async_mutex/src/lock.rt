@@ -14,7 +14,7 @@ use crate::mutex::Mutex;
 use crate::waiting::{Outcome, Waiting, poll_waiting};
 use futures::task::Context;
 use lock_words::{Hold, Polled, Seat, Turn, nothing};
-use lock_world::Refusal;
+use lock_program::Refusal;
 use std::marker::Model;
 use std::sync::{Arc, Wait};
 use std::time::Clock;

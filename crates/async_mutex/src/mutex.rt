@@ -4,7 +4,7 @@ ghost use Rattle.std.specs.Prelude.{◌≡◌, IfSome, IfOk, IfErr, None, ◌≤
 ghost use Rattle.std.specs.Arc.{arc_value};
 ghost use Rattle.async_mutex.specs.Outcomes.{Waits};
 ghost use Rattle.lock_words.specs.Tries.{Holds};
-ghost use Rattle.lock_world.specs.declared.refusal.Refusal.{Refusal};
+ghost use Rattle.lock_program.specs.declared.refusal.Refusal.{Refusal};
 
 use crate::guard::{MutexGuard, MutexGuardArc};
 use crate::lock::{Lock, LockArc};
@@ -12,7 +12,7 @@ use crate::waiting::Waiting;
 use futures::executor::block_on;
 use lock_driver::RawMutex;
 use lock_words::{Hold, STARVED_LIMIT, Seat, Settled, Words};
-use lock_world::Refusal;
+use lock_program::Refusal;
 use std::alloc::AllocGlobal;
 use std::fmt;
 use std::random::RandomSource;

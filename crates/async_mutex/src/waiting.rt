@@ -5,14 +5,14 @@ ghost use Rattle.futures.specs.Task.{Keeps};
 ghost use Rattle.async_mutex.specs.Futures.{entry_of};
 ghost use Rattle.async_mutex.specs.Outcomes.{OnOutcome, OnWaits, Polled, Waits};
 ghost use Rattle.lock_driver.specs.Parties.{IsReceipt, Stands};
-ghost use Rattle.mutex_program.specs.declared.program.Place.TheVariants as at;
+ghost use Rattle.lock_program.specs.declared.mutex.Place.TheVariants as at;
 
 use futures::task::Context;
 use lock_driver::{MutexParty, RawMutex};
 use lock_words::{Hold, Seat, put};
-use lock_world::Refusal;
-use mutex_program::calls::End;
-use mutex_program::program::Place;
+use lock_program::Refusal;
+use lock_program::End;
+use lock_program::mutex::Place;
 use std::sync::Wait;
 use std::time::Clock;
 
@@ -59,7 +59,7 @@ pub(crate) fn poll_waiting<T, R: Wait + Clock>(
             Outcome::Refused(refusal)
         }
         // No poll of the program ends so.
-        End::NotFree | End::GivenBack => {
+        End::Granted | End::Waiting | End::NotFree | End::GivenBack => {
             taken(waiting).end(&raw.words);
             Outcome::Refused(Refusal::Memory)
         }

@@ -1,22 +1,22 @@
 -- Where a call on a mutex leaves its party that ended.
 use Rattle.std.specs.Bool.{⊤}
 use Rattle.std.proofs.Common.{◌≡◌, true, false, Option, Some, None, refl, ap, subst}
-use Rattle.lock_driver.specs.Parties.{EndsAt, end_of, end_after, next_place}
-use Rattle.mutex_program.specs.declared.calls.End.{End}
-use Rattle.mutex_program.specs.declared.program.Found.{Found}
-use Rattle.mutex_program.specs.declared.program.Found.TheVariants.{Done, Free, Held, SomeStarved, AtLimit, NoMemory, Yes, No}
-use Rattle.mutex_program.specs.declared.program.Next.{Next}
-use Rattle.mutex_program.specs.declared.program.Next.TheVariants as next
-use Rattle.mutex_program.specs.declared.program.Place.{Place}
-use Rattle.mutex_program.specs.declared.program.Place.TheVariants.{Out, Holding, Enter, Try, Clear, CancelUncount, CancelLeave, Join, Look, Ask, Retry, PassOn, Count, JoinStarved, LookAlone, PassOnListed, AskStarved, Seize, Uncount, Leave, RefuseUncount, RefuseLeave, RefuseNotifyMemory, RefuseNotifyStarved, ReleaseNotify}
-use Rattle.mutex_program.specs.Program.{next_of, rest_at, place_after}
+use Rattle.lock_driver.specs.Parties.{EndsAt, end_of, end_after, next_place, place_left}
+use Rattle.lock_program.specs.declared.end.End.{End}
+use Rattle.lock_program.specs.declared.mutex.Found.{Found}
+use Rattle.lock_program.specs.declared.mutex.Found.TheVariants.{Done, Free, Held, SomeStarved, AtLimit, NoMemory, Yes, No}
+use Rattle.lock_program.specs.declared.end.Next.{Next}
+use Rattle.lock_program.specs.declared.end.Next.TheVariants as next
+use Rattle.lock_program.specs.declared.mutex.Place.{Place}
+use Rattle.lock_program.specs.declared.mutex.Place.TheVariants.{Out, Holding, Enter, Try, Clear, CancelUncount, CancelLeave, Join, Look, Ask, Retry, PassOn, Count, JoinStarved, LookAlone, PassOnListed, AskStarved, Seize, Uncount, Leave, RefuseUncount, RefuseLeave, RefuseNotifyMemory, RefuseNotifyStarved, ReleaseNotify}
+use Rattle.lock_program.specs.Mutex.{next_of}
 
 -- where the call ends here, its party is where such an end leaves it
-abbrev OnEnd : Next → Place → Type 0
-OnEnd (next.Do action q) p = ⊤
-OnEnd (next.End e) p = EndsAt e (rest_at p e)
+abbrev OnEnd : Next Place Place → Type 0
+OnEnd (next.Do p) = ⊤
+OnEnd (next.End e p) = EndsAt e p
 
-on_end : (p : Place) (f : Found) → OnEnd (next_of p f) p
+on_end : (p : Place) (f : Found) → OnEnd (next_of p f)
 on_end Out f = refl
 on_end Holding f = refl
 on_end (Uncount true) f = tt
@@ -155,9 +155,9 @@ on_end Seize NoMemory = tt
 on_end Seize Yes = tt
 on_end Seize No = tt
 
-at_end : (n : Next) (p : Place) (e : End) → OnEnd n p → end_of n ≡ Some e → EndsAt e (place_after p n)
-at_end (next.Do action q) p e on is = absurd (cc)
-at_end (next.End d) p e on is = subst (λ x. EndsAt x (rest_at p d)) (some_injective d e is) on
+at_end : (n : Next Place Place) (e : End) → OnEnd n → end_of n ≡ Some e → EndsAt e (place_left n)
+at_end (next.Do p) e on is = absurd (cc)
+at_end (next.End d p) e on is = subst (λ x. EndsAt x p) (some_injective d e is) on
   where
     out : End → Option End → End
     out x None = x
@@ -167,4 +167,4 @@ at_end (next.End d) p e on is = subst (λ x. EndsAt x (rest_at p d)) (some_injec
     some_injective x y same = ap (out x) same
 
 pub ends_at : (p : Place) (f : Found) (e : End) → end_after p f ≡ Some e → EndsAt e (next_place p f)
-ends_at p f e is = at_end (next_of p f) p e (on_end p f) is
+ends_at p f e is = at_end (next_of p f) e (on_end p f) is

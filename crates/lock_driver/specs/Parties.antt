@@ -8,21 +8,21 @@ use Rattle.lock_words.specs.Heard.{IsKept}
 use Rattle.lock_words.specs.Lock.{Lock, Seated}
 use Rattle.lock_words.specs.declared.duty.Owed.{Owed}
 use Rattle.lock_words.specs.declared.waiting_list.Listed.{Listed}
-use Rattle.lock_world.specs.declared.refusal.Refusal.{Refusal}
-use Rattle.lock_world.specs.declared.refusal.Refusal.TheVariants.{Memory, Starved}
+use Rattle.lock_program.specs.declared.refusal.Refusal.{Refusal}
+use Rattle.lock_program.specs.declared.refusal.Refusal.TheVariants.{Memory, Starved}
 use Rattle.lock_words.specs.Tries.{Holds}
-use Rattle.mutex_program.specs.declared.program.Action.{Action}
-use Rattle.mutex_program.specs.declared.program.Action.TheVariants as act
-use Rattle.mutex_program.specs.declared.calls.End.{End}
-use Rattle.mutex_program.specs.declared.calls.End.TheVariants as ending
-use Rattle.mutex_program.specs.declared.program.Found.{Found}
-use Rattle.mutex_program.specs.declared.program.Found.TheVariants.{Done, Free, Held, SomeStarved, AtLimit, NoMemory, Yes, No}
-use Rattle.mutex_program.specs.declared.program.Next.{Next}
-use Rattle.mutex_program.specs.declared.program.Next.TheVariants as next
-use Rattle.mutex_program.specs.declared.program.Place.{Place}
-use Rattle.mutex_program.specs.declared.program.Place.TheVariants.{Out, Holding, Join, Look, Ask, Retry, PassOn, Count, JoinStarved, LookAlone, PassOnListed, AskStarved, Seize, RefuseUncount, RefuseLeave, RefuseNotifyMemory, RefuseNotifyStarved, ReleaseNotify}
-use Rattle.mutex_program.specs.Program.{next_of, place_after}
-use Rattle.mutex_program.specs.Roles.{listed, is_holder, is_counted}
+use Rattle.lock_program.specs.declared.mutex.Action.{Action}
+use Rattle.lock_program.specs.declared.mutex.Action.TheVariants as act
+use Rattle.lock_program.specs.declared.end.End.{End}
+use Rattle.lock_program.specs.declared.end.End.TheVariants as ending
+use Rattle.lock_program.specs.declared.mutex.Found.{Found}
+use Rattle.lock_program.specs.declared.mutex.Found.TheVariants.{Done, Free, Held, SomeStarved, AtLimit, NoMemory, Yes, No}
+use Rattle.lock_program.specs.declared.end.Next.{Next}
+use Rattle.lock_program.specs.declared.end.Next.TheVariants as next
+use Rattle.lock_program.specs.declared.mutex.Place.{Place}
+use Rattle.lock_program.specs.declared.mutex.Place.TheVariants.{Out, Holding, Join, Look, Ask, Retry, PassOn, Count, JoinStarved, LookAlone, PassOnListed, AskStarved, Seize, RefuseUncount, RefuseLeave, RefuseNotifyMemory, RefuseNotifyStarved, ReleaseNotify}
+use Rattle.lock_program.specs.Mutex.{next_of}
+use Rattle.lock_program.specs.MutexRoles.{listed, is_holder, is_counted}
 
 -- what a party has: the right to the value, a count as starved, an entry in the list, a notification to pass on
 pub record Having : Type 0 where
@@ -144,12 +144,16 @@ abbrev pub Stands : {T : Type 0} → Lock → MutexParty T → Place → Type 0
 Stands w q p = IsSeated w q.seat q.hold × (having_of q.seat q.entry q.owed ≡ having_at p) × IsReached p × IsTied w.list q.entry q.owed
 
 -- the place after one where this was found, and how the call has ended by that
-abbrev pub next_place : Place → Found → Place
-next_place p f = place_after p (next_of p f)
+abbrev pub place_left : Next Place Place → Place
+place_left (next.Do p) = p
+place_left (next.End e p) = p
 
-abbrev pub end_of : Next → Option End
-end_of (next.Do action p) = None
-end_of (next.End e) = Some e
+abbrev pub next_place : Place → Found → Place
+next_place p f = place_left (next_of p f)
+
+abbrev pub end_of : Next Place Place → Option End
+end_of (next.Do p) = None
+end_of (next.End e p) = Some e
 
 abbrev pub end_after : Place → Found → Option End
 end_after p f = end_of (next_of p f)
@@ -173,6 +177,7 @@ EndsAt ending.Pending p = CanPoll p
 EndsAt ending.NotFree p = p ≡ Out
 EndsAt ending.GivenBack p = p ≡ Out
 EndsAt (ending.Refused refusal) p = (p ≡ Out) × IsGivenUp refusal
+EndsAt _ p = ⊥
 
 -- The receipt of a party that waits: an entry in the lock's list, which keeps a waker of the task that the context polls; and the task
 -- has registered with the lock's source.

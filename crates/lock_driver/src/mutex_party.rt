@@ -5,13 +5,13 @@ ghost use Rattle.futures.specs.Task.{Keeps};
 ghost use Rattle.lock_driver.specs.Parties.{IsReceipt, IfPending, AsksNo};
 ghost use Rattle.lock_words.specs.Lock.{cleared};
 ghost use Rattle.lock_words.specs.Tries.{Holds};
-ghost use Rattle.mutex_program.specs.Program.{rest_at, start_of, action_of, next_of};
-ghost use Rattle.mutex_program.specs.declared.program.Action.TheVariants as does;
-ghost use Rattle.mutex_program.specs.declared.calls.End.TheVariants as ends;
-ghost use Rattle.mutex_program.specs.declared.program.Found.TheVariants as finds;
-ghost use Rattle.mutex_program.specs.declared.calls.LockCall.TheVariants as calls;
-ghost use Rattle.mutex_program.specs.declared.program.Next.TheVariants as next;
-ghost use Rattle.mutex_program.specs.declared.program.Place.TheVariants as at;
+ghost use Rattle.lock_program.specs.Mutex.{start_of, action_of, next_of};
+ghost use Rattle.lock_program.specs.declared.mutex.Action.TheVariants as does;
+ghost use Rattle.lock_program.specs.declared.end.End.TheVariants as ends;
+ghost use Rattle.lock_program.specs.declared.mutex.Found.TheVariants as finds;
+ghost use Rattle.lock_program.specs.declared.mutex.LockCall.TheVariants as calls;
+ghost use Rattle.lock_program.specs.declared.end.Next.TheVariants as next;
+ghost use Rattle.lock_program.specs.declared.mutex.Place.TheVariants as at;
 
 use crate::carries::Carries;
 use futures::task::Context;
@@ -19,8 +19,10 @@ use lock_words::{
     Counting, Heard, Hold, ListId, Listed, Owed, Seat, Setting, Taking, TakingAlone, Words,
     nothing, put,
 };
-use mutex_program::calls::{End, LockCall};
-use mutex_program::program::{Action, Found, Next, Place, action_at, decide, start};
+use lock_program::mutex::LockCall;
+use lock_program::End;
+use lock_program::mutex::{Action, Found, Place, action_at, decide, start};
+use lock_program::Next;
 use std::sync::Wait;
 use std::time::{Clock, Duration, Instant};
 
@@ -216,19 +218,19 @@ impl<T> RawMutex<T> {
 // take at once, and a release clears the word and notifies one. It does nothing, and its contract has the rows.
 #[inline]
 fn straight_rows()
-    ensures tries { (action_of at.Try ≡ does.Take) × (next_of at.Try finds.Free ≡ next.End ends.Got) }
-    ensures enters { (action_of at.Enter ≡ does.Take) × (next_of at.Enter finds.Free ≡ next.End ends.Got) }
+    ensures tries { (action_of at.Try ≡ does.Take) × (next_of at.Try finds.Free ≡ next.End ends.Got at.Holding) }
+    ensures enters { (action_of at.Enter ≡ does.Take) × (next_of at.Enter finds.Free ≡ next.End ends.Got at.Holding) }
     ensures releases { start_of calls.Release at.Holding ≡ Some at.Clear }
-    ensures clears { (action_of at.Clear ≡ does.Clear) × (next_of at.Clear finds.Done ≡ next.Do does.Notify at.ReleaseNotify) }
-    ensures notifies { next_of at.ReleaseNotify finds.Done ≡ next.End ends.GivenBack }
+    ensures clears { (action_of at.Clear ≡ does.Clear) × (next_of at.Clear finds.Done ≡ next.Do at.ReleaseNotify) }
+    ensures notifies { (action_of at.ReleaseNotify ≡ does.Notify) × (next_of at.ReleaseNotify finds.Done ≡ next.End ends.GivenBack at.Out) }
 {}
 
 // The rows of the program's table that `RawMutex::cancel` carries out straight.
 #[inline]
 fn cancel_rows()
-    ensures waiting { (start_of calls.Cancel at.Ask ≡ Some at.CancelLeave) × (action_of at.CancelLeave ≡ does.Leave) × (next_of at.CancelLeave finds.Done ≡ next.End ends.GivenBack) }
-    ensures starved { (start_of calls.Cancel at.AskStarved ≡ Some at.CancelUncount) × (action_of at.CancelUncount ≡ does.Uncount) × (next_of at.CancelUncount finds.Done ≡ next.Do does.Leave at.CancelLeave) }
-    ensures out { (start_of calls.Cancel at.Out ≡ Some at.Out) × (next_of at.Out finds.Done ≡ next.End ends.GivenBack) }
+    ensures waiting { (start_of calls.Cancel at.Ask ≡ Some at.CancelLeave) × (action_of at.CancelLeave ≡ does.Leave) × (next_of at.CancelLeave finds.Done ≡ next.End ends.GivenBack at.Out) }
+    ensures starved { (start_of calls.Cancel at.AskStarved ≡ Some at.CancelUncount) × (action_of at.CancelUncount ≡ does.Uncount) × (next_of at.CancelUncount finds.Done ≡ next.Do at.CancelLeave) }
+    ensures out { (start_of calls.Cancel at.Out ≡ Some at.Out) × (next_of at.Out finds.Done ≡ next.End ends.GivenBack at.Out) }
 {}
 
 // A duty to notify, if there was none.
@@ -281,20 +283,9 @@ impl<T> Carries for MutexParty<T> {
 
     fn decide(place: Place, found: Found) -> (Place, Option<End>) {
         match decide(place, found) {
-            Next::Do(_, next) => (next, None),
-            Next::End(end) => (rest(place, end), Some(end)),
+            Next::Do(next) => (next, None),
+            Next::End(end, rest) => (rest, Some(end)),
         }
-    }
-}
-
-/// Where a party stands whose call has ended so at this place.
-fn rest(place: Place, end: End) -> Place
-    ensures { result ≡ rest_at place end }
-{
-    match end {
-        End::Got => Place::Holding,
-        End::Pending => place,
-        End::NotFree | End::GivenBack | End::Refused(_) => Place::Out,
     }
 }
 

@@ -7,7 +7,7 @@ ghost use Rattle.lock_words.specs.Turns.{OnPending, OnReady};
 use crate::turn::Turn;
 use futures::Future;
 use futures::task::{Context, Poll};
-use lock_world::Refusal;
+use lock_program::Refusal;
 
 /// A named future of a lock, polled for a [`Turn`].
 pub trait Polled: Drop {

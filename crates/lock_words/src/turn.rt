@@ -1,6 +1,6 @@
 //! What a poll answers.
 
-use lock_world::Refusal;
+use lock_program::Refusal;
 
 /// What a poll of a lock's future answers.
 #[derive(Debug, Drop, PartialEq, Eq)]
