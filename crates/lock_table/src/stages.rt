@@ -4,8 +4,8 @@ ghost use Rattle.std.specs.Prelude.{◌≡◌};
 ghost use Rattle.lock_world.specs.Standings.{may_begin as may_begin_lem, rest_after as rest_after_lem};
 ghost use Rattle.lock_table.specs.Stages.{stage_after as stage_after_lem, polls_again as polls_again_lem};
 
-use lock_world::standing::{Kind, Rest, Stage, Within};
 use lock_program::Refusal;
+use lock_world::standing::{Kind, Rest, Stage, Within};
 use lock_world::{Answer, Call, What};
 
 /// Whether a party that stands so may begin a call of this kind.

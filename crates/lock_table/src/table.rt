@@ -10,8 +10,8 @@ ghost use Rattle.lock_table.specs.Tables.{IsTable as IsTable_lem, IsStep, new_ta
 
 use crate::machine::{Machine, Valued};
 use crate::stages::{may_begin, polls_again, stage_after};
-use lock_world::standing::{Rest, Stage, Within};
 use lock_program::Refusal;
+use lock_world::standing::{Rest, Stage, Within};
 use lock_world::{Answer, Move, What};
 use std::alloc::{AllocError, Global};
 use std::marker::Model;

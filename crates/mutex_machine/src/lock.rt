@@ -7,8 +7,8 @@
 ghost use Rattle.std.specs.Prelude.{◌≡◌, ◌<◌, length, Some, None, slice_get, IfOk, IsSome, IsSomeAnd};
 
 use lock_event::Entry;
-use lock_queue::WaitQueue;
 use lock_program::mutex::{LockCall, Place, action_at, decide, start};
+use lock_queue::WaitQueue;
 use mutex_program::deeds::carry_out;
 use mutex_program::led::{Next, after, led};
 use mutex_program::word::Word;

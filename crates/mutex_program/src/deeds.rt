@@ -3,8 +3,8 @@
 ghost use Rattle.mutex_program.specs.Carried.{Carried};
 ghost use Rattle.mutex_program.specs.Seats.{CanDo};
 
-use lock_program::mutex::{Action, Found};
 use crate::word::Word;
+use lock_program::mutex::{Action, Found};
 use lock_queue::WaitQueue;
 
 /// Carries out one action for a party.

@@ -6,8 +6,8 @@ ghost use Rattle.rwlock_program.specs.Effects.{CanDo};
 ghost use Rattle.rwlock_program.specs.Parties.{Joins, Asks, HasMemory};
 ghost use Rattle.rwlock_program.specs.Carried.{Carried};
 
-use lock_program::rwlock::{Action, Found};
 use crate::word::Word;
+use lock_program::rwlock::{Action, Found};
 use lock_queue::WaitQueue;
 use mutex_machine::Mutex;
 

@@ -12,8 +12,8 @@ ghost use Rattle.semaphore_machine.specs.Machine.{new_semaphore, IsSemaphore, an
 use crate::calls::start;
 use crate::words::Words;
 use lock_event::Entry;
-use lock_queue::WaitQueue;
 use lock_program::Next;
+use lock_queue::WaitQueue;
 use lock_table::{Machine, answer};
 use lock_world::standing::{Rest, Within};
 use lock_world::{Answer, Call, Got, What};

@@ -3,8 +3,8 @@
 ghost use Rattle.std.specs.Prelude.{◌≡◌, ◌+◌, ◌-◌, ◌<◌, ◌≤◌, IfOk, IfErr};
 ghost use Rattle.semaphore_machine.specs.Deeds.{FindsPermit, FindsRoom, words, taken_after, raised_after};
 
-use sync_program::semaphore::Found;
 use lock_program::Refusal;
+use sync_program::semaphore::Found;
 
 /// Whether a semaphore may begin with so many permits, whose limit never passes `most`. Refused as [`Refusal::Permits`] where there are
 /// more of them.

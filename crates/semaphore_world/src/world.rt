@@ -15,8 +15,8 @@ ghost use Rattle.semaphore_world.specs.Limits.{IsRefusedFor};
 
 use lock_event::Entry;
 use lock_frame::AnyWorld;
-use lock_table::Table;
 use lock_program::Refusal;
+use lock_table::Table;
 use lock_world::{Answer, Move};
 use semaphore_machine::{Semaphore, may_begin_with};
 use std::alloc::Global;
