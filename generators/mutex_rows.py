@@ -27,6 +27,7 @@ use Rattle.mutex_machine.specs.State.{is_holder, is_counted}
 use Rattle.mutex_machine.specs.Legal.{decision}
 use Rattle.mutex_machine.specs.Deeds.{Change, ListName, takes, releases, starves, recovers, for_the_lock, gives_back, gives_up, is_release}
 use Rattle.mutex_machine.proofs.laws.Kept.{after}
+use Rattle.mutex_machine.specs.Courses.{is_counting, may_tell}
 
 -- what an action changes that found this
 abbrev pub deed_of : Action → Found → Deed Change ListName
@@ -57,7 +58,7 @@ Starves _ b c = c ≡ b
 abbrev pub Finding : Deed Change ListName → Lock → Place → Type 0
 Finding (changes takes) l from = (holders l ≡ 0) × ((starved l ≡ 0) ⊎ (counted from ≡ 1))
 Finding (changes starves) l from = starved l < l.limit
-Finding (does list (notifies n)) l from = n ≡ 1
+Finding (does list (notifies n)) l from = (n ≡ 1) × (may_tell from ≡ true)
 Finding (does list (notifies_additionally n)) l from = ⊥
 Finding _ l from = Unit {0}
 
@@ -72,7 +73,7 @@ Reason memory l from f Pending = (action_of from ≡ act.Ask) × (f ≡ No) × (
 Reason memory l from f NotFree = (holders l ≡ 1) ⊎ (0 < starved l)
 Reason memory l from f GivenBack = Unit {0}
 Reason memory l from f (Refused Memory) = (memory ≡ false) × (listed from ≡ 0) × (deed_of (action_of from) f ≡ nothing)
-Reason memory l from f (Refused Starved) = (starved l ≡ l.limit) × (counted from ≡ 0) × (deed_of (action_of from) f ≡ nothing)
+Reason memory l from f (Refused Starved) = (starved l ≡ l.limit) × (counted from ≡ 0) × (deed_of (action_of from) f ≡ nothing) × (is_counting from ≡ true)
 Reason memory l from f (Refused _) = ⊥
 
 abbrev pub Judged : Bool → Lock → Place → Found → Option End → Option End → Type 0
@@ -112,7 +113,7 @@ SAYS = {
     TAKEN: 'refl',
     WAITING: '(refl, refl, refl)',
     NO_MEMORY: '(e, refl, refl)',
-    AT_LIMIT: '(e, refl, refl)',
+    AT_LIMIT: '(e, refl, refl, refl)',
 }
 
 rows = []
@@ -129,7 +130,7 @@ def row(place, action, found, judged):
     if counts:
         finding = 'e'
     if action == 'Notify':
-        finding = 'refl'
+        finding = BOTH
     room = 'e' if action == 'Join' and found == 'Done' else 'tt'
     holds_on = 'tt' if judged == KEPT else 'refl'
     if place in ('(Uncount true)', '(Uncount false)', 'Leave'):

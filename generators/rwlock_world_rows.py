@@ -257,6 +257,7 @@ use Rattle.lock_table.proofs.Calls.{{decided_after}}
 use Rattle.rwlock_world.specs.Guarded.{{answer_by}}
 use Rattle.rwlock_world.specs.Stages.{{strays, course_of, sought_at}}
 use Rattle.rwlock_world.specs.View.{{passing, upgrading, waiting, writing, turn_as, share_of, is_reading, is_upgrade, verdict}}
+use Rattle.lock_world.specs.Steps.{{notifies_additionally}}
 
 -- what an action changes that found this
 abbrev pub deed_of : Action → Found → Deed Change ListName
@@ -325,6 +326,9 @@ Finding (changes unmarks) l x = (has_turn x ≡ 1) × ((share_of x ≡ waiting) 
 Finding (changes downgrades) l x = (has_turn x ≡ 1) × (share_of x ≡ writing)
 Finding (changes downgrades_to_upgradable) l x = (has_turn x ≡ 1) × (share_of x ≡ writing)
 Finding (changes _) l x = ⊥
+Finding (does for_the_turn f) l x = ⊥
+Finding (does list (notifies n)) l x = n ≡ 1
+Finding (does list (notifies_additionally n)) l x = ⊥
 Finding _ l x = Unit {{0}}
 
 -- a party has the right that it sought here
@@ -498,7 +502,7 @@ rest('(LookNoWriter told)')
 row('AskNoWriter', 'Yes', UNDECIDED, upgrade=GOES, no_writer=ASKED)
 row('AskNoWriter', 'No', WAITS, upgrade='refl', no_writer=ASKED_IN_VAIN)
 rest('AskNoWriter')
-row('PassOn', 'Done', UNDECIDED, upgrade=GOES)
+row('PassOn', 'Done', UNDECIDED, finding='refl', upgrade=GOES)
 rest('PassOn')
 row('LeaveNoWriter', 'Done', KEPT)
 rest('LeaveNoWriter')
@@ -507,7 +511,7 @@ rest('(RefuseLeave true)')
 row('(RefuseLeave false)', 'Done', KEPT, upgrade='refl', refused=MADE)
 rest('(RefuseLeave false)')
 for r in ('Memory', 'Readers'):
-    row(f'(RefuseNotify refusal.{r})', 'Done', KEPT, upgrade='refl', refused=MADE)
+    row(f'(RefuseNotify refusal.{r})', 'Done', KEPT, finding='refl', upgrade='refl', refused=MADE)
     rest(f'(RefuseNotify refusal.{r})')
 astray('(RefuseNotify _)')
 row('CancelRead', 'Done', KEPT)
@@ -558,12 +562,12 @@ rest('LeaveNoReaders')
 row('DropRead', 'NoneLeft', KEPT, finding='refl', upgrade=GOES)
 row('DropRead', 'SomeLeft', KEPT, finding='refl')
 rest('DropRead')
-row('DropReadNotify', 'Done', KEPT)
+row('DropReadNotify', 'Done', KEPT, finding='refl')
 rest('DropReadNotify')
 for f in ('NoneLeft', 'SomeLeft'):
     row('DropUpgradable', f, KEPT, sharing=MOVES, finding='(refl, refl)', upgrade=GOES)
 rest('DropUpgradable')
-row('DropUpgradableNotify', 'Done', KEPT, upgrade=GOES)
+row('DropUpgradableNotify', 'Done', KEPT, finding='refl', upgrade=GOES)
 rest('DropUpgradableNotify')
 row('DropWrite', 'Done', KEPT, sharing=MOVES, finding='(refl, inr refl)', upgrade=GOES)
 rest('DropWrite')
@@ -573,14 +577,14 @@ for r in ('true', 'false'):
     row(f'(Unmark {r})', 'Done', KEPT, sharing=MOVES, finding='(refl, inl refl)', upgrade=GOES)
     rest(f'(Unmark {r})')
 for r in ('true', 'false'):
-    row(f'(UnmarkNotify {r})', 'Done', KEPT, upgrade=GOES)
+    row(f'(UnmarkNotify {r})', 'Done', KEPT, finding='refl', upgrade=GOES)
     rest(f'(UnmarkNotify {r})')
 for k in ('true', 'false'):
     row(f'(Down {k})', 'Done', FREE, sharing=MOVES, finding='(refl, refl)', upgrade=GOES)
     rest(f'(Down {k})')
-row('DownNotify', 'Done', KEPT)
+row('DownNotify', 'Done', KEPT, finding='refl')
 rest('DownNotify')
-row('DowngradeNotify', 'Done', KEPT)
+row('DowngradeNotify', 'Done', KEPT, finding='refl')
 rest('DowngradeNotify')
 
 TURN_ROWS = '''

@@ -6,5 +6,7 @@ pub mod Walks
 pub mod Comes
 pub mod Polls
 pub mod Handing
+pub mod Patient
+pub mod Ring
 pub mod Promises
 pub mod Whole

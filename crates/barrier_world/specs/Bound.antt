@@ -1,5 +1,5 @@
 -- What whole calls promise, and how often a free inner lock may be passed over: whole polls of notified parties, one after the other, each carried out while the others stand still.
-use Rattle.std.specs.Prelude.{◌≡◌, ℕ, ◌<◌, ◌⊎◌, true, false, length, Some, None}
+use Rattle.std.specs.Prelude.{◌≡◌, ◌≢◌, ℕ, ◌<◌, ◌⊎◌, true, false, length, Some, None}
 use Rattle.lock_event.specs.declared.event.Mark.TheVariants.{Waiting}
 use Rattle.lock_event.specs.Lists.{marked_count, is_marked_at}
 use Rattle.lock_queue.specs.Parties.{is_party, entries_of}
@@ -25,6 +25,7 @@ use Rattle.barrier_world.specs.AtOnce.{entries_in, is_first_poll}
 use Rattle.barrier_world.specs.Changes.{wait_then}
 use Rattle.barrier_world.specs.Laws.{is_at_rest}
 use Rattle.barrier_world.specs.Whole.{IsWholeCall}
+use Rattle.lock_world.specs.Marks.{MarksNobody}
 
 -- A solo poll is of a pending party whose entry in the inner lock's list is marked, and it finds memory.
 abbrev pub IsSolo : World → ℕ → Inputs → Type 0
@@ -67,10 +68,11 @@ ComesTo uncounted w p a v = LeadsNow w a v ⊎ (IsRefusedToLead w p a v ⊎ Arri
 ComesTo (counted n) w p a v = (v.arrivals ≡ w.arrivals) × ((IsFinished w.size n w.arrivals × (a ≡ answer.Ready (got.Leader false))) ⊎ ((IsFinished w.size n w.arrivals → ⊥) × WaitsOn p n a v))
 ComesTo no_wait w p a v = ⊥
 
--- The poll took the inner lock, did with it what it took it for, and released it.
+-- The poll took the inner lock, did with it what it took it for, and released it: whoever waits for the lock then isn't left without a notified entry.
 pub record Takes (w : World) (p : ℕ) (before : Wait) (a : Answer) (v : World) : Type 0 where
   pub comes_to : ComesTo before w p a v
   pub released : v.lock.holder ≡ None
+  pub told : 0 < length v.lock_list → 0 < marked_count v.lock_list
 
 -- The poll left the lock free and gave way to a starved party: it is pending again, its wait as it was, with one entry less in the list of a party that isn't starved. A World at rest stays at rest.
 pub record GivesWay (w : World) (p : ℕ) (a : Answer) (v : World) : Type 0 where
@@ -96,6 +98,10 @@ pub record Promises (w : World) (p : ℕ) (c : Call) (inputs : Inputs) (a : Answ
   pub solo : c ≡ call.Poll → IsSolo w p inputs → w.lock.holder ≡ None → SoloPoll w p a v
   -- Where nobody is starved, a party isn't starved at the end that hasn't waited for too long.
   pub unstarved : inputs.starving ≡ false → how_many w.lock.starved ≡ 0 → is_starved v.lock p ≡ false
+  -- Nor is its wait refused then for the number of starved parties.
+  pub patient : inputs.starving ≡ false → how_many w.lock.starved ≡ 0 → a ≢ refused refusal.Starved
+  -- Nor has its call notified anybody in the inner lock's list then, if it waits there at its end: so waiting parties don't wake one another over a lock that none of them gets.
+  pub tells_nobody : inputs.starving ≡ false → how_many w.lock.starved ≡ 0 → a ≡ answer.Pending → 0 < entries_of p v.lock_list → MarksNobody p w.lock_list v.lock_list
   -- A refused poll of a party that stood in the inner lock's list hands on what it was told: some entry is marked, if there is any.
   pub hands_on : c ≡ call.Poll → standing_of w p ≡ outside Pending → 0 < entries_of p w.lock_list → is_refusal a ≡ true → 0 < length v.lock_list → 0 < marked_count v.lock_list
 

@@ -17,6 +17,8 @@ use Rattle.barrier_world.specs.Numbers.{IsFinished, generations_of}
 use Rattle.barrier_world.specs.State.{World, list_in, standing_of, wait_of, is_starved}
 use Rattle.barrier_world.specs.AtOnce.{entries_in}
 use Rattle.barrier_world.specs.Legal.{HasItsOwn}
+use Rattle.lock_world.specs.declared.moves.Answer.TheVariants as answer
+use Rattle.lock_world.specs.Standings.{is_decided}
 
 -- The calls of a barrier that may take more than one step: a poll, and the drop of a pending wait.
 abbrev pub is_long_call : Kind → Rest → Bool
@@ -25,6 +27,18 @@ is_long_call kind.FirstPoll Finished = true
 is_long_call kind.LaterPoll Pending = true
 is_long_call kind.Drop Pending = true
 is_long_call _ _ = false
+
+-- Whether a party that stands so has still to notify in the inner lock's list, or to look at the lock: one in a poll that isn't decided, is to be ready or is to be refused.
+abbrev pub is_due : Standing → Bool
+is_due (inside within None) = true
+is_due (inside within (Some (answer.Ready got))) = true
+is_due (inside within (Some (answer.Refused n))) = true
+is_due s = false
+
+-- Such a party stands in that list only while its poll isn't decided and it is starved.
+pub record IsDue (w : World) (p : ℕ) : Type 0 where
+  pub due : is_due (standing_of w p) ≡ true
+  pub unlisted : (is_starved w.lock p ≡ false) ⊎ (is_decided (standing_of w p) ≡ true) → entries_of p w.lock_list ≡ 0
 
 pub record IsSound (w : World) : Type 0 where
   -- Each party has what its standing says, and the holder of the inner lock is inside a call.
@@ -38,6 +52,8 @@ pub record IsSound (w : World) : Type 0 where
   pub one_each : (p q a : ℕ) → wait_of w p ≡ counted a → wait_of w q ≡ counted a → p ≡ q
   pub within : generations_of w.size w.arrivals ≤ w.generations_limit
   pub few_starved : how_many w.lock.starved ≤ w.starved_limit
+  -- Whenever nobody holds the inner lock, and a party outside every call waits for it, some entry is marked, or somebody has still to notify or to look.
+  pub told_or_due : w.lock.holder ≡ None → (p : ℕ) → is_outside (standing_of w p) ≡ true → 0 < entries_of p w.lock_list → (0 < marked_count w.lock_list) ⊎ ((q : ℕ) × IsDue w q)
   -- Whenever nobody holds the inner lock, each entry of the generations' list is marked whose generation is finished.
   pub told : w.lock.holder ≡ None → (p a : ℕ) → wait_of w p ≡ counted a → IsFinished w.size a w.arrivals → 0 < entries_of p w.list → is_marked_at (is_party p) w.list ≡ true
   -- No party has two entries, in both lists together, and the marked entries stand before the waiting ones.

@@ -24,6 +24,7 @@ use Rattle.barrier_world.specs.declared.world.ListName.TheVariants.{Lock, Genera
 use Rattle.barrier_world.specs.Numbers.{Leads, IsFinished, generations_of}
 use Rattle.barrier_world.specs.State.{World, list_in, standing_of, wait_of, is_starved, is_held_by, told_in, IsClear}
 use Rattle.barrier_world.specs.Changes.{Change, takes, releases, starves, recovers, arrives, lock_after, arrivals_after, lock_list_after, generation_list_after, wait_after, gives_back, gives_up}
+use Rattle.lock_world.specs.Standings.{IsUndecided}
 
 -- The call that a move belongs to, where its party may make it.
 abbrev pub call_of : World → Move → Option Within
@@ -73,6 +74,12 @@ IsLeader w p = (a : ℕ) × (wait_of w p ≡ counted a) × Leads w.size a
 abbrev pub IsInList : World → ℕ → Type 0
 IsInList w p = IsCounted w p × (entries_of p w.list ≡ 1)
 
+-- In the inner lock's list one notifies one, and not beside one that was notified before; the holder notifies nobody, and a party that stands there only if it is starved.
+pub record MayTell (w : World) (p n : ℕ) : Type 0 where
+  pub one : n ≡ 1
+  pub without_lock : w.lock.holder ≡ Some p → ⊥
+  pub starved : 0 < entries_of p w.lock_list → is_starved w.lock p ≡ true
+
 -- Where a change may be made. The inner lock is taken fairly, and released by its holder, once its call is decided or once it stands counted in the list. Only the holder joins the list, where it has to wait, and only a leader that holds the lock notifies there, all at once. Whoever asks there is counted, and only a drop leaves.
 abbrev pub IsAllowed : World → Move → Deed Change ListName → Type 0
 IsAllowed w m (changes takes) = MayTake w m.party
@@ -85,6 +92,8 @@ IsAllowed w m (does Generation asks) = IsCounted w m.party
 IsAllowed w m (does Generation leaves) = is_drop m.what ≡ true
 IsAllowed w m (does Generation (notifies n)) = (n ≡ everyone) × (w.lock.holder ≡ Some m.party) × IsLeader w m.party
 IsAllowed w m (does Generation (notifies_additionally n)) = ⊥
+IsAllowed w m (does Lock (notifies n)) = MayTell w m.party n
+IsAllowed w m (does Lock (notifies_additionally n)) = ⊥
 IsAllowed w m _ = Unit {0}
 
 -- A move makes one change or does one list function, never both, and moves no other party. Arrivals are counted one by one, each for its party's own wait, and no drop takes one back. A join has found memory; a party whose call is decided only gives back, and no other gives anything up but the holder of the inner lock.
@@ -161,10 +170,13 @@ pub record IsOutOfMemory (old : World) (m : Move) (new : World) : Type 0 where
   pub unlisted : (list : ListName) → entries_of m.party (list_in list old) ≡ 0
   pub unchanged : IsAsBefore old m new
 
--- As many parties are starved as may be, and the party hasn't the inner lock.
-pub record IsOutOfStarved (old : World) (m : Move) : Type 0 where
+-- As many parties are starved as may be, the party is none of them and hasn't the inner lock, its call is begun and isn't decided, and nothing else happened.
+pub record IsOutOfStarved (old : World) (m : Move) (new : World) : Type 0 where
   pub limit : how_many old.lock.starved ≡ old.starved_limit
   pub without_lock : old.lock.holder ≢ Some m.party
+  pub unstarved : is_starved old.lock m.party ≡ false
+  pub undecided : IsUndecided (standing_of old m.party)
+  pub unchanged : IsAsBefore old m new
 
 -- The arrival that isn't counted would lead, where as many generations are finished as may be.
 pub record IsOutOfGenerations (old : World) (m : Move) (new : World) : Type 0 where
@@ -176,7 +188,7 @@ pub record IsOutOfGenerations (old : World) (m : Move) (new : World) : Type 0 wh
 -- Why a wait may be refused: a join found no memory, for the move's input said so; there are as many starved parties as there may be; its arrival would finish a generation past the limit; or the future had been ready before.
 abbrev pub IsCause : World → Move → World → Refusal → Type 0
 IsCause old m new refusal.Memory = IsOutOfMemory old m new
-IsCause old m new refusal.Starved = IsOutOfStarved old m
+IsCause old m new refusal.Starved = IsOutOfStarved old m new
 IsCause old m new refusal.Generations = IsOutOfGenerations old m new
 IsCause old m new refusal.Finished = new ≡ old
 IsCause old m new _ = ⊥

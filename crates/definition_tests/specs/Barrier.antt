@@ -25,6 +25,11 @@ use Rattle.barrier_world.specs.Laws.{IsSound, IsAwake}
 use Rattle.barrier_world.specs.Legal.{Legal, DecidesOn, next_arrival}
 use Rattle.barrier_world.specs.Numbers.{Leads, IsFinished, generations_of}
 use Rattle.barrier_world.specs.State.{World, standing_of, wait_of, told_in, is_free}
+use Rattle.lock_world.specs.declared.standing.Rest.{Rest}
+use Rattle.lock_world.specs.Standings.{is_outside}
+use Rattle.lock_world.specs.Steps.{does, notifies}
+use Rattle.barrier_world.specs.Laws.{IsDue}
+use Rattle.barrier_world.specs.State.{is_starved}
 
 -- A move of a party, and what it leads to.
 pub record Step : Type 0 where
@@ -238,3 +243,76 @@ pub record LooksInVain : Type 0 where
   pub free : is_free step.old.lock ≡ true
   pub not_taken : step.new.lock.holder ≢ Some step.move.party
   pub legal : IsAtOnce step
+
+-- A party tells more than one in the inner lock's list, as all that wait there.
+pub record WakesAll : Type 0 where
+  pub step : Step
+  pub many : ℕ
+  pub more : many ≢ 1
+  pub legal : IsLegal step
+  pub notifies : legal.one_change.deed ≡ does Lock (notifies many)
+
+-- Nobody holds the inner lock, a party outside every call waits for it, and nobody there has been told, nor has anybody to tell or to look: another may be inside a poll, but stands in the list itself.
+pub record SleepsThoughFree : Type 0 where
+  pub world : World
+  pub party : ℕ
+  pub free : world.lock.holder ≡ None
+  pub stands : is_outside (standing_of world party) ≡ true
+  pub listed : 0 < entries_of party world.lock_list
+  pub none_told : marked_count world.lock_list ≡ 0
+  pub none_due : (q : ℕ) → IsDue world q → ⊥
+  pub sound : IsSound world
+
+-- A step takes the inner lock, and decides that its wait is refused for too many starved parties.
+pub record StarvedHavingTaken : Type 0 where
+  pub step : Step
+  pub took : step.new.lock.holder ≢ step.old.lock.holder
+  pub refused : DecidesOn step.old step.move step.answer step.new (refused refusal.Starved)
+  pub legal : IsLegal step
+
+-- A party is refused for too many starved parties of which it is one.
+pub record StarvedTwice : Type 0 where
+  pub step : Step
+  pub starved : is_starved step.old.lock step.move.party ≡ true
+  pub refused : DecidesOn step.old step.move step.answer step.new (refused refusal.Starved)
+  pub legal : IsLegal step
+
+-- So is a wait at its first step, which counts nobody.
+pub record StarvedAtFirst : Type 0 where
+  pub step : Step
+  pub rest : Rest
+  pub begins : standing_of step.old step.move.party ≡ outside rest
+  pub refused : DecidesOn step.old step.move step.answer step.new (refused refusal.Starved)
+  pub legal : IsLegal step
+
+-- A whole call's wait is refused for too many starved parties, though there were none, and the party hasn't waited for too long.
+pub record StarvedForNothing : Type 0 where
+  pub whole : Whole
+  pub patient : whole.inputs.starving ≡ false
+  pub none_starved : how_many whole.old.lock.starved ≡ 0
+  pub is_refused : whole.answer ≡ refused refusal.Starved
+  pub kept : Keeps whole
+
+-- A notified party's poll takes the inner lock and releases it, and of those that wait there nobody is told.
+pub record ReleasesSilently : Type 0 where
+  pub whole : Whole
+  pub polls : whole.call ≡ call.Poll
+  pub solo : IsSolo whole.old whole.party whole.inputs
+  pub free : whole.old.lock.holder ≡ None
+  pub none_starved : how_many whole.old.lock.starved ≡ 0
+  pub some : 0 < length whole.new.lock_list
+  pub none_told : marked_count whole.new.lock_list ≡ 0
+  pub kept : Keeps whole
+
+-- A call waits for the inner lock at its end and has told another there, while nobody is starved nor has waited for too long: so two parties wake each other for ever over what neither of them gets.
+pub record WakesInARing : Type 0 where
+  pub whole : Whole
+  pub other : ℕ
+  pub patient : whole.inputs.starving ≡ false
+  pub none_starved : how_many whole.old.lock.starved ≡ 0
+  pub pending : whole.answer ≡ answer.Pending
+  pub listed : 0 < entries_of whole.party whole.new.lock_list
+  pub another : other ≢ whole.party
+  pub untold : is_marked_at (is_party other) whole.old.lock_list ≡ false
+  pub told : is_marked_at (is_party other) whole.new.lock_list ≡ true
+  pub kept : Keeps whole

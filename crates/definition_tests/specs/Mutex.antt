@@ -23,6 +23,10 @@ use Rattle.lock_world.specs.Steps.{does, notifies_additionally}
 use Rattle.mutex_world.specs.Bound.{IsSolo, IsNotified, Promises}
 use Rattle.mutex_world.specs.Legal.{ListName, DecidesOn, is_first_poll, is_later_poll, Legal, AnswersAtOnce}
 use Rattle.mutex_world.specs.State.{World, standing_of, mark_of, is_free, is_starved}
+use Rattle.lock_world.specs.Standings.{is_outside}
+use Rattle.lock_world.specs.Steps.{notifies}
+use Rattle.mutex_world.specs.Legal.{for_the_lock}
+use Rattle.mutex_world.specs.Laws.{IsSound, IsDue}
 
 -- A move of a party, and what it leads to.
 pub record Step : Type 0 where
@@ -278,4 +282,38 @@ pub record KeepsItsTold : Type 0 where
   pub refused : is_refusal whole.answer ≡ true
   pub some : 0 < length whole.new.entries
   pub none_told : marked_count whole.new.entries ≡ 0
+  pub kept : Keeps whole
+
+-- A listed party that isn't starved notifies in a poll that isn't decided, so that it wakes the next before it waits.
+pub record WakesTheNext : Type 0 where
+  pub step : Step
+  pub within : Within
+  pub many : ℕ
+  pub undecided : standing_of step.old step.move.party ≡ inside within None
+  pub unstarved : is_starved step.old.state step.move.party ≡ false
+  pub listed : entries_of step.move.party step.old.entries ≡ 1
+  pub legal : IsLegal step
+  pub notifies : legal.one_change.deed ≡ does for_the_lock (notifies many)
+
+-- The lock is free, a party outside every call waits for it, and nobody there has been told, nor has anybody to tell or to look: another may be inside a poll, but stands in the list itself.
+pub record SleepsThoughFree : Type 0 where
+  pub world : World
+  pub party : ℕ
+  pub free : world.state.holder ≡ None
+  pub stands : is_outside (standing_of world party) ≡ true
+  pub listed : 0 < entries_of party world.entries
+  pub none_told : marked_count world.entries ≡ 0
+  pub none_due : (q : ℕ) → IsDue world q → ⊥
+  pub sound : IsSound world
+
+-- A poll is pending at its end and has told another, while nobody is starved nor has waited for too long: so two parties wake each other for ever over a lock that somebody holds.
+pub record WakesInARing : Type 0 where
+  pub whole : Whole
+  pub other : ℕ
+  pub patient : whole.inputs.starving ≡ false
+  pub none_starved : how_many whole.old.state.starved ≡ 0
+  pub pending : whole.answer ≡ answer.Pending
+  pub another : other ≢ whole.party
+  pub untold : is_marked_at (is_party other) whole.old.entries ≡ false
+  pub told : is_marked_at (is_party other) whole.new.entries ≡ true
   pub kept : Keeps whole

@@ -21,6 +21,13 @@ use Rattle.lock_world.specs.Rosters.{how_many}
 use Rattle.rwlock_world.specs.Bound.{IsSoloForTurn, IsSoloToRead, IsSoloToWrite, Promises}
 use Rattle.rwlock_world.specs.Legal.{DecidesOn, list_for, may_read, is_first, IsTryWithTurn, Legal, AnswersAtOnce}
 use Rattle.rwlock_world.specs.State.{ListName, list_of, nobody, passes, waits_to_write, is_marked, HasTurn, is_turn_free, World, standing_of, sought_by, reads, how_many_read, told_in, is_starved, is_upgrader}
+use Rattle.lock_world.specs.Standings.{is_outside, may_end}
+use Rattle.lock_world.specs.Steps.{does, notifies, notifies_additionally}
+use Rattle.rwlock_world.specs.Laws.{IsSound, IsDueForTurn, IsDueToReaders, IsDueToWriter}
+use Rattle.rwlock_world.specs.Legal.{is_try_for_turn}
+use Rattle.rwlock_world.specs.State.{for_the_turn}
+use Rattle.lock_queue.specs.Parties.{is_party}
+use Rattle.lock_event.specs.Lists.{is_marked_at}
 
 -- A move of a party, and what it leads to.
 pub record Step : Type 0 where
@@ -313,4 +320,125 @@ pub record KeepsItsTold : Type 0 where
   pub refused : is_refusal whole.answer ≡ true
   pub some : 0 < length (list_of whole.new list)
   pub none_told : marked_count (list_of whole.new list) ≡ 0
+  pub kept : Keeps whole
+
+-- A try to write, or to read upgradably, takes the free turn and is decided on None by the same step, whatever it would find.
+pub record TriesTurnInVain : Type 0 where
+  pub step : Step
+  pub tries : is_try_for_turn step.move.what ≡ true
+  pub possible : is_possible step.answer ≡ true
+  pub free : is_turn_free step.old.state ≡ true
+  pub none : decision step.answer (standing_of step.new step.move.party) ≡ Some answer.None
+  pub legal : IsAtOnce step
+
+-- A step takes the turn, and decides that its call is refused for too many starved parties.
+pub record StarvedHavingTaken : Type 0 where
+  pub step : Step
+  pub took : step.new.state.turn ≢ step.old.state.turn
+  pub refused : DecidesOn step.old step.move step.answer step.new (refused Starved)
+  pub legal : IsLegal step
+
+-- A party is refused for too many starved parties of which it is one.
+pub record StarvedTwice : Type 0 where
+  pub step : Step
+  pub starved : is_starved step.old step.move.party ≡ true
+  pub refused : DecidesOn step.old step.move step.answer step.new (refused Starved)
+  pub legal : IsLegal step
+
+-- So is a call at its first step, which counts nobody.
+pub record StarvedAtFirst : Type 0 where
+  pub step : Step
+  pub rest : Rest
+  pub begins : standing_of step.old step.move.party ≡ outside rest
+  pub refused : DecidesOn step.old step.move step.answer step.new (refused Starved)
+  pub legal : IsLegal step
+
+-- A call is decided on an answer with which it never ends, as a read on being granted.
+pub record DecidesInVain : Type 0 where
+  pub step : Step
+  pub party : ℕ
+  pub within : Within
+  pub by : Answer
+  pub decided : standing_of step.new party ≡ inside within (Some by)
+  pub never : may_end within.kind by ≡ false
+  pub legal : IsLegal step
+
+-- A party tells more than one in a list, as a try in vain that tells nine.
+pub record TellsMany : Type 0 where
+  pub step : Step
+  pub list : ListName
+  pub many : ℕ
+  pub more : many ≢ 1
+  pub legal : IsLegal step
+  pub notifies : legal.one_change.deed ≡ does list (notifies many)
+
+-- Parties are told beside those that were told and haven't looked yet.
+pub record TellsMore : Type 0 where
+  pub step : Step
+  pub list : ListName
+  pub more : ℕ
+  pub legal : IsLegal step
+  pub tells : legal.one_change.deed ≡ does list (notifies_additionally more)
+
+-- A party that stands in the turn's list, and isn't starved, tells the next there before it waits.
+pub record WakesTheNext : Type 0 where
+  pub step : Step
+  pub many : ℕ
+  pub unstarved : is_starved step.old step.move.party ≡ false
+  pub listed : 0 < entries_of step.move.party step.old.turn_list
+  pub legal : IsLegal step
+  pub notifies : legal.one_change.deed ≡ does for_the_turn (notifies many)
+
+-- The turn is free, a party outside every call waits for it, and nobody there has been told, nor has anybody to tell or to look.
+pub record SleepsThoughFree : Type 0 where
+  pub world : World
+  pub party : ℕ
+  pub free : world.state.turn ≡ nobody
+  pub stands : is_outside (standing_of world party) ≡ true
+  pub listed : 0 < entries_of party world.turn_list
+  pub none_told : marked_count world.turn_list ≡ 0
+  pub none_due : (q : ℕ) → IsDueForTurn world q → ⊥
+  pub sound : IsSound world
+
+-- So of readers where nobody waits to write or writes,
+pub record SleepsThoughReadable : Type 0 where
+  pub world : World
+  pub party : ℕ
+  pub free : is_marked world.state.turn ≡ false
+  pub stands : is_outside (standing_of world party) ≡ true
+  pub listed : 0 < entries_of party world.no_writer
+  pub none_told : marked_count world.no_writer ≡ 0
+  pub none_due : (q : ℕ) → IsDueToReaders world q → ⊥
+  pub sound : IsSound world
+
+-- and of the one that waits to write where no reader is left.
+pub record SleepsThoughWritable : Type 0 where
+  pub world : World
+  pub party : ℕ
+  pub free : how_many_read world ≡ 0
+  pub stands : is_outside (standing_of world party) ≡ true
+  pub listed : 0 < entries_of party world.no_readers
+  pub none_told : marked_count world.no_readers ≡ 0
+  pub none_due : (q : ℕ) → IsDueToWriter world q → ⊥
+  pub sound : IsSound world
+
+-- A whole call is refused for too many starved parties, though there were none, and the party hasn't waited for too long.
+pub record StarvedForNothing : Type 0 where
+  pub whole : Whole
+  pub patient : whole.inputs.starving ≡ false
+  pub unstarved : how_many whole.old.state.starved ≡ 0
+  pub refused : whole.answer ≡ refused Starved
+  pub kept : Keeps whole
+
+-- A call waits for the turn at its end and has told another there, while nobody is starved nor has waited for too long: so two parties wake each other for ever over what neither of them gets.
+pub record WakesInARing : Type 0 where
+  pub whole : Whole
+  pub other : ℕ
+  pub patient : whole.inputs.starving ≡ false
+  pub none_starved : how_many whole.old.state.starved ≡ 0
+  pub pending : whole.answer ≡ answer.Pending
+  pub listed : 0 < entries_of whole.party whole.new.turn_list
+  pub another : other ≢ whole.party
+  pub untold : is_marked_at (is_party other) whole.old.turn_list ≡ false
+  pub told : is_marked_at (is_party other) whole.new.turn_list ≡ true
   pub kept : Keeps whole

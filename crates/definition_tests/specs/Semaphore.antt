@@ -24,6 +24,9 @@ use Rattle.semaphore_world.specs.AtOnce.{AnswersAtOnce, is_try, is_first_poll}
 use Rattle.semaphore_world.specs.Bound.{Promises}
 use Rattle.semaphore_world.specs.Legal.{Legal, added_in, is_forget, is_poll_call, state_after}
 use Rattle.semaphore_world.specs.State.{World, share_at, has_permit, is_free, standing_of, adds_of, mark_of}
+use Rattle.lock_world.specs.Standings.{is_outside}
+use Rattle.semaphore_world.specs.State.{available}
+use Rattle.semaphore_world.specs.Laws.{IsSound, IsDue}
 
 -- A move of a party, and what it leads to.
 pub record Step : Type 0 where
@@ -252,3 +255,33 @@ pub record TakesWhatWasTold : Type 0 where
   pub some : 0 < length whole.new.entries
   pub none_told : marked_count whole.new.entries ≡ 0
   pub kept : Keeps whole
+
+-- A poll that isn't decided notifies: it looks in vain, asks, joins and notifies the next before it waits, so that two parties wake each other for ever over no permit.
+pub record WakesTheNext : Type 0 where
+  pub step : Step
+  pub within : Within
+  pub many : ℕ
+  pub undecided : standing_of step.old step.move.party ≡ inside within None
+  pub legal : IsLegal step
+  pub notifies : legal.one_change.deed ≡ does for_a_permit (notifies many)
+
+-- A permit is available, a party outside every call waits for one, and nobody there has been told, nor has anybody to tell or to look: another may be inside a poll, but stands in the list itself.
+pub record SleepsThoughFree : Type 0 where
+  pub world : World
+  pub party : ℕ
+  pub free : 0 < available world.state
+  pub stands : is_outside (standing_of world party) ≡ true
+  pub listed : 0 < entries_of party world.entries
+  pub none_told : marked_count world.entries ≡ 0
+  pub none_due : (q : ℕ) → IsDue world q → ⊥
+  pub sound : IsSound world
+
+-- A poll that is to be refused for memory ends, and nobody is told in a list where somebody waits.
+pub record RefusedSilently : Type 0 where
+  pub step : Step
+  pub within : Within
+  pub refusing : standing_of step.old step.move.party ≡ inside within (Some (refused Memory))
+  pub answered : step.answer ≡ refused Memory
+  pub some : 0 < length step.new.entries
+  pub none_told : marked_count step.new.entries ≡ 0
+  pub legal : IsAtOnce step

@@ -5,7 +5,7 @@ ghost use Rattle.definition_tests.specs.BarrierTable.{beginnings, actions, follo
 ghost use Rattle.sync_program.specs.Barrier.{action_of, next_of};
 ghost use Rattle.barrier_program.specs.Program.{start_of};
 ghost use Rattle.definition_tests.specs.Never.{Never};
-ghost use Rattle.definition_tests.specs.Barrier.{TwoLeaders, LeadsInTheMidst, HasNoLeader, CountedTwice, TakenBack, FollowsTooSoon, CountedUnlisted, CountedWithoutLock, WaitsUncounted, KeepsTheLock, RefusedAndCounted, RefusedTooSoon, LeftAsleep, LeadsUntold, ReadyUntried, RefusedInVain, WaitsForNothing, PassesOverInVain, KeepsItsTold, LooksInVain};
+ghost use Rattle.definition_tests.specs.Barrier.{TwoLeaders, LeadsInTheMidst, HasNoLeader, CountedTwice, TakenBack, FollowsTooSoon, CountedUnlisted, CountedWithoutLock, WaitsUncounted, KeepsTheLock, RefusedAndCounted, RefusedTooSoon, LeftAsleep, LeadsUntold, ReadyUntried, RefusedInVain, WaitsForNothing, PassesOverInVain, KeepsItsTold, LooksInVain, WakesAll, SleepsThoughFree, StarvedHavingTaken, StarvedTwice, StarvedAtFirst, StarvedForNothing, WakesInARing, ReleasesSilently};
 
 /// Each clause says of one wrong run that it isn't legal.
 fn wrong_runs()
@@ -29,6 +29,14 @@ fn wrong_runs()
     ensures passes_over_in_vain { Never (PassesOverInVain) }
     ensures keeps_its_told { Never (KeepsItsTold) }
     ensures looks_in_vain { Never (LooksInVain) }
+    ensures wakes_all { Never (WakesAll) }
+    ensures sleeps_though_free { Never (SleepsThoughFree) }
+    ensures starved_having_taken { Never (StarvedHavingTaken) }
+    ensures starved_twice { Never (StarvedTwice) }
+    ensures starved_at_first { Never (StarvedAtFirst) }
+    ensures starved_for_nothing { Never (StarvedForNothing) }
+    ensures wakes_in_a_ring { Never (WakesInARing) }
+    ensures releases_silently { Never (ReleasesSilently) }
 {}
 
 /// The programs' places, each with its action and what follows what it finds, as docs/PROGRAMS.md lists them.

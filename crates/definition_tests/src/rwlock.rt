@@ -5,7 +5,7 @@ ghost use Rattle.definition_tests.specs.ReadWriteTable.{beginnings, actions, fol
 ghost use Rattle.lock_program.specs.ReadWrite.{action_of, next_of};
 ghost use Rattle.rwlock_program.specs.Program.{start_of};
 ghost use Rattle.definition_tests.specs.Never.{Never};
-ghost use Rattle.definition_tests.specs.ReadWrite.{TriesInVain, ReadsUnready, WaitsUnlisted, PendsTooEarly, RefusedAtFirst, RefusedHavingMoved, ReadsWithTheBit, LetsGoUndecided, UnmarksUndecided, StopsReadingUndecided, DowngradesUndecided, DropsUndecided, DowngradesThroughNothing, OtherIsUpgrade, IdleHasTurn, TriesOn, WriteMeetsReaders, ReadMeetsStarved, LacksMemoryWithTurn, ReadMeetsReadersBesideWriter, MeetsReadersWithoutTurn, MeetsStarvedWithTurn, PassesTurnInVain, PassesReadingInVain, PassesWritingInVain, UpgradeWaitsForNobody, UpgradableUnready, WriteUnready, StarvesUnasked, KeepsItsTold};
+ghost use Rattle.definition_tests.specs.ReadWrite.{TriesInVain, ReadsUnready, WaitsUnlisted, PendsTooEarly, RefusedAtFirst, RefusedHavingMoved, ReadsWithTheBit, LetsGoUndecided, UnmarksUndecided, StopsReadingUndecided, DowngradesUndecided, DropsUndecided, DowngradesThroughNothing, OtherIsUpgrade, IdleHasTurn, TriesOn, WriteMeetsReaders, ReadMeetsStarved, LacksMemoryWithTurn, ReadMeetsReadersBesideWriter, MeetsReadersWithoutTurn, MeetsStarvedWithTurn, PassesTurnInVain, PassesReadingInVain, PassesWritingInVain, UpgradeWaitsForNobody, UpgradableUnready, WriteUnready, StarvesUnasked, KeepsItsTold, TriesTurnInVain, StarvedHavingTaken, StarvedTwice, StarvedAtFirst, DecidesInVain, TellsMany, TellsMore, WakesTheNext, SleepsThoughFree, SleepsThoughReadable, SleepsThoughWritable, StarvedForNothing, WakesInARing};
 
 /// Each clause says of one wrong run that it isn't legal.
 fn wrong_runs()
@@ -39,6 +39,19 @@ fn wrong_runs()
     ensures write_unready { Never (WriteUnready) }
     ensures starves_unasked { Never (StarvesUnasked) }
     ensures keeps_its_told { Never (KeepsItsTold) }
+    ensures tries_turn_in_vain { Never (TriesTurnInVain) }
+    ensures starved_having_taken { Never (StarvedHavingTaken) }
+    ensures starved_twice { Never (StarvedTwice) }
+    ensures starved_at_first { Never (StarvedAtFirst) }
+    ensures decides_in_vain { Never (DecidesInVain) }
+    ensures tells_many { Never (TellsMany) }
+    ensures tells_more { Never (TellsMore) }
+    ensures wakes_the_next { Never (WakesTheNext) }
+    ensures sleeps_though_free { Never (SleepsThoughFree) }
+    ensures sleeps_though_readable { Never (SleepsThoughReadable) }
+    ensures sleeps_though_writable { Never (SleepsThoughWritable) }
+    ensures starved_for_nothing { Never (StarvedForNothing) }
+    ensures wakes_in_a_ring { Never (WakesInARing) }
 {}
 
 /// The programs' places, each with its action and what follows what it finds, as docs/PROGRAMS.md lists them.

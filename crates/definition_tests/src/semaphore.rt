@@ -5,7 +5,7 @@ ghost use Rattle.definition_tests.specs.SemaphoreTable.{beginnings, actions, fol
 ghost use Rattle.sync_program.specs.Semaphore.{action_of, next_of};
 ghost use Rattle.semaphore_machine.specs.Program.{start_of};
 ghost use Rattle.definition_tests.specs.Never.{Never};
-ghost use Rattle.definition_tests.specs.Semaphore.{TriesInVain, TakesUndecided, GivesBackWithin, GivesBeforeItRaises, NotifiesForOthers, ForgetsInVain, RefusedThoughFree, RefusedAtLast, WaitsUnlisted, GoesOnUndecided, DecidesInVain, HasRefused, AddsAndTakes, TellsMore, TriesAndTells, ReturnsLate, ReturnsSilently, AddsSilently, AddsAfterTelling, PassesOverInVain, KeepsItsTold, TakesWhatWasTold};
+ghost use Rattle.definition_tests.specs.Semaphore.{TriesInVain, TakesUndecided, GivesBackWithin, GivesBeforeItRaises, NotifiesForOthers, ForgetsInVain, RefusedThoughFree, RefusedAtLast, WaitsUnlisted, GoesOnUndecided, DecidesInVain, HasRefused, AddsAndTakes, TellsMore, TriesAndTells, ReturnsLate, ReturnsSilently, AddsSilently, AddsAfterTelling, PassesOverInVain, KeepsItsTold, TakesWhatWasTold, WakesTheNext, SleepsThoughFree, RefusedSilently};
 
 /// Each clause says of one wrong run that it isn't legal.
 fn wrong_runs()
@@ -31,6 +31,9 @@ fn wrong_runs()
     ensures passes_over_in_vain { Never (PassesOverInVain) }
     ensures keeps_its_told { Never (KeepsItsTold) }
     ensures takes_what_was_told { Never (TakesWhatWasTold) }
+    ensures wakes_the_next { Never (WakesTheNext) }
+    ensures sleeps_though_free { Never (SleepsThoughFree) }
+    ensures refused_silently { Never (RefusedSilently) }
 {}
 
 /// The programs' places, each with its action and what follows what it finds, as docs/PROGRAMS.md lists them.

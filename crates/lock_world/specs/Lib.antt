@@ -7,3 +7,4 @@ pub mod Frame
 pub mod Rosters
 pub mod Accounts
 pub mod Bounds
+pub mod Marks

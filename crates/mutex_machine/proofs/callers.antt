@@ -5,3 +5,4 @@ pub mod Callers
 pub mod AloneSeen
 pub mod Released
 pub mod Begun
+pub mod Silent

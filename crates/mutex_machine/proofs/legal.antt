@@ -5,4 +5,5 @@ pub mod Rows
 pub mod Legal
 pub mod Promised
 pub mod Sights
+pub mod Asked
 pub mod Clauses

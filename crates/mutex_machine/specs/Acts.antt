@@ -13,6 +13,7 @@ use Rattle.lock_program.specs.MutexRoles.{holds, counted, listed, is_resting}
 use Rattle.mutex_machine.specs.Parties.{OnParties}
 use Rattle.lock_queue.specs.Parties.{entries_of}
 use Rattle.mutex_machine.specs.Machine.{Lock, place_at}
+use Rattle.mutex_machine.specs.Courses.{is_waiting, is_due}
 
 -- how many parties hold the lock, and how many are starved
 abbrev pub holders : Lock → ℕ
@@ -75,6 +76,8 @@ pub record IsMutex (l : Lock) : Type 0 where
   -- a party's places in the list are told by where it stands
   pub owners : (p : ℕ) → entries_of p l.entries ≡ listed (place_at l.places p)
   pub in_order : IsMarkedFirst l.entries
+  -- where the lock is free and a party waits in the list, some entry is marked or some party has still to notify or to look
+  pub told_or_due : holders l ≡ 0 → (p : ℕ) → is_waiting (place_at l.places p) ≡ true → (0 < marked_count l.entries) ⊎ ((q : ℕ) × (is_due (place_at l.places q) ≡ true))
   -- at rest, a list that waits for a free lock has a marked entry
   pub wakes : IsAtRest l.places → holders l ≡ 0 → 0 < length l.entries → 0 < marked_count l.entries
   -- and every starved party is listed

@@ -16,6 +16,12 @@ use Rattle.lock_program.specs.declared.mutex.Step.TheVariants as step
 use Rattle.mutex_machine.specs.Course.{Course, counted, decision, is_waiting, is_called, is_counting, is_told}
 use Rattle.mutex_machine.specs.Deeds.{Change, takes, releases, starves, recovers, ListName, holder_after, starved_after, entries_after, gives_back, gives_up, is_release, is_fresh}
 use Rattle.mutex_machine.specs.Mutex.{Mutex, course_at, holders, starved, Holds, IsStarved, holder_of, starved_of}
+use Rattle.lock_world.specs.Steps.{notifies, notifies_additionally}
+use Rattle.mutex_machine.specs.Course.{may_tell, is_releasing}
+use Rattle.mutex_machine.specs.Deeds.{for_the_lock}
+use Rattle.lock_event.specs.Lists.{is_marked_at}
+use Rattle.lock_world.specs.Steps.{asked}
+use Rattle.std.specs.Prelude.{if◌then◌else◌}
 
 -- The end on which a call is decided once a step has led here.
 abbrev pub decided_then : Step → Course → Option End
@@ -26,25 +32,27 @@ decided_then (step.End e) to = Some e
 abbrev pub IsUnrefused : Step → Course → Type 0
 IsUnrefused s to = (r : Refusal) → decided_then s to ≡ Some (Refused r) → ⊥
 
--- Why a call may be decided on this end: the party has the lock; it stands waiting in the list; the lock was held or somebody starved; its join found no memory, and changed nothing; or as many parties were starved as may be.
+-- Why a call may be decided on this end: the party has the lock; it stands waiting in the list; the lock was held or somebody starved; its join found no memory, and changed nothing; or as many parties were starved as may be, it was none of them, was about to be counted, and changed nothing.
 abbrev pub IsReason : Bool → ℕ → Mutex → Mutex → End → Type 0
 IsReason memory p old new Got = holder_of new ≡ Some p
 IsReason memory p old new Pending = mark_at (is_party p) new.entries ≡ Some Waiting
 IsReason memory p old new NotFree = (holders old ≡ 1) ⊎ (0 < starved old)
 IsReason memory p old new GivenBack = Unit {0}
 IsReason memory p old new (Refused Memory) = (memory ≡ false) × (entries_of p old.entries ≡ 0) × (new.entries ≡ old.entries) × (holder_of new ≡ holder_of old) × (starved_of new ≡ starved_of old)
-IsReason memory p old new (Refused Starved) = starved old ≡ old.limit
+IsReason memory p old new (Refused Starved) = (starved old ≡ old.limit) × (counted (course_at old.courses p) ≡ 0) × (new.entries ≡ old.entries) × (holder_of new ≡ holder_of old) × (starved_of new ≡ starved_of old) × (is_counting (course_at old.courses p) ≡ true)
 IsReason memory p old new _ = ⊥
 
--- Where a change may be made: the lock is taken where nobody holds it, and nobody is starved or the taker is; a party is counted once, below the limit.
+-- Where a change may be made: the lock is taken where nobody holds it, and nobody is starved or the taker is; a party is counted once, below the limit; and who may notify does so for one.
 abbrev pub IsAllowed : ℕ → Deed Change ListName → Mutex → Type 0
 IsAllowed p (changes takes) m = (holders m ≡ 0) × ((starved m ≡ 0) ⊎ IsStarved m p)
 IsAllowed p (changes releases) m = Holds m p
 IsAllowed p (changes starves) m = (counted (course_at m.courses p) ≡ 0) × (starved m < m.limit)
 IsAllowed p (changes recovers) m = IsStarved m p
+IsAllowed p (does list (notifies n)) m = (n ≡ 1) × (may_tell (course_at m.courses p) ≡ true)
+IsAllowed p (does list (notifies_additionally n)) m = ⊥
 IsAllowed p _ m = Unit {0}
 
--- A step changes one thing of the mutex where it may, or does one list function, never both, and moves no other party. A join has found memory. A call that was decided only gives back, and keeps its decision; who got the lock keeps it; one that wasn't decided gives nothing up; a refusal for memory does nothing else; and one that is decided now has its reason.
+-- A step changes one thing of the mutex where it may, or does one list function, never both, and moves no other party. A join has found memory. A call that was decided only gives back, and keeps its decision; who got the lock keeps it; one that wasn't decided gives nothing up; a refusal does nothing else; whoever has released the lock notifies; and one that is decided now has its reason.
 pub record IsLegal (memory : Bool) (p : ℕ) (decided : Option End) (s : Step) (old new : Mutex) : Type 0 where
   pub deed : Deed Change ListName
   pub allowed : IsAllowed p deed old
@@ -58,13 +66,22 @@ pub record IsLegal (memory : Bool) (p : ℕ) (decided : Option End) (s : Step) (
   pub kept : (e : End) → decided ≡ Some e → (decided_then s (course_at new.courses p) ≡ Some e) × (gives_back deed ≡ true)
   pub holds_on : decided ≡ None → gives_up deed ≡ false
   pub keeps_lock : decided ≡ Some Got → is_release deed ≡ false
-  pub refused_idly : decided ≡ None → decided_then s (course_at new.courses p) ≡ Some (Refused Memory) → deed ≡ nothing
+  pub refused_idly : (r : Refusal) → decided ≡ None → decided_then s (course_at new.courses p) ≡ Some (Refused r) → deed ≡ nothing
+  pub releases : is_releasing (course_at old.courses p) ≡ true → deed ≡ does for_the_lock (notifies 1)
   pub reason : (e : End) → decided ≡ None → decided_then s (course_at new.courses p) ≡ Some e → IsReason memory p old new e
 
--- A first poll, a try, and a poll of a party that stands in no list take the lock at once exactly where nobody holds it and nobody is starved, and their call is over then.
+-- A step that asks in the list goes on exactly where the party was notified, and else is pending still; and it does nothing else.
+pub record Asks (p : ℕ) (s : Step) (old new : Mutex) : Type 0 where
+  pub step : s ≡ (if is_marked_at (is_party p) old.entries then step.More else step.End Pending)
+  pub entries : new.entries ≡ asked p old.entries
+  pub holder : holder_of new ≡ holder_of old
+  pub starved : starved_of new ≡ starved_of old
+
+-- A first poll, a try, and a poll of a party that stands in no list take the lock at once exactly where nobody holds it and nobody is starved, and their call is over then. A poll of a party that stands in the list asks there.
 pub record TakesAtOnce (c : LockCall) (p : ℕ) (s : Step) (old new : Mutex) : Type 0 where
   pub takes : is_fresh c (entries_of p old.entries) ≡ true → (holder_of new ≡ Some p) ↔ ((holders old ≡ 0) × (starved old ≡ 0))
   pub ends : is_fresh c (entries_of p old.entries) ≡ true → holders old ≡ 0 → starved old ≡ 0 → s ≡ step.End Got
+  pub listed : c ≡ call.Poll → 0 < entries_of p old.entries → Asks p s old new
 
 -- A party that was notified and finds the lock held, where nobody is starved, is about to be counted exactly if it has waited for too long.
 abbrev pub HeedsClock : Bool → Course → Mutex → Course → Type 0

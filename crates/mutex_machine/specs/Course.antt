@@ -9,6 +9,7 @@ use Rattle.lock_program.specs.declared.end.End.{End}
 use Rattle.lock_program.specs.declared.end.End.TheVariants.{Got, Pending, NotFree, GivenBack, Refused}
 use Rattle.lock_program.specs.declared.mutex.Step.{Step}
 use Rattle.lock_program.specs.declared.mutex.Step.TheVariants as step
+use Rattle.std.specs.Prelude.{◌&&◌, if◌then◌else◌}
 
 -- How far a poll is: nothing is decided yet; its party was notified, and looks at the lock next; it is about to be counted as starved; it has the lock; or it gives up for this reason.
 pub data Progress : Type 0 where
@@ -75,6 +76,23 @@ abbrev pub is_told : Course → Bool
 is_told (waiting starved) = true
 is_told (taking progress starved listed told) = told
 is_told _ = false
+
+-- It notifies next: it gives way to a starved party, is refused, or has released the lock.
+abbrev pub may_tell : Course → Bool
+may_tell (taking counting starved listed told) = if listed then false else true
+may_tell (taking undecided starved listed told) = starved && listed
+may_tell (taking (gives_up refusal) starved listed told) = if listed then false else true
+may_tell releasing = true
+may_tell _ = false
+
+-- It has still to notify, or to look at the lock for those that wait: it stands in no list, and was notified, is about to be counted or is refused; or it is starved and polls; or it has released the lock.
+abbrev pub is_due : Course → Bool
+is_due (taking called starved listed told) = if listed then false else true
+is_due (taking counting starved listed told) = if listed then false else true
+is_due (taking undecided starved listed told) = starved
+is_due (taking (gives_up refusal) starved listed told) = if listed then false else true
+is_due releasing = true
+is_due _ = false
 
 -- It holds the lock, as 1 or 0; is counted as starved; stands in the list.
 abbrev pub holds : Course → ℕ

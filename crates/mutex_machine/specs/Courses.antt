@@ -8,6 +8,7 @@ use Rattle.lock_program.specs.declared.refusal.Refusal.TheVariants.{Memory, Star
 use Rattle.mutex_program.specs.declared.led.Next.{Next}
 use Rattle.mutex_program.specs.declared.led.Next.TheVariants as next
 use Rattle.lock_program.specs.declared.end.End.TheVariants.{Got, Pending, NotFree, GivenBack, Refused}
+use Rattle.std.specs.Prelude.{if◌then◌else◌}
 
 -- it is outside every call, without the lock
 abbrev pub is_out : Place → Bool
@@ -81,6 +82,30 @@ is_told (RefuseLeave true) = true
 is_told RefuseNotifyMemory = true
 is_told RefuseNotifyStarved = true
 is_told _ = false
+
+-- it notifies next: it gives way to a starved party, is refused, or has released the lock
+abbrev pub may_tell : Place → Bool
+may_tell PassOn = true
+may_tell PassOnListed = true
+may_tell RefuseNotifyMemory = true
+may_tell RefuseNotifyStarved = true
+may_tell ReleaseNotify = true
+may_tell _ = false
+
+-- it has still to notify, or to look at the lock for those that wait
+abbrev pub is_due : Place → Bool
+is_due Retry = true
+is_due PassOn = true
+is_due (Count listed told) = if listed then false else true
+is_due JoinStarved = true
+is_due LookAlone = true
+is_due PassOnListed = true
+is_due Seize = true
+is_due RefuseUncount = true
+is_due RefuseNotifyMemory = true
+is_due RefuseNotifyStarved = true
+is_due ReleaseNotify = true
+is_due _ = false
 
 -- a poll goes on, or ends so
 abbrev pub Takes : Next → Place → Type 0

@@ -18,6 +18,8 @@ use Rattle.mutex_machine.specs.Acts.{holders, starved, Holds, IsStarved}
 use Rattle.lock_program.specs.MutexRoles.{counted}
 use Rattle.mutex_machine.specs.State.{holder_of, starved_of}
 use Rattle.mutex_machine.specs.Deeds.{Change, takes, releases, starves, recovers, ListName, holder_after, starved_after, entries_after, gives_back, gives_up, is_release, is_fresh}
+use Rattle.mutex_machine.specs.Courses.{is_counting, may_tell, is_releasing}
+use Rattle.mutex_machine.specs.Deeds.{for_the_lock}
 
 -- The end on which the call of a party at this place is decided.
 abbrev pub decision : Place → Option End
@@ -43,27 +45,27 @@ decided_then (next.End e) to = Some e
 abbrev pub IsUnrefused : Next → Place → Type 0
 IsUnrefused onward to = (r : Refusal) → decided_then onward to ≡ Some (Refused r) → ⊥
 
--- Why a call may be decided on this end: the party has the lock; it stands waiting in the list; the lock was held or somebody starved; its join found no memory, and changed nothing; or as many parties were starved as may be, it was none of them, and changed nothing.
+-- Why a call may be decided on this end: the party has the lock; it stands waiting in the list; the lock was held or somebody starved; its join found no memory, and changed nothing; or as many parties were starved as may be, it was none of them, was about to be counted, and changed nothing.
 abbrev pub IsReason : Bool → ℕ → Lock → Lock → End → Type 0
 IsReason memory p old new Got = holder_of new ≡ Some p
 IsReason memory p old new Pending = mark_at (is_party p) new.entries ≡ Some Waiting
 IsReason memory p old new NotFree = (holders old ≡ 1) ⊎ (0 < starved old)
 IsReason memory p old new GivenBack = Unit {0}
 IsReason memory p old new (Refused Memory) = (memory ≡ false) × (entries_of p old.entries ≡ 0) × (new.entries ≡ old.entries) × (holder_of new ≡ holder_of old) × (starved_of new ≡ starved_of old)
-IsReason memory p old new (Refused Starved) = (starved old ≡ old.limit) × (counted (place_at old.places p) ≡ 0) × (new.entries ≡ old.entries) × (holder_of new ≡ holder_of old) × (starved_of new ≡ starved_of old)
+IsReason memory p old new (Refused Starved) = (starved old ≡ old.limit) × (counted (place_at old.places p) ≡ 0) × (new.entries ≡ old.entries) × (holder_of new ≡ holder_of old) × (starved_of new ≡ starved_of old) × (is_counting (place_at old.places p) ≡ true)
 IsReason memory p old new _ = ⊥
 
--- Where a change may be made: the lock is taken where nobody holds it, and nobody is starved or the taker is; a party is counted once, below the limit; and a party that notifies notifies for one.
+-- Where a change may be made: the lock is taken where nobody holds it, and nobody is starved or the taker is; a party is counted once, below the limit; and a party that may notify does so for one.
 abbrev pub IsAllowed : ℕ → Deed Change ListName → Lock → Type 0
 IsAllowed p (changes takes) l = (holders l ≡ 0) × ((starved l ≡ 0) ⊎ IsStarved l p)
 IsAllowed p (changes releases) l = Holds l p
 IsAllowed p (changes starves) l = (counted (place_at l.places p) ≡ 0) × (starved l < l.limit)
 IsAllowed p (changes recovers) l = IsStarved l p
-IsAllowed p (does list (notifies n)) l = n ≡ 1
+IsAllowed p (does list (notifies n)) l = (n ≡ 1) × (may_tell (place_at l.places p) ≡ true)
 IsAllowed p (does list (notifies_additionally n)) l = ⊥
 IsAllowed p _ l = Unit {0}
 
--- An action changes one thing of the mutex where it may, or does one list function, never both, and moves no other party. A join has found memory. A call that was decided only gives back, and keeps its decision; who got the lock keeps it; one that wasn't decided gives nothing up; a refusal for memory does nothing else; and one that is decided now has its reason.
+-- An action changes one thing of the mutex where it may, or does one list function, never both, and moves no other party. A join has found memory. A call that was decided only gives back, and keeps its decision; who got the lock keeps it; one that wasn't decided gives nothing up; a refusal does nothing else; whoever has released the lock notifies; and one that is decided now has its reason.
 pub record IsLegal (memory : Bool) (p : ℕ) (decided : Option End) (onward : Next) (old new : Lock) : Type 0 where
   pub deed : Deed Change ListName
   pub allowed : IsAllowed p deed old
@@ -77,7 +79,8 @@ pub record IsLegal (memory : Bool) (p : ℕ) (decided : Option End) (onward : Ne
   pub kept : (e : End) → decided ≡ Some e → (decided_then onward (place_at new.places p) ≡ Some e) × (gives_back deed ≡ true)
   pub holds_on : decided ≡ None → gives_up deed ≡ false
   pub keeps_lock : decided ≡ Some Got → is_release deed ≡ false
-  pub refused_idly : decided ≡ None → decided_then onward (place_at new.places p) ≡ Some (Refused Memory) → deed ≡ nothing
+  pub refused_idly : (r : Refusal) → decided ≡ None → decided_then onward (place_at new.places p) ≡ Some (Refused r) → deed ≡ nothing
+  pub releases : is_releasing (place_at old.places p) ≡ true → deed ≡ does for_the_lock (notifies 1)
   pub reason : (e : End) → decided ≡ None → decided_then onward (place_at new.places p) ≡ Some e → IsReason memory p old new e
 
 -- Such a call takes the lock at once exactly where nobody holds it and nobody is starved.

@@ -8,6 +8,7 @@ use Rattle.lock_program.specs.MutexRoles.{holds, counted, listed, waits, owes}
 use Rattle.lock_queue.specs.Parties.{entries_of}
 use Rattle.lock_queue.specs.Queues.{Queue}
 use Rattle.mutex_machine.specs.Tally.{IsSound, tally_of, counts_of}
+use Rattle.mutex_machine.specs.Courses.{is_counting, may_tell, is_releasing}
 
 -- what contracts see of a mutex
 pub record Lock : Type 0 where
@@ -29,6 +30,9 @@ pub record SameRoles (p q : Place) : Type 0 where
   pub standing : listed p ≡ listed q
   pub waiting : waits p ≡ waits q
   pub owing : owes p ≡ owes q
+  pub counting : is_counting p ≡ is_counting q
+  pub telling : may_tell p ≡ may_tell q
+  pub releasing : is_releasing p ≡ is_releasing q
 
 pub record IsLock (w : Word) (places : List Place) (list : Queue) : Type 0 where
   pub sound : IsSound (tally_of w list.entries) (counts_of places)

@@ -10,6 +10,7 @@ use Rattle.mutex_machine.specs.Course.{Course, out, holds, counted, listed, is_r
 use Rattle.mutex_machine.specs.Behind.{Behind, conceal}
 use Rattle.mutex_machine.specs.Machine.{new_lock}
 use Rattle.mutex_machine.specs.State.{first_from}
+use Rattle.mutex_machine.specs.Course.{is_waiting, is_due}
 
 -- What contracts see of a mutex. What stands behind it is shut, and is there for the promise on polls in turn alone.
 pub record Mutex : Type 0 where
@@ -83,6 +84,8 @@ pub record IsMutex (m : Mutex) : Type 0 where
   -- a party's places in the list are told by its course
   pub owners : (p : ℕ) → entries_of p m.entries ≡ listed (course_at m.courses p)
   pub in_order : IsMarkedFirst m.entries
+  -- where the lock is free and a party waits in the list, pending or about to ask there, some entry is marked or some party has still to notify or to look
+  pub told_or_due : holders m ≡ 0 → (p : ℕ) → is_waiting (course_at m.courses p) ≡ true → (0 < marked_count m.entries) ⊎ ((q : ℕ) × (is_due (course_at m.courses q) ≡ true))
   -- at rest, a list that waits for a free lock has a marked entry
   pub wakes : IsAtRest m.courses → holders m ≡ 0 → 0 < length m.entries → 0 < marked_count m.entries
   -- and every starved party is listed

@@ -1,5 +1,6 @@
 -- Each move is a legal step.
 pub mod Here
+pub mod Due
 pub mod Idle
 pub mod Owns
 pub mod Acting

@@ -1,4 +1,5 @@
 -- Whole calls: how many steps they take, and what they promise.
 pub mod Whole
 pub mod Patient
+pub mod Ring
 pub mod Promises

@@ -19,6 +19,7 @@ use Rattle.mutex_world.specs.State.{World, standing_of, is_starved, is_free}
 use Rattle.mutex_world.specs.Legal.{is_first_poll}
 use Rattle.mutex_world.specs.Laws.{is_at_rest}
 use Rattle.mutex_world.specs.Whole.{IsWholeCall}
+use Rattle.lock_world.specs.Marks.{MarksNobody}
 
 -- A solo poll is of a pending party whose entry is marked, and it finds memory.
 abbrev pub IsSolo : World → ℕ → Inputs → Type 0
@@ -57,6 +58,8 @@ pub record Promises (w : World) (p : ℕ) (c : Call) (inputs : Inputs) (a : Answ
   pub notified : c ≡ call.Poll → IsNotified w p → w.state.holder ≡ None → (is_starved w.state p ≡ true) ⊎ (how_many w.state.starved ≡ 0) → Takes w p a v
   -- Where nobody is starved, a party isn't starved at the end that hasn't waited for too long.
   pub unstarved : inputs.starving ≡ false → how_many w.state.starved ≡ 0 → is_starved v.state p ≡ false
+  -- Nor has its call notified anybody then that is pending at the end: so waiting parties don't wake one another over a lock that none of them gets.
+  pub tells_nobody : inputs.starving ≡ false → how_many w.state.starved ≡ 0 → a ≡ answer.Pending → MarksNobody p w.entries v.entries
   -- Nor is its call refused then for the number of starved parties.
   pub patient : inputs.starving ≡ false → how_many w.state.starved ≡ 0 → a ≢ refused Starved
   -- A refused poll of a party that stood in the list hands on what it was told: some entry is marked, if there is any.

@@ -9,11 +9,12 @@ use Rattle.lock_world.specs.declared.standing.Kind.TheVariants as kind
 use Rattle.lock_world.specs.declared.standing.Rest.{Rest}
 use Rattle.lock_world.specs.declared.standing.Rest.TheVariants.{Idle, Pending, Holding}
 use Rattle.lock_world.specs.declared.standing.Within.{Within}
-use Rattle.lock_world.specs.Standings.{outside, inside, forgotten, is_outside}
+use Rattle.lock_world.specs.Standings.{Standing, outside, inside, forgotten, is_outside}
+use Rattle.lock_world.specs.declared.moves.Answer.TheVariants as answer
 use Rattle.lock_world.specs.Rights.{Right, hold, excludes}
 use Rattle.lock_world.specs.Rosters.{how_many}
 use Rattle.mutex_world.specs.State.{World, standing_of, is_starved}
-use Rattle.mutex_world.specs.Legal.{HasItsOwn}
+use Rattle.mutex_world.specs.Legal.{HasItsOwn, is_held}
 
 -- The rights in the state: a mutex knows one, that of its holder.
 abbrev pub HasRight : World → ℕ → Right → Type 0
@@ -28,6 +29,18 @@ is_long_call kind.Drop Pending = true
 is_long_call kind.Drop Holding = true
 is_long_call _ _ = false
 
+-- Whether a party that stands so has still to notify, or to look at the lock: one in a poll that isn't decided or is to be refused, and who has given the lock back.
+abbrev pub is_due : Standing → Bool
+is_due (inside within None) = true
+is_due (inside within (Some (answer.Refused n))) = true
+is_due (inside within (Some answer.GivenBack)) = is_held within.was
+is_due s = false
+
+-- Such a party; and unless it is starved it isn't in the list, so that it looks once more before it waits.
+pub record IsDue (w : World) (p : ℕ) : Type 0 where
+  pub due : is_due (standing_of w p) ≡ true
+  pub unlisted : is_starved w.state p ≡ false → entries_of p w.entries ≡ 0
+
 pub record IsSound (w : World) : Type 0 where
   -- Two parties never have rights that exclude each other.
   pub exclusion : (p q : ℕ) (r s : Right) → HasRight w p r → HasRight w q s → excludes r s ≡ true → p ≡ q
@@ -36,6 +49,8 @@ pub record IsSound (w : World) : Type 0 where
   pub few_starved : how_many w.state.starved ≤ w.limit
   -- A party that is inside a call is in a poll or in a drop, which it could begin.
   pub inside_calls : (p : ℕ) (u : Within) (decided : Option Answer) → standing_of w p ≡ inside u decided → is_long_call u.kind u.was ≡ true
+  -- Whenever nobody holds the lock, and a party outside every call waits for it, some entry is marked, or somebody has still to notify or to look.
+  pub told_or_due : w.state.holder ≡ None → (p : ℕ) → is_outside (standing_of w p) ≡ true → 0 < entries_of p w.entries → (0 < marked_count w.entries) ⊎ ((q : ℕ) × IsDue w q)
   -- No party stands in the list twice, and the marked entries stand before the waiting ones.
   pub once : (p : ℕ) → entries_of p w.entries ≤ 1
   pub in_order : IsMarkedFirst w.entries

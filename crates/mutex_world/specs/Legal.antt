@@ -23,6 +23,8 @@ use Rattle.lock_world.specs.Steps.{Deed, nothing, changes, does, joins, leaves, 
 use Rattle.lock_world.specs.Rosters.{how_many}
 use Rattle.mutex_world.specs.Guarded.{knows}
 use Rattle.mutex_world.specs.State.{State, World, standing_of, is_starved, is_free, mark_of, IsClear}
+use Rattle.std.specs.Prelude.{nat_lt}
+use Rattle.lock_world.specs.declared.standing.Rest.{Rest}
 
 -- The call that a move belongs to, where its party may make it.
 abbrev pub call_of : World → Move → Option Within
@@ -84,6 +86,17 @@ notifies_one (does list (notifies n)) = n == 1
 notifies_one (does list (notifies_additionally n)) = false
 notifies_one _ = true
 
+abbrev pub is_held : Rest → Bool
+is_held Holding = true
+is_held _ = false
+
+-- Who may notify, by how it stands, whether it is starved, and how many entries it has: a party whose poll isn't decided and that gives way, in no list before it is counted as starved, and listed after that; one that is to be refused; and who has given the lock back.
+abbrev pub may_tell : Standing → Bool → ℕ → Bool
+may_tell (inside within None) starved n = if starved then nat_lt 0 n else n == 0
+may_tell (inside within (Some (answer.Refused r))) starved n = true
+may_tell (inside within (Some answer.GivenBack)) starved n = is_held within.was
+may_tell s starved n = false
+
 -- A move changes one thing of the state or does one list function, never both, and moves no other party. A join has found memory; a party whose call is decided only gives back, and no other gives anything up.
 pub record ChangesOneThing (old : World) (m : Move) (new : World) : Type 0 where
   pub deed : Deed Change ListName
@@ -97,6 +110,7 @@ pub record ChangesOneThing (old : World) (m : Move) (new : World) : Type 0 where
   pub parting : is_decided (standing_of old m.party) || is_drop m.what ≡ true → gives_back deed ≡ true
   pub giving_up : gives_up deed ≡ true → is_decided (standing_of old m.party) || is_drop m.what ≡ true
   pub notice : notifies_one deed ≡ true
+  pub tells : (list : ListName) (n : ℕ) → deed ≡ does list (notifies n) → may_tell (standing_of old m.party) (is_starved old.state m.party) (entries_of m.party old.entries) ≡ true
 
 -- ---- Who may have the lock
 

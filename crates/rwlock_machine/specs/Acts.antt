@@ -16,6 +16,8 @@ use Rattle.rwlock_machine.specs.Roles.{reads, marks, only_turns, has_turn, write
 use Rattle.rwlock_program.specs.Parties.{OnNoWriter, OnNoReaders}
 use Rattle.rwlock_program.specs.Turns.{OnTurn}
 use Rattle.rwlock_machine.specs.Machine.{RwLock, place_at}
+use Rattle.lock_queue.specs.Debts.{IsOwed}
+use Rattle.rwlock_machine.specs.Roles.{waits_no_writer, owes_no_writer, waits_no_readers, owes_no_readers}
 
 -- how many parties read, how many write, for how many the bit stands, and how many have the turn
 abbrev pub readers : RwLock → ℕ
@@ -101,6 +103,9 @@ pub record IsRwLock (v : RwLock) : Type 0 where
   pub one_entry : (p : ℕ) → entries_of p v.no_writer + entries_of p v.no_readers + entries_of p v.turn.entries ≤ 1
   pub in_order_no_writer : IsMarkedFirst v.no_writer
   pub in_order_no_readers : IsMarkedFirst v.no_readers
+  -- what is free and waited for by a party that has looked has a marked entry, or is owed one
+  pub owed_no_writer : IsOwed (marked v ≡ 0) (sum_by waits_no_writer v.places) (sum_by owes_no_writer v.places) (marked_count v.no_writer)
+  pub owed_no_readers : IsOwed (readers v ≡ 0) (sum_by waits_no_readers v.places) (sum_by owes_no_readers v.places) (marked_count v.no_readers)
   -- at rest, a list that waits for something free has a marked entry
   pub wakes_no_writer : IsAtRest v → marked v ≡ 0 → 0 < length v.no_writer → 0 < marked_count v.no_writer
   pub wakes_no_readers : IsAtRest v → readers v ≡ 0 → 0 < length v.no_readers → 0 < marked_count v.no_readers

@@ -1,3 +1,4 @@
 -- What always holds.
+pub mod Due
 pub mod Sound
 pub mod WorldLaws

@@ -2,6 +2,7 @@
 pub mod Paths
 pub mod Rows
 pub mod Owns
+pub mod Decided
 pub mod Facts
 pub mod TurnSteps
 pub mod TurnFacts

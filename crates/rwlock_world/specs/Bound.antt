@@ -20,6 +20,9 @@ use Rattle.rwlock_world.specs.State.{ListName, list_of, nobody, is_upgradable, w
 use Rattle.rwlock_world.specs.Laws.{is_at_rest}
 use Rattle.rwlock_world.specs.Legal.{is_first}
 use Rattle.rwlock_world.specs.Whole.{IsWholeCall}
+use Rattle.lock_program.specs.declared.refusal.Refusal.TheVariants.{Starved}
+use Rattle.lock_world.specs.Standings.{refused}
+use Rattle.lock_world.specs.Marks.{MarksNobody}
 
 -- ---- Solo polls
 
@@ -75,6 +78,10 @@ pub record Promises (w : World) (p : ℕ) (c : Call) (inputs : Inputs) (a : Answ
   pub reading : c ≡ call.Poll → IsSoloToRead w p inputs → is_marked w.state.turn ≡ false → how_many_read w < w.readers_limit → TakesToRead w p a v
   pub writing : c ≡ call.Poll → IsSoloToWrite w p inputs → how_many_read w ≡ 0 → TakesToWrite w p a v
   pub unstarved : inputs.starving ≡ false → how_many w.state.starved ≡ 0 → is_starved v p ≡ false
+  -- nor is its call refused then for the number of starved parties
+  pub patient : inputs.starving ≡ false → how_many w.state.starved ≡ 0 → a ≢ refused Starved
+  -- nor has it notified anybody for the turn then, if it waits for the turn at its end: so waiting parties don't wake one another over a turn that none of them gets
+  pub tells_nobody : inputs.starving ≡ false → how_many w.state.starved ≡ 0 → a ≡ answer.Pending → 0 < entries_of p v.turn_list → MarksNobody p w.turn_list v.turn_list
   -- a first poll that finds the turn free is ready: of an upgradable read where readers are below their limit, of a write where nobody reads
   pub first_upgradable : is_first w (record { party = p; what = Begin c inputs }) upgradable ≡ true → is_turn_free w.state ≡ true → how_many_read w < w.readers_limit → a ≡ answer.Ready (Value w.state.value)
   pub first_write : is_first w (record { party = p; what = Begin c inputs }) write ≡ true → is_upgrader w p ≡ false → is_turn_free w.state ≡ true → how_many_read w ≡ 0 → a ≡ answer.Ready (Value w.state.value)

@@ -4,6 +4,9 @@ use Rattle.lock_event.specs.declared.event.Entry.{Entry}
 use Rattle.lock_world.specs.Rosters.{how_many}
 use Rattle.lock_world.specs.Steps.{Deed, nothing, changes, does, leaves, list_after, is_parting}
 use Rattle.rwlock_world.specs.State.{ListName, for_the_turn, for_no_readers, for_no_writer, Turn, nobody, passes, is_upgradable, waits_to_write, writes, State, World, reads, is_starved, is_marked, how_many_read}
+use Rattle.lock_world.specs.Steps.{notifies, notifies_additionally}
+use Rattle.lock_queue.specs.Parties.{entries_of}
+use Rattle.rwlock_world.specs.State.{HasTurn}
 
 -- The changes of the state, each the moving party's own.
 pub data Change : Type 0 where
@@ -96,8 +99,18 @@ May p downgrades w = w.state.turn ≡ writes p
 May p downgrades_to_upgradable w = w.state.turn ≡ writes p
 May p (puts v) w = w.state.turn ≡ writes p
 
+-- In the turn's list whoever has the turn notifies nobody, nor does a party that stands there unless it is starved.
+pub record MayTell (w : World) (p n : ℕ) : Type 0 where
+  pub one : n ≡ 1
+  pub without_turn : HasTurn w.state.turn p → ⊥
+  pub starved : 0 < entries_of p w.turn_list → is_starved w p ≡ true
+
+-- Beside the changes, one notifies one in each list, and not beside one that was notified before.
 abbrev pub IsAllowed : ℕ → Deed Change ListName → World → Type 0
 IsAllowed p (changes c) w = May p c w
+IsAllowed p (does for_the_turn (notifies n)) w = MayTell w p n
+IsAllowed p (does list (notifies n)) w = n ≡ 1
+IsAllowed p (does list (notifies_additionally n)) w = ⊥
 IsAllowed p _ w = Unit {0}
 
 -- Once its call is decided, a party only gives back: the turn, its starved count, a right, the writer's bit, its entry, a notification.

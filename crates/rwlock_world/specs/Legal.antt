@@ -24,6 +24,9 @@ use Rattle.lock_world.specs.Standings.{Standing, outside, inside, forgotten, inp
 use Rattle.lock_world.specs.Steps.{Deed, nothing, does, joins}
 use Rattle.rwlock_world.specs.State.{ListName, list_of, Turn, passes, is_upgradable, waits_to_write, writes, World, standing_of, sought_by, reads, how_many_read, is_marked, is_turn_free, HasTurn, entries_in, told_in, is_upgrader, IsClear}
 use Rattle.rwlock_world.specs.Changes.{Change, state_after, entries_after, IsAllowed, gives_back, gives_up}
+use Rattle.lock_world.specs.Standings.{IsUndecided}
+use Rattle.lock_world.specs.Standings.{may_end}
+use Rattle.rwlock_world.specs.State.{is_starved}
 
 -- The calls of a read-write lock, by the right that the party's guard is for: a guard's own calls are known of that guard alone.
 abbrev pub knows : Option Right → Call → Bool
@@ -61,7 +64,7 @@ IsPossible = frame.IsPossible standing_of knows_of
 
 -- ---- What changes
 
--- A move changes one thing of the state where it may, or does one list function, never both, and moves no other party. A join has found memory, and what is refused for want of it does nothing else. A party whose call is decided only gives back, and none gives anything up before, but in a call that is for that.
+-- A move changes one thing of the state where it may, or does one list function, never both, and moves no other party. A join has found memory, and what is refused for want of it, or since too many are starved, does nothing else. A party whose call is decided only gives back, and none gives anything up before, but in a call that is for that.
 pub record ChangesOneThing (old : World) (m : Move) (a : Answer) (new : World) : Type 0 where
   pub deed : Deed Change ListName
   pub state : new.state ≡ state_after m.party deed old.state
@@ -75,6 +78,7 @@ pub record ChangesOneThing (old : World) (m : Move) (a : Answer) (new : World) :
   pub parties : length new.standings ≡ length old.standings
   pub found_memory : (list : ListName) → deed ≡ does list joins → (inputs_of m.what).memory ≡ true
   pub refused_idly : DecidesOn old m a new (refused refusal.Memory) → deed ≡ nothing
+  pub starved_idly : DecidesOn old m a new (refused refusal.Starved) → deed ≡ nothing
   pub parting : is_decided (standing_of old m.party) || is_drop m.what ≡ true → gives_back deed ≡ true
   pub giving_up : gives_up deed ≡ true → is_decided (standing_of old m.party) || is_giving_back m.what ≡ true
 
@@ -104,9 +108,10 @@ HasItsOwn w p (inside within None) = (reads w p ≡ false) × (w.state.turn ≢ 
 HasItsOwn w p (inside within (Some a)) = within.kind ≡ kind.Downgrade → reads w p ≡ true
 HasItsOwn w p forgotten = Unit {0}
 
--- Each party has what its standing says; and after a refusal its future is as when it was made, in no list, not starved and without the turn, but that of an upgrade, which goes on waiting to write.
+-- Each party has what its standing says, and its call is decided only on an answer with which such a call may end; and after a refusal its future is as when it was made, in no list, not starved and without the turn, but that of an upgrade, which goes on waiting to write.
 pub record LeavesClear (old : World) (m : Move) (a : Answer) (new : World) : Type 0 where
   pub each : (p : ℕ) → HasItsOwn new p (standing_of new p)
+  pub decided : (p : ℕ) (within : Within) (b : Answer) → standing_of new p ≡ inside within (Some b) → may_end within.kind b ≡ true
   pub refused : is_refusal a ≡ true → IsClear new m.party
   pub gives_up_turn : is_refusal a ≡ true → is_upgrader old m.party ≡ false → HasTurn new.state.turn m.party → ⊥
   pub keeps_turn : is_refusal a ≡ true → is_upgrader old m.party ≡ true → new.state.turn ≡ waits_to_write m.party
@@ -137,10 +142,10 @@ MayMeet (Some upgradable) w p refusal.Starved = HasTurn w.state.turn p → ⊥
 MayMeet (Some write) w p refusal.Starved = HasTurn w.state.turn p → ⊥
 MayMeet s w p r = ⊥
 
--- Why a call may be refused: a join found no memory, for the move's input said so, and whoever has just taken the turn looks before it joins; there are as many starved parties, or readers, as there may be, and it takes what that limit is for; or the future had been ready before.
+-- Why a call may be refused: a join found no memory, for the move's input said so, and whoever has just taken the turn looks before it joins; there are as many starved parties as there may be, of which it is none, past its call's first step, and its lists are as before; there are as many readers as there may be, and it takes what that limit is for; or the future had been ready before.
 abbrev pub IsCause : World → Move → World → Refusal → Type 0
 IsCause old m new refusal.Memory = ((inputs_of m.what).memory ≡ false) × (entries_in old m.party ≡ 0) × ((list : ListName) → list_of new list ≡ list_of old list) × (old.state.turn ≢ passes m.party)
-IsCause old m new refusal.Starved = (how_many old.state.starved ≡ old.starved_limit) × MayMeet (sought_by new m.party) old m.party refusal.Starved
+IsCause old m new refusal.Starved = (how_many old.state.starved ≡ old.starved_limit) × MayMeet (sought_by new m.party) old m.party refusal.Starved × (is_starved old m.party ≡ false) × IsUndecided (standing_of old m.party) × ((list : ListName) → list_of new list ≡ list_of old list)
 IsCause old m new refusal.Readers = (old.readers_limit ≤ how_many_read old) × MayMeet (sought_by new m.party) old m.party refusal.Readers
 IsCause old m new refusal.Finished = new ≡ old
 IsCause old m new _ = ⊥
@@ -224,6 +229,8 @@ pub record AnswersAtOnce (old : World) (m : Move) (a : Answer) (new : World) : T
   pub try_upgrade : (inputs : _) → m.what ≡ Begin call.TryUpgrade inputs → is_possible a ≡ true → a ≡ granted_if (how_many_read old == 1) old
   pub try_turn : is_try_for_turn m.what ≡ true → is_possible a ≡ true
       → (a ≡ (if is_turn_free old.state then answer.Stepped else answer.None)) × ((new.state.turn ≡ passes m.party) ↔ (is_turn_free old.state ≡ true))
+  -- Such a try that has taken the turn isn't decided yet.
+  pub try_goes_on : is_try_for_turn m.what ≡ true → is_possible a ≡ true → is_turn_free old.state ≡ true → decision a (standing_of new m.party) ≡ None
   pub try_upgradable : IsTryWithTurn old m upgradable → is_possible a ≡ true → (a ≡ answer.Granted (Value old.state.value)) ↔ (how_many_read old < old.readers_limit)
   pub try_upgradable_decided : IsTryWithTurn old m upgradable → is_possible a ≡ true → decision a (standing_of new m.party) ≡ Some (granted_if (nat_lt (how_many_read old) old.readers_limit) old)
   pub try_write : IsTryWithTurn old m write → is_possible a ≡ true → (a ≡ answer.Granted (Value old.state.value)) ↔ (how_many_read old ≡ 0)

@@ -29,7 +29,8 @@ use Rattle.sync_program.specs.declared.semaphore.Position.{Position}
 use Rattle.sync_program.specs.declared.semaphore.Position.TheVariants.{Out, Waiting, Holding, At}
 use Rattle.semaphore_machine.specs.declared.words.Words.{Words}
 use Rattle.semaphore_machine.specs.Program.{place_for, action_of, next_of, position_after}
-use Rattle.semaphore_machine.specs.Seats.{permits_at, under_way_at, listed, is_resting}
+use Rattle.semaphore_machine.specs.Seats.{permits_at, under_way_at, listed, waits, owes, is_resting}
+use Rattle.lock_queue.specs.Debts.{IsOwed}
 use Rattle.semaphore_machine.specs.Deeds.{Finds, deed_of, words, words_after, entries_after}
 use Rattle.semaphore_machine.specs.Tally.{IsSound, tally_of, counts_of}
 
@@ -59,12 +60,13 @@ abbrev pub IsAtRest : List Position → Type 0
 IsAtRest [] = Unit {0}
 IsAtRest (x ∷ xs) = (is_resting x ≡ true) × IsAtRest xs
 
--- What callers may rest on: permits that are available, held and under way make up the limit; a party's entries are told by where it stands; and at rest, where a permit is available and somebody is listed, some entry is marked.
+-- What callers may rest on: permits that are available, held and under way make up the limit; a party's entries are told by where it stands; and where a permit is available and somebody waits who has looked, some entry is marked or somebody owes the list a notification or a look; and at rest, where a permit is available and somebody is listed, some entry is marked.
 pub record IsSemaphore (s : Semaphore) : Type 0 where
   pub balanced : s.words.available + sum_by permits_at s.positions + sum_by under_way_at s.positions ≡ s.words.limit
   pub limited : s.words.limit ≤ s.words.most
   pub owners : (p : ℕ) → entries_of p s.entries ≡ listed (position_at s.positions p)
   pub in_order : IsMarkedFirst s.entries
+  pub owed : IsOwed (0 < s.words.available) (sum_by waits s.positions) (sum_by owes s.positions) (marked_count s.entries)
   pub wakes : IsAtRest s.positions → 0 < s.words.available → 0 < length s.entries → 0 < marked_count s.entries
 
 -- ---- Which parties stand where

@@ -13,6 +13,7 @@ use Rattle.lock_program.specs.declared.refusal.Refusal.TheVariants as refusal
 use Rattle.lock_world.specs.declared.standing.Kind.TheVariants as kind
 use Rattle.lock_world.specs.declared.standing.Rest.TheVariants.{Idle, Pending, Holding, Finished}
 use Rattle.lock_world.specs.Frame.{is_drop}
+use Rattle.lock_world.specs.declared.standing.Within.{Within}
 use Rattle.lock_world.specs.Standings.{Standing, outside, inside, is_possible, refused, decision}
 use Rattle.lock_world.specs.Steps.{changes}
 use Rattle.semaphore_machine.specs.Deeds.{takes, gives_back, forgets, raises, gives}
@@ -63,4 +64,6 @@ pub record AnswersAtOnce (old : World) (m : Move) (a : Answer) (new : World) : T
   pub returned : is_drop m.what ≡ true → standing_of old m.party ≡ outside Holding → (a ≡ answer.Stepped) × (new.state ≡ state_after m.party (changes gives_back) old.state)
   -- Then such a drop notifies, and so does an add that adds some, once it has given them.
   pub notifies : standing_of old m.party ≡ inside (record { kind = kind.Drop; was = Holding }) (Some answer.GivenBack) → is_possible a ≡ true → (a ≡ answer.GivenBack) × (new.entries ≡ notified old.entries 1)
+  -- So does a poll that took a notification and is to be refused for memory.
+  pub refuses : (within : Within) → standing_of old m.party ≡ inside within (Some (refused refusal.Memory)) → is_possible a ≡ true → (a ≡ refused refusal.Memory) × (new.entries ≡ notified old.entries 1)
   pub gives : standing_of old m.party ≡ inside (record { kind = kind.Add; was = Idle }) (Some (answer.Granted Plain)) → is_possible a ≡ true → 0 < adds_of old m.party → GivesInTurn old m a new

@@ -15,6 +15,7 @@ use Rattle.lock_program.specs.declared.refusal.Refusal.{Refusal}
 use Rattle.lock_program.specs.declared.refusal.Refusal.TheVariants as refusal
 use Rattle.lock_world.specs.declared.standing.Kind.{Kind}
 use Rattle.lock_world.specs.declared.standing.Kind.TheVariants as kind
+use Rattle.lock_world.specs.declared.standing.Rest.{Rest}
 use Rattle.lock_world.specs.declared.standing.Rest.TheVariants.{Idle, Pending, Holding, Finished}
 use Rattle.lock_world.specs.declared.standing.Within.{Within}
 use Rattle.lock_world.specs.Standings.{Standing, outside, inside, inputs_of, is_decided, is_outside, may_end}
@@ -83,14 +84,26 @@ abbrev pub notice : Standing → ℕ → ℕ
 notice (inside w decided) adds = if is_add w.kind then adds else 1
 notice s adds = 1
 
--- Where a change may be made. A permit is taken where one is available; a drop gives back what its party has, and a forget ends it; an add raises the limit if that doesn't pass its greatest value, and gives what it raised it by. A party notifies for as many as it gave, and not beside those that were notified before.
+abbrev pub is_held : Rest → Bool
+is_held Holding = true
+is_held _ = false
+
+-- Who may notify, by what its call is decided on: who is to be ready or refused, an add, and who held a permit. While a call isn't decided its party notifies nobody.
+abbrev pub may_tell : Standing → Bool
+may_tell (inside w (Some (answer.Ready got))) = true
+may_tell (inside w (Some (answer.Refused n))) = true
+may_tell (inside w (Some (answer.Granted got))) = is_add w.kind
+may_tell (inside w (Some answer.GivenBack)) = is_held w.was
+may_tell s = false
+
+-- Where a change may be made. A permit is taken where one is available; a drop gives back what its party has, and a forget ends it; an add raises the limit if that doesn't pass its greatest value, and gives what it raised it by. Who may notify does so for as many as it gave, and not beside those that were notified before.
 abbrev pub IsAllowed : World → Move → Deed Change ListName → Type 0
 IsAllowed w m (changes takes) = (is_free w.state ≡ true) × (share_at w.state m.party ≡ nothing_had)
 IsAllowed w m (changes gives_back) = (share_at w.state m.party ≡ one_permit) × (is_drop m.what ≡ true)
 IsAllowed w m (changes forgets) = (share_at w.state m.party ≡ one_permit) × (is_forget m.what ≡ true)
 IsAllowed w m (changes (raises n)) = (added_in m.what ≡ Some n) × (w.state.limit + n ≤ w.most) × (share_at w.state m.party ≡ nothing_had)
 IsAllowed w m (changes (gives n)) = (share_at w.state m.party ≡ record { permit = false; under_way = n }) × (adds_of w m.party ≡ n)
-IsAllowed w m (does list (notifies n)) = notice (standing_of w m.party) (adds_of w m.party) ≡ n
+IsAllowed w m (does list (notifies n)) = (notice (standing_of w m.party) (adds_of w m.party) ≡ n) × (may_tell (standing_of w m.party) ≡ true)
 IsAllowed w m (does list (notifies_additionally n)) = ⊥
 IsAllowed w m _ = Unit {0}
 

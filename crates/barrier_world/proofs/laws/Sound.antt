@@ -49,6 +49,14 @@ use Rattle.barrier_world.proofs.step.Locks.{releasing_unlisted}
 use Rattle.barrier_world.proofs.step.Owns as owns
 use Rattle.barrier_world.proofs.step.Owns.{at_most_once}
 use Rattle.barrier_world.proofs.Numbers as numbers
+use Rattle.std.proofs.Common.{◌⊎◌, false, Bool}
+use Rattle.std.proofs.lemmas.Bool.{false≢true}
+use Rattle.lock_event.specs.Lists.{marked_count}
+use Rattle.lock_world.specs.Standings.{is_decided}
+use Rattle.mutex_machine.specs.Course.{taking, releasing, undecided, called, counting, has_lock, gives_up as giving_up, is_out as is_out_there, is_holding, is_waiting, is_cancelling, is_due as is_due_there}
+use Rattle.sync_program.specs.declared.barrier.Place.TheVariants.{CancelLock, CancellingLock}
+use Rattle.barrier_machine.specs.Waits.{verdict}
+use Rattle.barrier_world.specs.Laws.{is_due, IsDue}
 
 -- ---- calls
 
@@ -196,6 +204,112 @@ inside_by w p (outside rest.Holding) k h = absurd k
 inside_by w p (inside u d) k h = refl
 inside_by w p forgotten k h = absurd (k h)
 
+-- ---- who has still to notify for the inner lock, or to look
+
+outside_stage : (s : Stage) (d : Option Answer) → is_outside (stands_as d s) ≡ true → is_outside_stage s ≡ true
+outside_stage (Outside r) d h = refl
+outside_stage Forgotten d h = refl
+outside_stage (Inside w) d h = absurd (cc h)
+
+rest_waits_there : (x : Position) (c : Course) → is_resting x ≡ true → fits_lock (in_lock x) c ≡ true → 0 < listed_there c → is_waiting c ≡ true
+rest_waits_there (At y) c h link some = absurd (cc h)
+rest_waits_there (Locking a) c h link some = link
+rest_waits_there Out c h link some = let none = out_unlisted c link in absurd (omega arith)
+rest_waits_there (Made a) c h link some = let none = out_unlisted c link in absurd (omega arith)
+rest_waits_there Waiting c h link some = let none = out_unlisted c link in absurd (omega arith)
+
+-- who is due there moves
+record Moves (c : Course) : Type 0 where
+  pub not_out : is_out_there c ≡ false
+  pub not_holding : is_holding c ≡ false
+  pub not_waiting : is_waiting c ≡ false
+  pub not_cancelling : is_cancelling c ≡ false
+
+due_moves : (c : Course) → is_due_there c ≡ true → Moves c
+due_moves (taking progress s l b) h = record { not_out = refl; not_holding = refl; not_waiting = refl; not_cancelling = refl }
+due_moves releasing h = record { not_out = refl; not_holding = refl; not_waiting = refl; not_cancelling = refl }
+due_moves _ h = absurd (cc h)
+
+never_out : (c : Course) → is_due_there c ≡ true → is_out_there c ≡ true → ⊥
+never_out c h out = let m = due_moves c h in false≢true (sym m.not_out ∙ out)
+
+polls_due : (u : Within) (a : Aim) (c : Course) → is_due_there c ≡ true → is_due (stands_as (verdict (At (TakeLock a)) c) (Inside u)) ≡ true
+polls_due u a (taking undecided s l b) h = refl
+polls_due u a (taking called s l b) h = refl
+polls_due u a (taking counting s l b) h = refl
+polls_due u a (taking (giving_up r) s l b) h = refl
+polls_due u a (taking has_lock s l b) h = absurd (cc h)
+polls_due u a releasing h = refl
+polls_due u a _ h = absurd (cc h)
+
+due_inside : (u : Within) (y : Place) (c : Course) → fits_lock (in_lock (At y)) c ≡ true → is_due_there c ≡ true → Moves c → is_due (stands_as (verdict (At y) c) (Inside u)) ≡ true
+due_inside u (TakeLock a) c link h m = polls_due u a c h
+due_inside u (ReleasingLock ending.Wait) c link h m = refl
+due_inside u (ReleasingLock ending.Follow) c link h m = refl
+due_inside u (ReleasingLock ending.Lead) c link h m = refl
+due_inside u (ReleasingLock ending.RefuseGenerations) c link h m = refl
+due_inside u (ReleasingLock (ending.RefuseMemory a)) c link h m = refl
+due_inside u (WaitLock a) c link h m = absurd (false≢true (sym m.not_waiting ∙ link))
+due_inside u CancelLock c link h m = absurd (false≢true (sym m.not_waiting ∙ link))
+due_inside u CancellingLock c link h m = absurd (false≢true (sym m.not_cancelling ∙ link))
+due_inside u _ c link h m = absurd (cc (link, m.not_out, m.not_holding))
+
+rest_undue : (x : Position) (c : Course) → is_resting x ≡ true → fits_lock (in_lock x) c ≡ true → Moves c → ⊥
+rest_undue (At y) c h link m = cc h
+rest_undue (Locking a) c h link m = false≢true (sym m.not_waiting ∙ link)
+rest_undue Out c h link m = false≢true (sym m.not_out ∙ link)
+rest_undue (Made a) c h link m = false≢true (sym m.not_out ∙ link)
+rest_undue Waiting c h link m = false≢true (sym m.not_out ∙ link)
+
+due_at : (s : Stage) (x : Position) (c : Course) → goes_with s x ≡ true → fits_lock (in_lock x) c ≡ true → is_due_there c ≡ true → is_due (stands_as (verdict x c) s) ≡ true
+due_at (Inside u) (At y) c g link h = due_inside u y c link h (due_moves c h)
+due_at (Inside u) _ c g link h = absurd (cc g)
+due_at (Outside r) x c g link h = absurd (rest_undue x c (resting (Outside r) x g refl) link (due_moves c h))
+due_at Forgotten x c g link h = absurd (rest_undue x c (resting Forgotten x g refl) link (due_moves c h))
+
+due_unstarved : (c : Course) → is_due_there c ≡ true → starved_there c ≡ 0 → listed_there c ≡ 0
+due_unstarved (taking undecided true l b) h none = absurd (omega arith)
+due_unstarved (taking undecided false l b) h none = absurd (cc h)
+due_unstarved (taking called s true b) h none = absurd (cc h)
+due_unstarved (taking called s false b) h none = refl
+due_unstarved (taking counting s true b) h none = absurd (cc h)
+due_unstarved (taking counting s false b) h none = refl
+due_unstarved (taking (giving_up r) s true b) h none = absurd (cc h)
+due_unstarved (taking (giving_up r) s false b) h none = refl
+due_unstarved (taking has_lock s l b) h none = absurd (cc h)
+due_unstarved releasing h none = refl
+due_unstarved _ h none = absurd (cc h)
+
+undecided_so : (s : Stage) → is_decided (stands_as None s) ≡ true → ⊥
+undecided_so (Inside w) h = cc h
+undecided_so (Outside r) h = cc h
+undecided_so Forgotten h = cc h
+
+polls_unlisted : (s : Stage) (a : Aim) (c : Course) → is_due_there c ≡ true → is_decided (stands_as (verdict (At (TakeLock a)) c) s) ≡ true → listed_there c ≡ 0
+polls_unlisted s a (taking undecided x l b) h d = absurd (undecided_so s d)
+polls_unlisted s a (taking called x l b) h d = absurd (undecided_so s d)
+polls_unlisted s a (taking counting x l b) h d = absurd (undecided_so s d)
+polls_unlisted s a (taking (giving_up r) x true b) h d = absurd (cc h)
+polls_unlisted s a (taking (giving_up r) x false b) h d = refl
+polls_unlisted s a (taking has_lock x l b) h d = absurd (cc h)
+polls_unlisted s a releasing h d = refl
+polls_unlisted s a _ h d = absurd (cc h)
+
+decided_by : (s : Stage) (y : Place) (c : Course) → fits_lock (in_lock (At y)) c ≡ true → is_due_there c ≡ true → Moves c → is_decided (stands_as (verdict (At y) c) s) ≡ true → listed_there c ≡ 0
+decided_by s (TakeLock a) c link h m d = polls_unlisted s a c h d
+decided_by s (ReleasingLock e) c link h m d = releasing_unlisted c link
+decided_by s (WaitLock a) c link h m d = absurd (false≢true (sym m.not_waiting ∙ link))
+decided_by s CancelLock c link h m d = absurd (false≢true (sym m.not_waiting ∙ link))
+decided_by s CancellingLock c link h m d = absurd (false≢true (sym m.not_cancelling ∙ link))
+decided_by s _ c link h m d = absurd (cc (link, m.not_out, m.not_holding))
+
+decided_unlisted : (s : Stage) (x : Position) (c : Course) → fits_lock (in_lock x) c ≡ true → is_due_there c ≡ true → is_decided (stands_as (verdict x c) s) ≡ true → listed_there c ≡ 0
+decided_unlisted s (At y) c link h d = decided_by s y c link h (due_moves c h) d
+decided_unlisted s (Locking a) c link h d = absurd (undecided_so s d)
+decided_unlisted s Out c link h d = absurd (undecided_so s d)
+decided_unlisted s (Made a) c link h d = absurd (undecided_so s d)
+decided_unlisted s Waiting c link h d = absurd (undecided_so s d)
+
 module _ (t : Table Barrier) (laws : IsBarrier t.machine) (fits : IsBarrierTable t) where
   abbrev xs : List Position
   xs = t.machine.positions
@@ -237,6 +351,33 @@ module _ (t : Table Barrier) (laws : IsBarrier t.machine) (fits : IsBarrierTable
       let P : ℕ → Type 0 = λ z. IsFinished words.size z (view_of t).arrivals in
       laws.told (sees.none_holds 0 t.machine.lock.courses free) q some (numbers.past_its_generation words.size (a_of q) words.progress (laws.followers q goes) laws.sound.unfinished (laws.past q) (subst P n.0 finished))
 
+  stands_at : (q : ℕ) → (x_of q ≡ Out → ⊥) → goes_with (stage_at t.stages q) (x_of q) ≡ true
+  stands_at q some = by_stage_or_past t.stages q (goes_with (stage_at t.stages q) (x_of q) ≡ true)
+      (λ past. absurd (some (past_last xs q Out (omega (arith, past, fits.as_many)))))
+      (λ inside. fits.stands q inside)
+
+  rests_outside : (q : ℕ) → is_outside (standing_of (view_of t) q) ≡ true → is_resting (x_of q) ≡ true
+  rests_outside q out = by_stage_or_past t.stages q (is_resting (x_of q) ≡ true)
+      (λ past. ap is_resting (past_last xs q Out (omega (arith, past, fits.as_many))))
+      (λ inside. resting (stage_at t.stages q) (x_of q) (fits.stands q inside) (outside_stage (stage_at t.stages q) (verdict_in t.machine q) (ap is_outside (sym (seen.standing_seen t q)) ∙ out)))
+
+  due : (q : ℕ) → is_due_there (c_of q) ≡ true → IsDue (view_of t) q
+  due q h =
+      let goes = stands_at q (λ e. never_out (c_of q) h (let P : Position → Type 0 = λ x. fits_lock (in_lock x) (c_of q) ≡ true in subst P e (laws.links q))) in
+      record {
+        due = ap is_due (seen.standing_seen t q) ∙ due_at (stage_at t.stages q) (x_of q) (c_of q) goes (laws.links q) h;
+        unlisted = λ why. laws.lock.owners q ∙ elim why as (λ _. listed_there (c_of q) ≡ 0) [
+          | inl fresh ↦ due_unstarved (c_of q) h (sym (sees.counted_bit (c_of q)) ∙ ap bit (sym (sees.starved_at t.machine.lock.courses q) ∙ fresh))
+          | inr d ↦ decided_unlisted (stage_at t.stages q) (x_of q) (c_of q) (laws.links q) h (ap is_decided (sym (seen.standing_seen t q)) ∙ d)
+        ];
+      }
+
+  told_or_due : (view_of t).lock.holder ≡ None → (q : ℕ) → is_outside (standing_of (view_of t) q) ≡ true → 0 < entries_of q t.machine.lock.entries → (0 < marked_count t.machine.lock.entries) ⊎ ((z : ℕ) × IsDue (view_of t) z)
+  told_or_due free q out some =
+      let own = laws.lock.owners q in
+      let waits = rest_waits_there (x_of q) (c_of q) (rests_outside q out) (laws.links q) (omega arith) in
+      elim (laws.lock.told_or_due (sees.none_holds 0 t.machine.lock.courses free) q waits) [ inl marked ↦ inl marked | inr one ↦ inr (one.0, due one.0 one.1) ]
+
   pub sound : IsSound (view_of t)
   sound = record {
     each = owns.each_has t laws fits;
@@ -249,6 +390,7 @@ module _ (t : Table Barrier) (laws : IsBarrier t.machine) (fits : IsBarrierTable
     one_each = one_each;
     within = (let g = numbers.its_generations words.size words.progress laws.sound.unfinished in let h = laws.sound.within in omega arith);
     few_starved = (let n = sees.how_many_counted t.machine.lock.courses in let few = laws.lock.few_starved in omega arith);
+    told_or_due = told_or_due;
     told = told;
     once = λ q. (let l = laws.lock.owners q in let b = laws.owners q in let few = both_lists (x_of q) (c_of q) (laws.links q) in omega arith);
     in_order = in_order;

@@ -57,6 +57,7 @@ use Rattle.barrier_world.proofs.step.Turns as turns
 use Rattle.barrier_world.proofs.step.Turns.{said}
 use Rattle.barrier_world.proofs.step.Rows.{row}
 use Rattle.barrier_world.proofs.step.Endings.{said_so, possible_by, said_then, ends_by, wait_goes}
+use Rattle.mutex_machine.specs.Course.{is_counting}
 
 -- ---- By the deed
 
@@ -343,6 +344,10 @@ module _ (t u : Table Barrier) (m : Move) (a : Answer) (w : Within) where
       waiting = λ e. pended t u m w starts_here (verdict_of from c) (said n d) r.judged (owns.never_pending from c) (said_then n d answer.Pending refl (sym k.answer ∙ e));
       not_before = λ v e. (owns.well u k.new_laws k.new_fits).never_pending p v e;
     }
+
+    -- who is refused for too many starved parties was about to be counted
+    pub counts : DecidesOn old m a new (refused refusal.Starved) → is_counting c ≡ true
+    counts e = elim (reason (refused refusal.Starved) e) as (λ _. is_counting c ≡ true) [ inl b ↦ absurd (cc b) | inr y ↦ y.2 refl ]
 
     refused_for_cause : IsRefusedForCause old m a new
     refused_for_cause = record {

@@ -45,6 +45,10 @@ use Rattle.barrier_world.proofs.table.Seen.{its_holder}
 use Rattle.barrier_world.proofs.step.Turns as turns
 use Rattle.barrier_world.proofs.step.Turns.{said}
 use Rattle.barrier_world.proofs.step.Locks.{ends, deed_of, lock_then, entries_then, IsOfLock, is_of_lock, gives_back_so, gives_up_so, joins_so, leaves_none, releasing_unstarved, releasing_unlisted}
+use Rattle.std.proofs.Common.{◌<◌}
+use Rattle.lock_world.specs.Standings.{IsUndecided}
+use Rattle.mutex_machine.specs.Course.{listed as listed_there, may_tell, taking as polling, releasing, undecided, called, counting, has_lock, gives_up as giving_up}
+use Rattle.barrier_world.specs.State.{standing_of}
 
 -- ---- what is told by where a step leads
 
@@ -69,6 +73,26 @@ release_wait e (lock_step.End x) n = released_wait e n
 cancel_wait : (s : Step) (n : ℕ) → wait_at (position_after (after_cancel (found.Lock s))) n ≡ ends (answer_by (after_cancel (found.Lock s))) no_wait
 cancel_wait lock_step.More n = refl
 cancel_wait (lock_step.End x) n = refl
+
+-- who may notify in the inner lock's list hasn't the lock, and stands there only while it is starved
+tells_free : (c : Course) → may_tell c ≡ true → holds c ≡ 0
+tells_free (polling has_lock a b d) h = absurd (cc h)
+tells_free (polling _ a b d) h = refl
+tells_free releasing h = refl
+tells_free _ h = absurd (cc h)
+
+tells_starved : (c : Course) → may_tell c ≡ true → 0 < listed_there c → starved_there c ≡ 1
+tells_starved (polling undecided true true d) h some = refl
+tells_starved (polling undecided true false d) h some = absurd (cc h)
+tells_starved (polling undecided false b d) h some = absurd (cc h)
+tells_starved (polling counting a true d) h some = absurd (cc h)
+tells_starved (polling counting a false d) h some = absurd (omega arith)
+tells_starved (polling (giving_up r) a true d) h some = absurd (cc h)
+tells_starved (polling (giving_up r) a false d) h some = absurd (omega arith)
+tells_starved (polling called a b d) h some = absurd (cc h)
+tells_starved (polling has_lock a b d) h some = absurd (cc h)
+tells_starved releasing h some = absurd (omega arith)
+tells_starved _ h some = absurd (cc h)
 
 abbrev Clear : Next → Type 0
 Clear n = is_refusal (answer_by n) ≡ true → (for : Aim) × (position_after n ≡ Made for)
@@ -203,7 +227,15 @@ module _ (t u : Table Barrier) (m : Move) (w : Within) (laws : IsBarrier t.machi
   allowed_so (changes mutex.releases) may r = r refl
   allowed_so (changes mutex.starves) may r = (is_unstarved_so may.0, (let n = sees.how_many_counted t.machine.lock.courses in let few = may.1 in omega arith))
   allowed_so (changes mutex.recovers) may r = is_starved_so may
-  allowed_so (does mutex.for_the_lock f) may r = tt
+  allowed_so (does mutex.for_the_lock (notifies n)) may r = record {
+    one = may.0;
+    without_lock = λ h. (let one = sees.is_held_by t.machine.lock.courses p h in let none = tells_free c may.1 in omega arith);
+    starved = λ some. is_starved_so (tells_starved c may.1 (let own = laws.lock.owners p in omega arith));
+  }
+  allowed_so (does mutex.for_the_lock (notifies_additionally n)) may r = may
+  allowed_so (does mutex.for_the_lock joins) may r = tt
+  allowed_so (does mutex.for_the_lock asks) may r = tt
+  allowed_so (does mutex.for_the_lock leaves) may r = tt
 
   module _ (decided : Option End) (s : Step) (l : IsLegal memory p decided s t.machine.lock u.machine.lock) where
     pub lock_deed : (l.deed ≡ changes mutex.releases → IsAllowed old m (changes releases)) → LockDeed (deed_of l.deed)
@@ -252,10 +284,11 @@ module _ (t u : Table Barrier) (m : Move) (w : Within) (laws : IsBarrier t.machi
     -- ---- a poll on the inner lock
 
     module _ (a : Aim) (starts : Bool) where
-      why : (r : Refusal) → IsReason memory p t.machine.lock u.machine.lock (lock_end.Refused r) → (old.lock.holder ≡ Some p → ⊥) → entries_of p t.machine.entries ≡ 0 → starts ≡ false → wait_of new p ≡ wait_of old p → turns.Reason t u m w starts (refused r)
-      why refusal.Memory y free none at wait = (
+      why : (r : Refusal) → IsReason memory p t.machine.lock u.machine.lock (lock_end.Refused r) → (old.lock.holder ≡ Some p → ⊥) → entries_of p t.machine.entries ≡ 0 → starts ≡ false → wait_of new p ≡ wait_of old p → IsUndecided (standing_of old p) → turns.Reason t u m w starts (refused r)
+      why refusal.Memory y free none at wait midway = (
         (refusal.Memory, refl, record { input = y.0; needed = λ h. absurd (free h); unlisted = lists; unchanged = record { arrivals = same_arrivals; lock = same_state _ _ _ _ y.3 y.4; lists = kept; wait = wait } }),
         at,
+        λ e. absurd (omega (arith, e)),
       ) where
         lists : (list : ListName) → entries_of p (list_in list old) ≡ 0
         lists Lock = y.1
@@ -264,8 +297,21 @@ module _ (t u : Table Barrier) (m : Move) (w : Within) (laws : IsBarrier t.machi
         kept : (list : ListName) → list_in list new ≡ list_in list old
         kept Lock = y.2
         kept Generation = unlisted
-      why refusal.Starved y free none at wait = ((refusal.Starved, refl, record { limit = sees.how_many_counted t.machine.lock.courses ∙ y; without_lock = free }), at)
-      why _ y free none at wait = absurd y
+      why refusal.Starved y free none at wait midway = (
+        (refusal.Starved, refl, record {
+          limit = sees.how_many_counted t.machine.lock.courses ∙ y.0;
+          without_lock = free;
+          unstarved = is_unstarved_so y.1;
+          undecided = midway;
+          unchanged = record { arrivals = same_arrivals; lock = same_state _ _ _ _ y.3 y.4; lists = kept; wait = wait };
+        }),
+        at,
+        λ e. y.5,
+      ) where
+        kept : (list : ListName) → list_in list new ≡ list_in list old
+        kept Lock = y.2
+        kept Generation = unlisted
+      why _ y free none at wait midway = absurd y
 
       -- what a decision of the poll on the inner lock says of the wait
       abbrev Because : End → Type 0
@@ -322,7 +368,7 @@ module _ (t u : Table Barrier) (m : Move) (w : Within) (laws : IsBarrier t.machi
       waits_still lock_step.More e r h f = f
       waits_still (lock_step.End x) e r h f = let P : End → Type 0 = λ x. wait_of new p ≡ wait_at (position_after (after_lock a (found.Lock (lock_step.End x)))) num in subst P (some_eq h) f
 
-      pub taking : entries_of p t.machine.entries ≡ 0 → ((r : Refusal) → decided_then s d ≡ Some (lock_end.Refused r) → (starts ≡ false) × (wait_of old p ≡ wait_for a num))
+      pub taking : entries_of p t.machine.entries ≡ 0 → ((r : Refusal) → decided_then s d ≡ Some (lock_end.Refused r) → (starts ≡ false) × (wait_of old p ≡ wait_for a num) × (decided ≡ None → IsUndecided (standing_of old p)))
           → wait_of new p ≡ wait_at (position_after (after_lock a (found.Lock s))) num → Row (wait_for a num) (refused_by decided) (after_lock a (found.Lock s)) starts
       taking none refusable after = row_of (deed_of l.deed) (wait_for a num) (refused_by decided) (after_lock a (found.Lock s)) starts (lock_deed decided s l (λ e. absurd (keeps_it decided refl polls e))) (record {
         wait = after ∙ taken_wait a s num;
@@ -334,7 +380,7 @@ module _ (t u : Table Barrier) (m : Move) (w : Within) (laws : IsBarrier t.machi
       }) where
         because : (e : End) → decided ≡ None → decided_then s d ≡ Some e → Because a starts e
         because lock_end.Pending n h = inl (l.reason lock_end.Pending n h)
-        because (lock_end.Refused r) n h = let x = refusable r h in why a starts r (l.reason (lock_end.Refused r) n h) (λ e. (let one = sees.is_held_by t.machine.lock.courses p e in let zero_held = unheld n in omega arith)) none x.0 (waits_still s refl r h after ∙ sym x.1)
+        because (lock_end.Refused r) n h = let x = refusable r h in why a starts r (l.reason (lock_end.Refused r) n h) (λ e. (let one = sees.is_held_by t.machine.lock.courses p e in let zero_held = unheld n in omega arith)) none x.0 (waits_still s refl r h after ∙ sym x.1) (x.2 n)
         because _ n h = tt
 
     -- ---- the drop of a wait in the inner lock's list

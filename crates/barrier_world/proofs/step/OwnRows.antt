@@ -198,6 +198,7 @@ module _ (t u : Table Barrier) (m : Move) (w : Within) (laws : IsBarrier t.machi
         },
       ),
       refl,
+      λ e. absurd (omega (arith, e)),
     );
     led = λ e leads. absurd (never_more x.lock x.words_then e);
     clear = λ h. absurd (cc);
@@ -237,6 +238,7 @@ module _ (t u : Table Barrier) (m : Move) (w : Within) (laws : IsBarrier t.machi
     judged = (
       (refusal.Memory, refl, record { input = x.finds; needed = λ h. (let P : Wait → Type 0 = HasToWait old in subst P (sym (x.before refl)) (numbers.next_follows words.size words.progress x.sure)); unlisted = both_lists x.link x.owner; unchanged = as_before x.lock x.words_then x.entries_then (uncounted) (x.before refl) x.after }),
       refl,
+      λ e. absurd (omega (arith, e)),
     );
     led = λ e leads. absurd (never_more x.lock x.words_then e);
     clear = λ h. absurd (cc);
@@ -376,6 +378,7 @@ module _ (t u : Table Barrier) (m : Move) (w : Within) (laws : IsBarrier t.machi
     judged = (
       (refusal.Memory, refl, record { input = x.finds; needed = λ h. (let P : Wait → Type 0 = HasToWait old in subst P (sym (x.before refl)) (numbers.is_unfinished words.size mine words.progress (x.follower refl) laws.sound.unfinished x.sure)); unlisted = both_lists x.link x.owner; unchanged = as_before x.lock x.words_then x.entries_then (counted num) (x.before refl) x.after }),
       refl,
+      λ e. absurd (omega (arith, e)),
     );
     led = λ e leads. absurd (never_more x.lock x.words_then e);
     clear = λ h. absurd (cc);

@@ -25,6 +25,9 @@ use Rattle.barrier_world.proofs.step.Turns as turns
 use Rattle.barrier_world.proofs.step.Locks.{got_holds, refused_free, undecided_free, cancelling_free}
 use Rattle.barrier_world.proofs.step.OwnRows as own
 use Rattle.barrier_world.proofs.step.LockRows as locks
+use Rattle.std.proofs.Common.{◌∙◌}
+use Rattle.lock_world.specs.Standings.{inside}
+use Rattle.barrier_machine.specs.Waits.{refused_by}
 
 module _ (t u : Table Barrier) (m : Move) (w : Within) (laws : IsBarrier t.machine) where
   abbrev c : Course
@@ -55,7 +58,7 @@ module _ (t u : Table Barrier) (m : Move) (w : Within) (laws : IsBarrier t.machi
   row (EnterLock a) _ x = absurd x.lock
   row (WaitLock a) (found.Lock s) x = locks.taking t u m w laws x.words_then x.entries_then a true None s x.lock.legal (inl refl) x.lock.leads (λ e. absurd (none_some e)) (λ r e. absurd (none_some e)) (λ e. waiting_free c x.link) x.owner (λ r h. absurd (x.lock.unrefused r h)) x.after
   row (WaitLock a) _ x = absurd x.lock
-  row (TakeLock a) (found.Lock s) x = locks.taking t u m w laws x.words_then x.entries_then a false (decision c) s x.lock.legal (taking_decided c x.link) (x.lock.leads.takes x.link) (got_holds c) (refused_free c) (undecided_free c x.link) x.owner (λ r h. (refl, x.before refl)) x.after
+  row (TakeLock a) (found.Lock s) x = locks.taking t u m w laws x.words_then x.entries_then a false (decision c) s x.lock.legal (taking_decided c x.link) (x.lock.leads.takes x.link) (got_holds c) (refused_free c) (undecided_free c x.link) x.owner (λ r h. (refl, x.before refl, λ none. (w, x.going refl ∙ ap (λ o. inside w (refused_by o)) none))) x.after
   row (TakeLock a) _ x = absurd x.lock
   row Look found.MustWait x = own.look_waits t u m w laws x
   row Look found.Leads x = own.look_leads t u m w laws x

@@ -42,6 +42,7 @@ use Rattle.barrier_world.specs.Changes.{Change, lock_after, arrivals_after, lock
 use Rattle.barrier_world.specs.Legal.{IsAllowed, IsCounted, IsCause, Carried}
 use Rattle.barrier_world.proofs.step.Here.{may_begin_at, changes_wait, only_drops}
 use Rattle.barrier_world.proofs.step.Locks.{wait_by}
+use Rattle.mutex_machine.specs.Course.{is_counting}
 
 -- what a call is decided on after this
 abbrev pub said : Next → Course → Option Answer
@@ -103,7 +104,7 @@ module _ (t u : Table Barrier) (m : Move) (w : Within) where
   abbrev pub Reason : Bool → Answer → Type 0
   Reason starts answer.Pending = (told_in Lock new p ≡ Some Waiting) ⊎ (IsCounted new p × (told_in Generation new p ≡ Some Waiting))
   Reason starts (answer.Ready g) = Carried g old m new
-  Reason starts (answer.Refused n) = ((r : Refusal) × (n ≡ number_of r) × IsCause old m new r) × (starts ≡ false)
+  Reason starts (answer.Refused n) = ((r : Refusal) × (n ≡ number_of r) × IsCause old m new r) × (starts ≡ false) × (n ≡ number_of refusal.Starved → is_counting c ≡ true)
   Reason starts _ = ⊥
 
   -- what was decided is kept, and what is decided now has its reason

@@ -78,7 +78,7 @@ pub record Did (t : Table Barrier) (p : ℕ) (what : What) (from : Place) (a : A
   pub answer : a ≡ answer_by (next_of from found)
   pub stages : u.stages ≡ set t.stages p (stage_after rest.Finished within a)
 
-acts_so : (i : Inputs) (p : ℕ) (from : Place) (f : Found) (x y : Barrier) → Acts i p from f x y → p < length x.positions → length x.arrivals ≡ length x.positions → Step i p from f x y
+pub acts_so : (i : Inputs) (p : ℕ) (from : Place) (f : Found) (x y : Barrier) → Acts i p from f x y → p < length x.positions → length x.arrivals ≡ length x.positions → Step i p from f x y
 acts_so i p from f x y k known many = record {
   finds = k.finds;
   words = k.words;

@@ -125,7 +125,7 @@ module _ (p : ℕ) (b : Aim) (t u : Table Barrier) (a : Answer) where
     comes (ending.RefuseMemory c) is at k = absurd k
 
     pub takes_seen : Came p b s a (position_at y.positions p) y → Takes old p (wait_for b number) a new
-    takes_seen k = record { comes_to = comes k.to k.answer k.place k.comes; released = k.free }
+    takes_seen k = record { comes_to = comes k.to k.answer k.place k.comes; released = k.free; told = k.woken }
 
   -- ---- it gave way
 

@@ -40,27 +40,17 @@ use Rattle.barrier_world.specs.Steps.{Stands, Steps}
 use Rattle.barrier_world.proofs.whole.Alone.{known_calls}
 use Rattle.barrier_world.proofs.whole.Handing.{hands_on}
 use Rattle.barrier_world.proofs.whole.Polls.{nobody_starved, first, notified, solo}
+use Rattle.std.proofs.Common.{Bool, Option, None, refl}
+use Rattle.std.proofs.lemmas.Bool.{true≢false}
+use Rattle.lock_world.specs.declared.moves.Move.{Move}
+use Rattle.lock_world.specs.Standings.{Standing, outside, inside, forgotten, is_outside, is_decided, is_possible, decision, call_in}
+use Rattle.lock_frame.proofs.Endings.{ends_outside as outside_at_end}
+use Rattle.barrier_machine.specs.Machine.{knows}
+use Rattle.barrier_world.specs.State.{standing_of}
+use Rattle.barrier_world.proofs.whole.Ring.{counts_none, begins_uncounted, tells_nobody_at_end}
+use Rattle.barrier_world.proofs.whole.Patient.{starved_refusal, Undone, decided_inside, midway, never, goes_on}
 
 -- ---- nobody is made starved that hasn't waited for too long, while nobody is
-
--- an action counts nobody
-counts_none : (i : Inputs) (p : ℕ) (action : Action) (f : Found) (m n : Mutex) → i.starving ≡ false → OnLock i p action f m n → starved m ≡ 0 → is_counting (course_at m.courses p) ≡ false → (starved n ≡ 0) × (is_counting (course_at n.courses p) ≡ false)
-counts_none i p (act.Begin c) (found.Lock s) m n patient o none not_next = o.patient patient none not_next
-counts_none i p (act.Begin c) _ m n patient o none not_next = absurd o
-counts_none i p act.Go (found.Lock s) m n patient o none not_next = o.patient patient none not_next
-counts_none i p act.Go _ m n patient o none not_next = absurd o
-counts_none i p _ f m n patient o none not_next = let P : Mutex → Type 0 = λ l. (starved l ≡ 0) × (is_counting (course_at l.courses p) ≡ false) in subst P (sym o) (none, not_next)
-
--- whoever begins a call isn't about to be counted
-begins_uncounted : (c : Call) (x : Position) (from : Place) (k : Course) → start_of c x ≡ Some from → fits_lock (in_lock x) k ≡ true → is_counting k ≡ false
-begins_uncounted c Out from k e fits = out_uncounted k fits
-begins_uncounted c (Made a) from k e fits = out_uncounted k fits
-begins_uncounted c (Locking a) from k e fits = waiting_uncounted k fits
-begins_uncounted c Waiting from k e fits = out_uncounted k fits
-begins_uncounted call.Wait (At x) from k e fits = absurd (none_some e)
-begins_uncounted call.Poll (At x) from k e fits = absurd (none_some e)
-begins_uncounted call.Drop (At x) from k e fits = absurd (none_some e)
-begins_uncounted _ (At x) from k e fits = absurd (none_some e)
 
 module _ (p : ℕ) (i : Inputs) (patient : i.starving ≡ false) where
   abbrev Unstarved : Table Barrier → Type 0
@@ -92,6 +82,57 @@ module _ (p : ℕ) (i : Inputs) (patient : i.starving ≡ false) where
   first_unstarved : (c : Call) (x : World) → Unstarved x.behind → (a : Answer) (v : World) → Steps x (beginning p c i) a v → Left a v
   first_unstarved c x none a v s = steps_unstarved x (Begin c i) a v patient none (λ w k. begins_uncounted c (position_at x.behind.machine.positions p) k.acts.from (course_at x.behind.machine.lock.courses p) k.acts.starts (s.did.stood.barrier.links p)) s
 
+-- ---- and refuses nobody for too many starved parties
+
+outside_says : (s : Standing) (a : Answer) → is_outside s ≡ true → decision a s ≡ Some a
+outside_says (outside r) a h = refl
+outside_says forgotten a h = refl
+outside_says (inside u d) a h = absurd (cc h)
+
+inside_begins : (knows : Call → Bool) (u : Within) (d : Option Answer) (s : Standing) (c : Call) (i : Inputs) → s ≡ inside u d → call_in knows s (Begin c i) ≡ None
+inside_begins knows u d s c i e = ap (λ z. call_in knows z (Begin c i)) e
+
+ends_outside : (x : World) (m : Move) (a : Answer) (v : World) → Steps x m a v → a ≢ answer.Stepped → is_possible a ≡ true → is_outside (standing_of v m.party) ≡ true
+ends_outside x m a v s = outside_at_end standing_of (λ w p. knows) rest.Finished x m a v s.legal.possible s.legal.ends_properly
+
+module _ (p : ℕ) (i : Inputs) (patient : i.starving ≡ false) where
+  abbrev Unrefused : Answer → World → Type 0
+  Unrefused b y = b ≡ starved_refusal → ⊥
+
+  abbrev Goes : World → Type 0
+  Goes y = Unstarving p i patient y.behind × Undone p y
+
+  said : (x v : World) (m : Move) (a : Answer) → m.party ≡ p → Steps x m a v → (decision a (standing_of v p) ≡ Some starved_refusal → ⊥) → a ≢ answer.Stepped → Unrefused a v
+  said x v m a is s f ends e =
+      let out : is_outside (standing_of v p) ≡ true = subst (λ (q : ℕ). is_outside (standing_of v q) ≡ true) is (ends_outside x m a v s ends (ap is_possible e)) in
+      f (outside_says (standing_of v p) a out ∙ ap Some e)
+
+  on_patient : (x : World) (a : Answer) (v : World) → Goes x → Steps x (going_on p i) a v → Onward Goes Unrefused a v
+  on_patient x a v g s =
+      let o = goes_unstarved p i patient x a v g.0 s in
+      let n = never x v (going_on p i) a s g.0.1 g.1 in
+      record { going = λ e. (o.going e, goes_on a v p n); ended = λ ends. said x v (going_on p i) a refl s n ends }
+
+  -- nor does the first step of a call
+  first_never : (c : Call) (x : World) (a : Answer) (v : World) → Steps x (beginning p c i) a v → is_decided (standing_of x p) ≡ false → decision a (standing_of v p) ≡ Some starved_refusal → ⊥
+  first_never c x a v s fresh d =
+      let at = midway x v (beginning p c i) a s (fresh, d) in
+      let never_can : a ≡ answer.NotPossible = s.legal.possible.exactly.1 (inside_begins knows at.0 None (standing_of x p) c i at.1) in
+      let stays : standing_of v p ≡ inside at.0 None = ap (λ z. standing_of z p) (s.legal.possible.unchanged never_can) ∙ at.1 in
+      none_some (sym (ap (decision a) stays) ∙ d)
+
+  first_patient : (c : Call) (x : World) → starved x.behind.machine.lock ≡ 0 → (a : Answer) (v : World) → Steps x (beginning p c i) a v → Onward Goes Unrefused a v
+  first_patient c x none a v s = by_decided (is_decided (standing_of x p)) refl where
+    by_decided : (b : Bool) → is_decided (standing_of x p) ≡ b → Onward Goes Unrefused a v
+    by_decided true is =
+        let at = decided_inside (standing_of x p) is in
+        let never_can : a ≡ answer.NotPossible = s.legal.possible.exactly.1 (inside_begins knows at.0 (Some at.1) (standing_of x p) c i at.2) in
+        record { going = λ e. (let z = sym never_can ∙ e in absurd (cc z)); ended = λ ends e. (let z = sym never_can ∙ e in cc z) }
+    by_decided false is =
+        let o = first_unstarved p i patient c x none a v s in
+        let n = first_never c x a v s is in
+        record { going = λ e. (o.going e, goes_on a v p n); ended = λ ends. said x v (beginning p c i) a refl s n ends }
+
 not_counted : (w : World) (p : ℕ) → Stands w → starved w.behind.machine.lock ≡ 0 → is_starved w.lock p ≡ false
 not_counted w p s none = ap (λ x. is_starved x.lock p) s.seen ∙ sees.none_starved w.behind.machine.lock.courses p none
 
@@ -103,6 +144,11 @@ module _ (known : ℕ → Account) (w : World) (p : ℕ) (c : Call) (i : Inputs)
       let zero : starved w.behind.machine.lock ≡ 0 = nobody_starved w.behind (subst (λ x. how_many x.lock.starved ≡ 0) stood.seen none) in
       not_counted v p stands (along Steps accounts_after HoldsWell p i (λ y. Unstarving p i patient y.behind) (λ b y. Unstarved p i patient y.behind) (goes_unstarved p i patient) known n w (beginning p c i) a v (first_unstarved p i patient c w zero) ended runs)
 
+  unrefused : i.starving ≡ false → how_many w.lock.starved ≡ 0 → a ≢ starved_refusal
+  unrefused patient none =
+      let zero : starved w.behind.machine.lock ≡ 0 = nobody_starved w.behind (subst (λ x. how_many x.lock.starved ≡ 0) stood.seen none) in
+      along Steps accounts_after HoldsWell p i (Goes p i patient) (Unrefused p i patient) (on_patient p i patient) known n w (beginning p c i) a v (first_patient p i patient c w zero) ended runs
+
   as_poll : c ≡ call.Poll → Runs known w (moves_of p call.Poll i n) (answers_of n a) v
   as_poll is = let R : Call → Type 0 = λ x. Runs known w (moves_of p x i n) (answers_of n a) v in subst R is runs
 
@@ -112,6 +158,8 @@ module _ (known : ℕ → Account) (w : World) (p : ℕ) (c : Call) (i : Inputs)
     notified = λ is told free. notified known w p i n a v stood stands ended (as_poll is) told free;
     solo = λ is called free. solo known w p i n a v stood stands ended (as_poll is) called free;
     unstarved = unstarved;
+    patient = unrefused;
+    tells_nobody = λ patient none. tells_nobody_at_end known w p c i n a v stood stands runs ended patient none;
     hands_on = λ is. hands_on known w p i n a v stood stands ended (as_poll is);
   }
 

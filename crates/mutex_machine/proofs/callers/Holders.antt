@@ -40,6 +40,9 @@ starved_at = rosters.on_at counted out counted_bit refl
 pub none_starved : (ps : List Course) (p : ℕ) → sum_by counted ps ≡ 0 → get_or (map is_counted ps) p false ≡ false
 none_starved = rosters.none_on counted out counted_bit refl
 
+pub none_counted : (ps : List Course) (p : ℕ) → sum_by counted ps ≡ 0 → counted (course_at ps p) ≡ 0
+none_counted = rosters.none_there counted out counted_bit refl
+
 pub how_many_counted : (ps : List Course) → how_many (map is_counted ps) ≡ sum_by counted ps
 how_many_counted = rosters.how_many_on counted out counted_bit refl
 

@@ -42,7 +42,7 @@ module _ {A : Type 0} (has : A → ℕ) (none : A) (bits : (x : A) → bit (has 
   on_at (x ∷ xs) (suc p) = on_at xs p
 
   -- where it is said of none, it isn't said of this one
-  none_there : (xs : List A) (p : ℕ) → sum_by has xs ≡ 0 → has (at xs p) ≡ 0
+  pub none_there : (xs : List A) (p : ℕ) → sum_by has xs ≡ 0 → has (at xs p) ≡ 0
   none_there [] p e = nothing
   none_there (x ∷ xs) zero e = omega (arith, sum_by-cons has x xs, e)
   none_there (x ∷ xs) (suc p) e = none_there xs p (omega (arith, sum_by-cons has x xs, e))

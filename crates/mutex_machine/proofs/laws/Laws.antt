@@ -16,6 +16,10 @@ use Rattle.mutex_program.specs.Words.{OnWord}
 use Rattle.mutex_program.specs.Seats.{OnList}
 use Rattle.mutex_machine.specs.Machine.{Lock, IsLock, place_at}
 use Rattle.mutex_machine.specs.Acts.{Finds, IsAtRest, IsMutex}
+use Rattle.std.proofs.Common.{◌<◌, ◌⊎◌, inl, inr}
+use Rattle.lock_world.proofs.Owing.{marked_or_owed}
+use Rattle.mutex_machine.specs.Courses.{is_waiting, is_due}
+use Rattle.lock_program.specs.declared.mutex.Place.TheVariants.{Retry, PassOn, JoinStarved, LookAlone, PassOnListed, Seize, RefuseUncount, RefuseNotifyMemory, RefuseNotifyStarved, ReleaseNotify}
 
 abbrev roles : Roles Place
 roles = record { listed = listed; waits = waits; owes = owes }
@@ -45,9 +49,42 @@ resting_at [] q h = refl
 resting_at (x ∷ xs) zero h = h.0
 resting_at (x ∷ xs) (suc q) h = resting_at xs q h.1
 
+-- who waits has looked since it joined, and who owes is due
+waits_so : (x : Place) → is_waiting x ≡ true → 0 < waits x
+waits_so Ask h = omega arith
+waits_so AskStarved h = omega arith
+waits_so _ h = absurd (cc h)
+
+in_places : (ps : List Place) (p : ℕ) → 0 < waits (place_at ps p) → p < length ps
+in_places [] p h = absurd (omega arith)
+in_places (x ∷ xs) zero h = omega arith
+in_places (x ∷ xs) (suc p) h = let more = in_places xs p h in omega (arith, more)
+
+owes_due : (x : Place) → 0 < owes x → is_due x ≡ true
+owes_due Retry h = refl
+owes_due PassOn h = refl
+owes_due JoinStarved h = refl
+owes_due LookAlone h = refl
+owes_due PassOnListed h = refl
+owes_due Seize h = refl
+owes_due RefuseUncount h = refl
+owes_due RefuseNotifyMemory h = refl
+owes_due RefuseNotifyStarved h = refl
+owes_due ReleaseNotify h = refl
+owes_due _ h = absurd (omega arith)
+
 module _ (w : Word) (places : List Place) (list : Queue) where
   abbrev the_lock : Lock
   the_lock = record { places = places; entries = list.entries; limit = w.limit }
+
+  told_or_due : IsLock w places list → bit w.held ≡ 0 → (p : ℕ) → is_waiting (place_at places p) ≡ true → (0 < marked_count list.entries) ⊎ ((q : ℕ) × (is_due (place_at places q) ≡ true))
+  told_or_due lock free p waiting =
+      let some : 0 < waits (place_at places p) = waits_so (place_at places p) waiting in
+      let there : p < length places = in_places places p some in
+      elim (marked_or_owed Out (bit w.held ≡ 0) waits owes places (marked_count list.entries) p lock.sound.owed free there some) [
+        | inl marked ↦ inl marked
+        | inr one ↦ inr (one.0, owes_due (place_at places one.0) one.2)
+      ]
 
   pub is_mutex : IsLock w places list → IsMarkedFirst list.entries → IsMutex the_lock
   is_mutex lock ordered =
@@ -56,6 +93,7 @@ module _ (w : Word) (places : List Place) (list : Queue) where
         few_starved = omega (arith, lock.sound.starved, lock.sound.limited);
         owners = lock.owners;
         in_order = ordered;
+        told_or_due = λ free p waiting. told_or_due lock (omega (arith, free, lock.sound.held)) p waiting;
         wakes = λ rest free some. paid_at_rest roles (bit w.held ≡ 0) places (length list.entries) (marked_count list.entries) (all_rest places rest) lock.sound.in_list lock.sound.owed (omega (arith, lock.sound.held)) some;
         starved_listed = λ rest p counts. lock.owners p ∙ starved_rests (place_at places p) (resting_at places p rest) counts;
       }

@@ -3,7 +3,8 @@ use Rattle.std.proofs.Common.{◌≡◌, ℕ, suc, ◌<◌, ◌⊎◌, inl, inr,
 use Rattle.lock_event.specs.declared.event.Entry.{Entry}
 use Rattle.lock_queue.specs.Parties.{entries_of}
 use Rattle.lock_program.specs.declared.refusal.Refusal.TheVariants.{Memory, Starved}
-use Rattle.lock_world.specs.Steps.{Deed, nothing, changes, does}
+use Rattle.lock_world.specs.Steps.{Deed, nothing, changes, does, joins, asks, leaves, notifies, notifies_additionally}
+use Rattle.lock_event.specs.Lists.{marked_count}
 use Rattle.lock_program.specs.declared.mutex.Place.{Place}
 use Rattle.lock_program.specs.declared.mutex.Place.TheVariants as place
 use Rattle.lock_program.specs.declared.mutex.LockCall.{LockCall}
@@ -23,7 +24,7 @@ use Rattle.mutex_machine.specs.Legal as legal
 use Rattle.mutex_machine.specs.Ranks as ranks
 use Rattle.mutex_machine.specs.Machine.{Lock, SameRoles, place_at}
 use Rattle.mutex_machine.specs.Deeds.{Change, takes, releases, starves, recovers, ListName}
-use Rattle.mutex_machine.specs.Course.{Course, Begins, GoesOn, may_begin, holds, counted, decision, is_waiting, is_counting, is_called, is_told}
+use Rattle.mutex_machine.specs.Course.{Course, Begins, GoesOn, may_begin, holds, counted, decision, is_waiting, is_counting, is_called, is_told, is_due, may_tell, is_releasing}
 use Rattle.mutex_machine.specs.Behind.{reveal, conceal, revealed}
 use Rattle.mutex_machine.specs.Mutex.{Mutex, course_at, holders, starved, left_after, IsAtRest, TakenFairly, IsMutex}
 use Rattle.mutex_machine.specs.Conduct.{decided_then, IsUnrefused, IsReason, IsAllowed, IsLegal, TakesAtOnce, HeedsClock, CountsNobody, HandsOn, BeginsToHandOn}
@@ -33,10 +34,11 @@ use Rattle.mutex_machine.proofs.laws.Kept.{after}
 use Rattle.mutex_machine.proofs.legal.Legal.{begins_fresh}
 use Rattle.mutex_machine.proofs.legal.Promised.{HandsOn as HandsOnThere, begins_uncounted, begins_heedless, none_counted, told_on, begins_told}
 use Rattle.mutex_machine.proofs.laws.Starts.{start_same}
-use Rattle.mutex_machine.proofs.legal.Sights.{begins_so, goes_so, may_start, holds_same, counted_same, listed_same, waiting_same, told_same, counting_same, decision_same, rests_there, rests_here, looks, at_seen, length_seen, holders_seen, starved_seen, holder_seen, roster_seen, steps_seen, some_left}
+use Rattle.mutex_machine.proofs.legal.Sights.{begins_so, goes_so, may_start, holds_same, counted_same, listed_same, waiting_same, told_same, counting_same, due_same, telling_same, releasing_same, decision_same, rests_there, rests_here, looks, at_seen, length_seen, holders_seen, starved_seen, holder_seen, roster_seen, steps_seen, some_left}
+use Rattle.mutex_machine.proofs.legal.Asked.{asks_here}
 
 pub same_place : (x : Place) → SameRoles x x
-same_place x = record { holding = refl; starving = refl; standing = refl; waiting = refl; owing = refl }
+same_place x = record { holding = refl; starving = refl; standing = refl; waiting = refl; owing = refl; counting = refl; telling = refl; releasing = refl }
 
 decided_same : (n : Next) (x : Place) → is_kept x ≡ true → decided_then (step_of n) (course_of x) ≡ legal.decided_then n x
 decided_same (next.Do a q) x k = decision_same x k
@@ -72,12 +74,19 @@ module _ (l : Lock) where
   rest_all [] h = tt
   rest_all (x ∷ xs) h = (rests_here x h.0, rest_all xs h.1)
 
+  due_seen : (q : ℕ) → is_due (course_at (seen l).courses q) ≡ way.is_due (place_at l.places q)
+  due_seen q = ap is_due (here q) ∙ due_same (place_at l.places q)
+
+  waiting_seen : (q : ℕ) → is_waiting (course_at (seen l).courses q) ≡ way.is_waiting (place_at l.places q)
+  waiting_seen q = ap is_waiting (here q) ∙ waiting_same (place_at l.places q)
+
   pub is_mutex : AreKept l.places → acts.IsMutex l → IsMutex (seen l)
   is_mutex kept m = record {
     one_holder = rw (holders_seen l.places) m.one_holder;
     few_starved = rw (starved_seen l.places) m.few_starved;
     owners = λ p. m.owners p ∙ (sym (listed_same (place_at l.places p)) ∙ ap (λ c. Rattle.mutex_machine.specs.Course.listed c) (sym (here p)));
     in_order = m.in_order;
+    told_or_due = λ free p waiting. elim (m.told_or_due (sym (holders_seen l.places) ∙ free) p (sym (waiting_seen p) ∙ waiting)) as (λ _. (0 < marked_count l.entries) ⊎ ((q : ℕ) × (is_due (course_at (seen l).courses q) ≡ true))) [ inl some ↦ inl some | inr one ↦ inr (one.0, due_seen one.0 ∙ one.1) ];
     wakes = λ rest free some. m.wakes (all_rest l.places kept rest) (sym (holders_seen l.places) ∙ free) some;
     starved_listed = λ rest p own. m.starved_listed (all_rest l.places kept rest) p (sym (counted_here p) ∙ own);
     some_left = λ p. rw (steps_seen l p) (some_left (place_at l.places p) (ranks.is_own_marked l p) (ranks.is_open l));
@@ -90,6 +99,7 @@ module _ (l : Lock) where
     few_starved = rw (← starved_seen l.places) m.few_starved;
     owners = λ p. m.owners p ∙ (ap (λ c. Rattle.mutex_machine.specs.Course.listed c) (here p) ∙ listed_same (place_at l.places p));
     in_order = m.in_order;
+    told_or_due = λ free p waiting. elim (m.told_or_due (holders_seen l.places ∙ free) p (waiting_seen p ∙ waiting)) as (λ _. (0 < marked_count l.entries) ⊎ ((q : ℕ) × (way.is_due (place_at l.places q) ≡ true))) [ inl some ↦ inl some | inr one ↦ inr (one.0, sym (due_seen one.0) ∙ one.1) ];
     wakes = λ rest free some. m.wakes (rest_all l.places rest) (holders_seen l.places ∙ free) some;
     starved_listed = λ rest p own. m.starved_listed (rest_all l.places rest) p (counted_here p ∙ own);
   }
@@ -100,7 +110,11 @@ module _ (l : Lock) where
   allowed p (changes starves) h = (counted_here p ∙ h.0, rw (starved_seen l.places) h.1)
   allowed p (changes recovers) h = counted_here p ∙ h
   allowed p nothing h = tt
-  allowed p (does list f) h = tt
+  allowed p (does list (notifies n)) h = (h.0, ap may_tell (here p) ∙ telling_same (place_at l.places p) h.1)
+  allowed p (does list (notifies_additionally n)) h = h
+  allowed p (does list joins) h = tt
+  allowed p (does list asks) h = tt
+  allowed p (does list leaves) h = tt
 
 module _ (l k : Lock) where
   reason : (memory : Bool) (p : ℕ) (e : End) → legal.IsReason memory p l k e → IsReason memory p (seen l) (seen k) e
@@ -109,7 +123,7 @@ module _ (l k : Lock) where
   reason memory p NotFree h = elim h as (λ _. (holders (seen l) ≡ 1) ⊎ (0 < starved (seen l))) [ inl held ↦ inl (holders_seen l.places ∙ held) | inr some ↦ inr (rw (starved_seen l.places) some) ]
   reason memory p GivenBack h = tt
   reason memory p (Refused Memory) h = (h.0, h.1, h.2, holder_seen 0 k.places ∙ (h.3 ∙ sym (holder_seen 0 l.places)), roster_seen k.places ∙ (h.4 ∙ sym (roster_seen l.places)))
-  reason memory p (Refused Starved) h = starved_seen l.places ∙ h.0
+  reason memory p (Refused Starved) h = (starved_seen l.places ∙ h.0, counted_here l p ∙ h.1, h.2, holder_seen 0 k.places ∙ (h.3 ∙ sym (holder_seen 0 l.places)), roster_seen k.places ∙ (h.4 ∙ sym (roster_seen l.places)), ap is_counting (at_seen l.places p) ∙ (counting_same (place_at l.places p) ∙ h.5))
   reason memory p _ h = absurd h
 
   module _ (n : Next) (p : ℕ) (kept : AreKept k.places) where
@@ -130,7 +144,8 @@ module _ (l k : Lock) where
       kept = λ e d. let b = g.kept e d in (then ∙ b.0, b.1);
       holds_on = g.holds_on;
       keeps_lock = g.keeps_lock;
-      refused_idly = λ d t. g.refused_idly d (sym then ∙ t);
+      refused_idly = λ r d t. g.refused_idly r d (sym then ∙ t);
+      releases = λ is. g.releases (sym (releasing_same (place_at l.places p)) ∙ (sym (ap is_releasing (at_seen l.places p)) ∙ is));
       reason = λ e d t. reason memory p e (g.reason e d (sym then ∙ t));
     }
 
@@ -209,6 +224,7 @@ module _ (l k : Lock) where
         (λ free. holder_seen 0 k.places ∙ b.1 (sym (holders_seen l.places) ∙ free.0, sym (starved_seen l.places) ∙ free.1)),
       );
       ends = λ fresh free none. ap step_of (did.next_is ∙ got from did.found did.finds (begins_fresh c (place_at l.places p) from (entries_of p l.entries) own starts fresh) (sym (holders_seen l.places) ∙ free) (sym (starved_seen l.places) ∙ none));
+      listed = λ polls some. asks_here l k memory p from n did c starts polls (omega (arith, own, some));
     }
 
     polled : start_of call.Poll (place_at l.places p) ≡ Some from → is_waiting (course_at (seen l).courses p) ≡ true → HandsOn (step_of n) (course_at (seen k).courses p) k.entries

@@ -37,6 +37,10 @@ use Rattle.mutex_machine.specs.Deeds.{Change, ListName, takes, releases, starves
 use Rattle.mutex_machine.proofs.laws.Kept.{after}
 use Rattle.mutex_machine.proofs.legal.Rows.{Row, row, deed_of, decision_by, Holds, Starves, Finding, Room, HoldsOn, Reason, Judged}
 use Rattle.mutex_machine.proofs.laws.Seen as sees
+use Rattle.lock_program.specs.declared.refusal.Refusal.{Refusal}
+use Rattle.lock_program.specs.declared.mutex.Place.TheVariants as place
+use Rattle.mutex_machine.specs.Courses.{is_releasing}
+use Rattle.mutex_machine.specs.Deeds.{for_the_lock}
 
 -- what an action does to the list is what its deed does
 pub list_is : (memory : Bool) (lock : Lock) (p : ℕ) (a : Action) (f : Found) (l m : List (Entry ℕ)) → Finds memory a f lock → OnParties p a f l m → m ≡ entries_after p (deed_of a f) l
@@ -194,7 +198,7 @@ module _ (memory : Bool) (p : ℕ) (from : Place) (f : Found) (l : Lock) (es : L
     allowed_so (changes releases) h s i = is_there (sym holds_from ∙ h.0)
     allowed_so (changes starves) h s i = (sym (sees.counted_bit here) ∙ ap bit (sym counts_from ∙ s.0), i)
     allowed_so (changes recovers) h s i = counts_there (sym counts_from ∙ s.0)
-    allowed_so (does list (notifies n)) h s i = i
+    allowed_so (does list (notifies n)) h s i = (i.0, sym k.same.telling ∙ i.1)
     allowed_so (does list (notifies_additionally n)) h s i = i
     allowed_so (does list g) h s i = tt
 
@@ -219,8 +223,18 @@ module _ (memory : Bool) (p : ℕ) (from : Place) (f : Found) (l : Lock) (es : L
     reason_is NotFree y = y
     reason_is GivenBack y = tt
     reason_is (Refused refusal.Memory) y = let same = unchanged y.2 in (y.0, stands_listed ∙ y.1, same.0, same.1, same.2)
-    reason_is (Refused refusal.Starved) y = let same = unchanged y.2 in (y.0, sym k.same.starving ∙ y.1, same.0, same.1, same.2)
+    reason_is (Refused refusal.Starved) y = let same = unchanged y.2 in (y.0, sym k.same.starving ∙ y.1, same.0, same.1, same.2, sym k.same.counting ∙ y.3)
     reason_is _ y = absurd y
+
+    idle_by : (why : Refusal) → Reason memory l from f (Refused why) → deed ≡ nothing
+    idle_by refusal.Memory y = y.2
+    idle_by refusal.Starved y = y.2
+    idle_by _ y = absurd y
+
+    released : (x : Place) (g : Found) → Finds memory (action_of x) g l → is_releasing x ≡ true → deed_of (action_of x) g ≡ does for_the_lock (notifies 1)
+    released place.ReleaseNotify Done e h = refl
+    released place.ReleaseNotify _ e h = absurd e
+    released _ g e h = absurd (cc h)
 
     decided : decided_then (next_of from f) (place_at new.places p) ≡ decision_by (next_of from f)
     decided = ap (decided_then (next_of from f)) lands ∙ then_same from f
@@ -239,7 +253,8 @@ module _ (memory : Bool) (p : ℕ) (from : Place) (f : Found) (l : Lock) (es : L
       kept = λ e is. let j = keep memory l from f (decision from) (decision_by (next_of from f)) e r.judged is in (decided ∙ j.0, j.1);
       holds_on = λ none. held_on (decision from) deed r.holds_on none;
       keeps_lock = λ got. kept_lock (decision from) deed r.holds_on got;
-      refused_idly = λ none is. (judge memory l from f (decision from) (decision_by (next_of from f)) (Refused refusal.Memory) r.judged none (sym decided ∙ is)).2;
+      refused_idly = λ why none is. idle_by why (judge memory l from f (decision from) (decision_by (next_of from f)) (Refused why) r.judged none (sym decided ∙ is));
+      releases = λ is. released from f k.finds (k.same.releasing ∙ is);
       reason = λ e none is. reason_is e (judge memory l from f (decision from) (decision_by (next_of from f)) e r.judged none (sym decided ∙ is));
     }
 

@@ -20,6 +20,7 @@ use Rattle.mutex_machine.specs.State.{is_holder, is_counted}
 use Rattle.mutex_machine.specs.Legal.{decision}
 use Rattle.mutex_machine.specs.Deeds.{Change, ListName, takes, releases, starves, recovers, for_the_lock, gives_back, gives_up, is_release}
 use Rattle.mutex_machine.proofs.laws.Kept.{after}
+use Rattle.mutex_machine.specs.Courses.{is_counting, may_tell}
 
 -- what an action changes that found this
 abbrev pub deed_of : Action → Found → Deed Change ListName
@@ -50,7 +51,7 @@ Starves _ b c = c ≡ b
 abbrev pub Finding : Deed Change ListName → Lock → Place → Type 0
 Finding (changes takes) l from = (holders l ≡ 0) × ((starved l ≡ 0) ⊎ (counted from ≡ 1))
 Finding (changes starves) l from = starved l < l.limit
-Finding (does list (notifies n)) l from = n ≡ 1
+Finding (does list (notifies n)) l from = (n ≡ 1) × (may_tell from ≡ true)
 Finding (does list (notifies_additionally n)) l from = ⊥
 Finding _ l from = Unit {0}
 
@@ -65,7 +66,7 @@ Reason memory l from f Pending = (action_of from ≡ act.Ask) × (f ≡ No) × (
 Reason memory l from f NotFree = (holders l ≡ 1) ⊎ (0 < starved l)
 Reason memory l from f GivenBack = Unit {0}
 Reason memory l from f (Refused Memory) = (memory ≡ false) × (listed from ≡ 0) × (deed_of (action_of from) f ≡ nothing)
-Reason memory l from f (Refused Starved) = (starved l ≡ l.limit) × (counted from ≡ 0) × (deed_of (action_of from) f ≡ nothing)
+Reason memory l from f (Refused Starved) = (starved l ≡ l.limit) × (counted from ≡ 0) × (deed_of (action_of from) f ≡ nothing) × (is_counting from ≡ true)
 Reason memory l from f _ = ⊥
 
 abbrev pub Judged : Bool → Lock → Place → Found → Option End → Option End → Type 0
@@ -132,16 +133,16 @@ module _ (memory : Bool) (l : Lock) where
   row Retry (Held false) e = record { holds = refl; starves = refl; finding = tt; judged = tt; room = tt; holds_on = refl }
   row Retry SomeStarved e = record { holds = refl; starves = refl; finding = tt; judged = tt; room = tt; holds_on = refl }
   row Retry _ e = absurd e
-  row PassOn Done e = record { holds = refl; starves = refl; finding = refl; judged = tt; room = tt; holds_on = refl }
+  row PassOn Done e = record { holds = refl; starves = refl; finding = (refl, refl); judged = tt; room = tt; holds_on = refl }
   row PassOn _ e = absurd e
   row (Count true told) Done e = record { holds = refl; starves = (refl, refl); finding = e; judged = tt; room = tt; holds_on = refl }
-  row (Count true told) AtLimit e = record { holds = refl; starves = refl; finding = tt; judged = (e, refl, refl); room = tt; holds_on = refl }
+  row (Count true told) AtLimit e = record { holds = refl; starves = refl; finding = tt; judged = (e, refl, refl, refl); room = tt; holds_on = refl }
   row (Count true told) _ e = absurd e
   row (Count false true) Done e = record { holds = refl; starves = (refl, refl); finding = e; judged = tt; room = tt; holds_on = refl }
-  row (Count false true) AtLimit e = record { holds = refl; starves = refl; finding = tt; judged = (e, refl, refl); room = tt; holds_on = refl }
+  row (Count false true) AtLimit e = record { holds = refl; starves = refl; finding = tt; judged = (e, refl, refl, refl); room = tt; holds_on = refl }
   row (Count false true) _ e = absurd e
   row (Count false false) Done e = record { holds = refl; starves = (refl, refl); finding = e; judged = tt; room = tt; holds_on = refl }
-  row (Count false false) AtLimit e = record { holds = refl; starves = refl; finding = tt; judged = (e, refl, refl); room = tt; holds_on = refl }
+  row (Count false false) AtLimit e = record { holds = refl; starves = refl; finding = tt; judged = (e, refl, refl, refl); room = tt; holds_on = refl }
   row (Count false false) _ e = absurd e
   row JoinStarved Done e = record { holds = refl; starves = refl; finding = tt; judged = tt; room = e; holds_on = refl }
   row JoinStarved NoMemory e = record { holds = refl; starves = refl; finding = tt; judged = (e, refl, refl); room = tt; holds_on = refl }
@@ -150,7 +151,7 @@ module _ (memory : Bool) (l : Lock) where
   row LookAlone (Held b) e = record { holds = refl; starves = refl; finding = tt; judged = tt; room = tt; holds_on = refl }
   row LookAlone SomeStarved e = record { holds = refl; starves = refl; finding = tt; judged = tt; room = tt; holds_on = refl }
   row LookAlone _ e = absurd e
-  row PassOnListed Done e = record { holds = refl; starves = refl; finding = refl; judged = tt; room = tt; holds_on = refl }
+  row PassOnListed Done e = record { holds = refl; starves = refl; finding = (refl, refl); judged = tt; room = tt; holds_on = refl }
   row PassOnListed _ e = absurd e
   row AskStarved Yes e = record { holds = refl; starves = refl; finding = tt; judged = tt; room = tt; holds_on = refl }
   row AskStarved No e = record { holds = refl; starves = refl; finding = tt; judged = (refl, refl, refl); room = tt; holds_on = refl }
@@ -170,9 +171,9 @@ module _ (memory : Bool) (l : Lock) where
   row (RefuseLeave true) _ e = absurd e
   row (RefuseLeave false) Done e = record { holds = refl; starves = refl; finding = tt; judged = (refl, refl); room = tt; holds_on = tt }
   row (RefuseLeave false) _ e = absurd e
-  row RefuseNotifyMemory Done e = record { holds = refl; starves = refl; finding = refl; judged = (refl, refl); room = tt; holds_on = tt }
+  row RefuseNotifyMemory Done e = record { holds = refl; starves = refl; finding = (refl, refl); judged = (refl, refl); room = tt; holds_on = tt }
   row RefuseNotifyMemory _ e = absurd e
-  row RefuseNotifyStarved Done e = record { holds = refl; starves = refl; finding = refl; judged = (refl, refl); room = tt; holds_on = tt }
+  row RefuseNotifyStarved Done e = record { holds = refl; starves = refl; finding = (refl, refl); judged = (refl, refl); room = tt; holds_on = tt }
   row RefuseNotifyStarved _ e = absurd e
-  row ReleaseNotify Done e = record { holds = refl; starves = refl; finding = refl; judged = (refl, refl); room = tt; holds_on = tt }
+  row ReleaseNotify Done e = record { holds = refl; starves = refl; finding = (refl, refl); judged = (refl, refl); room = tt; holds_on = tt }
   row ReleaseNotify _ e = absurd e

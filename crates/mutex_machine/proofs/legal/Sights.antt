@@ -27,7 +27,7 @@ use Rattle.mutex_machine.specs.Machine.{Lock, place_at, new_lock}
 use Rattle.mutex_machine.specs.Behind.{conceal}
 use Rattle.mutex_machine.specs.Acts.{Acts}
 use Rattle.mutex_machine.specs.Ranks.{left, is_own_marked, is_open}
-use Rattle.mutex_machine.specs.Course.{Course, out, holds, counted, listed, decision, is_waiting, is_taking, is_releasing, is_cancelling, is_resting, is_told, is_counting, is_called, may_begin, Takes, Tries, Releases, Cancels, Begins, GoesOn}
+use Rattle.mutex_machine.specs.Course.{Course, out, holds, counted, listed, decision, is_waiting, is_taking, is_releasing, is_cancelling, is_resting, is_told, is_counting, is_called, is_due, may_tell, may_begin, Takes, Tries, Releases, Cancels, Begins, GoesOn}
 use Rattle.mutex_machine.specs.Mutex.{Mutex, new_mutex, course_at, is_holder, is_counted, holder_from}
 use Rattle.mutex_machine.specs.Seen.{course_of, is_kept, AreKept, steps_from, seen}
 use Rattle.mutex_machine.proofs.laws.Kept.{after}
@@ -43,12 +43,13 @@ record Has : Type 0 where
   pub cancelling : Bool
   pub told : Bool
   pub counting : Bool
+  pub due : Bool
 
 abbrev by_place : Place → Has
-by_place x = record { holds = by.holds x; counted = by.counted x; listed = by.listed x; waiting = way.is_waiting x; taking = way.is_taking x; releasing = way.is_releasing x; cancelling = way.is_cancelling x; told = way.is_told x; counting = way.is_counting x }
+by_place x = record { holds = by.holds x; counted = by.counted x; listed = by.listed x; waiting = way.is_waiting x; taking = way.is_taking x; releasing = way.is_releasing x; cancelling = way.is_cancelling x; told = way.is_told x; counting = way.is_counting x; due = way.is_due x }
 
 abbrev by_course : Course → Has
-by_course x = record { holds = holds x; counted = counted x; listed = listed x; waiting = is_waiting x; taking = is_taking x; releasing = is_releasing x; cancelling = is_cancelling x; told = is_told x; counting = is_counting x }
+by_course x = record { holds = holds x; counted = counted x; listed = listed x; waiting = is_waiting x; taking = is_taking x; releasing = is_releasing x; cancelling = is_cancelling x; told = is_told x; counting = is_counting x; due = is_due x }
 
 -- both say the same
 same : (x : Place) → by_course (course_of x) ≡ by_place x
@@ -113,6 +114,17 @@ pub counting_same : (x : Place) → is_counting (course_of x) ≡ way.is_countin
 counting_same x = ap (λ h. h.counting) (same x)
 
 -- where a party may be left, so does what its call is decided on,
+pub due_same : (x : Place) → is_due (course_of x) ≡ way.is_due x
+due_same x = ap (λ h. h.due) (same x)
+
+pub telling_same : (x : Place) → way.may_tell x ≡ true → may_tell (course_of x) ≡ true
+telling_same place.PassOn h = refl
+telling_same place.PassOnListed h = refl
+telling_same place.RefuseNotifyMemory h = refl
+telling_same place.RefuseNotifyStarved h = refl
+telling_same place.ReleaseNotify h = refl
+telling_same _ h = absurd (cc h)
+
 pub decision_same : (x : Place) → is_kept x ≡ true → decision (course_of x) ≡ legal.decision x
 decision_same place.Out k = refl
 decision_same place.Holding k = refl

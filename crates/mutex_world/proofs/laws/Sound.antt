@@ -37,6 +37,16 @@ use Rattle.mutex_world.specs.Steps.{IsMutexTable}
 use Rattle.mutex_world.specs.View.{verdict, view_of}
 use Rattle.mutex_world.proofs.step.Owns as owns
 use Rattle.mutex_world.proofs.table.Seen as seen
+use Rattle.std.proofs.Common.{false, None}
+use Rattle.lock_event.specs.Lists.{marked_count}
+use Rattle.lock_world.specs.Standings.{is_outside}
+use Rattle.lock_table.proofs.Mapped.{past_last}
+use Rattle.lock_table.proofs.Past.{by_stage_or_past}
+use Rattle.mutex_machine.specs.Courses.{is_due as is_due_there}
+use Rattle.mutex_machine.specs.State.{holder_of}
+use Rattle.mutex_world.specs.Laws.{is_due, IsDue}
+use Rattle.mutex_world.specs.State.{standing_of}
+use Rattle.mutex_world.proofs.step.Due.{resting, rest_waits, due_at, due_unlisted, outside_stage}
 
 excluded : (w : World) (p q : ℕ) (r s : Right) → HasRight w p r → HasRight w q s → p ≡ q
 excluded w p q hold hold a b = cc
@@ -58,19 +68,6 @@ long_at (Inside w) x d u e g h =
     let same : w ≡ u = cc h in
     let P : Within → Type 0 = λ v. is_long_call v.kind v.was ≡ true in
     subst P same (long_by w.kind w.was x g)
-
--- outside every call a party rests
-resting : (s : Stage) (x : Place) → goes_with s x ≡ true → is_outside_stage s ≡ true → is_resting x ≡ true
-resting s place.Out g o = refl
-resting s place.Holding g o = refl
-resting s place.Ask g o = refl
-resting s place.AskStarved g o = refl
-resting (Outside rest.Idle) _ g o = absurd (cc g)
-resting (Outside rest.Pending) _ g o = absurd (cc g)
-resting (Outside rest.Holding) _ g o = absurd (cc g)
-resting (Outside rest.Finished) _ g o = absurd (cc g)
-resting (Inside w) _ g o = absurd (cc o)
-resting Forgotten _ g o = absurd (cc g)
 
 all_rest : (xs : List Place) → ((q : ℕ) → q < length xs → is_resting (place_at xs q) ≡ true) → lock.IsAtRest xs
 all_rest [] h = tt
@@ -94,6 +91,24 @@ module _ (t : Table Guarded) (laws : IsMutex t.machine.lock) (fits : IsMutexTabl
   abbrev xs : List Place
   xs = t.machine.lock.places
 
+  rests_outside : (q : ℕ) → is_outside (standing_of (view_of t) q) ≡ true → is_resting (place_at xs q) ≡ true
+  rests_outside q out = by_stage_or_past t.stages q (is_resting (place_at xs q) ≡ true)
+      (λ past. ap is_resting (past_last xs q place.Out (omega (arith, past, fits.as_many))))
+      (λ inside. resting (stage_at t.stages q) (place_at xs q) (fits.stands q inside) (outside_stage (stage_at t.stages q) (verdict t.machine q) (ap is_outside (sym (seen.stands_seen t q)) ∙ out)))
+
+  due : (q : ℕ) → is_due_there (place_at xs q) ≡ true → IsDue (view_of t) q
+  due q h = record {
+    due = ap is_due (seen.stands_seen t q) ∙ by_stage_or_past t.stages q (is_due (stands_as (verdict t.machine q) (stage_at t.stages q)) ≡ true)
+        (λ past. (let none : is_due_there (place_at xs q) ≡ false = ap is_due_there (past_last xs q place.Out (omega (arith, past, fits.as_many))) in absurd (cc (none, h))))
+        (λ inside. due_at t.machine.value (stage_at t.stages q) (place_at xs q) (fits.stands q inside) h);
+    unlisted = λ fresh. laws.owners q ∙ due_unlisted (place_at xs q) h (sym (sees.starved_at xs q) ∙ fresh);
+  }
+
+  told_or_due : holder_of t.machine.lock ≡ None → (q : ℕ) → is_outside (standing_of (view_of t) q) ≡ true → 0 < entries_of q t.machine.lock.entries → (0 < marked_count t.machine.lock.entries) ⊎ ((z : ℕ) × IsDue (view_of t) z)
+  told_or_due free q out some =
+      let waiting = rest_waits (place_at xs q) (rests_outside q out) (omega (arith, some, laws.owners q)) in
+      elim (laws.told_or_due (sees.none_holds 0 xs free) q waiting) [ inl marked ↦ inl marked | inr one ↦ inr (one.0, due one.0 one.1) ]
+
   pub sound : IsSound (view_of t)
   sound = record {
     exclusion = λ p q r s a b e. excluded (view_of t) p q r s a b;
@@ -102,6 +117,7 @@ module _ (t : Table Guarded) (laws : IsMutex t.machine.lock) (fits : IsMutexTabl
     inside_calls = λ q u d e. by_stage_or_past_at t.stages q (is_long_call u.kind u.was ≡ true)
         (λ past. (let h : stands_as (verdict t.machine q) Forgotten ≡ inside u d = ap (stands_as (verdict t.machine q)) (sym past) ∙ (sym (seen.stands_seen t q) ∙ e) in absurd (cc (h))))
         (λ inside. long_at (stage_at t.stages q) (place_of t.machine q) (verdict t.machine q) u d (fits.stands q inside) (sym (seen.stands_seen t q) ∙ e));
+    told_or_due = told_or_due;
     once = λ p. rw (laws.owners p) (once (place_of t.machine p));
     in_order = laws.in_order;
   }

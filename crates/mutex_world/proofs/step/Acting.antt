@@ -48,6 +48,10 @@ use Rattle.mutex_world.proofs.step.Here.{Here, BeginsOrGoes, standing_at}
 use Rattle.mutex_world.proofs.step.Owns as owns
 use Rattle.mutex_world.proofs.table.Seen as seen
 use Rattle.mutex_world.proofs.table.Turns.{Lands}
+use Rattle.lock_queue.specs.Parties.{entries_of}
+use Rattle.mutex_machine.specs.Courses.{may_tell as may_tell_there}
+use Rattle.mutex_world.specs.Legal.{may_tell}
+use Rattle.mutex_world.proofs.step.Due as due
 
 -- ---- the lock's deed, as callers see it
 
@@ -180,8 +184,16 @@ six_at _ e = omega (arith, e)
 never_six : (x : Place) (r : Refusal) → decision x ≡ Some («end».Refused r) → 6 ≡ number_of r → ⊥
 never_six x r e six = six_at x (ap number_on e ∙ sym six)
 
+told_deed : (d : Deed lock.Change lock.ListName) (list : ListName) (n : ℕ) → world_deed d ≡ does list (notifies n) → d ≡ does lock.for_the_lock (notifies n)
+told_deed nothing list n e = absurd (cc)
+told_deed (changes lock.takes) list n e = absurd (cc)
+told_deed (changes lock.releases) list n e = absurd (cc)
+told_deed (changes lock.starves) list n e = absurd (cc)
+told_deed (changes lock.recovers) list n e = absurd (cc)
+told_deed (does lock.for_the_lock f) list n e = cc
+
 one_notified : (p : ℕ) (d : Deed lock.Change lock.ListName) (l : Lock) → IsAllowed p d l → notifies_one (world_deed d) ≡ true
-one_notified p (does lock.for_the_lock (notifies n)) l al = grind (arith, nat_tests)
+one_notified p (does lock.for_the_lock (notifies n)) l al = let one : n ≡ 1 = al.0 in grind (arith, nat_tests)
 one_notified p (does lock.for_the_lock (notifies_additionally n)) l al = absurd al
 one_notified p (does lock.for_the_lock joins) l al = refl
 one_notified p (does lock.for_the_lock asks) l al = refl
@@ -294,6 +306,12 @@ module _ (t u : Table Guarded) (m : Move) (a : Answer) (w : Within) where
     giving_up (Some e) is up = refl
     giving_up None is up = let down = way.holds_on is in let same = (same_deed p d).up in absurd (cc)
 
+    tells_so : may_tell_there x ≡ true → may_tell (standing_of old p) (is_starved old.state p) (entries_of p old.entries) ≡ true
+    tells_so h =
+        ap (λ z. may_tell z (is_starved old.state p) (entries_of p old.entries)) stood
+        ∙ (ap (λ b. may_tell (standing_at v s x) b (entries_of p old.entries)) (sees.starved_at g.lock.places p)
+        ∙ (ap (may_tell (standing_at v s x) (is_counted x)) (k.old_laws.owners p) ∙ due.tells_at v s x (k.old_fits.stands p k.inside) h))
+
     one_change : ChangesOneThing old m new
     one_change = record {
       deed = world_deed d;
@@ -307,6 +325,7 @@ module _ (t u : Table Guarded) (m : Move) (a : Answer) (w : Within) where
       parting = λ h. parting (decision from) refl (sym decided_there ∙ h);
       giving_up = λ up. decided_there ∙ giving_up (decision from) refl up;
       notice = one_notified p d g.lock way.allowed;
+      tells = λ list n e. (let A : Deed lock.Change lock.ListName → Type 0 = λ c. IsAllowed p c g.lock in let al : A (does lock.for_the_lock (notifies n)) = subst A (told_deed d list n e) way.allowed in tells_so al.1);
     }
 
     -- ---- who has the lock, and who is starved

@@ -89,4 +89,4 @@ here = turn Here (record {
 -- a party has as much where its call begins as where it stood
 pub same_roles : (s : Stage) (w : Within) (x from : Place) → BeginsOrGoes s w x from → SameRoles from x
 same_roles s w x from (inl b) = start_same b.0 x from b.1
-same_roles s w x from (inr g) = rw g.1 (record { holding = refl; starving = refl; standing = refl; waiting = refl; owing = refl })
+same_roles s w x from (inr g) = rw g.1 (record { holding = refl; starving = refl; standing = refl; waiting = refl; owing = refl; counting = refl; telling = refl; releasing = refl })

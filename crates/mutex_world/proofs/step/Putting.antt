@@ -102,6 +102,7 @@ module _ (t : Table Guarded) (n p : ℕ) (i : Inputs) (laws : IsMutex t.machine.
         found_memory = λ list e. absurd (cc);
         giving_up = λ g. absurd (cc);
         notice = refl;
+        tells = λ list n e. absurd (cc);
         parting = λ h. (let never : is_decided (outside rest.Holding) || is_drop m.what ≡ true = rw was at h in absurd (false≢true never));
       };
       taken_fairly = λ q is was. absurd (was is);

@@ -45,7 +45,9 @@ use Rattle.mutex_world.specs.Legal.{is_first_poll}
 use Rattle.mutex_world.specs.Runs.{Runs, HoldsWell}
 use Rattle.mutex_world.specs.State.{World, standing_of, is_starved, is_free}
 use Rattle.mutex_world.specs.Steps.{Stands, Steps}
-use Rattle.mutex_world.specs.View.{verdict}
+use Rattle.mutex_world.specs.View.{verdict, view_of}
+use Rattle.lock_world.specs.Marks.{MarksNobody}
+use Rattle.mutex_world.proofs.whole.Ring as ring
 use Rattle.mutex_world.proofs.step.Acting.{Acting}
 use Rattle.mutex_world.proofs.step.Acting as acting
 use Rattle.mutex_world.proofs.bound.AloneSeen.{waits_listed, poll_seen}
@@ -186,6 +188,15 @@ module _ (known : ℕ → Account) (w : World) (p : ℕ) (c : Call) (i : Inputs)
   patient : i.starving ≡ false → how_many w.state.starved ≡ 0 → a ≢ refused refusal.Starved
   patient still none is = true≢false (sym (ap refuses_many is) ∙ (unrefused still none).1)
 
+  tells_nobody : i.starving ≡ false → how_many w.state.starved ≡ 0 → a ≡ answer.Pending → MarksNobody p w.entries v.entries
+  tells_nobody still none is =
+      let zero : starved w.behind.machine.lock ≡ 0 = sym (starved_behind w stood) ∙ none in
+      let l : List (Entry ℕ) = w.behind.machine.lock.entries in
+      let kept = along Steps accounts_after HoldsWell p i (λ y. ring.Calm p i still l y.behind) (λ b y. ring.Done p i still l b y.behind) (ring.onward p i still l) known n w (beginning p c i) a v (ring.first p i still l c w zero (λ q apart h. h)) ended runs is in
+      let M : World → World → Type 0 = λ x y. MarksNobody p x.entries y.entries in
+      let Left : World → Type 0 = λ x. M x v in
+      subst Left (sym stood.seen) (subst (M (view_of w.behind)) (sym stands.seen) kept)
+
   hands_on : c ≡ call.Poll → standing_of w p ≡ outside rest.Pending → 0 < entries_of p w.entries → is_refusal a ≡ true → 0 < length v.entries → 0 < marked_count v.entries
   hands_on is pending some refused there =
       let R : Call → Type 0 = λ x. Runs known w (moves_of p x i n) (answers_of n a) v in
@@ -198,6 +209,7 @@ module _ (known : ℕ → Account) (w : World) (p : ℕ) (c : Call) (i : Inputs)
     solo = λ is solo free. (let R : Call → Type 0 = λ x. Runs known w (moves_of p x i n) (answers_of n a) v in poll_seen known w p i n a v stood stands (subst R is runs) ended solo free);
     notified = λ is told free why. (let R : Call → Type 0 = λ x. Runs known w (moves_of p x i n) (answers_of n a) v in notified_takes known w p i n a v stood stands (subst R is runs) ended told free why);
     unstarved = unstarved;
+    tells_nobody = tells_nobody;
     patient = patient;
     hands_on = hands_on;
   }

@@ -53,7 +53,7 @@ use Rattle.rwlock_world.proofs.table.Views as view
 
 -- ---- where a pending party stands that is listed
 
-in_turn_list : (t : TurnCourse) (x : Place) → is_future x ≡ true → fits_turn x t ≡ true → 0 < listed t → waits_for_turn x ≡ true
+pub in_turn_list : (t : TurnCourse) (x : Place) → is_future x ≡ true → fits_turn x t ≡ true → 0 < listed t → waits_for_turn x ≡ true
 in_turn_list t = at_future (λ x. fits_turn x t ≡ true → 0 < listed t → waits_for_turn x ≡ true) (record {
   made = λ w fits there. absurd (omega (arith, there, out_unlisted t fits));
   no_writer = λ fits there. absurd (omega (arith, there, out_unlisted t fits));

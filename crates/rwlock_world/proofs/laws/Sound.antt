@@ -43,6 +43,15 @@ use Rattle.rwlock_world.proofs.table.Views as view
 use Rattle.rwlock_world.proofs.table.Views.{Fits}
 use Rattle.rwlock_world.proofs.step.Owns as owns
 use Rattle.rwlock_world.proofs.rights.Inside as calls
+use Rattle.lock_event.specs.Lists.{marked_count}
+use Rattle.lock_world.specs.Standings.{is_outside, is_decided}
+use Rattle.lock_world.proofs.Owing.{marked_or_owed}
+use Rattle.lock_table.proofs.Acting as acting
+use Rattle.mutex_machine.specs.Course.{listed, is_due}
+use Rattle.rwlock_machine.specs.Roles.{waits_no_writer, owes_no_writer, waits_no_readers, owes_no_readers}
+use Rattle.rwlock_machine.specs.Acts.{readers}
+use Rattle.rwlock_world.specs.Laws.{is_due_for_turn, is_due_to_readers, is_due_to_writer, IsDueForTurn, IsDueToReaders, IsDueToWriter}
+use Rattle.rwlock_world.proofs.laws.Due as due
 
 -- ---- rights
 
@@ -149,64 +158,10 @@ excluded w alone p q _ s a b e = absurd a
 true_one : (b : Bool) (n : ℕ) → bit b ≡ n → b ≡ true → n ≡ 1
 true_one b n e h = sym e ∙ ap bit h
 
-module _ (t : Table Guarded) (laws : IsRwLock t.machine.lock) (fits : IsRwLockTable t) where
-  abbrev w : World
-  w = view_of t
-
-  alone : (p q : ℕ) → w.state.turn ≡ writes p → state.reads w q ≡ true → ⊥
-  alone p q a b =
-      let there = writes_there (place_at t.machine.lock.places p) (writes_at (holder_of t.machine.lock.turn) t.machine.lock.places p a) in
-      let none : reads (place_at t.machine.lock.places q) ≡ 0 = laws.writes_apart p q there in
-      let one : reads (place_at t.machine.lock.places q) ≡ 1 = true_one (is_reading (place_at t.machine.lock.places q)) (reads (place_at t.machine.lock.places q)) (view.reading_bit (place_at t.machine.lock.places q)) (sym (view.reads_at t.machine.lock.places q) ∙ b) in
-      omega arith
-
-  pub sound : IsSound w
-  sound = record {
-    exclusion = excluded w alone;
-    upgradable_reads = λ p e. view.reads_at t.machine.lock.places p ∙ upgrades_there (place_at t.machine.lock.places p) (up_at (holder_of t.machine.lock.turn) t.machine.lock.places p e);
-    none_while_writing = λ p e.
-        let there = writes_there (place_at t.machine.lock.places p) (writes_at (holder_of t.machine.lock.turn) t.machine.lock.places p e) in
-        let some : 0 < writers t.machine.lock = omega (arith, share_in roles.writes refl t.machine.lock.places p, there) in
-        view.how_many-read t.machine.lock.places ∙ laws.alone some;
-    each = owns.each t.machine.lock t.stages t.opening t.machine.value laws fits;
-    inside_calls = calls.inside_calls t.machine.lock t.stages t.opening t.machine.value fits;
-    drops_seek_nothing = calls.drops_seek_nothing t.machine.lock t.stages t.opening t.machine.value fits;
-    as_many_seek = calls.as_many_seek t.machine.lock t.stages t.opening t.machine.value fits;
-    few_starved = rw (sees.how_many_counted) laws.turn.few_starved;
-    once = λ p. omega (arith, laws.one_entry p);
-    in_order = by_list;
-  } where
-    by_list : (list : ListName) → IsMarkedFirst (list_of w list)
-    by_list for_the_turn = laws.turn.in_order
-    by_list for_no_readers = laws.in_order_no_readers
-    by_list for_no_writer = laws.in_order_no_writer
-
--- ---- at rest
-
--- a party that is outside every call rests
-rests : (s : Stage) (x : Place) → goes_with s x ≡ true → is_outside_stage s ≡ true → is_resting x ≡ true
-rests (Outside rest.Idle) x g o = at_out (λ x. is_resting x ≡ true) refl x g
-rests (Outside rest.Pending) x g o = future_rests x g
-rests (Outside rest.Holding) x g o = guard_rests x g
-rests (Outside rest.Finished) x g o = absurd (cc)
-rests (Inside u) x g o = absurd (cc)
-rests Forgotten x g o = g
-
 past_out : (xs : List Place) (p : ℕ) → (p < length xs) ⊎ (place_at xs p ≡ place.Out)
 past_out [] p = inr refl
 past_out (x ∷ xs) zero = inl (omega arith)
 past_out (x ∷ xs) (suc p) = elim (past_out xs p) as (λ _. (suc p < length (x ∷ xs)) ⊎ (place_at xs p ≡ place.Out)) [ inl h ↦ inl (omega arith) | inr h ↦ inr h ]
-
-pub all_rest : (l : RwLock) (ss : List Stage) (v : ℕ) → Fits l ss v → list_all is_outside_stage ss ≡ true → IsAtRest l
-all_rest l ss v fits resting p = elim (past_out l.places p) as (λ _. is_resting (place_at l.places p) ≡ true) [
-  | inl h ↦ (let known : p < length ss = omega (arith, fits.as_many, h) in rests (stage_at ss p) (place_at l.places p) (fits.stands p known) (outside_at ss resting p))
-  | inr e ↦ rw e refl
-]
-
--- and in the turn
-turns_rest : (ts : List TurnCourse) → ((p : ℕ) → rests_in_turn (turn_at ts p) ≡ true) → lock.IsAtRest ts
-turns_rest [] h = tt
-turns_rest (t ∷ ts) h = (h 0, turns_rest ts (λ p. h (suc p)))
 
 -- nobody waits to write or writes where nobody is seen to
 marks_bit : (x : Place) → marks x ≤ 1
@@ -291,6 +246,121 @@ nobody_holds (Some p) xs e = absurd (by_share (share_of (place_at xs p)) e) wher
   by_share upgrading e = cc
   by_share waiting e = cc
   by_share writing e = cc
+
+-- a party that is outside every call rests
+rests : (s : Stage) (x : Place) → goes_with s x ≡ true → is_outside_stage s ≡ true → is_resting x ≡ true
+rests (Outside rest.Idle) x g o = at_out (λ x. is_resting x ≡ true) refl x g
+rests (Outside rest.Pending) x g o = future_rests x g
+rests (Outside rest.Holding) x g o = guard_rests x g
+rests (Outside rest.Finished) x g o = absurd (cc)
+rests (Inside u) x g o = absurd (cc)
+rests Forgotten x g o = g
+
+module _ (t : Table Guarded) (laws : IsRwLock t.machine.lock) (fits : IsRwLockTable t) where
+  abbrev w : World
+  w = view_of t
+
+  alone : (p q : ℕ) → w.state.turn ≡ writes p → state.reads w q ≡ true → ⊥
+  alone p q a b =
+      let there = writes_there (place_at t.machine.lock.places p) (writes_at (holder_of t.machine.lock.turn) t.machine.lock.places p a) in
+      let none : reads (place_at t.machine.lock.places q) ≡ 0 = laws.writes_apart p q there in
+      let one : reads (place_at t.machine.lock.places q) ≡ 1 = true_one (is_reading (place_at t.machine.lock.places q)) (reads (place_at t.machine.lock.places q)) (view.reading_bit (place_at t.machine.lock.places q)) (sym (view.reads_at t.machine.lock.places q) ∙ b) in
+      omega arith
+
+  abbrev l : RwLock
+  l = t.machine.lock
+
+  stood : (q : ℕ) → standing_of w q ≡ standing_at t.machine.value (stage_at t.stages q) (place_at l.places q) (turn_at l.turn.courses q)
+  stood q = acting.stood verdict_of t q
+
+  in_table : (q : ℕ) → (place_at l.places q ≡ place.Out → ⊥) → q < length l.places
+  in_table q some = elim (past_out l.places q) as (λ _. q < length l.places) [ inl h ↦ h | inr e ↦ absurd (some e) ]
+
+  rests_there : (q : ℕ) → is_outside_stage (stage_at t.stages q) ≡ true → is_resting (place_at l.places q) ≡ true
+  rests_there q out = elim (past_out l.places q) as (λ _. is_resting (place_at l.places q) ≡ true) [
+    | inl h ↦ rests (stage_at t.stages q) (place_at l.places q) (fits.stands q (omega (arith, fits.as_many, h))) out
+    | inr e ↦ rw e refl
+  ]
+
+  rests_outside : (q : ℕ) → is_outside (standing_of w q) ≡ true → is_resting (place_at l.places q) ≡ true
+  rests_outside q out = rests_there q (due.outside_stage (stage_at t.stages q) (verdict_of t.machine q) (sym (ap is_outside (stood q)) ∙ out))
+
+  due_turn : (q : ℕ) → is_due (turn_at l.turn.courses q) ≡ true → IsDueForTurn w q
+  due_turn q h = record {
+    due = ap (λ z. is_due_for_turn z (state.sought_by w q)) (stood q) ∙ (ap (is_due_for_turn (standing_at t.machine.value (stage_at t.stages q) (place_at l.places q) (turn_at l.turn.courses q))) (view.seeks_at l.places q)
+        ∙ due.due_at t.machine.value (stage_at t.stages q) (place_at l.places q) (turn_at l.turn.courses q) (rests_there q) (laws.in_turn q) h);
+    unlisted = λ why. laws.turn.owners q ∙ elim why as (λ _. listed (turn_at l.turn.courses q) ≡ 0) [
+      | inl fresh ↦ due.due_unstarved (turn_at l.turn.courses q) h (sym (sees.counted_bit (turn_at l.turn.courses q)) ∙ ap bit (sym (sees.starved_at l.turn.courses q) ∙ fresh))
+      | inr d ↦ due.decided_unlisted t.machine.value (stage_at t.stages q) (place_at l.places q) (turn_at l.turn.courses q) (laws.in_turn q) h (sym (ap is_decided (stood q)) ∙ d)
+    ];
+  }
+
+  turn_due : w.state.turn ≡ nobody → (q : ℕ) → is_outside (standing_of w q) ≡ true → 0 < entries_of q l.turn.entries → (0 < marked_count l.turn.entries) ⊎ ((z : ℕ) × IsDueForTurn w z)
+  turn_due free q out some =
+      let waits = due.rest_waits_turn (place_at l.places q) (turn_at l.turn.courses q) (rests_outside q out) (laws.in_turn q) (omega (arith, some, laws.turn.owners q)) in
+      elim (laws.turn.told_or_due (sees.none_holds 0 l.turn.courses (nobody_holds (holder_of l.turn) l.places free)) q waits) [ inl marked ↦ inl marked | inr one ↦ inr (one.0, due_turn one.0 one.1) ]
+
+  reading_due : is_marked w.state.turn ≡ false → (q : ℕ) → is_outside (standing_of w q) ≡ true → 0 < entries_of q l.no_writer → (0 < marked_count l.no_writer) ⊎ ((z : ℕ) × IsDueToReaders w z)
+  reading_due free q out some =
+      let waits : 0 < waits_no_writer (place_at l.places q) = omega (arith, some, laws.owners_no_writer q, due.rest_waits_writer (place_at l.places q) (rests_outside q out)) in
+      let there : q < length l.places = in_table q (λ e. (let none : waits_no_writer (place_at l.places q) ≡ 0 = ap waits_no_writer e in absurd (omega (arith, waits, none)))) in
+      elim (marked_or_owed place.Out (marked l ≡ 0) waits_no_writer owes_no_writer l.places (marked_count l.no_writer) q laws.owed_no_writer (bit_seen l t.stages t.opening t.machine.value laws fits free) there waits) [
+        | inl marked ↦ inl marked
+        | inr one ↦ inr (one.0, record {
+            due = ap (λ z. is_due_to_readers z (state.sought_by w one.0)) (stood one.0) ∙ (ap (is_due_to_readers (standing_at t.machine.value (stage_at t.stages one.0) (place_at l.places one.0) (turn_at l.turn.courses one.0))) (view.seeks_at l.places one.0)
+                ∙ due.due_to_readers t.machine.value (stage_at t.stages one.0) (place_at l.places one.0) (turn_at l.turn.courses one.0) (rests_there one.0) one.2);
+            unlisted = laws.owners_no_writer one.0 ∙ due.unlisted_to_readers (place_at l.places one.0) one.2;
+          })
+      ]
+
+  writing_due : state.how_many_read w ≡ 0 → (q : ℕ) → is_outside (standing_of w q) ≡ true → 0 < entries_of q l.no_readers → (0 < marked_count l.no_readers) ⊎ ((z : ℕ) × IsDueToWriter w z)
+  writing_due free q out some =
+      let waits : 0 < waits_no_readers (place_at l.places q) = omega (arith, some, laws.owners_no_readers q, due.rest_waits_readers (place_at l.places q) (rests_outside q out)) in
+      let there : q < length l.places = in_table q (λ e. (let none : waits_no_readers (place_at l.places q) ≡ 0 = ap waits_no_readers e in absurd (omega (arith, waits, none)))) in
+      elim (marked_or_owed place.Out (readers l ≡ 0) waits_no_readers owes_no_readers l.places (marked_count l.no_readers) q laws.owed_no_readers (sym (view.how_many-read l.places) ∙ free) there waits) [
+        | inl marked ↦ inl marked
+        | inr one ↦ inr (one.0, record {
+            due = ap is_due_to_writer (stood one.0) ∙ due.due_to_writer t.machine.value (stage_at t.stages one.0) (place_at l.places one.0) (turn_at l.turn.courses one.0) (fits.stands one.0 (omega (arith, one.1, fits.as_many))) (rests_there one.0) one.2;
+            unlisted = laws.owners_no_readers one.0 ∙ due.unlisted_to_writer (place_at l.places one.0) one.2;
+          })
+      ]
+
+  pub sound : IsSound w
+  sound = record {
+    exclusion = excluded w alone;
+    upgradable_reads = λ p e. view.reads_at t.machine.lock.places p ∙ upgrades_there (place_at t.machine.lock.places p) (up_at (holder_of t.machine.lock.turn) t.machine.lock.places p e);
+    none_while_writing = λ p e.
+        let there = writes_there (place_at t.machine.lock.places p) (writes_at (holder_of t.machine.lock.turn) t.machine.lock.places p e) in
+        let some : 0 < writers t.machine.lock = omega (arith, share_in roles.writes refl t.machine.lock.places p, there) in
+        view.how_many-read t.machine.lock.places ∙ laws.alone some;
+    each = owns.each t.machine.lock t.stages t.opening t.machine.value laws fits;
+    inside_calls = calls.inside_calls t.machine.lock t.stages t.opening t.machine.value fits;
+    drops_seek_nothing = calls.drops_seek_nothing t.machine.lock t.stages t.opening t.machine.value fits;
+    as_many_seek = calls.as_many_seek t.machine.lock t.stages t.opening t.machine.value fits;
+    few_starved = rw (sees.how_many_counted) laws.turn.few_starved;
+    turn_told_or_due = turn_due;
+    reading_told_or_due = reading_due;
+    writing_told_or_due = writing_due;
+    once = λ p. omega (arith, laws.one_entry p);
+    in_order = by_list;
+  } where
+    by_list : (list : ListName) → IsMarkedFirst (list_of w list)
+    by_list for_the_turn = laws.turn.in_order
+    by_list for_no_readers = laws.in_order_no_readers
+    by_list for_no_writer = laws.in_order_no_writer
+
+-- ---- at rest
+
+pub all_rest : (l : RwLock) (ss : List Stage) (v : ℕ) → Fits l ss v → list_all is_outside_stage ss ≡ true → IsAtRest l
+all_rest l ss v fits resting p = elim (past_out l.places p) as (λ _. is_resting (place_at l.places p) ≡ true) [
+  | inl h ↦ (let known : p < length ss = omega (arith, fits.as_many, h) in rests (stage_at ss p) (place_at l.places p) (fits.stands p known) (outside_at ss resting p))
+  | inr e ↦ rw e refl
+]
+
+-- and in the turn
+turns_rest : (ts : List TurnCourse) → ((p : ℕ) → rests_in_turn (turn_at ts p) ≡ true) → lock.IsAtRest ts
+turns_rest [] h = tt
+turns_rest (t ∷ ts) h = (h 0, turns_rest ts (λ p. h (suc p)))
 
 module _ (t : Table Guarded) (laws : IsRwLock t.machine.lock) (fits : IsRwLockTable t) where
   abbrev seen_as : World

@@ -26,7 +26,8 @@ use Rattle.rwlock_world.proofs.rights.Rights.{holds_well}
 use Rattle.rwlock_world.proofs.whole.Whole as whole
 use Rattle.rwlock_world.proofs.whole.Handing.{hands_on}
 use Rattle.rwlock_world.proofs.whole.FirstPolls.{upgradable_ready, write_ready}
-use Rattle.rwlock_world.proofs.whole.Promises.{unstarved_at_end}
+use Rattle.rwlock_world.proofs.whole.Promises.{unstarved_at_end, patient_at_end}
+use Rattle.rwlock_world.proofs.whole.Ring.{tells_nobody_at_end}
 use Rattle.rwlock_world.proofs.bound.AloneSeen.{turn_seen_polled, reading_seen_polled, writing_seen_polled}
 
 sound_now : (w : World) → Stands w → IsSound w
@@ -65,6 +66,8 @@ keeps_promise known w p c i n a v runs ended =
       reading = λ is. reading_seen_polled known w p i n a v stood (subst R is runs) ended;
       writing = λ is. writing_seen_polled known w p i n a v stood (subst R is runs) ended;
       unstarved = λ patient none. unstarved_at_end known w p c i n a v stood patient none runs ended;
+      patient = λ patient none. patient_at_end known w p c i n a v stood patient none runs ended;
+      tells_nobody = λ patient none. tells_nobody_at_end known w p c i n a v stood runs ended patient none;
       first_upgradable = upgradable_ready known w p c i n a v stood runs ended;
       first_write = write_ready known w p c i n a v stood runs ended;
       hands_on = hands_on known w p c i n a v stood runs ended;

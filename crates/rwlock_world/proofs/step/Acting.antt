@@ -52,6 +52,9 @@ use Rattle.rwlock_world.proofs.step.TurnFacts.{on_turn}
 use Rattle.lock_table.proofs.Mapped.{set_same}
 use Rattle.lock_table.proofs.Past.{inside_or_past}
 use Rattle.rwlock_world.proofs.table.Views.{Fits}
+use Rattle.mutex_machine.specs.Course.{is_counting}
+use Rattle.rwlock_world.specs.Legal.{DecidesOn}
+use Rattle.rwlock_world.specs.View.{seen}
 
 module _ (t u : Table Guarded) (m : Move) (a : Answer) (w : Within) where
   abbrev p : ℕ
@@ -203,11 +206,15 @@ module _ (t u : Table Guarded) (m : Move) (a : Answer) (w : Within) (c : Acting 
   pub says : a ≡ answer_by v n
   says = c.answer ∙ ap (answer_by v) c.acts.next_is
 
-  pub legal : Legal (view_of t) m a (view_of u)
-  legal =
-      let ts : List Stage = set t.stages m.party (stage_then w v n) in
+  abbrev ts : List Stage
+  ts = set t.stages m.party (stage_then w v n)
+
+  stages_then : u.stages ≡ ts
+  stages_then = c.stages ∙ ap (λ b. set t.stages m.party (stage_after rest.Holding w b)) says
+
+  known : legals.Known m l k t.stages t.opening v c.from n w
+  known =
       let places : k.places ≡ set l.places m.party (place_after n) = c.acts.places ∙ ap (λ y. set l.places m.party (place_after y)) c.acts.next_is in
-      let stages : u.stages ≡ ts = c.stages ∙ ap (λ b. set t.stages m.party (stage_after rest.Holding w b)) says in
       let walk = walks memory starving m.party c.from c.next l k w c.acts fit c.moves.course in
       let given : word.Known m l k t.stages v c.from c.acts.found = record {
         laws = c.old.lock;
@@ -227,11 +234,11 @@ module _ (t u : Table Guarded) (m : Move) (a : Answer) (w : Within) (c : Acting 
       ] in
       let F : List Stage → Type 0 = λ ss. Fits k ss v in
       let new_fits : Fits k u.stages v = record { as_many = c.new.fits.as_many; stands = c.new.fits.stands } in
-      let it = legals.step_legal m l k t.stages t.opening v c.from n w (record {
+      record {
         laws = c.old.lock;
         fits = c.old.fits;
         new_laws = c.new.lock;
-        new_fits = subst F stages new_fits;
+        new_fits = subst F stages_then new_fits;
         known = c.inside;
         places = places;
         limit = c.acts.limit;
@@ -241,5 +248,13 @@ module _ (t u : Table Guarded) (m : Move) (a : Answer) (w : Within) (c : Acting 
         no_put = c.no_put;
         not_over = again_is t u m a c.old c.new ∙ c.first;
         walks = rw c.acts.next_is at walk;
-      }) in
-      rw (says, stages, c.opening, c.value) it
+      }
+
+  pub legal : Legal (view_of t) m a (view_of u)
+  legal = rw (says, stages_then, c.opening, c.value) (legals.step_legal m l k t.stages t.opening v c.from n w known)
+
+  -- who is refused for too many starved parties was about to be counted
+  pub counts : DecidesOn (view_of t) m a (view_of u) (refused refusal.Starved) → is_counting (turn_at l.turn.courses m.party) ≡ true
+  counts y = legals.counts m l k t.stages t.opening v c.from n w known (same y) where
+    same : DecidesOn (view_of t) m a (view_of u) (refused refusal.Starved) → DecidesOn (view_of t) m (answer_by v n) (seen k ts t.opening v) (refused refusal.Starved)
+    same = rw (says, stages_then, c.value) (λ z. z)

@@ -281,6 +281,15 @@ turn_tries memory starving p v l k pr (found.Turn (turn_step.End turn_end.NotFre
 turn_tries memory starving p v l k pr (found.Turn _) o led b is means = absurd led
 turn_tries memory starving p v l k pr _ o led b is means = absurd o
 
+-- a try that goes on isn't decided yet
+pub try_open : (v : ℕ) (u : TurnCourse) (pr : Purpose) (f : Found) → Led (place.TryTurn pr) f u → answer_by v (next_of (place.TryTurn pr) f) ≡ answer.Stepped → verdict_then v u (next_of (place.TryTurn pr) f) ≡ None
+try_open v u purpose.UpgradableRead (found.Turn (turn_step.End turn_end.Got)) led e = refl
+try_open v u purpose.Write (found.Turn (turn_step.End turn_end.Got)) led e = refl
+try_open v u purpose.UpgradableRead (found.Turn (turn_step.End turn_end.NotFree)) led e = absurd (cc e)
+try_open v u purpose.Write (found.Turn (turn_step.End turn_end.NotFree)) led e = absurd (cc e)
+try_open v u pr (found.Turn _) led e = absurd led
+try_open v u pr _ led e = absurd led
+
 -- and so does the first action of a first poll
 pub turn_enters : (memory starving : Bool) (p : ℕ) (l k : Mutex) (f : Found) → OnTurn memory starving p (act.Begin turn_call.Lock) f l k → (holder_of k ≡ Some p) ↔ ((holders l ≡ 0) × (starved l ≡ 0))
 turn_enters memory starving p l k (found.Turn n) o = o.at_once.takes refl

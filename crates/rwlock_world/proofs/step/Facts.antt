@@ -46,6 +46,9 @@ use Rattle.rwlock_world.proofs.step.Owns as owns
 use Rattle.rwlock_world.proofs.laws.Sound.{none_marked}
 use Rattle.rwlock_world.proofs.table.Views as view
 use Rattle.rwlock_world.proofs.table.Views.{Fits}
+use Rattle.lock_world.specs.Steps.{notifies, notifies_additionally}
+use Rattle.rwlock_world.specs.State.{is_starved}
+use Rattle.mutex_machine.specs.Course.{is_counting}
 
 -- a party waits in the list of the place where it stands
 abbrev pub WaitsIn : RwLock → ℕ → Place → Type 0
@@ -54,18 +57,18 @@ WaitsIn k p (place.AwaitNoReaders u) = told_in k.no_readers p ≡ Some mark.Wait
 WaitsIn k p (place.WaitTurn q) = told_in k.turn.entries p ≡ Some mark.Waiting
 WaitsIn k p _ = ⊥
 
--- why a call is refused, but that it takes what there is a limit for
+-- why a call is refused, but that it takes what there is a limit for; and that one that is refused as starved was about to be counted
 abbrev pub CauseAs : Move → World → World → Refusal → Type 0
 CauseAs m old new refusal.Memory = IsCause old m new refusal.Memory
-CauseAs m old new refusal.Starved = how_many old.state.starved ≡ old.starved_limit
+CauseAs m old new refusal.Starved = (how_many old.state.starved ≡ old.starved_limit) × (is_starved old m.party ≡ false) × (is_counting (turn_at old.behind.machine.lock.turn.courses m.party) ≡ true)
 CauseAs m old new refusal.Readers = old.readers_limit ≤ how_many_read old
 CauseAs m old new _ = ⊥
 
--- a refusal for memory does nothing else, and comes from a join, or from within a call on the turn; and whoever meets a limit takes what it is for
+-- a refusal for memory, or since too many are starved, does nothing else, and comes from a join, or from within a call on the turn; and whoever meets a limit takes what it is for
 abbrev pub Fitting : World → ℕ → Place → Place → Deed Change ListName → Refusal → Type 0
 Fitting old p x to d refusal.Memory = (d ≡ nothing) × (lacks_memory x ≡ true)
 Fitting old p x to d refusal.Readers = MayMeet (sought_at to) old p refusal.Readers
-Fitting old p x to d refusal.Starved = MayMeet (sought_at to) old p refusal.Starved
+Fitting old p x to d refusal.Starved = (d ≡ nothing) × (lacks_memory x ≡ true) × MayMeet (sought_at to) old p refusal.Starved
 Fitting old p x to d _ = Unit {0}
 
 -- why a call is decided on an answer
@@ -178,7 +181,13 @@ module _ (m : Move) (l k : RwLock) (ss : List Stage) (opening : ℕ) (ts : List 
   allows (changes recovers) h = absurd h
   allows (changes (puts u)) h = absurd h
   allows nothing h = tt
-  allows (does list g) h = tt
+  allows (does for_the_turn g) h = absurd h
+  allows (does for_no_readers (notifies k)) h = h
+  allows (does for_no_readers (notifies_additionally k)) h = h
+  allows (does for_no_readers _) h = tt
+  allows (does for_no_writer (notifies k)) h = h
+  allows (does for_no_writer (notifies_additionally k)) h = h
+  allows (does for_no_writer _) h = tt
 
   module _ (still : k.turn ≡ l.turn) (word : steps_in_turn x ≡ false) where
     abbrev memory : Bool

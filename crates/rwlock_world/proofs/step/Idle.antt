@@ -46,6 +46,7 @@ use Rattle.rwlock_world.specs.View.{verdict_of, verdict, standing_at, view_of}
 use Rattle.rwlock_world.proofs.table.Begun.{within}
 use Rattle.rwlock_world.proofs.step.Owns as owns
 use Rattle.rwlock_world.proofs.table.Views as view
+use Rattle.rwlock_world.proofs.step.Decided.{decided}
 
 -- what holds of a table before and after a move
 pub record Laws (t : Table Guarded) : Type 0 where
@@ -91,11 +92,11 @@ idle_legal t m a k q i =
     let s : Standing = standing_of w m.party in
     record {
       possible = i.possible;
-      one_change = record { deed = nothing; state = refl; allowed = tt; lists = λ list. refl; starved_limit = refl; readers_limit = refl; opening_value = refl; sought = set_back w.sought m.party ∙ ap (set w.sought m.party) (sym (q.sought (sought_by w m.party))); others = λ p apart. refl; parties = refl; found_memory = λ list e. absurd (cc); refused_idly = λ y. refl; parting = λ h. refl; giving_up = λ g. absurd (cc) };
+      one_change = record { deed = nothing; state = refl; allowed = tt; lists = λ list. refl; starved_limit = refl; readers_limit = refl; opening_value = refl; sought = set_back w.sought m.party ∙ ap (set w.sought m.party) (sym (q.sought (sought_by w m.party))); others = λ p apart. refl; parties = refl; found_memory = λ list e. absurd (cc); refused_idly = λ y. refl; starved_idly = λ y. refl; parting = λ h. refl; giving_up = λ g. absurd (cc) };
       carries = record { ready = λ got d. absurd (q.ready got (same_decides s a (answer.Ready got) d)); granted = λ got d. absurd (q.granted got (same_decides s a (answer.Granted got) d)) };
       waits = record { waiting = λ e. absurd (q.pending (sym e)); not_before = not_pending t m.party k };
       refused_for_cause = i.refused_for_cause;
-      leaves_clear = record { each = each t k; refused = λ h. absurd (false≢true (sym q.refusal ∙ h)); gives_up_turn = λ h e. absurd (false≢true (sym q.refusal ∙ h)); keeps_turn = λ h e. absurd (false≢true (sym q.refusal ∙ h)) };
+      leaves_clear = record { each = each t k; decided = decided t.machine.lock t.stages t.opening t.machine.value k.lock k.fits; refused = λ h. absurd (false≢true (sym q.refusal ∙ h)); gives_up_turn = λ h e. absurd (false≢true (sym q.refusal ∙ h)); keeps_turn = λ h e. absurd (false≢true (sym q.refusal ∙ h)) };
       value_kept = record { put = λ v e h. absurd (q.put v e h); kept = λ h. refl };
       ends_properly = i.ends_properly;
       keeps_upgrades = record { begins = λ e. absurd (q.waiting e); pending = λ e h. refl; undecided = λ u h. refl; others = λ p apart. refl };
@@ -180,6 +181,7 @@ module _ (t : Table Guarded) (n : ℕ) (p : ℕ) (i : Inputs) where
           parties = length-standings (verdict_of (with_value t.machine n)) t.stages ∙ sym (length-standings (verdict_of t.machine) t.stages);
           found_memory = λ list e. absurd (cc);
           refused_idly = λ d. absurd (unlike (refused refusal.Memory) d.1 refl);
+          starved_idly = λ d. absurd (unlike (refused refusal.Starved) d.1 refl);
           giving_up = λ g. absurd (cc);
           parting = λ h. let no : is_decided (outside rest.Holding) || is_drop (Begin (call.Put n) i) ≡ true = rw is at h in absurd (false≢true no);
         };
@@ -193,7 +195,7 @@ module _ (t : Table Guarded) (n : ℕ) (p : ℕ) (i : Inputs) where
           memory = λ d. absurd (unlike (refused refusal.Memory) d.1 refl);
           after_ready = ((λ e. absurd (true≢false (ap is_granted e))), (λ e. absurd (false≢true (sym not_over ∙ e))));
         };
-        leaves_clear = record { each = each left k2; refused = λ h. absurd (false≢true h); gives_up_turn = λ h e. absurd (false≢true h); keeps_turn = λ h e. absurd (false≢true h) };
+        leaves_clear = record { each = each left k2; decided = decided left.machine.lock left.stages left.opening left.machine.value k2.lock k2.fits; refused = λ h. absurd (false≢true h); gives_up_turn = λ h e. absurd (false≢true h); keeps_turn = λ h e. absurd (false≢true h) };
         value_kept = record {
           put = λ v e h. let same : n ≡ v = some_eq e in (ap (λ x. answer.Granted (Value x)) same, same);
           kept = λ h. elim h as (λ _. n ≡ t.machine.value) [ inl e ↦ absurd (some_none e) | inr e ↦ absurd (true≢false (ap is_possible e)) ];

@@ -50,7 +50,7 @@ use Rattle.rwlock_world.proofs.step.Rows.{verdict_then, turn_row}
 use Rattle.rwlock_world.proofs.laws.Sound.{none_marked, nobody_holds, bit_seen}
 use Rattle.rwlock_world.proofs.step.Acting.{Acting, fit, says}
 use Rattle.rwlock_world.proofs.step.Idle.{Laws, stood, sought_is}
-use Rattle.rwlock_world.proofs.step.AtOnce.{waits_for_turn, is_try_turn, Lists, Firsts, firsts, try_reads, first_reads, first_readies, try_upgrades, try_adds, added, try_writes, try_written, turn_tries, turn_enters}
+use Rattle.rwlock_world.proofs.step.AtOnce.{waits_for_turn, is_try_turn, Lists, Firsts, firsts, try_reads, first_reads, first_readies, try_upgrades, try_adds, added, try_writes, try_written, turn_tries, try_open, turn_enters}
 use Rattle.rwlock_world.proofs.table.Views as view
 
 -- ---- tests
@@ -218,6 +218,12 @@ module _ (t u : Table Guarded) (m : Move) (a : Answer) where
   tries_turn (place.TryTurn q) h y = at_try_turn q y
   tries_turn _ h y = absurd (cc)
 
+  goes_on : (x : Place) → is_try_turn x ≡ true → Acted t u m a x → is_turn_free old.state ≡ true → decision a (standing_of new p) ≡ None
+  goes_on (place.TryTurn q) h y free =
+      let stepped : a ≡ answer.Stepped = (at_try_turn q y).0 ∙ ap (λ b. if b then answer.Stepped else answer.None) free in
+      y.decides ∙ try_open t.machine.value (turn_at u.machine.lock.turn.courses p) q y.found y.leads (sym y.answer ∙ stepped)
+  goes_on _ h y free = absurd (cc h)
+
 -- where a move acts, of the World as it is seen
 abbrev pub Begins : World → Move → Place → Type 0
 Begins old m from = Firsts (standing_of old m.party) (sought_by old m.party) m.what (entries_in old m.party) (is_upgrader old m.party) from
@@ -229,6 +235,7 @@ acted_at_once t u m a from y b =
       try_read = λ i e h. at_try_read t u m a (subst P (b.try_read i e) y);
       try_upgrade = λ i e h. at_try_upgrade t u m a (subst P (b.try_upgrade i e) y);
       try_turn = λ e h. tries_turn t u m a from (b.try_turn e) y;
+      try_goes_on = λ e h free. goes_on t u m a from (b.try_turn e) y free;
       try_upgradable = λ e h. at_add t u m a (subst P (b.try_upgradable e.0 e.1 e.2 e.4) y);
       try_upgradable_decided = λ e h. at_added t u m a (subst P (b.try_upgradable e.0 e.1 e.2 e.4) y);
       try_write = λ e h. at_try_write t u m a (subst P (b.try_write e.0 e.1 e.2 e.4) y);
@@ -332,6 +339,7 @@ still_at_once t m a after k at holds =
       try_read = λ i e b. absurd (apart_from_read m.what i holds e);
       try_upgrade = λ i e b. absurd (apart_from_upgrade m.what i holds e);
       try_turn = λ e b. absurd (apart_from_tries m.what holds e);
+      try_goes_on = λ e b free. absurd (apart_from_tries m.what holds e);
       try_upgradable = λ e b. absurd (outside_apart s rest.Holding e.0 None is e.1);
       try_write = λ e b. absurd (outside_apart s rest.Holding e.0 None is e.1);
       try_upgradable_decided = λ e b. absurd (outside_apart s rest.Holding e.0 None is e.1);
@@ -371,6 +379,7 @@ impossible_at_once w m none =
       try_read = λ i e h. absurd (cc);
       try_upgrade = λ i e h. absurd (cc);
       try_turn = λ e h. absurd (cc);
+      try_goes_on = λ e h free. absurd (cc);
       try_upgradable = λ e h. absurd (cc);
       try_write = λ e h. absurd (cc);
       try_upgradable_decided = λ e h. absurd (cc);

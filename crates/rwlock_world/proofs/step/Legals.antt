@@ -54,6 +54,10 @@ use Rattle.lock_table.proofs.Acting as acting
 use Rattle.lock_table.proofs.Calls.{decided_after, stands_seen}
 use Rattle.rwlock_world.proofs.table.Views as view
 use Rattle.rwlock_world.proofs.table.Views.{Fits}
+use Rattle.rwlock_world.proofs.step.Decided.{decided}
+use Rattle.rwlock_world.specs.Changes.{entries_after}
+use Rattle.rwlock_world.specs.State.{list_of}
+use Rattle.mutex_machine.specs.Course.{is_counting}
 
 -- a step keeps what was decided
 keep : (m : Move) (old : World) (k : RwLock) (new : World) (v : ℕ) (x to : Place) (d : Deed Change ListName) (was now : Option Answer) (b : Answer) → JudgedAs m old k new v x to d was now → was ≡ Some b → (now ≡ Some b) × (gives_back d ≡ true)
@@ -70,6 +74,14 @@ judge m old k new v x to d None (Some c) b j e = let P : Answer → Type 0 = λ 
 idle_memory : (w : World) (p : ℕ) (x to : Place) (d : Deed Change ListName) (r : Refusal) → number_of refusal.Memory ≡ number_of r → Fitting w p x to d r → (d ≡ nothing) × (lacks_memory x ≡ true)
 idle_memory w p x to d refusal.Memory e h = h
 idle_memory w p x to d _ e h = absurd (cc)
+
+idle_starved : (w : World) (p : ℕ) (x to : Place) (d : Deed Change ListName) (r : Refusal) → number_of refusal.Starved ≡ number_of r → Fitting w p x to d r → d ≡ nothing
+idle_starved w p x to d refusal.Starved e h = h.0
+idle_starved w p x to d _ e h = absurd (cc e)
+
+counts_by : (m : Move) (old new : World) (r : Refusal) → number_of refusal.Starved ≡ number_of r → CauseAs m old new r → is_counting (turn_at old.behind.machine.lock.turn.courses m.party) ≡ true
+counts_by m old new refusal.Starved e h = h.2
+counts_by m old new _ e h = absurd (cc e)
 
 found_room : {memory : Bool} (d : Deed Change ListName) (list : ListName) → Room memory d → d ≡ does list joins → memory ≡ true
 found_room {memory} d list r e = let P : Deed Change ListName → Type 0 = Room memory in subst P e r
@@ -238,6 +250,7 @@ module _ (m : Move) (l k : RwLock) (ss : List Stage) (opening : ℕ) (v : ℕ) (
       parties = acting.as_many verdict_of rest.Holding before after p w said c.known refl;
       found_memory = λ list e. found_room d list c.facts.room e;
       refused_idly = λ y. elim (reason (refused refusal.Memory) y) as (λ _. d ≡ nothing) [ inl e ↦ absurd (cc) | inr z ↦ (idle_memory old p x to d z.0 z.1 z.3).0 ];
+      starved_idly = λ y. elim (reason (refused refusal.Starved) y) as (λ _. d ≡ nothing) [ inl e ↦ absurd (cc) | inr z ↦ idle_starved old p x to d z.0 z.1 z.3 ];
       parting = parting;
       giving_up = giving_up;
     }
@@ -289,11 +302,15 @@ module _ (m : Move) (l k : RwLock) (ss : List Stage) (opening : ℕ) (v : ℕ) (
     met : (r : Refusal) → MayMeet (sought_at to) old p r → MayMeet (sought_by new p) old p r
     met r h = rw (owns.seeks_as k ts opening v c.new_laws c.new_fits p, lands) h
 
-    cause : (r : Refusal) → CauseAs m old new r → Fitting old p x to d r → IsCause old m new r
-    cause refusal.Memory h f = h
-    cause refusal.Starved h f = (h, met refusal.Starved f)
-    cause refusal.Readers h f = (h, met refusal.Readers f)
-    cause _ h f = absurd h
+    -- whoever acts there is inside its call
+    is_within : lacks_memory x ≡ true → is_decided (standing_of old p) ≡ false → IsUndecided (standing_of old p)
+    is_within lacks fresh = let it = c.moves.lacking lacks in undecided_inside (standing_of old p) w it.0 (stood ∙ it.1) fresh
+
+    cause : (r : Refusal) → is_decided (standing_of old p) ≡ false → CauseAs m old new r → Fitting old p x to d r → IsCause old m new r
+    cause refusal.Memory fresh h f = h
+    cause refusal.Starved fresh h f = (h.0, met refusal.Starved f.2, h.1, is_within f.1 fresh, λ list. c.facts.lists list ∙ ap (λ y. entries_after p y list (list_of old list)) f.0)
+    cause refusal.Readers fresh h f = (h, met refusal.Readers f)
+    cause _ fresh h f = absurd h
 
     -- who is refused for want of memory was inside its call, and undecided
     lacked : DecidesOn old m said new (refused refusal.Memory) → IsUndecided (standing_of old p)
@@ -302,9 +319,13 @@ module _ (m : Move) (l k : RwLock) (ss : List Stage) (opening : ℕ) (v : ℕ) (
         let it = c.moves.lacking lacks in
         undecided_inside (standing_of old p) w it.0 (stood ∙ it.1) y.0
 
+    -- who is refused for too many starved parties was about to be counted
+    pub counts : DecidesOn old m said new (refused refusal.Starved) → is_counting t ≡ true
+    counts y = elim (reason (refused refusal.Starved) y) as (λ _. is_counting t ≡ true) [ inl e ↦ absurd (cc) | inr z ↦ counts_by m old new z.0 z.1 z.2 ]
+
     refused_for_cause : IsRefusedForCause old m said new
     refused_for_cause = record {
-      cause = λ r y. elim (reason (answer.Refused r) y) as (λ _. (q : Refusal) × (r ≡ number_of q) × IsCause old m new q) [ inl e ↦ absurd (cc) | inr z ↦ (z.0, z.1, cause z.0 z.2 z.3) ];
+      cause = λ r y. elim (reason (answer.Refused r) y) as (λ _. (q : Refusal) × (r ≡ number_of q) × IsCause old m new q) [ inl e ↦ absurd (cc) | inr z ↦ (z.0, z.1, cause z.0 y.0 z.2 z.3) ];
       memory = λ y. lacked y;
       after_ready = (
         (λ e. let never : is_after_ready (answer_by v n) ≡ true = ap is_after_ready e in absurd (false≢true (sym c.facts.over ∙ never))),
@@ -340,6 +361,7 @@ module _ (m : Move) (l k : RwLock) (ss : List Stage) (opening : ℕ) (v : ℕ) (
     leaves_clear : LeavesClear old m said new
     leaves_clear = record {
       each = owns.each k ts opening v c.new_laws c.new_fits;
+      decided = decided k ts opening v c.new_laws c.new_fits;
       refused = λ h. elim (refused_at h) as (λ _. IsClear new p) [ inl y ↦ (made_clear to refl y.0).0 | inr y ↦ (upgrade_clear y.0).0 ];
       gives_up_turn = λ h e. elim (refused_at h) as (λ _. HasTurn new.state.turn p → ⊥) [ inl y ↦ (made_clear to refl y.0).1 | inr y ↦ absurd (false≢true (sym e ∙ upgrade_was (not_drop h) ∙ y.1)) ];
       keeps_turn = λ h e. elim (refused_at h) as (λ _. new.state.turn ≡ state.waits_to_write p) [ inl y ↦ absurd (false≢true (sym y.1 ∙ sym (upgrade_was (not_drop h)) ∙ e)) | inr y ↦ (upgrade_clear y.0).1 ];

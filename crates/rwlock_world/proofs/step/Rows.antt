@@ -40,6 +40,7 @@ use Rattle.lock_table.proofs.Calls.{decided_after}
 use Rattle.rwlock_world.specs.Guarded.{answer_by}
 use Rattle.rwlock_world.specs.Stages.{strays, course_of, sought_at}
 use Rattle.rwlock_world.specs.View.{passing, upgrading, waiting, writing, turn_as, share_of, is_reading, is_upgrade, verdict}
+use Rattle.lock_world.specs.Steps.{notifies_additionally}
 
 -- what an action changes that found this
 abbrev pub deed_of : Action → Found → Deed Change ListName
@@ -108,6 +109,9 @@ Finding (changes unmarks) l x = (has_turn x ≡ 1) × ((share_of x ≡ waiting) 
 Finding (changes downgrades) l x = (has_turn x ≡ 1) × (share_of x ≡ writing)
 Finding (changes downgrades_to_upgradable) l x = (has_turn x ≡ 1) × (share_of x ≡ writing)
 Finding (changes _) l x = ⊥
+Finding (does for_the_turn f) l x = ⊥
+Finding (does list (notifies n)) l x = n ≡ 1
+Finding (does list (notifies_additionally n)) l x = ⊥
 Finding _ l x = Unit {0}
 
 -- a party has the right that it sought here
@@ -242,7 +246,7 @@ module _ (memory : Bool) (l : RwLock) (v : ℕ) where
   row AskNoWriter Yes e n t = record { reading = refl; sharing = inr ((λ p t. refl), refl); starving = λ p s. refl; valued = λ u. refl; unturned = λ p a. refl; no_writer = λ p a b o. asks_so p a b o; no_readers = λ p a b o. o; finding = tt; judged = λ t u. tt; room = tt; holds_on = λ t. refl; over = refl; upgrade = λ t h. refl; refused = tt }
   row AskNoWriter No e n t = record { reading = refl; sharing = inr ((λ p t. refl), refl); starving = λ p s. refl; valued = λ u. refl; unturned = λ p a. refl; no_writer = λ p a b o. o.1; no_readers = λ p a b o. o; finding = tt; judged = λ t u. refl; room = tt; holds_on = λ t. refl; over = refl; upgrade = refl; refused = tt }
   row AskNoWriter _ e n t = absurd e
-  row PassOn Done e n t = record { reading = refl; sharing = inr ((λ p t. refl), refl); starving = λ p s. refl; valued = λ u. refl; unturned = λ p a. refl; no_writer = λ p a b o. o; no_readers = λ p a b o. o; finding = tt; judged = λ t u. tt; room = tt; holds_on = λ t. refl; over = refl; upgrade = λ t h. refl; refused = tt }
+  row PassOn Done e n t = record { reading = refl; sharing = inr ((λ p t. refl), refl); starving = λ p s. refl; valued = λ u. refl; unturned = λ p a. refl; no_writer = λ p a b o. o; no_readers = λ p a b o. o; finding = refl; judged = λ t u. tt; room = tt; holds_on = λ t. refl; over = refl; upgrade = λ t h. refl; refused = tt }
   row PassOn _ e n t = absurd e
   row LeaveNoWriter Done e n t = record { reading = refl; sharing = inr ((λ p t. refl), refl); starving = λ p s. refl; valued = λ u. refl; unturned = λ p a. refl; no_writer = λ p a b o. o; no_readers = λ p a b o. o; finding = tt; judged = λ t u. (refl, refl); room = tt; holds_on = λ t. refl; over = refl; upgrade = tt; refused = tt }
   row LeaveNoWriter _ e n t = absurd e
@@ -250,9 +254,9 @@ module _ (memory : Bool) (l : RwLock) (v : ℕ) where
   row (RefuseLeave true) _ e n t = absurd e
   row (RefuseLeave false) Done e n t = record { reading = refl; sharing = inr ((λ p t. refl), refl); starving = λ p s. refl; valued = λ u. refl; unturned = λ p a. refl; no_writer = λ p a b o. o; no_readers = λ p a b o. o; finding = tt; judged = λ t u. (refl, refl); room = tt; holds_on = λ t. refl; over = refl; upgrade = refl; refused = inl (refl, refl) }
   row (RefuseLeave false) _ e n t = absurd e
-  row (RefuseNotify refusal.Memory) Done e n t = record { reading = refl; sharing = inr ((λ p t. refl), refl); starving = λ p s. refl; valued = λ u. refl; unturned = λ p a. refl; no_writer = λ p a b o. o; no_readers = λ p a b o. o; finding = tt; judged = λ t u. (refl, refl); room = tt; holds_on = λ t. refl; over = refl; upgrade = refl; refused = inl (refl, refl) }
+  row (RefuseNotify refusal.Memory) Done e n t = record { reading = refl; sharing = inr ((λ p t. refl), refl); starving = λ p s. refl; valued = λ u. refl; unturned = λ p a. refl; no_writer = λ p a b o. o; no_readers = λ p a b o. o; finding = refl; judged = λ t u. (refl, refl); room = tt; holds_on = λ t. refl; over = refl; upgrade = refl; refused = inl (refl, refl) }
   row (RefuseNotify refusal.Memory) _ e n t = absurd e
-  row (RefuseNotify refusal.Readers) Done e n t = record { reading = refl; sharing = inr ((λ p t. refl), refl); starving = λ p s. refl; valued = λ u. refl; unturned = λ p a. refl; no_writer = λ p a b o. o; no_readers = λ p a b o. o; finding = tt; judged = λ t u. (refl, refl); room = tt; holds_on = λ t. refl; over = refl; upgrade = refl; refused = inl (refl, refl) }
+  row (RefuseNotify refusal.Readers) Done e n t = record { reading = refl; sharing = inr ((λ p t. refl), refl); starving = λ p s. refl; valued = λ u. refl; unturned = λ p a. refl; no_writer = λ p a b o. o; no_readers = λ p a b o. o; finding = refl; judged = λ t u. (refl, refl); room = tt; holds_on = λ t. refl; over = refl; upgrade = refl; refused = inl (refl, refl) }
   row (RefuseNotify refusal.Readers) _ e n t = absurd e
   row (RefuseNotify _) _ e n t = absurd (n refl)
   row CancelRead Done e n t = record { reading = refl; sharing = inr ((λ p t. refl), refl); starving = λ p s. refl; valued = λ u. refl; unturned = λ p a. refl; no_writer = λ p a b o. o; no_readers = λ p a b o. o; finding = tt; judged = λ t u. (refl, refl); room = tt; holds_on = λ t. refl; over = refl; upgrade = tt; refused = tt }
@@ -309,12 +313,12 @@ module _ (memory : Bool) (l : RwLock) (v : ℕ) where
   row DropRead NoneLeft e n t = record { reading = refl; sharing = inr ((λ p t. refl), refl); starving = λ p s. refl; valued = λ u. refl; unturned = λ p a. refl; no_writer = λ p a b o. o; no_readers = λ p a b o. o; finding = refl; judged = λ t u. (refl, refl); room = tt; holds_on = λ t. refl; over = refl; upgrade = λ t h. refl; refused = tt }
   row DropRead SomeLeft e n t = record { reading = refl; sharing = inr ((λ p t. refl), refl); starving = λ p s. refl; valued = λ u. refl; unturned = λ p a. refl; no_writer = λ p a b o. o; no_readers = λ p a b o. o; finding = refl; judged = λ t u. (refl, refl); room = tt; holds_on = λ t. refl; over = refl; upgrade = tt; refused = tt }
   row DropRead _ e n t = absurd e
-  row DropReadNotify Done e n t = record { reading = refl; sharing = inr ((λ p t. refl), refl); starving = λ p s. refl; valued = λ u. refl; unturned = λ p a. refl; no_writer = λ p a b o. o; no_readers = λ p a b o. o; finding = tt; judged = λ t u. (refl, refl); room = tt; holds_on = λ t. refl; over = refl; upgrade = tt; refused = tt }
+  row DropReadNotify Done e n t = record { reading = refl; sharing = inr ((λ p t. refl), refl); starving = λ p s. refl; valued = λ u. refl; unturned = λ p a. refl; no_writer = λ p a b o. o; no_readers = λ p a b o. o; finding = refl; judged = λ t u. (refl, refl); room = tt; holds_on = λ t. refl; over = refl; upgrade = tt; refused = tt }
   row DropReadNotify _ e n t = absurd e
   row DropUpgradable NoneLeft e n t = record { reading = refl; sharing = inl (refl, λ p. refl); starving = λ p s. refl; valued = λ u. refl; unturned = λ p a. refl; no_writer = λ p a b o. o; no_readers = λ p a b o. o; finding = (refl, refl); judged = λ t u. (refl, refl); room = tt; holds_on = λ t. refl; over = refl; upgrade = λ t h. refl; refused = tt }
   row DropUpgradable SomeLeft e n t = record { reading = refl; sharing = inl (refl, λ p. refl); starving = λ p s. refl; valued = λ u. refl; unturned = λ p a. refl; no_writer = λ p a b o. o; no_readers = λ p a b o. o; finding = (refl, refl); judged = λ t u. (refl, refl); room = tt; holds_on = λ t. refl; over = refl; upgrade = λ t h. refl; refused = tt }
   row DropUpgradable _ e n t = absurd e
-  row DropUpgradableNotify Done e n t = record { reading = refl; sharing = inr ((λ p t. refl), refl); starving = λ p s. refl; valued = λ u. refl; unturned = λ p a. refl; no_writer = λ p a b o. o; no_readers = λ p a b o. o; finding = tt; judged = λ t u. (refl, refl); room = tt; holds_on = λ t. refl; over = refl; upgrade = λ t h. refl; refused = tt }
+  row DropUpgradableNotify Done e n t = record { reading = refl; sharing = inr ((λ p t. refl), refl); starving = λ p s. refl; valued = λ u. refl; unturned = λ p a. refl; no_writer = λ p a b o. o; no_readers = λ p a b o. o; finding = refl; judged = λ t u. (refl, refl); room = tt; holds_on = λ t. refl; over = refl; upgrade = λ t h. refl; refused = tt }
   row DropUpgradableNotify _ e n t = absurd e
   row DropWrite Done e n t = record { reading = refl; sharing = inl (refl, λ p. refl); starving = λ p s. refl; valued = λ u. refl; unturned = λ p a. refl; no_writer = λ p a b o. o; no_readers = λ p a b o. o; finding = (refl, inr refl); judged = λ t u. (refl, refl); room = tt; holds_on = λ t. refl; over = refl; upgrade = λ t h. refl; refused = tt }
   row DropWrite _ e n t = absurd e
@@ -324,17 +328,17 @@ module _ (memory : Bool) (l : RwLock) (v : ℕ) where
   row (Unmark true) _ e n t = absurd e
   row (Unmark false) Done e n t = record { reading = refl; sharing = inl (refl, λ p. refl); starving = λ p s. refl; valued = λ u. refl; unturned = λ p a. refl; no_writer = λ p a b o. o; no_readers = λ p a b o. o; finding = (refl, inl refl); judged = λ t u. (refl, refl); room = tt; holds_on = λ t. refl; over = refl; upgrade = λ t h. refl; refused = tt }
   row (Unmark false) _ e n t = absurd e
-  row (UnmarkNotify true) Done e n t = record { reading = refl; sharing = inr ((λ p t. refl), refl); starving = λ p s. refl; valued = λ u. refl; unturned = λ p a. refl; no_writer = λ p a b o. o; no_readers = λ p a b o. o; finding = tt; judged = λ t u. (refl, refl); room = tt; holds_on = λ t. refl; over = refl; upgrade = λ t h. refl; refused = tt }
+  row (UnmarkNotify true) Done e n t = record { reading = refl; sharing = inr ((λ p t. refl), refl); starving = λ p s. refl; valued = λ u. refl; unturned = λ p a. refl; no_writer = λ p a b o. o; no_readers = λ p a b o. o; finding = refl; judged = λ t u. (refl, refl); room = tt; holds_on = λ t. refl; over = refl; upgrade = λ t h. refl; refused = tt }
   row (UnmarkNotify true) _ e n t = absurd e
-  row (UnmarkNotify false) Done e n t = record { reading = refl; sharing = inr ((λ p t. refl), refl); starving = λ p s. refl; valued = λ u. refl; unturned = λ p a. refl; no_writer = λ p a b o. o; no_readers = λ p a b o. o; finding = tt; judged = λ t u. (refl, refl); room = tt; holds_on = λ t. refl; over = refl; upgrade = λ t h. refl; refused = tt }
+  row (UnmarkNotify false) Done e n t = record { reading = refl; sharing = inr ((λ p t. refl), refl); starving = λ p s. refl; valued = λ u. refl; unturned = λ p a. refl; no_writer = λ p a b o. o; no_readers = λ p a b o. o; finding = refl; judged = λ t u. (refl, refl); room = tt; holds_on = λ t. refl; over = refl; upgrade = λ t h. refl; refused = tt }
   row (UnmarkNotify false) _ e n t = absurd e
   row (Down true) Done e n t = record { reading = refl; sharing = inl (refl, λ p. refl); starving = λ p s. refl; valued = λ u. refl; unturned = λ p a. refl; no_writer = λ p a b o. o; no_readers = λ p a b o. o; finding = (refl, refl); judged = λ t u. tt; room = tt; holds_on = λ t. refl; over = refl; upgrade = λ t h. refl; refused = tt }
   row (Down true) _ e n t = absurd e
   row (Down false) Done e n t = record { reading = refl; sharing = inl (refl, λ p. refl); starving = λ p s. refl; valued = λ u. refl; unturned = λ p a. refl; no_writer = λ p a b o. o; no_readers = λ p a b o. o; finding = (refl, refl); judged = λ t u. tt; room = tt; holds_on = λ t. refl; over = refl; upgrade = λ t h. refl; refused = tt }
   row (Down false) _ e n t = absurd e
-  row DownNotify Done e n t = record { reading = refl; sharing = inr ((λ p t. refl), refl); starving = λ p s. refl; valued = λ u. refl; unturned = λ p a. refl; no_writer = λ p a b o. o; no_readers = λ p a b o. o; finding = tt; judged = λ t u. (refl, refl); room = tt; holds_on = λ t. refl; over = refl; upgrade = tt; refused = tt }
+  row DownNotify Done e n t = record { reading = refl; sharing = inr ((λ p t. refl), refl); starving = λ p s. refl; valued = λ u. refl; unturned = λ p a. refl; no_writer = λ p a b o. o; no_readers = λ p a b o. o; finding = refl; judged = λ t u. (refl, refl); room = tt; holds_on = λ t. refl; over = refl; upgrade = tt; refused = tt }
   row DownNotify _ e n t = absurd e
-  row DowngradeNotify Done e n t = record { reading = refl; sharing = inr ((λ p t. refl), refl); starving = λ p s. refl; valued = λ u. refl; unturned = λ p a. refl; no_writer = λ p a b o. o; no_readers = λ p a b o. o; finding = tt; judged = λ t u. (refl, refl); room = tt; holds_on = λ t. refl; over = refl; upgrade = tt; refused = tt }
+  row DowngradeNotify Done e n t = record { reading = refl; sharing = inr ((λ p t. refl), refl); starving = λ p s. refl; valued = λ u. refl; unturned = λ p a. refl; no_writer = λ p a b o. o; no_readers = λ p a b o. o; finding = refl; judged = λ t u. (refl, refl); room = tt; holds_on = λ t. refl; over = refl; upgrade = tt; refused = tt }
   row DowngradeNotify _ e n t = absurd e
 
 -- ---- actions on the turn

@@ -48,6 +48,8 @@ use Rattle.rwlock_world.proofs.step.Rows.{verdict_then, Room, keeps_what_it_has,
 use Rattle.rwlock_world.proofs.step.Owns as owns
 use Rattle.rwlock_world.proofs.step.Facts.{WaitsIn, CauseAs, Fitting, JudgedAs, Facts, Known}
 use Rattle.rwlock_world.proofs.step.TurnSteps.{TurnDid, TurnMoved, moved, left}
+use Rattle.mutex_machine.proofs.callers.Rosters.{is_zero}
+use Rattle.mutex_machine.specs.Mutex.{is_counted}
 
 -- ---- what a step of a poll decides there decides the call, but that the turn was got
 
@@ -205,7 +207,7 @@ module _ (m : Move) (l k : RwLock) (ss : List Stage) (opening : ℕ) (ts : List 
     by_list for_the_turn = h.2
     by_list for_no_readers = nr
     by_list for_no_writer = nw
-  cause x f c ew er nw nr out refusal.Starved h = sees.how_many_counted l.turn.courses ∙ h
+  cause x f c ew er nw nr out refusal.Starved h = (sees.how_many_counted l.turn.courses ∙ h.0, sees.starved_at l.turn.courses p ∙ is_zero (is_counted t) (sees.counted_bit t ∙ h.1), h.5)
   cause x f c ew er nw nr out refusal.Readers h = absurd h
   cause x f c ew er nw nr out refusal.Permits h = absurd h
   cause x f c ew er nw nr out refusal.Generations h = absurd h
@@ -265,8 +267,8 @@ module _ (m : Move) (l k : RwLock) (ss : List Stage) (opening : ℕ) (ts : List 
 
   -- a refusal for memory on the way does nothing else
   idle_there : (pr : Purpose) (n : TurnStep) (did : TurnDid memory p (decision t) n l.turn k.turn) (mv : TurnMoved p l k old did.legal.deed) (r : Refusal) → decision t ≡ None → decided_then n u ≡ Some (turn_end.Refused r) → Takes n u → (HasTurn old.state.turn p → ⊥) → Fitting old p (place.TakeTurn pr) (place_after (after_lock pr (Turn n))) mv.deed r
-  idle_there pr n did mv refusal.Memory e h takes out = (mv.idle (did.legal.refused_idly e h), refl)
-  idle_there pr n did mv refusal.Starved e h takes out = meets_turn old p pr u n takes refusal.Starved h out
+  idle_there pr n did mv refusal.Memory e h takes out = (mv.idle (did.legal.refused_idly refusal.Memory e h), refl)
+  idle_there pr n did mv refusal.Starved e h takes out = (mv.idle (did.legal.refused_idly refusal.Starved e h), refl, meets_turn old p pr u n takes refusal.Starved h out)
   idle_there pr n did mv refusal.Readers e h takes out = absurd (did.legal.reason (turn_end.Refused refusal.Readers) e h)
   idle_there pr n did mv _ e h takes out = tt
 

@@ -31,6 +31,12 @@ use Rattle.rwlock_world.specs.State as state
 use Rattle.rwlock_world.specs.State.{World, told_in, entries_in}
 use Rattle.rwlock_world.specs.View.{passing, upgrading, turn_as, share_of, turn_by, seen}
 use Rattle.rwlock_world.proofs.step.Facts.{Known, turn_kept, there}
+use Rattle.lock_queue.specs.Parties.{entries_of}
+use Rattle.lock_world.specs.Steps.{asks, leaves, notifies, notifies_additionally}
+use Rattle.mutex_machine.specs.Conduct.{IsAllowed as MayDo}
+use Rattle.mutex_machine.specs.Course.{listed, may_tell, taking, releasing, undecided, called, counting, has_lock, gives_up as giving_up}
+use Rattle.rwlock_world.specs.State.{HasTurn, is_starved}
+use Rattle.rwlock_world.specs.View.{Share, waiting, writing}
 
 -- ---- rosters
 
@@ -76,6 +82,35 @@ pub record TurnMoved (p : ℕ) (l k : RwLock) (w : World) (mutex_deed : Deed mut
   pub giving_up : gives_up deed ≡ true → mutex.is_release mutex_deed ≡ true
   pub joining : (list : ListName) → deed ≡ does list joins → mutex_deed ≡ does mutex.for_the_lock joins
   pub idle : mutex_deed ≡ nothing → deed ≡ nothing
+
+-- who may notify in the turn's list hasn't the turn, and stands there only while it is starved
+tells_free : (c : TurnCourse) → may_tell c ≡ true → holds c ≡ 0
+tells_free (taking has_lock a b d) h = absurd (cc h)
+tells_free (taking _ a b d) h = refl
+tells_free releasing h = refl
+tells_free _ h = absurd (cc h)
+
+tells_starved : (c : TurnCourse) → may_tell c ≡ true → 0 < listed c → counted c ≡ 1
+tells_starved (taking undecided true true d) h some = refl
+tells_starved (taking undecided true false d) h some = absurd (cc h)
+tells_starved (taking undecided false b d) h some = absurd (cc h)
+tells_starved (taking counting a true d) h some = absurd (cc h)
+tells_starved (taking counting a false d) h some = absurd (omega arith)
+tells_starved (taking (giving_up r) a true d) h some = absurd (cc h)
+tells_starved (taking (giving_up r) a false d) h some = absurd (omega arith)
+tells_starved (taking called a b d) h some = absurd (cc h)
+tells_starved (taking has_lock a b d) h some = absurd (cc h)
+tells_starved releasing h some = absurd (omega arith)
+tells_starved _ h some = absurd (cc h)
+
+has_holder : (h : Option ℕ) (xs : List Place) (p : ℕ) → HasTurn (turn_by h xs) p → h ≡ Some p
+has_holder None xs p y = absurd y
+has_holder (Some q) xs p y = ap Some (by_share (share_of (place_at xs q)) y) where
+  by_share : (s : Share) → HasTurn (turn_as q s) p → q ≡ p
+  by_share passing y = y
+  by_share upgrading y = y
+  by_share waiting y = y
+  by_share writing y = y
 
 joins_there : (g : ListFunction) (list : ListName) → Path (Deed Change ListName) (does for_the_turn g) (does list joins) → Path (Deed mutex.Change mutex.ListName) (does mutex.for_the_lock g) (does mutex.for_the_lock joins)
 joins_there g list e = cc
@@ -157,24 +192,36 @@ module _ (m : Move) (l k : RwLock) (ss : List Stage) (opening : ℕ) (ts : List 
           ],
         )
 
+    -- it notifies where it may
+    lists_so : (g : ListFunction) → MayDo p (does mutex.for_the_lock g) l.turn → IsAllowed p (does for_the_turn g) w
+    lists_so (notifies n) may = record {
+      one = may.0;
+      without_turn = λ h. (let one : holds t ≡ 1 = sees.is_held_by l.turn.courses p (has_holder (holder_of l.turn) l.places p h) in let none = tells_free t may.1 in omega (arith, one, none));
+      starved = λ some. sees.starved_at l.turn.courses p ∙ sees.is_one (is_counted t) (sees.counted_bit t ∙ tells_starved t may.1 (omega (arith, some, c.laws.turn.owners p)));
+    }
+    lists_so (notifies_additionally n) may = may
+    lists_so joins may = tt
+    lists_so asks may = tt
+    lists_so leaves may = tt
+
     -- where the party only passes, each deed of the mutex is one of the turn, or nothing
-    moved_by : (d : Deed mutex.Change mutex.ListName) → holder_of k.turn ≡ mutex.holder_after p d (holder_of l.turn) → starved_of k.turn ≡ mutex.starved_after p d (starved_of l.turn) → k.turn.entries ≡ mutex.entries_after p d l.turn.entries
+    moved_by : (d : Deed mutex.Change mutex.ListName) → MayDo p d l.turn → holder_of k.turn ≡ mutex.holder_after p d (holder_of l.turn) → starved_of k.turn ≡ mutex.starved_after p d (starved_of l.turn) → k.turn.entries ≡ mutex.entries_after p d l.turn.entries
         → share_of x ≡ passing → TurnMoved p l k w d
-    moved_by nothing h s e own = record { deed = nothing; readers = λ rs. refl; turn = stays own h; starved = s; valued = λ n. refl; allowed = tt; turn_list = e; no_readers = λ es. refl; no_writer = λ es. refl; parting = λ g. refl; giving_up = λ g. absurd (false≢true g); joining = λ list j. absurd (nothing_joins list j); idle = λ i. refl }
-    moved_by (does mutex.for_the_lock g) h s e own = record { deed = does for_the_turn g; readers = λ rs. refl; turn = stays own h; starved = s; valued = λ n. refl; allowed = tt; turn_list = e; no_readers = λ es. refl; no_writer = λ es. refl; parting = λ b. b; giving_up = λ g. absurd (false≢true g); joining = λ list j. joins_there g list j; idle = λ i. absurd (does_idle g i) }
-    moved_by (changes mutex.takes) h s e own = elim (cases_Bool (is_holder t)) as (λ _. TurnMoved p l k w (changes mutex.takes)) [
+    moved_by nothing may h s e own = record { deed = nothing; readers = λ rs. refl; turn = stays own h; starved = s; valued = λ n. refl; allowed = tt; turn_list = e; no_readers = λ es. refl; no_writer = λ es. refl; parting = λ g. refl; giving_up = λ g. absurd (false≢true g); joining = λ list j. absurd (nothing_joins list j); idle = λ i. refl }
+    moved_by (does mutex.for_the_lock g) may h s e own = record { deed = does for_the_turn g; readers = λ rs. refl; turn = stays own h; starved = s; valued = λ n. refl; allowed = lists_so g may; turn_list = e; no_readers = λ es. refl; no_writer = λ es. refl; parting = λ b. b; giving_up = λ g. absurd (false≢true g); joining = λ list j. joins_there g list j; idle = λ i. absurd (does_idle g i) }
+    moved_by (changes mutex.takes) may h s e own = elim (cases_Bool (is_holder t)) as (λ _. TurnMoved p l k w (changes mutex.takes)) [
       | inl held ↦ record { deed = nothing; readers = λ rs. refl; turn = stays own (h ∙ sym (held_by (is_holder t) refl held)); starved = s; valued = λ n. refl; allowed = tt; turn_list = e; no_readers = λ es. refl; no_writer = λ es. refl; parting = λ g. refl; giving_up = λ g. absurd (false≢true g); joining = λ list j. absurd (nothing_joins list j); idle = λ i. refl }
       | inr out ↦ record { deed = changes takes_turn; readers = λ rs. refl; turn = turn_own (holder_of k.turn) h; starved = s; valued = λ n. refl; allowed = took_free out h; turn_list = e; no_readers = λ es. refl; no_writer = λ es. refl; parting = λ g. absurd (false≢true g); giving_up = λ g. absurd (false≢true g); joining = λ list j. absurd (change_joins takes_turn list j); idle = λ i. absurd (change_idle mutex.takes i) }
     ]
-    moved_by (changes mutex.releases) h s e own = elim (cases_Bool (is_holder t)) as (λ _. TurnMoved p l k w (changes mutex.releases)) [
+    moved_by (changes mutex.releases) may h s e own = elim (cases_Bool (is_holder t)) as (λ _. TurnMoved p l k w (changes mutex.releases)) [
       | inl held ↦ record { deed = changes leaves_turn; readers = λ rs. refl; turn = turn_none (holder_of k.turn) k.places h; starved = s; valued = λ n. refl; allowed = inl (ap (λ o. turn_by o l.places) (held_by (is_holder t) refl held) ∙ ap (turn_as p) (sym c.share ∙ own)); turn_list = e; no_readers = λ es. refl; no_writer = λ es. refl; parting = λ g. refl; giving_up = λ g. refl; joining = λ list j. absurd (change_joins leaves_turn list j); idle = λ i. absurd (change_idle mutex.releases i) }
       | inr out ↦ record { deed = nothing; readers = λ rs. refl; turn = stays own (h ∙ sym (left_nobody (holder_of l.turn) refl h out)); starved = s; valued = λ n. refl; allowed = tt; turn_list = e; no_readers = λ es. refl; no_writer = λ es. refl; parting = λ g. refl; giving_up = λ g. absurd (false≢true g); joining = λ list j. absurd (nothing_joins list j); idle = λ i. refl }
     ]
-    moved_by (changes mutex.starves) h s e own = elim (put_on (starved_of l.turn) (starved_of k.turn) p s) as (λ _. TurnMoved p l k w (changes mutex.starves)) [
+    moved_by (changes mutex.starves) may h s e own = elim (put_on (starved_of l.turn) (starved_of k.turn) p s) as (λ _. TurnMoved p l k w (changes mutex.starves)) [
       | inl same ↦ record { deed = nothing; readers = λ rs. refl; turn = stays own h; starved = same; valued = λ n. refl; allowed = tt; turn_list = e; no_readers = λ es. refl; no_writer = λ es. refl; parting = λ g. absurd (false≢true g); giving_up = λ g. absurd (false≢true g); joining = λ list j. absurd (nothing_joins list j); idle = λ i. refl }
       | inr one ↦ record { deed = changes starves; readers = λ rs. refl; turn = stays own h; starved = s; valued = λ n. refl; allowed = (one.0, omega (arith, one.1, sees.how_many_counted k.turn.courses, afterwards.turn.few_starved, did.legal.limit)); turn_list = e; no_readers = λ es. refl; no_writer = λ es. refl; parting = λ g. absurd (false≢true g); giving_up = λ g. absurd (false≢true g); joining = λ list j. absurd (change_joins starves list j); idle = λ i. absurd (change_idle mutex.starves i) }
     ]
-    moved_by (changes mutex.recovers) h s e own = elim (put_off (starved_of l.turn) (starved_of k.turn) p s) as (λ _. TurnMoved p l k w (changes mutex.recovers)) [
+    moved_by (changes mutex.recovers) may h s e own = elim (put_off (starved_of l.turn) (starved_of k.turn) p s) as (λ _. TurnMoved p l k w (changes mutex.recovers)) [
       | inl same ↦ record { deed = nothing; readers = λ rs. refl; turn = stays own h; starved = same; valued = λ n. refl; allowed = tt; turn_list = e; no_readers = λ es. refl; no_writer = λ es. refl; parting = λ g. refl; giving_up = λ g. absurd (false≢true g); joining = λ list j. absurd (nothing_joins list j); idle = λ i. refl }
       | inr one ↦ record { deed = changes recovers; readers = λ rs. refl; turn = stays own h; starved = s; valued = λ n. refl; allowed = one; turn_list = e; no_readers = λ es. refl; no_writer = λ es. refl; parting = λ g. refl; giving_up = λ g. absurd (false≢true g); joining = λ list j. absurd (change_joins recovers list j); idle = λ i. absurd (change_idle mutex.recovers i) }
     ]
@@ -193,7 +240,7 @@ module _ (m : Move) (l k : RwLock) (ss : List Stage) (opening : ℕ) (ts : List 
     left_by (does mutex.for_the_lock g) h s e own held none = absurd (still_holds (holder_of l.turn) h held none)
 
     pub moved : share_of x ≡ passing → TurnMoved p l k w did.legal.deed
-    moved own = moved_by did.legal.deed did.legal.holder did.legal.starved did.legal.entries own
+    moved own = moved_by did.legal.deed did.legal.allowed did.legal.holder did.legal.starved did.legal.entries own
 
     pub left : share_of x ≡ upgrading → holder_of l.turn ≡ Some p → holds u ≡ 0 → TurnMoved p l k w did.legal.deed
     left own held none = left_by did.legal.deed did.legal.holder did.legal.starved did.legal.entries own held none

@@ -36,6 +36,15 @@ use Rattle.rwlock_world.specs.Steps.{Stands, Steps as Moved}
 use Rattle.rwlock_world.proofs.step.Acting.{Acting, Way, impossible, over, puts, acts, way}
 use Rattle.rwlock_world.proofs.table.Begun.{ForMoves, turn}
 use Rattle.rwlock_world.proofs.bound.Alone.{laws}
+use Rattle.std.proofs.Common.{Option, Some, None}
+use Rattle.lock_world.specs.declared.moves.Move.{Move}
+use Rattle.lock_world.specs.declared.standing.Rest.TheVariants as rest
+use Rattle.lock_world.specs.Standings.{Standing, outside, inside, forgotten, is_outside, is_decided, is_possible, decision, call_in}
+use Rattle.lock_world.proofs.Equations.{none_some}
+use Rattle.lock_frame.proofs.Endings.{ends_outside as outside_at_end}
+use Rattle.rwlock_world.specs.Legal.{knows_of}
+use Rattle.rwlock_world.specs.State.{standing_of}
+use Rattle.rwlock_world.proofs.whole.Patient.{starved_refusal, Undone, decided_inside, midway, never, goes_on}
 
 -- ---- whoever begins a call isn't about to be counted
 
@@ -74,6 +83,12 @@ rests = record {
 
 -- ---- what a step did to the turn
 
+-- so isn't its party
+pub begins_quiet : (x v : World) (p : ℕ) (c : Call) (i : Inputs) (a : Answer) (w : Within) → Acting x.behind v.behind (beginning p c i) a w → is_counting (turn_at x.behind.machine.lock.turn.courses p) ≡ false
+begins_quiet x v p c i a w k =
+    let here = place_at x.behind.machine.lock.places p in
+    (turn Rests rests (stage_at x.behind.stages p) (Begin c i) here w (k.old.fits.stands p k.inside) k.call k.first k.no_put).holds (turn_at x.behind.machine.lock.turn.courses p) (k.old.lock.in_turn p)
+
 module _ (memory : Bool) (p : ℕ) (l k : Mutex) (none : starved l ≡ 0) (not_next : is_counting (turn_at l.courses p) ≡ false) where
   abbrev Still : Type 0
   Still = (starved k ≡ 0) × (is_counting (turn_at k.courses p) ≡ false)
@@ -81,7 +96,7 @@ module _ (memory : Bool) (p : ℕ) (l k : Mutex) (none : starved l ≡ 0) (not_n
   unmoved : k ≡ l → Still
   unmoved e = (ap starved e ∙ none, ap (λ t. is_counting (turn_at t.courses p)) e ∙ not_next)
 
-  turn_uncounted : (a : Action) (f : Found) → OnTurn memory false p a f l k → Still
+  pub turn_uncounted : (a : Action) (f : Found) → OnTurn memory false p a f l k → Still
   turn_uncounted (act.Begin c) (Turn n) o = o.patient refl none not_next
   turn_uncounted (act.Begin c) _ o = absurd o
   turn_uncounted act.Go (Turn n) o = o.patient refl none not_next
@@ -119,20 +134,67 @@ module _ (p : ℕ) (i : Inputs) (patient : i.starving ≡ false) where
   by_way : (x v : World) (what : What) (a : Answer) → (inputs_of what).starving ≡ false → Stands v → starved x.behind.machine.lock.turn ≡ 0 → ((w : Within) → Acting x.behind v.behind (record { party = p; what = what }) a w → is_counting (turn_at x.behind.machine.lock.turn.courses p) ≡ false) → Way x.behind v.behind (record { party = p; what = what }) a → Then a v
   by_way x v what a quiet sv none not_next (impossible e ea eu) = stays x v a answer.NotPossible sv none (ap (λ t. t.machine.lock) eu) ea (λ h. cc)
   by_way x v what a quiet sv none not_next (over w e f ea eu) = stays x v a (refused refusal.Finished) sv none (ap (λ t. t.machine.lock) eu) ea (λ h. cc)
-  by_way x v what a quiet sv none not_next (puts w n inside o e ea eu) = stays x v a (answer.Granted (Value n)) sv none (ap (λ t. t.machine.lock) eu) ea (λ h. cc)
+  by_way x v what a quiet sv none not_next (puts w n in_table o e ea eu) = stays x v a (answer.Granted (Value n)) sv none (ap (λ t. t.machine.lock) eu) ea (λ h. cc)
   by_way x v what a quiet sv none not_next (acts w c) = stepped x v what a w quiet sv none (not_next w c) c
 
   onward : (x : World) (a : Answer) (v : World) → Unstarving p x → Moved x (going_on p i) a v → Then a v
   onward x a v g s = by_way x v (Go i) a patient s.did.stands g.now.none (λ w c. g.not_next) (way x.behind v.behind (going_on p i) a (laws x s.did.stood) (laws v s.did.stands) s.did.step)
 
   first : (c : Call) (x : World) → starved x.behind.machine.lock.turn ≡ 0 → (a : Answer) (v : World) → Moved x (beginning p c i) a v → Then a v
-  first c x none a v s = by_way x v (Begin c i) a patient s.did.stands none quiet (way x.behind v.behind (beginning p c i) a (laws x s.did.stood) (laws v s.did.stands) s.did.step) where
-    quiet : (w : Within) → Acting x.behind v.behind (beginning p c i) a w → is_counting (turn_at x.behind.machine.lock.turn.courses p) ≡ false
-    quiet w k =
-        let here = place_at x.behind.machine.lock.places p in
-        (turn Rests rests (stage_at x.behind.stages p) (Begin c i) here w (k.old.fits.stands p k.inside) k.call k.first k.no_put).holds (turn_at x.behind.machine.lock.turn.courses p) (k.old.lock.in_turn p)
+  first c x none a v s = by_way x v (Begin c i) a patient s.did.stands none (λ w k. begins_quiet x v p c i a w k) (way x.behind v.behind (beginning p c i) a (laws x s.did.stood) (laws v s.did.stands) s.did.step)
 
-starved_behind : (w : World) → Stands w → how_many w.state.starved ≡ starved w.behind.machine.lock.turn
+-- ---- and refuses nobody for too many starved parties
+
+outside_says : (s : Standing) (a : Answer) → is_outside s ≡ true → decision a s ≡ Some a
+outside_says (outside r) a h = refl
+outside_says forgotten a h = refl
+outside_says (inside u d) a h = absurd (cc h)
+
+inside_begins : (knows : Call → Bool) (u : Within) (d : Option Answer) (s : Standing) (c : Call) (i : Inputs) → s ≡ inside u d → call_in knows s (Begin c i) ≡ None
+inside_begins knows u d s c i e = ap (λ z. call_in knows z (Begin c i)) e
+
+ends_outside : (x : World) (m : Move) (a : Answer) (v : World) → Moved x m a v → a ≢ answer.Stepped → is_possible a ≡ true → is_outside (standing_of v m.party) ≡ true
+ends_outside x m a v s = outside_at_end standing_of knows_of rest.Holding x m a v s.legal.possible s.legal.ends_properly
+
+module _ (p : ℕ) (i : Inputs) (patient : i.starving ≡ false) where
+  abbrev Unrefused : Answer → World → Type 0
+  Unrefused b y = b ≡ starved_refusal → ⊥
+
+  abbrev Goes : World → Type 0
+  Goes y = Unstarving p y × Undone p y
+
+  said : (x v : World) (m : Move) (a : Answer) → m.party ≡ p → Moved x m a v → (decision a (standing_of v p) ≡ Some starved_refusal → ⊥) → a ≢ answer.Stepped → Unrefused a v
+  said x v m a is s f ends e =
+      let out : is_outside (standing_of v p) ≡ true = subst (λ (q : ℕ). is_outside (standing_of v q) ≡ true) is (ends_outside x m a v s ends (ap is_possible e)) in
+      f (outside_says (standing_of v p) a out ∙ ap Some e)
+
+  on_patient : (x : World) (a : Answer) (v : World) → Goes x → Moved x (going_on p i) a v → Onward Goes Unrefused a v
+  on_patient x a v g s =
+      let o = onward p i patient x a v g.0 s in
+      let n = never x v (going_on p i) a s g.0.not_next g.1 in
+      record { going = λ e. (o.going e, goes_on a v p n); ended = λ ends. said x v (going_on p i) a refl s n ends }
+
+  -- nor does the first step of a call
+  first_never : (c : Call) (x : World) (a : Answer) (v : World) → Moved x (beginning p c i) a v → is_decided (standing_of x p) ≡ false → decision a (standing_of v p) ≡ Some starved_refusal → ⊥
+  first_never c x a v s fresh d =
+      let at = midway x v (beginning p c i) a s (fresh, d) in
+      let never_can : a ≡ answer.NotPossible = s.legal.possible.exactly.1 (inside_begins (knows_of x p) at.0 None (standing_of x p) c i at.1) in
+      let stays : standing_of v p ≡ inside at.0 None = ap (λ z. standing_of z p) (s.legal.possible.unchanged never_can) ∙ at.1 in
+      none_some (sym (ap (decision a) stays) ∙ d)
+
+  first_patient : (c : Call) (x : World) → starved x.behind.machine.lock.turn ≡ 0 → (a : Answer) (v : World) → Moved x (beginning p c i) a v → Onward Goes Unrefused a v
+  first_patient c x none a v s = by_decided (is_decided (standing_of x p)) refl where
+    by_decided : (b : Bool) → is_decided (standing_of x p) ≡ b → Onward Goes Unrefused a v
+    by_decided true is =
+        let at = decided_inside (standing_of x p) is in
+        let never_can : a ≡ answer.NotPossible = s.legal.possible.exactly.1 (inside_begins (knows_of x p) at.0 (Some at.1) (standing_of x p) c i at.2) in
+        record { going = λ e. (let z = sym never_can ∙ e in absurd (cc z)); ended = λ ends e. (let z = sym never_can ∙ e in cc z) }
+    by_decided false is =
+        let o = first p i patient c x none a v s in
+        let n = first_never c x a v s is in
+        record { going = λ e. (o.going e, goes_on a v p n); ended = λ ends. said x v (beginning p c i) a refl s n ends }
+
+pub starved_behind : (w : World) → Stands w → how_many w.state.starved ≡ starved w.behind.machine.lock.turn
 starved_behind w s = ap (λ x. how_many x.state.starved) s.seen ∙ sees.how_many_counted w.behind.machine.lock.turn.courses
 
 not_counted : (w : World) (p : ℕ) → Unstarved p w → is_starved w p ≡ false
@@ -142,3 +204,8 @@ pub unstarved_at_end : (known : ℕ → Account) (w : World) (p : ℕ) (c : Call
 unstarved_at_end known w p c i n a v stood patient none runs ended =
     let zero : starved w.behind.machine.lock.turn ≡ 0 = sym (starved_behind w stood) ∙ none in
     not_counted v p (along Moved accounts_after HoldsWell p i (Unstarving p) (λ b y. Unstarved p y) (onward p i patient) known n w (beginning p c i) a v (first p i patient c w zero) ended runs)
+
+pub patient_at_end : (known : ℕ → Account) (w : World) (p : ℕ) (c : Call) (i : Inputs) (n : ℕ) (a : Answer) (v : World) → Stands w → i.starving ≡ false → how_many w.state.starved ≡ 0 → Runs known w (moves_of p c i n) (answers_of n a) v → a ≢ answer.Stepped → a ≢ starved_refusal
+patient_at_end known w p c i n a v stood patient none runs ended =
+    let zero : starved w.behind.machine.lock.turn ≡ 0 = sym (starved_behind w stood) ∙ none in
+    along Moved accounts_after HoldsWell p i (Goes p i patient) (Unrefused p i patient) (on_patient p i patient) known n w (beginning p c i) a v (first_patient p i patient c w zero) ended runs

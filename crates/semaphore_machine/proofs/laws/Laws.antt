@@ -30,5 +30,6 @@ is_semaphore w xs q k ordered = record {
   limited = k.sound.limited;
   owners = k.owners;
   in_order = ordered;
+  owed = k.sound.owed;
   wakes = λ rest free some. paid_at_rest roles (0 < w.available) xs (length q.entries) (marked_count q.entries) (all_rest xs rest) k.sound.in_list k.sound.owed free some;
 }

@@ -51,7 +51,7 @@ use Rattle.semaphore_machine.specs.Machine.{Semaphore, IsSemaphore, Acts, knows,
 use Rattle.semaphore_machine.proofs.laws.Kept.{after}
 use Rattle.semaphore_world.specs.State.{State, World, share_at, has_permit, standing_of, adds_of}
 use Rattle.semaphore_world.specs.View.{view_of}
-use Rattle.semaphore_world.specs.Legal.{call_of, DecidesOn, state_after, gives_something_back, added_in, notice, IsAllowed, ChangesOneThing, KnowsAdds, Carries, Waits, IsCause, IsRefusedForCause, LeavesClear, EndsProperly, Legal}
+use Rattle.semaphore_world.specs.Legal.{call_of, DecidesOn, state_after, gives_something_back, added_in, notice, may_tell, IsAllowed, ChangesOneThing, KnowsAdds, Carries, Waits, IsCause, IsRefusedForCause, LeavesClear, EndsProperly, Legal}
 use Rattle.semaphore_world.specs.Steps.{IsSemaphoreTable}
 use Rattle.semaphore_world.proofs.table.Seen as seen
 use Rattle.semaphore_world.proofs.step.Rows.{said, SharesSo, AllowedAt, is_join, Refuses, Reason, Judged, Room, Row, row, never_pending}
@@ -329,7 +329,7 @@ module _ (t u : Table Semaphore) (m : Move) (a : Answer) (w : Within) where
     allowed_so (does list joins) h = tt
     allowed_so (does list asks) h = tt
     allowed_so (does list leaves) h = tt
-    allowed_so (does list (notifies n)) h = ap (λ z. notice z (adds_of old p)) stood ∙ (ap (notice (stands_as (verdict x) s)) (seen.adds_seen t p) ∙ k.here.told n h)
+    allowed_so (does list (notifies n)) h = (ap (λ z. notice z (adds_of old p)) stood ∙ (ap (notice (stands_as (verdict x) s)) (seen.adds_seen t p) ∙ k.here.told n h), ap may_tell stood ∙ k.here.tells n h)
     allowed_so (does list (notifies_additionally n)) h = h
 
     decided_there : is_decided (standing_of old p) || is_giving_back m.what ≡ is_some (verdict_of from)

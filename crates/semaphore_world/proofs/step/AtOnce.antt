@@ -12,7 +12,9 @@ use Rattle.lock_world.specs.declared.standing.Kind.TheVariants as kind
 use Rattle.lock_world.specs.declared.standing.Rest.TheVariants as rest
 use Rattle.lock_world.specs.declared.standing.Stage.{Stage}
 use Rattle.lock_world.specs.declared.standing.Within.{Within}
-use Rattle.lock_world.specs.Standings.{Standing, outside, inside, inputs_of, decision}
+use Rattle.lock_program.specs.declared.refusal.Refusal.TheVariants as refusal
+use Rattle.std.proofs.Common.{None}
+use Rattle.lock_world.specs.Standings.{Standing, outside, inside, inputs_of, decision, refused}
 use Rattle.lock_world.specs.Frame.{is_drop}
 use Rattle.lock_world.specs.Steps.{Deed, nothing, changes, does, notifies}
 use Rattle.lock_world.proofs.Equations.{some_eq, not_one, outside_inside}
@@ -22,7 +24,7 @@ use Rattle.sync_program.specs.declared.semaphore.Action.TheVariants as act
 use Rattle.sync_program.specs.declared.semaphore.Found.{Found}
 use Rattle.sync_program.specs.declared.semaphore.Found.TheVariants.{Done, Taken, NoneLeft, PastLimit, NoMemory, Yes, No}
 use Rattle.sync_program.specs.declared.semaphore.Place.{Place}
-use Rattle.sync_program.specs.declared.semaphore.Place.TheVariants.{Take, Retake, Try, Lower, GiveBack, GiveBackNotify, Raise, GiveAdded, NotifyAdded}
+use Rattle.sync_program.specs.declared.semaphore.Place.TheVariants.{Take, Retake, RefuseNotify, Try, Lower, GiveBack, GiveBackNotify, Raise, GiveAdded, NotifyAdded}
 use Rattle.sync_program.specs.declared.semaphore.Position.{Position}
 use Rattle.sync_program.specs.declared.semaphore.Position.TheVariants.{At}
 use Rattle.semaphore_machine.specs.Program.{action_of, next_of}
@@ -52,6 +54,8 @@ pub record EntranceAt (s : Standing) (what : What) (x : Position) (from : Place)
   pub drops : is_drop what ≡ true → s ≡ outside rest.Holding → from ≡ GiveBack
   -- and those at which the drop of a guard and an add go on
   pub returns : s ≡ inside (record { kind = kind.Drop; was = rest.Holding }) (Some answer.GivenBack) → from ≡ GiveBackNotify
+  -- and where a poll goes on that is to be refused for memory
+  pub refuses : (v : Within) → s ≡ inside v (Some (refused refusal.Memory)) → from ≡ RefuseNotify
   pub gives : s ≡ inside (record { kind = kind.Add; was = rest.Idle }) (Some (answer.Granted Plain)) → (n : ℕ) × ((from ≡ GiveAdded n) ⊎ (from ≡ NotifyAdded n)) × (x ≡ At from)
 
 abbrev pub Entrance : Stage → What → Within → Position → Place → Type 0
@@ -72,6 +76,13 @@ adding_at _ b h = absurd (cc h)
 same_call : (w v : Within) (d e : Option Answer) → inside w d ≡ inside v e → w ≡ v
 same_call w v d e h = cc h
 
+same_decision : (w v : Within) (d e : Option Answer) → inside w d ≡ inside v e → d ≡ e
+same_decision w v d e h = cc h
+
+refuses_at : (x : Place) → verdict_of x ≡ Some (refused refusal.Memory) → x ≡ RefuseNotify
+refuses_at RefuseNotify e = refl
+refuses_at _ e = absurd (cc e)
+
 returns_at : (w : Within) (x : Place) → inside w (verdict_of x) ≡ inside (record { kind = kind.Drop; was = rest.Holding }) (Some answer.GivenBack) → is_begun x ≡ true → runs w.kind w.was x ≡ true → x ≡ GiveBackNotify
 returns_at w x e begun here = let R : Within → Type 0 = λ v. runs v.kind v.was x ≡ true in returning_at x begun (subst R (same_call _ _ _ _ e) here)
 
@@ -80,16 +91,16 @@ gives_at w x e begun here = let R : Within → Type 0 = λ v. runs v.kind v.was 
 
 pub entrance : (s : Stage) (what : What) (w : Within) (x : Position) → goes_with s x ≡ true → call_at knows s what ≡ Some w → polls_again s what ≡ false → Turn Entrance s what w x
 entrance = turn Entrance (record {
-  acquire = λ i. record { tries = λ h. absurd (cc); polls = λ h. inl refl; first = λ n h l. refl; adds = λ n e. absurd (cc); forgets = λ h. absurd (cc); drops = λ h e. absurd (cc); returns = λ e. absurd (outside_inside e); gives = λ e. absurd (outside_inside e) };
-  try = λ i. record { tries = λ h. refl; polls = λ h. absurd (cc); first = λ n h l. absurd (cc); adds = λ n e. absurd (cc); forgets = λ h. absurd (cc); drops = λ h e. absurd (cc); returns = λ e. absurd (outside_inside e); gives = λ e. absurd (outside_inside e) };
-  add = λ k i. record { tries = λ h. absurd (cc); polls = λ h. absurd (cc); first = λ n h l. absurd (cc); adds = λ n e. ap Raise (some_eq e); forgets = λ h. absurd (cc); drops = λ h e. absurd (cc); returns = λ e. absurd (outside_inside e); gives = λ e. absurd (outside_inside e) };
-  poll = λ i. record { tries = λ h. absurd (cc); polls = λ h. inl refl; first = λ n h l. refl; adds = λ n e. absurd (cc); forgets = λ h. absurd (cc); drops = λ h e. absurd (cc); returns = λ e. absurd (outside_inside e); gives = λ e. absurd (outside_inside e) };
-  poll_listed = λ i. record { tries = λ h. absurd (cc); polls = λ h. inr refl; first = λ n h l. absurd (not_one n h l); adds = λ n e. absurd (cc); forgets = λ h. absurd (cc); drops = λ h e. absurd (cc); returns = λ e. absurd (outside_inside e); gives = λ e. absurd (outside_inside e) };
-  abandon = λ i. record { tries = λ h. absurd (cc); polls = λ h. absurd (cc); first = λ n h l. absurd (cc); adds = λ n e. absurd (cc); forgets = λ h. absurd (cc); drops = λ h e. absurd (cc); returns = λ e. absurd (outside_inside e); gives = λ e. absurd (outside_inside e) };
-  cancel = λ i. record { tries = λ h. absurd (cc); polls = λ h. absurd (cc); first = λ n h l. absurd (cc); adds = λ n e. absurd (cc); forgets = λ h. absurd (cc); drops = λ h e. absurd (cc); returns = λ e. absurd (outside_inside e); gives = λ e. absurd (outside_inside e) };
-  give_back = λ i. record { tries = λ h. absurd (cc); polls = λ h. absurd (cc); first = λ n h l. absurd (cc); adds = λ n e. absurd (cc); forgets = λ h. absurd (cc); drops = λ h e. refl; returns = λ e. absurd (outside_inside e); gives = λ e. absurd (outside_inside e) };
-  forget = λ i. record { tries = λ h. absurd (cc); polls = λ h. absurd (cc); first = λ n h l. absurd (cc); adds = λ n e. absurd (cc); forgets = λ h. refl; drops = λ h e. absurd (cc); returns = λ e. absurd (outside_inside e); gives = λ e. absurd (outside_inside e) };
-  go = λ w x i begun here. record { tries = λ h. absurd (cc); polls = λ h. absurd (cc); first = λ n h l. absurd (cc); adds = λ n e. absurd (cc); forgets = λ h. absurd (cc); drops = λ h e. absurd (cc); returns = λ e. returns_at w x e begun here; gives = λ e. gives_at w x e begun here };
+  acquire = λ i. record { tries = λ h. absurd (cc); polls = λ h. inl refl; first = λ n h l. refl; adds = λ n e. absurd (cc); forgets = λ h. absurd (cc); drops = λ h e. absurd (cc); returns = λ e. absurd (outside_inside e); refuses = λ v e. absurd (outside_inside e); gives = λ e. absurd (outside_inside e) };
+  try = λ i. record { tries = λ h. refl; polls = λ h. absurd (cc); first = λ n h l. absurd (cc); adds = λ n e. absurd (cc); forgets = λ h. absurd (cc); drops = λ h e. absurd (cc); returns = λ e. absurd (outside_inside e); refuses = λ v e. absurd (outside_inside e); gives = λ e. absurd (outside_inside e) };
+  add = λ k i. record { tries = λ h. absurd (cc); polls = λ h. absurd (cc); first = λ n h l. absurd (cc); adds = λ n e. ap Raise (some_eq e); forgets = λ h. absurd (cc); drops = λ h e. absurd (cc); returns = λ e. absurd (outside_inside e); refuses = λ v e. absurd (outside_inside e); gives = λ e. absurd (outside_inside e) };
+  poll = λ i. record { tries = λ h. absurd (cc); polls = λ h. inl refl; first = λ n h l. refl; adds = λ n e. absurd (cc); forgets = λ h. absurd (cc); drops = λ h e. absurd (cc); returns = λ e. absurd (outside_inside e); refuses = λ v e. absurd (outside_inside e); gives = λ e. absurd (outside_inside e) };
+  poll_listed = λ i. record { tries = λ h. absurd (cc); polls = λ h. inr refl; first = λ n h l. absurd (not_one n h l); adds = λ n e. absurd (cc); forgets = λ h. absurd (cc); drops = λ h e. absurd (cc); returns = λ e. absurd (outside_inside e); refuses = λ v e. absurd (outside_inside e); gives = λ e. absurd (outside_inside e) };
+  abandon = λ i. record { tries = λ h. absurd (cc); polls = λ h. absurd (cc); first = λ n h l. absurd (cc); adds = λ n e. absurd (cc); forgets = λ h. absurd (cc); drops = λ h e. absurd (cc); returns = λ e. absurd (outside_inside e); refuses = λ v e. absurd (outside_inside e); gives = λ e. absurd (outside_inside e) };
+  cancel = λ i. record { tries = λ h. absurd (cc); polls = λ h. absurd (cc); first = λ n h l. absurd (cc); adds = λ n e. absurd (cc); forgets = λ h. absurd (cc); drops = λ h e. absurd (cc); returns = λ e. absurd (outside_inside e); refuses = λ v e. absurd (outside_inside e); gives = λ e. absurd (outside_inside e) };
+  give_back = λ i. record { tries = λ h. absurd (cc); polls = λ h. absurd (cc); first = λ n h l. absurd (cc); adds = λ n e. absurd (cc); forgets = λ h. absurd (cc); drops = λ h e. refl; returns = λ e. absurd (outside_inside e); refuses = λ v e. absurd (outside_inside e); gives = λ e. absurd (outside_inside e) };
+  forget = λ i. record { tries = λ h. absurd (cc); polls = λ h. absurd (cc); first = λ n h l. absurd (cc); adds = λ n e. absurd (cc); forgets = λ h. refl; drops = λ h e. absurd (cc); returns = λ e. absurd (outside_inside e); refuses = λ v e. absurd (outside_inside e); gives = λ e. absurd (outside_inside e) };
+  go = λ w x i begun here. record { tries = λ h. absurd (cc); polls = λ h. absurd (cc); first = λ n h l. absurd (cc); adds = λ n e. absurd (cc); forgets = λ h. absurd (cc); drops = λ h e. absurd (cc); returns = λ e. returns_at w x e begun here; refuses = λ v e. refuses_at x (same_decision _ _ _ _ e); gives = λ e. gives_at w x e begun here };
 })
 
 -- ---- What is found there
@@ -309,5 +320,6 @@ module _ (t u : Table Semaphore) (m : Move) (a : Answer) (w : Within) (k : Actin
     looks = λ which possible. looks (is_try m.what) (is_poll (stands_as (verdict (position_at t.machine.positions p)) (stage_at t.stages p)) m.what) refl refl (sym (ap (λ z. is_try m.what || is_poll z m.what) (acting.stood t u m a w k)) ∙ which);
     returned = returned;
     notifies = λ stands possible. let e = door.returns (sym (acting.stood t u m a w k) ∙ stands) in (answered GiveBackNotify e, told_there GiveBackNotify 1 e refl);
+    refuses = λ v stands possible. let e = door.refuses v (sym (acting.stood t u m a w k) ∙ stands) in (answered RefuseNotify e, told_there RefuseNotify 1 e refl);
     gives = λ stands possible some. let at = door.gives (sym (acting.stood t u m a w k) ∙ stands) in gives_so at.0 at.1 at.2 some;
   }

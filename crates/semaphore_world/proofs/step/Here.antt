@@ -24,7 +24,7 @@ use Rattle.semaphore_machine.specs.Program.{action_of}
 use Rattle.semaphore_machine.specs.Seats.{seat_of, seated, verdict, verdict_of, adds_at}
 use Rattle.semaphore_machine.specs.Machine.{knows, goes_with, runs, is_begun, is_polling, is_adding, is_returning}
 use Rattle.semaphore_machine.proofs.stages.Turns.{Turn, turn}
-use Rattle.semaphore_world.specs.Legal.{added_in, is_forget, is_add, notice}
+use Rattle.semaphore_world.specs.Legal.{added_in, is_forget, is_add, notice, may_tell}
 use Rattle.semaphore_world.proofs.step.Rows.{is_join}
 
 pub record Here (s : Stage) (what : What) (w : Within) (x : Position) (from : Place) : Type 0 where
@@ -39,6 +39,7 @@ pub record Here (s : Stage) (what : What) (w : Within) (x : Position) (from : Pl
   pub adds : (n : ℕ) → added_in what ≡ Some n → (from ≡ Raise n) × (x ≡ Out)
   pub gives : (n : ℕ) → from ≡ GiveAdded n → adds_at x ≡ n
   pub told : (n : ℕ) → action_of from ≡ act.Notify n → notice (stands_as (verdict x) s) (adds_at x) ≡ n
+  pub tells : (n : ℕ) → action_of from ≡ act.Notify n → may_tell (stands_as (verdict x) s) ≡ true
   pub going : (i : Inputs) → what ≡ Go i → (x ≡ At from) × (is_begun from ≡ true)
 
 joins_so : (w : Within) (x : Place) → is_join x ≡ true → IsUndecided (inside w (verdict_of x))
@@ -80,17 +81,44 @@ told_so kind.Forget rest.Holding Lower n b h e = absurd (cc)
 told_so kind.Forget rest.Holding _ n b h e = absurd (cc h)
 told_so _ _ x n b h e = absurd (cc h)
 
+polls_tells : (k : Kind) (r : Rest) (x : Place) (n : ℕ) → is_polling x ≡ true → action_of x ≡ act.Notify n → may_tell (inside (record { kind = k; was = r }) (verdict_of x)) ≡ true
+polls_tells k r HandOn n h e = refl
+polls_tells k r RefuseNotify n h e = refl
+polls_tells k r _ n h e = absurd (cc)
+
+adds_tells : (r : Rest) (x : Place) (n : ℕ) → is_adding x ≡ true → action_of x ≡ act.Notify n → may_tell (inside (record { kind = kind.Add; was = r }) (verdict_of x)) ≡ true
+adds_tells r (NotifyAdded k) n h e = refl
+adds_tells r _ n h e = absurd (cc)
+
+returns_tells : (k : Kind) (x : Place) (n : ℕ) → is_returning x ≡ true → action_of x ≡ act.Notify n → may_tell (inside (record { kind = k; was = rest.Holding }) (verdict_of x)) ≡ true
+returns_tells k GiveBackNotify n h e = refl
+returns_tells k _ n h e = absurd (cc)
+
+tells_so : (k : Kind) (r : Rest) (x : Place) (n : ℕ) → is_begun x ≡ true → runs k r x ≡ true → action_of x ≡ act.Notify n → may_tell (inside (record { kind = k; was = r }) (verdict_of x)) ≡ true
+tells_so kind.FirstPoll rest.Idle x n b h e = polls_tells kind.FirstPoll rest.Idle x n h e
+tells_so kind.LaterPoll rest.Pending x n b h e = polls_tells kind.LaterPoll rest.Pending x n h e
+tells_so kind.Add rest.Idle x n b h e = adds_tells rest.Idle x n h e
+tells_so kind.Drop rest.Holding x n b h e = returns_tells kind.Drop x n h e
+tells_so kind.Drop rest.Pending CancelLeave n b h e = absurd (cc)
+tells_so kind.Drop rest.Pending Abandon n b h e = absurd (cc)
+tells_so kind.Drop rest.Pending _ n b h e = absurd (cc h)
+tells_so kind.Try rest.Idle Try n b h e = absurd (cc)
+tells_so kind.Try rest.Idle _ n b h e = absurd (cc h)
+tells_so kind.Forget rest.Holding Lower n b h e = absurd (cc)
+tells_so kind.Forget rest.Holding _ n b h e = absurd (cc h)
+tells_so _ _ x n b h e = absurd (cc h)
+
 pub here : (s : Stage) (what : What) (w : Within) (x : Position) → goes_with s x ≡ true → call_at knows s what ≡ Some w → polls_again s what ≡ false → Turn Here s what w x
 here = turn Here (record {
-  acquire = λ i. record { same = refl; decides = refl; kept = λ u b e. absurd (cc); undecided = λ h b e. cc; joins = λ h. absurd (cc); drop = λ e. cc; forget = λ e. cc; raise = λ n e. cc; adds = λ n e. absurd (cc); gives = λ n e. cc; told = λ n e. absurd (cc); going = λ i e. absurd (cc) };
-  try = λ i. record { same = refl; decides = refl; kept = λ u b e. absurd (cc); undecided = λ h b e. cc; joins = λ h. absurd (cc); drop = λ e. cc; forget = λ e. cc; raise = λ n e. cc; adds = λ n e. absurd (cc); gives = λ n e. cc; told = λ n e. absurd (cc); going = λ i e. absurd (cc) };
-  add = λ n i. record { same = refl; decides = refl; kept = λ u b e. absurd (cc); undecided = λ h b e. cc; joins = λ h. absurd (cc); drop = λ e. cc; forget = λ e. cc; raise = λ k e. cc; adds = λ k e. (cc, refl); gives = λ k e. cc; told = λ k e. absurd (cc); going = λ i e. absurd (cc) };
-  poll = λ i. record { same = refl; decides = refl; kept = λ u b e. absurd (cc); undecided = λ h b e. cc; joins = λ h. absurd (cc); drop = λ e. cc; forget = λ e. cc; raise = λ n e. cc; adds = λ n e. absurd (cc); gives = λ n e. cc; told = λ n e. absurd (cc); going = λ i e. absurd (cc) };
-  poll_listed = λ i. record { same = refl; decides = refl; kept = λ u b e. absurd (cc); undecided = λ h b e. cc; joins = λ h. absurd (cc); drop = λ e. cc; forget = λ e. cc; raise = λ n e. cc; adds = λ n e. absurd (cc); gives = λ n e. cc; told = λ n e. absurd (cc); going = λ i e. absurd (cc) };
-  abandon = λ i. record { same = refl; decides = refl; kept = λ u b e. absurd (cc); undecided = λ h b e. cc; joins = λ h. absurd (cc); drop = λ e. cc; forget = λ e. cc; raise = λ n e. cc; adds = λ n e. absurd (cc); gives = λ n e. cc; told = λ n e. absurd (cc); going = λ i e. absurd (cc) };
-  cancel = λ i. record { same = refl; decides = refl; kept = λ u b e. absurd (cc); undecided = λ h b e. cc; joins = λ h. absurd (cc); drop = λ e. cc; forget = λ e. cc; raise = λ n e. cc; adds = λ n e. absurd (cc); gives = λ n e. cc; told = λ n e. absurd (cc); going = λ i e. absurd (cc) };
-  give_back = λ i. record { same = refl; decides = refl; kept = λ u b e. absurd (cc); undecided = λ h b e. cc; joins = λ h. absurd (cc); drop = λ e. cc; forget = λ e. cc; raise = λ n e. cc; adds = λ n e. absurd (cc); gives = λ n e. cc; told = λ n e. absurd (cc); going = λ i e. absurd (cc) };
-  forget = λ i. record { same = refl; decides = refl; kept = λ u b e. absurd (cc); undecided = λ h b e. cc; joins = λ h. absurd (cc); drop = λ e. cc; forget = λ e. cc; raise = λ n e. cc; adds = λ n e. absurd (cc); gives = λ n e. cc; told = λ n e. absurd (cc); going = λ i e. absurd (cc) };
+  acquire = λ i. record { same = refl; decides = refl; kept = λ u b e. absurd (cc); undecided = λ h b e. cc; joins = λ h. absurd (cc); drop = λ e. cc; forget = λ e. cc; raise = λ n e. cc; adds = λ n e. absurd (cc); gives = λ n e. cc; told = λ n e. absurd (cc); tells = λ n e. absurd (cc); going = λ i e. absurd (cc) };
+  try = λ i. record { same = refl; decides = refl; kept = λ u b e. absurd (cc); undecided = λ h b e. cc; joins = λ h. absurd (cc); drop = λ e. cc; forget = λ e. cc; raise = λ n e. cc; adds = λ n e. absurd (cc); gives = λ n e. cc; told = λ n e. absurd (cc); tells = λ n e. absurd (cc); going = λ i e. absurd (cc) };
+  add = λ n i. record { same = refl; decides = refl; kept = λ u b e. absurd (cc); undecided = λ h b e. cc; joins = λ h. absurd (cc); drop = λ e. cc; forget = λ e. cc; raise = λ k e. cc; adds = λ k e. (cc, refl); gives = λ k e. cc; told = λ k e. absurd (cc); tells = λ k e. absurd (cc); going = λ i e. absurd (cc) };
+  poll = λ i. record { same = refl; decides = refl; kept = λ u b e. absurd (cc); undecided = λ h b e. cc; joins = λ h. absurd (cc); drop = λ e. cc; forget = λ e. cc; raise = λ n e. cc; adds = λ n e. absurd (cc); gives = λ n e. cc; told = λ n e. absurd (cc); tells = λ n e. absurd (cc); going = λ i e. absurd (cc) };
+  poll_listed = λ i. record { same = refl; decides = refl; kept = λ u b e. absurd (cc); undecided = λ h b e. cc; joins = λ h. absurd (cc); drop = λ e. cc; forget = λ e. cc; raise = λ n e. cc; adds = λ n e. absurd (cc); gives = λ n e. cc; told = λ n e. absurd (cc); tells = λ n e. absurd (cc); going = λ i e. absurd (cc) };
+  abandon = λ i. record { same = refl; decides = refl; kept = λ u b e. absurd (cc); undecided = λ h b e. cc; joins = λ h. absurd (cc); drop = λ e. cc; forget = λ e. cc; raise = λ n e. cc; adds = λ n e. absurd (cc); gives = λ n e. cc; told = λ n e. absurd (cc); tells = λ n e. absurd (cc); going = λ i e. absurd (cc) };
+  cancel = λ i. record { same = refl; decides = refl; kept = λ u b e. absurd (cc); undecided = λ h b e. cc; joins = λ h. absurd (cc); drop = λ e. cc; forget = λ e. cc; raise = λ n e. cc; adds = λ n e. absurd (cc); gives = λ n e. cc; told = λ n e. absurd (cc); tells = λ n e. absurd (cc); going = λ i e. absurd (cc) };
+  give_back = λ i. record { same = refl; decides = refl; kept = λ u b e. absurd (cc); undecided = λ h b e. cc; joins = λ h. absurd (cc); drop = λ e. cc; forget = λ e. cc; raise = λ n e. cc; adds = λ n e. absurd (cc); gives = λ n e. cc; told = λ n e. absurd (cc); tells = λ n e. absurd (cc); going = λ i e. absurd (cc) };
+  forget = λ i. record { same = refl; decides = refl; kept = λ u b e. absurd (cc); undecided = λ h b e. cc; joins = λ h. absurd (cc); drop = λ e. cc; forget = λ e. cc; raise = λ n e. cc; adds = λ n e. absurd (cc); gives = λ n e. cc; told = λ n e. absurd (cc); tells = λ n e. absurd (cc); going = λ i e. absurd (cc) };
   go = λ w x i begun here. record {
     same = refl;
     decides = decides_so w (verdict_of x);
@@ -103,6 +131,7 @@ here = turn Here (record {
     adds = λ n e. absurd (cc);
     gives = λ n e. gives_so x n e;
     told = λ n e. told_so w.kind w.was x n begun here e;
+    tells = λ n e. tells_so w.kind w.was x n begun here e;
     going = λ j e. (refl, begun);
   };
 })

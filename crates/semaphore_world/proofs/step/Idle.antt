@@ -90,6 +90,7 @@ module _ (w : World) (m : Move) (well : StandsWell w) where
     looks = λ e h. absurd (cc);
     returned = λ d e. absurd (drop_possible 0 s m.what d e none);
     notifies = λ e h. absurd (cc);
+    refuses = λ v e h. absurd (cc);
     gives = λ e h. absurd (cc);
   }
 
@@ -120,5 +121,6 @@ module _ (w : World) (m : Move) (well : StandsWell w) where
       looks = λ e g. (let never : is_try m.what || is_poll s m.what ≡ false = ap (λ b. b || is_poll s m.what) so.try ∙ so.poll in absurd (false≢true (sym never ∙ e)));
       returned = λ d e. (let never = so.drop in absurd (cc));
       notifies = λ e g. absurd (so.outside _ _ e);
+      refuses = λ v e g. absurd (so.outside _ _ e);
       gives = λ e g. absurd (so.outside _ _ e);
     }

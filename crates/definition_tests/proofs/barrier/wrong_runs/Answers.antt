@@ -24,6 +24,12 @@ use Rattle.barrier_world.specs.Numbers.{Leads, IsFinished, generations_of}
 use Rattle.barrier_world.specs.State.{World, wait_of}
 use Rattle.barrier_world.proofs.Numbers.{next_generation}
 use Rattle.definition_tests.proofs.barrier.wrong_runs.Goals as goal
+use Rattle.lock_world.specs.Steps.{notifies}
+use Rattle.lock_world.proofs.Equations.{outside_inside}
+use Rattle.barrier_world.specs.declared.world.ListName.TheVariants.{Lock}
+use Rattle.barrier_world.specs.Legal.{Legal, DecidesOn, IsOutOfStarved}
+use Rattle.barrier_world.specs.State.{LockState}
+use Rattle.std.proofs.lemmas.Bool.{true≢false}
 
 -- ---- Arrivals
 
@@ -213,3 +219,38 @@ returns-clause-keeps_its_told c = λ r. let some = r.kept.hands_on r.polls r.was
 
 pub returns-clause-looks_in_vain : goal.returns-clause-looks_in_vain
 returns-clause-looks_in_vain c = λ r. r.not_taken ((r.legal.first_poll r.first).takes.1 r.free)
+
+pub returns-clause-wakes_all : goal.returns-clause-wakes_all
+returns-clause-wakes_all c = λ r.
+    let P : Deed Change ListName → Type 0 = IsAllowed r.step.old r.step.move in
+    let allowed : P (does Lock (notifies r.many)) = subst P r.notifies r.legal.one_change.allowed in
+    r.more allowed.one
+
+pub returns-clause-sleeps_though_free : goal.returns-clause-sleeps_though_free
+returns-clause-sleeps_though_free c = λ r. elim (r.sound.told_or_due r.free r.party r.stands r.listed) as (λ _. ⊥) [ inl some ↦ absurd (omega (arith, some, r.none_told)) | inr one ↦ r.none_due one.0 one.1 ]
+
+-- a refusal for too many starved parties has that cause
+starved_cause : (m : Move) (old new : World) (r : Refusal) → number_of refusal.Starved ≡ number_of r → IsCause old m new r → IsOutOfStarved old m new
+starved_cause m old new refusal.Starved e h = h
+starved_cause m old new _ e h = absurd (cc e)
+
+its_cause : (old : World) (m : Move) (a : Answer) (new : World) → Legal old m a new → DecidesOn old m a new (refused refusal.Starved) → IsOutOfStarved old m new
+its_cause old m a new legal d = let why = legal.refused_for_cause.cause (number_of refusal.Starved) d in starved_cause m old new why.0 why.1 why.2
+
+pub returns-clause-starved_having_taken : goal.returns-clause-starved_having_taken
+returns-clause-starved_having_taken c = λ r. r.took (ap (λ (s : LockState). s.holder) (its_cause _ _ _ _ r.legal r.refused).unchanged.lock)
+
+pub returns-clause-starved_twice : goal.returns-clause-starved_twice
+returns-clause-starved_twice c = λ r. true≢false (sym r.starved ∙ (its_cause _ _ _ _ r.legal r.refused).unstarved)
+
+pub returns-clause-starved_at_first : goal.returns-clause-starved_at_first
+returns-clause-starved_at_first c = λ r. let was = (its_cause _ _ _ _ r.legal r.refused).undecided in outside_inside (sym r.begins ∙ was.1)
+
+pub returns-clause-starved_for_nothing : goal.returns-clause-starved_for_nothing
+returns-clause-starved_for_nothing c = λ r. r.kept.patient r.patient r.none_starved r.is_refused
+
+pub returns-clause-releases_silently : goal.returns-clause-releases_silently
+returns-clause-releases_silently c = λ r. let some = ((r.kept.solo r.polls r.solo r.free).takes (inr r.none_starved)).told r.some in absurd (omega (arith, some, r.none_told))
+
+pub returns-clause-wakes_in_a_ring : goal.returns-clause-wakes_in_a_ring
+returns-clause-wakes_in_a_ring c = λ r. true≢false (sym (r.kept.tells_nobody r.patient r.none_starved r.pending r.listed r.other r.another r.told) ∙ r.untold)

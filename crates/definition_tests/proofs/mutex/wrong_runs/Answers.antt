@@ -20,6 +20,8 @@ use Rattle.lock_world.proofs.Lists.{notified_marked}
 use Rattle.mutex_world.specs.Legal.{Change, ListName, takes, releases, starves, recovers, puts, state_after, gives_up, notifies_one, is_try, is_first_poll, HasItsOwn, IsCause}
 use Rattle.mutex_world.specs.State.{State, World, standing_of, is_free}
 use Rattle.definition_tests.proofs.mutex.wrong_runs.Goals as goal
+use Rattle.std.proofs.Common.{inl}
+use Rattle.mutex_world.specs.Legal.{for_the_lock, may_tell}
 
 chosen : (b : Bool) (x y : Answer) → b ≡ true → (if b then x else y) ≡ x
 chosen true x y e = refl
@@ -168,3 +170,15 @@ returns-clause-starved_among_none c = λ r. r.kept.patient r.patient r.unstarved
 
 pub returns-clause-keeps_its_told : goal.returns-clause-keeps_its_told
 returns-clause-keeps_its_told c = λ r. let some = r.kept.hands_on r.polls r.pending r.listed r.refused r.some in absurd (omega (arith, some, r.none_told))
+
+never_tells : (s : Standing) (b : Bool) (n : ℕ) (w : Within) → s ≡ inside w None → b ≡ false → n ≡ 1 → may_tell s b n ≡ true → ⊥
+never_tells s b n w e fresh one h = false≢true (sym (ap (λ z. may_tell z b n) e ∙ (ap (λ z. may_tell (inside w None) z n) fresh ∙ ap (may_tell (inside w None) false) one)) ∙ h)
+
+pub returns-clause-wakes_the_next : goal.returns-clause-wakes_the_next
+returns-clause-wakes_the_next c = λ r. never_tells _ _ _ r.within r.undecided r.unstarved r.listed (r.legal.one_change.tells for_the_lock r.many r.notifies)
+
+pub returns-clause-sleeps_though_free : goal.returns-clause-sleeps_though_free
+returns-clause-sleeps_though_free c = λ r. elim (r.sound.told_or_due r.free r.party r.stands r.listed) as (λ _. ⊥) [ inl some ↦ absurd (omega (arith, some, r.none_told)) | inr one ↦ r.none_due one.0 one.1 ]
+
+pub returns-clause-wakes_in_a_ring : goal.returns-clause-wakes_in_a_ring
+returns-clause-wakes_in_a_ring c = λ r. true≢false (sym (r.kept.tells_nobody r.patient r.none_starved r.pending r.other r.another r.told) ∙ r.untold)

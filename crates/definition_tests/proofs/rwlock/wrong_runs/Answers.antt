@@ -25,6 +25,10 @@ use Rattle.rwlock_world.specs.Legal.{DecidesOn, HasItsOwn, HasNothing, MayMeet, 
 use Rattle.rwlock_world.specs.State.{ListName, Turn, nobody, passes, waits_to_write, is_marked, HasTurn, State, World, standing_of, sought_by, how_many_read, is_upgrader}
 use Rattle.definition_tests.specs.ReadWrite.{Step, IsLegal}
 use Rattle.definition_tests.proofs.rwlock.wrong_runs.Goals as goal
+use Rattle.lock_world.specs.Standings.{IsUndecided}
+use Rattle.lock_world.specs.Steps.{notifies, notifies_additionally}
+use Rattle.rwlock_world.specs.Changes.{IsAllowed}
+use Rattle.rwlock_world.specs.State.{is_starved, for_the_turn, for_no_readers, for_no_writer}
 
 none_possible : (a : Answer) → a ≡ answer.None → is_possible a ≡ true
 none_possible a e = ap is_possible e
@@ -273,3 +277,71 @@ returns-clause-starves_unasked c = λ r. true≢false (sym r.starved ∙ r.kept.
 
 pub returns-clause-keeps_its_told : goal.returns-clause-keeps_its_told
 returns-clause-keeps_its_told c = λ r. let some = r.kept.hands_on r.list r.polls r.pending r.listed r.refused r.some in absurd (omega (arith, some, r.none_told))
+
+pub returns-clause-tries_turn_in_vain : goal.returns-clause-tries_turn_in_vain
+returns-clause-tries_turn_in_vain c = λ r. none_some (sym (r.legal.try_goes_on r.tries r.possible r.free) ∙ r.none)
+
+pub returns-clause-starved_having_taken : goal.returns-clause-starved_having_taken
+returns-clause-starved_having_taken c = λ r.
+    let one = r.legal.one_change in
+    r.took (ap (λ (s : State). s.turn) one.state ∙ turn_kept r.step.move.party one.deed r.step.old.state.turn (one.starved_idly r.refused))
+
+-- what a refusal for too many starved parties found
+record Fresh (m : Move) (old : World) : Type 0 where
+  pub unstarved : is_starved old m.party ≡ false
+  pub undecided : IsUndecided (standing_of old m.party)
+
+fresh_then : (m : Move) (old new : World) (r : Refusal) → number_of refusal.Starved ≡ number_of r → IsCause old m new r → Fresh m old
+fresh_then m old new refusal.Starved e h = record { unstarved = h.2; undecided = h.3 }
+fresh_then m old new _ e h = absurd (cc e)
+
+fresh_in : (s : Step) → IsLegal s → DecidesOn s.old s.move s.answer s.new (refused refusal.Starved) → Fresh s.move s.old
+fresh_in s legal d = let why = legal.refused_for_cause.cause (number_of refusal.Starved) d in fresh_then s.move s.old s.new why.0 why.1 why.2
+
+pub returns-clause-starved_twice : goal.returns-clause-starved_twice
+returns-clause-starved_twice c = λ r. true≢false (sym r.starved ∙ (fresh_in r.step r.legal r.refused).unstarved)
+
+pub returns-clause-starved_at_first : goal.returns-clause-starved_at_first
+returns-clause-starved_at_first c = λ r. let was = (fresh_in r.step r.legal r.refused).undecided in outside_inside (sym r.begins ∙ was.1)
+
+pub returns-clause-decides_in_vain : goal.returns-clause-decides_in_vain
+returns-clause-decides_in_vain c = λ r. true≢false (sym (r.legal.leaves_clear.decided r.party r.within r.by r.decided) ∙ r.never)
+
+allowed_at : (s : Step) (legal : IsLegal s) (d : Deed Change ListName) → legal.one_change.deed ≡ d → IsAllowed s.move.party d s.old
+allowed_at s legal d e = let P : Deed Change ListName → Type 0 = λ x. IsAllowed s.move.party x s.old in subst P e legal.one_change.allowed
+
+tells_one : (w : World) (p : ℕ) (list : ListName) (n : ℕ) → IsAllowed p (does list (notifies n)) w → n ≡ 1
+tells_one w p for_the_turn n h = h.one
+tells_one w p for_no_readers n h = h
+tells_one w p for_no_writer n h = h
+
+never_more : (w : World) (p : ℕ) (list : ListName) (n : ℕ) → IsAllowed p (does list (notifies_additionally n)) w → ⊥
+never_more w p for_the_turn n h = h
+never_more w p for_no_readers n h = h
+never_more w p for_no_writer n h = h
+
+pub returns-clause-tells_many : goal.returns-clause-tells_many
+returns-clause-tells_many c = λ r. r.more (tells_one r.step.old r.step.move.party r.list r.many (allowed_at r.step r.legal (does r.list (notifies r.many)) r.notifies))
+
+pub returns-clause-tells_more : goal.returns-clause-tells_more
+returns-clause-tells_more c = λ r. never_more r.step.old r.step.move.party r.list r.more (allowed_at r.step r.legal (does r.list (notifies_additionally r.more)) r.tells)
+
+pub returns-clause-wakes_the_next : goal.returns-clause-wakes_the_next
+returns-clause-wakes_the_next c = λ r.
+    let may = allowed_at r.step r.legal (does for_the_turn (notifies r.many)) r.notifies in
+    true≢false (sym (may.starved r.listed) ∙ r.unstarved)
+
+pub returns-clause-sleeps_though_free : goal.returns-clause-sleeps_though_free
+returns-clause-sleeps_though_free c = λ r. elim (r.sound.turn_told_or_due r.free r.party r.stands r.listed) as (λ _. ⊥) [ inl some ↦ absurd (omega (arith, some, r.none_told)) | inr one ↦ r.none_due one.0 one.1 ]
+
+pub returns-clause-sleeps_though_readable : goal.returns-clause-sleeps_though_readable
+returns-clause-sleeps_though_readable c = λ r. elim (r.sound.reading_told_or_due r.free r.party r.stands r.listed) as (λ _. ⊥) [ inl some ↦ absurd (omega (arith, some, r.none_told)) | inr one ↦ r.none_due one.0 one.1 ]
+
+pub returns-clause-sleeps_though_writable : goal.returns-clause-sleeps_though_writable
+returns-clause-sleeps_though_writable c = λ r. elim (r.sound.writing_told_or_due r.free r.party r.stands r.listed) as (λ _. ⊥) [ inl some ↦ absurd (omega (arith, some, r.none_told)) | inr one ↦ r.none_due one.0 one.1 ]
+
+pub returns-clause-starved_for_nothing : goal.returns-clause-starved_for_nothing
+returns-clause-starved_for_nothing c = λ r. r.kept.patient r.patient r.unstarved r.refused
+
+pub returns-clause-wakes_in_a_ring : goal.returns-clause-wakes_in_a_ring
+returns-clause-wakes_in_a_ring c = λ r. true≢false (sym (r.kept.tells_nobody r.patient r.none_starved r.pending r.listed r.other r.another r.told) ∙ r.untold)

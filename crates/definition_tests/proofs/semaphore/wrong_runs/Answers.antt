@@ -1,5 +1,5 @@
 -- No wrong run of a semaphore is legal.
-use Rattle.std.proofs.Common.{◌≡◌, ℕ, zero, suc, ◌+◌, ◌-◌, ◌<◌, ◌||◌, if◌then◌else◌, Bool, true, false, List, length, Option, None, refl, arith, ap, sym, ◌∙◌, subst}
+use Rattle.std.proofs.Common.{◌≡◌, ℕ, zero, suc, ◌+◌, ◌-◌, ◌<◌, ◌||◌, if◌then◌else◌, inl, inr, Bool, true, false, List, length, Option, None, refl, arith, ap, sym, ◌∙◌, subst}
 use Rattle.std.proofs.lemmas.Bool.{false≢true, true≢false}
 use Rattle.lock_event.specs.declared.event.Entry.{Entry}
 use Rattle.lock_event.specs.Lists.{notified, marked_count, is_marked_at}
@@ -20,7 +20,7 @@ use Rattle.semaphore_machine.specs.Seats.{Share}
 use Rattle.semaphore_machine.specs.Deeds.{Change, ListName, takes, gives_back, forgets, raises, gives, for_a_permit}
 use Rattle.semaphore_world.specs.State.{State, World, has_permit, standing_of, adds_of}
 use Rattle.semaphore_world.specs.AtOnce.{is_try}
-use Rattle.semaphore_world.specs.Legal.{HasItsOwn, IsAllowed, state_after, is_forget, added_in, is_add, notice}
+use Rattle.semaphore_world.specs.Legal.{HasItsOwn, IsAllowed, state_after, is_forget, added_in, is_add, notice, may_tell}
 use Rattle.definition_tests.proofs.semaphore.wrong_runs.Goals as goal
 
 chosen : (b : Bool) (x y : Answer) → b ≡ true → (if b then x else y) ≡ x
@@ -73,7 +73,7 @@ returns-clause-notifies_for_others c = λ r.
     let p : ℕ = r.step.move.party in
     let P : Deed Change ListName → Type 0 = IsAllowed r.step.old r.step.move in
     let allowed : P (does for_a_permit (notifies r.told)) = subst P r.notifies r.legal.one_change.allowed in
-    r.others (sym allowed ∙ notice_of (standing_of r.step.old p) r.within r.decided (adds_of r.step.old p) r.adding r.kind)
+    r.others (sym allowed.0 ∙ notice_of (standing_of r.step.old p) r.within r.decided (adds_of r.step.old p) r.adding r.kind)
 
 pub returns-clause-forgets_in_vain : goal.returns-clause-forgets_in_vain
 returns-clause-forgets_in_vain c = λ r.
@@ -146,3 +146,18 @@ returns-clause-keeps_its_told c = λ r. let some = r.kept.hands_on r.polls r.was
 
 pub returns-clause-takes_what_was_told : goal.returns-clause-takes_what_was_told
 returns-clause-takes_what_was_told c = λ r. let some = r.kept.passes_on r.polls r.was_pending r.free r.told r.some in absurd (omega (arith, some, r.none_told))
+
+pub returns-clause-wakes_the_next : goal.returns-clause-wakes_the_next
+returns-clause-wakes_the_next c = λ r.
+    let P : Deed Change ListName → Type 0 = IsAllowed r.step.old r.step.move in
+    let allowed : P (does for_a_permit (notifies r.many)) = subst P r.notifies r.legal.one_change.allowed in
+    false≢true (sym (ap may_tell r.undecided) ∙ allowed.1)
+
+pub returns-clause-sleeps_though_free : goal.returns-clause-sleeps_though_free
+returns-clause-sleeps_though_free c = λ r. elim (r.sound.told_or_due r.free r.party r.stands r.listed) as (λ _. ⊥) [ inl some ↦ absurd (omega (arith, some, r.none_told)) | inr one ↦ r.none_due one.0 one.1 ]
+
+pub returns-clause-refused_silently : goal.returns-clause-refused_silently
+returns-clause-refused_silently c = λ r.
+    let told = (r.legal.refuses r.within r.refusing (ap is_possible r.answered)).1 in
+    let some = told_some r.step.old.entries r.step.new.entries 1 told (omega arith) r.some in
+    absurd (omega (arith, some, r.none_told))
