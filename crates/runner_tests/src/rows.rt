@@ -431,6 +431,68 @@ ready 0
 pending
 refused 1
 mutex locked=1 starved=0 value=0 list=[1w]
+== notified-readers-in-a-ring
+rwlock 4 0
+do 0 write
+do 1 read
+do 2 read
+do 0 drop
+do 3 write
+show
+do 1 poll
+show
+do 2 poll
+show
+do 1 poll
+show
+=>
+ok
+ready 0
+pending
+pending
+given back
+ready 0
+rwlock turn=1 starved=0 writer=1 readers=0 value=0 turnlist=[] noreaders=[] nowriter=[1n 2w]
+pending
+rwlock turn=1 starved=0 writer=1 readers=0 value=0 turnlist=[] noreaders=[] nowriter=[2n 1w]
+pending
+rwlock turn=1 starved=0 writer=1 readers=0 value=0 turnlist=[] noreaders=[] nowriter=[1n 2w]
+pending
+rwlock turn=1 starved=0 writer=1 readers=0 value=0 turnlist=[] noreaders=[] nowriter=[2n 1w]
+== notified-waiters-in-a-ring
+mutex 4 0
+do 0 lock
+do 1 lock
+do 2 lock
+do 0 drop
+do 3 trylock
+show
+do 1 poll
+show
+do 3 drop
+do 0 trylock
+show
+do 2 poll
+do 0 drop
+do 3 trylock
+show
+=>
+ok
+ready 0
+pending
+pending
+given back
+granted 0
+mutex locked=1 starved=0 value=0 list=[1n 2w]
+pending
+mutex locked=1 starved=0 value=0 list=[2w 1w]
+given back
+granted 0
+mutex locked=1 starved=0 value=0 list=[2n 1w]
+pending
+given back
+granted 0
+mutex locked=1 starved=0 value=0 list=[1n 2w]
 == read-without-memory-behind-a-waiter
 rwlock 3 0
 do 0 write
