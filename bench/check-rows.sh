@@ -12,7 +12,7 @@ if [ ! -x "$program" ]; then
     echo "there is no program $program: run 'rt run' in crates/lockrun first" >&2
     exit 2
 fi
-rows=crates/runner_tests/src/rows.rt
+rows='crates/runner_tests/src/rows.rt crates/runner_tests/src/more_rows.rt'
 work=$(mktemp -d)
 trap 'rm -rf "$work"' EXIT
 
@@ -33,7 +33,10 @@ for script in scripts/*.script; do
     { printf '== %s\n' "${name%.script}"; cat "$script"; echo '=>'; cat "$answers"; } >>"$work/rows"
     count=$((count + 1))
 done
-if ! sed -n '/^pub const ROWS/,/^";/p' "$rows" | sed '1d;$d' | diff "$work/rows" - >&2; then
+for file in $rows; do
+    sed -n '/^pub const ROWS/,/^";/p' "$file" | sed '1d;$d'
+done >"$work/stored"
+if ! diff "$work/rows" "$work/stored" >&2; then
     echo "$rows: other rows" >&2
     exit 1
 fi

@@ -8,6 +8,8 @@ mod bad_lines;
 #[cfg(test)]
 mod lines;
 #[cfg(test)]
+mod more_rows;
+#[cfg(test)]
 mod rows;
 #[cfg(test)]
 mod runs;

@@ -1,8 +1,8 @@
 //! Scripts whose every line is good, and what they print.
 
-use crate::rows;
 use crate::runs::{Run, Runs, SCRIPT, expect};
 use crate::same::assert_same;
+use crate::{more_rows, rows};
 
 /// Rows in the form of [`rows::ROWS`].
 const GOOD_LINES: &str = "\
@@ -772,6 +772,7 @@ fn expect_answers<R: Runs>(rt: &R, rows: &'static str, how_many: usize) {
 #[test]
 fn answers_the_stored_rows(rt: HostRuntime) {
     expect_answers(&rt, rows::ROWS, rows::HOW_MANY);
+    expect_answers(&rt, more_rows::ROWS, more_rows::HOW_MANY);
 }
 
 #[test]
