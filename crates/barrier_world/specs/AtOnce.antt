@@ -11,6 +11,11 @@ use Rattle.lock_world.specs.declared.moves.What.TheVariants.{Begin}
 use Rattle.lock_world.specs.declared.standing.Rest.TheVariants.{Idle, Pending, Finished}
 use Rattle.lock_world.specs.Standings.{Standing, outside}
 use Rattle.barrier_world.specs.State.{World, standing_of, is_free}
+use Rattle.std.specs.Prelude.{◌≢◌}
+use Rattle.lock_event.specs.Lists.{notified}
+use Rattle.lock_world.specs.declared.standing.Within.{Within}
+use Rattle.lock_world.specs.Standings.{inside, is_possible}
+use Rattle.barrier_world.specs.State.{is_starved}
 
 -- How many entries a party has in both lists.
 abbrev pub entries_in : World → ℕ → ℕ
@@ -38,3 +43,6 @@ pub record AnswersAtOnce (old : World) (m : Move) (a : Answer) (new : World) : T
   pub first_poll : is_first_poll (standing_of old m.party) m.what (entries_in old m.party) ≡ true → TakesAtOnce old m a new
   pub locking : is_later_poll (standing_of old m.party) m.what ≡ true → 0 < entries_of m.party old.lock_list → a ≡ (if is_marked_at (is_party m.party) old.lock_list then answer.Stepped else answer.Pending)
   pub listed : is_later_poll (standing_of old m.party) m.what ≡ true → 0 < entries_of m.party old.list → a ≡ (if is_marked_at (is_party m.party) old.list then answer.Stepped else answer.Pending)
+  -- A wait that is to be refused, has no more to do with the inner lock, and isn't starved for it, notifies one there as it ends.
+  pub refuses : (within : Within) (r : ℕ) → standing_of old m.party ≡ inside within (Some (answer.Refused r)) → old.lock.holder ≢ Some m.party → entries_of m.party old.lock_list ≡ 0 → is_starved old.lock m.party ≡ false → is_possible a ≡ true
+      → (a ≡ answer.Refused r) × (new.lock_list ≡ notified old.lock_list 1)

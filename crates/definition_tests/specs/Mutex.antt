@@ -317,3 +317,11 @@ pub record WakesInARing : Type 0 where
   pub untold : is_marked_at (is_party other) whole.old.entries ≡ false
   pub told : is_marked_at (is_party other) whole.new.entries ≡ true
   pub kept : Keeps whole
+
+-- A first poll is refused for too many starved parties, though there were none.
+pub record StarvedUnwaited : Type 0 where
+  pub whole : Whole
+  pub first : is_first_poll (standing_of whole.old whole.party) (Begin whole.call whole.inputs) (entries_of whole.party whole.old.entries) ≡ true
+  pub none_starved : how_many whole.old.state.starved ≡ 0
+  pub is_refused : whole.answer ≡ refused Starved
+  pub kept : Keeps whole

@@ -442,3 +442,35 @@ pub record WakesInARing : Type 0 where
   pub untold : is_marked_at (is_party other) whole.old.turn_list ≡ false
   pub told : is_marked_at (is_party other) whole.new.turn_list ≡ true
   pub kept : Keeps whole
+
+-- A party that waits for the turn and wasn't notified polls, and its call goes on: it may be refused, and lose its place.
+pub record PollsUntold : Type 0 where
+  pub step : Step
+  pub inputs : Inputs
+  pub polls : step.move.what ≡ Begin call.Poll inputs
+  pub waits : standing_of step.old step.move.party ≡ outside Pending
+  pub listed : 0 < entries_of step.move.party step.old.turn_list
+  pub untold : is_marked_at (is_party step.move.party) step.old.turn_list ≡ false
+  pub goes_on : step.answer ≡ answer.Stepped
+  pub legal : IsAtOnce step
+
+-- So does one that waits to read.
+pub record PollsUntoldToRead : Type 0 where
+  pub step : Step
+  pub inputs : Inputs
+  pub polls : step.move.what ≡ Begin call.Poll inputs
+  pub waits : standing_of step.old step.move.party ≡ outside Pending
+  pub listed : 0 < entries_of step.move.party step.old.no_writer
+  pub untold : is_marked_at (is_party step.move.party) step.old.no_writer ≡ false
+  pub goes_on : step.answer ≡ answer.Stepped
+  pub legal : IsAtOnce step
+
+-- A try to read tells another of those that wait to.
+pub record TriesAndTells : Type 0 where
+  pub step : Step
+  pub inputs : Inputs
+  pub tries : step.move.what ≡ Begin call.TryRead inputs
+  pub possible : is_possible step.answer ≡ true
+  pub told : 0 < marked_count step.new.no_writer
+  pub none_told : marked_count step.old.no_writer ≡ 0
+  pub legal : IsAtOnce step

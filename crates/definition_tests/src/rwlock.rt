@@ -5,7 +5,7 @@ ghost use Rattle.definition_tests.specs.ReadWriteTable.{beginnings, actions, fol
 ghost use Rattle.lock_program.specs.ReadWrite.{action_of, next_of};
 ghost use Rattle.rwlock_program.specs.Program.{start_of};
 ghost use Rattle.definition_tests.specs.Never.{Never};
-ghost use Rattle.definition_tests.specs.ReadWrite.{TriesInVain, ReadsUnready, WaitsUnlisted, PendsTooEarly, RefusedAtFirst, RefusedHavingMoved, ReadsWithTheBit, LetsGoUndecided, UnmarksUndecided, StopsReadingUndecided, DowngradesUndecided, DropsUndecided, DowngradesThroughNothing, OtherIsUpgrade, IdleHasTurn, TriesOn, WriteMeetsReaders, ReadMeetsStarved, LacksMemoryWithTurn, ReadMeetsReadersBesideWriter, MeetsReadersWithoutTurn, MeetsStarvedWithTurn, PassesTurnInVain, PassesReadingInVain, PassesWritingInVain, UpgradeWaitsForNobody, UpgradableUnready, WriteUnready, StarvesUnasked, KeepsItsTold, TriesTurnInVain, StarvedHavingTaken, StarvedTwice, StarvedAtFirst, DecidesInVain, TellsMany, TellsMore, WakesTheNext, SleepsThoughFree, SleepsThoughReadable, SleepsThoughWritable, StarvedForNothing, WakesInARing};
+ghost use Rattle.definition_tests.specs.ReadWrite.{TriesInVain, ReadsUnready, WaitsUnlisted, PendsTooEarly, RefusedAtFirst, RefusedHavingMoved, ReadsWithTheBit, LetsGoUndecided, UnmarksUndecided, StopsReadingUndecided, DowngradesUndecided, DropsUndecided, DowngradesThroughNothing, OtherIsUpgrade, IdleHasTurn, TriesOn, WriteMeetsReaders, ReadMeetsStarved, LacksMemoryWithTurn, ReadMeetsReadersBesideWriter, MeetsReadersWithoutTurn, MeetsStarvedWithTurn, PassesTurnInVain, PassesReadingInVain, PassesWritingInVain, UpgradeWaitsForNobody, UpgradableUnready, WriteUnready, StarvesUnasked, KeepsItsTold, TriesTurnInVain, StarvedHavingTaken, StarvedTwice, StarvedAtFirst, DecidesInVain, TellsMany, TellsMore, WakesTheNext, SleepsThoughFree, SleepsThoughReadable, SleepsThoughWritable, StarvedForNothing, WakesInARing, PollsUntold, PollsUntoldToRead, TriesAndTells};
 
 /// Each clause says of one wrong run that it isn't legal.
 fn wrong_runs()
@@ -52,6 +52,9 @@ fn wrong_runs()
     ensures sleeps_though_writable { Never (SleepsThoughWritable) }
     ensures starved_for_nothing { Never (StarvedForNothing) }
     ensures wakes_in_a_ring { Never (WakesInARing) }
+    ensures polls_untold { Never (PollsUntold) }
+    ensures polls_untold_to_read { Never (PollsUntoldToRead) }
+    ensures tries_and_tells { Never (TriesAndTells) }
 {}
 
 /// The programs' places, each with its action and what follows what it finds, as docs/PROGRAMS.md lists them.

@@ -17,7 +17,7 @@ use Rattle.mutex_machine.specs.Course.{Course, counted, decision, is_waiting, is
 use Rattle.mutex_machine.specs.Deeds.{Change, takes, releases, starves, recovers, ListName, holder_after, starved_after, entries_after, gives_back, gives_up, is_release, is_fresh}
 use Rattle.mutex_machine.specs.Mutex.{Mutex, course_at, holders, starved, Holds, IsStarved, holder_of, starved_of}
 use Rattle.lock_world.specs.Steps.{notifies, notifies_additionally}
-use Rattle.mutex_machine.specs.Course.{may_tell, is_releasing}
+use Rattle.mutex_machine.specs.Course.{listed, may_tell, is_releasing}
 use Rattle.mutex_machine.specs.Deeds.{for_the_lock}
 use Rattle.lock_event.specs.Lists.{is_marked_at}
 use Rattle.lock_world.specs.Steps.{asked}
@@ -52,7 +52,7 @@ IsAllowed p (does list (notifies n)) m = (n ≡ 1) × (may_tell (course_at m.cou
 IsAllowed p (does list (notifies_additionally n)) m = ⊥
 IsAllowed p _ m = Unit {0}
 
--- A step changes one thing of the mutex where it may, or does one list function, never both, and moves no other party. A join has found memory. A call that was decided only gives back, and keeps its decision; who got the lock keeps it; one that wasn't decided gives nothing up; a refusal does nothing else; whoever has released the lock notifies; and one that is decided now has its reason.
+-- A step changes one thing of the mutex where it may, or does one list function, never both, and moves no other party. A join has found memory. A call that was decided only gives back, and keeps its decision; who got the lock keeps it; one that wasn't decided gives nothing up; a refusal does nothing else; whoever has released the lock notifies; whoever is refused does as its call ends, once it stands in no list and isn't starved; and one that is decided now has its reason.
 pub record IsLegal (memory : Bool) (p : ℕ) (decided : Option End) (s : Step) (old new : Mutex) : Type 0 where
   pub deed : Deed Change ListName
   pub allowed : IsAllowed p deed old
@@ -68,6 +68,7 @@ pub record IsLegal (memory : Bool) (p : ℕ) (decided : Option End) (s : Step) (
   pub keeps_lock : decided ≡ Some Got → is_release deed ≡ false
   pub refused_idly : (r : Refusal) → decided ≡ None → decided_then s (course_at new.courses p) ≡ Some (Refused r) → deed ≡ nothing
   pub releases : is_releasing (course_at old.courses p) ≡ true → deed ≡ does for_the_lock (notifies 1)
+  pub refuses : (r : Refusal) → decided ≡ Some (Refused r) → listed (course_at old.courses p) ≡ 0 → counted (course_at old.courses p) ≡ 0 → (deed ≡ does for_the_lock (notifies 1)) × (s ≡ step.End (Refused r))
   pub reason : (e : End) → decided ≡ None → decided_then s (course_at new.courses p) ≡ Some e → IsReason memory p old new e
 
 -- A step that asks in the list goes on exactly where the party was notified, and else is pending still; and it does nothing else.

@@ -15,7 +15,7 @@ use Rattle.mutex_program.specs.declared.led.Next.{Next}
 use Rattle.mutex_program.specs.declared.led.Next.TheVariants as next
 use Rattle.mutex_machine.specs.Machine.{Lock, place_at}
 use Rattle.mutex_machine.specs.Acts.{holders, starved, Holds, IsStarved}
-use Rattle.lock_program.specs.MutexRoles.{counted}
+use Rattle.lock_program.specs.MutexRoles.{counted, listed}
 use Rattle.mutex_machine.specs.State.{holder_of, starved_of}
 use Rattle.mutex_machine.specs.Deeds.{Change, takes, releases, starves, recovers, ListName, holder_after, starved_after, entries_after, gives_back, gives_up, is_release, is_fresh}
 use Rattle.mutex_machine.specs.Courses.{is_counting, may_tell, is_releasing}
@@ -65,7 +65,7 @@ IsAllowed p (does list (notifies n)) l = (n ≡ 1) × (may_tell (place_at l.plac
 IsAllowed p (does list (notifies_additionally n)) l = ⊥
 IsAllowed p _ l = Unit {0}
 
--- An action changes one thing of the mutex where it may, or does one list function, never both, and moves no other party. A join has found memory. A call that was decided only gives back, and keeps its decision; who got the lock keeps it; one that wasn't decided gives nothing up; a refusal does nothing else; whoever has released the lock notifies; and one that is decided now has its reason.
+-- An action changes one thing of the mutex where it may, or does one list function, never both, and moves no other party. A join has found memory. A call that was decided only gives back, and keeps its decision; who got the lock keeps it; one that wasn't decided gives nothing up; a refusal does nothing else; whoever has released the lock notifies; whoever is refused does as its call ends, once it stands in no list and isn't starved; and one that is decided now has its reason.
 pub record IsLegal (memory : Bool) (p : ℕ) (decided : Option End) (onward : Next) (old new : Lock) : Type 0 where
   pub deed : Deed Change ListName
   pub allowed : IsAllowed p deed old
@@ -81,6 +81,7 @@ pub record IsLegal (memory : Bool) (p : ℕ) (decided : Option End) (onward : Ne
   pub keeps_lock : decided ≡ Some Got → is_release deed ≡ false
   pub refused_idly : (r : Refusal) → decided ≡ None → decided_then onward (place_at new.places p) ≡ Some (Refused r) → deed ≡ nothing
   pub releases : is_releasing (place_at old.places p) ≡ true → deed ≡ does for_the_lock (notifies 1)
+  pub refuses : (r : Refusal) → decided ≡ Some (Refused r) → listed (place_at old.places p) ≡ 0 → counted (place_at old.places p) ≡ 0 → (deed ≡ does for_the_lock (notifies 1)) × (onward ≡ next.End (Refused r))
   pub reason : (e : End) → decided ≡ None → decided_then onward (place_at new.places p) ≡ Some e → IsReason memory p old new e
 
 -- Such a call takes the lock at once exactly where nobody holds it and nobody is starved.

@@ -2,4 +2,5 @@
 pub mod Whole
 pub mod Patient
 pub mod Ring
+pub mod FirstPolls
 pub mod Promises

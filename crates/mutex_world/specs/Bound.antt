@@ -62,6 +62,8 @@ pub record Promises (w : World) (p : ℕ) (c : Call) (inputs : Inputs) (a : Answ
   pub tells_nobody : inputs.starving ≡ false → how_many w.state.starved ≡ 0 → a ≡ answer.Pending → MarksNobody p w.entries v.entries
   -- Nor is its call refused then for the number of starved parties.
   pub patient : inputs.starving ≡ false → how_many w.state.starved ≡ 0 → a ≢ refused Starved
+  -- Nor is a first poll, whatever the clock says: it hasn't waited.
+  pub first_patient : is_first_poll (standing_of w p) (Begin c inputs) (entries_of p w.entries) ≡ true → how_many w.state.starved ≡ 0 → a ≢ refused Starved
   -- A refused poll of a party that stood in the list hands on what it was told: some entry is marked, if there is any.
   pub hands_on : c ≡ call.Poll → standing_of w p ≡ outside Pending → 0 < entries_of p w.entries → is_refusal a ≡ true → 0 < length v.entries → 0 < marked_count v.entries
 

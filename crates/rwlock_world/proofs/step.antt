@@ -11,5 +11,6 @@ pub mod Legals
 pub mod Idle
 pub mod Acting
 pub mod AtOnce
+pub mod Asked
 pub mod Instants
 pub mod Stepping

@@ -27,6 +27,10 @@ use Rattle.rwlock_world.specs.Changes.{Change, state_after, entries_after, IsAll
 use Rattle.lock_world.specs.Standings.{IsUndecided}
 use Rattle.lock_world.specs.Standings.{may_end}
 use Rattle.rwlock_world.specs.State.{is_starved}
+use Rattle.lock_event.specs.Lists.{is_marked_at}
+use Rattle.lock_queue.specs.Parties.{is_party}
+use Rattle.lock_queue.specs.Parties.{entries_of}
+use Rattle.lock_world.specs.Steps.{asked}
 
 -- The calls of a read-write lock, by the right that the party's guard is for: a guard's own calls are known of that guard alone.
 abbrev pub knows : Option Right → Call → Bool
@@ -223,6 +227,16 @@ is_first_poll r s _ what n = false
 abbrev pub is_first : World → Move → Right → Bool
 is_first w m r = is_first_poll r (standing_of w m.party) (sought_by w m.party) m.what (entries_in w m.party)
 
+-- A step joins, asks, leaves and notifies in no list.
+pub record LeavesLists (old new : World) : Type 0 where
+  pub turn_list : new.turn_list ≡ old.turn_list
+  pub no_writer : new.no_writer ≡ old.no_writer
+  pub no_readers : new.no_readers ≡ old.no_readers
+
+-- A poll asks in this list: it goes on exactly where its party has been notified, and else is pending still.
+abbrev pub AsksIn : ℕ → List (Entry ℕ) → Answer → List (Entry ℕ) → Type 0
+AsksIn p old a new = (a ≡ (if is_marked_at (is_party p) old then answer.Stepped else answer.Pending)) × (new ≡ asked p old)
+
 -- The tries are granted exactly where the right is free. One that needs the turn takes it first, exactly where nobody has it and nobody is starved for it, and is decided at its next step: granted exactly where readers are below their limit, or no reader is left. The first step of a first poll takes on the same condition as that of its try, and a read is then ready.
 pub record AnswersAtOnce (old : World) (m : Move) (a : Answer) (new : World) : Type 0 where
   pub try_read : (inputs : _) → m.what ≡ Begin call.TryRead inputs → is_possible a ≡ true → a ≡ granted_if (may_read old) old
@@ -239,3 +253,10 @@ pub record AnswersAtOnce (old : World) (m : Move) (a : Answer) (new : World) : T
   pub first_read_ready : is_first old m read ≡ true → may_read old ≡ true → a ≡ answer.Ready (Value old.state.value)
   pub first_upgradable : is_first old m upgradable ≡ true → (new.state.turn ≡ passes m.party) ↔ (is_turn_free old.state ≡ true)
   pub first_write : is_first old m write ≡ true → is_upgrader old m.party ≡ false → (new.state.turn ≡ passes m.party) ↔ (is_turn_free old.state ≡ true)
+  -- A try to read, or to upgrade, and the first step of a first poll to read do nothing in the lists.
+  pub try_read_looks : (inputs : _) → m.what ≡ Begin call.TryRead inputs → is_possible a ≡ true → LeavesLists old new
+  pub try_upgrade_looks : (inputs : _) → m.what ≡ Begin call.TryUpgrade inputs → is_possible a ≡ true → LeavesLists old new
+  pub first_read_looks : is_first old m read ≡ true → LeavesLists old new
+  -- A poll of a party that waits for the turn, or to read, asks in that list first.
+  pub listed_for_turn : (inputs : _) → m.what ≡ Begin call.Poll inputs → standing_of old m.party ≡ outside Pending → 0 < entries_of m.party old.turn_list → AsksIn m.party old.turn_list a new.turn_list
+  pub listed_to_read : (inputs : _) → m.what ≡ Begin call.Poll inputs → standing_of old m.party ≡ outside Pending → 0 < entries_of m.party old.no_writer → AsksIn m.party old.no_writer a new.no_writer

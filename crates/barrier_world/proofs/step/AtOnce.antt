@@ -47,6 +47,25 @@ use Rattle.barrier_world.proofs.step.Here.{HasEntries, enters_lock}
 use Rattle.barrier_world.proofs.step.Owns.{at_most_once}
 use Rattle.barrier_world.proofs.step.Acting as acting
 use Rattle.barrier_world.proofs.step.Acting.{Acting}
+use Rattle.std.proofs.Common.{◌≢◌}
+use Rattle.lock_event.specs.Lists.{notified}
+use Rattle.lock_world.specs.declared.moves.What.TheVariants.{Go}
+use Rattle.lock_program.specs.declared.refusal.Refusal.{Refusal}
+use Rattle.lock_world.specs.declared.standing.Stage.{Stage}
+use Rattle.lock_world.specs.declared.standing.Stage.TheVariants.{Outside, Inside, Forgotten}
+use Rattle.lock_world.specs.Standings.{inside, refused}
+use Rattle.lock_table.specs.Stages.{call_at}
+use Rattle.lock_program.specs.declared.end.End.{End as LockEnd}
+use Rattle.mutex_machine.specs.Course.{decision, counted, bit}
+use Rattle.mutex_machine.specs.Deeds.{entries_after as lock_entries_after}
+use Rattle.mutex_machine.proofs.callers.Callers.{holding_holds}
+use Rattle.sync_program.specs.declared.barrier.Ending.{Ending}
+use Rattle.sync_program.specs.declared.barrier.Ending.TheVariants as ending
+use Rattle.sync_program.specs.declared.barrier.Place.TheVariants.{TakeLock, ReleaseLock, ReleasingLock, NotifyAll, CancelLock, CancellingLock, CancelLeave, Abandon}
+use Rattle.barrier_program.specs.Program.{after_release, released}
+use Rattle.barrier_machine.specs.Machine.{knows}
+use Rattle.barrier_machine.specs.Waits.{refused_by, verdict_of, verdict_until}
+use Rattle.barrier_world.specs.State.{is_starved}
 
 -- a free inner lock
 free_by : (h : Option ℕ) (n : ℕ) → is_none h && (n == 0) ≡ true → (h ≡ None) × (n ≡ 0)
@@ -85,6 +104,30 @@ begins_there (outside Pending) (Begin call.Poll i) Waiting c from h e link some 
 begins_there (outside Pending) (Begin call.Poll i) Out c from h e link some = absurd (none_some e)
 begins_there (outside Pending) (Begin call.Poll i) (At y) c from h e link some = absurd (none_some e)
 begins_there _ _ x c from h e link some = absurd (cc h)
+
+-- ---- a refused party
+
+inside_as : (d : Option Answer) (s : Stage) (u : Within) (b : Option Answer) → stands_as d s ≡ inside u b → (s ≡ Inside u) × (d ≡ b)
+inside_as d (Outside r) u b h = absurd (cc h)
+inside_as d (Inside v) u b h = (cc h, cc h)
+inside_as d Forgotten u b h = absurd (cc h)
+
+going_here : (w : Within) (s : Stage) (u : Within) (what : What) (x : Position) (from : Place) → call_at knows s what ≡ Some w → s ≡ Inside u → place_for what x ≡ Some from → x ≡ At from
+going_here w s u (Begin c i) x from e is starts = let C : Stage → Type 0 = λ z. call_at knows z (Begin c i) ≡ Some w in absurd (none_some (subst C is e))
+going_here w s u (Go i) (At y) from e is starts = ap At (some_eq starts)
+going_here w s u (Go i) _ from e is starts = absurd (none_some starts)
+
+refused_as : (o : Option LockEnd) (r : ℕ) → refused_by o ≡ Some (answer.Refused r) → (why : Refusal) × (o ≡ Some (lock_end.Refused why)) × (refused why ≡ answer.Refused r)
+refused_as None r e = absurd (none_some e)
+refused_as (Some (lock_end.Refused why)) r e = (why, refl, some_eq e)
+refused_as (Some _) r e = absurd (none_some e)
+
+released_as : (e : Ending) (r : ℕ) → verdict_until e ≡ Some (answer.Refused r) → answer_by (released e) ≡ answer.Refused r
+released_as ending.Wait r d = absurd (none_some d)
+released_as ending.Follow r d = absurd (cc d)
+released_as ending.Lead r d = absurd (cc d)
+released_as ending.RefuseGenerations r d = some_eq d
+released_as (ending.RefuseMemory a) r d = some_eq d
 
 module _ (t u : Table Barrier) (m : Move) (a : Answer) (w : Within) (k : Acting t u m a w) where
   abbrev p : ℕ
@@ -165,5 +208,36 @@ module _ (t u : Table Barrier) (m : Move) (a : Answer) (w : Within) (k : Acting 
       let P : Place → Type 0 = λ y. OnLock i p (action_of y) k.found t.machine.lock u.machine.lock in
       locking_by there.0 k.found there.2 (subst P there.1 k.acts.lock) (k.answer ∙ ap (λ y. answer_by (next_of y k.found)) there.1)
 
+  -- where a refused party notifies
+  refuses_by : (y : Place) (f : Found) (r : ℕ) → fits_lock (in_lock (At y)) c ≡ true → OnLock i p (action_of y) f t.machine.lock u.machine.lock → verdict_of y c ≡ Some (answer.Refused r) → old.lock.holder ≢ Some p → listed_there c ≡ 0 → counted c ≡ 0
+      → (answer_by (next_of y f) ≡ answer.Refused r) × (u.machine.lock.entries ≡ notified t.machine.lock.entries 1)
+  refuses_by (TakeLock b) (found.Lock s) r link l d apart none plain =
+      let why = refused_as (decision c) r d in
+      let it = l.legal.refuses why.0 why.1 none plain in
+      (ap (λ z. answer_by (after_lock b (found.Lock z))) it.1 ∙ why.2, l.legal.entries ∙ ap (λ z. lock_entries_after p z t.machine.lock.entries) it.0)
+  refuses_by (TakeLock b) _ r link l d apart none plain = absurd l
+  refuses_by (ReleaseLock e) f r link l d apart none plain = absurd (apart (sees.holds_it t.machine.lock.courses p k.old_laws.lock.one_holder (holding_holds c link)))
+  refuses_by (ReleasingLock e) (found.Lock s) r link l d apart none plain =
+      let ends = (l.leads.releases link).0 in
+      (ap (λ z. answer_by (after_release e (found.Lock z))) ends ∙ released_as e r d, l.legal.entries ∙ ap (λ z. lock_entries_after p z t.machine.lock.entries) (l.legal.releases link))
+  refuses_by (ReleasingLock e) _ r link l d apart none plain = absurd l
+  refuses_by NotifyAll f r link l d apart none plain = absurd (cc d)
+  refuses_by CancelLock f r link l d apart none plain = absurd (cc d)
+  refuses_by CancellingLock f r link l d apart none plain = absurd (cc d)
+  refuses_by CancelLeave f r link l d apart none plain = absurd (cc d)
+  refuses_by Abandon f r link l d apart none plain = absurd (cc d)
+  refuses_by _ f r link l d apart none plain = absurd (none_some d)
+
+  refuses_so : (within : Within) (r : ℕ) → standing_of old p ≡ inside within (Some (answer.Refused r)) → old.lock.holder ≢ Some p → entries_of p old.lock_list ≡ 0 → is_starved old.lock p ≡ false → (a ≡ answer.Refused r) × (new.lock_list ≡ notified old.lock_list 1)
+  refuses_so within r at apart none plain =
+      let stood : stands_as (verdict x c) (stage_at t.stages p) ≡ inside within (Some (answer.Refused r)) = sym (acting.stood t u m a w k) ∙ at in
+      let there = inside_as (verdict x c) (stage_at t.stages p) within (Some (answer.Refused r)) stood in
+      let here : x ≡ At k.from = going_here w (stage_at t.stages p) within m.what x k.from k.call there.0 k.starts in
+      let F : Position → Type 0 = λ z. fits_lock (in_lock z) c ≡ true in
+      let unlisted : listed_there c ≡ 0 = sym (k.old_laws.lock.owners p) ∙ none in
+      let uncounted : counted c ≡ 0 = sym (sees.counted_bit c) ∙ ap bit (sym (sees.starved_at t.machine.lock.courses p) ∙ plain) in
+      let it = refuses_by k.from k.found r (subst F here (k.old_laws.links p)) k.acts.lock (ap (λ z. verdict z c) (sym here) ∙ there.1) apart unlisted uncounted in
+      (k.answer ∙ it.0, it.1)
+
   pub at_once : AnswersAtOnce old m a new
-  at_once = record { first_poll = first; locking = locking_so; listed = listed_so }
+  at_once = record { first_poll = first; locking = locking_so; listed = listed_so; refuses = λ within r at apart none plain possible. refuses_so within r at apart none plain }

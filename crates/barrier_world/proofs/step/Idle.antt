@@ -20,6 +20,10 @@ use Rattle.barrier_world.specs.Changes.{wait_then}
 use Rattle.barrier_world.specs.Legal.{call_of, IsCause, ChangesOneThing, Carries, Legal}
 use Rattle.barrier_world.specs.AtOnce.{AnswersAtOnce, is_first_poll, is_later_poll, entries_in}
 use Rattle.barrier_world.proofs.step.Owns.{Standing_well}
+use Rattle.std.proofs.Common.{Some}
+use Rattle.std.proofs.Common.{Option}
+use Rattle.lock_world.specs.Standings.{inside}
+use Rattle.lock_world.specs.declared.standing.Within.{Within}
 
 -- which moves are possible
 first_possible : (n : ℕ) (s : Standing) (what : What) → is_first_poll s what n ≡ true → call_in knows s what ≡ None → ⊥
@@ -37,10 +41,11 @@ record Again (s : Standing) (what : What) : Type 0 where
   first : (n : ℕ) → is_first_poll s what n ≡ false
   later : is_later_poll s what ≡ false
   wait : (b : Wait) → wait_then what (refused refusal.Finished) b ≡ b
+  outside_it : (u : Within) (d : Option Answer) → s ≡ inside u d → ⊥
 
 again : (s : Standing) (what : What) → is_poll_after_ready s what ≡ true → Again s what
-again (outside rest.Holding) (Begin call.Poll i) h = record { first = λ n. refl; later = refl; wait = λ b. refl }
-again (outside rest.Finished) (Begin call.Poll i) h = record { first = λ n. refl; later = refl; wait = λ b. refl }
+again (outside rest.Holding) (Begin call.Poll i) h = record { first = λ n. refl; later = refl; wait = λ b. refl; outside_it = λ u d e. cc e }
+again (outside rest.Finished) (Begin call.Poll i) h = record { first = λ n. refl; later = refl; wait = λ b. refl; outside_it = λ u d e. cc e }
 again _ _ h = absurd (cc)
 
 module _ (w : World) (m : Move) (well : Standing_well w) where
@@ -93,6 +98,7 @@ module _ (w : World) (m : Move) (well : Standing_well w) where
   impossible_at_once none = record {
     first_poll = λ h. absurd (first_possible (entries_in w m.party) s m.what h none);
     locking = λ h some. absurd (later_possible s m.what h none);
+    refuses = λ within r at apart unlisted plain possible. absurd (cc);
     listed = λ h some. absurd (later_possible s m.what h none);
   }
 
@@ -117,5 +123,6 @@ module _ (w : World) (m : Move) (well : Standing_well w) where
     over_at_once = record {
       first_poll = λ g. (let never = so.first (entries_in w m.party) in absurd (cc (g, never)));
       locking = λ g some. (let never = so.later in absurd (cc (g, never)));
+      refuses = λ within r at apart unlisted plain possible. absurd (so.outside_it within (Some (answer.Refused r)) at);
       listed = λ g some. (let never = so.later in absurd (cc (g, never)));
     }

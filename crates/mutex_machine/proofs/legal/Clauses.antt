@@ -146,6 +146,7 @@ module _ (l k : Lock) where
       keeps_lock = g.keeps_lock;
       refused_idly = λ r d t. g.refused_idly r d (sym then ∙ t);
       releases = λ is. g.releases (sym (releasing_same (place_at l.places p)) ∙ (sym (ap is_releasing (at_seen l.places p)) ∙ is));
+      refuses = λ r d none plain. (let b = g.refuses r d (sym (ap Rattle.mutex_machine.specs.Course.listed (here l p) ∙ listed_same (place_at l.places p)) ∙ none) (sym (counted_here l p) ∙ plain) in (b.0, ap step_of b.1));
       reason = λ e d t. reason memory p e (g.reason e d (sym then ∙ t));
     }
 

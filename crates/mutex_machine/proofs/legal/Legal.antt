@@ -236,6 +236,22 @@ module _ (memory : Bool) (p : ℕ) (from : Place) (f : Found) (l : Lock) (es : L
     released place.ReleaseNotify _ e h = absurd e
     released _ g e h = absurd (cc h)
 
+    refused_at : (x : Place) (g : Found) (why : Refusal) → Finds memory (action_of x) g l → decision x ≡ Some (Refused why) → listed x ≡ 0 → counted x ≡ 0 → (deed_of (action_of x) g ≡ does for_the_lock (notifies 1)) × (next_of x g ≡ next.End (Refused why))
+    refused_at place.RefuseNotifyMemory Done why e d none plain = (refl, ap next.End (some_eq d))
+    refused_at place.RefuseNotifyMemory _ why e d none plain = absurd e
+    refused_at place.RefuseNotifyStarved Done why e d none plain = (refl, ap next.End (some_eq d))
+    refused_at place.RefuseNotifyStarved _ why e d none plain = absurd e
+    refused_at place.RefuseUncount g why e d none plain = absurd (omega (arith, plain))
+    refused_at (place.RefuseLeave told) g why e d none plain = absurd (omega (arith, none))
+    refused_at place.Out g why e d none plain = absurd (cc d)
+    refused_at place.Leave g why e d none plain = absurd (cc d)
+    refused_at (place.Uncount b) g why e d none plain = absurd (cc d)
+    refused_at place.Clear g why e d none plain = absurd (cc d)
+    refused_at place.ReleaseNotify g why e d none plain = absurd (cc d)
+    refused_at place.CancelUncount g why e d none plain = absurd (cc d)
+    refused_at place.CancelLeave g why e d none plain = absurd (cc d)
+    refused_at _ g why e d none plain = absurd (none_some d)
+
     decided : decided_then (next_of from f) (place_at new.places p) ≡ decision_by (next_of from f)
     decided = ap (decided_then (next_of from f)) lands ∙ then_same from f
 
@@ -255,6 +271,7 @@ module _ (memory : Bool) (p : ℕ) (from : Place) (f : Found) (l : Lock) (es : L
       keeps_lock = λ got. kept_lock (decision from) deed r.holds_on got;
       refused_idly = λ why none is. idle_by why (judge memory l from f (decision from) (decision_by (next_of from f)) (Refused why) r.judged none (sym decided ∙ is));
       releases = λ is. released from f k.finds (k.same.releasing ∙ is);
+      refuses = λ why d none plain. refused_at from f why k.finds d (k.same.standing ∙ none) (k.same.starving ∙ plain);
       reason = λ e none is. reason_is e (judge memory l from f (decision from) (decision_by (next_of from f)) e r.judged none (sym decided ∙ is));
     }
 

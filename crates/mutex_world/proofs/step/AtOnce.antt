@@ -44,6 +44,13 @@ use Rattle.mutex_world.specs.View.{verdict, view_of}
 use Rattle.mutex_world.proofs.step.Acting.{Acting}
 use Rattle.mutex_world.proofs.step.Acting as acting
 use Rattle.mutex_world.proofs.step.Here.{standing_at, same_roles}
+use Rattle.lock_event.specs.Lists.{notified}
+use Rattle.lock_world.proofs.Equations.{some_eq, none_some}
+use Rattle.lock_program.specs.declared.mutex.Place.TheVariants.{Leave, Uncount, CancelUncount, CancelLeave, RefuseUncount, RefuseLeave, RefuseNotifyMemory, RefuseNotifyStarved}
+use Rattle.lock_program.specs.MutexRoles.{listed, counted}
+use Rattle.mutex_machine.specs.Legal.{decision}
+use Rattle.mutex_world.specs.State.{is_starved}
+use Rattle.mutex_world.specs.View.{answer_on}
 
 free_test : (h : Option ℕ) (n : ℕ) → h ≡ None → n ≡ 0 → is_none h && (n == 0) ≡ true
 free_test None n h e = rw e refl
@@ -156,7 +163,7 @@ module _ (t u : Table Guarded) (m : Move) (a : Answer) (w : Within) (k : Acting 
   finds : (y : Place) → k.carries.from ≡ y → Finds (inputs_of m.what).memory (action_of y) f g.lock
   finds y from = let P : Place → Type 0 = λ z. Finds (inputs_of m.what).memory (action_of z) f g.lock in subst P from k.carries.carried.acts.finds
 
-  first_here : is_first_poll (standing_of old p) m.what (entries_of p old.entries) ≡ true → (k.carries.from ≡ Enter) × (is_try_kind w.kind ≡ false)
+  pub first_here : is_first_poll (standing_of old p) m.what (entries_of p old.entries) ≡ true → (k.carries.from ≡ Enter) × (is_try_kind w.kind ≡ false)
   first_here first = k.here.first g.value (entries_of p old.entries) (ap (λ z. is_first_poll z m.what (entries_of p old.entries)) (sym (acting.stood t u m a w k)) ∙ first) (k.old_laws.owners p)
 
   abbrev from : Place
@@ -233,6 +240,31 @@ module _ (t u : Table Guarded) (m : Move) (a : Answer) (w : Within) (k : Acting 
       let had : holds (place_of g p) ≡ 1 = sym same.holding ∙ ap holds at in
       ap (holder_from 0) (places Clear at) ∙ sees.none_held 0 (set g.lock.places p ReleaseNotify) (omega (arith, sum, had, k.old_laws.one_holder))
 
+  -- where a refused party notifies
+  refuses_so : (within : Within) (r : ℕ) → standing_of old p ≡ inside within (Some (answer.Refused r)) → entries_of p old.entries ≡ 0 → is_starved old.state p ≡ false → (a ≡ answer.Refused r) × (new.entries ≡ notified old.entries 1)
+  refuses_so within r at none plain =
+      let here : standing_at g.value s (place_of g p) ≡ inside within (Some (answer.Refused r)) = sym (acting.stood t u m a w k) ∙ at in
+      let decided : answer_on g.value (decision from) ≡ Some (answer.Refused r) = (k.here.kept g.value within (answer.Refused r) here).0 in
+      let unlisted : listed from ≡ 0 = same.standing ∙ (sym (k.old_laws.owners p) ∙ none) in
+      let counted_not : is_counted (place_of g p) ≡ false = sym (sees.starved_at g.lock.places p) ∙ plain in
+      let plain_there : counted from ≡ 0 = same.starving ∙ (sym (sees.counted_bit (place_of g p)) ∙ ap bit counted_not) in
+      refused_at from f refl (answered from (is_try_kind w.kind) refl refl) (on_list from refl) decided unlisted plain_there
+    where
+      refused_at : (y : Place) (f : Found) → y ≡ y → a ≡ answer_by (is_try_kind w.kind) g.value (next_of y f) → OnParties p (action_of y) f old.entries new.entries → answer_on g.value (decision y) ≡ Some (answer.Refused r) → listed y ≡ 0 → counted y ≡ 0
+          → (a ≡ answer.Refused r) × (new.entries ≡ notified old.entries 1)
+      refused_at RefuseNotifyMemory f same said on d l c = (said ∙ some_eq d, on)
+      refused_at RefuseNotifyStarved f same said on d l c = (said ∙ some_eq d, on)
+      refused_at RefuseUncount f same said on d l c = absurd (omega (arith, c))
+      refused_at (RefuseLeave told) f same said on d l c = absurd (omega (arith, l))
+      refused_at Out f same said on d l c = absurd (cc d)
+      refused_at Leave f same said on d l c = absurd (cc d)
+      refused_at (Uncount b) f same said on d l c = absurd (cc d)
+      refused_at Clear f same said on d l c = absurd (cc d)
+      refused_at ReleaseNotify f same said on d l c = absurd (cc d)
+      refused_at CancelUncount f same said on d l c = absurd (cc d)
+      refused_at CancelLeave f same said on d l c = absurd (cc d)
+      refused_at _ f same said on d l c = absurd (none_some d)
+
   pub at_once : AnswersAtOnce old m a new
   at_once = record {
     at_once = λ tries possible. (let at = k.here.tries tries in answered Try true at.0 at.1 ∙ tried_now (inputs_of m.what).memory g.lock g.value (is_free old.state) free_is free_says f (finds Try at.0));
@@ -253,4 +285,5 @@ module _ (t u : Table Guarded) (m : Move) (a : Answer) (w : Within) (k : Acting 
     notifies = λ telling possible.
         let at = k.here.tells (inside_at s (verdict g p) _ _ (sym (acting.stood t u m a w k) ∙ telling)) in
         (answered ReleaseNotify false at.0 at.1, on_list ReleaseNotify at.0);
+    refuses = λ within r at none plain possible. refuses_so within r at none plain;
   }

@@ -92,6 +92,7 @@ module _ (w : World) (m : Move) (well : StandsWell w) where
           listed = λ e some. absurd (false≢true (sym (later_possible s m.what none) ∙ e));
           released = λ d e. (let C : Standing → Type 0 = λ z. call_in knows z m.what ≡ None in absurd (drop_possible m.what d (subst C e none)));
           notifies = λ e h. absurd (cc);
+          refuses = λ within r e none plain possible. absurd (cc);
         };
       }
 
@@ -120,5 +121,6 @@ module _ (w : World) (m : Move) (well : StandsWell w) where
           listed = λ e some. absurd (false≢true (sym so.later ∙ e));
           released = λ d e. absurd (false≢true (sym so.drop ∙ d));
           notifies = λ e p. absurd (so.outside (record { kind = kind.Drop; was = rest.Holding }) (Some answer.GivenBack) e);
+          refuses = λ within r e none plain possible. absurd (so.outside within (Some (answer.Refused r)) e);
         };
       }

@@ -48,6 +48,7 @@ use Rattle.mutex_world.specs.Steps.{Stands, Steps}
 use Rattle.mutex_world.specs.View.{verdict, view_of}
 use Rattle.lock_world.specs.Marks.{MarksNobody}
 use Rattle.mutex_world.proofs.whole.Ring as ring
+use Rattle.mutex_world.proofs.whole.FirstPolls as fresh
 use Rattle.mutex_world.proofs.step.Acting.{Acting}
 use Rattle.mutex_world.proofs.step.Acting as acting
 use Rattle.mutex_world.proofs.bound.AloneSeen.{waits_listed, poll_seen}
@@ -197,6 +198,13 @@ module _ (known : ℕ → Account) (w : World) (p : ℕ) (c : Call) (i : Inputs)
       let Left : World → Type 0 = λ x. M x v in
       subst Left (sym stood.seen) (subst (M (view_of w.behind)) (sym stands.seen) kept)
 
+  first_patient : is_first_poll (standing_of w p) (Begin c i) (entries_of p w.entries) ≡ true → how_many w.state.starved ≡ 0 → a ≢ refused refusal.Starved
+  first_patient is none refused_so =
+      let zero : starved w.behind.machine.lock ≡ 0 = sym (starved_behind w stood) ∙ none in
+      let F : World → Type 0 = λ x. is_first_poll (standing_of x p) (Begin c i) (entries_of p x.entries) ≡ true in
+      let kept = along Steps accounts_after HoldsWell p i (λ y. fresh.Fresh p i y.behind) (λ b y. fresh.Unrefused p i b y.behind) (fresh.onward p i) known n w (beginning p c i) a v (fresh.first p i c w zero (subst F stood.seen is)) ended runs in
+      true≢false (sym (ap refuses_many refused_so) ∙ kept)
+
   hands_on : c ≡ call.Poll → standing_of w p ≡ outside rest.Pending → 0 < entries_of p w.entries → is_refusal a ≡ true → 0 < length v.entries → 0 < marked_count v.entries
   hands_on is pending some refused there =
       let R : Call → Type 0 = λ x. Runs known w (moves_of p x i n) (answers_of n a) v in
@@ -211,5 +219,6 @@ module _ (known : ℕ → Account) (w : World) (p : ℕ) (c : Call) (i : Inputs)
     unstarved = unstarved;
     tells_nobody = tells_nobody;
     patient = patient;
+    first_patient = first_patient;
     hands_on = hands_on;
   }

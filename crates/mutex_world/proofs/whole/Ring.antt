@@ -110,6 +110,8 @@ decided_on true v (next.End «end».Got) to e a h f is = record { going = λ s. 
 decided_on false v (next.End «end».Got) to e a h f is = record { going = λ s. (let z = sym is ∙ s in absurd (cc z)); never = λ y. (let z = sym is ∙ y in cc z) }
 decided_on trying v (next.End «end».Pending) to e a h f is = absurd (f (sym (some_eq h)))
 decided_on trying v (next.End «end».NotFree) to e a h f is = record { going = λ s. (let z = sym is ∙ s in absurd (cc z)); never = λ y. (let z = sym is ∙ y in cc z) }
+decided_on trying v (next.End «end».Granted) to e a h f is = record { going = λ s. (let z = sym is ∙ s in absurd (cc z)); never = λ y. (let z = sym is ∙ y in cc z) }
+decided_on trying v (next.End «end».Waiting) to e a h f is = record { going = λ s. (let z = sym is ∙ s in absurd (cc z)); never = λ y. (let z = sym is ∙ y in cc z) }
 decided_on trying v (next.End «end».GivenBack) to e a h f is = record { going = λ s. (let z = sym is ∙ s in absurd (cc z)); never = λ y. (let z = sym is ∙ y in cc z) }
 decided_on trying v (next.End («end».Refused r)) to e a h f is = record { going = λ s. (let z = sym is ∙ s in absurd (cc z)); never = λ y. (let z = sym is ∙ y in cc z) }
 

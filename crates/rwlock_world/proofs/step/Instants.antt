@@ -52,6 +52,13 @@ use Rattle.rwlock_world.proofs.step.Acting.{Acting, fit, says}
 use Rattle.rwlock_world.proofs.step.Idle.{Laws, stood, sought_is}
 use Rattle.rwlock_world.proofs.step.AtOnce.{waits_for_turn, is_try_turn, Lists, Firsts, firsts, try_reads, first_reads, first_readies, try_upgrades, try_adds, added, try_writes, try_written, turn_tries, try_open, turn_enters}
 use Rattle.rwlock_world.proofs.table.Views as view
+use Rattle.lock_event.specs.declared.event.Entry.{Entry}
+use Rattle.lock_queue.specs.Parties.{entries_of}
+use Rattle.rwlock_world.specs.Legal.{AsksIn}
+use Rattle.rwlock_world.proofs.step.Asked as asked
+use Rattle.std.proofs.Common.{◌⊎◌, inl, inr}
+use Rattle.rwlock_program.specs.Parties.{OnNoWriter, OnNoReaders}
+use Rattle.rwlock_world.specs.Legal.{LeavesLists}
 
 -- ---- tests
 
@@ -228,8 +235,26 @@ module _ (t u : Table Guarded) (m : Move) (a : Answer) where
 abbrev pub Begins : World → Move → Place → Type 0
 Begins old m from = Firsts (standing_of old m.party) (sought_by old m.party) m.what (entries_in old m.party) (is_upgrader old m.party) from
 
-acted_at_once : (t u : Table Guarded) (m : Move) (a : Answer) (from : Place) → Acted t u m a from → Begins (view_of t) m from → AnswersAtOnce (view_of t) m a (view_of u)
-acted_at_once t u m a from y b =
+-- what a poll asks in a list of the party that stands there
+abbrev Asking : (World → List (Entry ℕ)) → World → Move → Answer → World → Type 0
+Asking list old m a new = (i : Inputs) → m.what ≡ Begin call.Poll i → standing_of old m.party ≡ outside rest.Pending → 0 < entries_of m.party (list old) → AsksIn m.party (list old) a (list new)
+
+-- what an action at this place does in the lists and to the turn
+record InLists (t u : Table Guarded) (m : Move) (from : Place) : Type 0 where
+  pub found : Found
+  pub turn : OnTurn (inputs_of m.what).memory (inputs_of m.what).starving m.party (action_of from) found t.machine.lock.turn u.machine.lock.turn
+  pub no_writer : OnNoWriter m.party (action_of from) found t.machine.lock.no_writer u.machine.lock.no_writer
+  pub no_readers : OnNoReaders m.party (action_of from) found t.machine.lock.no_readers u.machine.lock.no_readers
+
+-- a look does nothing there
+looks_at : (t u : Table Guarded) (m : Move) (x : Place) → (x ≡ place.TryRead) ⊎ ((x ≡ place.TryUpgrade) ⊎ (x ≡ place.EnterRead false)) → InLists t u m x → LeavesLists (view_of t) (view_of u)
+looks_at t u m place.TryRead at k = record { turn_list = ap (λ l. l.entries) k.turn; no_writer = k.no_writer; no_readers = k.no_readers }
+looks_at t u m place.TryUpgrade at k = record { turn_list = ap (λ l. l.entries) k.turn; no_writer = k.no_writer; no_readers = k.no_readers }
+looks_at t u m (place.EnterRead told) at k = record { turn_list = ap (λ l. l.entries) k.turn; no_writer = k.no_writer; no_readers = k.no_readers }
+looks_at t u m x at k = absurd (elim at as (λ _. ⊥) [ inl e ↦ cc e | inr other ↦ elim other as (λ _. ⊥) [ inl e ↦ cc e | inr e ↦ cc e ] ])
+
+acted_at_once : (t u : Table Guarded) (m : Move) (a : Answer) (from : Place) → Acted t u m a from → Begins (view_of t) m from → Asking (λ w. w.turn_list) (view_of t) m a (view_of u) → Asking (λ w. w.no_writer) (view_of t) m a (view_of u) → InLists t u m from → AnswersAtOnce (view_of t) m a (view_of u)
+acted_at_once t u m a from y b for_turn to_read l =
     let P : Place → Type 0 = λ x. Acted t u m a x in
     record {
       try_read = λ i e h. at_try_read t u m a (subst P (b.try_read i e) y);
@@ -244,6 +269,11 @@ acted_at_once t u m a from y b =
       first_read_ready = λ e. at_enter_ready t u m a (subst P (b.first_read e) y);
       first_upgradable = λ e. at_enter_turn t u m a purpose.UpgradableRead (subst P (b.first_upgradable e) y);
       first_write = λ e n. at_enter_turn t u m a purpose.Write (subst P (b.first_write e n) y);
+      try_read_looks = λ i e h. looks_at t u m from (inl (b.try_read i e)) l;
+      try_upgrade_looks = λ i e h. looks_at t u m from (inr (inl (b.try_upgrade i e))) l;
+      first_read_looks = λ e. looks_at t u m from (inr (inr (b.first_read e))) l;
+      listed_for_turn = for_turn;
+      listed_to_read = to_read;
     }
 
 -- ---- where a move acts
@@ -300,7 +330,8 @@ module _ (t u : Table Guarded) (m : Move) (a : Answer) (w : Within) (c : Acting 
         same = c.moves.same;
         answer = says t u m a w c;
         decides = decided;
-      }) begins
+      }) begins (asked.for_turn t u m a w c) (asked.to_read t u m a w c)
+      (record { found = c.acts.found; turn = c.acts.turn; no_writer = c.acts.no_writer; no_readers = c.acts.no_readers })
 
 -- ---- a poll after ready, and a put
 
@@ -348,6 +379,11 @@ still_at_once t m a after k at holds =
       first_read = λ e. absurd (never_first read s (outside rest.Holding) o m.what n is refl e);
       first_upgradable = λ e. absurd (never_first upgradable s (outside rest.Holding) o m.what n is refl e);
       first_write = λ e z. absurd (never_first write s (outside rest.Holding) o m.what n is refl e);
+      try_read_looks = λ i e b. absurd (apart_from_read m.what i holds e);
+      try_upgrade_looks = λ i e b. absurd (apart_from_upgrade m.what i holds e);
+      first_read_looks = λ e. absurd (never_first read s (outside rest.Holding) o m.what n is refl e);
+      listed_for_turn = λ i polls pending. absurd (cc (sym is ∙ pending));
+      listed_to_read = λ i polls pending. absurd (cc (sym is ∙ pending));
     }
 
 -- ---- a move that isn't possible
@@ -370,6 +406,12 @@ never_write (outside rest.Finished) o (Begin call.Write i) n h e = some_none e
 never_write (outside rest.Pending) (Some write) (Begin call.Poll i) n h e = some_none e
 never_write _ o _ n h e = false≢true h
 
+never_polls : (s : Standing) (o : Option Right) (what : What) (i : Inputs) → what ≡ Begin call.Poll i → s ≡ outside rest.Pending → call_in (knows o) s what ≡ None → ⊥
+never_polls s o what i e p none =
+    let N : What → Type 0 = λ z. call_in (knows o) (outside rest.Pending) z ≡ None in
+    let S : Standing → Type 0 = λ z. call_in (knows o) z what ≡ None in
+    some_none (subst N e (subst S p none))
+
 pub impossible_at_once : (w : World) (m : Move) → call_of w m ≡ None → AnswersAtOnce w m answer.NotPossible w
 impossible_at_once w m none =
     let s = standing_of w m.party in
@@ -388,4 +430,9 @@ impossible_at_once w m none =
       first_read = λ e. absurd (never_read s o m.what n e none);
       first_upgradable = λ e. absurd (never_upgradable s o m.what n e none);
       first_write = λ e z. absurd (never_write s o m.what n e none);
+      try_read_looks = λ i e h. absurd (cc);
+      try_upgrade_looks = λ i e h. absurd (cc);
+      first_read_looks = λ e. absurd (never_read s o m.what n e none);
+      listed_for_turn = λ i polls pending. absurd (never_polls s o m.what i polls pending none);
+      listed_to_read = λ i polls pending. absurd (never_polls s o m.what i polls pending none);
     }

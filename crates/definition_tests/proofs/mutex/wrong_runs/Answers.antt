@@ -182,3 +182,6 @@ returns-clause-sleeps_though_free c = λ r. elim (r.sound.told_or_due r.free r.p
 
 pub returns-clause-wakes_in_a_ring : goal.returns-clause-wakes_in_a_ring
 returns-clause-wakes_in_a_ring c = λ r. true≢false (sym (r.kept.tells_nobody r.patient r.none_starved r.pending r.other r.another r.told) ∙ r.untold)
+
+pub returns-clause-starved_unwaited : goal.returns-clause-starved_unwaited
+returns-clause-starved_unwaited c = λ r. r.kept.first_patient r.first r.none_starved r.is_refused

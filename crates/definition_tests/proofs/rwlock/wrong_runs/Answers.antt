@@ -29,6 +29,7 @@ use Rattle.lock_world.specs.Standings.{IsUndecided}
 use Rattle.lock_world.specs.Steps.{notifies, notifies_additionally}
 use Rattle.rwlock_world.specs.Changes.{IsAllowed}
 use Rattle.rwlock_world.specs.State.{is_starved, for_the_turn, for_no_readers, for_no_writer}
+use Rattle.lock_event.specs.Lists.{marked_count}
 
 none_possible : (a : Answer) → a ≡ answer.None → is_possible a ≡ true
 none_possible a e = ap is_possible e
@@ -345,3 +346,12 @@ returns-clause-starved_for_nothing c = λ r. r.kept.patient r.patient r.unstarve
 
 pub returns-clause-wakes_in_a_ring : goal.returns-clause-wakes_in_a_ring
 returns-clause-wakes_in_a_ring c = λ r. true≢false (sym (r.kept.tells_nobody r.patient r.none_starved r.pending r.listed r.other r.another r.told) ∙ r.untold)
+
+pub returns-clause-polls_untold : goal.returns-clause-polls_untold
+returns-clause-polls_untold c = λ r. let pending = (r.legal.listed_for_turn r.inputs r.polls r.waits r.listed).0 in absurd (cc (r.untold, r.goes_on))
+
+pub returns-clause-polls_untold_to_read : goal.returns-clause-polls_untold_to_read
+returns-clause-polls_untold_to_read c = λ r. let pending = (r.legal.listed_to_read r.inputs r.polls r.waits r.listed).0 in absurd (cc (r.untold, r.goes_on))
+
+pub returns-clause-tries_and_tells : goal.returns-clause-tries_and_tells
+returns-clause-tries_and_tells c = λ r. let same = ap (λ l. marked_count l) (r.legal.try_read_looks r.inputs r.tries r.possible).no_writer in absurd (omega (arith, same, r.told, r.none_told))
