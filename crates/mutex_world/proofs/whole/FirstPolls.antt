@@ -91,6 +91,8 @@ ends_not true v «end».Got h = cc h
 ends_not false v «end».Got h = cc h
 ends_not trying v «end».Pending h = cc h
 ends_not trying v «end».NotFree h = cc h
+ends_not trying v «end».Granted h = cc h
+ends_not trying v «end».Waiting h = cc h
 ends_not trying v «end».GivenBack h = cc h
 ends_not trying v («end».Refused r) h = cc h
 
