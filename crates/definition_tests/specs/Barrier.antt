@@ -30,6 +30,10 @@ use Rattle.lock_world.specs.Standings.{is_outside}
 use Rattle.lock_world.specs.Steps.{does, notifies}
 use Rattle.barrier_world.specs.Laws.{IsDue}
 use Rattle.barrier_world.specs.State.{is_starved}
+use Rattle.lock_world.specs.declared.standing.Within.{Within}
+use Rattle.lock_world.specs.Standings.{inside}
+use Rattle.lock_world.specs.Standings.{is_possible}
+use Rattle.lock_event.specs.Lists.{notified}
 
 -- A move of a party, and what it leads to.
 pub record Step : Type 0 where
@@ -316,3 +320,16 @@ pub record WakesInARing : Type 0 where
   pub untold : is_marked_at (is_party other) whole.old.lock_list ≡ false
   pub told : is_marked_at (is_party other) whole.new.lock_list ≡ true
   pub kept : Keeps whole
+
+-- A wait that is to be refused, and has no more to do with the inner lock, goes on or ends, and some other that waits there is notified by nobody.
+pub record RefusedSilently : Type 0 where
+  pub step : Step
+  pub within : Within
+  pub why : ℕ
+  pub refused : standing_of step.old step.move.party ≡ inside within (Some (answer.Refused why))
+  pub apart : step.old.lock.holder ≢ Some step.move.party
+  pub unlisted : entries_of step.move.party step.old.lock_list ≡ 0
+  pub unstarved : is_starved step.old.lock step.move.party ≡ false
+  pub possible : is_possible step.answer ≡ true
+  pub none_told : step.new.lock_list ≢ notified step.old.lock_list 1
+  pub legal : IsAtOnce step

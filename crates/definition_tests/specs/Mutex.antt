@@ -27,6 +27,8 @@ use Rattle.lock_world.specs.Standings.{is_outside}
 use Rattle.lock_world.specs.Steps.{notifies}
 use Rattle.mutex_world.specs.Legal.{for_the_lock}
 use Rattle.mutex_world.specs.Laws.{IsSound, IsDue}
+use Rattle.lock_world.specs.Standings.{is_possible}
+use Rattle.lock_event.specs.Lists.{notified}
 
 -- A move of a party, and what it leads to.
 pub record Step : Type 0 where
@@ -325,3 +327,15 @@ pub record StarvedUnwaited : Type 0 where
   pub none_starved : how_many whole.old.state.starved ≡ 0
   pub is_refused : whole.answer ≡ refused Starved
   pub kept : Keeps whole
+
+-- A call that is to be refused, and whose party stands in no list, goes on or ends, and some other that waits is notified by nobody.
+pub record RefusedSilently : Type 0 where
+  pub step : Step
+  pub within : Within
+  pub why : ℕ
+  pub refused : standing_of step.old step.move.party ≡ inside within (Some (answer.Refused why))
+  pub unlisted : entries_of step.move.party step.old.entries ≡ 0
+  pub unstarved : is_starved step.old.state step.move.party ≡ false
+  pub possible : is_possible step.answer ≡ true
+  pub none_told : step.new.entries ≢ notified step.old.entries 1
+  pub legal : IsAtOnce step

@@ -254,3 +254,6 @@ returns-clause-releases_silently c = λ r. let some = ((r.kept.solo r.polls r.so
 
 pub returns-clause-wakes_in_a_ring : goal.returns-clause-wakes_in_a_ring
 returns-clause-wakes_in_a_ring c = λ r. true≢false (sym (r.kept.tells_nobody r.patient r.none_starved r.pending r.listed r.other r.another r.told) ∙ r.untold)
+
+pub returns-clause-refused_silently : goal.returns-clause-refused_silently
+returns-clause-refused_silently c = λ r. r.none_told (r.legal.refuses r.within r.why r.refused r.apart r.unlisted r.unstarved r.possible).1

@@ -185,3 +185,6 @@ returns-clause-wakes_in_a_ring c = λ r. true≢false (sym (r.kept.tells_nobody 
 
 pub returns-clause-starved_unwaited : goal.returns-clause-starved_unwaited
 returns-clause-starved_unwaited c = λ r. r.kept.first_patient r.first r.none_starved r.is_refused
+
+pub returns-clause-refused_silently : goal.returns-clause-refused_silently
+returns-clause-refused_silently c = λ r. r.none_told (r.legal.refuses r.within r.why r.refused r.unlisted r.unstarved r.possible).1
