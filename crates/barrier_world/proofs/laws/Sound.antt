@@ -49,7 +49,7 @@ use Rattle.barrier_world.proofs.step.Locks.{releasing_unlisted}
 use Rattle.barrier_world.proofs.step.Owns as owns
 use Rattle.barrier_world.proofs.step.Owns.{at_most_once}
 use Rattle.barrier_world.proofs.Numbers as numbers
-use Rattle.std.proofs.Common.{◌⊎◌, false, Bool}
+use Rattle.std.proofs.Common.{◌⊎◌, false}
 use Rattle.std.proofs.lemmas.Bool.{false≢true}
 use Rattle.lock_event.specs.Lists.{marked_count}
 use Rattle.lock_world.specs.Standings.{is_decided}

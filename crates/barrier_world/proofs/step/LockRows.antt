@@ -298,13 +298,17 @@ module _ (t u : Table Barrier) (m : Move) (w : Within) (laws : IsBarrier t.machi
         kept Lock = y.2
         kept Generation = unlisted
       why refusal.Starved y free none at wait midway = (
-        (refusal.Starved, refl, record {
-          limit = sees.how_many_counted t.machine.lock.courses ∙ y.0;
-          without_lock = free;
-          unstarved = is_unstarved_so y.1;
-          undecided = midway;
-          unchanged = record { arrivals = same_arrivals; lock = same_state _ _ _ _ y.3 y.4; lists = kept; wait = wait };
-        }),
+        (
+          refusal.Starved,
+          refl,
+          record {
+            limit = sees.how_many_counted t.machine.lock.courses ∙ y.0;
+            without_lock = free;
+            unstarved = is_unstarved_so y.1;
+            undecided = midway;
+            unchanged = record { arrivals = same_arrivals; lock = same_state _ _ _ _ y.3 y.4; lists = kept; wait = wait };
+          },
+        ),
         at,
         λ e. y.5,
       ) where

@@ -18,20 +18,10 @@ use Rattle.lock_frame.specs.Steps.{beginning}
 use Rattle.lock_frame.proofs.Runs.{Onward, along}
 use Rattle.lock_table.specs.Tables.{Table, Acted}
 use Rattle.lock_table.proofs.Ways.{onward}
-use Rattle.mutex_machine.specs.Course.{Course, is_counting}
-use Rattle.mutex_machine.specs.Mutex.{Mutex, course_at, starved}
-use Rattle.mutex_machine.proofs.callers.Callers.{out_uncounted, waiting_uncounted}
+use Rattle.mutex_machine.specs.Course.{is_counting}
+use Rattle.mutex_machine.specs.Mutex.{course_at, starved}
 use Rattle.mutex_machine.proofs.callers.Holders as sees
-use Rattle.sync_program.specs.declared.barrier.Action.{Action}
-use Rattle.sync_program.specs.declared.barrier.Action.TheVariants as act
-use Rattle.sync_program.specs.declared.barrier.Found.{Found}
-use Rattle.sync_program.specs.declared.barrier.Found.TheVariants as found
-use Rattle.sync_program.specs.declared.barrier.Place.{Place}
-use Rattle.sync_program.specs.declared.barrier.Position.{Position}
-use Rattle.sync_program.specs.declared.barrier.Position.TheVariants.{Out, Made, Locking, Waiting, At}
-use Rattle.barrier_program.specs.Program.{start_of, action_of}
-use Rattle.barrier_program.specs.Locks.{OnLock}
-use Rattle.barrier_machine.specs.Roles.{fits_lock, in_lock}
+use Rattle.barrier_program.specs.Program.{action_of}
 use Rattle.barrier_machine.specs.Machine.{Barrier, Moves, position_at}
 use Rattle.barrier_world.specs.State.{World, is_starved}
 use Rattle.barrier_world.specs.Bound.{Promises}
@@ -41,7 +31,6 @@ use Rattle.barrier_world.proofs.whole.Alone.{known_calls}
 use Rattle.barrier_world.proofs.whole.Handing.{hands_on}
 use Rattle.barrier_world.proofs.whole.Polls.{nobody_starved, first, notified, solo}
 use Rattle.std.proofs.Common.{Bool, Option, None, refl}
-use Rattle.std.proofs.lemmas.Bool.{true≢false}
 use Rattle.lock_world.specs.declared.moves.Move.{Move}
 use Rattle.lock_world.specs.Standings.{Standing, outside, inside, forgotten, is_outside, is_decided, is_possible, decision, call_in}
 use Rattle.lock_frame.proofs.Endings.{ends_outside as outside_at_end}

@@ -1,5 +1,5 @@
 -- A call that waits for the inner lock at its end, and hasn't waited for too long, has notified nobody there, where nobody is starved for it.
-use Rattle.std.proofs.Common.{◌≡◌, ◌≢◌, ℕ, ◌<◌, ◌⊎◌, inl, inr, Bool, true, false, List, length, Option, Some, None, is_some, refl, arith, ap, sym, ◌∙◌, subst}
+use Rattle.std.proofs.Common.{◌≡◌, ◌≢◌, ℕ, ◌<◌, ◌⊎◌, inl, inr, Bool, true, false, List, Option, Some, None, is_some, refl, arith, ap, sym, ◌∙◌, subst}
 use Rattle.std.proofs.lemmas.Bool.{false≢true, true≢false}
 use Rattle.lock_event.specs.declared.event.Entry.{Entry}
 use Rattle.lock_event.specs.Lists.{is_marked_at}
@@ -13,12 +13,11 @@ use Rattle.lock_world.specs.declared.moves.Inputs.{Inputs}
 use Rattle.lock_world.specs.declared.moves.Move.{Move}
 use Rattle.lock_world.specs.declared.moves.What.{What}
 use Rattle.lock_world.specs.declared.moves.What.TheVariants.{Begin, Go}
-use Rattle.lock_program.specs.declared.refusal.Refusal.TheVariants as refusal
 use Rattle.lock_world.specs.declared.standing.Rest.TheVariants as rest
 use Rattle.lock_world.specs.declared.standing.Within.{Within}
 use Rattle.lock_world.specs.Marks.{MarksNobody}
 use Rattle.lock_world.specs.Rosters.{how_many}
-use Rattle.lock_world.specs.Standings.{Standing, outside, inputs_of, refused, StandsAfter}
+use Rattle.lock_world.specs.Standings.{Standing, outside, inputs_of, StandsAfter}
 use Rattle.lock_world.specs.Whole.{going_on, moves_of, answers_of}
 use Rattle.lock_world.proofs.Equations.{none_some, some_eq}
 use Rattle.lock_world.proofs.Lists.{joined_unmarked}
@@ -57,7 +56,6 @@ use Rattle.barrier_world.specs.Legal.{call_of}
 use Rattle.barrier_world.specs.Runs.{Runs, HoldsWell}
 use Rattle.barrier_world.specs.State.{World, standing_of}
 use Rattle.barrier_world.specs.Steps.{IsBarrierTable, Stands, Steps}
-use Rattle.barrier_world.specs.View.{view_of}
 use Rattle.barrier_world.proofs.whole.Alone.{known_calls, acts_so}
 use Rattle.barrier_world.proofs.whole.Polls.{nobody_starved, from_waiting, stands_at, at_rest_there}
 use Rattle.barrier_world.proofs.whole.Served.{Step}

@@ -1,5 +1,5 @@
 -- Who is due, and who may notify, by the place at which a party stands.
-use Rattle.std.proofs.Common.{◌≡◌, ℕ, ◌<◌, Bool, true, false, Option, Some, None, refl, arith, ap, sym, ◌∙◌}
+use Rattle.std.proofs.Common.{◌≡◌, ℕ, ◌<◌, true, false, Option, refl, arith, sym, ◌∙◌}
 use Rattle.lock_world.specs.Standings.{is_outside, is_outside_stage}
 use Rattle.lock_world.specs.declared.moves.Answer.{Answer}
 use Rattle.lock_world.specs.declared.standing.Kind.{Kind}
@@ -9,7 +9,6 @@ use Rattle.lock_world.specs.declared.standing.Rest.TheVariants as rest
 use Rattle.lock_world.specs.declared.standing.Stage.{Stage}
 use Rattle.lock_world.specs.declared.standing.Stage.TheVariants.{Outside, Inside, Forgotten}
 use Rattle.lock_world.specs.declared.standing.Within.{Within}
-use Rattle.lock_world.proofs.Equations.{some_none}
 use Rattle.std.proofs.lemmas.Bool.{false≢true}
 use Rattle.lock_table.specs.Stages.{stands_as}
 use Rattle.lock_program.specs.declared.mutex.Place.{Place}

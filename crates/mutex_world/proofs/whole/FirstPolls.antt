@@ -1,6 +1,6 @@
 -- A first poll isn't refused for the number of starved parties, where nobody is starved.
-use Rattle.std.proofs.Common.{◌≡◌, ◌≢◌, ℕ, ◌<◌, Bool, true, false, List, length, Option, Some, None, refl, arith, ap, sym, ◌∙◌, subst, get_or-set_same}
-use Rattle.std.proofs.lemmas.Bool.{false≢true, true≢false}
+use Rattle.std.proofs.Common.{◌≡◌, ℕ, Bool, true, false, List, refl, arith, ap, sym, ◌∙◌, subst, get_or-set_same}
+use Rattle.std.proofs.lemmas.Bool.{true≢false}
 use Rattle.lock_event.specs.declared.event.Entry.{Entry}
 use Rattle.lock_event.specs.Lists.{is_marked_at}
 use Rattle.lock_queue.specs.Parties.{is_party, entries_of}
@@ -22,7 +22,7 @@ use Rattle.lock_table.specs.Tables.{Table}
 use Rattle.lock_program.specs.declared.end.End.{End}
 use Rattle.lock_program.specs.declared.end.End.TheVariants as «end»
 use Rattle.lock_program.specs.declared.mutex.Found.{Found}
-use Rattle.lock_program.specs.declared.mutex.Found.TheVariants.{Done, Free, Held, SomeStarved, Yes, No}
+use Rattle.lock_program.specs.declared.mutex.Found.TheVariants.{Done, Free, Held, SomeStarved, Yes}
 use Rattle.mutex_program.specs.declared.led.Next.{Next}
 use Rattle.mutex_program.specs.declared.led.Next.TheVariants as next
 use Rattle.lock_program.specs.declared.mutex.Place.{Place}

@@ -1,8 +1,7 @@
 -- Who has still to notify in a list, or to look, by the place at which a party stands.
-use Rattle.std.proofs.Common.{◌≡◌, ℕ, ◌<◌, ◌⊎◌, inl, inr, Bool, true, false, Option, Some, None, refl, arith, ap, sym, ◌∙◌}
+use Rattle.std.proofs.Common.{◌≡◌, ℕ, ◌<◌, true, false, Option, None, refl, arith, sym, ◌∙◌}
 use Rattle.std.proofs.lemmas.Bool.{false≢true}
 use Rattle.lock_world.specs.declared.moves.Answer.{Answer}
-use Rattle.lock_program.specs.declared.refusal.Refusal.TheVariants as refusal
 use Rattle.lock_world.specs.declared.standing.Kind.{Kind}
 use Rattle.lock_world.specs.declared.standing.Kind.TheVariants as kind
 use Rattle.lock_world.specs.declared.standing.Rest.{Rest}
@@ -11,15 +10,14 @@ use Rattle.lock_world.specs.declared.standing.Stage.{Stage}
 use Rattle.lock_world.specs.declared.standing.Stage.TheVariants.{Outside, Inside, Forgotten}
 use Rattle.lock_world.specs.declared.standing.Within.{Within}
 use Rattle.lock_world.specs.Standings.{is_outside, is_outside_stage, is_decided}
-use Rattle.lock_world.proofs.Equations.{both}
 use Rattle.lock_table.specs.Stages.{stands_as}
-use Rattle.mutex_machine.specs.Course.{Course as TurnCourse, out, holding, waiting, taking, releasing, cancelling, undecided, called, counting, has_lock, gives_up, is_out, is_holding, is_waiting, is_cancelling, is_releasing, is_due, counted, listed}
+use Rattle.mutex_machine.specs.Course.{Course as TurnCourse, out, holding, taking, releasing, undecided, called, counting, has_lock, gives_up, is_out, is_holding, is_waiting, is_cancelling, is_releasing, is_due, counted, listed}
 use Rattle.lock_program.specs.declared.rwlock.Ending.TheVariants as ending
 use Rattle.lock_program.specs.declared.rwlock.Place.{Place}
 use Rattle.lock_program.specs.declared.rwlock.Place.TheVariants as place
 use Rattle.lock_program.specs.declared.rwlock.Purpose.TheVariants as purpose
 use Rattle.rwlock_machine.specs.Roles.{in_no_writer, waits_no_writer, owes_no_writer, in_no_readers, waits_no_readers, owes_no_readers, fits_turn, is_resting}
-use Rattle.rwlock_world.specs.Stages.{sought_at, goes_with, is_inside, is_on_course, course_of, drops}
+use Rattle.rwlock_world.specs.Stages.{sought_at, goes_with, is_on_course, drops}
 use Rattle.rwlock_world.specs.View.{standing_at}
 use Rattle.rwlock_world.specs.Laws.{is_due_for_turn, is_due_to_readers, is_due_to_writer, is_drop_kind}
 

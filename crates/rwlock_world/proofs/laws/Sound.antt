@@ -306,11 +306,14 @@ module _ (t : Table Guarded) (laws : IsRwLock t.machine.lock) (fits : IsRwLockTa
       let there : q < length l.places = in_table q (λ e. (let none : waits_no_writer (place_at l.places q) ≡ 0 = ap waits_no_writer e in absurd (omega (arith, waits, none)))) in
       elim (marked_or_owed place.Out (marked l ≡ 0) waits_no_writer owes_no_writer l.places (marked_count l.no_writer) q laws.owed_no_writer (bit_seen l t.stages t.opening t.machine.value laws fits free) there waits) [
         | inl marked ↦ inl marked
-        | inr one ↦ inr (one.0, record {
+        | inr one ↦ inr (
+          one.0,
+          record {
             due = ap (λ z. is_due_to_readers z (state.sought_by w one.0)) (stood one.0) ∙ (ap (is_due_to_readers (standing_at t.machine.value (stage_at t.stages one.0) (place_at l.places one.0) (turn_at l.turn.courses one.0))) (view.seeks_at l.places one.0)
                 ∙ due.due_to_readers t.machine.value (stage_at t.stages one.0) (place_at l.places one.0) (turn_at l.turn.courses one.0) (rests_there one.0) one.2);
             unlisted = laws.owners_no_writer one.0 ∙ due.unlisted_to_readers (place_at l.places one.0) one.2;
-          })
+          },
+        )
       ]
 
   writing_due : state.how_many_read w ≡ 0 → (q : ℕ) → is_outside (standing_of w q) ≡ true → 0 < entries_of q l.no_readers → (0 < marked_count l.no_readers) ⊎ ((z : ℕ) × IsDueToWriter w z)
@@ -319,10 +322,13 @@ module _ (t : Table Guarded) (laws : IsRwLock t.machine.lock) (fits : IsRwLockTa
       let there : q < length l.places = in_table q (λ e. (let none : waits_no_readers (place_at l.places q) ≡ 0 = ap waits_no_readers e in absurd (omega (arith, waits, none)))) in
       elim (marked_or_owed place.Out (readers l ≡ 0) waits_no_readers owes_no_readers l.places (marked_count l.no_readers) q laws.owed_no_readers (sym (view.how_many-read l.places) ∙ free) there waits) [
         | inl marked ↦ inl marked
-        | inr one ↦ inr (one.0, record {
+        | inr one ↦ inr (
+          one.0,
+          record {
             due = ap is_due_to_writer (stood one.0) ∙ due.due_to_writer t.machine.value (stage_at t.stages one.0) (place_at l.places one.0) (turn_at l.turn.courses one.0) (fits.stands one.0 (omega (arith, one.1, fits.as_many))) (rests_there one.0) one.2;
             unlisted = laws.owners_no_readers one.0 ∙ due.unlisted_to_writer (place_at l.places one.0) one.2;
-          })
+          },
+        )
       ]
 
   pub sound : IsSound w

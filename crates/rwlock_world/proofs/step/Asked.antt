@@ -1,5 +1,5 @@
 -- A poll of a party that waits for the turn, or to read, asks in that list.
-use Rattle.std.proofs.Common.{◌≡◌, ℕ, ◌<◌, if◌then◌else◌, Bool, true, false, List, length, Option, Some, None, refl, arith, ap, sym, ◌∙◌, subst}
+use Rattle.std.proofs.Common.{◌≡◌, ℕ, ◌<◌, if◌then◌else◌, Bool, true, false, List, Some, refl, arith, ap, sym, ◌∙◌, subst}
 use Rattle.lock_event.specs.declared.event.Entry.{Entry}
 use Rattle.lock_event.specs.Lists.{is_marked_at}
 use Rattle.lock_queue.specs.Parties.{is_party, entries_of}
@@ -42,7 +42,7 @@ use Rattle.rwlock_world.specs.Guarded.{Guarded, answer_by, place_for}
 use Rattle.rwlock_world.specs.Stages.{is_future, goes_with}
 use Rattle.rwlock_world.specs.Legal.{AsksIn}
 use Rattle.rwlock_world.specs.State.{standing_of}
-use Rattle.rwlock_world.specs.View.{verdict, standing_at, view_of}
+use Rattle.rwlock_world.specs.View.{verdict, view_of}
 use Rattle.rwlock_world.proofs.step.Acting.{Acting, says}
 use Rattle.rwlock_world.proofs.step.Idle.{stood}
 use Rattle.rwlock_world.proofs.table.Begun.{at_future}

@@ -1,5 +1,5 @@
 -- A call is decided only on an answer with which such a call may end.
-use Rattle.std.proofs.Common.{◌≡◌, ℕ, Bool, true, false, List, Option, Some, None, refl, ap, sym, ◌∙◌, subst, inl, inr, ◌⊎◌}
+use Rattle.std.proofs.Common.{◌≡◌, ℕ, true, false, List, Option, Some, None, refl, ap, sym, ◌∙◌, subst, inl, inr}
 use Rattle.lock_world.specs.declared.moves.Answer.{Answer}
 use Rattle.lock_world.specs.declared.moves.Answer.TheVariants as answer
 use Rattle.lock_world.specs.declared.standing.Kind.{Kind}
@@ -11,7 +11,7 @@ use Rattle.lock_world.specs.declared.standing.Stage.TheVariants.{Outside, Inside
 use Rattle.lock_world.specs.declared.standing.Within.{Within}
 use Rattle.lock_world.specs.Standings.{inside, may_end}
 use Rattle.lock_world.proofs.Equations.{both, some_eq, none_some}
-use Rattle.lock_table.specs.Stages.{stage_at, stands_as}
+use Rattle.lock_table.specs.Stages.{stage_at}
 use Rattle.lock_table.proofs.Past.{inside_or_past}
 use Rattle.mutex_machine.specs.Course.{Course as TurnCourse, decision}
 use Rattle.mutex_machine.specs.Mutex.{course_at as turn_at}
@@ -24,7 +24,7 @@ use Rattle.lock_program.specs.declared.rwlock.Place.TheVariants as place
 use Rattle.lock_program.specs.declared.refusal.Refusal.TheVariants as refusal
 use Rattle.rwlock_machine.specs.Acts.{IsRwLock}
 use Rattle.rwlock_machine.specs.Machine.{RwLock, place_at}
-use Rattle.rwlock_world.specs.Stages.{Course, polls, tries, drops, downgrades, strays, course_of, course_until, course_refusing, is_on_course, is_inside, goes_with}
+use Rattle.rwlock_world.specs.Stages.{Course, polls, tries, drops, downgrades, strays, course_of, course_until, is_on_course, is_inside, goes_with}
 use Rattle.rwlock_world.specs.State.{standing_of}
 use Rattle.rwlock_world.specs.View.{verdict, verdict_until, refused_by, standing_at, seen}
 use Rattle.rwlock_world.proofs.table.Views.{Fits}

@@ -31,7 +31,6 @@ use Rattle.rwlock_world.specs.State as state
 use Rattle.rwlock_world.specs.State.{World, told_in, entries_in}
 use Rattle.rwlock_world.specs.View.{passing, upgrading, turn_as, share_of, turn_by, seen}
 use Rattle.rwlock_world.proofs.step.Facts.{Known, turn_kept, there}
-use Rattle.lock_queue.specs.Parties.{entries_of}
 use Rattle.lock_world.specs.Steps.{asks, leaves, notifies, notifies_additionally}
 use Rattle.mutex_machine.specs.Conduct.{IsAllowed as MayDo}
 use Rattle.mutex_machine.specs.Course.{listed, may_tell, taking, releasing, undecided, called, counting, has_lock, gives_up as giving_up}

@@ -1,6 +1,6 @@
 -- Nobody is refused for too many starved parties who isn't about to be counted.
-use Rattle.std.proofs.Common.{◌≡◌, ◌≢◌, ℕ, Bool, true, false, Option, Some, None, refl, ap, sym, ◌∙◌, subst}
-use Rattle.std.proofs.lemmas.Bool.{true≢false, false≢true}
+use Rattle.std.proofs.Common.{◌≡◌, ℕ, Bool, true, false, Option, Some, None, refl, ap, sym, ◌∙◌, subst}
+use Rattle.std.proofs.lemmas.Bool.{true≢false}
 use Rattle.lock_world.specs.declared.moves.Answer.{Answer}
 use Rattle.lock_world.specs.declared.moves.Answer.TheVariants as answer
 use Rattle.lock_world.specs.declared.moves.Call.{Call}
@@ -15,7 +15,7 @@ use Rattle.lock_world.specs.declared.standing.Within.{Within}
 use Rattle.lock_world.specs.Frame.{put_in}
 use Rattle.lock_program.specs.Refusals.{number_of}
 use Rattle.lock_world.specs.Standings.{Standing, outside, inside, forgotten, is_possible, is_decided, refused, decision, IsUndecided}
-use Rattle.lock_world.proofs.Equations.{some_eq, none_some, some_none}
+use Rattle.lock_world.proofs.Equations.{some_eq, none_some}
 use Rattle.lock_table.specs.Stages.{stage_at, call_at}
 use Rattle.mutex_machine.specs.Course.{Course as TurnCourse, is_counting}
 use Rattle.mutex_machine.specs.Mutex.{course_at as turn_at}

@@ -1,6 +1,5 @@
 -- A call that waits for the turn at its end, and hasn't waited for too long, has notified nobody for the turn, where nobody is starved for it.
-use Rattle.std.proofs.Common.{◌≡◌, ◌≢◌, ℕ, ◌<◌, ◌⊎◌, inl, inr, Bool, true, false, List, length, Option, Some, None, is_some, refl, arith, ap, sym, ◌∙◌, subst, get_or-set_same}
-use Rattle.std.proofs.Math.ListN.{set}
+use Rattle.std.proofs.Common.{◌≡◌, ◌≢◌, ℕ, ◌<◌, ◌⊎◌, inl, inr, Bool, true, false, List, Option, Some, None, is_some, refl, arith, ap, sym, ◌∙◌, subst, get_or-set_same}
 use Rattle.std.proofs.lemmas.Bool.{false≢true, true≢false}
 use Rattle.lock_event.specs.declared.event.Entry.{Entry}
 use Rattle.lock_queue.specs.Parties.{entries_of}
@@ -14,19 +13,16 @@ use Rattle.lock_world.specs.declared.moves.What.{What}
 use Rattle.lock_world.specs.declared.moves.What.TheVariants.{Begin, Go}
 use Rattle.lock_program.specs.declared.refusal.Refusal.TheVariants as refusal
 use Rattle.lock_world.specs.declared.standing.Rest.TheVariants as rest
-use Rattle.lock_world.specs.declared.standing.Stage.{Stage}
 use Rattle.lock_world.specs.declared.standing.Within.{Within}
 use Rattle.lock_world.specs.Marks.{MarksNobody}
 use Rattle.lock_world.specs.Rosters.{how_many}
 use Rattle.lock_world.specs.declared.moves.Move.{Move}
 use Rattle.lock_world.specs.Standings.{Standing, outside, inputs_of, refused, StandsAfter}
 use Rattle.lock_world.specs.Whole.{going_on, moves_of, answers_of}
-use Rattle.lock_world.proofs.Equations.{none_some, some_eq}
+use Rattle.lock_world.proofs.Equations.{some_eq}
 use Rattle.lock_world.proofs.Marks.{marks_more}
 use Rattle.lock_frame.specs.Steps.{beginning}
 use Rattle.lock_frame.proofs.Runs.{along, Onward}
-use Rattle.lock_table.specs.Stages.{stage_at}
-use Rattle.lock_table.specs.Tables.{Table}
 use Rattle.mutex_machine.specs.Course.{Course as TurnCourse, decision, is_counting, listed}
 use Rattle.mutex_machine.specs.Conduct.{decided_then}
 use Rattle.mutex_machine.specs.Mutex.{starved, Mutex, course_at as turn_at}
@@ -48,7 +44,6 @@ use Rattle.rwlock_machine.specs.Machine.{place_at}
 use Rattle.rwlock_machine.specs.Roles.{fits_turn}
 use Rattle.rwlock_machine.specs.Solo.{waits_for_turn}
 use Rattle.rwlock_machine.proofs.stages.Leads.{Led, led}
-use Rattle.rwlock_world.specs.Guarded.{Guarded}
 use Rattle.rwlock_world.specs.Runs.{Runs, HoldsWell}
 use Rattle.rwlock_world.specs.Legal.{call_of}
 use Rattle.rwlock_world.specs.State.{World, standing_of}

@@ -165,8 +165,8 @@ module _ (t : Table Semaphore) (laws : IsSemaphore t.machine) (fits : IsSemaphor
   told_or_due free q out some =
       let waiting : 0 < waits (position_at xs q) = omega (arith, some, laws.owners q, rest_waits (position_at xs q) (rests_outside q out)) in
       let there : q < length xs = by_stage_or_past t.stages q (q < length xs)
-          (λ past. (let none : waits (position_at xs q) ≡ 0 = ap waits (past_last xs q Out (omega (arith, past, fits.as_many))) in absurd (omega (arith, waiting, none))))
-          (λ inside. omega (arith, inside, fits.as_many)) in
+      (λ past. (let none : waits (position_at xs q) ≡ 0 = ap waits (past_last xs q Out (omega (arith, past, fits.as_many))) in absurd (omega (arith, waiting, none))))
+      (λ inside. omega (arith, inside, fits.as_many)) in
       elim (marked_or_owed Out (0 < t.machine.words.available) waits owes xs (marked_count t.machine.entries) q laws.owed (omega (arith, free, seen.available_seen t laws)) there waiting) [
         | inl marked ↦ inl marked
         | inr one ↦ inr (one.0, due one.0 one.1 one.2)

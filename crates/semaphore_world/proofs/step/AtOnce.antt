@@ -13,7 +13,6 @@ use Rattle.lock_world.specs.declared.standing.Rest.TheVariants as rest
 use Rattle.lock_world.specs.declared.standing.Stage.{Stage}
 use Rattle.lock_world.specs.declared.standing.Within.{Within}
 use Rattle.lock_program.specs.declared.refusal.Refusal.TheVariants as refusal
-use Rattle.std.proofs.Common.{None}
 use Rattle.lock_world.specs.Standings.{Standing, outside, inside, inputs_of, decision, refused}
 use Rattle.lock_world.specs.Frame.{is_drop}
 use Rattle.lock_world.specs.Steps.{Deed, nothing, changes, does, notifies}
