@@ -9,10 +9,9 @@ ghost use Rattle.lock_program.specs.declared.mutex.Place.TheVariants as at;
 
 use futures::task::Context;
 use lock_driver::{MutexParty, RawMutex};
-use lock_words::{Hold, Seat, put};
-use lock_program::Refusal;
-use lock_program::End;
 use lock_program::mutex::Place;
+use lock_program::{End, Refusal};
+use lock_words::{Hold, Seat, put};
 use std::sync::Wait;
 use std::time::Clock;
 

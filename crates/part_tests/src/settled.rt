@@ -6,8 +6,8 @@ ghost use Rattle.lock_words.specs.Turns.{OnPending};
 
 use futures::task::{Context, Poll};
 use futures::test::MockTask;
-use lock_words::{Polled, Settled, Turn};
 use lock_program::Refusal;
+use lock_words::{Polled, Settled, Turn};
 
 /// Answers pending, then a refusal, then a number.
 #[derive(Drop)]
