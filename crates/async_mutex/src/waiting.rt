@@ -58,11 +58,7 @@ pub(crate) fn poll_waiting<T, R: Wait + Clock>(
             taken(waiting).end(&raw.words);
             Outcome::Refused(refusal)
         }
-        // No poll of the program ends so.
-        End::NotFree | End::GivenBack => {
-            taken(waiting).end(&raw.words);
-            Outcome::Refused(Refusal::Memory)
-        }
+        End::NotFree | End::GivenBack => unreachable!(),
     }
 }
 

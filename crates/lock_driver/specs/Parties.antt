@@ -14,13 +14,15 @@ use Rattle.lock_words.specs.Tries.{Holds}
 use Rattle.mutex_program.specs.declared.program.Action.{Action}
 use Rattle.mutex_program.specs.declared.program.Action.TheVariants as act
 use Rattle.mutex_program.specs.declared.calls.End.{End}
+use Rattle.mutex_program.specs.declared.calls.LockCall.{LockCall}
+use Rattle.mutex_program.specs.declared.calls.LockCall.TheVariants as call
 use Rattle.mutex_program.specs.declared.calls.End.TheVariants as ending
 use Rattle.mutex_program.specs.declared.program.Found.{Found}
 use Rattle.mutex_program.specs.declared.program.Found.TheVariants.{Done, Free, Held, SomeStarved, AtLimit, NoMemory, Yes, No}
 use Rattle.mutex_program.specs.declared.program.Next.{Next}
 use Rattle.mutex_program.specs.declared.program.Next.TheVariants as next
 use Rattle.mutex_program.specs.declared.program.Place.{Place}
-use Rattle.mutex_program.specs.declared.program.Place.TheVariants.{Out, Holding, Join, Look, Ask, Retry, PassOn, Count, JoinStarved, LookAlone, PassOnListed, AskStarved, Seize, RefuseUncount, RefuseLeave, RefuseNotifyMemory, RefuseNotifyStarved, ReleaseNotify}
+use Rattle.mutex_program.specs.declared.program.Place.TheVariants.{Out, Holding, Try, Clear, CancelUncount, CancelLeave, Join, Look, Ask, Retry, PassOn, Count, JoinStarved, LookAlone, PassOnListed, AskStarved, Seize, RefuseUncount, RefuseLeave, RefuseNotifyMemory, RefuseNotifyStarved, ReleaseNotify}
 use Rattle.mutex_program.specs.Program.{next_of, place_after}
 use Rattle.mutex_program.specs.Roles.{listed, is_holder, is_counted}
 
@@ -188,3 +190,26 @@ AsksNo _ _ fact = ⊤
 abbrev pub IfPending : End → Type 0 → Type 0
 IfPending ending.Pending fact = fact
 IfPending _ fact = ⊤
+
+-- how a poll may end
+abbrev pub EndsPoll : End → Type 0
+EndsPoll ending.NotFree = ⊥
+EndsPoll ending.GivenBack = ⊥
+EndsPoll _ = ⊤
+
+-- the places of a poll
+abbrev pub IsPolling : Place → Type 0
+IsPolling Out = ⊥
+IsPolling Holding = ⊥
+IsPolling Try = ⊥
+IsPolling Clear = ⊥
+IsPolling ReleaseNotify = ⊥
+IsPolling CancelUncount = ⊥
+IsPolling CancelLeave = ⊥
+IsPolling _ = ⊤
+
+-- the places of a call, as far as something is said of them
+abbrev pub IsWithin : LockCall → Place → Type 0
+IsWithin call.Poll p = IsPolling p
+IsWithin call.Lock p = IsPolling p
+IsWithin _ p = ⊤
