@@ -375,9 +375,8 @@ fn poll_locked(
     let keeps = task_of(&waker);
     match entries.ask(id, waker) {
         Asked::Waiting { .. } => Polled::Waiting(keeps),
-        // It waited just now.
-        Asked::Notified { kept, .. } => Polled::Notified(kept),
-        Asked::Unlisted { unused } => Polled::Notified(unused),
+        Asked::Notified { .. } => unreachable!(),
+        Asked::Unlisted { .. } => unreachable!(),
     }
 }
 
