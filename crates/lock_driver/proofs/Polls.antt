@@ -7,11 +7,11 @@ use Rattle.mutex_program.specs.declared.calls.End.{End}
 use Rattle.mutex_program.specs.declared.calls.LockCall.{LockCall}
 use Rattle.mutex_program.specs.declared.calls.LockCall.TheVariants as call
 use Rattle.mutex_program.specs.declared.program.Found.{Found}
-use Rattle.mutex_program.specs.declared.program.Found.TheVariants.{Done, Free, Held, SomeStarved, AtLimit, NoMemory, Yes, No}
+use Rattle.mutex_program.specs.declared.program.Found.TheVariants.{Done, Free, Held, AtLimit, Yes}
 use Rattle.mutex_program.specs.declared.program.Next.{Next}
 use Rattle.mutex_program.specs.declared.program.Next.TheVariants as next
 use Rattle.mutex_program.specs.declared.program.Place.{Place}
-use Rattle.mutex_program.specs.declared.program.Place.TheVariants.{Out, Holding, Enter, Try, Clear, CancelUncount, CancelLeave, Join, Look, Ask, Retry, PassOn, Count, JoinStarved, LookAlone, PassOnListed, AskStarved, Seize, Uncount, Leave, RefuseUncount, RefuseLeave, RefuseNotifyMemory, RefuseNotifyStarved, ReleaseNotify}
+use Rattle.mutex_program.specs.declared.program.Place.TheVariants.{Out, Holding, Enter, Join, Look, Ask, Retry, PassOn, Count, JoinStarved, LookAlone, PassOnListed, AskStarved, Seize, Uncount, Leave, RefuseUncount, RefuseLeave, RefuseNotifyMemory, RefuseNotifyStarved}
 use Rattle.mutex_program.specs.Program.{next_of, place_after, start_of}
 
 abbrev OnNext : Next → Type 0
