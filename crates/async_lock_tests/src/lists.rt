@@ -27,6 +27,7 @@ enum Deed {
     Ask(Name),
     Leave(Name),
     Notify(usize),
+    NotifyAdditional(usize),
 }
 
 /// Of an entry that asked: whether it counts as notified, and whether a waker is in the hand then.
@@ -174,6 +175,13 @@ impl Scene {
         }
     }
 
+    fn notify_additional<R: Wait>(&self, rt: &R, count: usize) {
+        if count > 0 {
+            self.list
+                .notify_additional(rt, count, Owed::new(self.list.id()));
+        }
+    }
+
     fn carry_out<R: Wait>(&mut self, rt: &R, tasks: &Tasks, deed: Deed) -> Answer {
         match deed {
             Deed::Look => {}
@@ -182,6 +190,7 @@ impl Scene {
             Deed::Ask(name) => return self.ask(rt, name),
             Deed::Leave(name) => self.leave(rt, name),
             Deed::Notify(count) => self.notify(rt, count),
+            Deed::NotifyAdditional(count) => self.notify_additional(rt, count),
         }
         None
     }
@@ -263,6 +272,25 @@ const NOTIFIES: [Row; 10] = [
 #[test]
 fn those_that_are_notified_are_woken_and_no_others(rt: HostRuntime) {
     play(&rt, &NOTIFIES);
+}
+
+const NOTIFIES_MORE: [Row; 10] = [
+    (Deed::NotifyAdditional(1), None, false, NOBODY),
+    (Deed::Join(Name::One), None, true, NOBODY),
+    (Deed::Poll(Name::One), WAITS, true, NOBODY),
+    (Deed::Join(Name::Two), None, true, NOBODY),
+    (Deed::Poll(Name::Two), WAITS, true, NOBODY),
+    (Deed::Join(Name::Three), None, true, NOBODY),
+    (Deed::Poll(Name::Three), WAITS, true, NOBODY),
+    (Deed::NotifyAdditional(1), None, true, ONE),
+    // Those that are notified already don't count.
+    (Deed::NotifyAdditional(1), None, true, BOTH),
+    (Deed::NotifyAdditional(usize::MAX), None, true, ALL),
+];
+
+#[test]
+fn more_are_notified_beside_those_that_are(rt: HostRuntime) {
+    play(&rt, &NOTIFIES_MORE);
 }
 
 const PASSES_ITS_NOTIFICATION_ON: [Row; 6] = [

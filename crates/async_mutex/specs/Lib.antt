@@ -1,4 +1,5 @@
 pub mod Futures
 pub mod Guards
+pub mod Lent
 pub mod Outcomes
 pub mod Sources

@@ -4,7 +4,7 @@ use Rattle.async_mutex.specs.declared.waiting.Outcome.{Outcome}
 use Rattle.async_mutex.specs.declared.waiting.Outcome.TheVariants as outcome
 use Rattle.async_mutex.specs.declared.waiting.Waiting.{Waiting}
 use Rattle.futures.specs.declared.task.context.Context.{Context}
-use Rattle.lock_driver.specs.Parties.{Stands, CanPoll, EndsAt, IfPending, IsGivenUp, IsReceipt}
+use Rattle.lock_driver.specs.Parties.{Stands, CanPoll, EndsAt, EndsPoll, IfPending, IsGivenUp, IsReceipt}
 use Rattle.lock_words.specs.Lock.{Lock}
 use Rattle.lock_words.specs.Tries.{Holds}
 use Rattle.lock_program.specs.declared.end.End.{End}
@@ -15,7 +15,7 @@ Waits w q = Stands w q.party q.place × CanPoll q.place
 
 -- the party of a poll that ended so
 abbrev pub Polled : {T : Type 0} → Lock → Context → End → Waiting T → Type 0
-Polled w cx end q = Stands w q.party q.place × EndsAt end q.place × IfPending end (IsReceipt w cx q.party.entry)
+Polled w cx end q = Stands w q.party q.place × EndsAt end q.place × IfPending end (IsReceipt w cx q.party.entry) × EndsPoll end
 
 -- Who got the lock has it, with the right to its value and without a count as starved. A poll is refused for memory, or for too
 -- many starved waiters. In both cases nothing is left of the party.

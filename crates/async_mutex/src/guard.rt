@@ -8,25 +8,25 @@ use crate::mutex::Mutex;
 use lock_words::{Hold, Seat};
 use std::fmt;
 use std::marker::Model;
-use std::ops::{Deref, DerefMut};
+use std::ops::Deref;
 use std::sync::{Arc, Wait};
 
 /// Holds a mutex, and lends its value. Dropped, it gives the mutex back.
 ///
 /// Its type keeps that its seat holds the lock, with the right to the lock's value.
 pub struct MutexGuard<'a, T, R: Wait> {
-    mutex: &'a Mutex<T, R>,
+    pub(crate) mutex: &'a Mutex<T, R>,
     seat: Seat<T>,
-    hold: Hold<T>,
+    pub(crate) hold: Hold<T>,
     ghost held: { Holds mutex.now.raw.words seat hold },
     ghost uncounted: { seat.starved ≡ false },
 }
 
 /// A guard that owns its share of the mutex, and borrows nothing. In clauses it is the mutex that it holds, and the value.
 pub struct MutexGuardArc<T, R: Wait> {
-    mutex: Arc<Mutex<T, R>>,
+    pub(crate) mutex: Arc<Mutex<T, R>>,
     seat: Seat<T>,
-    hold: Hold<T>,
+    pub(crate) hold: Hold<T>,
 }
 
 impl<T, R: Wait> Model for MutexGuardArc<T, R> {
@@ -85,15 +85,6 @@ impl<T, R: Wait> Deref for MutexGuard<'_, T, R> {
     }
 }
 
-impl<T, R: Wait> DerefMut for MutexGuard<'_, T, R> {
-    ghost deref_mut_gives = { λ guard value. value ≡ guard.hold.value };
-
-    fn deref_mut(&mut self) -> &mut T {
-        let mutex = self.mutex;
-        self.hold.get_mut(mutex.raw.words.room())
-    }
-}
-
 impl<T, R: Wait> Deref for MutexGuardArc<T, R> {
     type Target = T;
 
@@ -101,15 +92,6 @@ impl<T, R: Wait> Deref for MutexGuardArc<T, R> {
 
     fn deref(&self) -> &T {
         self.hold.get(self.mutex.raw.words.room())
-    }
-}
-
-impl<T, R: Wait> DerefMut for MutexGuardArc<T, R> {
-    ghost deref_mut_gives = { λ guard value. value ≡ guard.value };
-
-    fn deref_mut(&mut self) -> &mut T {
-        let mutex = &self.mutex;
-        self.hold.get_mut(mutex.raw.words.room())
     }
 }
 

@@ -7,6 +7,7 @@
 #![tactic(auto)]
 
 mod guard;
+mod lends;
 mod lock;
 mod mutex;
 mod waiting;

@@ -57,11 +57,7 @@ pub(crate) fn poll_waiting<T, R: Wait + Clock>(
             taken(waiting).end(&raw.words);
             Outcome::Refused(refusal)
         }
-        // No poll of the program ends so.
-        End::Granted | End::Waiting | End::NotFree | End::GivenBack => {
-            taken(waiting).end(&raw.words);
-            Outcome::Refused(Refusal::Memory)
-        }
+        End::Granted | End::Waiting | End::NotFree | End::GivenBack => unreachable!(),
     }
 }
 

@@ -42,13 +42,36 @@ where
     Ok(tenths(&mut found, times))
 }
 
-// A thread that takes the lock so often.
-fn hammer<R: Wait + Clock + RandomSource + AllocGlobal>(mutex: &Mutex<u64, R>, times: u64) {
+// A thread that takes the lock so often, and how often it got it.
+fn hammer<R>(mutex: &Mutex<u64, R>, times: u64) -> u64
+where
+    R: Wait + Clock + RandomSource + AllocGlobal,
+{
+    let mut got = 0_u64;
     for _ in 0..times {
         if let Ok(mut guard) = mutex.lock_blocking() {
             *guard = guard.wrapping_add(1);
+            got = got.wrapping_add(1);
         }
     }
+    got
+}
+
+// Two threads that do so.
+fn two<R>(rt: &R, mutex: &Mutex<u64, R>, times: u64) -> u64
+where
+    R: Threads + Wait + Clock + RandomSource + AllocGlobal + Sync,
+{
+    let (one, other) = thread::join(rt, || hammer(mutex, times), || hammer(mutex, times));
+    one.wrapping_add(other)
+}
+
+fn four<R>(rt: &R, mutex: &Mutex<u64, R>, times: u64) -> u64
+where
+    R: Threads + Wait + Clock + RandomSource + AllocGlobal + Sync,
+{
+    let (one, other) = thread::join(rt, || two(rt, mutex, times), || two(rt, mutex, times));
+    one.wrapping_add(other)
 }
 
 /// The tenths of nanoseconds that a `lock_blocking` and the guard's drop take of two threads that contend for a mutex, or
@@ -56,26 +79,22 @@ fn hammer<R: Wait + Clock + RandomSource + AllocGlobal>(mutex: &Mutex<u64, R>, t
 pub(crate) fn median_of_contenders<R>(
     rt: &R,
     mutex: &Mutex<u64, R>,
-    four: bool,
+    is_four: bool,
     times: u64,
 ) -> io::Result<u64>
 where
-    R: Threads + Wait + Clock + RandomSource + AllocGlobal + Sync + Drop,
+    R: Threads + Wait + Clock + RandomSource + AllocGlobal + Sync,
 {
-    let contend = || hammer(mutex, times);
-    let two = || {
-        thread::join(rt, &contend, &contend);
-    };
     let mut found = [0_u64; RUNS];
+    let mut got = 0_u64;
     for slot in found.iter_mut() {
         let start = Instant::now(rt)?;
-        if four {
-            thread::join(rt, &two, &two);
+        got = if is_four {
+            four(rt, mutex, times)
         } else {
-            two();
-        }
+            two(rt, mutex, times)
+        };
         *slot = nanoseconds(start.elapsed(rt)?);
     }
-    let threads = if four { 4 } else { 2 };
-    Ok(tenths(&mut found, times.saturating_mul(threads)))
+    Ok(tenths(&mut found, got))
 }

@@ -1,2 +1,3 @@
 pub mod Ends
+pub mod Polls
 pub mod Stays

@@ -14,13 +14,15 @@ use Rattle.lock_words.specs.Tries.{Holds}
 use Rattle.lock_program.specs.declared.mutex.Action.{Action}
 use Rattle.lock_program.specs.declared.mutex.Action.TheVariants as act
 use Rattle.lock_program.specs.declared.end.End.{End}
+use Rattle.lock_program.specs.declared.mutex.LockCall.{LockCall}
+use Rattle.lock_program.specs.declared.mutex.LockCall.TheVariants as call
 use Rattle.lock_program.specs.declared.end.End.TheVariants as ending
 use Rattle.lock_program.specs.declared.mutex.Found.{Found}
 use Rattle.lock_program.specs.declared.mutex.Found.TheVariants.{Done, Free, Held, SomeStarved, AtLimit, NoMemory, Yes, No}
 use Rattle.lock_program.specs.declared.end.Next.{Next}
 use Rattle.lock_program.specs.declared.end.Next.TheVariants as next
 use Rattle.lock_program.specs.declared.mutex.Place.{Place}
-use Rattle.lock_program.specs.declared.mutex.Place.TheVariants.{Out, Holding, Join, Look, Ask, Retry, PassOn, Count, JoinStarved, LookAlone, PassOnListed, AskStarved, Seize, RefuseUncount, RefuseLeave, RefuseNotifyMemory, RefuseNotifyStarved, ReleaseNotify}
+use Rattle.lock_program.specs.declared.mutex.Place.TheVariants.{Out, Holding, Try, Clear, CancelUncount, CancelLeave, Join, Look, Ask, Retry, PassOn, Count, JoinStarved, LookAlone, PassOnListed, AskStarved, Seize, RefuseUncount, RefuseLeave, RefuseNotifyMemory, RefuseNotifyStarved, ReleaseNotify}
 use Rattle.lock_program.specs.Mutex.{next_of}
 use Rattle.lock_program.specs.MutexRoles.{listed, is_holder, is_counted}
 
@@ -193,3 +195,28 @@ AsksNo _ _ fact = ⊤
 abbrev pub IfPending : End → Type 0 → Type 0
 IfPending ending.Pending fact = fact
 IfPending _ fact = ⊤
+
+-- how a poll may end
+abbrev pub EndsPoll : End → Type 0
+EndsPoll ending.Granted = ⊥
+EndsPoll ending.Waiting = ⊥
+EndsPoll ending.NotFree = ⊥
+EndsPoll ending.GivenBack = ⊥
+EndsPoll _ = ⊤
+
+-- the places of a poll
+abbrev pub IsPolling : Place → Type 0
+IsPolling Out = ⊥
+IsPolling Holding = ⊥
+IsPolling Try = ⊥
+IsPolling Clear = ⊥
+IsPolling ReleaseNotify = ⊥
+IsPolling CancelUncount = ⊥
+IsPolling CancelLeave = ⊥
+IsPolling _ = ⊤
+
+-- the places of a call, as far as something is said of them
+abbrev pub IsWithin : LockCall → Place → Type 0
+IsWithin call.Poll p = IsPolling p
+IsWithin call.Lock p = IsPolling p
+IsWithin _ p = ⊤

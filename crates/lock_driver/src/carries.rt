@@ -34,6 +34,9 @@ pub trait Carries {
     /// The place after one where this was found.
     ghost place_after: { Self.Place → Self.Found → Self.Place };
 
+    /// The places of a call.
+    ghost is_within: { Self.Call → Self.Place → Type 0 };
+
     /// How the call has ended by that, if it has.
     ghost end_after: { Self.Place → Self.Found → Option Self.End };
 
@@ -43,7 +46,8 @@ pub trait Carries {
     /// Returns the place at which a call begins for a party at this place, if it can.
     fn start(call: Self::Call, place: Self::Place) -> Option<Self::Place>
         ensures first { result ≡ first_place call place }
-        ensures stands { IfSome result (λ first. (shared : Self.Shared) (party : Self) → stands shared party place → stands shared party first) };
+        ensures stands { IfSome result (λ first. (shared : Self.Shared) (party : Self) → stands shared party place → stands shared party first) }
+        ensures within { IfSome result (is_within call) };
 
     /// Carries out the action of this place: a single try on the lock's words, or one function of its list. The context is
     /// for an action that asks, or that polls what the party makes.
@@ -64,7 +68,8 @@ pub trait Carries {
 
     /// Returns what the program's table says: the next place, and how the call has ended if it has.
     fn decide(place: Self::Place, found: Self::Found) -> (Self::Place, Option<Self::End>)
-        ensures { result ≡ (place_after place found, end_after place found) };
+        ensures next { result ≡ (place_after place found, end_after place found) }
+        ensures within { (call : Self.Call) → is_within call place → IfNone (end_after place found) (is_within call (place_after place found)) };
 
     /// Carries out one action, and returns the place after it, and how the call has ended if it has. Where a word changed
     /// during the try the place is the same.
@@ -81,6 +86,7 @@ pub trait Carries {
         requires { stands shared.now self.old place }
         ensures stands { stands shared.now self.new result.1 }
         ensures ended { IfSome result.0 (λ end. ((found : Self.Found) × (result.1 ≡ place_after place found) × (end_after place found ≡ Some end)) × tells shared.now cx.new self.new end) }
+        ensures within { (call : Self.Call) → is_within call place → IfNone result.0 (is_within call result.1) }
         ensures kept { Keeps cx.old cx.new }
     {
         match self.act(shared, rt, cx, place) {
@@ -106,7 +112,7 @@ pub trait Carries {
     ) -> (Self::End, Self::Place)
         requires { stands shared.now self.old first }
         ensures stands { stands shared.now self.new result.1 }
-        ensures ended { (place : Self.Place) × (found : Self.Found) × (result.1 ≡ place_after place found) × (end_after place found ≡ Some result.0) }
+        ensures ended { (place : Self.Place) × (found : Self.Found) × (result.1 ≡ place_after place found) × (end_after place found ≡ Some result.0) × ((call : Self.Call) → is_within call first → is_within call place) }
         ensures tells { tells shared.now cx.new self.new result.0 }
         ensures kept { Keeps cx.old cx.new }
     {
@@ -134,7 +140,7 @@ pub trait Carries {
         requires stands { stands shared.now self.old place }
         requires begins { IsSome (first_place call place) }
         ensures stands { stands shared.now self.new result.1 }
-        ensures ended { (place : Self.Place) × (found : Self.Found) × (result.1 ≡ place_after place found) × (end_after place found ≡ Some result.0) }
+        ensures ended { (at : Self.Place) × (found : Self.Found) × (result.1 ≡ place_after at found) × (end_after at found ≡ Some result.0) × is_within call at }
         ensures tells { tells shared.now cx.new self.new result.0 }
         ensures kept { Keeps cx.old cx.new }
     {

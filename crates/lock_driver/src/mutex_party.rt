@@ -146,7 +146,7 @@ impl<T> RawMutex<T> {
 }
 
 impl<T> RawMutex<T> {
-    ghost use Rattle.lock_driver.specs.Parties.{Stands, EndsAt, CanPoll};
+    ghost use Rattle.lock_driver.specs.Parties.{Stands, EndsAt, EndsPoll, CanPoll};
 
     /// Polls a party that stands at `place`, until the poll ends: how it ends, and where the party
     /// stands then (`ended`), with what it has there (`stands`).
@@ -164,6 +164,7 @@ impl<T> RawMutex<T> {
         requires begins { CanPoll place }
         ensures stands { Stands self.now.words party.new result.1 }
         ensures ended { EndsAt result.0 result.1 }
+        ensures polled { EndsPoll result.0 }
         ensures pending { IfPending result.0 (IsReceipt self.now.words cx.new party.new.entry) }
         ensures kept { Keeps cx.old cx.new }
     {
@@ -184,9 +185,26 @@ impl<T> RawMutex<T> {
         requires holds { Holds self.now.words seat hold }
         requires starved { seat.starved ≡ false }
     {
+        self.release_with(rt, seat, hold, || ());
+    }
+
+    /// Releases the lock as [`RawMutex::release`] does, and calls `between` between its two actions. It is for tests.
+    #[inline]
+    pub fn release_with<R: Wait, F: FnOnce()>(
+        &self,
+        rt: &R,
+        seat: Seat<T>,
+        hold: Hold<T>,
+        between: F,
+    )
+        requires holds { Holds self.now.words seat hold }
+        requires starved { seat.starved ≡ false }
+        requires between { F.IsAlwaysCallable between }
+    {
         straight_rows();
         let mut seat = seat;
         let owed = self.words.clear(&mut seat, hold);
+        between();
         self.words.list().notify(rt, 1, owed);
         seat.rise();
     }
@@ -245,7 +263,7 @@ fn owe(owed: &mut Option<Owed>, list: ListId)
 }
 
 impl<T> Carries for MutexParty<T> {
-    ghost use Rattle.lock_driver.specs.Parties.{Stands, next_place, end_after as ended_by};
+    ghost use Rattle.lock_driver.specs.Parties.{Stands, IsWithin, next_place, end_after as ended_by};
 
     type Shared = RawMutex<T>;
 
@@ -262,6 +280,8 @@ impl<T> Carries for MutexParty<T> {
     ghost first_place = { start_of };
 
     ghost place_after = { next_place };
+
+    ghost is_within = { IsWithin };
 
     ghost end_after = { ended_by };
 

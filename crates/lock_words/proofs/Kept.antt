@@ -1,17 +1,17 @@
 -- What an entry keeps that has asked with a waker, and whose waker it is.
-use Rattle.std.proofs.Common.{◌≡◌, ℕ, ◌⊎◌, inl, inr, Bool, true, false, ◌||◌, List, [], ◌∷◌, Option, Some, None, ◌==◌, if◌then◌else◌, IsSomeAnd, refl, sym, ap, ◌∙◌, arith, eq-eqb, subst}
+use Rattle.std.proofs.Common.{◌≡◌, ℕ, ◌⊎◌, inl, inr, Bool, true, false, ◌||◌, List, [], ◌∷◌, Option, Some, None, ◌==◌, if◌then◌else◌, IsSomeAnd, refl, ap, ◌∙◌, eq-eqb}
 use Rattle.std.specs.Arc.{arc_value}
 use Rattle.futures.specs.Task.{Keeps, Wakes, Holds, Lasting}
 use Rattle.futures.specs.declared.task.context.Context.{Context}
 use Rattle.futures.specs.declared.task.waker.Origin.{Origin}
 use Rattle.futures.specs.declared.task.waker.Route.{Route}
 use Rattle.futures.specs.declared.task.waker.Waker.{Waker}
-use Rattle.lock_event.specs.Lists.{entry, is_listed, with_key}
+use Rattle.lock_event.specs.Lists.{entry, is_listed, is_marked, is_marked_at, with_key}
 use Rattle.lock_event.specs.Slots.{has_id, slot_of, waker_at}
 use Rattle.lock_event.specs.declared.event.Entry.{Entry}
 use Rattle.lock_event.specs.declared.event.EntryId.{EntryId}
 use Rattle.lock_event.specs.declared.event.Slot.{Slot}
-use Rattle.lock_words.specs.Heard.{IsTask, IsTaskOf, IsPolledBy, IsKept}
+use Rattle.lock_words.specs.Heard.{IsTaskOf, IsKept}
 use Rattle.lock_words.specs.declared.task_id.TaskId.{TaskId}
 
 listed_after : (a b : Bool) → a ≡ false → (a || b) ≡ true → b ≡ true
@@ -33,6 +33,30 @@ module _ {W : Type 0} (id : EntryId) (w : Option W) where
   waker_at-with_key (e ∷ es) listed =
       at_head (has_id id e.key) true e es (with_key (has_id id) (slot_of id w) es) refl
       (λ other. waker_at-with_key es (listed_after (has_id id e.key) _ other listed))
+
+-- and waits in the list as before
+module _ {W : Type 0} (id : EntryId) (w : Option W) where
+  marked_head : (b : Bool) (e : Entry (Slot W)) (es fs : List (Entry (Slot W))) → has_id id e.key ≡ b → (if b then is_marked e.mark else is_marked_at (has_id id) es) ≡ false
+      → (b ≡ false → is_marked_at (has_id id) es ≡ false → is_marked_at (has_id id) fs ≡ false)
+      → is_marked_at (has_id id) (if b then entry (slot_of id w) e.mark ∷ es else e ∷ fs) ≡ false
+  marked_head true e es fs is unmarked rest = rw (same_number id.number) unmarked
+  marked_head false e es fs is unmarked rest = rw is (rest refl unmarked)
+
+  pub unmarked-with_key : (l : List (Entry (Slot W))) → is_marked_at (has_id id) l ≡ false → is_marked_at (has_id id) (with_key (has_id id) (slot_of id w) l) ≡ false
+  unmarked-with_key [] unmarked = unmarked
+  unmarked-with_key (e ∷ es) unmarked =
+      marked_head (has_id id e.key) e es (with_key (has_id id) (slot_of id w) es) refl unmarked (λ other. unmarked-with_key es)
+
+  listed_head : (b : Bool) (e : Entry (Slot W)) (es fs : List (Entry (Slot W))) → has_id id e.key ≡ b → (b || is_listed (has_id id) es) ≡ true
+      → (is_listed (has_id id) es ≡ true → is_listed (has_id id) fs ≡ true)
+      → is_listed (has_id id) (if b then entry (slot_of id w) e.mark ∷ es else e ∷ fs) ≡ true
+  listed_head true e es fs is listed rest = rw (same_number id.number) refl
+  listed_head false e es fs is listed rest = rw is (rest listed)
+
+  pub listed-with_key : (l : List (Entry (Slot W))) → is_listed (has_id id) l ≡ true → is_listed (has_id id) (with_key (has_id id) (slot_of id w) l) ≡ true
+  listed-with_key [] listed = listed
+  listed-with_key (e ∷ es) listed =
+      listed_head (has_id id e.key) e es (with_key (has_id id) (slot_of id w) es) refl listed (listed-with_key es)
 
 abbrev pub origin_of : Context → Origin
 origin_of cx = (arc_value {X = Route} cx.route.now).origin

@@ -70,6 +70,14 @@ impl Owed {
         let Owed { list: _ } = self;
     }
 
+    // Notifies so many entries additionally, under the list's lock.
+    pub(crate) fn notify_additional<W: Drop>(self, entries: &mut Event<W>, n: usize)
+        requires { 1 ≤ n }
+    {
+        entries.notify_additional(n);
+        let Owed { list: _ } = self;
+    }
+
     // Ends the duty to a list that had no entries.
     #[inline]
     pub(crate) fn unless_listed(self, is_listed: &Flag) -> Option<Owed>

@@ -9,7 +9,7 @@ use crate::list_id::ListId;
 use crate::task_id::TaskId;
 use futures::task::{Context, Poll, Source, Waker};
 use lock_event::{Asked, EntryId, Event, Mark, Memory};
-use std::alloc::Global;
+use std::alloc::{AllocFailed, Global};
 use std::sync::{Mutex, Wait};
 
 /// What an entry keeps to be woken with: the kit's [`Waker`], and a test's own.
@@ -57,6 +57,13 @@ pub enum Polled {
     Waiting(Option<TaskId>),
 }
 
+/// Wakers that are to be called: these, and one for which memory was refused.
+#[derive(Drop)]
+pub struct Due<W> {
+    all: Vec<W>,
+    next: Option<W>,
+}
+
 /// The waiting list of a lock that threads share: an event list under a short lock of its own.
 ///
 /// Each call takes that lock for one function of the list and releases it. Wakers are called when it has been released, each
@@ -69,6 +76,8 @@ pub struct WaitingList<W: Wakes> {
     // Which list it is. Nobody registers with it.
     name: Source,
     is_listed: Flag,
+    // Where a notification of many puts their wakers meanwhile.
+    alloc: Global,
     entries: Mutex<Event<W>>,
 }
 
@@ -78,6 +87,7 @@ impl<W: Wakes> Drop for WaitingList<W> {
         let WaitingList {
             name: _,
             is_listed: _,
+            alloc: _,
             entries: _,
         } = self;
     }
@@ -89,6 +99,7 @@ impl<W: Wakes> WaitingList<W> {
         WaitingList {
             name: Source::new(),
             is_listed: Flag::new(),
+            alloc,
             entries: Mutex::new(Event::new(alloc)),
         }
     }
@@ -197,22 +208,63 @@ impl<W: Wakes> WaitingList<W> {
         }
     }
 
+    /// Notifies the first `n` waiting entries additionally, or all if fewer wait, and calls their wakers, each once. Entries
+    /// that are marked already don't count.
+    pub fn notify_additional<R: Wait>(&self, rt: &R, n: usize, owed: Owed)
+        requires some { 1 ≤ n }
+        requires list { owed.list.id ≡ self.now.name.id }
+    {
+        if let Some(owed) = owed.unless_listed(&self.is_listed) {
+            let due = {
+                let mut entries = self.entries.lock(rt);
+                owed.notify_additional(&mut entries, n);
+                all_due(&mut entries, self.alloc)
+            };
+            self.wake(rt, due);
+        }
+    }
+
     // As `notify`, of a list that had entries.
     #[inline(never)]
     fn notify_listed<R: Wait>(&self, rt: &R, n: usize, owed: Owed)
         requires { 1 ≤ n }
     {
-        let mut due = notify_locked(&mut self.entries.lock(rt), n, owed);
-        // At most n wakers have become due.
-        for _ in 1..n {
-            let Some(waker) = due else {
-                return;
-            };
-            waker.wake();
-            due = self.entries.lock(rt).next_waker();
+        if n == 1 {
+            if let Some(waker) = notify_one(&mut self.entries.lock(rt), owed) {
+                waker.wake();
+            }
+            return;
         }
-        if let Some(waker) = due {
+        let due = {
+            let mut entries = self.entries.lock(rt);
+            owed.notify(&mut entries, n);
+            all_due(&mut entries, self.alloc)
+        };
+        self.wake(rt, due);
+    }
+
+    // Calls wakers that were taken out. Where memory was refused for more of them, the rest are taken out one by one.
+    fn wake<R: Wait>(&self, rt: &R, due: Due<W>) {
+        let Due { all, next } = due;
+        let more = next.is_some();
+        for waker in all {
             waker.wake();
+        }
+        if let Some(waker) = next {
+            waker.wake();
+        }
+        if more {
+            self.wake_one_by_one(rt);
+        }
+    }
+
+    fn wake_one_by_one<R: Wait>(&self, rt: &R) {
+        for _ in rt.forever() {
+            let next = self.entries.lock(rt).next_waker();
+            match next {
+                Some(waker) => waker.wake(),
+                None => return,
+            }
         }
     }
 }
@@ -276,12 +328,28 @@ fn leave_locked<W: Wakes>(
     (kept, entries.next_waker())
 }
 
-// Notifies so many entries: the first waker that is due.
-fn notify_locked<W: Wakes>(entries: &mut Event<W>, n: usize, owed: Owed) -> Option<W>
-    requires { 1 ≤ n }
-{
-    owed.notify(entries, n);
+// Notifies one entry: the waker that is due.
+fn notify_one<W: Wakes>(entries: &mut Event<W>, owed: Owed) -> Option<W> {
+    owed.notify(entries, 1);
     entries.next_waker()
+}
+
+// All wakers that are due, in one pass, as far as memory lasts.
+fn all_due<W: Wakes>(entries: &mut Event<W>, alloc: Global) -> Due<W> {
+    let mut all = Vec::new(alloc);
+    for _ in 0..entries.len() {
+        let Some(waker) = entries.next_waker() else {
+            break;
+        };
+        if let Err(failed) = all.push(waker) {
+            let AllocFailed { value } = failed;
+            return Due {
+                all,
+                next: Some(value),
+            };
+        }
+    }
+    Due { all, next: None }
 }
 
 // By the contract an entry that waits keeps a waker of the task that is answered.
@@ -307,9 +375,8 @@ fn poll_locked(
     let keeps = task_of(&waker);
     match entries.ask(id, waker) {
         Asked::Waiting { .. } => Polled::Waiting(keeps),
-        // It waited just now.
-        Asked::Notified { kept, .. } => Polled::Notified(kept),
-        Asked::Unlisted { unused } => Polled::Notified(unused),
+        Asked::Notified { .. } => unreachable!(),
+        Asked::Unlisted { .. } => unreachable!(),
     }
 }
 

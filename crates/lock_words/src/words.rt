@@ -164,6 +164,11 @@ impl<T> Words<T> {
         self.table.shared.peek(WORD) % STARVED == HELD
     }
 
+    /// Returns how many seats were counted as starved at some moment of the call. It needs no seat.
+    pub fn starved(&self) -> u64 {
+        self.table.shared.peek(WORD) / STARVED
+    }
+
     /// Where the value lies. [`Hold::get`] and [`Hold::get_mut`] lend it to whoever has its right.
     pub fn room(&self) -> &Room<T>
         ensures { result.now.room_id ≡ self.now.room }

@@ -1,0 +1,56 @@
+//! What a user can prove of the value that a guard lends: two reads agree, and what is written is read again.
+//!
+//! Each function's contract is about values, and no file of proofs stands beside it. While a guard lives nobody else writes the
+//! value, so that what was read once is known.
+#![tactic(auto)]
+
+ghost use Rattle.std.specs.Prelude.{◌≡◌, true, IfSome};
+
+use async_mutex::{Mutex, MutexGuard, MutexGuardArc};
+use std::sync::{Arc, Wait};
+
+/// Reads the value twice, and says whether both are the same: they are.
+pub fn reads_agree<R: Wait>(guard: &MutexGuard<'_, u64, R>) -> bool
+    ensures { result ≡ true }
+{
+    **guard == **guard
+}
+
+/// As [`reads_agree`], of an owned guard.
+pub fn owned_reads_agree<R: Wait>(guard: &MutexGuardArc<u64, R>) -> bool
+    ensures { result ≡ true }
+{
+    **guard == **guard
+}
+
+/// Writes a number and reads it again.
+pub fn written<R: Wait>(guard: &mut MutexGuard<'_, u64, R>, number: u64) -> u64
+    ensures { result ≡ number }
+{
+    **guard = number;
+    **guard
+}
+
+/// As [`written`], by an owned guard.
+pub fn owned_written<R: Wait>(guard: &mut MutexGuardArc<u64, R>, number: u64) -> u64
+    ensures { result ≡ number }
+{
+    **guard = number;
+    **guard
+}
+
+/// Writes a number under the lock and reads it again, if the lock is free.
+pub fn exchanged<R: Wait>(mutex: &Mutex<u64, R>, number: u64) -> Option<u64>
+    ensures { IfSome result (λ read. read ≡ number) }
+{
+    let mut guard = mutex.try_lock()?;
+    Some(written(&mut guard, number))
+}
+
+/// As [`exchanged`], by an owned guard.
+pub fn owned_exchanged<R: Wait + Drop>(mutex: &Arc<Mutex<u64, R>>, number: u64) -> Option<u64>
+    ensures { IfSome result (λ read. read ≡ number) }
+{
+    let mut guard = Mutex::try_lock_arc(mutex)?;
+    Some(owned_written(&mut guard, number))
+}
