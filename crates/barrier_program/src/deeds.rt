@@ -7,11 +7,11 @@ ghost use Rattle.sync_program.specs.declared.barrier.Action.TheVariants as acts;
 ghost use Rattle.barrier_program.specs.Deeds.{CanDo, Finds, FindsJoin, FindsAsk, words_after, arrival_after, entries_after};
 ghost use Rattle.barrier_program.specs.Locks.{OnLock};
 
-use sync_program::barrier::{Action, Found};
 use crate::words::{Progress, Words};
 use lock_queue::WaitQueue;
 use lock_world::Inputs;
 use mutex_machine::Mutex;
+use sync_program::barrier::{Action, Found};
 
 /// A party joins the list, where there is memory.
 fn join_in(list: &mut WaitQueue, party: u32, memory: bool) -> Found

@@ -7,12 +7,12 @@ ghost use Rattle.cell_program.specs.Deeds.{list_of};
 ghost use Rattle.cell_machine.specs.Machine.{new_cell, IsCell, answer_by};
 ghost use Rattle.cell_program.specs.Words.{content_of, kept_of};
 
-use cell_program::deeds::carry_out;
 use cell_program::calls::{got_left, position_left, start};
+use cell_program::deeds::carry_out;
 use cell_program::words::{Content, Words};
 use lock_event::Entry;
-use lock_queue::WaitQueue;
 use lock_program::Next;
+use lock_queue::WaitQueue;
 use lock_table::{Machine, Valued, answer};
 use lock_world::standing::{Rest, Within};
 use lock_world::{Answer, Call, What};

@@ -1,5 +1,5 @@
 -- What a World's move asks of a once-cell's programs, and what is told and left after what comes next. The table's value is a number.
-use Rattle.std.specs.Prelude.{ℕ, Bool, Option, Some, None}
+use Rattle.std.specs.Prelude.{ℕ, Option, Some, None}
 use Rattle.lock_program.specs.declared.end.Next.{Next as TableNext}
 use Rattle.lock_program.specs.declared.end.Next.TheVariants as next
 use Rattle.lock_world.specs.declared.moves.Call.{Call}

@@ -21,15 +21,15 @@ ghost use Rattle.std.specs.Option.{option_copied_mut};
 
 use cell_machine::OnceCell;
 use cell_program::Content;
-use sync_program::once_cell::ListName;
 use cell_program::words::take_from;
 use lock_event::Entry;
 use lock_frame::AnyWorld;
-use lock_table::Table;
 use lock_program::Refusal;
+use lock_table::Table;
 use lock_world::{Answer, Move};
 use std::alloc::Global;
 use std::marker::Model;
+use sync_program::once_cell::ListName;
 
 /// A once-cell, its parties, and their calls.
 pub struct World {

@@ -22,8 +22,8 @@ pub mod semaphore {
 /// A once-cell, from the crate `cell_world`.
 pub mod cell {
     pub use cell_program::Content;
-    pub use sync_program::once_cell::ListName;
     pub use cell_world::World;
+    pub use sync_program::once_cell::ListName;
 }
 
 /// A barrier, from the crate `barrier_world`.

@@ -1,10 +1,9 @@
 //! A mutex's machine alone, by both of its faces.
 
 use crate::same::assert_same;
-use mutex_machine::{Lock, Mutex};
-use lock_program::mutex::{LockCall, Step};
 use lock_program::End;
-use lock_program::mutex::Place;
+use lock_program::mutex::{LockCall, Place, Step};
+use mutex_machine::{Lock, Mutex};
 use mutex_program::led::Next;
 use std::alloc::{AllocError, Global};
 

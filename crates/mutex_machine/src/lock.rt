@@ -118,6 +118,13 @@ impl Lock {
         self.places[party as usize]
     }
 
+    /// As [`Lock::place`], of any number: None past the last party.
+    pub fn place_of(&self, party: u32) -> Option<Place>
+        ensures { result ≡ slice_get self.now.places party }
+    {
+        self.places.get(party as usize).copied()
+    }
+
     /// Whether the lock is held.
     pub fn is_held(&self) -> bool
         ensures { bit result ≡ holders self.now }

@@ -4,12 +4,12 @@ ghost use Rattle.std.specs.Prelude.{◌≡◌, ◌<◌, length, IfOk, IsSome, Is
 ghost use Rattle.mutex_machine.specs.Acts.{IsMutex};
 ghost use Rattle.mutex_world.specs.Guarded.{new_guarded, place_of, place_for, lock_call_of, end_of, answer_by, is_try_kind, Carried};
 
+use lock_program::End;
+use lock_program::mutex::LockCall;
 use lock_table::{Machine, Valued, answer};
 use lock_world::standing::{Kind, Rest, Within};
 use lock_world::{Answer, Call, Got, What};
 use mutex_machine::Lock;
-use lock_program::mutex::LockCall;
-use lock_program::End;
 use mutex_program::led::Next;
 use std::alloc::{AllocError, Global};
 use std::marker::Model;

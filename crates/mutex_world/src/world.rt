@@ -15,8 +15,9 @@ ghost use Rattle.mutex_world.specs.Bound.{IsBounded};
 use crate::guarded::Guarded;
 use lock_event::Entry;
 use lock_frame::AnyWorld;
-use lock_table::Table;
 use lock_program::Refusal;
+use lock_program::mutex::Place;
+use lock_table::Table;
 use lock_world::{Answer, Move};
 use std::alloc::Global;
 use std::marker::Model;
@@ -104,6 +105,14 @@ impl World {
         ensures { result ≡ is_at_rest self.now }
     {
         self.table.at_rest()
+    }
+
+    /// Where a party stands in its program; None past the last. It is for tests that carry out the same program beside a
+    /// World: no other clause names a place.
+    pub fn place(&self, party: u32) -> Option<Place>
+        ensures { result ≡ slice_get self.now.behind.machine.lock.places party }
+    {
+        self.table.machine().lock().place_of(party)
     }
 
     /// What always holds of a World, between any two moves: nobody has the lock beside its holder, each

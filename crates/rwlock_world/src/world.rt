@@ -15,8 +15,8 @@ ghost use Rattle.rwlock_world.specs.Bound.{IsTurnBounded, IsReadingBounded, IsWr
 use crate::guarded::Guarded;
 use lock_event::Entry;
 use lock_frame::AnyWorld;
-use lock_table::Table;
 use lock_program::Refusal;
+use lock_table::Table;
 use lock_world::{Answer, Move};
 use std::alloc::Global;
 use std::marker::Model;

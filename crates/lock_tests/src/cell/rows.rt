@@ -1,9 +1,9 @@
 //! The rows of which the tests of a once-cell's World are made.
 
 use cell_program::Content;
-use sync_program::once_cell::ListName;
 use lock_event::Mark;
 use lock_world::{Answer, Call, Inputs, Made, What};
+use sync_program::once_cell::ListName;
 
 pub(crate) const INPUTS: Inputs = Inputs {
     memory: true,

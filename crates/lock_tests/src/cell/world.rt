@@ -9,7 +9,6 @@ use super::rows::Deed::{
 use super::rows::Seen::{self, Answered, Is, State, Told, Value};
 use super::rows::{ACTIVE, GO, INPUTS, NO_MEMORY, PASSIVE};
 use cell_program::Content;
-use sync_program::once_cell::ListName;
 use cell_world::World;
 use lock_event::Mark;
 use lock_frame::AnyWorld;
@@ -18,6 +17,7 @@ use lock_world::{Answer, Call, Got, Inputs, Made, Move, What};
 use std::alloc::Global;
 use std::process::Abort;
 use std::test::Fail;
+use sync_program::once_cell::ListName;
 
 // A World, or where memory for it was refused, what a second try makes. So each test also passes where
 // one allocation fails, whichever it is.

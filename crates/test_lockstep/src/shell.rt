@@ -1,0 +1,95 @@
+//! What a lock's shell offers to be driven beside its World.
+
+use crate::bench::Bench;
+use lock_world::{Answer, Move, What};
+use std::alloc::Global;
+use std::fmt::Debug;
+use std::sync::Wait;
+
+/// A World's move, with the answer that the shell gives to it.
+#[derive(Clone, Copy, Debug, PartialEq, Eq)]
+pub(crate) struct Did {
+    pub(crate) what: What,
+    pub(crate) answer: Answer,
+}
+
+pub(crate) fn moved(what: What, answer: Answer) -> Did {
+    Did { what, answer }
+}
+
+/// The moves that one deed of a shell's party amounts to, at most three.
+#[derive(Clone, Copy)]
+pub(crate) struct Dids {
+    pub(crate) moves: [Option<Did>; 3],
+}
+
+/// Which ways the parties of a shell go.
+#[derive(Clone, Copy, PartialEq, Eq)]
+pub(crate) enum Ways {
+    /// By the driver.
+    Driver,
+    /// As the public type goes: what is done most goes past the driver.
+    Public,
+    /// Both, and each call that there is.
+    All,
+}
+
+/// Which table the World goes by.
+#[derive(Clone, Copy, PartialEq, Eq)]
+pub(crate) enum Table {
+    /// Its own.
+    Own,
+    /// Of a long wait and a short one each has the other's row.
+    WaitsExchanged,
+    /// Of a join that found memory and one that didn't each has the other's row.
+    JoinsExchanged,
+}
+
+/// Of which lock: with how many parties, that go which ways; how many may be starved; and beside which World.
+#[derive(Clone, Copy)]
+pub(crate) struct Setting {
+    pub(crate) alloc: Global,
+    pub(crate) parties: u32,
+    pub(crate) ways: Ways,
+    pub(crate) limit: u32,
+    pub(crate) table: Table,
+}
+
+/// What stands beside a shell and makes the same moves.
+pub(crate) trait Beside {
+    /// One move.
+    fn follow(&mut self, m: Move) -> Answer;
+}
+
+/// A lock that threads share, with its parties, each driven by single actions. It has no `Drop`, since its parties have
+/// none.
+pub(crate) trait Shell {
+    /// The lock's World.
+    type World: Beside + Drop;
+    /// What a party can do next.
+    type Deed: Copy + Debug + Drop;
+
+    /// A new lock with its parties, and its World; none where memory is refused.
+    fn new<R: Wait>(bench: &Bench<R>, setting: Setting) -> Option<(Self, Self::World)>;
+
+    /// Ends the lock and its parties.
+    fn end<R: Wait>(self, bench: &Bench<R>);
+
+    /// How many parties there are.
+    fn parties(&self) -> usize;
+
+    /// The party has done nothing yet, so that it doesn't matter which of those like it does something.
+    fn is_fresh(&self, party: usize) -> bool;
+
+    /// The deed of this number of those that the party can do now.
+    fn deed(&self, party: usize, number: usize) -> Option<Self::Deed>;
+
+    /// Does it: the moves that it is in the World, with the shell's answers.
+    fn carry_out<R: Wait>(&mut self, bench: &Bench<R>, party: usize, deed: Self::Deed) -> Dids;
+
+    /// Whether all that there is of the lock and its parties is as in this World: words, lists and places.
+    fn is_as<R: Wait>(&self, bench: &Bench<R>, world: &Self::World) -> bool;
+
+    /// A number for all that there is of the lock and of its parties, but for the value.
+    fn key<R: Wait>(&self, bench: &Bench<R>) -> u64;
+}

@@ -1,0 +1,74 @@
+//! A party of any lock that threads share, driven by single actions.
+
+use futures::task::Context;
+use lock_driver::Carries;
+use std::marker::Model;
+use std::sync::{Arc, Wait};
+use std::time::Clock;
+
+/// What became of an action.
+#[derive(Clone, Copy)]
+pub(crate) enum Acted<E> {
+    /// The call goes on.
+    On,
+    /// The call has ended.
+    Over(E),
+    /// No call begins so there.
+    Never,
+}
+
+/// A party with its share of the lock, and the place at which it stands. Its type keeps that it has what its place says,
+/// so that the action of its place may be carried out. It has no `Drop`, since its party has none.
+pub(crate) struct Walker<C: Carries>
+where
+    C::Shared: Drop,
+{
+    pub(crate) shared: Arc<C::Shared>,
+    pub(crate) party: C,
+    pub(crate) place: C::Place,
+}
+
+impl<C: Carries> Model for Walker<C>
+where
+    C::Shared: Drop,
+{
+    ghost use Rattle.std.specs.Arc.{arc_value};
+
+    ghost Value = { C.Place };
+
+    ghost view = { λ w. w.place };
+
+    ghost invariant = { λ w. C.stands (arc_value w.shared) w.party w.place };
+}
+
+impl<C: Carries> Walker<C>
+where
+    C::Shared: Drop,
+{
+    /// The action of the party's place.
+    pub(crate) fn go<R: Wait + Clock>(&mut self, rt: &R, cx: &mut Context<'_>) -> Acted<C::End> {
+        let place = self.place;
+        let (end, next) = self.party.go(&*self.shared, rt, cx, place);
+        self.place = next;
+        match end {
+            Some(end) => Acted::Over(end),
+            None => Acted::On,
+        }
+    }
+
+    /// Begins a call with its first action.
+    pub(crate) fn begin<R: Wait + Clock>(
+        &mut self,
+        rt: &R,
+        cx: &mut Context<'_>,
+        call: C::Call,
+    ) -> Acted<C::End> {
+        match C::start(call, self.place) {
+            Some(first) => {
+                self.place = first;
+                self.go(rt, cx)
+            }
+            None => Acted::Never,
+        }
+    }
+}
