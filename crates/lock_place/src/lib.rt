@@ -18,7 +18,7 @@ mod spare;
 mod strip;
 mod swap;
 
-pub use owned::{room_for, Place, Refused};
+pub use owned::{Place, Refused, room_for};
 pub use room::{Hold, Parked, Room, Seen};
 pub use send_lease::SendLease;
 pub use spare::{Spare, Ticket};

@@ -115,7 +115,10 @@ fn a_row_that_is_exchanged_is_seen(rt: HostRuntime) {
     if let Some(bench) = Bench::new(rt, 2) {
         // One has the lock, and the other joins the list: two first looks and a join.
         let joins = shown_by(&bench, of_two, Table::JoinsExchanged);
-        assert!(bench.rt(); joins > 0 && joins <= 4, "{joins} moves show an exchanged join");
+        assert!(bench.rt();
+            joins > 0 && joins <= 4,
+            "{joins} moves show an exchanged join"
+        );
         let waits = shown_by(&bench, of_two, Table::WaitsExchanged);
         assert!(bench.rt(); waits > 0, "an exchanged wait is seen by {waits} moves");
     }
