@@ -13,8 +13,10 @@ use Rattle.lock_words.specs.declared.rested.Rested.{Rested}
 use Rattle.lock_words.specs.Right.{IsRight}
 use Rattle.lock_words.specs.Rule.{is_holder, is_starved, Ruled}
 use Rattle.lock_words.specs.Steps.{first_view, with_holds, without_holds, with_count, without_count, Got, Kept, Took, WasSet, Counts, Uncounts, Clears}
-use Rattle.lock_words.specs.Word.{number, IsWord}
-use Rattle.lock_words.proofs.Word as word
+use Rattle.words_base.specs.Sums.{weight, number}
+use Rattle.words_base.specs.MutexWord.{IsWord}
+use Rattle.words_base.proofs.MutexWord as word
+use Rattle.words_base.proofs.Sums.{number-set, number-at, number-none}
 
 abbrev most : ℕ
 most = 1073741823
@@ -66,7 +68,7 @@ module _ (T : Type 0) (room : RoomId) (deed : ℕ) where
     unmoved n i w good same keyed = (good, (λ none. r.1 (sym same ∙ none)), keyed_set s.views id w r.2 keyed)
 
     same_holders : (w : View) → w.holds ≡ me.0.holds → number is_holder (set s.views id w) ≡ number is_holder s.views
-    same_holders w e = let c = word.number-set is_holder s.views id me.0 w at in let h = ap Rattle.lock_words.specs.Word.weight e in omega arith
+    same_holders w e = let c = number-set is_holder s.views id me.0 w at in let h = ap weight e in omega arith
 
     pub still : R (stepped s 0 x id me.1 me.0 keeps)
     still = unmoved x 0 me.0 (word.stays is_holder is_starved most 0 s.words s.views id me.0 me.0 r.0 at refl refl) (same_holders me.0 refl) key
@@ -168,7 +170,7 @@ module _ (T : Type 0) (room : RoomId) (deed : ℕ) where
     w,
     (
       word.comes is_holder is_starved most 0 s.words s.views w r.0 refl refl,
-      (λ none. r.1 (sym (word.number-snoc is_holder s.views w refl) ∙ none)),
+      (λ none. r.1 (sym (number-none is_holder s.views w refl) ∙ none)),
       keyed_snoc s.views w r.2 (refl, refl),
     ),
     refl,

@@ -1,4 +1,3 @@
 pub mod Keeps
 pub mod Kept
 pub mod Seats
-pub mod Word

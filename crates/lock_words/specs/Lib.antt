@@ -6,4 +6,3 @@ pub mod Seats
 pub mod Steps
 pub mod Tries
 pub mod Turns
-pub mod Word

@@ -7,7 +7,8 @@ use Rattle.lock_place.specs.Held.{RoomId}
 use Rattle.lock_words.specs.declared.seat.View.{View}
 use Rattle.lock_words.specs.declared.rested.Rested.{Rested}
 use Rattle.lock_words.specs.Right.{IsRight}
-use Rattle.lock_words.specs.Word.{number, IsWord}
+use Rattle.words_base.specs.Sums.{number}
+use Rattle.words_base.specs.MutexWord.{IsWord}
 
 abbrev pub is_holder : View → Bool
 is_holder v = v.holds
