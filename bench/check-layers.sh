@@ -27,7 +27,7 @@ if [ -n "$named" ]; then
 fi
 echo 'what is inside a mutex is named by no crate above it'
 
-shells='lock_place lock_words lock_driver async_mutex'
+shells='async_driver lock_place lock_words lock_driver async_mutex'
 worlds='lock_queue|lock_world|lock_frame|lock_table|lock_core|lock_audit|[a-z]+_machine|[a-z]+_world|mutex_program|rwlock_program|cell_program|barrier_program'
 for shell in $shells; do
     line=$(grep -E "^$shell( [a-z_=0-9]*)?:" crates.txt) || {

@@ -1,13 +1,13 @@
 //! The waiting list that the locks share, row by row.
 
 ghost use Rattle.std.specs.Prelude.{◌≡◌, IfSome};
-ghost use Rattle.lock_words.specs.Heard.{IsOf};
+ghost use Rattle.async_driver.specs.Heard.{IsOf};
 
 use crate::polls::{Name, Tasks};
 use crate::same::assert_same;
 use crate::stories::{BOTH, NOBODY, ONE, Woken};
 use futures::task::{Context, Source, Waker};
-use lock_words::{Heard, Listed, Owed, WaitingList};
+use async_driver::{Heard, Listed, Owed, WaitingList};
 use std::alloc::AllocGlobal;
 use std::marker::Model;
 use std::mem;
@@ -231,7 +231,7 @@ where
     R: Wait + RandomSource + AllocGlobal + Abort,
 {
     if let Some(tasks) = Tasks::new(rt) {
-        let mut scene = Scene::new(WaitingList::new(rt.alloc()));
+        let mut scene = Scene::new(WaitingList::new(rt.alloc()).0);
         scene.play(rt, &tasks, rows);
         scene.end(rt);
     }

@@ -3,7 +3,7 @@
 ghost use Rattle.std.specs.Prelude.{◌≡◌, IfSome};
 
 use crate::same::assert_same;
-use lock_words::{Heard, Listed, Owed, WaitingList, Wakes};
+use async_driver::{Heard, Listed, Owed, WaitingList, Wakes};
 use std::alloc::AllocGlobal;
 use std::sync::atomic::{AtomicU64, Ordering};
 use std::sync::{Arc, Wait};
@@ -169,7 +169,7 @@ where
 /// How many wakers met the other thread; none where the system started no thread, or memory is refused.
 fn met<R: Threads + Wait + AllocGlobal + Sync>(rt: &R) -> Option<u64> {
     let meeting = Arc::new(rt.alloc(), Meeting::new()).ok()?;
-    let list = WaitingList::new(rt.alloc());
+    let (list, _key) = WaitingList::new(rt.alloc());
     if play(rt, &list, &meeting) {
         Some(meeting.met())
     } else {

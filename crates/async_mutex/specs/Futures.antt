@@ -3,9 +3,9 @@ use Rattle.std.specs.Prelude.{◌≡◌, Bool, true, false, Option, Some, None}
 use Rattle.async_mutex.specs.declared.mutex.Mutex.{Mutex}
 use Rattle.async_mutex.specs.declared.waiting.Waiting.{Waiting}
 use Rattle.lock_driver.specs.Parties.{IsGivenUp}
-use Rattle.lock_words.specs.declared.turn.Turn.{Turn}
-use Rattle.lock_words.specs.declared.turn.Turn.TheVariants.{Pending, Ready, Refused}
-use Rattle.lock_words.specs.declared.waiting_list.Listed.{Listed}
+use Rattle.async_driver.specs.declared.turn.Turn.{Turn}
+use Rattle.async_driver.specs.declared.turn.Turn.TheVariants.{Pending, Ready, Refused}
+use Rattle.async_driver.specs.declared.waiting_list.Listed.{Listed}
 use Rattle.lock_program.specs.declared.refusal.Refusal.TheVariants.{Finished}
 
 -- its mutex, whether it was ready before, and its entry in the mutex's list

@@ -13,7 +13,7 @@ use Rattle.lock_driver.specs.Parties.{IsGivenUp, IsReceipt}
 use Rattle.lock_place.specs.declared.room.Hold.{Hold}
 use Rattle.lock_words.specs.Lock.{Seated}
 use Rattle.lock_words.specs.Tries.{Holds}
-use Rattle.lock_words.specs.declared.waiting_list.Listed.{Listed}
+use Rattle.async_driver.specs.declared.waiting_list.Listed.{Listed}
 
 -- how far it is, and its entry in the mutex's list
 pub record Owned (T R : Type 0) : Type 0 where

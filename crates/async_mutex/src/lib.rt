@@ -19,5 +19,5 @@ pub mod lock_futures {
 
 pub use guard::{MutexGuard, MutexGuardArc};
 pub use lock_program::Refusal;
-pub use lock_words::{Polled, Settled, Turn};
+pub use async_driver::{Polled, Settled, Turn};
 pub use mutex::Mutex;

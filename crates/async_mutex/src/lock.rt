@@ -3,7 +3,7 @@
 ghost use Rattle.std.specs.Prelude.{◌≡◌, ℕ, false, IfSome, None};
 ghost use Rattle.std.specs.Arc.{arc_value};
 ghost use Rattle.futures.specs.Task.{Covers, Keeps};
-ghost use Rattle.lock_words.specs.Turns.{OnPending};
+ghost use Rattle.async_driver.specs.Turns.{OnPending};
 ghost use Rattle.async_mutex.specs.Futures.{entry_of};
 ghost use Rattle.async_mutex.specs.Outcomes.{OnWaits, Waits};
 ghost use Rattle.async_mutex.specs.declared.mutex.Mutex.{Mutex};
@@ -14,7 +14,8 @@ use crate::mutex::Mutex;
 use crate::waiting::{Outcome, Waiting, poll_waiting};
 use futures::task::Context;
 use lock_program::Refusal;
-use lock_words::{Hold, Polled, Seat, Turn, nothing};
+use async_driver::{Polled, Turn, nothing};
+use lock_words::{Hold, Seat};
 use std::marker::Model;
 use std::sync::{Arc, Wait};
 use std::time::Clock;

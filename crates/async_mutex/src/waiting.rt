@@ -11,7 +11,8 @@ use futures::task::Context;
 use lock_driver::{MutexParty, RawMutex};
 use lock_program::mutex::Place;
 use lock_program::{End, Refusal};
-use lock_words::{Hold, Seat, put};
+use async_driver::put;
+use lock_words::{Hold, Seat};
 use std::sync::Wait;
 use std::time::Clock;
 

@@ -4,10 +4,10 @@ use Rattle.lock_driver.specs.declared.mutex_party.MutexParty.{MutexParty}
 use Rattle.lock_place.specs.declared.room.Hold.{Hold}
 use Rattle.futures.specs.Task.{Covers}
 use Rattle.futures.specs.declared.task.context.Context.{Context}
-use Rattle.lock_words.specs.Heard.{IsKept}
+use Rattle.async_driver.specs.Heard.{IsKept}
 use Rattle.lock_words.specs.Lock.{Lock, Seated}
-use Rattle.lock_words.specs.declared.duty.Owed.{Owed}
-use Rattle.lock_words.specs.declared.waiting_list.Listed.{Listed}
+use Rattle.async_driver.specs.declared.duty.Owed.{Owed}
+use Rattle.async_driver.specs.declared.waiting_list.Listed.{Listed}
 use Rattle.lock_program.specs.declared.refusal.Refusal.{Refusal}
 use Rattle.lock_program.specs.declared.refusal.Refusal.TheVariants.{Memory, Starved}
 use Rattle.lock_words.specs.Tries.{Holds}

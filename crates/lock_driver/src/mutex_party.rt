@@ -13,14 +13,11 @@ ghost use Rattle.lock_program.specs.declared.mutex.LockCall.TheVariants as calls
 ghost use Rattle.lock_program.specs.declared.end.Next.TheVariants as next;
 ghost use Rattle.lock_program.specs.declared.mutex.Place.TheVariants as at;
 
-use crate::carries::Carries;
+use async_driver::{Carries, Heard, ListId, Listed, Owed, nothing, put};
 use futures::task::Context;
 use lock_program::mutex::{Action, Found, LockCall, Place, action_at, decide, start};
 use lock_program::{End, Next};
-use lock_words::{
-    Counting, Heard, Hold, ListId, Listed, Owed, Seat, Setting, Taking, TakingAlone, Words,
-    nothing, put,
-};
+use lock_words::{Counting, Hold, Seat, Setting, Taking, TakingAlone, Words};
 use std::sync::Wait;
 use std::time::{Clock, Duration, Instant};
 
@@ -544,7 +541,7 @@ impl<T> MutexParty<T> {
     {
         put(&mut self.hold, hold);
         if let Some(owed) = self.owed.take() {
-            owed.put_off(&raw.words, &self.seat);
+            raw.words.put_off(owed, &self.seat);
         }
         Found::Free
     }
@@ -562,7 +559,7 @@ impl<T> MutexParty<T> {
             None => owe(&mut self.owed, raw.words.list().id()),
             Some(entry) => {
                 if let Some(owed) = self.owed.take() {
-                    owed.wait(&raw.words, &self.seat, entry);
+                    raw.words.leave_to_list(owed, &self.seat, entry);
                 }
             }
         }

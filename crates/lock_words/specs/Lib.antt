@@ -1,8 +1,6 @@
-pub mod Heard
 pub mod Lock
 pub mod Right
 pub mod Rule
 pub mod Seats
 pub mod Steps
 pub mod Tries
-pub mod Turns

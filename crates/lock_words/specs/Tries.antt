@@ -2,7 +2,7 @@
 use Rattle.std.specs.Prelude.{◌≡◌, ℕ, ◌≤◌, true, Option, None}
 use Rattle.lock_place.specs.declared.room.Hold.{Hold}
 use Rattle.lock_words.specs.Lock.{Lock, Seated}
-use Rattle.lock_words.specs.declared.duty.Owed.{Owed}
+use Rattle.async_driver.specs.declared.duty.Owed.{Owed}
 use Rattle.lock_words.specs.declared.found.Taking.{Taking}
 use Rattle.lock_words.specs.declared.found.Taking.TheVariants as taking
 use Rattle.lock_words.specs.declared.found.TakingAlone.{TakingAlone}

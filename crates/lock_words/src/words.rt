@@ -7,19 +7,19 @@
 ghost use Rattle.std.specs.Prelude.{◌≡◌, ℕ, ◌<◌, ◌≤◌, ◌%◌, ◌/◌, true, false, [], ◌∷◌, IfSome, IsSome, IfOk, OnErr, None};
 ghost use Rattle.futures.specs.Task.{Covers, Keeps};
 ghost use Rattle.lock_words.specs.Lock.{fresh, holding, cleared, counted, uncounted};
-ghost use Rattle.lock_words.specs.Heard.{IsOf, OnWaiting, IsKept};
+ghost use Rattle.async_driver.specs.Heard.{IsOf, OnWaiting, IsKept};
 ghost use Rattle.lock_words.specs.Tries.{Holds, OnTaking, OnAlone, OnSetting, OnCounting, left_by_taking, left_by_alone};
 ghost use Rattle.lock_words.specs.Right.{IsRight};
 ghost use Rattle.lock_words.specs.Seats.{HasSlots};
 ghost use Rattle.lock_words.specs.Steps.{with_holds, without_holds};
 ghost use Rattle.lock_words.specs.declared.rested.Rested.{Rested};
 
-use crate::duty::Owed;
+use crate::duty::leave_to_holder;
 use crate::found::{Counting, Setting, Taking, TakingAlone, WasHeld};
 use crate::rested::Rested;
 use crate::rule::{Clear, Count, Keep, MutexRule, Set, Take, Uncount};
 use crate::seat::{Seat, View};
-use crate::waiting_list::{Heard, Listed, WaitingList};
+use async_driver::{Heard, ListKey, Listed, Owed, WaitingList};
 use atomic_table::{Seat as TableSeat, Shared, Table};
 use futures::task::{Context, Source, Waker};
 use lock_place::{Hold, Place, Room, Spare, Ticket};
@@ -61,6 +61,8 @@ pub struct Words<T> {
     // What tasks register with that wait.
     source: Source,
     list: WaitingList<Waker>,
+    // With it a duty to notify ends where somebody else is bound to (see the module of duties).
+    pub(crate) key: ListKey,
 }
 
 // By hand, so that a drop is one call to prove, and not all of its parts again.
@@ -74,6 +76,7 @@ impl<T: Drop> Drop for Words<T> {
             limit: _,
             source: _,
             list: _,
+            key: _,
         } = self;
     }
 }
@@ -89,7 +92,7 @@ impl<T> Model for Words<T> {
 
     ghost view = { λ w. record { lock = record { table = w.table.shared.table_id; room = w.table.shared.key.room_id; deed = w.table.shared.key.deed }; room = w.place.room.room_id; source = w.source.id; list = w.list.name.id; limit = w.limit; is_left = is_some w.left } };
 
-    ghost invariant = { λ w. (w.limit ≤ 1073741823) × (w.table.shared.table_id.words ≡ 1) × (w.table.shared.table_id.slots ≡ 1) × (w.spare.room_id ≡ w.place.room.room_id) × (is_some w.left ≡ false → (w.table.shared.key.room_id ≡ w.place.room.room_id) × (w.table.shared.key.deed ≡ w.spare.deed) × IsSome w.spare.value) };
+    ghost invariant = { λ w. (w.limit ≤ 1073741823) × (w.key.list.id ≡ w.list.name.id) × (w.table.shared.table_id.words ≡ 1) × (w.table.shared.table_id.slots ≡ 1) × (w.spare.room_id ≡ w.place.room.room_id) × (is_some w.left ≡ false → (w.table.shared.key.room_id ≡ w.place.room.room_id) × (w.table.shared.key.deed ≡ w.spare.deed) × IsSome w.spare.value) };
 }
 
 impl<T> Words<T> {
@@ -116,6 +119,7 @@ impl<T> Words<T> {
         };
         let (mut spare, ticket) = Spare::new(&place.room);
         spare.lend(hold, &place);
+        let (list, key) = WaitingList::new(alloc);
         match free_table(alloc, &spare, ticket) {
             Ok(table) => Ok(Words {
                 table,
@@ -124,7 +128,8 @@ impl<T> Words<T> {
                 left: None,
                 limit,
                 source: Source::new(),
-                list: WaitingList::new(alloc),
+                list,
+                key,
             }),
             Err(error) => Err(error),
         }
@@ -141,9 +146,11 @@ impl<T> Words<T> {
             limit: _,
             source,
             list,
+            key,
         } = self;
         drop(source);
         drop(list);
+        drop(key);
         drop(table);
         drop(spare);
         place.into_inner()
@@ -211,7 +218,7 @@ impl<T> Words<T> {
             Ok(hold) => Taking::Got(hold),
             Err(found) => {
                 if found == HELD {
-                    leave_to_holder(owed, found);
+                    self.leave_owed(owed, found);
                     Taking::Held
                 } else {
                     Taking::Starved
@@ -235,7 +242,7 @@ impl<T> Words<T> {
             Ok(hold) => TakingAlone::Got(hold),
             Err(found) => {
                 if found % STARVED == HELD {
-                    leave_to_holder(owed, found);
+                    self.leave_owed(owed, found);
                     TakingAlone::Held
                 } else {
                     TakingAlone::FreeWithOthers
@@ -264,6 +271,18 @@ impl<T> Words<T> {
             return Err(found);
         }
         Ok(take_right(shared, &self.spare, &mut seat.inner))
+    }
+
+    // The word was this, and so the lock was held: its holder notifies later.
+    #[inline]
+    fn leave_owed(&self, owed: &mut Option<Owed>, word: u64)
+        requires held { word % 2 ≡ 1 }
+        requires list { IfSome owed.old (λ o. o.list.id ≡ self.now.list) }
+        ensures { owed.new ≡ None }
+    {
+        if let Some(owed) = owed.take() {
+            leave_to_holder(&self.key, owed, word);
+        }
     }
 
     /// Makes the lock held, and takes it if it was free, whoever is starved: one step, which changes nothing
@@ -347,17 +366,6 @@ impl<T> Words<T> {
         };
         let place = &self.place;
         self.spare.lend(hold, place)
-    }
-}
-
-// The lock was held, and so its holder notifies later.
-#[inline]
-fn leave_to_holder(owed: &mut Option<Owed>, word: u64)
-    requires { word % 2 ≡ 1 }
-    ensures { owed.new ≡ None }
-{
-    if let Some(owed) = owed.take() {
-        owed.leave_to_holder(word);
     }
 }
 

@@ -7,7 +7,8 @@ ghost use Rattle.std.specs.Prelude.{◌≡◌, true, false, IfSome, IfNone};
 ghost use Rattle.lock_words.specs.Lock.{cleared};
 ghost use Rattle.lock_words.specs.Tries.{Holds};
 
-use lock_words::{Counting, Hold, Seat, Setting, Taking, TakingAlone, Words, nothing};
+use async_driver::nothing;
+use lock_words::{Counting, Hold, Seat, Setting, Taking, TakingAlone, Words};
 use std::mem;
 use std::sync::Wait;
 

@@ -2,12 +2,12 @@
 
 ghost use Rattle.std.specs.Prelude.{◌≡◌, ℕ};
 ghost use Rattle.futures.specs.Task.{Covers, Keeps};
-ghost use Rattle.lock_words.specs.Turns.{OnPending};
+ghost use Rattle.async_driver.specs.Turns.{OnPending};
 
 use futures::task::{Context, Poll};
 use futures::test::MockTask;
 use lock_program::Refusal;
-use lock_words::{Polled, Settled, Turn};
+use async_driver::{Polled, Settled, Turn};
 
 /// Answers pending, then a refusal, then a number.
 #[derive(Drop)]

@@ -1,7 +1,7 @@
 //! A party of any lock that threads share, driven by single actions.
 
 use futures::task::Context;
-use lock_driver::Carries;
+use async_driver::Carries;
 use std::marker::Model;
 use std::sync::{Arc, Wait};
 use std::time::Clock;

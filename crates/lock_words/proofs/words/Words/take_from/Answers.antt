@@ -15,9 +15,9 @@ take_right-requires-clause-right g c =
     let got = c.compare_exchange-found.ensures.2.0 c.if-found-free.false in
     let me = c.seat.inside.inner.me in
     let spare = c.self.inside.spare in
-    let keyed = c.self.invariant.4 (sym c.is_some.ensures ∙ c.if-is_some.false) in
+    let keyed = c.self.invariant.5 (sym c.is_some.ensures ∙ c.if-is_some.false) in
     let idle : me.0.holds ≡ false = ap (λ s. s.holds) c.seat.view_is ∙ c.requires.idle in
-    let room : me.0.room ≡ spare.room_id = ap (λ s. s.lock.room) c.seat.view_is ∙ (ap (λ l. l.room) c.requires.lock ∙ (sym (ap (λ w. w.lock.room) c.self.view_is) ∙ (keyed.0 ∙ sym c.self.invariant.3))) in
+    let room : me.0.room ≡ spare.room_id = ap (λ s. s.lock.room) c.seat.view_is ∙ (ap (λ l. l.room) c.requires.lock ∙ (sym (ap (λ w. w.lock.room) c.self.view_is) ∙ (keyed.0 ∙ sym c.self.invariant.4))) in
     let deed : me.0.deed ≡ spare.deed = ap (λ s. s.lock.deed) c.seat.view_is ∙ (ap (λ l. l.deed) c.requires.lock ∙ (sym (ap (λ w. w.lock.deed) c.self.view_is) ∙ keyed.1)) in (
       got.1.0,
       got.1.1 ∙ ap (λ l. (0, got.1.0) ∷ l) (subst (λ b. HasSlots b me.1) idle c.seat.invariant),

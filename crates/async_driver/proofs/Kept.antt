@@ -1,0 +1,77 @@
+-- What an entry keeps that has asked with a waker, and whose waker it is.
+use Rattle.std.proofs.Common.{◌≡◌, ℕ, ◌⊎◌, inl, inr, Bool, true, false, ◌||◌, List, [], ◌∷◌, Option, Some, None, ◌==◌, if◌then◌else◌, IsSomeAnd, refl, ap, ◌∙◌, eq-eqb}
+use Rattle.std.specs.Arc.{arc_value}
+use Rattle.futures.specs.Task.{Keeps, Wakes, Holds, Lasting}
+use Rattle.futures.specs.declared.task.context.Context.{Context}
+use Rattle.futures.specs.declared.task.waker.Origin.{Origin}
+use Rattle.futures.specs.declared.task.waker.Route.{Route}
+use Rattle.futures.specs.declared.task.waker.Waker.{Waker}
+use Rattle.lock_event.specs.Lists.{entry, is_listed, is_marked, is_marked_at, with_key}
+use Rattle.lock_event.specs.Slots.{has_id, slot_of, waker_at}
+use Rattle.lock_event.specs.declared.event.Entry.{Entry}
+use Rattle.lock_event.specs.declared.event.EntryId.{EntryId}
+use Rattle.lock_event.specs.declared.event.Slot.{Slot}
+use Rattle.async_driver.specs.Heard.{IsTaskOf, IsKept}
+use Rattle.async_driver.specs.declared.task_id.TaskId.{TaskId}
+
+listed_after : (a b : Bool) → a ≡ false → (a || b) ≡ true → b ≡ true
+listed_after true b other h = absurd (cc)
+listed_after false b other h = h
+
+same_number : (n : ℕ) → (n == n) ≡ true
+same_number n = eq-eqb n n refl
+
+-- the entry that has asked keeps what it asked with
+module _ {W : Type 0} (id : EntryId) (w : Option W) where
+  at_head : (b c : Bool) (e : Entry (Slot W)) (es fs : List (Entry (Slot W))) → has_id id e.key ≡ b → (b ≡ false → waker_at id fs ≡ w)
+      → waker_at id (if b then entry (slot_of id w) e.mark ∷ es else e ∷ fs) ≡ w
+  at_head true c e es fs is rest = rw (same_number id.number) refl
+  at_head false c e es fs is rest = rw is (rest refl)
+
+  pub waker_at-with_key : (l : List (Entry (Slot W))) → is_listed (has_id id) l ≡ true → waker_at id (with_key (has_id id) (slot_of id w) l) ≡ w
+  waker_at-with_key [] none = absurd (cc)
+  waker_at-with_key (e ∷ es) listed =
+      at_head (has_id id e.key) true e es (with_key (has_id id) (slot_of id w) es) refl
+      (λ other. waker_at-with_key es (listed_after (has_id id e.key) _ other listed))
+
+-- and waits in the list as before
+module _ {W : Type 0} (id : EntryId) (w : Option W) where
+  marked_head : (b : Bool) (e : Entry (Slot W)) (es fs : List (Entry (Slot W))) → has_id id e.key ≡ b → (if b then is_marked e.mark else is_marked_at (has_id id) es) ≡ false
+      → (b ≡ false → is_marked_at (has_id id) es ≡ false → is_marked_at (has_id id) fs ≡ false)
+      → is_marked_at (has_id id) (if b then entry (slot_of id w) e.mark ∷ es else e ∷ fs) ≡ false
+  marked_head true e es fs is unmarked rest = rw (same_number id.number) unmarked
+  marked_head false e es fs is unmarked rest = rw is (rest refl unmarked)
+
+  pub unmarked-with_key : (l : List (Entry (Slot W))) → is_marked_at (has_id id) l ≡ false → is_marked_at (has_id id) (with_key (has_id id) (slot_of id w) l) ≡ false
+  unmarked-with_key [] unmarked = unmarked
+  unmarked-with_key (e ∷ es) unmarked =
+      marked_head (has_id id e.key) e es (with_key (has_id id) (slot_of id w) es) refl unmarked (λ other. unmarked-with_key es)
+
+  listed_head : (b : Bool) (e : Entry (Slot W)) (es fs : List (Entry (Slot W))) → has_id id e.key ≡ b → (b || is_listed (has_id id) es) ≡ true
+      → (is_listed (has_id id) es ≡ true → is_listed (has_id id) fs ≡ true)
+      → is_listed (has_id id) (if b then entry (slot_of id w) e.mark ∷ es else e ∷ fs) ≡ true
+  listed_head true e es fs is listed rest = rw (same_number id.number) refl
+  listed_head false e es fs is listed rest = rw is (rest listed)
+
+  pub listed-with_key : (l : List (Entry (Slot W))) → is_listed (has_id id) l ≡ true → is_listed (has_id id) (with_key (has_id id) (slot_of id w) l) ≡ true
+  listed-with_key [] listed = listed
+  listed-with_key (e ∷ es) listed =
+      listed_head (has_id id e.key) e es (with_key (has_id id) (slot_of id w) es) refl listed (listed-with_key es)
+
+abbrev pub origin_of : Context → Origin
+origin_of cx = (arc_value {X = Route} cx.route.now).origin
+
+-- a context that keeps what held of it polls the same task
+pub same_task : (old new : Context) → Keeps old new → (old.turn.task ≡ new.turn.task) × (origin_of old ≡ origin_of new)
+unfolding Holds
+same_task old new kept = let same = kept (Lasting.same_task old) refl in (ap (λ (cx : Context). cx.turn.task) same, ap origin_of same)
+
+pub is_kept : (old new : Context) (waker : Option Waker) (keeps : Option TaskId) → Keeps old new → IsTaskOf waker keeps
+    → (new.lacks_waker ≡ true) ⊎ IsSomeAnd waker (λ w. Wakes w old) → IsKept new keeps
+is_kept old new waker keeps kept of (inl lacks) = inl lacks
+is_kept old new None keeps kept of (inr wakes) = absurd wakes
+is_kept old new (Some w) None kept of (inr wakes) = absurd of
+is_kept old new (Some w) (Some k) kept of (inr wakes) =
+    let same = same_task old new kept in
+    let origin = wakes.1 ∙ same.1 in
+    inr (of.0 ∙ wakes.0 ∙ same.0, of.1 ∙ ap (λ (o : Origin). o.executor) origin, of.2 ∙ ap (λ (o : Origin). o.queue) origin)

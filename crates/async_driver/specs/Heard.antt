@@ -1,0 +1,48 @@
+-- What an entry heard, and whose waker it keeps.
+use Rattle.std.specs.Prelude.{◌≡◌, ℕ, ⊤, true, ◌⊎◌, List, Option, Some, None, IsSomeAnd}
+use Rattle.std.specs.Arc.{arc_value}
+use Rattle.futures.specs.declared.task.context.Context.{Context}
+use Rattle.futures.specs.declared.task.waker.Waker.{Waker}
+use Rattle.lock_event.specs.Slots.{waker_at}
+use Rattle.lock_event.specs.declared.event.Entry.{Entry}
+use Rattle.lock_event.specs.declared.event.EntryId.{EntryId}
+use Rattle.lock_event.specs.declared.event.Slot.{Slot}
+use Rattle.async_driver.specs.declared.task_id.TaskId.{TaskId}
+use Rattle.async_driver.specs.declared.waiting_list.Heard.{Heard}
+use Rattle.async_driver.specs.declared.waiting_list.Heard.TheVariants.{Notified, Waiting}
+use Rattle.async_driver.specs.declared.waiting_list.Listed.{Listed}
+use Rattle.async_driver.specs.declared.waiting_list.Polled.{Polled}
+use Rattle.async_driver.specs.declared.waiting_list.Polled.TheVariants as polled
+
+-- what it heard is of this list
+abbrev pub IsOf : ℕ → Heard → Type 0
+IsOf list (Notified owed) = owed.list.id ≡ list
+IsOf list (Waiting entry) = entry.list.id ≡ list
+
+abbrev pub OnWaiting : Heard → (Listed → Type 0) → Type 0
+OnWaiting (Notified owed) fact = ⊤
+OnWaiting (Waiting entry) fact = fact entry
+
+abbrev pub OnPolled : Polled → (Option TaskId → Type 0) → Type 0
+OnPolled (polled.Notified waker) fact = ⊤
+OnPolled (polled.Waiting keeps) fact = fact keeps
+
+-- this is the task that the waker wakes
+abbrev pub IsTask : Waker → TaskId → Type 0
+IsTask waker id = (id.task ≡ waker.owed.first.task) × (id.executor ≡ (arc_value waker.route).origin.executor) × (id.queue ≡ (arc_value waker.route).origin.queue)
+
+abbrev pub IsTaskOf : Option Waker → Option TaskId → Type 0
+IsTaskOf None keeps = keeps ≡ None
+IsTaskOf (Some waker) keeps = IsSomeAnd keeps (IsTask waker)
+
+-- the entry of this id keeps a waker of that task, or none
+abbrev pub KeepsAt : EntryId → Option TaskId → List (Entry (Slot Waker)) → Type 0
+KeepsAt id keeps es = IsTaskOf (waker_at id es) keeps
+
+-- it is the task that the context polls
+abbrev pub IsPolledBy : Context → TaskId → Type 0
+IsPolledBy cx id = (id.task ≡ cx.turn.task) × (id.executor ≡ (arc_value cx.route.now).origin.executor) × (id.queue ≡ (arc_value cx.route.now).origin.queue)
+
+-- what is kept is of the task that the context polls, unless no waker could be made, and the task is polled again without
+abbrev pub IsKept : Context → Option TaskId → Type 0
+IsKept cx keeps = (cx.lacks_waker ≡ true) ⊎ IsSomeAnd keeps (IsPolledBy cx)

@@ -1,0 +1,120 @@
+//! The duty to notify, and all that ends it.
+//!
+//! Here stands what no contract sees: that a duty ends where the list was notified, or was empty, or by the list's key. What
+//! this file says of that is to be read, and is short for it.
+
+ghost use Rattle.std.specs.Prelude.{◌≡◌, ◌≤◌, IfSome};
+
+use crate::list_id::ListId;
+use lock_event::Event;
+use std::sync::atomic::{AtomicBool, Ordering};
+
+/// A duty to notify somebody who waits in one list.
+///
+/// It has no bytes and no `Drop`. Releasing a lock creates one, and so does taking a notification out of the list. It ends
+/// when the list has been notified ([`WaitingList::notify`](crate::WaitingList::notify)), or by the list's key
+/// ([`Owed::end`]). Anybody may create one, and must then notify.
+pub struct Owed {
+    // Private, since whoever sees all fields may take the duty apart.
+    list: ListId,
+}
+
+/// The key of one list, which is handed out once, to whoever makes the list.
+///
+/// By it a duty to the list ends without a notification. So a lock keeps the key to itself, and says in one place when
+/// somebody else is bound to notify: whoever holds the lock, for one.
+pub struct ListKey {
+    list: ListId,
+}
+
+impl ListKey {
+    pub(crate) fn new(list: ListId) -> ListKey
+        ensures { result.list ≡ list }
+    {
+        ListKey { list }
+    }
+}
+
+impl Drop for ListKey {
+    fn drop(self) {
+        let ListKey { list: _ } = self;
+    }
+}
+
+impl Owed {
+    /// Creates a duty to notify somebody in this list.
+    pub fn new(list: ListId) -> Owed
+        ensures { result.list ≡ list }
+    {
+        Owed { list }
+    }
+
+    /// Ends the duty by its list's key.
+    #[inline]
+    pub fn end(self, key: &ListKey)
+        requires { self.list.id ≡ key.now.list.id }
+    {
+        let _ = key;
+        let Owed { list: _ } = self;
+    }
+
+    // Notifies so many entries, under the list's lock.
+    pub(crate) fn notify<W: Drop>(self, entries: &mut Event<W>, n: usize)
+        requires { 1 ≤ n }
+    {
+        entries.notify(n);
+        let Owed { list: _ } = self;
+    }
+
+    // Notifies so many entries additionally, under the list's lock.
+    pub(crate) fn notify_additional<W: Drop>(self, entries: &mut Event<W>, n: usize)
+        requires { 1 ≤ n }
+    {
+        entries.notify_additional(n);
+        let Owed { list: _ } = self;
+    }
+
+    // Ends the duty to a list that had no entries.
+    #[inline]
+    pub(crate) fn unless_listed(self, is_listed: &Flag) -> Option<Owed>
+        ensures { IfSome result (λ o. o ≡ self) }
+    {
+        if is_listed.is_set() {
+            return Some(self);
+        }
+        let Owed { list: _ } = self;
+        None
+    }
+}
+
+/// A word beside a list that says whether it has entries. It is written under the list's lock alone.
+pub(crate) struct Flag {
+    is_set: AtomicBool,
+}
+
+impl Flag {
+    pub(crate) fn new() -> Flag {
+        Flag {
+            is_set: AtomicBool::new(false),
+        }
+    }
+
+    #[inline]
+    pub(crate) fn is_set(&self) -> bool {
+        self.is_set.load(Ordering::SeqCst)
+    }
+
+    // Under the list's lock: says whether it has entries, if that has changed.
+    pub(crate) fn follow<W: Drop>(&self, entries: &Event<W>) {
+        let is_listed = !entries.is_empty();
+        if self.is_set() != is_listed {
+            self.is_set.store(is_listed, Ordering::SeqCst);
+        }
+    }
+}
+
+impl Drop for Flag {
+    fn drop(self) {
+        let Flag { is_set: _ } = self;
+    }
+}

@@ -1,0 +1,26 @@
+//! What the running types of all locks share: the waiting list with its duties, the driver, and what a poll answers.
+//!
+//! A [`WaitingList`] is an event list under a short lock of its own. Whoever stands in it has a [`Listed`], and whoever has to
+//! notify it an [`Owed`]; neither can be dropped. [`Carries`] carries out a lock's program, which is a table: at a place one
+//! action is done, and what it finds gives the next place. An action is a single try on a lock's words or one function of
+//! a list, and between two actions nothing is held. [`Turn`] is what a poll answers, and [`Settled`] makes a lock's future
+//! a `Future`.
+#![tactic(auto)]
+
+mod carries;
+mod duty;
+mod empty;
+mod list_id;
+mod settled;
+mod task_id;
+mod turn;
+mod waiting_list;
+
+pub use carries::Carries;
+pub use duty::{ListKey, Owed};
+pub use empty::{nothing, put};
+pub use list_id::ListId;
+pub use settled::{Polled, Settled};
+pub use task_id::TaskId;
+pub use turn::Turn;
+pub use waiting_list::{Heard, Listed, WaitingList, Wakes};

@@ -1,0 +1,396 @@
+//! The waiting list of a lock that threads share.
+
+ghost use Rattle.std.specs.Prelude.{◌≡◌, ℕ, ◌≤◌, IfOk, IfSome};
+ghost use Rattle.async_driver.specs.Heard.{IsOf, OnPolled, OnWaiting, IsTaskOf, KeepsAt, IsKept};
+ghost use Rattle.futures.specs.Task.{Covers, Keeps};
+
+use crate::duty::{Flag, ListKey, Owed};
+use crate::list_id::ListId;
+use crate::task_id::TaskId;
+use futures::task::{Context, Poll, Source, Waker};
+use lock_event::{Asked, EntryId, Event, Mark, Memory};
+use std::alloc::{AllocFailed, Global};
+use std::sync::{Mutex, Wait};
+
+/// What an entry keeps to be woken with: the kit's [`Waker`], and a test's own.
+pub trait Wakes: Drop {
+    /// Wakes whoever waits.
+    fn wake(self);
+}
+
+impl Wakes for Waker {
+    fn wake(self) {
+        Waker::wake(self);
+    }
+}
+
+/// An entry in a list.
+///
+/// Only [`WaitingList::leave`] ends it, and a poll that finds it notified: it has no `Drop`. In clauses it is its list,
+/// and the task whose waker the entry keeps, once it has been polled.
+pub struct Listed {
+    id: EntryId,
+    pub list: ListId,
+    pub keeps: Option<TaskId>,
+}
+
+impl Listed {
+    /// The id of the entry, as [`WaitingList::entry`] shows it.
+    pub fn id(&self) -> EntryId {
+        self.id
+    }
+}
+
+/// What an entry has heard.
+pub enum Heard {
+    /// It was notified, and has left the list. The notification goes on, or ends with the lock.
+    Notified(Owed),
+    /// It waits.
+    Waiting(Listed),
+}
+
+/// What a poll of an entry found, under the list's lock.
+pub enum Polled {
+    /// The entry was notified, and has left with what it kept.
+    Notified(Option<Waker>),
+    /// The entry waits, and keeps a waker of this task.
+    Waiting(Option<TaskId>),
+}
+
+/// Wakers that are to be called: these, and one for which memory was refused.
+#[derive(Drop)]
+pub struct Due<W> {
+    all: Vec<W>,
+    next: Option<W>,
+}
+
+/// The waiting list of a lock that threads share: an event list under a short lock of its own.
+///
+/// Each call takes that lock for one function of the list and releases it. Wakers are called when it has been released, each
+/// once. A waker of the kit's `futures` that is dropped wakes its task, so a poll registers into the waker that the entry
+/// keeps, and none is replaced in vain.
+///
+/// No contract sees through the list's lock: what the calls do to the list is what the functions of [`Event`]
+/// say, and tested.
+pub struct WaitingList<W: Wakes> {
+    // Which list it is. Nobody registers with it.
+    name: Source,
+    is_listed: Flag,
+    // Where a notification of many puts their wakers meanwhile.
+    alloc: Global,
+    entries: Mutex<Event<W>>,
+}
+
+// By hand, so that a drop is one call to prove, and not all of its parts again.
+impl<W: Wakes> Drop for WaitingList<W> {
+    fn drop(self) {
+        let WaitingList {
+            name: _,
+            is_listed: _,
+            alloc: _,
+            entries: _,
+        } = self;
+    }
+}
+
+impl<W: Wakes> WaitingList<W> {
+    /// Creates an empty list, and its key. It takes no memory.
+    pub fn new(alloc: Global) -> (WaitingList<W>, ListKey)
+        ensures { result.1.list.id ≡ result.0.name.id }
+    {
+        let name = Source::new();
+        let key = ListKey::new(ListId::of(&name));
+        let list = WaitingList {
+            name,
+            is_listed: Flag::new(),
+            alloc,
+            entries: Mutex::new(Event::new(alloc)),
+        };
+        (list, key)
+    }
+
+    /// Returns which list it is.
+    pub fn id(&self) -> ListId
+        ensures { result.id ≡ self.now.name.id }
+    {
+        ListId::of(&self.name)
+    }
+
+    /// Returns whether the list had entries at some moment of the call. It waits for nobody.
+    ///
+    /// Whoever joins says so before the list's lock is released. So if a party joins and then looks at its lock
+    /// again, and another releases the lock and then asks here, one of the two finds the other.
+    pub fn is_listed(&self) -> bool {
+        self.is_listed.is_set()
+    }
+
+    /// Returns the entry at this index, counted from the front, with its mark. It is for tests.
+    pub fn entry<R: Wait>(&self, rt: &R, index: usize) -> Option<(EntryId, Mark)> {
+        let entries = self.entries.lock(rt);
+        if index < entries.len() {
+            let entry = entries.entry(index);
+            Some((entry.key.id, entry.mark))
+        } else {
+            None
+        }
+    }
+
+    /// Adds a waiting entry at the back, with no waker. [`Memory`] comes only if memory was refused,
+    /// and the list then is as it was.
+    pub fn join<R: Wait>(&self, rt: &R) -> Result<Listed, Memory>
+        ensures { IfOk result (λ entry. entry.list.id ≡ self.now.name.id) }
+    {
+        match join_locked(&mut self.entries.lock(rt), &self.is_listed) {
+            Ok(id) => Ok(Listed {
+                id,
+                list: self.id(),
+                keeps: None,
+            }),
+            Err(memory) => Err(memory),
+        }
+    }
+
+    /// Asks for the notification of this entry, by [`Event::ask`], with a waker in hand. A notified entry leaves the list. A
+    /// waiting one keeps the waker, and what it kept before is in hand instead. It is [`WaitingList::poll`] for other wakers
+    /// than the kit's.
+    pub fn ask<R: Wait>(&self, rt: &R, entry: Listed, waker: &mut Option<W>) -> Heard
+        requires { entry.list.id ≡ self.now.name.id }
+        ensures { IsOf self.now.name.id result }
+    {
+        let Listed { id, list, keeps: _ } = entry;
+        let asked = ask_locked(
+            &mut self.entries.lock(rt),
+            &self.is_listed,
+            id,
+            waker.take(),
+        );
+        match asked {
+            Asked::Waiting { kept } => {
+                *waker = kept;
+                Heard::Waiting(Listed {
+                    id,
+                    list,
+                    keeps: None,
+                })
+            }
+            Asked::Notified { kept, unused } => {
+                *waker = unused.or(kept);
+                Heard::Notified(Owed::new(list))
+            }
+            Asked::Unlisted { unused } => {
+                *waker = unused;
+                Heard::Notified(Owed::new(list))
+            }
+        }
+    }
+
+    /// Takes this entry out of the list without asking. A notification that it had goes on to the next, whose waker
+    /// is called. Its own waker is dropped, by which the kit wakes its task once more.
+    pub fn leave<R: Wait>(&self, rt: &R, entry: Listed)
+        requires { entry.list.id ≡ self.now.name.id }
+    {
+        let Listed {
+            id,
+            list: _,
+            keeps: _,
+        } = entry;
+        let (kept, due) = leave_locked(&mut self.entries.lock(rt), &self.is_listed, id);
+        drop(kept);
+        if let Some(waker) = due {
+            waker.wake();
+        }
+    }
+
+    /// Notifies waiting entries from the front on until `n` are marked or none waits, and calls their wakers,
+    /// each once. A list without entries isn't asked for its lock.
+    #[inline]
+    pub fn notify<R: Wait>(&self, rt: &R, n: usize, owed: Owed)
+        requires some { 1 ≤ n }
+        requires list { owed.list.id ≡ self.now.name.id }
+    {
+        if let Some(owed) = owed.unless_listed(&self.is_listed) {
+            self.notify_listed(rt, n, owed);
+        }
+    }
+
+    /// Notifies the first `n` waiting entries additionally, or all if fewer wait, and calls their wakers, each once. Entries
+    /// that are marked already don't count.
+    pub fn notify_additional<R: Wait>(&self, rt: &R, n: usize, owed: Owed)
+        requires some { 1 ≤ n }
+        requires list { owed.list.id ≡ self.now.name.id }
+    {
+        if let Some(owed) = owed.unless_listed(&self.is_listed) {
+            let due = {
+                let mut entries = self.entries.lock(rt);
+                owed.notify_additional(&mut entries, n);
+                all_due(&mut entries, self.alloc)
+            };
+            self.wake(rt, due);
+        }
+    }
+
+    // As `notify`, of a list that had entries.
+    #[inline(never)]
+    fn notify_listed<R: Wait>(&self, rt: &R, n: usize, owed: Owed)
+        requires { 1 ≤ n }
+    {
+        if n == 1 {
+            if let Some(waker) = notify_one(&mut self.entries.lock(rt), owed) {
+                waker.wake();
+            }
+            return;
+        }
+        let due = {
+            let mut entries = self.entries.lock(rt);
+            owed.notify(&mut entries, n);
+            all_due(&mut entries, self.alloc)
+        };
+        self.wake(rt, due);
+    }
+
+    // Calls wakers that were taken out. Where memory was refused for more of them, the rest are taken out one by one.
+    fn wake<R: Wait>(&self, rt: &R, due: Due<W>) {
+        let Due { all, next } = due;
+        let more = next.is_some();
+        for waker in all {
+            waker.wake();
+        }
+        if let Some(waker) = next {
+            waker.wake();
+        }
+        if more {
+            self.wake_one_by_one(rt);
+        }
+    }
+
+    fn wake_one_by_one<R: Wait>(&self, rt: &R) {
+        for _ in rt.forever() {
+            let next = self.entries.lock(rt).next_waker();
+            match next {
+                Some(waker) => waker.wake(),
+                None => return,
+            }
+        }
+    }
+}
+
+impl WaitingList<Waker> {
+    /// Polls this entry, for the task of `cx`. A notified entry leaves the list. A waiting one keeps a waker of the task,
+    /// which has registered with `source`; a waker of the same task that it keeps already stays.
+    ///
+    /// A waiting entry is the receipt of that (`waits`). An entry that isn't there counts as notified.
+    pub fn poll<R: Wait>(
+        &self,
+        rt: &R,
+        entry: Listed,
+        source: &Source,
+        cx: &mut Context<'_>,
+    ) -> Heard
+        requires { entry.list.id ≡ self.now.name.id }
+        ensures list { IsOf self.now.name.id result }
+        ensures waits { OnWaiting result (λ entry. IsKept cx.new entry.keeps × Covers cx.new (λ s. s ≡ source.now.id)) }
+        ensures kept { Keeps cx.old cx.new }
+    {
+        let Listed { id, list, keeps: _ } = entry;
+        let polled = poll_locked(&mut self.entries.lock(rt), &self.is_listed, id, source, cx);
+        match polled {
+            Polled::Waiting(keeps) => Heard::Waiting(Listed { id, list, keeps }),
+            Polled::Notified(waker) => {
+                drop(waker);
+                Heard::Notified(Owed::new(list))
+            }
+        }
+    }
+}
+
+// The calls as they are under the list's lock.
+
+fn join_locked<W: Wakes>(entries: &mut Event<W>, is_listed: &Flag) -> Result<EntryId, Memory> {
+    let joined = entries.listen();
+    is_listed.follow(entries);
+    joined
+}
+
+fn ask_locked<W: Wakes>(
+    entries: &mut Event<W>,
+    is_listed: &Flag,
+    id: EntryId,
+    waker: Option<W>,
+) -> Asked<W> {
+    let asked = entries.ask(id, waker);
+    is_listed.follow(entries);
+    asked
+}
+
+// What the entry kept, and the waker that is due then.
+fn leave_locked<W: Wakes>(
+    entries: &mut Event<W>,
+    is_listed: &Flag,
+    id: EntryId,
+) -> (Option<W>, Option<W>) {
+    let kept = entries.withdraw(id);
+    is_listed.follow(entries);
+    (kept, entries.next_waker())
+}
+
+// Notifies one entry: the waker that is due.
+fn notify_one<W: Wakes>(entries: &mut Event<W>, owed: Owed) -> Option<W> {
+    owed.notify(entries, 1);
+    entries.next_waker()
+}
+
+// All wakers that are due, in one pass, as far as memory lasts.
+fn all_due<W: Wakes>(entries: &mut Event<W>, alloc: Global) -> Due<W> {
+    let mut all = Vec::new(alloc);
+    for _ in 0..entries.len() {
+        let Some(waker) = entries.next_waker() else {
+            break;
+        };
+        if let Err(failed) = all.push(waker) {
+            let AllocFailed { value } = failed;
+            return Due {
+                all,
+                next: Some(value),
+            };
+        }
+    }
+    Due { all, next: None }
+}
+
+// By the contract an entry that waits keeps a waker of the task that is answered.
+fn poll_locked(
+    entries: &mut Event<Waker>,
+    is_listed: &Flag,
+    id: EntryId,
+    source: &Source,
+    cx: &mut Context<'_>,
+) -> Polled
+    ensures waits { OnPolled result (λ keeps. KeepsAt id keeps entries.new.entries × IsKept cx.new keeps × Covers cx.new (λ s. s ≡ source.now.id)) }
+    ensures kept { Keeps cx.old cx.new }
+{
+    let mut waker = match entries.ask(id, None) {
+        Asked::Waiting { kept } => kept,
+        Asked::Notified { kept, .. } => {
+            is_listed.follow(entries);
+            return Polled::Notified(kept);
+        }
+        Asked::Unlisted { .. } => return Polled::Notified(None),
+    };
+    let _: Poll<()> = cx.register(source, &mut waker);
+    let keeps = task_of(&waker);
+    match entries.ask(id, waker) {
+        Asked::Waiting { .. } => Polled::Waiting(keeps),
+        Asked::Notified { .. } => unreachable!(),
+        Asked::Unlisted { .. } => unreachable!(),
+    }
+}
+
+// The task of a waker, if there is one.
+fn task_of(waker: &Option<Waker>) -> Option<TaskId>
+    ensures { IsTaskOf waker.now result }
+{
+    match waker {
+        Some(waker) => Some(TaskId::of(waker)),
+        None => None,
+    }
+}
