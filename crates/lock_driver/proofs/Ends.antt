@@ -1,7 +1,9 @@
 -- Where a call on a mutex leaves its party that ended.
 use Rattle.std.specs.Bool.{⊤}
+use Rattle.std.specs.Option.{IfNone, IfSome}
 use Rattle.std.proofs.Common.{◌≡◌, true, false, Option, Some, None, refl, ap, subst}
-use Rattle.lock_driver.specs.Parties.{EndsAt, end_of, end_after, place_of, next_place}
+use Rattle.lock_driver.specs.Parties.{EndsAt, EndsCall, IsStepOf, IsWithin, end_of, end_after, place_of, next_place}
+use Rattle.lock_program.specs.declared.mutex.LockCall.{LockCall}
 use Rattle.lock_program.specs.declared.end.End.{End}
 use Rattle.lock_program.specs.declared.mutex.Found.{Found}
 use Rattle.lock_program.specs.declared.mutex.Found.TheVariants.{Done, Free, Held, SomeStarved, AtLimit, NoMemory, Yes, No}
@@ -168,3 +170,8 @@ at_end (next.End d q) e on is = subst (λ x. EndsAt x q) (some_injective d e is)
 
 pub ends_at : (p : Place) (f : Found) (e : End) → end_after p f ≡ Some e → EndsAt e (next_place p f)
 ends_at p f e is = at_end (next_of p f) e (on_end p f) is
+
+-- a step of a call is one of that call
+pub step_of : (c : LockCall) (o : Option End) (q : Place) → IfNone o (IsWithin c q) → IfSome o (λ e. EndsCall c e × EndsAt e q) → IsStepOf c o q
+step_of c None q stays ends = stays
+step_of c (Some e) q stays ends = ends

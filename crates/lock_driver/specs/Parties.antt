@@ -217,8 +217,36 @@ IsPolling CancelUncount = ⊥
 IsPolling CancelLeave = ⊥
 IsPolling _ = ⊤
 
--- the places of a call, as far as something is said of them
+-- the places of a release
+abbrev pub IsReleasing : Place → Type 0
+IsReleasing Clear = ⊤
+IsReleasing ReleaseNotify = ⊤
+IsReleasing _ = ⊥
+
+-- the places of a cancel
+abbrev pub IsCancelling : Place → Type 0
+IsCancelling Out = ⊤
+IsCancelling CancelUncount = ⊤
+IsCancelling CancelLeave = ⊤
+IsCancelling _ = ⊥
+
+-- the places of a call; of a try's nothing is said
 abbrev pub IsWithin : LockCall → Place → Type 0
 IsWithin call.Poll p = IsPolling p
 IsWithin call.Lock p = IsPolling p
-IsWithin _ p = ⊤
+IsWithin call.Release p = IsReleasing p
+IsWithin call.Cancel p = IsCancelling p
+IsWithin call.Try p = ⊤
+
+-- how a call may end
+abbrev pub EndsCall : LockCall → End → Type 0
+EndsCall call.Poll e = EndsPoll e
+EndsCall call.Lock e = EndsPoll e
+EndsCall call.Release e = e ≡ ending.GivenBack
+EndsCall call.Cancel e = e ≡ ending.GivenBack
+EndsCall call.Try e = ⊤
+
+-- What a step of a call came to: it stays at the call's places, or ends as the call may, and then leaves its party where such an end does.
+abbrev pub IsStepOf : LockCall → Option End → Place → Type 0
+IsStepOf c None p = IsWithin c p
+IsStepOf c (Some e) p = EndsCall c e × EndsAt e p

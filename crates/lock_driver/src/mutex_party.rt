@@ -9,6 +9,7 @@ ghost use Rattle.lock_program.specs.Mutex.{start_of, action_of, next_of};
 ghost use Rattle.lock_program.specs.declared.mutex.Action.TheVariants as does;
 ghost use Rattle.lock_program.specs.declared.end.End.TheVariants as ends;
 ghost use Rattle.lock_program.specs.declared.mutex.Found.TheVariants as finds;
+ghost use Rattle.lock_program.specs.declared.mutex.LockCall.{LockCall};
 ghost use Rattle.lock_program.specs.declared.mutex.LockCall.TheVariants as calls;
 ghost use Rattle.lock_program.specs.declared.end.Next.TheVariants as next;
 ghost use Rattle.lock_program.specs.declared.mutex.Place.TheVariants as at;
@@ -137,6 +138,51 @@ impl<T> RawMutex<T> {
                 None
             }
         }
+    }
+}
+
+impl<T> RawMutex<T> {
+    ghost use Rattle.lock_driver.specs.Parties.{Stands, IsStepOf, IsWithin};
+
+    /// Begins a call for a party that stands at `place`, and carries out its first action: how the call has ended, if it has,
+    /// and where the party stands. It is for a lock that has this one inside.
+    pub fn begin<R: Wait + Clock>(
+        &self,
+        rt: &R,
+        cx: &mut Context<'_>,
+        party: &mut MutexParty<T>,
+        call: LockCall,
+        place: Place,
+    ) -> (Option<End>, Place)
+        requires stands { Stands self.now.words party.old place }
+        requires begins { IsSome (start_of call place) }
+        ensures stands { Stands self.now.words party.new result.1 }
+        ensures step { IsStepOf call result.0 result.1 }
+        ensures pending { IfSome result.0 (λ end. IfPending end (IsReceipt self.now.words cx.new party.new.entry)) }
+        ensures kept { Keeps cx.old cx.new }
+    {
+        let Some(first) = MutexParty::<T>::start(call, place) else {
+            unreachable!()
+        };
+        self.go_on(rt, cx, party, first)
+    }
+
+    /// Carries out the next action of the call inside which the party stands at `place`, as [`RawMutex::begin`] does. Where a
+    /// word changed during a try nothing has changed, and the party stands where it stood.
+    pub fn go_on<R: Wait + Clock>(
+        &self,
+        rt: &R,
+        cx: &mut Context<'_>,
+        party: &mut MutexParty<T>,
+        place: Place,
+    ) -> (Option<End>, Place)
+        requires stands { Stands self.now.words party.old place }
+        ensures stands { Stands self.now.words party.new result.1 }
+        ensures step { (call : LockCall) → IsWithin call place → IsStepOf call result.0 result.1 }
+        ensures pending { IfSome result.0 (λ end. IfPending end (IsReceipt self.now.words cx.new party.new.entry)) }
+        ensures kept { Keeps cx.old cx.new }
+    {
+        party.go(self, rt, cx, place)
     }
 }
 

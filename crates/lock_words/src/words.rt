@@ -190,6 +190,13 @@ impl<T> Words<T> {
         &self.list
     }
 
+    /// What tasks register with that wait.
+    pub fn source(&self) -> &Source
+        ensures { result.now.id ≡ self.now.source }
+    {
+        &self.source
+    }
+
     /// Polls an entry of the lock's list, as [`WaitingList::poll`]. A waiting task registers with the lock's source.
     pub fn poll<R: Wait>(&self, rt: &R, entry: Listed, cx: &mut Context<'_>) -> Heard
         requires { entry.list.id ≡ self.now.list }
