@@ -1,0 +1,158 @@
+//! How far a barrier is, which lies in its inner lock.
+
+ghost use Rattle.std.specs.Prelude.{◌≡◌, ◌+◌, ◌-◌, ◌<◌, ◌≤◌};
+
+use sync_program::barrier::Found;
+
+/// How many parties a barrier waits for (`size`), how many generations it may finish (`most`), how many it has finished, and
+/// how many arrivals are counted towards the next one.
+///
+/// Its type keeps that the count is below the size, or 0, and that no generation past the limit is finished.
+pub struct Arrivals {
+    pub size: u64,
+    pub most: u64,
+    pub generation: u64,
+    pub count: u64,
+    ghost counted: { count ≤ size - 1 },
+    ghost finished: { generation ≤ most },
+}
+
+/// An arrival that was counted and has to wait: the generation that it was counted in. Only [`Arrivals::arrive`] makes one.
+#[derive(Drop)]
+pub struct Arrival {
+    generation: u64,
+}
+
+/// An arrival has finished its generation. Only [`Arrivals::complete`] makes one, and it can't be dropped: whoever has it
+/// leads.
+pub struct Led {
+    seal: (),
+}
+
+/// An arrival's generation was found finished by another. Only [`Arrivals::check`] makes one, and it can't be dropped.
+pub struct Followed {
+    seal: (),
+}
+
+/// What a counted wait has found of its generation.
+pub enum Checked {
+    /// It is finished.
+    Finished(Followed),
+    /// It isn't.
+    Unfinished,
+}
+
+impl Arrivals {
+    ghost use Rattle.async_barrier.specs.Counts.{FindsLook, FindsCheck};
+
+    /// Nobody has arrived.
+    pub fn new(size: u64, most: u64) -> Arrivals
+        ensures sizes { (result.size ≡ size) × (result.most ≡ most) }
+        ensures none { (result.generation ≡ 0) × (result.count ≡ 0) }
+    {
+        Arrivals {
+            size,
+            most,
+            generation: 0,
+            count: 0,
+        }
+    }
+
+    /// What the next arrival has to do: wait, since more have to come; lead its generation; or be refused, since it would
+    /// finish a generation past the limit.
+    pub fn look(&self) -> Found
+        ensures { FindsLook result self.now }
+    {
+        if self.size > 0 && self.count < self.size - 1 {
+            Found::MustWait
+        } else if self.generation < self.most {
+            Found::Leads
+        } else {
+            Found::Past
+        }
+    }
+
+    /// One more arrival is counted, which doesn't finish its generation.
+    pub fn arrive(&mut self) -> Arrival
+        requires { self.old.count + 1 < self.old.size }
+        ensures count { self.new.count ≡ self.old.count + 1 }
+        ensures same { (self.new.size ≡ self.old.size) × (self.new.most ≡ self.old.most) × (self.new.generation ≡ self.old.generation) }
+        ensures generation { result.generation ≡ self.old.generation }
+    {
+        *self = Arrivals {
+            size: self.size,
+            most: self.most,
+            generation: self.generation,
+            count: self.count + 1,
+        };
+        Arrival {
+            generation: self.generation,
+        }
+    }
+
+    /// One more arrival is counted, which finishes its generation and leads it.
+    pub fn complete(&mut self) -> Led
+        requires last { self.old.size ≤ self.old.count + 1 }
+        requires room { self.old.generation < self.old.most }
+        ensures finished { (self.new.generation ≡ self.old.generation + 1) × (self.new.count ≡ 0) }
+        ensures same { (self.new.size ≡ self.old.size) × (self.new.most ≡ self.old.most) }
+    {
+        *self = Arrivals {
+            size: self.size,
+            most: self.most,
+            generation: self.generation + 1,
+            count: 0,
+        };
+        Led { seal: () }
+    }
+
+    /// Whether the generation of this arrival is finished.
+    pub fn check(&self, arrival: &Arrival) -> Checked
+        ensures { FindsCheck arrival.now.generation result self.now }
+    {
+        if self.generation == arrival.generation {
+            Checked::Unfinished
+        } else {
+            Checked::Finished(Followed { seal: () })
+        }
+    }
+}
+
+/// How a wait has ended: the arrival's own evidence.
+pub enum Verdict {
+    /// It has finished its generation.
+    Led(Led),
+    /// Another has.
+    Followed(Followed),
+}
+
+impl Verdict {
+    ghost use Rattle.async_barrier.specs.Counts.{leads};
+
+    /// Ends the evidence, and says whether the arrival led.
+    pub fn told(self) -> bool
+        ensures { result ≡ leads self }
+    {
+        match self {
+            Verdict::Led(led) => {
+                let Led { seal: _ } = led;
+                true
+            }
+            Verdict::Followed(followed) => {
+                let Followed { seal: _ } = followed;
+                false
+            }
+        }
+    }
+}
+
+impl Drop for Arrivals {
+    fn drop(self) {
+        let Self {
+            size: _,
+            most: _,
+            generation: _,
+            count: _,
+        } = self;
+    }
+}

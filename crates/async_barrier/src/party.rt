@@ -1,0 +1,226 @@
+//! The barrier's program, carried out on the inner lock and on the barrier's list.
+
+ghost use Rattle.std.specs.Prelude.{◌≡◌, Option, IfSome, IfNone, IsSome};
+ghost use Rattle.async_barrier.specs.Actions.{CanDo, Does};
+ghost use Rattle.async_barrier.specs.Counts.{leads};
+ghost use Rattle.async_barrier.specs.Parties.{IsInside, IsTied, Stands, end_of, standing_of};
+ghost use Rattle.futures.specs.Task.{Keeps};
+ghost use Rattle.lock_driver.specs.Parties as lock;
+ghost use Rattle.sync_program.specs.declared.barrier.Left.TheVariants as left;
+ghost use Rattle.sync_program.specs.declared.barrier.Position.TheVariants as position;
+
+use crate::arrivals::{Arrival, Arrivals, Verdict};
+use crate::raw::RawBarrier;
+use async_driver::{Carries, Listed, Owed, nothing};
+use futures::task::Context;
+use lock_driver::MutexParty;
+use lock_program::mutex::Place as LockPlace;
+use lock_program::{End, Next, Refusal};
+use std::sync::Wait;
+use std::time::Clock;
+use sync_program::barrier::{
+    Action, BarrierCall, Found, Left, Place, Position, action_at, decide, start,
+};
+
+/// How a call on a barrier ends.
+#[derive(Clone, Copy)]
+pub enum WaitEnd {
+    /// The wait is ready, and says whether it led its generation.
+    Ready { leads: bool },
+    /// The wait is pending.
+    Pending,
+    /// The poll is refused.
+    Refused(Refusal),
+    /// What a dropped wait had is given back.
+    GivenBack,
+}
+
+/// What a party has that is inside a call on a barrier, or waits between two polls. It has no `Drop`: it gives back what it
+/// has, by a call, and ends by [`BarrierParty::end`] or [`BarrierParty::into_verdict`].
+pub struct BarrierParty {
+    /// Its party at the inner lock.
+    pub lock: MutexParty<Arrivals>,
+    /// Where that party stands.
+    pub lock_place: LockPlace,
+    /// Its entry, while it stands in the barrier's list.
+    pub entry: Option<Listed>,
+    /// Its duty to notify all in the barrier's list, once it has finished its generation.
+    pub owed: Option<Owed>,
+    /// Its arrival, once it was counted.
+    pub arrival: Option<Arrival>,
+    /// How its wait has ended, once it has.
+    pub verdict: Option<Verdict>,
+}
+
+impl BarrierParty {
+    /// How the wait of a party has ended that is ready: whether it led. The rest of it is dropped.
+    pub fn into_verdict(self, raw: &RawBarrier, leads: bool) -> bool
+        requires { Stands raw.now self (left.Ready leads) }
+        ensures { result ≡ leads }
+    {
+        let BarrierParty {
+            lock,
+            lock_place: _,
+            entry,
+            owed,
+            arrival: _,
+            verdict,
+        } = self;
+        lock.end(&raw.inner.words);
+        nothing(entry);
+        nothing(owed);
+        match verdict {
+            Some(verdict) => verdict.told(),
+            None => unreachable!(),
+        }
+    }
+
+    /// Ends a party that is outside every call and waits nowhere.
+    pub fn end(self, raw: &RawBarrier)
+        requires { Stands raw.now self (left.Outside position.Out) }
+    {
+        let BarrierParty {
+            lock,
+            lock_place: _,
+            entry,
+            owed,
+            arrival: _,
+            verdict,
+        } = self;
+        lock.end(&raw.inner.words);
+        nothing(entry);
+        nothing(owed);
+        nothing(verdict);
+    }
+}
+
+impl RawBarrier {
+    /// A party outside every call, with nothing.
+    pub fn party(&self) -> BarrierParty
+        ensures { Stands self.now result (left.Outside position.Out) }
+    {
+        BarrierParty {
+            lock: self.inner.party(),
+            lock_place: LockPlace::Out,
+            entry: None,
+            owed: None,
+            arrival: None,
+            verdict: None,
+        }
+    }
+}
+
+impl Carries for BarrierParty {
+    ghost use Rattle.async_barrier.specs.Parties.{Stands, Tells, IsWithin, first_of, next_standing, end_after as ended_by};
+
+    type Shared = RawBarrier;
+
+    type Call = BarrierCall;
+
+    type Place = Left;
+
+    type Found = Found;
+
+    type End = WaitEnd;
+
+    ghost stands = { Stands };
+
+    ghost first_place = { first_of };
+
+    ghost place_after = { next_standing };
+
+    ghost is_within = { IsWithin };
+
+    ghost end_after = { ended_by };
+
+    ghost tells = { Tells };
+
+    fn start(call: BarrierCall, place: Left) -> Option<Left> {
+        match place {
+            Left::Outside(position) => match start(call, position) {
+                Some(first) => Some(Left::Outside(Position::At(first))),
+                None => None,
+            },
+            Left::Ready { .. } => None,
+        }
+    }
+
+    fn act<R: Wait + Clock>(
+        &mut self,
+        shared: &RawBarrier,
+        rt: &R,
+        cx: &mut Context<'_>,
+        place: Left,
+    ) -> Option<Found> {
+        match inside(place) {
+            Some(place) => Some(self.carry_out(shared, rt, cx, action_at(place))),
+            None => Some(Found::Done),
+        }
+    }
+
+    fn decide(place: Left, found: Found) -> (Left, Option<WaitEnd>) {
+        match inside(place) {
+            Some(inside) => after(decide(inside, found)),
+            None => (place, Some(WaitEnd::GivenBack)),
+        }
+    }
+}
+
+// The place of a party that is inside a call.
+fn inside(standing: Left) -> Option<Place>
+    ensures { IsInside standing result }
+{
+    match standing {
+        Left::Outside(Position::At(place)) => Some(place),
+        _ => None,
+    }
+}
+
+// Where a party stands by what comes next, and how its call has ended by that.
+fn after(next: Next<Place, Left>) -> (Left, Option<WaitEnd>)
+    ensures { result ≡ (standing_of next, end_of next) }
+{
+    match next {
+        Next::Do(place) => (Left::Outside(Position::At(place)), None),
+        Next::End(_, Left::Ready { leads }) => (
+            Left::Ready { leads },
+            Some(WaitEnd::Ready { leads }),
+        ),
+        Next::End(End::Pending, rest) => (rest, Some(WaitEnd::Pending)),
+        Next::End(End::Refused(refusal), rest) => (rest, Some(WaitEnd::Refused(refusal))),
+        Next::End(_, rest) => (rest, Some(WaitEnd::GivenBack)),
+    }
+}
+
+impl BarrierParty {
+    // Carries out one action.
+    fn carry_out<R: Wait + Clock>(
+        &mut self,
+        raw: &RawBarrier,
+        rt: &R,
+        cx: &mut Context<'_>,
+        action: Action,
+    ) -> Found
+        requires lock { lock.Stands raw.now.inner.words self.old.lock self.old.lock_place }
+        requires tied { IsTied raw.now.list.name.id self.old.entry self.old.owed }
+        requires can { CanDo action self.old }
+        ensures lock { lock.Stands raw.now.inner.words self.new.lock self.new.lock_place }
+        ensures tied { IsTied raw.now.list.name.id self.new.entry self.new.owed }
+        ensures does { Does raw.now cx.new action result self.old self.new }
+        ensures kept { Keeps cx.old cx.new }
+    {
+        match action {
+            Action::Nothing => Found::Done,
+            Action::Look => self.look(raw),
+            Action::Arrive => self.arrive(raw),
+            Action::Complete => self.complete(raw),
+            Action::Check => self.check(raw),
+            Action::Join => self.join(raw, rt),
+            Action::Ask => self.ask(raw, rt, cx),
+            Action::Leave => self.leave(raw, rt),
+            Action::NotifyAll => self.notify_all(raw, rt),
+            Action::Begin(call) => self.begin(raw, rt, cx, call),
+            Action::Go => self.go_on(raw, rt, cx),
+        }
+    }
+}
