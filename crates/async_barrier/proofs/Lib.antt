@@ -1,2 +1,3 @@
-pub mod Goes
 pub mod Calls
+pub mod Goes
+pub mod Waits

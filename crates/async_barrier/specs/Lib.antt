@@ -1,3 +1,4 @@
 pub mod Actions
 pub mod Counts
+pub mod Futures
 pub mod Parties

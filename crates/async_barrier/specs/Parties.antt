@@ -222,6 +222,10 @@ abbrev pub IsWithin : BarrierCall → Standing → Type 0
 IsWithin call.Drop s = ⊤
 IsWithin _ s = IsPolling s
 
+abbrev pub IsPollCall : BarrierCall → Type 0
+IsPollCall call.Drop = ⊥
+IsPollCall _ = ⊤
+
 -- where a wait may be polled
 abbrev pub CanPoll : Standing → Type 0
 CanPoll (Outside position.Out) = ⊤

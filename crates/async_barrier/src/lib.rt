@@ -1,10 +1,23 @@
-//! A barrier for tasks.
+//! A barrier for tasks: so many tasks wait for each other, and one of them leads.
+//!
+//! [`Barrier`] carries out the table of [`sync_program::barrier`] one action at a time, on a count of arrivals that lies in a
+//! mutex and on a waiting list of its own. [`BarrierParty`] and [`RawBarrier`] are for tests that drive it action by action.
 #![tactic(auto)]
 
 mod actions;
 mod arrivals;
+mod barrier;
 mod party;
 mod raw;
+mod wait;
 
+/// The barrier's future.
+pub mod lock_futures {
+    pub use crate::wait::BarrierWait;
+}
+
+pub use async_driver::{Polled, Settled, Turn};
+pub use barrier::{Barrier, BarrierWaitResult};
+pub use lock_program::Refusal;
 pub use party::{BarrierParty, WaitEnd};
 pub use raw::RawBarrier;

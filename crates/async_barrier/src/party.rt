@@ -1,12 +1,21 @@
 //! The barrier's program, carried out on the inner lock and on the barrier's list.
 
-ghost use Rattle.std.specs.Prelude.{◌≡◌, Option, IfSome, IfNone, IsSome};
+ghost use Rattle.std.specs.Prelude.{◌≡◌, Option, Some, IfSome, IfNone, IsSome};
 ghost use Rattle.async_barrier.specs.Actions.{CanDo, Does};
 ghost use Rattle.async_barrier.specs.Counts.{leads};
-ghost use Rattle.async_barrier.specs.Parties.{IsInside, IsTied, Stands, end_of, standing_of};
+ghost use Rattle.async_barrier.specs.Parties.{CanPoll, IsPollCall, first_of, IsInside, IsTied, Stands, end_of, standing_of};
 ghost use Rattle.futures.specs.Task.{Keeps};
 ghost use Rattle.lock_driver.specs.Parties as lock;
+ghost use Rattle.lock_program.specs.declared.end.End.TheVariants as ends;
+ghost use Rattle.lock_program.specs.declared.end.Next.TheVariants as next;
+ghost use Rattle.lock_program.specs.declared.mutex.LockCall.TheVariants as lock_calls;
+ghost use Rattle.sync_program.specs.Barrier.{action_of, next_of, start_of};
+ghost use Rattle.sync_program.specs.declared.barrier.Action.TheVariants as does;
+ghost use Rattle.sync_program.specs.declared.barrier.Aim.{Aim};
+ghost use Rattle.sync_program.specs.declared.barrier.BarrierCall.TheVariants as calls;
+ghost use Rattle.sync_program.specs.declared.barrier.Found.TheVariants as found;
 ghost use Rattle.sync_program.specs.declared.barrier.Left.TheVariants as left;
+ghost use Rattle.sync_program.specs.declared.barrier.Place.TheVariants as at;
 ghost use Rattle.sync_program.specs.declared.barrier.Position.TheVariants as position;
 
 use crate::arrivals::{Arrival, Arrivals, Verdict};
@@ -109,6 +118,78 @@ impl RawBarrier {
         }
     }
 }
+
+impl RawBarrier {
+    ghost use Rattle.async_barrier.specs.Parties.{CanPoll, EndsPoll, Tells};
+
+    /// Polls a party that stands so, until the poll ends: how it ends, and where the party stands then (`ended`), with what it
+    /// has there (`stands`).
+    ///
+    /// Pending, the party has an entry in the barrier's list or in the inner lock's, which keeps a waker of the task that polls,
+    /// and the task has registered with the barrier's source; and a poll is refused for memory, too many starved waiters or
+    /// too many generations (`tells`).
+    pub fn poll<R: Wait + Clock>(
+        &self,
+        rt: &R,
+        cx: &mut Context<'_>,
+        party: &mut BarrierParty,
+        standing: Left,
+    ) -> (WaitEnd, Left)
+        requires stands { Stands self.now party.old standing }
+        requires waits { CanPoll standing }
+        ensures stands { Stands self.now party.new result.1 }
+        ensures ended { EndsPoll result.0 result.1 }
+        ensures tells { Tells self.now cx.new party.new result.0 }
+        ensures kept { Keeps cx.old cx.new }
+    {
+        let call = poll_call(standing);
+        party.call(self, rt, cx, call, standing)
+    }
+
+    /// Gives back what a party has that waits between two polls. The program of it has no branch, and so its actions stand here;
+    /// that they are the table's is proved (`cancel_rows`).
+    pub fn cancel<R: Wait>(&self, rt: &R, party: BarrierParty, standing: Left)
+        requires stands { Stands self.now party standing }
+        requires waits { CanPoll standing }
+    {
+        cancel_rows();
+        let _ = standing;
+        let BarrierParty {
+            lock,
+            lock_place,
+            entry,
+            owed,
+            arrival: _,
+            verdict,
+        } = party;
+        nothing(owed);
+        nothing(verdict);
+        if let Some(entry) = entry {
+            self.list.leave(rt, entry);
+        }
+        self.inner.cancel(rt, lock, lock_place);
+    }
+}
+
+// Which poll it is of a party that stands so: the first, or a later one.
+fn poll_call(standing: Left) -> BarrierCall
+    requires { CanPoll standing }
+    ensures poll { IsPollCall result }
+    ensures begins { IsSome (first_of result standing) }
+{
+    match standing {
+        Left::Outside(Position::Out) => BarrierCall::Wait,
+        _ => BarrierCall::Poll,
+    }
+}
+
+// The rows of the program's table that `RawBarrier::cancel` carries out straight.
+fn cancel_rows()
+    ensures waiting { (start_of calls.Drop position.Waiting ≡ Some at.CancelLeave) × (action_of at.CancelLeave ≡ does.Leave) × (next_of at.CancelLeave found.Done ≡ next.End ends.GivenBack (left.Outside position.Out)) }
+    ensures locking { (aim : Aim) → (start_of calls.Drop (position.Locking aim) ≡ Some at.CancelLock) × (action_of at.CancelLock ≡ does.Begin lock_calls.Cancel) }
+    ensures out { start_of calls.Drop position.Out ≡ Some at.Abandon }
+    ensures made { (aim : Aim) → start_of calls.Drop (position.Made aim) ≡ Some at.Abandon }
+{}
 
 impl Carries for BarrierParty {
     ghost use Rattle.async_barrier.specs.Parties.{Stands, Tells, IsWithin, first_of, next_standing, end_after as ended_by};

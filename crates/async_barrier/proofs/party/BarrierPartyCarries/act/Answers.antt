@@ -20,4 +20,4 @@ returns-in-Some-clause-found g c =
     let found = c.carry_out.result in
     subst (λ (s : Standing). Stands raw new (next_standing s found) × IfSome (end_after s found) (Tells raw c.carry_out.new.cx new)) (sym c.in-Some.ensures)
     (goes raw c.carry_out.new.cx old new c.carry_out.ensures.lock c.carry_out.ensures.tied c.in-Some.place found (subst (Stands raw old) c.in-Some.ensures c.requires)
-      (subst (λ (a : Action). Does raw c.carry_out.new.cx a found old new) c.action_at.ensures c.carry_out.ensures.does))
+    (subst (λ (a : Action). Does raw c.carry_out.new.cx a found old new) c.action_at.ensures c.carry_out.ensures.does))

@@ -1,0 +1,109 @@
+//! The barrier.
+
+ghost use Rattle.std.specs.Prelude.{◌≡◌, IfErr, None, false};
+ghost use Rattle.lock_program.specs.declared.refusal.Refusal.{Refusal};
+
+use crate::raw::RawBarrier;
+use crate::wait::BarrierWait;
+use async_driver::Settled;
+use futures::executor::block_on;
+use lock_program::Refusal;
+use std::alloc::AllocGlobal;
+use std::fmt;
+use std::random::RandomSource;
+use std::sync::Wait;
+use std::time::Clock;
+
+/// How many generations a barrier may finish.
+const GENERATIONS_LIMIT: u64 = u64::MAX;
+
+/// A number of tasks wait for each other here.
+///
+/// `R` is the runtime that the barrier was made with and keeps.
+pub struct Barrier<R> {
+    pub(crate) raw: RawBarrier,
+    pub(crate) rt: R,
+}
+
+// By hand, so that a drop is one call to prove, and not all of its parts again.
+impl<R: Drop> Drop for Barrier<R> {
+    fn drop(self) {
+        let Barrier { raw: _, rt: _ } = self;
+    }
+}
+
+impl<R: AllocGlobal + Drop> Barrier<R> {
+    /// Creates a barrier for `n` tasks, at which nobody has arrived. If memory is refused, it returns [`Refusal::Memory`].
+    ///
+    /// The first `n` - 1 arrivals of a generation wait, and the last leads and ends their wait. At a barrier for 0 or 1 each
+    /// arrival leads.
+    pub fn new(rt: R, n: usize) -> Result<Barrier<R>, Refusal>
+        ensures { IfErr result (λ refusal. refusal ≡ Refusal.Memory) }
+    {
+        Barrier::with_limit(rt, n, GENERATIONS_LIMIT)
+    }
+
+    /// Creates a barrier as [`Barrier::new`] does, which may finish so many generations. It is for tests.
+    pub fn with_limit(rt: R, n: usize, most: u64) -> Result<Barrier<R>, Refusal>
+        ensures { IfErr result (λ refusal. refusal ≡ Refusal.Memory) }
+    {
+        match RawBarrier::new(rt.alloc(), n as u64, most) {
+            Ok(raw) => Ok(Barrier { raw, rt }),
+            Err(_) => Err(Refusal::Memory),
+        }
+    }
+}
+
+impl<R: Wait> Barrier<R> {
+    ghost use Rattle.async_barrier.specs.Futures.{future};
+
+    /// A future of a wait at this barrier, which does nothing until it is polled. Its arrival counts once a poll has had the
+    /// inner lock.
+    pub fn wait(&self) -> BarrierWait<'_, R>
+        ensures { result ≡ future self.now false None }
+    {
+        BarrierWait::new(self)
+    }
+}
+
+impl<R: Wait + Clock + RandomSource + AllocGlobal> Barrier<R> {
+    /// Waits at this barrier, blocking the calling thread until its generation is finished. Any error of `block_on` is
+    /// [`Refusal::Memory`].
+    ///
+    /// It isn't for tasks that share an executor's thread: none of them goes on meanwhile.
+    pub fn wait_blocking(&self) -> Result<BarrierWaitResult, Refusal> {
+        match block_on(&self.rt, Settled(self.wait())) {
+            Ok(settled) => settled,
+            Err(_) => Err(Refusal::Memory),
+        }
+    }
+}
+
+impl<R> fmt::Debug for Barrier<R> {
+    fn fmt<W: fmt::Write>(&self, f: &mut fmt::Formatter<W>) -> fmt::Result {
+        f.debug_struct("Barrier").finish_non_exhaustive()
+    }
+}
+
+/// How a wait at a barrier has ended.
+///
+/// It is made of the evidence that the arrival has: that it finished its generation, or found it finished.
+#[derive(Debug, Clone, Drop)]
+pub struct BarrierWaitResult {
+    is_leader: bool,
+}
+
+impl BarrierWaitResult {
+    pub(crate) fn new(is_leader: bool) -> BarrierWaitResult
+        ensures { result.is_leader ≡ is_leader }
+    {
+        BarrierWaitResult { is_leader }
+    }
+
+    /// Whether this wait was the arrival that finished its generation. Of each generation exactly one is.
+    pub fn is_leader(&self) -> bool
+        ensures { result ≡ self.now.is_leader }
+    {
+        self.is_leader
+    }
+}
