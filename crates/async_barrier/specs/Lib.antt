@@ -1,4 +1,5 @@
 pub mod Actions
+pub mod Asked
 pub mod Counts
 pub mod Futures
 pub mod Parties

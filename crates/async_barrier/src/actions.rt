@@ -11,7 +11,7 @@ ghost use Rattle.sync_program.specs.declared.barrier.Action.TheVariants as act;
 use crate::arrivals::{Checked, Verdict};
 use crate::party::BarrierParty;
 use crate::raw::RawBarrier;
-use async_driver::{Heard, Owed, put};
+use async_driver::{Owed, put};
 use futures::task::Context;
 use lock_program::End;
 use lock_program::mutex::{LockCall, Step};
@@ -117,12 +117,9 @@ impl BarrierParty {
         let Some(entry) = self.entry.take() else {
             unreachable!()
         };
-        match raw.list.poll(rt, entry, raw.inner.words.source(), cx) {
-            Heard::Notified(owed) => {
-                raw.hear(owed);
-                Found::Yes
-            }
-            Heard::Waiting(entry) => {
+        match raw.ask(rt, entry, cx) {
+            None => Found::Yes,
+            Some(entry) => {
                 put(&mut self.entry, entry);
                 Found::No
             }

@@ -54,6 +54,15 @@ impl<R: AllocGlobal + Drop> Barrier<R> {
     }
 }
 
+impl<R> Barrier<R> {
+    /// The barrier without its runtime. It is for tests.
+    pub fn raw(&self) -> &RawBarrier
+        ensures { result.now ≡ self.now.raw }
+    {
+        &self.raw
+    }
+}
+
 impl<R: Wait> Barrier<R> {
     ghost use Rattle.async_barrier.specs.Futures.{future};
 

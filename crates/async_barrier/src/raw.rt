@@ -1,13 +1,15 @@
 //! A barrier without its runtime.
 
-ghost use Rattle.std.specs.Prelude.{◌≡◌, IfOk};
+ghost use Rattle.std.specs.Prelude.{◌≡◌, IfSome};
+ghost use Rattle.futures.specs.Task.{Keeps};
 
 use crate::arrivals::Arrivals;
-use async_driver::{ListKey, Owed, WaitingList};
-use futures::task::Waker;
+use async_driver::{Heard, ListKey, Listed, WaitingList};
+use futures::task::{Context, Waker};
 use lock_driver::RawMutex;
 use lock_words::Words;
 use std::alloc::{AllocError, Global};
+use std::sync::Wait;
 
 /// A barrier without its runtime: the inner lock, in which it lies how far the barrier is, and the list of the arrivals that
 /// wait.
@@ -16,7 +18,7 @@ pub struct RawBarrier {
     pub inner: RawMutex<Arrivals>,
     /// The arrivals that wait for their generation.
     pub list: WaitingList<Waker>,
-    // With it a notification ends that an arrival took for itself.
+    // With it a notification ends that an arrival took for itself (see `RawBarrier::ask`).
     key: ListKey,
     ghost keyed: { key.list.id ≡ list.name.id },
 }
@@ -43,12 +45,24 @@ impl RawBarrier {
             key,
         })
     }
+}
 
-    // Ends the notification that an arrival took from the list: it was for this arrival alone, since whoever finished the
-    // generation has notified all that waited.
-    pub(crate) fn hear(&self, owed: Owed)
-        requires { owed.list.id ≡ self.now.list.name.id }
+impl RawBarrier {
+    ghost use Rattle.async_barrier.specs.Asked.{IsAsked};
+
+    // Polls an entry of the list: the entry, if it waits. A notification that it took ends with it: it was for this arrival
+    // alone, since whoever finished the generation has notified all that waited.
+    pub(crate) fn ask<R: Wait>(&self, rt: &R, entry: Listed, cx: &mut Context<'_>) -> Option<Listed>
+        requires { entry.list.id ≡ self.now.list.name.id }
+        ensures waits { IfSome result (IsAsked self.now cx.new) }
+        ensures kept { Keeps cx.old cx.new }
     {
-        owed.end(&self.key);
+        match self.list.poll(rt, entry, self.inner.words.source(), cx) {
+            Heard::Notified(owed) => {
+                owed.end(&self.key);
+                None
+            }
+            Heard::Waiting(entry) => Some(entry),
+        }
     }
 }

@@ -2,16 +2,15 @@
 
 ghost use Rattle.std.specs.Prelude.{◌<◌};
 
-use crate::bench::Bench;
 use crate::party::{Party, end, entry_of, new_party, put, release, set_starving, take, value};
-use crate::shell::{Beside, Did, Dids, Setting, Shell, Table, Ways, moved};
-use crate::walker::Acted;
+use crate::setting::{Setting, Table, Ways};
 use futures::test::MockTask;
 use lock_driver::RawMutex;
 use lock_event::{EntryId, Mark};
 use lock_program::End;
 use lock_program::mutex::{LockCall, Place};
 use lock_words::Words;
+use lockstep::{Acted, Bench, Beside, Did, Dids, Shell, moved};
 use lock_world::{Answer, Call, Got, Inputs, Made, Move, What};
 use mutex_world::World;
 use std::alloc::{AllocFailed, Global};
@@ -425,9 +424,15 @@ fn other_inputs(table: Table, inputs: Inputs) -> Inputs {
 }
 
 impl Shell for MutexShell {
+    type Setting = Setting;
+
     type World = MutexTwin;
 
     type Deed = Deed;
+
+    fn alloc(setting: &Setting) -> Global {
+        setting.alloc
+    }
 
     fn new<R: Wait>(bench: &Bench<R>, setting: Setting) -> Option<(MutexShell, MutexTwin)> {
         let Setting {

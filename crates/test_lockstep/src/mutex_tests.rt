@@ -1,9 +1,8 @@
 //! The mutex's shell beside its World.
 
-use crate::bench::Bench;
 use crate::mutex::MutexShell;
-use crate::shell::{Setting, Table, Ways};
-use crate::walks::{Order, Walk, walk_by_chance, walk_schedules, walk_states};
+use crate::setting::{Setting, Table, Ways};
+use lockstep::{Bench, Order, Walk, walk_by_chance, walk_schedules, walk_states};
 use std::alloc::AllocGlobal;
 use std::process::Abort;
 use std::sync::Wait;

@@ -1,10 +1,9 @@
 //! A party of a shared mutex, driven by single actions.
 
-use crate::bench::Bench;
-use crate::walker::Walker;
 use lock_driver::{MutexParty, RawMutex};
 use lock_event::{EntryId, Mark};
 use lock_program::mutex::Place;
+use lockstep::{Bench, Walker};
 use std::mem;
 use std::sync::atomic::{AtomicBool, Ordering};
 use std::sync::{Arc, Wait};

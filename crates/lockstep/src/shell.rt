@@ -8,69 +8,42 @@ use std::sync::Wait;
 
 /// A World's move, with the answer that the shell gives to it.
 #[derive(Clone, Copy, Debug, PartialEq, Eq)]
-pub(crate) struct Did {
-    pub(crate) what: What,
-    pub(crate) answer: Answer,
+pub struct Did {
+    pub what: What,
+    pub answer: Answer,
 }
 
-pub(crate) fn moved(what: What, answer: Answer) -> Did {
+pub fn moved(what: What, answer: Answer) -> Did {
     Did { what, answer }
 }
 
 /// The moves that one deed of a shell's party amounts to, at most three.
 #[derive(Clone, Copy)]
-pub(crate) struct Dids {
-    pub(crate) moves: [Option<Did>; 3],
-}
-
-/// Which ways the parties of a shell go.
-#[derive(Clone, Copy, PartialEq, Eq)]
-pub(crate) enum Ways {
-    /// By the driver.
-    Driver,
-    /// As the public type goes: what is done most goes past the driver.
-    Public,
-    /// Both, and each call that there is.
-    All,
-}
-
-/// Which table the World goes by.
-#[derive(Clone, Copy, PartialEq, Eq)]
-pub(crate) enum Table {
-    /// Its own.
-    Own,
-    /// Of a long wait and a short one each has the other's row.
-    WaitsExchanged,
-    /// Of a join that found memory and one that didn't each has the other's row.
-    JoinsExchanged,
-}
-
-/// Of which lock: with how many parties, that go which ways; how many may be starved; and beside which World.
-#[derive(Clone, Copy)]
-pub(crate) struct Setting {
-    pub(crate) alloc: Global,
-    pub(crate) parties: u32,
-    pub(crate) ways: Ways,
-    pub(crate) limit: u32,
-    pub(crate) table: Table,
+pub struct Dids {
+    pub moves: [Option<Did>; 3],
 }
 
 /// What stands beside a shell and makes the same moves.
-pub(crate) trait Beside {
+pub trait Beside {
     /// One move.
     fn follow(&mut self, m: Move) -> Answer;
 }
 
 /// A lock that threads share, with its parties, each driven by single actions. It has no `Drop`, since its parties have
 /// none.
-pub(crate) trait Shell {
+pub trait Shell {
+    /// Of which lock: with how many parties, and by what else it is made.
+    type Setting: Copy;
     /// The lock's World.
     type World: Beside + Drop;
     /// What a party can do next.
     type Deed: Copy + Debug + Drop;
 
+    /// Where a walk takes its memory.
+    fn alloc(setting: &Self::Setting) -> Global;
+
     /// A new lock with its parties, and its World; none where memory is refused.
-    fn new<R: Wait>(bench: &Bench<R>, setting: Setting) -> Option<(Self, Self::World)>;
+    fn new<R: Wait>(bench: &Bench<R>, setting: Self::Setting) -> Option<(Self, Self::World)>;
 
     /// Ends the lock and its parties.
     fn end<R: Wait>(self, bench: &Bench<R>);

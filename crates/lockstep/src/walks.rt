@@ -4,7 +4,7 @@
 //! a walk that goes back begins anew and does the same deeds again.
 
 use crate::bench::Bench;
-use crate::shell::{Beside, Did, Setting, Shell};
+use crate::shell::{Beside, Did, Shell};
 use lock_world::{Answer, Move};
 use std::alloc::Global;
 use std::collections::BTreeMap;
@@ -12,23 +12,23 @@ use std::sync::Wait;
 
 /// A move that a shell's party made, and what the World answered.
 #[derive(Clone, Copy, Debug, PartialEq, Eq)]
-pub(crate) struct Line {
-    party: usize,
-    did: Did,
-    there: Answer,
+pub struct Line {
+    pub party: usize,
+    pub did: Did,
+    pub there: Answer,
 }
 
 /// How a walk went.
 #[derive(Debug, Drop)]
-pub(crate) struct Walk {
+pub struct Walk {
     /// How often it began.
-    pub(crate) schedules: u64,
+    pub schedules: u64,
     /// How many deeds were done, also those that were done before.
-    pub(crate) deeds: u64,
+    pub deeds: u64,
     /// How many states were told apart, if they were.
-    pub(crate) states: usize,
+    pub states: usize,
     /// The schedule at the end of which shell and World differ.
-    pub(crate) difference: Option<Vec<Line>>,
+    pub difference: Option<Vec<Line>>,
 }
 
 impl Walk {
@@ -101,7 +101,7 @@ fn pick<S: Shell>(shell: &S, choice: usize) -> Option<(usize, S::Deed)> {
 }
 
 impl<S: Shell> Pair<S> {
-    fn new<R: Wait>(bench: &Bench<R>, setting: Setting) -> Option<Pair<S>> {
+    fn new<R: Wait>(bench: &Bench<R>, setting: S::Setting) -> Option<Pair<S>> {
         let (shell, world) = S::new(bench, setting)?;
         Some(Pair { shell, world })
     }
@@ -167,13 +167,13 @@ fn answers_agree(lines: [Option<Line>; 3]) -> bool {
 // The walk, with the schedule at the end of which shell and World differ.
 fn differing<S: Shell, R: Wait>(
     bench: &Bench<R>,
-    setting: Setting,
+    setting: S::Setting,
     choices: &[usize],
     walk: Walk,
 ) -> Option<Walk> {
     let mut walk = walk;
     let mut pair = Pair::<S>::new(bench, setting)?;
-    let lines = pair.told(bench, setting.alloc, choices);
+    let lines = pair.told(bench, S::alloc(&setting), choices);
     pair.end(bench);
     walk.difference = Some(lines?);
     Some(walk)
@@ -260,7 +260,7 @@ fn lengthen<S: Shell, R: Wait>(
 // One schedule, whose deeds but the last agreed before. Whether both sides agree; none where memory is refused.
 fn play<S: Shell, R: Wait>(
     bench: &Bench<R>,
-    setting: Setting,
+    setting: S::Setting,
     choices: &mut Choices,
     length: usize,
     walk: &mut Walk,
@@ -289,13 +289,13 @@ fn play_on<S: Shell, R: Wait>(
 }
 
 /// Every schedule of so many deeds. None where memory is refused.
-pub(crate) fn walk_schedules<S: Shell, R: Wait>(
+pub fn walk_schedules<S: Shell, R: Wait>(
     bench: &Bench<R>,
-    setting: Setting,
+    setting: S::Setting,
     length: usize,
 ) -> Option<Walk> {
     let mut walk = Walk::new();
-    let mut choices = Choices::new(setting.alloc);
+    let mut choices = Choices::new(S::alloc(&setting));
     for _ in bench.forever() {
         if !play::<S, R>(bench, setting, &mut choices, length, &mut walk)? {
             return differing::<S, R>(bench, setting, choices.made.as_slice(), walk);
@@ -400,7 +400,7 @@ impl States {
 
 /// In which order the states are looked at.
 #[derive(Clone, Copy, PartialEq, Eq)]
-pub(crate) enum Order {
+pub enum Order {
     /// A walk goes on for as long as it comes to something new.
     Far,
     /// States that fewer deeds lead to come first, so that a difference is found by as few deeds as may be.
@@ -437,14 +437,14 @@ fn explore<S: Shell, R: Wait>(
 }
 
 /// Each deed in each state that the parties can come to, by schedules of any length. It is over once `most` states were reached. None where memory is refused.
-pub(crate) fn walk_states<S: Shell, R: Wait>(
+pub fn walk_states<S: Shell, R: Wait>(
     bench: &Bench<R>,
-    setting: Setting,
+    setting: S::Setting,
     order: Order,
     most: usize,
 ) -> Option<Walk> {
     let mut walk = Walk::new();
-    let mut states = States::new(setting.alloc);
+    let mut states = States::new(S::alloc(&setting));
     let opening = Pair::<S>::new(bench, setting)?;
     let first = states.reached(bench, &opening.shell, 0, 0);
     opening.end(bench);
@@ -457,7 +457,7 @@ pub(crate) fn walk_states<S: Shell, R: Wait>(
         let Some(from) = states.open() else {
             return Some(walk);
         };
-        let mut path = states.path(setting.alloc, from)?;
+        let mut path = states.path(S::alloc(&setting), from)?;
         let mut pair = Pair::<S>::new(bench, setting)?;
         walk.count_schedule();
         pair.again(bench, path.as_slice(), &mut walk);
@@ -510,9 +510,9 @@ fn gamble<S: Shell, R: Wait>(
 }
 
 /// So many schedules of this length, by chance, each told by the seed. None where memory is refused.
-pub(crate) fn walk_by_chance<S: Shell, R: Wait>(
+pub fn walk_by_chance<S: Shell, R: Wait>(
     bench: &Bench<R>,
-    setting: Setting,
+    setting: S::Setting,
     seed: u64,
     schedules: u64,
     length: usize,
@@ -520,7 +520,7 @@ pub(crate) fn walk_by_chance<S: Shell, R: Wait>(
     let mut walk = Walk::new();
     let mut chance = seed;
     for _ in 0..schedules {
-        let mut path = Vec::new(setting.alloc);
+        let mut path = Vec::new(S::alloc(&setting));
         let mut pair = Pair::<S>::new(bench, setting)?;
         walk.count_schedule();
         let gambled = gamble(bench, &mut pair, &mut path, length, &mut chance, &mut walk);

@@ -1,0 +1,107 @@
+//! Whole generations on one thread: who leads, who is woken, and what a later poll answers.
+
+use crate::stories::{Answer, Deed, NOBODY, Name, ONE, ONE_AND_TWO, Row, TWO, play};
+use async_barrier::Refusal;
+
+const THREE_MEET: [Row; 5] = [
+    (Deed::Arrive(Name::One), Answer::Pending, NOBODY),
+    (Deed::Arrive(Name::Two), Answer::Pending, NOBODY),
+    (Deed::Arrive(Name::Three), Answer::Leader, ONE_AND_TWO),
+    (Deed::Poll(Name::One), Answer::Follower, TWO),
+    (Deed::Poll(Name::Two), Answer::Follower, NOBODY),
+];
+
+#[test]
+fn the_last_of_three_leads_and_wakes_the_others(rt: HostRuntime) {
+    play(rt, 3, u64::MAX, &THREE_MEET);
+}
+
+// Polled again while its generation isn't finished, by the same task: it waits, and wakes nobody.
+const POLLED_AGAIN: [Row; 5] = [
+    (Deed::Arrive(Name::One), Answer::Pending, NOBODY),
+    (Deed::Poll(Name::One), Answer::Pending, NOBODY),
+    (Deed::Arrive(Name::Two), Answer::Leader, ONE),
+    (Deed::Poll(Name::One), Answer::Follower, NOBODY),
+    (
+        Deed::Poll(Name::One),
+        Answer::Refused(Refusal::Finished),
+        NOBODY,
+    ),
+];
+
+#[test]
+fn a_wait_that_was_ready_is_refused_as_finished(rt: HostRuntime) {
+    play(rt, 2, u64::MAX, &POLLED_AGAIN);
+}
+
+// Two generations, and the first arrival of a third. Those of a finished generation keep what they were told.
+const TWO_GENERATIONS: [Row; 9] = [
+    (Deed::Arrive(Name::One), Answer::Pending, NOBODY),
+    (Deed::Arrive(Name::Two), Answer::Leader, ONE),
+    (Deed::Arrive(Name::Two), Answer::Pending, ONE),
+    (Deed::Arrive(Name::Three), Answer::Leader, ONE_AND_TWO),
+    (Deed::Arrive(Name::Three), Answer::Pending, ONE_AND_TWO),
+    (Deed::Poll(Name::One), Answer::Follower, TWO),
+    (Deed::Poll(Name::Two), Answer::Follower, NOBODY),
+    (Deed::Poll(Name::Three), Answer::Pending, NOBODY),
+    (
+        Deed::Poll(Name::Two),
+        Answer::Refused(Refusal::Finished),
+        NOBODY,
+    ),
+];
+
+#[test]
+fn a_barrier_is_used_again(rt: HostRuntime) {
+    play(rt, 2, u64::MAX, &TWO_GENERATIONS);
+}
+
+const EACH_LEADS: [Row; 2] = [
+    (Deed::Arrive(Name::One), Answer::Leader, NOBODY),
+    (Deed::Arrive(Name::Two), Answer::Leader, NOBODY),
+];
+
+#[test]
+fn each_arrival_leads_at_a_barrier_for_none_or_one(rt: HostRuntime) {
+    play(rt, 0, u64::MAX, &EACH_LEADS);
+    play(rt, 1, u64::MAX, &EACH_LEADS);
+}
+
+const PAST_THE_LIMIT: [Row; 4] = [
+    (Deed::Arrive(Name::One), Answer::Leader, NOBODY),
+    (
+        Deed::Arrive(Name::Two),
+        Answer::Refused(Refusal::Generations),
+        NOBODY,
+    ),
+    (
+        Deed::Poll(Name::Two),
+        Answer::Refused(Refusal::Generations),
+        NOBODY,
+    ),
+    (Deed::Cancel(Name::Two), Answer::Done, NOBODY),
+];
+
+#[test]
+fn an_arrival_past_the_limit_of_generations_is_refused(rt: HostRuntime) {
+    play(rt, 1, 1, &PAST_THE_LIMIT);
+}
+
+// The refused arrival isn't counted: those before it still wait, and it may be polled again.
+const PAST_THE_LIMIT_OF_TWO: [Row; 6] = [
+    (Deed::Arrive(Name::One), Answer::Pending, NOBODY),
+    (Deed::Arrive(Name::Two), Answer::Leader, ONE),
+    (Deed::Poll(Name::One), Answer::Follower, NOBODY),
+    (Deed::Arrive(Name::Three), Answer::Pending, NOBODY),
+    (
+        Deed::Arrive(Name::Four),
+        Answer::Refused(Refusal::Generations),
+        NOBODY,
+    ),
+    (Deed::Poll(Name::Three), Answer::Pending, NOBODY),
+];
+
+#[test]
+fn a_refused_arrival_is_not_counted(rt: HostRuntime) {
+    play(rt, 2, 1, &PAST_THE_LIMIT_OF_TWO);
+}
