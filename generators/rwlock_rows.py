@@ -162,7 +162,7 @@ pub fits : (x : Place) (f : Found) → Fits (action_of x) f x (place_after (next
 
 table('stages/Links.antt', '''-- Each step leaves the party's place fitting its place in the turn. Written by generators/rwlock_rows.py.
 use Rattle.std.proofs.Common.{◌≡◌, refl, true, false}
-use Rattle.lock_world.specs.declared.refusal.Refusal.TheVariants as refusal
+use Rattle.world_base.specs.declared.refusal.Refusal.TheVariants as refusal
 use Rattle.mutex_machine.specs.Course.{Course as TurnCourse}
 ''' + USES + '''use Rattle.rwlock_program.specs.Program.{next_of, place_after}
 use Rattle.rwlock_machine.specs.Roles.{fits_turn}

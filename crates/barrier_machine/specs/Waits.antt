@@ -1,10 +1,10 @@
 -- What a party's wait is, and what its call is decided on, by where it stands.
 use Rattle.std.specs.Prelude.{ℕ, Bool, true, false, Option, Some, None}
-use Rattle.lock_world.specs.declared.moves.Answer.{Answer}
-use Rattle.lock_world.specs.declared.moves.Answer.TheVariants.{Ready, GivenBack}
-use Rattle.lock_world.specs.declared.moves.Got.TheVariants.{Leader}
+use Rattle.world_base.specs.declared.moves.Answer.{Answer}
+use Rattle.world_base.specs.declared.moves.Answer.TheVariants.{Ready, GivenBack}
+use Rattle.world_base.specs.declared.moves.Got.TheVariants.{Leader}
 use Rattle.lock_program.specs.declared.refusal.Refusal.TheVariants.{Memory, Generations}
-use Rattle.lock_world.specs.Standings.{refused}
+use Rattle.world_base.specs.Standings.{refused}
 use Rattle.lock_program.specs.declared.end.End.{End as LockEnd}
 use Rattle.lock_program.specs.declared.end.End.TheVariants as lock_end
 use Rattle.mutex_machine.specs.Course.{Course, decision}

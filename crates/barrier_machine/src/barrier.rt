@@ -12,14 +12,14 @@ use barrier_program::deeds::carry_out;
 use barrier_program::words::{Progress, Words};
 use lock_event::Entry;
 use lock_program::Next;
-use lock_queue::WaitQueue;
-use lock_table::{Machine, answer};
-use lock_world::standing::{Rest, Within};
-use lock_world::{Answer, Call, Inputs, What};
 use mutex_machine::Mutex;
 use std::alloc::{AllocError, Global};
 use std::marker::Model;
 use sync_program::barrier::{Aim, Ending, Left, Place, Position, action_at, decide};
+use world_base::queue::WaitQueue;
+use world_base::standing::{Rest, Within};
+use world_base::table::{Machine, answer};
+use world_base::{Answer, Call, Inputs, What};
 
 /// A barrier, and where each of its parties stands.
 ///
@@ -243,7 +243,7 @@ fn answer_to(next: Next<Place, Left>) -> Answer
 impl Machine for Barrier {
     ghost use Rattle.std.specs.Prelude.{length};
     ghost use Rattle.barrier_machine.specs.Machine as machine;
-    ghost use Rattle.lock_world.specs.declared.standing.Rest.TheVariants.{Finished};
+    ghost use Rattle.world_base.specs.declared.standing.Rest.TheVariants.{Finished};
 
     ghost parties = { λ s. length s.positions };
 

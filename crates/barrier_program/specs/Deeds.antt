@@ -2,10 +2,10 @@
 use Rattle.std.specs.Prelude.{◌≡◌, ℕ, ◌+◌, ◌<◌, Bool, true, false, List, length}
 use Rattle.lock_event.specs.declared.event.Entry.{Entry}
 use Rattle.lock_event.specs.Lists.{is_marked_at}
-use Rattle.lock_queue.specs.Parties.{is_party, entries_of}
-use Rattle.lock_queue.specs.Queues.{Queue}
-use Rattle.lock_world.specs.declared.moves.Inputs.{Inputs}
-use Rattle.lock_world.specs.Steps.{joins, asks, leaves, notifies, list_after}
+use Rattle.world_base.specs.queue.Parties.{is_party, entries_of}
+use Rattle.world_base.specs.queue.Queues.{Queue}
+use Rattle.world_base.specs.declared.moves.Inputs.{Inputs}
+use Rattle.world_base.specs.Steps.{joins, asks, leaves, notifies, list_after}
 use Rattle.mutex_machine.specs.Course.{may_begin}
 use Rattle.mutex_machine.specs.Mutex.{Mutex, course_at}
 use Rattle.sync_program.specs.declared.barrier.Action.{Action}

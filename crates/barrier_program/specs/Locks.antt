@@ -1,6 +1,6 @@
 -- What an action does to the inner lock: a step of its party's call there, or nothing.
 use Rattle.std.specs.Prelude.{◌≡◌, ℕ, ◌<◌, true}
-use Rattle.lock_world.specs.declared.moves.Inputs.{Inputs}
+use Rattle.world_base.specs.declared.moves.Inputs.{Inputs}
 use Rattle.lock_program.specs.declared.mutex.LockCall.{LockCall}
 use Rattle.lock_program.specs.declared.mutex.Step.{Step as LockStep}
 use Rattle.mutex_machine.specs.Course.{decision, is_told, Begins, GoesOn}

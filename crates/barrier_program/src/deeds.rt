@@ -1,17 +1,17 @@
 //! What is done for a party at a place of its call: one action, on the words, on the list or on the inner lock.
 
 ghost use Rattle.std.specs.Prelude.{◌≡◌, ◌<◌};
-ghost use Rattle.lock_queue.specs.Queues.{queue};
-ghost use Rattle.lock_queue.specs.Parties.{entries_of};
+ghost use Rattle.world_base.specs.queue.Queues.{queue};
+ghost use Rattle.world_base.specs.queue.Parties.{entries_of};
 ghost use Rattle.sync_program.specs.declared.barrier.Action.TheVariants as acts;
 ghost use Rattle.barrier_program.specs.Deeds.{CanDo, Finds, FindsJoin, FindsAsk, words_after, arrival_after, entries_after};
 ghost use Rattle.barrier_program.specs.Locks.{OnLock};
 
 use crate::words::{Progress, Words};
-use lock_queue::WaitQueue;
-use lock_world::Inputs;
 use mutex_machine::Mutex;
 use sync_program::barrier::{Action, Found};
+use world_base::Inputs;
+use world_base::queue::WaitQueue;
 
 /// A party joins the list, where there is memory.
 fn join_in(list: &mut WaitQueue, party: u32, memory: bool) -> Found

@@ -1,12 +1,12 @@
 -- As many waits are ready as a leader's along a run as generations are finished in it.
 use Rattle.std.proofs.Common.{◌≡◌, ℕ, ◌+◌, ◌⊎◌, inl, inr, if◌then◌else◌, Bool, true, false, List, [], ◌∷◌, Option, Some, refl, arith, ap, sym, ◌∙◌, subst}
-use Rattle.lock_world.specs.declared.moves.Answer.{Answer}
-use Rattle.lock_world.specs.declared.moves.Answer.TheVariants as answer
-use Rattle.lock_world.specs.declared.moves.Got.TheVariants as got
-use Rattle.lock_world.specs.declared.moves.Move.{Move}
-use Rattle.lock_world.specs.Accounts.{Account, accounts_after}
-use Rattle.lock_world.specs.Standings.{is_decided, decision}
-use Rattle.lock_world.specs.Steps.{Deed, nothing, changes, does}
+use Rattle.world_base.specs.declared.moves.Answer.{Answer}
+use Rattle.world_base.specs.declared.moves.Answer.TheVariants as answer
+use Rattle.world_base.specs.declared.moves.Got.TheVariants as got
+use Rattle.world_base.specs.declared.moves.Move.{Move}
+use Rattle.world_base.specs.Accounts.{Account, accounts_after}
+use Rattle.world_base.specs.Standings.{is_decided, decision}
+use Rattle.world_base.specs.Steps.{Deed, nothing, changes, does}
 use Rattle.barrier_world.specs.declared.world.ListName.{ListName}
 use Rattle.barrier_world.specs.Numbers.{Leads, generations_of}
 use Rattle.barrier_world.specs.State.{World, standing_of}

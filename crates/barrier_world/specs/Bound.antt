@@ -2,20 +2,20 @@
 use Rattle.std.specs.Prelude.{◌≡◌, ◌≢◌, ℕ, ◌<◌, ◌⊎◌, true, false, length, Some, None}
 use Rattle.lock_event.specs.declared.event.Mark.TheVariants.{Waiting}
 use Rattle.lock_event.specs.Lists.{marked_count, is_marked_at}
-use Rattle.lock_queue.specs.Parties.{is_party, entries_of}
-use Rattle.lock_world.specs.declared.moves.Answer.{Answer}
-use Rattle.lock_world.specs.declared.moves.Answer.TheVariants as answer
-use Rattle.lock_world.specs.declared.moves.Call.{Call}
-use Rattle.lock_world.specs.declared.moves.Call.TheVariants as call
-use Rattle.lock_world.specs.declared.moves.Got.TheVariants as got
-use Rattle.lock_world.specs.declared.moves.Inputs.{Inputs}
-use Rattle.lock_world.specs.declared.moves.What.TheVariants.{Begin}
+use Rattle.world_base.specs.queue.Parties.{is_party, entries_of}
+use Rattle.world_base.specs.declared.moves.Answer.{Answer}
+use Rattle.world_base.specs.declared.moves.Answer.TheVariants as answer
+use Rattle.world_base.specs.declared.moves.Call.{Call}
+use Rattle.world_base.specs.declared.moves.Call.TheVariants as call
+use Rattle.world_base.specs.declared.moves.Got.TheVariants as got
+use Rattle.world_base.specs.declared.moves.Inputs.{Inputs}
+use Rattle.world_base.specs.declared.moves.What.TheVariants.{Begin}
 use Rattle.lock_program.specs.declared.refusal.Refusal.TheVariants as refusal
-use Rattle.lock_world.specs.declared.standing.Rest.TheVariants.{Pending}
-use Rattle.lock_world.specs.Rosters.{how_many}
-use Rattle.lock_world.specs.Standings.{outside, refused}
-use Rattle.lock_world.specs.Frame.{is_refusal}
-use Rattle.lock_world.specs.Bounds as bounds
+use Rattle.world_base.specs.declared.standing.Rest.TheVariants.{Pending}
+use Rattle.world_base.specs.Rosters.{how_many}
+use Rattle.world_base.specs.Standings.{outside, refused}
+use Rattle.world_base.specs.Frame.{is_refusal}
+use Rattle.world_base.specs.Bounds as bounds
 use Rattle.barrier_machine.specs.Waits.{Wait, no_wait, uncounted, counted}
 use Rattle.barrier_world.specs.declared.world.ListName.TheVariants.{Generation}
 use Rattle.barrier_world.specs.Numbers.{Leads, IsFinished, generations_of}
@@ -25,7 +25,7 @@ use Rattle.barrier_world.specs.AtOnce.{entries_in, is_first_poll}
 use Rattle.barrier_world.specs.Changes.{wait_then}
 use Rattle.barrier_world.specs.Laws.{is_at_rest}
 use Rattle.barrier_world.specs.Whole.{IsWholeCall}
-use Rattle.lock_world.specs.Marks.{MarksNobody}
+use Rattle.world_base.specs.Marks.{MarksNobody}
 
 -- A solo poll is of a pending party whose entry in the inner lock's list is marked, and it finds memory.
 abbrev pub IsSolo : World → ℕ → Inputs → Type 0

@@ -1,12 +1,12 @@
 -- The changes of a barrier, and what each leaves.
 use Rattle.std.specs.Prelude.{ℕ, ◌+◌, Bool, true, false, List, Some, None, slice_set}
 use Rattle.lock_event.specs.declared.event.Entry.{Entry}
-use Rattle.lock_world.specs.declared.moves.Answer.{Answer}
-use Rattle.lock_world.specs.declared.moves.Answer.TheVariants as answer
-use Rattle.lock_world.specs.declared.moves.Call.TheVariants as call
-use Rattle.lock_world.specs.declared.moves.What.{What}
-use Rattle.lock_world.specs.declared.moves.What.TheVariants.{Begin}
-use Rattle.lock_world.specs.Steps.{Deed, nothing, changes, does, leaves, list_after, is_parting}
+use Rattle.world_base.specs.declared.moves.Answer.{Answer}
+use Rattle.world_base.specs.declared.moves.Answer.TheVariants as answer
+use Rattle.world_base.specs.declared.moves.Call.TheVariants as call
+use Rattle.world_base.specs.declared.moves.What.{What}
+use Rattle.world_base.specs.declared.moves.What.TheVariants.{Begin}
+use Rattle.world_base.specs.Steps.{Deed, nothing, changes, does, leaves, list_after, is_parting}
 use Rattle.barrier_machine.specs.Waits.{Wait, no_wait, uncounted, counted}
 use Rattle.barrier_world.specs.declared.world.ListName.{ListName}
 use Rattle.barrier_world.specs.declared.world.ListName.TheVariants.{Lock, Generation}

@@ -2,23 +2,23 @@
 use Rattle.std.specs.Prelude.{◌≡◌, ℕ, ◌<◌, ◌≤◌, ◌⊎◌, Bool, true, false, length, Option, Some, None}
 use Rattle.std.specs.List.{list_all}
 use Rattle.lock_event.specs.Lists.{marked_count, is_marked_at, IsMarkedFirst}
-use Rattle.lock_queue.specs.Parties.{is_party, entries_of}
-use Rattle.lock_world.specs.declared.moves.Answer.{Answer}
-use Rattle.lock_world.specs.declared.standing.Kind.{Kind}
-use Rattle.lock_world.specs.declared.standing.Kind.TheVariants as kind
-use Rattle.lock_world.specs.declared.standing.Rest.{Rest}
-use Rattle.lock_world.specs.declared.standing.Rest.TheVariants.{Idle, Pending, Finished}
-use Rattle.lock_world.specs.declared.standing.Within.{Within}
-use Rattle.lock_world.specs.Rosters.{how_many}
-use Rattle.lock_world.specs.Standings.{Standing, outside, inside, forgotten, is_outside}
+use Rattle.world_base.specs.queue.Parties.{is_party, entries_of}
+use Rattle.world_base.specs.declared.moves.Answer.{Answer}
+use Rattle.world_base.specs.declared.standing.Kind.{Kind}
+use Rattle.world_base.specs.declared.standing.Kind.TheVariants as kind
+use Rattle.world_base.specs.declared.standing.Rest.{Rest}
+use Rattle.world_base.specs.declared.standing.Rest.TheVariants.{Idle, Pending, Finished}
+use Rattle.world_base.specs.declared.standing.Within.{Within}
+use Rattle.world_base.specs.Rosters.{how_many}
+use Rattle.world_base.specs.Standings.{Standing, outside, inside, forgotten, is_outside}
 use Rattle.barrier_machine.specs.Waits.{uncounted, counted}
 use Rattle.barrier_world.specs.declared.world.ListName.{ListName}
 use Rattle.barrier_world.specs.Numbers.{IsFinished, generations_of}
 use Rattle.barrier_world.specs.State.{World, list_in, standing_of, wait_of, is_starved}
 use Rattle.barrier_world.specs.AtOnce.{entries_in}
 use Rattle.barrier_world.specs.Legal.{HasItsOwn}
-use Rattle.lock_world.specs.declared.moves.Answer.TheVariants as answer
-use Rattle.lock_world.specs.Standings.{is_decided}
+use Rattle.world_base.specs.declared.moves.Answer.TheVariants as answer
+use Rattle.world_base.specs.Standings.{is_decided}
 
 -- The calls of a barrier that may take more than one step: a poll, and the drop of a pending wait.
 abbrev pub is_long_call : Kind → Rest → Bool

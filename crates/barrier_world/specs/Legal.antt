@@ -1,21 +1,21 @@
 -- What one move may do to a barrier, and how it may be answered.
 use Rattle.std.specs.Prelude.{◌≡◌, ◌≢◌, ℕ, ◌+◌, ◌<◌, ◌≤◌, ◌||◌, ◌↔◌, ◌⊎◌, Bool, true, false, length, Option, Some, None}
 use Rattle.lock_event.specs.declared.event.Mark.TheVariants.{Waiting}
-use Rattle.lock_queue.specs.Parties.{entries_of}
-use Rattle.lock_world.specs.declared.moves.Answer.{Answer}
-use Rattle.lock_world.specs.declared.moves.Answer.TheVariants as answer
-use Rattle.lock_world.specs.declared.moves.Got.{Got}
-use Rattle.lock_world.specs.declared.moves.Got.TheVariants as got
-use Rattle.lock_world.specs.declared.moves.Move.{Move}
+use Rattle.world_base.specs.queue.Parties.{entries_of}
+use Rattle.world_base.specs.declared.moves.Answer.{Answer}
+use Rattle.world_base.specs.declared.moves.Answer.TheVariants as answer
+use Rattle.world_base.specs.declared.moves.Got.{Got}
+use Rattle.world_base.specs.declared.moves.Got.TheVariants as got
+use Rattle.world_base.specs.declared.moves.Move.{Move}
 use Rattle.lock_program.specs.declared.refusal.Refusal.{Refusal}
 use Rattle.lock_program.specs.declared.refusal.Refusal.TheVariants as refusal
-use Rattle.lock_world.specs.declared.standing.Rest.TheVariants.{Idle, Pending, Holding, Finished}
-use Rattle.lock_world.specs.declared.standing.Within.{Within}
-use Rattle.lock_world.specs.Frame as frame
-use Rattle.lock_world.specs.Frame.{is_drop, is_refusal}
-use Rattle.lock_world.specs.Rosters.{how_many}
-use Rattle.lock_world.specs.Standings.{Standing, outside, inside, forgotten, inputs_of, is_decided}
-use Rattle.lock_world.specs.Steps.{Deed, changes, does, joins, asks, leaves, notifies, notifies_additionally}
+use Rattle.world_base.specs.declared.standing.Rest.TheVariants.{Idle, Pending, Holding, Finished}
+use Rattle.world_base.specs.declared.standing.Within.{Within}
+use Rattle.world_base.specs.Frame as frame
+use Rattle.world_base.specs.Frame.{is_drop, is_refusal}
+use Rattle.world_base.specs.Rosters.{how_many}
+use Rattle.world_base.specs.Standings.{Standing, outside, inside, forgotten, inputs_of, is_decided}
+use Rattle.world_base.specs.Steps.{Deed, changes, does, joins, asks, leaves, notifies, notifies_additionally}
 use Rattle.barrier_program.specs.Deeds.{everyone}
 use Rattle.barrier_machine.specs.Machine.{knows}
 use Rattle.barrier_machine.specs.Waits.{Wait, no_wait, uncounted, counted}
@@ -24,7 +24,7 @@ use Rattle.barrier_world.specs.declared.world.ListName.TheVariants.{Lock, Genera
 use Rattle.barrier_world.specs.Numbers.{Leads, IsFinished, generations_of}
 use Rattle.barrier_world.specs.State.{World, list_in, standing_of, wait_of, is_starved, is_held_by, told_in, IsClear}
 use Rattle.barrier_world.specs.Changes.{Change, takes, releases, starves, recovers, arrives, lock_after, arrivals_after, lock_list_after, generation_list_after, wait_after, gives_back, gives_up}
-use Rattle.lock_world.specs.Standings.{IsUndecided}
+use Rattle.world_base.specs.Standings.{IsUndecided}
 
 -- The call that a move belongs to, where its party may make it.
 abbrev pub call_of : World → Move → Option Within

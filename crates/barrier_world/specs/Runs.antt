@@ -1,13 +1,13 @@
 -- Whole runs of a barrier's World, and what the moves and answers alone tell.
 use Rattle.std.specs.Prelude.{◌≡◌, ℕ, ◌+◌, if◌then◌else◌, Bool, true, false, List, [], ◌∷◌, Option, Some, None}
-use Rattle.lock_world.specs.declared.moves.Answer.{Answer}
-use Rattle.lock_world.specs.declared.moves.Answer.TheVariants as answer
-use Rattle.lock_world.specs.declared.moves.Got.TheVariants as got
-use Rattle.lock_world.specs.declared.moves.Move.{Move}
-use Rattle.lock_world.specs.Accounts.{Account, accounts_after, HasByAnswers}
-use Rattle.lock_world.specs.Rights.{Right}
-use Rattle.lock_world.specs.Runs as runs
-use Rattle.lock_world.specs.Standings.{Standing, is_decided, decision}
+use Rattle.world_base.specs.declared.moves.Answer.{Answer}
+use Rattle.world_base.specs.declared.moves.Answer.TheVariants as answer
+use Rattle.world_base.specs.declared.moves.Got.TheVariants as got
+use Rattle.world_base.specs.declared.moves.Move.{Move}
+use Rattle.world_base.specs.Accounts.{Account, accounts_after, HasByAnswers}
+use Rattle.world_base.specs.Rights.{Right}
+use Rattle.world_base.specs.Runs as runs
+use Rattle.world_base.specs.Standings.{Standing, is_decided, decision}
 use Rattle.barrier_world.specs.State.{World, standing_of}
 use Rattle.barrier_world.specs.Steps.{Steps}
 use Rattle.barrier_world.specs.Laws.{IsSound, IsAwake, is_at_rest}

@@ -3,11 +3,11 @@ use Rattle.std.specs.Prelude.{◌≡◌, ℕ, ◌==◌, ◌&&◌, Bool, false, L
 use Rattle.lock_event.specs.declared.event.Entry.{Entry}
 use Rattle.lock_event.specs.declared.event.Mark.{Mark}
 use Rattle.lock_event.specs.Lists.{mark_at}
-use Rattle.lock_queue.specs.Parties.{is_party, entries_of}
-use Rattle.lock_world.specs.declared.standing.Rest.TheVariants.{Idle}
-use Rattle.lock_world.specs.Rosters.{how_many, is_on}
-use Rattle.lock_world.specs.Standings.{Standing, outside, forgotten}
-use Rattle.lock_table.specs.Tables.{Table, new_table}
+use Rattle.world_base.specs.queue.Parties.{is_party, entries_of}
+use Rattle.world_base.specs.declared.standing.Rest.TheVariants.{Idle}
+use Rattle.world_base.specs.Rosters.{how_many, is_on}
+use Rattle.world_base.specs.Standings.{Standing, outside, forgotten}
+use Rattle.world_base.specs.table.Tables.{Table, new_table}
 use Rattle.barrier_machine.specs.Waits.{Wait, no_wait}
 use Rattle.barrier_machine.specs.Machine.{Barrier, new_barrier}
 use Rattle.barrier_world.specs.declared.world.ListName.{ListName}

@@ -1,9 +1,9 @@
 -- One step of a barrier's World: what its callers see, and what its table did behind it.
 use Rattle.std.specs.Prelude.{◌≡◌, length}
-use Rattle.lock_world.specs.declared.moves.Answer.{Answer}
-use Rattle.lock_world.specs.declared.moves.Move.{Move}
-use Rattle.lock_world.specs.declared.standing.Rest.TheVariants.{Finished}
-use Rattle.lock_table.specs.Tables.{Table, IsTable, IsStep}
+use Rattle.world_base.specs.declared.moves.Answer.{Answer}
+use Rattle.world_base.specs.declared.moves.Move.{Move}
+use Rattle.world_base.specs.declared.standing.Rest.TheVariants.{Finished}
+use Rattle.world_base.specs.table.Tables.{Table, IsTable, IsStep}
 use Rattle.barrier_machine.specs.Machine.{Barrier, IsBarrier, knows, Moves, Stands as StandsThere}
 use Rattle.barrier_world.specs.State.{World}
 use Rattle.barrier_world.specs.View.{view_of}

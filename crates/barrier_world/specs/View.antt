@@ -1,8 +1,8 @@
 -- How callers see what stands behind a barrier's World.
 use Rattle.std.specs.Prelude.{ℕ, List, [], ◌∷◌, Option}
-use Rattle.lock_world.specs.declared.moves.Answer.{Answer}
-use Rattle.lock_table.specs.Tables.{Table}
-use Rattle.lock_table.specs.Views.{standings}
+use Rattle.world_base.specs.declared.moves.Answer.{Answer}
+use Rattle.world_base.specs.table.Tables.{Table}
+use Rattle.world_base.specs.table.Views.{standings}
 use Rattle.mutex_machine.specs.Mutex.{course_at, holder_of, starved_of}
 use Rattle.sync_program.specs.declared.barrier.Position.{Position}
 use Rattle.barrier_program.specs.declared.words.Progress.{Progress}

@@ -6,10 +6,10 @@
 //! specs/AtOnce what it decides at once.
 
 ghost use Rattle.std.specs.Prelude.{◌≡◌, ◌+◌, ◌<◌, ◌≤◌, ℕ, Bool, true, List, IfOk, IfErr, length, min, slice_get, is_some};
-ghost use Rattle.lock_world.specs.Rosters.{how_many};
-ghost use Rattle.lock_world.specs.Accounts.{Account};
-ghost use Rattle.lock_world.specs.declared.moves.Answer.{Answer as AnswerOf};
-ghost use Rattle.lock_world.specs.declared.moves.Move.{Move as MoveOf};
+ghost use Rattle.world_base.specs.Rosters.{how_many};
+ghost use Rattle.world_base.specs.Accounts.{Account};
+ghost use Rattle.world_base.specs.declared.moves.Answer.{Answer as AnswerOf};
+ghost use Rattle.world_base.specs.declared.moves.Move.{Move as MoveOf};
 ghost use Rattle.lock_program.specs.declared.refusal.Refusal.TheVariants as refusals;
 ghost use Rattle.barrier_machine.specs.Waits.{number_of};
 ghost use Rattle.barrier_world.specs.Numbers.{generations_of, count_of};
@@ -21,12 +21,11 @@ ghost use Rattle.barrier_world.specs.Bound.{IsBounded};
 
 use barrier_machine::Barrier;
 use lock_event::Entry;
-use lock_frame::AnyWorld;
 use lock_program::Refusal;
-use lock_table::Table;
-use lock_world::{Answer, Move};
 use std::alloc::Global;
 use std::marker::Model;
+use world_base::table::Table;
+use world_base::{Answer, AnyWorld, Move};
 
 /// The greatest number of parties that may be starved for a barrier's inner lock. The Rust crate aborts where
 /// this project refuses.
@@ -245,7 +244,7 @@ impl AnyWorld for World {
     ghost use Rattle.barrier_world.specs.State as state;
     ghost use Rattle.barrier_world.specs.Laws as laws;
     ghost use Rattle.barrier_world.specs.Runs.{HoldsWell, TellsNoRights, known_of};
-    ghost use Rattle.lock_world.specs.Accounts.{Account, accounts_after};
+    ghost use Rattle.world_base.specs.Accounts.{Account, accounts_after};
     ghost use Rattle.barrier_world.specs.Whole.{most_steps_of, steps_left_of};
     ghost use Rattle.barrier_world.specs.Bound.{Promises};
     ghost use Rattle.barrier_world.specs.Openings.{opening_kept};

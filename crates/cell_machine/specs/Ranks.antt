@@ -1,7 +1,7 @@
 -- How many steps of a party's call are left, if the others stand still.
 use Rattle.std.specs.Prelude.{ℕ, if◌then◌else◌, Bool}
 use Rattle.lock_event.specs.Lists.{is_marked_at}
-use Rattle.lock_queue.specs.Parties.{is_party}
+use Rattle.world_base.specs.queue.Parties.{is_party}
 use Rattle.cell_program.specs.Program.{Place}
 use Rattle.sync_program.specs.declared.once_cell.Place.TheVariants.{Claim, ClaimListed, JoinActive, AskActive, LeaveToMake, Make, Fill, NotifyActive, Fail, Look, JoinPassive, LookListed, AskPassive, Try, TryFill, TryNotifyActive, CancelMake}
 use Rattle.cell_program.specs.Program.{Position}

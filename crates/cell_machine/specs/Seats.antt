@@ -1,11 +1,11 @@
 -- What a party has and owes where it stands.
 use Rattle.std.specs.Prelude.{ℕ, Bool, true, false, Option, Some, None}
-pub use Rattle.lock_world.specs.Rosters.{bit}
-use Rattle.lock_world.specs.declared.moves.Answer.{Answer}
-use Rattle.lock_world.specs.declared.moves.Answer.TheVariants.{Ready, Granted, GivenBack}
-use Rattle.lock_world.specs.declared.moves.Got.TheVariants as got
+pub use Rattle.world_base.specs.Rosters.{bit}
+use Rattle.world_base.specs.declared.moves.Answer.{Answer}
+use Rattle.world_base.specs.declared.moves.Answer.TheVariants.{Ready, Granted, GivenBack}
+use Rattle.world_base.specs.declared.moves.Got.TheVariants as got
 use Rattle.lock_program.specs.declared.refusal.Refusal.TheVariants.{Memory}
-use Rattle.lock_world.specs.Standings.{refused}
+use Rattle.world_base.specs.Standings.{refused}
 use Rattle.sync_program.specs.declared.once_cell.ListName.{ListName}
 use Rattle.sync_program.specs.declared.once_cell.ListName.TheVariants.{Active, Passive}
 use Rattle.cell_program.specs.Program.{Maker}

@@ -1,10 +1,10 @@
 -- Whoever stood outside every call may stand as it does once the cell's value was put or taken: forgotten, if it was pending.
 use Rattle.std.specs.Prelude.{◌≡◌, ℕ, true, Option, Some}
-use Rattle.lock_world.specs.declared.standing.Rest.TheVariants as rest
-use Rattle.lock_world.specs.declared.standing.Stage.{Stage}
-use Rattle.lock_world.specs.declared.standing.Stage.TheVariants.{Outside, Inside, Forgotten}
-use Rattle.lock_world.specs.Standings.{is_outside_stage, forgets}
-use Rattle.lock_world.proofs.Equations.{none_some}
+use Rattle.world_base.specs.declared.standing.Rest.TheVariants as rest
+use Rattle.world_base.specs.declared.standing.Stage.{Stage}
+use Rattle.world_base.specs.declared.standing.Stage.TheVariants.{Outside, Inside, Forgotten}
+use Rattle.world_base.specs.Standings.{is_outside_stage, forgets}
+use Rattle.world_base.proofs.Equations.{none_some}
 use Rattle.std.proofs.Common.{refl}
 use Rattle.cell_program.specs.Program.{Position}
 use Rattle.sync_program.specs.declared.once_cell.Position.TheVariants.{Out, ToMake, WaitingToMake, Making, ToWait, Waiting, At}

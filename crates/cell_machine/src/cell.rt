@@ -12,13 +12,13 @@ use cell_program::deeds::carry_out;
 use cell_program::words::{Content, Words};
 use lock_event::Entry;
 use lock_program::Next;
-use lock_queue::WaitQueue;
-use lock_table::{Machine, Valued, answer};
-use lock_world::standing::{Rest, Within};
-use lock_world::{Answer, Call, What};
 use std::alloc::{AllocError, Global};
 use std::marker::Model;
 use sync_program::once_cell::{Left, ListName, Place, Position, action_at, decide};
+use world_base::queue::WaitQueue;
+use world_base::standing::{Rest, Within};
+use world_base::table::{Machine, Valued, answer};
+use world_base::{Answer, Call, What};
 
 /// A once-cell, and where each of its parties stands.
 ///
@@ -153,7 +153,7 @@ fn answer_to(next: Next<Place<u64>, Left<u64>>) -> Answer
 impl Machine for OnceCell {
     ghost use Rattle.std.specs.Prelude.{length};
     ghost use Rattle.cell_machine.specs.Machine as machine;
-    ghost use Rattle.lock_world.specs.declared.standing.Rest.TheVariants.{Finished};
+    ghost use Rattle.world_base.specs.declared.standing.Rest.TheVariants.{Finished};
 
     ghost parties = { λ s. length s.positions };
 

@@ -3,8 +3,8 @@
 ghost use Rattle.std.specs.Prelude.{◌≡◌};
 ghost use Rattle.cell_program.specs.Program.{asked_of, start_of, got_left as got_left_lem, position_left as position_left_lem};
 
-use lock_world::{Call, Got};
 use sync_program::once_cell::{self, CellCall, Left, Place, Position};
+use world_base::{Call, Got};
 
 /// What a call asks; None of the calls that the programs don't have.
 fn asked(call: Call) -> Option<CellCall<u64>>

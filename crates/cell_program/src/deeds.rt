@@ -1,16 +1,16 @@
 //! What is done for a party at a place of its call: one action, on the words or on one of the lists.
 
 ghost use Rattle.std.specs.Prelude.{◌≡◌};
-ghost use Rattle.lock_queue.specs.Queues.{queue};
+ghost use Rattle.world_base.specs.queue.Queues.{queue};
 ghost use Rattle.sync_program.specs.declared.once_cell.Action.TheVariants as acts;
 ghost use Rattle.sync_program.specs.declared.once_cell.ListName.TheVariants as lists;
 ghost use Rattle.cell_program.specs.Deeds.{CanDo, CanList, Finds, FindsJoin, FindsAsk, FindsMade, deed_of, content_after, active_after, passive_after};
 ghost use Rattle.cell_program.specs.Words.{content_of, kept_of};
 
 use crate::words::Words;
-use lock_queue::WaitQueue;
-use lock_world::{Inputs, Made};
 use sync_program::once_cell::{Action, Found, ListName, Maker};
+use world_base::queue::WaitQueue;
+use world_base::{Inputs, Made};
 
 /// What the maker of an initialisation gives.
 fn polled(maker: Maker<u64>, made: Made) -> Found<u64>

@@ -1,8 +1,8 @@
 -- One value at most enters along a run.
 use Rattle.std.proofs.Common.{◌≡◌, ℕ, ◌+◌, ◌≤◌, if◌then◌else◌, Bool, true, false, List, [], ◌∷◌, refl, arith, ap, sym, ◌∙◌}
-use Rattle.lock_world.specs.declared.moves.Answer.{Answer}
-use Rattle.lock_world.specs.declared.moves.Move.{Move}
-use Rattle.lock_world.specs.Steps.{Deed, nothing, changes, does}
+use Rattle.world_base.specs.declared.moves.Answer.{Answer}
+use Rattle.world_base.specs.declared.moves.Move.{Move}
+use Rattle.world_base.specs.Steps.{Deed, nothing, changes, does}
 use Rattle.sync_program.specs.declared.once_cell.ListName.{ListName}
 use Rattle.cell_program.specs.declared.words.Content.{Content}
 use Rattle.cell_program.specs.declared.words.Content.TheVariants.{Empty, BeingMade, Full}

@@ -1,22 +1,22 @@
 -- What the first step of a call decides at once, and the steps that ask a maker and take what it gave.
 use Rattle.std.specs.Prelude.{◌≡◌, ℕ, ◌<◌, ◌==◌, ◌&&◌, if◌then◌else◌, Bool, true, false, Some, None}
 use Rattle.lock_event.specs.Lists.{is_marked_at}
-use Rattle.lock_queue.specs.Parties.{is_party, entries_of}
-use Rattle.lock_world.specs.declared.moves.Answer.{Answer}
-use Rattle.lock_world.specs.declared.moves.Answer.TheVariants as answer
-use Rattle.lock_world.specs.declared.moves.Call.TheVariants as call
-use Rattle.lock_world.specs.declared.moves.Got.{Got}
-use Rattle.lock_world.specs.declared.moves.Got.TheVariants as got
-use Rattle.lock_world.specs.declared.moves.Made.{Made}
-use Rattle.lock_world.specs.declared.moves.Made.TheVariants as made
-use Rattle.lock_world.specs.declared.moves.Move.{Move}
-use Rattle.lock_world.specs.declared.moves.What.{What}
-use Rattle.lock_world.specs.declared.moves.What.TheVariants.{Begin}
-use Rattle.lock_world.specs.declared.standing.Rest.TheVariants.{Idle, Pending, Finished}
-use Rattle.lock_world.specs.declared.standing.Within.{Within}
-use Rattle.lock_world.specs.Frame.{is_drop}
-use Rattle.lock_world.specs.Steps.{asks, list_after}
-use Rattle.lock_world.specs.Standings.{Standing, outside, inside, inputs_of, is_possible, is_stepped, decision}
+use Rattle.world_base.specs.queue.Parties.{is_party, entries_of}
+use Rattle.world_base.specs.declared.moves.Answer.{Answer}
+use Rattle.world_base.specs.declared.moves.Answer.TheVariants as answer
+use Rattle.world_base.specs.declared.moves.Call.TheVariants as call
+use Rattle.world_base.specs.declared.moves.Got.{Got}
+use Rattle.world_base.specs.declared.moves.Got.TheVariants as got
+use Rattle.world_base.specs.declared.moves.Made.{Made}
+use Rattle.world_base.specs.declared.moves.Made.TheVariants as made
+use Rattle.world_base.specs.declared.moves.Move.{Move}
+use Rattle.world_base.specs.declared.moves.What.{What}
+use Rattle.world_base.specs.declared.moves.What.TheVariants.{Begin}
+use Rattle.world_base.specs.declared.standing.Rest.TheVariants.{Idle, Pending, Finished}
+use Rattle.world_base.specs.declared.standing.Within.{Within}
+use Rattle.world_base.specs.Frame.{is_drop}
+use Rattle.world_base.specs.Steps.{asks, list_after}
+use Rattle.world_base.specs.Standings.{Standing, outside, inside, inputs_of, is_possible, is_stepped, decision}
 use Rattle.sync_program.specs.declared.once_cell.ListName.{ListName}
 use Rattle.cell_program.specs.declared.words.Content.{Content}
 use Rattle.cell_program.specs.declared.words.Content.TheVariants.{Empty, BeingMade, Full}

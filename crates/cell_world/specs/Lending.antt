@@ -1,7 +1,7 @@
 -- A cell's value, lent or taken from outside every call.
 use Rattle.std.specs.Prelude.{ℕ, Option, Some, map}
 use Rattle.std.specs.Borrow.{LendsIf, MutBor, Fml, u64}
-use Rattle.lock_table.specs.Lending.{table_with, forgotten_then}
+use Rattle.world_base.specs.table.Lending.{table_with, forgotten_then}
 use Rattle.cell_program.specs.Words.{refilled, value_in}
 use Rattle.cell_machine.specs.Machine.{with_value}
 use Rattle.cell_world.specs.contracts.world.World.{the_row}

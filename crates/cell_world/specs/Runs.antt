@@ -1,12 +1,12 @@
 -- Whole runs of a once-cell's World, and what the moves and answers alone tell.
 use Rattle.std.specs.Prelude.{◌≡◌, ℕ, ◌+◌, if◌then◌else◌, true, false, List, [], ◌∷◌, Option, Some, None}
-use Rattle.lock_world.specs.declared.moves.Answer.{Answer}
-use Rattle.lock_world.specs.declared.moves.Answer.TheVariants as answer
-use Rattle.lock_world.specs.declared.moves.Got.TheVariants as got
-use Rattle.lock_world.specs.declared.moves.Move.{Move}
-use Rattle.lock_world.specs.Accounts.{Account, accounts_after, HasByAnswers}
-use Rattle.lock_world.specs.Rights.{Right}
-use Rattle.lock_world.specs.Runs as runs
+use Rattle.world_base.specs.declared.moves.Answer.{Answer}
+use Rattle.world_base.specs.declared.moves.Answer.TheVariants as answer
+use Rattle.world_base.specs.declared.moves.Got.TheVariants as got
+use Rattle.world_base.specs.declared.moves.Move.{Move}
+use Rattle.world_base.specs.Accounts.{Account, accounts_after, HasByAnswers}
+use Rattle.world_base.specs.Rights.{Right}
+use Rattle.world_base.specs.Runs as runs
 use Rattle.cell_program.specs.declared.words.Content.{Content}
 use Rattle.cell_program.specs.declared.words.Content.TheVariants.{Full}
 use Rattle.cell_program.specs.Words.{value_in}

@@ -1,9 +1,9 @@
 -- What callers see of a once-cell's World: what is in the cell, its lists, and how each party stands.
 use Rattle.std.specs.Prelude.{ℕ, Bool, true, false, List, [], slice_index_or, replicate, length}
 use Rattle.lock_event.specs.declared.event.Entry.{Entry}
-use Rattle.lock_world.specs.declared.standing.Rest.TheVariants.{Idle}
-use Rattle.lock_world.specs.Standings.{Standing, outside, forgotten}
-use Rattle.lock_table.specs.Tables.{Table, new_table}
+use Rattle.world_base.specs.declared.standing.Rest.TheVariants.{Idle}
+use Rattle.world_base.specs.Standings.{Standing, outside, forgotten}
+use Rattle.world_base.specs.table.Tables.{Table, new_table}
 use Rattle.sync_program.specs.declared.once_cell.ListName.{ListName}
 use Rattle.cell_program.specs.declared.words.Content.{Content}
 use Rattle.cell_program.specs.declared.words.Content.TheVariants.{Empty, BeingMade, Full}

@@ -1,12 +1,12 @@
 -- What a party's future is for, and what its maker makes of it.
 use Rattle.std.specs.Prelude.{Bool, true, false, Option, Some, None}
-use Rattle.lock_world.specs.declared.moves.Call.TheVariants as call
-use Rattle.lock_world.specs.declared.moves.Made.{Made}
-use Rattle.lock_world.specs.declared.moves.Made.TheVariants as made
-use Rattle.lock_world.specs.declared.moves.What.{What}
-use Rattle.lock_world.specs.declared.moves.What.TheVariants.{Begin}
-use Rattle.lock_world.specs.declared.standing.Rest.TheVariants.{Pending}
-use Rattle.lock_world.specs.Standings.{Standing, outside, inside}
+use Rattle.world_base.specs.declared.moves.Call.TheVariants as call
+use Rattle.world_base.specs.declared.moves.Made.{Made}
+use Rattle.world_base.specs.declared.moves.Made.TheVariants as made
+use Rattle.world_base.specs.declared.moves.What.{What}
+use Rattle.world_base.specs.declared.moves.What.TheVariants.{Begin}
+use Rattle.world_base.specs.declared.standing.Rest.TheVariants.{Pending}
+use Rattle.world_base.specs.Standings.{Standing, outside, inside}
 use Rattle.sync_program.specs.declared.once_cell.ListName.{ListName}
 use Rattle.sync_program.specs.declared.once_cell.ListName.TheVariants.{Active, Passive}
 use Rattle.cell_machine.specs.Seats.{Task, no_task, initializes, sets, waits_only, fills_with, failed}

@@ -1,7 +1,7 @@
 -- How callers see what stands behind a once-cell's World.
 use Rattle.std.specs.Prelude.{map}
-use Rattle.lock_table.specs.Tables.{Table}
-use Rattle.lock_table.specs.Views.{standings}
+use Rattle.world_base.specs.table.Tables.{Table}
+use Rattle.world_base.specs.table.Views.{standings}
 use Rattle.cell_machine.specs.Seats.{task_at, verdict}
 use Rattle.cell_machine.specs.Machine.{OnceCell, position_at}
 use Rattle.cell_world.specs.State.{World}

@@ -6,8 +6,8 @@
 //! specs/AtOnce what it decides at once.
 
 ghost use Rattle.std.specs.Prelude.{◌≡◌, ◌<◌, ◌≤◌, ℕ, Bool, true, None, List, IfOk, IfErr, length, slice_get};
-ghost use Rattle.lock_world.specs.declared.moves.Answer.{Answer as AnswerOf};
-ghost use Rattle.lock_world.specs.declared.moves.Move.{Move as MoveOf};
+ghost use Rattle.world_base.specs.declared.moves.Answer.{Answer as AnswerOf};
+ghost use Rattle.world_base.specs.declared.moves.Move.{Move as MoveOf};
 ghost use Rattle.lock_program.specs.declared.refusal.Refusal.TheVariants as refusals;
 ghost use Rattle.cell_world.specs.State.{new_world, list_in, is_full, World as WorldOf};
 ghost use Rattle.cell_program.specs.Words.{value_in};
@@ -23,13 +23,12 @@ use cell_machine::OnceCell;
 use cell_program::Content;
 use cell_program::words::take_from;
 use lock_event::Entry;
-use lock_frame::AnyWorld;
 use lock_program::Refusal;
-use lock_table::Table;
-use lock_world::{Answer, Move};
 use std::alloc::Global;
 use std::marker::Model;
 use sync_program::once_cell::ListName;
+use world_base::table::Table;
+use world_base::{Answer, AnyWorld, Move};
 
 /// A once-cell, its parties, and their calls.
 pub struct World {

@@ -13,8 +13,8 @@ use Rattle.sync_program.specs.declared.barrier.Place.{Place}
 use Rattle.sync_program.specs.declared.barrier.Position.TheVariants as position
 use Rattle.sync_program.specs.declared.barrier.Position.{Position}
 use Rattle.lock_program.specs.declared.end.End.TheVariants as ended
-use Rattle.lock_world.specs.declared.moves.Call.TheVariants as call
-use Rattle.lock_world.specs.declared.moves.Call.{Call}
+use Rattle.world_base.specs.declared.moves.Call.TheVariants as call
+use Rattle.world_base.specs.declared.moves.Call.{Call}
 use Rattle.sync_program.specs.declared.barrier.Left.{Left}
 use Rattle.sync_program.specs.declared.barrier.Left.TheVariants as left
 use Rattle.lock_program.specs.declared.refusal.Refusal.TheVariants as refusal

@@ -13,8 +13,8 @@ use Rattle.cell_program.specs.Program.{Place}
 use Rattle.sync_program.specs.declared.once_cell.Position.TheVariants as position
 use Rattle.cell_program.specs.Program.{Position}
 use Rattle.lock_program.specs.declared.end.End.TheVariants as ended
-use Rattle.lock_world.specs.declared.moves.Call.TheVariants as call
-use Rattle.lock_world.specs.declared.moves.Call.{Call}
+use Rattle.world_base.specs.declared.moves.Call.TheVariants as call
+use Rattle.world_base.specs.declared.moves.Call.{Call}
 use Rattle.sync_program.specs.declared.once_cell.Got.TheVariants as got
 use Rattle.sync_program.specs.declared.once_cell.Left.TheVariants as left
 use Rattle.lock_program.specs.declared.refusal.Refusal.TheVariants as refusal

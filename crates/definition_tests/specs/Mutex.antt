@@ -2,32 +2,32 @@
 use Rattle.std.specs.Prelude.{◌≡◌, ◌≢◌, ℕ, ◌<◌, true, false, length, Some, None}
 use Rattle.lock_event.specs.declared.event.Mark.TheVariants.{Waiting}
 use Rattle.lock_event.specs.Lists.{marked_count, is_marked_at}
-use Rattle.lock_queue.specs.Parties.{is_party, entries_of}
-use Rattle.lock_world.specs.declared.moves.Answer.{Answer}
-use Rattle.lock_world.specs.declared.moves.Answer.TheVariants as answer
-use Rattle.lock_world.specs.declared.moves.Call.{Call}
-use Rattle.lock_world.specs.declared.moves.Call.TheVariants as call
-use Rattle.lock_world.specs.declared.moves.Got.{Got}
-use Rattle.lock_world.specs.declared.moves.Inputs.{Inputs}
-use Rattle.lock_world.specs.declared.moves.Move.{Move}
-use Rattle.lock_world.specs.declared.moves.What.TheVariants.{Begin, Go}
+use Rattle.world_base.specs.queue.Parties.{is_party, entries_of}
+use Rattle.world_base.specs.declared.moves.Answer.{Answer}
+use Rattle.world_base.specs.declared.moves.Answer.TheVariants as answer
+use Rattle.world_base.specs.declared.moves.Call.{Call}
+use Rattle.world_base.specs.declared.moves.Call.TheVariants as call
+use Rattle.world_base.specs.declared.moves.Got.{Got}
+use Rattle.world_base.specs.declared.moves.Inputs.{Inputs}
+use Rattle.world_base.specs.declared.moves.Move.{Move}
+use Rattle.world_base.specs.declared.moves.What.TheVariants.{Begin, Go}
 use Rattle.lock_program.specs.declared.refusal.Refusal.TheVariants.{Memory, Starved}
-use Rattle.lock_world.specs.declared.standing.Kind.TheVariants.{Drop}
-use Rattle.lock_world.specs.declared.standing.Rest.{Rest}
-use Rattle.lock_world.specs.declared.standing.Rest.TheVariants.{Pending, Holding}
-use Rattle.lock_world.specs.declared.standing.Within.{Within}
-use Rattle.lock_world.specs.Frame.{is_refusal}
-use Rattle.lock_world.specs.Rosters.{how_many}
-use Rattle.lock_world.specs.Standings.{outside, inside, may_end, refused}
-use Rattle.lock_world.specs.Steps.{does, notifies_additionally}
+use Rattle.world_base.specs.declared.standing.Kind.TheVariants.{Drop}
+use Rattle.world_base.specs.declared.standing.Rest.{Rest}
+use Rattle.world_base.specs.declared.standing.Rest.TheVariants.{Pending, Holding}
+use Rattle.world_base.specs.declared.standing.Within.{Within}
+use Rattle.world_base.specs.Frame.{is_refusal}
+use Rattle.world_base.specs.Rosters.{how_many}
+use Rattle.world_base.specs.Standings.{outside, inside, may_end, refused}
+use Rattle.world_base.specs.Steps.{does, notifies_additionally}
 use Rattle.mutex_world.specs.Bound.{IsSolo, IsNotified, Promises}
 use Rattle.mutex_world.specs.Legal.{ListName, DecidesOn, is_first_poll, is_later_poll, Legal, AnswersAtOnce}
 use Rattle.mutex_world.specs.State.{World, standing_of, mark_of, is_free, is_starved}
-use Rattle.lock_world.specs.Standings.{is_outside}
-use Rattle.lock_world.specs.Steps.{notifies}
+use Rattle.world_base.specs.Standings.{is_outside}
+use Rattle.world_base.specs.Steps.{notifies}
 use Rattle.mutex_world.specs.Legal.{for_the_lock}
 use Rattle.mutex_world.specs.Laws.{IsSound, IsDue}
-use Rattle.lock_world.specs.Standings.{is_possible}
+use Rattle.world_base.specs.Standings.{is_possible}
 use Rattle.lock_event.specs.Lists.{notified}
 
 -- A move of a party, and what it leads to.

@@ -1,32 +1,32 @@
 -- Runs of a read-write lock that no user would accept. Each record is one wrong run: what its step would be, if it were legal.
 use Rattle.std.specs.Prelude.{◌≡◌, ◌≢◌, ℕ, ◌<◌, true, false, length, Some, None}
 use Rattle.lock_event.specs.Lists.{marked_count}
-use Rattle.lock_queue.specs.Parties.{entries_of}
-use Rattle.lock_world.specs.declared.moves.Answer.{Answer}
-use Rattle.lock_world.specs.declared.moves.Answer.TheVariants as answer
-use Rattle.lock_world.specs.declared.moves.Call.{Call}
-use Rattle.lock_world.specs.declared.moves.Call.TheVariants as call
-use Rattle.lock_world.specs.declared.moves.Inputs.{Inputs}
-use Rattle.lock_world.specs.declared.moves.Move.{Move}
-use Rattle.lock_world.specs.declared.moves.What.TheVariants.{Begin, Go}
+use Rattle.world_base.specs.queue.Parties.{entries_of}
+use Rattle.world_base.specs.declared.moves.Answer.{Answer}
+use Rattle.world_base.specs.declared.moves.Answer.TheVariants as answer
+use Rattle.world_base.specs.declared.moves.Call.{Call}
+use Rattle.world_base.specs.declared.moves.Call.TheVariants as call
+use Rattle.world_base.specs.declared.moves.Inputs.{Inputs}
+use Rattle.world_base.specs.declared.moves.Move.{Move}
+use Rattle.world_base.specs.declared.moves.What.TheVariants.{Begin, Go}
 use Rattle.lock_program.specs.declared.refusal.Refusal.TheVariants.{Memory, Readers, Starved}
-use Rattle.lock_world.specs.declared.standing.Kind.TheVariants.{Downgrade, Drop}
-use Rattle.lock_world.specs.declared.standing.Rest.{Rest}
-use Rattle.lock_world.specs.declared.standing.Rest.TheVariants.{Pending, Holding}
-use Rattle.lock_world.specs.declared.standing.Within.{Within}
-use Rattle.lock_world.specs.Frame.{is_refusal}
-use Rattle.lock_world.specs.Rights.{Right, read, upgradable, write}
-use Rattle.lock_world.specs.Standings.{outside, inside, decision, is_possible, refused}
-use Rattle.lock_world.specs.Rosters.{how_many}
+use Rattle.world_base.specs.declared.standing.Kind.TheVariants.{Downgrade, Drop}
+use Rattle.world_base.specs.declared.standing.Rest.{Rest}
+use Rattle.world_base.specs.declared.standing.Rest.TheVariants.{Pending, Holding}
+use Rattle.world_base.specs.declared.standing.Within.{Within}
+use Rattle.world_base.specs.Frame.{is_refusal}
+use Rattle.world_base.specs.Rights.{Right, read, upgradable, write}
+use Rattle.world_base.specs.Standings.{outside, inside, decision, is_possible, refused}
+use Rattle.world_base.specs.Rosters.{how_many}
 use Rattle.rwlock_world.specs.Bound.{IsSoloForTurn, IsSoloToRead, IsSoloToWrite, Promises}
 use Rattle.rwlock_world.specs.Legal.{DecidesOn, list_for, may_read, is_first, IsTryWithTurn, Legal, AnswersAtOnce}
 use Rattle.rwlock_world.specs.State.{ListName, list_of, nobody, passes, waits_to_write, is_marked, HasTurn, is_turn_free, World, standing_of, sought_by, reads, how_many_read, told_in, is_starved, is_upgrader}
-use Rattle.lock_world.specs.Standings.{is_outside, may_end}
-use Rattle.lock_world.specs.Steps.{does, notifies, notifies_additionally}
+use Rattle.world_base.specs.Standings.{is_outside, may_end}
+use Rattle.world_base.specs.Steps.{does, notifies, notifies_additionally}
 use Rattle.rwlock_world.specs.Laws.{IsSound, IsDueForTurn, IsDueToReaders, IsDueToWriter}
 use Rattle.rwlock_world.specs.Legal.{is_try_for_turn}
 use Rattle.rwlock_world.specs.State.{for_the_turn}
-use Rattle.lock_queue.specs.Parties.{is_party}
+use Rattle.world_base.specs.queue.Parties.{is_party}
 use Rattle.lock_event.specs.Lists.{is_marked_at}
 
 -- A move of a party, and what it leads to.

@@ -1,30 +1,30 @@
 -- Runs of a semaphore that no user would accept. Each record is one wrong run: what its steps would be, if it were legal.
 use Rattle.std.specs.Prelude.{◌≡◌, ◌≢◌, ℕ, ◌+◌, ◌<◌, ◌≤◌, true, false, length, Option, Some, None}
 use Rattle.lock_event.specs.Lists.{marked_count}
-use Rattle.lock_queue.specs.Parties.{entries_of}
-use Rattle.lock_world.specs.declared.moves.Answer.{Answer}
-use Rattle.lock_world.specs.declared.moves.Answer.TheVariants as answer
-use Rattle.lock_world.specs.declared.moves.Call.{Call}
-use Rattle.lock_world.specs.declared.moves.Call.TheVariants as call
-use Rattle.lock_world.specs.declared.moves.Got.{Got}
-use Rattle.lock_world.specs.declared.moves.Got.TheVariants.{Plain}
-use Rattle.lock_world.specs.declared.moves.Inputs.{Inputs}
-use Rattle.lock_world.specs.declared.moves.Move.{Move}
-use Rattle.lock_world.specs.declared.moves.What.TheVariants.{Begin, Go}
+use Rattle.world_base.specs.queue.Parties.{entries_of}
+use Rattle.world_base.specs.declared.moves.Answer.{Answer}
+use Rattle.world_base.specs.declared.moves.Answer.TheVariants as answer
+use Rattle.world_base.specs.declared.moves.Call.{Call}
+use Rattle.world_base.specs.declared.moves.Call.TheVariants as call
+use Rattle.world_base.specs.declared.moves.Got.{Got}
+use Rattle.world_base.specs.declared.moves.Got.TheVariants.{Plain}
+use Rattle.world_base.specs.declared.moves.Inputs.{Inputs}
+use Rattle.world_base.specs.declared.moves.Move.{Move}
+use Rattle.world_base.specs.declared.moves.What.TheVariants.{Begin, Go}
 use Rattle.lock_program.specs.declared.refusal.Refusal.TheVariants.{Memory}
-use Rattle.lock_world.specs.declared.standing.Kind.TheVariants as kind
-use Rattle.lock_world.specs.declared.standing.Rest.TheVariants.{Idle, Pending, Holding}
-use Rattle.lock_world.specs.declared.standing.Within.{Within}
-use Rattle.lock_world.specs.Frame.{is_drop, is_refusal}
-use Rattle.lock_world.specs.Standings.{outside, inside, is_possible, may_end, refused}
-use Rattle.lock_world.specs.Steps.{changes, does, notifies, notifies_additionally}
+use Rattle.world_base.specs.declared.standing.Kind.TheVariants as kind
+use Rattle.world_base.specs.declared.standing.Rest.TheVariants.{Idle, Pending, Holding}
+use Rattle.world_base.specs.declared.standing.Within.{Within}
+use Rattle.world_base.specs.Frame.{is_drop, is_refusal}
+use Rattle.world_base.specs.Standings.{outside, inside, is_possible, may_end, refused}
+use Rattle.world_base.specs.Steps.{changes, does, notifies, notifies_additionally}
 use Rattle.semaphore_machine.specs.Deeds.{gives_back, gives, for_a_permit}
 use Rattle.semaphore_machine.specs.Seats.{nothing_had}
 use Rattle.semaphore_world.specs.AtOnce.{AnswersAtOnce, is_try, is_first_poll}
 use Rattle.semaphore_world.specs.Bound.{Promises}
 use Rattle.semaphore_world.specs.Legal.{Legal, added_in, is_forget, is_poll_call, state_after}
 use Rattle.semaphore_world.specs.State.{World, share_at, has_permit, is_free, standing_of, adds_of, mark_of}
-use Rattle.lock_world.specs.Standings.{is_outside}
+use Rattle.world_base.specs.Standings.{is_outside}
 use Rattle.semaphore_world.specs.State.{available}
 use Rattle.semaphore_world.specs.Laws.{IsSound, IsDue}
 

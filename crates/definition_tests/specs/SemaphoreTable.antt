@@ -1,8 +1,8 @@
 -- The places of a semaphore's programs, row by row.
 use Rattle.std.specs.Prelude.{true, false, List, [], ◌∷◌, Option, Some, None}
 use Rattle.lock_program.specs.declared.end.End.TheVariants as ended
-use Rattle.lock_world.specs.declared.moves.Call.TheVariants as call
-use Rattle.lock_world.specs.declared.moves.Call.{Call}
+use Rattle.world_base.specs.declared.moves.Call.TheVariants as call
+use Rattle.world_base.specs.declared.moves.Call.{Call}
 use Rattle.lock_program.specs.declared.refusal.Refusal.TheVariants as refusal
 use Rattle.sync_program.specs.declared.semaphore.Action.TheVariants as act
 use Rattle.sync_program.specs.declared.semaphore.Action.{Action}

@@ -1,10 +1,10 @@
 -- What a World of any lock does that is asked for something.
 use Rattle.std.specs.Prelude.{◌≡◌, ℕ, ◌<◌, ◌≤◌, ◌^◌, List}
-use Rattle.lock_world.specs.declared.moves.Answer.{Answer}
-use Rattle.lock_world.specs.declared.moves.Answer.TheVariants.{NotPossible}
-use Rattle.lock_world.specs.declared.moves.Call.{Call}
-use Rattle.lock_world.specs.declared.moves.Inputs.{Inputs}
-use Rattle.lock_world.specs.declared.moves.Move.{Move}
+use Rattle.world_base.specs.declared.moves.Answer.{Answer}
+use Rattle.world_base.specs.declared.moves.Answer.TheVariants.{NotPossible}
+use Rattle.world_base.specs.declared.moves.Call.{Call}
+use Rattle.world_base.specs.declared.moves.Inputs.{Inputs}
+use Rattle.world_base.specs.declared.moves.Move.{Move}
 use Rattle.lock_script.specs.declared.command.Request.{Request}
 use Rattle.lock_script.specs.declared.command.Request.TheVariants.{Step, Whole, Put, Take, Show}
 use Rattle.lock_answers.specs.declared.played.Reply.{Reply}

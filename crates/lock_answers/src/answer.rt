@@ -6,9 +6,9 @@ ghost use Rattle.lock_answers.specs.Answers.{answer_text, entry_text, got_text, 
 
 use crate::played::Reply;
 use lock_event::{Entry, Mark};
-use lock_world::{Answer, Got};
 use std::io;
 use std::io::Write;
+use world_base::{Answer, Got};
 
 /// Writes the answer of a move, as one line.
 pub fn write_answer<O: Write>(answer: Answer, output: &mut O) -> io::Result<()>

@@ -1,17 +1,16 @@
 //! What a script asks of a World of any lock, and the text of its answer.
 
 ghost use Rattle.std.specs.Prelude.{◌≡◌, ◌≤◌, ◌<◌, ◌^◌, ℕ, List};
-ghost use Rattle.lock_world.specs.Runs.{Runs};
-ghost use Rattle.lock_world.specs.Whole.{IsWholeCall};
+ghost use Rattle.world_base.specs.Runs.{Runs};
+ghost use Rattle.world_base.specs.Whole.{IsWholeCall};
 ghost use Rattle.lock_answers.specs.Answers.{Prints};
 ghost use Rattle.lock_answers.specs.Requests.{Does};
 
 use crate::answer;
-use lock_frame::AnyWorld;
 use lock_script::command::Request;
-use lock_world::{Answer, Call, Inputs, Move, What};
 use std::io;
 use std::io::Write;
+use world_base::{Answer, AnyWorld, Call, Inputs, Move, What};
 
 /// How a World replies where a value is put or taken from outside every call.
 #[derive(Clone, Copy)]

@@ -32,6 +32,5 @@ pub mod barrier {
 }
 
 pub use lock_event::{Entry, Mark, Memory};
-pub use lock_frame::AnyWorld;
 pub use lock_program::Refusal;
-pub use lock_world::{Answer, Call, Got, Inputs, Made, Move, What};
+pub use world_base::{Answer, AnyWorld, Call, Got, Inputs, Made, Move, What};

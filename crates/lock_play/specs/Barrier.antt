@@ -1,6 +1,6 @@
 -- What a script asks of a barrier beyond its moves.
 use Rattle.std.specs.Prelude.{ℕ, List, ◌++◌, codes, is_some}
-use Rattle.lock_world.specs.Rosters.{how_many}
+use Rattle.world_base.specs.Rosters.{how_many}
 use Rattle.barrier_world.specs.Numbers.{generations_of, count_of}
 use Rattle.barrier_world.specs.State.{World}
 use Rattle.lock_answers.specs.declared.played.Reply.{Reply}

@@ -1,6 +1,6 @@
 -- What a script asks of a mutex beyond its moves.
 use Rattle.std.specs.Prelude.{ℕ, List, ◌++◌, codes, is_some, if◌then◌else◌}
-use Rattle.lock_world.specs.Rosters.{how_many}
+use Rattle.world_base.specs.Rosters.{how_many}
 use Rattle.mutex_world.specs.State.{World}
 use Rattle.mutex_world.specs.Laws.{is_at_rest}
 use Rattle.mutex_world.specs.Lending.{world_with}

@@ -1,7 +1,7 @@
 -- What a script asks of a read-write lock beyond its moves.
 use Rattle.std.specs.Prelude.{ℕ, List, ◌++◌, codes, not, if◌then◌else◌}
 use Rattle.lock_event.specs.declared.event.Entry.{Entry}
-use Rattle.lock_world.specs.Rosters.{how_many}
+use Rattle.world_base.specs.Rosters.{how_many}
 use Rattle.rwlock_world.specs.State.{World, how_many_read, is_nobody, is_marked}
 use Rattle.rwlock_world.specs.Laws.{is_at_rest}
 use Rattle.rwlock_world.specs.Lending.{world_with}

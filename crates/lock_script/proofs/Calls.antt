@@ -1,8 +1,8 @@
 -- The words of a call.
 use Rattle.std.proofs.Common.{◌≡◌, ℕ, ◌⊎◌, inl, inr, List, ◌∷◌, refl, sym, subst, ◌∙◌, ap}
 use Rattle.std.specs.Prelude.{if◌then◌else◌, Option, None, Some, bytes_eq, codes}
-use Rattle.lock_world.specs.declared.moves.Call.{Call}
-use Rattle.lock_world.specs.declared.moves.Call.TheVariants as call
+use Rattle.world_base.specs.declared.moves.Call.{Call}
+use Rattle.world_base.specs.declared.moves.Call.TheVariants as call
 use Rattle.std.specs.Str.Parse.{digits_value}
 use Rattle.lock_script.specs.Commands.{BeginsWithCall, IsWordOf, TakesNumber}
 use Rattle.script_words.specs.Lines.{IsNumber, Writes}

@@ -1,9 +1,9 @@
 -- What a line's words ask for.
 use Rattle.std.specs.Prelude.{◌≡◌, ℕ, ◌≤◌, List, [], ◌∷◌, codes, Option, None, Some}
-use Rattle.lock_world.specs.declared.moves.Call.{Call}
-use Rattle.lock_world.specs.declared.moves.Call.TheVariants as call
-use Rattle.lock_world.specs.declared.moves.Inputs.{Inputs}
-use Rattle.lock_world.specs.declared.moves.What.TheVariants.{Begin, Go}
+use Rattle.world_base.specs.declared.moves.Call.{Call}
+use Rattle.world_base.specs.declared.moves.Call.TheVariants as call
+use Rattle.world_base.specs.declared.moves.Inputs.{Inputs}
+use Rattle.world_base.specs.declared.moves.What.TheVariants.{Begin, Go}
 use Rattle.script_words.specs.declared.verbs.Verb.{Verb}
 use Rattle.script_words.specs.declared.verbs.Verb.TheVariants as verb
 use Rattle.lock_script.specs.declared.command.Command.{Command}

@@ -1,18 +1,18 @@
 //! What a line of a script asks for.
 
 ghost use Rattle.std.specs.Prelude.{◌≡◌, ◌↔◌, ◌≤◌, ℕ, List, [], ◌∷◌, Option, Some, IsSome, OnSome, IfSome};
-ghost use Rattle.lock_world.specs.declared.moves.Call.{Call};
-ghost use Rattle.lock_world.specs.declared.moves.Inputs.{Inputs};
+ghost use Rattle.world_base.specs.declared.moves.Call.{Call};
+ghost use Rattle.world_base.specs.declared.moves.Inputs.{Inputs};
 ghost use Rattle.lock_script.specs.Commands.{verb_of, AreNumbersAndLimit, AreNumbersAndLimits, AreOfCall, Asks, BeginsWithCall, Details, IsWordOf, TakesNumber};
 ghost use Rattle.lock_script.specs.Commands.{WritesLimit, WritesLimits};
 ghost use Rattle.lock_script.specs.declared.command.Command.{Command};
 ghost use Rattle.script_words.specs.declared.verbs.Verb.{Verb};
 ghost use Rattle.script_words.specs.Lines.{words_of, IsPrintable, IsTrimmed, IsNumber, Writes};
 
-use lock_world::{Call, Inputs, What};
 use script_words::inputs;
 use script_words::line::{self, Words, is};
 use script_words::verbs::{Verb, named};
+use world_base::{Call, Inputs, What};
 
 /// What a line asks for.
 #[derive(Clone, Copy)]

@@ -8,13 +8,13 @@ mod add_one;
 mod one_mutex;
 
 pub use add_one::audited;
-use lock_world::Answer;
 pub use one_mutex::public;
 use std::alloc::Global;
 use std::sync::Wait;
 use std::thread;
 use std::thread::{JoinHandle, Threads};
 use thiserror::Error;
+use world_base::Answer;
 
 /// Why workers stopped before their work was done.
 #[derive(Clone, Copy, Debug, PartialEq, Eq, Error)]

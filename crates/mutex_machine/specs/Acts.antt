@@ -11,7 +11,7 @@ use Rattle.mutex_program.specs.declared.led.Next.{Next}
 use Rattle.mutex_program.specs.Program.{action_of, next_of, place_after}
 use Rattle.lock_program.specs.MutexRoles.{holds, counted, listed, is_resting}
 use Rattle.mutex_machine.specs.Parties.{OnParties}
-use Rattle.lock_queue.specs.Parties.{entries_of}
+use Rattle.world_base.specs.queue.Parties.{entries_of}
 use Rattle.mutex_machine.specs.Machine.{Lock, place_at}
 use Rattle.mutex_machine.specs.Courses.{is_waiting, is_due}
 

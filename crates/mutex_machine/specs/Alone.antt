@@ -2,7 +2,7 @@
 use Rattle.std.specs.Prelude.{◌≡◌, ◌≢◌, ℕ, zero, suc, ◌+◌, ◌-◌, ◌<◌, ◌⊎◌, Bool, true, false, length, IsSomeAnd}
 use Rattle.std.specs.List.{sum_by}
 use Rattle.lock_event.specs.Lists.{marked_count, is_marked_at}
-use Rattle.lock_queue.specs.Parties.{is_party}
+use Rattle.world_base.specs.queue.Parties.{is_party}
 use Rattle.lock_program.specs.declared.refusal.Refusal.TheVariants.{Starved}
 use Rattle.lock_program.specs.declared.mutex.LockCall.{LockCall}
 use Rattle.lock_program.specs.declared.mutex.LockCall.TheVariants as call

@@ -3,10 +3,10 @@ use Rattle.std.specs.Prelude.{◌≡◌, ◌≢◌, ℕ, ◌<◌, ◌⊎◌, ◌
 use Rattle.lock_event.specs.declared.event.Entry.{Entry}
 use Rattle.lock_event.specs.declared.event.Mark.TheVariants.{Waiting}
 use Rattle.lock_event.specs.Lists.{mark_at, marked_count}
-use Rattle.lock_queue.specs.Parties.{is_party, entries_of}
+use Rattle.world_base.specs.queue.Parties.{is_party, entries_of}
 use Rattle.lock_program.specs.declared.refusal.Refusal.{Refusal}
 use Rattle.lock_program.specs.declared.refusal.Refusal.TheVariants.{Memory, Starved}
-use Rattle.lock_world.specs.Steps.{Deed, nothing, changes, does, joins}
+use Rattle.world_base.specs.Steps.{Deed, nothing, changes, does, joins}
 use Rattle.lock_program.specs.declared.mutex.LockCall.{LockCall}
 use Rattle.lock_program.specs.declared.mutex.LockCall.TheVariants as call
 use Rattle.lock_program.specs.declared.end.End.{End}
@@ -16,11 +16,11 @@ use Rattle.lock_program.specs.declared.mutex.Step.TheVariants as step
 use Rattle.mutex_machine.specs.Course.{Course, counted, decision, is_waiting, is_called, is_counting, is_told}
 use Rattle.mutex_machine.specs.Deeds.{Change, takes, releases, starves, recovers, ListName, holder_after, starved_after, entries_after, gives_back, gives_up, is_release, is_fresh}
 use Rattle.mutex_machine.specs.Mutex.{Mutex, course_at, holders, starved, Holds, IsStarved, holder_of, starved_of}
-use Rattle.lock_world.specs.Steps.{notifies, notifies_additionally}
+use Rattle.world_base.specs.Steps.{notifies, notifies_additionally}
 use Rattle.mutex_machine.specs.Course.{listed, may_tell, is_releasing}
 use Rattle.mutex_machine.specs.Deeds.{for_the_lock}
 use Rattle.lock_event.specs.Lists.{is_marked_at}
-use Rattle.lock_world.specs.Steps.{asked}
+use Rattle.world_base.specs.Steps.{asked}
 use Rattle.std.specs.Prelude.{if◌then◌else◌}
 
 -- The end on which a call is decided once a step has led here.

@@ -1,7 +1,7 @@
 -- The changes of a mutex, its one list, and what a deed on either leaves; and its calls.
 use Rattle.std.specs.Prelude.{ℕ, ◌==◌, Bool, true, false, List, Option, Some, None, slice_set}
 use Rattle.lock_event.specs.declared.event.Entry.{Entry}
-use Rattle.lock_world.specs.Steps.{Deed, nothing, changes, does, leaves, list_after, is_parting}
+use Rattle.world_base.specs.Steps.{Deed, nothing, changes, does, leaves, list_after, is_parting}
 use Rattle.lock_program.specs.declared.mutex.LockCall.{LockCall}
 use Rattle.lock_program.specs.declared.mutex.LockCall.TheVariants as call
 use Rattle.lock_program.specs.declared.end.End.{End}

@@ -2,10 +2,10 @@
 use Rattle.std.specs.Prelude.{◌≡◌, ◌≢◌, ℕ, ◌<◌, ◌⊎◌, ◌↔◌, Bool, true, false, length, Option, Some, None}
 use Rattle.lock_event.specs.declared.event.Mark.TheVariants.{Waiting}
 use Rattle.lock_event.specs.Lists.{mark_at}
-use Rattle.lock_queue.specs.Parties.{is_party, entries_of}
+use Rattle.world_base.specs.queue.Parties.{is_party, entries_of}
 use Rattle.lock_program.specs.declared.refusal.Refusal.{Refusal}
 use Rattle.lock_program.specs.declared.refusal.Refusal.TheVariants.{Memory, Starved}
-use Rattle.lock_world.specs.Steps.{Deed, nothing, changes, does, joins, notifies, notifies_additionally}
+use Rattle.world_base.specs.Steps.{Deed, nothing, changes, does, joins, notifies, notifies_additionally}
 use Rattle.lock_program.specs.declared.mutex.Place.{Place}
 use Rattle.lock_program.specs.declared.mutex.Place.TheVariants as place
 use Rattle.lock_program.specs.declared.mutex.LockCall.{LockCall}

@@ -5,8 +5,8 @@ use Rattle.lock_program.specs.declared.mutex.Place.{Place}
 use Rattle.lock_program.specs.declared.mutex.Place.TheVariants.{Out}
 use Rattle.mutex_program.specs.declared.word.Word.{Word}
 use Rattle.lock_program.specs.MutexRoles.{holds, counted, listed, waits, owes}
-use Rattle.lock_queue.specs.Parties.{entries_of}
-use Rattle.lock_queue.specs.Queues.{Queue}
+use Rattle.world_base.specs.queue.Parties.{entries_of}
+use Rattle.world_base.specs.queue.Queues.{Queue}
 use Rattle.mutex_machine.specs.Tally.{IsSound, tally_of, counts_of}
 use Rattle.mutex_machine.specs.Courses.{is_counting, may_tell, is_releasing}
 

@@ -3,7 +3,7 @@ use Rattle.std.specs.Prelude.{◌≡◌, ℕ, ◌≤◌, List, length}
 use Rattle.std.specs.List.{sum_by}
 use Rattle.lock_event.specs.declared.event.Entry.{Entry}
 use Rattle.lock_event.specs.Lists.{marked_count}
-use Rattle.lock_queue.specs.Debts.{IsOwed}
+use Rattle.world_base.specs.queue.Debts.{IsOwed}
 use Rattle.lock_program.specs.declared.mutex.Place.{Place}
 use Rattle.mutex_program.specs.declared.word.Word.{Word}
 use Rattle.lock_program.specs.MutexRoles.{bit, holds, counted, listed as stands, waits, owes}

@@ -8,12 +8,12 @@ ghost use Rattle.std.specs.Prelude.{◌≡◌, ◌<◌, length, Some, None, slic
 
 use lock_event::Entry;
 use lock_program::mutex::{LockCall, Place, action_at, decide, start};
-use lock_queue::WaitQueue;
 use mutex_program::deeds::carry_out;
 use mutex_program::led::{Next, after, led};
 use mutex_program::word::Word;
 use std::alloc::{AllocError, Global};
 use std::marker::Model;
+use world_base::queue::WaitQueue;
 
 /// A mutex without a value, and the place of each of its parties.
 ///

@@ -1,6 +1,6 @@
 -- What a carried out action leaves: all that it does to the word and to the list, and what it heeds of the clock.
 use Rattle.std.specs.Prelude.{◌≡◌, ℕ, Bool}
-use Rattle.lock_queue.specs.Queues.{Queue}
+use Rattle.world_base.specs.queue.Queues.{Queue}
 use Rattle.mutex_program.specs.declared.word.Word.{Word}
 use Rattle.lock_program.specs.declared.mutex.Action.{Action}
 use Rattle.lock_program.specs.declared.mutex.Action.TheVariants as act

@@ -1,8 +1,8 @@
 -- What an action does to a mutex's list, and what it needs.
 use Rattle.std.specs.Prelude.{◌≡◌, ℕ, ◌<◌, ◌≤◌, Bool, true, false}
 use Rattle.lock_event.specs.Lists.{joined, notified, left, without, is_marked_at}
-use Rattle.lock_queue.specs.Parties.{is_party, entries_of}
-use Rattle.lock_queue.specs.Queues.{Queue, queue}
+use Rattle.world_base.specs.queue.Parties.{is_party, entries_of}
+use Rattle.world_base.specs.queue.Queues.{Queue, queue}
 use Rattle.mutex_program.specs.declared.word.Word.{Word}
 use Rattle.lock_program.specs.declared.mutex.Action.{Action}
 use Rattle.lock_program.specs.declared.mutex.Action.TheVariants as act

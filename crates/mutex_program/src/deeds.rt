@@ -5,7 +5,7 @@ ghost use Rattle.mutex_program.specs.Seats.{CanDo};
 
 use crate::word::Word;
 use lock_program::mutex::{Action, Found};
-use lock_queue::WaitQueue;
+use world_base::queue::WaitQueue;
 
 /// Carries out one action for a party.
 pub fn carry_out(

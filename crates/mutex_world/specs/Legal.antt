@@ -3,28 +3,28 @@ use Rattle.std.specs.Prelude.{◌≡◌, ◌≢◌, ℕ, ◌<◌, ◌==◌, ◌|
 use Rattle.lock_event.specs.declared.event.Entry.{Entry}
 use Rattle.lock_event.specs.declared.event.Mark.TheVariants.{Waiting}
 use Rattle.lock_event.specs.Lists.{notified, is_marked_at}
-use Rattle.lock_queue.specs.Parties.{is_party, entries_of}
-use Rattle.lock_world.specs.declared.moves.Answer.{Answer}
-use Rattle.lock_world.specs.declared.moves.Answer.TheVariants as answer
-use Rattle.lock_world.specs.declared.moves.Call.TheVariants as call
-use Rattle.lock_world.specs.declared.moves.Got.TheVariants.{Value}
-use Rattle.lock_world.specs.declared.moves.Move.{Move}
-use Rattle.lock_world.specs.declared.moves.What.{What}
-use Rattle.lock_world.specs.declared.moves.What.TheVariants.{Begin}
+use Rattle.world_base.specs.queue.Parties.{is_party, entries_of}
+use Rattle.world_base.specs.declared.moves.Answer.{Answer}
+use Rattle.world_base.specs.declared.moves.Answer.TheVariants as answer
+use Rattle.world_base.specs.declared.moves.Call.TheVariants as call
+use Rattle.world_base.specs.declared.moves.Got.TheVariants.{Value}
+use Rattle.world_base.specs.declared.moves.Move.{Move}
+use Rattle.world_base.specs.declared.moves.What.{What}
+use Rattle.world_base.specs.declared.moves.What.TheVariants.{Begin}
 use Rattle.lock_program.specs.declared.refusal.Refusal.{Refusal}
 use Rattle.lock_program.specs.declared.refusal.Refusal.TheVariants as refusal
-use Rattle.lock_world.specs.declared.standing.Kind.TheVariants as kind
-use Rattle.lock_world.specs.declared.standing.Rest.TheVariants.{Idle, Pending, Holding, Finished}
-use Rattle.lock_world.specs.declared.standing.Within.{Within}
-use Rattle.lock_world.specs.Standings.{Standing, outside, inside, inputs_of, is_possible, is_decided, may_end, IsUndecided}
-use Rattle.lock_world.specs.Frame as frame
-use Rattle.lock_world.specs.Frame.{is_drop, is_refusal, put_in}
-use Rattle.lock_world.specs.Steps.{Deed, nothing, changes, does, joins, leaves, notifies, notifies_additionally, asked, list_after, is_parting}
-use Rattle.lock_world.specs.Rosters.{how_many}
+use Rattle.world_base.specs.declared.standing.Kind.TheVariants as kind
+use Rattle.world_base.specs.declared.standing.Rest.TheVariants.{Idle, Pending, Holding, Finished}
+use Rattle.world_base.specs.declared.standing.Within.{Within}
+use Rattle.world_base.specs.Standings.{Standing, outside, inside, inputs_of, is_possible, is_decided, may_end, IsUndecided}
+use Rattle.world_base.specs.Frame as frame
+use Rattle.world_base.specs.Frame.{is_drop, is_refusal, put_in}
+use Rattle.world_base.specs.Steps.{Deed, nothing, changes, does, joins, leaves, notifies, notifies_additionally, asked, list_after, is_parting}
+use Rattle.world_base.specs.Rosters.{how_many}
 use Rattle.mutex_world.specs.Guarded.{knows}
 use Rattle.mutex_world.specs.State.{State, World, standing_of, is_starved, is_free, mark_of, IsClear}
 use Rattle.std.specs.Prelude.{nat_lt}
-use Rattle.lock_world.specs.declared.standing.Rest.{Rest}
+use Rattle.world_base.specs.declared.standing.Rest.{Rest}
 
 -- The call that a move belongs to, where its party may make it.
 abbrev pub call_of : World → Move → Option Within

@@ -2,7 +2,7 @@
 use Rattle.std.specs.Prelude.{ℕ, map}
 use Rattle.std.specs.Borrow.{Lends, MutBor, Fml, u64}
 use Rattle.mutex_world.specs.contracts.world.World.{the_row}
-use Rattle.lock_table.specs.Lending.{table_with, forgotten_then}
+use Rattle.world_base.specs.table.Lending.{table_with, forgotten_then}
 use Rattle.mutex_world.specs.Guarded.{with_value}
 use Rattle.mutex_world.specs.State.{World}
 

@@ -1,12 +1,12 @@
 -- Whole runs of a mutex's World, and the rights that the answers alone tell of.
 use Rattle.std.specs.Prelude.{◌≡◌, ℕ, ◌==◌, ◌↔◌, if◌then◌else◌, true, List, Option, Some, None}
-use Rattle.lock_world.specs.declared.moves.Answer.{Answer}
-use Rattle.lock_world.specs.declared.moves.Move.{Move}
-use Rattle.lock_world.specs.Accounts.{Account, accounts_after, HasByAnswers}
-use Rattle.lock_world.specs.Rights.{Right, hold, excludes}
-use Rattle.lock_world.specs.Runs as runs
-use Rattle.lock_world.specs.Standings.{is_outside}
-use Rattle.lock_table.specs.Rights.{account_by, sought_by, TellsAccounts}
+use Rattle.world_base.specs.declared.moves.Answer.{Answer}
+use Rattle.world_base.specs.declared.moves.Move.{Move}
+use Rattle.world_base.specs.Accounts.{Account, accounts_after, HasByAnswers}
+use Rattle.world_base.specs.Rights.{Right, hold, excludes}
+use Rattle.world_base.specs.Runs as runs
+use Rattle.world_base.specs.Standings.{is_outside}
+use Rattle.world_base.specs.table.Rights.{account_by, sought_by, TellsAccounts}
 use Rattle.mutex_world.specs.State.{World, standing_of}
 use Rattle.mutex_world.specs.Steps.{Steps}
 use Rattle.mutex_world.specs.Laws.{HasRight, IsSound, IsAwake, is_at_rest}

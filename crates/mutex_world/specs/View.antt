@@ -1,8 +1,8 @@
 -- How callers see what stands behind a mutex's World.
 use Rattle.std.specs.Prelude.{ℕ, false, Option, Some, None}
-use Rattle.lock_world.specs.declared.moves.Answer.{Answer}
-use Rattle.lock_table.specs.Tables.{Table}
-use Rattle.lock_table.specs.Views.{standings}
+use Rattle.world_base.specs.declared.moves.Answer.{Answer}
+use Rattle.world_base.specs.table.Tables.{Table}
+use Rattle.world_base.specs.table.Views.{standings}
 use Rattle.lock_program.specs.declared.end.End.{End}
 use Rattle.mutex_program.specs.declared.led.Next.TheVariants as next
 use Rattle.mutex_machine.specs.Legal.{decision}

@@ -6,13 +6,13 @@ ghost use Rattle.mutex_world.specs.Guarded.{new_guarded, place_of, place_for, lo
 
 use lock_program::End;
 use lock_program::mutex::LockCall;
-use lock_table::{Machine, Valued, answer};
-use lock_world::standing::{Kind, Rest, Within};
-use lock_world::{Answer, Call, Got, What};
 use mutex_machine::Lock;
 use mutex_program::led::Next;
 use std::alloc::{AllocError, Global};
 use std::marker::Model;
+use world_base::standing::{Kind, Rest, Within};
+use world_base::table::{Machine, Valued, answer};
+use world_base::{Answer, Call, Got, What};
 
 /// A lock over a number. It is the machine of a mutex's World.
 #[derive(Drop)]
@@ -119,7 +119,7 @@ fn answer_to(kind: Kind, value: u64, next: Next) -> Answer
 impl Machine for Guarded {
     ghost use Rattle.std.specs.Prelude.{length};
     ghost use Rattle.mutex_world.specs.Guarded as guarded;
-    ghost use Rattle.lock_world.specs.declared.standing.Rest.TheVariants.{Holding};
+    ghost use Rattle.world_base.specs.declared.standing.Rest.TheVariants.{Holding};
 
     ghost parties = { λ g. length g.lock.places };
 

@@ -6,7 +6,7 @@
 //! every interleaving: specs/State says what is seen, specs/Legal what a step may do.
 
 ghost use Rattle.std.specs.Prelude.{◌≡◌, Bool, ◌<◌, ◌≤◌, ℕ, true, [], ◌∷◌, ◌++◌, None, IfOk, IfErr, OnErr, length, min, slice_get, is_some, vec_len, vec_capacity};
-ghost use Rattle.lock_world.specs.Rosters.{how_many};
+ghost use Rattle.world_base.specs.Rosters.{how_many};
 ghost use Rattle.mutex_world.specs.State.{new_world};
 ghost use Rattle.mutex_world.specs.Steps.{Steps};
 ghost use Rattle.mutex_world.specs.Laws.{IsSound, IsAwake, IsFreeAndWanted, is_at_rest};
@@ -14,13 +14,12 @@ ghost use Rattle.mutex_world.specs.Bound.{IsBounded};
 
 use crate::guarded::Guarded;
 use lock_event::Entry;
-use lock_frame::AnyWorld;
 use lock_program::Refusal;
 use lock_program::mutex::Place;
-use lock_table::Table;
-use lock_world::{Answer, Move};
 use std::alloc::Global;
 use std::marker::Model;
+use world_base::table::Table;
+use world_base::{Answer, AnyWorld, Move};
 
 /// The greatest number of starved parties of a mutex. The Rust crate aborts where this project refuses.
 pub const MOST_STARVED: u32 = 1_073_741_823;
@@ -203,7 +202,7 @@ impl AnyWorld for World {
     ghost use Rattle.mutex_world.specs.State as state;
     ghost use Rattle.mutex_world.specs.Laws as laws;
     ghost use Rattle.mutex_world.specs.Runs.{HoldsWell, TellsRights, accounts_of};
-    ghost use Rattle.lock_world.specs.Accounts.{Account, accounts_after};
+    ghost use Rattle.world_base.specs.Accounts.{Account, accounts_after};
     ghost use Rattle.mutex_world.specs.Whole.{most_steps_of, steps_left_of};
     ghost use Rattle.mutex_world.specs.Bound.{Promises};
     ghost use Rattle.mutex_world.specs.Openings.{opening_kept};

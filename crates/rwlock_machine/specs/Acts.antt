@@ -2,7 +2,7 @@
 use Rattle.std.specs.Prelude.{◌≡◌, ◌≢◌, ℕ, ◌+◌, ◌<◌, ◌≤◌, Bool, true, false, length, slice_set}
 use Rattle.std.specs.List.{sum_by}
 use Rattle.lock_event.specs.Lists.{marked_count, IsMarkedFirst}
-use Rattle.lock_queue.specs.Parties.{entries_of}
+use Rattle.world_base.specs.queue.Parties.{entries_of}
 use Rattle.mutex_machine.specs.Mutex.{course_at as turn_at, IsMutex, holders}
 use Rattle.mutex_machine.specs.Course.{holds}
 use Rattle.lock_program.specs.declared.rwlock.Place.{Place}
@@ -16,7 +16,7 @@ use Rattle.rwlock_machine.specs.Roles.{reads, marks, only_turns, has_turn, write
 use Rattle.rwlock_program.specs.Parties.{OnNoWriter, OnNoReaders}
 use Rattle.rwlock_program.specs.Turns.{OnTurn}
 use Rattle.rwlock_machine.specs.Machine.{RwLock, place_at}
-use Rattle.lock_queue.specs.Debts.{IsOwed}
+use Rattle.world_base.specs.queue.Debts.{IsOwed}
 use Rattle.rwlock_machine.specs.Roles.{waits_no_writer, owes_no_writer, waits_no_readers, owes_no_readers}
 
 -- how many parties read, how many write, for how many the bit stands, and how many have the turn

@@ -1,8 +1,8 @@
 -- A read-write lock: where each party stands, who waits in its two lists, and the turn.
 use Rattle.std.specs.Prelude.{◌≡◌, ℕ, true, List, [], length, slice_index_or, replicate}
 use Rattle.lock_event.specs.declared.event.Entry.{Entry}
-use Rattle.lock_queue.specs.Parties.{entries_of}
-use Rattle.lock_queue.specs.Queues.{Queue}
+use Rattle.world_base.specs.queue.Parties.{entries_of}
+use Rattle.world_base.specs.queue.Queues.{Queue}
 use Rattle.mutex_machine.specs.Mutex.{Mutex, new_mutex, course_at as turn_at}
 use Rattle.lock_program.specs.declared.rwlock.Place.{Place}
 use Rattle.lock_program.specs.declared.rwlock.Place.TheVariants.{Out}

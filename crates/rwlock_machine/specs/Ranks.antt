@@ -1,9 +1,9 @@
 -- How many steps of a party's call are left, if the others stand still.
 use Rattle.std.specs.Prelude.{ℕ, ◌+◌, if◌then◌else◌, Bool, true, false}
 use Rattle.lock_event.specs.Lists.{is_marked_at}
-use Rattle.lock_queue.specs.Parties.{is_party}
-use Rattle.lock_world.specs.declared.moves.Call.{Call}
-use Rattle.lock_world.specs.declared.moves.Call.TheVariants as call
+use Rattle.world_base.specs.queue.Parties.{is_party}
+use Rattle.world_base.specs.declared.moves.Call.{Call}
+use Rattle.world_base.specs.declared.moves.Call.TheVariants as call
 use Rattle.lock_program.specs.declared.mutex.LockCall.TheVariants as turn_call
 use Rattle.mutex_machine.specs.Mutex.{steps_left as turn_steps_left}
 use Rattle.mutex_machine.specs.Deeds.{most_steps as most_turn_steps}

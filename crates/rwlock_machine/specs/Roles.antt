@@ -1,6 +1,6 @@
 -- What a party at a place has and owes, each as 1 or 0, so that sums over the parties count them.
 use Rattle.std.specs.Prelude.{ℕ, ◌+◌, Bool, true, false}
-use Rattle.lock_queue.specs.Debts.{Roles}
+use Rattle.world_base.specs.queue.Debts.{Roles}
 pub use Rattle.mutex_machine.specs.Course.{bit}
 use Rattle.mutex_machine.specs.Course.{Course as TurnCourse, is_out, is_holding, is_taking, is_waiting, is_releasing, is_cancelling}
 use Rattle.lock_program.specs.declared.rwlock.Ending.TheVariants as ending

@@ -1,8 +1,8 @@
 -- Polls that are carried out alone, each from its first action to its end before another party moves.
 use Rattle.std.specs.Prelude.{◌≡◌, ℕ, ◌<◌, ◌⊎◌, Bool, true, false, length, slice_set, IsSomeAnd}
 use Rattle.lock_event.specs.Lists.{is_marked_at}
-use Rattle.lock_queue.specs.Parties.{is_party}
-use Rattle.lock_world.specs.declared.moves.Call.TheVariants as call
+use Rattle.world_base.specs.queue.Parties.{is_party}
+use Rattle.world_base.specs.declared.moves.Call.TheVariants as call
 use Rattle.lock_program.specs.declared.refusal.Refusal.TheVariants.{Starved}
 use Rattle.lock_program.specs.declared.end.End.TheVariants as turn_end
 use Rattle.mutex_machine.specs.Mutex.{IsStarved, holders, starved}

@@ -3,7 +3,7 @@ use Rattle.std.specs.Prelude.{◌≡◌, ℕ, ◌<◌, List, length}
 use Rattle.std.specs.List.{sum_by}
 use Rattle.lock_event.specs.declared.event.Entry.{Entry}
 use Rattle.lock_event.specs.Lists.{marked_count}
-use Rattle.lock_queue.specs.Debts.{IsOwed}
+use Rattle.world_base.specs.queue.Debts.{IsOwed}
 use Rattle.lock_program.specs.declared.rwlock.Place.{Place}
 use Rattle.rwlock_program.specs.declared.word.Word.{Word}
 use Rattle.rwlock_machine.specs.Roles.{bit, reads, marks, only_turns, writes, in_no_writer, waits_no_writer, owes_no_writer, in_no_readers, waits_no_readers, owes_no_readers}

@@ -18,8 +18,6 @@ ghost use Rattle.rwlock_machine.specs.Ranks.{left_from, left_after, steps_left, 
 
 use lock_event::Entry;
 use lock_program::rwlock::{Place, action_at, decide};
-use lock_queue::WaitQueue;
-use lock_world::Call;
 use mutex_machine::Mutex;
 use rwlock_program::calls::start;
 use rwlock_program::deeds::carry_out;
@@ -27,6 +25,8 @@ use rwlock_program::led::{Next, led};
 use rwlock_program::word::Word;
 use std::alloc::{AllocError, Global};
 use std::marker::Model;
+use world_base::Call;
+use world_base::queue::WaitQueue;
 
 /// A read-write lock without a value, and the place of each of its parties.
 pub struct RwLock {

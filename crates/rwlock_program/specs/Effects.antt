@@ -1,7 +1,7 @@
 -- What an action needs of a read-write lock.
 use Rattle.std.specs.Prelude.{◌≡◌, ℕ, ◌<◌, true, length}
-use Rattle.lock_queue.specs.Parties.{entries_of}
-use Rattle.lock_queue.specs.Queues.{Queue}
+use Rattle.world_base.specs.queue.Parties.{entries_of}
+use Rattle.world_base.specs.queue.Queues.{Queue}
 use Rattle.mutex_machine.specs.Mutex.{Mutex, course_at}
 use Rattle.mutex_machine.specs.Course.{may_begin}
 use Rattle.rwlock_program.specs.declared.word.Word.{Word}

@@ -2,7 +2,7 @@
 use Rattle.std.specs.Prelude.{◌≡◌, ℕ, Bool, true, false, List}
 use Rattle.lock_event.specs.declared.event.Entry.{Entry}
 use Rattle.lock_event.specs.Lists.{joined, notified, left, without, is_marked_at}
-use Rattle.lock_queue.specs.Parties.{is_party}
+use Rattle.world_base.specs.queue.Parties.{is_party}
 use Rattle.lock_program.specs.declared.rwlock.Action.{Action}
 use Rattle.lock_program.specs.declared.rwlock.Action.TheVariants as act
 use Rattle.lock_program.specs.declared.rwlock.Found.{Found}

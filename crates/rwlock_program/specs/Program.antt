@@ -13,8 +13,8 @@ use Rattle.lock_program.specs.declared.rwlock.RwLockCall.{RwLockCall}
 use Rattle.lock_program.specs.declared.rwlock.RwLockCall.TheVariants as asks
 use Rattle.lock_program.specs.ReadWrite as table
 pub use Rattle.lock_program.specs.ReadWrite.{first_poll, poll_from, drop_from, action_of, with_turn, wanted_of}
-use Rattle.lock_world.specs.declared.moves.Call.{Call}
-use Rattle.lock_world.specs.declared.moves.Call.TheVariants as call
+use Rattle.world_base.specs.declared.moves.Call.{Call}
+use Rattle.world_base.specs.declared.moves.Call.TheVariants as call
 use Rattle.rwlock_program.specs.declared.led.Next.{Next}
 use Rattle.rwlock_program.specs.declared.led.Next.TheVariants as next
 

@@ -5,7 +5,7 @@ ghost use Rattle.rwlock_program.specs.Calls.{knows_at};
 ghost use Rattle.rwlock_program.specs.Program.{asked_of, start_of};
 
 use lock_program::rwlock::{self, Place, RwLockCall};
-use lock_world::Call;
+use world_base::Call;
 
 /// Whether a party that stands here may make this call, if it is outside every call: a guard's own calls are
 /// known of that guard alone.

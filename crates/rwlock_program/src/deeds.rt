@@ -1,15 +1,15 @@
 //! What is done for a party at a place of its call: one action, on the word, on one of the lists or on the turn.
 
 ghost use Rattle.std.specs.Prelude.{◌≡◌, ◌<◌};
-ghost use Rattle.lock_queue.specs.Parties.{entries_of};
+ghost use Rattle.world_base.specs.queue.Parties.{entries_of};
 ghost use Rattle.rwlock_program.specs.Effects.{CanDo};
 ghost use Rattle.rwlock_program.specs.Parties.{Joins, Asks, HasMemory};
 ghost use Rattle.rwlock_program.specs.Carried.{Carried};
 
 use crate::word::Word;
 use lock_program::rwlock::{Action, Found};
-use lock_queue::WaitQueue;
 use mutex_machine::Mutex;
+use world_base::queue::WaitQueue;
 
 /// The party joins the list, if there is memory for it.
 fn join(list: &mut WaitQueue, party: u32, memory: bool) -> Found

@@ -2,27 +2,27 @@
 use Rattle.std.specs.Prelude.{◌≡◌, ◌≢◌, ℕ, ◌<◌, ◌⊎◌, true, false, List, length}
 use Rattle.lock_event.specs.declared.event.Entry.{Entry}
 use Rattle.lock_event.specs.Lists.{marked_count}
-use Rattle.lock_queue.specs.Parties.{entries_of}
-use Rattle.lock_world.specs.declared.moves.Answer.{Answer}
-use Rattle.lock_world.specs.declared.moves.Answer.TheVariants as answer
-use Rattle.lock_world.specs.declared.moves.Call.{Call}
-use Rattle.lock_world.specs.declared.moves.Call.TheVariants as call
-use Rattle.lock_world.specs.declared.moves.Got.TheVariants.{Value}
-use Rattle.lock_world.specs.declared.moves.Inputs.{Inputs}
-use Rattle.lock_world.specs.declared.moves.What.TheVariants.{Begin}
-use Rattle.lock_world.specs.declared.standing.Rest.TheVariants.{Pending}
-use Rattle.lock_world.specs.Frame.{is_refusal}
-use Rattle.lock_world.specs.Rights.{upgradable, write}
-use Rattle.lock_world.specs.Rosters.{how_many}
-use Rattle.lock_world.specs.Standings.{outside}
-use Rattle.lock_world.specs.Bounds as bounds
+use Rattle.world_base.specs.queue.Parties.{entries_of}
+use Rattle.world_base.specs.declared.moves.Answer.{Answer}
+use Rattle.world_base.specs.declared.moves.Answer.TheVariants as answer
+use Rattle.world_base.specs.declared.moves.Call.{Call}
+use Rattle.world_base.specs.declared.moves.Call.TheVariants as call
+use Rattle.world_base.specs.declared.moves.Got.TheVariants.{Value}
+use Rattle.world_base.specs.declared.moves.Inputs.{Inputs}
+use Rattle.world_base.specs.declared.moves.What.TheVariants.{Begin}
+use Rattle.world_base.specs.declared.standing.Rest.TheVariants.{Pending}
+use Rattle.world_base.specs.Frame.{is_refusal}
+use Rattle.world_base.specs.Rights.{upgradable, write}
+use Rattle.world_base.specs.Rosters.{how_many}
+use Rattle.world_base.specs.Standings.{outside}
+use Rattle.world_base.specs.Bounds as bounds
 use Rattle.rwlock_world.specs.State.{ListName, list_of, nobody, is_upgradable, waits_to_write, writes, World, standing_of, reads, is_starved, how_many_read, is_marked, is_turn_free, is_upgrader, HasTurn}
 use Rattle.rwlock_world.specs.Laws.{is_at_rest}
 use Rattle.rwlock_world.specs.Legal.{is_first}
 use Rattle.rwlock_world.specs.Whole.{IsWholeCall}
 use Rattle.lock_program.specs.declared.refusal.Refusal.TheVariants.{Starved}
-use Rattle.lock_world.specs.Standings.{refused}
-use Rattle.lock_world.specs.Marks.{MarksNobody}
+use Rattle.world_base.specs.Standings.{refused}
+use Rattle.world_base.specs.Marks.{MarksNobody}
 
 -- ---- Solo polls
 

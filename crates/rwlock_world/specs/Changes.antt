@@ -1,11 +1,11 @@
 -- What may change of a read-write lock's state in one step, and where.
 use Rattle.std.specs.Prelude.{◌≡◌, ℕ, ◌<◌, ◌⊎◌, Bool, true, false, List, slice_set}
 use Rattle.lock_event.specs.declared.event.Entry.{Entry}
-use Rattle.lock_world.specs.Rosters.{how_many}
-use Rattle.lock_world.specs.Steps.{Deed, nothing, changes, does, leaves, list_after, is_parting}
+use Rattle.world_base.specs.Rosters.{how_many}
+use Rattle.world_base.specs.Steps.{Deed, nothing, changes, does, leaves, list_after, is_parting}
 use Rattle.rwlock_world.specs.State.{ListName, for_the_turn, for_no_readers, for_no_writer, Turn, nobody, passes, is_upgradable, waits_to_write, writes, State, World, reads, is_starved, is_marked, how_many_read}
-use Rattle.lock_world.specs.Steps.{notifies, notifies_additionally}
-use Rattle.lock_queue.specs.Parties.{entries_of}
+use Rattle.world_base.specs.Steps.{notifies, notifies_additionally}
+use Rattle.world_base.specs.queue.Parties.{entries_of}
 use Rattle.rwlock_world.specs.State.{HasTurn}
 
 -- The changes of the state, each the moving party's own.

@@ -1,16 +1,16 @@
 -- What a read-write lock's World stands on: a lock over a number, which calls it knows of a party, and what one action does.
 use Rattle.std.specs.Prelude.{◌≡◌, ℕ, Bool, true, length, Option, Some, None}
-use Rattle.lock_world.specs.declared.moves.Answer.{Answer}
-use Rattle.lock_world.specs.declared.moves.Answer.TheVariants.{Stepped, Waiting, Granted}
-use Rattle.lock_world.specs.declared.moves.Call.{Call}
-use Rattle.lock_world.specs.declared.moves.Got.TheVariants.{Value}
-use Rattle.lock_world.specs.declared.moves.What.{What}
-use Rattle.lock_world.specs.declared.moves.What.TheVariants.{Begin, Go}
-use Rattle.lock_world.specs.declared.standing.Stage.{Stage}
-use Rattle.lock_world.specs.declared.standing.Within.{Within}
-use Rattle.lock_world.specs.Frame.{put_in}
-use Rattle.lock_world.specs.Standings.{inputs_of}
-use Rattle.lock_table.specs.Ends.{answer_of}
+use Rattle.world_base.specs.declared.moves.Answer.{Answer}
+use Rattle.world_base.specs.declared.moves.Answer.TheVariants.{Stepped, Waiting, Granted}
+use Rattle.world_base.specs.declared.moves.Call.{Call}
+use Rattle.world_base.specs.declared.moves.Got.TheVariants.{Value}
+use Rattle.world_base.specs.declared.moves.What.{What}
+use Rattle.world_base.specs.declared.moves.What.TheVariants.{Begin, Go}
+use Rattle.world_base.specs.declared.standing.Stage.{Stage}
+use Rattle.world_base.specs.declared.standing.Within.{Within}
+use Rattle.world_base.specs.Frame.{put_in}
+use Rattle.world_base.specs.Standings.{inputs_of}
+use Rattle.world_base.specs.table.Ends.{answer_of}
 use Rattle.rwlock_program.specs.declared.led.Next.{Next}
 use Rattle.rwlock_program.specs.declared.led.Next.TheVariants as next
 use Rattle.lock_program.specs.declared.rwlock.Place.{Place}

@@ -2,20 +2,20 @@
 use Rattle.std.specs.Prelude.{◌≡◌, ℕ, ◌<◌, ◌≤◌, ◌⊎◌, Bool, true, false, length, Option, Some, None}
 use Rattle.std.specs.List.{list_all}
 use Rattle.lock_event.specs.Lists.{marked_count, IsMarkedFirst}
-use Rattle.lock_queue.specs.Parties.{entries_of}
-use Rattle.lock_world.specs.declared.moves.Answer.{Answer}
-use Rattle.lock_world.specs.declared.standing.Kind.{Kind}
-use Rattle.lock_world.specs.declared.standing.Kind.TheVariants as kind
-use Rattle.lock_world.specs.declared.standing.Rest.{Rest}
-use Rattle.lock_world.specs.declared.standing.Rest.TheVariants.{Idle, Pending, Holding}
-use Rattle.lock_world.specs.declared.standing.Within.{Within}
-use Rattle.lock_world.specs.Rights.{Right, read, upgradable, write, wait_to_write, excludes}
-use Rattle.lock_world.specs.Rosters.{how_many}
-use Rattle.lock_world.specs.Standings.{outside, inside, forgotten, is_outside}
+use Rattle.world_base.specs.queue.Parties.{entries_of}
+use Rattle.world_base.specs.declared.moves.Answer.{Answer}
+use Rattle.world_base.specs.declared.standing.Kind.{Kind}
+use Rattle.world_base.specs.declared.standing.Kind.TheVariants as kind
+use Rattle.world_base.specs.declared.standing.Rest.{Rest}
+use Rattle.world_base.specs.declared.standing.Rest.TheVariants.{Idle, Pending, Holding}
+use Rattle.world_base.specs.declared.standing.Within.{Within}
+use Rattle.world_base.specs.Rights.{Right, read, upgradable, write, wait_to_write, excludes}
+use Rattle.world_base.specs.Rosters.{how_many}
+use Rattle.world_base.specs.Standings.{outside, inside, forgotten, is_outside}
 use Rattle.rwlock_world.specs.State.{ListName, list_of, nobody, is_upgradable, waits_to_write, writes, World, standing_of, sought_by, reads, is_starved, is_marked, how_many_read, entries_in}
 use Rattle.rwlock_world.specs.Legal.{HasItsOwn}
-use Rattle.lock_world.specs.declared.moves.Answer.TheVariants as answer
-use Rattle.lock_world.specs.Standings.{Standing, is_decided}
+use Rattle.world_base.specs.declared.moves.Answer.TheVariants as answer
+use Rattle.world_base.specs.Standings.{Standing, is_decided}
 
 -- The rights in the state.
 abbrev pub HasRight : World → ℕ → Right → Type 0

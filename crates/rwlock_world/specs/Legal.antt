@@ -2,35 +2,35 @@
 use Rattle.std.specs.Prelude.{◌≡◌, ◌≢◌, ℕ, ◌<◌, ◌≤◌, ◌==◌, ◌&&◌, ◌||◌, ◌↔◌, ◌⊎◌, if◌then◌else◌, not, nat_lt, Bool, true, false, List, length, Option, Some, None, slice_set}
 use Rattle.lock_event.specs.declared.event.Entry.{Entry}
 use Rattle.lock_event.specs.declared.event.Mark.TheVariants.{Waiting}
-use Rattle.lock_world.specs.declared.moves.Answer.{Answer}
-use Rattle.lock_world.specs.declared.moves.Answer.TheVariants as answer
-use Rattle.lock_world.specs.declared.moves.Call.{Call}
-use Rattle.lock_world.specs.declared.moves.Call.TheVariants as call
-use Rattle.lock_world.specs.declared.moves.Got.TheVariants.{Value}
-use Rattle.lock_world.specs.declared.moves.Move.{Move}
-use Rattle.lock_world.specs.declared.moves.What.{What}
-use Rattle.lock_world.specs.declared.moves.What.TheVariants.{Begin}
+use Rattle.world_base.specs.declared.moves.Answer.{Answer}
+use Rattle.world_base.specs.declared.moves.Answer.TheVariants as answer
+use Rattle.world_base.specs.declared.moves.Call.{Call}
+use Rattle.world_base.specs.declared.moves.Call.TheVariants as call
+use Rattle.world_base.specs.declared.moves.Got.TheVariants.{Value}
+use Rattle.world_base.specs.declared.moves.Move.{Move}
+use Rattle.world_base.specs.declared.moves.What.{What}
+use Rattle.world_base.specs.declared.moves.What.TheVariants.{Begin}
 use Rattle.lock_program.specs.declared.refusal.Refusal.{Refusal}
 use Rattle.lock_program.specs.declared.refusal.Refusal.TheVariants as refusal
-use Rattle.lock_world.specs.declared.standing.Kind.TheVariants as kind
-use Rattle.lock_world.specs.declared.standing.Rest.TheVariants.{Idle, Pending, Holding, Finished}
-use Rattle.lock_world.specs.declared.standing.Within.{Within}
-use Rattle.lock_world.specs.Accounts.{sought_after}
-use Rattle.lock_world.specs.Frame as frame
-use Rattle.lock_world.specs.Frame.{is_drop, is_giving_back, is_refusal, put_in}
-use Rattle.lock_world.specs.Rights.{Right, read, upgradable, write}
-use Rattle.lock_world.specs.Rosters.{how_many}
-use Rattle.lock_world.specs.Standings.{Standing, outside, inside, forgotten, inputs_of, is_possible, is_decided, decision, refused}
-use Rattle.lock_world.specs.Steps.{Deed, nothing, does, joins}
+use Rattle.world_base.specs.declared.standing.Kind.TheVariants as kind
+use Rattle.world_base.specs.declared.standing.Rest.TheVariants.{Idle, Pending, Holding, Finished}
+use Rattle.world_base.specs.declared.standing.Within.{Within}
+use Rattle.world_base.specs.Accounts.{sought_after}
+use Rattle.world_base.specs.Frame as frame
+use Rattle.world_base.specs.Frame.{is_drop, is_giving_back, is_refusal, put_in}
+use Rattle.world_base.specs.Rights.{Right, read, upgradable, write}
+use Rattle.world_base.specs.Rosters.{how_many}
+use Rattle.world_base.specs.Standings.{Standing, outside, inside, forgotten, inputs_of, is_possible, is_decided, decision, refused}
+use Rattle.world_base.specs.Steps.{Deed, nothing, does, joins}
 use Rattle.rwlock_world.specs.State.{ListName, list_of, Turn, passes, is_upgradable, waits_to_write, writes, World, standing_of, sought_by, reads, how_many_read, is_marked, is_turn_free, HasTurn, entries_in, told_in, is_upgrader, IsClear}
 use Rattle.rwlock_world.specs.Changes.{Change, state_after, entries_after, IsAllowed, gives_back, gives_up}
-use Rattle.lock_world.specs.Standings.{IsUndecided}
-use Rattle.lock_world.specs.Standings.{may_end}
+use Rattle.world_base.specs.Standings.{IsUndecided}
+use Rattle.world_base.specs.Standings.{may_end}
 use Rattle.rwlock_world.specs.State.{is_starved}
 use Rattle.lock_event.specs.Lists.{is_marked_at}
-use Rattle.lock_queue.specs.Parties.{is_party}
-use Rattle.lock_queue.specs.Parties.{entries_of}
-use Rattle.lock_world.specs.Steps.{asked}
+use Rattle.world_base.specs.queue.Parties.{is_party}
+use Rattle.world_base.specs.queue.Parties.{entries_of}
+use Rattle.world_base.specs.Steps.{asked}
 
 -- The calls of a read-write lock, by the right that the party's guard is for: a guard's own calls are known of that guard alone.
 abbrev pub knows : Option Right → Call → Bool

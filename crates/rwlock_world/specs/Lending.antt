@@ -3,7 +3,7 @@ use Rattle.std.specs.Prelude.{ℕ, map}
 use Rattle.std.specs.Borrow.{Lends, MutBor, Fml, u64}
 use Rattle.rwlock_world.specs.contracts.world.World.{the_row}
 use Rattle.rwlock_world.specs.State.{World}
-use Rattle.lock_table.specs.Lending.{table_with, forgotten_then}
+use Rattle.world_base.specs.table.Lending.{table_with, forgotten_then}
 use Rattle.rwlock_world.specs.Guarded.{with_value}
 
 -- The World once a value was put from outside every call: the state keeps its readers, its turn and its starved set, and whoever was pending or had a guard is forgotten.

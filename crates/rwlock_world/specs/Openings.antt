@@ -1,8 +1,8 @@
 -- A step of a read-write lock keeps the numbers that its World was made with.
 use Rattle.std.specs.Prelude.{◌≡◌, length}
 use Rattle.std.proofs.Common.{ap, ◌∙◌}
-use Rattle.lock_world.specs.declared.moves.Answer.{Answer}
-use Rattle.lock_world.specs.declared.moves.Move.{Move}
+use Rattle.world_base.specs.declared.moves.Answer.{Answer}
+use Rattle.world_base.specs.declared.moves.Move.{Move}
 use Rattle.rwlock_world.specs.State.{World, new_world, opening_of}
 use Rattle.rwlock_world.specs.Legal.{Legal}
 

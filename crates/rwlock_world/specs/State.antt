@@ -3,12 +3,12 @@ use Rattle.std.specs.Prelude.{◌≡◌, ℕ, ◌==◌, ◌&&◌, ◌+◌, Bool,
 use Rattle.lock_event.specs.declared.event.Entry.{Entry}
 use Rattle.lock_event.specs.declared.event.Mark.{Mark}
 use Rattle.lock_event.specs.Lists.{mark_at}
-use Rattle.lock_queue.specs.Parties.{is_party, entries_of}
-use Rattle.lock_world.specs.declared.standing.Rest.TheVariants.{Idle}
-use Rattle.lock_world.specs.Rights.{Right}
-use Rattle.lock_world.specs.Rosters.{how_many, is_on}
-use Rattle.lock_world.specs.Standings.{Standing, outside, forgotten}
-use Rattle.lock_table.specs.Tables.{Table, new_table}
+use Rattle.world_base.specs.queue.Parties.{is_party, entries_of}
+use Rattle.world_base.specs.declared.standing.Rest.TheVariants.{Idle}
+use Rattle.world_base.specs.Rights.{Right}
+use Rattle.world_base.specs.Rosters.{how_many, is_on}
+use Rattle.world_base.specs.Standings.{Standing, outside, forgotten}
+use Rattle.world_base.specs.table.Tables.{Table, new_table}
 use Rattle.rwlock_world.specs.Guarded.{Guarded, new_guarded}
 
 -- The turn: nobody has it, or one party that takes or leaves it, is upgradable, waits to write, or writes.

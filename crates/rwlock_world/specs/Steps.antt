@@ -1,9 +1,9 @@
 -- One step of a read-write lock's World: what its callers see, and what its table did behind it.
 use Rattle.std.specs.Prelude.{◌≡◌}
-use Rattle.lock_world.specs.declared.moves.Answer.{Answer}
-use Rattle.lock_world.specs.declared.moves.Move.{Move}
-use Rattle.lock_world.specs.declared.standing.Rest.TheVariants.{Holding}
-use Rattle.lock_table.specs.Tables.{Table, IsTable, IsStep}
+use Rattle.world_base.specs.declared.moves.Answer.{Answer}
+use Rattle.world_base.specs.declared.moves.Move.{Move}
+use Rattle.world_base.specs.declared.standing.Rest.TheVariants.{Holding}
+use Rattle.world_base.specs.table.Tables.{Table, IsTable, IsStep}
 use Rattle.rwlock_machine.specs.Acts.{IsRwLock}
 use Rattle.rwlock_world.specs.Guarded.{Guarded, parties, knows, Stands as StandsThere, Moves}
 use Rattle.rwlock_world.specs.State.{World}

@@ -1,14 +1,14 @@
 -- How callers see what stands behind a read-write lock's World.
 use Rattle.std.specs.Prelude.{ℕ, ◌==◌, Bool, true, false, List, map, Option, Some, None}
 use Rattle.lock_program.specs.declared.refusal.Refusal.TheVariants.{Memory, Readers}
-use Rattle.lock_world.specs.declared.moves.Answer.{Answer}
-use Rattle.lock_world.specs.declared.moves.Answer.TheVariants as answer
-use Rattle.lock_world.specs.declared.moves.Got.TheVariants.{Value}
-use Rattle.lock_world.specs.declared.standing.Stage.{Stage}
-use Rattle.lock_world.specs.Standings.{Standing, refused}
-use Rattle.lock_table.specs.Stages.{stands_as}
-use Rattle.lock_table.specs.Tables.{Table}
-use Rattle.lock_table.specs.Views.{standings}
+use Rattle.world_base.specs.declared.moves.Answer.{Answer}
+use Rattle.world_base.specs.declared.moves.Answer.TheVariants as answer
+use Rattle.world_base.specs.declared.moves.Got.TheVariants.{Value}
+use Rattle.world_base.specs.declared.standing.Stage.{Stage}
+use Rattle.world_base.specs.Standings.{Standing, refused}
+use Rattle.world_base.specs.table.Stages.{stands_as}
+use Rattle.world_base.specs.table.Tables.{Table}
+use Rattle.world_base.specs.table.Views.{standings}
 use Rattle.mutex_machine.specs.Course.{Course as TurnCourse, decision}
 use Rattle.lock_program.specs.declared.end.End.{End as TurnEnd}
 use Rattle.lock_program.specs.declared.end.End.TheVariants as turn_end

@@ -1,9 +1,9 @@
 -- How many steps a whole call of a read-write lock takes.
 use Rattle.std.specs.Prelude.{ℕ}
-use Rattle.lock_world.specs.declared.moves.Answer.{Answer}
-use Rattle.lock_world.specs.declared.moves.Call.{Call}
-use Rattle.lock_world.specs.declared.moves.Inputs.{Inputs}
-use Rattle.lock_world.specs.Whole as whole
+use Rattle.world_base.specs.declared.moves.Answer.{Answer}
+use Rattle.world_base.specs.declared.moves.Call.{Call}
+use Rattle.world_base.specs.declared.moves.Inputs.{Inputs}
+use Rattle.world_base.specs.Whole as whole
 use Rattle.rwlock_machine.specs.Ranks.{steps_left, most_steps}
 use Rattle.rwlock_world.specs.State.{World, standing_of}
 use Rattle.rwlock_world.specs.Runs.{RunsOn}

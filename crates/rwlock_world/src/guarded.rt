@@ -1,19 +1,19 @@
 //! What a World's table stands on: a read-write lock over a number.
 
 ghost use Rattle.std.specs.Prelude.{◌≡◌, ◌<◌, length, IfOk, IsSome, IsSomeAnd};
-ghost use Rattle.lock_world.specs.Standings.{inputs_of};
+ghost use Rattle.world_base.specs.Standings.{inputs_of};
 ghost use Rattle.rwlock_machine.specs.Machine.{place_at};
 ghost use Rattle.rwlock_machine.specs.Acts.{Acts, IsRwLock};
 ghost use Rattle.rwlock_world.specs.Guarded.{new_guarded, answer_by, place_for};
 
-use lock_table::{Machine, Valued, answer};
-use lock_world::standing::{Rest, Within};
-use lock_world::{Answer, Call, Got, What};
 use rwlock_machine::RwLock;
 use rwlock_program::calls;
 use rwlock_program::led::Next;
 use std::alloc::{AllocError, Global};
 use std::marker::Model;
+use world_base::standing::{Rest, Within};
+use world_base::table::{Machine, Valued, answer};
+use world_base::{Answer, Call, Got, What};
 
 /// A read-write lock, and the number that it guards.
 #[derive(Drop)]
@@ -99,7 +99,7 @@ impl Guarded {
 impl Machine for Guarded {
     ghost use Rattle.std.specs.Prelude.{length};
     ghost use Rattle.rwlock_world.specs.Guarded as guarded;
-    ghost use Rattle.lock_world.specs.declared.standing.Rest.TheVariants.{Holding};
+    ghost use Rattle.world_base.specs.declared.standing.Rest.TheVariants.{Holding};
 
     ghost parties = { guarded.parties };
 

@@ -7,19 +7,18 @@
 
 ghost use Rattle.std.specs.Prelude.{◌≡◌, ◌<◌, ℕ, true, false, not, IfOk, IfErr, OnErr, length, min, slice_get};
 ghost use Rattle.rwlock_world.specs.State.{new_world, how_many_read, is_nobody, is_marked, nobody};
-ghost use Rattle.lock_world.specs.Rosters.{how_many};
+ghost use Rattle.world_base.specs.Rosters.{how_many};
 ghost use Rattle.rwlock_world.specs.Steps.{Steps};
 ghost use Rattle.rwlock_world.specs.Laws.{IsSound, IsAwake, IsTurnWanted, IsReadingWanted, IsWritingWanted, is_at_rest};
 ghost use Rattle.rwlock_world.specs.Bound.{IsTurnBounded, IsReadingBounded, IsWritingBounded};
 
 use crate::guarded::Guarded;
 use lock_event::Entry;
-use lock_frame::AnyWorld;
 use lock_program::Refusal;
-use lock_table::Table;
-use lock_world::{Answer, Move};
 use std::alloc::Global;
 use std::marker::Model;
+use world_base::table::Table;
+use world_base::{Answer, AnyWorld, Move};
 
 /// The greatest number of parties that may be starved for the turn. The Rust crate aborts where this
 /// project refuses.
@@ -256,7 +255,7 @@ impl World {
 }
 
 impl AnyWorld for World {
-    ghost use Rattle.lock_world.specs.Accounts.{Account, accounts_after};
+    ghost use Rattle.world_base.specs.Accounts.{Account, accounts_after};
     ghost use Rattle.rwlock_world.specs.Steps as steps;
     ghost use Rattle.rwlock_world.specs.State as state;
     ghost use Rattle.rwlock_world.specs.Laws as laws;

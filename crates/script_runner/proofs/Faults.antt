@@ -13,7 +13,7 @@ use Rattle.lock_script.specs.declared.command.Command.TheVariants.{New, On}
 use Rattle.lock_script.specs.declared.command.Model.TheVariants.{Mutex, RwLock, Semaphore, Cell, Barrier}
 use Rattle.lock_script.specs.declared.command.Request.{Request}
 use Rattle.lock_script.specs.declared.command.Request.TheVariants.{Step, Whole, Put, Take, Show}
-use Rattle.lock_world.specs.declared.moves.What.TheVariants.{Begin, Go}
+use Rattle.world_base.specs.declared.moves.What.TheVariants.{Begin, Go}
 use Rattle.script_words.specs.Verbs.{name_of}
 use Rattle.lock_script.specs.Commands.{verb_of, Asks}
 use Rattle.script_words.specs.Lines.{lines_of, words_of, is_byte, IsPrintable, IsSkipped, IsTrimmed}

@@ -3,9 +3,9 @@ use Rattle.std.proofs.Common.{◌≡◌, ℕ, Bool, true, false, cond, List, [],
 use Rattle.std.specs.Prelude.{IsTrue, codes, bytes_eq, count_by, filter}
 use Rattle.std.proofs.lemmas.List.Elements.{filter-append}
 use Rattle.std.proofs.lemmas.List.Sums.{sum_by-append}
-use Rattle.lock_world.specs.declared.moves.Inputs.{Inputs}
-use Rattle.lock_world.specs.declared.moves.Made.{Made}
-use Rattle.lock_world.specs.declared.moves.Made.TheVariants.{Pending, Value, Fail}
+use Rattle.world_base.specs.declared.moves.Inputs.{Inputs}
+use Rattle.world_base.specs.declared.moves.Made.{Made}
+use Rattle.world_base.specs.declared.moves.Made.TheVariants.{Pending, Value, Fail}
 use Rattle.script_words.specs.Inputs.{is_of_maker, GivesMade, WritesInputs, WritesMade}
 
 -- the first of some words that tell of the maker is what they give

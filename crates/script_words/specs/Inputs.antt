@@ -1,8 +1,8 @@
 -- What inputs of a call words give.
 use Rattle.std.specs.Prelude.{◌≡◌, ℕ, Bool, if◌then◌else◌, not, ◌&&◌, List, [], ◌∷◌, ◌++◌, codes, bytes_eq, count_by, filter}
-use Rattle.lock_world.specs.declared.moves.Inputs.{Inputs}
-use Rattle.lock_world.specs.declared.moves.Made.{Made}
-use Rattle.lock_world.specs.declared.moves.Made.TheVariants as made
+use Rattle.world_base.specs.declared.moves.Inputs.{Inputs}
+use Rattle.world_base.specs.declared.moves.Made.{Made}
+use Rattle.world_base.specs.declared.moves.Made.TheVariants as made
 use Rattle.script_words.specs.Lines.{Writes}
 
 -- the word says what the maker gives: `made=` with a number, or `made=fail`

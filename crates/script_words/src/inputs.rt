@@ -1,12 +1,12 @@
 //! The inputs of a call that words give.
 
 ghost use Rattle.std.specs.Prelude.{◌≡◌, ◌↔◌, ◌++◌, ℕ, List, [], ◌∷◌, Some, codes, IfSome, IfNone, IsTrue};
-ghost use Rattle.lock_world.specs.declared.moves.Inputs.{Inputs};
-ghost use Rattle.lock_world.specs.declared.moves.Made.{Made};
+ghost use Rattle.world_base.specs.declared.moves.Inputs.{Inputs};
+ghost use Rattle.world_base.specs.declared.moves.Made.{Made};
 ghost use Rattle.script_words.specs.Inputs.{is_of_maker, WritesInputs, WritesMade};
 
 use crate::line::{self, Words, is};
-use lock_world::{Inputs, Made};
+use world_base::{Inputs, Made};
 
 /// The inputs that all further words give, each at most once, in any order. What is not given is the
 /// plain case: memory is found, the party isn't starving, the maker is pending.

@@ -1,6 +1,6 @@
 -- What a carried out action finds, and leaves of the words and of the list.
 use Rattle.std.specs.Prelude.{◌≡◌, ℕ, Bool}
-use Rattle.lock_queue.specs.Queues.{Queue, queue}
+use Rattle.world_base.specs.queue.Queues.{Queue, queue}
 use Rattle.semaphore_machine.specs.declared.words.Words.{Words}
 use Rattle.sync_program.specs.declared.semaphore.Action.{Action}
 use Rattle.sync_program.specs.declared.semaphore.Found.{Found}

@@ -3,23 +3,23 @@ use Rattle.std.specs.Prelude.{◌≡◌, ℕ, ◌+◌, ◌<◌, ◌≤◌, ◌&&
 use Rattle.std.specs.List.{sum_by}
 use Rattle.lock_event.specs.declared.event.Entry.{Entry}
 use Rattle.lock_event.specs.Lists.{marked_count, IsMarkedFirst}
-use Rattle.lock_queue.specs.Parties.{entries_of}
-use Rattle.lock_queue.specs.Queues.{Queue}
-use Rattle.lock_world.specs.declared.moves.Answer.{Answer}
-use Rattle.lock_world.specs.declared.moves.Answer.TheVariants.{Stepped}
-use Rattle.lock_world.specs.declared.moves.Call.{Call}
-use Rattle.lock_world.specs.declared.moves.Call.TheVariants as call
-use Rattle.lock_world.specs.declared.moves.Got.TheVariants.{Plain}
-use Rattle.lock_world.specs.declared.moves.What.{What}
-use Rattle.lock_world.specs.declared.standing.Kind.{Kind}
-use Rattle.lock_world.specs.declared.standing.Kind.TheVariants as kind
-use Rattle.lock_world.specs.declared.standing.Rest.{Rest}
-use Rattle.lock_world.specs.declared.standing.Rest.TheVariants as rest
-use Rattle.lock_world.specs.declared.standing.Stage.{Stage}
-use Rattle.lock_world.specs.declared.standing.Stage.TheVariants.{Outside, Inside}
-use Rattle.lock_world.specs.declared.standing.Within.{Within}
-use Rattle.lock_world.specs.Standings.{inputs_of}
-use Rattle.lock_table.specs.Ends.{answer_of}
+use Rattle.world_base.specs.queue.Parties.{entries_of}
+use Rattle.world_base.specs.queue.Queues.{Queue}
+use Rattle.world_base.specs.declared.moves.Answer.{Answer}
+use Rattle.world_base.specs.declared.moves.Answer.TheVariants.{Stepped}
+use Rattle.world_base.specs.declared.moves.Call.{Call}
+use Rattle.world_base.specs.declared.moves.Call.TheVariants as call
+use Rattle.world_base.specs.declared.moves.Got.TheVariants.{Plain}
+use Rattle.world_base.specs.declared.moves.What.{What}
+use Rattle.world_base.specs.declared.standing.Kind.{Kind}
+use Rattle.world_base.specs.declared.standing.Kind.TheVariants as kind
+use Rattle.world_base.specs.declared.standing.Rest.{Rest}
+use Rattle.world_base.specs.declared.standing.Rest.TheVariants as rest
+use Rattle.world_base.specs.declared.standing.Stage.{Stage}
+use Rattle.world_base.specs.declared.standing.Stage.TheVariants.{Outside, Inside}
+use Rattle.world_base.specs.declared.standing.Within.{Within}
+use Rattle.world_base.specs.Standings.{inputs_of}
+use Rattle.world_base.specs.table.Ends.{answer_of}
 use Rattle.sync_program.specs.declared.semaphore.Found.{Found}
 use Rattle.semaphore_machine.specs.Program.{Next}
 use Rattle.lock_program.specs.declared.end.Next.TheVariants as next
@@ -30,7 +30,7 @@ use Rattle.sync_program.specs.declared.semaphore.Position.TheVariants.{Out, Wait
 use Rattle.semaphore_machine.specs.declared.words.Words.{Words}
 use Rattle.semaphore_machine.specs.Program.{place_for, action_of, next_of, position_after}
 use Rattle.semaphore_machine.specs.Seats.{permits_at, under_way_at, listed, waits, owes, is_resting}
-use Rattle.lock_queue.specs.Debts.{IsOwed}
+use Rattle.world_base.specs.queue.Debts.{IsOwed}
 use Rattle.semaphore_machine.specs.Deeds.{Finds, deed_of, words, words_after, entries_after}
 use Rattle.semaphore_machine.specs.Tally.{IsSound, tally_of, counts_of}
 

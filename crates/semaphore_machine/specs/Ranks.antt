@@ -1,7 +1,7 @@
 -- How many steps of a party's call are left, if the others stand still.
 use Rattle.std.specs.Prelude.{ℕ, if◌then◌else◌, Bool, true, false}
 use Rattle.lock_event.specs.Lists.{is_marked_at}
-use Rattle.lock_queue.specs.Parties.{is_party}
+use Rattle.world_base.specs.queue.Parties.{is_party}
 use Rattle.sync_program.specs.declared.semaphore.Place.{Place}
 use Rattle.sync_program.specs.declared.semaphore.Place.TheVariants.{Take, Retake, Join, Ask, Leave, GiveBack, Raise, GiveAdded}
 use Rattle.sync_program.specs.declared.semaphore.Position.{Position}

@@ -1,11 +1,11 @@
 -- What a party has and owes where it stands, so that sums over the parties count it.
 use Rattle.std.specs.Prelude.{ℕ, zero, suc, if◌then◌else◌, Bool, true, false, Option, Some, None}
-pub use Rattle.lock_world.specs.Rosters.{bit}
-use Rattle.lock_world.specs.declared.moves.Answer.{Answer}
-use Rattle.lock_world.specs.declared.moves.Answer.TheVariants.{Ready, Granted, GivenBack}
-use Rattle.lock_world.specs.declared.moves.Got.TheVariants.{Plain}
+pub use Rattle.world_base.specs.Rosters.{bit}
+use Rattle.world_base.specs.declared.moves.Answer.{Answer}
+use Rattle.world_base.specs.declared.moves.Answer.TheVariants.{Ready, Granted, GivenBack}
+use Rattle.world_base.specs.declared.moves.Got.TheVariants.{Plain}
 use Rattle.lock_program.specs.declared.refusal.Refusal.TheVariants.{Memory}
-use Rattle.lock_world.specs.Standings.{refused}
+use Rattle.world_base.specs.Standings.{refused}
 use Rattle.sync_program.specs.declared.semaphore.Place.{Place}
 use Rattle.sync_program.specs.declared.semaphore.Place.TheVariants.{Take, Retake, Join, Ask, Leave, HandOn, RefuseNotify, Try, Lower, GiveBack, GiveBackNotify, Raise, GiveAdded, NotifyAdded, CancelLeave, Abandon}
 use Rattle.sync_program.specs.declared.semaphore.Position.{Position}

@@ -3,7 +3,7 @@ use Rattle.std.specs.Prelude.{◌≡◌, ℕ, ◌+◌, ◌<◌, ◌≤◌, List,
 use Rattle.std.specs.List.{sum_by}
 use Rattle.lock_event.specs.declared.event.Entry.{Entry}
 use Rattle.lock_event.specs.Lists.{marked_count}
-use Rattle.lock_queue.specs.Debts.{IsOwed}
+use Rattle.world_base.specs.queue.Debts.{IsOwed}
 use Rattle.sync_program.specs.declared.semaphore.Position.{Position}
 use Rattle.semaphore_machine.specs.declared.words.Words.{Words}
 use Rattle.semaphore_machine.specs.Seats.{permits_at, under_way_at, listed as stands, waits, owes}

@@ -3,8 +3,8 @@
 ghost use Rattle.std.specs.Prelude.{◌≡◌};
 ghost use Rattle.semaphore_machine.specs.Program.{asked_of, start_of};
 
-use lock_world::Call;
 use sync_program::semaphore::{self, Place, Position, SemaphoreCall};
+use world_base::Call;
 
 /// What a call asks; None of the calls that the programs don't have.
 fn asked(call: Call) -> Option<SemaphoreCall>

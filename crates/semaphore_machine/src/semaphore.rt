@@ -1,8 +1,8 @@
 //! The semaphore's machine: its words, its list, and where each party stands in its program.
 
 ghost use Rattle.std.specs.Prelude.{◌≡◌, ℕ, ◌<◌, ◌≤◌, length, slice_get, replicate, IfOk};
-ghost use Rattle.lock_world.specs.declared.standing.Stage.TheVariants.{Outside};
-ghost use Rattle.lock_world.specs.declared.standing.Rest.TheVariants.{Idle};
+ghost use Rattle.world_base.specs.declared.standing.Stage.TheVariants.{Outside};
+ghost use Rattle.world_base.specs.declared.standing.Rest.TheVariants.{Idle};
 ghost use Rattle.sync_program.specs.declared.semaphore.Position.TheVariants.{Out};
 ghost use Rattle.semaphore_machine.specs.Program.{place_for as place_for_lem, position_after};
 ghost use Rattle.semaphore_machine.specs.Deeds.{CanDo};
@@ -13,13 +13,13 @@ use crate::calls::start;
 use crate::words::Words;
 use lock_event::Entry;
 use lock_program::Next;
-use lock_queue::WaitQueue;
-use lock_table::{Machine, answer};
-use lock_world::standing::{Rest, Within};
-use lock_world::{Answer, Call, Got, What};
 use std::alloc::{AllocError, Global};
 use std::marker::Model;
 use sync_program::semaphore::{Action, Found, Place, Position, action_at, decide};
+use world_base::queue::WaitQueue;
+use world_base::standing::{Rest, Within};
+use world_base::table::{Machine, answer};
+use world_base::{Answer, Call, Got, What};
 
 /// A semaphore, and where each of its parties stands.
 ///
@@ -213,7 +213,7 @@ fn answer_to(next: Next<Place, Position>) -> Answer
 impl Machine for Semaphore {
     ghost use Rattle.std.specs.Prelude.{length};
     ghost use Rattle.semaphore_machine.specs.Machine as machine;
-    ghost use Rattle.lock_world.specs.declared.standing.Rest.TheVariants.{Holding};
+    ghost use Rattle.world_base.specs.declared.standing.Rest.TheVariants.{Holding};
 
     ghost parties = { λ s. length s.positions };
 

@@ -1,16 +1,16 @@
 -- Whole runs of a semaphore's World, and what the moves and answers alone tell.
 use Rattle.std.specs.Prelude.{◌≡◌, ℕ, ◌+◌, ◌↔◌, true, List, None}
-use Rattle.lock_world.specs.declared.moves.Answer.{Answer}
-use Rattle.lock_world.specs.declared.moves.Answer.TheVariants as answer
-use Rattle.lock_world.specs.declared.moves.Call.TheVariants as call
-use Rattle.lock_world.specs.declared.moves.Move.{Move}
-use Rattle.lock_world.specs.declared.moves.What.{What}
-use Rattle.lock_world.specs.declared.moves.What.TheVariants.{Begin}
-use Rattle.lock_world.specs.Accounts.{Account, accounts_after, HasByAnswers}
-use Rattle.lock_world.specs.Rights.{Right, permit}
-use Rattle.lock_world.specs.Runs as runs
-use Rattle.lock_world.specs.Standings.{is_outside}
-use Rattle.lock_table.specs.Rights.{account_by, sought_by, TellsAccounts}
+use Rattle.world_base.specs.declared.moves.Answer.{Answer}
+use Rattle.world_base.specs.declared.moves.Answer.TheVariants as answer
+use Rattle.world_base.specs.declared.moves.Call.TheVariants as call
+use Rattle.world_base.specs.declared.moves.Move.{Move}
+use Rattle.world_base.specs.declared.moves.What.{What}
+use Rattle.world_base.specs.declared.moves.What.TheVariants.{Begin}
+use Rattle.world_base.specs.Accounts.{Account, accounts_after, HasByAnswers}
+use Rattle.world_base.specs.Rights.{Right, permit}
+use Rattle.world_base.specs.Runs as runs
+use Rattle.world_base.specs.Standings.{is_outside}
+use Rattle.world_base.specs.table.Rights.{account_by, sought_by, TellsAccounts}
 use Rattle.semaphore_world.specs.State.{World, has_permit, standing_of}
 use Rattle.semaphore_world.specs.Steps.{Steps}
 use Rattle.semaphore_world.specs.Laws.{IsSound, IsAwake, is_at_rest}

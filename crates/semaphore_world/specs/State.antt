@@ -4,10 +4,10 @@ use Rattle.std.specs.List.{sum_by}
 use Rattle.lock_event.specs.declared.event.Entry.{Entry}
 use Rattle.lock_event.specs.declared.event.Mark.{Mark}
 use Rattle.lock_event.specs.Lists.{mark_at}
-use Rattle.lock_queue.specs.Parties.{is_party}
-use Rattle.lock_world.specs.declared.standing.Rest.TheVariants.{Idle}
-use Rattle.lock_world.specs.Standings.{Standing, outside, forgotten}
-use Rattle.lock_table.specs.Tables.{Table, new_table}
+use Rattle.world_base.specs.queue.Parties.{is_party}
+use Rattle.world_base.specs.declared.standing.Rest.TheVariants.{Idle}
+use Rattle.world_base.specs.Standings.{Standing, outside, forgotten}
+use Rattle.world_base.specs.table.Tables.{Table, new_table}
 use Rattle.semaphore_machine.specs.Seats.{Share, nothing_had, permits_of}
 use Rattle.semaphore_machine.specs.Machine.{Semaphore, new_semaphore}
 

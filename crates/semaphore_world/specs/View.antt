@@ -1,7 +1,7 @@
 -- How callers see what stands behind a semaphore's World.
 use Rattle.std.specs.Prelude.{map}
-use Rattle.lock_table.specs.Tables.{Table}
-use Rattle.lock_table.specs.Views.{standings}
+use Rattle.world_base.specs.table.Tables.{Table}
+use Rattle.world_base.specs.table.Views.{standings}
 use Rattle.semaphore_machine.specs.Seats.{share_of, adds_at, verdict}
 use Rattle.semaphore_machine.specs.Machine.{Semaphore, position_at}
 use Rattle.semaphore_world.specs.State.{World}

@@ -1,10 +1,10 @@
 -- How many steps a whole call of a semaphore takes.
 use Rattle.std.specs.Prelude.{ℕ}
-use Rattle.lock_world.specs.declared.moves.Answer.{Answer}
-use Rattle.lock_world.specs.declared.moves.Call.{Call}
-use Rattle.lock_world.specs.declared.moves.Call.TheVariants as call
-use Rattle.lock_world.specs.declared.moves.Inputs.{Inputs}
-use Rattle.lock_world.specs.Whole as whole
+use Rattle.world_base.specs.declared.moves.Answer.{Answer}
+use Rattle.world_base.specs.declared.moves.Call.{Call}
+use Rattle.world_base.specs.declared.moves.Call.TheVariants as call
+use Rattle.world_base.specs.declared.moves.Inputs.{Inputs}
+use Rattle.world_base.specs.Whole as whole
 use Rattle.semaphore_machine.specs.Ranks.{steps_left}
 use Rattle.semaphore_world.specs.State.{World, standing_of}
 use Rattle.semaphore_world.specs.Runs.{RunsOn}

@@ -14,13 +14,12 @@ ghost use Rattle.semaphore_world.specs.Bound.{IsBounded};
 ghost use Rattle.semaphore_world.specs.Limits.{IsRefusedFor};
 
 use lock_event::Entry;
-use lock_frame::AnyWorld;
 use lock_program::Refusal;
-use lock_table::Table;
-use lock_world::{Answer, Move};
 use semaphore_machine::{Semaphore, may_begin_with};
 use std::alloc::Global;
 use std::marker::Model;
+use world_base::table::Table;
+use world_base::{Answer, AnyWorld, Move};
 
 /// A semaphore, its parties, and their calls.
 pub struct World {

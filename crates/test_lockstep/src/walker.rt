@@ -1,7 +1,7 @@
 //! A party of any lock that threads share, driven by single actions.
 
-use futures::task::Context;
 use async_driver::Carries;
+use futures::task::Context;
 use std::marker::Model;
 use std::sync::{Arc, Wait};
 use std::time::Clock;

@@ -1,8 +1,8 @@
 -- What an action needs is there.
 use Rattle.std.proofs.Common.{◌≡◌, ℕ, ◌<◌, true, List, length, refl, arith, ap, sym, ◌∙◌}
-use Rattle.lock_queue.specs.Parties.{entries_of}
-use Rattle.lock_queue.specs.Queues.{Queue}
-use Rattle.lock_world.specs.declared.standing.Within.{Within}
+use Rattle.world_base.specs.queue.Parties.{entries_of}
+use Rattle.world_base.specs.queue.Queues.{Queue}
+use Rattle.world_base.specs.declared.standing.Within.{Within}
 use Rattle.mutex_machine.specs.Mutex.{Mutex, course_at}
 use Rattle.mutex_machine.proofs.callers.Callers.{may_lock, may_poll, may_cancel, may_release}
 use Rattle.sync_program.specs.declared.barrier.Place.{Place}

@@ -4,15 +4,15 @@ use Rattle.std.proofs.Math.ListN.{set}
 use Rattle.std.proofs.Math.Decide.{ℕ_discrete}
 use Rattle.std.specs.List.{sum_by}
 use Rattle.std.proofs.lemmas.List.Sums.{sum_by-set, sum_by-le}
-use Rattle.lock_queue.specs.Parties.{entries_of}
-use Rattle.lock_queue.specs.Queues.{Queue, queue}
-use Rattle.lock_world.specs.declared.moves.Inputs.{Inputs}
-use Rattle.lock_world.specs.declared.standing.Rest.TheVariants as rest
-use Rattle.lock_world.specs.declared.standing.Stage.{Stage}
-use Rattle.lock_world.specs.declared.standing.Within.{Within}
-use Rattle.lock_world.proofs.Equations.{some_eq}
-use Rattle.lock_table.specs.Stages.{stage_after}
-use Rattle.lock_table.specs.Tables.{Keeps}
+use Rattle.world_base.specs.queue.Parties.{entries_of}
+use Rattle.world_base.specs.queue.Queues.{Queue, queue}
+use Rattle.world_base.specs.declared.moves.Inputs.{Inputs}
+use Rattle.world_base.specs.declared.standing.Rest.TheVariants as rest
+use Rattle.world_base.specs.declared.standing.Stage.{Stage}
+use Rattle.world_base.specs.declared.standing.Within.{Within}
+use Rattle.world_base.proofs.Equations.{some_eq}
+use Rattle.world_base.specs.table.Stages.{stage_after}
+use Rattle.world_base.specs.table.Tables.{Keeps}
 use Rattle.mutex_machine.specs.Course.{Course, is_holding}
 use Rattle.mutex_machine.specs.Mutex.{Mutex, course_at, IsMutex, holder_from}
 use Rattle.mutex_machine.proofs.callers.Callers.{holding_holds}

@@ -4,8 +4,8 @@ use Rattle.std.specs.List.{sum_by}
 use Rattle.std.proofs.lemmas.List.Sums.{sum_by-cons}
 use Rattle.lock_event.specs.declared.event.Entry.{Entry}
 use Rattle.lock_event.specs.Lists.{is_marked_at, IsMarkedFirst}
-use Rattle.lock_queue.specs.Parties.{is_party, entries_of}
-use Rattle.lock_queue.specs.Queues.{Queue}
+use Rattle.world_base.specs.queue.Parties.{is_party, entries_of}
+use Rattle.world_base.specs.queue.Queues.{Queue}
 use Rattle.mutex_machine.specs.Course.{Course, holds, is_resting as rests_there}
 use Rattle.mutex_machine.specs.Mutex.{Mutex, course_at, IsMutex, holders, IsAtRest as LockAtRest}
 use Rattle.mutex_machine.proofs.callers.Callers.{out_free, waiting_free, holding_holds, out_rests, waiting_rests}
@@ -16,7 +16,7 @@ use Rattle.barrier_program.specs.declared.words.Progress.{Progress}
 use Rattle.barrier_program.specs.declared.words.Words.{Words}
 use Rattle.barrier_machine.specs.Roles.{fits_lock, in_lock, is_late, will_tell, is_resting}
 use Rattle.barrier_machine.specs.Machine.{IsKept, IsAtRest, IsBarrier, AllTold, position_at, arrival_at}
-use Rattle.lock_queue.proofs.Marks.{else_marked}
+use Rattle.world_base.proofs.of_queue.Marks.{else_marked}
 
 -- a party without the inner lock is counted if it is listed, and is about to tell nobody
 free_late : (x : Position) (c : Course) → fits_lock (in_lock x) c ≡ true → holds c ≡ 0 → is_late x ≡ false

@@ -1,11 +1,11 @@
 -- Whose the entries of the barrier's list are, after an action.
 use Rattle.std.proofs.Common.{◌≡◌, ◌≢◌, ℕ, ◌+◌, List, length, refl}
 use Rattle.lock_event.specs.declared.event.Entry.{Entry}
-use Rattle.lock_queue.specs.Parties.{entries_of}
-use Rattle.lock_world.specs.declared.moves.Inputs.{Inputs}
-use Rattle.lock_world.specs.Steps.{joins, asks, leaves, notifies}
-use Rattle.lock_world.proofs.Lists as lists
-use Rattle.lock_world.proofs.Lists.{joined_own, asked_own, asked_not, left_own, notified_own}
+use Rattle.world_base.specs.queue.Parties.{entries_of}
+use Rattle.world_base.specs.declared.moves.Inputs.{Inputs}
+use Rattle.world_base.specs.Steps.{joins, asks, leaves, notifies}
+use Rattle.world_base.proofs.Lists as lists
+use Rattle.world_base.proofs.Lists.{joined_own, asked_own, asked_not, left_own, notified_own}
 use Rattle.lock_program.specs.declared.mutex.Step.TheVariants as lock_step
 use Rattle.lock_program.specs.declared.end.End.TheVariants as lock_end
 use Rattle.mutex_machine.specs.Mutex.{Mutex}

@@ -1,15 +1,15 @@
 -- A new barrier.
 use Rattle.std.proofs.Common.{◌≡◌, ℕ, ◌≤◌, [], length, replicate, refl, sym, arith, ◌∙◌}
 use Rattle.std.proofs.lemmas.List.{length-replicate}
-use Rattle.lock_queue.specs.Queues.{queue}
-use Rattle.lock_world.proofs.Alike.{all_alike, none_of_all}
+use Rattle.world_base.specs.queue.Queues.{queue}
+use Rattle.world_base.proofs.Alike.{all_alike, none_of_all}
 use Rattle.mutex_machine.specs.Mutex.{new_mutex}
 use Rattle.mutex_machine.proofs.callers.Callers.{new_is_out, new_parties}
 use Rattle.sync_program.specs.declared.barrier.Position.TheVariants.{Out}
 use Rattle.barrier_program.specs.Words.{progress, new_words}
 use Rattle.barrier_machine.specs.Roles.{listed}
-use Rattle.lock_world.specs.declared.standing.Rest.TheVariants.{Idle}
-use Rattle.lock_world.specs.declared.standing.Stage.TheVariants.{Outside}
+use Rattle.world_base.specs.declared.standing.Rest.TheVariants.{Idle}
+use Rattle.world_base.specs.declared.standing.Stage.TheVariants.{Outside}
 use Rattle.barrier_machine.specs.Machine.{IsKept, Stands, new_barrier}
 
 pub new_is : (n many starved most : ℕ) → n ≤ 4294967295 → IsKept (new_words many most) (replicate n Out) (replicate n (progress 0 0)) (queue n []) (new_mutex n starved)

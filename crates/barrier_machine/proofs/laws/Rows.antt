@@ -2,7 +2,7 @@
 use Rattle.std.proofs.Common.{◌≡◌, ◌≢◌, ℕ, ◌+◌, ◌<◌, ◌≤◌, ◌⊎◌, inl, inr, true, false, List, refl, arith, ap}
 use Rattle.std.proofs.Math.Decide.{ℕ_discrete}
 use Rattle.lock_event.specs.declared.event.Entry.{Entry}
-use Rattle.lock_world.specs.declared.moves.Inputs.{Inputs}
+use Rattle.world_base.specs.declared.moves.Inputs.{Inputs}
 use Rattle.lock_program.specs.declared.mutex.Step.TheVariants as lock_step
 use Rattle.lock_program.specs.declared.end.End.TheVariants as lock_end
 use Rattle.sync_program.specs.declared.barrier.Aim.{Aim}

@@ -5,11 +5,11 @@ use Rattle.std.proofs.Math.Decide.{ℕ_discrete}
 use Rattle.lock_event.specs.declared.event.Entry.{Entry}
 use Rattle.lock_event.specs.declared.event.Mark.TheVariants as mark
 use Rattle.lock_event.specs.Lists.{marked_count}
-use Rattle.lock_queue.specs.Parties.{entries_of, is_unmarked}
-use Rattle.lock_queue.proofs.Marks.{never_unlisted, all_marked}
-use Rattle.lock_world.proofs.Lists.{unmarked_before}
-use Rattle.lock_world.specs.declared.moves.Inputs.{Inputs}
-use Rattle.lock_world.specs.Steps.{joins, asks, leaves, notifies}
+use Rattle.world_base.specs.queue.Parties.{entries_of, is_unmarked}
+use Rattle.world_base.proofs.of_queue.Marks.{never_unlisted, all_marked}
+use Rattle.world_base.proofs.Lists.{unmarked_before}
+use Rattle.world_base.specs.declared.moves.Inputs.{Inputs}
+use Rattle.world_base.specs.Steps.{joins, asks, leaves, notifies}
 use Rattle.sync_program.specs.declared.barrier.Action.{Action}
 use Rattle.sync_program.specs.declared.barrier.Action.TheVariants as act
 use Rattle.sync_program.specs.declared.barrier.Found.{Found}

@@ -2,22 +2,22 @@
 use Rattle.std.proofs.Common.{◌≡◌, ℕ, zero, suc, ◌+◌, ◌<◌, ◌≤◌, inl, inr, true, false, List, [], ◌∷◌, length, Option, Some, None, refl, arith, ap, sym, ◌∙◌, subst}
 use Rattle.std.specs.List.{list_all}
 use Rattle.lock_event.specs.Lists.{is_marked_at, IsMarkedFirst}
-use Rattle.lock_queue.specs.Parties.{is_party, entries_of}
-use Rattle.lock_world.specs.declared.moves.Answer.{Answer}
-use Rattle.lock_world.specs.declared.standing.Kind.{Kind}
-use Rattle.lock_world.specs.declared.standing.Kind.TheVariants as kind
-use Rattle.lock_world.specs.declared.standing.Rest.{Rest}
-use Rattle.lock_world.specs.declared.standing.Rest.TheVariants as rest
-use Rattle.lock_world.specs.declared.standing.Stage.{Stage}
-use Rattle.lock_world.specs.declared.standing.Stage.TheVariants.{Outside, Inside, Forgotten}
-use Rattle.lock_world.specs.declared.standing.Within.{Within}
-use Rattle.lock_world.specs.Standings.{Standing, outside, inside, forgotten, is_outside, is_outside_stage}
-use Rattle.lock_world.proofs.Equations.{both}
-use Rattle.lock_table.specs.Stages.{stage_at, stands_as}
-use Rattle.lock_table.specs.Tables.{Table}
-use Rattle.lock_table.proofs.Mapped.{past_last}
-use Rattle.lock_table.proofs.Past.{by_stage_or_past, by_stage_or_past_at}
-use Rattle.lock_table.proofs.Views.{rest_seen, outside_at}
+use Rattle.world_base.specs.queue.Parties.{is_party, entries_of}
+use Rattle.world_base.specs.declared.moves.Answer.{Answer}
+use Rattle.world_base.specs.declared.standing.Kind.{Kind}
+use Rattle.world_base.specs.declared.standing.Kind.TheVariants as kind
+use Rattle.world_base.specs.declared.standing.Rest.{Rest}
+use Rattle.world_base.specs.declared.standing.Rest.TheVariants as rest
+use Rattle.world_base.specs.declared.standing.Stage.{Stage}
+use Rattle.world_base.specs.declared.standing.Stage.TheVariants.{Outside, Inside, Forgotten}
+use Rattle.world_base.specs.declared.standing.Within.{Within}
+use Rattle.world_base.specs.Standings.{Standing, outside, inside, forgotten, is_outside, is_outside_stage}
+use Rattle.world_base.proofs.Equations.{both}
+use Rattle.world_base.specs.table.Stages.{stage_at, stands_as}
+use Rattle.world_base.specs.table.Tables.{Table}
+use Rattle.world_base.proofs.of_table.Mapped.{past_last}
+use Rattle.world_base.proofs.of_table.Past.{by_stage_or_past, by_stage_or_past_at}
+use Rattle.world_base.proofs.of_table.Views.{rest_seen, outside_at}
 use Rattle.mutex_machine.specs.Course.{Course, bit, counted as starved_there, listed as listed_there, is_resting as rests_there}
 use Rattle.mutex_machine.specs.Mutex.{course_at, IsAtRest as LockAtRest}
 use Rattle.mutex_machine.proofs.callers.Callers.{out_rests, waiting_rests, out_unlisted, holding_unlisted, listed_once}
@@ -52,7 +52,7 @@ use Rattle.barrier_world.proofs.Numbers as numbers
 use Rattle.std.proofs.Common.{◌⊎◌, false}
 use Rattle.std.proofs.lemmas.Bool.{false≢true}
 use Rattle.lock_event.specs.Lists.{marked_count}
-use Rattle.lock_world.specs.Standings.{is_decided}
+use Rattle.world_base.specs.Standings.{is_decided}
 use Rattle.mutex_machine.specs.Course.{taking, releasing, undecided, called, counting, has_lock, gives_up as giving_up, is_out as is_out_there, is_holding, is_waiting, is_cancelling, is_due as is_due_there}
 use Rattle.sync_program.specs.declared.barrier.Place.TheVariants.{CancelLock, CancellingLock}
 use Rattle.barrier_machine.specs.Waits.{verdict}

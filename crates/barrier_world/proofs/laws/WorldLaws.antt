@@ -1,16 +1,16 @@
 -- The laws of a barrier's World: what follows from one step that its table did.
 use Rattle.std.proofs.Common.{◌≡◌, ◌≢◌, ℕ, ◌+◌, ◌<◌, ◌≤◌, true, refl, sym, subst}
-use Rattle.lock_world.specs.declared.moves.Answer.{Answer}
-use Rattle.lock_world.specs.declared.moves.Answer.TheVariants as answer
-use Rattle.lock_world.specs.declared.moves.Call.{Call}
-use Rattle.lock_world.specs.declared.moves.Inputs.{Inputs}
-use Rattle.lock_world.specs.declared.moves.Move.{Move}
-use Rattle.lock_world.specs.declared.standing.Rest.TheVariants as rest
-use Rattle.lock_world.specs.Accounts.{Account, accounts_after}
-use Rattle.lock_world.specs.Standings.{is_outside, is_possible}
-use Rattle.lock_world.specs.Whole.{going_on}
-use Rattle.lock_frame.specs.Steps.{StepsWell, left_by, beginning}
-use Rattle.lock_frame.proofs.Endings.{ends_outside as outside_at_end}
+use Rattle.world_base.specs.declared.moves.Answer.{Answer}
+use Rattle.world_base.specs.declared.moves.Answer.TheVariants as answer
+use Rattle.world_base.specs.declared.moves.Call.{Call}
+use Rattle.world_base.specs.declared.moves.Inputs.{Inputs}
+use Rattle.world_base.specs.declared.moves.Move.{Move}
+use Rattle.world_base.specs.declared.standing.Rest.TheVariants as rest
+use Rattle.world_base.specs.Accounts.{Account, accounts_after}
+use Rattle.world_base.specs.Standings.{is_outside, is_possible}
+use Rattle.world_base.specs.Whole.{going_on}
+use Rattle.world_base.specs.any_world.Steps.{StepsWell, left_by, beginning}
+use Rattle.world_base.proofs.of_any_world.Endings.{ends_outside as outside_at_end}
 use Rattle.barrier_machine.specs.Machine.{knows}
 use Rattle.barrier_world.specs.State.{World, standing_of}
 use Rattle.barrier_world.specs.Laws.{IsSound, IsAwake, is_at_rest}

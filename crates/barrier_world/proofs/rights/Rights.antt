@@ -1,20 +1,20 @@
 -- After each step what is known by the answers goes on to be so.
 use Rattle.std.proofs.Common.{◌≡◌, ℕ, ◌==◌, if◌then◌else◌, Bool, true, false, Some, refl, ap, sym, ◌∙◌}
-use Rattle.lock_world.specs.declared.moves.Answer.{Answer}
-use Rattle.lock_world.specs.declared.moves.Answer.TheVariants as answer
-use Rattle.lock_world.specs.declared.moves.Call.TheVariants as call
-use Rattle.lock_world.specs.declared.moves.Inputs.{Inputs}
-use Rattle.lock_world.specs.declared.moves.Move.{Move}
-use Rattle.lock_world.specs.declared.moves.What.{What}
-use Rattle.lock_world.specs.declared.moves.What.TheVariants.{Begin, Go}
-use Rattle.lock_world.specs.declared.standing.Rest.TheVariants as rest
-use Rattle.lock_world.specs.Accounts.{Account, account_after, accounts_after}
-use Rattle.lock_world.proofs.Equations.{none_some}
-use Rattle.lock_frame.specs.Steps.{StepsWell}
-use Rattle.lock_table.specs.Stages.{stage_at}
-use Rattle.lock_table.specs.Tables.{Table}
-use Rattle.lock_table.proofs.Rights.{idle_account, again_account}
-use Rattle.lock_table.proofs.Ways.{way, by_way}
+use Rattle.world_base.specs.declared.moves.Answer.{Answer}
+use Rattle.world_base.specs.declared.moves.Answer.TheVariants as answer
+use Rattle.world_base.specs.declared.moves.Call.TheVariants as call
+use Rattle.world_base.specs.declared.moves.Inputs.{Inputs}
+use Rattle.world_base.specs.declared.moves.Move.{Move}
+use Rattle.world_base.specs.declared.moves.What.{What}
+use Rattle.world_base.specs.declared.moves.What.TheVariants.{Begin, Go}
+use Rattle.world_base.specs.declared.standing.Rest.TheVariants as rest
+use Rattle.world_base.specs.Accounts.{Account, account_after, accounts_after}
+use Rattle.world_base.proofs.Equations.{none_some}
+use Rattle.world_base.specs.any_world.Steps.{StepsWell}
+use Rattle.world_base.specs.table.Stages.{stage_at}
+use Rattle.world_base.specs.table.Tables.{Table}
+use Rattle.world_base.proofs.of_table.Rights.{idle_account, again_account}
+use Rattle.world_base.proofs.of_table.Ways.{way, by_way}
 use Rattle.sync_program.specs.declared.barrier.Place.{Place}
 use Rattle.sync_program.specs.declared.barrier.Position.{Position}
 use Rattle.barrier_program.specs.Program.{place_for}

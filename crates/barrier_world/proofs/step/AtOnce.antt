@@ -2,21 +2,21 @@
 use Rattle.std.proofs.Common.{◌≡◌, ℕ, ◌+◌, ◌<◌, ◌==◌, ◌&&◌, ◌⊎◌, inl, inr, if◌then◌else◌, Bool, true, false, Option, Some, None, is_none, refl, arith, ap, sym, ◌∙◌, subst}
 use Rattle.std.proofs.lemmas.Bool.Decides.{nat_tests}
 use Rattle.lock_event.specs.Lists.{is_marked_at}
-use Rattle.lock_queue.specs.Parties.{is_party, entries_of}
-use Rattle.lock_world.specs.declared.moves.Answer.{Answer}
-use Rattle.lock_world.specs.declared.moves.Answer.TheVariants as answer
-use Rattle.lock_world.specs.declared.moves.Inputs.{Inputs}
-use Rattle.lock_world.specs.declared.moves.Move.{Move}
-use Rattle.lock_world.specs.declared.moves.Call.TheVariants as call
-use Rattle.lock_world.specs.declared.moves.What.{What}
-use Rattle.lock_world.specs.declared.moves.What.TheVariants.{Begin}
-use Rattle.lock_world.specs.declared.standing.Rest.TheVariants.{Pending}
-use Rattle.lock_world.specs.declared.standing.Within.{Within}
-use Rattle.lock_world.specs.Rosters.{how_many}
-use Rattle.lock_world.specs.Standings.{Standing, outside, inputs_of}
-use Rattle.lock_world.proofs.Equations.{some_eq, none_some}
-use Rattle.lock_table.specs.Stages.{stage_at, stands_as}
-use Rattle.lock_table.specs.Tables.{Table}
+use Rattle.world_base.specs.queue.Parties.{is_party, entries_of}
+use Rattle.world_base.specs.declared.moves.Answer.{Answer}
+use Rattle.world_base.specs.declared.moves.Answer.TheVariants as answer
+use Rattle.world_base.specs.declared.moves.Inputs.{Inputs}
+use Rattle.world_base.specs.declared.moves.Move.{Move}
+use Rattle.world_base.specs.declared.moves.Call.TheVariants as call
+use Rattle.world_base.specs.declared.moves.What.{What}
+use Rattle.world_base.specs.declared.moves.What.TheVariants.{Begin}
+use Rattle.world_base.specs.declared.standing.Rest.TheVariants.{Pending}
+use Rattle.world_base.specs.declared.standing.Within.{Within}
+use Rattle.world_base.specs.Rosters.{how_many}
+use Rattle.world_base.specs.Standings.{Standing, outside, inputs_of}
+use Rattle.world_base.proofs.Equations.{some_eq, none_some}
+use Rattle.world_base.specs.table.Stages.{stage_at, stands_as}
+use Rattle.world_base.specs.table.Tables.{Table}
 use Rattle.mutex_machine.specs.Course.{Course, is_waiting, listed as listed_there}
 use Rattle.lock_program.specs.declared.mutex.Step.{Step as LockStep}
 use Rattle.lock_program.specs.declared.mutex.Step.TheVariants as lock_step
@@ -49,12 +49,12 @@ use Rattle.barrier_world.proofs.step.Acting as acting
 use Rattle.barrier_world.proofs.step.Acting.{Acting}
 use Rattle.std.proofs.Common.{◌≢◌}
 use Rattle.lock_event.specs.Lists.{notified}
-use Rattle.lock_world.specs.declared.moves.What.TheVariants.{Go}
+use Rattle.world_base.specs.declared.moves.What.TheVariants.{Go}
 use Rattle.lock_program.specs.declared.refusal.Refusal.{Refusal}
-use Rattle.lock_world.specs.declared.standing.Stage.{Stage}
-use Rattle.lock_world.specs.declared.standing.Stage.TheVariants.{Outside, Inside, Forgotten}
-use Rattle.lock_world.specs.Standings.{inside, refused}
-use Rattle.lock_table.specs.Stages.{call_at}
+use Rattle.world_base.specs.declared.standing.Stage.{Stage}
+use Rattle.world_base.specs.declared.standing.Stage.TheVariants.{Outside, Inside, Forgotten}
+use Rattle.world_base.specs.Standings.{inside, refused}
+use Rattle.world_base.specs.table.Stages.{call_at}
 use Rattle.lock_program.specs.declared.end.End.{End as LockEnd}
 use Rattle.mutex_machine.specs.Course.{decision, counted, bit}
 use Rattle.mutex_machine.specs.Deeds.{entries_after as lock_entries_after}

@@ -1,20 +1,20 @@
 -- How calls end.
 use Rattle.std.proofs.Common.{◌≡◌, true, false, Some, refl, ap, ◌∙◌}
-use Rattle.lock_world.specs.declared.moves.Answer.{Answer}
-use Rattle.lock_world.specs.declared.moves.Answer.TheVariants as answer
-use Rattle.lock_world.specs.declared.moves.Call.TheVariants as call
-use Rattle.lock_world.specs.declared.moves.Got.{Got}
-use Rattle.lock_world.specs.declared.moves.What.{What}
-use Rattle.lock_world.specs.declared.moves.What.TheVariants.{Begin, Go}
-use Rattle.lock_world.specs.declared.standing.Kind.{Kind}
-use Rattle.lock_world.specs.declared.standing.Kind.TheVariants as kind
-use Rattle.lock_world.specs.declared.standing.Rest.{Rest}
-use Rattle.lock_world.specs.declared.standing.Rest.TheVariants as rest
-use Rattle.lock_world.specs.Standings.{is_possible, is_stepped, may_end}
-use Rattle.lock_table.specs.Ends.{answer_of}
+use Rattle.world_base.specs.declared.moves.Answer.{Answer}
+use Rattle.world_base.specs.declared.moves.Answer.TheVariants as answer
+use Rattle.world_base.specs.declared.moves.Call.TheVariants as call
+use Rattle.world_base.specs.declared.moves.Got.{Got}
+use Rattle.world_base.specs.declared.moves.What.{What}
+use Rattle.world_base.specs.declared.moves.What.TheVariants.{Begin, Go}
+use Rattle.world_base.specs.declared.standing.Kind.{Kind}
+use Rattle.world_base.specs.declared.standing.Kind.TheVariants as kind
+use Rattle.world_base.specs.declared.standing.Rest.{Rest}
+use Rattle.world_base.specs.declared.standing.Rest.TheVariants as rest
+use Rattle.world_base.specs.Standings.{is_possible, is_stepped, may_end}
+use Rattle.world_base.specs.table.Ends.{answer_of}
 use Rattle.lock_program.specs.declared.end.End.{End}
 use Rattle.lock_program.specs.declared.end.End.TheVariants as «end»
-use Rattle.lock_table.proofs.Calls.{decided_after}
+use Rattle.world_base.proofs.of_table.Calls.{decided_after}
 use Rattle.mutex_machine.specs.Course.{Course}
 use Rattle.lock_program.specs.declared.mutex.Step.TheVariants as lock_step
 use Rattle.sync_program.specs.declared.barrier.Aim.{Aim}

@@ -1,18 +1,18 @@
 -- A move that does nothing is a legal step: one that its party may not make, and a poll of a future that has been ready.
 use Rattle.std.proofs.Common.{◌≡◌, ℕ, ◌+◌, true, false, None, refl, arith, sym}
-use Rattle.lock_world.specs.declared.moves.Answer.{Answer}
-use Rattle.lock_world.specs.declared.moves.Answer.TheVariants as answer
-use Rattle.lock_world.specs.declared.moves.Call.TheVariants as call
-use Rattle.lock_world.specs.declared.moves.Move.{Move}
-use Rattle.lock_world.specs.declared.moves.What.{What}
-use Rattle.lock_world.specs.declared.moves.What.TheVariants.{Begin}
+use Rattle.world_base.specs.declared.moves.Answer.{Answer}
+use Rattle.world_base.specs.declared.moves.Answer.TheVariants as answer
+use Rattle.world_base.specs.declared.moves.Call.TheVariants as call
+use Rattle.world_base.specs.declared.moves.Move.{Move}
+use Rattle.world_base.specs.declared.moves.What.{What}
+use Rattle.world_base.specs.declared.moves.What.TheVariants.{Begin}
 use Rattle.lock_program.specs.declared.refusal.Refusal.TheVariants as refusal
-use Rattle.lock_world.specs.declared.standing.Rest.TheVariants as rest
-use Rattle.lock_world.specs.Standings.{Standing, outside, call_in, refused, Decides}
-use Rattle.lock_world.specs.Frame.{is_poll_after_ready}
-use Rattle.lock_world.specs.Steps.{nothing}
-use Rattle.lock_table.proofs.Idle as idle
-use Rattle.lock_table.proofs.Idle.{Idle, same_decides}
+use Rattle.world_base.specs.declared.standing.Rest.TheVariants as rest
+use Rattle.world_base.specs.Standings.{Standing, outside, call_in, refused, Decides}
+use Rattle.world_base.specs.Frame.{is_poll_after_ready}
+use Rattle.world_base.specs.Steps.{nothing}
+use Rattle.world_base.proofs.of_table.Idle as idle
+use Rattle.world_base.proofs.of_table.Idle.{Idle, same_decides}
 use Rattle.barrier_machine.specs.Machine.{knows}
 use Rattle.barrier_machine.specs.Waits.{Wait}
 use Rattle.barrier_world.specs.State.{World, standing_of, wait_of}
@@ -22,8 +22,8 @@ use Rattle.barrier_world.specs.AtOnce.{AnswersAtOnce, is_first_poll, is_later_po
 use Rattle.barrier_world.proofs.step.Owns.{Standing_well}
 use Rattle.std.proofs.Common.{Some}
 use Rattle.std.proofs.Common.{Option}
-use Rattle.lock_world.specs.Standings.{inside}
-use Rattle.lock_world.specs.declared.standing.Within.{Within}
+use Rattle.world_base.specs.Standings.{inside}
+use Rattle.world_base.specs.declared.standing.Within.{Within}
 
 -- which moves are possible
 first_possible : (n : ℕ) (s : Standing) (what : What) → is_first_poll s what n ≡ true → call_in knows s what ≡ None → ⊥

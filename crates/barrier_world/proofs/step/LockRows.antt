@@ -1,17 +1,17 @@
 -- What each place's step in the inner lock does, by what it comes to there.
 use Rattle.std.proofs.Common.{◌≡◌, ◌≢◌, ℕ, ◌+◌, ◌||◌, ◌⊎◌, inl, inr, Bool, true, false, List, Option, Some, None, is_some, refl, arith, ap, sym, ◌∙◌, subst}
-use Rattle.lock_queue.specs.Parties.{entries_of}
-use Rattle.lock_world.specs.declared.moves.Answer.{Answer}
-use Rattle.lock_world.specs.declared.moves.Answer.TheVariants as answer
-use Rattle.lock_world.specs.declared.moves.Move.{Move}
+use Rattle.world_base.specs.queue.Parties.{entries_of}
+use Rattle.world_base.specs.declared.moves.Answer.{Answer}
+use Rattle.world_base.specs.declared.moves.Answer.TheVariants as answer
+use Rattle.world_base.specs.declared.moves.Move.{Move}
 use Rattle.lock_program.specs.declared.refusal.Refusal.{Refusal}
 use Rattle.lock_program.specs.declared.refusal.Refusal.TheVariants as refusal
-use Rattle.lock_world.specs.declared.standing.Within.{Within}
-use Rattle.lock_world.specs.Frame.{is_refusal}
-use Rattle.lock_world.specs.Standings.{refused}
-use Rattle.lock_world.specs.Steps.{Deed, nothing, changes, does, joins, asks, leaves, notifies, notifies_additionally}
-use Rattle.lock_world.proofs.Equations.{some_eq, none_some}
-use Rattle.lock_table.specs.Tables.{Table}
+use Rattle.world_base.specs.declared.standing.Within.{Within}
+use Rattle.world_base.specs.Frame.{is_refusal}
+use Rattle.world_base.specs.Standings.{refused}
+use Rattle.world_base.specs.Steps.{Deed, nothing, changes, does, joins, asks, leaves, notifies, notifies_additionally}
+use Rattle.world_base.proofs.Equations.{some_eq, none_some}
+use Rattle.world_base.specs.table.Tables.{Table}
 use Rattle.mutex_machine.specs.Course.{Course, holds, counted as starved_there, decision, is_holding, is_releasing, Takes, Releases}
 use Rattle.lock_program.specs.declared.end.End.{End}
 use Rattle.lock_program.specs.declared.end.End.TheVariants as lock_end
@@ -46,7 +46,7 @@ use Rattle.barrier_world.proofs.step.Turns as turns
 use Rattle.barrier_world.proofs.step.Turns.{said}
 use Rattle.barrier_world.proofs.step.Locks.{ends, deed_of, lock_then, entries_then, IsOfLock, is_of_lock, gives_back_so, gives_up_so, joins_so, leaves_none, releasing_unstarved, releasing_unlisted}
 use Rattle.std.proofs.Common.{◌<◌}
-use Rattle.lock_world.specs.Standings.{IsUndecided}
+use Rattle.world_base.specs.Standings.{IsUndecided}
 use Rattle.mutex_machine.specs.Course.{listed as listed_there, may_tell, taking as polling, releasing, undecided, called, counting, has_lock, gives_up as giving_up}
 use Rattle.barrier_world.specs.State.{standing_of}
 

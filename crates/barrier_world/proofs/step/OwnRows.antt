@@ -3,15 +3,15 @@ use Rattle.std.proofs.Common.{◌≡◌, ℕ, ◌+◌, ◌≤◌, inl, inr, true
 use Rattle.lock_event.specs.declared.event.Entry.{Entry}
 use Rattle.lock_event.specs.declared.event.Mark.TheVariants.{Waiting as Waits_unmarked}
 use Rattle.lock_event.specs.Lists.{is_marked_at, mark_at}
-use Rattle.lock_queue.specs.Parties.{is_party, entries_of}
-use Rattle.lock_queue.proofs.Told.{waits_at}
-use Rattle.lock_world.specs.declared.moves.Answer.TheVariants as answer
-use Rattle.lock_world.specs.declared.moves.Got.TheVariants as got
-use Rattle.lock_world.specs.declared.moves.Move.{Move}
+use Rattle.world_base.specs.queue.Parties.{is_party, entries_of}
+use Rattle.world_base.proofs.of_queue.Told.{waits_at}
+use Rattle.world_base.specs.declared.moves.Answer.TheVariants as answer
+use Rattle.world_base.specs.declared.moves.Got.TheVariants as got
+use Rattle.world_base.specs.declared.moves.Move.{Move}
 use Rattle.lock_program.specs.declared.refusal.Refusal.TheVariants as refusal
-use Rattle.lock_world.specs.declared.standing.Within.{Within}
-use Rattle.lock_world.specs.Steps.{nothing, changes, does, joins, asks, leaves, notifies, list_after}
-use Rattle.lock_table.specs.Tables.{Table}
+use Rattle.world_base.specs.declared.standing.Within.{Within}
+use Rattle.world_base.specs.Steps.{nothing, changes, does, joins, asks, leaves, notifies, list_after}
+use Rattle.world_base.specs.table.Tables.{Table}
 use Rattle.mutex_machine.specs.Course.{is_holding}
 use Rattle.mutex_machine.specs.Mutex.{Mutex, holder_of, starved_of}
 use Rattle.mutex_machine.proofs.callers.Callers.{holding_holds, holding_unlisted}

@@ -1,11 +1,11 @@
 -- What each place's action does, finding by finding.
 use Rattle.std.proofs.Common.{◌≡◌, inl, inr, true, false, Option, Some, None, refl, ap, subst}
-use Rattle.lock_world.specs.declared.moves.Move.{Move}
-use Rattle.lock_world.specs.declared.standing.Within.{Within}
-use Rattle.lock_world.specs.Standings.{is_decided}
-use Rattle.lock_world.proofs.Equations.{none_some}
-use Rattle.lock_world.specs.Steps.{changes}
-use Rattle.lock_table.specs.Tables.{Table}
+use Rattle.world_base.specs.declared.moves.Move.{Move}
+use Rattle.world_base.specs.declared.standing.Within.{Within}
+use Rattle.world_base.specs.Standings.{is_decided}
+use Rattle.world_base.proofs.Equations.{none_some}
+use Rattle.world_base.specs.Steps.{changes}
+use Rattle.world_base.specs.table.Tables.{Table}
 use Rattle.mutex_machine.specs.Course.{Course, decision}
 use Rattle.lock_program.specs.declared.end.End.{End}
 use Rattle.lock_program.specs.declared.end.End.TheVariants as lock_end
@@ -26,7 +26,7 @@ use Rattle.barrier_world.proofs.step.Locks.{got_holds, refused_free, undecided_f
 use Rattle.barrier_world.proofs.step.OwnRows as own
 use Rattle.barrier_world.proofs.step.LockRows as locks
 use Rattle.std.proofs.Common.{◌∙◌}
-use Rattle.lock_world.specs.Standings.{inside}
+use Rattle.world_base.specs.Standings.{inside}
 use Rattle.barrier_machine.specs.Waits.{refused_by}
 
 module _ (t u : Table Barrier) (m : Move) (w : Within) (laws : IsBarrier t.machine) where

@@ -1,9 +1,9 @@
 -- What callers see of a machine, party by party.
 use Rattle.std.proofs.Common.{◌≡◌, ℕ, zero, suc, true, List, [], ◌∷◌, get_or, Some, refl}
-use Rattle.lock_world.proofs.Equations.{same_test}
-use Rattle.lock_table.specs.Stages.{stage_at, stands_as}
-use Rattle.lock_table.specs.Tables.{Table}
-use Rattle.lock_table.proofs.Views.{standings_at}
+use Rattle.world_base.proofs.Equations.{same_test}
+use Rattle.world_base.specs.table.Stages.{stage_at, stands_as}
+use Rattle.world_base.specs.table.Tables.{Table}
+use Rattle.world_base.proofs.of_table.Views.{standings_at}
 use Rattle.mutex_machine.specs.Mutex.{course_at}
 use Rattle.sync_program.specs.declared.barrier.Position.{Position}
 use Rattle.barrier_program.specs.declared.words.Progress.{Progress}

@@ -1,16 +1,16 @@
 -- Nobody is refused for too many starved parties who isn't about to be counted.
 use Rattle.std.proofs.Common.{◌≡◌, ℕ, Bool, true, false, Some, None, refl, ap, sym, ◌∙◌, subst}
 use Rattle.std.proofs.lemmas.Bool.{true≢false}
-use Rattle.lock_world.specs.declared.moves.Answer.{Answer}
-use Rattle.lock_world.specs.declared.moves.Answer.TheVariants as answer
-use Rattle.lock_world.specs.declared.moves.Move.{Move}
+use Rattle.world_base.specs.declared.moves.Answer.{Answer}
+use Rattle.world_base.specs.declared.moves.Answer.TheVariants as answer
+use Rattle.world_base.specs.declared.moves.Move.{Move}
 use Rattle.lock_program.specs.declared.refusal.Refusal.{Refusal}
 use Rattle.lock_program.specs.declared.refusal.Refusal.TheVariants as refusal
-use Rattle.lock_world.specs.declared.standing.Within.{Within}
+use Rattle.world_base.specs.declared.standing.Within.{Within}
 use Rattle.lock_program.specs.Refusals.{number_of}
-use Rattle.lock_world.specs.Standings.{Standing, outside, inside, forgotten, is_possible, is_decided, refused, decision, IsUndecided}
-use Rattle.lock_world.proofs.Equations.{some_eq, none_some}
-use Rattle.lock_table.specs.Tables.{Table}
+use Rattle.world_base.specs.Standings.{Standing, outside, inside, forgotten, is_possible, is_decided, refused, decision, IsUndecided}
+use Rattle.world_base.proofs.Equations.{some_eq, none_some}
+use Rattle.world_base.specs.table.Tables.{Table}
 use Rattle.mutex_machine.specs.Course.{is_counting}
 use Rattle.mutex_machine.specs.Mutex.{course_at}
 use Rattle.barrier_machine.specs.Machine.{Barrier}

@@ -1,23 +1,23 @@
 -- What a whole call of a barrier promises beside its end.
 use Rattle.std.proofs.Common.{◌≡◌, ◌≢◌, ℕ, true, false, Some, sym, ap, ◌∙◌, subst}
-use Rattle.lock_world.specs.declared.moves.Answer.{Answer}
-use Rattle.lock_world.specs.declared.moves.Answer.TheVariants as answer
-use Rattle.lock_world.specs.declared.moves.Call.{Call}
-use Rattle.lock_world.specs.declared.moves.Call.TheVariants as call
-use Rattle.lock_world.specs.declared.moves.Inputs.{Inputs}
-use Rattle.lock_world.specs.declared.moves.What.{What}
-use Rattle.lock_world.specs.declared.moves.What.TheVariants.{Begin, Go}
-use Rattle.lock_world.specs.declared.standing.Rest.TheVariants as rest
-use Rattle.lock_world.specs.declared.standing.Within.{Within}
-use Rattle.lock_world.specs.Accounts.{Account, accounts_after}
-use Rattle.lock_world.specs.Rosters.{how_many}
-use Rattle.lock_world.specs.Standings.{inputs_of}
-use Rattle.lock_world.specs.Whole.{going_on, moves_of, answers_of}
-use Rattle.lock_world.proofs.Equations.{none_some}
-use Rattle.lock_frame.specs.Steps.{beginning}
-use Rattle.lock_frame.proofs.Runs.{Onward, along}
-use Rattle.lock_table.specs.Tables.{Table, Acted}
-use Rattle.lock_table.proofs.Ways.{onward}
+use Rattle.world_base.specs.declared.moves.Answer.{Answer}
+use Rattle.world_base.specs.declared.moves.Answer.TheVariants as answer
+use Rattle.world_base.specs.declared.moves.Call.{Call}
+use Rattle.world_base.specs.declared.moves.Call.TheVariants as call
+use Rattle.world_base.specs.declared.moves.Inputs.{Inputs}
+use Rattle.world_base.specs.declared.moves.What.{What}
+use Rattle.world_base.specs.declared.moves.What.TheVariants.{Begin, Go}
+use Rattle.world_base.specs.declared.standing.Rest.TheVariants as rest
+use Rattle.world_base.specs.declared.standing.Within.{Within}
+use Rattle.world_base.specs.Accounts.{Account, accounts_after}
+use Rattle.world_base.specs.Rosters.{how_many}
+use Rattle.world_base.specs.Standings.{inputs_of}
+use Rattle.world_base.specs.Whole.{going_on, moves_of, answers_of}
+use Rattle.world_base.proofs.Equations.{none_some}
+use Rattle.world_base.specs.any_world.Steps.{beginning}
+use Rattle.world_base.proofs.of_any_world.Runs.{Onward, along}
+use Rattle.world_base.specs.table.Tables.{Table, Acted}
+use Rattle.world_base.proofs.of_table.Ways.{onward}
 use Rattle.mutex_machine.specs.Course.{is_counting}
 use Rattle.mutex_machine.specs.Mutex.{course_at, starved}
 use Rattle.mutex_machine.proofs.callers.Holders as sees
@@ -31,9 +31,9 @@ use Rattle.barrier_world.proofs.whole.Alone.{known_calls}
 use Rattle.barrier_world.proofs.whole.Handing.{hands_on}
 use Rattle.barrier_world.proofs.whole.Polls.{nobody_starved, first, notified, solo}
 use Rattle.std.proofs.Common.{Bool, Option, None, refl}
-use Rattle.lock_world.specs.declared.moves.Move.{Move}
-use Rattle.lock_world.specs.Standings.{Standing, outside, inside, forgotten, is_outside, is_decided, is_possible, decision, call_in}
-use Rattle.lock_frame.proofs.Endings.{ends_outside as outside_at_end}
+use Rattle.world_base.specs.declared.moves.Move.{Move}
+use Rattle.world_base.specs.Standings.{Standing, outside, inside, forgotten, is_outside, is_decided, is_possible, decision, call_in}
+use Rattle.world_base.proofs.of_any_world.Endings.{ends_outside as outside_at_end}
 use Rattle.barrier_machine.specs.Machine.{knows}
 use Rattle.barrier_world.specs.State.{standing_of}
 use Rattle.barrier_world.proofs.whole.Ring.{counts_none, begins_uncounted, tells_nobody_at_end}

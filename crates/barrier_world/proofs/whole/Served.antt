@@ -1,15 +1,15 @@
 -- What comes of a poll that has the inner lock and is carried out alone, action by action.
 use Rattle.std.proofs.Common.{◌≡◌, ◌≢◌, ℕ, ◌+◌, ◌<◌, ◌≤◌, ◌⊎◌, inl, inr, true, false, length, Some, None, refl, sym, ap, ◌∙◌, subst, arith, if◌then◌else◌}
 use Rattle.lock_event.specs.Lists.{marked_count, is_marked_at, without}
-use Rattle.lock_queue.specs.Parties.{is_party}
-use Rattle.lock_world.specs.declared.moves.Answer.{Answer}
-use Rattle.lock_world.specs.declared.moves.Answer.TheVariants as answer
-use Rattle.lock_world.specs.declared.moves.Got.TheVariants.{Leader}
-use Rattle.lock_world.specs.declared.moves.Inputs.{Inputs}
+use Rattle.world_base.specs.queue.Parties.{is_party}
+use Rattle.world_base.specs.declared.moves.Answer.{Answer}
+use Rattle.world_base.specs.declared.moves.Answer.TheVariants as answer
+use Rattle.world_base.specs.declared.moves.Got.TheVariants.{Leader}
+use Rattle.world_base.specs.declared.moves.Inputs.{Inputs}
 use Rattle.lock_program.specs.declared.refusal.Refusal.TheVariants as refusal
-use Rattle.lock_world.specs.Standings.{refused}
-use Rattle.lock_world.specs.Steps.{Deed, nothing, changes, does}
-use Rattle.lock_world.proofs.Lists.{joined_unmarked}
+use Rattle.world_base.specs.Standings.{refused}
+use Rattle.world_base.specs.Steps.{Deed, nothing, changes, does}
+use Rattle.world_base.proofs.Lists.{joined_unmarked}
 use Rattle.lock_program.specs.declared.mutex.Step.{Step as LockStep}
 use Rattle.lock_program.specs.declared.mutex.Step.TheVariants as lock_step
 use Rattle.lock_program.specs.declared.end.End.TheVariants as lock_end

@@ -1,22 +1,22 @@
 -- A call that is carried out alone ends within its number of steps.
 use Rattle.std.proofs.Common.{◌≡◌, ℕ, ◌+◌, ◌<◌, ◌≤◌, Bool, true, false, Some, refl, arith, ap, sym, ◌∙◌, subst, get_or-set_same}
-use Rattle.lock_world.specs.declared.moves.Answer.{Answer}
-use Rattle.lock_world.specs.declared.moves.Call.{Call}
-use Rattle.lock_world.specs.declared.moves.Call.TheVariants as call
-use Rattle.lock_world.specs.declared.moves.Got.{Got}
-use Rattle.lock_world.specs.declared.moves.Inputs.{Inputs}
-use Rattle.lock_world.specs.declared.moves.Move.{Move}
-use Rattle.lock_world.specs.declared.moves.What.TheVariants.{Go}
-use Rattle.lock_world.specs.declared.standing.Rest.TheVariants as rest
-use Rattle.lock_world.specs.declared.standing.Within.{Within}
-use Rattle.lock_world.specs.Whole.{going_on}
-use Rattle.lock_world.proofs.Equations.{some_eq, none_some}
-use Rattle.lock_frame.specs.Steps.{left_by, beginning}
+use Rattle.world_base.specs.declared.moves.Answer.{Answer}
+use Rattle.world_base.specs.declared.moves.Call.{Call}
+use Rattle.world_base.specs.declared.moves.Call.TheVariants as call
+use Rattle.world_base.specs.declared.moves.Got.{Got}
+use Rattle.world_base.specs.declared.moves.Inputs.{Inputs}
+use Rattle.world_base.specs.declared.moves.Move.{Move}
+use Rattle.world_base.specs.declared.moves.What.TheVariants.{Go}
+use Rattle.world_base.specs.declared.standing.Rest.TheVariants as rest
+use Rattle.world_base.specs.declared.standing.Within.{Within}
+use Rattle.world_base.specs.Whole.{going_on}
+use Rattle.world_base.proofs.Equations.{some_eq, none_some}
+use Rattle.world_base.specs.any_world.Steps.{left_by, beginning}
 use Rattle.lock_program.specs.declared.end.End.{End}
 use Rattle.lock_program.specs.declared.end.End.TheVariants as «end»
-use Rattle.lock_table.specs.Ends.{answer_of}
-use Rattle.lock_table.specs.Tables.{Table, Acted}
-use Rattle.lock_table.proofs.Ways.{way, by_way}
+use Rattle.world_base.specs.table.Ends.{answer_of}
+use Rattle.world_base.specs.table.Tables.{Table, Acted}
+use Rattle.world_base.proofs.of_table.Ways.{way, by_way}
 use Rattle.mutex_machine.specs.Mutex.{steps_left as lock_steps_left}
 use Rattle.sync_program.specs.declared.barrier.Aim.{Aim}
 use Rattle.sync_program.specs.declared.barrier.Aim.TheVariants as aim

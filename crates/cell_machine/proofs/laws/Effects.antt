@@ -3,11 +3,11 @@ use Rattle.std.proofs.Common.{ℕ, ◌<◌, Bool, true, false, List, length, ref
 use Rattle.lock_event.specs.declared.event.Entry.{Entry}
 use Rattle.lock_event.specs.declared.event.Mark.TheVariants.{Additional}
 use Rattle.lock_event.specs.Lists.{is_marked_at, marked_count, mark_waiting}
-use Rattle.lock_queue.specs.Parties.{is_party}
-use Rattle.lock_queue.specs.Queues.{Queue}
-use Rattle.lock_world.specs.declared.moves.Inputs.{Inputs}
-use Rattle.lock_world.specs.Steps.{joins, asks, leaves, notifies, notifies_additionally}
-use Rattle.lock_world.proofs.Lists.{counted, mark_some}
+use Rattle.world_base.specs.queue.Parties.{is_party}
+use Rattle.world_base.specs.queue.Queues.{Queue}
+use Rattle.world_base.specs.declared.moves.Inputs.{Inputs}
+use Rattle.world_base.specs.Steps.{joins, asks, leaves, notifies, notifies_additionally}
+use Rattle.world_base.proofs.Lists.{counted, mark_some}
 use Rattle.cell_program.specs.Program.{Action}
 use Rattle.sync_program.specs.declared.once_cell.Action.TheVariants as act
 use Rattle.cell_program.specs.Program.{Found}

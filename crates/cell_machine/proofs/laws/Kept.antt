@@ -1,6 +1,6 @@
 -- Each step keeps what always holds of the numbers.
 use Rattle.std.proofs.Common.{◌≡◌, ◌+◌, ◌<◌, ◌≤◌, true, false, arith}
-use Rattle.lock_queue.proofs.Debts.{still_owed}
+use Rattle.world_base.proofs.of_queue.Debts.{still_owed}
 use Rattle.cell_program.specs.Program.{Found}
 use Rattle.sync_program.specs.declared.once_cell.Found.TheVariants as found
 use Rattle.sync_program.specs.declared.once_cell.ListName.TheVariants.{Active, Passive}

@@ -1,9 +1,9 @@
 -- What always holds of a cell, as callers see it.
 use Rattle.std.proofs.Common.{◌≡◌, ◌<◌, true, List, [], ◌∷◌, length, refl, arith, ap}
 use Rattle.lock_event.specs.Lists.{marked_count, IsMarkedFirst}
-use Rattle.lock_queue.specs.Queues.{Queue}
-use Rattle.lock_queue.specs.Debts.{Roles, Rests, AllRest}
-use Rattle.lock_queue.proofs.Debts.{paid_at_rest}
+use Rattle.world_base.specs.queue.Queues.{Queue}
+use Rattle.world_base.specs.queue.Debts.{Roles, Rests, AllRest}
+use Rattle.world_base.proofs.of_queue.Debts.{paid_at_rest}
 use Rattle.cell_program.specs.Program.{Position}
 use Rattle.sync_program.specs.declared.once_cell.Position.TheVariants.{At}
 use Rattle.cell_program.specs.declared.words.Content.{Content}

@@ -1,8 +1,8 @@
 -- A new cell.
 use Rattle.std.proofs.Common.{◌≡◌, ℕ, ◌≤◌, [], replicate, refl, sym, arith}
 use Rattle.std.proofs.lemmas.List.{length-replicate}
-use Rattle.lock_queue.specs.Queues.{queue}
-use Rattle.lock_world.proofs.Alike.{all_alike, none_of_all}
+use Rattle.world_base.specs.queue.Queues.{queue}
+use Rattle.world_base.proofs.Alike.{all_alike, none_of_all}
 use Rattle.cell_program.specs.Program.{Position}
 use Rattle.sync_program.specs.declared.once_cell.Position.TheVariants.{Out}
 use Rattle.cell_program.specs.declared.words.Content.TheVariants as content

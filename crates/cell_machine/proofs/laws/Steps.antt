@@ -1,7 +1,7 @@
 -- What a step does to the numbers.
 use Rattle.std.proofs.Common.{◌≡◌, ◌+◌, ◌<◌, ◌≤◌, Bool, true, false}
-use Rattle.lock_world.specs.Steps.{ListFunction, joins, asks, leaves, notifies, notifies_additionally}
-use Rattle.lock_world.proofs.Lists.{Counted}
+use Rattle.world_base.specs.Steps.{ListFunction, joins, asks, leaves, notifies, notifies_additionally}
+use Rattle.world_base.proofs.Lists.{Counted}
 use Rattle.cell_program.specs.Program.{Action}
 use Rattle.sync_program.specs.declared.once_cell.Action.TheVariants as act
 use Rattle.cell_program.specs.Program.{Found}

@@ -4,8 +4,8 @@ use Rattle.std.specs.List.{sum_by}
 use Rattle.std.proofs.lemmas.List.Sums.{sum_by-cons}
 use Rattle.lock_event.specs.Lists.{marked_count, is_marked_at, without}
 use Rattle.lock_event.proofs.Counts.{marked_count-without_marked}
-use Rattle.lock_queue.specs.Parties.{is_party, entries_of}
-use Rattle.lock_queue.specs.Queues.{Queue}
+use Rattle.world_base.specs.queue.Parties.{is_party, entries_of}
+use Rattle.world_base.specs.queue.Queues.{Queue}
 use Rattle.sync_program.specs.declared.once_cell.ListName.TheVariants.{Active, Passive}
 use Rattle.sync_program.specs.declared.once_cell.Place.TheVariants.{NotifyActive, TryNotifyActive, AskActive, CancelLeave}
 use Rattle.cell_program.specs.Program.{Position}
@@ -17,7 +17,7 @@ use Rattle.cell_program.specs.declared.words.Words.{Words}
 use Rattle.cell_program.specs.Words.{content_by, kept_by, content_of, kept_of, refilled}
 use Rattle.cell_machine.specs.Seats.{in_active, waits, owes, is_late, will_tell}
 use Rattle.cell_machine.specs.Machine.{IsKept, position_at}
-use Rattle.lock_queue.proofs.Marks.{else_marked}
+use Rattle.world_base.proofs.of_queue.Marks.{else_marked}
 
 -- where some term of a sum isn't nothing, one party has it
 pub some_term : (f : Position → ℕ) (xs : List Position) → 0 < sum_by f xs → (p : ℕ) × (0 < f (position_at xs p))

@@ -4,11 +4,11 @@ use Rattle.std.proofs.Math.ListN.{set}
 use Rattle.std.proofs.Math.Decide.{ℕ_discrete}
 use Rattle.lock_event.specs.declared.event.Entry.{Entry}
 use Rattle.lock_event.specs.declared.event.Mark.TheVariants as mark
-use Rattle.lock_queue.specs.Parties.{entries_of, is_unmarked}
-use Rattle.lock_queue.proofs.Marks.{never_unlisted, all_marked}
-use Rattle.lock_world.proofs.Lists.{unmarked_before}
-use Rattle.lock_world.specs.declared.moves.Inputs.{Inputs}
-use Rattle.lock_world.specs.Steps.{Deed, nothing, changes, does}
+use Rattle.world_base.specs.queue.Parties.{entries_of, is_unmarked}
+use Rattle.world_base.proofs.of_queue.Marks.{never_unlisted, all_marked}
+use Rattle.world_base.proofs.Lists.{unmarked_before}
+use Rattle.world_base.specs.declared.moves.Inputs.{Inputs}
+use Rattle.world_base.specs.Steps.{Deed, nothing, changes, does}
 use Rattle.cell_program.specs.Program.{Found}
 use Rattle.sync_program.specs.declared.once_cell.Found.TheVariants as found
 use Rattle.sync_program.specs.declared.once_cell.ListName.{ListName}

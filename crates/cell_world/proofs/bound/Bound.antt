@@ -1,12 +1,12 @@
 -- An empty cell is taken by the first solo poll.
 use Rattle.std.proofs.Common.{ℕ, refl}
-use Rattle.lock_world.specs.declared.moves.Answer.{Answer}
-use Rattle.lock_world.specs.declared.moves.Call.TheVariants as call
-use Rattle.lock_world.specs.declared.moves.Inputs.{Inputs}
+use Rattle.world_base.specs.declared.moves.Answer.{Answer}
+use Rattle.world_base.specs.declared.moves.Call.TheVariants as call
+use Rattle.world_base.specs.declared.moves.Inputs.{Inputs}
 use Rattle.sync_program.specs.declared.once_cell.ListName.TheVariants.{Active}
 use Rattle.cell_world.specs.State.{World}
 use Rattle.cell_world.specs.Laws.{IsSound, IsAwake, IsFreeAndWanted}
-use Rattle.lock_table.proofs.Bounds.{first_takes, first_marked}
+use Rattle.world_base.proofs.of_table.Bounds.{first_takes, first_marked}
 use Rattle.cell_world.specs.Runs.{known_of}
 use Rattle.cell_world.specs.Bound.{PassesOver, IsBounded}
 use Rattle.cell_world.proofs.whole.Promises.{keeps_promises}

@@ -1,13 +1,13 @@
 -- The laws of a once-cell's World: what follows from one step that its table did.
 use Rattle.std.proofs.Common.{◌≡◌, ◌≢◌, ℕ, ◌+◌, ◌<◌, ◌≤◌, true, Some, refl, ap, sym, subst}
-use Rattle.lock_world.specs.declared.moves.Answer.{Answer}
-use Rattle.lock_world.specs.declared.moves.Answer.TheVariants as answer
-use Rattle.lock_world.specs.declared.moves.Call.{Call}
-use Rattle.lock_world.specs.declared.moves.Inputs.{Inputs}
-use Rattle.lock_world.specs.declared.moves.Move.{Move}
-use Rattle.lock_world.specs.declared.standing.Rest.TheVariants as rest
-use Rattle.lock_world.specs.Standings.{is_outside, is_possible}
-use Rattle.lock_world.proofs.Equations.{some_eq, none_some}
+use Rattle.world_base.specs.declared.moves.Answer.{Answer}
+use Rattle.world_base.specs.declared.moves.Answer.TheVariants as answer
+use Rattle.world_base.specs.declared.moves.Call.{Call}
+use Rattle.world_base.specs.declared.moves.Inputs.{Inputs}
+use Rattle.world_base.specs.declared.moves.Move.{Move}
+use Rattle.world_base.specs.declared.standing.Rest.TheVariants as rest
+use Rattle.world_base.specs.Standings.{is_outside, is_possible}
+use Rattle.world_base.proofs.Equations.{some_eq, none_some}
 use Rattle.cell_program.specs.declared.words.Content.{Content}
 use Rattle.cell_program.specs.declared.words.Content.TheVariants.{Empty, BeingMade, Full}
 use Rattle.cell_machine.specs.Machine.{knows}
@@ -16,9 +16,9 @@ use Rattle.cell_program.specs.Words.{value_in}
 use Rattle.cell_world.specs.View.{view_of}
 use Rattle.cell_world.specs.Legal.{Legal}
 use Rattle.cell_world.specs.Steps.{Steps}
-use Rattle.lock_world.specs.Whole.{going_on}
-use Rattle.lock_frame.specs.Steps.{StepsWell, left_by, beginning}
-use Rattle.lock_frame.proofs.Endings.{ends_outside as outside_at_end}
+use Rattle.world_base.specs.Whole.{going_on}
+use Rattle.world_base.specs.any_world.Steps.{StepsWell, left_by, beginning}
+use Rattle.world_base.proofs.of_any_world.Endings.{ends_outside as outside_at_end}
 use Rattle.cell_world.specs.Runs.{Known, Tells, HoldsWell, known_of, learn}
 use Rattle.cell_world.specs.Whole.{most_steps_of, steps_left_of}
 use Rattle.cell_world.proofs.laws.Sound.{sound, awake}

@@ -1,20 +1,20 @@
 -- After each step what is known by the answers goes on to be so.
 use Rattle.std.proofs.Common.{◌≡◌, ℕ, ◌==◌, if◌then◌else◌, Bool, true, false, Option, Some, None, refl, ap, sym, ◌∙◌, subst}
-use Rattle.lock_world.specs.declared.moves.Answer.{Answer}
-use Rattle.lock_world.specs.declared.moves.Answer.TheVariants as answer
-use Rattle.lock_world.specs.declared.moves.Call.TheVariants as call
-use Rattle.lock_world.specs.declared.moves.Got.TheVariants as got
-use Rattle.lock_world.specs.declared.moves.Inputs.{Inputs}
-use Rattle.lock_world.specs.declared.moves.Move.{Move}
-use Rattle.lock_world.specs.declared.moves.What.{What}
-use Rattle.lock_world.specs.declared.moves.What.TheVariants.{Begin, Go}
-use Rattle.lock_world.specs.declared.standing.Stage.{Stage}
-use Rattle.lock_world.specs.declared.standing.Within.{Within}
-use Rattle.lock_world.specs.Standings.{Standing, outside, inside, forgotten, is_decided, decision}
-use Rattle.lock_world.proofs.Equations.{some_eq}
-use Rattle.lock_table.specs.Stages.{stage_at, call_at, polls_again}
-use Rattle.lock_table.specs.Tables.{Table}
-use Rattle.lock_table.proofs.Rights.{idle_account, again_account}
+use Rattle.world_base.specs.declared.moves.Answer.{Answer}
+use Rattle.world_base.specs.declared.moves.Answer.TheVariants as answer
+use Rattle.world_base.specs.declared.moves.Call.TheVariants as call
+use Rattle.world_base.specs.declared.moves.Got.TheVariants as got
+use Rattle.world_base.specs.declared.moves.Inputs.{Inputs}
+use Rattle.world_base.specs.declared.moves.Move.{Move}
+use Rattle.world_base.specs.declared.moves.What.{What}
+use Rattle.world_base.specs.declared.moves.What.TheVariants.{Begin, Go}
+use Rattle.world_base.specs.declared.standing.Stage.{Stage}
+use Rattle.world_base.specs.declared.standing.Within.{Within}
+use Rattle.world_base.specs.Standings.{Standing, outside, inside, forgotten, is_decided, decision}
+use Rattle.world_base.proofs.Equations.{some_eq}
+use Rattle.world_base.specs.table.Stages.{stage_at, call_at, polls_again}
+use Rattle.world_base.specs.table.Tables.{Table}
+use Rattle.world_base.proofs.of_table.Rights.{idle_account, again_account}
 use Rattle.cell_program.specs.Program.{Place}
 use Rattle.cell_program.specs.Program.{Position}
 use Rattle.cell_program.specs.declared.words.Content.{Content}
@@ -26,8 +26,8 @@ use Rattle.cell_world.specs.View.{view_of}
 use Rattle.cell_world.specs.Legal.{call_of, HasItsOwn, Legal}
 use Rattle.cell_world.specs.Laws.{IsSound, IsAwake, is_at_rest}
 use Rattle.cell_world.specs.Steps.{IsCellTable, TableSteps}
-use Rattle.lock_world.specs.Accounts.{Account, account_after, accounts_after}
-use Rattle.lock_frame.specs.Steps.{StepsWell}
+use Rattle.world_base.specs.Accounts.{Account, account_after, accounts_after}
+use Rattle.world_base.specs.any_world.Steps.{StepsWell}
 use Rattle.cell_world.specs.Runs.{Known, Tells, HoldsWell, no_account, learn, value_after}
 use Rattle.cell_world.proofs.step.Owns.{each_has}
 use Rattle.cell_world.proofs.Values.{stays_full}

@@ -2,28 +2,28 @@
 use Rattle.std.proofs.Common.{◌≡◌, ℕ, ◌<◌, ◌≤◌, ◌&&◌, ◌==◌, if◌then◌else◌, Bool, true, false, List, length, Some, None, refl, arith, ap, sym, ◌∙◌, subst}
 use Rattle.lock_event.specs.declared.event.Entry.{Entry}
 use Rattle.lock_event.specs.Lists.{is_marked_at}
-use Rattle.lock_queue.specs.Parties.{is_party, entries_of, is_unmarked}
-use Rattle.lock_queue.proofs.Marks.{all_marked, else_marked}
+use Rattle.world_base.specs.queue.Parties.{is_party, entries_of, is_unmarked}
+use Rattle.world_base.proofs.of_queue.Marks.{all_marked, else_marked}
 use Rattle.lock_event.specs.declared.event.Mark.TheVariants as mark
-use Rattle.lock_world.specs.declared.moves.Answer.{Answer}
-use Rattle.lock_world.specs.declared.moves.Answer.TheVariants as answer
-use Rattle.lock_world.specs.declared.moves.Call.TheVariants as call
-use Rattle.lock_world.specs.declared.moves.Inputs.{Inputs}
-use Rattle.lock_world.specs.declared.moves.Made.{Made}
-use Rattle.lock_world.specs.declared.moves.Made.TheVariants as made
-use Rattle.lock_world.specs.declared.moves.Move.{Move}
-use Rattle.lock_world.specs.declared.moves.What.{What}
-use Rattle.lock_world.specs.declared.moves.What.TheVariants.{Begin}
-use Rattle.lock_world.specs.declared.standing.Rest.{Rest}
-use Rattle.lock_world.specs.declared.standing.Rest.TheVariants as rest
-use Rattle.lock_world.specs.declared.standing.Stage.{Stage}
-use Rattle.lock_world.specs.declared.standing.Stage.TheVariants.{Outside, Inside, Forgotten}
-use Rattle.lock_world.specs.declared.standing.Within.{Within}
-use Rattle.lock_world.specs.Standings.{Standing, outside, inside, inputs_of, is_stepped, decision}
-use Rattle.lock_world.specs.Steps.{Deed, does, asks}
-use Rattle.lock_world.specs.Frame.{is_drop}
-use Rattle.lock_table.specs.Stages.{stage_at, stands_as, call_at, polls_again}
-use Rattle.lock_table.specs.Tables.{Table}
+use Rattle.world_base.specs.declared.moves.Answer.{Answer}
+use Rattle.world_base.specs.declared.moves.Answer.TheVariants as answer
+use Rattle.world_base.specs.declared.moves.Call.TheVariants as call
+use Rattle.world_base.specs.declared.moves.Inputs.{Inputs}
+use Rattle.world_base.specs.declared.moves.Made.{Made}
+use Rattle.world_base.specs.declared.moves.Made.TheVariants as made
+use Rattle.world_base.specs.declared.moves.Move.{Move}
+use Rattle.world_base.specs.declared.moves.What.{What}
+use Rattle.world_base.specs.declared.moves.What.TheVariants.{Begin}
+use Rattle.world_base.specs.declared.standing.Rest.{Rest}
+use Rattle.world_base.specs.declared.standing.Rest.TheVariants as rest
+use Rattle.world_base.specs.declared.standing.Stage.{Stage}
+use Rattle.world_base.specs.declared.standing.Stage.TheVariants.{Outside, Inside, Forgotten}
+use Rattle.world_base.specs.declared.standing.Within.{Within}
+use Rattle.world_base.specs.Standings.{Standing, outside, inside, inputs_of, is_stepped, decision}
+use Rattle.world_base.specs.Steps.{Deed, does, asks}
+use Rattle.world_base.specs.Frame.{is_drop}
+use Rattle.world_base.specs.table.Stages.{stage_at, stands_as, call_at, polls_again}
+use Rattle.world_base.specs.table.Tables.{Table}
 use Rattle.cell_program.specs.Program.{Action}
 use Rattle.sync_program.specs.declared.once_cell.Action.TheVariants as act
 use Rattle.cell_program.specs.Program.{Found}
@@ -52,7 +52,7 @@ use Rattle.cell_world.specs.AtOnce.{AnswersAtOnce, KeepsLists, TriesAtOnce, Make
 use Rattle.cell_world.proofs.step.Rows.{said, content_then}
 use Rattle.cell_world.proofs.step.Acting.{Acting}
 use Rattle.cell_world.proofs.step.Acting as acting
-use Rattle.lock_world.proofs.Equations.{both, not_one}
+use Rattle.world_base.proofs.Equations.{both, not_one}
 
 -- ---- Where calls begin
 

@@ -1,16 +1,16 @@
 -- What is so where a move begins or goes on.
 use Rattle.std.proofs.Common.{◌≡◌, ℕ, ◌||◌, ◌⊎◌, inl, inr, true, false, Some, is_some, refl, ap, sym, ◌∙◌}
-use Rattle.lock_world.specs.declared.moves.Answer.{Answer}
-use Rattle.lock_world.specs.declared.moves.Answer.TheVariants as answer
-use Rattle.lock_world.specs.declared.moves.Inputs.{Inputs}
-use Rattle.lock_world.specs.declared.moves.What.{What}
-use Rattle.lock_world.specs.declared.moves.What.TheVariants.{Go}
-use Rattle.lock_world.specs.declared.standing.Stage.{Stage}
-use Rattle.lock_world.specs.declared.standing.Within.{Within}
-use Rattle.lock_world.specs.Standings.{inside, is_decided, IsUndecided}
-use Rattle.lock_world.specs.Frame.{is_drop, is_giving_back}
-use Rattle.lock_table.proofs.Calls.{decides_so, undecided_so}
-use Rattle.lock_table.specs.Stages.{stands_as, call_at, polls_again}
+use Rattle.world_base.specs.declared.moves.Answer.{Answer}
+use Rattle.world_base.specs.declared.moves.Answer.TheVariants as answer
+use Rattle.world_base.specs.declared.moves.Inputs.{Inputs}
+use Rattle.world_base.specs.declared.moves.What.{What}
+use Rattle.world_base.specs.declared.moves.What.TheVariants.{Go}
+use Rattle.world_base.specs.declared.standing.Stage.{Stage}
+use Rattle.world_base.specs.declared.standing.Within.{Within}
+use Rattle.world_base.specs.Standings.{inside, is_decided, IsUndecided}
+use Rattle.world_base.specs.Frame.{is_drop, is_giving_back}
+use Rattle.world_base.proofs.of_table.Calls.{decides_so, undecided_so}
+use Rattle.world_base.specs.table.Stages.{stands_as, call_at, polls_again}
 use Rattle.cell_program.specs.Program.{Action}
 use Rattle.sync_program.specs.declared.once_cell.Action.TheVariants as act
 use Rattle.cell_program.specs.Program.{Maker}

@@ -1,21 +1,21 @@
 -- A move that does nothing is a legal step: one that its party may not make, and a poll of a future that has been ready.
 use Rattle.std.proofs.Common.{◌≡◌, ℕ, inl, Bool, true, false, Option, Some, None, refl, sym, ◌∙◌, subst}
-use Rattle.lock_queue.specs.Parties.{entries_of}
-use Rattle.lock_world.specs.declared.moves.Answer.{Answer}
-use Rattle.lock_world.specs.declared.moves.Answer.TheVariants as answer
-use Rattle.lock_world.specs.declared.moves.Call.TheVariants as call
-use Rattle.lock_world.specs.declared.moves.Move.{Move}
-use Rattle.lock_world.specs.declared.moves.What.{What}
-use Rattle.lock_world.specs.declared.moves.What.TheVariants.{Begin}
+use Rattle.world_base.specs.queue.Parties.{entries_of}
+use Rattle.world_base.specs.declared.moves.Answer.{Answer}
+use Rattle.world_base.specs.declared.moves.Answer.TheVariants as answer
+use Rattle.world_base.specs.declared.moves.Call.TheVariants as call
+use Rattle.world_base.specs.declared.moves.Move.{Move}
+use Rattle.world_base.specs.declared.moves.What.{What}
+use Rattle.world_base.specs.declared.moves.What.TheVariants.{Begin}
 use Rattle.lock_program.specs.declared.refusal.Refusal.TheVariants as refusal
-use Rattle.lock_world.specs.declared.standing.Rest.TheVariants as rest
-use Rattle.lock_world.specs.declared.standing.Within.{Within}
-use Rattle.lock_world.specs.Standings.{Standing, outside, inside, call_in, refused}
-use Rattle.lock_world.specs.Frame.{is_drop, is_poll_after_ready}
-use Rattle.lock_world.specs.Steps.{nothing}
-use Rattle.lock_world.proofs.Equations.{none_some}
-use Rattle.lock_table.proofs.Idle as idle
-use Rattle.lock_table.proofs.Idle.{Idle, same_decides}
+use Rattle.world_base.specs.declared.standing.Rest.TheVariants as rest
+use Rattle.world_base.specs.declared.standing.Within.{Within}
+use Rattle.world_base.specs.Standings.{Standing, outside, inside, call_in, refused}
+use Rattle.world_base.specs.Frame.{is_drop, is_poll_after_ready}
+use Rattle.world_base.specs.Steps.{nothing}
+use Rattle.world_base.proofs.Equations.{none_some}
+use Rattle.world_base.proofs.of_table.Idle as idle
+use Rattle.world_base.proofs.of_table.Idle.{Idle, same_decides}
 use Rattle.cell_program.specs.declared.words.Content.TheVariants.{Empty, BeingMade, Full}
 use Rattle.cell_machine.specs.Seats.{Task, no_task, fills_with}
 use Rattle.cell_machine.specs.Machine.{knows, is_maker}

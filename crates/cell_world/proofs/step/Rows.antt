@@ -1,18 +1,18 @@
 -- What each place's action does, finding by finding.
 use Rattle.std.proofs.Common.{◌≡◌, ◌≢◌, ℕ, ◌||◌, ◌⊎◌, inl, inr, Bool, true, false, List, Option, Some, None, is_some, refl, ap, sym, ◌∙◌}
 use Rattle.lock_event.specs.declared.event.Entry.{Entry}
-use Rattle.lock_world.specs.declared.moves.Answer.{Answer}
-use Rattle.lock_world.specs.declared.moves.Answer.TheVariants as answer
-use Rattle.lock_world.specs.declared.moves.Got.TheVariants as got
-use Rattle.lock_world.specs.declared.moves.Inputs.{Inputs}
-use Rattle.lock_world.specs.declared.moves.Made.{Made}
-use Rattle.lock_world.specs.declared.moves.Made.TheVariants as made
+use Rattle.world_base.specs.declared.moves.Answer.{Answer}
+use Rattle.world_base.specs.declared.moves.Answer.TheVariants as answer
+use Rattle.world_base.specs.declared.moves.Got.TheVariants as got
+use Rattle.world_base.specs.declared.moves.Inputs.{Inputs}
+use Rattle.world_base.specs.declared.moves.Made.{Made}
+use Rattle.world_base.specs.declared.moves.Made.TheVariants as made
 use Rattle.lock_program.specs.declared.refusal.Refusal.{Refusal}
 use Rattle.lock_program.specs.declared.refusal.Refusal.TheVariants as refusal
-use Rattle.lock_world.specs.Frame.{is_refusal}
+use Rattle.world_base.specs.Frame.{is_refusal}
 use Rattle.lock_program.specs.Refusals.{number_of}
-use Rattle.lock_world.specs.Steps.{Deed, nothing, changes, does, joins, asks, leaves, notifies, notifies_additionally}
-use Rattle.lock_table.specs.Ends.{answer_of}
+use Rattle.world_base.specs.Steps.{Deed, nothing, changes, does, joins, asks, leaves, notifies, notifies_additionally}
+use Rattle.world_base.specs.table.Ends.{answer_of}
 use Rattle.sync_program.specs.declared.once_cell.Action.TheVariants as act
 use Rattle.cell_program.specs.Program.{Found, got_left}
 use Rattle.sync_program.specs.declared.once_cell.Found.TheVariants as found

@@ -2,17 +2,17 @@
 use Rattle.std.proofs.Common.{◌≡◌, ℕ, true, List, Option, ap, sym, ◌∙◌}
 use Rattle.std.specs.List.{list_all}
 use Rattle.lock_event.specs.declared.event.Entry.{Entry}
-use Rattle.lock_world.specs.Standings.{Standing, is_outside_stage}
-use Rattle.lock_table.specs.Tables.{Table}
-use Rattle.lock_table.proofs.Views.{rest_seen}
+use Rattle.world_base.specs.Standings.{Standing, is_outside_stage}
+use Rattle.world_base.specs.table.Tables.{Table}
+use Rattle.world_base.proofs.of_table.Views.{rest_seen}
 use Rattle.cell_program.specs.declared.words.Content.{Content}
 use Rattle.cell_machine.specs.Seats.{Task, verdict}
 use Rattle.cell_machine.specs.Machine.{OnceCell, position_at}
 use Rattle.cell_world.specs.State.{World}
 use Rattle.cell_world.specs.View.{view_of}
 use Rattle.cell_world.specs.Laws.{is_at_rest}
-use Rattle.lock_table.specs.Lending.{table_with}
-use Rattle.lock_table.proofs.Lending.{lent_seen}
+use Rattle.world_base.specs.table.Lending.{table_with}
+use Rattle.world_base.proofs.of_table.Lending.{lent_seen}
 use Rattle.cell_machine.specs.Machine.{with_value}
 use Rattle.cell_world.specs.Lending.{world_with}
 

@@ -1,8 +1,8 @@
 -- A new table is seen as a new World.
 use Rattle.std.proofs.Common.{◌≡◌, ℕ, List}
 use Rattle.lock_event.specs.declared.event.Entry.{Entry}
-use Rattle.lock_world.specs.Standings.{Standing}
-use Rattle.lock_table.specs.Tables.{Table}
+use Rattle.world_base.specs.Standings.{Standing}
+use Rattle.world_base.specs.table.Tables.{Table}
 use Rattle.sync_program.specs.declared.once_cell.Position.TheVariants.{Out}
 use Rattle.cell_program.specs.declared.words.Content.{Content}
 use Rattle.cell_program.specs.declared.words.Content.TheVariants.{Empty}
@@ -11,9 +11,9 @@ use Rattle.cell_machine.specs.Machine.{OnceCell, position_at}
 use Rattle.cell_world.specs.State.{World}
 use Rattle.cell_world.specs.View.{view_of}
 use Rattle.std.proofs.Common.{replicate}
-use Rattle.lock_table.specs.Tables.{new_table}
-use Rattle.lock_table.proofs.Mapped.{mapped_alike}
-use Rattle.lock_table.proofs.Views.{all_idle}
+use Rattle.world_base.specs.table.Tables.{new_table}
+use Rattle.world_base.proofs.of_table.Mapped.{mapped_alike}
+use Rattle.world_base.proofs.of_table.Views.{all_idle}
 use Rattle.cell_machine.specs.Machine.{new_cell}
 use Rattle.cell_world.specs.State.{new_world}
 

@@ -1,9 +1,9 @@
 -- What callers see of a machine, party by party.
 use Rattle.std.proofs.Common.{◌≡◌, ℕ, List}
-use Rattle.lock_table.specs.Stages.{stage_at, stands_as}
-use Rattle.lock_table.specs.Tables.{Table}
-use Rattle.lock_table.proofs.Mapped.{mapped_at}
-use Rattle.lock_table.proofs.Views.{standings_at}
+use Rattle.world_base.specs.table.Stages.{stage_at, stands_as}
+use Rattle.world_base.specs.table.Tables.{Table}
+use Rattle.world_base.proofs.of_table.Mapped.{mapped_at}
+use Rattle.world_base.proofs.of_table.Views.{standings_at}
 use Rattle.cell_program.specs.Program.{Position}
 use Rattle.sync_program.specs.declared.once_cell.Position.TheVariants.{Out}
 use Rattle.cell_machine.specs.Seats.{task_at, verdict}

@@ -1,7 +1,7 @@
 //! The rows of which the tests of a barrier's World are made.
 
 use lock_event::Mark;
-use lock_world::{Answer, Got, Inputs, Made};
+use world_base::{Answer, Got, Inputs, Made};
 
 pub(crate) const INPUTS: Inputs = Inputs {
     memory: true,

@@ -13,12 +13,11 @@ use Deed::{
 };
 use barrier_world::{ListName, World};
 use lock_event::{Mark, Memory};
-use lock_frame::AnyWorld;
 use lock_program::Refusal;
-use lock_world::{Answer, Call, Got, Inputs, Move, What};
 use std::alloc::Global;
 use std::process::Abort;
 use std::test::Fail;
+use world_base::{Answer, AnyWorld, Call, Got, Inputs, Move, What};
 
 const BEGIN_WAIT: What = What::Begin(Call::Wait, INPUTS);
 

@@ -2,8 +2,8 @@
 
 use cell_program::Content;
 use lock_event::Mark;
-use lock_world::{Answer, Call, Inputs, Made, What};
 use sync_program::once_cell::ListName;
+use world_base::{Answer, Call, Inputs, Made, What};
 
 pub(crate) const INPUTS: Inputs = Inputs {
     memory: true,

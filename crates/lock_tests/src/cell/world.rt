@@ -11,13 +11,12 @@ use super::rows::{ACTIVE, GO, INPUTS, NO_MEMORY, PASSIVE};
 use cell_program::Content;
 use cell_world::World;
 use lock_event::Mark;
-use lock_frame::AnyWorld;
 use lock_program::Refusal;
-use lock_world::{Answer, Call, Got, Inputs, Made, Move, What};
 use std::alloc::Global;
 use std::process::Abort;
 use std::test::Fail;
 use sync_program::once_cell::ListName;
+use world_base::{Answer, AnyWorld, Call, Got, Inputs, Made, Move, What};
 
 // A World, or where memory for it was refused, what a second try makes. So each test also passes where
 // one allocation fails, whichever it is.

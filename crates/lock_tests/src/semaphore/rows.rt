@@ -1,7 +1,7 @@
 //! The rows of which the tests of a semaphore's World are made.
 
 use lock_event::Mark;
-use lock_world::{Answer, Call, Got, Inputs, Made, What};
+use world_base::{Answer, Call, Got, Inputs, Made, What};
 
 pub(crate) const INPUTS: Inputs = Inputs {
     memory: true,

@@ -2,11 +2,11 @@
 use Rattle.std.proofs.Common.{◌≡◌, ℕ, ◌+◌, ◌<◌, ◌≤◌, ◌⊎◌, inl, inr, zero, suc, true, false, ◌∷◌, length, map, replicate, Option, Some, None, refl, ap, arith, ◌∙◌}
 use Rattle.std.proofs.lemmas.Bool.{false≢true}
 use Rattle.std.proofs.lemmas.List.{length-replicate}
-use Rattle.lock_queue.specs.Parties.{entries_of}
+use Rattle.world_base.specs.queue.Parties.{entries_of}
 use Rattle.lock_program.specs.declared.refusal.Refusal.{Refusal}
-use Rattle.lock_world.specs.Bounds as bounds
-use Rattle.lock_world.proofs.Alike.{all_alike}
-use Rattle.lock_world.proofs.Bounds.{some_listed}
+use Rattle.world_base.specs.Bounds as bounds
+use Rattle.world_base.proofs.Alike.{all_alike}
+use Rattle.world_base.proofs.Bounds.{some_listed}
 use Rattle.lock_program.specs.declared.mutex.LockCall.TheVariants as call
 use Rattle.lock_program.specs.declared.end.End.{End}
 use Rattle.lock_program.specs.declared.end.End.TheVariants.{Got, Pending, GivenBack, Refused}

@@ -4,8 +4,8 @@ use Rattle.std.specs.Prelude.{is_some}
 use Rattle.std.proofs.Math.ListN.{set}
 use Rattle.std.specs.List.{sum_by}
 use Rattle.lock_event.specs.declared.event.Entry.{Entry}
-use Rattle.lock_world.specs.Bounds.{unstarved_in}
-use Rattle.lock_world.specs.Rosters.{how_many}
+use Rattle.world_base.specs.Bounds.{unstarved_in}
+use Rattle.world_base.specs.Rosters.{how_many}
 use Rattle.mutex_machine.specs.Course.{bit, Course, out, holding, waiting, taking, releasing, cancelling, undecided, called, counting, has_lock, gives_up, holds, counted}
 use Rattle.mutex_machine.specs.Mutex.{course_at, is_holder, is_counted, holder_from}
 use Rattle.mutex_machine.proofs.callers.Rosters as rosters

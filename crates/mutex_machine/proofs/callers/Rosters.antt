@@ -5,9 +5,9 @@ use Rattle.std.proofs.Math.ListN.{set}
 use Rattle.std.specs.List.{sum_by}
 use Rattle.std.proofs.lemmas.List.Sums.{sum_by-cons}
 use Rattle.lock_event.specs.declared.event.Entry.{Entry}
-use Rattle.lock_world.proofs.Equations.{some_eq}
-use Rattle.lock_world.specs.Bounds.{unstarved_in}
-use Rattle.lock_world.specs.Rosters.{how_many, is_on}
+use Rattle.world_base.proofs.Equations.{some_eq}
+use Rattle.world_base.specs.Bounds.{unstarved_in}
+use Rattle.world_base.specs.Rosters.{how_many, is_on}
 use Rattle.mutex_machine.specs.Course.{bit}
 use Rattle.mutex_machine.specs.State.{first_from}
 

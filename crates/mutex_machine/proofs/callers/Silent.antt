@@ -1,9 +1,9 @@
 -- A call that isn't decided notifies nobody, where nobody is starved and its party isn't about to be.
 use Rattle.std.proofs.Common.{◌≡◌, ℕ, Bool, true, false, Option, Some, None, refl, arith, subst, sym, ◌∙◌}
 use Rattle.std.proofs.lemmas.Bool.{false≢true, true≢false}
-use Rattle.lock_world.specs.Marks.{MarksNobody}
-use Rattle.lock_world.specs.Steps.{Deed, nothing, changes, does, joins, asks, leaves, notifies, notifies_additionally}
-use Rattle.lock_world.proofs.Marks.{joined_marks, asked_marks}
+use Rattle.world_base.specs.Marks.{MarksNobody}
+use Rattle.world_base.specs.Steps.{Deed, nothing, changes, does, joins, asks, leaves, notifies, notifies_additionally}
+use Rattle.world_base.proofs.Marks.{joined_marks, asked_marks}
 use Rattle.lock_program.specs.declared.end.End.{End}
 use Rattle.lock_program.specs.declared.mutex.Step.{Step}
 use Rattle.mutex_machine.specs.Conduct.{IsAllowed, IsLegal}
@@ -12,7 +12,7 @@ use Rattle.mutex_machine.specs.Deeds as deeds
 use Rattle.mutex_machine.specs.Deeds.{Change, ListName, for_the_lock, entries_after}
 use Rattle.mutex_machine.specs.Mutex.{Mutex, course_at, starved}
 use Rattle.mutex_machine.proofs.callers.Holders.{none_counted}
-use Rattle.lock_world.proofs.Equations.{none_some}
+use Rattle.world_base.proofs.Equations.{none_some}
 use Rattle.lock_program.specs.declared.end.End.TheVariants as «end»
 
 -- by where the party's call is

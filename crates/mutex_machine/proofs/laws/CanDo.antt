@@ -2,8 +2,8 @@
 use Rattle.std.proofs.Common.{◌≡◌, ℕ, ◌<◌, ◌≤◌, Bool, true, false, List, length, get_or, arith, refl}
 use Rattle.std.specs.List.{sum_by}
 use Rattle.std.proofs.lemmas.List.Sums.{get_or-le-sum_by}
-use Rattle.lock_queue.specs.Queues.{Queue}
-use Rattle.lock_queue.specs.Parties.{entries_of}
+use Rattle.world_base.specs.queue.Queues.{Queue}
+use Rattle.world_base.specs.queue.Parties.{entries_of}
 use Rattle.lock_program.specs.declared.mutex.Place.{Place}
 use Rattle.lock_program.specs.declared.mutex.Place.TheVariants.{Out, Holding, Enter, Try, Clear, CancelUncount, CancelLeave, Join, Look, Ask, Retry, PassOn, Count, JoinStarved, LookAlone, PassOnListed, AskStarved, Seize, Uncount, Leave, RefuseUncount, RefuseLeave, RefuseNotifyMemory, RefuseNotifyStarved, ReleaseNotify}
 use Rattle.mutex_program.specs.declared.word.Word.{Word}

@@ -1,9 +1,9 @@
 -- What always holds of a mutex, as callers see it.
 use Rattle.std.proofs.Common.{◌≡◌, ℕ, Bool, true, zero, suc, List, [], ◌∷◌, length, refl, ap, arith, sym, ◌∙◌}
 use Rattle.lock_event.specs.Lists.{marked_count, IsMarkedFirst}
-use Rattle.lock_queue.specs.Queues.{Queue}
-use Rattle.lock_queue.specs.Debts.{Roles, Rests, AllRest}
-use Rattle.lock_queue.proofs.Debts.{paid_at_rest}
+use Rattle.world_base.specs.queue.Queues.{Queue}
+use Rattle.world_base.specs.queue.Debts.{Roles, Rests, AllRest}
+use Rattle.world_base.proofs.of_queue.Debts.{paid_at_rest}
 use Rattle.lock_program.specs.declared.mutex.Place.{Place}
 use Rattle.lock_program.specs.declared.mutex.Place.TheVariants.{Out, Holding, Ask, AskStarved}
 use Rattle.lock_program.specs.declared.mutex.Action.{Action}
@@ -17,7 +17,7 @@ use Rattle.mutex_program.specs.Seats.{OnList}
 use Rattle.mutex_machine.specs.Machine.{Lock, IsLock, place_at}
 use Rattle.mutex_machine.specs.Acts.{Finds, IsAtRest, IsMutex}
 use Rattle.std.proofs.Common.{◌<◌, ◌⊎◌, inl, inr}
-use Rattle.lock_world.proofs.Owing.{marked_or_owed}
+use Rattle.world_base.proofs.Owing.{marked_or_owed}
 use Rattle.mutex_machine.specs.Courses.{is_waiting, is_due}
 use Rattle.lock_program.specs.declared.mutex.Place.TheVariants.{Retry, PassOn, JoinStarved, LookAlone, PassOnListed, Seize, RefuseUncount, RefuseNotifyMemory, RefuseNotifyStarved, ReleaseNotify}
 

@@ -2,9 +2,9 @@
 use Rattle.std.proofs.Common.{◌≡◌, ℕ, ◌+◌, ◌<◌, Bool, List, length, arith, sym, subst, ◌∙◌, length-set, get_or-set_same, get_or-set_other}
 use Rattle.std.proofs.Math.ListN.{set}
 use Rattle.std.proofs.Math.Decide.{ℕ_discrete}
-use Rattle.lock_queue.specs.Queues.{Queue}
-use Rattle.lock_queue.specs.Parties.{entries_of}
-use Rattle.lock_world.proofs.Lists.{OneAtMost, own_by, others_by}
+use Rattle.world_base.specs.queue.Queues.{Queue}
+use Rattle.world_base.specs.queue.Parties.{entries_of}
+use Rattle.world_base.proofs.Lists.{OneAtMost, own_by, others_by}
 use Rattle.lock_program.specs.declared.mutex.Place.{Place}
 use Rattle.lock_program.specs.declared.mutex.Place.TheVariants.{Out}
 use Rattle.lock_program.specs.MutexRoles.{listed}

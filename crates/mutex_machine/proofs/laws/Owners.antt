@@ -1,11 +1,11 @@
 -- What an action does to the list: one list function of its party at most, so that the entries are told by it.
 use Rattle.std.proofs.Common.{◌≡◌, ℕ, Bool, sym, ◌∙◌, ap}
 use Rattle.lock_event.specs.Lists.{without, is_marked_at}
-use Rattle.lock_queue.specs.Parties.{is_party}
-use Rattle.lock_queue.specs.Queues.{Queue}
-use Rattle.lock_world.specs.Steps.{joins, asks, leaves, notifies}
-use Rattle.lock_world.proofs.Equations.{chosen}
-use Rattle.lock_world.proofs.Lists.{OneAtMost, unchanged, done}
+use Rattle.world_base.specs.queue.Parties.{is_party}
+use Rattle.world_base.specs.queue.Queues.{Queue}
+use Rattle.world_base.specs.Steps.{joins, asks, leaves, notifies}
+use Rattle.world_base.proofs.Equations.{chosen}
+use Rattle.world_base.proofs.Lists.{OneAtMost, unchanged, done}
 use Rattle.lock_program.specs.declared.mutex.Action.{Action}
 use Rattle.lock_program.specs.declared.mutex.Action.TheVariants as act
 use Rattle.lock_program.specs.declared.mutex.Found.{Found}

@@ -1,7 +1,7 @@
 -- A call begins with the roles that its party has.
 use Rattle.std.proofs.Common.{◌≡◌, Some, refl}
-use Rattle.lock_world.proofs.Equations.{none_some}
-use Rattle.lock_world.proofs.Equations.{some_eq}
+use Rattle.world_base.proofs.Equations.{none_some}
+use Rattle.world_base.proofs.Equations.{some_eq}
 use Rattle.lock_program.specs.declared.mutex.Place.{Place}
 use Rattle.lock_program.specs.declared.mutex.Place.TheVariants.{Out, Holding, Ask, AskStarved}
 use Rattle.lock_program.specs.declared.mutex.LockCall.{LockCall}

@@ -1,7 +1,7 @@
 -- What a step does to the numbers.
 use Rattle.std.proofs.Common.{◌≡◌, ◌+◌, ◌<◌, ◌≤◌, ◌≢◌, Bool, true, false}
-use Rattle.lock_world.specs.Steps.{ListFunction, joins, asks, leaves, notifies}
-use Rattle.lock_world.proofs.Lists.{Counted}
+use Rattle.world_base.specs.Steps.{ListFunction, joins, asks, leaves, notifies}
+use Rattle.world_base.proofs.Lists.{Counted}
 use Rattle.lock_program.specs.declared.mutex.Place.{Place}
 use Rattle.lock_program.specs.declared.mutex.Action.{Action}
 use Rattle.lock_program.specs.declared.mutex.Action.TheVariants as act

@@ -1,8 +1,8 @@
 -- Where each action leads, told by courses.
 use Rattle.std.proofs.Common.{◌≡◌, ℕ, ◌<◌, Bool, true, false, Some, length, refl, sym, ap, ◌∙◌, get_or-set_same}
-use Rattle.lock_world.proofs.Equations.{none_some}
+use Rattle.world_base.proofs.Equations.{none_some}
 use Rattle.std.proofs.lemmas.Bool.{false≢true}
-use Rattle.lock_world.proofs.Equations.{some_eq}
+use Rattle.world_base.proofs.Equations.{some_eq}
 use Rattle.lock_program.specs.declared.mutex.Place.{Place}
 use Rattle.lock_program.specs.declared.mutex.Place.TheVariants.{Out, Holding, Enter, CancelUncount, CancelLeave, Join, Look, Ask, Retry, PassOn, Count, JoinStarved, LookAlone, PassOnListed, AskStarved, Seize, Uncount, Leave, RefuseUncount, RefuseLeave, RefuseNotifyMemory, RefuseNotifyStarved, ReleaseNotify}
 use Rattle.lock_program.specs.declared.mutex.Found.{Found}

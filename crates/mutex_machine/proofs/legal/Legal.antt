@@ -9,11 +9,11 @@ use Rattle.std.specs.List.{sum_by}
 use Rattle.lock_event.specs.declared.event.Entry.{Entry}
 use Rattle.lock_event.specs.declared.event.Mark.TheVariants.{Waiting}
 use Rattle.lock_event.specs.Lists.{mark_at, is_marked_at, without}
-use Rattle.lock_queue.specs.Parties.{is_party, entries_of}
-use Rattle.lock_queue.proofs.Told.{waits_at}
+use Rattle.world_base.specs.queue.Parties.{is_party, entries_of}
+use Rattle.world_base.proofs.of_queue.Told.{waits_at}
 use Rattle.lock_program.specs.declared.refusal.Refusal.TheVariants as refusal
-use Rattle.lock_world.specs.Steps.{Deed, nothing, changes, does, joins, notifies, notifies_additionally}
-use Rattle.lock_world.proofs.Equations.{some_eq, none_some, some_none, chosen}
+use Rattle.world_base.specs.Steps.{Deed, nothing, changes, does, joins, notifies, notifies_additionally}
+use Rattle.world_base.proofs.Equations.{some_eq, none_some, some_none, chosen}
 use Rattle.lock_program.specs.declared.mutex.Place.{Place}
 use Rattle.lock_program.specs.declared.mutex.Place.TheVariants.{Out, Holding, Enter, Try, Ask, AskStarved}
 use Rattle.lock_program.specs.declared.mutex.LockCall.{LockCall}

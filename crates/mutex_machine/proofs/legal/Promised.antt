@@ -1,7 +1,7 @@
 -- What the actions of a poll lead to: who isn't starving isn't counted while nobody is, and who was told and is refused notifies.
 use Rattle.std.proofs.Common.{◌≡◌, ℕ, ◌+◌, ◌<◌, ◌≤◌, Bool, true, false, List, length, refl, arith, ap, sym, ◌∙◌, subst, get_or-set_same}
 use Rattle.std.proofs.lemmas.Bool.{false≢true}
-use Rattle.lock_world.proofs.Equations.{some_eq, none_some}
+use Rattle.world_base.proofs.Equations.{some_eq, none_some}
 use Rattle.std.proofs.Math.ListN.{set}
 use Rattle.std.proofs.lemmas.List.Sums.{sum_by-set, get_or-le-sum_by}
 use Rattle.std.specs.List.{sum_by}
@@ -28,7 +28,7 @@ use Rattle.mutex_machine.specs.Machine.{Lock, SameRoles, place_at}
 use Rattle.mutex_machine.specs.Acts.{Acts, Finds, starved}
 use Rattle.mutex_machine.specs.Legal.{decided_then, IsUnrefused}
 use Rattle.mutex_machine.proofs.laws.Kept.{after}
-use Rattle.lock_world.proofs.Lists.{notified_marked}
+use Rattle.world_base.proofs.Lists.{notified_marked}
 
 -- ---- nobody is counted while nobody is starved
 

@@ -1,8 +1,8 @@
 -- Giving way, place by place, as Worlds say it.
 use Rattle.std.proofs.Common.{ℕ, ◌<◌, ap, arith, ◌∙◌}
-use Rattle.lock_queue.specs.Parties.{entries_of}
-use Rattle.lock_world.specs.Bounds as bounds
-use Rattle.lock_world.proofs.Bounds.{some_listed}
+use Rattle.world_base.specs.queue.Parties.{entries_of}
+use Rattle.world_base.specs.Bounds as bounds
+use Rattle.world_base.proofs.Bounds.{some_listed}
 use Rattle.lock_program.specs.declared.end.End.TheVariants.{Pending}
 use Rattle.mutex_machine.specs.Machine.{Lock}
 use Rattle.mutex_machine.specs.State.{is_counted, starved_of}

@@ -5,7 +5,7 @@ use Rattle.std.specs.List.{sum_by}
 use Rattle.std.proofs.lemmas.List.Sums.{sum_by-set}
 use Rattle.lock_event.specs.declared.event.Entry.{Entry}
 use Rattle.lock_event.specs.Lists.{is_marked_at, joined, notified, without}
-use Rattle.lock_queue.specs.Parties.{is_party}
+use Rattle.world_base.specs.queue.Parties.{is_party}
 use Rattle.lock_program.specs.declared.refusal.Refusal.TheVariants.{Starved}
 use Rattle.lock_program.specs.declared.mutex.Place.{Place}
 use Rattle.lock_program.specs.declared.mutex.Place.TheVariants.{Out, Ask, Retry, PassOn, Count, JoinStarved, LookAlone, PassOnListed, AskStarved, Seize, Uncount, RefuseNotifyStarved}

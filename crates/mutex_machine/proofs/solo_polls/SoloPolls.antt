@@ -10,12 +10,12 @@ use Rattle.lock_event.specs.declared.event.Mark.TheVariants.{Waiting, Notified}
 use Rattle.lock_event.specs.Lists.{entry, joined, notified, without, marked_count, mark_waiting}
 use Rattle.lock_event.proofs.Marks.{length-mark_waiting}
 use Rattle.lock_event.proofs.Counts.{length-joined, length-without, marked_count-notified}
-use Rattle.lock_queue.specs.Parties.{is_party, entries_of}
-use Rattle.lock_queue.proofs.Rekeyed.{entries_of-joined, entries_of-mark_waiting, entries_of-without_own, entries_of-without_other}
-use Rattle.lock_queue.proofs.Queues.{own_one, other_one}
+use Rattle.world_base.specs.queue.Parties.{is_party, entries_of}
+use Rattle.world_base.proofs.of_queue.Rekeyed.{entries_of-joined, entries_of-mark_waiting, entries_of-without_own, entries_of-without_other}
+use Rattle.world_base.proofs.of_queue.Queues.{own_one, other_one}
 use Rattle.lock_program.specs.declared.refusal.Refusal.TheVariants as refusal
-pub use Rattle.lock_world.proofs.Bounds.{first_marked}
-use Rattle.lock_world.proofs.Lists.{is_there}
+pub use Rattle.world_base.proofs.Bounds.{first_marked}
+use Rattle.world_base.proofs.Lists.{is_there}
 use Rattle.lock_program.specs.declared.mutex.Place.{Place}
 use Rattle.lock_program.specs.declared.mutex.Place.TheVariants.{Out, Holding, Ask, AskStarved}
 use Rattle.lock_program.specs.declared.mutex.LockCall.TheVariants as call

@@ -2,25 +2,25 @@
 use Rattle.std.proofs.Common.{◌≡◌, ◌≢◌, ℕ, ◌<◌, ◌⊎◌, inl, inr, true, false, None, refl, sym, ap, ◌∙◌, subst, arith}
 use Rattle.std.proofs.Math.ListN.{set}
 use Rattle.std.specs.List.{list_all}
-use Rattle.lock_queue.specs.Parties.{entries_of}
-use Rattle.lock_world.specs.declared.moves.Answer.{Answer}
-use Rattle.lock_world.specs.declared.moves.Answer.TheVariants as answer
-use Rattle.lock_world.specs.declared.moves.Call.TheVariants as call
-use Rattle.lock_world.specs.declared.moves.Got.TheVariants.{Value}
-use Rattle.lock_world.specs.declared.moves.Inputs.{Inputs}
+use Rattle.world_base.specs.queue.Parties.{entries_of}
+use Rattle.world_base.specs.declared.moves.Answer.{Answer}
+use Rattle.world_base.specs.declared.moves.Answer.TheVariants as answer
+use Rattle.world_base.specs.declared.moves.Call.TheVariants as call
+use Rattle.world_base.specs.declared.moves.Got.TheVariants.{Value}
+use Rattle.world_base.specs.declared.moves.Inputs.{Inputs}
 use Rattle.lock_program.specs.declared.refusal.Refusal.TheVariants as refusal
-use Rattle.lock_world.specs.declared.standing.Rest.TheVariants as rest
-use Rattle.lock_world.specs.declared.standing.Stage.TheVariants.{Outside}
-use Rattle.lock_world.specs.Accounts.{Account}
-use Rattle.lock_world.specs.Rosters.{how_many}
-use Rattle.lock_world.specs.Standings.{is_outside_stage}
-use Rattle.lock_world.specs.Whole.{moves_of, answers_of}
-use Rattle.lock_world.proofs.Bounds.{marked_listed}
-use Rattle.lock_world.proofs.Rests.{still_outside}
-use Rattle.lock_table.specs.Stages.{stage_at, stage_after}
-use Rattle.lock_table.specs.Tables.{Table}
-use Rattle.lock_table.proofs.Past.{by_stage_or_past_at}
-use Rattle.lock_table.proofs.Views.{rest_seen, outside_stage}
+use Rattle.world_base.specs.declared.standing.Rest.TheVariants as rest
+use Rattle.world_base.specs.declared.standing.Stage.TheVariants.{Outside}
+use Rattle.world_base.specs.Accounts.{Account}
+use Rattle.world_base.specs.Rosters.{how_many}
+use Rattle.world_base.specs.Standings.{is_outside_stage}
+use Rattle.world_base.specs.Whole.{moves_of, answers_of}
+use Rattle.world_base.proofs.Bounds.{marked_listed}
+use Rattle.world_base.proofs.Rests.{still_outside}
+use Rattle.world_base.specs.table.Stages.{stage_at, stage_after}
+use Rattle.world_base.specs.table.Tables.{Table}
+use Rattle.world_base.proofs.of_table.Past.{by_stage_or_past_at}
+use Rattle.world_base.proofs.of_table.Views.{rest_seen, outside_stage}
 use Rattle.lock_program.specs.declared.end.End.{End}
 use Rattle.lock_program.specs.declared.end.End.TheVariants as «end»
 use Rattle.mutex_program.specs.declared.led.Next.TheVariants as next
@@ -44,7 +44,7 @@ use Rattle.mutex_world.specs.View.{verdict, view_of}
 use Rattle.mutex_world.proofs.bound.Alone.{Ended, polls_alone}
 use Rattle.mutex_world.proofs.table.Seen as seen
 use Rattle.mutex_world.proofs.table.Turns.{within}
-use Rattle.lock_world.specs.declared.standing.Kind.TheVariants as kind
+use Rattle.world_base.specs.declared.standing.Kind.TheVariants as kind
 
 -- a pending party with an entry waits
 pub waits_listed : (x : Place) → goes_with (Outside rest.Pending) x ≡ true → 0 < listed x → is_waiting x ≡ true

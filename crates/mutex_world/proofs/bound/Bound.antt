@@ -1,11 +1,11 @@
 -- Solo polls in turn: each that passes the free lock over gives way.
 use Rattle.std.proofs.Common.{◌≡◌, ◌≢◌, ℕ, ◌⊎◌, inl, inr, Some, None, refl}
-use Rattle.lock_world.specs.declared.moves.Answer.{Answer}
-use Rattle.lock_world.specs.declared.moves.Call.TheVariants as call
-use Rattle.lock_world.specs.declared.moves.Inputs.{Inputs}
-use Rattle.lock_world.specs.Bounds.{GaveWay}
-use Rattle.lock_world.proofs.Bounds.{one_takes}
-use Rattle.lock_table.proofs.Bounds.{first_marked}
+use Rattle.world_base.specs.declared.moves.Answer.{Answer}
+use Rattle.world_base.specs.declared.moves.Call.TheVariants as call
+use Rattle.world_base.specs.declared.moves.Inputs.{Inputs}
+use Rattle.world_base.specs.Bounds.{GaveWay}
+use Rattle.world_base.proofs.Bounds.{one_takes}
+use Rattle.world_base.proofs.of_table.Bounds.{first_marked}
 use Rattle.mutex_world.specs.Bound.{Takes, GivesWay, PassesOver, IsBounded}
 use Rattle.mutex_world.specs.Laws.{IsSound, IsAwake, IsFreeAndWanted}
 use Rattle.mutex_world.specs.Runs.{accounts_of}

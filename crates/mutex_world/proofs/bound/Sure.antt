@@ -6,27 +6,27 @@ use Rattle.std.proofs.Math.ListN.{set}
 use Rattle.std.specs.List.{sum_by}
 use Rattle.lock_event.specs.declared.event.Entry.{Entry}
 use Rattle.lock_event.specs.Lists.{is_marked_at}
-use Rattle.lock_queue.specs.Parties.{is_party}
-use Rattle.lock_world.specs.declared.moves.Answer.{Answer}
-use Rattle.lock_world.specs.declared.moves.Answer.TheVariants as answer
-use Rattle.lock_world.specs.declared.moves.Call.TheVariants as call
-use Rattle.lock_world.specs.declared.moves.Got.TheVariants.{Value}
-use Rattle.lock_world.specs.declared.moves.Inputs.{Inputs}
-use Rattle.lock_world.specs.declared.moves.What.{What}
-use Rattle.lock_world.specs.declared.moves.What.TheVariants.{Begin, Go}
-use Rattle.lock_world.specs.declared.standing.Rest.TheVariants as rest
-use Rattle.lock_world.specs.declared.standing.Stage.TheVariants.{Outside, Inside}
-use Rattle.lock_world.specs.Accounts.{Account, accounts_after}
-use Rattle.lock_world.specs.Rosters.{how_many}
-use Rattle.lock_world.specs.Whole.{going_on, moves_of, answers_of}
-use Rattle.lock_world.proofs.Bounds.{marked_listed}
-use Rattle.lock_world.proofs.Equations.{some_eq}
-use Rattle.lock_frame.specs.Steps.{beginning}
-use Rattle.lock_frame.proofs.Runs.{along, Onward}
-use Rattle.lock_table.specs.Stages.{stage_at}
-use Rattle.lock_table.specs.Tables.{Table}
-use Rattle.lock_table.proofs.Past.{by_stage_or_past_at}
-use Rattle.lock_table.proofs.Views.{outside_stage}
+use Rattle.world_base.specs.queue.Parties.{is_party}
+use Rattle.world_base.specs.declared.moves.Answer.{Answer}
+use Rattle.world_base.specs.declared.moves.Answer.TheVariants as answer
+use Rattle.world_base.specs.declared.moves.Call.TheVariants as call
+use Rattle.world_base.specs.declared.moves.Got.TheVariants.{Value}
+use Rattle.world_base.specs.declared.moves.Inputs.{Inputs}
+use Rattle.world_base.specs.declared.moves.What.{What}
+use Rattle.world_base.specs.declared.moves.What.TheVariants.{Begin, Go}
+use Rattle.world_base.specs.declared.standing.Rest.TheVariants as rest
+use Rattle.world_base.specs.declared.standing.Stage.TheVariants.{Outside, Inside}
+use Rattle.world_base.specs.Accounts.{Account, accounts_after}
+use Rattle.world_base.specs.Rosters.{how_many}
+use Rattle.world_base.specs.Whole.{going_on, moves_of, answers_of}
+use Rattle.world_base.proofs.Bounds.{marked_listed}
+use Rattle.world_base.proofs.Equations.{some_eq}
+use Rattle.world_base.specs.any_world.Steps.{beginning}
+use Rattle.world_base.proofs.of_any_world.Runs.{along, Onward}
+use Rattle.world_base.specs.table.Stages.{stage_at}
+use Rattle.world_base.specs.table.Tables.{Table}
+use Rattle.world_base.proofs.of_table.Past.{by_stage_or_past_at}
+use Rattle.world_base.proofs.of_table.Views.{outside_stage}
 use Rattle.lock_program.specs.declared.end.End.TheVariants as «end»
 use Rattle.lock_program.specs.declared.mutex.LockCall.TheVariants as lock_call
 use Rattle.lock_program.specs.declared.mutex.Action.TheVariants as act

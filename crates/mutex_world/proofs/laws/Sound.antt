@@ -3,23 +3,23 @@ use Rattle.std.proofs.Common.{◌≡◌, ℕ, suc, ◌<◌, ◌⊎◌, inl, inr,
 use Rattle.std.proofs.lemmas.Bool.Decides.{nat_tests}
 use Rattle.std.specs.List.{list_all}
 use Rattle.lock_event.specs.declared.event.Entry.{Entry}
-use Rattle.lock_queue.specs.Parties.{entries_of}
-use Rattle.lock_world.specs.declared.moves.Answer.{Answer}
-use Rattle.lock_world.specs.declared.standing.Kind.{Kind}
-use Rattle.lock_world.specs.declared.standing.Kind.TheVariants as kind
-use Rattle.lock_world.specs.declared.standing.Rest.{Rest}
-use Rattle.lock_world.specs.declared.standing.Rest.TheVariants as rest
-use Rattle.lock_world.specs.declared.standing.Stage.{Stage}
-use Rattle.lock_world.specs.declared.standing.Stage.TheVariants.{Outside, Inside, Forgotten}
-use Rattle.lock_world.specs.declared.standing.Within.{Within}
-use Rattle.lock_world.specs.Rights.{Right, hold}
-use Rattle.lock_world.specs.Standings.{Standing, outside, inside, forgotten, is_outside_stage}
-use Rattle.lock_table.specs.Lending.{table_with}
-use Rattle.lock_table.specs.Stages.{stage_at, stands_as}
-use Rattle.lock_table.specs.Tables.{Table}
-use Rattle.lock_table.proofs.Lending.{lent_seen}
-use Rattle.lock_table.proofs.Past.{by_stage_or_past_at}
-use Rattle.lock_table.proofs.Views.{rest_seen, outside_at}
+use Rattle.world_base.specs.queue.Parties.{entries_of}
+use Rattle.world_base.specs.declared.moves.Answer.{Answer}
+use Rattle.world_base.specs.declared.standing.Kind.{Kind}
+use Rattle.world_base.specs.declared.standing.Kind.TheVariants as kind
+use Rattle.world_base.specs.declared.standing.Rest.{Rest}
+use Rattle.world_base.specs.declared.standing.Rest.TheVariants as rest
+use Rattle.world_base.specs.declared.standing.Stage.{Stage}
+use Rattle.world_base.specs.declared.standing.Stage.TheVariants.{Outside, Inside, Forgotten}
+use Rattle.world_base.specs.declared.standing.Within.{Within}
+use Rattle.world_base.specs.Rights.{Right, hold}
+use Rattle.world_base.specs.Standings.{Standing, outside, inside, forgotten, is_outside_stage}
+use Rattle.world_base.specs.table.Lending.{table_with}
+use Rattle.world_base.specs.table.Stages.{stage_at, stands_as}
+use Rattle.world_base.specs.table.Tables.{Table}
+use Rattle.world_base.proofs.of_table.Lending.{lent_seen}
+use Rattle.world_base.proofs.of_table.Past.{by_stage_or_past_at}
+use Rattle.world_base.proofs.of_table.Views.{rest_seen, outside_at}
 use Rattle.lock_program.specs.declared.mutex.Place.{Place}
 use Rattle.lock_program.specs.declared.mutex.Place.TheVariants as place
 use Rattle.mutex_machine.specs.Acts as lock
@@ -39,9 +39,9 @@ use Rattle.mutex_world.proofs.step.Owns as owns
 use Rattle.mutex_world.proofs.table.Seen as seen
 use Rattle.std.proofs.Common.{false, None}
 use Rattle.lock_event.specs.Lists.{marked_count}
-use Rattle.lock_world.specs.Standings.{is_outside}
-use Rattle.lock_table.proofs.Mapped.{past_last}
-use Rattle.lock_table.proofs.Past.{by_stage_or_past}
+use Rattle.world_base.specs.Standings.{is_outside}
+use Rattle.world_base.proofs.of_table.Mapped.{past_last}
+use Rattle.world_base.proofs.of_table.Past.{by_stage_or_past}
 use Rattle.mutex_machine.specs.Courses.{is_due as is_due_there}
 use Rattle.mutex_machine.specs.State.{holder_of}
 use Rattle.mutex_world.specs.Laws.{is_due, IsDue}

@@ -1,34 +1,34 @@
 -- After each step what is known tells the rights.
 use Rattle.std.proofs.Common.{◌≡◌, ◌≢◌, ℕ, ◌↔◌, true, false, Option, Some, None, is_some, refl, ap, sym, ◌∙◌, subst}
 use Rattle.std.proofs.Math.Decide.{ℕ_discrete}
-use Rattle.lock_world.specs.declared.moves.Answer.{Answer}
-use Rattle.lock_world.specs.declared.moves.Answer.TheVariants as answer
-use Rattle.lock_world.specs.declared.moves.Call.TheVariants as call
-use Rattle.lock_world.specs.declared.moves.Got.TheVariants.{Value}
-use Rattle.lock_world.specs.declared.moves.Inputs.{Inputs}
-use Rattle.lock_world.specs.declared.moves.Move.{Move}
-use Rattle.lock_world.specs.declared.moves.What.{What}
-use Rattle.lock_world.specs.declared.moves.What.TheVariants.{Begin, Go}
+use Rattle.world_base.specs.declared.moves.Answer.{Answer}
+use Rattle.world_base.specs.declared.moves.Answer.TheVariants as answer
+use Rattle.world_base.specs.declared.moves.Call.TheVariants as call
+use Rattle.world_base.specs.declared.moves.Got.TheVariants.{Value}
+use Rattle.world_base.specs.declared.moves.Inputs.{Inputs}
+use Rattle.world_base.specs.declared.moves.Move.{Move}
+use Rattle.world_base.specs.declared.moves.What.{What}
+use Rattle.world_base.specs.declared.moves.What.TheVariants.{Begin, Go}
 use Rattle.lock_program.specs.declared.refusal.Refusal.TheVariants as refusal
-use Rattle.lock_world.specs.declared.standing.Kind.{Kind}
-use Rattle.lock_world.specs.declared.standing.Kind.TheVariants as kind
-use Rattle.lock_world.specs.declared.standing.Rest.{Rest}
-use Rattle.lock_world.specs.declared.standing.Rest.TheVariants as rest
-use Rattle.lock_world.specs.declared.standing.Stage.{Stage}
-use Rattle.lock_world.specs.declared.standing.Stage.TheVariants.{Outside, Inside}
-use Rattle.lock_world.specs.declared.standing.Within.{Within}
-use Rattle.lock_world.specs.Accounts.{Account, account_after, accounts_after, HasByAnswers}
-use Rattle.lock_world.specs.Frame.{put_in}
-use Rattle.lock_world.specs.Rights.{Right, hold}
-use Rattle.lock_world.specs.Standings.{Standing, outside, inside, forgotten, is_outside}
-use Rattle.lock_world.proofs.Equations.{some_eq, none_some, same_test, other_test}
-use Rattle.lock_frame.specs.Steps.{StepsWell}
-use Rattle.lock_table.specs.Rights.{account_by, sought_by}
-use Rattle.lock_table.specs.Stages.{stage_at, stands_as, call_at, polls_again, stage_after}
-use Rattle.lock_table.specs.Tables.{Table, Acted}
-use Rattle.lock_table.proofs.Acting.{stands}
-use Rattle.lock_table.proofs.Rights.{tells_on, idle_account, again_account}
-use Rattle.lock_table.proofs.Ways.{way, by_way}
+use Rattle.world_base.specs.declared.standing.Kind.{Kind}
+use Rattle.world_base.specs.declared.standing.Kind.TheVariants as kind
+use Rattle.world_base.specs.declared.standing.Rest.{Rest}
+use Rattle.world_base.specs.declared.standing.Rest.TheVariants as rest
+use Rattle.world_base.specs.declared.standing.Stage.{Stage}
+use Rattle.world_base.specs.declared.standing.Stage.TheVariants.{Outside, Inside}
+use Rattle.world_base.specs.declared.standing.Within.{Within}
+use Rattle.world_base.specs.Accounts.{Account, account_after, accounts_after, HasByAnswers}
+use Rattle.world_base.specs.Frame.{put_in}
+use Rattle.world_base.specs.Rights.{Right, hold}
+use Rattle.world_base.specs.Standings.{Standing, outside, inside, forgotten, is_outside}
+use Rattle.world_base.proofs.Equations.{some_eq, none_some, same_test, other_test}
+use Rattle.world_base.specs.any_world.Steps.{StepsWell}
+use Rattle.world_base.specs.table.Rights.{account_by, sought_by}
+use Rattle.world_base.specs.table.Stages.{stage_at, stands_as, call_at, polls_again, stage_after}
+use Rattle.world_base.specs.table.Tables.{Table, Acted}
+use Rattle.world_base.proofs.of_table.Acting.{stands}
+use Rattle.world_base.proofs.of_table.Rights.{tells_on, idle_account, again_account}
+use Rattle.world_base.proofs.of_table.Ways.{way, by_way}
 use Rattle.lock_program.specs.declared.end.End.TheVariants as «end»
 use Rattle.lock_program.specs.declared.mutex.Found.{Found}
 use Rattle.lock_program.specs.declared.mutex.LockCall.TheVariants as lock_call

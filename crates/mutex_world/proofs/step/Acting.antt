@@ -4,25 +4,25 @@ use Rattle.std.proofs.lemmas.Bool.Decides.{nat_tests}
 use Rattle.std.proofs.Math.ListN.{set}
 use Rattle.lock_event.specs.declared.event.Entry.{Entry}
 use Rattle.lock_event.specs.declared.event.Mark.TheVariants.{Waiting}
-use Rattle.lock_world.specs.declared.moves.Answer.{Answer}
-use Rattle.lock_world.specs.declared.moves.Answer.TheVariants as answer
-use Rattle.lock_world.specs.declared.moves.Got.TheVariants.{Value}
-use Rattle.lock_world.specs.declared.moves.Move.{Move}
+use Rattle.world_base.specs.declared.moves.Answer.{Answer}
+use Rattle.world_base.specs.declared.moves.Answer.TheVariants as answer
+use Rattle.world_base.specs.declared.moves.Got.TheVariants.{Value}
+use Rattle.world_base.specs.declared.moves.Move.{Move}
 use Rattle.lock_program.specs.declared.refusal.Refusal.{Refusal}
 use Rattle.lock_program.specs.declared.refusal.Refusal.TheVariants as refusal
-use Rattle.lock_world.specs.declared.standing.Rest.TheVariants as rest
-use Rattle.lock_world.specs.declared.standing.Stage.{Stage}
-use Rattle.lock_world.specs.declared.standing.Within.{Within}
-use Rattle.lock_world.specs.Frame.{is_drop, is_refusal, is_poll_after_ready, put_in}
+use Rattle.world_base.specs.declared.standing.Rest.TheVariants as rest
+use Rattle.world_base.specs.declared.standing.Stage.{Stage}
+use Rattle.world_base.specs.declared.standing.Within.{Within}
+use Rattle.world_base.specs.Frame.{is_drop, is_refusal, is_poll_after_ready, put_in}
 use Rattle.lock_program.specs.Refusals.{number_of}
-use Rattle.lock_world.specs.Rosters.{how_many, is_on}
-use Rattle.lock_world.specs.Standings.{inside, inputs_of, call_in, is_possible, is_stepped, may_end, is_decided, decision as decided_on, refused, IsUndecided}
-use Rattle.lock_world.specs.Steps.{Deed, nothing, changes, does, joins, asks, leaves, notifies, notifies_additionally}
-use Rattle.lock_world.proofs.Equations.{some_eq, none_some}
-use Rattle.lock_table.specs.Stages.{stage_at, stands_as, call_at, polls_again, stage_after}
-use Rattle.lock_table.specs.Tables.{Table}
-use Rattle.lock_table.proofs.Acting as acting
-use Rattle.lock_table.proofs.Calls.{decided_after, call_seen, again_seen, stands_seen}
+use Rattle.world_base.specs.Rosters.{how_many, is_on}
+use Rattle.world_base.specs.Standings.{inside, inputs_of, call_in, is_possible, is_stepped, may_end, is_decided, decision as decided_on, refused, IsUndecided}
+use Rattle.world_base.specs.Steps.{Deed, nothing, changes, does, joins, asks, leaves, notifies, notifies_additionally}
+use Rattle.world_base.proofs.Equations.{some_eq, none_some}
+use Rattle.world_base.specs.table.Stages.{stage_at, stands_as, call_at, polls_again, stage_after}
+use Rattle.world_base.specs.table.Tables.{Table}
+use Rattle.world_base.proofs.of_table.Acting as acting
+use Rattle.world_base.proofs.of_table.Calls.{decided_after, call_seen, again_seen, stands_seen}
 use Rattle.lock_program.specs.declared.end.End.{End}
 use Rattle.lock_program.specs.declared.end.End.TheVariants as «end»
 use Rattle.mutex_program.specs.declared.led.Next.{Next}
@@ -48,7 +48,7 @@ use Rattle.mutex_world.proofs.step.Here.{Here, BeginsOrGoes, standing_at}
 use Rattle.mutex_world.proofs.step.Owns as owns
 use Rattle.mutex_world.proofs.table.Seen as seen
 use Rattle.mutex_world.proofs.table.Turns.{Lands}
-use Rattle.lock_queue.specs.Parties.{entries_of}
+use Rattle.world_base.specs.queue.Parties.{entries_of}
 use Rattle.mutex_machine.specs.Courses.{may_tell as may_tell_there}
 use Rattle.mutex_world.specs.Legal.{may_tell}
 use Rattle.mutex_world.proofs.step.Due as due

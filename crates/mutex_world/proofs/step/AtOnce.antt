@@ -9,21 +9,21 @@ use Rattle.std.proofs.lemmas.List.Sums.{sum_by-set}
 use Rattle.std.specs.List.{sum_by}
 use Rattle.lock_event.specs.declared.event.Entry.{Entry}
 use Rattle.lock_event.specs.Lists.{is_marked_at}
-use Rattle.lock_queue.specs.Parties.{is_party, entries_of}
-use Rattle.lock_world.specs.declared.moves.Answer.{Answer}
-use Rattle.lock_world.specs.declared.moves.Answer.TheVariants as answer
-use Rattle.lock_world.specs.declared.moves.Got.TheVariants.{Value}
-use Rattle.lock_world.specs.declared.moves.Move.{Move}
-use Rattle.lock_world.specs.declared.standing.Rest.TheVariants as rest
-use Rattle.lock_world.specs.declared.standing.Stage.{Stage}
-use Rattle.lock_world.specs.declared.standing.Stage.TheVariants.{Outside, Inside, Forgotten}
-use Rattle.lock_world.specs.declared.standing.Within.{Within}
-use Rattle.lock_world.specs.Rosters.{how_many}
-use Rattle.lock_world.specs.Standings.{inside, inputs_of}
-use Rattle.lock_world.specs.Steps.{changes, asked}
-use Rattle.lock_table.specs.Stages.{stage_at, stands_as}
-use Rattle.lock_table.specs.Tables.{Table}
-use Rattle.lock_table.proofs.Views.{outside_stage}
+use Rattle.world_base.specs.queue.Parties.{is_party, entries_of}
+use Rattle.world_base.specs.declared.moves.Answer.{Answer}
+use Rattle.world_base.specs.declared.moves.Answer.TheVariants as answer
+use Rattle.world_base.specs.declared.moves.Got.TheVariants.{Value}
+use Rattle.world_base.specs.declared.moves.Move.{Move}
+use Rattle.world_base.specs.declared.standing.Rest.TheVariants as rest
+use Rattle.world_base.specs.declared.standing.Stage.{Stage}
+use Rattle.world_base.specs.declared.standing.Stage.TheVariants.{Outside, Inside, Forgotten}
+use Rattle.world_base.specs.declared.standing.Within.{Within}
+use Rattle.world_base.specs.Rosters.{how_many}
+use Rattle.world_base.specs.Standings.{inside, inputs_of}
+use Rattle.world_base.specs.Steps.{changes, asked}
+use Rattle.world_base.specs.table.Stages.{stage_at, stands_as}
+use Rattle.world_base.specs.table.Tables.{Table}
+use Rattle.world_base.proofs.of_table.Views.{outside_stage}
 use Rattle.lock_program.specs.declared.mutex.Action.TheVariants as act
 use Rattle.lock_program.specs.declared.mutex.Found.{Found}
 use Rattle.lock_program.specs.declared.mutex.Found.TheVariants.{Free, Held, SomeStarved, Yes, No}
@@ -45,7 +45,7 @@ use Rattle.mutex_world.proofs.step.Acting.{Acting}
 use Rattle.mutex_world.proofs.step.Acting as acting
 use Rattle.mutex_world.proofs.step.Here.{standing_at, same_roles}
 use Rattle.lock_event.specs.Lists.{notified}
-use Rattle.lock_world.proofs.Equations.{some_eq, none_some}
+use Rattle.world_base.proofs.Equations.{some_eq, none_some}
 use Rattle.lock_program.specs.declared.mutex.Place.TheVariants.{Leave, Uncount, CancelUncount, CancelLeave, RefuseUncount, RefuseLeave, RefuseNotifyMemory, RefuseNotifyStarved}
 use Rattle.lock_program.specs.MutexRoles.{listed, counted}
 use Rattle.mutex_machine.specs.Legal.{decision}

@@ -1,16 +1,16 @@
 -- Who is due, and who may notify, by the place at which a party stands.
 use Rattle.std.proofs.Common.{◌≡◌, ℕ, ◌<◌, true, false, Option, refl, arith, sym, ◌∙◌}
-use Rattle.lock_world.specs.Standings.{is_outside, is_outside_stage}
-use Rattle.lock_world.specs.declared.moves.Answer.{Answer}
-use Rattle.lock_world.specs.declared.standing.Kind.{Kind}
-use Rattle.lock_world.specs.declared.standing.Kind.TheVariants as kind
-use Rattle.lock_world.specs.declared.standing.Rest.{Rest}
-use Rattle.lock_world.specs.declared.standing.Rest.TheVariants as rest
-use Rattle.lock_world.specs.declared.standing.Stage.{Stage}
-use Rattle.lock_world.specs.declared.standing.Stage.TheVariants.{Outside, Inside, Forgotten}
-use Rattle.lock_world.specs.declared.standing.Within.{Within}
+use Rattle.world_base.specs.Standings.{is_outside, is_outside_stage}
+use Rattle.world_base.specs.declared.moves.Answer.{Answer}
+use Rattle.world_base.specs.declared.standing.Kind.{Kind}
+use Rattle.world_base.specs.declared.standing.Kind.TheVariants as kind
+use Rattle.world_base.specs.declared.standing.Rest.{Rest}
+use Rattle.world_base.specs.declared.standing.Rest.TheVariants as rest
+use Rattle.world_base.specs.declared.standing.Stage.{Stage}
+use Rattle.world_base.specs.declared.standing.Stage.TheVariants.{Outside, Inside, Forgotten}
+use Rattle.world_base.specs.declared.standing.Within.{Within}
 use Rattle.std.proofs.lemmas.Bool.{false≢true}
-use Rattle.lock_table.specs.Stages.{stands_as}
+use Rattle.world_base.specs.table.Stages.{stands_as}
 use Rattle.lock_program.specs.declared.mutex.Place.{Place}
 use Rattle.lock_program.specs.declared.mutex.Place.TheVariants as place
 use Rattle.lock_program.specs.MutexRoles.{listed, is_resting}

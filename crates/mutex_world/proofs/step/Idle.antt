@@ -1,23 +1,23 @@
 -- A move that does nothing is a legal step: one that its party may not make, and a poll of a future that has been ready.
 use Rattle.std.proofs.Common.{◌≡◌, ◌≢◌, ℕ, ◌||◌, true, false, Option, Some, None, refl, ap, sym, ◌∙◌, subst}
 use Rattle.std.proofs.lemmas.Bool.{false≢true}
-use Rattle.lock_queue.specs.Parties.{entries_of}
-use Rattle.lock_world.specs.declared.moves.Answer.{Answer}
-use Rattle.lock_world.specs.declared.moves.Answer.TheVariants as answer
-use Rattle.lock_world.specs.declared.moves.Call.TheVariants as call
-use Rattle.lock_world.specs.declared.moves.Move.{Move}
-use Rattle.lock_world.specs.declared.moves.What.{What}
-use Rattle.lock_world.specs.declared.moves.What.TheVariants.{Begin}
+use Rattle.world_base.specs.queue.Parties.{entries_of}
+use Rattle.world_base.specs.declared.moves.Answer.{Answer}
+use Rattle.world_base.specs.declared.moves.Answer.TheVariants as answer
+use Rattle.world_base.specs.declared.moves.Call.TheVariants as call
+use Rattle.world_base.specs.declared.moves.Move.{Move}
+use Rattle.world_base.specs.declared.moves.What.{What}
+use Rattle.world_base.specs.declared.moves.What.TheVariants.{Begin}
 use Rattle.lock_program.specs.declared.refusal.Refusal.TheVariants as refusal
-use Rattle.lock_world.specs.declared.standing.Kind.TheVariants as kind
-use Rattle.lock_world.specs.declared.standing.Rest.TheVariants as rest
-use Rattle.lock_world.specs.declared.standing.Within.{Within}
-use Rattle.lock_world.specs.Frame.{is_drop, is_poll_after_ready, put_in}
-use Rattle.lock_world.specs.Standings.{Standing, outside, inside, call_in, may_end, refused}
-use Rattle.lock_world.specs.Steps.{nothing}
-use Rattle.lock_world.proofs.Equations.{outside_inside}
-use Rattle.lock_table.proofs.Idle as idle
-use Rattle.lock_table.proofs.Idle.{Idle, same_decides}
+use Rattle.world_base.specs.declared.standing.Kind.TheVariants as kind
+use Rattle.world_base.specs.declared.standing.Rest.TheVariants as rest
+use Rattle.world_base.specs.declared.standing.Within.{Within}
+use Rattle.world_base.specs.Frame.{is_drop, is_poll_after_ready, put_in}
+use Rattle.world_base.specs.Standings.{Standing, outside, inside, call_in, may_end, refused}
+use Rattle.world_base.specs.Steps.{nothing}
+use Rattle.world_base.proofs.Equations.{outside_inside}
+use Rattle.world_base.proofs.of_table.Idle as idle
+use Rattle.world_base.proofs.of_table.Idle.{Idle, same_decides}
 use Rattle.mutex_world.specs.Guarded.{knows}
 use Rattle.mutex_world.specs.Legal.{call_of, is_try, is_first_poll, is_later_poll, IsCause, HasItsOwn, Legal, AnswersAtOnce}
 use Rattle.mutex_world.specs.State.{World, standing_of}

@@ -1,20 +1,20 @@
 -- What each party has, by how it stands.
 use Rattle.std.proofs.Common.{◌≡◌, ◌≢◌, ℕ, true, false, Option, Some, refl, arith, ap, sym, ◌∙◌, subst, is_some}
 use Rattle.std.proofs.lemmas.Bool.{true≢false}
-use Rattle.lock_world.specs.declared.moves.Answer.{Answer}
-use Rattle.lock_world.specs.declared.moves.Answer.TheVariants as answer
-use Rattle.lock_world.specs.declared.standing.Kind.{Kind}
-use Rattle.lock_world.specs.declared.standing.Kind.TheVariants as kind
-use Rattle.lock_world.specs.declared.standing.Rest.{Rest}
-use Rattle.lock_world.specs.declared.standing.Rest.TheVariants as rest
-use Rattle.lock_world.specs.declared.standing.Stage.{Stage}
-use Rattle.lock_world.specs.declared.standing.Stage.TheVariants.{Outside, Inside, Forgotten}
-use Rattle.lock_world.specs.declared.standing.Within.{Within}
-use Rattle.lock_world.specs.Standings.{inside, may_end}
-use Rattle.lock_world.proofs.Equations.{some_eq}
-use Rattle.lock_table.specs.Stages.{stage_at, stands_as}
-use Rattle.lock_table.specs.Tables.{Table}
-use Rattle.lock_table.proofs.Past.{by_stage, by_stage_or_past_at}
+use Rattle.world_base.specs.declared.moves.Answer.{Answer}
+use Rattle.world_base.specs.declared.moves.Answer.TheVariants as answer
+use Rattle.world_base.specs.declared.standing.Kind.{Kind}
+use Rattle.world_base.specs.declared.standing.Kind.TheVariants as kind
+use Rattle.world_base.specs.declared.standing.Rest.{Rest}
+use Rattle.world_base.specs.declared.standing.Rest.TheVariants as rest
+use Rattle.world_base.specs.declared.standing.Stage.{Stage}
+use Rattle.world_base.specs.declared.standing.Stage.TheVariants.{Outside, Inside, Forgotten}
+use Rattle.world_base.specs.declared.standing.Within.{Within}
+use Rattle.world_base.specs.Standings.{inside, may_end}
+use Rattle.world_base.proofs.Equations.{some_eq}
+use Rattle.world_base.specs.table.Stages.{stage_at, stands_as}
+use Rattle.world_base.specs.table.Tables.{Table}
+use Rattle.world_base.proofs.of_table.Past.{by_stage, by_stage_or_past_at}
 use Rattle.lock_program.specs.declared.mutex.Place.{Place}
 use Rattle.lock_program.specs.declared.mutex.Place.TheVariants as place
 use Rattle.mutex_machine.specs.Acts.{IsMutex}

@@ -1,26 +1,26 @@
 -- A put of the holder is a legal step: it leaves its value, and nothing else changes.
 use Rattle.std.proofs.Common.{◌≡◌, ◌≢◌, ℕ, ◌||◌, inl, inr, Bool, true, false, Some, refl, ap, sym, ◌∙◌}
 use Rattle.std.proofs.lemmas.Bool.{false≢true, true≢false}
-use Rattle.lock_queue.specs.Parties.{entries_of}
-use Rattle.lock_world.specs.declared.moves.Answer.{Answer}
-use Rattle.lock_world.specs.declared.moves.Answer.TheVariants as answer
-use Rattle.lock_world.specs.declared.moves.Call.TheVariants as call
-use Rattle.lock_world.specs.declared.moves.Got.TheVariants.{Value}
-use Rattle.lock_world.specs.declared.moves.Inputs.{Inputs}
-use Rattle.lock_world.specs.declared.moves.Move.{Move}
-use Rattle.lock_world.specs.declared.moves.What.TheVariants.{Begin}
+use Rattle.world_base.specs.queue.Parties.{entries_of}
+use Rattle.world_base.specs.declared.moves.Answer.{Answer}
+use Rattle.world_base.specs.declared.moves.Answer.TheVariants as answer
+use Rattle.world_base.specs.declared.moves.Call.TheVariants as call
+use Rattle.world_base.specs.declared.moves.Got.TheVariants.{Value}
+use Rattle.world_base.specs.declared.moves.Inputs.{Inputs}
+use Rattle.world_base.specs.declared.moves.Move.{Move}
+use Rattle.world_base.specs.declared.moves.What.TheVariants.{Begin}
 use Rattle.lock_program.specs.declared.refusal.Refusal.TheVariants as refusal
-use Rattle.lock_world.specs.declared.standing.Kind.TheVariants as kind
-use Rattle.lock_world.specs.declared.standing.Rest.TheVariants as rest
-use Rattle.lock_world.specs.declared.standing.Stage.TheVariants.{Outside}
-use Rattle.lock_world.specs.Frame.{is_drop, is_poll_after_ready}
-use Rattle.lock_world.specs.Standings.{outside, call_in, is_possible, is_decided, decision as decided_on, refused}
-use Rattle.lock_world.specs.Steps.{changes}
-use Rattle.lock_world.proofs.Equations.{some_eq, none_some, outside_inside, is_granted, granted_eq}
-use Rattle.lock_table.specs.Stages.{stage_at, stands_as}
-use Rattle.lock_table.specs.Tables.{Table}
-use Rattle.lock_table.proofs.Acting as acting
-use Rattle.lock_table.proofs.Views.{length-standings}
+use Rattle.world_base.specs.declared.standing.Kind.TheVariants as kind
+use Rattle.world_base.specs.declared.standing.Rest.TheVariants as rest
+use Rattle.world_base.specs.declared.standing.Stage.TheVariants.{Outside}
+use Rattle.world_base.specs.Frame.{is_drop, is_poll_after_ready}
+use Rattle.world_base.specs.Standings.{outside, call_in, is_possible, is_decided, decision as decided_on, refused}
+use Rattle.world_base.specs.Steps.{changes}
+use Rattle.world_base.proofs.Equations.{some_eq, none_some, outside_inside, is_granted, granted_eq}
+use Rattle.world_base.specs.table.Stages.{stage_at, stands_as}
+use Rattle.world_base.specs.table.Tables.{Table}
+use Rattle.world_base.proofs.of_table.Acting as acting
+use Rattle.world_base.proofs.of_table.Views.{length-standings}
 use Rattle.mutex_machine.specs.Acts.{IsMutex}
 use Rattle.lock_program.specs.MutexRoles.{bit, holds}
 use Rattle.mutex_machine.specs.State.{is_holder}

@@ -1,24 +1,24 @@
 -- A table's step as callers see it.
 use Rattle.std.proofs.Common.{◌≡◌, ℕ, Bool, false, List, Option, Some, None, refl, arith, ap, sym, ◌∙◌, subst}
 use Rattle.std.proofs.Math.ListN.{set}
-use Rattle.lock_world.specs.declared.moves.Answer.{Answer}
-use Rattle.lock_world.specs.declared.moves.Answer.TheVariants as answer
-use Rattle.lock_world.specs.declared.moves.Call.{Call}
-use Rattle.lock_world.specs.declared.moves.Got.TheVariants.{Value}
-use Rattle.lock_world.specs.declared.moves.Move.{Move}
-use Rattle.lock_world.specs.declared.moves.What.{What}
-use Rattle.lock_world.specs.declared.standing.Rest.TheVariants as rest
-use Rattle.lock_world.specs.declared.standing.Stage.{Stage}
-use Rattle.lock_world.specs.declared.standing.Stage.TheVariants.{Outside, Forgotten}
-use Rattle.lock_world.specs.declared.standing.Within.{Within}
-use Rattle.lock_world.specs.Frame.{is_poll_after_ready, put_in}
-use Rattle.lock_world.specs.Standings.{call_in}
-use Rattle.lock_world.proofs.Equations.{some_eq}
-use Rattle.lock_table.specs.Stages.{stage_at, call_at, polls_again, stage_after}
-use Rattle.lock_table.specs.Tables.{Table, Acted}
-use Rattle.lock_table.proofs.Calls.{call_seen, again_seen}
-use Rattle.lock_table.proofs.Mapped.{set_same}
-use Rattle.lock_table.proofs.Ways.{way, by_way}
+use Rattle.world_base.specs.declared.moves.Answer.{Answer}
+use Rattle.world_base.specs.declared.moves.Answer.TheVariants as answer
+use Rattle.world_base.specs.declared.moves.Call.{Call}
+use Rattle.world_base.specs.declared.moves.Got.TheVariants.{Value}
+use Rattle.world_base.specs.declared.moves.Move.{Move}
+use Rattle.world_base.specs.declared.moves.What.{What}
+use Rattle.world_base.specs.declared.standing.Rest.TheVariants as rest
+use Rattle.world_base.specs.declared.standing.Stage.{Stage}
+use Rattle.world_base.specs.declared.standing.Stage.TheVariants.{Outside, Forgotten}
+use Rattle.world_base.specs.declared.standing.Within.{Within}
+use Rattle.world_base.specs.Frame.{is_poll_after_ready, put_in}
+use Rattle.world_base.specs.Standings.{call_in}
+use Rattle.world_base.proofs.Equations.{some_eq}
+use Rattle.world_base.specs.table.Stages.{stage_at, call_at, polls_again, stage_after}
+use Rattle.world_base.specs.table.Tables.{Table, Acted}
+use Rattle.world_base.proofs.of_table.Calls.{call_seen, again_seen}
+use Rattle.world_base.proofs.of_table.Mapped.{set_same}
+use Rattle.world_base.proofs.of_table.Ways.{way, by_way}
 use Rattle.lock_program.specs.declared.mutex.Place.{Place}
 use Rattle.mutex_machine.specs.Acts.{IsMutex}
 use Rattle.mutex_world.specs.Guarded.{Guarded, knows, Moves, MovesBy, Carries, with_value, place_of}

@@ -1,13 +1,13 @@
 -- An action leaves each party where it may stand.
 use Rattle.std.proofs.Common.{◌≡◌, ℕ, ◌<◌, true, List, length, None, ap, sym, ◌∙◌, subst, get_or-set_same, get_or-set_other, length-set}
-use Rattle.lock_world.specs.declared.moves.Answer.{Answer}
-use Rattle.lock_world.specs.declared.moves.What.{What}
-use Rattle.lock_world.specs.declared.standing.Rest.TheVariants as rest
-use Rattle.lock_world.specs.declared.standing.Within.{Within}
-use Rattle.lock_world.specs.Frame.{put_in}
-use Rattle.lock_world.proofs.Equations.{some_eq}
-use Rattle.lock_table.specs.Stages.{stage_after}
-use Rattle.lock_table.specs.Tables.{Keeps, Called}
+use Rattle.world_base.specs.declared.moves.Answer.{Answer}
+use Rattle.world_base.specs.declared.moves.What.{What}
+use Rattle.world_base.specs.declared.standing.Rest.TheVariants as rest
+use Rattle.world_base.specs.declared.standing.Within.{Within}
+use Rattle.world_base.specs.Frame.{put_in}
+use Rattle.world_base.proofs.Equations.{some_eq}
+use Rattle.world_base.specs.table.Stages.{stage_after}
+use Rattle.world_base.specs.table.Tables.{Keeps, Called}
 use Rattle.lock_program.specs.declared.mutex.Place.{Place}
 use Rattle.lock_program.specs.declared.mutex.Place.TheVariants.{Out}
 use Rattle.mutex_program.specs.declared.led.Next.{Next}

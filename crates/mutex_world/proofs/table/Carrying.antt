@@ -1,12 +1,12 @@
 -- What the lock does at the beginning of a call, and going on, is one action of the machine.
 use Rattle.std.proofs.Common.{◌≡◌, ℕ, Option, Some, IsSomeAnd, ap, sym, ◌∙◌, subst}
-use Rattle.lock_world.specs.declared.moves.Call.{Call}
-use Rattle.lock_world.specs.declared.moves.Inputs.{Inputs}
-use Rattle.lock_world.specs.declared.moves.What.{What}
-use Rattle.lock_world.specs.declared.moves.What.TheVariants.{Begin, Go}
-use Rattle.lock_world.specs.declared.standing.Rest.{Rest}
-use Rattle.lock_world.specs.Standings.{inputs_of}
-use Rattle.lock_world.proofs.Equations.{is_some_and, some_eq, witness}
+use Rattle.world_base.specs.declared.moves.Call.{Call}
+use Rattle.world_base.specs.declared.moves.Inputs.{Inputs}
+use Rattle.world_base.specs.declared.moves.What.{What}
+use Rattle.world_base.specs.declared.moves.What.TheVariants.{Begin, Go}
+use Rattle.world_base.specs.declared.standing.Rest.{Rest}
+use Rattle.world_base.specs.Standings.{inputs_of}
+use Rattle.world_base.proofs.Equations.{is_some_and, some_eq, witness}
 use Rattle.lock_program.specs.declared.end.End.{End as LockEnd}
 use Rattle.lock_program.specs.declared.mutex.LockCall.{LockCall}
 use Rattle.mutex_program.specs.declared.led.Next.{Next}

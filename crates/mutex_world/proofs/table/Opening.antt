@@ -1,8 +1,8 @@
 -- A new table is seen as a new World.
 use Rattle.std.proofs.Common.{◌≡◌, ℕ, ◌+◌, zero, suc, replicate, None, refl}
-use Rattle.lock_table.specs.Tables.{new_table}
-use Rattle.lock_table.proofs.Mapped.{mapped_alike}
-use Rattle.lock_table.proofs.Views.{all_idle}
+use Rattle.world_base.specs.table.Tables.{new_table}
+use Rattle.world_base.proofs.of_table.Mapped.{mapped_alike}
+use Rattle.world_base.proofs.of_table.Views.{all_idle}
 use Rattle.lock_program.specs.declared.mutex.Place.TheVariants.{Out}
 use Rattle.mutex_machine.specs.State.{is_counted, holder_from}
 use Rattle.mutex_world.specs.Guarded.{new_guarded}

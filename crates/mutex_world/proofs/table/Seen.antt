@@ -1,10 +1,10 @@
 -- What callers see of a machine, party by party.
 use Rattle.std.proofs.Common.{◌≡◌, ℕ, Some, refl, arith}
-use Rattle.lock_world.specs.declared.moves.Answer.TheVariants as answer
-use Rattle.lock_world.proofs.Equations.{some_eq}
-use Rattle.lock_table.specs.Stages.{stage_at, stands_as}
-use Rattle.lock_table.specs.Tables.{Table}
-use Rattle.lock_table.proofs.Acting.{stood}
+use Rattle.world_base.specs.declared.moves.Answer.TheVariants as answer
+use Rattle.world_base.proofs.Equations.{some_eq}
+use Rattle.world_base.specs.table.Stages.{stage_at, stands_as}
+use Rattle.world_base.specs.table.Tables.{Table}
+use Rattle.world_base.proofs.of_table.Acting.{stood}
 use Rattle.lock_program.specs.declared.end.End.TheVariants as «end»
 use Rattle.lock_program.specs.declared.mutex.Place.{Place}
 use Rattle.lock_program.specs.declared.mutex.Place.TheVariants as place

@@ -3,33 +3,33 @@ use Rattle.std.proofs.Common.{◌≡◌, ◌≢◌, ℕ, ◌<◌, inl, inr, Bool
 use Rattle.std.proofs.lemmas.Bool.{true≢false}
 use Rattle.lock_event.specs.declared.event.Entry.{Entry}
 use Rattle.lock_event.specs.Lists.{marked_count}
-use Rattle.lock_queue.specs.Parties.{entries_of}
-use Rattle.lock_world.specs.declared.moves.Answer.{Answer}
-use Rattle.lock_world.specs.declared.moves.Answer.TheVariants as answer
-use Rattle.lock_world.specs.declared.moves.Call.{Call}
-use Rattle.lock_world.specs.declared.moves.Call.TheVariants as call
-use Rattle.lock_world.specs.declared.moves.Got.TheVariants.{Value}
-use Rattle.lock_world.specs.declared.moves.Inputs.{Inputs}
-use Rattle.lock_world.specs.declared.moves.Move.{Move}
-use Rattle.lock_world.specs.declared.moves.What.{What}
-use Rattle.lock_world.specs.declared.moves.What.TheVariants.{Begin, Go}
-use Rattle.lock_world.specs.declared.standing.Kind.TheVariants as kind
-use Rattle.lock_world.specs.declared.standing.Rest.TheVariants as rest
-use Rattle.lock_world.specs.declared.standing.Stage.{Stage}
-use Rattle.lock_world.specs.declared.standing.Stage.TheVariants.{Outside}
-use Rattle.lock_world.specs.declared.standing.Within.{Within}
-use Rattle.lock_world.specs.Accounts.{Account, accounts_after}
-use Rattle.lock_world.specs.Frame.{is_refusal}
+use Rattle.world_base.specs.queue.Parties.{entries_of}
+use Rattle.world_base.specs.declared.moves.Answer.{Answer}
+use Rattle.world_base.specs.declared.moves.Answer.TheVariants as answer
+use Rattle.world_base.specs.declared.moves.Call.{Call}
+use Rattle.world_base.specs.declared.moves.Call.TheVariants as call
+use Rattle.world_base.specs.declared.moves.Got.TheVariants.{Value}
+use Rattle.world_base.specs.declared.moves.Inputs.{Inputs}
+use Rattle.world_base.specs.declared.moves.Move.{Move}
+use Rattle.world_base.specs.declared.moves.What.{What}
+use Rattle.world_base.specs.declared.moves.What.TheVariants.{Begin, Go}
+use Rattle.world_base.specs.declared.standing.Kind.TheVariants as kind
+use Rattle.world_base.specs.declared.standing.Rest.TheVariants as rest
+use Rattle.world_base.specs.declared.standing.Stage.{Stage}
+use Rattle.world_base.specs.declared.standing.Stage.TheVariants.{Outside}
+use Rattle.world_base.specs.declared.standing.Within.{Within}
+use Rattle.world_base.specs.Accounts.{Account, accounts_after}
+use Rattle.world_base.specs.Frame.{is_refusal}
 use Rattle.lock_program.specs.declared.refusal.Refusal.TheVariants as refusal
-use Rattle.lock_world.specs.Rosters.{how_many}
-use Rattle.lock_world.specs.Standings.{outside, inputs_of, refused}
-use Rattle.lock_world.specs.Whole.{going_on, moves_of, answers_of}
-use Rattle.lock_world.proofs.Equations.{some_eq, none_some, chosen}
-use Rattle.lock_frame.specs.Steps.{beginning}
-use Rattle.lock_frame.proofs.Runs.{along, at_first, Onward}
-use Rattle.lock_table.specs.Stages.{stage_at, call_at}
-use Rattle.lock_table.specs.Tables.{Table}
-use Rattle.lock_table.proofs.Views.{outside_stage}
+use Rattle.world_base.specs.Rosters.{how_many}
+use Rattle.world_base.specs.Standings.{outside, inputs_of, refused}
+use Rattle.world_base.specs.Whole.{going_on, moves_of, answers_of}
+use Rattle.world_base.proofs.Equations.{some_eq, none_some, chosen}
+use Rattle.world_base.specs.any_world.Steps.{beginning}
+use Rattle.world_base.proofs.of_any_world.Runs.{along, at_first, Onward}
+use Rattle.world_base.specs.table.Stages.{stage_at, call_at}
+use Rattle.world_base.specs.table.Tables.{Table}
+use Rattle.world_base.proofs.of_table.Views.{outside_stage}
 use Rattle.lock_program.specs.declared.end.End.TheVariants as «end»
 use Rattle.mutex_program.specs.declared.led.Next.{Next}
 use Rattle.mutex_program.specs.declared.led.Next.TheVariants as next
@@ -46,7 +46,7 @@ use Rattle.mutex_world.specs.Runs.{Runs, HoldsWell}
 use Rattle.mutex_world.specs.State.{World, standing_of, is_starved, is_free}
 use Rattle.mutex_world.specs.Steps.{Stands, Steps}
 use Rattle.mutex_world.specs.View.{verdict, view_of}
-use Rattle.lock_world.specs.Marks.{MarksNobody}
+use Rattle.world_base.specs.Marks.{MarksNobody}
 use Rattle.mutex_world.proofs.whole.Ring as ring
 use Rattle.mutex_world.proofs.whole.FirstPolls as fresh
 use Rattle.mutex_world.proofs.step.Acting.{Acting}

@@ -1,26 +1,26 @@
 -- A call that is carried out alone ends within its number of steps.
 use Rattle.std.proofs.Common.{◌≡◌, ℕ, ◌+◌, ◌<◌, ◌≤◌, Bool, true, false, Option, Some, None, refl, arith, ap, sym, ◌∙◌, subst}
-use Rattle.lock_world.specs.declared.moves.Answer.{Answer}
-use Rattle.lock_world.specs.declared.moves.Answer.TheVariants as answer
-use Rattle.lock_world.specs.declared.moves.Call.{Call}
-use Rattle.lock_world.specs.declared.moves.Call.TheVariants as call
-use Rattle.lock_world.specs.declared.moves.Got.TheVariants.{Value}
-use Rattle.lock_world.specs.declared.moves.Inputs.{Inputs}
-use Rattle.lock_world.specs.declared.moves.Move.{Move}
-use Rattle.lock_world.specs.declared.moves.What.{What}
-use Rattle.lock_world.specs.declared.moves.What.TheVariants.{Begin, Go}
+use Rattle.world_base.specs.declared.moves.Answer.{Answer}
+use Rattle.world_base.specs.declared.moves.Answer.TheVariants as answer
+use Rattle.world_base.specs.declared.moves.Call.{Call}
+use Rattle.world_base.specs.declared.moves.Call.TheVariants as call
+use Rattle.world_base.specs.declared.moves.Got.TheVariants.{Value}
+use Rattle.world_base.specs.declared.moves.Inputs.{Inputs}
+use Rattle.world_base.specs.declared.moves.Move.{Move}
+use Rattle.world_base.specs.declared.moves.What.{What}
+use Rattle.world_base.specs.declared.moves.What.TheVariants.{Begin, Go}
 use Rattle.lock_program.specs.declared.refusal.Refusal.TheVariants.{Finished}
-use Rattle.lock_world.specs.declared.standing.Rest.TheVariants as rest
-use Rattle.lock_world.specs.declared.standing.Stage.{Stage}
-use Rattle.lock_world.specs.declared.standing.Within.{Within}
-use Rattle.lock_world.specs.Frame.{put_in}
-use Rattle.lock_world.specs.Standings.{inputs_of, refused}
-use Rattle.lock_world.specs.Whole.{going_on}
-use Rattle.lock_world.proofs.Equations.{some_eq}
-use Rattle.lock_frame.specs.Steps.{beginning, left_by}
-use Rattle.lock_table.specs.Stages.{stage_at, call_at, polls_again}
-use Rattle.lock_table.specs.Tables.{Table, Acted}
-use Rattle.lock_table.proofs.Ways.{way, by_way}
+use Rattle.world_base.specs.declared.standing.Rest.TheVariants as rest
+use Rattle.world_base.specs.declared.standing.Stage.{Stage}
+use Rattle.world_base.specs.declared.standing.Within.{Within}
+use Rattle.world_base.specs.Frame.{put_in}
+use Rattle.world_base.specs.Standings.{inputs_of, refused}
+use Rattle.world_base.specs.Whole.{going_on}
+use Rattle.world_base.proofs.Equations.{some_eq}
+use Rattle.world_base.specs.any_world.Steps.{beginning, left_by}
+use Rattle.world_base.specs.table.Stages.{stage_at, call_at, polls_again}
+use Rattle.world_base.specs.table.Tables.{Table, Acted}
+use Rattle.world_base.proofs.of_table.Ways.{way, by_way}
 use Rattle.lock_program.specs.declared.end.End.TheVariants as «end»
 use Rattle.mutex_program.specs.declared.led.Next.{Next}
 use Rattle.mutex_program.specs.declared.led.Next.TheVariants as next

@@ -1,10 +1,10 @@
 -- A party that moves alone ends its call.
 use Rattle.std.proofs.Common.{◌≡◌, ℕ, ◌<◌, ◌≤◌, Bool, true, false, Some, length, refl, sym, ap, arith, ◌∙◌, get_or-set_same}
 use Rattle.lock_event.specs.Lists.{is_marked_at}
-use Rattle.lock_queue.specs.Parties.{is_party, entries_of}
-use Rattle.lock_world.specs.declared.moves.Call.{Call}
-use Rattle.lock_world.specs.declared.moves.Call.TheVariants as call
-use Rattle.lock_world.proofs.Equations.{some_eq, none_some}
+use Rattle.world_base.specs.queue.Parties.{is_party, entries_of}
+use Rattle.world_base.specs.declared.moves.Call.{Call}
+use Rattle.world_base.specs.declared.moves.Call.TheVariants as call
+use Rattle.world_base.proofs.Equations.{some_eq, none_some}
 use Rattle.mutex_machine.specs.Mutex.{steps_left as turn_steps_left}
 use Rattle.lock_program.specs.declared.rwlock.Wanted.TheVariants as wanted
 use Rattle.lock_program.specs.declared.rwlock.Purpose.TheVariants as purpose

@@ -2,8 +2,8 @@
 use Rattle.std.proofs.Common.{◌≡◌, ℕ, ◌<◌, Bool, true, false, List, refl, ap}
 use Rattle.lock_event.specs.declared.event.Entry.{Entry}
 use Rattle.lock_event.specs.Lists.{is_marked_at}
-use Rattle.lock_queue.specs.Parties.{is_party, entries_of}
-use Rattle.lock_world.proofs.Lists.{joined_unmarked}
+use Rattle.world_base.specs.queue.Parties.{is_party, entries_of}
+use Rattle.world_base.proofs.Lists.{joined_unmarked}
 use Rattle.lock_program.specs.declared.mutex.Step.{Step as TurnStep}
 use Rattle.lock_program.specs.declared.mutex.Step.TheVariants as turn_step
 use Rattle.mutex_machine.specs.Mutex.{Mutex, left_after as turn_left_after, steps_left as turn_steps_left}

@@ -2,8 +2,8 @@
 use Rattle.std.proofs.Common.{◌≡◌, ℕ, ◌<◌, ◌≤◌, true, List, length, get_or, refl, ap, arith, ◌∙◌}
 use Rattle.std.specs.List.{sum_by}
 use Rattle.std.proofs.lemmas.List.Sums.{get_or-le-sum_by}
-use Rattle.lock_queue.specs.Parties.{entries_of}
-use Rattle.lock_queue.specs.Queues.{Queue}
+use Rattle.world_base.specs.queue.Parties.{entries_of}
+use Rattle.world_base.specs.queue.Queues.{Queue}
 use Rattle.mutex_machine.specs.Mutex.{Mutex, course_at as turn_at}
 use Rattle.mutex_machine.proofs.callers.Callers.{may_lock, may_try, may_poll, may_cancel, may_release}
 use Rattle.rwlock_program.specs.declared.word.Word.{Word}

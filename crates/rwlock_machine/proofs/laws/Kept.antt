@@ -3,8 +3,8 @@ use Rattle.std.proofs.Common.{◌≡◌, ℕ, ◌+◌, ◌-◌, ◌<◌, ◌≤�
 use Rattle.std.proofs.lemmas.Bool.Decides.{nat_tests}
 use Rattle.lock_event.specs.declared.event.Entry.{Entry}
 use Rattle.lock_event.specs.Lists.{marked_count}
-use Rattle.lock_queue.specs.Debts.{IsOwed}
-use Rattle.lock_queue.proofs.Debts.{debt_kept}
+use Rattle.world_base.specs.queue.Debts.{IsOwed}
+use Rattle.world_base.proofs.of_queue.Debts.{debt_kept}
 use Rattle.rwlock_program.specs.declared.word.Word.{Word}
 use Rattle.lock_program.specs.declared.rwlock.Place.{Place}
 use Rattle.lock_program.specs.declared.rwlock.Action.{Action}

@@ -2,9 +2,9 @@
 use Rattle.std.proofs.Common.{◌≡◌, ℕ, ◌+◌, ◌<◌, ◌≤◌, suc, true, List, [], ◌∷◌, length, refl, arith, ◌∙◌}
 use Rattle.std.specs.List.{sum_by}
 use Rattle.lock_event.specs.Lists.{marked_count, IsMarkedFirst}
-use Rattle.lock_queue.specs.Queues.{Queue}
-use Rattle.lock_queue.specs.Debts.{Rests, AllRest}
-use Rattle.lock_queue.proofs.Debts.{paid_at_rest}
+use Rattle.world_base.specs.queue.Queues.{Queue}
+use Rattle.world_base.specs.queue.Debts.{Rests, AllRest}
+use Rattle.world_base.proofs.of_queue.Debts.{paid_at_rest}
 use Rattle.mutex_machine.specs.Course.{Course as TurnCourse, listed, is_resting as rests_in_turn}
 use Rattle.mutex_machine.specs.Mutex.{Mutex, course_at as turn_at, IsMutex, IsAtRest as IsTurnAtRest}
 use Rattle.mutex_machine.proofs.callers.Callers.{out_rests, holding_rests, waiting_rests, out_unlisted, holding_unlisted, listed_once}

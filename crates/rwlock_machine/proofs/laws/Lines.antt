@@ -2,10 +2,10 @@
 use Rattle.std.proofs.Common.{◌≡◌, ◌≢◌, ℕ, ◌+◌, ◌<◌, Bool, true, List, length, refl, arith, sym, ◌∙◌}
 use Rattle.lock_event.specs.declared.event.Entry.{Entry}
 use Rattle.lock_event.specs.Lists.{marked_count, without, is_marked_at}
-use Rattle.lock_queue.specs.Parties.{is_party, entries_of}
-use Rattle.lock_world.specs.Steps.{ListFunction, joins, asks, leaves, notifies, list_after}
-use Rattle.lock_world.proofs.Equations.{chosen}
-use Rattle.lock_world.proofs.Lists.{CanList, done, counted_by, own_by, others_by, notified_marked}
+use Rattle.world_base.specs.queue.Parties.{is_party, entries_of}
+use Rattle.world_base.specs.Steps.{ListFunction, joins, asks, leaves, notifies, list_after}
+use Rattle.world_base.proofs.Equations.{chosen}
+use Rattle.world_base.proofs.Lists.{CanList, done, counted_by, own_by, others_by, notified_marked}
 use Rattle.lock_program.specs.declared.rwlock.Action.{Action}
 use Rattle.lock_program.specs.declared.rwlock.Action.TheVariants as act
 use Rattle.lock_program.specs.declared.rwlock.Found.{Found}

@@ -1,8 +1,8 @@
 -- A new lock.
 use Rattle.std.proofs.Common.{ℕ, [], replicate, refl, sym, arith, ◌∙◌}
 use Rattle.std.proofs.lemmas.List.{length-replicate}
-use Rattle.lock_queue.specs.Queues.{queue}
-use Rattle.lock_world.proofs.Alike.{all_alike, none_of_all}
+use Rattle.world_base.specs.queue.Queues.{queue}
+use Rattle.world_base.proofs.Alike.{all_alike, none_of_all}
 use Rattle.mutex_machine.specs.Mutex.{new_mutex}
 use Rattle.mutex_machine.proofs.callers.Callers.{new_is_out, new_parties}
 use Rattle.lock_program.specs.declared.rwlock.Place.TheVariants.{Out}

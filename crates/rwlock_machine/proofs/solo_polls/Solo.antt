@@ -5,7 +5,7 @@ use Rattle.std.specs.List.{sum_by}
 use Rattle.std.proofs.lemmas.List.Sums.{sum_by-set}
 use Rattle.lock_event.specs.declared.event.Entry.{Entry}
 use Rattle.lock_event.specs.Lists.{is_marked_at}
-use Rattle.lock_queue.specs.Parties.{is_party}
+use Rattle.world_base.specs.queue.Parties.{is_party}
 use Rattle.mutex_machine.specs.Course.{Course as TurnCourse, listed}
 use Rattle.mutex_machine.specs.Mutex.{course_at as turn_at}
 use Rattle.mutex_machine.proofs.callers.Callers.{out_unlisted, holding_unlisted, first_marked}

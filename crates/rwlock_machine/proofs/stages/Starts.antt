@@ -1,8 +1,8 @@
 -- A call begins with the roles that its party has.
 use Rattle.std.proofs.Common.{◌≡◌, Some, refl, true}
-use Rattle.lock_world.specs.declared.moves.Call.{Call}
-use Rattle.lock_world.specs.declared.moves.Call.TheVariants as call
-use Rattle.lock_world.proofs.Equations.{some_eq, none_some}
+use Rattle.world_base.specs.declared.moves.Call.{Call}
+use Rattle.world_base.specs.declared.moves.Call.TheVariants as call
+use Rattle.world_base.proofs.Equations.{some_eq, none_some}
 use Rattle.lock_program.specs.declared.rwlock.Wanted.TheVariants as wanted
 use Rattle.lock_program.specs.declared.rwlock.Place.{Place}
 use Rattle.lock_program.specs.declared.rwlock.Place.TheVariants.{Out, Made, Reading, Upgradable, Writing, AskNoWriter, WaitTurn, AwaitNoReaders, LookUnlisted}

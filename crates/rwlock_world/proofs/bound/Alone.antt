@@ -7,24 +7,24 @@ use Rattle.lock_program.specs.declared.rwlock.Action.{Action}
 use Rattle.lock_program.specs.declared.rwlock.Place.{Place}
 use Rattle.rwlock_program.specs.declared.led.Next.{Next}
 use Rattle.rwlock_program.specs.declared.led.Next.TheVariants as next
-use Rattle.lock_world.specs.declared.moves.Answer.{Answer}
-use Rattle.lock_world.specs.declared.moves.Answer.TheVariants as answer
-use Rattle.lock_world.specs.declared.moves.Call.TheVariants as call
-use Rattle.lock_world.specs.declared.moves.Inputs.{Inputs}
-use Rattle.lock_world.specs.declared.moves.Move.{Move}
-use Rattle.lock_world.specs.declared.moves.What.{What}
-use Rattle.lock_world.specs.declared.moves.What.TheVariants.{Begin, Go}
-use Rattle.lock_world.specs.declared.standing.Kind.TheVariants as kind
-use Rattle.lock_world.specs.declared.standing.Rest.TheVariants as rest
-use Rattle.lock_world.specs.declared.standing.Stage.{Stage}
-use Rattle.lock_world.specs.declared.standing.Stage.TheVariants.{Outside, Inside, Forgotten}
-use Rattle.lock_world.specs.declared.standing.Within.{Within}
-use Rattle.lock_world.specs.Accounts.{Account, accounts_after}
-use Rattle.lock_world.specs.Standings.{inputs_of}
-use Rattle.lock_world.specs.Whole.{going_on, moves_of, answers_of}
-use Rattle.lock_world.proofs.Equations.{some_eq, is_some_and}
-use Rattle.lock_table.specs.Stages.{stage_at, stage_after, call_at, polls_again}
-use Rattle.lock_table.specs.Tables.{Table}
+use Rattle.world_base.specs.declared.moves.Answer.{Answer}
+use Rattle.world_base.specs.declared.moves.Answer.TheVariants as answer
+use Rattle.world_base.specs.declared.moves.Call.TheVariants as call
+use Rattle.world_base.specs.declared.moves.Inputs.{Inputs}
+use Rattle.world_base.specs.declared.moves.Move.{Move}
+use Rattle.world_base.specs.declared.moves.What.{What}
+use Rattle.world_base.specs.declared.moves.What.TheVariants.{Begin, Go}
+use Rattle.world_base.specs.declared.standing.Kind.TheVariants as kind
+use Rattle.world_base.specs.declared.standing.Rest.TheVariants as rest
+use Rattle.world_base.specs.declared.standing.Stage.{Stage}
+use Rattle.world_base.specs.declared.standing.Stage.TheVariants.{Outside, Inside, Forgotten}
+use Rattle.world_base.specs.declared.standing.Within.{Within}
+use Rattle.world_base.specs.Accounts.{Account, accounts_after}
+use Rattle.world_base.specs.Standings.{inputs_of}
+use Rattle.world_base.specs.Whole.{going_on, moves_of, answers_of}
+use Rattle.world_base.proofs.Equations.{some_eq, is_some_and}
+use Rattle.world_base.specs.table.Stages.{stage_at, stage_after, call_at, polls_again}
+use Rattle.world_base.specs.table.Tables.{Table}
 use Rattle.rwlock_program.specs.Program.{start_of}
 use Rattle.rwlock_machine.specs.Machine.{place_at}
 use Rattle.rwlock_machine.specs.Acts.{Acts}

@@ -4,19 +4,19 @@ use Rattle.std.proofs.Math.ListN.{set}
 use Rattle.std.proofs.lemmas.List.{set-get_or}
 use Rattle.std.proofs.lemmas.Bool.{false≢true}
 use Rattle.std.specs.List.{list_all}
-use Rattle.lock_queue.specs.Parties.{entries_of}
-use Rattle.lock_world.specs.declared.moves.Answer.{Answer}
-use Rattle.lock_world.specs.declared.moves.Answer.TheVariants as answer
-use Rattle.lock_world.specs.declared.moves.Call.TheVariants as call
-use Rattle.lock_world.specs.declared.moves.Got.TheVariants.{Value}
-use Rattle.lock_world.specs.declared.moves.Inputs.{Inputs}
+use Rattle.world_base.specs.queue.Parties.{entries_of}
+use Rattle.world_base.specs.declared.moves.Answer.{Answer}
+use Rattle.world_base.specs.declared.moves.Answer.TheVariants as answer
+use Rattle.world_base.specs.declared.moves.Call.TheVariants as call
+use Rattle.world_base.specs.declared.moves.Got.TheVariants.{Value}
+use Rattle.world_base.specs.declared.moves.Inputs.{Inputs}
 use Rattle.lock_program.specs.declared.refusal.Refusal.TheVariants as refusal
-use Rattle.lock_world.specs.declared.standing.Rest.TheVariants as rest
-use Rattle.lock_world.specs.declared.standing.Stage.TheVariants.{Outside, Forgotten}
-use Rattle.lock_world.specs.Rosters.{how_many}
-use Rattle.lock_world.specs.Standings.{outside, is_outside_stage}
-use Rattle.lock_world.proofs.Bounds.{marked_listed}
-use Rattle.lock_world.proofs.Rests.{still_outside}
+use Rattle.world_base.specs.declared.standing.Rest.TheVariants as rest
+use Rattle.world_base.specs.declared.standing.Stage.TheVariants.{Outside, Forgotten}
+use Rattle.world_base.specs.Rosters.{how_many}
+use Rattle.world_base.specs.Standings.{outside, is_outside_stage}
+use Rattle.world_base.proofs.Bounds.{marked_listed}
+use Rattle.world_base.proofs.Rests.{still_outside}
 use Rattle.mutex_machine.specs.Course.{Course as TurnCourse, bit, listed}
 use Rattle.mutex_machine.specs.Mutex.{course_at as turn_at, IsStarved, holders, starved, holder_of}
 use Rattle.mutex_machine.proofs.callers.Callers.{out_unlisted, holding_unlisted, gave_way}
@@ -31,12 +31,12 @@ use Rattle.rwlock_machine.specs.Machine.{place_at}
 use Rattle.rwlock_machine.specs.Acts.{IsRwLock, readers}
 use Rattle.rwlock_machine.specs.Solo.{PollsAlone, waits_to_read, looks_for_readers, waits_for_turn, IsCalledToTurn, Took, TookTurn, StandsBack, GaveTurnWay, SoloPolls}
 use Rattle.rwlock_machine.proofs.solo_polls.Solo.{writer_at, solo_polls}
-use Rattle.lock_table.specs.Stages.{stage_at}
+use Rattle.world_base.specs.table.Stages.{stage_at}
 use Rattle.rwlock_world.specs.Stages.{is_future, goes_with}
-use Rattle.lock_table.specs.Tables.{Table}
+use Rattle.world_base.specs.table.Tables.{Table}
 use Rattle.rwlock_world.specs.Guarded.{Guarded, answer_by}
-use Rattle.lock_world.specs.Accounts.{Account}
-use Rattle.lock_world.specs.Whole.{moves_of, answers_of}
+use Rattle.world_base.specs.Accounts.{Account}
+use Rattle.world_base.specs.Whole.{moves_of, answers_of}
 use Rattle.rwlock_world.specs.Runs.{Runs}
 use Rattle.rwlock_world.specs.Steps.{IsRwLockTable, Stands}
 use Rattle.rwlock_world.specs.State.{nobody, is_upgradable, waits_to_write as waits, writes, World, standing_of, is_starved, is_upgrader, how_many_read, is_marked}
@@ -46,9 +46,9 @@ use Rattle.rwlock_world.specs.Bound.{IsSoloForTurn, IsSoloToRead, IsSoloToWrite,
 use Rattle.rwlock_world.proofs.table.Begun.{at_future}
 use Rattle.rwlock_world.proofs.bound.Alone.{Ended, polls_alone}
 use Rattle.rwlock_world.proofs.laws.Sound.{nobody_holds, bit_seen}
-use Rattle.lock_table.proofs.Views.{rest_seen, outside_stage}
+use Rattle.world_base.proofs.of_table.Views.{rest_seen, outside_stage}
 use Rattle.rwlock_world.proofs.step.Owns as owns
-use Rattle.lock_table.proofs.Past.{inside_or_past}
+use Rattle.world_base.proofs.of_table.Past.{inside_or_past}
 use Rattle.rwlock_world.proofs.table.Views as view
 
 -- ---- where a pending party stands that is listed

@@ -2,15 +2,15 @@
 use Rattle.std.proofs.Common.{◌≡◌, ℕ, ◌<◌, ◌≤◌, ◌⊎◌, inl, inr, List, refl, arith}
 use Rattle.lock_event.specs.declared.event.Entry.{Entry}
 use Rattle.lock_event.specs.Lists.{marked_count, IsMarkedFirst}
-use Rattle.lock_queue.specs.Parties.{entries_of}
-use Rattle.lock_world.specs.declared.moves.Answer.{Answer}
-use Rattle.lock_world.specs.declared.moves.Inputs.{Inputs}
-use Rattle.lock_world.specs.Bounds.{GaveWay, SomeMarked}
-use Rattle.lock_world.proofs.Bounds.{one_takes}
-use Rattle.lock_table.proofs.Bounds.{first_marked}
+use Rattle.world_base.specs.queue.Parties.{entries_of}
+use Rattle.world_base.specs.declared.moves.Answer.{Answer}
+use Rattle.world_base.specs.declared.moves.Inputs.{Inputs}
+use Rattle.world_base.specs.Bounds.{GaveWay, SomeMarked}
+use Rattle.world_base.proofs.Bounds.{one_takes}
+use Rattle.world_base.proofs.of_table.Bounds.{first_marked}
 use Rattle.rwlock_world.specs.State.{for_the_turn, for_no_readers, for_no_writer, nobody, World, standing_of, HasTurn, entries_in}
 use Rattle.rwlock_world.specs.Laws.{IsSound, IsAwake, IsTurnWanted, IsReadingWanted, IsWritingWanted}
-use Rattle.lock_world.specs.declared.moves.Call.TheVariants as call
+use Rattle.world_base.specs.declared.moves.Call.TheVariants as call
 use Rattle.rwlock_world.specs.Whole.{IsWholeCall}
 use Rattle.rwlock_world.specs.Runs.{accounts_of}
 use Rattle.rwlock_world.proofs.laws.WorldLaws.{keeps_promise}

@@ -1,16 +1,16 @@
 -- Who has still to notify in a list, or to look, by the place at which a party stands.
 use Rattle.std.proofs.Common.{◌≡◌, ℕ, ◌<◌, true, false, Option, None, refl, arith, sym, ◌∙◌}
 use Rattle.std.proofs.lemmas.Bool.{false≢true}
-use Rattle.lock_world.specs.declared.moves.Answer.{Answer}
-use Rattle.lock_world.specs.declared.standing.Kind.{Kind}
-use Rattle.lock_world.specs.declared.standing.Kind.TheVariants as kind
-use Rattle.lock_world.specs.declared.standing.Rest.{Rest}
-use Rattle.lock_world.specs.declared.standing.Rest.TheVariants as rest
-use Rattle.lock_world.specs.declared.standing.Stage.{Stage}
-use Rattle.lock_world.specs.declared.standing.Stage.TheVariants.{Outside, Inside, Forgotten}
-use Rattle.lock_world.specs.declared.standing.Within.{Within}
-use Rattle.lock_world.specs.Standings.{is_outside, is_outside_stage, is_decided}
-use Rattle.lock_table.specs.Stages.{stands_as}
+use Rattle.world_base.specs.declared.moves.Answer.{Answer}
+use Rattle.world_base.specs.declared.standing.Kind.{Kind}
+use Rattle.world_base.specs.declared.standing.Kind.TheVariants as kind
+use Rattle.world_base.specs.declared.standing.Rest.{Rest}
+use Rattle.world_base.specs.declared.standing.Rest.TheVariants as rest
+use Rattle.world_base.specs.declared.standing.Stage.{Stage}
+use Rattle.world_base.specs.declared.standing.Stage.TheVariants.{Outside, Inside, Forgotten}
+use Rattle.world_base.specs.declared.standing.Within.{Within}
+use Rattle.world_base.specs.Standings.{is_outside, is_outside_stage, is_decided}
+use Rattle.world_base.specs.table.Stages.{stands_as}
 use Rattle.mutex_machine.specs.Course.{Course as TurnCourse, out, holding, taking, releasing, undecided, called, counting, has_lock, gives_up, is_out, is_holding, is_waiting, is_cancelling, is_releasing, is_due, counted, listed}
 use Rattle.lock_program.specs.declared.rwlock.Ending.TheVariants as ending
 use Rattle.lock_program.specs.declared.rwlock.Place.{Place}

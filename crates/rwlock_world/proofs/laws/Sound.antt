@@ -3,12 +3,12 @@ use Rattle.std.proofs.Common.{◌≡◌, ℕ, ◌<◌, ◌≤◌, ◌⊎◌, inl
 use Rattle.std.specs.List.{list_all, sum_by}
 use Rattle.std.proofs.lemmas.List.Sums.{sum_by-cons}
 use Rattle.lock_event.specs.Lists.{IsMarkedFirst}
-use Rattle.lock_queue.specs.Parties.{entries_of}
-use Rattle.lock_world.specs.declared.standing.Rest.TheVariants as rest
-use Rattle.lock_world.specs.declared.standing.Stage.{Stage}
-use Rattle.lock_world.specs.declared.standing.Stage.TheVariants.{Outside, Inside, Forgotten}
-use Rattle.lock_world.specs.Standings.{outside, forgotten, is_outside_stage}
-use Rattle.lock_world.specs.Rights.{Right, read, upgradable, write, wait_to_write, excludes}
+use Rattle.world_base.specs.queue.Parties.{entries_of}
+use Rattle.world_base.specs.declared.standing.Rest.TheVariants as rest
+use Rattle.world_base.specs.declared.standing.Stage.{Stage}
+use Rattle.world_base.specs.declared.standing.Stage.TheVariants.{Outside, Inside, Forgotten}
+use Rattle.world_base.specs.Standings.{outside, forgotten, is_outside_stage}
+use Rattle.world_base.specs.Rights.{Right, read, upgradable, write, wait_to_write, excludes}
 use Rattle.mutex_machine.specs.Course.{Course as TurnCourse, counted, is_resting as rests_in_turn}
 use Rattle.mutex_machine.specs.Mutex.{course_at as turn_at, is_counted, holder_of}
 use Rattle.mutex_machine.specs.Mutex as lock
@@ -22,31 +22,31 @@ use Rattle.rwlock_machine.specs.Machine.{RwLock, place_at}
 use Rattle.rwlock_machine.specs.Acts.{IsRwLock, IsAtRest, writers, marked}
 use Rattle.rwlock_machine.proofs.laws.Places.{share as share_in}
 use Rattle.rwlock_machine.proofs.laws.Laws.{rests_t}
-use Rattle.lock_table.specs.Stages.{stage_at}
+use Rattle.world_base.specs.table.Stages.{stage_at}
 use Rattle.rwlock_world.specs.Stages.{goes_with}
-use Rattle.lock_table.specs.Tables.{Table}
+use Rattle.world_base.specs.table.Tables.{Table}
 use Rattle.rwlock_world.specs.State as state
 use Rattle.rwlock_world.specs.State.{ListName, for_the_turn, for_no_readers, for_no_writer, list_of, Turn, nobody, passes, is_upgradable, waits_to_write, writes, World, standing_of, is_marked, entries_in, HasTurn}
 use Rattle.rwlock_world.specs.Legal.{HasItsOwn}
 use Rattle.rwlock_world.specs.Laws.{HasRight, IsSound, is_at_rest, IsAwake}
 use Rattle.rwlock_world.specs.Lending.{world_with}
-use Rattle.lock_table.specs.Lending.{table_with}
+use Rattle.world_base.specs.table.Lending.{table_with}
 use Rattle.rwlock_world.specs.Stays.{future_rests, guard_rests}
 use Rattle.rwlock_world.specs.Guarded.{Guarded, with_value}
 use Rattle.rwlock_world.specs.Steps.{IsRwLockTable}
 use Rattle.rwlock_world.specs.View.{verdict_of, Share, passing, upgrading, waiting, writing, turn_as, share_of, turn_by, is_reading, standing_at, view_of}
 use Rattle.rwlock_world.proofs.table.Begun.{at_out}
-use Rattle.lock_table.proofs.Lending.{lent_seen}
-use Rattle.lock_table.proofs.Views.{rest_seen, outside_at}
-use Rattle.lock_table.proofs.Past.{inside_or_past}
+use Rattle.world_base.proofs.of_table.Lending.{lent_seen}
+use Rattle.world_base.proofs.of_table.Views.{rest_seen, outside_at}
+use Rattle.world_base.proofs.of_table.Past.{inside_or_past}
 use Rattle.rwlock_world.proofs.table.Views as view
 use Rattle.rwlock_world.proofs.table.Views.{Fits}
 use Rattle.rwlock_world.proofs.step.Owns as owns
 use Rattle.rwlock_world.proofs.rights.Inside as calls
 use Rattle.lock_event.specs.Lists.{marked_count}
-use Rattle.lock_world.specs.Standings.{is_outside, is_decided}
-use Rattle.lock_world.proofs.Owing.{marked_or_owed}
-use Rattle.lock_table.proofs.Acting as acting
+use Rattle.world_base.specs.Standings.{is_outside, is_decided}
+use Rattle.world_base.proofs.Owing.{marked_or_owed}
+use Rattle.world_base.proofs.of_table.Acting as acting
 use Rattle.mutex_machine.specs.Course.{listed, is_due}
 use Rattle.rwlock_machine.specs.Roles.{waits_no_writer, owes_no_writer, waits_no_readers, owes_no_readers}
 use Rattle.rwlock_machine.specs.Acts.{readers}

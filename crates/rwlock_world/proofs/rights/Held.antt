@@ -1,16 +1,16 @@
 -- The rights that parties have in the state are those that their accounts tell of.
 use Rattle.std.proofs.Common.{◌≡◌, ◌≢◌, ℕ, ◌==◌, if◌then◌else◌, inl, inr, Bool, true, false, List, [], ◌∷◌, Option, Some, None, is_some, zero, suc, refl, arith, ap, sym, ◌∙◌, subst}
 use Rattle.std.proofs.lemmas.Bool.Decides.{nat_tests}
-use Rattle.lock_world.specs.declared.standing.Rest.TheVariants as rest
-use Rattle.lock_world.specs.Accounts.{Account, HasByAnswers}
-use Rattle.lock_world.specs.Rights.{Right, read, upgradable, write}
-use Rattle.lock_world.specs.Rosters.{is_on, how_many}
-use Rattle.lock_world.specs.Standings.{is_outside, Standing, outside, inside, forgotten}
+use Rattle.world_base.specs.declared.standing.Rest.TheVariants as rest
+use Rattle.world_base.specs.Accounts.{Account, HasByAnswers}
+use Rattle.world_base.specs.Rights.{Right, read, upgradable, write}
+use Rattle.world_base.specs.Rosters.{is_on, how_many}
+use Rattle.world_base.specs.Standings.{is_outside, Standing, outside, inside, forgotten}
 use Rattle.rwlock_world.specs.State.{Turn, nobody, passes, is_upgradable, waits_to_write, writes, World, standing_of, sought_by, reads, HasTurn}
 use Rattle.rwlock_world.specs.Legal.{HasJust, HasItsOwn}
 use Rattle.rwlock_world.specs.Laws.{HasRight, IsSound}
-use Rattle.lock_world.proofs.Equations.{same_test}
-use Rattle.lock_table.specs.Rights.{account_by}
+use Rattle.world_base.proofs.Equations.{same_test}
+use Rattle.world_base.specs.table.Rights.{account_by}
 use Rattle.rwlock_world.specs.Runs.{right_by, right_in, accounts_of, HasJustItsRights, HasItsRights}
 
 is_same : (p q : ℕ) → (p == q) ≡ true → p ≡ q

@@ -1,23 +1,23 @@
 -- What the answer to a party's own move tells of its right is how it stands then.
 use Rattle.std.proofs.Common.{◌≡◌, ◌&&◌, ◌⊎◌, if◌then◌else◌, inl, inr, Bool, true, false, Option, Some, None, is_some, refl, ap, sym, ◌∙◌, subst}
 use Rattle.lock_program.specs.declared.refusal.Refusal.TheVariants as refusal
-use Rattle.lock_world.specs.declared.moves.Answer.{Answer}
-use Rattle.lock_world.specs.declared.moves.Answer.TheVariants as answer
-use Rattle.lock_world.specs.declared.moves.Call.{Call}
-use Rattle.lock_world.specs.declared.moves.Call.TheVariants as call
-use Rattle.lock_world.specs.declared.moves.Got.{Got}
-use Rattle.lock_world.specs.declared.moves.Inputs.{Inputs}
-use Rattle.lock_world.specs.declared.moves.What.{What}
-use Rattle.lock_world.specs.declared.moves.What.TheVariants.{Begin, Go}
-use Rattle.lock_world.specs.declared.standing.Kind.{Kind}
-use Rattle.lock_world.specs.declared.standing.Kind.TheVariants as kind
-use Rattle.lock_world.specs.declared.standing.Rest.{Rest}
-use Rattle.lock_world.specs.declared.standing.Rest.TheVariants as rest
-use Rattle.lock_world.specs.declared.standing.Within.{Within}
-use Rattle.lock_world.specs.Accounts.{Account, sought_after, takes_away, has_after}
-use Rattle.lock_world.specs.Frame.{is_poll_after_ready, put_in}
-use Rattle.lock_world.specs.Rights.{Right}
-use Rattle.lock_world.specs.Standings.{Standing, outside, kind_of, may_begin, call_in, may_end, refused, leaves_as_it_was, StandsAfter}
+use Rattle.world_base.specs.declared.moves.Answer.{Answer}
+use Rattle.world_base.specs.declared.moves.Answer.TheVariants as answer
+use Rattle.world_base.specs.declared.moves.Call.{Call}
+use Rattle.world_base.specs.declared.moves.Call.TheVariants as call
+use Rattle.world_base.specs.declared.moves.Got.{Got}
+use Rattle.world_base.specs.declared.moves.Inputs.{Inputs}
+use Rattle.world_base.specs.declared.moves.What.{What}
+use Rattle.world_base.specs.declared.moves.What.TheVariants.{Begin, Go}
+use Rattle.world_base.specs.declared.standing.Kind.{Kind}
+use Rattle.world_base.specs.declared.standing.Kind.TheVariants as kind
+use Rattle.world_base.specs.declared.standing.Rest.{Rest}
+use Rattle.world_base.specs.declared.standing.Rest.TheVariants as rest
+use Rattle.world_base.specs.declared.standing.Within.{Within}
+use Rattle.world_base.specs.Accounts.{Account, sought_after, takes_away, has_after}
+use Rattle.world_base.specs.Frame.{is_poll_after_ready, put_in}
+use Rattle.world_base.specs.Rights.{Right}
+use Rattle.world_base.specs.Standings.{Standing, outside, kind_of, may_begin, call_in, may_end, refused, leaves_as_it_was, StandsAfter}
 use Rattle.rwlock_world.specs.Legal.{knows}
 use Rattle.rwlock_world.specs.Laws.{is_long_call}
 

@@ -1,19 +1,19 @@
 -- A move leaves the rights of other parties as they are.
 use Rattle.std.proofs.Common.{◌≡◌, ◌≢◌, ℕ, ◌⊎◌, if◌then◌else◌, inl, inr, Bool, true, false, List, Some, None, refl, ap, sym, ◌∙◌, subst, get_or}
 use Rattle.std.proofs.lemmas.List.{get_or-set_other}
-use Rattle.lock_world.specs.declared.moves.Answer.{Answer}
-use Rattle.lock_world.specs.declared.moves.Move.{Move}
-use Rattle.lock_world.specs.Accounts.{sought_after}
-use Rattle.lock_world.specs.Rights.{read}
-use Rattle.lock_world.specs.Rosters.{is_on}
-use Rattle.lock_world.specs.Steps.{Deed, changes}
+use Rattle.world_base.specs.declared.moves.Answer.{Answer}
+use Rattle.world_base.specs.declared.moves.Move.{Move}
+use Rattle.world_base.specs.Accounts.{sought_after}
+use Rattle.world_base.specs.Rights.{read}
+use Rattle.world_base.specs.Rosters.{is_on}
+use Rattle.world_base.specs.Steps.{Deed, changes}
 use Rattle.rwlock_world.specs.State.{Turn, nobody, passes, is_upgradable, waits_to_write, writes, World, standing_of, sought_by, reads, HasTurn}
 use Rattle.rwlock_world.specs.Changes
 use Rattle.rwlock_world.specs.Changes.{turn_after, readers_after, IsAllowed}
 use Rattle.rwlock_world.specs.State.{ListName}
 use Rattle.rwlock_world.specs.Legal.{Legal}
-use Rattle.lock_world.proofs.Equations.{other_test}
-use Rattle.lock_table.specs.Rights.{account_by}
+use Rattle.world_base.proofs.Equations.{other_test}
+use Rattle.world_base.specs.table.Rights.{account_by}
 use Rattle.rwlock_world.specs.Runs.{right_by, right_in, accounts_of}
 
 -- the turn is nobody's, or this party's

@@ -1,26 +1,26 @@
 -- After each step the rights by the answers are the state's.
 use Rattle.std.proofs.Common.{◌≡◌, ◌≢◌, ℕ, ◌<◌, Bool, true, false, List, [], ◌∷◌, Option, Some, None, is_some, zero, suc, length, refl, arith, ap, sym, ◌∙◌, subst, get_or}
 use Rattle.std.proofs.lemmas.List.{get_or-set_same}
-use Rattle.lock_world.specs.declared.moves.Answer.{Answer}
-use Rattle.lock_world.specs.declared.moves.Answer.TheVariants as answer
-use Rattle.lock_world.specs.declared.moves.Call.{Call}
-use Rattle.lock_world.specs.declared.moves.Got.TheVariants.{Value}
-use Rattle.lock_world.specs.declared.moves.Inputs.{Inputs}
-use Rattle.lock_world.specs.declared.moves.Move.{Move}
-use Rattle.lock_world.specs.declared.moves.What.{What}
-use Rattle.lock_world.specs.declared.moves.What.TheVariants.{Begin, Go}
-use Rattle.lock_world.specs.declared.standing.Rest.{Rest}
-use Rattle.lock_world.specs.declared.standing.Rest.TheVariants as rest
-use Rattle.lock_world.specs.declared.standing.Within.{Within}
-use Rattle.lock_world.specs.Accounts.{Account, sought_after, has_after, account_after, accounts_after, HasByAnswers}
-use Rattle.lock_world.specs.Frame.{is_poll_after_ready, put_in}
-use Rattle.lock_world.specs.Rights.{Right}
-use Rattle.lock_world.specs.Standings.{Standing, outside, inside, forgotten, call_in, is_possible, StandsAfter}
+use Rattle.world_base.specs.declared.moves.Answer.{Answer}
+use Rattle.world_base.specs.declared.moves.Answer.TheVariants as answer
+use Rattle.world_base.specs.declared.moves.Call.{Call}
+use Rattle.world_base.specs.declared.moves.Got.TheVariants.{Value}
+use Rattle.world_base.specs.declared.moves.Inputs.{Inputs}
+use Rattle.world_base.specs.declared.moves.Move.{Move}
+use Rattle.world_base.specs.declared.moves.What.{What}
+use Rattle.world_base.specs.declared.moves.What.TheVariants.{Begin, Go}
+use Rattle.world_base.specs.declared.standing.Rest.{Rest}
+use Rattle.world_base.specs.declared.standing.Rest.TheVariants as rest
+use Rattle.world_base.specs.declared.standing.Within.{Within}
+use Rattle.world_base.specs.Accounts.{Account, sought_after, has_after, account_after, accounts_after, HasByAnswers}
+use Rattle.world_base.specs.Frame.{is_poll_after_ready, put_in}
+use Rattle.world_base.specs.Rights.{Right}
+use Rattle.world_base.specs.Standings.{Standing, outside, inside, forgotten, call_in, is_possible, StandsAfter}
 use Rattle.rwlock_world.specs.State.{World, standing_of, sought_by}
 use Rattle.rwlock_world.specs.Legal.{knows, call_of, HasItsOwn, Legal}
 use Rattle.rwlock_world.specs.Laws.{IsSound, IsAwake, is_at_rest}
-use Rattle.lock_table.specs.Rights.{account_by, TellsAccounts}
-use Rattle.lock_table.proofs.Rights.{tells_on}
+use Rattle.world_base.specs.table.Rights.{account_by, TellsAccounts}
+use Rattle.world_base.proofs.of_table.Rights.{tells_on}
 use Rattle.rwlock_world.specs.Runs.{right_in, accounts_of, HasJustItsRights, HasItsRights, HoldsWell}
 use Rattle.rwlock_world.proofs.rights.Held.{state_rights, holds_by}
 use Rattle.rwlock_world.proofs.rights.Moved.{has_standing, account, Beginning, begun, from_outside, from_inside}

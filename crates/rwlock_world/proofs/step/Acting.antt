@@ -2,26 +2,26 @@
 use Rattle.std.proofs.Common.{◌≡◌, ℕ, ◌<◌, inl, inr, Bool, true, false, List, length, Option, Some, None, refl, ap, sym, ◌∙◌, subst}
 use Rattle.std.proofs.Math.ListN.{set}
 use Rattle.std.proofs.lemmas.Bool.{false≢true, cases_Bool}
-use Rattle.lock_world.specs.declared.moves.Answer.{Answer}
-use Rattle.lock_world.specs.declared.moves.Answer.TheVariants as answer
-use Rattle.lock_world.specs.declared.moves.Call.{Call}
-use Rattle.lock_world.specs.declared.moves.Got.TheVariants.{Value}
-use Rattle.lock_world.specs.declared.moves.Move.{Move}
-use Rattle.lock_world.specs.declared.moves.What.{What}
-use Rattle.lock_world.specs.declared.moves.What.TheVariants.{Begin, Go}
+use Rattle.world_base.specs.declared.moves.Answer.{Answer}
+use Rattle.world_base.specs.declared.moves.Answer.TheVariants as answer
+use Rattle.world_base.specs.declared.moves.Call.{Call}
+use Rattle.world_base.specs.declared.moves.Got.TheVariants.{Value}
+use Rattle.world_base.specs.declared.moves.Move.{Move}
+use Rattle.world_base.specs.declared.moves.What.{What}
+use Rattle.world_base.specs.declared.moves.What.TheVariants.{Begin, Go}
 use Rattle.lock_program.specs.declared.refusal.Refusal.TheVariants as refusal
-use Rattle.lock_world.specs.declared.standing.Kind.TheVariants as kind
-use Rattle.lock_world.specs.declared.standing.Rest.TheVariants as rest
-use Rattle.lock_world.specs.declared.standing.Stage.{Stage}
-use Rattle.lock_world.specs.declared.standing.Stage.TheVariants.{Forgotten}
-use Rattle.lock_world.specs.declared.standing.Within.{Within}
-use Rattle.lock_world.specs.Frame.{put_in, is_poll_after_ready}
-use Rattle.lock_world.specs.Standings.{inputs_of, refused}
-use Rattle.lock_world.proofs.Equations.{some_eq, none_some}
-use Rattle.lock_table.specs.Stages.{stage_at, call_at, polls_again, stage_after}
-use Rattle.lock_table.specs.Tables.{Table}
-use Rattle.lock_table.proofs.Calls.{call_seen, again_seen}
-use Rattle.lock_table.proofs.Ways as ways
+use Rattle.world_base.specs.declared.standing.Kind.TheVariants as kind
+use Rattle.world_base.specs.declared.standing.Rest.TheVariants as rest
+use Rattle.world_base.specs.declared.standing.Stage.{Stage}
+use Rattle.world_base.specs.declared.standing.Stage.TheVariants.{Forgotten}
+use Rattle.world_base.specs.declared.standing.Within.{Within}
+use Rattle.world_base.specs.Frame.{put_in, is_poll_after_ready}
+use Rattle.world_base.specs.Standings.{inputs_of, refused}
+use Rattle.world_base.proofs.Equations.{some_eq, none_some}
+use Rattle.world_base.specs.table.Stages.{stage_at, call_at, polls_again, stage_after}
+use Rattle.world_base.specs.table.Tables.{Table}
+use Rattle.world_base.proofs.of_table.Calls.{call_seen, again_seen}
+use Rattle.world_base.proofs.of_table.Ways as ways
 use Rattle.mutex_machine.specs.Course.{Course as TurnCourse}
 use Rattle.mutex_machine.specs.Mutex.{course_at as turn_at}
 use Rattle.rwlock_program.specs.declared.led.Next.{Next}
@@ -49,8 +49,8 @@ use Rattle.rwlock_world.proofs.table.Kept.{walks, put_is}
 use Rattle.rwlock_world.proofs.step.Legals as legals
 use Rattle.rwlock_world.proofs.table.Stages.{strays_not, stage_then}
 use Rattle.rwlock_world.proofs.step.TurnFacts.{on_turn}
-use Rattle.lock_table.proofs.Mapped.{set_same}
-use Rattle.lock_table.proofs.Past.{inside_or_past}
+use Rattle.world_base.proofs.of_table.Mapped.{set_same}
+use Rattle.world_base.proofs.of_table.Past.{inside_or_past}
 use Rattle.rwlock_world.proofs.table.Views.{Fits}
 use Rattle.mutex_machine.specs.Course.{is_counting}
 use Rattle.rwlock_world.specs.Legal.{DecidesOn}

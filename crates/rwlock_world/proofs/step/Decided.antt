@@ -1,18 +1,18 @@
 -- A call is decided only on an answer with which such a call may end.
 use Rattle.std.proofs.Common.{◌≡◌, ℕ, true, false, List, Option, Some, None, refl, ap, sym, ◌∙◌, subst, inl, inr}
-use Rattle.lock_world.specs.declared.moves.Answer.{Answer}
-use Rattle.lock_world.specs.declared.moves.Answer.TheVariants as answer
-use Rattle.lock_world.specs.declared.standing.Kind.{Kind}
-use Rattle.lock_world.specs.declared.standing.Kind.TheVariants as kind
-use Rattle.lock_world.specs.declared.standing.Rest.{Rest}
-use Rattle.lock_world.specs.declared.standing.Rest.TheVariants as rest
-use Rattle.lock_world.specs.declared.standing.Stage.{Stage}
-use Rattle.lock_world.specs.declared.standing.Stage.TheVariants.{Outside, Inside, Forgotten}
-use Rattle.lock_world.specs.declared.standing.Within.{Within}
-use Rattle.lock_world.specs.Standings.{inside, may_end}
-use Rattle.lock_world.proofs.Equations.{both, some_eq, none_some}
-use Rattle.lock_table.specs.Stages.{stage_at}
-use Rattle.lock_table.proofs.Past.{inside_or_past}
+use Rattle.world_base.specs.declared.moves.Answer.{Answer}
+use Rattle.world_base.specs.declared.moves.Answer.TheVariants as answer
+use Rattle.world_base.specs.declared.standing.Kind.{Kind}
+use Rattle.world_base.specs.declared.standing.Kind.TheVariants as kind
+use Rattle.world_base.specs.declared.standing.Rest.{Rest}
+use Rattle.world_base.specs.declared.standing.Rest.TheVariants as rest
+use Rattle.world_base.specs.declared.standing.Stage.{Stage}
+use Rattle.world_base.specs.declared.standing.Stage.TheVariants.{Outside, Inside, Forgotten}
+use Rattle.world_base.specs.declared.standing.Within.{Within}
+use Rattle.world_base.specs.Standings.{inside, may_end}
+use Rattle.world_base.proofs.Equations.{both, some_eq, none_some}
+use Rattle.world_base.specs.table.Stages.{stage_at}
+use Rattle.world_base.proofs.of_table.Past.{inside_or_past}
 use Rattle.mutex_machine.specs.Course.{Course as TurnCourse, decision}
 use Rattle.mutex_machine.specs.Mutex.{course_at as turn_at}
 use Rattle.lock_program.specs.declared.end.End.{End as TurnEnd}

@@ -5,20 +5,20 @@ use Rattle.std.proofs.Math.Decide.{ℕ_discrete}
 use Rattle.std.proofs.Math.Seq.{map-set_same}
 use Rattle.std.proofs.lemmas.List.{map-set}
 use Rattle.lock_event.specs.declared.event.Mark.TheVariants as mark
-use Rattle.lock_queue.specs.Parties.{entries_of}
-use Rattle.lock_queue.proofs.Told.{waits_at}
-use Rattle.lock_world.specs.declared.moves.Answer.{Answer}
-use Rattle.lock_world.specs.declared.moves.Answer.TheVariants as answer
-use Rattle.lock_world.specs.declared.moves.Got.TheVariants.{Value}
-use Rattle.lock_world.specs.declared.moves.Move.{Move}
+use Rattle.world_base.specs.queue.Parties.{entries_of}
+use Rattle.world_base.proofs.of_queue.Told.{waits_at}
+use Rattle.world_base.specs.declared.moves.Answer.{Answer}
+use Rattle.world_base.specs.declared.moves.Answer.TheVariants as answer
+use Rattle.world_base.specs.declared.moves.Got.TheVariants.{Value}
+use Rattle.world_base.specs.declared.moves.Move.{Move}
 use Rattle.lock_program.specs.declared.refusal.Refusal.{Refusal}
 use Rattle.lock_program.specs.declared.refusal.Refusal.TheVariants as refusal
-use Rattle.lock_world.specs.declared.standing.Stage.{Stage}
+use Rattle.world_base.specs.declared.standing.Stage.{Stage}
 use Rattle.lock_program.specs.Refusals.{number_of}
-use Rattle.lock_world.specs.Rights.{Right, read, upgradable}
-use Rattle.lock_world.specs.Rosters.{how_many}
-use Rattle.lock_world.specs.Standings.{inputs_of}
-use Rattle.lock_world.specs.Steps.{Deed, nothing, changes, does}
+use Rattle.world_base.specs.Rights.{Right, read, upgradable}
+use Rattle.world_base.specs.Rosters.{how_many}
+use Rattle.world_base.specs.Standings.{inputs_of}
+use Rattle.world_base.specs.Steps.{Deed, nothing, changes, does}
 use Rattle.mutex_machine.specs.Course.{listed}
 use Rattle.mutex_machine.specs.Mutex.{course_at as turn_at, holder_of, starved_of}
 use Rattle.mutex_machine.proofs.callers.Callers.{out_unlisted, holding_unlisted, out_free}
@@ -46,7 +46,7 @@ use Rattle.rwlock_world.proofs.step.Owns as owns
 use Rattle.rwlock_world.proofs.laws.Sound.{none_marked}
 use Rattle.rwlock_world.proofs.table.Views as view
 use Rattle.rwlock_world.proofs.table.Views.{Fits}
-use Rattle.lock_world.specs.Steps.{notifies, notifies_additionally}
+use Rattle.world_base.specs.Steps.{notifies, notifies_additionally}
 use Rattle.rwlock_world.specs.State.{is_starved}
 use Rattle.mutex_machine.specs.Course.{is_counting}
 

@@ -2,32 +2,32 @@
 use Rattle.std.proofs.Common.{◌≡◌, ◌≢◌, ℕ, zero, suc, ◌<◌, ◌||◌, inl, inr, true, false, List, [], ◌∷◌, length, Option, Some, None, refl, arith, ap, sym, ◌∙◌, subst, get_or}
 use Rattle.std.proofs.Math.ListN.{set}
 use Rattle.std.proofs.lemmas.Bool.{false≢true, true≢false}
-use Rattle.lock_world.specs.declared.moves.Answer.{Answer}
-use Rattle.lock_world.specs.declared.moves.Answer.TheVariants as answer
-use Rattle.lock_world.specs.declared.moves.Call.TheVariants as call
-use Rattle.lock_world.specs.declared.moves.Got.{Got}
-use Rattle.lock_world.specs.declared.moves.Got.TheVariants.{Value}
-use Rattle.lock_world.specs.declared.moves.Inputs.{Inputs}
-use Rattle.lock_world.specs.declared.moves.Move.{Move}
-use Rattle.lock_world.specs.declared.moves.What.{What}
-use Rattle.lock_world.specs.declared.moves.What.TheVariants.{Begin}
+use Rattle.world_base.specs.declared.moves.Answer.{Answer}
+use Rattle.world_base.specs.declared.moves.Answer.TheVariants as answer
+use Rattle.world_base.specs.declared.moves.Call.TheVariants as call
+use Rattle.world_base.specs.declared.moves.Got.{Got}
+use Rattle.world_base.specs.declared.moves.Got.TheVariants.{Value}
+use Rattle.world_base.specs.declared.moves.Inputs.{Inputs}
+use Rattle.world_base.specs.declared.moves.Move.{Move}
+use Rattle.world_base.specs.declared.moves.What.{What}
+use Rattle.world_base.specs.declared.moves.What.TheVariants.{Begin}
 use Rattle.lock_program.specs.declared.refusal.Refusal.TheVariants as refusal
-use Rattle.lock_world.specs.declared.standing.Kind.TheVariants as kind
-use Rattle.lock_world.specs.declared.standing.Rest.TheVariants as rest
-use Rattle.lock_world.specs.declared.standing.Stage.{Stage}
-use Rattle.lock_world.specs.declared.standing.Stage.TheVariants.{Outside, Inside, Forgotten}
-use Rattle.lock_world.specs.declared.standing.Within.{Within}
-use Rattle.lock_world.specs.Accounts.{sought_after}
-use Rattle.lock_world.specs.Frame.{is_drop, is_poll_after_ready, is_refusal, put_in}
-use Rattle.lock_world.specs.Rights.{Right, write}
-use Rattle.lock_world.specs.Standings.{Standing, outside, inside, call_in, is_possible, refused, StandsAfter, is_decided, decision}
-use Rattle.lock_world.specs.Steps.{nothing, changes}
-use Rattle.lock_world.proofs.Equations.{some_eq, none_some, some_none, outside_inside, is_granted, granted_eq}
-use Rattle.lock_table.specs.Stages.{stage_at, polls_again}
-use Rattle.lock_table.specs.Tables.{Table}
-use Rattle.lock_table.proofs.Idle as frame
-use Rattle.lock_table.proofs.Idle.{Idle, same_decides}
-use Rattle.lock_table.proofs.Views.{length-standings}
+use Rattle.world_base.specs.declared.standing.Kind.TheVariants as kind
+use Rattle.world_base.specs.declared.standing.Rest.TheVariants as rest
+use Rattle.world_base.specs.declared.standing.Stage.{Stage}
+use Rattle.world_base.specs.declared.standing.Stage.TheVariants.{Outside, Inside, Forgotten}
+use Rattle.world_base.specs.declared.standing.Within.{Within}
+use Rattle.world_base.specs.Accounts.{sought_after}
+use Rattle.world_base.specs.Frame.{is_drop, is_poll_after_ready, is_refusal, put_in}
+use Rattle.world_base.specs.Rights.{Right, write}
+use Rattle.world_base.specs.Standings.{Standing, outside, inside, call_in, is_possible, refused, StandsAfter, is_decided, decision}
+use Rattle.world_base.specs.Steps.{nothing, changes}
+use Rattle.world_base.proofs.Equations.{some_eq, none_some, some_none, outside_inside, is_granted, granted_eq}
+use Rattle.world_base.specs.table.Stages.{stage_at, polls_again}
+use Rattle.world_base.specs.table.Tables.{Table}
+use Rattle.world_base.proofs.of_table.Idle as frame
+use Rattle.world_base.proofs.of_table.Idle.{Idle, same_decides}
+use Rattle.world_base.proofs.of_table.Views.{length-standings}
 use Rattle.mutex_machine.specs.Course.{Course as TurnCourse}
 use Rattle.mutex_machine.specs.Mutex.{course_at as turn_at}
 use Rattle.lock_program.specs.declared.rwlock.Place.{Place}

@@ -5,22 +5,22 @@ use Rattle.std.proofs.Math.ListN.{set}
 use Rattle.std.proofs.lemmas.Bool.Decides.{nat_tests}
 use Rattle.std.proofs.lemmas.Bool.{false≢true}
 use Rattle.std.proofs.lemmas.Bool.{eqb-true, eq-eqb, ltb-true, lt-ltb}
-use Rattle.lock_world.specs.declared.moves.Answer.{Answer}
-use Rattle.lock_world.specs.declared.moves.Answer.TheVariants as answer
-use Rattle.lock_world.specs.declared.moves.Call.TheVariants as call
-use Rattle.lock_world.specs.declared.moves.Got.TheVariants.{Value}
-use Rattle.lock_world.specs.declared.moves.Inputs.{Inputs}
-use Rattle.lock_world.specs.declared.moves.Move.{Move}
-use Rattle.lock_world.specs.declared.moves.What.{What}
-use Rattle.lock_world.specs.declared.moves.What.TheVariants.{Begin}
-use Rattle.lock_world.specs.declared.standing.Rest.{Rest}
-use Rattle.lock_world.specs.declared.standing.Rest.TheVariants as rest
-use Rattle.lock_world.specs.declared.standing.Stage.TheVariants.{Outside, Forgotten}
-use Rattle.lock_world.specs.declared.standing.Within.{Within}
-use Rattle.lock_world.specs.Rights.{Right, read, upgradable, write}
-use Rattle.lock_world.specs.Rosters.{how_many}
-use Rattle.lock_world.specs.Standings.{Standing, outside, inside, inputs_of, decision, call_in}
-use Rattle.lock_world.proofs.Equations.{some_eq, some_none}
+use Rattle.world_base.specs.declared.moves.Answer.{Answer}
+use Rattle.world_base.specs.declared.moves.Answer.TheVariants as answer
+use Rattle.world_base.specs.declared.moves.Call.TheVariants as call
+use Rattle.world_base.specs.declared.moves.Got.TheVariants.{Value}
+use Rattle.world_base.specs.declared.moves.Inputs.{Inputs}
+use Rattle.world_base.specs.declared.moves.Move.{Move}
+use Rattle.world_base.specs.declared.moves.What.{What}
+use Rattle.world_base.specs.declared.moves.What.TheVariants.{Begin}
+use Rattle.world_base.specs.declared.standing.Rest.{Rest}
+use Rattle.world_base.specs.declared.standing.Rest.TheVariants as rest
+use Rattle.world_base.specs.declared.standing.Stage.TheVariants.{Outside, Forgotten}
+use Rattle.world_base.specs.declared.standing.Within.{Within}
+use Rattle.world_base.specs.Rights.{Right, read, upgradable, write}
+use Rattle.world_base.specs.Rosters.{how_many}
+use Rattle.world_base.specs.Standings.{Standing, outside, inside, inputs_of, decision, call_in}
+use Rattle.world_base.proofs.Equations.{some_eq, some_none}
 use Rattle.mutex_machine.specs.Course.{Course as TurnCourse, listed}
 use Rattle.mutex_machine.specs.Mutex.{course_at as turn_at, holder_of, holders, starved}
 use Rattle.mutex_machine.proofs.callers.Callers.{waiting_listed}
@@ -40,10 +40,10 @@ use Rattle.rwlock_machine.proofs.laws.Places.{share as share_in}
 use Rattle.rwlock_world.specs.State as state
 use Rattle.rwlock_world.specs.State.{Turn, World, standing_of, sought_by, is_upgrader, how_many_read, is_marked, is_nobody, is_turn_free, entries_in}
 use Rattle.rwlock_world.specs.Legal.{knows, call_of, may_read, granted_if, is_try_for_turn, is_first_poll, AnswersAtOnce}
-use Rattle.lock_table.specs.Stages.{stage_at, stage_after, stands_as}
-use Rattle.lock_table.proofs.Calls.{decided_after, decision_seen}
+use Rattle.world_base.specs.table.Stages.{stage_at, stage_after, stands_as}
+use Rattle.world_base.proofs.of_table.Calls.{decided_after, decision_seen}
 use Rattle.rwlock_world.specs.Stages.{sought_at}
-use Rattle.lock_table.specs.Tables.{Table}
+use Rattle.world_base.specs.table.Tables.{Table}
 use Rattle.rwlock_world.specs.Guarded.{Guarded, answer_by}
 use Rattle.rwlock_world.specs.View.{Share, passing, upgrading, waiting, writing, turn_as, share_of, turn_by, is_reading, verdict, standing_at, view_of}
 use Rattle.rwlock_world.proofs.step.Rows.{verdict_then, turn_row}
@@ -53,7 +53,7 @@ use Rattle.rwlock_world.proofs.step.Idle.{Laws, stood, sought_is}
 use Rattle.rwlock_world.proofs.step.AtOnce.{waits_for_turn, is_try_turn, Lists, Firsts, firsts, try_reads, first_reads, first_readies, try_upgrades, try_adds, added, try_writes, try_written, turn_tries, try_open, turn_enters}
 use Rattle.rwlock_world.proofs.table.Views as view
 use Rattle.lock_event.specs.declared.event.Entry.{Entry}
-use Rattle.lock_queue.specs.Parties.{entries_of}
+use Rattle.world_base.specs.queue.Parties.{entries_of}
 use Rattle.rwlock_world.specs.Legal.{AsksIn}
 use Rattle.rwlock_world.proofs.step.Asked as asked
 use Rattle.std.proofs.Common.{◌⊎◌, inl, inr}

@@ -5,22 +5,22 @@ use Rattle.std.proofs.lemmas.Bool.Decides.{nat_tests}
 use Rattle.std.proofs.lemmas.List.{map-set}
 use Rattle.std.proofs.lemmas.Bool.{false≢true, cases_Bool}
 use Rattle.lock_event.specs.declared.event.Mark.TheVariants as mark
-use Rattle.lock_world.specs.declared.moves.Answer.{Answer}
-use Rattle.lock_world.specs.declared.moves.Answer.TheVariants as answer
-use Rattle.lock_world.specs.declared.moves.Got.TheVariants.{Value}
-use Rattle.lock_world.specs.declared.moves.Move.{Move}
+use Rattle.world_base.specs.declared.moves.Answer.{Answer}
+use Rattle.world_base.specs.declared.moves.Answer.TheVariants as answer
+use Rattle.world_base.specs.declared.moves.Got.TheVariants.{Value}
+use Rattle.world_base.specs.declared.moves.Move.{Move}
 use Rattle.lock_program.specs.declared.refusal.Refusal.{Refusal}
 use Rattle.lock_program.specs.declared.refusal.Refusal.TheVariants as refusal
-use Rattle.lock_world.specs.declared.standing.Rest.TheVariants as rest
-use Rattle.lock_world.specs.declared.standing.Stage.{Stage}
-use Rattle.lock_world.specs.declared.standing.Within.{Within}
-use Rattle.lock_world.specs.Accounts.{sought_after}
-use Rattle.lock_world.specs.Frame.{is_poll_after_ready, put_in, is_drop, is_giving_back, is_refusal}
+use Rattle.world_base.specs.declared.standing.Rest.TheVariants as rest
+use Rattle.world_base.specs.declared.standing.Stage.{Stage}
+use Rattle.world_base.specs.declared.standing.Within.{Within}
+use Rattle.world_base.specs.Accounts.{sought_after}
+use Rattle.world_base.specs.Frame.{is_poll_after_ready, put_in, is_drop, is_giving_back, is_refusal}
 use Rattle.lock_program.specs.Refusals.{number_of}
-use Rattle.lock_world.specs.Rights.{Right, read, upgradable, write}
-use Rattle.lock_world.specs.Standings.{Standing, inside, IsUndecided, is_decided, is_possible, decision, refused}
-use Rattle.lock_world.specs.Steps.{Deed, nothing, does, joins}
-use Rattle.lock_world.proofs.Equations.{some_eq, chosen, same_test}
+use Rattle.world_base.specs.Rights.{Right, read, upgradable, write}
+use Rattle.world_base.specs.Standings.{Standing, inside, IsUndecided, is_decided, is_possible, decision, refused}
+use Rattle.world_base.specs.Steps.{Deed, nothing, does, joins}
+use Rattle.world_base.proofs.Equations.{some_eq, chosen, same_test}
 use Rattle.mutex_machine.specs.Course.{Course as TurnCourse}
 use Rattle.mutex_machine.specs.Mutex.{course_at as turn_at}
 use Rattle.mutex_machine.proofs.callers.Callers.{out_free, waiting_free}
@@ -38,7 +38,7 @@ use Rattle.rwlock_world.specs.State.{ListName}
 use Rattle.rwlock_world.specs.State as state
 use Rattle.rwlock_world.specs.State.{State, World, standing_of, sought_by, is_upgrader, told_in, HasTurn, IsClear}
 use Rattle.rwlock_world.specs.Legal.{knows_of, call_of, DecidesOn, IsPossible, ChangesOneThing, HasSought, LeavesClear, Carries, Waits, list_for, MayMeet, IsCause, IsRefusedForCause, IsValueKept, EndsProperly, KeepsUpgrades, Legal}
-use Rattle.lock_table.specs.Stages.{stage_at}
+use Rattle.world_base.specs.table.Stages.{stage_at}
 use Rattle.rwlock_world.specs.Stages.{sought_at}
 use Rattle.rwlock_world.specs.Guarded.{Guarded, answer_by}
 use Rattle.rwlock_world.specs.View.{is_upgrade, verdict, verdict_of, standing_at, seen}
@@ -49,9 +49,9 @@ use Rattle.rwlock_world.proofs.step.Facts.{WaitsIn, CauseAs, Fitting, ReasonAs, 
 use Rattle.rwlock_world.proofs.table.Calls.{Moves}
 use Rattle.rwlock_world.proofs.step.Endings as ends
 use Rattle.rwlock_world.proofs.step.Owns as owns
-use Rattle.lock_table.specs.Tables.{Table}
-use Rattle.lock_table.proofs.Acting as acting
-use Rattle.lock_table.proofs.Calls.{decided_after, stands_seen}
+use Rattle.world_base.specs.table.Tables.{Table}
+use Rattle.world_base.proofs.of_table.Acting as acting
+use Rattle.world_base.proofs.of_table.Calls.{decided_after, stands_seen}
 use Rattle.rwlock_world.proofs.table.Views as view
 use Rattle.rwlock_world.proofs.table.Views.{Fits}
 use Rattle.rwlock_world.proofs.step.Decided.{decided}

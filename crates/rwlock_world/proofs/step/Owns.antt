@@ -1,18 +1,18 @@
 -- What each party has, by how it stands.
 use Rattle.std.proofs.Common.{◌≡◌, ◌≢◌, ℕ, ◌≤◌, ◌⊎◌, inl, inr, Bool, true, false, List, Option, Some, None, refl, arith, ap, sym, subst, ◌∙◌}
 use Rattle.std.proofs.lemmas.Bool.{and_parts}
-use Rattle.lock_world.specs.declared.moves.Answer.{Answer}
-use Rattle.lock_world.specs.declared.moves.Answer.TheVariants as answer
+use Rattle.world_base.specs.declared.moves.Answer.{Answer}
+use Rattle.world_base.specs.declared.moves.Answer.TheVariants as answer
 use Rattle.lock_program.specs.declared.refusal.Refusal.TheVariants as refusal
-use Rattle.lock_world.specs.declared.standing.Kind.{Kind}
-use Rattle.lock_world.specs.declared.standing.Kind.TheVariants as kind
-use Rattle.lock_world.specs.declared.standing.Rest.{Rest}
-use Rattle.lock_world.specs.declared.standing.Rest.TheVariants as rest
-use Rattle.lock_world.specs.declared.standing.Stage.{Stage}
-use Rattle.lock_world.specs.declared.standing.Stage.TheVariants.{Outside, Inside, Forgotten}
-use Rattle.lock_world.specs.declared.standing.Within.{Within}
-use Rattle.lock_world.specs.Rights.{Right, read, upgradable, write}
-use Rattle.lock_world.specs.Standings.{inside}
+use Rattle.world_base.specs.declared.standing.Kind.{Kind}
+use Rattle.world_base.specs.declared.standing.Kind.TheVariants as kind
+use Rattle.world_base.specs.declared.standing.Rest.{Rest}
+use Rattle.world_base.specs.declared.standing.Rest.TheVariants as rest
+use Rattle.world_base.specs.declared.standing.Stage.{Stage}
+use Rattle.world_base.specs.declared.standing.Stage.TheVariants.{Outside, Inside, Forgotten}
+use Rattle.world_base.specs.declared.standing.Within.{Within}
+use Rattle.world_base.specs.Rights.{Right, read, upgradable, write}
+use Rattle.world_base.specs.Standings.{inside}
 use Rattle.lock_program.specs.declared.end.End.{End as TurnEnd}
 use Rattle.lock_program.specs.declared.end.End.TheVariants as turn_end
 use Rattle.mutex_machine.specs.Course.{Course as TurnCourse, decision, is_out, is_holding, holds, listed}
@@ -29,13 +29,13 @@ use Rattle.rwlock_machine.specs.Acts.{IsRwLock}
 use Rattle.rwlock_world.specs.State as state
 use Rattle.rwlock_world.specs.State.{Turn, nobody, passes, is_upgradable, waits_to_write, writes, World, standing_of, sought_by, is_upgrader, HasTurn, IsClear, entries_in}
 use Rattle.rwlock_world.specs.Legal.{HasSought, HasNothing, HasItsOwn}
-use Rattle.lock_table.specs.Stages.{stage_at}
+use Rattle.world_base.specs.table.Stages.{stage_at}
 use Rattle.rwlock_world.specs.Stages.{Course, drops, downgrades, course_of, course_until, is_on_course, sought_at, is_inside, goes_with}
 use Rattle.rwlock_world.specs.Stages as plans
 use Rattle.rwlock_world.specs.View.{verdict_of, Share, passing, upgrading, waiting, writing, turn_as, share_of, turn_by, is_reading, is_upgrade, verdict, verdict_until, refused_by, standing_at, seen}
 use Rattle.rwlock_world.proofs.table.Begun.{at_out, at_future, at_guard}
-use Rattle.lock_table.proofs.Views.{standings_at}
-use Rattle.lock_table.proofs.Past.{inside_or_past}
+use Rattle.world_base.proofs.of_table.Views.{standings_at}
+use Rattle.world_base.proofs.of_table.Past.{inside_or_past}
 use Rattle.rwlock_world.proofs.table.Views as view
 use Rattle.rwlock_world.proofs.table.Views.{Fits}
 

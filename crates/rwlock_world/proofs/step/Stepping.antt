@@ -1,19 +1,19 @@
 -- A table's step as callers see it.
 use Rattle.std.proofs.Common.{◌≡◌, ℕ, false, Some, inl, inr, refl, ap, sym, subst}
-use Rattle.lock_world.specs.declared.moves.Answer.{Answer}
-use Rattle.lock_world.specs.declared.moves.Answer.TheVariants as answer
-use Rattle.lock_world.specs.declared.moves.Call.TheVariants as call
-use Rattle.lock_world.specs.declared.moves.Got.TheVariants.{Value}
-use Rattle.lock_world.specs.declared.moves.Inputs.{Inputs}
-use Rattle.lock_world.specs.declared.moves.Move.{Move}
-use Rattle.lock_world.specs.declared.moves.What.{What}
-use Rattle.lock_world.specs.declared.moves.What.TheVariants.{Begin}
+use Rattle.world_base.specs.declared.moves.Answer.{Answer}
+use Rattle.world_base.specs.declared.moves.Answer.TheVariants as answer
+use Rattle.world_base.specs.declared.moves.Call.TheVariants as call
+use Rattle.world_base.specs.declared.moves.Got.TheVariants.{Value}
+use Rattle.world_base.specs.declared.moves.Inputs.{Inputs}
+use Rattle.world_base.specs.declared.moves.Move.{Move}
+use Rattle.world_base.specs.declared.moves.What.{What}
+use Rattle.world_base.specs.declared.moves.What.TheVariants.{Begin}
 use Rattle.lock_program.specs.declared.refusal.Refusal.TheVariants as refusal
-use Rattle.lock_world.specs.Frame.{put_in}
-use Rattle.lock_world.specs.Standings.{refused}
-use Rattle.lock_world.proofs.Equations.{some_eq, none_some}
-use Rattle.lock_table.specs.Stages.{stage_at, polls_again}
-use Rattle.lock_table.specs.Tables.{Table}
+use Rattle.world_base.specs.Frame.{put_in}
+use Rattle.world_base.specs.Standings.{refused}
+use Rattle.world_base.proofs.Equations.{some_eq, none_some}
+use Rattle.world_base.specs.table.Stages.{stage_at, polls_again}
+use Rattle.world_base.specs.table.Tables.{Table}
 use Rattle.rwlock_machine.specs.Machine.{place_at}
 use Rattle.rwlock_world.specs.Legal.{Legal, AnswersAtOnce}
 use Rattle.rwlock_world.specs.Guarded.{Guarded}
@@ -24,7 +24,7 @@ use Rattle.rwlock_world.proofs.step.Idle as idle
 use Rattle.rwlock_world.proofs.step.Idle.{Laws}
 use Rattle.rwlock_world.proofs.step.Instants.{at_once, still_at_once, impossible_at_once}
 use Rattle.rwlock_world.proofs.table.Kept.{put_is}
-use Rattle.lock_table.proofs.Past.{inside_or_past}
+use Rattle.world_base.proofs.of_table.Past.{inside_or_past}
 
 -- the call that puts a value
 put_call : (what : What) (v : ℕ) → put_in what ≡ Some v → (i : Inputs) × (what ≡ Begin (call.Put v) i)

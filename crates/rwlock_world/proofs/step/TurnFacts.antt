@@ -3,14 +3,14 @@ use Rattle.std.proofs.Common.{◌≡◌, ℕ, ◌==◌, ◌||◌, not, inl, inr,
 use Rattle.std.proofs.Math.Seq.{map-set_same}
 use Rattle.std.proofs.lemmas.Bool.{false≢true}
 use Rattle.lock_event.specs.declared.event.Mark.TheVariants.{Waiting}
-use Rattle.lock_world.specs.declared.moves.Answer.{Answer}
-use Rattle.lock_world.specs.declared.moves.Answer.TheVariants as answer
-use Rattle.lock_world.specs.declared.moves.Move.{Move}
+use Rattle.world_base.specs.declared.moves.Answer.{Answer}
+use Rattle.world_base.specs.declared.moves.Answer.TheVariants as answer
+use Rattle.world_base.specs.declared.moves.Move.{Move}
 use Rattle.lock_program.specs.declared.refusal.Refusal.{Refusal}
 use Rattle.lock_program.specs.declared.refusal.Refusal.TheVariants as refusal
-use Rattle.lock_world.specs.declared.standing.Stage.{Stage}
-use Rattle.lock_world.specs.Standings.{inputs_of, refused}
-use Rattle.lock_world.specs.Steps.{Deed, changes, does, joins}
+use Rattle.world_base.specs.declared.standing.Stage.{Stage}
+use Rattle.world_base.specs.Standings.{inputs_of, refused}
+use Rattle.world_base.specs.Steps.{Deed, changes, does, joins}
 use Rattle.mutex_machine.specs.Course.{Course as TurnCourse, is_out, is_taking, Takes, Tries, Releases, Cancels, holds, decision}
 use Rattle.mutex_machine.specs.Course as course
 use Rattle.lock_program.specs.declared.mutex.LockCall.{LockCall}

@@ -4,12 +4,12 @@ use Rattle.std.proofs.Math.ListN.{set}
 use Rattle.std.proofs.Math.Decide.{ℕ_discrete}
 use Rattle.std.proofs.lemmas.Bool.{cases_Bool, false≢true}
 use Rattle.lock_event.specs.declared.event.Entry.{Entry}
-use Rattle.lock_world.specs.declared.moves.Move.{Move}
-use Rattle.lock_world.specs.declared.standing.Stage.{Stage}
-use Rattle.lock_world.specs.Rosters.{how_many}
-use Rattle.lock_world.specs.Standings.{inputs_of}
-use Rattle.lock_world.specs.Steps.{Deed, ListFunction, nothing, changes, does, joins}
-use Rattle.lock_world.proofs.Equations.{none_some}
+use Rattle.world_base.specs.declared.moves.Move.{Move}
+use Rattle.world_base.specs.declared.standing.Stage.{Stage}
+use Rattle.world_base.specs.Rosters.{how_many}
+use Rattle.world_base.specs.Standings.{inputs_of}
+use Rattle.world_base.specs.Steps.{Deed, ListFunction, nothing, changes, does, joins}
+use Rattle.world_base.proofs.Equations.{none_some}
 use Rattle.mutex_machine.specs.Course.{Course as TurnCourse, holds, counted, decision}
 use Rattle.lock_program.specs.declared.mutex.Step.{Step as TurnStep}
 use Rattle.lock_program.specs.declared.end.End.{End as TurnEnd}
@@ -31,7 +31,7 @@ use Rattle.rwlock_world.specs.State as state
 use Rattle.rwlock_world.specs.State.{World, told_in, entries_in}
 use Rattle.rwlock_world.specs.View.{passing, upgrading, turn_as, share_of, turn_by, seen}
 use Rattle.rwlock_world.proofs.step.Facts.{Known, turn_kept, there}
-use Rattle.lock_world.specs.Steps.{asks, leaves, notifies, notifies_additionally}
+use Rattle.world_base.specs.Steps.{asks, leaves, notifies, notifies_additionally}
 use Rattle.mutex_machine.specs.Conduct.{IsAllowed as MayDo}
 use Rattle.mutex_machine.specs.Course.{listed, may_tell, taking, releasing, undecided, called, counting, has_lock, gives_up as giving_up}
 use Rattle.rwlock_world.specs.State.{HasTurn, is_starved}

@@ -1,26 +1,26 @@
 -- What each move does, as its party stands: where it acts, in which call, and what it seeks then.
 use Rattle.std.proofs.Common.{◌≡◌, ℕ, true, false, Option, Some, None, refl, sym, ap, ◌∙◌}
-use Rattle.lock_world.specs.declared.moves.Answer.{Answer}
-use Rattle.lock_world.specs.declared.moves.Answer.TheVariants as answer
-use Rattle.lock_world.specs.declared.moves.Call.{Call}
-use Rattle.lock_world.specs.declared.moves.Call.TheVariants as call
-use Rattle.lock_world.specs.declared.moves.Inputs.{Inputs}
-use Rattle.lock_world.specs.declared.moves.What.{What}
-use Rattle.lock_world.specs.declared.moves.What.TheVariants.{Begin, Go}
+use Rattle.world_base.specs.declared.moves.Answer.{Answer}
+use Rattle.world_base.specs.declared.moves.Answer.TheVariants as answer
+use Rattle.world_base.specs.declared.moves.Call.{Call}
+use Rattle.world_base.specs.declared.moves.Call.TheVariants as call
+use Rattle.world_base.specs.declared.moves.Inputs.{Inputs}
+use Rattle.world_base.specs.declared.moves.What.{What}
+use Rattle.world_base.specs.declared.moves.What.TheVariants.{Begin, Go}
 use Rattle.lock_program.specs.declared.refusal.Refusal.TheVariants as refusal
-use Rattle.lock_world.specs.declared.standing.Kind.TheVariants as kind
-use Rattle.lock_world.specs.declared.standing.Rest.{Rest}
-use Rattle.lock_world.specs.declared.standing.Rest.TheVariants as rest
-use Rattle.lock_world.specs.declared.standing.Stage.{Stage}
-use Rattle.lock_world.specs.declared.standing.Stage.TheVariants.{Outside}
-use Rattle.lock_world.specs.declared.standing.Within.{Within}
-use Rattle.lock_world.specs.Accounts.{aim, sought_after}
-use Rattle.lock_world.specs.Frame.{is_drop, is_giving_back, put_in}
-use Rattle.lock_world.specs.Rights.{Right}
-use Rattle.lock_world.specs.Standings.{inside, is_decided}
-use Rattle.lock_world.proofs.Equations.{some_eq}
+use Rattle.world_base.specs.declared.standing.Kind.TheVariants as kind
+use Rattle.world_base.specs.declared.standing.Rest.{Rest}
+use Rattle.world_base.specs.declared.standing.Rest.TheVariants as rest
+use Rattle.world_base.specs.declared.standing.Stage.{Stage}
+use Rattle.world_base.specs.declared.standing.Stage.TheVariants.{Outside}
+use Rattle.world_base.specs.declared.standing.Within.{Within}
+use Rattle.world_base.specs.Accounts.{aim, sought_after}
+use Rattle.world_base.specs.Frame.{is_drop, is_giving_back, put_in}
+use Rattle.world_base.specs.Rights.{Right}
+use Rattle.world_base.specs.Standings.{inside, is_decided}
+use Rattle.world_base.proofs.Equations.{some_eq}
 use Rattle.lock_program.specs.declared.end.End.TheVariants.{NotFree}
-use Rattle.lock_table.specs.Stages.{call_at, polls_again}
+use Rattle.world_base.specs.table.Stages.{call_at, polls_again}
 use Rattle.mutex_machine.specs.Course.{Course as TurnCourse}
 use Rattle.lock_program.specs.declared.rwlock.Wanted.TheVariants as wanted
 use Rattle.lock_program.specs.declared.rwlock.Purpose.TheVariants as purpose

@@ -1,22 +1,22 @@
 -- Each party may stand where it does after each action of one.
 use Rattle.std.proofs.Common.{◌≡◌, ℕ, ◌<◌, ◌&&◌, if◌then◌else◌, Bool, true, false, length, Option, Some, None, IsSomeAnd, refl, sym, ap, subst, ◌∙◌, get_or-set_same, get_or-set_other, length-set}
-use Rattle.lock_world.specs.declared.moves.Answer.{Answer}
-use Rattle.lock_world.specs.declared.moves.Answer.TheVariants.{Granted}
-use Rattle.lock_world.specs.declared.moves.Call.TheVariants as call
-use Rattle.lock_world.specs.declared.moves.Got.TheVariants.{Value}
-use Rattle.lock_world.specs.declared.moves.Inputs.{Inputs}
-use Rattle.lock_world.specs.declared.moves.What.{What}
-use Rattle.lock_world.specs.declared.moves.What.TheVariants.{Begin}
-use Rattle.lock_world.specs.declared.standing.Kind.TheVariants as kind
-use Rattle.lock_world.specs.declared.standing.Rest.TheVariants as rest
-use Rattle.lock_world.specs.declared.standing.Stage.{Stage}
-use Rattle.lock_world.specs.declared.standing.Stage.TheVariants.{Outside, Inside, Forgotten}
-use Rattle.lock_world.specs.declared.standing.Within.{Within}
-use Rattle.lock_world.specs.Frame.{put_in}
-use Rattle.lock_world.specs.Standings.{inputs_of}
-use Rattle.lock_world.proofs.Equations.{some_eq, none_some, witness}
-use Rattle.lock_table.specs.Stages.{call_at, stage_after}
-use Rattle.lock_table.specs.Tables.{Keeps as KeepsStanding, Called}
+use Rattle.world_base.specs.declared.moves.Answer.{Answer}
+use Rattle.world_base.specs.declared.moves.Answer.TheVariants.{Granted}
+use Rattle.world_base.specs.declared.moves.Call.TheVariants as call
+use Rattle.world_base.specs.declared.moves.Got.TheVariants.{Value}
+use Rattle.world_base.specs.declared.moves.Inputs.{Inputs}
+use Rattle.world_base.specs.declared.moves.What.{What}
+use Rattle.world_base.specs.declared.moves.What.TheVariants.{Begin}
+use Rattle.world_base.specs.declared.standing.Kind.TheVariants as kind
+use Rattle.world_base.specs.declared.standing.Rest.TheVariants as rest
+use Rattle.world_base.specs.declared.standing.Stage.{Stage}
+use Rattle.world_base.specs.declared.standing.Stage.TheVariants.{Outside, Inside, Forgotten}
+use Rattle.world_base.specs.declared.standing.Within.{Within}
+use Rattle.world_base.specs.Frame.{put_in}
+use Rattle.world_base.specs.Standings.{inputs_of}
+use Rattle.world_base.proofs.Equations.{some_eq, none_some, witness}
+use Rattle.world_base.specs.table.Stages.{call_at, stage_after}
+use Rattle.world_base.specs.table.Tables.{Keeps as KeepsStanding, Called}
 use Rattle.mutex_machine.specs.Mutex.{course_at as turn_at}
 use Rattle.rwlock_program.specs.declared.led.Next.{Next}
 use Rattle.lock_program.specs.declared.rwlock.Place.{Place}

@@ -1,10 +1,10 @@
 -- What callers see of a read-write lock's table, party by party.
 use Rattle.std.proofs.Common.{◌≡◌, ℕ, false, List, map, get_or, None, refl}
 use Rattle.std.specs.List.{sum_by}
-use Rattle.lock_world.specs.declared.standing.Stage.{Stage}
-use Rattle.lock_world.specs.Rosters.{how_many}
-use Rattle.lock_table.specs.Tables.{IsTable}
-use Rattle.lock_table.proofs.Mapped.{mapped_at}
+use Rattle.world_base.specs.declared.standing.Stage.{Stage}
+use Rattle.world_base.specs.Rosters.{how_many}
+use Rattle.world_base.specs.table.Tables.{IsTable}
+use Rattle.world_base.proofs.of_table.Mapped.{mapped_at}
 use Rattle.mutex_machine.proofs.callers.Rosters as rosters
 use Rattle.lock_program.specs.declared.rwlock.Place.{Place}
 use Rattle.lock_program.specs.declared.rwlock.Place.TheVariants as place

@@ -3,19 +3,19 @@ use Rattle.std.proofs.Common.{◌≡◌, ◌≢◌, ℕ, ◌<◌, Bool, true, fa
 use Rattle.std.proofs.Math.ListN.{set}
 use Rattle.std.specs.List.{sum_by}
 use Rattle.std.proofs.lemmas.List.Sums.{sum_by-set}
-use Rattle.lock_world.specs.Accounts.{Account, accounts_after}
-use Rattle.lock_world.specs.declared.moves.Answer.{Answer}
-use Rattle.lock_world.specs.declared.moves.Answer.TheVariants as answer
-use Rattle.lock_world.specs.declared.moves.Call.{Call}
-use Rattle.lock_world.specs.declared.moves.Got.TheVariants.{Value}
-use Rattle.lock_world.specs.declared.moves.Inputs.{Inputs}
-use Rattle.lock_world.specs.declared.moves.What.TheVariants.{Go}
-use Rattle.lock_world.specs.declared.standing.Stage.TheVariants.{Inside, Forgotten}
-use Rattle.lock_world.specs.declared.standing.Within.{Within}
-use Rattle.lock_world.specs.Rights.{upgradable, write}
-use Rattle.lock_world.specs.Whole.{going_on, moves_of, answers_of}
-use Rattle.lock_frame.specs.Steps.{beginning}
-use Rattle.lock_frame.proofs.Runs.{along, Onward}
+use Rattle.world_base.specs.Accounts.{Account, accounts_after}
+use Rattle.world_base.specs.declared.moves.Answer.{Answer}
+use Rattle.world_base.specs.declared.moves.Answer.TheVariants as answer
+use Rattle.world_base.specs.declared.moves.Call.{Call}
+use Rattle.world_base.specs.declared.moves.Got.TheVariants.{Value}
+use Rattle.world_base.specs.declared.moves.Inputs.{Inputs}
+use Rattle.world_base.specs.declared.moves.What.TheVariants.{Go}
+use Rattle.world_base.specs.declared.standing.Stage.TheVariants.{Inside, Forgotten}
+use Rattle.world_base.specs.declared.standing.Within.{Within}
+use Rattle.world_base.specs.Rights.{upgradable, write}
+use Rattle.world_base.specs.Whole.{going_on, moves_of, answers_of}
+use Rattle.world_base.specs.any_world.Steps.{beginning}
+use Rattle.world_base.proofs.of_any_world.Runs.{along, Onward}
 use Rattle.lock_program.specs.declared.mutex.LockCall.TheVariants as turn_call
 use Rattle.mutex_machine.specs.Mutex.{Mutex, holder_of, holders, starved}
 use Rattle.mutex_machine.proofs.callers.Holders as sees
@@ -33,9 +33,9 @@ use Rattle.rwlock_program.specs.Program.{action_of, next_of, place_after, with_t
 use Rattle.rwlock_machine.specs.Roles.{reads}
 use Rattle.rwlock_program.specs.Turns.{OnTurn}
 use Rattle.rwlock_world.specs.Legal.{is_first}
-use Rattle.lock_table.specs.Stages.{stage_at, stage_after, call_at, polls_again}
-use Rattle.lock_world.specs.declared.standing.Rest.TheVariants.{Holding}
-use Rattle.lock_world.proofs.Equations.{some_eq}
+use Rattle.world_base.specs.table.Stages.{stage_at, stage_after, call_at, polls_again}
+use Rattle.world_base.specs.declared.standing.Rest.TheVariants.{Holding}
+use Rattle.world_base.proofs.Equations.{some_eq}
 use Rattle.rwlock_world.specs.Runs.{Runs, HoldsWell}
 use Rattle.rwlock_world.specs.State as state
 use Rattle.rwlock_world.specs.State.{World, is_turn_free, is_upgrader, how_many_read}

@@ -5,28 +5,28 @@ use Rattle.std.proofs.lemmas.Bool.{false≢true}
 use Rattle.std.proofs.lemmas.Bool.Decides.{nat_tests}
 use Rattle.lock_event.specs.declared.event.Entry.{Entry}
 use Rattle.lock_event.specs.Lists.{marked_count}
-use Rattle.lock_queue.specs.Parties.{entries_of}
-use Rattle.lock_world.specs.Accounts.{Account, accounts_after}
-use Rattle.lock_world.specs.declared.moves.Answer.{Answer}
-use Rattle.lock_world.specs.declared.moves.Answer.TheVariants as answer
-use Rattle.lock_world.specs.declared.moves.Call.{Call}
-use Rattle.lock_world.specs.declared.moves.Call.TheVariants as call
-use Rattle.lock_world.specs.declared.moves.Inputs.{Inputs}
-use Rattle.lock_world.specs.declared.moves.What.{What}
-use Rattle.lock_world.specs.declared.moves.What.TheVariants.{Begin, Go}
-use Rattle.lock_world.specs.declared.standing.Kind.TheVariants as kind
-use Rattle.lock_world.specs.declared.standing.Rest.TheVariants as rest
-use Rattle.lock_world.specs.declared.standing.Within.{Within}
-use Rattle.lock_world.specs.Frame.{is_refusal}
-use Rattle.lock_world.specs.Standings.{outside, inputs_of}
-use Rattle.lock_world.specs.Steps.{Deed, nothing, changes, does}
-use Rattle.lock_world.specs.Whole.{going_on, moves_of, answers_of}
-use Rattle.lock_world.proofs.Equations.{some_eq}
-use Rattle.lock_frame.specs.Steps.{beginning}
-use Rattle.lock_frame.proofs.Runs.{along, Onward}
+use Rattle.world_base.specs.queue.Parties.{entries_of}
+use Rattle.world_base.specs.Accounts.{Account, accounts_after}
+use Rattle.world_base.specs.declared.moves.Answer.{Answer}
+use Rattle.world_base.specs.declared.moves.Answer.TheVariants as answer
+use Rattle.world_base.specs.declared.moves.Call.{Call}
+use Rattle.world_base.specs.declared.moves.Call.TheVariants as call
+use Rattle.world_base.specs.declared.moves.Inputs.{Inputs}
+use Rattle.world_base.specs.declared.moves.What.{What}
+use Rattle.world_base.specs.declared.moves.What.TheVariants.{Begin, Go}
+use Rattle.world_base.specs.declared.standing.Kind.TheVariants as kind
+use Rattle.world_base.specs.declared.standing.Rest.TheVariants as rest
+use Rattle.world_base.specs.declared.standing.Within.{Within}
+use Rattle.world_base.specs.Frame.{is_refusal}
+use Rattle.world_base.specs.Standings.{outside, inputs_of}
+use Rattle.world_base.specs.Steps.{Deed, nothing, changes, does}
+use Rattle.world_base.specs.Whole.{going_on, moves_of, answers_of}
+use Rattle.world_base.proofs.Equations.{some_eq}
+use Rattle.world_base.specs.any_world.Steps.{beginning}
+use Rattle.world_base.proofs.of_any_world.Runs.{along, Onward}
 use Rattle.lock_program.specs.declared.end.End.TheVariants.{Got, Granted, Pending, NotFree, GivenBack, Refused}
-use Rattle.lock_table.specs.Stages.{call_at, polls_again}
-use Rattle.lock_world.proofs.Lists.{others, notified_marked}
+use Rattle.world_base.specs.table.Stages.{call_at, polls_again}
+use Rattle.world_base.proofs.Lists.{others, notified_marked}
 use Rattle.mutex_machine.specs.Course.{Course as TurnCourse, is_waiting, is_told, listed}
 use Rattle.lock_program.specs.declared.mutex.Step.{Step as TurnStep}
 use Rattle.lock_program.specs.declared.mutex.Step.TheVariants as turn_step

@@ -1,21 +1,21 @@
 -- Where nobody is starved for the turn, a whole call starves nobody that hasn't waited for too long.
 use Rattle.std.proofs.Common.{◌≡◌, ◌≢◌, ℕ, Bool, true, false, refl, ap, sym, ◌∙◌, subst}
-use Rattle.lock_world.specs.Accounts.{Account, accounts_after}
-use Rattle.lock_world.specs.declared.moves.Answer.{Answer}
-use Rattle.lock_world.specs.declared.moves.Answer.TheVariants as answer
-use Rattle.lock_world.specs.declared.moves.Call.{Call}
-use Rattle.lock_world.specs.declared.moves.Got.TheVariants.{Value}
-use Rattle.lock_world.specs.declared.moves.Inputs.{Inputs}
+use Rattle.world_base.specs.Accounts.{Account, accounts_after}
+use Rattle.world_base.specs.declared.moves.Answer.{Answer}
+use Rattle.world_base.specs.declared.moves.Answer.TheVariants as answer
+use Rattle.world_base.specs.declared.moves.Call.{Call}
+use Rattle.world_base.specs.declared.moves.Got.TheVariants.{Value}
+use Rattle.world_base.specs.declared.moves.Inputs.{Inputs}
 use Rattle.lock_program.specs.declared.refusal.Refusal.TheVariants as refusal
-use Rattle.lock_world.specs.declared.moves.What.{What}
-use Rattle.lock_world.specs.declared.moves.What.TheVariants.{Begin, Go}
-use Rattle.lock_world.specs.declared.standing.Stage.{Stage}
-use Rattle.lock_world.specs.declared.standing.Within.{Within}
-use Rattle.lock_world.specs.Rosters.{how_many}
-use Rattle.lock_world.specs.Standings.{inputs_of, refused}
-use Rattle.lock_world.specs.Whole.{going_on, moves_of, answers_of}
-use Rattle.lock_frame.specs.Steps.{beginning}
-use Rattle.lock_frame.proofs.Runs.{along, Onward}
+use Rattle.world_base.specs.declared.moves.What.{What}
+use Rattle.world_base.specs.declared.moves.What.TheVariants.{Begin, Go}
+use Rattle.world_base.specs.declared.standing.Stage.{Stage}
+use Rattle.world_base.specs.declared.standing.Within.{Within}
+use Rattle.world_base.specs.Rosters.{how_many}
+use Rattle.world_base.specs.Standings.{inputs_of, refused}
+use Rattle.world_base.specs.Whole.{going_on, moves_of, answers_of}
+use Rattle.world_base.specs.any_world.Steps.{beginning}
+use Rattle.world_base.proofs.of_any_world.Runs.{along, Onward}
 use Rattle.mutex_machine.specs.Course.{Course as TurnCourse, is_counting}
 use Rattle.mutex_machine.specs.Mutex.{starved, Mutex, course_at as turn_at}
 use Rattle.mutex_machine.proofs.callers.Callers.{out_uncounted, holding_uncounted, waiting_uncounted}
@@ -29,7 +29,7 @@ use Rattle.rwlock_machine.specs.Machine.{place_at}
 use Rattle.rwlock_program.specs.Program.{action_of}
 use Rattle.rwlock_machine.specs.Roles.{fits_turn}
 use Rattle.rwlock_program.specs.Turns.{OnTurn}
-use Rattle.lock_table.specs.Stages.{stage_at}
+use Rattle.world_base.specs.table.Stages.{stage_at}
 use Rattle.rwlock_world.specs.Runs.{Runs, HoldsWell}
 use Rattle.rwlock_world.specs.State.{World, is_starved}
 use Rattle.rwlock_world.specs.Steps.{Stands, Steps as Moved}
@@ -37,11 +37,11 @@ use Rattle.rwlock_world.proofs.step.Acting.{Acting, Way, impossible, over, puts,
 use Rattle.rwlock_world.proofs.table.Begun.{ForMoves, turn}
 use Rattle.rwlock_world.proofs.bound.Alone.{laws}
 use Rattle.std.proofs.Common.{Option, Some, None}
-use Rattle.lock_world.specs.declared.moves.Move.{Move}
-use Rattle.lock_world.specs.declared.standing.Rest.TheVariants as rest
-use Rattle.lock_world.specs.Standings.{Standing, outside, inside, forgotten, is_outside, is_decided, is_possible, decision, call_in}
-use Rattle.lock_world.proofs.Equations.{none_some}
-use Rattle.lock_frame.proofs.Endings.{ends_outside as outside_at_end}
+use Rattle.world_base.specs.declared.moves.Move.{Move}
+use Rattle.world_base.specs.declared.standing.Rest.TheVariants as rest
+use Rattle.world_base.specs.Standings.{Standing, outside, inside, forgotten, is_outside, is_decided, is_possible, decision, call_in}
+use Rattle.world_base.proofs.Equations.{none_some}
+use Rattle.world_base.proofs.of_any_world.Endings.{ends_outside as outside_at_end}
 use Rattle.rwlock_world.specs.Legal.{knows_of}
 use Rattle.rwlock_world.specs.State.{standing_of}
 use Rattle.rwlock_world.proofs.whole.Patient.{starved_refusal, Undone, decided_inside, midway, never, goes_on}

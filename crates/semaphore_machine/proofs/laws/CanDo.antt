@@ -2,8 +2,8 @@
 use Rattle.std.proofs.Common.{◌≡◌, ℕ, ◌+◌, ◌<◌, ◌≤◌, List, length, get_or, refl, arith, sym, ◌∙◌, ap}
 use Rattle.std.specs.List.{sum_by}
 use Rattle.std.proofs.lemmas.List.Sums.{get_or-le-sum_by}
-use Rattle.lock_queue.specs.Parties.{entries_of}
-use Rattle.lock_queue.specs.Queues.{Queue}
+use Rattle.world_base.specs.queue.Parties.{entries_of}
+use Rattle.world_base.specs.queue.Queues.{Queue}
 use Rattle.sync_program.specs.declared.semaphore.Place.{Place}
 use Rattle.sync_program.specs.declared.semaphore.Place.TheVariants.{Take, Retake, Join, Ask, Leave, HandOn, RefuseNotify, Try, Lower, GiveBack, GiveBackNotify, Raise, GiveAdded, NotifyAdded, CancelLeave, Abandon}
 use Rattle.sync_program.specs.declared.semaphore.Position.{Position}

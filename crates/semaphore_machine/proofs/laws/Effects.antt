@@ -1,10 +1,10 @@
 -- What an action does, in numbers.
 use Rattle.std.proofs.Common.{ℕ, zero, suc, Bool, true, false, refl, arith}
 use Rattle.lock_event.specs.Lists.{is_marked_at}
-use Rattle.lock_queue.specs.Parties.{is_party}
-use Rattle.lock_queue.specs.Queues.{Queue}
-use Rattle.lock_world.specs.Steps.{joins, asks, leaves, notifies}
-use Rattle.lock_world.proofs.Lists.{Counted, counted}
+use Rattle.world_base.specs.queue.Parties.{is_party}
+use Rattle.world_base.specs.queue.Queues.{Queue}
+use Rattle.world_base.specs.Steps.{joins, asks, leaves, notifies}
+use Rattle.world_base.proofs.Lists.{Counted, counted}
 use Rattle.sync_program.specs.declared.semaphore.Action.{Action}
 use Rattle.sync_program.specs.declared.semaphore.Action.TheVariants as act
 use Rattle.sync_program.specs.declared.semaphore.Found.{Found}

@@ -1,6 +1,6 @@
 -- Each step keeps what always holds of the numbers.
 use Rattle.std.proofs.Common.{◌≡◌, ◌+◌, ◌<◌, ◌≤◌, zero, suc, true, false, arith}
-use Rattle.lock_queue.proofs.Debts.{still_owed}
+use Rattle.world_base.proofs.of_queue.Debts.{still_owed}
 use Rattle.sync_program.specs.declared.semaphore.Found.{Found}
 use Rattle.sync_program.specs.declared.semaphore.Found.TheVariants.{Done, Taken, NoneLeft, PastLimit, NoMemory, Yes, No}
 use Rattle.sync_program.specs.declared.semaphore.Place.{Place}

@@ -1,9 +1,9 @@
 -- What always holds of a semaphore, as callers see it.
 use Rattle.std.proofs.Common.{◌≡◌, ◌<◌, true, List, [], ◌∷◌, length, refl}
 use Rattle.lock_event.specs.Lists.{marked_count, IsMarkedFirst}
-use Rattle.lock_queue.specs.Queues.{Queue}
-use Rattle.lock_queue.specs.Debts.{Roles, Rests, AllRest}
-use Rattle.lock_queue.proofs.Debts.{paid_at_rest}
+use Rattle.world_base.specs.queue.Queues.{Queue}
+use Rattle.world_base.specs.queue.Debts.{Roles, Rests, AllRest}
+use Rattle.world_base.proofs.of_queue.Debts.{paid_at_rest}
 use Rattle.sync_program.specs.declared.semaphore.Position.{Position}
 use Rattle.sync_program.specs.declared.semaphore.Position.TheVariants.{Out, Waiting, Holding, At}
 use Rattle.semaphore_machine.specs.declared.words.Words.{Words}

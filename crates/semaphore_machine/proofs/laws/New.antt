@@ -1,8 +1,8 @@
 -- A new semaphore.
 use Rattle.std.proofs.Common.{ℕ, ◌≤◌, [], replicate, refl, sym, arith}
 use Rattle.std.proofs.lemmas.List.{length-replicate}
-use Rattle.lock_queue.specs.Queues.{queue}
-use Rattle.lock_world.proofs.Alike.{all_alike, none_of_all}
+use Rattle.world_base.specs.queue.Queues.{queue}
+use Rattle.world_base.proofs.Alike.{all_alike, none_of_all}
 use Rattle.sync_program.specs.declared.semaphore.Position.TheVariants.{Out}
 use Rattle.semaphore_machine.specs.Deeds.{words}
 use Rattle.semaphore_machine.specs.Seats.{permits_at, under_way_at, listed, waits}

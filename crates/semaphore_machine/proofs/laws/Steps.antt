@@ -1,7 +1,7 @@
 -- What a step does to the numbers.
 use Rattle.std.proofs.Common.{◌≡◌, ℕ, ◌+◌, ◌<◌, ◌≤◌, Bool, true, false}
-use Rattle.lock_world.specs.Steps.{ListFunction, joins, asks, leaves, notifies}
-use Rattle.lock_world.proofs.Lists.{Counted}
+use Rattle.world_base.specs.Steps.{ListFunction, joins, asks, leaves, notifies}
+use Rattle.world_base.proofs.Lists.{Counted}
 use Rattle.sync_program.specs.declared.semaphore.Action.{Action}
 use Rattle.sync_program.specs.declared.semaphore.Action.TheVariants as act
 use Rattle.sync_program.specs.declared.semaphore.Found.{Found}

@@ -1,9 +1,9 @@
 -- A permit that is available is taken by the first solo poll.
 use Rattle.std.proofs.Common.{◌≡◌, ℕ, true, inl, refl}
-use Rattle.lock_world.specs.declared.moves.Answer.{Answer}
-use Rattle.lock_world.specs.declared.moves.Call.TheVariants as call
-use Rattle.lock_world.specs.declared.moves.Inputs.{Inputs}
-use Rattle.lock_table.proofs.Bounds.{first_takes, first_marked}
+use Rattle.world_base.specs.declared.moves.Answer.{Answer}
+use Rattle.world_base.specs.declared.moves.Call.TheVariants as call
+use Rattle.world_base.specs.declared.moves.Inputs.{Inputs}
+use Rattle.world_base.proofs.of_table.Bounds.{first_takes, first_marked}
 use Rattle.semaphore_world.specs.State.{World, has_permit}
 use Rattle.semaphore_world.specs.Laws.{IsSound, IsAwake, IsFreeAndWanted}
 use Rattle.semaphore_world.specs.Runs.{known_of}

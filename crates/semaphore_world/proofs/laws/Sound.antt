@@ -1,21 +1,21 @@
 -- What always holds of a semaphore's World, as callers see it.
 use Rattle.std.proofs.Common.{◌≡◌, ℕ, suc, ◌<◌, ◌≤◌, true, false, List, [], ◌∷◌, length, Option, refl, arith, ap, sym, ◌∙◌, subst}
 use Rattle.std.specs.List.{list_all}
-use Rattle.lock_world.specs.declared.moves.Answer.{Answer}
-use Rattle.lock_world.specs.declared.standing.Kind.{Kind}
-use Rattle.lock_world.specs.declared.standing.Kind.TheVariants as kind
-use Rattle.lock_world.specs.declared.standing.Rest.{Rest}
-use Rattle.lock_world.specs.declared.standing.Rest.TheVariants as rest
-use Rattle.lock_world.specs.declared.standing.Stage.{Stage}
-use Rattle.lock_world.specs.declared.standing.Stage.TheVariants.{Outside, Inside, Forgotten}
-use Rattle.lock_world.specs.declared.standing.Within.{Within}
-use Rattle.lock_world.specs.Standings.{outside, inside, is_outside_stage}
-use Rattle.lock_world.proofs.Equations.{both}
-use Rattle.lock_table.specs.Stages.{stage_at, stands_as}
-use Rattle.lock_table.specs.Tables.{Table}
-use Rattle.lock_table.proofs.Mapped.{past_last}
-use Rattle.lock_table.proofs.Past.{by_stage_or_past, by_stage_or_past_at}
-use Rattle.lock_table.proofs.Views.{rest_seen, outside_at}
+use Rattle.world_base.specs.declared.moves.Answer.{Answer}
+use Rattle.world_base.specs.declared.standing.Kind.{Kind}
+use Rattle.world_base.specs.declared.standing.Kind.TheVariants as kind
+use Rattle.world_base.specs.declared.standing.Rest.{Rest}
+use Rattle.world_base.specs.declared.standing.Rest.TheVariants as rest
+use Rattle.world_base.specs.declared.standing.Stage.{Stage}
+use Rattle.world_base.specs.declared.standing.Stage.TheVariants.{Outside, Inside, Forgotten}
+use Rattle.world_base.specs.declared.standing.Within.{Within}
+use Rattle.world_base.specs.Standings.{outside, inside, is_outside_stage}
+use Rattle.world_base.proofs.Equations.{both}
+use Rattle.world_base.specs.table.Stages.{stage_at, stands_as}
+use Rattle.world_base.specs.table.Tables.{Table}
+use Rattle.world_base.proofs.of_table.Mapped.{past_last}
+use Rattle.world_base.proofs.of_table.Past.{by_stage_or_past, by_stage_or_past_at}
+use Rattle.world_base.proofs.of_table.Views.{rest_seen, outside_at}
 use Rattle.sync_program.specs.declared.semaphore.Place.{Place}
 use Rattle.sync_program.specs.declared.semaphore.Place.TheVariants.{Take, Leave, Try, Lower, CancelLeave, Abandon}
 use Rattle.sync_program.specs.declared.semaphore.Position.{Position}
@@ -23,9 +23,9 @@ use Rattle.sync_program.specs.declared.semaphore.Position.TheVariants.{Out, Wait
 use Rattle.semaphore_machine.specs.Seats.{listed, waits, owes, share_of, adds_at, verdict, is_resting}
 use Rattle.std.proofs.Common.{◌&&◌, zero, ◌⊎◌, inl, inr}
 use Rattle.lock_event.specs.Lists.{marked_count}
-use Rattle.lock_queue.specs.Parties.{entries_of}
-use Rattle.lock_world.specs.Standings.{is_outside, IsUndecided}
-use Rattle.lock_world.proofs.Owing.{marked_or_owed}
+use Rattle.world_base.specs.queue.Parties.{entries_of}
+use Rattle.world_base.specs.Standings.{is_outside, IsUndecided}
+use Rattle.world_base.proofs.Owing.{marked_or_owed}
 use Rattle.sync_program.specs.declared.semaphore.Place.TheVariants.{HandOn, GiveBackNotify, NotifyAdded}
 use Rattle.semaphore_world.specs.State.{available, share_at, adds_of, standing_of}
 use Rattle.semaphore_world.specs.Laws.{is_due, IsDue}

@@ -2,33 +2,33 @@
 use Rattle.std.proofs.Common.{◌≡◌, ◌≢◌, ℕ, ◌+◌, ◌<◌, ◌≤◌, ◌↔◌, ◌⊎◌, inl, inr, true, false, get_or, length, Option, Some, None, refl, arith, ap, sym, ◌∙◌, subst}
 use Rattle.std.specs.List.{sum_by}
 use Rattle.std.proofs.lemmas.List.Sums.{get_or-le-sum_by}
-use Rattle.lock_world.specs.declared.moves.Answer.{Answer}
-use Rattle.lock_world.specs.declared.moves.Answer.TheVariants as answer
-use Rattle.lock_world.specs.declared.moves.Call.TheVariants as call
-use Rattle.lock_world.specs.declared.moves.Inputs.{Inputs}
-use Rattle.lock_world.specs.declared.moves.Move.{Move}
-use Rattle.lock_world.specs.declared.moves.What.{What}
-use Rattle.lock_world.specs.declared.moves.What.TheVariants.{Begin, Go}
+use Rattle.world_base.specs.declared.moves.Answer.{Answer}
+use Rattle.world_base.specs.declared.moves.Answer.TheVariants as answer
+use Rattle.world_base.specs.declared.moves.Call.TheVariants as call
+use Rattle.world_base.specs.declared.moves.Inputs.{Inputs}
+use Rattle.world_base.specs.declared.moves.Move.{Move}
+use Rattle.world_base.specs.declared.moves.What.{What}
+use Rattle.world_base.specs.declared.moves.What.TheVariants.{Begin, Go}
 use Rattle.lock_program.specs.declared.refusal.Refusal.TheVariants as refusal
-use Rattle.lock_world.specs.declared.standing.Kind.{Kind}
-use Rattle.lock_world.specs.declared.standing.Kind.TheVariants as kind
-use Rattle.lock_world.specs.declared.standing.Rest.{Rest}
-use Rattle.lock_world.specs.declared.standing.Rest.TheVariants as rest
-use Rattle.lock_world.specs.declared.standing.Stage.{Stage}
-use Rattle.lock_world.specs.declared.standing.Stage.TheVariants.{Outside, Inside, Forgotten}
-use Rattle.lock_world.specs.declared.standing.Within.{Within}
-use Rattle.lock_world.specs.Accounts.{Account, account_after, HasByAnswers}
-use Rattle.lock_world.specs.Rights.{Right, permit}
-use Rattle.lock_world.specs.Standings.{Standing, outside, inside, forgotten, is_outside, refused, inputs_of}
-use Rattle.lock_world.specs.Steps.{Deed, nothing, changes, does}
-use Rattle.lock_world.proofs.Equations.{some_eq}
-use Rattle.lock_frame.specs.Steps.{StepsWell}
-use Rattle.lock_table.specs.Rights.{account_by, sought_by, TellsAccounts}
-use Rattle.lock_table.specs.Stages.{stage_at, stands_as, call_at, polls_again, stage_after}
-use Rattle.lock_table.specs.Tables.{Table}
-use Rattle.lock_table.proofs.Mapped.{past_last}
-use Rattle.lock_table.proofs.Past.{by_stage_or_past}
-use Rattle.lock_table.proofs.Rights.{tells_on, idle_account, again_account}
+use Rattle.world_base.specs.declared.standing.Kind.{Kind}
+use Rattle.world_base.specs.declared.standing.Kind.TheVariants as kind
+use Rattle.world_base.specs.declared.standing.Rest.{Rest}
+use Rattle.world_base.specs.declared.standing.Rest.TheVariants as rest
+use Rattle.world_base.specs.declared.standing.Stage.{Stage}
+use Rattle.world_base.specs.declared.standing.Stage.TheVariants.{Outside, Inside, Forgotten}
+use Rattle.world_base.specs.declared.standing.Within.{Within}
+use Rattle.world_base.specs.Accounts.{Account, account_after, HasByAnswers}
+use Rattle.world_base.specs.Rights.{Right, permit}
+use Rattle.world_base.specs.Standings.{Standing, outside, inside, forgotten, is_outside, refused, inputs_of}
+use Rattle.world_base.specs.Steps.{Deed, nothing, changes, does}
+use Rattle.world_base.proofs.Equations.{some_eq}
+use Rattle.world_base.specs.any_world.Steps.{StepsWell}
+use Rattle.world_base.specs.table.Rights.{account_by, sought_by, TellsAccounts}
+use Rattle.world_base.specs.table.Stages.{stage_at, stands_as, call_at, polls_again, stage_after}
+use Rattle.world_base.specs.table.Tables.{Table}
+use Rattle.world_base.proofs.of_table.Mapped.{past_last}
+use Rattle.world_base.proofs.of_table.Past.{by_stage_or_past}
+use Rattle.world_base.proofs.of_table.Rights.{tells_on, idle_account, again_account}
 use Rattle.sync_program.specs.declared.semaphore.Action.TheVariants as act
 use Rattle.sync_program.specs.declared.semaphore.Found.{Found}
 use Rattle.sync_program.specs.declared.semaphore.Found.TheVariants.{Done, Taken, Yes, No}

@@ -6,34 +6,34 @@ use Rattle.std.proofs.lemmas.List.{map-set}
 use Rattle.lock_event.specs.declared.event.Entry.{Entry}
 use Rattle.lock_event.specs.declared.event.Mark.TheVariants.{Waiting}
 use Rattle.lock_event.specs.Lists.{mark_at}
-use Rattle.lock_queue.specs.Parties.{is_party, entries_of}
-use Rattle.lock_queue.proofs.Told.{waits_at}
-use Rattle.lock_world.specs.declared.moves.Answer.{Answer}
-use Rattle.lock_world.specs.declared.moves.Answer.TheVariants as answer
-use Rattle.lock_world.specs.declared.moves.Call.TheVariants as call
-use Rattle.lock_world.specs.declared.moves.Got.TheVariants.{Plain}
-use Rattle.lock_world.specs.declared.moves.Move.{Move}
-use Rattle.lock_world.specs.declared.moves.What.{What}
-use Rattle.lock_world.specs.declared.moves.What.TheVariants.{Begin}
+use Rattle.world_base.specs.queue.Parties.{is_party, entries_of}
+use Rattle.world_base.proofs.of_queue.Told.{waits_at}
+use Rattle.world_base.specs.declared.moves.Answer.{Answer}
+use Rattle.world_base.specs.declared.moves.Answer.TheVariants as answer
+use Rattle.world_base.specs.declared.moves.Call.TheVariants as call
+use Rattle.world_base.specs.declared.moves.Got.TheVariants.{Plain}
+use Rattle.world_base.specs.declared.moves.Move.{Move}
+use Rattle.world_base.specs.declared.moves.What.{What}
+use Rattle.world_base.specs.declared.moves.What.TheVariants.{Begin}
 use Rattle.lock_program.specs.declared.refusal.Refusal.{Refusal}
 use Rattle.lock_program.specs.declared.refusal.Refusal.TheVariants as refusal
-use Rattle.lock_world.specs.declared.standing.Kind.{Kind}
-use Rattle.lock_world.specs.declared.standing.Kind.TheVariants as kind
-use Rattle.lock_world.specs.declared.standing.Rest.{Rest}
-use Rattle.lock_world.specs.declared.standing.Rest.TheVariants as rest
-use Rattle.lock_world.specs.declared.standing.Stage.{Stage}
-use Rattle.lock_world.specs.declared.standing.Stage.TheVariants.{Outside, Inside, Forgotten}
-use Rattle.lock_world.specs.declared.standing.Within.{Within}
-use Rattle.lock_world.specs.Standings.{inputs_of, call_in, is_possible, is_stepped, is_decided, may_end, decision, refused, IsUndecided}
-use Rattle.lock_world.specs.Frame.{is_giving_back, is_poll_after_ready, is_refusal}
+use Rattle.world_base.specs.declared.standing.Kind.{Kind}
+use Rattle.world_base.specs.declared.standing.Kind.TheVariants as kind
+use Rattle.world_base.specs.declared.standing.Rest.{Rest}
+use Rattle.world_base.specs.declared.standing.Rest.TheVariants as rest
+use Rattle.world_base.specs.declared.standing.Stage.{Stage}
+use Rattle.world_base.specs.declared.standing.Stage.TheVariants.{Outside, Inside, Forgotten}
+use Rattle.world_base.specs.declared.standing.Within.{Within}
+use Rattle.world_base.specs.Standings.{inputs_of, call_in, is_possible, is_stepped, is_decided, may_end, decision, refused, IsUndecided}
+use Rattle.world_base.specs.Frame.{is_giving_back, is_poll_after_ready, is_refusal}
 use Rattle.lock_program.specs.Refusals.{number_of}
-use Rattle.lock_world.specs.Steps.{Deed, nothing, changes, does, joins, asks, leaves, notifies, notifies_additionally}
-use Rattle.lock_world.proofs.Equations.{some_eq, none_some, finished_number}
-use Rattle.lock_table.specs.Stages.{stage_at, stands_as, call_at, polls_again, stage_after}
-use Rattle.lock_table.specs.Tables.{Table}
-use Rattle.lock_table.proofs.Mapped.{set_same}
-use Rattle.lock_table.proofs.Acting as acting
-use Rattle.lock_table.proofs.Calls.{call_seen, again_seen, stands_seen, decided_after, decision_seen, later_ends}
+use Rattle.world_base.specs.Steps.{Deed, nothing, changes, does, joins, asks, leaves, notifies, notifies_additionally}
+use Rattle.world_base.proofs.Equations.{some_eq, none_some, finished_number}
+use Rattle.world_base.specs.table.Stages.{stage_at, stands_as, call_at, polls_again, stage_after}
+use Rattle.world_base.specs.table.Tables.{Table}
+use Rattle.world_base.proofs.of_table.Mapped.{set_same}
+use Rattle.world_base.proofs.of_table.Acting as acting
+use Rattle.world_base.proofs.of_table.Calls.{call_seen, again_seen, stands_seen, decided_after, decision_seen, later_ends}
 use Rattle.sync_program.specs.declared.semaphore.Found.{Found}
 use Rattle.sync_program.specs.declared.semaphore.Found.TheVariants.{Done, Taken, PastLimit, Yes, No}
 use Rattle.semaphore_machine.specs.Program.{Next}

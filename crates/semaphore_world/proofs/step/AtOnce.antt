@@ -2,23 +2,23 @@
 use Rattle.std.proofs.Common.{◌≡◌, ℕ, ◌<◌, ◌⊎◌, ◌||◌, inl, inr, Bool, true, false, Option, Some, nat_lt, if◌then◌else◌, refl, arith, ap, sym, ◌∙◌, subst}
 use Rattle.std.proofs.lemmas.Bool.{false≢true}
 use Rattle.lock_event.specs.Lists.{notified}
-use Rattle.lock_queue.specs.Parties.{entries_of}
-use Rattle.lock_world.specs.declared.moves.Answer.{Answer}
-use Rattle.lock_world.specs.declared.moves.Answer.TheVariants as answer
-use Rattle.lock_world.specs.declared.moves.Got.TheVariants.{Plain}
-use Rattle.lock_world.specs.declared.moves.Move.{Move}
-use Rattle.lock_world.specs.declared.moves.What.{What}
-use Rattle.lock_world.specs.declared.standing.Kind.TheVariants as kind
-use Rattle.lock_world.specs.declared.standing.Rest.TheVariants as rest
-use Rattle.lock_world.specs.declared.standing.Stage.{Stage}
-use Rattle.lock_world.specs.declared.standing.Within.{Within}
+use Rattle.world_base.specs.queue.Parties.{entries_of}
+use Rattle.world_base.specs.declared.moves.Answer.{Answer}
+use Rattle.world_base.specs.declared.moves.Answer.TheVariants as answer
+use Rattle.world_base.specs.declared.moves.Got.TheVariants.{Plain}
+use Rattle.world_base.specs.declared.moves.Move.{Move}
+use Rattle.world_base.specs.declared.moves.What.{What}
+use Rattle.world_base.specs.declared.standing.Kind.TheVariants as kind
+use Rattle.world_base.specs.declared.standing.Rest.TheVariants as rest
+use Rattle.world_base.specs.declared.standing.Stage.{Stage}
+use Rattle.world_base.specs.declared.standing.Within.{Within}
 use Rattle.lock_program.specs.declared.refusal.Refusal.TheVariants as refusal
-use Rattle.lock_world.specs.Standings.{Standing, outside, inside, inputs_of, decision, refused}
-use Rattle.lock_world.specs.Frame.{is_drop}
-use Rattle.lock_world.specs.Steps.{Deed, nothing, changes, does, notifies}
-use Rattle.lock_world.proofs.Equations.{some_eq, not_one, outside_inside}
-use Rattle.lock_table.specs.Stages.{stage_at, stands_as, call_at, polls_again}
-use Rattle.lock_table.specs.Tables.{Table}
+use Rattle.world_base.specs.Standings.{Standing, outside, inside, inputs_of, decision, refused}
+use Rattle.world_base.specs.Frame.{is_drop}
+use Rattle.world_base.specs.Steps.{Deed, nothing, changes, does, notifies}
+use Rattle.world_base.proofs.Equations.{some_eq, not_one, outside_inside}
+use Rattle.world_base.specs.table.Stages.{stage_at, stands_as, call_at, polls_again}
+use Rattle.world_base.specs.table.Tables.{Table}
 use Rattle.sync_program.specs.declared.semaphore.Action.TheVariants as act
 use Rattle.sync_program.specs.declared.semaphore.Found.{Found}
 use Rattle.sync_program.specs.declared.semaphore.Found.TheVariants.{Done, Taken, NoneLeft, PastLimit, NoMemory, Yes, No}

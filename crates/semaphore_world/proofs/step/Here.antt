@@ -1,20 +1,20 @@
 -- What is so where a move begins or goes on.
 use Rattle.std.proofs.Common.{◌≡◌, ℕ, ◌||◌, if◌then◌else◌, true, false, Some, is_some, refl, ap, sym, ◌∙◌}
-use Rattle.lock_world.specs.declared.moves.Answer.{Answer}
-use Rattle.lock_world.specs.declared.moves.Answer.TheVariants as answer
-use Rattle.lock_world.specs.declared.moves.Inputs.{Inputs}
-use Rattle.lock_world.specs.declared.moves.What.{What}
-use Rattle.lock_world.specs.declared.moves.What.TheVariants.{Go}
-use Rattle.lock_world.specs.declared.standing.Kind.{Kind}
-use Rattle.lock_world.specs.declared.standing.Kind.TheVariants as kind
-use Rattle.lock_world.specs.declared.standing.Rest.{Rest}
-use Rattle.lock_world.specs.declared.standing.Rest.TheVariants as rest
-use Rattle.lock_world.specs.declared.standing.Stage.{Stage}
-use Rattle.lock_world.specs.declared.standing.Within.{Within}
-use Rattle.lock_world.specs.Frame.{is_drop, is_giving_back}
-use Rattle.lock_world.specs.Standings.{inside, is_decided, IsUndecided}
-use Rattle.lock_table.proofs.Calls.{decides_so, undecided_so}
-use Rattle.lock_table.specs.Stages.{stands_as, call_at, polls_again}
+use Rattle.world_base.specs.declared.moves.Answer.{Answer}
+use Rattle.world_base.specs.declared.moves.Answer.TheVariants as answer
+use Rattle.world_base.specs.declared.moves.Inputs.{Inputs}
+use Rattle.world_base.specs.declared.moves.What.{What}
+use Rattle.world_base.specs.declared.moves.What.TheVariants.{Go}
+use Rattle.world_base.specs.declared.standing.Kind.{Kind}
+use Rattle.world_base.specs.declared.standing.Kind.TheVariants as kind
+use Rattle.world_base.specs.declared.standing.Rest.{Rest}
+use Rattle.world_base.specs.declared.standing.Rest.TheVariants as rest
+use Rattle.world_base.specs.declared.standing.Stage.{Stage}
+use Rattle.world_base.specs.declared.standing.Within.{Within}
+use Rattle.world_base.specs.Frame.{is_drop, is_giving_back}
+use Rattle.world_base.specs.Standings.{inside, is_decided, IsUndecided}
+use Rattle.world_base.proofs.of_table.Calls.{decides_so, undecided_so}
+use Rattle.world_base.specs.table.Stages.{stands_as, call_at, polls_again}
 use Rattle.sync_program.specs.declared.semaphore.Action.TheVariants as act
 use Rattle.sync_program.specs.declared.semaphore.Place.{Place}
 use Rattle.sync_program.specs.declared.semaphore.Place.TheVariants.{Join, HandOn, RefuseNotify, Try, Lower, GiveBack, GiveBackNotify, Raise, GiveAdded, NotifyAdded, CancelLeave, Abandon}

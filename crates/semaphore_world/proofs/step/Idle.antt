@@ -1,21 +1,21 @@
 -- A move that does nothing is a legal step: one that its party may not make, and a poll of a future that has been ready.
 use Rattle.std.proofs.Common.{◌≡◌, ◌≢◌, ℕ, ◌||◌, true, false, Option, Some, None, refl, ap, sym, ◌∙◌, subst}
 use Rattle.std.proofs.lemmas.Bool.{false≢true}
-use Rattle.lock_world.specs.declared.moves.Answer.{Answer}
-use Rattle.lock_world.specs.declared.moves.Answer.TheVariants as answer
-use Rattle.lock_world.specs.declared.moves.Call.TheVariants as call
-use Rattle.lock_world.specs.declared.moves.Move.{Move}
-use Rattle.lock_world.specs.declared.moves.What.{What}
-use Rattle.lock_world.specs.declared.moves.What.TheVariants.{Begin}
+use Rattle.world_base.specs.declared.moves.Answer.{Answer}
+use Rattle.world_base.specs.declared.moves.Answer.TheVariants as answer
+use Rattle.world_base.specs.declared.moves.Call.TheVariants as call
+use Rattle.world_base.specs.declared.moves.Move.{Move}
+use Rattle.world_base.specs.declared.moves.What.{What}
+use Rattle.world_base.specs.declared.moves.What.TheVariants.{Begin}
 use Rattle.lock_program.specs.declared.refusal.Refusal.TheVariants as refusal
-use Rattle.lock_world.specs.declared.standing.Rest.TheVariants as rest
-use Rattle.lock_world.specs.declared.standing.Within.{Within}
-use Rattle.lock_world.specs.Standings.{Standing, outside, inside, is_outside, call_in, may_end, refused}
-use Rattle.lock_world.specs.Frame.{is_poll_after_ready, is_drop}
-use Rattle.lock_world.specs.Steps.{nothing}
-use Rattle.lock_world.proofs.Equations.{outside_inside}
-use Rattle.lock_table.proofs.Idle as idle
-use Rattle.lock_table.proofs.Idle.{Idle, same_decides}
+use Rattle.world_base.specs.declared.standing.Rest.TheVariants as rest
+use Rattle.world_base.specs.declared.standing.Within.{Within}
+use Rattle.world_base.specs.Standings.{Standing, outside, inside, is_outside, call_in, may_end, refused}
+use Rattle.world_base.specs.Frame.{is_poll_after_ready, is_drop}
+use Rattle.world_base.specs.Steps.{nothing}
+use Rattle.world_base.proofs.Equations.{outside_inside}
+use Rattle.world_base.proofs.of_table.Idle as idle
+use Rattle.world_base.proofs.of_table.Idle.{Idle, same_decides}
 use Rattle.semaphore_machine.specs.Machine.{knows}
 use Rattle.semaphore_world.specs.State.{World, standing_of, adds_of}
 use Rattle.semaphore_world.specs.Legal.{call_of, added_in, is_forget, IsCause, HasItsOwn, Legal}

@@ -1,15 +1,15 @@
 -- What each place's action does, finding by finding.
 use Rattle.std.proofs.Common.{◌≡◌, ℕ, ◌+◌, ◌<◌, ◌≤◌, Bool, true, false, List, Option, Some, None, is_some, refl, arith}
 use Rattle.lock_event.specs.declared.event.Entry.{Entry}
-use Rattle.lock_world.specs.declared.moves.Answer.{Answer}
-use Rattle.lock_world.specs.declared.moves.Answer.TheVariants as answer
-use Rattle.lock_world.specs.declared.moves.Got.TheVariants.{Plain}
+use Rattle.world_base.specs.declared.moves.Answer.{Answer}
+use Rattle.world_base.specs.declared.moves.Answer.TheVariants as answer
+use Rattle.world_base.specs.declared.moves.Got.TheVariants.{Plain}
 use Rattle.lock_program.specs.declared.refusal.Refusal.{Refusal}
 use Rattle.lock_program.specs.declared.refusal.Refusal.TheVariants as refusal
-use Rattle.lock_world.specs.Frame.{is_refusal}
+use Rattle.world_base.specs.Frame.{is_refusal}
 use Rattle.lock_program.specs.Refusals.{number_of}
-use Rattle.lock_world.specs.Steps.{Deed, nothing, changes, does, joins, notifies, notifies_additionally}
-use Rattle.lock_table.specs.Ends.{answer_of}
+use Rattle.world_base.specs.Steps.{Deed, nothing, changes, does, joins, notifies, notifies_additionally}
+use Rattle.world_base.specs.table.Ends.{answer_of}
 use Rattle.sync_program.specs.declared.semaphore.Action.TheVariants as act
 use Rattle.sync_program.specs.declared.semaphore.Found.{Found}
 use Rattle.sync_program.specs.declared.semaphore.Found.TheVariants.{Done, Taken, NoneLeft, PastLimit, NoMemory, Yes, No}

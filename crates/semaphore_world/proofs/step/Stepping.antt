@@ -1,19 +1,19 @@
 -- A table's step as callers see it.
 use Rattle.std.proofs.Common.{◌≡◌, ℕ, Bool, true, false, Some, None, refl, ap, sym, ◌∙◌, subst}
-use Rattle.lock_world.specs.declared.moves.Answer.{Answer}
-use Rattle.lock_world.specs.declared.moves.Answer.TheVariants as answer
-use Rattle.lock_world.specs.declared.moves.Call.{Call}
-use Rattle.lock_world.specs.declared.moves.Move.{Move}
+use Rattle.world_base.specs.declared.moves.Answer.{Answer}
+use Rattle.world_base.specs.declared.moves.Answer.TheVariants as answer
+use Rattle.world_base.specs.declared.moves.Call.{Call}
+use Rattle.world_base.specs.declared.moves.Move.{Move}
 use Rattle.lock_program.specs.declared.refusal.Refusal.TheVariants as refusal
-use Rattle.lock_world.specs.declared.standing.Rest.TheVariants as rest
-use Rattle.lock_world.specs.declared.standing.Within.{Within}
-use Rattle.lock_world.specs.Frame.{is_poll_after_ready}
-use Rattle.lock_world.specs.Standings.{call_in, refused}
-use Rattle.lock_world.proofs.Equations.{some_eq}
-use Rattle.lock_table.specs.Stages.{stage_at, call_at, polls_again}
-use Rattle.lock_table.specs.Tables.{Table, Acted}
-use Rattle.lock_table.proofs.Calls.{call_seen, again_seen}
-use Rattle.lock_table.proofs.Ways.{way, by_way}
+use Rattle.world_base.specs.declared.standing.Rest.TheVariants as rest
+use Rattle.world_base.specs.declared.standing.Within.{Within}
+use Rattle.world_base.specs.Frame.{is_poll_after_ready}
+use Rattle.world_base.specs.Standings.{call_in, refused}
+use Rattle.world_base.proofs.Equations.{some_eq}
+use Rattle.world_base.specs.table.Stages.{stage_at, call_at, polls_again}
+use Rattle.world_base.specs.table.Tables.{Table, Acted}
+use Rattle.world_base.proofs.of_table.Calls.{call_seen, again_seen}
+use Rattle.world_base.proofs.of_table.Ways.{way, by_way}
 use Rattle.sync_program.specs.declared.semaphore.Place.{Place}
 use Rattle.semaphore_machine.specs.Seats.{verdict}
 use Rattle.semaphore_machine.specs.Machine.{Semaphore, IsSemaphore, Moves, knows, position_at}

@@ -1,10 +1,10 @@
 -- A new table is seen as a new World.
 use Rattle.std.proofs.Common.{◌≡◌, ℕ, List, replicate}
 use Rattle.lock_event.specs.declared.event.Entry.{Entry}
-use Rattle.lock_world.specs.Standings.{Standing}
-use Rattle.lock_table.specs.Tables.{Table, new_table}
-use Rattle.lock_table.proofs.Mapped.{mapped_alike}
-use Rattle.lock_table.proofs.Views.{all_idle}
+use Rattle.world_base.specs.Standings.{Standing}
+use Rattle.world_base.specs.table.Tables.{Table, new_table}
+use Rattle.world_base.proofs.of_table.Mapped.{mapped_alike}
+use Rattle.world_base.proofs.of_table.Views.{all_idle}
 use Rattle.sync_program.specs.declared.semaphore.Position.TheVariants.{Out}
 use Rattle.semaphore_machine.specs.Seats.{Share, share_of, adds_at, verdict}
 use Rattle.semaphore_machine.specs.Machine.{Semaphore, new_semaphore, position_at}

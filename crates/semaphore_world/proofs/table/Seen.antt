@@ -2,10 +2,10 @@
 use Rattle.std.proofs.Common.{◌≡◌, ℕ, ◌<◌, true, false, List, nat_lt, arith, ap}
 use Rattle.std.specs.List.{sum_by}
 use Rattle.std.proofs.lemmas.Bool.Decides.{nat_tests}
-use Rattle.lock_table.specs.Stages.{stage_at, stands_as}
-use Rattle.lock_table.specs.Tables.{Table}
-use Rattle.lock_table.proofs.Mapped.{mapped_at, sum_mapped}
-use Rattle.lock_table.proofs.Views.{standings_at}
+use Rattle.world_base.specs.table.Stages.{stage_at, stands_as}
+use Rattle.world_base.specs.table.Tables.{Table}
+use Rattle.world_base.proofs.of_table.Mapped.{mapped_at, sum_mapped}
+use Rattle.world_base.proofs.of_table.Views.{standings_at}
 use Rattle.sync_program.specs.declared.semaphore.Position.{Position}
 use Rattle.sync_program.specs.declared.semaphore.Position.TheVariants.{Out}
 use Rattle.semaphore_machine.specs.Seats.{permits_of, permits_at, under_way_at, share_of, adds_at, verdict}

@@ -5,27 +5,27 @@ use Rattle.lock_event.specs.declared.event.Mark.TheVariants.{Notified}
 use Rattle.lock_event.specs.Lists.{marked_count}
 use Rattle.lock_event.proofs.Marks.{length-mark_waiting}
 use Rattle.lock_event.proofs.Counts.{marked_count-notified}
-use Rattle.lock_queue.specs.Parties.{entries_of}
-use Rattle.lock_world.specs.declared.moves.Answer.{Answer}
-use Rattle.lock_world.specs.declared.moves.Answer.TheVariants as answer
-use Rattle.lock_world.specs.declared.moves.Call.{Call}
-use Rattle.lock_world.specs.declared.moves.Call.TheVariants as call
-use Rattle.lock_world.specs.declared.moves.Got.TheVariants.{Plain}
-use Rattle.lock_world.specs.declared.moves.Inputs.{Inputs}
-use Rattle.lock_world.specs.declared.moves.Move.{Move}
-use Rattle.lock_world.specs.declared.moves.What.TheVariants.{Begin}
+use Rattle.world_base.specs.queue.Parties.{entries_of}
+use Rattle.world_base.specs.declared.moves.Answer.{Answer}
+use Rattle.world_base.specs.declared.moves.Answer.TheVariants as answer
+use Rattle.world_base.specs.declared.moves.Call.{Call}
+use Rattle.world_base.specs.declared.moves.Call.TheVariants as call
+use Rattle.world_base.specs.declared.moves.Got.TheVariants.{Plain}
+use Rattle.world_base.specs.declared.moves.Inputs.{Inputs}
+use Rattle.world_base.specs.declared.moves.Move.{Move}
+use Rattle.world_base.specs.declared.moves.What.TheVariants.{Begin}
 use Rattle.lock_program.specs.declared.refusal.Refusal.TheVariants as refusal
-use Rattle.lock_world.specs.declared.standing.Kind.TheVariants as kind
-use Rattle.lock_world.specs.declared.standing.Rest.TheVariants as rest
-use Rattle.lock_world.specs.declared.standing.Within.{Within}
-use Rattle.lock_world.specs.Frame.{is_refusal}
-use Rattle.lock_world.specs.Standings.{Standing, outside, call_in, refused, inputs_of, StandsAfter}
-use Rattle.lock_world.specs.Whole.{going_on, moves_of, answers_of}
-use Rattle.lock_frame.specs.Steps.{beginning}
-use Rattle.lock_frame.proofs.Endings.{ends_on}
-use Rattle.lock_frame.proofs.Runs.{Onward, along, at_first, last_of}
-use Rattle.lock_world.proofs.Equations.{chosen}
-use Rattle.lock_table.specs.Tables.{Table}
+use Rattle.world_base.specs.declared.standing.Kind.TheVariants as kind
+use Rattle.world_base.specs.declared.standing.Rest.TheVariants as rest
+use Rattle.world_base.specs.declared.standing.Within.{Within}
+use Rattle.world_base.specs.Frame.{is_refusal}
+use Rattle.world_base.specs.Standings.{Standing, outside, call_in, refused, inputs_of, StandsAfter}
+use Rattle.world_base.specs.Whole.{going_on, moves_of, answers_of}
+use Rattle.world_base.specs.any_world.Steps.{beginning}
+use Rattle.world_base.proofs.of_any_world.Endings.{ends_on}
+use Rattle.world_base.proofs.of_any_world.Runs.{Onward, along, at_first, last_of}
+use Rattle.world_base.proofs.Equations.{chosen}
+use Rattle.world_base.specs.table.Tables.{Table}
 use Rattle.sync_program.specs.declared.semaphore.Action.TheVariants as act
 use Rattle.sync_program.specs.declared.semaphore.Found.{Found}
 use Rattle.sync_program.specs.declared.semaphore.Found.TheVariants.{Done, Taken, Yes}

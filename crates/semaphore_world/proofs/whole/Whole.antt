@@ -2,23 +2,23 @@
 use Rattle.std.proofs.Common.{◌≡◌, ℕ, ◌+◌, ◌<◌, ◌≤◌, if◌then◌else◌, Bool, true, false, List, Some, refl, arith, ap, sym, ◌∙◌, subst}
 use Rattle.lock_event.specs.declared.event.Entry.{Entry}
 use Rattle.lock_event.specs.Lists.{is_marked_at}
-use Rattle.lock_queue.specs.Parties.{is_party, entries_of}
-use Rattle.lock_world.specs.declared.moves.Answer.{Answer}
-use Rattle.lock_world.specs.declared.moves.Call.{Call}
-use Rattle.lock_world.specs.declared.moves.Call.TheVariants as call
-use Rattle.lock_world.specs.declared.moves.Inputs.{Inputs}
-use Rattle.lock_world.specs.declared.moves.Move.{Move}
-use Rattle.lock_world.specs.declared.moves.What.{What}
-use Rattle.lock_world.specs.declared.moves.What.TheVariants.{Begin, Go}
-use Rattle.lock_world.specs.declared.standing.Stage.{Stage}
-use Rattle.lock_world.specs.declared.standing.Within.{Within}
-use Rattle.lock_world.specs.Standings.{inputs_of}
-use Rattle.lock_world.specs.Whole.{going_on}
-use Rattle.lock_world.proofs.Equations.{some_eq}
-use Rattle.lock_frame.specs.Steps.{left_by, beginning}
-use Rattle.lock_table.specs.Stages.{stage_at, call_at, polls_again}
-use Rattle.lock_table.specs.Tables.{Table}
-use Rattle.lock_world.proofs.Lists.{joined_unmarked}
+use Rattle.world_base.specs.queue.Parties.{is_party, entries_of}
+use Rattle.world_base.specs.declared.moves.Answer.{Answer}
+use Rattle.world_base.specs.declared.moves.Call.{Call}
+use Rattle.world_base.specs.declared.moves.Call.TheVariants as call
+use Rattle.world_base.specs.declared.moves.Inputs.{Inputs}
+use Rattle.world_base.specs.declared.moves.Move.{Move}
+use Rattle.world_base.specs.declared.moves.What.{What}
+use Rattle.world_base.specs.declared.moves.What.TheVariants.{Begin, Go}
+use Rattle.world_base.specs.declared.standing.Stage.{Stage}
+use Rattle.world_base.specs.declared.standing.Within.{Within}
+use Rattle.world_base.specs.Standings.{inputs_of}
+use Rattle.world_base.specs.Whole.{going_on}
+use Rattle.world_base.proofs.Equations.{some_eq}
+use Rattle.world_base.specs.any_world.Steps.{left_by, beginning}
+use Rattle.world_base.specs.table.Stages.{stage_at, call_at, polls_again}
+use Rattle.world_base.specs.table.Tables.{Table}
+use Rattle.world_base.proofs.Lists.{joined_unmarked}
 use Rattle.sync_program.specs.declared.semaphore.Found.{Found}
 use Rattle.sync_program.specs.declared.semaphore.Found.TheVariants.{Done, Taken, NoneLeft, PastLimit, NoMemory, Yes, No}
 use Rattle.sync_program.specs.declared.semaphore.Place.{Place}

@@ -4,17 +4,17 @@ use Rattle.std.proofs.Math.Nat.{mul_comm, div-add-mod}
 use Rattle.std.proofs.lemmas.Bool.{false≢true}
 use Rattle.std.proofs.lemmas.Nat.{le-div}
 use Rattle.lock_event.specs.Lists.{is_marked_at}
-use Rattle.lock_queue.specs.Parties.{is_party}
-use Rattle.lock_world.specs.declared.moves.Answer.{Answer}
-use Rattle.lock_world.specs.declared.moves.Answer.TheVariants as answer
-use Rattle.lock_world.specs.declared.moves.Got.TheVariants as got
-use Rattle.lock_world.specs.declared.moves.Move.{Move}
+use Rattle.world_base.specs.queue.Parties.{is_party}
+use Rattle.world_base.specs.declared.moves.Answer.{Answer}
+use Rattle.world_base.specs.declared.moves.Answer.TheVariants as answer
+use Rattle.world_base.specs.declared.moves.Got.TheVariants as got
+use Rattle.world_base.specs.declared.moves.Move.{Move}
 use Rattle.lock_program.specs.declared.refusal.Refusal.{Refusal}
 use Rattle.lock_program.specs.declared.refusal.Refusal.TheVariants as refusal
-use Rattle.lock_world.specs.declared.standing.Rest.TheVariants.{Pending}
+use Rattle.world_base.specs.declared.standing.Rest.TheVariants.{Pending}
 use Rattle.lock_program.specs.Refusals.{number_of}
-use Rattle.lock_world.specs.Standings.{outside, refused}
-use Rattle.lock_world.specs.Steps.{Deed, nothing, changes, does}
+use Rattle.world_base.specs.Standings.{outside, refused}
+use Rattle.world_base.specs.Steps.{Deed, nothing, changes, does}
 use Rattle.barrier_machine.specs.Waits.{Wait, no_wait, uncounted, counted}
 use Rattle.barrier_world.specs.Bound.{ComesTo, IsNotified}
 use Rattle.barrier_world.specs.Changes.{Change, takes, releases, starves, recovers, arrives, arrivals_after}
@@ -24,8 +24,8 @@ use Rattle.barrier_world.specs.Numbers.{Leads, IsFinished, generations_of}
 use Rattle.barrier_world.specs.State.{World, wait_of}
 use Rattle.barrier_world.proofs.Numbers.{next_generation}
 use Rattle.definition_tests.proofs.barrier.wrong_runs.Goals as goal
-use Rattle.lock_world.specs.Steps.{notifies}
-use Rattle.lock_world.proofs.Equations.{outside_inside}
+use Rattle.world_base.specs.Steps.{notifies}
+use Rattle.world_base.proofs.Equations.{outside_inside}
 use Rattle.barrier_world.specs.declared.world.ListName.TheVariants.{Lock}
 use Rattle.barrier_world.specs.Legal.{Legal, DecidesOn, IsOutOfStarved}
 use Rattle.barrier_world.specs.State.{LockState}

@@ -5,21 +5,21 @@ use Rattle.lock_event.specs.declared.event.Entry.{Entry}
 use Rattle.lock_event.specs.declared.event.Mark.TheVariants.{Waiting}
 use Rattle.lock_event.specs.Lists.{mark_at, is_marked_at, marked_count}
 use Rattle.lock_event.proofs.Counts.{marked_count-without_marked}
-use Rattle.lock_queue.specs.Parties.{is_party}
-use Rattle.lock_world.specs.declared.moves.Answer.{Answer}
-use Rattle.lock_world.specs.declared.moves.Answer.TheVariants as answer
-use Rattle.lock_world.specs.declared.moves.Got.TheVariants as got
-use Rattle.lock_world.specs.declared.moves.Made.TheVariants as made
-use Rattle.lock_world.specs.declared.moves.Move.{Move}
-use Rattle.lock_world.specs.declared.moves.What.{What}
+use Rattle.world_base.specs.queue.Parties.{is_party}
+use Rattle.world_base.specs.declared.moves.Answer.{Answer}
+use Rattle.world_base.specs.declared.moves.Answer.TheVariants as answer
+use Rattle.world_base.specs.declared.moves.Got.TheVariants as got
+use Rattle.world_base.specs.declared.moves.Made.TheVariants as made
+use Rattle.world_base.specs.declared.moves.Move.{Move}
+use Rattle.world_base.specs.declared.moves.What.{What}
 use Rattle.lock_program.specs.declared.refusal.Refusal.{Refusal}
 use Rattle.lock_program.specs.declared.refusal.Refusal.TheVariants as refusal
-use Rattle.lock_world.specs.declared.standing.Rest.TheVariants.{Pending}
+use Rattle.world_base.specs.declared.standing.Rest.TheVariants.{Pending}
 use Rattle.lock_program.specs.Refusals.{number_of}
-use Rattle.lock_world.specs.Frame.{is_drop}
-use Rattle.lock_world.specs.Standings.{Standing, outside, inside, is_decided, is_possible, inputs_of, refused}
-use Rattle.lock_world.specs.Steps.{Deed, nothing, changes, does, joins, notifies, asks, list_after}
-use Rattle.lock_world.proofs.Equations.{some_eq, none_some}
+use Rattle.world_base.specs.Frame.{is_drop}
+use Rattle.world_base.specs.Standings.{Standing, outside, inside, is_decided, is_possible, inputs_of, refused}
+use Rattle.world_base.specs.Steps.{Deed, nothing, changes, does, joins, notifies, asks, list_after}
+use Rattle.world_base.proofs.Equations.{some_eq, none_some}
 use Rattle.sync_program.specs.declared.once_cell.ListName.{ListName}
 use Rattle.sync_program.specs.declared.once_cell.ListName.TheVariants.{Active, Passive}
 use Rattle.cell_program.specs.declared.words.Content.{Content}

@@ -3,30 +3,30 @@ use Rattle.std.proofs.Common.{◌≡◌, ◌≢◌, ℕ, zero, suc, ◌<◌, ◌
 use Rattle.std.specs.Prelude.{slice_set, nat_lt}
 use Rattle.std.proofs.lemmas.Bool.{false≢true, true≢false, and_parts}
 use Rattle.std.proofs.lemmas.Bool.Decides.{nat_tests}
-use Rattle.lock_world.specs.declared.moves.Answer.{Answer}
-use Rattle.lock_world.specs.declared.moves.Answer.TheVariants as answer
-use Rattle.lock_world.specs.declared.moves.Move.{Move}
-use Rattle.lock_world.specs.declared.moves.What.{What}
-use Rattle.lock_world.specs.declared.moves.What.TheVariants.{Go}
+use Rattle.world_base.specs.declared.moves.Answer.{Answer}
+use Rattle.world_base.specs.declared.moves.Answer.TheVariants as answer
+use Rattle.world_base.specs.declared.moves.Move.{Move}
+use Rattle.world_base.specs.declared.moves.What.{What}
+use Rattle.world_base.specs.declared.moves.What.TheVariants.{Go}
 use Rattle.lock_program.specs.declared.refusal.Refusal.{Refusal}
 use Rattle.lock_program.specs.declared.refusal.Refusal.TheVariants as refusal
-use Rattle.lock_world.specs.declared.standing.Rest.{Rest}
-use Rattle.lock_world.specs.declared.standing.Rest.TheVariants.{Idle, Pending, Holding, Finished}
-use Rattle.lock_world.specs.declared.standing.Within.{Within}
-use Rattle.lock_world.specs.Frame.{is_giving_back}
+use Rattle.world_base.specs.declared.standing.Rest.{Rest}
+use Rattle.world_base.specs.declared.standing.Rest.TheVariants.{Idle, Pending, Holding, Finished}
+use Rattle.world_base.specs.declared.standing.Within.{Within}
+use Rattle.world_base.specs.Frame.{is_giving_back}
 use Rattle.lock_program.specs.Refusals.{number_of}
-use Rattle.lock_world.specs.Rights.{Right, read, upgradable, write}
-use Rattle.lock_world.specs.Rosters.{is_on}
-use Rattle.lock_world.specs.Standings.{Standing, outside, inside, is_decided, is_possible, refused}
-use Rattle.lock_world.specs.Steps.{Deed, nothing, changes, does}
-use Rattle.lock_world.proofs.Equations.{none_some, outside_inside}
+use Rattle.world_base.specs.Rights.{Right, read, upgradable, write}
+use Rattle.world_base.specs.Rosters.{is_on}
+use Rattle.world_base.specs.Standings.{Standing, outside, inside, is_decided, is_possible, refused}
+use Rattle.world_base.specs.Steps.{Deed, nothing, changes, does}
+use Rattle.world_base.proofs.Equations.{none_some, outside_inside}
 use Rattle.rwlock_world.specs.Changes.{Change, takes_turn, leaves_turn, starves, recovers, begins_to_read, stops_reading, becomes_upgradable, stops_upgradable, begins_to_wait, begins_to_write, upgrades, upgrades_at_once, unmarks, downgrades, downgrades_to_upgradable, puts, turn_after, readers_after, IsAllowed, gives_up}
 use Rattle.rwlock_world.specs.Legal.{DecidesOn, HasItsOwn, HasNothing, MayMeet, IsCause, may_read}
 use Rattle.rwlock_world.specs.State.{ListName, Turn, nobody, passes, waits_to_write, is_marked, HasTurn, State, World, standing_of, sought_by, how_many_read, is_upgrader}
 use Rattle.definition_tests.specs.ReadWrite.{Step, IsLegal}
 use Rattle.definition_tests.proofs.rwlock.wrong_runs.Goals as goal
-use Rattle.lock_world.specs.Standings.{IsUndecided}
-use Rattle.lock_world.specs.Steps.{notifies, notifies_additionally}
+use Rattle.world_base.specs.Standings.{IsUndecided}
+use Rattle.world_base.specs.Steps.{notifies, notifies_additionally}
 use Rattle.rwlock_world.specs.Changes.{IsAllowed}
 use Rattle.rwlock_world.specs.State.{is_starved, for_the_turn, for_no_readers, for_no_writer}
 use Rattle.lock_event.specs.Lists.{marked_count}

@@ -1,8 +1,8 @@
 -- A move carries out the action of the place at which its call begins, or goes on.
 use Rattle.std.proofs.Common.{Option, IsSomeAnd, ap, sym, subst}
-use Rattle.lock_world.specs.declared.moves.Inputs.{Inputs}
-use Rattle.lock_world.specs.Standings.{inputs_of}
-use Rattle.lock_world.proofs.Equations.{is_some_and}
+use Rattle.world_base.specs.declared.moves.Inputs.{Inputs}
+use Rattle.world_base.specs.Standings.{inputs_of}
+use Rattle.world_base.proofs.Equations.{is_some_and}
 use Rattle.lock_program.specs.declared.rwlock.Place.{Place}
 use Rattle.rwlock_machine.specs.Acts.{Acts}
 use Rattle.rwlock_machine.specs.Machine.{place_at}

@@ -1,7 +1,7 @@
 -- An action of one party is one of its program, and keeps what always holds of the barrier.
 use Rattle.std.proofs.Common.{◌≡◌, ◌<◌, true, length, ap, sym, ◌∙◌}
 use Rattle.std.proofs.Math.ListN.{set}
-use Rattle.lock_queue.specs.Queues.{queue}
+use Rattle.world_base.specs.queue.Queues.{queue}
 use Rattle.barrier_program.specs.Words.{progress}
 use Rattle.barrier_program.specs.Program.{action_of, position_after}
 use Rattle.barrier_program.specs.Locks.{OnLock}

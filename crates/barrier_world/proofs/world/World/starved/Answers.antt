@@ -1,6 +1,6 @@
 -- The word's number is the size of the starved set.
 use Rattle.std.proofs.Common.{ap, sym, ◌∙◌}
-use Rattle.lock_world.specs.Rosters.{how_many}
+use Rattle.world_base.specs.Rosters.{how_many}
 use Rattle.mutex_machine.specs.Mutex.{starved}
 use Rattle.mutex_machine.proofs.callers.Holders.{how_many_counted}
 use Rattle.barrier_machine.specs.Machine.{Barrier}

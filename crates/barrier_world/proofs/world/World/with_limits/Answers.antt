@@ -1,6 +1,6 @@
 -- A new table is seen as a new World.
 use Rattle.std.proofs.Common.{ap, ◌∙◌}
-use Rattle.lock_table.specs.Tables.{new_table}
+use Rattle.world_base.specs.table.Tables.{new_table}
 use Rattle.barrier_world.specs.State.{new_world}
 use Rattle.barrier_world.specs.View.{view_of}
 use Rattle.barrier_world.proofs.table.Opening.{starts_new}

@@ -1,7 +1,7 @@
 -- An action of one party is one of its program, and keeps what always holds of the cell.
 use Rattle.std.proofs.Common.{◌≡◌, ◌<◌, length, ap, sym, ◌∙◌}
 use Rattle.std.proofs.Math.ListN.{set}
-use Rattle.lock_queue.specs.Queues.{queue}
+use Rattle.world_base.specs.queue.Queues.{queue}
 use Rattle.cell_program.specs.Program.{action_of, position_after}
 use Rattle.cell_program.specs.Deeds.{Finds, deed_of, content_after, active_after, passive_after}
 use Rattle.cell_machine.specs.Machine.{answer_by, IsKept, Stands}

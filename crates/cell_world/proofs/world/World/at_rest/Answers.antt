@@ -1,6 +1,6 @@
 -- The World is at rest where its table is.
 use Rattle.std.proofs.Common.{ap, sym, ◌∙◌}
-use Rattle.lock_table.proofs.Views.{rest_seen}
+use Rattle.world_base.proofs.of_table.Views.{rest_seen}
 use Rattle.cell_machine.specs.Seats.{verdict}
 use Rattle.cell_machine.specs.Machine.{position_at}
 use Rattle.cell_world.specs.Laws.{is_at_rest}

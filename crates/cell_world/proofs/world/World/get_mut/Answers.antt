@@ -2,7 +2,7 @@
 use Rattle.std.proofs.Common.{ap, ◌∙◌, Some}
 use borrow.Follows.Closed.{read_of}
 use Rattle.std.specs.Option.{ghost_name_of}
-use Rattle.lock_table.specs.Lending.{table_with}
+use Rattle.world_base.specs.table.Lending.{table_with}
 use Rattle.cell_program.specs.Words.{value_in}
 use Rattle.cell_machine.specs.Machine.{with_value}
 use Rattle.cell_world.specs.View.{view_of}

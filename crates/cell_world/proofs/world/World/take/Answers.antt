@@ -1,6 +1,6 @@
 -- The value is taken from the World as from its table.
 use Rattle.std.proofs.Common.{ap, ◌∙◌, None}
-use Rattle.lock_table.specs.Lending.{table_with}
+use Rattle.world_base.specs.table.Lending.{table_with}
 use Rattle.cell_machine.specs.Machine.{with_value}
 use Rattle.cell_world.specs.View.{view_of}
 use Rattle.cell_world.proofs.table.Lent.{rests_there, put_here}

@@ -14,7 +14,7 @@ use Rattle.mutex_machine.proofs.laws.Effects.{limit_kept}
 use Rattle.mutex_machine.proofs.laws.Kept.{after}
 use Rattle.mutex_machine.proofs.legal.Fair.{acts_fairly}
 use Rattle.mutex_machine.proofs.falls.Alone.{fewer}
-use Rattle.lock_queue.specs.Parties.{entries_of}
+use Rattle.world_base.specs.queue.Parties.{entries_of}
 use Rattle.lock_program.specs.MutexRoles.{holds, listed}
 use Rattle.mutex_machine.proofs.legal.Legal.{acts_legally, entered}
 use Rattle.mutex_machine.proofs.laws.Locks.{locked}

@@ -5,7 +5,7 @@ use Rattle.mutex_program.specs.Program.{start_of}
 use Rattle.mutex_machine.proofs.legal.Courses.{begins_so}
 use Rattle.mutex_machine.proofs.falls.Alone.{begun_within}
 use Rattle.mutex_machine.proofs.legal.Promised.{begins_unrefused}
-use Rattle.lock_queue.specs.Parties.{entries_of}
+use Rattle.world_base.specs.queue.Parties.{entries_of}
 use Rattle.lock_program.specs.declared.end.End.{End}
 use Rattle.lock_program.specs.MutexRoles.{listed}
 use Rattle.mutex_machine.specs.Legal.{IsLegal, decision}

@@ -2,7 +2,7 @@
 use Rattle.mutex_program.specs.Program.{start_of}
 use Rattle.mutex_machine.specs.Machine.{place_at}
 use Rattle.mutex_machine.specs.Acts.{Acts}
-use Rattle.lock_world.proofs.Equations.{witness}
+use Rattle.world_base.proofs.Equations.{witness}
 use Rattle.mutex_machine.proofs.legal.Clauses.{known_there, can_there, begins_here, is_legal, is_unrefused, fairly, left_seen, is_done, at_once, begins_told_on, begins_patient}
 use Rattle.mutex_machine.proofs.legal.Sights.{begins_kept}
 use Rattle.mutex_machine.proofs.mutex.Mutex.begin.Goals as goal

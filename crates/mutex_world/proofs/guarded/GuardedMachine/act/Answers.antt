@@ -1,10 +1,10 @@
 -- What the lock carries out is one action of its program, and leaves each party where it may stand.
 use Rattle.std.proofs.Common.{◌≡◌, ℕ, Option, Some, None, ap, sym, ◌∙◌, refl, subst}
-use Rattle.lock_world.specs.declared.moves.Answer.TheVariants.{Granted}
-use Rattle.lock_world.specs.declared.moves.Got.TheVariants.{Value}
-use Rattle.lock_world.specs.Frame.{put_in}
+use Rattle.world_base.specs.declared.moves.Answer.TheVariants.{Granted}
+use Rattle.world_base.specs.declared.moves.Got.TheVariants.{Value}
+use Rattle.world_base.specs.Frame.{put_in}
 use Rattle.mutex_world.specs.Guarded.{Guarded, MovesBy, with_value, Carries, place_for, place_of, is_try_kind, answer_by}
-use Rattle.lock_world.proofs.Equations.{witness}
+use Rattle.world_base.proofs.Equations.{witness}
 use Rattle.mutex_world.proofs.table.Acts.{carry_keeps}
 use Rattle.mutex_world.proofs.guarded.GuardedMachine.act.Goals as goal
 

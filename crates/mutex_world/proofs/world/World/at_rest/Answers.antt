@@ -1,6 +1,6 @@
 -- The World is at rest where its table is.
 use Rattle.std.proofs.Common.{ap, sym, ◌∙◌}
-use Rattle.lock_table.proofs.Views.{rest_seen}
+use Rattle.world_base.proofs.of_table.Views.{rest_seen}
 use Rattle.mutex_world.specs.Laws.{is_at_rest}
 use Rattle.mutex_world.specs.View.{verdict}
 use Rattle.mutex_world.proofs.world.World.at_rest.Goals as goal

@@ -1,8 +1,8 @@
 -- A value is put in the World as in its table.
 use Rattle.std.proofs.Common.{◌≡◌, true, refl, ap, sym, ◌∙◌}
 use Rattle.std.specs.List.{list_all}
-use Rattle.lock_world.specs.Standings.{is_outside_stage}
-use Rattle.lock_table.proofs.Views.{rest_seen}
+use Rattle.world_base.specs.Standings.{is_outside_stage}
+use Rattle.world_base.proofs.of_table.Views.{rest_seen}
 use Rattle.mutex_world.specs.Laws.{is_at_rest}
 use Rattle.mutex_world.specs.Lending.{world_with}
 use Rattle.mutex_world.specs.View.{verdict}

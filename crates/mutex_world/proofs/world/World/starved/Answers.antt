@@ -1,6 +1,6 @@
 -- The word's number is the size of the starved set.
 use Rattle.std.proofs.Common.{ap, sym, ◌∙◌}
-use Rattle.lock_world.specs.Rosters.{how_many}
+use Rattle.world_base.specs.Rosters.{how_many}
 use Rattle.mutex_machine.specs.Acts.{starved}
 use Rattle.mutex_world.specs.Guarded.{Guarded}
 use Rattle.mutex_machine.proofs.laws.Seen.{how_many_counted}

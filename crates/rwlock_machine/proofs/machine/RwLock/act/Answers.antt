@@ -12,7 +12,7 @@ use Rattle.rwlock_machine.proofs.laws.Finds.{finds, limit_kept}
 use Rattle.rwlock_machine.proofs.stages.Leads.{turn_fair}
 use Rattle.rwlock_machine.proofs.falls.Alone.{fewer}
 use Rattle.rwlock_machine.specs.Roles.{in_no_writer, in_no_readers}
-use Rattle.lock_queue.specs.Parties.{entries_of}
+use Rattle.world_base.specs.queue.Parties.{entries_of}
 use Rattle.rwlock_machine.proofs.machine.RwLock.act.Goals as goal
 
 pub carry_out-found-requires : goal.carry_out-found-requires

@@ -1,11 +1,11 @@
 -- An action of one party is one of its program, and leaves each party where it may stand.
 use Rattle.std.proofs.Common.{◌≡◌, ◌<◌, ℕ, Option, Some, None, ap, sym, ◌∙◌, refl, subst}
-use Rattle.lock_world.specs.Frame.{put_in}
-use Rattle.lock_world.specs.declared.moves.Answer.TheVariants.{Granted}
-use Rattle.lock_world.specs.declared.moves.Got.TheVariants.{Value}
-use Rattle.lock_world.specs.declared.standing.Rest.TheVariants.{Holding}
-use Rattle.lock_table.specs.Stages.{stage_after}
-use Rattle.lock_table.specs.Tables.{Keeps, Called}
+use Rattle.world_base.specs.Frame.{put_in}
+use Rattle.world_base.specs.declared.moves.Answer.TheVariants.{Granted}
+use Rattle.world_base.specs.declared.moves.Got.TheVariants.{Value}
+use Rattle.world_base.specs.declared.standing.Rest.TheVariants.{Holding}
+use Rattle.world_base.specs.table.Stages.{stage_after}
+use Rattle.world_base.specs.table.Tables.{Keeps, Called}
 use Rattle.rwlock_world.specs.Guarded.{Guarded, Does, with_value, parties, knows, Stands, Moves}
 use Rattle.rwlock_world.proofs.table.Kept.{acted, kept}
 use Rattle.rwlock_world.proofs.guarded.GuardedMachine.act.Goals as goal

@@ -1,7 +1,7 @@
 -- The word's number is the size of the starved set.
 use Rattle.std.proofs.Common.{ap, sym, ◌∙◌}
 use Rattle.mutex_machine.specs.Mutex.{starved}
-use Rattle.lock_world.specs.Rosters.{how_many}
+use Rattle.world_base.specs.Rosters.{how_many}
 use Rattle.rwlock_machine.specs.Machine.{RwLock}
 use Rattle.rwlock_world.specs.Guarded.{Guarded}
 use Rattle.mutex_machine.proofs.callers.Holders.{how_many_counted}

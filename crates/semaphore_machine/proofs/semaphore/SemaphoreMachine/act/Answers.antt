@@ -1,9 +1,9 @@
 -- An action of one party is one of its program, and keeps what always holds of the semaphore.
 use Rattle.std.proofs.Common.{◌≡◌, ◌<◌, length, ap, sym, ◌∙◌}
 use Rattle.std.proofs.Math.ListN.{set}
-use Rattle.lock_queue.specs.Queues.{queue}
-use Rattle.lock_world.specs.Standings.{inputs_of}
-use Rattle.lock_world.specs.declared.moves.Inputs.{Inputs}
+use Rattle.world_base.specs.queue.Queues.{queue}
+use Rattle.world_base.specs.Standings.{inputs_of}
+use Rattle.world_base.specs.declared.moves.Inputs.{Inputs}
 use Rattle.semaphore_machine.specs.Program.{action_of, position_after}
 use Rattle.semaphore_machine.specs.Deeds.{Finds, deed_of, words_after, entries_after}
 use Rattle.semaphore_machine.specs.Machine.{answer_by}

@@ -1,6 +1,6 @@
 -- A new table is seen as a new World.
 use Rattle.std.proofs.Common.{ap, ◌∙◌}
-use Rattle.lock_table.specs.Tables.{new_table}
+use Rattle.world_base.specs.table.Tables.{new_table}
 use Rattle.semaphore_world.specs.View.{view_of}
 use Rattle.semaphore_world.proofs.table.Opening.{starts_new}
 use Rattle.semaphore_world.proofs.world.World.over.Goals as goal
