@@ -18,15 +18,15 @@ use Rattle.world_base.specs.declared.standing.Within.{Within}
 use Rattle.world_base.specs.Frame.{is_drop, is_refusal}
 use Rattle.world_base.specs.Standings.{outside, inside, is_possible, may_end, refused}
 use Rattle.world_base.specs.Steps.{changes, does, notifies, notifies_additionally}
-use Rattle.semaphore_machine.specs.Deeds.{gives_back, gives, for_a_permit}
-use Rattle.semaphore_machine.specs.Seats.{nothing_had}
-use Rattle.semaphore_world.specs.AtOnce.{AnswersAtOnce, is_try, is_first_poll}
-use Rattle.semaphore_world.specs.Bound.{Promises}
-use Rattle.semaphore_world.specs.Legal.{Legal, added_in, is_forget, is_poll_call, state_after}
-use Rattle.semaphore_world.specs.State.{World, share_at, has_permit, is_free, standing_of, adds_of, mark_of}
+use Rattle.world_semaphore.specs.machine.Deeds.{gives_back, gives, for_a_permit}
+use Rattle.world_semaphore.specs.machine.Seats.{nothing_had}
+use Rattle.world_semaphore.specs.AtOnce.{AnswersAtOnce, is_try, is_first_poll}
+use Rattle.world_semaphore.specs.Bound.{Promises}
+use Rattle.world_semaphore.specs.Legal.{Legal, added_in, is_forget, is_poll_call, state_after}
+use Rattle.world_semaphore.specs.State.{World, share_at, has_permit, is_free, standing_of, adds_of, mark_of}
 use Rattle.world_base.specs.Standings.{is_outside}
-use Rattle.semaphore_world.specs.State.{available}
-use Rattle.semaphore_world.specs.Laws.{IsSound, IsDue}
+use Rattle.world_semaphore.specs.State.{available}
+use Rattle.world_semaphore.specs.Laws.{IsSound, IsDue}
 
 -- A move of a party, and what it leads to.
 pub record Step : Type 0 where

@@ -3,7 +3,7 @@
 ghost use Rattle.definition_tests.specs.Tables.{AreRowsOf, AreRowsOfTwo};
 ghost use Rattle.definition_tests.specs.SemaphoreTable.{beginnings, actions, followings};
 ghost use Rattle.sync_program.specs.Semaphore.{action_of, next_of};
-ghost use Rattle.semaphore_machine.specs.Program.{start_of};
+ghost use Rattle.world_semaphore.specs.machine.Program.{start_of};
 ghost use Rattle.definition_tests.specs.Never.{Never};
 ghost use Rattle.definition_tests.specs.Semaphore.{TriesInVain, TakesUndecided, GivesBackWithin, GivesBeforeItRaises, NotifiesForOthers, ForgetsInVain, RefusedThoughFree, RefusedAtLast, WaitsUnlisted, GoesOnUndecided, DecidesInVain, HasRefused, AddsAndTakes, TellsMore, TriesAndTells, ReturnsLate, ReturnsSilently, AddsSilently, AddsAfterTelling, PassesOverInVain, KeepsItsTold, TakesWhatWasTold, WakesTheNext, SleepsThoughFree, RefusedSilently};
 

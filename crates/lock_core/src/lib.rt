@@ -16,7 +16,7 @@ pub mod rwlock {
 
 /// A semaphore, from the crate `semaphore_world`.
 pub mod semaphore {
-    pub use semaphore_world::World;
+    pub use world_semaphore::World;
 }
 
 /// A once-cell, from the crate `cell_world`.

@@ -5,7 +5,7 @@ use Rattle.mutex_world.specs.declared.world.TheConstants.{MOST_STARVED}
 use Rattle.rwlock_world.specs.declared.world.TheConstants.{MOST_STARVED_FOR_THE_TURN, MOST_READERS}
 use Rattle.mutex_world.specs.State as mutex
 use Rattle.rwlock_world.specs.State as rwlock
-use Rattle.semaphore_world.specs.State as semaphore
+use Rattle.world_semaphore.specs.State as semaphore
 use Rattle.cell_world.specs.State as cell
 use Rattle.barrier_world.specs.State as barrier
 use Rattle.lock_program.specs.declared.refusal.Refusal.{Refusal}

@@ -1,6 +1,6 @@
 -- What a script asks of a semaphore beyond its moves.
 use Rattle.std.specs.Prelude.{ℕ, List, ◌++◌, codes}
-use Rattle.semaphore_world.specs.State.{World, available}
+use Rattle.world_semaphore.specs.State.{World, available}
 use Rattle.lock_answers.specs.declared.played.Reply.{Reply}
 use Rattle.lock_answers.specs.declared.played.Reply.TheVariants.{NotPossible}
 use Rattle.lock_answers.specs.Answers.{list_text}

@@ -8,10 +8,10 @@ use Rattle.rwlock_world.specs.State as rwlock
 use Rattle.rwlock_world.specs.Steps as rwlock_steps
 use Rattle.rwlock_world.specs.Whole as rwlock_whole
 use Rattle.rwlock_world.specs.Bound as rwlock_bound
-use Rattle.semaphore_world.specs.State as semaphore
-use Rattle.semaphore_world.specs.Steps as semaphore_steps
-use Rattle.semaphore_world.specs.Whole as semaphore_whole
-use Rattle.semaphore_world.specs.Bound as semaphore_bound
+use Rattle.world_semaphore.specs.State as semaphore
+use Rattle.world_semaphore.specs.Steps as semaphore_steps
+use Rattle.world_semaphore.specs.Whole as semaphore_whole
+use Rattle.world_semaphore.specs.Bound as semaphore_bound
 use Rattle.cell_world.specs.State as cell
 use Rattle.cell_world.specs.Steps as cell_steps
 use Rattle.cell_world.specs.Whole as cell_whole

@@ -7,11 +7,11 @@ use super::rows::Row::{self, AtRest, Calls, State, Steps, Told};
 use super::rows::{BEGIN_POLL, GO, GRANTED, INPUTS, NO_MEMORY, READY};
 use lock_event::{Mark, Memory};
 use lock_program::Refusal;
-use semaphore_world::World;
 use std::alloc::Global;
 use std::process::Abort;
 use std::test::Fail;
 use world_base::{Answer, AnyWorld, Call, Move, What};
+use world_semaphore::World;
 
 // A World, or where memory for it was refused, what a second try makes. So each test also passes where
 // one allocation fails, whichever it is.

@@ -16,11 +16,11 @@ use Rattle.world_base.specs.Standings.{Standing, inside, is_possible}
 use Rattle.world_base.specs.Steps.{Deed, nothing, changes, does, notifies}
 use Rattle.world_base.proofs.Equations.{none_some}
 use Rattle.world_base.proofs.Lists.{counted_by}
-use Rattle.semaphore_machine.specs.Seats.{Share}
-use Rattle.semaphore_machine.specs.Deeds.{Change, ListName, takes, gives_back, forgets, raises, gives, for_a_permit}
-use Rattle.semaphore_world.specs.State.{State, World, has_permit, standing_of, adds_of}
-use Rattle.semaphore_world.specs.AtOnce.{is_try}
-use Rattle.semaphore_world.specs.Legal.{HasItsOwn, IsAllowed, state_after, is_forget, added_in, is_add, notice, may_tell}
+use Rattle.world_semaphore.specs.machine.Seats.{Share}
+use Rattle.world_semaphore.specs.machine.Deeds.{Change, ListName, takes, gives_back, forgets, raises, gives, for_a_permit}
+use Rattle.world_semaphore.specs.State.{State, World, has_permit, standing_of, adds_of}
+use Rattle.world_semaphore.specs.AtOnce.{is_try}
+use Rattle.world_semaphore.specs.Legal.{HasItsOwn, IsAllowed, state_after, is_forget, added_in, is_add, notice, may_tell}
 use Rattle.definition_tests.proofs.semaphore.wrong_runs.Goals as goal
 
 chosen : (b : Bool) (x y : Answer) → b ≡ true → (if b then x else y) ≡ x
