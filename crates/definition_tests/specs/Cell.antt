@@ -21,15 +21,15 @@ use Rattle.world_base.specs.Standings.{outside, inside, inputs_of, is_outside, i
 use Rattle.world_base.specs.Steps.{does, joins, notifies}
 use Rattle.sync_program.specs.declared.once_cell.ListName.{ListName}
 use Rattle.sync_program.specs.declared.once_cell.ListName.TheVariants.{Passive}
-use Rattle.cell_program.specs.declared.words.Content.TheVariants.{Empty, BeingMade, Full}
-use Rattle.cell_machine.specs.Seats.{initializes, sets, waits_only, fills_with, failed}
-use Rattle.cell_machine.specs.Machine.{is_maker}
-use Rattle.cell_world.specs.AtOnce.{AnswersAtOnce, is_try, is_poll, is_first_making, is_first_wait}
-use Rattle.cell_world.specs.Bound.{IsSolo, Promises}
-use Rattle.cell_world.specs.Laws.{IsSound, is_due}
-use Rattle.cell_world.specs.Legal.{Legal, DecidesOn}
-use Rattle.cell_world.specs.State.{World, list_in, is_empty, standing_of, task_of}
-use Rattle.cell_world.specs.Tasks.{task_then, list_for, is_open}
+use Rattle.world_once_cell.specs.declared.program.words.Content.TheVariants.{Empty, BeingMade, Full}
+use Rattle.world_once_cell.specs.machine.Seats.{initializes, sets, waits_only, fills_with, failed}
+use Rattle.world_once_cell.specs.machine.Machine.{is_maker}
+use Rattle.world_once_cell.specs.AtOnce.{AnswersAtOnce, is_try, is_poll, is_first_making, is_first_wait}
+use Rattle.world_once_cell.specs.Bound.{IsSolo, Promises}
+use Rattle.world_once_cell.specs.Laws.{IsSound, is_due}
+use Rattle.world_once_cell.specs.Legal.{Legal, DecidesOn}
+use Rattle.world_once_cell.specs.State.{World, list_in, is_empty, standing_of, task_of}
+use Rattle.world_once_cell.specs.Tasks.{task_then, list_for, is_open}
 
 -- A move of a party, and what it leads to.
 pub record Step : Type 0 where

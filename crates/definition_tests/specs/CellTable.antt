@@ -1,17 +1,17 @@
 -- The places of a once-cell's programs, row by row.
 use Rattle.std.specs.Prelude.{true, false, List, [], ◌∷◌, Option, Some, None}
 use Rattle.sync_program.specs.declared.once_cell.Action.TheVariants as act
-use Rattle.cell_program.specs.Program.{Action}
+use Rattle.world_once_cell.specs.program.Program.{Action}
 use Rattle.sync_program.specs.declared.once_cell.Found.TheVariants as found
-use Rattle.cell_program.specs.Program.{Found}
+use Rattle.world_once_cell.specs.program.Program.{Found}
 use Rattle.sync_program.specs.declared.once_cell.ListName.TheVariants as list
 use Rattle.sync_program.specs.declared.once_cell.Maker.TheVariants as maker
 use Rattle.lock_program.specs.declared.end.Next.TheVariants as next
-use Rattle.cell_program.specs.Program.{Next}
+use Rattle.world_once_cell.specs.program.Program.{Next}
 use Rattle.sync_program.specs.declared.once_cell.Place.TheVariants as place
-use Rattle.cell_program.specs.Program.{Place}
+use Rattle.world_once_cell.specs.program.Program.{Place}
 use Rattle.sync_program.specs.declared.once_cell.Position.TheVariants as position
-use Rattle.cell_program.specs.Program.{Position}
+use Rattle.world_once_cell.specs.program.Program.{Position}
 use Rattle.lock_program.specs.declared.end.End.TheVariants as ended
 use Rattle.world_base.specs.declared.moves.Call.TheVariants as call
 use Rattle.world_base.specs.declared.moves.Call.{Call}

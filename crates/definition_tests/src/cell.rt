@@ -3,7 +3,7 @@
 ghost use Rattle.definition_tests.specs.Tables.{AreRowsOf, AreRowsOfTwo};
 ghost use Rattle.definition_tests.specs.CellTable.{beginnings, actions, followings};
 ghost use Rattle.sync_program.specs.OnceCell.{action_of, next_of};
-ghost use Rattle.cell_program.specs.Program.{start_of};
+ghost use Rattle.world_once_cell.specs.program.Program.{start_of};
 ghost use Rattle.definition_tests.specs.Never.{Never};
 ghost use Rattle.definition_tests.specs.Cell.{EntersTwice, EndsByNothing, FillsAnother, MakesAnother, ReadyTooSoon, WaitsWithoutMaking, WaitsInPassive, WaitsInActive, TriesInVain, TriesWhileMade, LosesItsOwn, StaysMade, TellsNobody, PassesOverInVain, KeepsItsTold, LeftUntold, GoesOnUndecided, DropsListed, MakesAndWaits, RefusesMaker, MarksUndecided, GrantsNothing, HasAnotherBack, FailsUntold, DropsUntold, RefusedUntold, WaitsThoughTold, GoesOnUntold, WaitsForFull, RefusedToMake, LeftToNobody, TellsAnyone, TellsPassive, LosesWhatWasMade, JoinsUnlooked, KeepsItsMark, DropsOn, LingersWithValue, MakesAfterFailure, MakerJoins, MadeByNobody, FillsUntold};
 

@@ -21,9 +21,9 @@ pub mod semaphore {
 
 /// A once-cell, from the crate `cell_world`.
 pub mod cell {
-    pub use cell_program::Content;
-    pub use cell_world::World;
     pub use sync_program::once_cell::ListName;
+    pub use world_once_cell::World;
+    pub use world_once_cell::program::Content;
 }
 
 /// A barrier, from the crate `barrier_world`.

@@ -1,11 +1,11 @@
 -- What a script asks of a once-cell beyond its moves.
 use Rattle.std.specs.Prelude.{ℕ, true, false, Option, Some, None, List, ◌++◌, codes, if◌then◌else◌}
-use Rattle.cell_program.specs.declared.words.Content.{Content}
-use Rattle.cell_program.specs.declared.words.Content.TheVariants.{Empty, BeingMade, Full}
-use Rattle.cell_program.specs.Words.{value_in}
-use Rattle.cell_world.specs.State.{World}
-use Rattle.cell_world.specs.Laws.{is_at_rest}
-use Rattle.cell_world.specs.Lending.{world_with}
+use Rattle.world_once_cell.specs.declared.program.words.Content.{Content}
+use Rattle.world_once_cell.specs.declared.program.words.Content.TheVariants.{Empty, BeingMade, Full}
+use Rattle.world_once_cell.specs.program.Words.{value_in}
+use Rattle.world_once_cell.specs.State.{World}
+use Rattle.world_once_cell.specs.Laws.{is_at_rest}
+use Rattle.world_once_cell.specs.Lending.{world_with}
 use Rattle.lock_answers.specs.declared.played.Reply.{Reply}
 use Rattle.lock_answers.specs.declared.played.Reply.TheVariants.{Done, Nothing, Value, NotPossible}
 use Rattle.lock_answers.specs.Answers.{list_text}

@@ -6,7 +6,7 @@ use Rattle.rwlock_world.specs.declared.world.TheConstants.{MOST_STARVED_FOR_THE_
 use Rattle.mutex_world.specs.State as mutex
 use Rattle.rwlock_world.specs.State as rwlock
 use Rattle.world_semaphore.specs.State as semaphore
-use Rattle.cell_world.specs.State as cell
+use Rattle.world_once_cell.specs.State as cell
 use Rattle.barrier_world.specs.State as barrier
 use Rattle.lock_program.specs.declared.refusal.Refusal.{Refusal}
 use Rattle.lock_program.specs.declared.refusal.Refusal.TheVariants.{Memory, Permits}

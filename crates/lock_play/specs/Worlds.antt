@@ -12,10 +12,10 @@ use Rattle.world_semaphore.specs.State as semaphore
 use Rattle.world_semaphore.specs.Steps as semaphore_steps
 use Rattle.world_semaphore.specs.Whole as semaphore_whole
 use Rattle.world_semaphore.specs.Bound as semaphore_bound
-use Rattle.cell_world.specs.State as cell
-use Rattle.cell_world.specs.Steps as cell_steps
-use Rattle.cell_world.specs.Whole as cell_whole
-use Rattle.cell_world.specs.Bound as cell_bound
+use Rattle.world_once_cell.specs.State as cell
+use Rattle.world_once_cell.specs.Steps as cell_steps
+use Rattle.world_once_cell.specs.Whole as cell_whole
+use Rattle.world_once_cell.specs.Bound as cell_bound
 use Rattle.barrier_world.specs.State as barrier
 use Rattle.barrier_world.specs.Steps as barrier_steps
 use Rattle.barrier_world.specs.Whole as barrier_whole

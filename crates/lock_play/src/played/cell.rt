@@ -2,7 +2,7 @@
 
 ghost use Rattle.std.specs.Prelude.{◌≡◌, ◌++◌, codes, OnOk};
 ghost use Rattle.std.specs.Io.KnownBytes.{Appends};
-ghost use Rattle.cell_world.specs.State.{list_in};
+ghost use Rattle.world_once_cell.specs.State.{list_in};
 ghost use Rattle.lock_answers.specs.Answers.{list_text, Prints};
 ghost use Rattle.lock_play.specs.Cell.{content_text};
 
@@ -86,7 +86,7 @@ struct OneList<'a> {
 }
 
 impl<'a> Listed for OneList<'a> {
-    ghost use Rattle.cell_world.specs.State.{list_in};
+    ghost use Rattle.world_once_cell.specs.State.{list_in};
 
     ghost entries = { λ l. list_in l.name l.world.now };
 

@@ -1,9 +1,9 @@
 //! The rows of which the tests of a once-cell's World are made.
 
-use cell_program::Content;
 use lock_event::Mark;
 use sync_program::once_cell::ListName;
 use world_base::{Answer, Call, Inputs, Made, What};
+use world_once_cell::program::Content;
 
 pub(crate) const INPUTS: Inputs = Inputs {
     memory: true,

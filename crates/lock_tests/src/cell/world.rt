@@ -8,8 +8,6 @@ use super::rows::Deed::{
 };
 use super::rows::Seen::{self, Answered, Is, State, Told, Value};
 use super::rows::{ACTIVE, GO, INPUTS, NO_MEMORY, PASSIVE};
-use cell_program::Content;
-use cell_world::World;
 use lock_event::Mark;
 use lock_program::Refusal;
 use std::alloc::Global;
@@ -17,6 +15,8 @@ use std::process::Abort;
 use std::test::Fail;
 use sync_program::once_cell::ListName;
 use world_base::{Answer, AnyWorld, Call, Got, Inputs, Made, Move, What};
+use world_once_cell::World;
+use world_once_cell::program::Content;
 
 // A World, or where memory for it was refused, what a second try makes. So each test also passes where
 // one allocation fails, whichever it is.

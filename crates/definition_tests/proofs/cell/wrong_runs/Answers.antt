@@ -22,18 +22,18 @@ use Rattle.world_base.specs.Steps.{Deed, nothing, changes, does, joins, notifies
 use Rattle.world_base.proofs.Equations.{some_eq, none_some}
 use Rattle.sync_program.specs.declared.once_cell.ListName.{ListName}
 use Rattle.sync_program.specs.declared.once_cell.ListName.TheVariants.{Active, Passive}
-use Rattle.cell_program.specs.declared.words.Content.{Content}
-use Rattle.cell_program.specs.declared.words.Content.TheVariants.{Empty, BeingMade, Full}
-use Rattle.cell_machine.specs.Seats.{Task, no_task, initializes, sets, waits_only, fills_with, failed}
-use Rattle.cell_program.specs.Deeds.{Change, begins, fills, empties, content_after}
-use Rattle.cell_machine.specs.Machine.{is_maker}
-use Rattle.cell_machine.proofs.laws.Contents.{maker_is, is_its_maker}
-use Rattle.cell_world.specs.State.{World, list_in, is_empty, standing_of, task_of}
-use Rattle.cell_world.specs.Tasks.{task_in, given, list_for}
-use Rattle.cell_world.specs.Legal.{Legal, HasItsOwn, IsCause, IsOutOfMemory, MayTell, IsAllowed, IsPendingMaker, WaitsInList}
-use Rattle.cell_world.specs.AtOnce.{would_make}
-use Rattle.cell_world.specs.Bound.{ComesTo}
-use Rattle.cell_world.proofs.Values.{stays_full}
+use Rattle.world_once_cell.specs.declared.program.words.Content.{Content}
+use Rattle.world_once_cell.specs.declared.program.words.Content.TheVariants.{Empty, BeingMade, Full}
+use Rattle.world_once_cell.specs.machine.Seats.{Task, no_task, initializes, sets, waits_only, fills_with, failed}
+use Rattle.world_once_cell.specs.program.Deeds.{Change, begins, fills, empties, content_after}
+use Rattle.world_once_cell.specs.machine.Machine.{is_maker}
+use Rattle.world_once_cell.proofs.of_machine.laws.Contents.{maker_is, is_its_maker}
+use Rattle.world_once_cell.specs.State.{World, list_in, is_empty, standing_of, task_of}
+use Rattle.world_once_cell.specs.Tasks.{task_in, given, list_for}
+use Rattle.world_once_cell.specs.Legal.{Legal, HasItsOwn, IsCause, IsOutOfMemory, MayTell, IsAllowed, IsPendingMaker, WaitsInList}
+use Rattle.world_once_cell.specs.AtOnce.{would_make}
+use Rattle.world_once_cell.specs.Bound.{ComesTo}
+use Rattle.world_once_cell.proofs.Values.{stays_full}
 use Rattle.definition_tests.proofs.cell.wrong_runs.Goals as goal
 
 chosen : (b c : Bool) (x y : Answer) → b ≡ c → (if b then x else y) ≡ (if c then x else y)
