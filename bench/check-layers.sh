@@ -15,7 +15,7 @@ tables='crates/lock_program/src/rwlock.rt crates/lock_program/specs/ReadWrite.an
 calls='lock_program\.specs\.declared\.mutex\.(LockCall|Step)\.|(lock_program|crate)::mutex::(LockCall|Step|\{LockCall, Step\})'
 contract='mutex_machine\.specs\.(Mutex|Course|Conduct|Deeds|Alone)|mutex_machine\.specs\.Behind\.\{behind_coded\}'
 lemmas='mutex_machine\.proofs\.callers\.'
-type='mutex_machine::Mutex'
+type='world_mutex::machine::Mutex'
 
 named=$(grep -rnE 'mutex_(program|machine)(\.|::)|lock_program\.specs\.(declared\.mutex|Mutex)|(lock_program|crate)::mutex|\breveal\b' $above $tables \
     --include='*.antt' --include='*.rt' --exclude-dir=out |

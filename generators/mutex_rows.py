@@ -1,5 +1,5 @@
 #!/usr/bin/env python3
-"""Writes the case table of a mutex's steps: crates/mutex_machine/proofs/legal/Rows.antt.
+"""Writes the case table of a mutex's steps: crates/world_mutex/proofs/of_machine/legal/Rows.antt.
 
 Run it at the top of the repository after a change of the mutex's program. Each row is one place
 with one finding of its action: what the step changes, and what it decides.
@@ -9,25 +9,25 @@ HEAD = """-- Each action of a party, place by place: what it changes, and what i
 use Rattle.std.proofs.Common.{◌≡◌, ◌<◌, ◌⊎◌, inl, inr, Bool, true, false, Option, Some, None, refl}
 use Rattle.world_base.specs.declared.refusal.Refusal.TheVariants.{Memory, Starved}
 use Rattle.world_base.specs.Steps.{Deed, nothing, changes, does, joins, asks, leaves, notifies, notifies_additionally}
-use Rattle.mutex_program.specs.declared.program.Place.{Place}
-use Rattle.mutex_program.specs.declared.program.Place.TheVariants.{Out, Holding, Enter, Try, Clear, CancelUncount, CancelLeave, Join, Look, Ask, Retry, PassOn, Count, JoinStarved, LookAlone, PassOnListed, AskStarved, Seize, Uncount, Leave, RefuseUncount, RefuseLeave, RefuseNotifyMemory, RefuseNotifyStarved, ReleaseNotify}
-use Rattle.mutex_program.specs.declared.program.Action.{Action}
-use Rattle.mutex_program.specs.declared.program.Action.TheVariants as act
-use Rattle.mutex_program.specs.declared.program.Next.{Next}
-use Rattle.mutex_program.specs.declared.program.Next.TheVariants as next
-use Rattle.mutex_program.specs.declared.calls.End.{End}
-use Rattle.mutex_program.specs.declared.calls.End.TheVariants.{Got, Pending, NotFree, GivenBack, Refused}
-use Rattle.mutex_program.specs.declared.program.Found.{Found}
-use Rattle.mutex_program.specs.declared.program.Found.TheVariants.{Done, Free, Held, SomeStarved, AtLimit, NoMemory, Yes, No}
-use Rattle.mutex_program.specs.Program.{action_of, next_of}
-use Rattle.mutex_program.specs.Roles.{counted, listed}
-use Rattle.mutex_machine.specs.Machine.{Lock}
-use Rattle.mutex_machine.specs.Acts.{Finds, holders, starved}
-use Rattle.mutex_machine.specs.State.{is_holder, is_counted}
-use Rattle.mutex_machine.specs.Legal.{decision}
-use Rattle.mutex_machine.specs.Deeds.{Change, ListName, takes, releases, starves, recovers, for_the_lock, gives_back, gives_up, is_release}
-use Rattle.mutex_machine.proofs.laws.Kept.{after}
-use Rattle.mutex_machine.specs.Courses.{is_counting, may_tell}
+use Rattle.world_mutex.specs.declared.program.program.Place.{Place}
+use Rattle.world_mutex.specs.declared.program.program.Place.TheVariants.{Out, Holding, Enter, Try, Clear, CancelUncount, CancelLeave, Join, Look, Ask, Retry, PassOn, Count, JoinStarved, LookAlone, PassOnListed, AskStarved, Seize, Uncount, Leave, RefuseUncount, RefuseLeave, RefuseNotifyMemory, RefuseNotifyStarved, ReleaseNotify}
+use Rattle.world_mutex.specs.declared.program.program.Action.{Action}
+use Rattle.world_mutex.specs.declared.program.program.Action.TheVariants as act
+use Rattle.world_mutex.specs.declared.program.program.Next.{Next}
+use Rattle.world_mutex.specs.declared.program.program.Next.TheVariants as next
+use Rattle.world_mutex.specs.declared.program.calls.End.{End}
+use Rattle.world_mutex.specs.declared.program.calls.End.TheVariants.{Got, Pending, NotFree, GivenBack, Refused}
+use Rattle.world_mutex.specs.declared.program.program.Found.{Found}
+use Rattle.world_mutex.specs.declared.program.program.Found.TheVariants.{Done, Free, Held, SomeStarved, AtLimit, NoMemory, Yes, No}
+use Rattle.world_mutex.specs.program.Program.{action_of, next_of}
+use Rattle.world_mutex.specs.program.Roles.{counted, listed}
+use Rattle.world_mutex.specs.machine.Machine.{Lock}
+use Rattle.world_mutex.specs.machine.Acts.{Finds, holders, starved}
+use Rattle.world_mutex.specs.machine.State.{is_holder, is_counted}
+use Rattle.world_mutex.specs.machine.Legal.{decision}
+use Rattle.world_mutex.specs.machine.Deeds.{Change, ListName, takes, releases, starves, recovers, for_the_lock, gives_back, gives_up, is_release}
+use Rattle.world_mutex.proofs.of_machine.laws.Kept.{after}
+use Rattle.world_mutex.specs.machine.Courses.{is_counting, may_tell}
 
 -- what an action changes that found this
 abbrev pub deed_of : Action → Found → Deed Change ListName
@@ -207,5 +207,5 @@ one('RefuseNotifyMemory', 'Notify', KEPT)
 one('RefuseNotifyStarved', 'Notify', KEPT)
 one('ReleaseNotify', 'Notify', KEPT)
 
-with open('crates/mutex_machine/proofs/legal/Rows.antt', 'w', encoding='utf-8') as out:
+with open('crates/world_mutex/proofs/of_machine/legal/Rows.antt', 'w', encoding='utf-8') as out:
     out.write(HEAD + '\n'.join(rows) + '\n')

@@ -11,8 +11,8 @@ PROOFS = 'crates/rwlock_machine/proofs/'
 
 PLACES = '''Out, Made, Reading, Upgradable, Writing, EnterRead, JoinNoWriter, LookNoWriter, AskNoWriter, PassOn, LeaveNoWriter, RefuseLeave, RefuseNotify, CancelRead, TryRead, EnterTurn, WaitTurn, TakeTurn, TryTurn, CancelTurn, CancellingTurn, ReleaseTurn, ReleasingTurn, Add, TryUpgrade, Upgrade, Mark, TryWrite, JoinNoReaders, LookNoReaders, AskNoReaders, AwaitNoReaders, LookUnlisted, LeaveNoReaders, DropRead, DropReadNotify, DropUpgradable, DropUpgradableNotify, DropWrite, CancelAwait, Unmark, UnmarkNotify, Down, DownNotify, DowngradeNotify'''
 
-USES = '''use Rattle.mutex_program.specs.declared.calls.Step.TheVariants as turn_step
-use Rattle.mutex_program.specs.declared.calls.End.TheVariants as turn_end
+USES = '''use Rattle.world_mutex.specs.declared.program.calls.Step.TheVariants as turn_step
+use Rattle.world_mutex.specs.declared.program.calls.End.TheVariants as turn_end
 use Rattle.rwlock_program.specs.declared.program.Purpose.TheVariants as purpose
 use Rattle.rwlock_program.specs.declared.program.Ending.TheVariants as ending
 use Rattle.rwlock_program.specs.declared.program.Place.{Place}
@@ -163,7 +163,7 @@ pub fits : (x : Place) (f : Found) → Fits (action_of x) f x (place_after (next
 table('stages/Links.antt', '''-- Each step leaves the party's place fitting its place in the turn. Written by generators/rwlock_rows.py.
 use Rattle.std.proofs.Common.{◌≡◌, refl, true, false}
 use Rattle.world_base.specs.declared.refusal.Refusal.TheVariants as refusal
-use Rattle.mutex_machine.specs.Course.{Course as TurnCourse}
+use Rattle.world_mutex.specs.machine.Course.{Course as TurnCourse}
 ''' + USES + '''use Rattle.rwlock_program.specs.Program.{next_of, place_after}
 use Rattle.rwlock_machine.specs.Roles.{fits_turn}
 use Rattle.rwlock_machine.proofs.stages.Leads.{Led, steps_in_turn}

@@ -17,9 +17,9 @@ PATHS_HEAD = f'''-- Where each action leads, place by place. Written by generato
 use Rattle.std.proofs.Common.{{◌≡◌, ◌&&◌, Bool, true, false, refl}}
 use Rattle.world_base.specs.declared.refusal.Refusal.{{Refusal}}
 use Rattle.world_base.specs.declared.refusal.Refusal.TheVariants as refusal
-use Rattle.mutex_machine.specs.Course.{{Course as TurnCourse}}
-use Rattle.mutex_program.specs.declared.calls.Step.TheVariants as turn_step
-use Rattle.mutex_program.specs.declared.calls.End.TheVariants as turn_end
+use Rattle.world_mutex.specs.machine.Course.{{Course as TurnCourse}}
+use Rattle.world_mutex.specs.declared.program.calls.Step.TheVariants as turn_step
+use Rattle.world_mutex.specs.declared.program.calls.End.TheVariants as turn_end
 use Rattle.rwlock_program.specs.declared.program.Purpose.TheVariants as purpose
 use Rattle.rwlock_program.specs.declared.program.Ending.TheVariants as ending
 use Rattle.world_base.specs.declared.table.end.End.{{End}}
@@ -229,7 +229,7 @@ use Rattle.world_base.specs.Refusals.{{number_of}}
 use Rattle.world_base.specs.Rights.{{Right, read, upgradable}}
 use Rattle.world_base.specs.Steps.{{Deed, nothing, changes, does, joins, asks, leaves, notifies}}
 use Rattle.world_base.proofs.Equations.{{chosen}}
-use Rattle.mutex_machine.specs.Course.{{Course as TurnCourse, is_out as is_out_there, is_holding}}
+use Rattle.world_mutex.specs.machine.Course.{{Course as TurnCourse, is_out as is_out_there, is_holding}}
 use Rattle.rwlock_program.specs.declared.program.Action.{{Action}}
 use Rattle.rwlock_program.specs.declared.program.Action.TheVariants as act
 use Rattle.world_base.specs.declared.table.end.End.TheVariants.{{Pending, Refused}}
@@ -238,8 +238,8 @@ use Rattle.rwlock_program.specs.declared.program.Next.TheVariants as next
 use Rattle.rwlock_program.specs.declared.program.Found.{{Found}}
 use Rattle.rwlock_program.specs.declared.program.Found.TheVariants.{{Done, Writer, Full, NoneLeft, SomeLeft, NoMemory, Yes, No, Turn}}
 use Rattle.rwlock_program.specs.declared.program.Found.TheVariants as found
-use Rattle.mutex_program.specs.declared.calls.Step.TheVariants as turn_step
-use Rattle.mutex_program.specs.declared.calls.End.TheVariants as turn_end
+use Rattle.world_mutex.specs.declared.program.calls.Step.TheVariants as turn_step
+use Rattle.world_mutex.specs.declared.program.calls.End.TheVariants as turn_end
 use Rattle.rwlock_program.specs.declared.program.Purpose.TheVariants as purpose
 use Rattle.rwlock_program.specs.declared.program.Ending.TheVariants as ending
 use Rattle.rwlock_program.specs.declared.program.Place.{{Place}}

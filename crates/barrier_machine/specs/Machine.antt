@@ -20,7 +20,7 @@ use Rattle.world_base.specs.declared.standing.Stage.TheVariants.{Outside, Inside
 use Rattle.world_base.specs.declared.standing.Within.{Within}
 use Rattle.world_base.specs.Standings.{inputs_of}
 use Rattle.world_base.specs.table.Ends.{answer_of}
-use Rattle.mutex_machine.specs.Mutex.{Mutex, new_mutex, course_at, IsMutex, holders, steps_left as lock_steps_left}
+use Rattle.world_mutex.specs.machine.Mutex.{Mutex, new_mutex, course_at, IsMutex, holders, steps_left as lock_steps_left}
 use Rattle.sync_program.specs.declared.barrier.Aim.TheVariants as aim
 use Rattle.sync_program.specs.declared.barrier.Found.{Found}
 use Rattle.barrier_program.specs.Program.{Next}

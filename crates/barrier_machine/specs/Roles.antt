@@ -1,6 +1,6 @@
 -- What a party has and knows where it stands.
 use Rattle.std.specs.Prelude.{◌≡◌, ℕ, ◌+◌, ◌<◌, ◌≤◌, Bool, true, false}
-use Rattle.mutex_machine.specs.Course.{Course, is_out, is_holding, is_waiting, is_taking, is_releasing, is_cancelling}
+use Rattle.world_mutex.specs.machine.Course.{Course, is_out, is_holding, is_waiting, is_taking, is_releasing, is_cancelling}
 use Rattle.sync_program.specs.declared.barrier.Aim.{Aim}
 use Rattle.sync_program.specs.declared.barrier.Aim.TheVariants as aim
 use Rattle.sync_program.specs.declared.barrier.Ending.{Ending}

@@ -7,7 +7,7 @@ use Rattle.lock_program.specs.declared.refusal.Refusal.TheVariants.{Memory, Gene
 use Rattle.world_base.specs.Standings.{refused}
 use Rattle.lock_program.specs.declared.end.End.{End as LockEnd}
 use Rattle.lock_program.specs.declared.end.End.TheVariants as lock_end
-use Rattle.mutex_machine.specs.Course.{Course, decision}
+use Rattle.world_mutex.specs.machine.Course.{Course, decision}
 use Rattle.sync_program.specs.declared.barrier.Aim.{Aim}
 use Rattle.sync_program.specs.declared.barrier.Aim.TheVariants as aim
 use Rattle.sync_program.specs.declared.barrier.Ending.{Ending}

@@ -12,7 +12,6 @@ use barrier_program::deeds::carry_out;
 use barrier_program::words::{Progress, Words};
 use lock_event::Entry;
 use lock_program::Next;
-use mutex_machine::Mutex;
 use std::alloc::{AllocError, Global};
 use std::marker::Model;
 use sync_program::barrier::{Aim, Ending, Left, Place, Position, action_at, decide};
@@ -20,6 +19,7 @@ use world_base::queue::WaitQueue;
 use world_base::standing::{Rest, Within};
 use world_base::table::{Machine, answer};
 use world_base::{Answer, Call, Inputs, What};
+use world_mutex::machine::Mutex;
 
 /// A barrier, and where each of its parties stands.
 ///
@@ -48,7 +48,7 @@ impl Drop for Barrier {
 
 impl Model for Barrier {
     ghost use Rattle.std.specs.Coded.{codes};
-    ghost use Rattle.mutex_machine.specs.Behind.{behind_coded};
+    ghost use Rattle.world_mutex.specs.machine.Behind.{behind_coded};
     ghost use Rattle.barrier_machine.specs.Machine.{Barrier, IsKept};
 
     ghost Value = { Barrier };

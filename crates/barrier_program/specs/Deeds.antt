@@ -6,8 +6,8 @@ use Rattle.world_base.specs.queue.Parties.{is_party, entries_of}
 use Rattle.world_base.specs.queue.Queues.{Queue}
 use Rattle.world_base.specs.declared.moves.Inputs.{Inputs}
 use Rattle.world_base.specs.Steps.{joins, asks, leaves, notifies, list_after}
-use Rattle.mutex_machine.specs.Course.{may_begin}
-use Rattle.mutex_machine.specs.Mutex.{Mutex, course_at}
+use Rattle.world_mutex.specs.machine.Course.{may_begin}
+use Rattle.world_mutex.specs.machine.Mutex.{Mutex, course_at}
 use Rattle.sync_program.specs.declared.barrier.Action.{Action}
 use Rattle.sync_program.specs.declared.barrier.Action.TheVariants as act
 use Rattle.sync_program.specs.declared.barrier.Found.{Found}

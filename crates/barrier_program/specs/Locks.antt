@@ -3,11 +3,11 @@ use Rattle.std.specs.Prelude.{◌≡◌, ℕ, ◌<◌, true}
 use Rattle.world_base.specs.declared.moves.Inputs.{Inputs}
 use Rattle.lock_program.specs.declared.mutex.LockCall.{LockCall}
 use Rattle.lock_program.specs.declared.mutex.Step.{Step as LockStep}
-use Rattle.mutex_machine.specs.Course.{decision, is_told, Begins, GoesOn}
-use Rattle.mutex_machine.specs.Deeds.{decided_by, most_steps}
-use Rattle.mutex_machine.specs.Mutex.{Mutex, course_at, TakenFairly, left_after, steps_left}
-use Rattle.mutex_machine.specs.Conduct.{IsLegal, IsUnrefused, TakesAtOnce, HeedsClock, CountsNobody, HandsOn, BeginsToHandOn}
-use Rattle.mutex_machine.specs.Alone.{HasBegun, HasGoneOn}
+use Rattle.world_mutex.specs.machine.Course.{decision, is_told, Begins, GoesOn}
+use Rattle.world_mutex.specs.machine.Deeds.{decided_by, most_steps}
+use Rattle.world_mutex.specs.machine.Mutex.{Mutex, course_at, TakenFairly, left_after, steps_left}
+use Rattle.world_mutex.specs.machine.Conduct.{IsLegal, IsUnrefused, TakesAtOnce, HeedsClock, CountsNobody, HandsOn, BeginsToHandOn}
+use Rattle.world_mutex.specs.machine.Alone.{HasBegun, HasGoneOn}
 use Rattle.sync_program.specs.declared.barrier.Action.{Action}
 use Rattle.sync_program.specs.declared.barrier.Action.TheVariants as act
 use Rattle.sync_program.specs.declared.barrier.Found.{Found}

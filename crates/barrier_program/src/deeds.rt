@@ -8,10 +8,10 @@ ghost use Rattle.barrier_program.specs.Deeds.{CanDo, Finds, FindsJoin, FindsAsk,
 ghost use Rattle.barrier_program.specs.Locks.{OnLock};
 
 use crate::words::{Progress, Words};
-use mutex_machine::Mutex;
 use sync_program::barrier::{Action, Found};
 use world_base::Inputs;
 use world_base::queue::WaitQueue;
+use world_mutex::machine::Mutex;
 
 /// A party joins the list, where there is memory.
 fn join_in(list: &mut WaitQueue, party: u32, memory: bool) -> Found

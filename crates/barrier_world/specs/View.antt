@@ -3,7 +3,7 @@ use Rattle.std.specs.Prelude.{ℕ, List, [], ◌∷◌, Option}
 use Rattle.world_base.specs.declared.moves.Answer.{Answer}
 use Rattle.world_base.specs.table.Tables.{Table}
 use Rattle.world_base.specs.table.Views.{standings}
-use Rattle.mutex_machine.specs.Mutex.{course_at, holder_of, starved_of}
+use Rattle.world_mutex.specs.machine.Mutex.{course_at, holder_of, starved_of}
 use Rattle.sync_program.specs.declared.barrier.Position.{Position}
 use Rattle.barrier_program.specs.declared.words.Progress.{Progress}
 use Rattle.barrier_program.specs.Words.{progress, arrivals_at}

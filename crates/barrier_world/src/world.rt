@@ -54,7 +54,7 @@ impl Drop for World {
 
 impl Model for World {
     ghost use Rattle.std.specs.Coded.{codes};
-    ghost use Rattle.mutex_machine.specs.Behind.{behind_coded};
+    ghost use Rattle.world_mutex.specs.machine.Behind.{behind_coded};
     ghost use Rattle.barrier_world.specs.State.{World};
     ghost use Rattle.barrier_world.specs.View.{view_of};
 

@@ -20,13 +20,13 @@ use Rattle.world_base.specs.Frame.{is_refusal}
 use Rattle.world_base.specs.Rosters.{how_many}
 use Rattle.world_base.specs.Standings.{outside, inside, may_end, refused}
 use Rattle.world_base.specs.Steps.{does, notifies_additionally}
-use Rattle.mutex_world.specs.Bound.{IsSolo, IsNotified, Promises}
-use Rattle.mutex_world.specs.Legal.{ListName, DecidesOn, is_first_poll, is_later_poll, Legal, AnswersAtOnce}
-use Rattle.mutex_world.specs.State.{World, standing_of, mark_of, is_free, is_starved}
+use Rattle.world_mutex.specs.Bound.{IsSolo, IsNotified, Promises}
+use Rattle.world_mutex.specs.Legal.{ListName, DecidesOn, is_first_poll, is_later_poll, Legal, AnswersAtOnce}
+use Rattle.world_mutex.specs.State.{World, standing_of, mark_of, is_free, is_starved}
 use Rattle.world_base.specs.Standings.{is_outside}
 use Rattle.world_base.specs.Steps.{notifies}
-use Rattle.mutex_world.specs.Legal.{for_the_lock}
-use Rattle.mutex_world.specs.Laws.{IsSound, IsDue}
+use Rattle.world_mutex.specs.Legal.{for_the_lock}
+use Rattle.world_mutex.specs.Laws.{IsSound, IsDue}
 use Rattle.world_base.specs.Standings.{is_possible}
 use Rattle.lock_event.specs.Lists.{notified}
 

@@ -6,7 +6,7 @@
 
 /// A mutex, from the crate `mutex_world`.
 pub mod mutex {
-    pub use mutex_world::{MOST_STARVED, World};
+    pub use world_mutex::{MOST_STARVED, World};
 }
 
 /// A read-write lock with upgradable reads, from the crate `rwlock_world`.

@@ -1,9 +1,9 @@
 -- What a script asks of a mutex beyond its moves.
 use Rattle.std.specs.Prelude.{ℕ, List, ◌++◌, codes, is_some, if◌then◌else◌}
 use Rattle.world_base.specs.Rosters.{how_many}
-use Rattle.mutex_world.specs.State.{World}
-use Rattle.mutex_world.specs.Laws.{is_at_rest}
-use Rattle.mutex_world.specs.Lending.{world_with}
+use Rattle.world_mutex.specs.State.{World}
+use Rattle.world_mutex.specs.Laws.{is_at_rest}
+use Rattle.world_mutex.specs.Lending.{world_with}
 use Rattle.lock_answers.specs.declared.played.Reply.{Reply}
 use Rattle.lock_answers.specs.declared.played.Reply.TheVariants.{Done, NotPossible}
 use Rattle.lock_answers.specs.Answers.{list_text}

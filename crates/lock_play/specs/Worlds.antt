@@ -1,9 +1,9 @@
 -- What the World that stands in a run does, of whichever lock it is.
 use Rattle.std.specs.Prelude.{◌≡◌, ℕ, List}
-use Rattle.mutex_world.specs.State as mutex
-use Rattle.mutex_world.specs.Steps as mutex_steps
-use Rattle.mutex_world.specs.Whole as mutex_whole
-use Rattle.mutex_world.specs.Bound as mutex_bound
+use Rattle.world_mutex.specs.State as mutex
+use Rattle.world_mutex.specs.Steps as mutex_steps
+use Rattle.world_mutex.specs.Whole as mutex_whole
+use Rattle.world_mutex.specs.Bound as mutex_bound
 use Rattle.rwlock_world.specs.State as rwlock
 use Rattle.rwlock_world.specs.Steps as rwlock_steps
 use Rattle.rwlock_world.specs.Whole as rwlock_whole

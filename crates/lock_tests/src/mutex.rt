@@ -3,9 +3,9 @@
 use crate::same::assert_same;
 use lock_program::End;
 use lock_program::mutex::{LockCall, Place, Step};
-use mutex_machine::{Lock, Mutex};
-use mutex_program::led::Next;
 use std::alloc::{AllocError, Global};
+use world_mutex::machine::{Lock, Mutex};
+use world_mutex::program::led::Next;
 
 /// Whether a lock is held, how many are starved and wait, and whether its list ends there.
 type State = (bool, u32, usize, bool);

@@ -3,8 +3,8 @@ use Rattle.std.specs.Prelude.{◌≡◌, ◌≢◌, ℕ, ◌+◌, ◌<◌, ◌�
 use Rattle.std.specs.List.{sum_by}
 use Rattle.lock_event.specs.Lists.{marked_count, IsMarkedFirst}
 use Rattle.world_base.specs.queue.Parties.{entries_of}
-use Rattle.mutex_machine.specs.Mutex.{course_at as turn_at, IsMutex, holders}
-use Rattle.mutex_machine.specs.Course.{holds}
+use Rattle.world_mutex.specs.machine.Mutex.{course_at as turn_at, IsMutex, holders}
+use Rattle.world_mutex.specs.machine.Course.{holds}
 use Rattle.lock_program.specs.declared.rwlock.Place.{Place}
 use Rattle.lock_program.specs.declared.rwlock.Action.{Action}
 use Rattle.lock_program.specs.declared.rwlock.Action.TheVariants as act

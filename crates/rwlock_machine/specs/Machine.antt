@@ -3,7 +3,7 @@ use Rattle.std.specs.Prelude.{◌≡◌, ℕ, true, List, [], length, slice_inde
 use Rattle.lock_event.specs.declared.event.Entry.{Entry}
 use Rattle.world_base.specs.queue.Parties.{entries_of}
 use Rattle.world_base.specs.queue.Queues.{Queue}
-use Rattle.mutex_machine.specs.Mutex.{Mutex, new_mutex, course_at as turn_at}
+use Rattle.world_mutex.specs.machine.Mutex.{Mutex, new_mutex, course_at as turn_at}
 use Rattle.lock_program.specs.declared.rwlock.Place.{Place}
 use Rattle.lock_program.specs.declared.rwlock.Place.TheVariants.{Out}
 use Rattle.rwlock_program.specs.declared.word.Word.{Word}

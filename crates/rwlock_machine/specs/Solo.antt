@@ -5,8 +5,8 @@ use Rattle.world_base.specs.queue.Parties.{is_party}
 use Rattle.world_base.specs.declared.moves.Call.TheVariants as call
 use Rattle.lock_program.specs.declared.refusal.Refusal.TheVariants.{Starved}
 use Rattle.lock_program.specs.declared.end.End.TheVariants as turn_end
-use Rattle.mutex_machine.specs.Mutex.{IsStarved, holders, starved}
-use Rattle.mutex_machine.specs.Alone.{GaveWay}
+use Rattle.world_mutex.specs.machine.Mutex.{IsStarved, holders, starved}
+use Rattle.world_mutex.specs.machine.Alone.{GaveWay}
 use Rattle.lock_program.specs.declared.rwlock.Place.{Place}
 use Rattle.lock_program.specs.declared.rwlock.Place.TheVariants.{Made, Reading, Upgradable, Writing, AskNoWriter, WaitTurn, AwaitNoReaders, LookUnlisted}
 use Rattle.lock_program.specs.declared.rwlock.Action.{Action}

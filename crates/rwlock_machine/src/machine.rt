@@ -7,7 +7,7 @@
 //! than its contracts say.
 
 ghost use Rattle.std.specs.Prelude.{◌≡◌, ◌<◌, length, slice_get, replicate, IfOk, IsSome, IsSomeAnd};
-ghost use Rattle.mutex_machine.specs.Mutex.{TakenFairly};
+ghost use Rattle.world_mutex.specs.machine.Mutex.{TakenFairly};
 ghost use Rattle.lock_program.specs.declared.rwlock.Place.TheVariants as place;
 ghost use Rattle.rwlock_program.specs.Program.{start_of, place_after};
 ghost use Rattle.rwlock_machine.specs.Roles.{bit};
@@ -18,7 +18,6 @@ ghost use Rattle.rwlock_machine.specs.Ranks.{left_from, left_after, steps_left, 
 
 use lock_event::Entry;
 use lock_program::rwlock::{Place, action_at, decide};
-use mutex_machine::Mutex;
 use rwlock_program::calls::start;
 use rwlock_program::deeds::carry_out;
 use rwlock_program::led::{Next, led};
@@ -27,6 +26,7 @@ use std::alloc::{AllocError, Global};
 use std::marker::Model;
 use world_base::Call;
 use world_base::queue::WaitQueue;
+use world_mutex::machine::Mutex;
 
 /// A read-write lock without a value, and the place of each of its parties.
 pub struct RwLock {
@@ -52,7 +52,7 @@ impl Drop for RwLock {
 
 impl Model for RwLock {
     ghost use Rattle.std.specs.Coded.{codes};
-    ghost use Rattle.mutex_machine.specs.Behind.{behind_coded};
+    ghost use Rattle.world_mutex.specs.machine.Behind.{behind_coded};
     ghost use Rattle.rwlock_machine.specs.Machine.{RwLock, IsMachine};
 
     ghost Value = { RwLock };

@@ -1,7 +1,7 @@
 -- What a carried out action leaves: all that it does to the word, to the two lists and to the turn.
 use Rattle.std.specs.Prelude.{◌≡◌, ℕ, Bool}
 use Rattle.world_base.specs.queue.Queues.{Queue}
-use Rattle.mutex_machine.specs.Mutex.{Mutex}
+use Rattle.world_mutex.specs.machine.Mutex.{Mutex}
 use Rattle.rwlock_program.specs.declared.word.Word.{Word}
 use Rattle.lock_program.specs.declared.rwlock.Action.{Action}
 use Rattle.lock_program.specs.declared.rwlock.Found.{Found}

@@ -2,8 +2,8 @@
 use Rattle.std.specs.Prelude.{◌≡◌, ℕ, ◌<◌, true, length}
 use Rattle.world_base.specs.queue.Parties.{entries_of}
 use Rattle.world_base.specs.queue.Queues.{Queue}
-use Rattle.mutex_machine.specs.Mutex.{Mutex, course_at}
-use Rattle.mutex_machine.specs.Course.{may_begin}
+use Rattle.world_mutex.specs.machine.Mutex.{Mutex, course_at}
+use Rattle.world_mutex.specs.machine.Course.{may_begin}
 use Rattle.rwlock_program.specs.declared.word.Word.{Word}
 use Rattle.lock_program.specs.declared.rwlock.Action.{Action}
 use Rattle.lock_program.specs.declared.rwlock.Action.TheVariants as act

@@ -8,8 +8,8 @@ ghost use Rattle.rwlock_program.specs.Carried.{Carried};
 
 use crate::word::Word;
 use lock_program::rwlock::{Action, Found};
-use mutex_machine::Mutex;
 use world_base::queue::WaitQueue;
+use world_mutex::machine::Mutex;
 
 /// The party joins the list, if there is memory for it.
 fn join(list: &mut WaitQueue, party: u32, memory: bool) -> Found

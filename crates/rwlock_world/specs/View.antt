@@ -9,10 +9,10 @@ use Rattle.world_base.specs.Standings.{Standing, refused}
 use Rattle.world_base.specs.table.Stages.{stands_as}
 use Rattle.world_base.specs.table.Tables.{Table}
 use Rattle.world_base.specs.table.Views.{standings}
-use Rattle.mutex_machine.specs.Course.{Course as TurnCourse, decision}
+use Rattle.world_mutex.specs.machine.Course.{Course as TurnCourse, decision}
 use Rattle.lock_program.specs.declared.end.End.{End as TurnEnd}
 use Rattle.lock_program.specs.declared.end.End.TheVariants as turn_end
-use Rattle.mutex_machine.specs.Mutex.{course_at as turn_at, holder_of, starved_of}
+use Rattle.world_mutex.specs.machine.Mutex.{course_at as turn_at, holder_of, starved_of}
 use Rattle.lock_program.specs.declared.rwlock.Ending.{Ending}
 use Rattle.lock_program.specs.declared.rwlock.Ending.TheVariants as ending
 use Rattle.lock_program.specs.declared.rwlock.Place.{Place}

@@ -24,7 +24,7 @@ pub(crate) struct Guarded {
 
 impl Model for Guarded {
     ghost use Rattle.std.specs.Coded.{codes};
-    ghost use Rattle.mutex_machine.specs.Behind.{behind_coded};
+    ghost use Rattle.world_mutex.specs.machine.Behind.{behind_coded};
     ghost use Rattle.rwlock_world.specs.Guarded.{Guarded};
 
     ghost Value = { Guarded };

@@ -41,7 +41,7 @@ impl Drop for World {
 
 impl Model for World {
     ghost use Rattle.std.specs.Coded.{codes};
-    ghost use Rattle.mutex_machine.specs.Behind.{behind_coded};
+    ghost use Rattle.world_mutex.specs.machine.Behind.{behind_coded};
     ghost use Rattle.rwlock_world.specs.State.{World};
     ghost use Rattle.rwlock_world.specs.View.{view_of};
 

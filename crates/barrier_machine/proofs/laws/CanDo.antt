@@ -3,8 +3,8 @@ use Rattle.std.proofs.Common.{◌≡◌, ℕ, ◌<◌, true, List, length, refl,
 use Rattle.world_base.specs.queue.Parties.{entries_of}
 use Rattle.world_base.specs.queue.Queues.{Queue}
 use Rattle.world_base.specs.declared.standing.Within.{Within}
-use Rattle.mutex_machine.specs.Mutex.{Mutex, course_at}
-use Rattle.mutex_machine.proofs.callers.Callers.{may_lock, may_poll, may_cancel, may_release}
+use Rattle.world_mutex.specs.machine.Mutex.{Mutex, course_at}
+use Rattle.world_mutex.proofs.of_machine.callers.Callers.{may_lock, may_poll, may_cancel, may_release}
 use Rattle.sync_program.specs.declared.barrier.Place.{Place}
 use Rattle.sync_program.specs.declared.barrier.Place.TheVariants.{EnterLock, WaitLock, TakeLock, Join, Arrive, Complete, JoinAgain, ReleaseLock, ReleasingLock, Ask, CancelLock, CancellingLock, CancelLeave}
 use Rattle.sync_program.specs.declared.barrier.Position.{Position}

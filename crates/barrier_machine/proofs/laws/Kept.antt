@@ -13,10 +13,10 @@ use Rattle.world_base.specs.declared.standing.Within.{Within}
 use Rattle.world_base.proofs.Equations.{some_eq}
 use Rattle.world_base.specs.table.Stages.{stage_after}
 use Rattle.world_base.specs.table.Tables.{Keeps}
-use Rattle.mutex_machine.specs.Course.{Course, is_holding}
-use Rattle.mutex_machine.specs.Mutex.{Mutex, course_at, IsMutex, holder_from}
-use Rattle.mutex_machine.proofs.callers.Callers.{holding_holds}
-use Rattle.mutex_machine.proofs.callers.Holders.{held_at}
+use Rattle.world_mutex.specs.machine.Course.{Course, is_holding}
+use Rattle.world_mutex.specs.machine.Mutex.{Mutex, course_at, IsMutex, holder_from}
+use Rattle.world_mutex.proofs.of_machine.callers.Callers.{holding_holds}
+use Rattle.world_mutex.proofs.of_machine.callers.Holders.{held_at}
 use Rattle.sync_program.specs.declared.barrier.Ending.TheVariants as ending
 use Rattle.sync_program.specs.declared.barrier.Found.{Found}
 use Rattle.sync_program.specs.declared.barrier.Place.{Place}

@@ -6,9 +6,9 @@ use Rattle.lock_event.specs.declared.event.Entry.{Entry}
 use Rattle.lock_event.specs.Lists.{is_marked_at, IsMarkedFirst}
 use Rattle.world_base.specs.queue.Parties.{is_party, entries_of}
 use Rattle.world_base.specs.queue.Queues.{Queue}
-use Rattle.mutex_machine.specs.Course.{Course, holds, is_resting as rests_there}
-use Rattle.mutex_machine.specs.Mutex.{Mutex, course_at, IsMutex, holders, IsAtRest as LockAtRest}
-use Rattle.mutex_machine.proofs.callers.Callers.{out_free, waiting_free, holding_holds, out_rests, waiting_rests}
+use Rattle.world_mutex.specs.machine.Course.{Course, holds, is_resting as rests_there}
+use Rattle.world_mutex.specs.machine.Mutex.{Mutex, course_at, IsMutex, holders, IsAtRest as LockAtRest}
+use Rattle.world_mutex.proofs.of_machine.callers.Callers.{out_free, waiting_free, holding_holds, out_rests, waiting_rests}
 use Rattle.sync_program.specs.declared.barrier.Place.TheVariants.{Arrive, NotifyAll}
 use Rattle.sync_program.specs.declared.barrier.Position.{Position}
 use Rattle.sync_program.specs.declared.barrier.Position.TheVariants.{Out, Made, Locking, Waiting, At}

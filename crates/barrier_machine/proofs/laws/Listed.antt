@@ -8,7 +8,7 @@ use Rattle.world_base.proofs.Lists as lists
 use Rattle.world_base.proofs.Lists.{joined_own, asked_own, asked_not, left_own, notified_own}
 use Rattle.lock_program.specs.declared.mutex.Step.TheVariants as lock_step
 use Rattle.lock_program.specs.declared.end.End.TheVariants as lock_end
-use Rattle.mutex_machine.specs.Mutex.{Mutex}
+use Rattle.world_mutex.specs.machine.Mutex.{Mutex}
 use Rattle.sync_program.specs.declared.barrier.Action.{Action}
 use Rattle.sync_program.specs.declared.barrier.Action.TheVariants as act
 use Rattle.sync_program.specs.declared.barrier.Aim.{Aim}

@@ -3,8 +3,8 @@ use Rattle.std.proofs.Common.{◌≡◌, ℕ, ◌≤◌, [], length, replicate, 
 use Rattle.std.proofs.lemmas.List.{length-replicate}
 use Rattle.world_base.specs.queue.Queues.{queue}
 use Rattle.world_base.proofs.Alike.{all_alike, none_of_all}
-use Rattle.mutex_machine.specs.Mutex.{new_mutex}
-use Rattle.mutex_machine.proofs.callers.Callers.{new_is_out, new_parties}
+use Rattle.world_mutex.specs.machine.Mutex.{new_mutex}
+use Rattle.world_mutex.proofs.of_machine.callers.Callers.{new_is_out, new_parties}
 use Rattle.sync_program.specs.declared.barrier.Position.TheVariants.{Out}
 use Rattle.barrier_program.specs.Words.{progress, new_words}
 use Rattle.barrier_machine.specs.Roles.{listed}

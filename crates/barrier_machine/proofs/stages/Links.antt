@@ -9,11 +9,11 @@ use Rattle.world_base.specs.declared.standing.Rest.TheVariants as rest
 use Rattle.world_base.specs.declared.standing.Stage.TheVariants.{Inside}
 use Rattle.world_base.specs.declared.standing.Within.{Within}
 use Rattle.world_base.specs.table.Stages.{stage_after}
-use Rattle.mutex_machine.specs.Course.{Course, Takes, Releases, Cancels, is_out}
+use Rattle.world_mutex.specs.machine.Course.{Course, Takes, Releases, Cancels, is_out}
 use Rattle.lock_program.specs.declared.mutex.Step.{Step as LockStep}
 use Rattle.lock_program.specs.declared.mutex.Step.TheVariants as lock_step
 use Rattle.lock_program.specs.declared.end.End.TheVariants as lock_end
-use Rattle.mutex_machine.specs.Mutex.{Mutex, course_at}
+use Rattle.world_mutex.specs.machine.Mutex.{Mutex, course_at}
 use Rattle.sync_program.specs.declared.barrier.Action.{Action}
 use Rattle.sync_program.specs.declared.barrier.Action.TheVariants as act
 use Rattle.sync_program.specs.declared.barrier.Aim.{Aim}

@@ -18,10 +18,10 @@ use Rattle.world_base.specs.table.Tables.{Table}
 use Rattle.world_base.proofs.of_table.Mapped.{past_last}
 use Rattle.world_base.proofs.of_table.Past.{by_stage_or_past, by_stage_or_past_at}
 use Rattle.world_base.proofs.of_table.Views.{rest_seen, outside_at}
-use Rattle.mutex_machine.specs.Course.{Course, bit, counted as starved_there, listed as listed_there, is_resting as rests_there}
-use Rattle.mutex_machine.specs.Mutex.{course_at, IsAtRest as LockAtRest}
-use Rattle.mutex_machine.proofs.callers.Callers.{out_rests, waiting_rests, out_unlisted, holding_unlisted, listed_once}
-use Rattle.mutex_machine.proofs.callers.Holders as sees
+use Rattle.world_mutex.specs.machine.Course.{Course, bit, counted as starved_there, listed as listed_there, is_resting as rests_there}
+use Rattle.world_mutex.specs.machine.Mutex.{course_at, IsAtRest as LockAtRest}
+use Rattle.world_mutex.proofs.of_machine.callers.Callers.{out_rests, waiting_rests, out_unlisted, holding_unlisted, listed_once}
+use Rattle.world_mutex.proofs.of_machine.callers.Holders as sees
 use Rattle.sync_program.specs.declared.barrier.Aim.{Aim}
 use Rattle.sync_program.specs.declared.barrier.Aim.TheVariants as aim
 use Rattle.sync_program.specs.declared.barrier.Ending.{Ending}
@@ -53,7 +53,7 @@ use Rattle.std.proofs.Common.{◌⊎◌, false}
 use Rattle.std.proofs.lemmas.Bool.{false≢true}
 use Rattle.lock_event.specs.Lists.{marked_count}
 use Rattle.world_base.specs.Standings.{is_decided}
-use Rattle.mutex_machine.specs.Course.{taking, releasing, undecided, called, counting, has_lock, gives_up as giving_up, is_out as is_out_there, is_holding, is_waiting, is_cancelling, is_due as is_due_there}
+use Rattle.world_mutex.specs.machine.Course.{taking, releasing, undecided, called, counting, has_lock, gives_up as giving_up, is_out as is_out_there, is_holding, is_waiting, is_cancelling, is_due as is_due_there}
 use Rattle.sync_program.specs.declared.barrier.Place.TheVariants.{CancelLock, CancellingLock}
 use Rattle.barrier_machine.specs.Waits.{verdict}
 use Rattle.barrier_world.specs.Laws.{is_due, IsDue}

@@ -21,8 +21,8 @@ use Rattle.world_base.specs.table.Stages.{stage_at, stands_as, call_at, polls_ag
 use Rattle.world_base.specs.table.Tables.{Table}
 use Rattle.world_base.proofs.of_table.Acting as acting
 use Rattle.world_base.proofs.of_table.Calls.{call_seen, again_seen, stands_seen, decided_after, decision_seen}
-use Rattle.mutex_machine.specs.Course.{Course}
-use Rattle.mutex_machine.specs.Mutex.{Mutex, course_at}
+use Rattle.world_mutex.specs.machine.Course.{Course}
+use Rattle.world_mutex.specs.machine.Mutex.{Mutex, course_at}
 use Rattle.sync_program.specs.declared.barrier.Action.{Action}
 use Rattle.sync_program.specs.declared.barrier.Action.TheVariants as act
 use Rattle.sync_program.specs.declared.barrier.Aim.{Aim}
@@ -57,7 +57,7 @@ use Rattle.barrier_world.proofs.step.Turns as turns
 use Rattle.barrier_world.proofs.step.Turns.{said}
 use Rattle.barrier_world.proofs.step.Rows.{row}
 use Rattle.barrier_world.proofs.step.Endings.{said_so, possible_by, said_then, ends_by, wait_goes}
-use Rattle.mutex_machine.specs.Course.{is_counting}
+use Rattle.world_mutex.specs.machine.Course.{is_counting}
 
 -- ---- By the deed
 

@@ -17,14 +17,14 @@ use Rattle.world_base.specs.Standings.{Standing, outside, inputs_of}
 use Rattle.world_base.proofs.Equations.{some_eq, none_some}
 use Rattle.world_base.specs.table.Stages.{stage_at, stands_as}
 use Rattle.world_base.specs.table.Tables.{Table}
-use Rattle.mutex_machine.specs.Course.{Course, is_waiting, listed as listed_there}
+use Rattle.world_mutex.specs.machine.Course.{Course, is_waiting, listed as listed_there}
 use Rattle.lock_program.specs.declared.mutex.Step.{Step as LockStep}
 use Rattle.lock_program.specs.declared.mutex.Step.TheVariants as lock_step
 use Rattle.lock_program.specs.declared.end.End.TheVariants as lock_end
-use Rattle.mutex_machine.specs.Mutex.{course_at, holders, starved}
-use Rattle.mutex_machine.proofs.callers.Callers.{out_unlisted, waiting_listed}
-use Rattle.mutex_machine.proofs.callers.Begun.{lock_goes, poll_asks}
-use Rattle.mutex_machine.proofs.callers.Holders as sees
+use Rattle.world_mutex.specs.machine.Mutex.{course_at, holders, starved}
+use Rattle.world_mutex.proofs.of_machine.callers.Callers.{out_unlisted, waiting_listed}
+use Rattle.world_mutex.proofs.of_machine.callers.Begun.{lock_goes, poll_asks}
+use Rattle.world_mutex.proofs.of_machine.callers.Holders as sees
 use Rattle.sync_program.specs.declared.barrier.Aim.{Aim}
 use Rattle.sync_program.specs.declared.barrier.Aim.TheVariants as aim
 use Rattle.sync_program.specs.declared.barrier.Found.{Found}
@@ -56,9 +56,9 @@ use Rattle.world_base.specs.declared.standing.Stage.TheVariants.{Outside, Inside
 use Rattle.world_base.specs.Standings.{inside, refused}
 use Rattle.world_base.specs.table.Stages.{call_at}
 use Rattle.lock_program.specs.declared.end.End.{End as LockEnd}
-use Rattle.mutex_machine.specs.Course.{decision, counted, bit}
-use Rattle.mutex_machine.specs.Deeds.{entries_after as lock_entries_after}
-use Rattle.mutex_machine.proofs.callers.Callers.{holding_holds}
+use Rattle.world_mutex.specs.machine.Course.{decision, counted, bit}
+use Rattle.world_mutex.specs.machine.Deeds.{entries_after as lock_entries_after}
+use Rattle.world_mutex.proofs.of_machine.callers.Callers.{holding_holds}
 use Rattle.sync_program.specs.declared.barrier.Ending.{Ending}
 use Rattle.sync_program.specs.declared.barrier.Ending.TheVariants as ending
 use Rattle.sync_program.specs.declared.barrier.Place.TheVariants.{TakeLock, ReleaseLock, ReleasingLock, NotifyAll, CancelLock, CancellingLock, CancelLeave, Abandon}

@@ -15,7 +15,7 @@ use Rattle.world_base.specs.table.Ends.{answer_of}
 use Rattle.lock_program.specs.declared.end.End.{End}
 use Rattle.lock_program.specs.declared.end.End.TheVariants as «end»
 use Rattle.world_base.proofs.of_table.Calls.{decided_after}
-use Rattle.mutex_machine.specs.Course.{Course}
+use Rattle.world_mutex.specs.machine.Course.{Course}
 use Rattle.lock_program.specs.declared.mutex.Step.TheVariants as lock_step
 use Rattle.sync_program.specs.declared.barrier.Aim.{Aim}
 use Rattle.sync_program.specs.declared.barrier.Aim.TheVariants as aim

@@ -17,7 +17,7 @@ use Rattle.world_base.specs.Standings.{inside, is_decided}
 use Rattle.world_base.specs.Frame.{is_drop}
 use Rattle.world_base.proofs.Equations.{some_eq, both, not_one}
 use Rattle.world_base.specs.table.Stages.{stands_as, call_at, polls_again}
-use Rattle.mutex_machine.specs.Course.{Course}
+use Rattle.world_mutex.specs.machine.Course.{Course}
 use Rattle.sync_program.specs.declared.barrier.Aim.{Aim}
 use Rattle.sync_program.specs.declared.barrier.Aim.TheVariants as aim
 use Rattle.sync_program.specs.declared.barrier.Place.{Place}

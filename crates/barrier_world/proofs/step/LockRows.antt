@@ -12,17 +12,17 @@ use Rattle.world_base.specs.Standings.{refused}
 use Rattle.world_base.specs.Steps.{Deed, nothing, changes, does, joins, asks, leaves, notifies, notifies_additionally}
 use Rattle.world_base.proofs.Equations.{some_eq, none_some}
 use Rattle.world_base.specs.table.Tables.{Table}
-use Rattle.mutex_machine.specs.Course.{Course, holds, counted as starved_there, decision, is_holding, is_releasing, Takes, Releases}
+use Rattle.world_mutex.specs.machine.Course.{Course, holds, counted as starved_there, decision, is_holding, is_releasing, Takes, Releases}
 use Rattle.lock_program.specs.declared.end.End.{End}
 use Rattle.lock_program.specs.declared.end.End.TheVariants as lock_end
 use Rattle.lock_program.specs.declared.mutex.Step.{Step}
 use Rattle.lock_program.specs.declared.mutex.Step.TheVariants as lock_step
-use Rattle.mutex_machine.specs.Deeds as mutex
-use Rattle.mutex_machine.specs.Mutex.{is_counted, holders, starved, holder_of, starved_of}
-use Rattle.mutex_machine.specs.Conduct.{IsLegal, IsReason, decided_then, IsAllowed as MayDo}
-use Rattle.mutex_machine.proofs.callers.Callers.{IsPolls, holding_holds, releasing_free}
-use Rattle.mutex_machine.proofs.callers.Holders as sees
-use Rattle.mutex_machine.proofs.callers.Rosters.{is_zero}
+use Rattle.world_mutex.specs.machine.Deeds as mutex
+use Rattle.world_mutex.specs.machine.Mutex.{is_counted, holders, starved, holder_of, starved_of}
+use Rattle.world_mutex.specs.machine.Conduct.{IsLegal, IsReason, decided_then, IsAllowed as MayDo}
+use Rattle.world_mutex.proofs.of_machine.callers.Callers.{IsPolls, holding_holds, releasing_free}
+use Rattle.world_mutex.proofs.of_machine.callers.Holders as sees
+use Rattle.world_mutex.proofs.of_machine.callers.Rosters.{is_zero}
 use Rattle.sync_program.specs.declared.barrier.Aim.{Aim}
 use Rattle.sync_program.specs.declared.barrier.Aim.TheVariants as aim
 use Rattle.sync_program.specs.declared.barrier.Ending.{Ending}
@@ -47,7 +47,7 @@ use Rattle.barrier_world.proofs.step.Turns.{said}
 use Rattle.barrier_world.proofs.step.Locks.{ends, deed_of, lock_then, entries_then, IsOfLock, is_of_lock, gives_back_so, gives_up_so, joins_so, leaves_none, releasing_unstarved, releasing_unlisted}
 use Rattle.std.proofs.Common.{◌<◌}
 use Rattle.world_base.specs.Standings.{IsUndecided}
-use Rattle.mutex_machine.specs.Course.{listed as listed_there, may_tell, taking as polling, releasing, undecided, called, counting, has_lock, gives_up as giving_up}
+use Rattle.world_mutex.specs.machine.Course.{listed as listed_there, may_tell, taking as polling, releasing, undecided, called, counting, has_lock, gives_up as giving_up}
 use Rattle.barrier_world.specs.State.{standing_of}
 
 -- ---- what is told by where a step leads

@@ -9,9 +9,9 @@ use Rattle.world_base.specs.declared.moves.Answer.TheVariants as answer
 use Rattle.lock_program.specs.declared.refusal.Refusal.{Refusal}
 use Rattle.world_base.specs.Steps.{Deed, nothing, changes, does, joins, asks, leaves, notifies, notifies_additionally, list_after}
 use Rattle.world_base.proofs.Equations.{some_eq, none_some}
-use Rattle.mutex_machine.specs.Course.{Course, out, waiting, taking, releasing, cancelling, undecided, called, counting, has_lock, gives_up as giving_up, holds, counted as starved_there, listed as listed_there, decision, is_taking, is_releasing, is_cancelling}
+use Rattle.world_mutex.specs.machine.Course.{Course, out, waiting, taking, releasing, cancelling, undecided, called, counting, has_lock, gives_up as giving_up, holds, counted as starved_there, listed as listed_there, decision, is_taking, is_releasing, is_cancelling}
 use Rattle.lock_program.specs.declared.end.End.TheVariants.{Got, Pending, Refused}
-use Rattle.mutex_machine.specs.Deeds as mutex
+use Rattle.world_mutex.specs.machine.Deeds as mutex
 use Rattle.barrier_world.specs.declared.world.ListName.{ListName}
 use Rattle.barrier_world.specs.declared.world.ListName.TheVariants.{Lock}
 use Rattle.barrier_machine.specs.Waits.{Wait, no_wait, counted}

@@ -12,10 +12,10 @@ use Rattle.lock_program.specs.declared.refusal.Refusal.TheVariants as refusal
 use Rattle.world_base.specs.declared.standing.Within.{Within}
 use Rattle.world_base.specs.Steps.{nothing, changes, does, joins, asks, leaves, notifies, list_after}
 use Rattle.world_base.specs.table.Tables.{Table}
-use Rattle.mutex_machine.specs.Course.{is_holding}
-use Rattle.mutex_machine.specs.Mutex.{Mutex, holder_of, starved_of}
-use Rattle.mutex_machine.proofs.callers.Callers.{holding_holds, holding_unlisted}
-use Rattle.mutex_machine.proofs.callers.Holders as sees
+use Rattle.world_mutex.specs.machine.Course.{is_holding}
+use Rattle.world_mutex.specs.machine.Mutex.{Mutex, holder_of, starved_of}
+use Rattle.world_mutex.proofs.of_machine.callers.Callers.{holding_holds, holding_unlisted}
+use Rattle.world_mutex.proofs.of_machine.callers.Holders as sees
 use Rattle.sync_program.specs.declared.barrier.Found.{Found}
 use Rattle.sync_program.specs.declared.barrier.Found.TheVariants as found
 use Rattle.sync_program.specs.declared.barrier.Place.{Place}

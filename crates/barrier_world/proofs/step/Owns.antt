@@ -12,12 +12,12 @@ use Rattle.world_base.specs.table.Stages.{stage_at, stands_as}
 use Rattle.world_base.specs.table.Tables.{Table}
 use Rattle.world_base.proofs.of_table.Mapped.{past_last}
 use Rattle.world_base.proofs.of_table.Past.{by_stage_or_past_at, by_stage_or_past}
-use Rattle.mutex_machine.specs.Course.{Course, holds, is_out, decision}
+use Rattle.world_mutex.specs.machine.Course.{Course, holds, is_out, decision}
 use Rattle.lock_program.specs.declared.end.End.{End}
 use Rattle.lock_program.specs.declared.end.End.TheVariants as lock_end
-use Rattle.mutex_machine.specs.Mutex.{course_at}
-use Rattle.mutex_machine.proofs.callers.Callers.{out_unlisted, out_free, out_unstarved, waiting_free, holding_holds}
-use Rattle.mutex_machine.proofs.callers.Holders as sees
+use Rattle.world_mutex.specs.machine.Mutex.{course_at}
+use Rattle.world_mutex.proofs.of_machine.callers.Callers.{out_unlisted, out_free, out_unstarved, waiting_free, holding_holds}
+use Rattle.world_mutex.proofs.of_machine.callers.Holders as sees
 use Rattle.sync_program.specs.declared.barrier.Aim.{Aim}
 use Rattle.sync_program.specs.declared.barrier.Aim.TheVariants as aim
 use Rattle.sync_program.specs.declared.barrier.Ending.{Ending}

@@ -6,11 +6,11 @@ use Rattle.world_base.specs.Standings.{is_decided}
 use Rattle.world_base.proofs.Equations.{none_some}
 use Rattle.world_base.specs.Steps.{changes}
 use Rattle.world_base.specs.table.Tables.{Table}
-use Rattle.mutex_machine.specs.Course.{Course, decision}
+use Rattle.world_mutex.specs.machine.Course.{Course, decision}
 use Rattle.lock_program.specs.declared.end.End.{End}
 use Rattle.lock_program.specs.declared.end.End.TheVariants as lock_end
-use Rattle.mutex_machine.specs.Conduct.{IsLegal}
-use Rattle.mutex_machine.proofs.callers.Callers.{taking_decided, releasing_decided, cancelling_decided, out_free, waiting_free}
+use Rattle.world_mutex.specs.machine.Conduct.{IsLegal}
+use Rattle.world_mutex.proofs.of_machine.callers.Callers.{taking_decided, releasing_decided, cancelling_decided, out_free, waiting_free}
 use Rattle.sync_program.specs.declared.barrier.Ending.{Ending}
 use Rattle.sync_program.specs.declared.barrier.Ending.TheVariants as ending
 use Rattle.sync_program.specs.declared.barrier.Found.{Found}

@@ -16,8 +16,8 @@ use Rattle.world_base.specs.Standings.{inside, inputs_of, refused}
 use Rattle.world_base.specs.Steps.{Deed, does, joins}
 use Rattle.world_base.specs.table.Ends.{answer_of}
 use Rattle.world_base.specs.table.Tables.{Table}
-use Rattle.mutex_machine.specs.Course.{Course}
-use Rattle.mutex_machine.specs.Mutex.{course_at}
+use Rattle.world_mutex.specs.machine.Course.{Course}
+use Rattle.world_mutex.specs.machine.Mutex.{course_at}
 use Rattle.sync_program.specs.declared.barrier.Aim.{Aim}
 use Rattle.sync_program.specs.declared.barrier.Found.{Found}
 use Rattle.barrier_program.specs.Program.{Next}
@@ -42,7 +42,7 @@ use Rattle.barrier_world.specs.Changes.{Change, lock_after, arrivals_after, lock
 use Rattle.barrier_world.specs.Legal.{IsAllowed, IsCounted, IsCause, Carried}
 use Rattle.barrier_world.proofs.step.Here.{may_begin_at, changes_wait, only_drops}
 use Rattle.barrier_world.proofs.step.Locks.{wait_by}
-use Rattle.mutex_machine.specs.Course.{is_counting}
+use Rattle.world_mutex.specs.machine.Course.{is_counting}
 
 -- what a call is decided on after this
 abbrev pub said : Next → Course → Option Answer

@@ -2,7 +2,7 @@
 use Rattle.std.proofs.Common.{◌≡◌, ℕ, zero, suc, ◌∷◌, replicate, refl, ap, arith}
 use Rattle.world_base.specs.table.Tables.{new_table}
 use Rattle.world_base.proofs.of_table.Views.{all_idle}
-use Rattle.mutex_machine.proofs.callers.Callers.{new_has_no_holder, new_has_none_starved}
+use Rattle.world_mutex.proofs.of_machine.callers.Callers.{new_has_no_holder, new_has_none_starved}
 use Rattle.sync_program.specs.declared.barrier.Position.TheVariants.{Out}
 use Rattle.barrier_machine.specs.Waits.{no_wait}
 use Rattle.barrier_program.specs.Words.{progress, arrivals_at}

@@ -4,7 +4,7 @@ use Rattle.world_base.proofs.Equations.{same_test}
 use Rattle.world_base.specs.table.Stages.{stage_at, stands_as}
 use Rattle.world_base.specs.table.Tables.{Table}
 use Rattle.world_base.proofs.of_table.Views.{standings_at}
-use Rattle.mutex_machine.specs.Mutex.{course_at}
+use Rattle.world_mutex.specs.machine.Mutex.{course_at}
 use Rattle.sync_program.specs.declared.barrier.Position.{Position}
 use Rattle.barrier_program.specs.declared.words.Progress.{Progress}
 use Rattle.barrier_machine.specs.Waits.{no_wait, wait_at, verdict}

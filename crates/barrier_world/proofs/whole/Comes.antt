@@ -15,10 +15,10 @@ use Rattle.world_base.proofs.of_table.Views.{rest_seen, outside_at}
 use Rattle.lock_program.specs.declared.mutex.Step.TheVariants as lock_step
 use Rattle.lock_program.specs.declared.end.End.{End as LockEnd}
 use Rattle.lock_program.specs.declared.end.End.TheVariants as lock_end
-use Rattle.mutex_machine.specs.Alone.{GaveWay, StandsBack}
-use Rattle.mutex_machine.specs.Mutex.{starved}
-use Rattle.mutex_machine.proofs.callers.Callers.{gave_way}
-use Rattle.mutex_machine.proofs.callers.Holders.{none_held}
+use Rattle.world_mutex.specs.machine.Alone.{GaveWay, StandsBack}
+use Rattle.world_mutex.specs.machine.Mutex.{starved}
+use Rattle.world_mutex.proofs.of_machine.callers.Callers.{gave_way}
+use Rattle.world_mutex.proofs.of_machine.callers.Holders.{none_held}
 use Rattle.sync_program.specs.declared.barrier.Aim.{Aim}
 use Rattle.sync_program.specs.declared.barrier.Aim.TheVariants as aim
 use Rattle.sync_program.specs.declared.barrier.Ending.{Ending}

@@ -16,10 +16,10 @@ use Rattle.world_base.proofs.Lists.{joined_unmarked}
 use Rattle.lock_program.specs.declared.mutex.Step.{Step as LockStep}
 use Rattle.lock_program.specs.declared.mutex.Step.TheVariants as lock_step
 use Rattle.lock_program.specs.declared.end.End.TheVariants as lock_end
-use Rattle.mutex_machine.specs.Conduct.{HandsOn}
-use Rattle.mutex_machine.specs.Course.{is_told, is_waiting}
-use Rattle.mutex_machine.specs.Mutex.{course_at}
-use Rattle.mutex_machine.proofs.callers.Released.{release_goes, released_marks}
+use Rattle.world_mutex.specs.machine.Conduct.{HandsOn}
+use Rattle.world_mutex.specs.machine.Course.{is_told, is_waiting}
+use Rattle.world_mutex.specs.machine.Mutex.{course_at}
+use Rattle.world_mutex.proofs.of_machine.callers.Released.{release_goes, released_marks}
 use Rattle.sync_program.specs.declared.barrier.Aim.{Aim}
 use Rattle.sync_program.specs.declared.barrier.Aim.TheVariants as aim
 use Rattle.sync_program.specs.declared.barrier.Ending.{Ending}

@@ -10,8 +10,8 @@ use Rattle.lock_program.specs.declared.mutex.Step.TheVariants as lock_step
 use Rattle.lock_program.specs.declared.end.End.{End as LockEnd}
 use Rattle.lock_program.specs.declared.end.End.TheVariants as lock_end
 use Rattle.lock_program.specs.declared.mutex.LockCall.TheVariants as lock_call
-use Rattle.mutex_machine.specs.Alone.{HasBegun, HasGoneOn, GoesOnAlone, last, further, PollsAlone, at_once, begun, IsCalled, GaveWay, StandsBack, SoloPolls, Took}
-use Rattle.mutex_machine.specs.Mutex.{Mutex, holders, starved}
+use Rattle.world_mutex.specs.machine.Alone.{HasBegun, HasGoneOn, GoesOnAlone, last, further, PollsAlone, at_once, begun, IsCalled, GaveWay, StandsBack, SoloPolls, Took}
+use Rattle.world_mutex.specs.machine.Mutex.{Mutex, holders, starved}
 use Rattle.sync_program.specs.declared.barrier.Aim.{Aim}
 use Rattle.sync_program.specs.declared.barrier.Aim.TheVariants as aim
 use Rattle.sync_program.specs.declared.barrier.Found.{Found}

@@ -11,8 +11,8 @@ use Rattle.lock_program.specs.Refusals.{number_of}
 use Rattle.world_base.specs.Standings.{Standing, outside, inside, forgotten, is_possible, is_decided, refused, decision, IsUndecided}
 use Rattle.world_base.proofs.Equations.{some_eq, none_some}
 use Rattle.world_base.specs.table.Tables.{Table}
-use Rattle.mutex_machine.specs.Course.{is_counting}
-use Rattle.mutex_machine.specs.Mutex.{course_at}
+use Rattle.world_mutex.specs.machine.Course.{is_counting}
+use Rattle.world_mutex.specs.machine.Mutex.{course_at}
 use Rattle.barrier_machine.specs.Machine.{Barrier}
 use Rattle.barrier_world.specs.Legal.{DecidesOn, IsCause}
 use Rattle.barrier_world.specs.State.{World, standing_of}

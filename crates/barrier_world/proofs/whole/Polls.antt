@@ -26,14 +26,14 @@ use Rattle.world_base.specs.table.Stages.{stage_at, stands_as, call_at, polls_ag
 use Rattle.world_base.specs.table.Tables.{Table}
 use Rattle.world_base.proofs.of_table.Past.{inside_or_past}
 use Rattle.world_base.proofs.of_table.Views.{outside_stage}
-use Rattle.mutex_machine.specs.Course.{bit, is_waiting}
-use Rattle.mutex_machine.specs.Alone.{IsCalled, SoloPolls, StandsBack}
+use Rattle.world_mutex.specs.machine.Course.{bit, is_waiting}
+use Rattle.world_mutex.specs.machine.Alone.{IsCalled, SoloPolls, StandsBack}
 use Rattle.lock_program.specs.declared.end.End.{End as LockEnd}
 use Rattle.lock_program.specs.declared.end.End.TheVariants as lock_end
-use Rattle.mutex_machine.specs.Mutex.{Mutex, course_at, holders, starved, holder_of, starved_of, IsStarved}
-use Rattle.mutex_machine.proofs.callers.AloneSeen.{solo_polls as lock_law}
-use Rattle.mutex_machine.proofs.callers.Callers.{out_unlisted, waiting_listed}
-use Rattle.mutex_machine.proofs.callers.Holders as sees
+use Rattle.world_mutex.specs.machine.Mutex.{Mutex, course_at, holders, starved, holder_of, starved_of, IsStarved}
+use Rattle.world_mutex.proofs.of_machine.callers.AloneSeen.{solo_polls as lock_law}
+use Rattle.world_mutex.proofs.of_machine.callers.Callers.{out_unlisted, waiting_listed}
+use Rattle.world_mutex.proofs.of_machine.callers.Holders as sees
 use Rattle.sync_program.specs.declared.barrier.Aim.{Aim}
 use Rattle.sync_program.specs.declared.barrier.Aim.TheVariants as aim
 use Rattle.sync_program.specs.declared.barrier.Place.{Place}

@@ -18,9 +18,9 @@ use Rattle.world_base.specs.any_world.Steps.{beginning}
 use Rattle.world_base.proofs.of_any_world.Runs.{Onward, along}
 use Rattle.world_base.specs.table.Tables.{Table, Acted}
 use Rattle.world_base.proofs.of_table.Ways.{onward}
-use Rattle.mutex_machine.specs.Course.{is_counting}
-use Rattle.mutex_machine.specs.Mutex.{course_at, starved}
-use Rattle.mutex_machine.proofs.callers.Holders as sees
+use Rattle.world_mutex.specs.machine.Course.{is_counting}
+use Rattle.world_mutex.specs.machine.Mutex.{course_at, starved}
+use Rattle.world_mutex.proofs.of_machine.callers.Holders as sees
 use Rattle.barrier_program.specs.Program.{action_of}
 use Rattle.barrier_machine.specs.Machine.{Barrier, Moves, position_at}
 use Rattle.barrier_world.specs.State.{World, is_starved}

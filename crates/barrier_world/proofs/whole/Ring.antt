@@ -30,11 +30,11 @@ use Rattle.lock_program.specs.declared.end.End.{End as LockEnd}
 use Rattle.lock_program.specs.declared.end.End.TheVariants as lock_end
 use Rattle.lock_program.specs.declared.mutex.Step.{Step as LockStep}
 use Rattle.lock_program.specs.declared.mutex.Step.TheVariants as lock_step
-use Rattle.mutex_machine.specs.Conduct.{decided_then}
-use Rattle.mutex_machine.specs.Course.{Course, Takes, decision, is_counting, is_taking}
-use Rattle.mutex_machine.specs.Mutex.{Mutex, course_at, starved}
-use Rattle.mutex_machine.proofs.callers.Callers.{out_uncounted, waiting_uncounted}
-use Rattle.mutex_machine.proofs.callers.Silent.{out_silent, waiting_silent, undecided_silent, never_pending, step_marks}
+use Rattle.world_mutex.specs.machine.Conduct.{decided_then}
+use Rattle.world_mutex.specs.machine.Course.{Course, Takes, decision, is_counting, is_taking}
+use Rattle.world_mutex.specs.machine.Mutex.{Mutex, course_at, starved}
+use Rattle.world_mutex.proofs.of_machine.callers.Callers.{out_uncounted, waiting_uncounted}
+use Rattle.world_mutex.proofs.of_machine.callers.Silent.{out_silent, waiting_silent, undecided_silent, never_pending, step_marks}
 use Rattle.sync_program.specs.declared.barrier.Action.{Action}
 use Rattle.sync_program.specs.declared.barrier.Action.TheVariants as act
 use Rattle.barrier_program.specs.Locks.{OnLock}

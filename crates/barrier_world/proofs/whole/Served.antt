@@ -14,12 +14,12 @@ use Rattle.lock_program.specs.declared.mutex.Step.{Step as LockStep}
 use Rattle.lock_program.specs.declared.mutex.Step.TheVariants as lock_step
 use Rattle.lock_program.specs.declared.end.End.TheVariants as lock_end
 use Rattle.lock_program.specs.declared.mutex.LockCall.TheVariants as lock_call
-use Rattle.mutex_machine.specs.Course.{is_holding, is_releasing, holds}
-use Rattle.mutex_machine.specs.Deeds.{Change, takes, releases, starves, recovers, ListName, holder_after, gives_back}
-use Rattle.mutex_machine.specs.Mutex.{Mutex, course_at, IsMutex, holder_of}
-use Rattle.mutex_machine.proofs.callers.Callers.{holding_holds, releasing_free, releasing_decided}
-use Rattle.mutex_machine.proofs.callers.Holders.{holds_it, is_held_by}
-use Rattle.mutex_machine.proofs.callers.Released.{release_goes, released_marks}
+use Rattle.world_mutex.specs.machine.Course.{is_holding, is_releasing, holds}
+use Rattle.world_mutex.specs.machine.Deeds.{Change, takes, releases, starves, recovers, ListName, holder_after, gives_back}
+use Rattle.world_mutex.specs.machine.Mutex.{Mutex, course_at, IsMutex, holder_of}
+use Rattle.world_mutex.proofs.of_machine.callers.Callers.{holding_holds, releasing_free, releasing_decided}
+use Rattle.world_mutex.proofs.of_machine.callers.Holders.{holds_it, is_held_by}
+use Rattle.world_mutex.proofs.of_machine.callers.Released.{release_goes, released_marks}
 use Rattle.sync_program.specs.declared.barrier.Action.TheVariants as act
 use Rattle.sync_program.specs.declared.barrier.Aim.{Aim}
 use Rattle.sync_program.specs.declared.barrier.Aim.TheVariants as aim

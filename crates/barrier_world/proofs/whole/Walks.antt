@@ -1,7 +1,7 @@
 -- From place to place: how a poll that is carried out alone goes on that has the inner lock, or is to get it.
 use Rattle.std.proofs.Common.{◌≡◌, ℕ, true, refl, sym, subst}
 use Rattle.world_base.specs.declared.moves.Inputs.{Inputs}
-use Rattle.mutex_machine.specs.Alone.{IsCalled, SoloPolls}
+use Rattle.world_mutex.specs.machine.Alone.{IsCalled, SoloPolls}
 use Rattle.sync_program.specs.declared.barrier.Aim.{Aim}
 use Rattle.sync_program.specs.declared.barrier.Found.{Found}
 use Rattle.sync_program.specs.declared.barrier.Place.{Place}

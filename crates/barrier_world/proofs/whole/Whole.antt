@@ -17,7 +17,7 @@ use Rattle.lock_program.specs.declared.end.End.TheVariants as «end»
 use Rattle.world_base.specs.table.Ends.{answer_of}
 use Rattle.world_base.specs.table.Tables.{Table, Acted}
 use Rattle.world_base.proofs.of_table.Ways.{way, by_way}
-use Rattle.mutex_machine.specs.Mutex.{steps_left as lock_steps_left}
+use Rattle.world_mutex.specs.machine.Mutex.{steps_left as lock_steps_left}
 use Rattle.sync_program.specs.declared.barrier.Aim.{Aim}
 use Rattle.sync_program.specs.declared.barrier.Aim.TheVariants as aim
 use Rattle.barrier_program.specs.Program.{Next}

@@ -5,7 +5,7 @@ use Rattle.world_base.specs.queue.Parties.{is_party, entries_of}
 use Rattle.world_base.specs.declared.moves.Call.{Call}
 use Rattle.world_base.specs.declared.moves.Call.TheVariants as call
 use Rattle.world_base.proofs.Equations.{some_eq, none_some}
-use Rattle.mutex_machine.specs.Mutex.{steps_left as turn_steps_left}
+use Rattle.world_mutex.specs.machine.Mutex.{steps_left as turn_steps_left}
 use Rattle.lock_program.specs.declared.rwlock.Wanted.TheVariants as wanted
 use Rattle.lock_program.specs.declared.rwlock.Purpose.TheVariants as purpose
 use Rattle.lock_program.specs.declared.rwlock.Place.{Place}

@@ -6,8 +6,8 @@ use Rattle.world_base.specs.queue.Parties.{is_party, entries_of}
 use Rattle.world_base.proofs.Lists.{joined_unmarked}
 use Rattle.lock_program.specs.declared.mutex.Step.{Step as TurnStep}
 use Rattle.lock_program.specs.declared.mutex.Step.TheVariants as turn_step
-use Rattle.mutex_machine.specs.Mutex.{Mutex, left_after as turn_left_after, steps_left as turn_steps_left}
-use Rattle.mutex_machine.specs.Deeds.{most_steps as most_turn_steps}
+use Rattle.world_mutex.specs.machine.Mutex.{Mutex, left_after as turn_left_after, steps_left as turn_steps_left}
+use Rattle.world_mutex.specs.machine.Deeds.{most_steps as most_turn_steps}
 use Rattle.lock_program.specs.declared.rwlock.Action.{Action}
 use Rattle.lock_program.specs.declared.rwlock.Action.TheVariants as act
 use Rattle.lock_program.specs.declared.rwlock.Found.{Found}

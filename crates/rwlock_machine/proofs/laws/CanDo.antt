@@ -4,8 +4,8 @@ use Rattle.std.specs.List.{sum_by}
 use Rattle.std.proofs.lemmas.List.Sums.{get_or-le-sum_by}
 use Rattle.world_base.specs.queue.Parties.{entries_of}
 use Rattle.world_base.specs.queue.Queues.{Queue}
-use Rattle.mutex_machine.specs.Mutex.{Mutex, course_at as turn_at}
-use Rattle.mutex_machine.proofs.callers.Callers.{may_lock, may_try, may_poll, may_cancel, may_release}
+use Rattle.world_mutex.specs.machine.Mutex.{Mutex, course_at as turn_at}
+use Rattle.world_mutex.proofs.of_machine.callers.Callers.{may_lock, may_try, may_poll, may_cancel, may_release}
 use Rattle.rwlock_program.specs.declared.word.Word.{Word}
 use Rattle.lock_program.specs.declared.rwlock.Place.{Place}
 use Rattle.lock_program.specs.declared.rwlock.Place.TheVariants.{Out, JoinNoWriter, AskNoWriter, LeaveNoWriter, RefuseLeave, CancelRead, EnterTurn, WaitTurn, TakeTurn, TryTurn, CancelTurn, CancellingTurn, ReleaseTurn, ReleasingTurn, Upgrade, JoinNoReaders, AskNoReaders, LeaveNoReaders, DropRead, DropUpgradable, CancelAwait, Down}

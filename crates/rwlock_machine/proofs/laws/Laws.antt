@@ -5,9 +5,9 @@ use Rattle.lock_event.specs.Lists.{marked_count, IsMarkedFirst}
 use Rattle.world_base.specs.queue.Queues.{Queue}
 use Rattle.world_base.specs.queue.Debts.{Rests, AllRest}
 use Rattle.world_base.proofs.of_queue.Debts.{paid_at_rest}
-use Rattle.mutex_machine.specs.Course.{Course as TurnCourse, listed, is_resting as rests_in_turn}
-use Rattle.mutex_machine.specs.Mutex.{Mutex, course_at as turn_at, IsMutex, IsAtRest as IsTurnAtRest}
-use Rattle.mutex_machine.proofs.callers.Callers.{out_rests, holding_rests, waiting_rests, out_unlisted, holding_unlisted, listed_once}
+use Rattle.world_mutex.specs.machine.Course.{Course as TurnCourse, listed, is_resting as rests_in_turn}
+use Rattle.world_mutex.specs.machine.Mutex.{Mutex, course_at as turn_at, IsMutex, IsAtRest as IsTurnAtRest}
+use Rattle.world_mutex.proofs.of_machine.callers.Callers.{out_rests, holding_rests, waiting_rests, out_unlisted, holding_unlisted, listed_once}
 use Rattle.rwlock_program.specs.declared.word.Word.{Word}
 use Rattle.lock_program.specs.declared.rwlock.Place.{Place}
 use Rattle.lock_program.specs.declared.rwlock.Place.TheVariants.{Out, Made, Reading, Upgradable, Writing, LookNoWriter, AskNoWriter, LeaveNoWriter, RefuseLeave, CancelRead, WaitTurn, LookNoReaders, AskNoReaders, AwaitNoReaders, LookUnlisted, LeaveNoReaders, CancelAwait}

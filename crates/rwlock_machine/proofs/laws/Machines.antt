@@ -6,7 +6,7 @@ use Rattle.std.specs.List.{sum_by}
 use Rattle.std.proofs.lemmas.List.Sums.{sum_by-set, get_or-le-sum_by}
 use Rattle.world_base.specs.queue.Parties.{entries_of}
 use Rattle.world_base.specs.queue.Queues.{Queue}
-use Rattle.mutex_machine.specs.Mutex.{Mutex, course_at as turn_at, IsMutex}
+use Rattle.world_mutex.specs.machine.Mutex.{Mutex, course_at as turn_at, IsMutex}
 use Rattle.rwlock_program.specs.declared.word.Word.{Word}
 use Rattle.lock_program.specs.declared.rwlock.Place.{Place}
 use Rattle.lock_program.specs.declared.rwlock.Place.TheVariants.{Out}

@@ -3,8 +3,8 @@ use Rattle.std.proofs.Common.{ℕ, [], replicate, refl, sym, arith, ◌∙◌}
 use Rattle.std.proofs.lemmas.List.{length-replicate}
 use Rattle.world_base.specs.queue.Queues.{queue}
 use Rattle.world_base.proofs.Alike.{all_alike, none_of_all}
-use Rattle.mutex_machine.specs.Mutex.{new_mutex}
-use Rattle.mutex_machine.proofs.callers.Callers.{new_is_out, new_parties}
+use Rattle.world_mutex.specs.machine.Mutex.{new_mutex}
+use Rattle.world_mutex.proofs.of_machine.callers.Callers.{new_is_out, new_parties}
 use Rattle.lock_program.specs.declared.rwlock.Place.TheVariants.{Out}
 use Rattle.rwlock_machine.specs.Roles.{reads, marks, in_no_writer, waits_no_writer, in_no_readers, waits_no_readers}
 use Rattle.rwlock_program.specs.Words.{new_word}

@@ -2,9 +2,9 @@
 use Rattle.std.proofs.Common.{◌≡◌, ◌≢◌, ℕ, ◌+◌, ◌≤◌, zero, suc, true, List, [], ◌∷◌, length, refl, ap, arith}
 use Rattle.std.specs.List.{sum_by}
 use Rattle.std.proofs.lemmas.List.Sums.{sum_by-le-sum_by, sum_by-cons}
-use Rattle.mutex_machine.specs.Course.{Course as TurnCourse, holds}
-use Rattle.mutex_machine.specs.Mutex.{course_at as turn_at}
-use Rattle.mutex_machine.proofs.callers.Callers.{holding_holds}
+use Rattle.world_mutex.specs.machine.Course.{Course as TurnCourse, holds}
+use Rattle.world_mutex.specs.machine.Mutex.{course_at as turn_at}
+use Rattle.world_mutex.proofs.of_machine.callers.Callers.{holding_holds}
 use Rattle.lock_program.specs.declared.rwlock.Place.{Place}
 use Rattle.lock_program.specs.declared.rwlock.Place.TheVariants.{Out, Upgradable, Writing, AskNoWriter, ReleaseTurn, Add, TryUpgrade, Upgrade, Mark, TryWrite, JoinNoReaders, LookNoReaders, AskNoReaders, AwaitNoReaders, LookUnlisted, LeaveNoReaders, DropUpgradable, DropUpgradableNotify, DropWrite, CancelAwait, Unmark, UnmarkNotify, Down, DownNotify}
 use Rattle.rwlock_machine.specs.Roles.{marks, only_turns, has_turn, writes, in_no_writer, waits_no_writer, in_no_readers, waits_no_readers, fits_turn}

@@ -6,9 +6,9 @@ use Rattle.std.proofs.lemmas.List.Sums.{sum_by-set}
 use Rattle.lock_event.specs.declared.event.Entry.{Entry}
 use Rattle.lock_event.specs.Lists.{is_marked_at}
 use Rattle.world_base.specs.queue.Parties.{is_party}
-use Rattle.mutex_machine.specs.Course.{Course as TurnCourse, listed}
-use Rattle.mutex_machine.specs.Mutex.{course_at as turn_at}
-use Rattle.mutex_machine.proofs.callers.Callers.{out_unlisted, holding_unlisted, first_marked}
+use Rattle.world_mutex.specs.machine.Course.{Course as TurnCourse, listed}
+use Rattle.world_mutex.specs.machine.Mutex.{course_at as turn_at}
+use Rattle.world_mutex.proofs.of_machine.callers.Callers.{out_unlisted, holding_unlisted, first_marked}
 use Rattle.lock_program.specs.declared.rwlock.Place.{Place}
 use Rattle.lock_program.specs.declared.rwlock.Place.TheVariants.{Out, Made, Reading, Upgradable, Writing, EnterRead, AskNoWriter, PassOn, WaitTurn, AwaitNoReaders, LookUnlisted, LeaveNoReaders}
 use Rattle.lock_program.specs.declared.rwlock.Action.TheVariants as act

@@ -9,9 +9,9 @@ use Rattle.lock_program.specs.declared.mutex.Step.{Step as TurnStep}
 use Rattle.lock_program.specs.declared.mutex.Step.TheVariants as turn_step
 use Rattle.lock_program.specs.declared.end.End.{End as TurnEnd}
 use Rattle.lock_program.specs.declared.end.End.TheVariants as turn_end
-use Rattle.mutex_machine.specs.Mutex.{Mutex, IsStarved, holders, starved}
-use Rattle.mutex_machine.specs.Alone as turn
-use Rattle.mutex_machine.proofs.callers.AloneSeen.{solo_polls as turn_law}
+use Rattle.world_mutex.specs.machine.Mutex.{Mutex, IsStarved, holders, starved}
+use Rattle.world_mutex.specs.machine.Alone as turn
+use Rattle.world_mutex.proofs.of_machine.callers.AloneSeen.{solo_polls as turn_law}
 use Rattle.lock_program.specs.declared.rwlock.Purpose.{Purpose}
 use Rattle.lock_program.specs.declared.rwlock.Purpose.TheVariants as purpose
 use Rattle.lock_program.specs.declared.rwlock.Place.{Place}

@@ -1,10 +1,10 @@
 -- Where a step in the turn leads its party there.
 use Rattle.std.proofs.Common.{◌≡◌, ◌≢◌, ℕ, Bool, true, false, length, refl, ap, arith}
-use Rattle.mutex_machine.specs.Course.{Course as TurnCourse, Takes, Tries, Releases, Cancels, is_out}
+use Rattle.world_mutex.specs.machine.Course.{Course as TurnCourse, Takes, Tries, Releases, Cancels, is_out}
 use Rattle.lock_program.specs.declared.mutex.Step.{Step as TurnStep}
 use Rattle.lock_program.specs.declared.mutex.Step.TheVariants as turn_step
 use Rattle.lock_program.specs.declared.end.End.TheVariants as turn_end
-use Rattle.mutex_machine.specs.Mutex.{Mutex, course_at as turn_at, TakenFairly}
+use Rattle.world_mutex.specs.machine.Mutex.{Mutex, course_at as turn_at, TakenFairly}
 use Rattle.lock_program.specs.declared.rwlock.Place.{Place}
 use Rattle.lock_program.specs.declared.rwlock.Place.TheVariants.{EnterTurn, WaitTurn, TakeTurn, TryTurn, CancelTurn, CancellingTurn, ReleaseTurn, ReleasingTurn}
 use Rattle.lock_program.specs.declared.rwlock.Action.{Action}

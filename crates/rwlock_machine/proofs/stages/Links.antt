@@ -1,7 +1,7 @@
 -- Each step leaves the party's place fitting its place in the turn. Written by generators/rwlock_rows.py.
 use Rattle.std.proofs.Common.{◌≡◌, refl, true, false}
 use Rattle.lock_program.specs.declared.refusal.Refusal.TheVariants as refusal
-use Rattle.mutex_machine.specs.Course.{Course as TurnCourse}
+use Rattle.world_mutex.specs.machine.Course.{Course as TurnCourse}
 use Rattle.lock_program.specs.declared.mutex.Step.TheVariants as turn_step
 use Rattle.lock_program.specs.declared.end.End.TheVariants as turn_end
 use Rattle.lock_program.specs.declared.rwlock.Purpose.TheVariants as purpose

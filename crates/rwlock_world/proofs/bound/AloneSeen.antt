@@ -17,10 +17,10 @@ use Rattle.world_base.specs.Rosters.{how_many}
 use Rattle.world_base.specs.Standings.{outside, is_outside_stage}
 use Rattle.world_base.proofs.Bounds.{marked_listed}
 use Rattle.world_base.proofs.Rests.{still_outside}
-use Rattle.mutex_machine.specs.Course.{Course as TurnCourse, bit, listed}
-use Rattle.mutex_machine.specs.Mutex.{course_at as turn_at, IsStarved, holders, starved, holder_of}
-use Rattle.mutex_machine.proofs.callers.Callers.{out_unlisted, holding_unlisted, gave_way}
-use Rattle.mutex_machine.proofs.callers.Holders as sees
+use Rattle.world_mutex.specs.machine.Course.{Course as TurnCourse, bit, listed}
+use Rattle.world_mutex.specs.machine.Mutex.{course_at as turn_at, IsStarved, holders, starved, holder_of}
+use Rattle.world_mutex.proofs.of_machine.callers.Callers.{out_unlisted, holding_unlisted, gave_way}
+use Rattle.world_mutex.proofs.of_machine.callers.Holders as sees
 use Rattle.lock_program.specs.declared.end.End.{End}
 use Rattle.lock_program.specs.declared.end.End.TheVariants as «end»
 use Rattle.rwlock_program.specs.declared.led.Next.TheVariants as next

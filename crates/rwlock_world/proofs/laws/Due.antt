@@ -11,7 +11,7 @@ use Rattle.world_base.specs.declared.standing.Stage.TheVariants.{Outside, Inside
 use Rattle.world_base.specs.declared.standing.Within.{Within}
 use Rattle.world_base.specs.Standings.{is_outside, is_outside_stage, is_decided}
 use Rattle.world_base.specs.table.Stages.{stands_as}
-use Rattle.mutex_machine.specs.Course.{Course as TurnCourse, out, holding, taking, releasing, undecided, called, counting, has_lock, gives_up, is_out, is_holding, is_waiting, is_cancelling, is_releasing, is_due, counted, listed}
+use Rattle.world_mutex.specs.machine.Course.{Course as TurnCourse, out, holding, taking, releasing, undecided, called, counting, has_lock, gives_up, is_out, is_holding, is_waiting, is_cancelling, is_releasing, is_due, counted, listed}
 use Rattle.lock_program.specs.declared.rwlock.Ending.TheVariants as ending
 use Rattle.lock_program.specs.declared.rwlock.Place.{Place}
 use Rattle.lock_program.specs.declared.rwlock.Place.TheVariants as place

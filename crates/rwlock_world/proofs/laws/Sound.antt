@@ -9,10 +9,10 @@ use Rattle.world_base.specs.declared.standing.Stage.{Stage}
 use Rattle.world_base.specs.declared.standing.Stage.TheVariants.{Outside, Inside, Forgotten}
 use Rattle.world_base.specs.Standings.{outside, forgotten, is_outside_stage}
 use Rattle.world_base.specs.Rights.{Right, read, upgradable, write, wait_to_write, excludes}
-use Rattle.mutex_machine.specs.Course.{Course as TurnCourse, counted, is_resting as rests_in_turn}
-use Rattle.mutex_machine.specs.Mutex.{course_at as turn_at, is_counted, holder_of}
-use Rattle.mutex_machine.specs.Mutex as lock
-use Rattle.mutex_machine.proofs.callers.Holders as sees
+use Rattle.world_mutex.specs.machine.Course.{Course as TurnCourse, counted, is_resting as rests_in_turn}
+use Rattle.world_mutex.specs.machine.Mutex.{course_at as turn_at, is_counted, holder_of}
+use Rattle.world_mutex.specs.machine.Mutex as lock
+use Rattle.world_mutex.proofs.of_machine.callers.Holders as sees
 use Rattle.lock_program.specs.declared.rwlock.Ending.TheVariants as ending
 use Rattle.lock_program.specs.declared.rwlock.Place.{Place}
 use Rattle.lock_program.specs.declared.rwlock.Place.TheVariants as place
@@ -47,7 +47,7 @@ use Rattle.lock_event.specs.Lists.{marked_count}
 use Rattle.world_base.specs.Standings.{is_outside, is_decided}
 use Rattle.world_base.proofs.Owing.{marked_or_owed}
 use Rattle.world_base.proofs.of_table.Acting as acting
-use Rattle.mutex_machine.specs.Course.{listed, is_due}
+use Rattle.world_mutex.specs.machine.Course.{listed, is_due}
 use Rattle.rwlock_machine.specs.Roles.{waits_no_writer, owes_no_writer, waits_no_readers, owes_no_readers}
 use Rattle.rwlock_machine.specs.Acts.{readers}
 use Rattle.rwlock_world.specs.Laws.{is_due_for_turn, is_due_to_readers, is_due_to_writer, IsDueForTurn, IsDueToReaders, IsDueToWriter}

@@ -12,7 +12,7 @@ use Rattle.world_base.specs.declared.standing.Stage.{Stage}
 use Rattle.world_base.specs.declared.standing.Stage.TheVariants.{Outside, Inside, Forgotten}
 use Rattle.world_base.specs.declared.standing.Within.{Within}
 use Rattle.world_base.specs.Standings.{inside}
-use Rattle.mutex_machine.specs.Mutex.{course_at as turn_at}
+use Rattle.world_mutex.specs.machine.Mutex.{course_at as turn_at}
 use Rattle.lock_program.specs.declared.rwlock.Ending.TheVariants as ending
 use Rattle.lock_program.specs.declared.rwlock.Place.{Place}
 use Rattle.lock_program.specs.declared.rwlock.Place.TheVariants as place

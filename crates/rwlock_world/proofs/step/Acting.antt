@@ -22,8 +22,8 @@ use Rattle.world_base.specs.table.Stages.{stage_at, call_at, polls_again, stage_
 use Rattle.world_base.specs.table.Tables.{Table}
 use Rattle.world_base.proofs.of_table.Calls.{call_seen, again_seen}
 use Rattle.world_base.proofs.of_table.Ways as ways
-use Rattle.mutex_machine.specs.Course.{Course as TurnCourse}
-use Rattle.mutex_machine.specs.Mutex.{course_at as turn_at}
+use Rattle.world_mutex.specs.machine.Course.{Course as TurnCourse}
+use Rattle.world_mutex.specs.machine.Mutex.{course_at as turn_at}
 use Rattle.rwlock_program.specs.declared.led.Next.{Next}
 use Rattle.lock_program.specs.declared.rwlock.Place.{Place}
 use Rattle.lock_program.specs.declared.rwlock.Place.TheVariants as place
@@ -52,7 +52,7 @@ use Rattle.rwlock_world.proofs.step.TurnFacts.{on_turn}
 use Rattle.world_base.proofs.of_table.Mapped.{set_same}
 use Rattle.world_base.proofs.of_table.Past.{inside_or_past}
 use Rattle.rwlock_world.proofs.table.Views.{Fits}
-use Rattle.mutex_machine.specs.Course.{is_counting}
+use Rattle.world_mutex.specs.machine.Course.{is_counting}
 use Rattle.rwlock_world.specs.Legal.{DecidesOn}
 use Rattle.rwlock_world.specs.View.{seen}
 

@@ -18,10 +18,10 @@ use Rattle.world_base.proofs.Equations.{some_eq}
 use Rattle.world_base.specs.table.Stages.{stage_at}
 use Rattle.world_base.specs.table.Tables.{Table}
 use Rattle.world_base.proofs.of_table.Views.{outside_stage}
-use Rattle.mutex_machine.specs.Conduct.{Asks}
-use Rattle.mutex_machine.specs.Course.{Course as TurnCourse, listed}
-use Rattle.mutex_machine.specs.Mutex.{Mutex, course_at as turn_at}
-use Rattle.mutex_machine.proofs.callers.Callers.{out_unlisted, holding_unlisted}
+use Rattle.world_mutex.specs.machine.Conduct.{Asks}
+use Rattle.world_mutex.specs.machine.Course.{Course as TurnCourse, listed}
+use Rattle.world_mutex.specs.machine.Mutex.{Mutex, course_at as turn_at}
+use Rattle.world_mutex.proofs.of_machine.callers.Callers.{out_unlisted, holding_unlisted}
 use Rattle.lock_program.specs.declared.end.End.TheVariants as turn_end
 use Rattle.lock_program.specs.declared.mutex.LockCall.TheVariants as turn_call
 use Rattle.lock_program.specs.declared.mutex.Step.{Step as TurnStep}

@@ -19,13 +19,13 @@ use Rattle.world_base.specs.declared.standing.Within.{Within}
 use Rattle.world_base.specs.Rights.{Right, read, upgradable, write}
 use Rattle.world_base.specs.Frame.{put_in}
 use Rattle.world_base.specs.Standings.{Standing, outside, inside}
-use Rattle.mutex_machine.specs.Course.{Course as TurnCourse, is_out, holds}
+use Rattle.world_mutex.specs.machine.Course.{Course as TurnCourse, is_out, holds}
 use Rattle.lock_program.specs.declared.mutex.LockCall.TheVariants as turn_call
 use Rattle.lock_program.specs.declared.mutex.Step.TheVariants as turn_step
 use Rattle.lock_program.specs.declared.end.End.TheVariants as turn_end
-use Rattle.mutex_machine.specs.Mutex.{Mutex, course_at as turn_at, holder_of, holders, starved}
-use Rattle.mutex_machine.proofs.callers.Callers.{out_free}
-use Rattle.mutex_machine.proofs.callers.Holders as sees
+use Rattle.world_mutex.specs.machine.Mutex.{Mutex, course_at as turn_at, holder_of, holders, starved}
+use Rattle.world_mutex.proofs.of_machine.callers.Callers.{out_free}
+use Rattle.world_mutex.proofs.of_machine.callers.Holders as sees
 use Rattle.lock_program.specs.declared.rwlock.Purpose.{Purpose}
 use Rattle.rwlock_program.specs.Turns.{OnTurn}
 use Rattle.rwlock_machine.proofs.stages.Leads.{Led}

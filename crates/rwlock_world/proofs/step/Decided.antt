@@ -13,8 +13,8 @@ use Rattle.world_base.specs.Standings.{inside, may_end}
 use Rattle.world_base.proofs.Equations.{both, some_eq, none_some}
 use Rattle.world_base.specs.table.Stages.{stage_at}
 use Rattle.world_base.proofs.of_table.Past.{inside_or_past}
-use Rattle.mutex_machine.specs.Course.{Course as TurnCourse, decision}
-use Rattle.mutex_machine.specs.Mutex.{course_at as turn_at}
+use Rattle.world_mutex.specs.machine.Course.{Course as TurnCourse, decision}
+use Rattle.world_mutex.specs.machine.Mutex.{course_at as turn_at}
 use Rattle.lock_program.specs.declared.end.End.{End as TurnEnd}
 use Rattle.lock_program.specs.declared.end.End.TheVariants as turn_end
 use Rattle.lock_program.specs.declared.rwlock.Ending.{Ending}

@@ -11,7 +11,7 @@ use Rattle.world_base.specs.Frame.{is_refusal}
 use Rattle.world_base.specs.Standings.{outside, inside}
 use Rattle.lock_program.specs.declared.end.End.{End}
 use Rattle.lock_program.specs.declared.end.End.TheVariants.{Got, Granted, Pending, NotFree, GivenBack, Refused}
-use Rattle.mutex_machine.specs.Course.{Course as TurnCourse}
+use Rattle.world_mutex.specs.machine.Course.{Course as TurnCourse}
 use Rattle.rwlock_program.specs.declared.led.Next.{Next}
 use Rattle.rwlock_program.specs.declared.led.Next.TheVariants as next
 use Rattle.lock_program.specs.declared.rwlock.Place.{Place}

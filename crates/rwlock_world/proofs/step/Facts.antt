@@ -19,9 +19,9 @@ use Rattle.world_base.specs.Rights.{Right, read, upgradable}
 use Rattle.world_base.specs.Rosters.{how_many}
 use Rattle.world_base.specs.Standings.{inputs_of}
 use Rattle.world_base.specs.Steps.{Deed, nothing, changes, does}
-use Rattle.mutex_machine.specs.Course.{listed}
-use Rattle.mutex_machine.specs.Mutex.{course_at as turn_at, holder_of, starved_of}
-use Rattle.mutex_machine.proofs.callers.Callers.{out_unlisted, holding_unlisted, out_free}
+use Rattle.world_mutex.specs.machine.Course.{listed}
+use Rattle.world_mutex.specs.machine.Mutex.{course_at as turn_at, holder_of, starved_of}
+use Rattle.world_mutex.proofs.of_machine.callers.Callers.{out_unlisted, holding_unlisted, out_free}
 use Rattle.lock_program.specs.declared.rwlock.Found.{Found}
 use Rattle.lock_program.specs.declared.rwlock.Found.TheVariants.{No}
 use Rattle.rwlock_program.specs.declared.led.Next.{Next}
@@ -48,7 +48,7 @@ use Rattle.rwlock_world.proofs.table.Views as view
 use Rattle.rwlock_world.proofs.table.Views.{Fits}
 use Rattle.world_base.specs.Steps.{notifies, notifies_additionally}
 use Rattle.rwlock_world.specs.State.{is_starved}
-use Rattle.mutex_machine.specs.Course.{is_counting}
+use Rattle.world_mutex.specs.machine.Course.{is_counting}
 
 -- a party waits in the list of the place where it stands
 abbrev pub WaitsIn : RwLock → ℕ → Place → Type 0

@@ -28,8 +28,8 @@ use Rattle.world_base.specs.table.Tables.{Table}
 use Rattle.world_base.proofs.of_table.Idle as frame
 use Rattle.world_base.proofs.of_table.Idle.{Idle, same_decides}
 use Rattle.world_base.proofs.of_table.Views.{length-standings}
-use Rattle.mutex_machine.specs.Course.{Course as TurnCourse}
-use Rattle.mutex_machine.specs.Mutex.{course_at as turn_at}
+use Rattle.world_mutex.specs.machine.Course.{Course as TurnCourse}
+use Rattle.world_mutex.specs.machine.Mutex.{course_at as turn_at}
 use Rattle.lock_program.specs.declared.rwlock.Place.{Place}
 use Rattle.lock_program.specs.declared.rwlock.Place.TheVariants as place
 use Rattle.rwlock_machine.specs.Roles as roles

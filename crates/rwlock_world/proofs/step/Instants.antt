@@ -21,10 +21,10 @@ use Rattle.world_base.specs.Rights.{Right, read, upgradable, write}
 use Rattle.world_base.specs.Rosters.{how_many}
 use Rattle.world_base.specs.Standings.{Standing, outside, inside, inputs_of, decision, call_in}
 use Rattle.world_base.proofs.Equations.{some_eq, some_none}
-use Rattle.mutex_machine.specs.Course.{Course as TurnCourse, listed}
-use Rattle.mutex_machine.specs.Mutex.{course_at as turn_at, holder_of, holders, starved}
-use Rattle.mutex_machine.proofs.callers.Callers.{waiting_listed}
-use Rattle.mutex_machine.proofs.callers.Holders as sees
+use Rattle.world_mutex.specs.machine.Course.{Course as TurnCourse, listed}
+use Rattle.world_mutex.specs.machine.Mutex.{course_at as turn_at, holder_of, holders, starved}
+use Rattle.world_mutex.proofs.of_machine.callers.Callers.{waiting_listed}
+use Rattle.world_mutex.proofs.of_machine.callers.Holders as sees
 use Rattle.lock_program.specs.declared.rwlock.Found.{Found}
 use Rattle.lock_program.specs.declared.rwlock.Place.{Place}
 use Rattle.lock_program.specs.declared.rwlock.Place.TheVariants as place

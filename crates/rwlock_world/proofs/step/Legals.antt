@@ -21,9 +21,9 @@ use Rattle.world_base.specs.Rights.{Right, read, upgradable, write}
 use Rattle.world_base.specs.Standings.{Standing, inside, IsUndecided, is_decided, is_possible, decision, refused}
 use Rattle.world_base.specs.Steps.{Deed, nothing, does, joins}
 use Rattle.world_base.proofs.Equations.{some_eq, chosen, same_test}
-use Rattle.mutex_machine.specs.Course.{Course as TurnCourse}
-use Rattle.mutex_machine.specs.Mutex.{course_at as turn_at}
-use Rattle.mutex_machine.proofs.callers.Callers.{out_free, waiting_free}
+use Rattle.world_mutex.specs.machine.Course.{Course as TurnCourse}
+use Rattle.world_mutex.specs.machine.Mutex.{course_at as turn_at}
+use Rattle.world_mutex.proofs.of_machine.callers.Callers.{out_free, waiting_free}
 use Rattle.rwlock_program.specs.declared.led.Next.{Next}
 use Rattle.rwlock_program.specs.declared.led.Next.TheVariants as next
 use Rattle.lock_program.specs.declared.rwlock.Place.{Place}
@@ -57,7 +57,7 @@ use Rattle.rwlock_world.proofs.table.Views.{Fits}
 use Rattle.rwlock_world.proofs.step.Decided.{decided}
 use Rattle.rwlock_world.specs.Changes.{entries_after}
 use Rattle.rwlock_world.specs.State.{list_of}
-use Rattle.mutex_machine.specs.Course.{is_counting}
+use Rattle.world_mutex.specs.machine.Course.{is_counting}
 
 -- a step keeps what was decided
 keep : (m : Move) (old : World) (k : RwLock) (new : World) (v : ℕ) (x to : Place) (d : Deed Change ListName) (was now : Option Answer) (b : Answer) → JudgedAs m old k new v x to d was now → was ≡ Some b → (now ≡ Some b) × (gives_back d ≡ true)

@@ -15,10 +15,10 @@ use Rattle.world_base.specs.Rights.{Right, read, upgradable, write}
 use Rattle.world_base.specs.Standings.{inside}
 use Rattle.lock_program.specs.declared.end.End.{End as TurnEnd}
 use Rattle.lock_program.specs.declared.end.End.TheVariants as turn_end
-use Rattle.mutex_machine.specs.Course.{Course as TurnCourse, decision, is_out, is_holding, holds, listed}
-use Rattle.mutex_machine.specs.Mutex.{course_at as turn_at, is_holder, is_counted, holder_of}
-use Rattle.mutex_machine.proofs.callers.Callers.{out_unlisted, holding_unlisted, out_free, out_unstarved, holding_unstarved, waiting_free}
-use Rattle.mutex_machine.proofs.callers.Holders as sees
+use Rattle.world_mutex.specs.machine.Course.{Course as TurnCourse, decision, is_out, is_holding, holds, listed}
+use Rattle.world_mutex.specs.machine.Mutex.{course_at as turn_at, is_holder, is_counted, holder_of}
+use Rattle.world_mutex.proofs.of_machine.callers.Callers.{out_unlisted, holding_unlisted, out_free, out_unstarved, holding_unstarved, waiting_free}
+use Rattle.world_mutex.proofs.of_machine.callers.Holders as sees
 use Rattle.lock_program.specs.declared.rwlock.Ending.{Ending}
 use Rattle.lock_program.specs.declared.rwlock.Ending.TheVariants as ending
 use Rattle.lock_program.specs.declared.rwlock.Place.{Place}
@@ -58,7 +58,7 @@ has_as t p upgrading e = rw e refl
 has_as t p waiting e = rw e refl
 has_as t p writing e = rw e refl
 
-holds_one : (b : Bool) (n : ℕ) → Rattle.mutex_machine.specs.Course.bit b ≡ n → 1 ≤ n → n ≡ 1
+holds_one : (b : Bool) (n : ℕ) → Rattle.world_mutex.specs.machine.Course.bit b ≡ n → 1 ≤ n → n ≡ 1
 holds_one true n e h = sym e
 holds_one false n e h = absurd (omega (arith, e, h))
 

@@ -2,7 +2,7 @@
 use Rattle.std.proofs.Common.{◌≡◌, ◌&&◌, Bool, true, false, refl}
 use Rattle.lock_program.specs.declared.refusal.Refusal.{Refusal}
 use Rattle.lock_program.specs.declared.refusal.Refusal.TheVariants as refusal
-use Rattle.mutex_machine.specs.Course.{Course as TurnCourse}
+use Rattle.world_mutex.specs.machine.Course.{Course as TurnCourse}
 use Rattle.lock_program.specs.declared.mutex.Step.TheVariants as turn_step
 use Rattle.lock_program.specs.declared.end.End.TheVariants as turn_end
 use Rattle.lock_program.specs.declared.rwlock.Purpose.TheVariants as purpose

@@ -12,7 +12,7 @@ use Rattle.lock_program.specs.Refusals.{number_of}
 use Rattle.world_base.specs.Rights.{Right, read, upgradable}
 use Rattle.world_base.specs.Steps.{Deed, nothing, changes, does, joins, asks, leaves, notifies}
 use Rattle.world_base.proofs.Equations.{chosen}
-use Rattle.mutex_machine.specs.Course.{Course as TurnCourse, is_out as is_out_there, is_holding}
+use Rattle.world_mutex.specs.machine.Course.{Course as TurnCourse, is_out as is_out_there, is_holding}
 use Rattle.lock_program.specs.declared.rwlock.Action.{Action}
 use Rattle.lock_program.specs.declared.rwlock.Action.TheVariants as act
 use Rattle.lock_program.specs.declared.end.End.TheVariants.{Pending, Refused}

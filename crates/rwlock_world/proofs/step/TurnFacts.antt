@@ -11,20 +11,20 @@ use Rattle.lock_program.specs.declared.refusal.Refusal.TheVariants as refusal
 use Rattle.world_base.specs.declared.standing.Stage.{Stage}
 use Rattle.world_base.specs.Standings.{inputs_of, refused}
 use Rattle.world_base.specs.Steps.{Deed, changes, does, joins}
-use Rattle.mutex_machine.specs.Course.{Course as TurnCourse, is_out, is_taking, Takes, Tries, Releases, Cancels, holds, decision}
-use Rattle.mutex_machine.specs.Course as course
+use Rattle.world_mutex.specs.machine.Course.{Course as TurnCourse, is_out, is_taking, Takes, Tries, Releases, Cancels, holds, decision}
+use Rattle.world_mutex.specs.machine.Course as course
 use Rattle.lock_program.specs.declared.mutex.LockCall.{LockCall}
 use Rattle.lock_program.specs.declared.mutex.LockCall.TheVariants as turn_call
 use Rattle.lock_program.specs.declared.mutex.Step.{Step as TurnStep}
 use Rattle.lock_program.specs.declared.mutex.Step.TheVariants as turn_step
 use Rattle.lock_program.specs.declared.end.End.{End as TurnEnd}
 use Rattle.lock_program.specs.declared.end.End.TheVariants as turn_end
-use Rattle.mutex_machine.specs.Mutex.{course_at as turn_at, holder_of}
-use Rattle.mutex_machine.specs.Deeds as mutex
-use Rattle.mutex_machine.specs.Conduct.{decided_then, IsReason}
-use Rattle.mutex_machine.specs.Deeds.{decided_by}
-use Rattle.mutex_machine.proofs.callers.Callers.{out_free, waiting_free, releasing_free, releasing_decided, cancelling_decided, IsPolls, taking_decided, holding_holds}
-use Rattle.mutex_machine.proofs.callers.Holders as sees
+use Rattle.world_mutex.specs.machine.Mutex.{course_at as turn_at, holder_of}
+use Rattle.world_mutex.specs.machine.Deeds as mutex
+use Rattle.world_mutex.specs.machine.Conduct.{decided_then, IsReason}
+use Rattle.world_mutex.specs.machine.Deeds.{decided_by}
+use Rattle.world_mutex.proofs.of_machine.callers.Callers.{out_free, waiting_free, releasing_free, releasing_decided, cancelling_decided, IsPolls, taking_decided, holding_holds}
+use Rattle.world_mutex.proofs.of_machine.callers.Holders as sees
 use Rattle.lock_program.specs.declared.rwlock.Found.{Found}
 use Rattle.lock_program.specs.declared.rwlock.Found.TheVariants.{Turn}
 use Rattle.lock_program.specs.declared.rwlock.Ending.TheVariants as ending
@@ -48,8 +48,8 @@ use Rattle.rwlock_world.proofs.step.Rows.{verdict_then, Room, keeps_what_it_has,
 use Rattle.rwlock_world.proofs.step.Owns as owns
 use Rattle.rwlock_world.proofs.step.Facts.{WaitsIn, CauseAs, Fitting, JudgedAs, Facts, Known}
 use Rattle.rwlock_world.proofs.step.TurnSteps.{TurnDid, TurnMoved, moved, left}
-use Rattle.mutex_machine.proofs.callers.Rosters.{is_zero}
-use Rattle.mutex_machine.specs.Mutex.{is_counted}
+use Rattle.world_mutex.proofs.of_machine.callers.Rosters.{is_zero}
+use Rattle.world_mutex.specs.machine.Mutex.{is_counted}
 
 -- ---- what a step of a poll decides there decides the call, but that the turn was got
 

@@ -10,15 +10,15 @@ use Rattle.world_base.specs.Rosters.{how_many}
 use Rattle.world_base.specs.Standings.{inputs_of}
 use Rattle.world_base.specs.Steps.{Deed, ListFunction, nothing, changes, does, joins}
 use Rattle.world_base.proofs.Equations.{none_some}
-use Rattle.mutex_machine.specs.Course.{Course as TurnCourse, holds, counted, decision}
+use Rattle.world_mutex.specs.machine.Course.{Course as TurnCourse, holds, counted, decision}
 use Rattle.lock_program.specs.declared.mutex.Step.{Step as TurnStep}
 use Rattle.lock_program.specs.declared.end.End.{End as TurnEnd}
-use Rattle.mutex_machine.specs.Course as turn_roles
-use Rattle.mutex_machine.specs.Mutex.{Mutex, course_at as turn_at, is_holder, is_counted, holder_of, starved_of, TakenFairly}
-use Rattle.mutex_machine.specs.Deeds as mutex
-use Rattle.mutex_machine.specs.Conduct.{IsLegal}
-use Rattle.mutex_machine.specs.Deeds.{decided_by}
-use Rattle.mutex_machine.proofs.callers.Holders as sees
+use Rattle.world_mutex.specs.machine.Course as turn_roles
+use Rattle.world_mutex.specs.machine.Mutex.{Mutex, course_at as turn_at, is_holder, is_counted, holder_of, starved_of, TakenFairly}
+use Rattle.world_mutex.specs.machine.Deeds as mutex
+use Rattle.world_mutex.specs.machine.Conduct.{IsLegal}
+use Rattle.world_mutex.specs.machine.Deeds.{decided_by}
+use Rattle.world_mutex.proofs.of_machine.callers.Holders as sees
 use Rattle.lock_program.specs.declared.rwlock.Found.{Found}
 use Rattle.lock_program.specs.declared.rwlock.Place.{Place}
 use Rattle.lock_program.specs.declared.rwlock.Place.TheVariants as place
@@ -32,8 +32,8 @@ use Rattle.rwlock_world.specs.State.{World, told_in, entries_in}
 use Rattle.rwlock_world.specs.View.{passing, upgrading, turn_as, share_of, turn_by, seen}
 use Rattle.rwlock_world.proofs.step.Facts.{Known, turn_kept, there}
 use Rattle.world_base.specs.Steps.{asks, leaves, notifies, notifies_additionally}
-use Rattle.mutex_machine.specs.Conduct.{IsAllowed as MayDo}
-use Rattle.mutex_machine.specs.Course.{listed, may_tell, taking, releasing, undecided, called, counting, has_lock, gives_up as giving_up}
+use Rattle.world_mutex.specs.machine.Conduct.{IsAllowed as MayDo}
+use Rattle.world_mutex.specs.machine.Course.{listed, may_tell, taking, releasing, undecided, called, counting, has_lock, gives_up as giving_up}
 use Rattle.rwlock_world.specs.State.{HasTurn, is_starved}
 use Rattle.rwlock_world.specs.View.{Share, waiting, writing}
 

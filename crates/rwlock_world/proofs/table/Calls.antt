@@ -21,7 +21,7 @@ use Rattle.world_base.specs.Standings.{inside, is_decided}
 use Rattle.world_base.proofs.Equations.{some_eq}
 use Rattle.lock_program.specs.declared.end.End.TheVariants.{NotFree}
 use Rattle.world_base.specs.table.Stages.{call_at, polls_again}
-use Rattle.mutex_machine.specs.Course.{Course as TurnCourse}
+use Rattle.world_mutex.specs.machine.Course.{Course as TurnCourse}
 use Rattle.lock_program.specs.declared.rwlock.Wanted.TheVariants as wanted
 use Rattle.lock_program.specs.declared.rwlock.Purpose.TheVariants as purpose
 use Rattle.lock_program.specs.declared.rwlock.Ending.TheVariants as ending

@@ -17,7 +17,7 @@ use Rattle.world_base.specs.Standings.{inputs_of}
 use Rattle.world_base.proofs.Equations.{some_eq, none_some, witness}
 use Rattle.world_base.specs.table.Stages.{call_at, stage_after}
 use Rattle.world_base.specs.table.Tables.{Keeps as KeepsStanding, Called}
-use Rattle.mutex_machine.specs.Mutex.{course_at as turn_at}
+use Rattle.world_mutex.specs.machine.Mutex.{course_at as turn_at}
 use Rattle.rwlock_program.specs.declared.led.Next.{Next}
 use Rattle.lock_program.specs.declared.rwlock.Place.{Place}
 use Rattle.lock_program.specs.declared.rwlock.Place.TheVariants as place

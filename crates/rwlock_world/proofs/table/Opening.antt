@@ -3,7 +3,7 @@ use Rattle.std.proofs.Common.{◌≡◌, ℕ, refl}
 use Rattle.world_base.specs.table.Tables.{new_table}
 use Rattle.world_base.proofs.of_table.Mapped.{mapped_alike}
 use Rattle.world_base.proofs.of_table.Views.{all_idle}
-use Rattle.mutex_machine.proofs.callers.Callers.{new_has_no_holder, new_has_none_starved}
+use Rattle.world_mutex.proofs.of_machine.callers.Callers.{new_has_no_holder, new_has_none_starved}
 use Rattle.lock_program.specs.declared.rwlock.Place.TheVariants as place
 use Rattle.rwlock_world.specs.Guarded.{new_guarded}
 use Rattle.rwlock_world.specs.Stages.{sought_at}

@@ -5,7 +5,7 @@ use Rattle.world_base.specs.declared.standing.Stage.{Stage}
 use Rattle.world_base.specs.Rosters.{how_many}
 use Rattle.world_base.specs.table.Tables.{IsTable}
 use Rattle.world_base.proofs.of_table.Mapped.{mapped_at}
-use Rattle.mutex_machine.proofs.callers.Rosters as rosters
+use Rattle.world_mutex.proofs.of_machine.callers.Rosters as rosters
 use Rattle.lock_program.specs.declared.rwlock.Place.{Place}
 use Rattle.lock_program.specs.declared.rwlock.Place.TheVariants as place
 use Rattle.lock_program.specs.declared.rwlock.Ending.TheVariants as ending

@@ -17,8 +17,8 @@ use Rattle.world_base.specs.Whole.{going_on, moves_of, answers_of}
 use Rattle.world_base.specs.any_world.Steps.{beginning}
 use Rattle.world_base.proofs.of_any_world.Runs.{along, Onward}
 use Rattle.lock_program.specs.declared.mutex.LockCall.TheVariants as turn_call
-use Rattle.mutex_machine.specs.Mutex.{Mutex, holder_of, holders, starved}
-use Rattle.mutex_machine.proofs.callers.Holders as sees
+use Rattle.world_mutex.specs.machine.Mutex.{Mutex, holder_of, holders, starved}
+use Rattle.world_mutex.proofs.of_machine.callers.Holders as sees
 use Rattle.lock_program.specs.declared.rwlock.Action.TheVariants as act
 use Rattle.lock_program.specs.declared.end.End.TheVariants.{Got}
 use Rattle.lock_program.specs.declared.rwlock.Found.{Found}

@@ -27,14 +27,14 @@ use Rattle.world_base.proofs.of_any_world.Runs.{along, Onward}
 use Rattle.lock_program.specs.declared.end.End.TheVariants.{Got, Granted, Pending, NotFree, GivenBack, Refused}
 use Rattle.world_base.specs.table.Stages.{call_at, polls_again}
 use Rattle.world_base.proofs.Lists.{others, notified_marked}
-use Rattle.mutex_machine.specs.Course.{Course as TurnCourse, is_waiting, is_told, listed}
+use Rattle.world_mutex.specs.machine.Course.{Course as TurnCourse, is_waiting, is_told, listed}
 use Rattle.lock_program.specs.declared.mutex.Step.{Step as TurnStep}
 use Rattle.lock_program.specs.declared.mutex.Step.TheVariants as turn_step
 use Rattle.lock_program.specs.declared.end.End.TheVariants as turn_end
-use Rattle.mutex_machine.specs.Conduct.{HandsOn}
-use Rattle.mutex_machine.specs.Mutex.{Mutex, course_at as turn_at}
-use Rattle.mutex_machine.proofs.callers.Callers.{out_unlisted, holding_unlisted}
-use Rattle.mutex_machine.proofs.callers.Released.{release_goes, released_marks}
+use Rattle.world_mutex.specs.machine.Conduct.{HandsOn}
+use Rattle.world_mutex.specs.machine.Mutex.{Mutex, course_at as turn_at}
+use Rattle.world_mutex.proofs.of_machine.callers.Callers.{out_unlisted, holding_unlisted}
+use Rattle.world_mutex.proofs.of_machine.callers.Released.{release_goes, released_marks}
 use Rattle.lock_program.specs.declared.rwlock.Action.{Action}
 use Rattle.lock_program.specs.declared.rwlock.Action.TheVariants as act
 use Rattle.lock_program.specs.declared.rwlock.Found.{Found}

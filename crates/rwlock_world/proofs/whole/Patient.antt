@@ -17,8 +17,8 @@ use Rattle.lock_program.specs.Refusals.{number_of}
 use Rattle.world_base.specs.Standings.{Standing, outside, inside, forgotten, is_possible, is_decided, refused, decision, IsUndecided}
 use Rattle.world_base.proofs.Equations.{some_eq, none_some}
 use Rattle.world_base.specs.table.Stages.{stage_at, call_at}
-use Rattle.mutex_machine.specs.Course.{Course as TurnCourse, is_counting}
-use Rattle.mutex_machine.specs.Mutex.{course_at as turn_at}
+use Rattle.world_mutex.specs.machine.Course.{Course as TurnCourse, is_counting}
+use Rattle.world_mutex.specs.machine.Mutex.{course_at as turn_at}
 use Rattle.lock_program.specs.declared.rwlock.Place.{Place}
 use Rattle.rwlock_machine.specs.Machine.{place_at}
 use Rattle.rwlock_world.specs.Legal.{DecidesOn, IsCause}

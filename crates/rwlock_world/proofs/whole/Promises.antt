@@ -16,10 +16,10 @@ use Rattle.world_base.specs.Standings.{inputs_of, refused}
 use Rattle.world_base.specs.Whole.{going_on, moves_of, answers_of}
 use Rattle.world_base.specs.any_world.Steps.{beginning}
 use Rattle.world_base.proofs.of_any_world.Runs.{along, Onward}
-use Rattle.mutex_machine.specs.Course.{Course as TurnCourse, is_counting}
-use Rattle.mutex_machine.specs.Mutex.{starved, Mutex, course_at as turn_at}
-use Rattle.mutex_machine.proofs.callers.Callers.{out_uncounted, holding_uncounted, waiting_uncounted}
-use Rattle.mutex_machine.proofs.callers.Holders as sees
+use Rattle.world_mutex.specs.machine.Course.{Course as TurnCourse, is_counting}
+use Rattle.world_mutex.specs.machine.Mutex.{starved, Mutex, course_at as turn_at}
+use Rattle.world_mutex.proofs.of_machine.callers.Callers.{out_uncounted, holding_uncounted, waiting_uncounted}
+use Rattle.world_mutex.proofs.of_machine.callers.Holders as sees
 use Rattle.lock_program.specs.declared.rwlock.Action.{Action}
 use Rattle.lock_program.specs.declared.rwlock.Action.TheVariants as act
 use Rattle.lock_program.specs.declared.rwlock.Found.{Found}

@@ -23,10 +23,10 @@ use Rattle.world_base.proofs.Equations.{some_eq}
 use Rattle.world_base.proofs.Marks.{marks_more}
 use Rattle.world_base.specs.any_world.Steps.{beginning}
 use Rattle.world_base.proofs.of_any_world.Runs.{along, Onward}
-use Rattle.mutex_machine.specs.Course.{Course as TurnCourse, decision, is_counting, listed}
-use Rattle.mutex_machine.specs.Conduct.{decided_then}
-use Rattle.mutex_machine.specs.Mutex.{starved, Mutex, course_at as turn_at}
-use Rattle.mutex_machine.proofs.callers.Silent.{out_silent, waiting_silent, undecided_silent, never_pending, step_marks}
+use Rattle.world_mutex.specs.machine.Course.{Course as TurnCourse, decision, is_counting, listed}
+use Rattle.world_mutex.specs.machine.Conduct.{decided_then}
+use Rattle.world_mutex.specs.machine.Mutex.{starved, Mutex, course_at as turn_at}
+use Rattle.world_mutex.proofs.of_machine.callers.Silent.{out_silent, waiting_silent, undecided_silent, never_pending, step_marks}
 use Rattle.lock_program.specs.declared.end.End.{End as TurnEnd}
 use Rattle.lock_program.specs.declared.end.End.TheVariants as turn_end
 use Rattle.lock_program.specs.declared.mutex.Step.{Step as TurnStep}

@@ -16,7 +16,7 @@ use Rattle.world_base.specs.Standings.{inputs_of, refused}
 use Rattle.world_base.specs.Whole.{going_on}
 use Rattle.world_base.proofs.Equations.{some_eq}
 use Rattle.world_base.specs.any_world.Steps.{left_by as left_of}
-use Rattle.mutex_machine.specs.Mutex.{steps_left as turn_steps_left}
+use Rattle.world_mutex.specs.machine.Mutex.{steps_left as turn_steps_left}
 use Rattle.lock_program.specs.declared.end.End.TheVariants as «end»
 use Rattle.rwlock_program.specs.declared.led.Next.{Next}
 use Rattle.rwlock_program.specs.declared.led.Next.TheVariants as next

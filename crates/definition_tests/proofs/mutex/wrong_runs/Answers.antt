@@ -17,11 +17,11 @@ use Rattle.world_base.specs.Standings.{Standing, inside, is_decided, is_possible
 use Rattle.world_base.specs.Steps.{Deed, nothing, changes, does}
 use Rattle.world_base.proofs.Equations.{some_none, none_some, outside_inside}
 use Rattle.world_base.proofs.Lists.{notified_marked}
-use Rattle.mutex_world.specs.Legal.{Change, ListName, takes, releases, starves, recovers, puts, state_after, gives_up, notifies_one, is_try, is_first_poll, HasItsOwn, IsCause}
-use Rattle.mutex_world.specs.State.{State, World, standing_of, is_free}
+use Rattle.world_mutex.specs.Legal.{Change, ListName, takes, releases, starves, recovers, puts, state_after, gives_up, notifies_one, is_try, is_first_poll, HasItsOwn, IsCause}
+use Rattle.world_mutex.specs.State.{State, World, standing_of, is_free}
 use Rattle.definition_tests.proofs.mutex.wrong_runs.Goals as goal
 use Rattle.std.proofs.Common.{inl}
-use Rattle.mutex_world.specs.Legal.{for_the_lock, may_tell}
+use Rattle.world_mutex.specs.Legal.{for_the_lock, may_tell}
 
 chosen : (b : Bool) (x y : Answer) → b ≡ true → (if b then x else y) ≡ x
 chosen true x y e = refl

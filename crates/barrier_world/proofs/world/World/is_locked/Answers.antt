@@ -1,8 +1,8 @@
 -- The word is held exactly if there is a holder.
 use Rattle.std.proofs.Common.{ap, ◌∙◌}
 use Rattle.std.specs.Prelude.{is_some}
-use Rattle.mutex_machine.specs.Mutex.{holders}
-use Rattle.mutex_machine.proofs.callers.Holders.{held_seen}
+use Rattle.world_mutex.specs.machine.Mutex.{holders}
+use Rattle.world_mutex.proofs.of_machine.callers.Holders.{held_seen}
 use Rattle.barrier_machine.specs.Machine.{Barrier}
 use Rattle.barrier_world.proofs.world.World.is_locked.Goals as goal
 

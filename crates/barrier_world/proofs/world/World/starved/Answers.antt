@@ -1,8 +1,8 @@
 -- The word's number is the size of the starved set.
 use Rattle.std.proofs.Common.{ap, sym, ◌∙◌}
 use Rattle.world_base.specs.Rosters.{how_many}
-use Rattle.mutex_machine.specs.Mutex.{starved}
-use Rattle.mutex_machine.proofs.callers.Holders.{how_many_counted}
+use Rattle.world_mutex.specs.machine.Mutex.{starved}
+use Rattle.world_mutex.proofs.of_machine.callers.Holders.{how_many_counted}
 use Rattle.barrier_machine.specs.Machine.{Barrier}
 use Rattle.barrier_world.proofs.world.World.starved.Goals as goal
 

@@ -1,6 +1,6 @@
 -- The turn's word is held exactly where a party has the turn.
 use Rattle.std.proofs.Common.{ap, ◌∙◌}
-use Rattle.mutex_machine.specs.Mutex.{holders}
+use Rattle.world_mutex.specs.machine.Mutex.{holders}
 use Rattle.rwlock_machine.specs.Machine.{RwLock}
 use Rattle.rwlock_world.specs.Guarded.{Guarded}
 use Rattle.rwlock_world.specs.State.{is_nobody}

@@ -1,10 +1,10 @@
 -- The word's number is the size of the starved set.
 use Rattle.std.proofs.Common.{ap, sym, ◌∙◌}
-use Rattle.mutex_machine.specs.Mutex.{starved}
+use Rattle.world_mutex.specs.machine.Mutex.{starved}
 use Rattle.world_base.specs.Rosters.{how_many}
 use Rattle.rwlock_machine.specs.Machine.{RwLock}
 use Rattle.rwlock_world.specs.Guarded.{Guarded}
-use Rattle.mutex_machine.proofs.callers.Holders.{how_many_counted}
+use Rattle.world_mutex.proofs.of_machine.callers.Holders.{how_many_counted}
 use Rattle.rwlock_world.proofs.world.World.starved.Goals as goal
 
 pub returns : goal.returns
