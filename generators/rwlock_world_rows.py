@@ -1,5 +1,5 @@
 #!/usr/bin/env python3
-"""Writes the case tables of a read-write lock's World: crates/rwlock_world/proofs/step/Paths.antt,
+"""Writes the case tables of a read-write lock's World: crates/world_rwlock/proofs/step/Paths.antt,
 where each action leads, and Rows.antt beside it, what each action on the word or on a list changes and
 decides.
 
@@ -20,22 +20,22 @@ use Rattle.world_base.specs.declared.refusal.Refusal.TheVariants as refusal
 use Rattle.world_mutex.specs.machine.Course.{{Course as TurnCourse}}
 use Rattle.world_mutex.specs.declared.program.calls.Step.TheVariants as turn_step
 use Rattle.world_mutex.specs.declared.program.calls.End.TheVariants as turn_end
-use Rattle.rwlock_program.specs.declared.program.Purpose.TheVariants as purpose
-use Rattle.rwlock_program.specs.declared.program.Ending.TheVariants as ending
+use Rattle.world_rwlock.specs.declared.program.program.Purpose.TheVariants as purpose
+use Rattle.world_rwlock.specs.declared.program.program.Ending.TheVariants as ending
 use Rattle.world_base.specs.declared.table.end.End.{{End}}
 use Rattle.world_base.specs.declared.table.end.End.TheVariants.{{Got, Granted, Pending, NotFree, GivenBack, Refused}}
-use Rattle.rwlock_program.specs.declared.program.Next.{{Next}}
-use Rattle.rwlock_program.specs.declared.program.Next.TheVariants as next
-use Rattle.rwlock_program.specs.declared.program.Found.{{Found}}
-use Rattle.rwlock_program.specs.declared.program.Found.TheVariants.{{Done, Writer, Full, NoneLeft, SomeLeft, NoMemory, Yes, No, Turn}}
-use Rattle.rwlock_program.specs.declared.program.Found.TheVariants as found
-use Rattle.rwlock_program.specs.declared.program.Place.{{Place}}
-use Rattle.rwlock_program.specs.declared.program.Place.TheVariants.{{{PLACES}}}
-use Rattle.rwlock_program.specs.Program.{{action_of, next_of}}
-use Rattle.rwlock_machine.specs.Machine.{{RwLock}}
-use Rattle.rwlock_machine.specs.Acts.{{Finds}}
-use Rattle.rwlock_machine.proofs.stages.Leads.{{Led}}
-use Rattle.rwlock_world.specs.Stages.{{Course, polls, tries, drops, downgrades, upgrades, tries_upgrade, strays, course_of, is_inside, sought_at, is_out, is_future, is_guard}}
+use Rattle.world_rwlock.specs.declared.program.program.Next.{{Next}}
+use Rattle.world_rwlock.specs.declared.program.program.Next.TheVariants as next
+use Rattle.world_rwlock.specs.declared.program.program.Found.{{Found}}
+use Rattle.world_rwlock.specs.declared.program.program.Found.TheVariants.{{Done, Writer, Full, NoneLeft, SomeLeft, NoMemory, Yes, No, Turn}}
+use Rattle.world_rwlock.specs.declared.program.program.Found.TheVariants as found
+use Rattle.world_rwlock.specs.declared.program.program.Place.{{Place}}
+use Rattle.world_rwlock.specs.declared.program.program.Place.TheVariants.{{{PLACES}}}
+use Rattle.world_rwlock.specs.program.Program.{{action_of, next_of}}
+use Rattle.world_rwlock.specs.machine.Machine.{{RwLock}}
+use Rattle.world_rwlock.specs.machine.Acts.{{Finds}}
+use Rattle.world_rwlock.proofs.of_machine.stages.Leads.{{Led}}
+use Rattle.world_rwlock.specs.Stages.{{Course, polls, tries, drops, downgrades, upgrades, tries_upgrade, strays, course_of, is_inside, sought_at, is_out, is_future, is_guard}}
 
 -- the refusals of a read-write lock's futures
 abbrev pub is_ours : Refusal → Bool
@@ -211,7 +211,7 @@ for k in ('true', 'false'):
 word('DownNotify', 'Done')
 word('DowngradeNotify', 'Done')
 
-with open('crates/rwlock_world/proofs/step/Paths.antt', 'w', encoding='utf-8') as out:
+with open('crates/world_rwlock/proofs/step/Paths.antt', 'w', encoding='utf-8') as out:
     out.write(PATHS_HEAD + '\n'.join(paths) + '\n')
 
 
@@ -230,33 +230,33 @@ use Rattle.world_base.specs.Rights.{{Right, read, upgradable}}
 use Rattle.world_base.specs.Steps.{{Deed, nothing, changes, does, joins, asks, leaves, notifies}}
 use Rattle.world_base.proofs.Equations.{{chosen}}
 use Rattle.world_mutex.specs.machine.Course.{{Course as TurnCourse, is_out as is_out_there, is_holding}}
-use Rattle.rwlock_program.specs.declared.program.Action.{{Action}}
-use Rattle.rwlock_program.specs.declared.program.Action.TheVariants as act
+use Rattle.world_rwlock.specs.declared.program.program.Action.{{Action}}
+use Rattle.world_rwlock.specs.declared.program.program.Action.TheVariants as act
 use Rattle.world_base.specs.declared.table.end.End.TheVariants.{{Pending, Refused}}
-use Rattle.rwlock_program.specs.declared.program.Next.{{Next}}
-use Rattle.rwlock_program.specs.declared.program.Next.TheVariants as next
-use Rattle.rwlock_program.specs.declared.program.Found.{{Found}}
-use Rattle.rwlock_program.specs.declared.program.Found.TheVariants.{{Done, Writer, Full, NoneLeft, SomeLeft, NoMemory, Yes, No, Turn}}
-use Rattle.rwlock_program.specs.declared.program.Found.TheVariants as found
+use Rattle.world_rwlock.specs.declared.program.program.Next.{{Next}}
+use Rattle.world_rwlock.specs.declared.program.program.Next.TheVariants as next
+use Rattle.world_rwlock.specs.declared.program.program.Found.{{Found}}
+use Rattle.world_rwlock.specs.declared.program.program.Found.TheVariants.{{Done, Writer, Full, NoneLeft, SomeLeft, NoMemory, Yes, No, Turn}}
+use Rattle.world_rwlock.specs.declared.program.program.Found.TheVariants as found
 use Rattle.world_mutex.specs.declared.program.calls.Step.TheVariants as turn_step
 use Rattle.world_mutex.specs.declared.program.calls.End.TheVariants as turn_end
-use Rattle.rwlock_program.specs.declared.program.Purpose.TheVariants as purpose
-use Rattle.rwlock_program.specs.declared.program.Ending.TheVariants as ending
-use Rattle.rwlock_program.specs.declared.program.Place.{{Place}}
-use Rattle.rwlock_program.specs.declared.program.Place.TheVariants.{{{PLACES}}}
-use Rattle.rwlock_program.specs.Program.{{action_of, next_of, place_after}}
-use Rattle.rwlock_machine.specs.Roles.{{has_turn, in_no_writer, in_no_readers, fits_turn}}
-use Rattle.rwlock_program.specs.Parties.{{OnNoWriter, OnNoReaders}}
-use Rattle.rwlock_machine.specs.Machine.{{RwLock}}
-use Rattle.rwlock_machine.specs.Acts.{{Finds, readers, marked}}
-use Rattle.rwlock_machine.proofs.stages.Leads.{{Led, steps_in_turn}}
-use Rattle.rwlock_world.specs.Changes.{{Change, begins_to_read, stops_reading, becomes_upgradable, stops_upgradable, begins_to_wait, begins_to_write, upgrades, upgrades_at_once, unmarks, downgrades, downgrades_to_upgradable, turn_after, starved_after, value_after, entries_after, gives_back, gives_up}}
-use Rattle.rwlock_world.specs.State as state
-use Rattle.rwlock_world.specs.State.{{ListName, for_the_turn, for_no_readers, for_no_writer}}
+use Rattle.world_rwlock.specs.declared.program.program.Purpose.TheVariants as purpose
+use Rattle.world_rwlock.specs.declared.program.program.Ending.TheVariants as ending
+use Rattle.world_rwlock.specs.declared.program.program.Place.{{Place}}
+use Rattle.world_rwlock.specs.declared.program.program.Place.TheVariants.{{{PLACES}}}
+use Rattle.world_rwlock.specs.program.Program.{{action_of, next_of, place_after}}
+use Rattle.world_rwlock.specs.machine.Roles.{{has_turn, in_no_writer, in_no_readers, fits_turn}}
+use Rattle.world_rwlock.specs.program.Parties.{{OnNoWriter, OnNoReaders}}
+use Rattle.world_rwlock.specs.machine.Machine.{{RwLock}}
+use Rattle.world_rwlock.specs.machine.Acts.{{Finds, readers, marked}}
+use Rattle.world_rwlock.proofs.of_machine.stages.Leads.{{Led, steps_in_turn}}
+use Rattle.world_rwlock.specs.Changes.{{Change, begins_to_read, stops_reading, becomes_upgradable, stops_upgradable, begins_to_wait, begins_to_write, upgrades, upgrades_at_once, unmarks, downgrades, downgrades_to_upgradable, turn_after, starved_after, value_after, entries_after, gives_back, gives_up}}
+use Rattle.world_rwlock.specs.State as state
+use Rattle.world_rwlock.specs.State.{{ListName, for_the_turn, for_no_readers, for_no_writer}}
 use Rattle.world_base.proofs.of_table.Calls.{{decided_after}}
-use Rattle.rwlock_world.specs.Guarded.{{answer_by}}
-use Rattle.rwlock_world.specs.Stages.{{strays, course_of, sought_at}}
-use Rattle.rwlock_world.specs.View.{{passing, upgrading, waiting, writing, turn_as, share_of, is_reading, is_upgrade, verdict}}
+use Rattle.world_rwlock.specs.Guarded.{{answer_by}}
+use Rattle.world_rwlock.specs.Stages.{{strays, course_of, sought_at}}
+use Rattle.world_rwlock.specs.View.{{passing, upgrading, waiting, writing, turn_as, share_of, is_reading, is_upgrade, verdict}}
 use Rattle.world_base.specs.Steps.{{notifies_additionally}}
 
 -- what an action changes that found this
@@ -636,5 +636,5 @@ for k in ENDINGS:
     turn_rest(f'(ReleasingTurn {k})')
 turn_rows.append('turn_row v u _ f t e = absurd (cc)')
 
-with open('crates/rwlock_world/proofs/step/Rows.antt', 'w', encoding='utf-8') as out:
+with open('crates/world_rwlock/proofs/step/Rows.antt', 'w', encoding='utf-8') as out:
     out.write(ROWS_HEAD + '\n'.join(rows) + '\n' + TURN_ROWS + '\n'.join(turn_rows) + '\n')

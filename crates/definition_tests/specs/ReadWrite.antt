@@ -18,14 +18,14 @@ use Rattle.world_base.specs.Frame.{is_refusal}
 use Rattle.world_base.specs.Rights.{Right, read, upgradable, write}
 use Rattle.world_base.specs.Standings.{outside, inside, decision, is_possible, refused}
 use Rattle.world_base.specs.Rosters.{how_many}
-use Rattle.rwlock_world.specs.Bound.{IsSoloForTurn, IsSoloToRead, IsSoloToWrite, Promises}
-use Rattle.rwlock_world.specs.Legal.{DecidesOn, list_for, may_read, is_first, IsTryWithTurn, Legal, AnswersAtOnce}
-use Rattle.rwlock_world.specs.State.{ListName, list_of, nobody, passes, waits_to_write, is_marked, HasTurn, is_turn_free, World, standing_of, sought_by, reads, how_many_read, told_in, is_starved, is_upgrader}
+use Rattle.world_rwlock.specs.Bound.{IsSoloForTurn, IsSoloToRead, IsSoloToWrite, Promises}
+use Rattle.world_rwlock.specs.Legal.{DecidesOn, list_for, may_read, is_first, IsTryWithTurn, Legal, AnswersAtOnce}
+use Rattle.world_rwlock.specs.State.{ListName, list_of, nobody, passes, waits_to_write, is_marked, HasTurn, is_turn_free, World, standing_of, sought_by, reads, how_many_read, told_in, is_starved, is_upgrader}
 use Rattle.world_base.specs.Standings.{is_outside, may_end}
 use Rattle.world_base.specs.Steps.{does, notifies, notifies_additionally}
-use Rattle.rwlock_world.specs.Laws.{IsSound, IsDueForTurn, IsDueToReaders, IsDueToWriter}
-use Rattle.rwlock_world.specs.Legal.{is_try_for_turn}
-use Rattle.rwlock_world.specs.State.{for_the_turn}
+use Rattle.world_rwlock.specs.Laws.{IsSound, IsDueForTurn, IsDueToReaders, IsDueToWriter}
+use Rattle.world_rwlock.specs.Legal.{is_try_for_turn}
+use Rattle.world_rwlock.specs.State.{for_the_turn}
 use Rattle.world_base.specs.queue.Parties.{is_party}
 use Rattle.lock_event.specs.Lists.{is_marked_at}
 

@@ -11,7 +11,7 @@ pub mod mutex {
 
 /// A read-write lock with upgradable reads, from the crate `rwlock_world`.
 pub mod rwlock {
-    pub use rwlock_world::{MOST_READERS, MOST_STARVED_FOR_THE_TURN, World};
+    pub use world_rwlock::{MOST_READERS, MOST_STARVED_FOR_THE_TURN, World};
 }
 
 /// A semaphore, from the crate `semaphore_world`.

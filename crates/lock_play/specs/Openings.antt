@@ -2,9 +2,9 @@
 use Rattle.std.specs.Prelude.{ℕ, ◌<◌, ◌^◌, ◌-◌, Some, unwrap_or}
 use Rattle.lock_answers.specs.Limits.{limit_of}
 use Rattle.world_mutex.specs.declared.world.TheConstants.{MOST_STARVED}
-use Rattle.rwlock_world.specs.declared.world.TheConstants.{MOST_STARVED_FOR_THE_TURN, MOST_READERS}
+use Rattle.world_rwlock.specs.declared.world.TheConstants.{MOST_STARVED_FOR_THE_TURN, MOST_READERS}
 use Rattle.world_mutex.specs.State as mutex
-use Rattle.rwlock_world.specs.State as rwlock
+use Rattle.world_rwlock.specs.State as rwlock
 use Rattle.world_semaphore.specs.State as semaphore
 use Rattle.world_once_cell.specs.State as cell
 use Rattle.barrier_world.specs.State as barrier

@@ -2,9 +2,9 @@
 use Rattle.std.specs.Prelude.{ℕ, List, ◌++◌, codes, not, if◌then◌else◌}
 use Rattle.lock_event.specs.declared.event.Entry.{Entry}
 use Rattle.world_base.specs.Rosters.{how_many}
-use Rattle.rwlock_world.specs.State.{World, how_many_read, is_nobody, is_marked}
-use Rattle.rwlock_world.specs.Laws.{is_at_rest}
-use Rattle.rwlock_world.specs.Lending.{world_with}
+use Rattle.world_rwlock.specs.State.{World, how_many_read, is_nobody, is_marked}
+use Rattle.world_rwlock.specs.Laws.{is_at_rest}
+use Rattle.world_rwlock.specs.Lending.{world_with}
 use Rattle.lock_answers.specs.declared.played.Reply.{Reply}
 use Rattle.lock_answers.specs.declared.played.Reply.TheVariants.{Done, NotPossible}
 use Rattle.lock_play.specs.declared.played.rwlock.Which.{Which}

@@ -4,10 +4,10 @@ use Rattle.world_mutex.specs.State as mutex
 use Rattle.world_mutex.specs.Steps as mutex_steps
 use Rattle.world_mutex.specs.Whole as mutex_whole
 use Rattle.world_mutex.specs.Bound as mutex_bound
-use Rattle.rwlock_world.specs.State as rwlock
-use Rattle.rwlock_world.specs.Steps as rwlock_steps
-use Rattle.rwlock_world.specs.Whole as rwlock_whole
-use Rattle.rwlock_world.specs.Bound as rwlock_bound
+use Rattle.world_rwlock.specs.State as rwlock
+use Rattle.world_rwlock.specs.Steps as rwlock_steps
+use Rattle.world_rwlock.specs.Whole as rwlock_whole
+use Rattle.world_rwlock.specs.Bound as rwlock_bound
 use Rattle.world_semaphore.specs.State as semaphore
 use Rattle.world_semaphore.specs.Steps as semaphore_steps
 use Rattle.world_semaphore.specs.Whole as semaphore_whole

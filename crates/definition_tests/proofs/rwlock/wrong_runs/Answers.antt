@@ -20,15 +20,15 @@ use Rattle.world_base.specs.Rosters.{is_on}
 use Rattle.world_base.specs.Standings.{Standing, outside, inside, is_decided, is_possible, refused}
 use Rattle.world_base.specs.Steps.{Deed, nothing, changes, does}
 use Rattle.world_base.proofs.Equations.{none_some, outside_inside}
-use Rattle.rwlock_world.specs.Changes.{Change, takes_turn, leaves_turn, starves, recovers, begins_to_read, stops_reading, becomes_upgradable, stops_upgradable, begins_to_wait, begins_to_write, upgrades, upgrades_at_once, unmarks, downgrades, downgrades_to_upgradable, puts, turn_after, readers_after, IsAllowed, gives_up}
-use Rattle.rwlock_world.specs.Legal.{DecidesOn, HasItsOwn, HasNothing, MayMeet, IsCause, may_read}
-use Rattle.rwlock_world.specs.State.{ListName, Turn, nobody, passes, waits_to_write, is_marked, HasTurn, State, World, standing_of, sought_by, how_many_read, is_upgrader}
+use Rattle.world_rwlock.specs.Changes.{Change, takes_turn, leaves_turn, starves, recovers, begins_to_read, stops_reading, becomes_upgradable, stops_upgradable, begins_to_wait, begins_to_write, upgrades, upgrades_at_once, unmarks, downgrades, downgrades_to_upgradable, puts, turn_after, readers_after, IsAllowed, gives_up}
+use Rattle.world_rwlock.specs.Legal.{DecidesOn, HasItsOwn, HasNothing, MayMeet, IsCause, may_read}
+use Rattle.world_rwlock.specs.State.{ListName, Turn, nobody, passes, waits_to_write, is_marked, HasTurn, State, World, standing_of, sought_by, how_many_read, is_upgrader}
 use Rattle.definition_tests.specs.ReadWrite.{Step, IsLegal}
 use Rattle.definition_tests.proofs.rwlock.wrong_runs.Goals as goal
 use Rattle.world_base.specs.Standings.{IsUndecided}
 use Rattle.world_base.specs.Steps.{notifies, notifies_additionally}
-use Rattle.rwlock_world.specs.Changes.{IsAllowed}
-use Rattle.rwlock_world.specs.State.{is_starved, for_the_turn, for_no_readers, for_no_writer}
+use Rattle.world_rwlock.specs.Changes.{IsAllowed}
+use Rattle.world_rwlock.specs.State.{is_starved, for_the_turn, for_no_readers, for_no_writer}
 use Rattle.lock_event.specs.Lists.{marked_count}
 
 none_possible : (a : Answer) → a ≡ answer.None → is_possible a ≡ true
