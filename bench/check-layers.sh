@@ -10,7 +10,7 @@
 # Run it at the top of the repository: bench/check-layers.sh
 set -eu
 
-above='crates/world_rwlock crates/world_rwlock crates/world_rwlock crates/barrier_program crates/barrier_machine crates/barrier_world'
+above='crates/world_rwlock crates/world_rwlock crates/world_rwlock crates/world_barrier crates/world_barrier crates/world_barrier'
 tables='crates/lock_program/src/rwlock.rt crates/lock_program/specs/ReadWrite.antt crates/sync_program/src/barrier.rt crates/sync_program/specs/Barrier.antt'
 calls='lock_program\.specs\.declared\.mutex\.(LockCall|Step)\.|(lock_program|crate)::mutex::(LockCall|Step|\{LockCall, Step\})'
 contract='mutex_machine\.specs\.(Mutex|Course|Conduct|Deeds|Alone)|mutex_machine\.specs\.Behind\.\{behind_coded\}'

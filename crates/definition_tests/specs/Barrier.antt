@@ -16,20 +16,20 @@ use Rattle.world_base.specs.declared.standing.Rest.TheVariants.{Pending}
 use Rattle.world_base.specs.Frame.{is_refusal}
 use Rattle.world_base.specs.Rosters.{how_many}
 use Rattle.world_base.specs.Standings.{outside, refused}
-use Rattle.barrier_machine.specs.Waits.{uncounted, counted}
-use Rattle.barrier_world.specs.declared.world.ListName.TheVariants.{Lock}
-use Rattle.barrier_world.specs.AtOnce.{AnswersAtOnce, is_first_poll, is_later_poll, entries_in}
-use Rattle.barrier_world.specs.Bound.{IsSolo, Promises}
-use Rattle.barrier_world.specs.Changes.{wait_then}
-use Rattle.barrier_world.specs.Laws.{IsSound, IsAwake}
-use Rattle.barrier_world.specs.Legal.{Legal, DecidesOn, next_arrival}
-use Rattle.barrier_world.specs.Numbers.{Leads, IsFinished, generations_of}
-use Rattle.barrier_world.specs.State.{World, standing_of, wait_of, told_in, is_free}
+use Rattle.world_barrier.specs.machine.Waits.{uncounted, counted}
+use Rattle.world_barrier.specs.declared.world.ListName.TheVariants.{Lock}
+use Rattle.world_barrier.specs.AtOnce.{AnswersAtOnce, is_first_poll, is_later_poll, entries_in}
+use Rattle.world_barrier.specs.Bound.{IsSolo, Promises}
+use Rattle.world_barrier.specs.Changes.{wait_then}
+use Rattle.world_barrier.specs.Laws.{IsSound, IsAwake}
+use Rattle.world_barrier.specs.Legal.{Legal, DecidesOn, next_arrival}
+use Rattle.world_barrier.specs.Numbers.{Leads, IsFinished, generations_of}
+use Rattle.world_barrier.specs.State.{World, standing_of, wait_of, told_in, is_free}
 use Rattle.world_base.specs.declared.standing.Rest.{Rest}
 use Rattle.world_base.specs.Standings.{is_outside}
 use Rattle.world_base.specs.Steps.{does, notifies}
-use Rattle.barrier_world.specs.Laws.{IsDue}
-use Rattle.barrier_world.specs.State.{is_starved}
+use Rattle.world_barrier.specs.Laws.{IsDue}
+use Rattle.world_barrier.specs.State.{is_starved}
 use Rattle.world_base.specs.declared.standing.Within.{Within}
 use Rattle.world_base.specs.Standings.{inside}
 use Rattle.world_base.specs.Standings.{is_possible}

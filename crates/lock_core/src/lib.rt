@@ -28,7 +28,7 @@ pub mod cell {
 
 /// A barrier, from the crate `barrier_world`.
 pub mod barrier {
-    pub use barrier_world::{ListName, World};
+    pub use world_barrier::{ListName, World};
 }
 
 pub use lock_event::{Entry, Mark, Memory};

@@ -1,8 +1,8 @@
 -- What a script asks of a barrier beyond its moves.
 use Rattle.std.specs.Prelude.{ℕ, List, ◌++◌, codes, is_some}
 use Rattle.world_base.specs.Rosters.{how_many}
-use Rattle.barrier_world.specs.Numbers.{generations_of, count_of}
-use Rattle.barrier_world.specs.State.{World}
+use Rattle.world_barrier.specs.Numbers.{generations_of, count_of}
+use Rattle.world_barrier.specs.State.{World}
 use Rattle.lock_answers.specs.declared.played.Reply.{Reply}
 use Rattle.lock_answers.specs.declared.played.Reply.TheVariants.{NotPossible}
 use Rattle.lock_answers.specs.Answers.{list_text}

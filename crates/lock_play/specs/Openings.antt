@@ -7,7 +7,7 @@ use Rattle.world_mutex.specs.State as mutex
 use Rattle.world_rwlock.specs.State as rwlock
 use Rattle.world_semaphore.specs.State as semaphore
 use Rattle.world_once_cell.specs.State as cell
-use Rattle.barrier_world.specs.State as barrier
+use Rattle.world_barrier.specs.State as barrier
 use Rattle.lock_program.specs.declared.refusal.Refusal.{Refusal}
 use Rattle.lock_program.specs.declared.refusal.Refusal.TheVariants.{Memory, Permits}
 use Rattle.lock_script.specs.declared.command.Model.{Model}

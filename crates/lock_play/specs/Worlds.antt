@@ -16,10 +16,10 @@ use Rattle.world_once_cell.specs.State as cell
 use Rattle.world_once_cell.specs.Steps as cell_steps
 use Rattle.world_once_cell.specs.Whole as cell_whole
 use Rattle.world_once_cell.specs.Bound as cell_bound
-use Rattle.barrier_world.specs.State as barrier
-use Rattle.barrier_world.specs.Steps as barrier_steps
-use Rattle.barrier_world.specs.Whole as barrier_whole
-use Rattle.barrier_world.specs.Bound as barrier_bound
+use Rattle.world_barrier.specs.State as barrier
+use Rattle.world_barrier.specs.Steps as barrier_steps
+use Rattle.world_barrier.specs.Whole as barrier_whole
+use Rattle.world_barrier.specs.Bound as barrier_bound
 use Rattle.lock_script.specs.declared.command.Request.{Request}
 use Rattle.lock_play.specs.declared.world.World.{World}
 use Rattle.lock_play.specs.declared.world.World.TheVariants.{Mutex, RwLock, Semaphore, Cell, Barrier}

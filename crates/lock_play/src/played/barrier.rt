@@ -2,7 +2,7 @@
 
 ghost use Rattle.std.specs.Prelude.{◌≡◌, ◌++◌, OnOk};
 ghost use Rattle.std.specs.Io.KnownBytes.{Appends};
-ghost use Rattle.barrier_world.specs.State.{list_in};
+ghost use Rattle.world_barrier.specs.State.{list_in};
 ghost use Rattle.lock_answers.specs.Answers.{list_text, Prints};
 
 use super::Player;
@@ -66,7 +66,7 @@ struct OneList<'a> {
 }
 
 impl<'a> Listed for OneList<'a> {
-    ghost use Rattle.barrier_world.specs.State.{list_in};
+    ghost use Rattle.world_barrier.specs.State.{list_in};
 
     ghost entries = { λ l. list_in l.name l.world.now };
 

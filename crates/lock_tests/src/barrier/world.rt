@@ -11,12 +11,12 @@ use Deed::{
     Arrivals, Asks, AsksLock, Begins, Calls, CountsStarved, Goes, IsAtRest, IsLocked, Looks,
     Numbers, Starves, WithoutMemory,
 };
-use barrier_world::{ListName, World};
 use lock_event::{Mark, Memory};
 use lock_program::Refusal;
 use std::alloc::Global;
 use std::process::Abort;
 use std::test::Fail;
+use world_barrier::{ListName, World};
 use world_base::{Answer, AnyWorld, Call, Got, Inputs, Move, What};
 
 const BEGIN_WAIT: What = What::Begin(Call::Wait, INPUTS);

@@ -15,20 +15,20 @@ use Rattle.world_base.specs.declared.standing.Rest.TheVariants.{Pending}
 use Rattle.lock_program.specs.Refusals.{number_of}
 use Rattle.world_base.specs.Standings.{outside, refused}
 use Rattle.world_base.specs.Steps.{Deed, nothing, changes, does}
-use Rattle.barrier_machine.specs.Waits.{Wait, no_wait, uncounted, counted}
-use Rattle.barrier_world.specs.Bound.{ComesTo, IsNotified}
-use Rattle.barrier_world.specs.Changes.{Change, takes, releases, starves, recovers, arrives, arrivals_after}
-use Rattle.barrier_world.specs.declared.world.ListName.{ListName}
-use Rattle.barrier_world.specs.Legal.{IsAllowed, MayArrive, IsCause, IsOutOfMemory, IsOutOfGenerations, HasItsOwn, HasToWait, next_arrival}
-use Rattle.barrier_world.specs.Numbers.{Leads, IsFinished, generations_of}
-use Rattle.barrier_world.specs.State.{World, wait_of}
-use Rattle.barrier_world.proofs.Numbers.{next_generation}
+use Rattle.world_barrier.specs.machine.Waits.{Wait, no_wait, uncounted, counted}
+use Rattle.world_barrier.specs.Bound.{ComesTo, IsNotified}
+use Rattle.world_barrier.specs.Changes.{Change, takes, releases, starves, recovers, arrives, arrivals_after}
+use Rattle.world_barrier.specs.declared.world.ListName.{ListName}
+use Rattle.world_barrier.specs.Legal.{IsAllowed, MayArrive, IsCause, IsOutOfMemory, IsOutOfGenerations, HasItsOwn, HasToWait, next_arrival}
+use Rattle.world_barrier.specs.Numbers.{Leads, IsFinished, generations_of}
+use Rattle.world_barrier.specs.State.{World, wait_of}
+use Rattle.world_barrier.proofs.Numbers.{next_generation}
 use Rattle.definition_tests.proofs.barrier.wrong_runs.Goals as goal
 use Rattle.world_base.specs.Steps.{notifies}
 use Rattle.world_base.proofs.Equations.{outside_inside}
-use Rattle.barrier_world.specs.declared.world.ListName.TheVariants.{Lock}
-use Rattle.barrier_world.specs.Legal.{Legal, DecidesOn, IsOutOfStarved}
-use Rattle.barrier_world.specs.State.{LockState}
+use Rattle.world_barrier.specs.declared.world.ListName.TheVariants.{Lock}
+use Rattle.world_barrier.specs.Legal.{Legal, DecidesOn, IsOutOfStarved}
+use Rattle.world_barrier.specs.State.{LockState}
 use Rattle.std.proofs.lemmas.Bool.{true≢false}
 
 -- ---- Arrivals
