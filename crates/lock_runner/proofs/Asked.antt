@@ -1,9 +1,9 @@
 -- What the arguments ask for.
 use Rattle.std.proofs.Common.{◌≡◌, ℕ, List, [], ◌∷◌, length, sym, subst, ◌∙◌, ap, arith, refl}
 use Rattle.std.specs.Prelude.{Option, Some, None, IfSome, IfNone, codes}
-use Rattle.script_runner.specs.declared.task.Task.{Task}
-use Rattle.script_runner.specs.declared.task.Task.TheVariants.{Script, Threads}
-use Rattle.script_runner.specs.Scripts.{asked, AsksFor}
+use Rattle.lockrun_play.specs.declared.task.Task.{Task}
+use Rattle.lockrun_play.specs.declared.task.Task.TheVariants.{Script, Threads}
+use Rattle.lockrun_play.specs.Scripts.{asked, AsksFor}
 
 -- where they are the one word `script`, they ask for a script
 pub only_script : (words : List (List ℕ)) (r : Option Task) → IfSome r (AsksFor words) → IfNone r ((task : Task) → ¬ AsksFor words task) → words ≡ asked → r ≡ Some Script

@@ -3,7 +3,7 @@
 
 mod program;
 
+pub use lockrun_play::fault::Fault;
+pub use lockrun_play::script::{LIMIT, report};
+pub use lockrun_play::task::arguments;
 pub use program::{Open, run, threads};
-pub use script_runner::fault::Fault;
-pub use script_runner::script::{LIMIT, report};
-pub use script_runner::task::arguments;

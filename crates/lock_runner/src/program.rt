@@ -2,15 +2,15 @@
 
 ghost use Rattle.std.specs.Prelude.{◌≡◌, ◌≢◌, ◌↔◌, ◌⊎◌, ◌+◌, ◌<◌, ◌≤◌, ℕ, length, map, string_bytes, Some, None, Ok, Err, IfErr, OnOk, IfSome};
 ghost use Rattle.std.specs.Io.KnownBytes.{Keeps};
-ghost use Rattle.script_runner.specs.Plays.{IsAtFault, IsPlayed, PrintsNumber};
-ghost use Rattle.script_runner.specs.Scripts.{asked, AsksFor, IsScript};
-ghost use Rattle.script_runner.specs.declared.task.Task.{Task as TaskOf};
-ghost use Rattle.script_runner.specs.Faults.{status_of};
+ghost use Rattle.lockrun_play.specs.Plays.{IsAtFault, IsPlayed, PrintsNumber};
+ghost use Rattle.lockrun_play.specs.Scripts.{asked, AsksFor, IsScript};
+ghost use Rattle.lockrun_play.specs.declared.task.Task.{Task as TaskOf};
+ghost use Rattle.lockrun_play.specs.Faults.{status_of};
 
 use lock_workers::{Gate, Stopped, public};
-use script_runner::fault::Fault;
-use script_runner::script::{LIMIT, print_number, report, run_script};
-use script_runner::task::{self, Task};
+use lockrun_play::fault::Fault;
+use lockrun_play::script::{LIMIT, print_number, report, run_script};
+use lockrun_play::task::{self, Task};
 use std::alloc::Global;
 use std::io::{Read, Write};
 use std::random::RandomSource;

@@ -2,10 +2,10 @@
 
 use crate::room;
 use crate::same::assert_same;
-use lock_answers::answer::{write_answer, write_entry, write_reply};
-use lock_answers::played::Reply;
 use lock_core::{Answer, Got};
 use lock_event::{Entry, Mark};
+use lockrun_script::answer::{write_answer, write_entry, write_reply};
+use lockrun_script::played::Reply;
 use std::io;
 use std::process::Abort;
 use std::test::Fail;

@@ -1,7 +1,7 @@
 -- What the words ask for decides which clauses speak.
 use Rattle.std.proofs.Common.{◌≡◌, ◌∙◌, ap}
 use Rattle.std.specs.Prelude.{Some}
-use Rattle.script_runner.specs.declared.task.Task.TheVariants.{Script, Threads}
+use Rattle.lockrun_play.specs.declared.task.Task.TheVariants.{Script, Threads}
 use Rattle.lock_runner.proofs.Asked.{only_script, not_both, asks_of, asks_nothing}
 use Rattle.lock_runner.proofs.program.run.Goals as goal
 
