@@ -1,6 +1,6 @@
 //! Runs of the program from and into memory, and what is wanted of them.
 
-use lock_runner::{Open, run};
+use lockrun_runner::{Open, run};
 use std::io;
 use std::io::{ErrorKind, Read, Write};
 use std::process::Abort;

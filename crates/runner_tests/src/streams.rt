@@ -1,7 +1,7 @@
 //! Arguments, readers that fail, and writers that do.
 
 use crate::runs::{ALL, NO_FLUSH, NONE, Run, Runs, SCRIPT, Takes, expect, expect_all};
-use lock_runner::LIMIT;
+use lockrun_runner::LIMIT;
 use std::io::ErrorKind;
 
 /// A good line.

@@ -2,8 +2,8 @@
 use Rattle.std.proofs.Common.{◌≡◌, ◌∙◌, ap}
 use Rattle.std.specs.Prelude.{Some}
 use Rattle.lockrun_play.specs.declared.task.Task.TheVariants.{Script, Threads}
-use Rattle.lock_runner.proofs.Asked.{only_script, not_both, asks_of, asks_nothing}
-use Rattle.lock_runner.proofs.program.run.Goals as goal
+use Rattle.lockrun_runner.proofs.Asked.{only_script, not_both, asks_of, asks_nothing}
+use Rattle.lockrun_runner.proofs.program.run.Goals as goal
 
 pub returns-in-Some-Script-clause-usage : goal.returns-in-Some-Script-clause-usage
 returns-in-Some-Script-clause-usage g c = λ none. absurd (none Script (asks_of _ c.parse.result Script (c.in-Some-Script.is ∙ ap Some c.in-Some-Script.field-0-is) c.parse.ensures.asks))

@@ -7,7 +7,7 @@ ghost use Rattle.lockrun_play.specs.Scripts.{asked, AsksFor, IsScript};
 ghost use Rattle.lockrun_play.specs.declared.task.Task.{Task as TaskOf};
 ghost use Rattle.lockrun_play.specs.Faults.{status_of};
 
-use lock_workers::{Gate, Stopped, public};
+use crate::workers::{Gate, Stopped, public};
 use lockrun_play::fault::Fault;
 use lockrun_play::script::{LIMIT, print_number, report, run_script};
 use lockrun_play::task::{self, Task};

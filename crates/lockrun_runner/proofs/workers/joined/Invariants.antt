@@ -1,6 +1,6 @@
 use Rattle.std.proofs.Common.{◌≡◌, ◌+◌, vec_len}
 use Rattle.std.specs.Prelude.{None}
-use Rattle.lock_workers.proofs.joined.Given as goal
+use Rattle.lockrun_runner.proofs.workers.joined.Given as goal
 
 -- unless a worker was stopped, each that was joined handed one back
 abbrev pub invariant-loop-handle : goal.invariant-loop-handle

@@ -1,6 +1,6 @@
 //! Workers that each add one to the value of one mutex.
 
-use crate::{Gate, Stopped, Work, in_threads};
+use crate::workers::{Gate, Stopped, Work, in_threads};
 use async_mutex::Mutex;
 use std::alloc::Global;
 use std::random::RandomSource;

@@ -1,5 +1,4 @@
 //! Work that many threads share: each worker passes a gate, does its part, and hands back what it was given.
-#![tactic(auto)]
 
 ghost use Rattle.std.specs.Prelude.{◌≡◌, IfOk, vec_len};
 ghost use Rattle.std.specs.Thread.{IsSend};

@@ -2,7 +2,7 @@
 
 ghost use Rattle.std.specs.Prelude.{◌≡◌};
 
-use crate::{Gate, Stopped, Work, in_threads};
+use crate::workers::{Gate, Stopped, Work, in_threads};
 use lock_audit::{Audited, Blanks, Book, Ledgers, Share};
 use lock_core::mutex::World;
 use lock_core::{Answer, Call, Got, Inputs, Made, Memory, Move, What};

@@ -1,7 +1,8 @@
-//! The program's whole run, from its arguments to its status, over any reader and writers.
+//! The program's whole run, from its arguments to its status, over any reader and writers; and the [`workers`] that its threads are.
 #![tactic(auto)]
 
 mod program;
+pub mod workers;
 
 pub use lockrun_play::fault::Fault;
 pub use lockrun_play::script::{LIMIT, report};

@@ -1,4 +1,4 @@
-use Rattle.lock_workers.proofs.add_one.audited.Given as goal
+use Rattle.lockrun_runner.proofs.workers.add_one.audited.Given as goal
 
 -- the ledgers are those of the blanks
 abbrev pub ghosts-book_of : goal.ghosts-book_of
