@@ -1,4 +1,4 @@
-use Rattle.audit_tests.proofs.audited.closed.Given as goal
+use Rattle.test_audit.proofs.audited.closed.Given as goal
 
 -- the ledgers are those of the blanks
 abbrev pub ghosts-close : goal.ghosts-close

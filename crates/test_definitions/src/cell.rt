@@ -1,11 +1,11 @@
 //! Wrong runs, and the table of places, of a once-cell.
 
-ghost use Rattle.definition_tests.specs.Tables.{AreRowsOf, AreRowsOfTwo};
-ghost use Rattle.definition_tests.specs.CellTable.{beginnings, actions, followings};
+ghost use Rattle.test_definitions.specs.Tables.{AreRowsOf, AreRowsOfTwo};
+ghost use Rattle.test_definitions.specs.CellTable.{beginnings, actions, followings};
 ghost use Rattle.sync_program.specs.OnceCell.{action_of, next_of};
 ghost use Rattle.world_once_cell.specs.program.Program.{start_of};
-ghost use Rattle.definition_tests.specs.Never.{Never};
-ghost use Rattle.definition_tests.specs.Cell.{EntersTwice, EndsByNothing, FillsAnother, MakesAnother, ReadyTooSoon, WaitsWithoutMaking, WaitsInPassive, WaitsInActive, TriesInVain, TriesWhileMade, LosesItsOwn, StaysMade, TellsNobody, PassesOverInVain, KeepsItsTold, LeftUntold, GoesOnUndecided, DropsListed, MakesAndWaits, RefusesMaker, MarksUndecided, GrantsNothing, HasAnotherBack, FailsUntold, DropsUntold, RefusedUntold, WaitsThoughTold, GoesOnUntold, WaitsForFull, RefusedToMake, LeftToNobody, TellsAnyone, TellsPassive, LosesWhatWasMade, JoinsUnlooked, KeepsItsMark, DropsOn, LingersWithValue, MakesAfterFailure, MakerJoins, MadeByNobody, FillsUntold};
+ghost use Rattle.test_definitions.specs.Never.{Never};
+ghost use Rattle.test_definitions.specs.Cell.{EntersTwice, EndsByNothing, FillsAnother, MakesAnother, ReadyTooSoon, WaitsWithoutMaking, WaitsInPassive, WaitsInActive, TriesInVain, TriesWhileMade, LosesItsOwn, StaysMade, TellsNobody, PassesOverInVain, KeepsItsTold, LeftUntold, GoesOnUndecided, DropsListed, MakesAndWaits, RefusesMaker, MarksUndecided, GrantsNothing, HasAnotherBack, FailsUntold, DropsUntold, RefusedUntold, WaitsThoughTold, GoesOnUntold, WaitsForFull, RefusedToMake, LeftToNobody, TellsAnyone, TellsPassive, LosesWhatWasMade, JoinsUnlooked, KeepsItsMark, DropsOn, LingersWithValue, MakesAfterFailure, MakerJoins, MadeByNobody, FillsUntold};
 
 /// Each clause says of one wrong run that it isn't legal.
 fn wrong_runs()

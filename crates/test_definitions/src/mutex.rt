@@ -1,10 +1,10 @@
 //! Wrong runs, and the table of places, of a mutex.
 
-ghost use Rattle.definition_tests.specs.Tables.{AreRowsOf, AreRowsOfTwo};
-ghost use Rattle.definition_tests.specs.MutexTable.{beginnings, actions, followings};
+ghost use Rattle.test_definitions.specs.Tables.{AreRowsOf, AreRowsOfTwo};
+ghost use Rattle.test_definitions.specs.MutexTable.{beginnings, actions, followings};
 ghost use Rattle.lock_program.specs.Mutex.{start_of, action_of, next_of};
-ghost use Rattle.definition_tests.specs.Never.{Never};
-ghost use Rattle.definition_tests.specs.Mutex.{TriesInVain, PollsUnready, WaitsUnlisted, WaitsUnmarked, PendsTooEarly, RefusedAtFirst, RefusedHavingTaken, LetsGoUndecided, DropsUndecided, DecidesInVain, StarvedHavingTaken, StarvedTwice, StarvedAtFirst, StarvesUnlisted, HoldsRefused, ReadyWithout, TellsMore, TriesAndTells, StarvesAtFirst, PollsUntold, ReleasesLate, ReleasesSilently, PassesOverInVain, RefusedInVain, StarvesUnasked, StarvedAmongNone, KeepsItsTold, WakesTheNext, SleepsThoughFree, WakesInARing, StarvedUnwaited, RefusedSilently};
+ghost use Rattle.test_definitions.specs.Never.{Never};
+ghost use Rattle.test_definitions.specs.Mutex.{TriesInVain, PollsUnready, WaitsUnlisted, WaitsUnmarked, PendsTooEarly, RefusedAtFirst, RefusedHavingTaken, LetsGoUndecided, DropsUndecided, DecidesInVain, StarvedHavingTaken, StarvedTwice, StarvedAtFirst, StarvesUnlisted, HoldsRefused, ReadyWithout, TellsMore, TriesAndTells, StarvesAtFirst, PollsUntold, ReleasesLate, ReleasesSilently, PassesOverInVain, RefusedInVain, StarvesUnasked, StarvedAmongNone, KeepsItsTold, WakesTheNext, SleepsThoughFree, WakesInARing, StarvedUnwaited, RefusedSilently};
 
 /// Each clause says of one wrong run that it isn't legal.
 fn wrong_runs()

@@ -23,7 +23,7 @@ use Rattle.world_barrier.specs.Legal.{IsAllowed, MayArrive, IsCause, IsOutOfMemo
 use Rattle.world_barrier.specs.Numbers.{Leads, IsFinished, generations_of}
 use Rattle.world_barrier.specs.State.{World, wait_of}
 use Rattle.world_barrier.proofs.Numbers.{next_generation}
-use Rattle.definition_tests.proofs.barrier.wrong_runs.Goals as goal
+use Rattle.test_definitions.proofs.barrier.wrong_runs.Goals as goal
 use Rattle.world_base.specs.Steps.{notifies}
 use Rattle.world_base.proofs.Equations.{outside_inside}
 use Rattle.world_barrier.specs.declared.world.ListName.TheVariants.{Lock}

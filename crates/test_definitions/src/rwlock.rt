@@ -1,11 +1,11 @@
 //! Wrong runs, and the table of places, of a read-write lock.
 
-ghost use Rattle.definition_tests.specs.Tables.{AreRowsOf, AreRowsOfTwo};
-ghost use Rattle.definition_tests.specs.ReadWriteTable.{beginnings, actions, followings};
+ghost use Rattle.test_definitions.specs.Tables.{AreRowsOf, AreRowsOfTwo};
+ghost use Rattle.test_definitions.specs.ReadWriteTable.{beginnings, actions, followings};
 ghost use Rattle.lock_program.specs.ReadWrite.{action_of, next_of};
 ghost use Rattle.world_rwlock.specs.program.Program.{start_of};
-ghost use Rattle.definition_tests.specs.Never.{Never};
-ghost use Rattle.definition_tests.specs.ReadWrite.{TriesInVain, ReadsUnready, WaitsUnlisted, PendsTooEarly, RefusedAtFirst, RefusedHavingMoved, ReadsWithTheBit, LetsGoUndecided, UnmarksUndecided, StopsReadingUndecided, DowngradesUndecided, DropsUndecided, DowngradesThroughNothing, OtherIsUpgrade, IdleHasTurn, TriesOn, WriteMeetsReaders, ReadMeetsStarved, LacksMemoryWithTurn, ReadMeetsReadersBesideWriter, MeetsReadersWithoutTurn, MeetsStarvedWithTurn, PassesTurnInVain, PassesReadingInVain, PassesWritingInVain, UpgradeWaitsForNobody, UpgradableUnready, WriteUnready, StarvesUnasked, KeepsItsTold, TriesTurnInVain, StarvedHavingTaken, StarvedTwice, StarvedAtFirst, DecidesInVain, TellsMany, TellsMore, WakesTheNext, SleepsThoughFree, SleepsThoughReadable, SleepsThoughWritable, StarvedForNothing, WakesInARing, PollsUntold, PollsUntoldToRead, TriesAndTells};
+ghost use Rattle.test_definitions.specs.Never.{Never};
+ghost use Rattle.test_definitions.specs.ReadWrite.{TriesInVain, ReadsUnready, WaitsUnlisted, PendsTooEarly, RefusedAtFirst, RefusedHavingMoved, ReadsWithTheBit, LetsGoUndecided, UnmarksUndecided, StopsReadingUndecided, DowngradesUndecided, DropsUndecided, DowngradesThroughNothing, OtherIsUpgrade, IdleHasTurn, TriesOn, WriteMeetsReaders, ReadMeetsStarved, LacksMemoryWithTurn, ReadMeetsReadersBesideWriter, MeetsReadersWithoutTurn, MeetsStarvedWithTurn, PassesTurnInVain, PassesReadingInVain, PassesWritingInVain, UpgradeWaitsForNobody, UpgradableUnready, WriteUnready, StarvesUnasked, KeepsItsTold, TriesTurnInVain, StarvedHavingTaken, StarvedTwice, StarvedAtFirst, DecidesInVain, TellsMany, TellsMore, WakesTheNext, SleepsThoughFree, SleepsThoughReadable, SleepsThoughWritable, StarvedForNothing, WakesInARing, PollsUntold, PollsUntoldToRead, TriesAndTells};
 
 /// Each clause says of one wrong run that it isn't legal.
 fn wrong_runs()

@@ -23,8 +23,8 @@ use Rattle.world_base.proofs.Equations.{none_some, outside_inside}
 use Rattle.world_rwlock.specs.Changes.{Change, takes_turn, leaves_turn, starves, recovers, begins_to_read, stops_reading, becomes_upgradable, stops_upgradable, begins_to_wait, begins_to_write, upgrades, upgrades_at_once, unmarks, downgrades, downgrades_to_upgradable, puts, turn_after, readers_after, IsAllowed, gives_up}
 use Rattle.world_rwlock.specs.Legal.{DecidesOn, HasItsOwn, HasNothing, MayMeet, IsCause, may_read}
 use Rattle.world_rwlock.specs.State.{ListName, Turn, nobody, passes, waits_to_write, is_marked, HasTurn, State, World, standing_of, sought_by, how_many_read, is_upgrader}
-use Rattle.definition_tests.specs.ReadWrite.{Step, IsLegal}
-use Rattle.definition_tests.proofs.rwlock.wrong_runs.Goals as goal
+use Rattle.test_definitions.specs.ReadWrite.{Step, IsLegal}
+use Rattle.test_definitions.proofs.rwlock.wrong_runs.Goals as goal
 use Rattle.world_base.specs.Standings.{IsUndecided}
 use Rattle.world_base.specs.Steps.{notifies, notifies_additionally}
 use Rattle.world_rwlock.specs.Changes.{IsAllowed}

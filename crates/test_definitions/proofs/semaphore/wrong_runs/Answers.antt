@@ -21,7 +21,7 @@ use Rattle.world_semaphore.specs.machine.Deeds.{Change, ListName, takes, gives_b
 use Rattle.world_semaphore.specs.State.{State, World, has_permit, standing_of, adds_of}
 use Rattle.world_semaphore.specs.AtOnce.{is_try}
 use Rattle.world_semaphore.specs.Legal.{HasItsOwn, IsAllowed, state_after, is_forget, added_in, is_add, notice, may_tell}
-use Rattle.definition_tests.proofs.semaphore.wrong_runs.Goals as goal
+use Rattle.test_definitions.proofs.semaphore.wrong_runs.Goals as goal
 
 chosen : (b : Bool) (x y : Answer) → b ≡ true → (if b then x else y) ≡ x
 chosen true x y e = refl

@@ -34,7 +34,7 @@ use Rattle.world_once_cell.specs.Legal.{Legal, HasItsOwn, IsCause, IsOutOfMemory
 use Rattle.world_once_cell.specs.AtOnce.{would_make}
 use Rattle.world_once_cell.specs.Bound.{ComesTo}
 use Rattle.world_once_cell.proofs.Values.{stays_full}
-use Rattle.definition_tests.proofs.cell.wrong_runs.Goals as goal
+use Rattle.test_definitions.proofs.cell.wrong_runs.Goals as goal
 
 chosen : (b c : Bool) (x y : Answer) → b ≡ c → (if b then x else y) ≡ (if c then x else y)
 chosen b c x y e = ap (λ z. if z then x else y) e

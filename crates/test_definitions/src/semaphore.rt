@@ -1,11 +1,11 @@
 //! Wrong runs, and the table of places, of a semaphore.
 
-ghost use Rattle.definition_tests.specs.Tables.{AreRowsOf, AreRowsOfTwo};
-ghost use Rattle.definition_tests.specs.SemaphoreTable.{beginnings, actions, followings};
+ghost use Rattle.test_definitions.specs.Tables.{AreRowsOf, AreRowsOfTwo};
+ghost use Rattle.test_definitions.specs.SemaphoreTable.{beginnings, actions, followings};
 ghost use Rattle.sync_program.specs.Semaphore.{action_of, next_of};
 ghost use Rattle.world_semaphore.specs.machine.Program.{start_of};
-ghost use Rattle.definition_tests.specs.Never.{Never};
-ghost use Rattle.definition_tests.specs.Semaphore.{TriesInVain, TakesUndecided, GivesBackWithin, GivesBeforeItRaises, NotifiesForOthers, ForgetsInVain, RefusedThoughFree, RefusedAtLast, WaitsUnlisted, GoesOnUndecided, DecidesInVain, HasRefused, AddsAndTakes, TellsMore, TriesAndTells, ReturnsLate, ReturnsSilently, AddsSilently, AddsAfterTelling, PassesOverInVain, KeepsItsTold, TakesWhatWasTold, WakesTheNext, SleepsThoughFree, RefusedSilently};
+ghost use Rattle.test_definitions.specs.Never.{Never};
+ghost use Rattle.test_definitions.specs.Semaphore.{TriesInVain, TakesUndecided, GivesBackWithin, GivesBeforeItRaises, NotifiesForOthers, ForgetsInVain, RefusedThoughFree, RefusedAtLast, WaitsUnlisted, GoesOnUndecided, DecidesInVain, HasRefused, AddsAndTakes, TellsMore, TriesAndTells, ReturnsLate, ReturnsSilently, AddsSilently, AddsAfterTelling, PassesOverInVain, KeepsItsTold, TakesWhatWasTold, WakesTheNext, SleepsThoughFree, RefusedSilently};
 
 /// Each clause says of one wrong run that it isn't legal.
 fn wrong_runs()

@@ -19,7 +19,7 @@ use Rattle.world_base.proofs.Equations.{some_none, none_some, outside_inside}
 use Rattle.world_base.proofs.Lists.{notified_marked}
 use Rattle.world_mutex.specs.Legal.{Change, ListName, takes, releases, starves, recovers, puts, state_after, gives_up, notifies_one, is_try, is_first_poll, HasItsOwn, IsCause}
 use Rattle.world_mutex.specs.State.{State, World, standing_of, is_free}
-use Rattle.definition_tests.proofs.mutex.wrong_runs.Goals as goal
+use Rattle.test_definitions.proofs.mutex.wrong_runs.Goals as goal
 use Rattle.std.proofs.Common.{inl}
 use Rattle.world_mutex.specs.Legal.{for_the_lock, may_tell}
 

@@ -1,11 +1,11 @@
 //! Wrong runs, and the table of places, of a barrier.
 
-ghost use Rattle.definition_tests.specs.Tables.{AreRowsOf, AreRowsOfTwo};
-ghost use Rattle.definition_tests.specs.BarrierTable.{beginnings, actions, followings};
+ghost use Rattle.test_definitions.specs.Tables.{AreRowsOf, AreRowsOfTwo};
+ghost use Rattle.test_definitions.specs.BarrierTable.{beginnings, actions, followings};
 ghost use Rattle.sync_program.specs.Barrier.{action_of, next_of};
 ghost use Rattle.world_barrier.specs.program.Program.{start_of};
-ghost use Rattle.definition_tests.specs.Never.{Never};
-ghost use Rattle.definition_tests.specs.Barrier.{TwoLeaders, LeadsInTheMidst, HasNoLeader, CountedTwice, TakenBack, FollowsTooSoon, CountedUnlisted, CountedWithoutLock, WaitsUncounted, KeepsTheLock, RefusedAndCounted, RefusedTooSoon, LeftAsleep, LeadsUntold, ReadyUntried, RefusedInVain, WaitsForNothing, PassesOverInVain, KeepsItsTold, LooksInVain, WakesAll, SleepsThoughFree, StarvedHavingTaken, StarvedTwice, StarvedAtFirst, StarvedForNothing, WakesInARing, ReleasesSilently, RefusedSilently};
+ghost use Rattle.test_definitions.specs.Never.{Never};
+ghost use Rattle.test_definitions.specs.Barrier.{TwoLeaders, LeadsInTheMidst, HasNoLeader, CountedTwice, TakenBack, FollowsTooSoon, CountedUnlisted, CountedWithoutLock, WaitsUncounted, KeepsTheLock, RefusedAndCounted, RefusedTooSoon, LeftAsleep, LeadsUntold, ReadyUntried, RefusedInVain, WaitsForNothing, PassesOverInVain, KeepsItsTold, LooksInVain, WakesAll, SleepsThoughFree, StarvedHavingTaken, StarvedTwice, StarvedAtFirst, StarvedForNothing, WakesInARing, ReleasesSilently, RefusedSilently};
 
 /// Each clause says of one wrong run that it isn't legal.
 fn wrong_runs()
