@@ -7,20 +7,20 @@ with one finding of its action: what the step changes, and what it decides.
 
 HEAD = """-- Each action of a party, place by place: what it changes, and what it decides. Written by generators/mutex_rows.py.
 use Rattle.std.proofs.Common.{◌≡◌, ◌<◌, ◌⊎◌, inl, inr, Bool, true, false, Option, Some, None, refl}
-use Rattle.world_base.specs.declared.refusal.Refusal.TheVariants.{Memory, Starved}
+use Rattle.lock_program.specs.declared.refusal.Refusal.TheVariants.{Memory, Starved}
 use Rattle.world_base.specs.Steps.{Deed, nothing, changes, does, joins, asks, leaves, notifies, notifies_additionally}
-use Rattle.world_mutex.specs.declared.program.program.Place.{Place}
-use Rattle.world_mutex.specs.declared.program.program.Place.TheVariants.{Out, Holding, Enter, Try, Clear, CancelUncount, CancelLeave, Join, Look, Ask, Retry, PassOn, Count, JoinStarved, LookAlone, PassOnListed, AskStarved, Seize, Uncount, Leave, RefuseUncount, RefuseLeave, RefuseNotifyMemory, RefuseNotifyStarved, ReleaseNotify}
-use Rattle.world_mutex.specs.declared.program.program.Action.{Action}
-use Rattle.world_mutex.specs.declared.program.program.Action.TheVariants as act
-use Rattle.world_mutex.specs.declared.program.program.Next.{Next}
-use Rattle.world_mutex.specs.declared.program.program.Next.TheVariants as next
-use Rattle.world_mutex.specs.declared.program.calls.End.{End}
-use Rattle.world_mutex.specs.declared.program.calls.End.TheVariants.{Got, Pending, NotFree, GivenBack, Refused}
-use Rattle.world_mutex.specs.declared.program.program.Found.{Found}
-use Rattle.world_mutex.specs.declared.program.program.Found.TheVariants.{Done, Free, Held, SomeStarved, AtLimit, NoMemory, Yes, No}
+use Rattle.lock_program.specs.declared.mutex.Place.{Place}
+use Rattle.lock_program.specs.declared.mutex.Place.TheVariants.{Out, Holding, Enter, Try, Clear, CancelUncount, CancelLeave, Join, Look, Ask, Retry, PassOn, Count, JoinStarved, LookAlone, PassOnListed, AskStarved, Seize, Uncount, Leave, RefuseUncount, RefuseLeave, RefuseNotifyMemory, RefuseNotifyStarved, ReleaseNotify}
+use Rattle.lock_program.specs.declared.mutex.Action.{Action}
+use Rattle.lock_program.specs.declared.mutex.Action.TheVariants as act
+use Rattle.world_mutex.specs.declared.program.led.Next.{Next}
+use Rattle.world_mutex.specs.declared.program.led.Next.TheVariants as next
+use Rattle.lock_program.specs.declared.end.End.{End}
+use Rattle.lock_program.specs.declared.end.End.TheVariants.{Got, Pending, NotFree, GivenBack, Refused}
+use Rattle.lock_program.specs.declared.mutex.Found.{Found}
+use Rattle.lock_program.specs.declared.mutex.Found.TheVariants.{Done, Free, Held, SomeStarved, AtLimit, NoMemory, Yes, No}
 use Rattle.world_mutex.specs.program.Program.{action_of, next_of}
-use Rattle.world_mutex.specs.program.Roles.{counted, listed}
+use Rattle.lock_program.specs.MutexRoles.{counted, listed}
 use Rattle.world_mutex.specs.machine.Machine.{Lock}
 use Rattle.world_mutex.specs.machine.Acts.{Finds, holders, starved}
 use Rattle.world_mutex.specs.machine.State.{is_holder, is_counted}
@@ -74,7 +74,7 @@ Reason memory l from f NotFree = (holders l ≡ 1) ⊎ (0 < starved l)
 Reason memory l from f GivenBack = Unit {0}
 Reason memory l from f (Refused Memory) = (memory ≡ false) × (listed from ≡ 0) × (deed_of (action_of from) f ≡ nothing)
 Reason memory l from f (Refused Starved) = (starved l ≡ l.limit) × (counted from ≡ 0) × (deed_of (action_of from) f ≡ nothing) × (is_counting from ≡ true)
-Reason memory l from f (Refused _) = ⊥
+Reason memory l from f _ = ⊥
 
 abbrev pub Judged : Bool → Lock → Place → Found → Option End → Option End → Type 0
 Judged memory l from f (Some e) o = (o ≡ Some e) × (gives_back (deed_of (action_of from) f) ≡ true)

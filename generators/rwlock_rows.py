@@ -7,18 +7,18 @@ place with one finding of its action: that the roles follow the action, that the
 fitting its place in the turn, and that fewer steps are left.
 """
 
-PROOFS = 'crates/world_rwlock/proofs/of_machine//'
+PROOFS = 'crates/world_rwlock/proofs/of_machine/'
 
 PLACES = '''Out, Made, Reading, Upgradable, Writing, EnterRead, JoinNoWriter, LookNoWriter, AskNoWriter, PassOn, LeaveNoWriter, RefuseLeave, RefuseNotify, CancelRead, TryRead, EnterTurn, WaitTurn, TakeTurn, TryTurn, CancelTurn, CancellingTurn, ReleaseTurn, ReleasingTurn, Add, TryUpgrade, Upgrade, Mark, TryWrite, JoinNoReaders, LookNoReaders, AskNoReaders, AwaitNoReaders, LookUnlisted, LeaveNoReaders, DropRead, DropReadNotify, DropUpgradable, DropUpgradableNotify, DropWrite, CancelAwait, Unmark, UnmarkNotify, Down, DownNotify, DowngradeNotify'''
 
-USES = '''use Rattle.world_mutex.specs.declared.program.calls.Step.TheVariants as turn_step
-use Rattle.world_mutex.specs.declared.program.calls.End.TheVariants as turn_end
-use Rattle.world_rwlock.specs.declared.program.program.Purpose.TheVariants as purpose
-use Rattle.world_rwlock.specs.declared.program.program.Ending.TheVariants as ending
-use Rattle.world_rwlock.specs.declared.program.program.Place.{Place}
-use Rattle.world_rwlock.specs.declared.program.program.Place.TheVariants.{%s}
-use Rattle.world_rwlock.specs.declared.program.program.Found.{Found}
-use Rattle.world_rwlock.specs.declared.program.program.Found.TheVariants.{Done, Writer, NoneLeft, Yes, Turn}
+USES = '''use Rattle.lock_program.specs.declared.mutex.Step.TheVariants as turn_step
+use Rattle.lock_program.specs.declared.end.End.TheVariants as turn_end
+use Rattle.lock_program.specs.declared.rwlock.Purpose.TheVariants as purpose
+use Rattle.lock_program.specs.declared.rwlock.Ending.TheVariants as ending
+use Rattle.lock_program.specs.declared.rwlock.Place.{Place}
+use Rattle.lock_program.specs.declared.rwlock.Place.TheVariants.{%s}
+use Rattle.lock_program.specs.declared.rwlock.Found.{Found}
+use Rattle.lock_program.specs.declared.rwlock.Found.TheVariants.{Done, Writer, NoneLeft, Yes, Turn}
 ''' % PLACES
 
 PURPOSES = ('purpose.UpgradableRead', 'purpose.Write')
@@ -162,7 +162,7 @@ pub fits : (x : Place) (f : Found) → Fits (action_of x) f x (place_after (next
 
 table('stages/Links.antt', '''-- Each step leaves the party's place fitting its place in the turn. Written by generators/rwlock_rows.py.
 use Rattle.std.proofs.Common.{◌≡◌, refl, true, false}
-use Rattle.world_base.specs.declared.refusal.Refusal.TheVariants as refusal
+use Rattle.lock_program.specs.declared.refusal.Refusal.TheVariants as refusal
 use Rattle.world_mutex.specs.machine.Course.{Course as TurnCourse}
 ''' + USES + '''use Rattle.world_rwlock.specs.program.Program.{next_of, place_after}
 use Rattle.world_rwlock.specs.machine.Roles.{fits_turn}

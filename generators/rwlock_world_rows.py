@@ -15,22 +15,22 @@ PLACES = ('Out, Made, Reading, Upgradable, Writing, EnterRead, JoinNoWriter, Loo
 
 PATHS_HEAD = f'''-- Where each action leads, place by place. Written by generators/rwlock_world_rows.py.
 use Rattle.std.proofs.Common.{{◌≡◌, ◌&&◌, Bool, true, false, refl}}
-use Rattle.world_base.specs.declared.refusal.Refusal.{{Refusal}}
-use Rattle.world_base.specs.declared.refusal.Refusal.TheVariants as refusal
+use Rattle.lock_program.specs.declared.refusal.Refusal.{{Refusal}}
+use Rattle.lock_program.specs.declared.refusal.Refusal.TheVariants as refusal
 use Rattle.world_mutex.specs.machine.Course.{{Course as TurnCourse}}
-use Rattle.world_mutex.specs.declared.program.calls.Step.TheVariants as turn_step
-use Rattle.world_mutex.specs.declared.program.calls.End.TheVariants as turn_end
-use Rattle.world_rwlock.specs.declared.program.program.Purpose.TheVariants as purpose
-use Rattle.world_rwlock.specs.declared.program.program.Ending.TheVariants as ending
-use Rattle.world_base.specs.declared.table.end.End.{{End}}
-use Rattle.world_base.specs.declared.table.end.End.TheVariants.{{Got, Granted, Pending, NotFree, GivenBack, Refused}}
-use Rattle.world_rwlock.specs.declared.program.program.Next.{{Next}}
-use Rattle.world_rwlock.specs.declared.program.program.Next.TheVariants as next
-use Rattle.world_rwlock.specs.declared.program.program.Found.{{Found}}
-use Rattle.world_rwlock.specs.declared.program.program.Found.TheVariants.{{Done, Writer, Full, NoneLeft, SomeLeft, NoMemory, Yes, No, Turn}}
-use Rattle.world_rwlock.specs.declared.program.program.Found.TheVariants as found
-use Rattle.world_rwlock.specs.declared.program.program.Place.{{Place}}
-use Rattle.world_rwlock.specs.declared.program.program.Place.TheVariants.{{{PLACES}}}
+use Rattle.lock_program.specs.declared.mutex.Step.TheVariants as turn_step
+use Rattle.lock_program.specs.declared.end.End.TheVariants as turn_end
+use Rattle.lock_program.specs.declared.rwlock.Purpose.TheVariants as purpose
+use Rattle.lock_program.specs.declared.rwlock.Ending.TheVariants as ending
+use Rattle.lock_program.specs.declared.end.End.{{End}}
+use Rattle.lock_program.specs.declared.end.End.TheVariants.{{Got, Granted, Pending, NotFree, GivenBack, Refused}}
+use Rattle.world_rwlock.specs.declared.program.led.Next.{{Next}}
+use Rattle.world_rwlock.specs.declared.program.led.Next.TheVariants as next
+use Rattle.lock_program.specs.declared.rwlock.Found.{{Found}}
+use Rattle.lock_program.specs.declared.rwlock.Found.TheVariants.{{Done, Writer, Full, NoneLeft, SomeLeft, NoMemory, Yes, No, Turn}}
+use Rattle.lock_program.specs.declared.rwlock.Found.TheVariants as found
+use Rattle.lock_program.specs.declared.rwlock.Place.{{Place}}
+use Rattle.lock_program.specs.declared.rwlock.Place.TheVariants.{{{PLACES}}}
 use Rattle.world_rwlock.specs.program.Program.{{action_of, next_of}}
 use Rattle.world_rwlock.specs.machine.Machine.{{RwLock}}
 use Rattle.world_rwlock.specs.machine.Acts.{{Finds}}
@@ -223,27 +223,27 @@ use Rattle.world_base.specs.queue.Parties.{{is_party}}
 use Rattle.world_base.specs.declared.moves.Answer.{{Answer}}
 use Rattle.world_base.specs.declared.moves.Answer.TheVariants as answer
 use Rattle.world_base.specs.declared.moves.Got.TheVariants.{{Value}}
-use Rattle.world_base.specs.declared.refusal.Refusal.{{Refusal}}
-use Rattle.world_base.specs.declared.refusal.Refusal.TheVariants as refusal
-use Rattle.world_base.specs.Refusals.{{number_of}}
+use Rattle.lock_program.specs.declared.refusal.Refusal.{{Refusal}}
+use Rattle.lock_program.specs.declared.refusal.Refusal.TheVariants as refusal
+use Rattle.lock_program.specs.Refusals.{{number_of}}
 use Rattle.world_base.specs.Rights.{{Right, read, upgradable}}
 use Rattle.world_base.specs.Steps.{{Deed, nothing, changes, does, joins, asks, leaves, notifies}}
 use Rattle.world_base.proofs.Equations.{{chosen}}
 use Rattle.world_mutex.specs.machine.Course.{{Course as TurnCourse, is_out as is_out_there, is_holding}}
-use Rattle.world_rwlock.specs.declared.program.program.Action.{{Action}}
-use Rattle.world_rwlock.specs.declared.program.program.Action.TheVariants as act
-use Rattle.world_base.specs.declared.table.end.End.TheVariants.{{Pending, Refused}}
-use Rattle.world_rwlock.specs.declared.program.program.Next.{{Next}}
-use Rattle.world_rwlock.specs.declared.program.program.Next.TheVariants as next
-use Rattle.world_rwlock.specs.declared.program.program.Found.{{Found}}
-use Rattle.world_rwlock.specs.declared.program.program.Found.TheVariants.{{Done, Writer, Full, NoneLeft, SomeLeft, NoMemory, Yes, No, Turn}}
-use Rattle.world_rwlock.specs.declared.program.program.Found.TheVariants as found
-use Rattle.world_mutex.specs.declared.program.calls.Step.TheVariants as turn_step
-use Rattle.world_mutex.specs.declared.program.calls.End.TheVariants as turn_end
-use Rattle.world_rwlock.specs.declared.program.program.Purpose.TheVariants as purpose
-use Rattle.world_rwlock.specs.declared.program.program.Ending.TheVariants as ending
-use Rattle.world_rwlock.specs.declared.program.program.Place.{{Place}}
-use Rattle.world_rwlock.specs.declared.program.program.Place.TheVariants.{{{PLACES}}}
+use Rattle.lock_program.specs.declared.rwlock.Action.{{Action}}
+use Rattle.lock_program.specs.declared.rwlock.Action.TheVariants as act
+use Rattle.lock_program.specs.declared.end.End.TheVariants.{{Pending, Refused}}
+use Rattle.world_rwlock.specs.declared.program.led.Next.{{Next}}
+use Rattle.world_rwlock.specs.declared.program.led.Next.TheVariants as next
+use Rattle.lock_program.specs.declared.rwlock.Found.{{Found}}
+use Rattle.lock_program.specs.declared.rwlock.Found.TheVariants.{{Done, Writer, Full, NoneLeft, SomeLeft, NoMemory, Yes, No, Turn}}
+use Rattle.lock_program.specs.declared.rwlock.Found.TheVariants as found
+use Rattle.lock_program.specs.declared.mutex.Step.TheVariants as turn_step
+use Rattle.lock_program.specs.declared.end.End.TheVariants as turn_end
+use Rattle.lock_program.specs.declared.rwlock.Purpose.TheVariants as purpose
+use Rattle.lock_program.specs.declared.rwlock.Ending.TheVariants as ending
+use Rattle.lock_program.specs.declared.rwlock.Place.{{Place}}
+use Rattle.lock_program.specs.declared.rwlock.Place.TheVariants.{{{PLACES}}}
 use Rattle.world_rwlock.specs.program.Program.{{action_of, next_of, place_after}}
 use Rattle.world_rwlock.specs.machine.Roles.{{has_turn, in_no_writer, in_no_readers, fits_turn}}
 use Rattle.world_rwlock.specs.program.Parties.{{OnNoWriter, OnNoReaders}}
@@ -402,6 +402,7 @@ keeps_what_it_has o d = not (gives_up d) || is_judged o
 abbrev pub KeepsUpgrade : ℕ → Place → Next → Type 0
 KeepsUpgrade v x (next.Do a q) = (t : TurnCourse) → verdict v q t ≡ None → is_upgrade q ≡ is_upgrade x
 KeepsUpgrade v x (next.Wait q) = is_upgrade q ≡ true
+KeepsUpgrade v x (next.End turn_end.Waiting q) = is_upgrade q ≡ true
 KeepsUpgrade v x (next.End Pending q) = is_upgrade q ≡ is_upgrade x
 KeepsUpgrade v x (next.End (Refused r) q) = is_upgrade q ≡ is_upgrade x
 KeepsUpgrade v x (next.End _ q) = Unit {{0}}

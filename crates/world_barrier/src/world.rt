@@ -1,5 +1,5 @@
 //! The barrier's World: how many arrivals are counted, the inner lock, and the parties that wait. It is a
-//! table over the machine of `barrier_machine`.
+//! table over the machine `machine::Barrier`.
 //!
 //! The Rust crate's `Barrier` runs in threads. Here a wait is a party, and one step is one call, so that
 //! contracts can speak of every interleaving: specs/State says what is seen, specs/Legal what a step may do,

@@ -1,5 +1,5 @@
 //! The mutex's World: a mutex over a number, in which each party has its standing. It is a table over the
-//! machine of `mutex_machine`, with a value beside it.
+//! machine `machine::Lock`, with a value beside it.
 //!
 //! The Rust crate's `Mutex` lends a value of any type and runs in threads. Here the value is a number,
 //! a guard is a party that holds the lock, and one step is one call, so that contracts can speak of

@@ -1,5 +1,5 @@
 //! The once-cell's World: what is in the cell, and the parties that would make its value, and those that
-//! only wait for it. It is a table over the machine of `cell_machine`.
+//! only wait for it. It is a table over the machine `machine::OnceCell`.
 //!
 //! The Rust crate's `OnceCell` runs in threads. Here a future is a party, and one step is one call, so that
 //! contracts can speak of every interleaving: specs/State says what is seen, specs/Legal what a step may do,

@@ -1,5 +1,5 @@
 //! The read-write lock's World: a read-write lock with upgradable reads over a number, in which each
-//! party has its standing. It stands on the machine of `rwlock_machine`.
+//! party has its standing. It stands on the machine `machine::RwLock`.
 //!
 //! The Rust crate's `RwLock` lends a value of any type and runs in threads. Here the value is a number,
 //! a guard is a party that has a right, and one step is one call, so that contracts can speak of every

@@ -1,5 +1,5 @@
 //! The semaphore's World: permits, a limit, and the parties that have, want, add and forget permits. It is a
-//! table over the machine of `semaphore_machine`.
+//! table over the machine `machine::Semaphore`.
 //!
 //! The Rust crate's `Semaphore` runs in threads. Here a guard is a party that has a permit, and one step is
 //! one call, so that contracts can speak of every interleaving: specs/State says what is seen, specs/Legal

@@ -1,7 +1,7 @@
 //! The mutex machine: its word, its list, and where each party stands in its program.
 //!
-//! A mutex's World stands on it, place by place: a call leads on as specs/Courses says, every step is one
-//! of the programs' (specs/Acts), and [`Lock::laws`] says what always holds. Those who build on a mutex
+//! A mutex's World stands on it, place by place: a call leads on as specs/machine/Courses says, every step is one
+//! of the programs' (specs/machine/Acts), and [`Lock::laws`] says what always holds. Those who build on a mutex
 //! and know none of its places stand on [`Mutex`](crate::machine::Mutex).
 
 ghost use Rattle.std.specs.Prelude.{◌≡◌, ◌<◌, length, Some, None, slice_get, IfOk, IsSome, IsSomeAnd};

@@ -1,9 +1,9 @@
 //! A mutex for those who build on one: the machine, seen by the courses of its parties' calls.
 //!
 //! A read-write lock's turn stands on it, and so does the inner lock of a barrier. Its contracts name no
-//! place of a program: they say where each party's call is (specs/Course), what a step does
-//! (specs/Conduct), what always holds (specs/Mutex), and what polls do that are carried out alone
-//! (specs/Alone).
+//! place of a program: they say where each party's call is (specs/machine/Course), what a step does
+//! (specs/machine/Conduct), what always holds (specs/machine/Mutex), and what polls do that are carried out alone
+//! (specs/machine/Alone).
 
 ghost use Rattle.std.specs.Prelude.{◌≡◌, ◌<◌, true, length, slice_get, IfOk};
 

@@ -2,8 +2,8 @@
 //! its program.
 //!
 //! A World stands on it. What it may rest on is said by the contracts alone: every step is one of the
-//! programs' (specs/Acts), [`RwLock::laws`] says what always holds, and a call that its party carries
-//! out alone ends in time (specs/Ranks). The turn is a mutex machine, of which this one uses no more
+//! programs' (specs/machine/Acts), [`RwLock::laws`] says what always holds, and a call that its party carries
+//! out alone ends in time (specs/machine/Ranks). The turn is a mutex machine, of which this one uses no more
 //! than its contracts say.
 
 ghost use Rattle.std.specs.Prelude.{◌≡◌, ◌<◌, length, slice_get, replicate, IfOk, IsSome, IsSomeAnd};
