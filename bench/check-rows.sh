@@ -12,7 +12,7 @@ if [ ! -x "$program" ]; then
     echo "there is no program $program: run 'rt run' in crates/lockrun first" >&2
     exit 2
 fi
-rows='crates/runner_tests/src/rows.rt crates/runner_tests/src/more_rows.rt'
+rows='crates/test_lockrun/src/rows.rt crates/test_lockrun/src/more_rows.rt'
 work=$(mktemp -d)
 trap 'rm -rf "$work"' EXIT
 

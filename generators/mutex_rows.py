@@ -1,5 +1,5 @@
 #!/usr/bin/env python3
-"""Writes the case table of a mutex's steps: crates/mutex_machine/proofs/legal/Rows.antt.
+"""Writes the case table of a mutex's steps: crates/world_mutex/proofs/of_machine/legal/Rows.antt.
 
 Run it at the top of the repository after a change of the mutex's program. Each row is one place
 with one finding of its action: what the step changes, and what it decides.
@@ -7,27 +7,27 @@ with one finding of its action: what the step changes, and what it decides.
 
 HEAD = """-- Each action of a party, place by place: what it changes, and what it decides. Written by generators/mutex_rows.py.
 use Rattle.std.proofs.Common.{◌≡◌, ◌<◌, ◌⊎◌, inl, inr, Bool, true, false, Option, Some, None, refl}
-use Rattle.lock_world.specs.declared.refusal.Refusal.TheVariants.{Memory, Starved}
-use Rattle.lock_world.specs.Steps.{Deed, nothing, changes, does, joins, asks, leaves, notifies, notifies_additionally}
-use Rattle.mutex_program.specs.declared.program.Place.{Place}
-use Rattle.mutex_program.specs.declared.program.Place.TheVariants.{Out, Holding, Enter, Try, Clear, CancelUncount, CancelLeave, Join, Look, Ask, Retry, PassOn, Count, JoinStarved, LookAlone, PassOnListed, AskStarved, Seize, Uncount, Leave, RefuseUncount, RefuseLeave, RefuseNotifyMemory, RefuseNotifyStarved, ReleaseNotify}
-use Rattle.mutex_program.specs.declared.program.Action.{Action}
-use Rattle.mutex_program.specs.declared.program.Action.TheVariants as act
-use Rattle.mutex_program.specs.declared.program.Next.{Next}
-use Rattle.mutex_program.specs.declared.program.Next.TheVariants as next
-use Rattle.mutex_program.specs.declared.calls.End.{End}
-use Rattle.mutex_program.specs.declared.calls.End.TheVariants.{Got, Pending, NotFree, GivenBack, Refused}
-use Rattle.mutex_program.specs.declared.program.Found.{Found}
-use Rattle.mutex_program.specs.declared.program.Found.TheVariants.{Done, Free, Held, SomeStarved, AtLimit, NoMemory, Yes, No}
-use Rattle.mutex_program.specs.Program.{action_of, next_of}
-use Rattle.mutex_program.specs.Roles.{counted, listed}
-use Rattle.mutex_machine.specs.Machine.{Lock}
-use Rattle.mutex_machine.specs.Acts.{Finds, holders, starved}
-use Rattle.mutex_machine.specs.State.{is_holder, is_counted}
-use Rattle.mutex_machine.specs.Legal.{decision}
-use Rattle.mutex_machine.specs.Deeds.{Change, ListName, takes, releases, starves, recovers, for_the_lock, gives_back, gives_up, is_release}
-use Rattle.mutex_machine.proofs.laws.Kept.{after}
-use Rattle.mutex_machine.specs.Courses.{is_counting, may_tell}
+use Rattle.lock_program.specs.declared.refusal.Refusal.TheVariants.{Memory, Starved}
+use Rattle.world_base.specs.Steps.{Deed, nothing, changes, does, joins, asks, leaves, notifies, notifies_additionally}
+use Rattle.lock_program.specs.declared.mutex.Place.{Place}
+use Rattle.lock_program.specs.declared.mutex.Place.TheVariants.{Out, Holding, Enter, Try, Clear, CancelUncount, CancelLeave, Join, Look, Ask, Retry, PassOn, Count, JoinStarved, LookAlone, PassOnListed, AskStarved, Seize, Uncount, Leave, RefuseUncount, RefuseLeave, RefuseNotifyMemory, RefuseNotifyStarved, ReleaseNotify}
+use Rattle.lock_program.specs.declared.mutex.Action.{Action}
+use Rattle.lock_program.specs.declared.mutex.Action.TheVariants as act
+use Rattle.world_mutex.specs.declared.program.led.Next.{Next}
+use Rattle.world_mutex.specs.declared.program.led.Next.TheVariants as next
+use Rattle.lock_program.specs.declared.end.End.{End}
+use Rattle.lock_program.specs.declared.end.End.TheVariants.{Got, Pending, NotFree, GivenBack, Refused}
+use Rattle.lock_program.specs.declared.mutex.Found.{Found}
+use Rattle.lock_program.specs.declared.mutex.Found.TheVariants.{Done, Free, Held, SomeStarved, AtLimit, NoMemory, Yes, No}
+use Rattle.world_mutex.specs.program.Program.{action_of, next_of}
+use Rattle.lock_program.specs.MutexRoles.{counted, listed}
+use Rattle.world_mutex.specs.machine.Machine.{Lock}
+use Rattle.world_mutex.specs.machine.Acts.{Finds, holders, starved}
+use Rattle.world_mutex.specs.machine.State.{is_holder, is_counted}
+use Rattle.world_mutex.specs.machine.Legal.{decision}
+use Rattle.world_mutex.specs.machine.Deeds.{Change, ListName, takes, releases, starves, recovers, for_the_lock, gives_back, gives_up, is_release}
+use Rattle.world_mutex.proofs.of_machine.laws.Kept.{after}
+use Rattle.world_mutex.specs.machine.Courses.{is_counting, may_tell}
 
 -- what an action changes that found this
 abbrev pub deed_of : Action → Found → Deed Change ListName
@@ -74,7 +74,7 @@ Reason memory l from f NotFree = (holders l ≡ 1) ⊎ (0 < starved l)
 Reason memory l from f GivenBack = Unit {0}
 Reason memory l from f (Refused Memory) = (memory ≡ false) × (listed from ≡ 0) × (deed_of (action_of from) f ≡ nothing)
 Reason memory l from f (Refused Starved) = (starved l ≡ l.limit) × (counted from ≡ 0) × (deed_of (action_of from) f ≡ nothing) × (is_counting from ≡ true)
-Reason memory l from f (Refused _) = ⊥
+Reason memory l from f _ = ⊥
 
 abbrev pub Judged : Bool → Lock → Place → Found → Option End → Option End → Type 0
 Judged memory l from f (Some e) o = (o ≡ Some e) × (gives_back (deed_of (action_of from) f) ≡ true)
@@ -207,5 +207,5 @@ one('RefuseNotifyMemory', 'Notify', KEPT)
 one('RefuseNotifyStarved', 'Notify', KEPT)
 one('ReleaseNotify', 'Notify', KEPT)
 
-with open('crates/mutex_machine/proofs/legal/Rows.antt', 'w', encoding='utf-8') as out:
+with open('crates/world_mutex/proofs/of_machine/legal/Rows.antt', 'w', encoding='utf-8') as out:
     out.write(HEAD + '\n'.join(rows) + '\n')

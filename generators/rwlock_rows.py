@@ -1,24 +1,24 @@
 #!/usr/bin/env python3
 """Writes the case tables of a read-write lock's steps: laws/Fits, stages/Links and falls/Falls in
-crates/rwlock_machine/proofs.
+crates/world_rwlock/proofs/of_machine/.
 
 Run it at the top of the repository after a change of the read-write lock's program. Each row is one
 place with one finding of its action: that the roles follow the action, that the party's place goes on
 fitting its place in the turn, and that fewer steps are left.
 """
 
-PROOFS = 'crates/rwlock_machine/proofs/'
+PROOFS = 'crates/world_rwlock/proofs/of_machine/'
 
 PLACES = '''Out, Made, Reading, Upgradable, Writing, EnterRead, JoinNoWriter, LookNoWriter, AskNoWriter, PassOn, LeaveNoWriter, RefuseLeave, RefuseNotify, CancelRead, TryRead, EnterTurn, WaitTurn, TakeTurn, TryTurn, CancelTurn, CancellingTurn, ReleaseTurn, ReleasingTurn, Add, TryUpgrade, Upgrade, Mark, TryWrite, JoinNoReaders, LookNoReaders, AskNoReaders, AwaitNoReaders, LookUnlisted, LeaveNoReaders, DropRead, DropReadNotify, DropUpgradable, DropUpgradableNotify, DropWrite, CancelAwait, Unmark, UnmarkNotify, Down, DownNotify, DowngradeNotify'''
 
-USES = '''use Rattle.mutex_program.specs.declared.calls.Step.TheVariants as turn_step
-use Rattle.mutex_program.specs.declared.calls.End.TheVariants as turn_end
-use Rattle.rwlock_program.specs.declared.program.Purpose.TheVariants as purpose
-use Rattle.rwlock_program.specs.declared.program.Ending.TheVariants as ending
-use Rattle.rwlock_program.specs.declared.program.Place.{Place}
-use Rattle.rwlock_program.specs.declared.program.Place.TheVariants.{%s}
-use Rattle.rwlock_program.specs.declared.program.Found.{Found}
-use Rattle.rwlock_program.specs.declared.program.Found.TheVariants.{Done, Writer, NoneLeft, Yes, Turn}
+USES = '''use Rattle.lock_program.specs.declared.mutex.Step.TheVariants as turn_step
+use Rattle.lock_program.specs.declared.end.End.TheVariants as turn_end
+use Rattle.lock_program.specs.declared.rwlock.Purpose.TheVariants as purpose
+use Rattle.lock_program.specs.declared.rwlock.Ending.TheVariants as ending
+use Rattle.lock_program.specs.declared.rwlock.Place.{Place}
+use Rattle.lock_program.specs.declared.rwlock.Place.TheVariants.{%s}
+use Rattle.lock_program.specs.declared.rwlock.Found.{Found}
+use Rattle.lock_program.specs.declared.rwlock.Found.TheVariants.{Done, Writer, NoneLeft, Yes, Turn}
 ''' % PLACES
 
 PURPOSES = ('purpose.UpgradableRead', 'purpose.Write')
@@ -154,19 +154,19 @@ def table(name, head, lines):
 
 table('laws/Fits.antt', '''-- Each step of a program fits its action. Written by generators/rwlock_rows.py.
 use Rattle.std.proofs.Common.{refl, true, false}
-''' + USES + '''use Rattle.rwlock_program.specs.Program.{action_of, next_of, place_after}
-use Rattle.rwlock_machine.proofs.laws.Steps.{Fits}
+''' + USES + '''use Rattle.world_rwlock.specs.program.Program.{action_of, next_of, place_after}
+use Rattle.world_rwlock.proofs.of_machine.laws.Steps.{Fits}
 
 pub fits : (x : Place) (f : Found) → Fits (action_of x) f x (place_after (next_of x f))
 ''', fits())
 
 table('stages/Links.antt', '''-- Each step leaves the party's place fitting its place in the turn. Written by generators/rwlock_rows.py.
 use Rattle.std.proofs.Common.{◌≡◌, refl, true, false}
-use Rattle.lock_world.specs.declared.refusal.Refusal.TheVariants as refusal
-use Rattle.mutex_machine.specs.Course.{Course as TurnCourse}
-''' + USES + '''use Rattle.rwlock_program.specs.Program.{next_of, place_after}
-use Rattle.rwlock_machine.specs.Roles.{fits_turn}
-use Rattle.rwlock_machine.proofs.stages.Leads.{Led, steps_in_turn}
+use Rattle.lock_program.specs.declared.refusal.Refusal.TheVariants as refusal
+use Rattle.world_mutex.specs.machine.Course.{Course as TurnCourse}
+''' + USES + '''use Rattle.world_rwlock.specs.program.Program.{next_of, place_after}
+use Rattle.world_rwlock.specs.machine.Roles.{fits_turn}
+use Rattle.world_rwlock.proofs.of_machine.stages.Leads.{Led, steps_in_turn}
 
 -- a step that is not in the turn leaves the party there where it was
 pub links : (x : Place) (f : Found) (t to : TurnCourse) → Led x f to → (steps_in_turn x ≡ false → to ≡ t) → fits_turn x t ≡ true → fits_turn (place_after (next_of x f)) to ≡ true
@@ -174,9 +174,9 @@ pub links : (x : Place) (f : Found) (t to : TurnCourse) → Led x f to → (step
 
 table('falls/Falls.antt', '''-- Each step of a party that moves alone leaves fewer steps. Written by generators/rwlock_rows.py.
 use Rattle.std.proofs.Common.{ℕ, ◌<◌, Bool, true, false, arith}
-''' + USES + '''use Rattle.rwlock_program.specs.Program.{action_of, next_of}
-use Rattle.rwlock_machine.specs.Ranks.{left}
-use Rattle.rwlock_machine.proofs.falls.Lowers.{Lowers, then_left}
+''' + USES + '''use Rattle.world_rwlock.specs.program.Program.{action_of, next_of}
+use Rattle.world_rwlock.specs.machine.Ranks.{left}
+use Rattle.world_rwlock.proofs.of_machine.falls.Lowers.{Lowers, then_left}
 
 module _ (here there here' there' : Bool) (turn turn' : ℕ) where
   pub falls : (x : Place) (f : Found) → Lowers here there turn here' there' turn' (action_of x) f → then_left (next_of x f) here' there' turn' < left x here there turn

@@ -1,5 +1,5 @@
 #!/usr/bin/env python3
-"""Writes the case tables of a read-write lock's World: crates/rwlock_world/proofs/step/Paths.antt,
+"""Writes the case tables of a read-write lock's World: crates/world_rwlock/proofs/step/Paths.antt,
 where each action leads, and Rows.antt beside it, what each action on the word or on a list changes and
 decides.
 
@@ -15,27 +15,27 @@ PLACES = ('Out, Made, Reading, Upgradable, Writing, EnterRead, JoinNoWriter, Loo
 
 PATHS_HEAD = f'''-- Where each action leads, place by place. Written by generators/rwlock_world_rows.py.
 use Rattle.std.proofs.Common.{{◌≡◌, ◌&&◌, Bool, true, false, refl}}
-use Rattle.lock_world.specs.declared.refusal.Refusal.{{Refusal}}
-use Rattle.lock_world.specs.declared.refusal.Refusal.TheVariants as refusal
-use Rattle.mutex_machine.specs.Course.{{Course as TurnCourse}}
-use Rattle.mutex_program.specs.declared.calls.Step.TheVariants as turn_step
-use Rattle.mutex_program.specs.declared.calls.End.TheVariants as turn_end
-use Rattle.rwlock_program.specs.declared.program.Purpose.TheVariants as purpose
-use Rattle.rwlock_program.specs.declared.program.Ending.TheVariants as ending
-use Rattle.lock_table.specs.declared.end.End.{{End}}
-use Rattle.lock_table.specs.declared.end.End.TheVariants.{{Got, Granted, Pending, NotFree, GivenBack, Refused}}
-use Rattle.rwlock_program.specs.declared.program.Next.{{Next}}
-use Rattle.rwlock_program.specs.declared.program.Next.TheVariants as next
-use Rattle.rwlock_program.specs.declared.program.Found.{{Found}}
-use Rattle.rwlock_program.specs.declared.program.Found.TheVariants.{{Done, Writer, Full, NoneLeft, SomeLeft, NoMemory, Yes, No, Turn}}
-use Rattle.rwlock_program.specs.declared.program.Found.TheVariants as found
-use Rattle.rwlock_program.specs.declared.program.Place.{{Place}}
-use Rattle.rwlock_program.specs.declared.program.Place.TheVariants.{{{PLACES}}}
-use Rattle.rwlock_program.specs.Program.{{action_of, next_of}}
-use Rattle.rwlock_machine.specs.Machine.{{RwLock}}
-use Rattle.rwlock_machine.specs.Acts.{{Finds}}
-use Rattle.rwlock_machine.proofs.stages.Leads.{{Led}}
-use Rattle.rwlock_world.specs.Stages.{{Course, polls, tries, drops, downgrades, upgrades, tries_upgrade, strays, course_of, is_inside, sought_at, is_out, is_future, is_guard}}
+use Rattle.lock_program.specs.declared.refusal.Refusal.{{Refusal}}
+use Rattle.lock_program.specs.declared.refusal.Refusal.TheVariants as refusal
+use Rattle.world_mutex.specs.machine.Course.{{Course as TurnCourse}}
+use Rattle.lock_program.specs.declared.mutex.Step.TheVariants as turn_step
+use Rattle.lock_program.specs.declared.end.End.TheVariants as turn_end
+use Rattle.lock_program.specs.declared.rwlock.Purpose.TheVariants as purpose
+use Rattle.lock_program.specs.declared.rwlock.Ending.TheVariants as ending
+use Rattle.lock_program.specs.declared.end.End.{{End}}
+use Rattle.lock_program.specs.declared.end.End.TheVariants.{{Got, Granted, Pending, NotFree, GivenBack, Refused}}
+use Rattle.world_rwlock.specs.declared.program.led.Next.{{Next}}
+use Rattle.world_rwlock.specs.declared.program.led.Next.TheVariants as next
+use Rattle.lock_program.specs.declared.rwlock.Found.{{Found}}
+use Rattle.lock_program.specs.declared.rwlock.Found.TheVariants.{{Done, Writer, Full, NoneLeft, SomeLeft, NoMemory, Yes, No, Turn}}
+use Rattle.lock_program.specs.declared.rwlock.Found.TheVariants as found
+use Rattle.lock_program.specs.declared.rwlock.Place.{{Place}}
+use Rattle.lock_program.specs.declared.rwlock.Place.TheVariants.{{{PLACES}}}
+use Rattle.world_rwlock.specs.program.Program.{{action_of, next_of}}
+use Rattle.world_rwlock.specs.machine.Machine.{{RwLock}}
+use Rattle.world_rwlock.specs.machine.Acts.{{Finds}}
+use Rattle.world_rwlock.proofs.of_machine.stages.Leads.{{Led}}
+use Rattle.world_rwlock.specs.Stages.{{Course, polls, tries, drops, downgrades, upgrades, tries_upgrade, strays, course_of, is_inside, sought_at, is_out, is_future, is_guard}}
 
 -- the refusals of a read-write lock's futures
 abbrev pub is_ours : Refusal → Bool
@@ -211,7 +211,7 @@ for k in ('true', 'false'):
 word('DownNotify', 'Done')
 word('DowngradeNotify', 'Done')
 
-with open('crates/rwlock_world/proofs/step/Paths.antt', 'w', encoding='utf-8') as out:
+with open('crates/world_rwlock/proofs/step/Paths.antt', 'w', encoding='utf-8') as out:
     out.write(PATHS_HEAD + '\n'.join(paths) + '\n')
 
 
@@ -219,45 +219,45 @@ ROWS_HEAD = f'''-- What each action on the word or on a list changes and decides
 use Rattle.std.proofs.Common.{{◌≡◌, ℕ, ◌+◌, ◌<◌, ◌≤◌, ◌==◌, ◌⊎◌, ◌||◌, not, inl, inr, if◌then◌else◌, Bool, true, false, List, Option, Some, None, refl, sym, ◌∙◌}}
 use Rattle.lock_event.specs.declared.event.Entry.{{Entry}}
 use Rattle.lock_event.specs.Lists.{{is_marked_at, without}}
-use Rattle.lock_queue.specs.Parties.{{is_party}}
-use Rattle.lock_world.specs.declared.moves.Answer.{{Answer}}
-use Rattle.lock_world.specs.declared.moves.Answer.TheVariants as answer
-use Rattle.lock_world.specs.declared.moves.Got.TheVariants.{{Value}}
-use Rattle.lock_world.specs.declared.refusal.Refusal.{{Refusal}}
-use Rattle.lock_world.specs.declared.refusal.Refusal.TheVariants as refusal
-use Rattle.lock_world.specs.Refusals.{{number_of}}
-use Rattle.lock_world.specs.Rights.{{Right, read, upgradable}}
-use Rattle.lock_world.specs.Steps.{{Deed, nothing, changes, does, joins, asks, leaves, notifies}}
-use Rattle.lock_world.proofs.Equations.{{chosen}}
-use Rattle.mutex_machine.specs.Course.{{Course as TurnCourse, is_out as is_out_there, is_holding}}
-use Rattle.rwlock_program.specs.declared.program.Action.{{Action}}
-use Rattle.rwlock_program.specs.declared.program.Action.TheVariants as act
-use Rattle.lock_table.specs.declared.end.End.TheVariants.{{Pending, Refused}}
-use Rattle.rwlock_program.specs.declared.program.Next.{{Next}}
-use Rattle.rwlock_program.specs.declared.program.Next.TheVariants as next
-use Rattle.rwlock_program.specs.declared.program.Found.{{Found}}
-use Rattle.rwlock_program.specs.declared.program.Found.TheVariants.{{Done, Writer, Full, NoneLeft, SomeLeft, NoMemory, Yes, No, Turn}}
-use Rattle.rwlock_program.specs.declared.program.Found.TheVariants as found
-use Rattle.mutex_program.specs.declared.calls.Step.TheVariants as turn_step
-use Rattle.mutex_program.specs.declared.calls.End.TheVariants as turn_end
-use Rattle.rwlock_program.specs.declared.program.Purpose.TheVariants as purpose
-use Rattle.rwlock_program.specs.declared.program.Ending.TheVariants as ending
-use Rattle.rwlock_program.specs.declared.program.Place.{{Place}}
-use Rattle.rwlock_program.specs.declared.program.Place.TheVariants.{{{PLACES}}}
-use Rattle.rwlock_program.specs.Program.{{action_of, next_of, place_after}}
-use Rattle.rwlock_machine.specs.Roles.{{has_turn, in_no_writer, in_no_readers, fits_turn}}
-use Rattle.rwlock_program.specs.Parties.{{OnNoWriter, OnNoReaders}}
-use Rattle.rwlock_machine.specs.Machine.{{RwLock}}
-use Rattle.rwlock_machine.specs.Acts.{{Finds, readers, marked}}
-use Rattle.rwlock_machine.proofs.stages.Leads.{{Led, steps_in_turn}}
-use Rattle.rwlock_world.specs.Changes.{{Change, begins_to_read, stops_reading, becomes_upgradable, stops_upgradable, begins_to_wait, begins_to_write, upgrades, upgrades_at_once, unmarks, downgrades, downgrades_to_upgradable, turn_after, starved_after, value_after, entries_after, gives_back, gives_up}}
-use Rattle.rwlock_world.specs.State as state
-use Rattle.rwlock_world.specs.State.{{ListName, for_the_turn, for_no_readers, for_no_writer}}
-use Rattle.lock_table.proofs.Calls.{{decided_after}}
-use Rattle.rwlock_world.specs.Guarded.{{answer_by}}
-use Rattle.rwlock_world.specs.Stages.{{strays, course_of, sought_at}}
-use Rattle.rwlock_world.specs.View.{{passing, upgrading, waiting, writing, turn_as, share_of, is_reading, is_upgrade, verdict}}
-use Rattle.lock_world.specs.Steps.{{notifies_additionally}}
+use Rattle.world_base.specs.queue.Parties.{{is_party}}
+use Rattle.world_base.specs.declared.moves.Answer.{{Answer}}
+use Rattle.world_base.specs.declared.moves.Answer.TheVariants as answer
+use Rattle.world_base.specs.declared.moves.Got.TheVariants.{{Value}}
+use Rattle.lock_program.specs.declared.refusal.Refusal.{{Refusal}}
+use Rattle.lock_program.specs.declared.refusal.Refusal.TheVariants as refusal
+use Rattle.lock_program.specs.Refusals.{{number_of}}
+use Rattle.world_base.specs.Rights.{{Right, read, upgradable}}
+use Rattle.world_base.specs.Steps.{{Deed, nothing, changes, does, joins, asks, leaves, notifies}}
+use Rattle.world_base.proofs.Equations.{{chosen}}
+use Rattle.world_mutex.specs.machine.Course.{{Course as TurnCourse, is_out as is_out_there, is_holding}}
+use Rattle.lock_program.specs.declared.rwlock.Action.{{Action}}
+use Rattle.lock_program.specs.declared.rwlock.Action.TheVariants as act
+use Rattle.lock_program.specs.declared.end.End.TheVariants.{{Pending, Refused}}
+use Rattle.world_rwlock.specs.declared.program.led.Next.{{Next}}
+use Rattle.world_rwlock.specs.declared.program.led.Next.TheVariants as next
+use Rattle.lock_program.specs.declared.rwlock.Found.{{Found}}
+use Rattle.lock_program.specs.declared.rwlock.Found.TheVariants.{{Done, Writer, Full, NoneLeft, SomeLeft, NoMemory, Yes, No, Turn}}
+use Rattle.lock_program.specs.declared.rwlock.Found.TheVariants as found
+use Rattle.lock_program.specs.declared.mutex.Step.TheVariants as turn_step
+use Rattle.lock_program.specs.declared.end.End.TheVariants as turn_end
+use Rattle.lock_program.specs.declared.rwlock.Purpose.TheVariants as purpose
+use Rattle.lock_program.specs.declared.rwlock.Ending.TheVariants as ending
+use Rattle.lock_program.specs.declared.rwlock.Place.{{Place}}
+use Rattle.lock_program.specs.declared.rwlock.Place.TheVariants.{{{PLACES}}}
+use Rattle.world_rwlock.specs.program.Program.{{action_of, next_of, place_after}}
+use Rattle.world_rwlock.specs.machine.Roles.{{has_turn, in_no_writer, in_no_readers, fits_turn}}
+use Rattle.world_rwlock.specs.program.Parties.{{OnNoWriter, OnNoReaders}}
+use Rattle.world_rwlock.specs.machine.Machine.{{RwLock}}
+use Rattle.world_rwlock.specs.machine.Acts.{{Finds, readers, marked}}
+use Rattle.world_rwlock.proofs.of_machine.stages.Leads.{{Led, steps_in_turn}}
+use Rattle.world_rwlock.specs.Changes.{{Change, begins_to_read, stops_reading, becomes_upgradable, stops_upgradable, begins_to_wait, begins_to_write, upgrades, upgrades_at_once, unmarks, downgrades, downgrades_to_upgradable, turn_after, starved_after, value_after, entries_after, gives_back, gives_up}}
+use Rattle.world_rwlock.specs.State as state
+use Rattle.world_rwlock.specs.State.{{ListName, for_the_turn, for_no_readers, for_no_writer}}
+use Rattle.world_base.proofs.of_table.Calls.{{decided_after}}
+use Rattle.world_rwlock.specs.Guarded.{{answer_by}}
+use Rattle.world_rwlock.specs.Stages.{{strays, course_of, sought_at}}
+use Rattle.world_rwlock.specs.View.{{passing, upgrading, waiting, writing, turn_as, share_of, is_reading, is_upgrade, verdict}}
+use Rattle.world_base.specs.Steps.{{notifies_additionally}}
 
 -- what an action changes that found this
 abbrev pub deed_of : Action → Found → Deed Change ListName
@@ -402,6 +402,7 @@ keeps_what_it_has o d = not (gives_up d) || is_judged o
 abbrev pub KeepsUpgrade : ℕ → Place → Next → Type 0
 KeepsUpgrade v x (next.Do a q) = (t : TurnCourse) → verdict v q t ≡ None → is_upgrade q ≡ is_upgrade x
 KeepsUpgrade v x (next.Wait q) = is_upgrade q ≡ true
+KeepsUpgrade v x (next.End turn_end.Waiting q) = is_upgrade q ≡ true
 KeepsUpgrade v x (next.End Pending q) = is_upgrade q ≡ is_upgrade x
 KeepsUpgrade v x (next.End (Refused r) q) = is_upgrade q ≡ is_upgrade x
 KeepsUpgrade v x (next.End _ q) = Unit {{0}}
@@ -636,5 +637,5 @@ for k in ENDINGS:
     turn_rest(f'(ReleasingTurn {k})')
 turn_rows.append('turn_row v u _ f t e = absurd (cc)')
 
-with open('crates/rwlock_world/proofs/step/Rows.antt', 'w', encoding='utf-8') as out:
+with open('crates/world_rwlock/proofs/step/Rows.antt', 'w', encoding='utf-8') as out:
     out.write(ROWS_HEAD + '\n'.join(rows) + '\n' + TURN_ROWS + '\n'.join(turn_rows) + '\n')

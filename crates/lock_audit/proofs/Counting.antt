@@ -1,7 +1,7 @@
 -- Numbers of histories and of lists that grow.
 use Rattle.std.proofs.Common.{◌≡◌, ℕ, ◌++◌, List, [], ◌∷◌, arith, refl}
-use Rattle.lock_world.specs.declared.moves.Answer.{Answer}
-use Rattle.lock_world.specs.declared.moves.Move.{Move}
+use Rattle.world_base.specs.declared.moves.Answer.{Answer}
+use Rattle.world_base.specs.declared.moves.Move.{Move}
 use Rattle.lock_audit.specs.Numbers.{Numbers, plus, counted, numbers_of, sums}
 
 numbers : ℕ → ℕ → ℕ → ℕ → ℕ → ℕ → Numbers

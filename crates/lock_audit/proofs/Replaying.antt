@@ -1,7 +1,7 @@
 -- Histories that grow.
 use Rattle.std.proofs.Common.{◌≡◌, ◌++◌, List, [], ◌∷◌, refl, subst}
-use Rattle.lock_world.specs.declared.moves.Answer.{Answer}
-use Rattle.lock_world.specs.declared.moves.Move.{Move}
+use Rattle.world_base.specs.declared.moves.Answer.{Answer}
+use Rattle.world_base.specs.declared.moves.Move.{Move}
 use Rattle.lock_audit.specs.Histories.{Replays}
 
 module _ {W : Type 0} (legal : W → Move → Answer → W → Type 0) where

@@ -1,7 +1,7 @@
 -- What a contract sees of a book, and when a history replays.
 use Rattle.std.specs.Prelude.{◌≡◌, ℕ, List, [], ◌∷◌}
-use Rattle.lock_world.specs.declared.moves.Answer.{Answer}
-use Rattle.lock_world.specs.declared.moves.Move.{Move}
+use Rattle.world_base.specs.declared.moves.Answer.{Answer}
+use Rattle.world_base.specs.declared.moves.Move.{Move}
 
 -- A World, its moves with their answers, oldest first, and how many there may be before a record needs more memory.
 pub record Pages (W : Type 0) : Type 0 where

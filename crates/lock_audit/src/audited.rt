@@ -8,11 +8,10 @@ use crate::book::Book;
 use crate::ledgers::{Blanks, Ledgers};
 use crate::tokens::{self, Tokens, Totals};
 use lock_event::Memory;
-use lock_frame::AnyWorld;
-use lock_world::{Answer, Move};
 use std::alloc::Global;
 use std::marker::Model;
 use std::sync::{Mutex, Wait};
+use world_base::{Answer, AnyWorld, Move};
 
 /// One share of an audit. Contracts see the numbers that were counted on it. It takes no bytes.
 ///

@@ -3,10 +3,9 @@
 ghost use Rattle.std.specs.Prelude.{◌≡◌, ◌+◌, ◌<◌, ◌≤◌, [], ◌∷◌, ◌++◌, length, IsOk, IfOk, OnOk, OnErr};
 
 use lock_event::Memory;
-use lock_frame::AnyWorld;
-use lock_world::{Answer, Move};
 use std::alloc::Global;
 use std::marker::Model;
+use world_base::{Answer, AnyWorld, Move};
 
 /// A World of any lock, and the history of its moves, each with its answer.
 ///

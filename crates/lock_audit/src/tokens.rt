@@ -5,9 +5,9 @@ ghost use Rattle.lock_audit.specs.Ledgers.{Cut};
 ghost use Rattle.lock_audit.specs.Numbers.{Numbers, nothing, plus, counted, calls_of, grants_of, granted_of, refusals_of, gives_back_of};
 
 use crate::ledgers::{Blanks, Calls, GivesBack, Granted, Grants, Ledgers, Moves, Refusals};
-use lock_world::{Answer, Got, Move, What};
 use std::marker::Model;
 use std::sync::ledger::{Book, Share};
+use world_base::{Answer, Got, Move, What};
 
 /// Some parts of each ledger, as many of one as of the others.
 pub struct Tokens<L: Ledgers> {

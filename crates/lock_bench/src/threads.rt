@@ -3,7 +3,7 @@
 
 use crate::timing::{RUNS, nanoseconds, tenths};
 use async_lock::Mutex;
-use lock_workers::{Gate, public};
+use lockrun_runner::workers::{Gate, public};
 use std::alloc::{AllocGlobal, Global};
 use std::hint::black_box;
 use std::random::RandomSource;

@@ -1,20 +1,20 @@
 //! Carries out a script of moves on the Worlds of the locks, and prints each answer.
 #![tactic(auto)]
 
-use lock_runner::{Fault, Open};
+use lockrun_runner::{Fault, Open};
 use std::io::BufWriter;
 use std::process::ExitCode;
 
 /// The whole run, on the streams of the process.
 fn main(rt: HostRuntime) -> ExitCode {
-    let words = match lock_runner::arguments(&rt) {
+    let words = match lockrun_runner::arguments(&rt) {
         Ok(words) => words,
         Err(fault) => return ended(fault, &rt),
     };
     let Ok(mut output) = BufWriter::new(rt.alloc(), rt.stdout()) else {
         return ended(Fault::Memory, &rt);
     };
-    ExitCode::from(lock_runner::run(
+    ExitCode::from(lockrun_runner::run(
         &rt,
         rt.alloc(),
         words.as_slice(),
@@ -27,5 +27,5 @@ fn main(rt: HostRuntime) -> ExitCode {
 
 /// The status of a run that ends so before it begins.
 fn ended(fault: Fault, rt: &HostRuntime) -> ExitCode {
-    ExitCode::from(lock_runner::report(fault, &mut rt.stderr()))
+    ExitCode::from(lockrun_runner::report(fault, &mut rt.stderr()))
 }

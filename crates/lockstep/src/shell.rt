@@ -1,10 +1,10 @@
 //! What a lock's shell offers to be driven beside its World.
 
 use crate::bench::Bench;
-use lock_world::{Answer, Move, What};
 use std::alloc::Global;
 use std::fmt::Debug;
 use std::sync::Wait;
+use world_base::{Answer, Move, What};
 
 /// A World's move, with the answer that the shell gives to it.
 #[derive(Clone, Copy, Debug, PartialEq, Eq)]

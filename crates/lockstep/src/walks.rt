@@ -5,10 +5,10 @@
 
 use crate::bench::Bench;
 use crate::shell::{Beside, Did, Shell};
-use lock_world::{Answer, Move};
 use std::alloc::Global;
 use std::collections::BTreeMap;
 use std::sync::Wait;
+use world_base::{Answer, Move};
 
 /// A move that a shell's party made, and what the World answered.
 #[derive(Clone, Copy, Debug, PartialEq, Eq)]

@@ -4,10 +4,10 @@ ghost use Rattle.std.specs.Prelude.{◌≡◌, ℕ};
 ghost use Rattle.futures.specs.Task.{Covers, Keeps};
 ghost use Rattle.async_driver.specs.Turns.{OnPending};
 
+use async_driver::{Polled, Settled, Turn};
 use futures::task::{Context, Poll};
 use futures::test::MockTask;
 use lock_program::Refusal;
-use async_driver::{Polled, Settled, Turn};
 
 /// Answers pending, then a refusal, then a number.
 #[derive(Drop)]

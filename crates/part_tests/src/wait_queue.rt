@@ -1,11 +1,11 @@
 //! The list of parties, through its public calls.
 
 ghost use Rattle.std.specs.Prelude.{◌≡◌, ℕ, []};
-ghost use Rattle.lock_queue.specs.Queues.{queue};
+ghost use Rattle.world_base.specs.queue.Queues.{queue};
 
 use crate::text::{Readable, is_read, word_of};
-use lock_queue::WaitQueue;
 use std::process::Abort;
+use world_base::queue::WaitQueue;
 
 impl Readable for WaitQueue {
     fn word(&self, index: usize) -> Option<[u8; 2]> {

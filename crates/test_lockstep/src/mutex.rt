@@ -11,10 +11,10 @@ use lock_program::End;
 use lock_program::mutex::{LockCall, Place};
 use lock_words::Words;
 use lockstep::{Acted, Bench, Beside, Did, Dids, Shell, moved};
-use lock_world::{Answer, Call, Got, Inputs, Made, Move, What};
-use mutex_world::World;
 use std::alloc::{AllocFailed, Global};
 use std::sync::{Arc, Wait};
+use world_base::{Answer, Call, Got, Inputs, Made, Move, What};
+use world_mutex::World;
 
 /// What a party of a mutex can do next.
 #[derive(Clone, Copy, Debug, PartialEq, Eq)]

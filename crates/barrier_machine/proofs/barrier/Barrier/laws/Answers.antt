@@ -1,8 +1,0 @@
--- What always holds of the fields, said of the value.
-use Rattle.barrier_machine.proofs.laws.Laws.{is_barrier}
-use Rattle.barrier_machine.proofs.barrier.Barrier.laws.Goals as goal
-
-pub returns : goal.returns
-returns c =
-    rw (← c.self.view_is)
-    (is_barrier c.self.inside.words c.self.inside.positions.items c.self.inside.arrivals.items c.self.inside.list c.self.inside.lock c.self.invariant c.laws.ensures c.laws-2.ensures.in_order)

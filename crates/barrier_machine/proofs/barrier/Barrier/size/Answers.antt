@@ -1,6 +1,0 @@
--- A barrier is for as many as its size.
-use Rattle.std.proofs.Common.{refl}
-use Rattle.barrier_machine.proofs.barrier.Barrier.size.Goals as goal
-
-pub returns : goal.returns
-returns c = rw (← c.self.view_is) refl

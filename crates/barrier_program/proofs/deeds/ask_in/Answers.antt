@@ -1,6 +1,0 @@
--- A party is told what its entry says.
-use Rattle.std.proofs.Common.{sym, ◌∙◌}
-use Rattle.barrier_program.proofs.deeds.ask_in.Goals as goal
-
-pub returns-then-ask-clause-finds : goal.returns-then-ask-clause-finds
-returns-then-ask-clause-finds c = sym c.ask.ensures.answer ∙ c.if-ask.true

@@ -1,5 +1,0 @@
--- There is no join without memory.
-use Rattle.barrier_program.proofs.deeds.join_in.Goals as goal
-
-pub returns-else-memory-clause-finds : goal.returns-else-memory-clause-finds
-returns-else-memory-clause-finds c = c.if-memory.false

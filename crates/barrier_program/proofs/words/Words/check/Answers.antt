@@ -1,5 +1,0 @@
--- An arrival of the generation that is not finished is not over.
-use Rattle.barrier_program.proofs.words.Words.check.Goals as goal
-
-pub returns-then-arrival-self : goal.returns-then-arrival-self
-returns-then-arrival-self c = c.if-arrival-self.true

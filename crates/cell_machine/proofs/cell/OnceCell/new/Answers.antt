@@ -1,8 +1,0 @@
--- A new cell.
-use Rattle.std.proofs.Common.{arith}
-use Rattle.cell_machine.proofs.laws.New.{new_is}
-use Rattle.cell_machine.proofs.cell.OnceCell.new.Goals as goal
-
-pub invariant_of-result : goal.invariant_of-result
-invariant_of-result c =
-    rw (c.new-3.ensures.kept, c.in_ok-active.ensures, c.in_ok-passive.ensures, c.in_ok-positions.ensures) (new_is c.args.parties (omega (arith, c.ranges.parties)))

@@ -1,5 +1,0 @@
--- A list is counted by its name.
-use Rattle.cell_machine.proofs.cell.OnceCell.waiting.Goals as goal
-
-pub returns-in-Active : goal.returns-in-Active
-returns-in-Active c = rw c.in-Active.is (rw (← c.self.view_is) c.len.ensures)

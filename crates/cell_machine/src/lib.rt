@@ -1,9 +1,0 @@
-//! The machine of a once-cell: the words and the lists that go by its programs.
-//!
-//! The programs, the words and what one action does stand in the crate `cell_program`; [`OnceCell`] is the words, the lists
-//! and where each party stands.
-#![tactic(auto)]
-
-mod cell;
-
-pub use cell::OnceCell;

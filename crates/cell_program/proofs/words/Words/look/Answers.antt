@@ -1,5 +1,0 @@
--- A look finds what is in the cell.
-use Rattle.cell_program.proofs.words.Words.look.Goals as goal
-
-pub returns-in-Full : goal.returns-in-Full
-returns-in-Full c = rw c.content.ensures at c.in-Full.is

@@ -1,6 +1,0 @@
--- A value that is there stays.
-use Rattle.std.proofs.Common.{refl}
-use Rattle.cell_program.proofs.words.Words.settle.Goals as goal
-
-pub returns-else-is_none-clause-content : goal.returns-else-is_none-clause-content
-returns-else-is_none-clause-content c = refl

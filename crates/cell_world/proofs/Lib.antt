@@ -1,7 +1,0 @@
-pub mod table
-pub mod step
-pub mod Values
-pub mod laws
-pub mod rights
-pub mod whole
-pub mod bound

@@ -1,9 +1,0 @@
--- A new table is seen as a new World.
-use Rattle.std.proofs.Common.{ap, ◌∙◌}
-use Rattle.lock_table.specs.Tables.{new_table}
-use Rattle.cell_world.specs.View.{view_of}
-use Rattle.cell_world.proofs.table.Opening.{starts_new}
-use Rattle.cell_world.proofs.world.World.new.Goals as goal
-
-pub returns-in-Ok-new-clause-opening : goal.returns-in-Ok-new-clause-opening
-returns-in-Ok-new-clause-opening c = ap view_of c.in-Ok-new.ensures ∙ (ap (λ s. view_of (new_table s c.args.parties 0)) c.in-Ok.ensures ∙ starts_new c.args.parties)

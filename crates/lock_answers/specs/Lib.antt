@@ -1,4 +1,0 @@
-pub mod Answers
-pub mod Requests
-pub mod States
-pub mod Limits

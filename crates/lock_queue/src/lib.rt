@@ -1,7 +1,0 @@
-//! A waiting list of numbered parties, each of which has at most one entry.
-#![tactic(auto)]
-
-mod seat;
-mod wait_queue;
-
-pub use wait_queue::WaitQueue;

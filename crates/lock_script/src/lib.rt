@@ -1,4 +1,0 @@
-//! What a script of moves may say: what each of its lines asks for.
-#![tactic(auto)]
-
-pub mod command;

@@ -1,6 +1,0 @@
--- While a call goes on, its party is inside.
-use Rattle.std.proofs.Common.{refl}
-use Rattle.lock_table.proofs.stages.stage_after.Goals as goal
-
-pub returns-in-Stepped : goal.returns-in-Stepped
-returns-in-Stepped c = rw c.in-Stepped.is refl

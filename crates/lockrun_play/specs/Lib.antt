@@ -1,0 +1,10 @@
+pub mod Openings
+pub mod Mutex
+pub mod RwLock
+pub mod Semaphore
+pub mod Cell
+pub mod Barrier
+pub mod Worlds
+pub mod Faults
+pub mod Scripts
+pub mod Plays

@@ -1,0 +1,8 @@
+pub mod Lines
+pub mod Maker
+pub mod Numbers
+pub mod Names
+pub mod Calls
+pub mod Asks
+pub mod Texts
+pub mod StateTexts

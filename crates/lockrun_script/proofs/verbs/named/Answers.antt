@@ -1,0 +1,35 @@
+use Rattle.lockrun_script.proofs.Names.{same_verb}
+use Rattle.lockrun_script.proofs.verbs.named.Goals as goal
+
+pub returns-then-is : goal.returns-then-is
+returns-then-is c = let named = c.is.ensures.0 c.if-is.true in record { is = named; asked = same_verb c.args.word.now _ named }
+
+pub returns-then-is-2 : goal.returns-then-is-2
+returns-then-is-2 c = let named = c.is-2.ensures.0 c.if-is-2.true in record { is = named; asked = same_verb c.args.word.now _ named }
+
+pub returns-then-is-3 : goal.returns-then-is-3
+returns-then-is-3 c = let named = c.is-3.ensures.0 c.if-is-3.true in record { is = named; asked = same_verb c.args.word.now _ named }
+
+pub returns-then-is-4 : goal.returns-then-is-4
+returns-then-is-4 c = let named = c.is-4.ensures.0 c.if-is-4.true in record { is = named; asked = same_verb c.args.word.now _ named }
+
+pub returns-then-is-5 : goal.returns-then-is-5
+returns-then-is-5 c = let named = c.is-5.ensures.0 c.if-is-5.true in record { is = named; asked = same_verb c.args.word.now _ named }
+
+pub returns-then-is-6 : goal.returns-then-is-6
+returns-then-is-6 c = let named = c.is-6.ensures.0 c.if-is-6.true in record { is = named; asked = same_verb c.args.word.now _ named }
+
+pub returns-then-is-7 : goal.returns-then-is-7
+returns-then-is-7 c = let named = c.is-7.ensures.0 c.if-is-7.true in record { is = named; asked = same_verb c.args.word.now _ named }
+
+pub returns-then-is-8 : goal.returns-then-is-8
+returns-then-is-8 c = let named = c.is-8.ensures.0 c.if-is-8.true in record { is = named; asked = same_verb c.args.word.now _ named }
+
+pub returns-then-is-9 : goal.returns-then-is-9
+returns-then-is-9 c = let named = c.is-9.ensures.0 c.if-is-9.true in record { is = named; asked = same_verb c.args.word.now _ named }
+
+pub returns-then-is-10 : goal.returns-then-is-10
+returns-then-is-10 c = let named = c.is-10.ensures.0 c.if-is-10.true in record { is = named; asked = same_verb c.args.word.now _ named }
+
+pub returns-then-is-11 : goal.returns-then-is-11
+returns-then-is-11 c = let named = c.is-11.ensures.0 c.if-is-11.true in record { is = named; asked = same_verb c.args.word.now _ named }

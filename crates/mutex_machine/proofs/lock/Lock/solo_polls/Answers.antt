@@ -1,6 +1,0 @@
--- Polls that are carried out alone.
-use Rattle.mutex_machine.proofs.solo_polls.SoloPolls.{solo_polls as law}
-use Rattle.mutex_machine.proofs.lock.Lock.solo_polls.Goals as goal
-
-pub returns : goal.returns
-returns c = law c.args.self.now c.laws.ensures

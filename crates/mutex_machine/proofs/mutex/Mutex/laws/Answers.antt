@@ -1,6 +1,0 @@
--- What always holds of the machine, said of the mutex.
-use Rattle.mutex_machine.proofs.legal.Clauses.{is_mutex}
-use Rattle.mutex_machine.proofs.mutex.Mutex.laws.Goals as goal
-
-pub returns : goal.returns
-returns c = rw (← c.self.view_is) (is_mutex c.self.inside.machine c.self.invariant c.laws.ensures)

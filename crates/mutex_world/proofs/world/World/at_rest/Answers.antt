@@ -1,9 +1,0 @@
--- The World is at rest where its table is.
-use Rattle.std.proofs.Common.{ap, sym, ◌∙◌}
-use Rattle.lock_table.proofs.Views.{rest_seen}
-use Rattle.mutex_world.specs.Laws.{is_at_rest}
-use Rattle.mutex_world.specs.View.{verdict}
-use Rattle.mutex_world.proofs.world.World.at_rest.Goals as goal
-
-pub returns : goal.returns
-returns c = c.at_rest.ensures ∙ (sym (rest_seen (verdict c.self.inside.table.machine) c.self.inside.table.stages) ∙ ap is_at_rest c.self.view_is)

@@ -1,5 +1,0 @@
--- Fewer steps are left.
-use Rattle.rwlock_machine.proofs.machine.RwLock.go.Goals as goal
-
-pub returns-clause-falls : goal.returns-clause-falls
-returns-clause-falls c = rw c.place.ensures at c.act.ensures.falls

@@ -1,5 +1,0 @@
--- Who has no memory joins nothing.
-use Rattle.rwlock_program.proofs.deeds.join.Goals as goal
-
-pub returns-else-memory-clause-memory : goal.returns-else-memory-clause-memory
-returns-else-memory-clause-memory c = c.if-memory.false

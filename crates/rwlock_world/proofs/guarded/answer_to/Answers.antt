@@ -1,7 +1,0 @@
--- A call that is over is answered by its end, over the number.
-use Rattle.std.proofs.Common.{ap, sym, ◌∙◌}
-use Rattle.rwlock_world.specs.Guarded.{answer_by}
-use Rattle.rwlock_world.proofs.guarded.answer_to.Goals as goal
-
-pub returns-in-End : goal.returns-in-End
-returns-in-End c = c.answer.ensures ∙ sym (ap (answer_by c.args.value) c.in-End.is)

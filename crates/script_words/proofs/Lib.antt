@@ -1,4 +1,0 @@
-pub mod Lines
-pub mod Maker
-pub mod Numbers
-pub mod Names

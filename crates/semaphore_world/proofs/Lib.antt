@@ -1,6 +1,0 @@
-pub mod table
-pub mod step
-pub mod laws
-pub mod rights
-pub mod whole
-pub mod bound

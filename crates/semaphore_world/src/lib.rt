@@ -1,6 +1,0 @@
-//! The World of a semaphore: its parties, their calls, and every interleaving of their steps.
-#![tactic(auto)]
-
-mod world;
-
-pub use world::World;

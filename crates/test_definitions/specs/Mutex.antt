@@ -1,0 +1,341 @@
+-- Runs of a mutex that no user would accept. Each record is one wrong run: what its steps would be, if it were legal.
+use Rattle.std.specs.Prelude.{◌≡◌, ◌≢◌, ℕ, ◌<◌, true, false, length, Some, None}
+use Rattle.lock_event.specs.declared.event.Mark.TheVariants.{Waiting}
+use Rattle.lock_event.specs.Lists.{marked_count, is_marked_at}
+use Rattle.world_base.specs.queue.Parties.{is_party, entries_of}
+use Rattle.world_base.specs.declared.moves.Answer.{Answer}
+use Rattle.world_base.specs.declared.moves.Answer.TheVariants as answer
+use Rattle.world_base.specs.declared.moves.Call.{Call}
+use Rattle.world_base.specs.declared.moves.Call.TheVariants as call
+use Rattle.world_base.specs.declared.moves.Got.{Got}
+use Rattle.world_base.specs.declared.moves.Inputs.{Inputs}
+use Rattle.world_base.specs.declared.moves.Move.{Move}
+use Rattle.world_base.specs.declared.moves.What.TheVariants.{Begin, Go}
+use Rattle.lock_program.specs.declared.refusal.Refusal.TheVariants.{Memory, Starved}
+use Rattle.world_base.specs.declared.standing.Kind.TheVariants.{Drop}
+use Rattle.world_base.specs.declared.standing.Rest.{Rest}
+use Rattle.world_base.specs.declared.standing.Rest.TheVariants.{Pending, Holding}
+use Rattle.world_base.specs.declared.standing.Within.{Within}
+use Rattle.world_base.specs.Frame.{is_refusal}
+use Rattle.world_base.specs.Rosters.{how_many}
+use Rattle.world_base.specs.Standings.{outside, inside, may_end, refused}
+use Rattle.world_base.specs.Steps.{does, notifies_additionally}
+use Rattle.world_mutex.specs.Bound.{IsSolo, IsNotified, Promises}
+use Rattle.world_mutex.specs.Legal.{ListName, DecidesOn, is_first_poll, is_later_poll, Legal, AnswersAtOnce}
+use Rattle.world_mutex.specs.State.{World, standing_of, mark_of, is_free, is_starved}
+use Rattle.world_base.specs.Standings.{is_outside}
+use Rattle.world_base.specs.Steps.{notifies}
+use Rattle.world_mutex.specs.Legal.{for_the_lock}
+use Rattle.world_mutex.specs.Laws.{IsSound, IsDue}
+use Rattle.world_base.specs.Standings.{is_possible}
+use Rattle.lock_event.specs.Lists.{notified}
+
+-- A move of a party, and what it leads to.
+pub record Step : Type 0 where
+  pub old : World
+  pub move : Move
+  pub answer : Answer
+  pub new : World
+
+abbrev pub IsLegal : Step → Type 0
+IsLegal s = Legal s.old s.move s.answer s.new
+
+abbrev pub IsAtOnce : Step → Type 0
+IsAtOnce s = AnswersAtOnce s.old s.move s.answer s.new
+
+-- A whole call, and where it ends.
+pub record Whole : Type 0 where
+  pub old : World
+  pub party : ℕ
+  pub call : Call
+  pub inputs : Inputs
+  pub answer : Answer
+  pub new : World
+
+abbrev pub Keeps : Whole → Type 0
+Keeps c = Promises c.old c.party c.call c.inputs c.answer c.new
+
+-- A try is answered None though the lock is free.
+pub record TriesInVain : Type 0 where
+  pub step : Step
+  pub inputs : Inputs
+  pub tries : step.move.what ≡ Begin call.TryLock inputs
+  pub free : is_free step.old.state ≡ true
+  pub none : step.answer ≡ answer.None
+  pub legal : IsAtOnce step
+
+-- A first poll of a free lock takes more than one step, or ends pending: it joins, tells itself, and waits.
+pub record PollsUnready : Type 0 where
+  pub step : Step
+  pub first : is_first_poll (standing_of step.old step.move.party) step.move.what (entries_of step.move.party step.old.entries) ≡ true
+  pub free : is_free step.old.state ≡ true
+  pub pending : step.answer ≡ answer.Pending
+  pub legal : IsAtOnce step
+
+-- A party is answered Pending and stands in no list: nobody will ever wake it.
+pub record WaitsUnlisted : Type 0 where
+  pub step : Step
+  pub pending : step.answer ≡ answer.Pending
+  pub unlisted : mark_of step.new step.move.party ≡ None
+  pub legal : IsLegal step
+
+-- Or it is listed as notified already, and waits for a wake that came before.
+pub record WaitsUnmarked : Type 0 where
+  pub step : Step
+  pub pending : step.answer ≡ answer.Pending
+  pub not_waiting : mark_of step.new step.move.party ≢ Some Waiting
+  pub legal : IsLegal step
+
+-- A party's call is decided on Pending while it goes on, so that it may leave the list before it ends.
+pub record PendsTooEarly : Type 0 where
+  pub step : Step
+  pub within : Within
+  pub decided : standing_of step.new step.move.party ≡ inside within (Some answer.Pending)
+  pub legal : IsLegal step
+
+-- A call is refused for memory at its first step, which is no join.
+pub record RefusedAtFirst : Type 0 where
+  pub step : Step
+  pub rest : Rest
+  pub begins : standing_of step.old step.move.party ≡ outside rest
+  pub refused : DecidesOn step.old step.move step.answer step.new (refused Memory)
+  pub legal : IsLegal step
+
+-- A step takes the lock, and decides that its call is refused for memory.
+pub record RefusedHavingTaken : Type 0 where
+  pub step : Step
+  pub took : step.new.state.holder ≢ step.old.state.holder
+  pub refused : DecidesOn step.old step.move step.answer step.new (refused Memory)
+  pub legal : IsLegal step
+
+-- A party that holds the lock lets it go in a call that isn't decided.
+pub record LetsGoUndecided : Type 0 where
+  pub step : Step
+  pub within : Within
+  pub inputs : Inputs
+  pub undecided : standing_of step.old step.move.party ≡ inside within None
+  pub goes : step.move.what ≡ Go inputs
+  pub held : step.old.state.holder ≡ Some step.move.party
+  pub let_go : step.new.state.holder ≡ None
+  pub legal : IsLegal step
+
+-- A drop begins and isn't decided, so that it may take the lock, or wait for it, again.
+pub record DropsUndecided : Type 0 where
+  pub step : Step
+  pub rest : Rest
+  pub undecided : standing_of step.new step.move.party ≡ inside (record { kind = Drop; was = rest }) None
+  pub legal : IsLegal step
+
+-- A call is decided on an answer with which it never ends, as a drop on having what it dropped.
+pub record DecidesInVain : Type 0 where
+  pub step : Step
+  pub party : ℕ
+  pub within : Within
+  pub by : Answer
+  pub decided : standing_of step.new party ≡ inside within (Some by)
+  pub never : may_end within.kind by ≡ false
+  pub legal : IsLegal step
+
+-- A step takes the lock, and decides that its call is refused since too many are starved.
+pub record StarvedHavingTaken : Type 0 where
+  pub step : Step
+  pub took : step.new.state.holder ≢ step.old.state.holder
+  pub refused : DecidesOn step.old step.move step.answer step.new (refused Starved)
+  pub legal : IsLegal step
+
+-- A party that is counted as starved is refused since too many are.
+pub record StarvedTwice : Type 0 where
+  pub step : Step
+  pub starved : is_starved step.old.state step.move.party ≡ true
+  pub refused : DecidesOn step.old step.move step.answer step.new (refused Starved)
+  pub legal : IsLegal step
+
+-- A call is refused for the number of starved parties at its first step, before it has looked at the lock again.
+pub record StarvedAtFirst : Type 0 where
+  pub step : Step
+  pub rest : Rest
+  pub begins : standing_of step.old step.move.party ≡ outside rest
+  pub refused : DecidesOn step.old step.move step.answer step.new (refused Starved)
+  pub legal : IsLegal step
+
+-- A pending party is counted as starved and stands in no list: newcomers leave the lock to it, and nobody ever wakes it.
+pub record StarvesUnlisted : Type 0 where
+  pub step : Step
+  pub party : ℕ
+  pub pending : standing_of step.new party ≡ outside Pending
+  pub unlisted : entries_of party step.new.entries ≡ 0
+  pub starved : is_starved step.new.state party ≡ true
+  pub legal : IsLegal step
+
+-- A party whose call is to be refused holds the lock.
+pub record HoldsRefused : Type 0 where
+  pub step : Step
+  pub party : ℕ
+  pub within : Within
+  pub number : ℕ
+  pub refused : standing_of step.new party ≡ inside within (Some (answer.Refused number))
+  pub holds : step.new.state.holder ≡ Some party
+  pub legal : IsLegal step
+
+-- A party whose call is to be ready has let the lock go again.
+pub record ReadyWithout : Type 0 where
+  pub step : Step
+  pub party : ℕ
+  pub within : Within
+  pub got : Got
+  pub ready : standing_of step.new party ≡ inside within (Some (answer.Ready got))
+  pub without : step.new.state.holder ≡ None
+  pub legal : IsLegal step
+
+-- One party is told beside another that was told and hasn't looked yet, as if two could have the lock.
+pub record TellsMore : Type 0 where
+  pub step : Step
+  pub list : ListName
+  pub more : ℕ
+  pub legal : IsLegal step
+  pub tells : legal.one_change.deed ≡ does list (notifies_additionally more)
+
+-- A try finds the lock held and leaves something behind: it is counted as starved, or notifies.
+pub record TriesAndTells : Type 0 where
+  pub step : Step
+  pub inputs : Inputs
+  pub tries : step.move.what ≡ Begin call.TryLock inputs
+  pub none : step.answer ≡ answer.None
+  pub told : step.new.entries ≢ step.old.entries
+  pub legal : IsAtOnce step
+
+-- A first poll is counted as starved at once, though it has not waited at all.
+pub record StarvesAtFirst : Type 0 where
+  pub step : Step
+  pub first : is_first_poll (standing_of step.old step.move.party) step.move.what (entries_of step.move.party step.old.entries) ≡ true
+  pub stepped : step.answer ≡ answer.Stepped
+  pub counts : step.new.state ≢ step.old.state
+  pub legal : IsAtOnce step
+
+-- A party that waits and wasn't notified polls, and its call goes on: it may be refused, and lose its place.
+pub record PollsUntold : Type 0 where
+  pub step : Step
+  pub polls : is_later_poll (standing_of step.old step.move.party) step.move.what ≡ true
+  pub listed : 0 < entries_of step.move.party step.old.entries
+  pub untold : is_marked_at (is_party step.move.party) step.old.entries ≡ false
+  pub goes_on : step.answer ≡ answer.Stepped
+  pub legal : IsAtOnce step
+
+-- The drop of a guard begins, and the lock is held still: whoever is told before it is given back finds it held.
+pub record ReleasesLate : Type 0 where
+  pub step : Step
+  pub inputs : Inputs
+  pub drops : step.move.what ≡ Begin call.Drop inputs
+  pub holding : standing_of step.old step.move.party ≡ outside Holding
+  pub held : step.new.state.holder ≡ Some step.move.party
+  pub legal : IsAtOnce step
+
+-- The drop of a guard ends, and nobody is told in a list where somebody waits: another may be inside a call that it never goes on with.
+pub record ReleasesSilently : Type 0 where
+  pub step : Step
+  pub releases : standing_of step.old step.move.party ≡ inside (record { kind = Drop; was = Holding }) (Some answer.GivenBack)
+  pub given_back : step.answer ≡ answer.GivenBack
+  pub some : 0 < length step.new.entries
+  pub none_told : marked_count step.new.entries ≡ 0
+  pub legal : IsAtOnce step
+
+-- A notified party polls a free lock alone, where nobody is starved, and waits again: so it may do for ever, or two parties tell each other in turn.
+pub record PassesOverInVain : Type 0 where
+  pub whole : Whole
+  pub polls : whole.call ≡ call.Poll
+  pub solo : IsSolo whole.old whole.party whole.inputs
+  pub free : whole.old.state.holder ≡ None
+  pub unstarved : how_many whole.old.state.starved ≡ 0
+  pub pending : whole.answer ≡ answer.Pending
+  pub kept : Keeps whole
+
+-- Or it is refused for memory that it doesn't need, and loses its place.
+pub record RefusedInVain : Type 0 where
+  pub whole : Whole
+  pub polls : whole.call ≡ call.Poll
+  pub told : IsNotified whole.old whole.party
+  pub free : whole.old.state.holder ≡ None
+  pub unstarved : how_many whole.old.state.starved ≡ 0
+  pub refused : whole.answer ≡ refused Memory
+  pub kept : Keeps whole
+
+-- A party is counted as starved, though nobody was and it hasn't waited for too long.
+pub record StarvesUnasked : Type 0 where
+  pub whole : Whole
+  pub patient : whole.inputs.starving ≡ false
+  pub unstarved : how_many whole.old.state.starved ≡ 0
+  pub starved : is_starved whole.new.state whole.party ≡ true
+  pub kept : Keeps whole
+
+-- Or its call is refused since too many are, as where none may be: it was not to be one of them.
+pub record StarvedAmongNone : Type 0 where
+  pub whole : Whole
+  pub patient : whole.inputs.starving ≡ false
+  pub unstarved : how_many whole.old.state.starved ≡ 0
+  pub refused : whole.answer ≡ refused Starved
+  pub kept : Keeps whole
+
+-- A listed party's poll is refused, and nobody else is told: what it was told is lost.
+pub record KeepsItsTold : Type 0 where
+  pub whole : Whole
+  pub polls : whole.call ≡ call.Poll
+  pub pending : standing_of whole.old whole.party ≡ outside Pending
+  pub listed : 0 < entries_of whole.party whole.old.entries
+  pub refused : is_refusal whole.answer ≡ true
+  pub some : 0 < length whole.new.entries
+  pub none_told : marked_count whole.new.entries ≡ 0
+  pub kept : Keeps whole
+
+-- A listed party that isn't starved notifies in a poll that isn't decided, so that it wakes the next before it waits.
+pub record WakesTheNext : Type 0 where
+  pub step : Step
+  pub within : Within
+  pub many : ℕ
+  pub undecided : standing_of step.old step.move.party ≡ inside within None
+  pub unstarved : is_starved step.old.state step.move.party ≡ false
+  pub listed : entries_of step.move.party step.old.entries ≡ 1
+  pub legal : IsLegal step
+  pub notifies : legal.one_change.deed ≡ does for_the_lock (notifies many)
+
+-- The lock is free, a party outside every call waits for it, and nobody there has been told, nor has anybody to tell or to look: another may be inside a poll, but stands in the list itself.
+pub record SleepsThoughFree : Type 0 where
+  pub world : World
+  pub party : ℕ
+  pub free : world.state.holder ≡ None
+  pub stands : is_outside (standing_of world party) ≡ true
+  pub listed : 0 < entries_of party world.entries
+  pub none_told : marked_count world.entries ≡ 0
+  pub none_due : (q : ℕ) → IsDue world q → ⊥
+  pub sound : IsSound world
+
+-- A poll is pending at its end and has told another, while nobody is starved nor has waited for too long: so two parties wake each other for ever over a lock that somebody holds.
+pub record WakesInARing : Type 0 where
+  pub whole : Whole
+  pub other : ℕ
+  pub patient : whole.inputs.starving ≡ false
+  pub none_starved : how_many whole.old.state.starved ≡ 0
+  pub pending : whole.answer ≡ answer.Pending
+  pub another : other ≢ whole.party
+  pub untold : is_marked_at (is_party other) whole.old.entries ≡ false
+  pub told : is_marked_at (is_party other) whole.new.entries ≡ true
+  pub kept : Keeps whole
+
+-- A first poll is refused for too many starved parties, though there were none.
+pub record StarvedUnwaited : Type 0 where
+  pub whole : Whole
+  pub first : is_first_poll (standing_of whole.old whole.party) (Begin whole.call whole.inputs) (entries_of whole.party whole.old.entries) ≡ true
+  pub none_starved : how_many whole.old.state.starved ≡ 0
+  pub is_refused : whole.answer ≡ refused Starved
+  pub kept : Keeps whole
+
+-- A call that is to be refused, and whose party stands in no list, goes on or ends, and some other that waits is notified by nobody.
+pub record RefusedSilently : Type 0 where
+  pub step : Step
+  pub within : Within
+  pub why : ℕ
+  pub refused : standing_of step.old step.move.party ≡ inside within (Some (answer.Refused why))
+  pub unlisted : entries_of step.move.party step.old.entries ≡ 0
+  pub unstarved : is_starved step.old.state step.move.party ≡ false
+  pub possible : is_possible step.answer ≡ true
+  pub none_told : step.new.entries ≢ notified step.old.entries 1
+  pub legal : IsAtOnce step

@@ -1,0 +1,90 @@
+-- What always holds of a barrier, as callers see it.
+use Rattle.std.proofs.Common.{◌≡◌, ℕ, zero, suc, ◌<◌, true, false, List, [], ◌∷◌, refl, arith}
+use Rattle.std.specs.List.{sum_by}
+use Rattle.std.proofs.lemmas.List.Sums.{sum_by-cons}
+use Rattle.lock_event.specs.declared.event.Entry.{Entry}
+use Rattle.lock_event.specs.Lists.{is_marked_at, IsMarkedFirst}
+use Rattle.world_base.specs.queue.Parties.{is_party, entries_of}
+use Rattle.world_base.specs.queue.Queues.{Queue}
+use Rattle.world_mutex.specs.machine.Course.{Course, holds, is_resting as rests_there}
+use Rattle.world_mutex.specs.machine.Mutex.{Mutex, course_at, IsMutex, holders, IsAtRest as LockAtRest}
+use Rattle.world_mutex.proofs.of_machine.callers.Callers.{out_free, waiting_free, holding_holds, out_rests, waiting_rests}
+use Rattle.sync_program.specs.declared.barrier.Place.TheVariants.{Arrive, NotifyAll}
+use Rattle.sync_program.specs.declared.barrier.Position.{Position}
+use Rattle.sync_program.specs.declared.barrier.Position.TheVariants.{Out, Made, Locking, Waiting, At}
+use Rattle.world_barrier.specs.declared.program.words.Progress.{Progress}
+use Rattle.world_barrier.specs.declared.program.words.Words.{Words}
+use Rattle.world_barrier.specs.machine.Roles.{fits_lock, in_lock, is_late, will_tell, is_resting}
+use Rattle.world_barrier.specs.machine.Machine.{IsKept, IsAtRest, IsBarrier, AllTold, position_at, arrival_at}
+use Rattle.world_base.proofs.of_queue.Marks.{else_marked}
+
+-- a party without the inner lock is counted if it is listed, and is about to tell nobody
+free_late : (x : Position) (c : Course) → fits_lock (in_lock x) c ≡ true → holds c ≡ 0 → is_late x ≡ false
+free_late (At Arrive) c link free = let one = holding_holds c link in absurd (omega arith)
+free_late (At _) c link free = refl
+free_late _ c link free = refl
+
+free_tells : (x : Position) (c : Course) → fits_lock (in_lock x) c ≡ true → holds c ≡ 0 → will_tell x ≡ false
+free_tells (At NotifyAll) c link free = let one = holding_holds c link in absurd (omega arith)
+free_tells (At _) c link free = refl
+free_tells _ c link free = refl
+
+-- a resting party rests in the inner lock without it
+rest_free : (x : Position) (c : Course) → is_resting x ≡ true → fits_lock (in_lock x) c ≡ true → holds c ≡ 0
+rest_free (At place) c h link = absurd (cc h)
+rest_free (Locking a) c h link = waiting_free c link
+rest_free Out c h link = out_free c link
+rest_free (Made a) c h link = out_free c link
+rest_free Waiting c h link = out_free c link
+
+rest_rests : (x : Position) (c : Course) → is_resting x ≡ true → fits_lock (in_lock x) c ≡ true → rests_there c ≡ true
+rest_rests (At place) c h link = absurd (cc h)
+rest_rests (Locking a) c h link = waiting_rests c link
+rest_rests Out c h link = out_rests c link
+rest_rests (Made a) c h link = out_rests c link
+rest_rests Waiting c h link = out_rests c link
+
+rest_at : (xs : List Position) → IsAtRest xs → (q : ℕ) → is_resting (position_at xs q) ≡ true
+rest_at [] h q = refl
+rest_at (x ∷ xs) h zero = h.0
+rest_at (x ∷ xs) h (suc q) = rest_at xs h.1 q
+
+none_hold : (cs : List Course) → ((q : ℕ) → holds (course_at cs q) ≡ 0) → sum_by holds cs ≡ 0
+none_hold [] h = refl
+none_hold (c ∷ cs) h = omega (arith, sum_by-cons holds c cs, h 0, none_hold cs (λ q. h (suc q)))
+
+all_rest : (cs : List Course) → ((q : ℕ) → rests_there (course_at cs q) ≡ true) → LockAtRest cs
+all_rest [] h = tt
+all_rest (c ∷ cs) h = (h zero, all_rest cs (λ q. h (suc q)))
+
+nobody_holds : (cs : List Course) → sum_by holds cs ≡ 0 → (q : ℕ) → holds (course_at cs q) ≡ 0
+nobody_holds [] e q = refl
+nobody_holds (c ∷ cs) e zero = omega (arith, sum_by-cons holds c cs, e)
+nobody_holds (c ∷ cs) e (suc q) = nobody_holds cs (omega (arith, sum_by-cons holds c cs, e)) q
+
+told_while_free : (w : Words) (xs : List Position) (rs : List Progress) (l : List (Entry ℕ)) (m : Mutex) → AllTold w xs rs l → ((q : ℕ) → fits_lock (in_lock (position_at xs q)) (course_at m.courses q) ≡ true) → holders m ≡ 0 → (p : ℕ) → 0 < entries_of p l → (arrival_at rs p).generation < w.progress.generation → is_marked_at (is_party p) l ≡ true
+told_while_free w xs rs l m told links free p some done = else_marked p l some (λ u.
+    let none : (q : ℕ) → holds (course_at m.courses q) ≡ 0 = nobody_holds m.courses free in
+    let same : (arrival_at rs p).generation ≡ w.progress.generation = told (λ q. free_tells (position_at xs q) (course_at m.courses q) (links q) (none q)) p u (free_late (position_at xs p) (course_at m.courses p) (links p) (none p)) in
+    omega arith)
+
+pub is_barrier : (w : Words) (xs : List Position) (rs : List Progress) (q : Queue) (m : Mutex) → IsKept w xs rs q m → IsMutex m → IsMarkedFirst q.entries → IsBarrier (record { words = w; positions = xs; arrivals = rs; entries = q.entries; lock = m })
+is_barrier w xs rs q m k mutex ordered =
+    let free : IsAtRest xs → holders m ≡ 0 = λ rest. none_hold m.courses (λ j. rest_free (position_at xs j) (course_at m.courses j) (rest_at xs rest j) (k.links j)) in
+    record {
+      sound = k.sound;
+      lock = mutex;
+      links = k.links;
+      owners = k.owners;
+      in_order = ordered;
+      as_many = k.arrivals;
+      past = k.past;
+      apart = k.apart;
+      within = k.within;
+      followers = k.followers;
+      sure = k.sure;
+      outcomes = k.outcomes;
+      lock_free = free;
+      lock_wakes = λ rest. mutex.wakes (all_rest m.courses (λ j. rest_rests (position_at xs j) (course_at m.courses j) (rest_at xs rest j) (k.links j))) (free rest);
+      told = told_while_free w xs rs q.entries m k.told k.links;
+    }

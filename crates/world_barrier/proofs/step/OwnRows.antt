@@ -1,0 +1,458 @@
+-- What each place's action does that is no step in the inner lock, finding by finding.
+use Rattle.std.proofs.Common.{◌≡◌, ℕ, ◌+◌, ◌≤◌, inl, inr, true, false, List, Some, None, refl, arith, ap, sym, ◌∙◌, subst}
+use Rattle.lock_event.specs.declared.event.Entry.{Entry}
+use Rattle.lock_event.specs.declared.event.Mark.TheVariants.{Waiting as Waits_unmarked}
+use Rattle.lock_event.specs.Lists.{is_marked_at, mark_at}
+use Rattle.world_base.specs.queue.Parties.{is_party, entries_of}
+use Rattle.world_base.proofs.of_queue.Told.{waits_at}
+use Rattle.world_base.specs.declared.moves.Answer.TheVariants as answer
+use Rattle.world_base.specs.declared.moves.Got.TheVariants as got
+use Rattle.world_base.specs.declared.moves.Move.{Move}
+use Rattle.lock_program.specs.declared.refusal.Refusal.TheVariants as refusal
+use Rattle.world_base.specs.declared.standing.Within.{Within}
+use Rattle.world_base.specs.Steps.{nothing, changes, does, joins, asks, leaves, notifies, list_after}
+use Rattle.world_base.specs.table.Tables.{Table}
+use Rattle.world_mutex.specs.machine.Course.{is_holding}
+use Rattle.world_mutex.specs.machine.Mutex.{Mutex, holder_of, starved_of}
+use Rattle.world_mutex.proofs.of_machine.callers.Callers.{holding_holds, holding_unlisted}
+use Rattle.world_mutex.proofs.of_machine.callers.Holders as sees
+use Rattle.sync_program.specs.declared.barrier.Found.{Found}
+use Rattle.sync_program.specs.declared.barrier.Found.TheVariants as found
+use Rattle.sync_program.specs.declared.barrier.Place.{Place}
+use Rattle.sync_program.specs.declared.barrier.Place.TheVariants.{Look, Join, Arrive, Complete, NotifyAll, Check, JoinAgain, Ask, CancelLeave, Abandon}
+use Rattle.world_barrier.specs.declared.program.words.Progress.{Progress}
+use Rattle.world_barrier.specs.declared.program.words.Words.{Words}
+use Rattle.world_barrier.specs.program.Words.{arrivals_at}
+use Rattle.world_barrier.specs.program.Deeds.{everyone}
+use Rattle.world_barrier.specs.machine.Waits.{Wait, uncounted, counted}
+use Rattle.world_barrier.specs.machine.Machine.{Barrier, IsBarrier}
+use Rattle.world_barrier.specs.declared.world.ListName.{ListName}
+use Rattle.world_barrier.specs.declared.world.ListName.TheVariants.{Lock, Generation}
+use Rattle.world_barrier.specs.Numbers.{Leads, generations_of}
+use Rattle.world_barrier.specs.State.{LockState, World, list_in, wait_of, told_in}
+use Rattle.world_barrier.specs.Changes.{arrives}
+use Rattle.world_barrier.specs.Legal.{HasToWait, IsAnswered, IsAsBefore}
+use Rattle.world_barrier.proofs.step.Turns as turns
+use Rattle.world_barrier.proofs.step.Turns.{said}
+use Rattle.world_barrier.proofs.Numbers as numbers
+
+module _ (t u : Table Barrier) (m : Move) (w : Within) (laws : IsBarrier t.machine) where
+  abbrev p : ℕ
+  p = m.party
+
+  abbrev words : Words
+  words = t.machine.words
+
+  abbrev mine : Progress
+  mine = turns.mine t u m w
+
+  abbrev num : ℕ
+  num = turns.num t u m w
+
+  abbrev k : ℕ
+  k = turns.k t u m w
+
+  abbrev Known : Place → Found → Type 0
+  Known = turns.Known t u m w
+
+  abbrev RowAt : Place → Found → Type 0
+  RowAt = turns.RowAt t u m w
+
+  abbrev old : World
+  old = turns.old t u m w
+
+  abbrev new : World
+  new = turns.new t u m w
+
+  -- ---- the party that has the inner lock
+
+  module _ (held : is_holding (turns.c t u m w) ≡ true) where
+    its_lock : old.lock.holder ≡ Some p
+    its_lock = sees.holds_it t.machine.lock.courses p laws.lock.one_holder (holding_holds (turns.c t u m w) held)
+
+    no_lock_entry : entries_of p t.machine.lock.entries ≡ 0
+    no_lock_entry = laws.lock.owners p ∙ holding_unlisted (turns.c t u m w) held
+
+    both_lists : entries_of p t.machine.entries ≡ 0 → (list : ListName) → entries_of p (list_in list old) ≡ 0
+    both_lists none Lock = no_lock_entry
+    both_lists none Generation = none
+
+  -- ---- a step that leaves the inner lock alone
+
+  module _ (same : u.machine.lock ≡ t.machine.lock) where
+    same_lock : new.lock ≡ old.lock
+    same_lock = ap (λ (l : Mutex). (let s : LockState = record { holder = holder_of l; starved = starved_of l } in s)) same
+
+    same_lock_list : new.lock_list ≡ old.lock_list
+    same_lock_list = ap (λ (l : Mutex). l.entries) same
+
+    module _ (still : u.machine.words ≡ words) where
+      same_arrivals : new.arrivals ≡ old.arrivals
+      same_arrivals = ap (λ (v : Words). arrivals_at v.size v.progress) still
+
+      never_more : new.arrivals ≡ k + 1 → ⊥
+      never_more e = let s : new.arrivals ≡ k = same_arrivals in omega arith
+
+      as_before : u.machine.entries ≡ t.machine.entries → (b : Wait) → wait_of old p ≡ b → wait_of new p ≡ b → IsAsBefore old m new
+      as_before l b e f = record { arrivals = same_arrivals; lock = same_lock; lists = in_list; wait = f ∙ sym e } where
+        in_list : (list : ListName) → list_in list new ≡ list_in list old
+        in_list Lock = same_lock_list
+        in_list Generation = l
+
+  generation_is : generations_of words.size k ≡ words.progress.generation
+  generation_is = numbers.its_generations words.size words.progress laws.sound.unfinished
+
+  at_limit : words.most ≤ words.progress.generation → generations_of words.size k ≡ words.most
+  at_limit h = let g = generation_is in let within = laws.sound.within in omega arith
+
+  abbrev sized : Words → ℕ → Type 0
+  sized v n = IsAnswered false v.size n (arrivals_at v.size v.progress)
+
+  -- ---- the rows
+
+  size_kept : (v : Words) → v.size ≡ words.size → u.machine.words ≡ v → new.size ≡ words.size
+  size_kept v e is = ap (λ (v : Words). v.size) is ∙ e
+
+  next_leads : Known Arrive found.Done → new.arrivals ≡ k + 1 → Leads new.size new.arrivals → Leads words.size (k + 1)
+  next_leads x e l =
+      let size : new.size ≡ words.size = size_kept (turns.words_of Arrive words) refl x.words_then in
+      let P : ℕ → Type 0 = Leads words.size in
+      let Q : ℕ → Type 0 = λ n. Leads n new.arrivals in
+      subst P e (subst Q size l)
+
+  just_led : Known Complete found.Done → turns.Judged t u m w false None (Some (answer.Ready (got.Leader true)))
+  just_led x =
+      let more : new.arrivals ≡ k + 1 = ap (λ (v : Words). arrivals_at v.size v.progress) x.words_then ∙ numbers.completed words.size words.progress laws.sound.unfinished x.sure.0 in
+      let size : new.size ≡ words.size = size_kept (turns.words_of Complete words) refl x.words_then in
+      let its_number : wait_of new p ≡ counted new.arrivals = x.after ∙ ap counted (numbers.completed words.size words.progress laws.sound.unfinished x.sure.0 ∙ sym more) in
+      let P : ℕ → Type 0 = λ n. Leads new.size n in
+      let Q : ℕ → Type 0 = λ n. Leads n (k + 1) in
+      (record { number = more; counted = its_number }, subst P (sym more) (subst Q (sym size) (numbers.next_leads words.size words.progress laws.sound.unfinished x.sure.0)))
+
+  not_asked : is_marked_at (is_party p) t.machine.entries ≡ false → list_after p asks t.machine.entries ≡ t.machine.entries
+  not_asked e = rw e refl
+
+  told_so : Known Ask found.No → told_in Generation new p ≡ Some Waits_unmarked
+  told_so x =
+      let kept : new.list ≡ old.list = x.entries_then ∙ not_asked x.finds in
+      let P : List (Entry ℕ) → Type 0 = λ es. mark_at (is_party p) es ≡ Some Waits_unmarked in
+      subst P (sym kept) (waits_at p t.machine.entries x.owner x.finds)
+
+  pub look_waits : Known Look found.MustWait → RowAt Look found.MustWait
+  look_waits x = record {
+    deed = nothing;
+    allowed = tt;
+    lock = same_lock x.lock;
+    arrivals = same_arrivals x.lock x.words_then;
+    lock_list = same_lock_list x.lock;
+    list = x.entries_then;
+    wait = x.after;
+    memory = λ list e. absurd (cc);
+    parting = λ h. absurd (cc);
+    giving_up = λ h. absurd (cc);
+    judged = tt;
+    led = λ e leads. absurd (never_more x.lock x.words_then e);
+    clear = λ h. absurd (cc);
+    not_over = λ e. cc;
+  }
+
+  pub look_leads : Known Look found.Leads → RowAt Look found.Leads
+  look_leads x = record {
+    deed = nothing;
+    allowed = tt;
+    lock = same_lock x.lock;
+    arrivals = same_arrivals x.lock x.words_then;
+    lock_list = same_lock_list x.lock;
+    list = x.entries_then;
+    wait = x.after;
+    memory = λ list e. absurd (cc);
+    parting = λ h. absurd (cc);
+    giving_up = λ h. absurd (cc);
+    judged = tt;
+    led = λ e leads. absurd (never_more x.lock x.words_then e);
+    clear = λ h. absurd (cc);
+    not_over = λ e. cc;
+  }
+
+  pub look_past : Known Look found.Past → RowAt Look found.Past
+  look_past x = record {
+    deed = nothing;
+    allowed = tt;
+    lock = same_lock x.lock;
+    arrivals = same_arrivals x.lock x.words_then;
+    lock_list = same_lock_list x.lock;
+    list = x.entries_then;
+    wait = x.after;
+    memory = λ list e. absurd (cc);
+    parting = λ h. absurd (cc);
+    giving_up = λ h. absurd (cc);
+    judged = (
+      (
+        refusal.Generations,
+        refl,
+        record {
+          uncounted = x.before refl;
+          leads = numbers.next_leads words.size words.progress laws.sound.unfinished x.finds.0;
+          limit = at_limit x.finds.1;
+          unchanged = as_before x.lock x.words_then x.entries_then uncounted (x.before refl) x.after;
+        },
+      ),
+      refl,
+      λ e. absurd (omega (arith, e)),
+    );
+    led = λ e leads. absurd (never_more x.lock x.words_then e);
+    clear = λ h. absurd (cc);
+    not_over = λ e. cc;
+  }
+
+  pub join_done : Known Join found.Done → RowAt Join found.Done
+  join_done x = record {
+    deed = does Generation joins;
+    allowed = (its_lock x.link, (let P : Wait → Type 0 = HasToWait old in subst P (sym (x.before refl)) (numbers.next_follows words.size words.progress x.sure)));
+    lock = same_lock x.lock;
+    arrivals = same_arrivals x.lock x.words_then;
+    lock_list = same_lock_list x.lock;
+    list = x.entries_then;
+    wait = x.after;
+    memory = λ list e. x.finds;
+    parting = λ h. absurd (cc);
+    giving_up = λ h. absurd (cc);
+    judged = tt;
+    led = λ e leads. absurd (never_more x.lock x.words_then e);
+    clear = λ h. absurd (cc);
+    not_over = λ e. cc;
+  }
+
+  pub join_refused : Known Join found.NoMemory → RowAt Join found.NoMemory
+  join_refused x = record {
+    deed = nothing;
+    allowed = tt;
+    lock = same_lock x.lock;
+    arrivals = same_arrivals x.lock x.words_then;
+    lock_list = same_lock_list x.lock;
+    list = x.entries_then;
+    wait = x.after;
+    memory = λ list e. absurd (cc);
+    parting = λ h. absurd (cc);
+    giving_up = λ h. absurd (cc);
+    judged = (
+      (refusal.Memory, refl, record { input = x.finds; needed = λ h. (let P : Wait → Type 0 = HasToWait old in subst P (sym (x.before refl)) (numbers.next_follows words.size words.progress x.sure)); unlisted = both_lists x.link x.owner; unchanged = as_before x.lock x.words_then x.entries_then (uncounted) (x.before refl) x.after }),
+      refl,
+      λ e. absurd (omega (arith, e)),
+    );
+    led = λ e leads. absurd (never_more x.lock x.words_then e);
+    clear = λ h. absurd (cc);
+    not_over = λ e. cc;
+  }
+
+  pub arrive : Known Arrive found.Done → RowAt Arrive found.Done
+  arrive x = record {
+    deed = changes arrives;
+    allowed = record {
+      holds = its_lock x.link;
+      uncounted = x.before refl;
+      joined = inr x.owner;
+      within = (let s = numbers.same_generation words.size k (numbers.next_follows words.size words.progress x.sure) in let g = generation_is in let h = laws.sound.within in omega arith);
+    };
+    lock = same_lock x.lock;
+    arrivals = ap (λ (v : Words). arrivals_at v.size v.progress) x.words_then ∙ numbers.arrived words.size words.progress x.sure;
+    lock_list = same_lock_list x.lock;
+    list = x.entries_then;
+    wait = x.after ∙ ap counted (numbers.arrived words.size words.progress x.sure);
+    memory = λ list e. absurd (cc);
+    parting = λ h. absurd (cc);
+    giving_up = λ h. absurd (cc);
+    judged = tt;
+    led = λ e leads. absurd (numbers.next_follows words.size words.progress x.sure (next_leads x e leads));
+    clear = λ h. absurd (cc);
+    not_over = λ e. cc;
+  }
+
+  pub complete : Known Complete found.Done → RowAt Complete found.Done
+  complete x = record {
+    deed = changes arrives;
+    allowed = record {
+      holds = its_lock x.link;
+      uncounted = x.before refl;
+      joined = inl (numbers.next_leads words.size words.progress laws.sound.unfinished x.sure.0);
+      within = (let s = numbers.next_generation words.size k (numbers.next_leads words.size words.progress laws.sound.unfinished x.sure.0) in let g = generation_is in let h = x.sure.1 in omega arith);
+    };
+    lock = same_lock x.lock;
+    arrivals = ap (λ (v : Words). arrivals_at v.size v.progress) x.words_then ∙ numbers.completed words.size words.progress laws.sound.unfinished x.sure.0;
+    lock_list = same_lock_list x.lock;
+    list = x.entries_then;
+    wait = x.after ∙ ap counted (numbers.completed words.size words.progress laws.sound.unfinished x.sure.0);
+    memory = λ list e. absurd (cc);
+    parting = λ h. absurd (cc);
+    giving_up = λ h. absurd (cc);
+    judged = just_led x;
+    led = λ e leads. (refl, refl);
+    clear = λ h. absurd (cc);
+    not_over = λ e. cc;
+  }
+
+  pub notify : Known NotifyAll found.Done → RowAt NotifyAll found.Done
+  notify x = record {
+    deed = does Generation (notifies everyone);
+    allowed = (refl, its_lock x.link, (num, x.before refl, numbers.leads words.size mine x.outcome.0));
+    lock = same_lock x.lock;
+    arrivals = same_arrivals x.lock x.words_then;
+    lock_list = same_lock_list x.lock;
+    list = x.entries_then;
+    wait = x.after;
+    memory = λ list e. absurd (cc);
+    parting = λ h. refl;
+    giving_up = λ h. absurd (cc);
+    judged = refl;
+    led = λ e leads. absurd (never_more x.lock x.words_then e);
+    clear = λ h. absurd (cc);
+    not_over = λ e. cc;
+  }
+
+  pub check_finished : Known Check found.Finished → RowAt Check found.Finished
+  check_finished x = record {
+    deed = nothing;
+    allowed = tt;
+    lock = same_lock x.lock;
+    arrivals = same_arrivals x.lock x.words_then;
+    lock_list = same_lock_list x.lock;
+    list = x.entries_then;
+    wait = x.after;
+    memory = λ list e. absurd (cc);
+    parting = λ h. absurd (cc);
+    giving_up = λ h. absurd (cc);
+    judged = (num, x.after, (let P : Words → Type 0 = λ v. sized v num in subst P (sym x.words_then) (numbers.follower_follows words.size mine (x.follower refl), numbers.is_finished_apart words.size mine words.progress (x.follower refl) (laws.past p) x.finds)));
+    led = λ e leads. absurd (never_more x.lock x.words_then e);
+    clear = λ h. absurd (cc);
+    not_over = λ e. cc;
+  }
+
+  pub check_unfinished : Known Check found.Unfinished → RowAt Check found.Unfinished
+  check_unfinished x = record {
+    deed = nothing;
+    allowed = tt;
+    lock = same_lock x.lock;
+    arrivals = same_arrivals x.lock x.words_then;
+    lock_list = same_lock_list x.lock;
+    list = x.entries_then;
+    wait = x.after;
+    memory = λ list e. absurd (cc);
+    parting = λ h. absurd (cc);
+    giving_up = λ h. absurd (cc);
+    judged = tt;
+    led = λ e leads. absurd (never_more x.lock x.words_then e);
+    clear = λ h. absurd (cc);
+    not_over = λ e. cc;
+  }
+
+  pub rejoin_done : Known JoinAgain found.Done → RowAt JoinAgain found.Done
+  rejoin_done x = record {
+    deed = does Generation joins;
+    allowed = (its_lock x.link, (let P : Wait → Type 0 = HasToWait old in subst P (sym (x.before refl)) (numbers.is_unfinished words.size mine words.progress (x.follower refl) laws.sound.unfinished x.sure)));
+    lock = same_lock x.lock;
+    arrivals = same_arrivals x.lock x.words_then;
+    lock_list = same_lock_list x.lock;
+    list = x.entries_then;
+    wait = x.after;
+    memory = λ list e. x.finds;
+    parting = λ h. absurd (cc);
+    giving_up = λ h. absurd (cc);
+    judged = tt;
+    led = λ e leads. absurd (never_more x.lock x.words_then e);
+    clear = λ h. absurd (cc);
+    not_over = λ e. cc;
+  }
+
+  pub rejoin_refused : Known JoinAgain found.NoMemory → RowAt JoinAgain found.NoMemory
+  rejoin_refused x = record {
+    deed = nothing;
+    allowed = tt;
+    lock = same_lock x.lock;
+    arrivals = same_arrivals x.lock x.words_then;
+    lock_list = same_lock_list x.lock;
+    list = x.entries_then;
+    wait = x.after;
+    memory = λ list e. absurd (cc);
+    parting = λ h. absurd (cc);
+    giving_up = λ h. absurd (cc);
+    judged = (
+      (refusal.Memory, refl, record { input = x.finds; needed = λ h. (let P : Wait → Type 0 = HasToWait old in subst P (sym (x.before refl)) (numbers.is_unfinished words.size mine words.progress (x.follower refl) laws.sound.unfinished x.sure)); unlisted = both_lists x.link x.owner; unchanged = as_before x.lock x.words_then x.entries_then (counted num) (x.before refl) x.after }),
+      refl,
+      λ e. absurd (omega (arith, e)),
+    );
+    led = λ e leads. absurd (never_more x.lock x.words_then e);
+    clear = λ h. absurd (cc);
+    not_over = λ e. cc;
+  }
+
+  pub ask_yes : Known Ask found.Yes → RowAt Ask found.Yes
+  ask_yes x = record {
+    deed = does Generation asks;
+    allowed = (num, x.before refl);
+    lock = same_lock x.lock;
+    arrivals = same_arrivals x.lock x.words_then;
+    lock_list = same_lock_list x.lock;
+    list = x.entries_then;
+    wait = x.after;
+    memory = λ list e. absurd (cc);
+    parting = λ h. absurd (cc);
+    giving_up = λ h. absurd (cc);
+    judged = tt;
+    led = λ e leads. absurd (never_more x.lock x.words_then e);
+    clear = λ h. absurd (cc);
+    not_over = λ e. cc;
+  }
+
+  pub ask_no : Known Ask found.No → RowAt Ask found.No
+  ask_no x = record {
+    deed = does Generation asks;
+    allowed = (num, x.before refl);
+    lock = same_lock x.lock;
+    arrivals = same_arrivals x.lock x.words_then;
+    lock_list = same_lock_list x.lock;
+    list = x.entries_then;
+    wait = x.after;
+    memory = λ list e. absurd (cc);
+    parting = λ h. absurd (cc);
+    giving_up = λ h. absurd (cc);
+    judged = inr ((num, x.after), told_so x);
+    led = λ e leads. absurd (never_more x.lock x.words_then e);
+    clear = λ h. absurd (cc);
+    not_over = λ e. cc;
+  }
+
+  pub leave : Known CancelLeave found.Done → RowAt CancelLeave found.Done
+  leave x = record {
+    deed = does Generation leaves;
+    allowed = x.drops refl;
+    lock = same_lock x.lock;
+    arrivals = same_arrivals x.lock x.words_then;
+    lock_list = same_lock_list x.lock;
+    list = x.entries_then;
+    wait = x.after;
+    memory = λ list e. absurd (cc);
+    parting = λ h. refl;
+    giving_up = λ h. refl;
+    judged = refl;
+    led = λ e leads. absurd (never_more x.lock x.words_then e);
+    clear = λ h. absurd (cc);
+    not_over = λ e. cc;
+  }
+
+  pub abandon : Known Abandon found.Done → RowAt Abandon found.Done
+  abandon x = record {
+    deed = nothing;
+    allowed = tt;
+    lock = same_lock x.lock;
+    arrivals = same_arrivals x.lock x.words_then;
+    lock_list = same_lock_list x.lock;
+    list = x.entries_then;
+    wait = x.after;
+    memory = λ list e. absurd (cc);
+    parting = λ h. refl;
+    giving_up = λ h. absurd (cc);
+    judged = refl;
+    led = λ e leads. absurd (never_more x.lock x.words_then e);
+    clear = λ h. absurd (cc);
+    not_over = λ e. cc;
+  }

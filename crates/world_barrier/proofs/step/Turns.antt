@@ -1,0 +1,134 @@
+-- What a step is to show at its place, and what is known of it.
+use Rattle.std.proofs.Common.{◌≡◌, ◌≢◌, ℕ, ◌+◌, ◌||◌, ◌⊎◌, Bool, true, false, Option, Some, None, is_some}
+use Rattle.lock_event.specs.declared.event.Mark.TheVariants.{Waiting}
+use Rattle.world_base.specs.queue.Parties.{entries_of}
+use Rattle.world_base.specs.declared.moves.Answer.{Answer}
+use Rattle.world_base.specs.declared.moves.Answer.TheVariants as answer
+use Rattle.world_base.specs.declared.moves.Got.TheVariants as got
+use Rattle.world_base.specs.declared.moves.Inputs.{Inputs}
+use Rattle.world_base.specs.declared.moves.Move.{Move}
+use Rattle.lock_program.specs.declared.refusal.Refusal.{Refusal}
+use Rattle.lock_program.specs.declared.refusal.Refusal.TheVariants as refusal
+use Rattle.world_base.specs.declared.standing.Within.{Within}
+use Rattle.world_base.specs.Frame.{is_drop, is_refusal}
+use Rattle.lock_program.specs.Refusals.{number_of}
+use Rattle.world_base.specs.Standings.{inside, inputs_of, refused}
+use Rattle.world_base.specs.Steps.{Deed, does, joins}
+use Rattle.world_base.specs.table.Ends.{answer_of}
+use Rattle.world_base.specs.table.Tables.{Table}
+use Rattle.world_mutex.specs.machine.Course.{Course}
+use Rattle.world_mutex.specs.machine.Mutex.{course_at}
+use Rattle.sync_program.specs.declared.barrier.Aim.{Aim}
+use Rattle.sync_program.specs.declared.barrier.Found.{Found}
+use Rattle.world_barrier.specs.program.Program.{Next}
+use Rattle.lock_program.specs.declared.end.Next.TheVariants as next
+use Rattle.sync_program.specs.declared.barrier.Place.{Place}
+use Rattle.sync_program.specs.declared.barrier.Position.TheVariants.{Made, At}
+use Rattle.world_barrier.specs.declared.program.words.Progress.{Progress}
+use Rattle.world_barrier.specs.declared.program.words.Words.{Words}
+use Rattle.world_barrier.specs.program.Words.{arrivals_at, IsFollower}
+use Rattle.world_barrier.specs.program.Program.{action_of, next_of, position_after, got_left}
+use Rattle.world_barrier.specs.program.Deeds.{Finds, words_after, arrival_after, entries_after}
+use Rattle.world_barrier.specs.program.Locks.{OnLock}
+use Rattle.world_barrier.specs.machine.Roles.{fits_lock, in_lock, listed, follows, Sure, HasOutcome}
+use Rattle.world_barrier.specs.machine.Waits.{Wait, wait_at, wait_of as place_wait, verdict_of}
+use Rattle.world_barrier.specs.machine.Machine.{Barrier, arrival_at, answer_by}
+use Rattle.world_barrier.specs.declared.world.ListName.{ListName}
+use Rattle.world_barrier.specs.declared.world.ListName.TheVariants.{Lock, Generation}
+use Rattle.world_barrier.specs.Numbers.{Leads}
+use Rattle.world_barrier.specs.State.{World, standing_of, wait_of, is_held_by, told_in}
+use Rattle.world_barrier.specs.View.{view_of}
+use Rattle.world_barrier.specs.Changes.{Change, lock_after, arrivals_after, lock_list_after, generation_list_after, gives_back, gives_up}
+use Rattle.world_barrier.specs.Legal.{IsAllowed, IsCounted, IsCause, Carried}
+use Rattle.world_barrier.proofs.step.Here.{may_begin_at, changes_wait, only_drops}
+use Rattle.world_barrier.proofs.step.Locks.{wait_by}
+use Rattle.world_mutex.specs.machine.Course.{is_counting}
+
+-- what a call is decided on after this
+abbrev pub said : Next → Course → Option Answer
+said (next.Do y) c = verdict_of y c
+said (next.End e x) c = Some (answer_of (got_left x) e)
+
+abbrev pub words_of : Place → Words → Words
+words_of y v = words_after (action_of y) v
+
+module _ (t u : Table Barrier) (m : Move) (w : Within) where
+  abbrev pub p : ℕ
+  p = m.party
+
+  abbrev pub i : Inputs
+  i = inputs_of m.what
+
+  abbrev pub old : World
+  old = view_of t
+
+  abbrev pub new : World
+  new = view_of u
+
+  abbrev pub words : Words
+  words = t.machine.words
+
+  abbrev pub mine : Progress
+  mine = arrival_at t.machine.arrivals p
+
+  -- the number of the party's last arrival, and of the barrier's
+  abbrev pub num : ℕ
+  num = arrivals_at words.size mine
+
+  abbrev pub k : ℕ
+  k = arrivals_at words.size words.progress
+
+  abbrev pub c : Course
+  c = course_at t.machine.lock.courses p
+
+  abbrev pub d : Course
+  d = course_at u.machine.lock.courses p
+
+  -- what is known of a step at this place that finds this
+  pub record Known (y : Place) (f : Found) : Type 0 where
+    pub finds : Finds i p (action_of y) f words mine t.machine.entries
+    pub words_then : u.machine.words ≡ words_after (action_of y) words
+    pub entries_then : u.machine.entries ≡ entries_after p (action_of y) f t.machine.entries
+    pub lock : OnLock i p (action_of y) f t.machine.lock u.machine.lock
+    pub link : fits_lock (in_lock (At y)) c ≡ true
+    pub owner : entries_of p t.machine.entries ≡ listed (At y)
+    pub sure : Sure (At y) mine words
+    pub follower : follows (At y) ≡ true → IsFollower words.size mine
+    pub outcome : HasOutcome (At y) mine words
+    pub before : changes_wait y ≡ false → wait_of old p ≡ place_wait y num
+    pub going : may_begin_at y ≡ false → standing_of old p ≡ inside w (verdict_of y c)
+    pub drops : only_drops y ≡ true → is_drop m.what ≡ true
+    pub after : wait_of new p ≡ wait_at (position_after (next_of y f)) (arrivals_at words.size (arrival_after (action_of y) words mine))
+
+  -- why a call is decided on this, at a place where a call may begin or only goes on
+  abbrev pub Reason : Bool → Answer → Type 0
+  Reason starts answer.Pending = (told_in Lock new p ≡ Some Waiting) ⊎ (IsCounted new p × (told_in Generation new p ≡ Some Waiting))
+  Reason starts (answer.Ready g) = Carried g old m new
+  Reason starts (answer.Refused n) = ((r : Refusal) × (n ≡ number_of r) × IsCause old m new r) × (starts ≡ false) × (n ≡ number_of refusal.Starved → is_counting c ≡ true)
+  Reason starts _ = ⊥
+
+  -- what was decided is kept, and what is decided now has its reason
+  abbrev pub Judged : Bool → Option Answer → Option Answer → Type 0
+  Judged starts (Some b) o = o ≡ Some b
+  Judged starts None None = Unit {0}
+  Judged starts None (Some b) = Reason starts b
+
+  -- A step does one deed that it may do, as its wait and its call's verdict were and are.
+  pub record Row (b : Wait) (v : Option Answer) (n : Next) (starts : Bool) : Type 0 where
+    pub deed : Deed Change ListName
+    pub allowed : IsAllowed old m deed
+    pub lock : new.lock ≡ lock_after p deed old.lock
+    pub arrivals : new.arrivals ≡ arrivals_after deed old.arrivals
+    pub lock_list : new.lock_list ≡ lock_list_after p deed old.lock_list
+    pub list : new.list ≡ generation_list_after p deed old.list
+    pub wait : wait_of new p ≡ wait_by deed k (answer_by n) b
+    pub memory : (list : ListName) → deed ≡ does list joins → i.memory ≡ true
+    pub parting : is_some v ≡ true → gives_back deed ≡ true
+    pub giving_up : gives_up deed ≡ true → is_some v || is_held_by old.lock.holder p ≡ true
+    pub judged : Judged starts v (said n d)
+    pub led : new.arrivals ≡ k + 1 → Leads new.size new.arrivals → (v ≡ None) × (said n d ≡ Some (answer.Ready (got.Leader true)))
+    pub clear : is_refusal (answer_by n) ≡ true → (for : Aim) × (position_after n ≡ Made for)
+    pub not_over : answer_by n ≢ refused refusal.Finished
+
+  abbrev pub RowAt : Place → Found → Type 0
+  RowAt y f = Row (place_wait y num) (verdict_of y c) (next_of y f) (may_begin_at y)

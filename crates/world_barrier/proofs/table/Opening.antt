@@ -1,0 +1,28 @@
+-- A new table is seen as a new World.
+use Rattle.std.proofs.Common.{◌≡◌, ℕ, zero, suc, ◌∷◌, replicate, refl, ap, arith}
+use Rattle.world_base.specs.table.Tables.{new_table}
+use Rattle.world_base.proofs.of_table.Views.{all_idle}
+use Rattle.world_mutex.proofs.of_machine.callers.Callers.{new_has_no_holder, new_has_none_starved}
+use Rattle.sync_program.specs.declared.barrier.Position.TheVariants.{Out}
+use Rattle.world_barrier.specs.machine.Waits.{no_wait}
+use Rattle.world_barrier.specs.program.Words.{progress, arrivals_at}
+use Rattle.world_barrier.specs.machine.Machine.{new_barrier}
+use Rattle.world_barrier.specs.State.{new_world}
+use Rattle.world_barrier.specs.View.{waits_of, verdict_in, view_of}
+
+none_arrived : (size : ℕ) → arrivals_at size (progress 0 0) ≡ 0
+none_arrived zero = refl
+none_arrived (suc n) = omega arith
+
+no_waits : (size n : ℕ) → waits_of size (replicate n Out) (replicate n (progress 0 0)) ≡ replicate n no_wait
+no_waits size zero = refl
+no_waits size (suc n) = ap (λ l. no_wait ∷ l) (no_waits size n)
+
+pub starts_new : (parties size starved most : ℕ) → view_of (new_table (new_barrier parties size starved most) parties 0) ≡ new_world parties size starved most
+starts_new parties size starved most =
+    let k = none_arrived size in
+    let w = no_waits size parties in
+    let h = new_has_no_holder parties starved in
+    let s = new_has_none_starved parties starved in
+    let i = all_idle parties (verdict_in (new_barrier parties size starved most)) in
+    cc

@@ -1,0 +1,31 @@
+-- What callers see of a machine, party by party.
+use Rattle.std.proofs.Common.{◌≡◌, ℕ, zero, suc, true, List, [], ◌∷◌, get_or, Some, refl}
+use Rattle.world_base.proofs.Equations.{same_test}
+use Rattle.world_base.specs.table.Stages.{stage_at, stands_as}
+use Rattle.world_base.specs.table.Tables.{Table}
+use Rattle.world_base.proofs.of_table.Views.{standings_at}
+use Rattle.world_mutex.specs.machine.Mutex.{course_at}
+use Rattle.sync_program.specs.declared.barrier.Position.{Position}
+use Rattle.world_barrier.specs.declared.program.words.Progress.{Progress}
+use Rattle.world_barrier.specs.machine.Waits.{no_wait, wait_at, verdict}
+use Rattle.world_barrier.specs.program.Words.{arrivals_at}
+use Rattle.world_barrier.specs.machine.Machine.{Barrier, position_at, arrival_at}
+use Rattle.world_barrier.specs.State.{standing_of, wait_of, is_held_by}
+use Rattle.world_barrier.specs.View.{waits_of, verdict_in, view_of}
+
+wait_in : (size : ℕ) (xs : List Position) (rs : List Progress) (q : ℕ) → get_or (waits_of size xs rs) q no_wait ≡ wait_at (position_at xs q) (arrivals_at size (arrival_at rs q))
+wait_in size [] rs q = refl
+wait_in size (x ∷ xs) [] zero = refl
+wait_in size (x ∷ xs) [] (suc q) = wait_in size xs [] q
+wait_in size (x ∷ xs) (a ∷ rs) zero = refl
+wait_in size (x ∷ xs) (a ∷ rs) (suc q) = wait_in size xs rs q
+
+module _ (t : Table Barrier) where
+  pub wait_seen : (q : ℕ) → wait_of (view_of t) q ≡ wait_at (position_at t.machine.positions q) (arrivals_at t.machine.words.size (arrival_at t.machine.arrivals q))
+  wait_seen q = wait_in t.machine.words.size t.machine.positions t.machine.arrivals q
+
+  pub standing_seen : (q : ℕ) → standing_of (view_of t) q ≡ stands_as (verdict (position_at t.machine.positions q) (course_at t.machine.lock.courses q)) (stage_at t.stages q)
+  standing_seen q = standings_at (verdict_in t.machine) t.stages q
+
+pub its_holder : (q : ℕ) → is_held_by (Some q) q ≡ true
+its_holder q = same_test q q refl

@@ -1,0 +1,14 @@
+pub mod program
+pub mod machine
+pub mod Numbers
+pub mod State
+pub mod View
+pub mod Changes
+pub mod Legal
+pub mod AtOnce
+pub mod Laws
+pub mod Steps
+pub mod Runs
+pub mod Whole
+pub mod Bound
+pub mod Openings

@@ -1,0 +1,15 @@
+-- A step of a barrier keeps the numbers that its World was made with.
+use Rattle.std.specs.Prelude.{◌≡◌, length}
+use Rattle.std.proofs.Common.{ap, ◌∙◌}
+use Rattle.world_base.specs.declared.moves.Answer.{Answer}
+use Rattle.world_base.specs.declared.moves.Move.{Move}
+use Rattle.world_barrier.specs.State.{World, new_world, opening_of}
+use Rattle.world_barrier.specs.Legal.{Legal}
+
+-- The opening World is the same before and after a legal step.
+pub opening_kept : (old : World) (m : Move) (a : Answer) (new : World) → Legal old m a new → opening_of new ≡ opening_of old
+opening_kept old m a new l =
+    ap (λ n. new_world n new.size new.starved_limit new.generations_limit) l.one_change.parties
+    ∙ (ap (λ n. new_world (length old.standings) n new.starved_limit new.generations_limit) l.one_change.size
+    ∙ (ap (λ n. new_world (length old.standings) old.size n new.generations_limit) l.one_change.starved_limit
+    ∙ ap (new_world (length old.standings) old.size old.starved_limit) l.one_change.generations_limit))

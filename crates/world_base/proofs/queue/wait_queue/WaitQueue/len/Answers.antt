@@ -1,0 +1,7 @@
+use Rattle.std.proofs.Common.{sym, ◌∙◌}
+use Rattle.world_base.specs.queue.Parties.{party_of}
+use Rattle.world_base.proofs.of_queue.Rekeyed.{length-rekeyed}
+use Rattle.world_base.proofs.queue.wait_queue.WaitQueue.len.Goals as goal
+
+pub returns : goal.returns
+returns c = rw (← c.self.view_is) (c.len.ensures ∙ sym (length-rekeyed party_of c.self.inside.list.entries))

@@ -1,0 +1,6 @@
+use Rattle.std.proofs.Common.{◌≡◌, ◌++◌, take, drop, map}
+use Rattle.world_base.specs.Standings.{forgets}
+use Rattle.world_base.proofs.table.table.forget_all.Given as goal
+
+abbrev pub invariant-loop-stage : goal.invariant-loop-stage
+invariant-loop-stage l = take l.stage-index l.stage-items ++ map forgets (drop l.stage-index l.stage-items) ≡ map forgets l.initial.stage-items

@@ -1,0 +1,13 @@
+pub mod queue
+pub mod Standings
+pub mod Steps
+pub mod Rights
+pub mod Runs
+pub mod Whole
+pub mod Frame
+pub mod Rosters
+pub mod Accounts
+pub mod Bounds
+pub mod Marks
+pub mod any_world
+pub mod table

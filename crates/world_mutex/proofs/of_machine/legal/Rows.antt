@@ -1,0 +1,179 @@
+-- Each action of a party, place by place: what it changes, and what it decides. Written by generators/mutex_rows.py.
+use Rattle.std.proofs.Common.{◌≡◌, ◌<◌, ◌⊎◌, inl, inr, Bool, true, false, Option, Some, None, refl}
+use Rattle.lock_program.specs.declared.refusal.Refusal.TheVariants.{Memory, Starved}
+use Rattle.world_base.specs.Steps.{Deed, nothing, changes, does, joins, asks, leaves, notifies, notifies_additionally}
+use Rattle.lock_program.specs.declared.mutex.Place.{Place}
+use Rattle.lock_program.specs.declared.mutex.Place.TheVariants.{Out, Holding, Enter, Try, Clear, CancelUncount, CancelLeave, Join, Look, Ask, Retry, PassOn, Count, JoinStarved, LookAlone, PassOnListed, AskStarved, Seize, Uncount, Leave, RefuseUncount, RefuseLeave, RefuseNotifyMemory, RefuseNotifyStarved, ReleaseNotify}
+use Rattle.lock_program.specs.declared.mutex.Action.{Action}
+use Rattle.lock_program.specs.declared.mutex.Action.TheVariants as act
+use Rattle.world_mutex.specs.declared.program.led.Next.{Next}
+use Rattle.world_mutex.specs.declared.program.led.Next.TheVariants as next
+use Rattle.lock_program.specs.declared.end.End.{End}
+use Rattle.lock_program.specs.declared.end.End.TheVariants.{Got, Pending, NotFree, GivenBack, Refused}
+use Rattle.lock_program.specs.declared.mutex.Found.{Found}
+use Rattle.lock_program.specs.declared.mutex.Found.TheVariants.{Done, Free, Held, SomeStarved, AtLimit, NoMemory, Yes, No}
+use Rattle.world_mutex.specs.program.Program.{action_of, next_of}
+use Rattle.lock_program.specs.MutexRoles.{counted, listed}
+use Rattle.world_mutex.specs.machine.Machine.{Lock}
+use Rattle.world_mutex.specs.machine.Acts.{Finds, holders, starved}
+use Rattle.world_mutex.specs.machine.State.{is_holder, is_counted}
+use Rattle.world_mutex.specs.machine.Legal.{decision}
+use Rattle.world_mutex.specs.machine.Deeds.{Change, ListName, takes, releases, starves, recovers, for_the_lock, gives_back, gives_up, is_release}
+use Rattle.world_mutex.proofs.of_machine.laws.Kept.{after}
+use Rattle.world_mutex.specs.machine.Courses.{is_counting, may_tell}
+
+-- what an action changes that found this
+abbrev pub deed_of : Action → Found → Deed Change ListName
+deed_of act.Take Free = changes takes
+deed_of act.TakeAlone Free = changes takes
+deed_of act.Set Free = changes takes
+deed_of act.Count Done = changes starves
+deed_of act.Uncount Done = changes recovers
+deed_of act.Clear Done = changes releases
+deed_of act.Join Done = does for_the_lock joins
+deed_of act.Ask Yes = does for_the_lock asks
+deed_of act.Leave Done = does for_the_lock leaves
+deed_of act.Notify Done = does for_the_lock (notifies 1)
+deed_of _ _ = nothing
+
+-- how a deed turns whether its party holds the lock, and whether it is starved
+abbrev pub Holds : Deed Change ListName → Bool → Bool → Type 0
+Holds (changes takes) b c = (b ≡ false) × (c ≡ true)
+Holds (changes releases) b c = (b ≡ true) × (c ≡ false)
+Holds _ b c = c ≡ b
+
+abbrev pub Starves : Deed Change ListName → Bool → Bool → Type 0
+Starves (changes starves) b c = (b ≡ false) × (c ≡ true)
+Starves (changes recovers) b c = (b ≡ true) × (c ≡ false)
+Starves _ b c = c ≡ b
+
+-- what a deed found
+abbrev pub Finding : Deed Change ListName → Lock → Place → Type 0
+Finding (changes takes) l from = (holders l ≡ 0) × ((starved l ≡ 0) ⊎ (counted from ≡ 1))
+Finding (changes starves) l from = starved l < l.limit
+Finding (does list (notifies n)) l from = (n ≡ 1) × (may_tell from ≡ true)
+Finding (does list (notifies_additionally n)) l from = ⊥
+Finding _ l from = Unit {0}
+
+abbrev pub decision_by : Next → Option End
+decision_by (next.Do a q) = decision q
+decision_by (next.End e) = Some e
+
+-- why an action decides its call on an end
+abbrev pub Reason : Bool → Lock → Place → Found → End → Type 0
+Reason memory l from f Got = is_holder (after from f) ≡ true
+Reason memory l from f Pending = (action_of from ≡ act.Ask) × (f ≡ No) × (listed from ≡ 1)
+Reason memory l from f NotFree = (holders l ≡ 1) ⊎ (0 < starved l)
+Reason memory l from f GivenBack = Unit {0}
+Reason memory l from f (Refused Memory) = (memory ≡ false) × (listed from ≡ 0) × (deed_of (action_of from) f ≡ nothing)
+Reason memory l from f (Refused Starved) = (starved l ≡ l.limit) × (counted from ≡ 0) × (deed_of (action_of from) f ≡ nothing) × (is_counting from ≡ true)
+Reason memory l from f _ = ⊥
+
+abbrev pub Judged : Bool → Lock → Place → Found → Option End → Option End → Type 0
+Judged memory l from f (Some e) o = (o ≡ Some e) × (gives_back (deed_of (action_of from) f) ≡ true)
+Judged memory l from f None None = Unit {0}
+Judged memory l from f None (Some e) = Reason memory l from f e
+
+-- whether a join found memory, and that a party gives nothing up until its call is decided, and keeps the lock that it got
+abbrev pub Room : Bool → Deed Change ListName → Type 0
+Room memory (does list joins) = memory ≡ true
+Room memory _ = Unit {0}
+
+abbrev pub HoldsOn : Option End → Deed Change ListName → Type 0
+HoldsOn None d = gives_up d ≡ false
+HoldsOn (Some Got) d = is_release d ≡ false
+HoldsOn (Some e) d = Unit {0}
+
+pub record Row (memory : Bool) (l : Lock) (from : Place) (f : Found) : Type 0 where
+  pub holds : Holds (deed_of (action_of from) f) (is_holder from) (is_holder (after from f))
+  pub starves : Starves (deed_of (action_of from) f) (is_counted from) (is_counted (after from f))
+  pub finding : Finding (deed_of (action_of from) f) l from
+  pub judged : Judged memory l from f (decision from) (decision_by (next_of from f))
+  pub room : Room memory (deed_of (action_of from) f)
+  pub holds_on : HoldsOn (decision from) (deed_of (action_of from) f)
+
+module _ (memory : Bool) (l : Lock) where
+  pub row : (from : Place) (f : Found) → Finds memory (action_of from) f l → Row memory l from f
+  row Out Done e = record { holds = refl; starves = refl; finding = tt; judged = (refl, refl); room = tt; holds_on = tt }
+  row Out _ e = absurd e
+  row Holding Done e = record { holds = refl; starves = refl; finding = tt; judged = refl; room = tt; holds_on = refl }
+  row Holding _ e = absurd e
+  row Enter Free e = record { holds = (refl, refl); starves = refl; finding = (e.0, inl e.1); judged = refl; room = tt; holds_on = refl }
+  row Enter (Held true) e = record { holds = refl; starves = refl; finding = tt; judged = tt; room = tt; holds_on = refl }
+  row Enter (Held false) e = record { holds = refl; starves = refl; finding = tt; judged = tt; room = tt; holds_on = refl }
+  row Enter SomeStarved e = record { holds = refl; starves = refl; finding = tt; judged = tt; room = tt; holds_on = refl }
+  row Enter _ e = absurd e
+  row Try Free e = record { holds = (refl, refl); starves = refl; finding = (e.0, inl e.1); judged = refl; room = tt; holds_on = refl }
+  row Try (Held true) e = record { holds = refl; starves = refl; finding = tt; judged = inl e.0; room = tt; holds_on = refl }
+  row Try (Held false) e = record { holds = refl; starves = refl; finding = tt; judged = inl e.0; room = tt; holds_on = refl }
+  row Try SomeStarved e = record { holds = refl; starves = refl; finding = tt; judged = inr e; room = tt; holds_on = refl }
+  row Try _ e = absurd e
+  row Clear Done e = record { holds = (refl, refl); starves = refl; finding = tt; judged = (refl, refl); room = tt; holds_on = tt }
+  row Clear _ e = absurd e
+  row CancelUncount Done e = record { holds = refl; starves = (refl, refl); finding = tt; judged = (refl, refl); room = tt; holds_on = tt }
+  row CancelUncount _ e = absurd e
+  row CancelLeave Done e = record { holds = refl; starves = refl; finding = tt; judged = (refl, refl); room = tt; holds_on = tt }
+  row CancelLeave _ e = absurd e
+  row (Join true) Done e = record { holds = refl; starves = refl; finding = tt; judged = tt; room = e; holds_on = refl }
+  row (Join true) NoMemory e = record { holds = refl; starves = refl; finding = tt; judged = (e, refl, refl); room = tt; holds_on = refl }
+  row (Join true) _ e = absurd e
+  row (Join false) Done e = record { holds = refl; starves = refl; finding = tt; judged = tt; room = e; holds_on = refl }
+  row (Join false) NoMemory e = record { holds = refl; starves = refl; finding = tt; judged = (e, refl, refl); room = tt; holds_on = refl }
+  row (Join false) _ e = absurd e
+  row (Look told) Free e = record { holds = (refl, refl); starves = refl; finding = (e.0, inl e.1); judged = refl; room = tt; holds_on = refl }
+  row (Look told) (Held true) e = record { holds = refl; starves = refl; finding = tt; judged = tt; room = tt; holds_on = refl }
+  row (Look told) (Held false) e = record { holds = refl; starves = refl; finding = tt; judged = tt; room = tt; holds_on = refl }
+  row (Look told) SomeStarved e = record { holds = refl; starves = refl; finding = tt; judged = tt; room = tt; holds_on = refl }
+  row (Look told) _ e = absurd e
+  row Ask Yes e = record { holds = refl; starves = refl; finding = tt; judged = tt; room = tt; holds_on = refl }
+  row Ask No e = record { holds = refl; starves = refl; finding = tt; judged = (refl, refl, refl); room = tt; holds_on = refl }
+  row Ask _ e = absurd e
+  row Retry Free e = record { holds = (refl, refl); starves = refl; finding = (e.0, inl e.1); judged = refl; room = tt; holds_on = refl }
+  row Retry (Held true) e = record { holds = refl; starves = refl; finding = tt; judged = tt; room = tt; holds_on = refl }
+  row Retry (Held false) e = record { holds = refl; starves = refl; finding = tt; judged = tt; room = tt; holds_on = refl }
+  row Retry SomeStarved e = record { holds = refl; starves = refl; finding = tt; judged = tt; room = tt; holds_on = refl }
+  row Retry _ e = absurd e
+  row PassOn Done e = record { holds = refl; starves = refl; finding = (refl, refl); judged = tt; room = tt; holds_on = refl }
+  row PassOn _ e = absurd e
+  row (Count true told) Done e = record { holds = refl; starves = (refl, refl); finding = e; judged = tt; room = tt; holds_on = refl }
+  row (Count true told) AtLimit e = record { holds = refl; starves = refl; finding = tt; judged = (e, refl, refl, refl); room = tt; holds_on = refl }
+  row (Count true told) _ e = absurd e
+  row (Count false true) Done e = record { holds = refl; starves = (refl, refl); finding = e; judged = tt; room = tt; holds_on = refl }
+  row (Count false true) AtLimit e = record { holds = refl; starves = refl; finding = tt; judged = (e, refl, refl, refl); room = tt; holds_on = refl }
+  row (Count false true) _ e = absurd e
+  row (Count false false) Done e = record { holds = refl; starves = (refl, refl); finding = e; judged = tt; room = tt; holds_on = refl }
+  row (Count false false) AtLimit e = record { holds = refl; starves = refl; finding = tt; judged = (e, refl, refl, refl); room = tt; holds_on = refl }
+  row (Count false false) _ e = absurd e
+  row JoinStarved Done e = record { holds = refl; starves = refl; finding = tt; judged = tt; room = e; holds_on = refl }
+  row JoinStarved NoMemory e = record { holds = refl; starves = refl; finding = tt; judged = (e, refl, refl); room = tt; holds_on = refl }
+  row JoinStarved _ e = absurd e
+  row LookAlone Free e = record { holds = (refl, refl); starves = refl; finding = (e.0, inr refl); judged = refl; room = tt; holds_on = refl }
+  row LookAlone (Held b) e = record { holds = refl; starves = refl; finding = tt; judged = tt; room = tt; holds_on = refl }
+  row LookAlone SomeStarved e = record { holds = refl; starves = refl; finding = tt; judged = tt; room = tt; holds_on = refl }
+  row LookAlone _ e = absurd e
+  row PassOnListed Done e = record { holds = refl; starves = refl; finding = (refl, refl); judged = tt; room = tt; holds_on = refl }
+  row PassOnListed _ e = absurd e
+  row AskStarved Yes e = record { holds = refl; starves = refl; finding = tt; judged = tt; room = tt; holds_on = refl }
+  row AskStarved No e = record { holds = refl; starves = refl; finding = tt; judged = (refl, refl, refl); room = tt; holds_on = refl }
+  row AskStarved _ e = absurd e
+  row Seize Free e = record { holds = (refl, refl); starves = refl; finding = (e, inr refl); judged = refl; room = tt; holds_on = refl }
+  row Seize (Held b) e = record { holds = refl; starves = refl; finding = tt; judged = tt; room = tt; holds_on = refl }
+  row Seize _ e = absurd e
+  row (Uncount true) Done e = record { holds = refl; starves = (refl, refl); finding = tt; judged = (refl, refl); room = tt; holds_on = refl }
+  row (Uncount true) _ e = absurd e
+  row (Uncount false) Done e = record { holds = refl; starves = (refl, refl); finding = tt; judged = (refl, refl); room = tt; holds_on = refl }
+  row (Uncount false) _ e = absurd e
+  row Leave Done e = record { holds = refl; starves = refl; finding = tt; judged = (refl, refl); room = tt; holds_on = refl }
+  row Leave _ e = absurd e
+  row RefuseUncount Done e = record { holds = refl; starves = (refl, refl); finding = tt; judged = (refl, refl); room = tt; holds_on = tt }
+  row RefuseUncount _ e = absurd e
+  row (RefuseLeave true) Done e = record { holds = refl; starves = refl; finding = tt; judged = (refl, refl); room = tt; holds_on = tt }
+  row (RefuseLeave true) _ e = absurd e
+  row (RefuseLeave false) Done e = record { holds = refl; starves = refl; finding = tt; judged = (refl, refl); room = tt; holds_on = tt }
+  row (RefuseLeave false) _ e = absurd e
+  row RefuseNotifyMemory Done e = record { holds = refl; starves = refl; finding = (refl, refl); judged = (refl, refl); room = tt; holds_on = tt }
+  row RefuseNotifyMemory _ e = absurd e
+  row RefuseNotifyStarved Done e = record { holds = refl; starves = refl; finding = (refl, refl); judged = (refl, refl); room = tt; holds_on = tt }
+  row RefuseNotifyStarved _ e = absurd e
+  row ReleaseNotify Done e = record { holds = refl; starves = refl; finding = (refl, refl); judged = (refl, refl); room = tt; holds_on = tt }
+  row ReleaseNotify _ e = absurd e

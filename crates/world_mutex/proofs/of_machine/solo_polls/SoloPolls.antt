@@ -1,0 +1,293 @@
+-- Polls in a row, each carried out alone while the lock is free.
+use Rattle.std.proofs.Common.{◌≡◌, ◌≢◌, ℕ, zero, suc, ◌+◌, ◌-◌, ◌<◌, ◌≤◌, ◌⊎◌, inl, inr, true, IsSomeAnd, List, [], ◌∷◌, length, refl, sym, ap, arith, subst, ◌∙◌}
+use Rattle.std.proofs.Math.Decide.{ℕ_discrete}
+use Rattle.std.specs.List.{sum_by}
+use Rattle.std.proofs.lemmas.List.Sums.{sum_by-cons}
+use Rattle.std.proofs.lemmas.Bool.Decides.{nat_tests}
+use Rattle.lock_event.specs.declared.event.Entry.{Entry}
+use Rattle.lock_event.specs.declared.event.Mark.{Mark}
+use Rattle.lock_event.specs.declared.event.Mark.TheVariants.{Waiting, Notified}
+use Rattle.lock_event.specs.Lists.{entry, joined, notified, without, marked_count, mark_waiting}
+use Rattle.lock_event.proofs.Marks.{length-mark_waiting}
+use Rattle.lock_event.proofs.Counts.{length-joined, length-without, marked_count-notified}
+use Rattle.world_base.specs.queue.Parties.{is_party, entries_of}
+use Rattle.world_base.proofs.of_queue.Rekeyed.{entries_of-joined, entries_of-mark_waiting, entries_of-without_own, entries_of-without_other}
+use Rattle.world_base.proofs.of_queue.Queues.{own_one, other_one}
+use Rattle.lock_program.specs.declared.refusal.Refusal.TheVariants as refusal
+pub use Rattle.world_base.proofs.Bounds.{first_marked}
+use Rattle.world_base.proofs.Lists.{is_there}
+use Rattle.lock_program.specs.declared.mutex.Place.{Place}
+use Rattle.lock_program.specs.declared.mutex.Place.TheVariants.{Out, Holding, Ask, AskStarved}
+use Rattle.lock_program.specs.declared.mutex.LockCall.TheVariants as call
+use Rattle.world_mutex.specs.declared.program.led.Next.{Next}
+use Rattle.world_mutex.specs.declared.program.led.Next.TheVariants as next
+use Rattle.lock_program.specs.declared.end.End.{End}
+use Rattle.lock_program.specs.declared.end.End.TheVariants.{Got, Pending, Refused}
+use Rattle.world_mutex.specs.program.Program.{start_of}
+use Rattle.lock_program.specs.MutexRoles.{holds, counted, listed, is_resting}
+use Rattle.world_mutex.specs.machine.Courses.{is_waiting}
+use Rattle.world_mutex.specs.machine.Machine.{Lock, place_at}
+use Rattle.world_mutex.specs.machine.Acts.{Acts, IsMutex, IsAtRest, IsStarved, holders, starved}
+use Rattle.world_mutex.specs.machine.Solo.{GoesOnAlone, last, step, PollsAlone, at_once, begun, IsCalled, unstarved, unstarved_listed, Took, GaveWay, PollsInTurn, SoloPolls}
+use Rattle.world_mutex.proofs.of_machine.laws.Laws.{resting_at}
+use Rattle.world_mutex.proofs.of_machine.solo_polls.Solo.{Reached, Gives, Ends, polls_unstarved, polls_starved}
+
+-- ---- Sums over the entries of a list, by their parties
+
+abbrev keyed : (ℕ → ℕ) → List (Entry ℕ) → ℕ
+keyed f [] = 0
+keyed f (e ∷ es) = f e.key + keyed f es
+
+keyed_is : (f : ℕ → ℕ) (l : List (Entry ℕ)) → sum_by (λ e. f e.key) l ≡ keyed f l
+keyed_is f [] = refl
+keyed_is f (e ∷ es) = sum_by-cons (λ e. f e.key) e es ∙ ap (λ n. f e.key + n) (keyed_is f es)
+
+keyed-mark_waiting : (f : ℕ → ℕ) (m : Mark) (n : ℕ) (l : List (Entry ℕ)) → keyed f (mark_waiting m n l) ≡ keyed f l
+keyed-mark_waiting f m n [] = refl
+keyed-mark_waiting f m n (e ∷ es) = grind (arith, keyed-mark_waiting f m n es, keyed-mark_waiting f m (n - 1) es)
+
+keyed-joined : (f : ℕ → ℕ) (p : ℕ) (l : List (Entry ℕ)) → keyed f (joined l p) ≡ keyed f l + f p
+keyed-joined f p [] = omega arith
+keyed-joined f p (e ∷ es) = grind (arith, keyed-joined f p es)
+
+keyed-without : (f : ℕ → ℕ) (p : ℕ) (l : List (Entry ℕ)) → 0 < entries_of p l → keyed f (without (is_party p) l) + f p ≡ keyed f l
+keyed-without f p [] h = absurd (omega arith)
+keyed-without f p (e ∷ es) h = grind (arith, nat_tests, keyed-without f p es)
+
+keyed-apart : (f g : ℕ → ℕ) (p : ℕ) → ((k : ℕ) → k ≢ p → g k ≡ f k) → (l : List (Entry ℕ)) → entries_of p l ≡ 0 → keyed g l ≡ keyed f l
+keyed-apart f g p same [] h = refl
+keyed-apart f g p same (e ∷ es) h = grind (arith, nat_tests, keyed-apart f g p same es, same e.key)
+
+keyed_most : (f : ℕ → ℕ) → ((k : ℕ) → f k ≤ 1) → (l : List (Entry ℕ)) → keyed f l ≤ length l
+keyed_most f one [] = omega arith
+keyed_most f one (e ∷ es) = omega (arith, one e.key, keyed_most f one es)
+
+keyed_less : (f : ℕ → ℕ) (q : ℕ) → ((k : ℕ) → f k ≤ 1) → f q ≡ 0 → (l : List (Entry ℕ)) → 0 < entries_of q l → keyed f l < length l
+keyed_less f q one none [] h = absurd (omega arith)
+keyed_less f q one none (e ∷ es) h = grind (arith, nat_tests, one e.key, keyed_most f one es, keyed_less f q one none es)
+
+-- ---- One poll
+
+-- a party whose place is this waits in the list
+waiting_at : (x : Place) → is_waiting x ≡ true → (x ≡ Ask) ⊎ (x ≡ AskStarved)
+waiting_at Ask h = inl refl
+waiting_at AskStarved h = inr refl
+waiting_at _ h = absurd (cc)
+
+known_party : (ps : List Place) (p : ℕ) → is_waiting (place_at ps p) ≡ true → p < length ps
+known_party [] p h = absurd (cc)
+known_party (x ∷ xs) zero h = omega arith
+known_party (x ∷ xs) (suc p) h = let more : p < length xs = known_party xs p h in omega arith
+
+begins_here : (p : ℕ) (x : Place) (n : Next) (old mid : Lock) → is_waiting x ≡ true → IsSomeAnd (start_of call.Poll x) (λ from. Acts true p from n old mid) → Acts true p x n old mid
+begins_here p Ask n old mid h a = a
+begins_here p AskStarved n old mid h a = a
+begins_here p _ n old mid h a = absurd (cc)
+
+-- the poll of a pending party goes on where it stands
+goes_on_here : (p : ℕ) (e : End) (new l : Lock) → is_waiting (place_at l.places p) ≡ true → PollsAlone p e new l → GoesOnAlone p e new l
+goes_on_here p e new l h (at_once old a) = last l (begins_here p (place_at l.places p) (next.End e) l new h a)
+goes_on_here p e new l h (begun old mid a to acts on) = step l mid a to (begins_here p (place_at l.places p) (next.Do a to) l mid h acts) on
+
+abbrev Owned : Lock → Type 0
+Owned l = (q : ℕ) → entries_of q l.entries ≡ listed (place_at l.places q)
+
+module _ (p : ℕ) (l new : Lock) (own : entries_of p l.entries ≡ 1) where
+  abbrev gone : List (Entry ℕ)
+  gone = without (is_party p) l.entries
+
+  abbrev told : List (Entry ℕ) → List (Entry ℕ)
+  told es = notified es 1
+
+  told_length : (es : List (Entry ℕ)) → length (told es) ≡ length es
+  told_length es = length-mark_waiting Notified (1 - marked_count es) es
+
+  told_keyed : (f : ℕ → ℕ) (es : List (Entry ℕ)) → keyed f (told es) ≡ keyed f es
+  told_keyed f es = keyed-mark_waiting f Notified (1 - marked_count es) es
+
+  told_entries : (q : ℕ) (es : List (Entry ℕ)) → entries_of q (told es) ≡ entries_of q es
+  told_entries q es = entries_of-mark_waiting q Notified (1 - marked_count es) es
+
+  gone_length : length gone + 1 ≡ length l.entries
+  gone_length = length-without (is_party p) l.entries (is_there p l.entries (omega arith))
+
+  none_of_it : entries_of p gone ≡ 0
+  none_of_it = let one : entries_of p gone + 1 ≡ entries_of p l.entries = entries_of-without_own p l.entries (omega arith) in omega arith
+
+  -- the entries of the others count as before
+  gone_keyed : (x y : Place) → place_at l.places p ≡ y → Reached p l x new → keyed (unstarved new) gone + (1 - counted y) ≡ unstarved_listed l
+  gone_keyed x y here r =
+      let same : keyed (unstarved new) gone ≡ keyed (unstarved l) gone = keyed-apart (unstarved l) (unstarved new) p (λ k apart. ap (λ z. 1 - counted z) (r.others k apart)) gone none_of_it in
+      let all : keyed (unstarved l) gone + unstarved l p ≡ keyed (unstarved l) l.entries = keyed-without (unstarved l) p l.entries (omega arith) in
+      let mine : unstarved l p ≡ 1 - counted y = ap (λ z. 1 - counted z) here in
+      let sum : unstarved_listed l ≡ keyed (unstarved l) l.entries = keyed_is (unstarved l) l.entries in
+      omega arith
+
+  abbrev back : List (Entry ℕ)
+  back = told (joined (told gone) p)
+
+  back_keyed : (x : Place) → Reached p l x new → counted x ≡ 1 → keyed (unstarved new) back ≡ keyed (unstarved new) gone
+  back_keyed x r starving =
+      let mine : unstarved new p ≡ 1 - counted x = ap (λ z. 1 - counted z) r.here in
+      omega (arith, told_keyed (unstarved new) (joined (told gone) p), keyed-joined (unstarved new) p (told gone), told_keyed (unstarved new) gone)
+
+  back_length : length back ≡ length l.entries
+  back_length = omega (arith, told_length (joined (told gone) p), length-joined (told gone) p, told_length gone, gone_length)
+
+  module _ (open_lock : holders l ≡ 0) (here : place_at l.places p ≡ Ask) (out : holds (place_at l.places p) ≡ 0) (counts_not : counted (place_at l.places p) ≡ 0) where
+    gave : (e : End) → 0 < starved l → Gives p l open_lock out e new counts_not e (told gone) → GaveWay p l e new
+    gave Pending some g =
+        let sum : unstarved_listed new ≡ keyed (unstarved new) new.entries = keyed_is (unstarved new) new.entries in
+        let now : keyed (unstarved new) new.entries ≡ keyed (unstarved new) back = ap (keyed (unstarved new)) g.0 in
+        record {
+          unstarved_here = here;
+          starved_there = some;
+          stands_back = (g.1.here, ap length g.0 ∙ back_length);
+          others = g.1.others;
+          free = omega (arith, g.1.sums holds);
+          notified = λ many. rw g.0 (marked_count-notified (joined (told gone) p) (omega (arith, length-joined (told gone) p)));
+          fewer = omega (arith, back_keyed AskStarved g.1 refl, gone_keyed AskStarved Ask here g.1);
+        }
+    gave (Refused refusal.Starved) some g =
+        let sum : unstarved_listed new ≡ keyed (unstarved new) new.entries = keyed_is (unstarved new) new.entries in
+        let now : keyed (unstarved new) new.entries ≡ keyed (unstarved new) (told (told gone)) = ap (keyed (unstarved new)) g.0 in
+        let size : length new.entries ≡ length gone = ap length g.0 ∙ (told_length (told gone) ∙ told_length gone) in
+        record {
+          unstarved_here = here;
+          starved_there = some;
+          stands_back = (g.1.here, omega (arith, gone_length), g.2);
+          others = g.1.others;
+          free = omega (arith, g.1.sums holds);
+          notified = λ many. rw g.0 (marked_count-notified (told gone) (omega (arith, told_length gone)));
+          fewer = omega (arith, told_keyed (unstarved new) (told gone), told_keyed (unstarved new) gone, gone_keyed Out Ask here g.1);
+        }
+    gave _ some g = absurd g
+
+    back_entries : (q : ℕ) → entries_of q back ≡ entries_of q (entry p Waiting ∷ told gone)
+    back_entries q = told_entries q (joined (told gone) p) ∙ entries_of-joined q p (told gone)
+
+    owned_by : (x : Place) (es : List (Entry ℕ)) → Owned l → Reached p l x new → new.entries ≡ es → entries_of p es ≡ listed x
+        → ((q : ℕ) → q ≢ p → entries_of q es ≡ entries_of q l.entries) → Owned new
+    owned_by x es owned r is mine apart =
+        λ q. elim (ℕ_discrete q p) as (λ _. entries_of q new.entries ≡ listed (place_at new.places q)) [
+          | yes same ↦ (let P : ℕ → Type 0 = λ k. entries_of k new.entries ≡ listed (place_at new.places k) in
+              subst P (sym same) (ap (entries_of p) is ∙ (mine ∙ sym (ap listed r.here))))
+          | no other ↦ ap (entries_of q) is ∙ (apart q other ∙ (owned q ∙ sym (ap listed (r.others q other))))
+        ]
+
+    -- each listed party has its one entry then too
+    still_owned : (e : End) → Owned l → Gives p l open_lock out e new counts_not e (told gone) → Owned new
+    still_owned Pending owned g =
+        owned_by AskStarved back owned g.1 g.0
+        (back_entries p ∙ (own_one p (told gone) ∙ (ap (λ n. 1 + n) (told_entries p gone) ∙ ap (λ n. 1 + n) none_of_it)))
+        (λ q apart. back_entries q ∙ (other_one q p (told gone) apart ∙ (told_entries q gone ∙ entries_of-without_other q p l.entries apart)))
+    still_owned (Refused refusal.Starved) owned g =
+        owned_by Out (told (told gone)) owned g.1 g.0
+        (told_entries p (told gone) ∙ (told_entries p gone ∙ none_of_it))
+        (λ q apart. told_entries q (told gone) ∙ (told_entries q gone ∙ entries_of-without_other q p l.entries apart))
+    still_owned _ owned g = absurd g
+
+-- a poll takes the lock or gives way
+module _ (l : Lock) (owned : Owned l) (open_lock : holders l ≡ 0) (p : ℕ) (e : End) (new : Lock) (called : IsCalled l p) (polls : PollsAlone p e new l) where
+  outcome : (own : entries_of p l.entries ≡ 1) (here : place_at l.places p ≡ Ask) (out : holds (place_at l.places p) ≡ 0) (counts_not : counted (place_at l.places p) ≡ 0)
+      → Ends p l open_lock out e new counts_not (without (is_party p) l.entries) → Took p e new ⊎ (GaveWay p l e new × Owned new)
+  outcome own here out counts_not (inl took) = inl took
+  outcome own here out counts_not (inr gives) =
+      inr (gave p l new own open_lock here out counts_not e gives.0 gives.1, still_owned p l new own open_lock here out counts_not e owned gives.1)
+
+  by_place : (place_at l.places p ≡ Ask) ⊎ (place_at l.places p ≡ AskStarved) → Took p e new ⊎ (GaveWay p l e new × Owned new)
+  by_place (inl here) =
+      let out : holds (place_at l.places p) ≡ 0 = ap holds here in
+      let counts_not : counted (place_at l.places p) ≡ 0 = ap counted here in
+      outcome (owned p ∙ ap listed here) here out counts_not
+      (polls_unstarved p l open_lock out e new counts_not (known_party l.places p called.0) here called.1 (goes_on_here p e new l called.0 polls))
+  by_place (inr here) =
+      let out : holds (place_at l.places p) ≡ 0 = ap holds here in
+      inl (polls_starved p l open_lock out e new (known_party l.places p called.0) here called.1 (goes_on_here p e new l called.0 polls))
+
+  either : Took p e new ⊎ (GaveWay p l e new × Owned new)
+  either = by_place (waiting_at (place_at l.places p) called.0)
+
+  takes_or_gives : Took p e new ⊎ (GaveWay p l e new × Owned new) → Took p e new ⊎ GaveWay p l e new
+  takes_or_gives (inl took) = inl took
+  takes_or_gives (inr gives) = inr gives.0
+
+  -- a starved party gives way to nobody, and nobody gives way where none is starved
+  must_take : IsStarved l p ⊎ (starved l ≡ 0) → Took p e new ⊎ (GaveWay p l e new × Owned new) → Took p e new
+  must_take why (inl took) = took
+  must_take (inl starving) (inr gives) = let not_so : counted (place_at l.places p) ≡ 0 = ap counted gives.0.unstarved_here in absurd (omega arith)
+  must_take (inr none) (inr gives) = let some : 0 < starved l = gives.0.starved_there in absurd (omega arith)
+
+-- ---- Polls in a row
+
+-- a poll that gave way leaves one unstarved entry less
+gave_one : (n p : ℕ) (e : End) (l mid : Lock) → (e ≢ Got) → (Owned mid → holders mid ≡ 0 → n ≤ unstarved_listed mid) → Took p e mid ⊎ (GaveWay p l e mid × Owned mid) → (suc n ≤ unstarved_listed l) × (0 < starved l)
+gave_one n p e l mid not_got more (inl took) = absurd (not_got took.0)
+gave_one n p e l mid not_got more (inr gives) =
+    let most : n ≤ unstarved_listed mid = more gives.1 gives.0.free in
+    let less : unstarved_listed mid + 1 ≡ unstarved_listed l = gives.0.fewer in
+    (omega arith, gives.0.starved_there)
+
+in_turn : (n : ℕ) (l new : Lock) → Owned l → holders l ≡ 0 → PollsInTurn n l new → n ≤ unstarved_listed l
+in_turn zero l new owned open_lock t = omega arith
+in_turn (suc n) l new owned open_lock t =
+    (gave_one n t.0 t.1 l t.2 t.4 (λ owned_then open_then. in_turn n t.2 new owned_then open_then t.6) (either l owned open_lock t.0 t.1 t.2 t.3 t.5)).0
+
+-- ---- At rest
+
+-- a starved party that rests is listed
+rests_so : (x : Place) → is_resting x ≡ true → (counted x ≡ 0) ⊎ ((counted x ≡ 1) × (listed x ≡ 1))
+rests_so Out h = inl refl
+rests_so Holding h = inl refl
+rests_so Ask h = inl refl
+rests_so AskStarved h = inr (refl, refl)
+rests_so _ h = absurd (cc)
+
+abbrev ListedStarved : List Place → Type 0
+ListedStarved ps = (q : ℕ) × (counted (place_at ps q) ≡ 1) × (listed (place_at ps q) ≡ 1)
+
+one_more : (x : Place) (xs : List Place) → 0 < sum_by counted (x ∷ xs) → (0 < sum_by counted xs → ListedStarved xs) → (counted x ≡ 0) ⊎ ((counted x ≡ 1) × (listed x ≡ 1)) → ListedStarved (x ∷ xs)
+one_more x xs some more (inl none) = let found = more (omega (arith, sum_by-cons counted x xs)) in (suc found.0, found.1, found.2)
+one_more x xs some more (inr here) = (0, here.0, here.1)
+
+listed_starved : (ps : List Place) → IsAtRest ps → 0 < sum_by counted ps → ListedStarved ps
+listed_starved [] rest some = absurd (omega arith)
+listed_starved (x ∷ xs) rest some = one_more x xs some (listed_starved xs rest.1) (rests_so x rest.0)
+
+at_most_one : (l : Lock) (k : ℕ) → unstarved l k ≤ 1
+at_most_one l k = omega arith
+
+module _ (l : Lock) (mutex : IsMutex l) (open_lock : holders l ≡ 0) where
+  some_starved : IsAtRest l.places → 0 < starved l → unstarved_listed l < length l.entries
+  some_starved rest some =
+      let found = listed_starved l.places rest some in
+      let there : 0 < entries_of found.0 l.entries = omega (arith, mutex.owners found.0, found.2) in
+      let less : keyed (unstarved l) l.entries < length l.entries = keyed_less (unstarved l) found.0 (at_most_one l) (omega (arith, found.1)) l.entries there in
+      omega (arith, keyed_is (unstarved l) l.entries)
+
+  fewer_than_listed : IsAtRest l.places → 0 < length l.entries → (n : ℕ) (new : Lock) → PollsInTurn n l new → n < length l.entries
+  fewer_than_listed rest some zero new t = some
+  fewer_than_listed rest some (suc n) new t =
+      let gave = gave_one n t.0 t.1 l t.2 t.4 (λ owned open_then. in_turn n t.2 new owned open_then t.6) (either l mutex.owners open_lock t.0 t.1 t.2 t.3 t.5) in
+      let less : unstarved_listed l < length l.entries = some_starved rest gave.1 in
+      omega (arith, gave.0)
+
+-- a listed party that rests is pending
+pending_at : (x : Place) → is_resting x ≡ true → 0 < listed x → is_waiting x ≡ true
+pending_at Out h there = absurd (omega arith)
+pending_at Holding h there = absurd (omega arith)
+pending_at Ask h there = refl
+pending_at AskStarved h there = refl
+pending_at _ h there = absurd (cc)
+
+-- what polls do that are carried out alone while the lock is free
+pub solo_polls : (l : Lock) → IsMutex l → holders l ≡ 0 → SoloPolls l
+solo_polls l mutex open_lock = record {
+  takes_or_gives_way = λ p e new called polls. takes_or_gives l mutex.owners open_lock p e new called polls (either l mutex.owners open_lock p e new called polls);
+  takes = λ p e new called why polls. must_take l mutex.owners open_lock p e new called polls why (either l mutex.owners open_lock p e new called polls);
+  some_called = λ rest some.
+      let found = first_marked l.entries mutex.in_order (mutex.wakes rest open_lock some) in
+      let there : 0 < listed (place_at l.places found.0) = omega (arith, mutex.owners found.0, found.2) in
+      (found.0, (pending_at (place_at l.places found.0) (resting_at l.places found.0 rest) there, found.1));
+  one_takes = fewer_than_listed l mutex open_lock;
+}

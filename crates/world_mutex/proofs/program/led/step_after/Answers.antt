@@ -1,0 +1,7 @@
+-- The end of a call is told of as it is.
+use Rattle.world_mutex.specs.program.Program.{step_of}
+use Rattle.std.proofs.Common.{ap, sym}
+use Rattle.world_mutex.proofs.program.led.step_after.Goals as goal
+
+pub returns-in-End : goal.returns-in-End
+returns-in-End c = sym (ap step_of c.in-End.is)

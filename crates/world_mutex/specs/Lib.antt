@@ -1,0 +1,14 @@
+pub mod program
+pub mod machine
+pub mod Guarded
+pub mod Stays
+pub mod State
+pub mod View
+pub mod Legal
+pub mod Laws
+pub mod Steps
+pub mod Runs
+pub mod Whole
+pub mod Bound
+pub mod Openings
+pub mod Lending

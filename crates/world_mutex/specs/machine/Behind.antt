@@ -1,0 +1,26 @@
+-- The machine that stands behind a mutex, shut: those who build on a mutex pass it on, and read nothing of it.
+use Rattle.std.specs.Prelude.{◌≡◌, refl}
+use Rattle.std.specs.Coded.{Coded, code_by}
+use Rattle.world_mutex.specs.contracts.machine.lock.Lock.{the_row}
+use Rattle.world_mutex.specs.machine.Machine.{Lock}
+
+pub record Behind : Type 0 where
+  machine : Lock
+
+pub conceal : Lock → Behind
+conceal l = record { machine = l }
+
+-- What was concealed. The proofs of this crate alone ask for it.
+pub reveal : Behind → Lock
+reveal b = b.machine
+
+pub revealed : (l : Lock) → reveal (conceal l) ≡ l
+unfolding conceal reveal
+revealed l = refl
+
+concealed : (b : Behind) → conceal (reveal b) ≡ b
+unfolding conceal reveal
+concealed b = refl
+
+pub behind_coded : Coded Behind
+behind_coded = code_by Lock the_row.coded reveal conceal concealed

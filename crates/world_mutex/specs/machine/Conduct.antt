@@ -1,0 +1,104 @@
+-- What a step of a party's call does to a mutex.
+use Rattle.std.specs.Prelude.{◌≡◌, ◌≢◌, ℕ, ◌<◌, ◌⊎◌, ◌↔◌, Bool, true, false, List, length, Option, Some, None}
+use Rattle.lock_event.specs.declared.event.Entry.{Entry}
+use Rattle.lock_event.specs.declared.event.Mark.TheVariants.{Waiting}
+use Rattle.lock_event.specs.Lists.{mark_at, marked_count}
+use Rattle.world_base.specs.queue.Parties.{is_party, entries_of}
+use Rattle.lock_program.specs.declared.refusal.Refusal.{Refusal}
+use Rattle.lock_program.specs.declared.refusal.Refusal.TheVariants.{Memory, Starved}
+use Rattle.world_base.specs.Steps.{Deed, nothing, changes, does, joins}
+use Rattle.lock_program.specs.declared.mutex.LockCall.{LockCall}
+use Rattle.lock_program.specs.declared.mutex.LockCall.TheVariants as call
+use Rattle.lock_program.specs.declared.end.End.{End}
+use Rattle.lock_program.specs.declared.end.End.TheVariants.{Got, Pending, NotFree, GivenBack, Refused}
+use Rattle.lock_program.specs.declared.mutex.Step.{Step}
+use Rattle.lock_program.specs.declared.mutex.Step.TheVariants as step
+use Rattle.world_mutex.specs.machine.Course.{Course, counted, decision, is_waiting, is_called, is_counting, is_told}
+use Rattle.world_mutex.specs.machine.Deeds.{Change, takes, releases, starves, recovers, ListName, holder_after, starved_after, entries_after, gives_back, gives_up, is_release, is_fresh}
+use Rattle.world_mutex.specs.machine.Mutex.{Mutex, course_at, holders, starved, Holds, IsStarved, holder_of, starved_of}
+use Rattle.world_base.specs.Steps.{notifies, notifies_additionally}
+use Rattle.world_mutex.specs.machine.Course.{listed, may_tell, is_releasing}
+use Rattle.world_mutex.specs.machine.Deeds.{for_the_lock}
+use Rattle.lock_event.specs.Lists.{is_marked_at}
+use Rattle.world_base.specs.Steps.{asked}
+use Rattle.std.specs.Prelude.{if◌then◌else◌}
+
+-- The end on which a call is decided once a step has led here.
+abbrev pub decided_then : Step → Course → Option End
+decided_then step.More to = decision to
+decided_then (step.End e) to = Some e
+
+-- A call isn't refused at its first step.
+abbrev pub IsUnrefused : Step → Course → Type 0
+IsUnrefused s to = (r : Refusal) → decided_then s to ≡ Some (Refused r) → ⊥
+
+-- Why a call may be decided on this end: the party has the lock; it stands waiting in the list; the lock was held or somebody starved; its join found no memory, and changed nothing; or as many parties were starved as may be, it was none of them, was about to be counted, and changed nothing.
+abbrev pub IsReason : Bool → ℕ → Mutex → Mutex → End → Type 0
+IsReason memory p old new Got = holder_of new ≡ Some p
+IsReason memory p old new Pending = mark_at (is_party p) new.entries ≡ Some Waiting
+IsReason memory p old new NotFree = (holders old ≡ 1) ⊎ (0 < starved old)
+IsReason memory p old new GivenBack = Unit {0}
+IsReason memory p old new (Refused Memory) = (memory ≡ false) × (entries_of p old.entries ≡ 0) × (new.entries ≡ old.entries) × (holder_of new ≡ holder_of old) × (starved_of new ≡ starved_of old)
+IsReason memory p old new (Refused Starved) = (starved old ≡ old.limit) × (counted (course_at old.courses p) ≡ 0) × (new.entries ≡ old.entries) × (holder_of new ≡ holder_of old) × (starved_of new ≡ starved_of old) × (is_counting (course_at old.courses p) ≡ true)
+IsReason memory p old new _ = ⊥
+
+-- Where a change may be made: the lock is taken where nobody holds it, and nobody is starved or the taker is; a party is counted once, below the limit; and who may notify does so for one.
+abbrev pub IsAllowed : ℕ → Deed Change ListName → Mutex → Type 0
+IsAllowed p (changes takes) m = (holders m ≡ 0) × ((starved m ≡ 0) ⊎ IsStarved m p)
+IsAllowed p (changes releases) m = Holds m p
+IsAllowed p (changes starves) m = (counted (course_at m.courses p) ≡ 0) × (starved m < m.limit)
+IsAllowed p (changes recovers) m = IsStarved m p
+IsAllowed p (does list (notifies n)) m = (n ≡ 1) × (may_tell (course_at m.courses p) ≡ true)
+IsAllowed p (does list (notifies_additionally n)) m = ⊥
+IsAllowed p _ m = Unit {0}
+
+-- A step changes one thing of the mutex where it may, or does one list function, never both, and moves no other party. A join has found memory. A call that was decided only gives back, and keeps its decision; who got the lock keeps it; one that wasn't decided gives nothing up; a refusal does nothing else; whoever has released the lock notifies; whoever is refused does as its call ends, once it stands in no list and isn't starved; and one that is decided now has its reason.
+pub record IsLegal (memory : Bool) (p : ℕ) (decided : Option End) (s : Step) (old new : Mutex) : Type 0 where
+  pub deed : Deed Change ListName
+  pub allowed : IsAllowed p deed old
+  pub holder : holder_of new ≡ holder_after p deed (holder_of old)
+  pub starved : starved_of new ≡ starved_after p deed (starved_of old)
+  pub entries : new.entries ≡ entries_after p deed old.entries
+  pub found_memory : (list : ListName) → deed ≡ does list joins → memory ≡ true
+  pub limit : new.limit ≡ old.limit
+  pub parties : length new.courses ≡ length old.courses
+  pub others : (q : ℕ) → q ≢ p → course_at new.courses q ≡ course_at old.courses q
+  pub kept : (e : End) → decided ≡ Some e → (decided_then s (course_at new.courses p) ≡ Some e) × (gives_back deed ≡ true)
+  pub holds_on : decided ≡ None → gives_up deed ≡ false
+  pub keeps_lock : decided ≡ Some Got → is_release deed ≡ false
+  pub refused_idly : (r : Refusal) → decided ≡ None → decided_then s (course_at new.courses p) ≡ Some (Refused r) → deed ≡ nothing
+  pub releases : is_releasing (course_at old.courses p) ≡ true → deed ≡ does for_the_lock (notifies 1)
+  pub refuses : (r : Refusal) → decided ≡ Some (Refused r) → listed (course_at old.courses p) ≡ 0 → counted (course_at old.courses p) ≡ 0 → (deed ≡ does for_the_lock (notifies 1)) × (s ≡ step.End (Refused r))
+  pub reason : (e : End) → decided ≡ None → decided_then s (course_at new.courses p) ≡ Some e → IsReason memory p old new e
+
+-- A step that asks in the list goes on exactly where the party was notified, and else is pending still; and it does nothing else.
+pub record Asks (p : ℕ) (s : Step) (old new : Mutex) : Type 0 where
+  pub step : s ≡ (if is_marked_at (is_party p) old.entries then step.More else step.End Pending)
+  pub entries : new.entries ≡ asked p old.entries
+  pub holder : holder_of new ≡ holder_of old
+  pub starved : starved_of new ≡ starved_of old
+
+-- A first poll, a try, and a poll of a party that stands in no list take the lock at once exactly where nobody holds it and nobody is starved, and their call is over then. A poll of a party that stands in the list asks there.
+pub record TakesAtOnce (c : LockCall) (p : ℕ) (s : Step) (old new : Mutex) : Type 0 where
+  pub takes : is_fresh c (entries_of p old.entries) ≡ true → (holder_of new ≡ Some p) ↔ ((holders old ≡ 0) × (starved old ≡ 0))
+  pub ends : is_fresh c (entries_of p old.entries) ≡ true → holders old ≡ 0 → starved old ≡ 0 → s ≡ step.End Got
+  pub listed : c ≡ call.Poll → 0 < entries_of p old.entries → Asks p s old new
+
+-- A party that was notified and finds the lock held, where nobody is starved, is about to be counted exactly if it has waited for too long.
+abbrev pub HeedsClock : Bool → Course → Mutex → Course → Type 0
+HeedsClock starving from old to = is_called from ≡ true → holders old ≡ 1 → starved old ≡ 0 → is_counting to ≡ starving
+
+-- Where nobody is starved, a step of a party that hasn't waited for too long, and isn't about to be counted, counts nobody.
+abbrev pub CountsNobody : Bool → ℕ → Mutex → Mutex → Type 0
+CountsNobody starving p old new = starving ≡ false → starved old ≡ 0 → is_counting (course_at old.courses p) ≡ false → (starved new ≡ 0) × (is_counting (course_at new.courses p) ≡ false)
+
+-- What becomes of the call of a party that took a notification: it goes on as such, or ends; and where it is refused some entry of the list is marked, if there is any.
+abbrev pub HandsOn : Step → Course → List (Entry ℕ) → Type 0
+HandsOn step.More to l = is_told to ≡ true
+HandsOn (step.End (Refused r)) to l = 0 < length l → 0 < marked_count l
+HandsOn (step.End e) to l = Unit {0}
+
+-- So does each step of such a party, and the first step of a poll of one that waits.
+abbrev pub BeginsToHandOn : LockCall → Course → Step → Course → List (Entry ℕ) → Type 0
+BeginsToHandOn call.Poll from s to l = is_waiting from ≡ true → HandsOn s to l
+BeginsToHandOn _ from s to l = Unit {0}

@@ -1,0 +1,54 @@
+-- What a step does to the numbers.
+use Rattle.std.proofs.Common.{◌≡◌, ◌+◌, ◌<◌, ◌≤◌, Bool, true, false}
+use Rattle.world_base.specs.Steps.{ListFunction, joins, asks, leaves, notifies, notifies_additionally}
+use Rattle.world_base.proofs.Lists.{Counted}
+use Rattle.world_once_cell.specs.program.Program.{Action}
+use Rattle.sync_program.specs.declared.once_cell.Action.TheVariants as act
+use Rattle.world_once_cell.specs.program.Program.{Found}
+use Rattle.sync_program.specs.declared.once_cell.Found.TheVariants as found
+use Rattle.sync_program.specs.declared.once_cell.ListName.TheVariants.{Active}
+use Rattle.world_once_cell.specs.program.Program.{Position}
+use Rattle.world_once_cell.specs.program.Deeds.{everyone}
+use Rattle.world_once_cell.specs.machine.Seats.{in_active, waits, owes}
+use Rattle.world_once_cell.specs.machine.Tally.{Tally, Counts}
+
+abbrev pub SameList : Tally → Tally → Type 0
+SameList s t = (t.size ≡ s.size) × (t.marked ≡ s.marked)
+
+abbrev pub Same : Tally → Tally → Type 0
+Same s t = (t.free ≡ s.free) × SameList s t
+
+abbrev pub ListDid : ListFunction → Bool → Tally → Tally → Type 0
+ListDid f told s t = (t.free ≡ s.free) × Counted f told s.size s.marked t.size t.marked
+
+-- what an action does to the numbers where it finds this
+abbrev pub Effect : Action → Found → Tally → Tally → Type 0
+Effect act.Claim found.Empty s t = (s.free ≡ 1) × (t.free ≡ 0) × SameList s t
+Effect act.Claim found.BeingMade s t = (s.free ≡ 0) × Same s t
+Effect act.Claim (found.Full v) s t = (s.free ≡ 0) × Same s t
+Effect act.Claim _ s t = ⊥
+Effect (act.Fill v) found.Done s t = (t.free ≡ 0) × SameList s t
+Effect (act.Fill v) _ s t = ⊥
+Effect act.Empty found.Done s t = (t.free ≡ 1) × SameList s t
+Effect act.Empty _ s t = ⊥
+Effect (act.Join Active) found.Done s t = ListDid joins false s t
+Effect (act.Join Active) found.NoMemory s t = Same s t
+Effect (act.Join Active) _ s t = ⊥
+Effect (act.Ask Active) found.Yes s t = ListDid asks true s t
+Effect (act.Ask Active) found.No s t = ListDid asks false s t
+Effect (act.Ask Active) _ s t = ⊥
+Effect (act.Leave Active) found.Done s t = ListDid leaves false s t
+Effect (act.Leave Active) _ s t = ⊥
+Effect (act.Notify Active) found.Done s t = ListDid (notifies 1) false s t
+Effect (act.Notify Active) _ s t = ⊥
+Effect (act.NotifyAll Active) found.Done s t = (0 < s.size → 0 < t.marked) × ListDid (notifies_additionally everyone) false s t
+Effect (act.NotifyAll Active) _ s t = ⊥
+Effect _ _ s t = Same s t
+
+-- one party goes from x to y
+pub record Goes (x y : Position) (a b : Counts) : Type 0 where
+  pub listed : b.listed + in_active x ≡ a.listed + in_active y
+  pub waiting : b.waiting + waits x ≡ a.waiting + waits y
+  pub owing : b.owing + owes x ≡ a.owing + owes y
+  -- the party is one of those that are counted
+  pub owes_itself : owes y ≤ b.owing

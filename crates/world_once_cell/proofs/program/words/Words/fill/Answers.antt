@@ -1,0 +1,9 @@
+-- Who fills a cell puts its own value in.
+use Rattle.std.proofs.Common.{refl}
+use Rattle.world_once_cell.proofs.program.words.Words.fill.Goals as goal
+
+pub returns-clause-content : goal.returns-clause-content
+returns-clause-content c = refl
+
+pub returns-clause-kept : goal.returns-clause-kept
+returns-clause-kept c = refl

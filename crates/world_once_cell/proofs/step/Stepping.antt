@@ -1,0 +1,95 @@
+-- A table's step as callers see it.
+use Rattle.std.proofs.Common.{◌≡◌, ℕ, Bool, true, false, Some, None, refl, ap, sym, ◌∙◌, subst}
+use Rattle.world_base.specs.declared.moves.Answer.{Answer}
+use Rattle.world_base.specs.declared.moves.Answer.TheVariants as answer
+use Rattle.world_base.specs.declared.moves.Call.{Call}
+use Rattle.world_base.specs.declared.moves.Move.{Move}
+use Rattle.lock_program.specs.declared.refusal.Refusal.TheVariants as refusal
+use Rattle.world_base.specs.declared.standing.Rest.TheVariants as rest
+use Rattle.world_base.specs.declared.standing.Within.{Within}
+use Rattle.world_base.specs.Standings.{call_in, refused}
+use Rattle.world_base.specs.Frame.{is_poll_after_ready}
+use Rattle.world_base.proofs.Equations.{some_eq}
+use Rattle.world_base.specs.table.Stages.{stage_at, call_at, polls_again}
+use Rattle.world_base.specs.table.Tables.{Table, Acted}
+use Rattle.world_base.proofs.of_table.Calls.{call_seen, again_seen}
+use Rattle.world_base.proofs.of_table.Ways.{way, by_way}
+use Rattle.world_once_cell.specs.program.Program.{Place}
+use Rattle.world_once_cell.specs.machine.Seats.{verdict}
+use Rattle.world_once_cell.specs.machine.Machine.{OnceCell, IsCell, Moves, knows, position_at}
+use Rattle.world_once_cell.specs.State.{standing_of}
+use Rattle.world_once_cell.specs.View.{view_of}
+use Rattle.world_once_cell.specs.Legal.{call_of, Legal}
+use Rattle.world_once_cell.specs.AtOnce.{AnswersAtOnce}
+use Rattle.world_once_cell.specs.Steps.{IsCellTable, TableSteps, Stands, Steps}
+use Rattle.world_once_cell.proofs.table.Seen as seen
+use Rattle.world_once_cell.proofs.step.Idle as idle
+use Rattle.world_once_cell.proofs.step.Owns.{well}
+use Rattle.world_once_cell.proofs.step.Here.{Here, here}
+use Rattle.world_once_cell.proofs.step.Acting.{Acting, legal}
+use Rattle.world_once_cell.proofs.step.AtOnce.{Entrance, entrance, at_once}
+
+abbrev pub known_calls : OnceCell → ℕ → Call → Bool
+known_calls s p = knows
+
+module _ (t u : Table OnceCell) (m : Move) (a : Answer) (tl : IsCell t.machine) (tf : IsCellTable t) (ul : IsCell u.machine) (uf : IsCellTable u) where
+  carried : (w : Within) → call_at knows (stage_at t.stages m.party) m.what ≡ Some w → polls_again (stage_at t.stages m.party) m.what ≡ false → Acted known_calls rest.Finished Moves w t m a u → Acting t u m a w
+  carried w e f d =
+      let turn = here (stage_at t.stages m.party) m.what w (position_at t.machine.positions m.party) (tf.stands m.party d.inside).goes e f in
+      let same : turn.from ≡ d.acts.from = some_eq (sym turn.starts ∙ d.acts.starts) in
+      let P : Place → Type 0 = Here (stage_at t.stages m.party) m.what w (position_at t.machine.positions m.party) in
+      record {
+        inside = d.inside;
+        old_laws = tl;
+        old_fits = tf;
+        new_laws = ul;
+        new_fits = uf;
+        call = e;
+        first = f;
+        from = d.acts.from;
+        found = d.acts.found;
+        here = subst P same turn.holds;
+        starts = d.acts.starts;
+        runs = d.acts.runs;
+        acts = d.acts.acts;
+        answer = d.acts.answer;
+        stages = d.stages;
+        opening = d.opening;
+      }
+
+  -- what holds where nothing is done, and where the machine acted, holds of each step
+  pub by_step : (P : Answer → Table OnceCell → Type 0) → (call_at knows (stage_at t.stages m.party) m.what ≡ None → P answer.NotPossible t)
+      → ((w : Within) → call_at knows (stage_at t.stages m.party) m.what ≡ Some w → polls_again (stage_at t.stages m.party) m.what ≡ true → P (refused refusal.Finished) t)
+      → ((w : Within) → Acting t u m a w → P a u) → TableSteps t m a u → P a u
+  by_step P none again act step = by_way known_calls rest.Finished Moves t u m a P none again (λ w e f d. act w (carried w e f d)) (way known_calls rest.Finished Moves t u m a step)
+
+  stands : (x : Table OnceCell) → IsCell x.machine → IsCellTable x → Stands (view_of x)
+  stands x laws fits = record { seen = refl; cell = laws; fits = fits }
+
+  call_is : call_of (view_of t) m ≡ call_at knows (stage_at t.stages m.party) m.what
+  call_is = ap (λ z. call_in knows z m.what) (seen.standing_seen t m.party) ∙ call_seen knows (verdict (position_at t.machine.positions m.party)) (stage_at t.stages m.party) m.what
+
+  again_is : is_poll_after_ready (standing_of (view_of t) m.party) m.what ≡ polls_again (stage_at t.stages m.party) m.what
+  again_is = ap (λ z. is_poll_after_ready z m.what) (seen.standing_seen t m.party) ∙ again_seen (verdict (position_at t.machine.positions m.party)) (stage_at t.stages m.party) m.what
+
+  -- the place at which a call begins that decides at once
+  pub door : (w : Within) (k : Acting t u m a w) → Entrance (stage_at t.stages m.party) m.what w (position_at t.machine.positions m.party) k.from
+  door w k =
+      let turn = entrance (stage_at t.stages m.party) m.what w (position_at t.machine.positions m.party) (tf.stands m.party k.inside).goes k.call k.first in
+      let same : turn.from ≡ k.from = some_eq (sym turn.starts ∙ k.starts) in
+      let P : Place → Type 0 = λ y. Entrance (stage_at t.stages m.party) m.what w (position_at t.machine.positions m.party) y in
+      subst P same turn.holds
+
+  abbrev Good : Answer → Table OnceCell → Type 0
+  Good b x = Legal (view_of t) m b (view_of x) × AnswersAtOnce (view_of t) m b (view_of x)
+
+  good : TableSteps t m a u → Good a u
+  good step = by_step Good
+      (λ e. (idle.impossible (view_of t) m (well t tl tf) (call_is ∙ e), idle.impossible_at_once (view_of t) m (well t tl tf) (call_is ∙ e)))
+      (λ w e f. (idle.over (view_of t) m (well t tl tf) (again_is ∙ f), idle.over_at_once (view_of t) m (well t tl tf) (again_is ∙ f)))
+      (λ w k. (legal t u m a w k, at_once t u m a w k (door w k))) step
+
+  pub stepped : TableSteps t m a u → Steps (view_of t) m a (view_of u)
+  stepped step =
+      let both = good step in
+      record { legal = both.0; at_once = both.1; did = record { stood = stands t tl tf; step = step; stands = stands u ul uf } }

@@ -1,0 +1,9 @@
+-- A new table is seen as a new World.
+use Rattle.std.proofs.Common.{ap, ◌∙◌}
+use Rattle.world_base.specs.table.Tables.{new_table}
+use Rattle.world_once_cell.specs.View.{view_of}
+use Rattle.world_once_cell.proofs.table.Opening.{starts_new}
+use Rattle.world_once_cell.proofs.world.World.new.Goals as goal
+
+pub returns-in-Ok-new-clause-opening : goal.returns-in-Ok-new-clause-opening
+returns-in-Ok-new-clause-opening c = ap view_of c.in-Ok-new.ensures ∙ (ap (λ s. view_of (new_table s c.args.parties 0)) c.in-Ok.ensures ∙ starts_new c.args.parties)

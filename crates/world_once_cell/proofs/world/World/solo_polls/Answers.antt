@@ -1,0 +1,6 @@
+-- The first solo poll takes.
+use Rattle.world_once_cell.proofs.bound.Bound.{bounded as law}
+use Rattle.world_once_cell.proofs.world.World.solo_polls.Goals as goal
+
+pub returns : goal.returns
+returns c = record { bounded = λ rests wanted. law c.args.self.now c.laws.ensures.sound (c.laws.ensures.awake rests) wanted }

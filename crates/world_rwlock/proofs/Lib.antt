@@ -1,0 +1,7 @@
+pub mod of_machine
+pub mod table
+pub mod step
+pub mod laws
+pub mod rights
+pub mod whole
+pub mod bound

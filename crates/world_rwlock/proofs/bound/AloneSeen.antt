@@ -1,0 +1,244 @@
+-- What a poll that is carried out alone does to a lock that is free for it, as callers see it.
+use Rattle.std.proofs.Common.{◌≡◌, ◌≢◌, ℕ, ◌<◌, ◌⊎◌, inl, inr, true, false, length, map, Option, refl, sym, ap, ◌∙◌, subst, arith}
+use Rattle.std.proofs.Math.ListN.{set}
+use Rattle.std.proofs.lemmas.List.{set-get_or}
+use Rattle.std.proofs.lemmas.Bool.{false≢true}
+use Rattle.std.specs.List.{list_all}
+use Rattle.world_base.specs.queue.Parties.{entries_of}
+use Rattle.world_base.specs.declared.moves.Answer.{Answer}
+use Rattle.world_base.specs.declared.moves.Answer.TheVariants as answer
+use Rattle.world_base.specs.declared.moves.Call.TheVariants as call
+use Rattle.world_base.specs.declared.moves.Got.TheVariants.{Value}
+use Rattle.world_base.specs.declared.moves.Inputs.{Inputs}
+use Rattle.lock_program.specs.declared.refusal.Refusal.TheVariants as refusal
+use Rattle.world_base.specs.declared.standing.Rest.TheVariants as rest
+use Rattle.world_base.specs.declared.standing.Stage.TheVariants.{Outside, Forgotten}
+use Rattle.world_base.specs.Rosters.{how_many}
+use Rattle.world_base.specs.Standings.{outside, is_outside_stage}
+use Rattle.world_base.proofs.Bounds.{marked_listed}
+use Rattle.world_base.proofs.Rests.{still_outside}
+use Rattle.world_mutex.specs.machine.Course.{Course as TurnCourse, bit, listed}
+use Rattle.world_mutex.specs.machine.Mutex.{course_at as turn_at, IsStarved, holders, starved, holder_of}
+use Rattle.world_mutex.proofs.of_machine.callers.Callers.{out_unlisted, holding_unlisted, gave_way}
+use Rattle.world_mutex.proofs.of_machine.callers.Holders as sees
+use Rattle.lock_program.specs.declared.end.End.{End}
+use Rattle.lock_program.specs.declared.end.End.TheVariants as «end»
+use Rattle.world_rwlock.specs.declared.program.led.Next.TheVariants as next
+use Rattle.lock_program.specs.declared.rwlock.Place.{Place}
+use Rattle.lock_program.specs.declared.rwlock.Place.TheVariants as place
+use Rattle.world_rwlock.specs.machine.Roles.{has_turn, in_no_writer, in_no_readers, fits_turn}
+use Rattle.world_rwlock.specs.machine.Machine.{place_at}
+use Rattle.world_rwlock.specs.machine.Acts.{IsRwLock, readers}
+use Rattle.world_rwlock.specs.machine.Solo.{PollsAlone, waits_to_read, looks_for_readers, waits_for_turn, IsCalledToTurn, Took, TookTurn, StandsBack, GaveTurnWay, SoloPolls}
+use Rattle.world_rwlock.proofs.of_machine.solo_polls.Solo.{writer_at, solo_polls}
+use Rattle.world_base.specs.table.Stages.{stage_at}
+use Rattle.world_rwlock.specs.Stages.{is_future, goes_with}
+use Rattle.world_base.specs.table.Tables.{Table}
+use Rattle.world_rwlock.specs.Guarded.{Guarded, answer_by}
+use Rattle.world_base.specs.Accounts.{Account}
+use Rattle.world_base.specs.Whole.{moves_of, answers_of}
+use Rattle.world_rwlock.specs.Runs.{Runs}
+use Rattle.world_rwlock.specs.Steps.{IsRwLockTable, Stands}
+use Rattle.world_rwlock.specs.State.{nobody, is_upgradable, waits_to_write as waits, writes, World, standing_of, is_starved, is_upgrader, how_many_read, is_marked}
+use Rattle.world_rwlock.specs.Laws.{is_at_rest}
+use Rattle.world_rwlock.specs.View.{upgrading, waiting, writing, turn_as, share_of, turn_by, is_reading, is_upgrade, verdict, standing_at, view_of}
+use Rattle.world_rwlock.specs.Bound.{IsSoloForTurn, IsSoloToRead, IsSoloToWrite, TakesTurn, GivesTurnWay, SoloPollForTurn, TakesToRead, TakesToWrite}
+use Rattle.world_rwlock.proofs.table.Begun.{at_future}
+use Rattle.world_rwlock.proofs.bound.Alone.{Ended, polls_alone}
+use Rattle.world_rwlock.proofs.laws.Sound.{nobody_holds, bit_seen}
+use Rattle.world_base.proofs.of_table.Views.{rest_seen, outside_stage}
+use Rattle.world_rwlock.proofs.step.Owns as owns
+use Rattle.world_base.proofs.of_table.Past.{inside_or_past}
+use Rattle.world_rwlock.proofs.table.Views as view
+
+-- ---- where a pending party stands that is listed
+
+pub in_turn_list : (t : TurnCourse) (x : Place) → is_future x ≡ true → fits_turn x t ≡ true → 0 < listed t → waits_for_turn x ≡ true
+in_turn_list t = at_future (λ x. fits_turn x t ≡ true → 0 < listed t → waits_for_turn x ≡ true) (record {
+  made = λ w fits there. absurd (omega (arith, there, out_unlisted t fits));
+  no_writer = λ fits there. absurd (omega (arith, there, out_unlisted t fits));
+  turn = λ q fits there. refl;
+  no_readers = λ upgrade fits there. absurd (omega (arith, there, holding_unlisted t fits));
+  upgrade = λ fits there. absurd (omega (arith, there, holding_unlisted t fits));
+})
+
+in_no_writer_list : (x : Place) → is_future x ≡ true → 0 < in_no_writer x → waits_to_read x ≡ true
+in_no_writer_list = at_future (λ x. 0 < in_no_writer x → waits_to_read x ≡ true) (record {
+  made = λ w there. absurd (omega (arith, there));
+  no_writer = λ there. refl;
+  turn = λ q there. absurd (omega (arith, there));
+  no_readers = λ upgrade there. absurd (omega (arith, there));
+  upgrade = λ there. absurd (omega (arith, there));
+})
+
+in_no_readers_list : (x : Place) → is_future x ≡ true → 0 < in_no_readers x → looks_for_readers x ≡ true
+in_no_readers_list = at_future (λ x. 0 < in_no_readers x → looks_for_readers x ≡ true) (record {
+  made = λ w there. absurd (omega (arith, there));
+  no_writer = λ there. absurd (omega (arith, there));
+  turn = λ q there. absurd (omega (arith, there));
+  no_readers = λ upgrade there. refl;
+  upgrade = λ there. absurd (omega (arith, there));
+})
+
+-- or is an upgrade's
+upgrade_looks : (x : Place) → is_future x ≡ true → is_upgrade x ≡ true → looks_for_readers x ≡ true
+upgrade_looks = at_future (λ x. is_upgrade x ≡ true → looks_for_readers x ≡ true) (record {
+  made = λ w up. absurd (false≢true up);
+  no_writer = λ up. absurd (false≢true up);
+  turn = λ q up. absurd (false≢true up);
+  no_readers = λ upgrade up. refl;
+  upgrade = λ up. refl;
+})
+
+-- what each party's call is decided on
+abbrev verdicts : Table Guarded → ℕ → Option Answer
+verdicts t q = verdict t.machine.value (place_at t.machine.lock.places q) (turn_at t.machine.lock.turn.courses q)
+
+-- a World as it is seen
+abbrev shown : World → World
+shown w = view_of w.behind
+
+module _ (w v : World) (p : ℕ) (a : Answer) where
+  ready_seen : (e : End) → e ≡ «end».Got → Ended w p a v e → a ≡ answer.Ready (Value (shown v).state.value)
+  ready_seen e is k = k.answer ∙ (ap (λ x. answer_by w.behind.machine.value (next.End x k.to)) is ∙ ap (λ v. answer.Ready (Value v)) (sym k.value))
+
+  -- who has the turn then
+  turn_seen : (e : End) (x : Place) → Ended w p a v e → place_at v.behind.machine.lock.places p ≡ x → has_turn x ≡ 1 → (shown v).state.turn ≡ turn_as p (share_of x)
+  turn_seen e x k here has = let u = v.behind in owns.turn_at_place u.machine.lock u.stages u.opening u.machine.value k.stands.lock k.stands.fits p x here has
+
+  takes_turn_seen : (e : End) → TookTurn p e v.behind.machine.lock → Ended w p a v e → TakesTurn (shown w) p a (shown v)
+  takes_turn_seen «end».Got (inl here) k =
+      let turn : (shown v).state.turn ≡ is_upgradable p = turn_seen «end».Got place.Upgradable k here refl in
+      record { has_turn = owns.has_as (shown v).state.turn p upgrading turn; kept = k.value; answered = inl (ready_seen «end».Got refl k, inl turn) }
+  takes_turn_seen «end».Got (inr here) k =
+      let turn : (shown v).state.turn ≡ writes p = turn_seen «end».Got place.Writing k here refl in
+      record { has_turn = owns.has_as (shown v).state.turn p writing turn; kept = k.value; answered = inl (ready_seen «end».Got refl k, inr turn) }
+  takes_turn_seen «end».Pending here k =
+      let at = writer_at (place_at v.behind.machine.lock.places p) here in
+      let turn : (shown v).state.turn ≡ waits p = turn_seen «end».Pending (place.AwaitNoReaders at.0) k at.1 refl in
+      record { has_turn = owns.has_as (shown v).state.turn p waiting turn; kept = k.value; answered = inr (k.answer, turn) }
+  takes_turn_seen _ here k = absurd here
+
+  rests_seen : IsRwLockTable w.behind → IsRwLockTable v.behind → v.behind.stages ≡ set w.behind.stages p (Outside rest.Pending) → is_at_rest (shown w) ≡ true → is_at_rest (shown v) ≡ true
+  rests_seen tf uf is resting =
+      let t = w.behind in
+      let u = v.behind in
+      let before : list_all is_outside_stage t.stages ≡ true = sym (rest_seen (verdicts t) t.stages) ∙ resting in
+      rest_seen (verdicts u) u.stages ∙ (ap (list_all is_outside_stage) is ∙ still_outside t.stages p (Outside rest.Pending) refl before)
+
+  gives_way_seen : (e : End) → IsRwLockTable w.behind → 0 < entries_of p w.behind.machine.lock.turn.entries → starved w.behind.machine.lock.turn < w.behind.machine.lock.turn.limit → GaveTurnWay p w.behind.machine.lock e v.behind.machine.lock → StandsBack p w.behind.machine.lock e v.behind.machine.lock → Ended w p a v e → GivesTurnWay (shown w) p a (shown v)
+  gives_way_seen «end».Pending tf there below g back k =
+      let t = w.behind in
+      let u = v.behind in
+      record {
+        free = ap (λ h. turn_by h u.machine.lock.places) (sees.none_held 0 u.machine.lock.turn.courses back.0.free);
+        pending = k.answer;
+        gave_way = gave_way p t.machine.lock.turn u.machine.lock.turn back.0 there;
+        readers = ap (map is_reading) (g.places ∙ (ap (set t.machine.lock.places p) back.1 ∙ set-get_or t.machine.lock.places p place.Out));
+        rests = rests_seen tf k.stands.fits k.stages;
+      }
+  gives_way_seen («end».Refused refusal.Starved) tf there below g back k = absurd (omega (arith, back.0.stands_back.2, below))
+  gives_way_seen _ tf there below g back k = absurd back
+
+  reads_seen : (e : End) → Took p place.Reading e v.behind.machine.lock → Ended w p a v e → TakesToRead (shown w) p a (shown v)
+  reads_seen e took k =
+      let u = v.behind in
+      record {
+        ready = ready_seen e took.0 k;
+        kept = k.value;
+        reads = owns.reads_as u.machine.lock u.stages u.opening u.machine.value k.stands.lock k.stands.fits p ∙ ap is_reading took.1;
+      }
+
+  writes_seen : (e : End) → Took p place.Writing e v.behind.machine.lock → Ended w p a v e → TakesToWrite (shown w) p a (shown v)
+  writes_seen e took k = record {
+    ready = ready_seen e took.0 k;
+    kept = k.value;
+    writes = turn_seen e place.Writing k took.1 refl;
+  }
+
+module _ (w : World) (p : ℕ) (i : Inputs) (laws : IsRwLock w.behind.machine.lock) (tf : IsRwLockTable w.behind) (pending : standing_of (shown w) p ≡ outside rest.Pending) where
+  abbrev t : Table Guarded
+  t = w.behind
+
+  -- the party stands pending in the table
+  pub at_stage : (p < length w.behind.stages) × (stage_at w.behind.stages p ≡ Outside rest.Pending)
+  at_stage =
+      let here : Place = place_at w.behind.machine.lock.places p in
+      let there : TurnCourse = turn_at w.behind.machine.lock.turn.courses p in
+      let stood : standing_of (shown w) p ≡ standing_at w.behind.machine.value (stage_at w.behind.stages p) here there = owns.stood w.behind.machine.lock w.behind.stages w.behind.opening w.behind.machine.value laws tf p in
+      elim (inside_or_past w.behind.stages p) as (λ _. (p < length w.behind.stages) × (stage_at w.behind.stages p ≡ Outside rest.Pending)) [
+        | inl known ↦ (known, outside_stage (verdict w.behind.machine.value here there) (stage_at w.behind.stages p) rest.Pending (sym stood ∙ pending))
+        | inr past ↦ (let never : standing_at w.behind.machine.value Forgotten here there ≡ outside rest.Pending = rw past.1 at (sym stood ∙ pending) in absurd (cc))
+      ]
+
+  pub future : is_future (place_at t.machine.lock.places p) ≡ true
+  future = ap (λ s. goes_with s (place_at t.machine.lock.places p)) (sym at_stage.1) ∙ tf.stands p at_stage.0
+
+  law : SoloPolls t.machine.lock
+  law = solo_polls t.machine.lock laws
+
+  module _ (v : World) (a : Answer) (e : End) (polls : PollsAlone p e v.behind.machine.lock w.behind.machine.lock) (k : Ended w p a v e) where
+    reading_polled : IsSoloToRead (shown w) p i → is_marked (shown w).state.turn ≡ false → how_many_read (shown w) < t.machine.lock.limit → TakesToRead (shown w) p a (shown v)
+    reading_polled solo free below =
+        let there : 0 < in_no_writer (place_at t.machine.lock.places p) = omega (arith, laws.owners_no_writer p, marked_listed p t.machine.lock.no_writer solo.marked) in
+        let few : readers t.machine.lock < t.machine.lock.limit = rw view.how_many-read at below in
+        reads_seen w v p a e (law.reads (bit_seen t.machine.lock t.stages t.opening t.machine.value laws tf free) few p e v.behind.machine.lock (in_no_writer_list (place_at t.machine.lock.places p) future there, solo.marked) polls) k
+
+    writing_polled : (0 < entries_of p t.machine.lock.no_readers) ⊎ (is_upgrader (shown w) p ≡ true) → how_many_read (shown w) ≡ 0 → TakesToWrite (shown w) p a (shown v)
+    writing_polled some free =
+        let looks : looks_for_readers (place_at t.machine.lock.places p) ≡ true = elim some as (λ _. looks_for_readers (place_at t.machine.lock.places p) ≡ true) [
+          | inl listed ↦ in_no_readers_list (place_at t.machine.lock.places p) future (omega (arith, laws.owners_no_readers p, listed))
+          | inr up ↦ upgrade_looks (place_at t.machine.lock.places p) future (sym (view.upgrades_at t.machine.lock.places p) ∙ up)
+        ] in
+        let none : readers t.machine.lock ≡ 0 = sym (view.how_many-read t.machine.lock.places) ∙ free in
+        writes_seen w v p a e (law.writes none p e v.behind.machine.lock looks polls) k
+
+    either_seen : 0 < entries_of p t.machine.lock.turn.entries → starved t.machine.lock.turn < t.machine.lock.turn.limit → TookTurn p e v.behind.machine.lock ⊎ GaveTurnWay p t.machine.lock e v.behind.machine.lock → TakesTurn (shown w) p a (shown v) ⊎ GivesTurnWay (shown w) p a (shown v)
+    either_seen some below (inl took) = inl (takes_turn_seen w v p a e took k)
+    either_seen some below (inr gave) = inr (gives_way_seen w v p a e tf some below gave gave.stands_back k)
+
+    why_seen : (is_starved (shown w) p ≡ true) ⊎ (how_many (shown w).state.starved ≡ 0) → IsStarved t.machine.lock.turn p ⊎ (starved t.machine.lock.turn ≡ 0)
+    why_seen (inl starving) = inl (sym (sees.counted_bit (turn_at t.machine.lock.turn.courses p)) ∙ ap bit (sym (sees.starved_at t.machine.lock.turn.courses p) ∙ starving))
+    why_seen (inr none) = inr (sym (sees.how_many_counted t.machine.lock.turn.courses) ∙ none)
+
+    turn_polled : IsSoloForTurn (shown w) p i → (shown w).state.turn ≡ nobody → how_many_read (shown w) < t.machine.lock.limit → SoloPollForTurn (shown w) p a (shown v)
+    turn_polled solo free below =
+        let some : 0 < entries_of p t.machine.lock.turn.entries = marked_listed p t.machine.lock.turn.entries solo.marked in
+        let there : 0 < listed (turn_at t.machine.lock.turn.courses p) = omega (arith, laws.turn.owners p, some) in
+        let called : IsCalledToTurn t.machine.lock p = (in_turn_list (turn_at t.machine.lock.turn.courses p) (place_at t.machine.lock.places p) future (laws.in_turn p) there, solo.marked) in
+        let few : readers t.machine.lock < t.machine.lock.limit = rw view.how_many-read at below in
+        let nobody_there : holders t.machine.lock.turn ≡ 0 = sees.none_holds 0 t.machine.lock.turn.courses (nobody_holds (holder_of t.machine.lock.turn) t.machine.lock.places free) in
+        record {
+          takes_or_gives_way = λ under. either_seen some (rw sees.how_many_counted at under) (law.takes_turn_or_gives_way nobody_there few p e v.behind.machine.lock called polls);
+          takes = λ why. takes_turn_seen w v p a e (law.takes_turn nobody_there few p e v.behind.machine.lock called (why_seen why) polls) k;
+        }
+
+-- ---- a solo poll that was carried out alone keeps its promise
+
+module _ (known : ℕ → Account) (w : World) (p : ℕ) (i : Inputs) (k : ℕ) (a : Answer) (v : World) (stood : Stands w) (runs : Runs known w (moves_of p call.Poll i k) (answers_of k a) v) (not_stepped : a ≢ answer.Stepped) where
+  -- what is so of the World as it is seen is so of it
+  as_seen : (P : World → World → Type 0) → standing_of w p ≡ outside rest.Pending → i.memory ≡ true
+      → ((e : End) → PollsAlone p e v.behind.machine.lock w.behind.machine.lock → Ended w p a v e → P (shown w) (shown v)) → P w v
+  as_seen P pending memory gives =
+      let here = at_stage w p i stood.lock stood.fits (subst (λ x. standing_of x p ≡ outside rest.Pending) stood.seen pending) in
+      let polls = polls_alone p i memory known k w v a not_stepped here.0 here.1 runs in
+      let last : v ≡ shown v = polls.2.stands.seen in
+      subst (λ x. P x v) (sym stood.seen) (subst (P (shown w)) (sym last) (gives polls.0 polls.1 polls.2))
+
+  pub turn_seen_polled : IsSoloForTurn w p i → w.state.turn ≡ nobody → how_many_read w < w.readers_limit → SoloPollForTurn w p a v
+  turn_seen_polled solo free below =
+      let F : World → Type 0 = λ x. IsSoloForTurn x p i × (x.state.turn ≡ nobody) × (how_many_read x < x.readers_limit) in
+      let so : F (shown w) = subst F stood.seen (solo, free, below) in
+      as_seen (λ x y. SoloPollForTurn x p a y) solo.pending solo.memory (λ e polls ended. turn_polled w p i stood.lock stood.fits so.0.pending v a e polls ended so.0 so.1 so.2)
+
+  pub reading_seen_polled : IsSoloToRead w p i → is_marked w.state.turn ≡ false → how_many_read w < w.readers_limit → TakesToRead w p a v
+  reading_seen_polled solo free below =
+      let F : World → Type 0 = λ x. IsSoloToRead x p i × (is_marked x.state.turn ≡ false) × (how_many_read x < x.readers_limit) in
+      let so : F (shown w) = subst F stood.seen (solo, free, below) in
+      as_seen (λ x y. TakesToRead x p a y) solo.pending solo.memory (λ e polls ended. reading_polled w p i stood.lock stood.fits so.0.pending v a e polls ended so.0 so.1 so.2)
+
+  pub writing_seen_polled : IsSoloToWrite w p i → how_many_read w ≡ 0 → TakesToWrite w p a v
+  writing_seen_polled solo free =
+      let F : World → Type 0 = λ x. IsSoloToWrite x p i × (how_many_read x ≡ 0) in
+      let so : F (shown w) = subst F stood.seen (solo, free) in
+      as_seen (λ x y. TakesToWrite x p a y) solo.pending solo.memory (λ e polls ended. writing_polled w p i stood.lock stood.fits so.0.pending v a e polls ended so.0.looks so.1)

@@ -1,0 +1,7 @@
+-- The readers are the word's.
+use Rattle.std.proofs.Common.{ap, sym, ◌∙◌}
+use Rattle.world_rwlock.specs.machine.Acts.{readers}
+use Rattle.world_rwlock.proofs.machine.machine.RwLock.readers.Goals as goal
+
+pub returns : goal.returns
+returns c = sym c.self.invariant.sound.readers ∙ ap readers c.self.view_is

@@ -1,0 +1,305 @@
+-- Where a poll leads that is carried out alone by a party that waits for the turn, while nobody has it.
+use Rattle.std.proofs.Common.{◌≡◌, ℕ, ◌<◌, ◌⊎◌, zero, suc, inl, inr, Bool, true, false, List, [], ◌∷◌, length, refl, sym, ap, arith, subst, ◌∙◌, get_or-set_same, length-set, set-set}
+use Rattle.std.proofs.Math.ListN.{set}
+use Rattle.std.specs.List.{sum_by}
+use Rattle.std.proofs.lemmas.List.Sums.{sum_by-set}
+use Rattle.lock_program.specs.declared.refusal.Refusal.TheVariants.{Starved}
+use Rattle.lock_program.specs.declared.mutex.LockCall.TheVariants as turn_call
+use Rattle.lock_program.specs.declared.mutex.Step.{Step as TurnStep}
+use Rattle.lock_program.specs.declared.mutex.Step.TheVariants as turn_step
+use Rattle.lock_program.specs.declared.end.End.{End as TurnEnd}
+use Rattle.lock_program.specs.declared.end.End.TheVariants as turn_end
+use Rattle.world_mutex.specs.machine.Mutex.{Mutex, IsStarved, holders, starved}
+use Rattle.world_mutex.specs.machine.Alone as turn
+use Rattle.world_mutex.proofs.of_machine.callers.AloneSeen.{solo_polls as turn_law}
+use Rattle.lock_program.specs.declared.rwlock.Purpose.{Purpose}
+use Rattle.lock_program.specs.declared.rwlock.Purpose.TheVariants as purpose
+use Rattle.lock_program.specs.declared.rwlock.Place.{Place}
+use Rattle.lock_program.specs.declared.rwlock.Place.TheVariants.{Out, Upgradable, Writing, WaitTurn, TakeTurn, Add, Mark, JoinNoReaders, LookNoReaders, AskNoReaders, LookUnlisted, LeaveNoReaders}
+use Rattle.lock_program.specs.declared.rwlock.Action.TheVariants as act
+use Rattle.lock_program.specs.declared.rwlock.Found.{Found}
+use Rattle.lock_program.specs.declared.rwlock.Found.TheVariants.{Done, Full, NoneLeft, NoMemory, Yes, Turn}
+use Rattle.lock_program.specs.declared.end.End.{End}
+use Rattle.lock_program.specs.declared.end.End.TheVariants.{Got, Pending, Refused}
+use Rattle.world_rwlock.specs.declared.program.led.Next.{Next}
+use Rattle.world_rwlock.specs.declared.program.led.Next.TheVariants as next
+use Rattle.world_rwlock.specs.program.Program.{action_of, next_of, after_lock, with_turn, place_after, go_to, ends}
+use Rattle.world_rwlock.specs.machine.Roles.{reads}
+use Rattle.world_rwlock.specs.program.Turns.{OnTurn}
+use Rattle.world_rwlock.specs.machine.Machine.{RwLock, place_at}
+use Rattle.world_rwlock.specs.machine.Acts.{Acts, Finds, IsRwLock, readers}
+use Rattle.world_rwlock.specs.machine.Solo.{GoesOnAlone, last, step, PollsAlone, at_once, begun, waits_to_write, waits_for_turn, IsCalledToTurn, TookTurn, GaveTurnWay}
+
+-- ---- once the turn is got
+
+-- a write that has the turn stands here on its way
+abbrev is_on_way : Place → Bool
+is_on_way Mark = true
+is_on_way (JoinNoReaders false) = true
+is_on_way (LookNoReaders false) = true
+is_on_way (AskNoReaders false) = true
+is_on_way (LookUnlisted false) = true
+is_on_way LeaveNoReaders = true
+is_on_way _ = false
+
+-- further on its way, to writing, or to waiting until no reader is left
+abbrev LeadsOn : Next → Type 0
+LeadsOn (next.Do a to) = is_on_way to ≡ true
+LeadsOn (next.End Got to) = to ≡ Writing
+LeadsOn (next.End Pending to) = waits_to_write to ≡ true
+LeadsOn _ = ⊥
+
+leads_on : (x : Place) (f : Found) (v : RwLock) → is_on_way x ≡ true → Finds true (action_of x) f v → LeadsOn (next_of x f)
+leads_on Mark NoneLeft v h e = refl
+leads_on Mark _ v h e = refl
+leads_on (JoinNoReaders false) Done v h e = refl
+leads_on (JoinNoReaders false) NoMemory v h e = absurd (cc)
+leads_on (JoinNoReaders false) _ v h e = absurd e
+leads_on (LookNoReaders false) NoneLeft v h e = refl
+leads_on (LookNoReaders false) _ v h e = refl
+leads_on (AskNoReaders false) Yes v h e = refl
+leads_on (AskNoReaders false) _ v h e = refl
+leads_on (LookUnlisted false) NoneLeft v h e = refl
+leads_on (LookUnlisted false) _ v h e = refl
+leads_on LeaveNoReaders f v h e = refl
+leads_on _ f v h e = absurd (cc)
+
+-- where readers are below the limit, an upgradable reader is added
+adds : (v : RwLock) (f : Found) → Finds true act.Add f v → readers v < v.limit → next_of (Add false) f ≡ ends Got Upgradable
+adds v Done e below = refl
+adds v Full e below = absurd (omega arith)
+adds v _ e below = absurd e
+
+end_eq : (x y : End) (to at : Place) → next.End x to ≡ next.End y at → (x ≡ y) × (to ≡ at)
+end_eq x y to at h = (cc, cc)
+
+never : {P : Type 0} (a : _) (x : End) (to at : Place) → next.Do a to ≡ next.End x at → P
+never a x to at h = absurd (cc)
+
+ends_not : {P : Type 0} (x : End) (to : Place) {q : Purpose} → next.End x to ≡ go_to (TakeTurn q) → P
+ends_not x to h = absurd (cc)
+
+-- nothing was done on the two lists
+abbrev SameLists : RwLock → RwLock → Type 0
+SameLists m mid = (mid.no_writer ≡ m.no_writer) × (mid.no_readers ≡ m.no_readers)
+
+-- what a step in the turn finds there
+goes : (p : ℕ) (starving : Bool) (t u : Mutex) (f : Found) → OnTurn true starving p act.Go f t u → (n : TurnStep) × (f ≡ Turn n) × turn.HasGoneOn true p n t u
+goes p starving t u (Turn n) o = (n, refl, o.done)
+goes p starving t u _ o = absurd o
+
+begins : (p : ℕ) (starving : Bool) (t u : Mutex) (f : Found) → OnTurn true starving p (act.Begin turn_call.Poll) f t u → (n : TurnStep) × (f ≡ Turn n) × turn.HasBegun true p turn_call.Poll n t u
+begins p starving t u (Turn n) o = (n, refl, o.done)
+begins p starving t u _ o = absurd o
+
+module _ (p : ℕ) (e : End) (new : RwLock) where
+  -- where an action leaves its party
+  lands : (starving : Bool) (x : Place) (n : Next) (m mid : RwLock) → p < length m.places → Acts true starving p x n m mid → (p < length mid.places) × (place_at mid.places p ≡ place_after n)
+  lands starving x n m mid known a = (
+    rw (a.places, length-set m.places p (place_after n)) known,
+    ap (λ ps. place_at ps p) a.places ∙ get_or-set_same m.places p (place_after n) Out known,
+  )
+
+  ended : (x : End) (to : Place) → LeadsOn (next.End x to) → place_at new.places p ≡ to → TookTurn p x new
+  ended Got to leads at = inr (at ∙ leads)
+  ended Pending to leads at = ap waits_to_write at ∙ leads
+  ended _ to leads at = absurd leads
+
+  goes_to_write : (m : RwLock) → p < length m.places → is_on_way (place_at m.places p) ≡ true → GoesOnAlone p e new m → TookTurn p e new
+  goes_to_write m known way (last old starving to a) =
+      let led : LeadsOn (next.End e to) = subst LeadsOn (sym a.next_is) (leads_on (place_at m.places p) a.found m way a.finds) in
+      ended e to led (lands starving (place_at m.places p) (next.End e to) m new known a).1
+  goes_to_write m known way (step old mid starving a to acts on) =
+      let led : LeadsOn (next.Do a to) = subst LeadsOn (sym acts.next_is) (leads_on (place_at m.places p) acts.found m way acts.finds) in
+      let there = lands starving (place_at m.places p) (next.Do a to) m mid known acts in
+      goes_to_write mid there.0 (ap is_on_way there.1 ∙ led) on
+
+  adds_itself : (m : RwLock) → p < length m.places → place_at m.places p ≡ Add false → readers m < m.limit → GoesOnAlone p e new m → TookTurn p e new
+  adds_itself m known here below (last old starving to a) =
+      let acts : Acts true starving p (Add false) (next.End e to) m new = rw here at a in
+      let is = end_eq e Got to Upgradable (acts.next_is ∙ adds m acts.found acts.finds below) in
+      let there = lands starving (Add false) (next.End e to) m new known acts in
+      subst (λ x. TookTurn p x new) (sym is.0) (inl (there.1 ∙ is.1))
+  adds_itself m known here below (step old mid starving a to b on) =
+      let acts : Acts true starving p (Add false) (next.Do a to) m mid = rw here at b in
+      never a Got to Upgradable (acts.next_is ∙ adds m acts.found acts.finds below)
+
+  goes_with_turn : (q : Purpose) (m : RwLock) → p < length m.places → place_at m.places p ≡ with_turn q false → readers m < m.limit → GoesOnAlone p e new m → TookTurn p e new
+  goes_with_turn purpose.UpgradableRead m known here below g = adds_itself m known here below g
+  goes_with_turn purpose.Write m known here below g = goes_to_write m known (ap is_on_way here) g
+
+  -- ---- the call on the turn
+
+  -- what is left of a call after an action
+  abbrev Rest : Next → RwLock → Type 0
+  Rest (next.Do a q) m = GoesOnAlone p e new m
+  Rest (next.End x q) m = (e ≡ x) × (new ≡ m)
+  Rest (next.Wait q) m = ⊥
+
+  -- the poll's call on the turn has ended so, and nothing else was done
+  record TurnEnded (Polls : TurnEnd → Mutex → Type 0) (q : Purpose) (from : RwLock) : Type 0 where
+    pub turn_end : TurnEnd
+    pub mid : RwLock
+    pub polls : Polls turn_end mid.turn
+    pub rest : Rest (after_lock q (Turn (turn_step.End turn_end))) mid
+    pub places : mid.places ≡ set from.places p (place_after (after_lock q (Turn (turn_step.End turn_end))))
+    pub no_writer : mid.no_writer ≡ from.no_writer
+    pub no_readers : mid.no_readers ≡ from.no_readers
+    pub limit : mid.limit ≡ from.limit
+
+  -- with this action
+  ends_turn : (Polls : TurnEnd → Mutex → Type 0) (q : Purpose) (x : Place) (starving : Bool) (n : Next) (m mid : RwLock) (te : TurnEnd) → Acts true starving p x n m mid → SameLists m mid → Rest n mid
+      → n ≡ after_lock q (Turn (turn_step.End te)) → Polls te mid.turn → TurnEnded Polls q m
+  ends_turn Polls q x starving n m mid te a same rest is polls = record {
+    turn_end = te;
+    mid = mid;
+    polls = polls;
+    rest = subst (λ k. Rest k mid) is rest;
+    places = a.places ∙ ap (λ k. set m.places p (place_after k)) is;
+    no_writer = same.0;
+    no_readers = same.1;
+    limit = a.limit;
+  }
+
+  -- or later
+  later : (Polls Then : TurnEnd → Mutex → Type 0) (q : Purpose) (m mid : RwLock) → SameLists m mid → mid.places ≡ set m.places p (TakeTurn q) → mid.limit ≡ m.limit
+      → ((te : TurnEnd) (l : Mutex) → Then te l → Polls te l) → TurnEnded Then q mid → TurnEnded Polls q m
+  later Polls Then q m mid same places limit onward k =
+      let to : Place = place_after (after_lock q (Turn (turn_step.End k.turn_end))) in
+      record {
+        turn_end = k.turn_end;
+        mid = k.mid;
+        polls = onward k.turn_end k.mid.turn k.polls;
+        rest = k.rest;
+        places = k.places ∙ (ap (λ ps. set ps p to) places ∙ set-set m.places p (TakeTurn q) to);
+        no_writer = k.no_writer ∙ same.0;
+        no_readers = k.no_readers ∙ same.1;
+        limit = k.limit ∙ limit;
+      }
+
+  -- the party goes on with its call on the turn, or polls there, and leaves the turn so
+  abbrev Goes : RwLock → TurnEnd → Mutex → Type 0
+  Goes m te l = turn.GoesOnAlone p te l m.turn
+
+  abbrev Polls : RwLock → TurnEnd → Mutex → Type 0
+  Polls m te l = turn.PollsAlone p te l m.turn
+
+  module _ (q : Purpose) (starving : Bool) (m mid : RwLock) (n : Next) (known : p < length m.places) where
+    -- the next action of a call on the turn, and the rest of it
+    one_goes : Acts true starving p (TakeTurn q) n m mid → Rest n mid → (n ≡ go_to (TakeTurn q) → p < length mid.places → place_at mid.places p ≡ TakeTurn q → TurnEnded (Goes mid) q mid)
+        → (k : TurnStep) → n ≡ after_lock q (Turn k) → turn.HasGoneOn true p k m.turn mid.turn → TurnEnded (Goes m) q m
+    one_goes acts rest more turn_step.More is did =
+        let there = lands starving (TakeTurn q) n m mid known acts in
+        later (Goes m) (Goes mid) q m mid (acts.no_writer, acts.no_readers) (acts.places ∙ ap (λ k. set m.places p (place_after k)) is) acts.limit
+        (λ te l g. turn.further m.turn mid.turn did g) (more is there.0 (there.1 ∙ ap place_after is))
+    one_goes acts rest more (turn_step.End te) is did = ends_turn (Goes m) q (TakeTurn q) starving n m mid te acts (acts.no_writer, acts.no_readers) rest is (turn.last m.turn did)
+
+    first_goes : Acts true starving p (WaitTurn q) n m mid → Rest n mid → (n ≡ go_to (TakeTurn q) → p < length mid.places → place_at mid.places p ≡ TakeTurn q → TurnEnded (Goes mid) q mid)
+        → (k : TurnStep) → n ≡ after_lock q (Turn k) → turn.HasBegun true p turn_call.Poll k m.turn mid.turn → TurnEnded (Polls m) q m
+    first_goes acts rest more turn_step.More is did =
+        let there = lands starving (WaitTurn q) n m mid known acts in
+        later (Polls m) (Goes mid) q m mid (acts.no_writer, acts.no_readers) (acts.places ∙ ap (λ k. set m.places p (place_after k)) is) acts.limit
+        (λ te l g. turn.begun m.turn mid.turn did g) (more is there.0 (there.1 ∙ ap place_after is))
+    first_goes acts rest more (turn_step.End te) is did = ends_turn (Polls m) q (WaitTurn q) starving n m mid te acts (acts.no_writer, acts.no_readers) rest is (turn.at_once m.turn did)
+
+  turn_goes : (q : Purpose) (m : RwLock) → p < length m.places → place_at m.places p ≡ TakeTurn q → GoesOnAlone p e new m → TurnEnded (Goes m) q m
+  turn_goes q m known here (last old starving to a) =
+      let acts : Acts true starving p (TakeTurn q) (next.End e to) m new = rw here at a in
+      let found = goes p starving m.turn new.turn acts.found acts.turn in
+      one_goes q starving m new (next.End e to) known acts (refl, refl) (λ is known_then there. ends_not e to is) found.0 (acts.next_is ∙ ap (next_of (TakeTurn q)) found.1) found.2
+  turn_goes q m known here (step old mid starving a to b on) =
+      let acts : Acts true starving p (TakeTurn q) (next.Do a to) m mid = rw here at b in
+      let found = goes p starving m.turn mid.turn acts.found acts.turn in
+      one_goes q starving m mid (next.Do a to) known acts on (λ is known_then there. turn_goes q mid known_then there on) found.0 (acts.next_is ∙ ap (next_of (TakeTurn q)) found.1) found.2
+
+  turn_polls : (q : Purpose) (m : RwLock) → p < length m.places → place_at m.places p ≡ WaitTurn q → PollsAlone p e new m → TurnEnded (Polls m) q m
+  turn_polls q m known here (at_once old starving to b) =
+      let acts : Acts true starving p (WaitTurn q) (next.End e to) m new = rw here at b in
+      let found = begins p starving m.turn new.turn acts.found acts.turn in
+      first_goes q starving m new (next.End e to) known acts (refl, refl) (λ is known_then there. ends_not e to is) found.0 (acts.next_is ∙ ap (next_of (WaitTurn q)) found.1) found.2
+  turn_polls q m known here (begun old mid starving a to b on) =
+      let acts : Acts true starving p (WaitTurn q) (next.Do a to) m mid = rw here at b in
+      let found = begins p starving m.turn mid.turn acts.found acts.turn in
+      first_goes q starving m mid (next.Do a to) known acts on (λ is known_then there. turn_goes q mid known_then there on) found.0 (acts.next_is ∙ ap (next_of (WaitTurn q)) found.1) found.2
+
+-- a party whose place is not Out is one of the lock's
+known_waiter : (ps : List Place) (p : ℕ) → waits_for_turn (place_at ps p) ≡ true → p < length ps
+known_waiter [] p h = absurd (cc)
+known_waiter (x ∷ xs) zero h = omega arith
+known_waiter (x ∷ xs) (suc p) h = let more : p < length xs = known_waiter xs p h in omega arith
+
+waiter_at : (x : Place) → waits_for_turn x ≡ true → (q : Purpose) × (x ≡ WaitTurn q)
+waiter_at (WaitTurn q) h = (q, refl)
+waiter_at _ h = absurd (cc)
+
+-- whoever has just got the turn doesn't read yet
+pub reads_not : (q : Purpose) → reads (with_turn q false) ≡ 0
+reads_not purpose.UpgradableRead = refl
+reads_not purpose.Write = refl
+
+module _ (p : ℕ) (e : End) (new v : RwLock) (laws : IsRwLock v) (free : holders v.turn ≡ 0) (below : readers v < v.limit) (called : IsCalledToTurn v p) where
+  waiter : (q : Purpose) × (place_at v.places p ≡ WaitTurn q)
+  waiter = waiter_at (place_at v.places p) called.0
+
+  known : p < length v.places
+  known = known_waiter v.places p called.0
+
+  called_there : turn.IsCalled v.turn p
+  called_there = (rw waiter.1 at (laws.in_turn p), called.1)
+
+  law : turn.SoloPolls v.turn
+  law = turn_law v.turn laws.turn free
+
+  -- the turn was got there
+  got : (te : TurnEnd) (mid : RwLock) → te ≡ turn_end.Got → Rest p e new (after_lock waiter.0 (Turn (turn_step.End te))) mid → mid.places ≡ set v.places p (place_after (after_lock waiter.0 (Turn (turn_step.End te)))) → mid.limit ≡ v.limit → TookTurn p e new
+  got turn_end.Got mid is rest places limit =
+      let to : Place = with_turn waiter.0 false in
+      let here : place_at mid.places p ≡ to = ap (λ ps. place_at ps p) places ∙ get_or-set_same v.places p to Out known in
+      let size : length mid.places ≡ length v.places = ap length places ∙ length-set v.places p to in
+      let sum : readers mid ≡ sum_by reads (set v.places p to) = ap (sum_by reads) places in
+      let was : reads (place_at v.places p) ≡ 0 = ap reads waiter.1 in
+      let few : readers mid < mid.limit = omega (arith, sum, sum_by-set reads v.places p to Out known, was, reads_not waiter.0, limit) in
+      goes_with_turn p e new waiter.0 mid (omega (arith, size, known)) here few rest
+  got _ mid is rest places limit = absurd (cc)
+
+  -- its party gave way there
+  gave : (te : TurnEnd) (mid : RwLock) → turn.GaveWay p v.turn te mid.turn → turn.StandsBack p v.turn te mid.turn → Rest p e new (after_lock waiter.0 (Turn (turn_step.End te))) mid → mid.places ≡ set v.places p (place_after (after_lock waiter.0 (Turn (turn_step.End te))))
+      → SameLists v mid → mid.limit ≡ v.limit → GaveTurnWay p v e new
+  gave turn_end.Pending mid g back rest places same limit =
+      let here : place_at mid.places p ≡ WaitTurn waiter.0 = ap (λ ps. place_at ps p) places ∙ get_or-set_same v.places p (WaitTurn waiter.0) Out known in
+      let so : GaveTurnWay p v Pending mid = record {
+        stands_back = (g, here ∙ sym waiter.1);
+        places = places ∙ ap (set v.places p) (sym here);
+        no_writer = same.0;
+        no_readers = same.1;
+        limit = limit;
+      } in
+      subst (λ x. GaveTurnWay p v x new) (sym rest.0) (subst (λ m. GaveTurnWay p v Pending m) (sym rest.1) so)
+  gave (turn_end.Refused Starved) mid g back rest places same limit =
+      let to : Place = place_after (after_lock waiter.0 (Turn (turn_step.End (turn_end.Refused Starved)))) in
+      let here : place_at mid.places p ≡ to = ap (λ ps. place_at ps p) places ∙ get_or-set_same v.places p to Out known in
+      let so : GaveTurnWay p v (Refused Starved) mid = record {
+        stands_back = (g, rw here refl);
+        places = places ∙ ap (set v.places p) (sym here);
+        no_writer = same.0;
+        no_readers = same.1;
+        limit = limit;
+      } in
+      subst (λ x. GaveTurnWay p v x new) (sym rest.0) (subst (λ m. GaveTurnWay p v (Refused Starved) m) (sym rest.1) so)
+  gave _ mid g back rest places same limit = absurd back
+
+  by_turn : (k : TurnEnded p e new (Polls p e new v) waiter.0 v) → turn.Took p k.turn_end k.mid.turn ⊎ turn.GaveWay p v.turn k.turn_end k.mid.turn → TookTurn p e new ⊎ GaveTurnWay p v e new
+  by_turn k (inl took) = inl (got k.turn_end k.mid took.0 k.rest k.places k.limit)
+  by_turn k (inr g) = inr (gave k.turn_end k.mid g g.stands_back k.rest k.places (k.no_writer, k.no_readers) k.limit)
+
+  -- the poll takes the turn or gives way
+  pub either : PollsAlone p e new v → TookTurn p e new ⊎ GaveTurnWay p v e new
+  either polls =
+      let k = turn_polls p e new waiter.0 v known waiter.1 polls in
+      by_turn k (law.takes_or_gives_way p k.turn_end k.mid.turn called_there k.polls)
+
+  -- that of a starved party gives way to nobody, and nobody gives way where none is starved
+  pub must_take : IsStarved v.turn p ⊎ (starved v.turn ≡ 0) → PollsAlone p e new v → TookTurn p e new
+  must_take why polls =
+      let k = turn_polls p e new waiter.0 v known waiter.1 polls in
+      got k.turn_end k.mid (law.takes p k.turn_end k.mid.turn called_there why k.polls).0 k.rest k.places k.limit

@@ -1,0 +1,454 @@
+-- What each action on the word or on a list changes and decides, place by place. Written by generators/rwlock_world_rows.py.
+use Rattle.std.proofs.Common.{◌≡◌, ℕ, ◌+◌, ◌<◌, ◌≤◌, ◌==◌, ◌⊎◌, ◌||◌, not, inl, inr, if◌then◌else◌, Bool, true, false, List, Option, Some, None, refl, sym, ◌∙◌}
+use Rattle.lock_event.specs.declared.event.Entry.{Entry}
+use Rattle.lock_event.specs.Lists.{is_marked_at, without}
+use Rattle.world_base.specs.queue.Parties.{is_party}
+use Rattle.world_base.specs.declared.moves.Answer.{Answer}
+use Rattle.world_base.specs.declared.moves.Answer.TheVariants as answer
+use Rattle.world_base.specs.declared.moves.Got.TheVariants.{Value}
+use Rattle.lock_program.specs.declared.refusal.Refusal.{Refusal}
+use Rattle.lock_program.specs.declared.refusal.Refusal.TheVariants as refusal
+use Rattle.lock_program.specs.Refusals.{number_of}
+use Rattle.world_base.specs.Rights.{Right, read, upgradable}
+use Rattle.world_base.specs.Steps.{Deed, nothing, changes, does, joins, asks, leaves, notifies}
+use Rattle.world_base.proofs.Equations.{chosen}
+use Rattle.world_mutex.specs.machine.Course.{Course as TurnCourse, is_out as is_out_there, is_holding}
+use Rattle.lock_program.specs.declared.rwlock.Action.{Action}
+use Rattle.lock_program.specs.declared.rwlock.Action.TheVariants as act
+use Rattle.lock_program.specs.declared.end.End.TheVariants.{Pending, Refused}
+use Rattle.world_rwlock.specs.declared.program.led.Next.{Next}
+use Rattle.world_rwlock.specs.declared.program.led.Next.TheVariants as next
+use Rattle.lock_program.specs.declared.rwlock.Found.{Found}
+use Rattle.lock_program.specs.declared.rwlock.Found.TheVariants.{Done, Writer, Full, NoneLeft, SomeLeft, NoMemory, Yes, No, Turn}
+use Rattle.lock_program.specs.declared.rwlock.Found.TheVariants as found
+use Rattle.lock_program.specs.declared.mutex.Step.TheVariants as turn_step
+use Rattle.lock_program.specs.declared.end.End.TheVariants as turn_end
+use Rattle.lock_program.specs.declared.rwlock.Purpose.TheVariants as purpose
+use Rattle.lock_program.specs.declared.rwlock.Ending.TheVariants as ending
+use Rattle.lock_program.specs.declared.rwlock.Place.{Place}
+use Rattle.lock_program.specs.declared.rwlock.Place.TheVariants.{Out, Made, Reading, Upgradable, Writing, EnterRead, JoinNoWriter, LookNoWriter, AskNoWriter, PassOn, LeaveNoWriter, RefuseLeave, RefuseNotify, CancelRead, TryRead, EnterTurn, WaitTurn, TakeTurn, TryTurn, CancelTurn, CancellingTurn, ReleaseTurn, ReleasingTurn, Add, TryUpgrade, Upgrade, Mark, TryWrite, JoinNoReaders, LookNoReaders, AskNoReaders, AwaitNoReaders, LookUnlisted, LeaveNoReaders, DropRead, DropReadNotify, DropUpgradable, DropUpgradableNotify, DropWrite, CancelAwait, Unmark, UnmarkNotify, Down, DownNotify, DowngradeNotify}
+use Rattle.world_rwlock.specs.program.Program.{action_of, next_of, place_after}
+use Rattle.world_rwlock.specs.machine.Roles.{has_turn, in_no_writer, in_no_readers, fits_turn}
+use Rattle.world_rwlock.specs.program.Parties.{OnNoWriter, OnNoReaders}
+use Rattle.world_rwlock.specs.machine.Machine.{RwLock}
+use Rattle.world_rwlock.specs.machine.Acts.{Finds, readers, marked}
+use Rattle.world_rwlock.proofs.of_machine.stages.Leads.{Led, steps_in_turn}
+use Rattle.world_rwlock.specs.Changes.{Change, begins_to_read, stops_reading, becomes_upgradable, stops_upgradable, begins_to_wait, begins_to_write, upgrades, upgrades_at_once, unmarks, downgrades, downgrades_to_upgradable, turn_after, starved_after, value_after, entries_after, gives_back, gives_up}
+use Rattle.world_rwlock.specs.State as state
+use Rattle.world_rwlock.specs.State.{ListName, for_the_turn, for_no_readers, for_no_writer}
+use Rattle.world_base.proofs.of_table.Calls.{decided_after}
+use Rattle.world_rwlock.specs.Guarded.{answer_by}
+use Rattle.world_rwlock.specs.Stages.{strays, course_of, sought_at}
+use Rattle.world_rwlock.specs.View.{passing, upgrading, waiting, writing, turn_as, share_of, is_reading, is_upgrade, verdict}
+use Rattle.world_base.specs.Steps.{notifies_additionally}
+
+-- what an action changes that found this
+abbrev pub deed_of : Action → Found → Deed Change ListName
+deed_of act.Read Done = changes begins_to_read
+deed_of act.Add Done = changes becomes_upgradable
+deed_of act.Off _ = changes stops_reading
+deed_of act.Load NoneLeft = changes begins_to_write
+deed_of act.Mark NoneLeft = changes begins_to_write
+deed_of act.Mark _ = changes begins_to_wait
+deed_of act.TryWrite Done = changes begins_to_write
+deed_of act.TryUpgrade Done = changes upgrades_at_once
+deed_of act.Upgrade _ = changes upgrades
+deed_of act.Down _ = changes downgrades
+deed_of act.Unmark _ = changes unmarks
+deed_of act.JoinNoWriter Done = does for_no_writer joins
+deed_of act.AskNoWriter Yes = does for_no_writer asks
+deed_of act.LeaveNoWriter _ = does for_no_writer leaves
+deed_of act.NotifyNoWriter _ = does for_no_writer (notifies 1)
+deed_of act.JoinNoReaders Done = does for_no_readers joins
+deed_of act.AskNoReaders Yes = does for_no_readers asks
+deed_of act.LeaveNoReaders _ = does for_no_readers leaves
+deed_of act.NotifyNoReaders _ = does for_no_readers (notifies 1)
+deed_of _ _ = nothing
+
+-- and which right the place is for
+abbrev pub deed_at : Place → Found → Deed Change ListName
+deed_at DropUpgradable f = changes stops_upgradable
+deed_at (Down true) f = changes downgrades_to_upgradable
+deed_at x f = deed_of (action_of x) f
+
+-- what the call is decided on then
+abbrev pub verdict_then : ℕ → TurnCourse → Next → Option Answer
+verdict_then v t n = decided_after (answer_by v n) (verdict v (place_after n) t)
+
+abbrev pub is_after_ready : Answer → Bool
+is_after_ready (answer.Refused n) = n == number_of refusal.Finished
+is_after_ready _ = false
+
+-- how a deed turns whether its party reads
+abbrev pub Reads : Deed Change ListName → Bool → Bool → Type 0
+Reads (changes begins_to_read) b c = c ≡ true
+Reads (changes becomes_upgradable) b c = c ≡ true
+Reads (changes downgrades) b c = c ≡ true
+Reads (changes downgrades_to_upgradable) b c = c ≡ true
+Reads (changes stops_reading) b c = c ≡ false
+Reads (changes stops_upgradable) b c = c ≡ false
+Reads (changes upgrades) b c = c ≡ false
+Reads (changes upgrades_at_once) b c = c ≡ false
+Reads _ b c = c ≡ b
+
+-- how it turns for what its party has the turn
+abbrev pub Shares : Deed Change ListName → Place → Place → Type 0
+Shares d x q = ((has_turn x ≡ 1) × ((p : ℕ) → turn_after p d (turn_as p (share_of x)) ≡ turn_as p (share_of q))) ⊎ (((p : ℕ) (t : state.Turn) → turn_after p d t ≡ t) × (share_of q ≡ share_of x))
+
+-- what a deed found
+abbrev pub Finding : Deed Change ListName → RwLock → Place → Type 0
+Finding (changes begins_to_read) l x = (marked l ≡ 0) × (readers l < l.limit)
+Finding (changes stops_reading) l x = is_reading x ≡ true
+Finding (changes becomes_upgradable) l x = (has_turn x ≡ 1) × (share_of x ≡ passing) × (readers l < l.limit)
+Finding (changes stops_upgradable) l x = (has_turn x ≡ 1) × (share_of x ≡ upgrading)
+Finding (changes begins_to_wait) l x = (has_turn x ≡ 1) × (share_of x ≡ passing) × (0 < readers l)
+Finding (changes begins_to_write) l x = (has_turn x ≡ 1) × ((share_of x ≡ passing) ⊎ (share_of x ≡ waiting)) × (readers l ≡ 0)
+Finding (changes upgrades) l x = (has_turn x ≡ 1) × (share_of x ≡ upgrading)
+Finding (changes upgrades_at_once) l x = (has_turn x ≡ 1) × (share_of x ≡ upgrading) × (readers l ≡ 1)
+Finding (changes unmarks) l x = (has_turn x ≡ 1) × ((share_of x ≡ waiting) ⊎ (share_of x ≡ writing))
+Finding (changes downgrades) l x = (has_turn x ≡ 1) × (share_of x ≡ writing)
+Finding (changes downgrades_to_upgradable) l x = (has_turn x ≡ 1) × (share_of x ≡ writing)
+Finding (changes _) l x = ⊥
+Finding (does for_the_turn f) l x = ⊥
+Finding (does list (notifies n)) l x = n ≡ 1
+Finding (does list (notifies_additionally n)) l x = ⊥
+Finding _ l x = Unit {0}
+
+-- a party has the right that it sought here
+abbrev pub is_got : Place → Bool
+is_got Reading = true
+is_got Upgradable = true
+is_got Writing = true
+is_got LeaveNoWriter = true
+is_got LeaveNoReaders = true
+is_got _ = false
+
+abbrev pub is_made : Place → Bool
+is_made (Made w) = true
+is_made _ = false
+
+-- where a party asks in vain
+abbrev pub WaitsAt : Place → Found → Type 0
+WaitsAt AskNoWriter f = f ≡ No
+WaitsAt (AskNoReaders u) f = f ≡ No
+WaitsAt _ f = ⊥
+
+-- where a call may be refused for want of memory
+abbrev pub lacks_memory : Place → Bool
+lacks_memory (JoinNoWriter told) = true
+lacks_memory (JoinNoReaders u) = true
+lacks_memory (TakeTurn q) = true
+lacks_memory _ = false
+
+-- who joins a list hasn't the turn, or waits to write
+abbrev pub JoinsAt : Place → TurnCourse → Type 0
+JoinsAt x t = (is_out_there t ≡ true) ⊎ ((is_holding t ≡ true) × (has_turn x ≡ 1) × (share_of x ≡ waiting))
+
+-- what a party takes that meets the limit of the readers
+abbrev pub MeetsReaders : RwLock → Place → Option Right → Type 0
+MeetsReaders l x (Some read) = marked l ≡ 0
+MeetsReaders l x (Some upgradable) = has_turn x ≡ 1
+MeetsReaders l x s = ⊥
+
+-- why a step refuses its call
+abbrev pub Refuses : Bool → RwLock → Place → Found → Refusal → Type 0
+Refuses memory l x f refusal.Memory = (memory ≡ false) × (in_no_writer x + in_no_readers x ≡ 0) × (deed_at x f ≡ nothing) × ((t : TurnCourse) → fits_turn x t ≡ true → JoinsAt x t) × (lacks_memory x ≡ true)
+Refuses memory l x f refusal.Readers = (l.limit ≤ readers l) × MeetsReaders l x (sought_at (place_after (next_of x f)))
+Refuses memory l x f _ = ⊥
+
+-- why a step decides its call on an answer
+abbrev pub Reason : Bool → RwLock → ℕ → Place → Found → Answer → Type 0
+Reason memory l v x f answer.Pending = WaitsAt x f
+Reason memory l v x f (answer.Ready got) = (got ≡ Value v) × (is_got (place_after (next_of x f)) ≡ true)
+Reason memory l v x f (answer.Granted got) = (got ≡ Value v) × (is_got (place_after (next_of x f)) ≡ true)
+Reason memory l v x f (answer.Refused n) = (r : Refusal) × (n ≡ number_of r) × Refuses memory l x f r
+Reason memory l v x f _ = Unit {0}
+
+abbrev pub Judged : Bool → RwLock → ℕ → Place → Found → Option Answer → Option Answer → Type 0
+Judged memory l v x f (Some b) o = (o ≡ Some b) × (gives_back (deed_at x f) ≡ true)
+Judged memory l v x f None None = Unit {0}
+Judged memory l v x f None (Some b) = Reason memory l v x f b
+
+-- whether a join found memory, and that a party gives nothing up until its call is decided
+abbrev pub Room : Bool → Deed Change ListName → Type 0
+Room memory (does list joins) = memory ≡ true
+Room memory _ = Unit {0}
+
+abbrev pub is_judged : Option Answer → Bool
+is_judged (Some b) = true
+is_judged None = false
+
+abbrev pub keeps_what_it_has : Option Answer → Deed Change ListName → Bool
+keeps_what_it_has o d = not (gives_up d) || is_judged o
+
+-- an upgrade's future stays one while its call is undecided or pending
+abbrev pub KeepsUpgrade : ℕ → Place → Next → Type 0
+KeepsUpgrade v x (next.Do a q) = (t : TurnCourse) → verdict v q t ≡ None → is_upgrade q ≡ is_upgrade x
+KeepsUpgrade v x (next.Wait q) = is_upgrade q ≡ true
+KeepsUpgrade v x (next.End turn_end.Waiting q) = is_upgrade q ≡ true
+KeepsUpgrade v x (next.End Pending q) = is_upgrade q ≡ is_upgrade x
+KeepsUpgrade v x (next.End (Refused r) q) = is_upgrade q ≡ is_upgrade x
+KeepsUpgrade v x (next.End _ q) = Unit {0}
+
+-- where a party stands after a refusal
+abbrev pub RefusedAt : Place → Next → Type 0
+RefusedAt x (next.End (Refused r) q) = ((is_made q ≡ true) × (is_upgrade x ≡ false)) ⊎ ((q ≡ LookUnlisted true) × (is_upgrade x ≡ true))
+RefusedAt x _ = Unit {0}
+
+pub record Row (memory : Bool) (l : RwLock) (v : ℕ) (x : Place) (f : Found) : Type 0 where
+  pub reading : Reads (deed_at x f) (is_reading x) (is_reading (place_after (next_of x f)))
+  pub sharing : Shares (deed_at x f) x (place_after (next_of x f))
+  pub starving : (p : ℕ) (s : List Bool) → starved_after p (deed_at x f) s ≡ s
+  pub valued : (u : ℕ) → value_after (deed_at x f) u ≡ u
+  pub unturned : (p : ℕ) (a : List (Entry ℕ)) → entries_after p (deed_at x f) for_the_turn a ≡ a
+  pub no_writer : (p : ℕ) (a b : List (Entry ℕ)) → OnNoWriter p (action_of x) f a b → b ≡ entries_after p (deed_at x f) for_no_writer a
+  pub no_readers : (p : ℕ) (a b : List (Entry ℕ)) → OnNoReaders p (action_of x) f a b → b ≡ entries_after p (deed_at x f) for_no_readers a
+  pub finding : Finding (deed_at x f) l x
+  pub judged : (t u : TurnCourse) → Judged memory l v x f (verdict v x t) (verdict_then v u (next_of x f))
+  pub room : Room memory (deed_at x f)
+  pub holds_on : (t : TurnCourse) → keeps_what_it_has (verdict v x t) (deed_at x f) ≡ true
+  pub over : is_after_ready (answer_by v (next_of x f)) ≡ false
+  pub upgrade : KeepsUpgrade v x (next_of x f)
+  pub refused : RefusedAt x (next_of x f)
+
+asks_so : (p : ℕ) (l m : List (Entry ℕ)) → (is_marked_at (is_party p) l ≡ true) × (m ≡ without (is_party p) l) → m ≡ (if is_marked_at (is_party p) l then without (is_party p) l else l)
+asks_so p l m o = o.1 ∙ sym (chosen (is_marked_at (is_party p) l) (without (is_party p) l) l o.0)
+
+module _ (memory : Bool) (l : RwLock) (v : ℕ) where
+  pub row : (x : Place) (f : Found) → Finds memory (action_of x) f l → (course_of x ≡ strays → ⊥) → steps_in_turn x ≡ false → Row memory l v x f
+  row Out Done e n t = record { reading = refl; sharing = inr ((λ p t. refl), refl); starving = λ p s. refl; valued = λ u. refl; unturned = λ p a. refl; no_writer = λ p a b o. o; no_readers = λ p a b o. o; finding = tt; judged = λ t u. (refl, refl); room = tt; holds_on = λ t. refl; over = refl; upgrade = tt; refused = tt }
+  row Out _ e n t = absurd e
+  row (Made w) _ e n t = absurd (n refl)
+  row Reading Done e n t = record { reading = refl; sharing = inr ((λ p t. refl), refl); starving = λ p s. refl; valued = λ u. refl; unturned = λ p a. refl; no_writer = λ p a b o. o; no_readers = λ p a b o. o; finding = tt; judged = λ t u. (refl, refl); room = tt; holds_on = λ t. refl; over = refl; upgrade = tt; refused = tt }
+  row Reading _ e n t = absurd e
+  row Upgradable Done e n t = record { reading = refl; sharing = inr ((λ p t. refl), refl); starving = λ p s. refl; valued = λ u. refl; unturned = λ p a. refl; no_writer = λ p a b o. o; no_readers = λ p a b o. o; finding = tt; judged = λ t u. (refl, refl); room = tt; holds_on = λ t. refl; over = refl; upgrade = tt; refused = tt }
+  row Upgradable _ e n t = absurd e
+  row Writing Done e n t = record { reading = refl; sharing = inr ((λ p t. refl), refl); starving = λ p s. refl; valued = λ u. refl; unturned = λ p a. refl; no_writer = λ p a b o. o; no_readers = λ p a b o. o; finding = tt; judged = λ t u. (refl, refl); room = tt; holds_on = λ t. refl; over = refl; upgrade = tt; refused = tt }
+  row Writing _ e n t = absurd e
+  row (EnterRead true) Done e n t = record { reading = refl; sharing = inr ((λ p t. refl), refl); starving = λ p s. refl; valued = λ u. refl; unturned = λ p a. refl; no_writer = λ p a b o. o; no_readers = λ p a b o. o; finding = e; judged = λ t u. (refl, refl); room = tt; holds_on = λ t. refl; over = refl; upgrade = tt; refused = tt }
+  row (EnterRead true) Writer e n t = record { reading = refl; sharing = inr ((λ p t. refl), refl); starving = λ p s. refl; valued = λ u. refl; unturned = λ p a. refl; no_writer = λ p a b o. o; no_readers = λ p a b o. o; finding = tt; judged = λ t u. tt; room = tt; holds_on = λ t. refl; over = refl; upgrade = λ t h. refl; refused = tt }
+  row (EnterRead true) Full e n t = record { reading = refl; sharing = inr ((λ p t. refl), refl); starving = λ p s. refl; valued = λ u. refl; unturned = λ p a. refl; no_writer = λ p a b o. o; no_readers = λ p a b o. o; finding = tt; judged = λ t u. (refusal.Readers, refl, (e.1, e.0)); room = tt; holds_on = λ t. refl; over = refl; upgrade = λ t h. refl; refused = tt }
+  row (EnterRead true) _ e n t = absurd e
+  row (EnterRead false) Done e n t = record { reading = refl; sharing = inr ((λ p t. refl), refl); starving = λ p s. refl; valued = λ u. refl; unturned = λ p a. refl; no_writer = λ p a b o. o; no_readers = λ p a b o. o; finding = e; judged = λ t u. (refl, refl); room = tt; holds_on = λ t. refl; over = refl; upgrade = tt; refused = tt }
+  row (EnterRead false) Writer e n t = record { reading = refl; sharing = inr ((λ p t. refl), refl); starving = λ p s. refl; valued = λ u. refl; unturned = λ p a. refl; no_writer = λ p a b o. o; no_readers = λ p a b o. o; finding = tt; judged = λ t u. tt; room = tt; holds_on = λ t. refl; over = refl; upgrade = λ t h. refl; refused = tt }
+  row (EnterRead false) Full e n t = record { reading = refl; sharing = inr ((λ p t. refl), refl); starving = λ p s. refl; valued = λ u. refl; unturned = λ p a. refl; no_writer = λ p a b o. o; no_readers = λ p a b o. o; finding = tt; judged = λ t u. (refusal.Readers, refl, (e.1, e.0)); room = tt; holds_on = λ t. refl; over = refl; upgrade = refl; refused = inl (refl, refl) }
+  row (EnterRead false) _ e n t = absurd e
+  row (JoinNoWriter true) Done e n t = record { reading = refl; sharing = inr ((λ p t. refl), refl); starving = λ p s. refl; valued = λ u. refl; unturned = λ p a. refl; no_writer = λ p a b o. o; no_readers = λ p a b o. o; finding = tt; judged = λ t u. tt; room = e; holds_on = λ t. refl; over = refl; upgrade = λ t h. refl; refused = tt }
+  row (JoinNoWriter true) NoMemory e n t = record { reading = refl; sharing = inr ((λ p t. refl), refl); starving = λ p s. refl; valued = λ u. refl; unturned = λ p a. refl; no_writer = λ p a b o. o; no_readers = λ p a b o. o; finding = tt; judged = λ t u. (refusal.Memory, refl, (e, refl, refl, (λ t h. inl h), refl)); room = tt; holds_on = λ t. refl; over = refl; upgrade = λ t h. refl; refused = tt }
+  row (JoinNoWriter true) _ e n t = absurd e
+  row (JoinNoWriter false) Done e n t = record { reading = refl; sharing = inr ((λ p t. refl), refl); starving = λ p s. refl; valued = λ u. refl; unturned = λ p a. refl; no_writer = λ p a b o. o; no_readers = λ p a b o. o; finding = tt; judged = λ t u. tt; room = e; holds_on = λ t. refl; over = refl; upgrade = λ t h. refl; refused = tt }
+  row (JoinNoWriter false) NoMemory e n t = record { reading = refl; sharing = inr ((λ p t. refl), refl); starving = λ p s. refl; valued = λ u. refl; unturned = λ p a. refl; no_writer = λ p a b o. o; no_readers = λ p a b o. o; finding = tt; judged = λ t u. (refusal.Memory, refl, (e, refl, refl, (λ t h. inl h), refl)); room = tt; holds_on = λ t. refl; over = refl; upgrade = refl; refused = inl (refl, refl) }
+  row (JoinNoWriter false) _ e n t = absurd e
+  row (LookNoWriter told) Done e n t = record { reading = refl; sharing = inr ((λ p t. refl), refl); starving = λ p s. refl; valued = λ u. refl; unturned = λ p a. refl; no_writer = λ p a b o. o; no_readers = λ p a b o. o; finding = e; judged = λ t u. (refl, refl); room = tt; holds_on = λ t. refl; over = refl; upgrade = λ t h. refl; refused = tt }
+  row (LookNoWriter told) Writer e n t = record { reading = refl; sharing = inr ((λ p t. refl), refl); starving = λ p s. refl; valued = λ u. refl; unturned = λ p a. refl; no_writer = λ p a b o. o; no_readers = λ p a b o. o; finding = tt; judged = λ t u. tt; room = tt; holds_on = λ t. refl; over = refl; upgrade = λ t h. refl; refused = tt }
+  row (LookNoWriter told) Full e n t = record { reading = refl; sharing = inr ((λ p t. refl), refl); starving = λ p s. refl; valued = λ u. refl; unturned = λ p a. refl; no_writer = λ p a b o. o; no_readers = λ p a b o. o; finding = tt; judged = λ t u. (refusal.Readers, refl, (e.1, e.0)); room = tt; holds_on = λ t. refl; over = refl; upgrade = λ t h. refl; refused = tt }
+  row (LookNoWriter told) _ e n t = absurd e
+  row AskNoWriter Yes e n t = record { reading = refl; sharing = inr ((λ p t. refl), refl); starving = λ p s. refl; valued = λ u. refl; unturned = λ p a. refl; no_writer = λ p a b o. asks_so p a b o; no_readers = λ p a b o. o; finding = tt; judged = λ t u. tt; room = tt; holds_on = λ t. refl; over = refl; upgrade = λ t h. refl; refused = tt }
+  row AskNoWriter No e n t = record { reading = refl; sharing = inr ((λ p t. refl), refl); starving = λ p s. refl; valued = λ u. refl; unturned = λ p a. refl; no_writer = λ p a b o. o.1; no_readers = λ p a b o. o; finding = tt; judged = λ t u. refl; room = tt; holds_on = λ t. refl; over = refl; upgrade = refl; refused = tt }
+  row AskNoWriter _ e n t = absurd e
+  row PassOn Done e n t = record { reading = refl; sharing = inr ((λ p t. refl), refl); starving = λ p s. refl; valued = λ u. refl; unturned = λ p a. refl; no_writer = λ p a b o. o; no_readers = λ p a b o. o; finding = refl; judged = λ t u. tt; room = tt; holds_on = λ t. refl; over = refl; upgrade = λ t h. refl; refused = tt }
+  row PassOn _ e n t = absurd e
+  row LeaveNoWriter Done e n t = record { reading = refl; sharing = inr ((λ p t. refl), refl); starving = λ p s. refl; valued = λ u. refl; unturned = λ p a. refl; no_writer = λ p a b o. o; no_readers = λ p a b o. o; finding = tt; judged = λ t u. (refl, refl); room = tt; holds_on = λ t. refl; over = refl; upgrade = tt; refused = tt }
+  row LeaveNoWriter _ e n t = absurd e
+  row (RefuseLeave true) Done e n t = record { reading = refl; sharing = inr ((λ p t. refl), refl); starving = λ p s. refl; valued = λ u. refl; unturned = λ p a. refl; no_writer = λ p a b o. o; no_readers = λ p a b o. o; finding = tt; judged = λ t u. (refl, refl); room = tt; holds_on = λ t. refl; over = refl; upgrade = λ t h. refl; refused = tt }
+  row (RefuseLeave true) _ e n t = absurd e
+  row (RefuseLeave false) Done e n t = record { reading = refl; sharing = inr ((λ p t. refl), refl); starving = λ p s. refl; valued = λ u. refl; unturned = λ p a. refl; no_writer = λ p a b o. o; no_readers = λ p a b o. o; finding = tt; judged = λ t u. (refl, refl); room = tt; holds_on = λ t. refl; over = refl; upgrade = refl; refused = inl (refl, refl) }
+  row (RefuseLeave false) _ e n t = absurd e
+  row (RefuseNotify refusal.Memory) Done e n t = record { reading = refl; sharing = inr ((λ p t. refl), refl); starving = λ p s. refl; valued = λ u. refl; unturned = λ p a. refl; no_writer = λ p a b o. o; no_readers = λ p a b o. o; finding = refl; judged = λ t u. (refl, refl); room = tt; holds_on = λ t. refl; over = refl; upgrade = refl; refused = inl (refl, refl) }
+  row (RefuseNotify refusal.Memory) _ e n t = absurd e
+  row (RefuseNotify refusal.Readers) Done e n t = record { reading = refl; sharing = inr ((λ p t. refl), refl); starving = λ p s. refl; valued = λ u. refl; unturned = λ p a. refl; no_writer = λ p a b o. o; no_readers = λ p a b o. o; finding = refl; judged = λ t u. (refl, refl); room = tt; holds_on = λ t. refl; over = refl; upgrade = refl; refused = inl (refl, refl) }
+  row (RefuseNotify refusal.Readers) _ e n t = absurd e
+  row (RefuseNotify _) _ e n t = absurd (n refl)
+  row CancelRead Done e n t = record { reading = refl; sharing = inr ((λ p t. refl), refl); starving = λ p s. refl; valued = λ u. refl; unturned = λ p a. refl; no_writer = λ p a b o. o; no_readers = λ p a b o. o; finding = tt; judged = λ t u. (refl, refl); room = tt; holds_on = λ t. refl; over = refl; upgrade = tt; refused = tt }
+  row CancelRead _ e n t = absurd e
+  row TryRead Done e n t = record { reading = refl; sharing = inr ((λ p t. refl), refl); starving = λ p s. refl; valued = λ u. refl; unturned = λ p a. refl; no_writer = λ p a b o. o; no_readers = λ p a b o. o; finding = e; judged = λ t u. (refl, refl); room = tt; holds_on = λ t. refl; over = refl; upgrade = tt; refused = tt }
+  row TryRead Writer e n t = record { reading = refl; sharing = inr ((λ p t. refl), refl); starving = λ p s. refl; valued = λ u. refl; unturned = λ p a. refl; no_writer = λ p a b o. o; no_readers = λ p a b o. o; finding = tt; judged = λ t u. tt; room = tt; holds_on = λ t. refl; over = refl; upgrade = tt; refused = tt }
+  row TryRead Full e n t = record { reading = refl; sharing = inr ((λ p t. refl), refl); starving = λ p s. refl; valued = λ u. refl; unturned = λ p a. refl; no_writer = λ p a b o. o; no_readers = λ p a b o. o; finding = tt; judged = λ t u. tt; room = tt; holds_on = λ t. refl; over = refl; upgrade = tt; refused = tt }
+  row TryRead _ e n t = absurd e
+  row (EnterTurn p) f e n t = absurd (cc)
+  row (WaitTurn p) f e n t = absurd (cc)
+  row (TakeTurn p) f e n t = absurd (cc)
+  row (TryTurn p) f e n t = absurd (cc)
+  row CancelTurn f e n t = absurd (cc)
+  row CancellingTurn f e n t = absurd (cc)
+  row (ReleaseTurn k) f e n t = absurd (cc)
+  row (ReleasingTurn k) f e n t = absurd (cc)
+  row (Add true) Done e n t = record { reading = refl; sharing = inl (refl, λ p. refl); starving = λ p s. refl; valued = λ u. refl; unturned = λ p a. refl; no_writer = λ p a b o. o; no_readers = λ p a b o. o; finding = (refl, refl, e); judged = λ t u. (refl, refl); room = tt; holds_on = λ t. refl; over = refl; upgrade = tt; refused = tt }
+  row (Add true) Full e n t = record { reading = refl; sharing = inr ((λ p t. refl), refl); starving = λ p s. refl; valued = λ u. refl; unturned = λ p a. refl; no_writer = λ p a b o. o; no_readers = λ p a b o. o; finding = tt; judged = λ t u. tt; room = tt; holds_on = λ t. refl; over = refl; upgrade = λ t h. refl; refused = tt }
+  row (Add true) _ e n t = absurd e
+  row (Add false) Done e n t = record { reading = refl; sharing = inl (refl, λ p. refl); starving = λ p s. refl; valued = λ u. refl; unturned = λ p a. refl; no_writer = λ p a b o. o; no_readers = λ p a b o. o; finding = (refl, refl, e); judged = λ t u. (refl, refl); room = tt; holds_on = λ t. refl; over = refl; upgrade = tt; refused = tt }
+  row (Add false) Full e n t = record { reading = refl; sharing = inr ((λ p t. refl), refl); starving = λ p s. refl; valued = λ u. refl; unturned = λ p a. refl; no_writer = λ p a b o. o; no_readers = λ p a b o. o; finding = tt; judged = λ t u. (refusal.Readers, refl, (e, refl)); room = tt; holds_on = λ t. refl; over = refl; upgrade = λ t h. refl; refused = tt }
+  row (Add false) _ e n t = absurd e
+  row TryUpgrade Done e n t = record { reading = refl; sharing = inl (refl, λ p. refl); starving = λ p s. refl; valued = λ u. refl; unturned = λ p a. refl; no_writer = λ p a b o. o; no_readers = λ p a b o. o; finding = (refl, refl, e.1); judged = λ t u. (refl, refl); room = tt; holds_on = λ t. refl; over = refl; upgrade = tt; refused = tt }
+  row TryUpgrade found.NotFree e n t = record { reading = refl; sharing = inr ((λ p t. refl), refl); starving = λ p s. refl; valued = λ u. refl; unturned = λ p a. refl; no_writer = λ p a b o. o; no_readers = λ p a b o. o; finding = tt; judged = λ t u. tt; room = tt; holds_on = λ t. refl; over = refl; upgrade = tt; refused = tt }
+  row TryUpgrade _ e n t = absurd e
+  row Upgrade Done e n t = record { reading = refl; sharing = inl (refl, λ p. refl); starving = λ p s. refl; valued = λ u. refl; unturned = λ p a. refl; no_writer = λ p a b o. o; no_readers = λ p a b o. o; finding = (refl, refl); judged = λ t u. tt; room = tt; holds_on = λ t. refl; over = refl; upgrade = refl; refused = tt }
+  row Upgrade _ e n t = absurd e
+  row Mark NoneLeft e n t = record { reading = refl; sharing = inl (refl, λ p. refl); starving = λ p s. refl; valued = λ u. refl; unturned = λ p a. refl; no_writer = λ p a b o. o; no_readers = λ p a b o. o; finding = (refl, inl refl, e); judged = λ t u. (refl, refl); room = tt; holds_on = λ t. refl; over = refl; upgrade = tt; refused = tt }
+  row Mark SomeLeft e n t = record { reading = refl; sharing = inl (refl, λ p. refl); starving = λ p s. refl; valued = λ u. refl; unturned = λ p a. refl; no_writer = λ p a b o. o; no_readers = λ p a b o. o; finding = (refl, refl, e); judged = λ t u. tt; room = tt; holds_on = λ t. refl; over = refl; upgrade = λ t h. refl; refused = tt }
+  row Mark _ e n t = absurd e
+  row TryWrite Done e n t = record { reading = refl; sharing = inl (refl, λ p. refl); starving = λ p s. refl; valued = λ u. refl; unturned = λ p a. refl; no_writer = λ p a b o. o; no_readers = λ p a b o. o; finding = (refl, inl refl, e.1); judged = λ t u. (refl, refl); room = tt; holds_on = λ t. refl; over = refl; upgrade = tt; refused = tt }
+  row TryWrite found.NotFree e n t = record { reading = refl; sharing = inr ((λ p t. refl), refl); starving = λ p s. refl; valued = λ u. refl; unturned = λ p a. refl; no_writer = λ p a b o. o; no_readers = λ p a b o. o; finding = tt; judged = λ t u. tt; room = tt; holds_on = λ t. refl; over = refl; upgrade = λ t h. refl; refused = tt }
+  row TryWrite _ e n t = absurd e
+  row (JoinNoReaders true) Done e n t = record { reading = refl; sharing = inr ((λ p t. refl), refl); starving = λ p s. refl; valued = λ u. refl; unturned = λ p a. refl; no_writer = λ p a b o. o; no_readers = λ p a b o. o; finding = tt; judged = λ t u. tt; room = e; holds_on = λ t. refl; over = refl; upgrade = λ t h. refl; refused = tt }
+  row (JoinNoReaders true) NoMemory e n t = record { reading = refl; sharing = inr ((λ p t. refl), refl); starving = λ p s. refl; valued = λ u. refl; unturned = λ p a. refl; no_writer = λ p a b o. o; no_readers = λ p a b o. o; finding = tt; judged = λ t u. (refusal.Memory, refl, (e, refl, refl, (λ t h. inr (h, refl, refl)), refl)); room = tt; holds_on = λ t. refl; over = refl; upgrade = refl; refused = inr (refl, refl) }
+  row (JoinNoReaders true) _ e n t = absurd e
+  row (JoinNoReaders false) Done e n t = record { reading = refl; sharing = inr ((λ p t. refl), refl); starving = λ p s. refl; valued = λ u. refl; unturned = λ p a. refl; no_writer = λ p a b o. o; no_readers = λ p a b o. o; finding = tt; judged = λ t u. tt; room = e; holds_on = λ t. refl; over = refl; upgrade = λ t h. refl; refused = tt }
+  row (JoinNoReaders false) NoMemory e n t = record { reading = refl; sharing = inr ((λ p t. refl), refl); starving = λ p s. refl; valued = λ u. refl; unturned = λ p a. refl; no_writer = λ p a b o. o; no_readers = λ p a b o. o; finding = tt; judged = λ t u. (refusal.Memory, refl, (e, refl, refl, (λ t h. inr (h, refl, refl)), refl)); room = tt; holds_on = λ t. refl; over = refl; upgrade = λ t h. refl; refused = tt }
+  row (JoinNoReaders false) _ e n t = absurd e
+  row (LookNoReaders u) NoneLeft e n t = record { reading = refl; sharing = inl (refl, λ p. refl); starving = λ p s. refl; valued = λ u. refl; unturned = λ p a. refl; no_writer = λ p a b o. o; no_readers = λ p a b o. o; finding = (refl, inr refl, e); judged = λ t u. (refl, refl); room = tt; holds_on = λ t. refl; over = refl; upgrade = λ t h. absurd (cc); refused = tt }
+  row (LookNoReaders u) SomeLeft e n t = record { reading = refl; sharing = inr ((λ p t. refl), refl); starving = λ p s. refl; valued = λ u. refl; unturned = λ p a. refl; no_writer = λ p a b o. o; no_readers = λ p a b o. o; finding = tt; judged = λ t u. tt; room = tt; holds_on = λ t. refl; over = refl; upgrade = λ t h. refl; refused = tt }
+  row (LookNoReaders u) _ e n t = absurd e
+  row (AskNoReaders u) Yes e n t = record { reading = refl; sharing = inr ((λ p t. refl), refl); starving = λ p s. refl; valued = λ u. refl; unturned = λ p a. refl; no_writer = λ p a b o. o; no_readers = λ p a b o. asks_so p a b o; finding = tt; judged = λ t u. tt; room = tt; holds_on = λ t. refl; over = refl; upgrade = λ t h. refl; refused = tt }
+  row (AskNoReaders u) No e n t = record { reading = refl; sharing = inr ((λ p t. refl), refl); starving = λ p s. refl; valued = λ u. refl; unturned = λ p a. refl; no_writer = λ p a b o. o; no_readers = λ p a b o. o.1; finding = tt; judged = λ t u. refl; room = tt; holds_on = λ t. refl; over = refl; upgrade = refl; refused = tt }
+  row (AskNoReaders u) _ e n t = absurd e
+  row (AwaitNoReaders u) NoneLeft e n t = record { reading = refl; sharing = inl (refl, λ p. refl); starving = λ p s. refl; valued = λ u. refl; unturned = λ p a. refl; no_writer = λ p a b o. o; no_readers = λ p a b o. o; finding = (refl, inr refl, e); judged = λ t u. (refl, refl); room = tt; holds_on = λ t. refl; over = refl; upgrade = λ t h. absurd (cc); refused = tt }
+  row (AwaitNoReaders u) SomeLeft e n t = record { reading = refl; sharing = inr ((λ p t. refl), refl); starving = λ p s. refl; valued = λ u. refl; unturned = λ p a. refl; no_writer = λ p a b o. o; no_readers = λ p a b o. o; finding = tt; judged = λ t u. tt; room = tt; holds_on = λ t. refl; over = refl; upgrade = λ t h. refl; refused = tt }
+  row (AwaitNoReaders u) _ e n t = absurd e
+  row (LookUnlisted u) NoneLeft e n t = record { reading = refl; sharing = inl (refl, λ p. refl); starving = λ p s. refl; valued = λ u. refl; unturned = λ p a. refl; no_writer = λ p a b o. o; no_readers = λ p a b o. o; finding = (refl, inr refl, e); judged = λ t u. (refl, refl); room = tt; holds_on = λ t. refl; over = refl; upgrade = tt; refused = tt }
+  row (LookUnlisted u) SomeLeft e n t = record { reading = refl; sharing = inr ((λ p t. refl), refl); starving = λ p s. refl; valued = λ u. refl; unturned = λ p a. refl; no_writer = λ p a b o. o; no_readers = λ p a b o. o; finding = tt; judged = λ t u. tt; room = tt; holds_on = λ t. refl; over = refl; upgrade = λ t h. refl; refused = tt }
+  row (LookUnlisted u) _ e n t = absurd e
+  row LeaveNoReaders Done e n t = record { reading = refl; sharing = inr ((λ p t. refl), refl); starving = λ p s. refl; valued = λ u. refl; unturned = λ p a. refl; no_writer = λ p a b o. o; no_readers = λ p a b o. o; finding = tt; judged = λ t u. (refl, refl); room = tt; holds_on = λ t. refl; over = refl; upgrade = tt; refused = tt }
+  row LeaveNoReaders _ e n t = absurd e
+  row DropRead NoneLeft e n t = record { reading = refl; sharing = inr ((λ p t. refl), refl); starving = λ p s. refl; valued = λ u. refl; unturned = λ p a. refl; no_writer = λ p a b o. o; no_readers = λ p a b o. o; finding = refl; judged = λ t u. (refl, refl); room = tt; holds_on = λ t. refl; over = refl; upgrade = λ t h. refl; refused = tt }
+  row DropRead SomeLeft e n t = record { reading = refl; sharing = inr ((λ p t. refl), refl); starving = λ p s. refl; valued = λ u. refl; unturned = λ p a. refl; no_writer = λ p a b o. o; no_readers = λ p a b o. o; finding = refl; judged = λ t u. (refl, refl); room = tt; holds_on = λ t. refl; over = refl; upgrade = tt; refused = tt }
+  row DropRead _ e n t = absurd e
+  row DropReadNotify Done e n t = record { reading = refl; sharing = inr ((λ p t. refl), refl); starving = λ p s. refl; valued = λ u. refl; unturned = λ p a. refl; no_writer = λ p a b o. o; no_readers = λ p a b o. o; finding = refl; judged = λ t u. (refl, refl); room = tt; holds_on = λ t. refl; over = refl; upgrade = tt; refused = tt }
+  row DropReadNotify _ e n t = absurd e
+  row DropUpgradable NoneLeft e n t = record { reading = refl; sharing = inl (refl, λ p. refl); starving = λ p s. refl; valued = λ u. refl; unturned = λ p a. refl; no_writer = λ p a b o. o; no_readers = λ p a b o. o; finding = (refl, refl); judged = λ t u. (refl, refl); room = tt; holds_on = λ t. refl; over = refl; upgrade = λ t h. refl; refused = tt }
+  row DropUpgradable SomeLeft e n t = record { reading = refl; sharing = inl (refl, λ p. refl); starving = λ p s. refl; valued = λ u. refl; unturned = λ p a. refl; no_writer = λ p a b o. o; no_readers = λ p a b o. o; finding = (refl, refl); judged = λ t u. (refl, refl); room = tt; holds_on = λ t. refl; over = refl; upgrade = λ t h. refl; refused = tt }
+  row DropUpgradable _ e n t = absurd e
+  row DropUpgradableNotify Done e n t = record { reading = refl; sharing = inr ((λ p t. refl), refl); starving = λ p s. refl; valued = λ u. refl; unturned = λ p a. refl; no_writer = λ p a b o. o; no_readers = λ p a b o. o; finding = refl; judged = λ t u. (refl, refl); room = tt; holds_on = λ t. refl; over = refl; upgrade = λ t h. refl; refused = tt }
+  row DropUpgradableNotify _ e n t = absurd e
+  row DropWrite Done e n t = record { reading = refl; sharing = inl (refl, λ p. refl); starving = λ p s. refl; valued = λ u. refl; unturned = λ p a. refl; no_writer = λ p a b o. o; no_readers = λ p a b o. o; finding = (refl, inr refl); judged = λ t u. (refl, refl); room = tt; holds_on = λ t. refl; over = refl; upgrade = λ t h. refl; refused = tt }
+  row DropWrite _ e n t = absurd e
+  row CancelAwait Done e n t = record { reading = refl; sharing = inr ((λ p t. refl), refl); starving = λ p s. refl; valued = λ u. refl; unturned = λ p a. refl; no_writer = λ p a b o. o; no_readers = λ p a b o. o; finding = tt; judged = λ t u. (refl, refl); room = tt; holds_on = λ t. refl; over = refl; upgrade = λ t h. refl; refused = tt }
+  row CancelAwait _ e n t = absurd e
+  row (Unmark true) Done e n t = record { reading = refl; sharing = inl (refl, λ p. refl); starving = λ p s. refl; valued = λ u. refl; unturned = λ p a. refl; no_writer = λ p a b o. o; no_readers = λ p a b o. o; finding = (refl, inl refl); judged = λ t u. (refl, refl); room = tt; holds_on = λ t. refl; over = refl; upgrade = λ t h. refl; refused = tt }
+  row (Unmark true) _ e n t = absurd e
+  row (Unmark false) Done e n t = record { reading = refl; sharing = inl (refl, λ p. refl); starving = λ p s. refl; valued = λ u. refl; unturned = λ p a. refl; no_writer = λ p a b o. o; no_readers = λ p a b o. o; finding = (refl, inl refl); judged = λ t u. (refl, refl); room = tt; holds_on = λ t. refl; over = refl; upgrade = λ t h. refl; refused = tt }
+  row (Unmark false) _ e n t = absurd e
+  row (UnmarkNotify true) Done e n t = record { reading = refl; sharing = inr ((λ p t. refl), refl); starving = λ p s. refl; valued = λ u. refl; unturned = λ p a. refl; no_writer = λ p a b o. o; no_readers = λ p a b o. o; finding = refl; judged = λ t u. (refl, refl); room = tt; holds_on = λ t. refl; over = refl; upgrade = λ t h. refl; refused = tt }
+  row (UnmarkNotify true) _ e n t = absurd e
+  row (UnmarkNotify false) Done e n t = record { reading = refl; sharing = inr ((λ p t. refl), refl); starving = λ p s. refl; valued = λ u. refl; unturned = λ p a. refl; no_writer = λ p a b o. o; no_readers = λ p a b o. o; finding = refl; judged = λ t u. (refl, refl); room = tt; holds_on = λ t. refl; over = refl; upgrade = λ t h. refl; refused = tt }
+  row (UnmarkNotify false) _ e n t = absurd e
+  row (Down true) Done e n t = record { reading = refl; sharing = inl (refl, λ p. refl); starving = λ p s. refl; valued = λ u. refl; unturned = λ p a. refl; no_writer = λ p a b o. o; no_readers = λ p a b o. o; finding = (refl, refl); judged = λ t u. tt; room = tt; holds_on = λ t. refl; over = refl; upgrade = λ t h. refl; refused = tt }
+  row (Down true) _ e n t = absurd e
+  row (Down false) Done e n t = record { reading = refl; sharing = inl (refl, λ p. refl); starving = λ p s. refl; valued = λ u. refl; unturned = λ p a. refl; no_writer = λ p a b o. o; no_readers = λ p a b o. o; finding = (refl, refl); judged = λ t u. tt; room = tt; holds_on = λ t. refl; over = refl; upgrade = λ t h. refl; refused = tt }
+  row (Down false) _ e n t = absurd e
+  row DownNotify Done e n t = record { reading = refl; sharing = inr ((λ p t. refl), refl); starving = λ p s. refl; valued = λ u. refl; unturned = λ p a. refl; no_writer = λ p a b o. o; no_readers = λ p a b o. o; finding = refl; judged = λ t u. (refl, refl); room = tt; holds_on = λ t. refl; over = refl; upgrade = tt; refused = tt }
+  row DownNotify _ e n t = absurd e
+  row DowngradeNotify Done e n t = record { reading = refl; sharing = inr ((λ p t. refl), refl); starving = λ p s. refl; valued = λ u. refl; unturned = λ p a. refl; no_writer = λ p a b o. o; no_readers = λ p a b o. o; finding = refl; judged = λ t u. (refl, refl); room = tt; holds_on = λ t. refl; over = refl; upgrade = tt; refused = tt }
+  row DowngradeNotify _ e n t = absurd e
+
+-- ---- actions on the turn
+
+pub record TurnRow (v : ℕ) (x : Place) (f : Found) : Type 0 where
+  pub reading : is_reading (place_after (next_of x f)) ≡ is_reading x
+  pub sharing : share_of (place_after (next_of x f)) ≡ passing
+  pub over : is_after_ready (answer_by v (next_of x f)) ≡ false
+  pub upgrade : KeepsUpgrade v x (next_of x f)
+  pub refused : RefusedAt x (next_of x f)
+
+pub turn_row : (v : ℕ) (u : TurnCourse) (x : Place) (f : Found) → steps_in_turn x ≡ true → Led x f u → TurnRow v x f
+turn_row v u (EnterTurn purpose.UpgradableRead) (Turn turn_step.More) t e = record { reading = refl; sharing = refl; over = refl; upgrade = λ t h. refl; refused = tt }
+turn_row v u (EnterTurn purpose.UpgradableRead) (Turn (turn_step.End turn_end.Got)) t e = record { reading = refl; sharing = refl; over = refl; upgrade = λ t h. refl; refused = tt }
+turn_row v u (EnterTurn purpose.UpgradableRead) (Turn (turn_step.End turn_end.Pending)) t e = record { reading = refl; sharing = refl; over = refl; upgrade = refl; refused = tt }
+turn_row v u (EnterTurn purpose.UpgradableRead) (Turn (turn_step.End (turn_end.Refused refusal.Memory))) t e = record { reading = refl; sharing = refl; over = refl; upgrade = refl; refused = inl (refl, refl) }
+turn_row v u (EnterTurn purpose.UpgradableRead) (Turn (turn_step.End (turn_end.Refused refusal.Starved))) t e = record { reading = refl; sharing = refl; over = refl; upgrade = refl; refused = inl (refl, refl) }
+turn_row v u (EnterTurn purpose.UpgradableRead) (Turn _) t e = absurd e
+turn_row v u (EnterTurn purpose.UpgradableRead) _ t e = absurd e
+turn_row v u (EnterTurn purpose.Write) (Turn turn_step.More) t e = record { reading = refl; sharing = refl; over = refl; upgrade = λ t h. refl; refused = tt }
+turn_row v u (EnterTurn purpose.Write) (Turn (turn_step.End turn_end.Got)) t e = record { reading = refl; sharing = refl; over = refl; upgrade = λ t h. refl; refused = tt }
+turn_row v u (EnterTurn purpose.Write) (Turn (turn_step.End turn_end.Pending)) t e = record { reading = refl; sharing = refl; over = refl; upgrade = refl; refused = tt }
+turn_row v u (EnterTurn purpose.Write) (Turn (turn_step.End (turn_end.Refused refusal.Memory))) t e = record { reading = refl; sharing = refl; over = refl; upgrade = refl; refused = inl (refl, refl) }
+turn_row v u (EnterTurn purpose.Write) (Turn (turn_step.End (turn_end.Refused refusal.Starved))) t e = record { reading = refl; sharing = refl; over = refl; upgrade = refl; refused = inl (refl, refl) }
+turn_row v u (EnterTurn purpose.Write) (Turn _) t e = absurd e
+turn_row v u (EnterTurn purpose.Write) _ t e = absurd e
+turn_row v u (WaitTurn purpose.UpgradableRead) (Turn turn_step.More) t e = record { reading = refl; sharing = refl; over = refl; upgrade = λ t h. refl; refused = tt }
+turn_row v u (WaitTurn purpose.UpgradableRead) (Turn (turn_step.End turn_end.Got)) t e = record { reading = refl; sharing = refl; over = refl; upgrade = λ t h. refl; refused = tt }
+turn_row v u (WaitTurn purpose.UpgradableRead) (Turn (turn_step.End turn_end.Pending)) t e = record { reading = refl; sharing = refl; over = refl; upgrade = refl; refused = tt }
+turn_row v u (WaitTurn purpose.UpgradableRead) (Turn (turn_step.End (turn_end.Refused refusal.Memory))) t e = record { reading = refl; sharing = refl; over = refl; upgrade = refl; refused = inl (refl, refl) }
+turn_row v u (WaitTurn purpose.UpgradableRead) (Turn (turn_step.End (turn_end.Refused refusal.Starved))) t e = record { reading = refl; sharing = refl; over = refl; upgrade = refl; refused = inl (refl, refl) }
+turn_row v u (WaitTurn purpose.UpgradableRead) (Turn _) t e = absurd e
+turn_row v u (WaitTurn purpose.UpgradableRead) _ t e = absurd e
+turn_row v u (WaitTurn purpose.Write) (Turn turn_step.More) t e = record { reading = refl; sharing = refl; over = refl; upgrade = λ t h. refl; refused = tt }
+turn_row v u (WaitTurn purpose.Write) (Turn (turn_step.End turn_end.Got)) t e = record { reading = refl; sharing = refl; over = refl; upgrade = λ t h. refl; refused = tt }
+turn_row v u (WaitTurn purpose.Write) (Turn (turn_step.End turn_end.Pending)) t e = record { reading = refl; sharing = refl; over = refl; upgrade = refl; refused = tt }
+turn_row v u (WaitTurn purpose.Write) (Turn (turn_step.End (turn_end.Refused refusal.Memory))) t e = record { reading = refl; sharing = refl; over = refl; upgrade = refl; refused = inl (refl, refl) }
+turn_row v u (WaitTurn purpose.Write) (Turn (turn_step.End (turn_end.Refused refusal.Starved))) t e = record { reading = refl; sharing = refl; over = refl; upgrade = refl; refused = inl (refl, refl) }
+turn_row v u (WaitTurn purpose.Write) (Turn _) t e = absurd e
+turn_row v u (WaitTurn purpose.Write) _ t e = absurd e
+turn_row v u (TakeTurn purpose.UpgradableRead) (Turn turn_step.More) t e = record { reading = refl; sharing = refl; over = refl; upgrade = λ t h. refl; refused = tt }
+turn_row v u (TakeTurn purpose.UpgradableRead) (Turn (turn_step.End turn_end.Got)) t e = record { reading = refl; sharing = refl; over = refl; upgrade = λ t h. refl; refused = tt }
+turn_row v u (TakeTurn purpose.UpgradableRead) (Turn (turn_step.End turn_end.Pending)) t e = record { reading = refl; sharing = refl; over = refl; upgrade = refl; refused = tt }
+turn_row v u (TakeTurn purpose.UpgradableRead) (Turn (turn_step.End (turn_end.Refused refusal.Memory))) t e = record { reading = refl; sharing = refl; over = refl; upgrade = refl; refused = inl (refl, refl) }
+turn_row v u (TakeTurn purpose.UpgradableRead) (Turn (turn_step.End (turn_end.Refused refusal.Starved))) t e = record { reading = refl; sharing = refl; over = refl; upgrade = refl; refused = inl (refl, refl) }
+turn_row v u (TakeTurn purpose.UpgradableRead) (Turn _) t e = absurd e
+turn_row v u (TakeTurn purpose.UpgradableRead) _ t e = absurd e
+turn_row v u (TakeTurn purpose.Write) (Turn turn_step.More) t e = record { reading = refl; sharing = refl; over = refl; upgrade = λ t h. refl; refused = tt }
+turn_row v u (TakeTurn purpose.Write) (Turn (turn_step.End turn_end.Got)) t e = record { reading = refl; sharing = refl; over = refl; upgrade = λ t h. refl; refused = tt }
+turn_row v u (TakeTurn purpose.Write) (Turn (turn_step.End turn_end.Pending)) t e = record { reading = refl; sharing = refl; over = refl; upgrade = refl; refused = tt }
+turn_row v u (TakeTurn purpose.Write) (Turn (turn_step.End (turn_end.Refused refusal.Memory))) t e = record { reading = refl; sharing = refl; over = refl; upgrade = refl; refused = inl (refl, refl) }
+turn_row v u (TakeTurn purpose.Write) (Turn (turn_step.End (turn_end.Refused refusal.Starved))) t e = record { reading = refl; sharing = refl; over = refl; upgrade = refl; refused = inl (refl, refl) }
+turn_row v u (TakeTurn purpose.Write) (Turn _) t e = absurd e
+turn_row v u (TakeTurn purpose.Write) _ t e = absurd e
+turn_row v u (TryTurn purpose.UpgradableRead) (Turn (turn_step.End turn_end.Got)) t e = record { reading = refl; sharing = refl; over = refl; upgrade = λ t h. refl; refused = tt }
+turn_row v u (TryTurn purpose.UpgradableRead) (Turn (turn_step.End turn_end.NotFree)) t e = record { reading = refl; sharing = refl; over = refl; upgrade = tt; refused = tt }
+turn_row v u (TryTurn purpose.UpgradableRead) (Turn _) t e = absurd e
+turn_row v u (TryTurn purpose.UpgradableRead) _ t e = absurd e
+turn_row v u (TryTurn purpose.Write) (Turn (turn_step.End turn_end.Got)) t e = record { reading = refl; sharing = refl; over = refl; upgrade = λ t h. refl; refused = tt }
+turn_row v u (TryTurn purpose.Write) (Turn (turn_step.End turn_end.NotFree)) t e = record { reading = refl; sharing = refl; over = refl; upgrade = tt; refused = tt }
+turn_row v u (TryTurn purpose.Write) (Turn _) t e = absurd e
+turn_row v u (TryTurn purpose.Write) _ t e = absurd e
+turn_row v u CancelTurn (Turn turn_step.More) t e = record { reading = refl; sharing = refl; over = refl; upgrade = λ t h. refl; refused = tt }
+turn_row v u CancelTurn (Turn (turn_step.End turn_end.GivenBack)) t e = record { reading = refl; sharing = refl; over = refl; upgrade = tt; refused = tt }
+turn_row v u CancelTurn (Turn _) t e = absurd e
+turn_row v u CancelTurn _ t e = absurd e
+turn_row v u CancellingTurn (Turn turn_step.More) t e = record { reading = refl; sharing = refl; over = refl; upgrade = λ t h. refl; refused = tt }
+turn_row v u CancellingTurn (Turn (turn_step.End turn_end.GivenBack)) t e = record { reading = refl; sharing = refl; over = refl; upgrade = tt; refused = tt }
+turn_row v u CancellingTurn (Turn _) t e = absurd e
+turn_row v u CancellingTurn _ t e = absurd e
+turn_row v u (ReleaseTurn ending.GivenBack) (Turn turn_step.More) t e = record { reading = refl; sharing = refl; over = refl; upgrade = λ t h. refl; refused = tt }
+turn_row v u (ReleaseTurn ending.GivenBack) (Turn (turn_step.End turn_end.GivenBack)) t e = record { reading = refl; sharing = refl; over = refl; upgrade = tt; refused = tt }
+turn_row v u (ReleaseTurn ending.GivenBack) (Turn _) t e = absurd e
+turn_row v u (ReleaseTurn ending.GivenBack) _ t e = absurd e
+turn_row v u (ReleasingTurn ending.GivenBack) (Turn (turn_step.End turn_end.GivenBack)) t e = record { reading = refl; sharing = refl; over = refl; upgrade = tt; refused = tt }
+turn_row v u (ReleasingTurn ending.GivenBack) (Turn _) t e = absurd e
+turn_row v u (ReleasingTurn ending.GivenBack) _ t e = absurd e
+turn_row v u (ReleaseTurn (ending.NotFree p)) (Turn turn_step.More) t e = record { reading = refl; sharing = refl; over = refl; upgrade = λ t h. refl; refused = tt }
+turn_row v u (ReleaseTurn (ending.NotFree p)) (Turn (turn_step.End turn_end.GivenBack)) t e = record { reading = refl; sharing = refl; over = refl; upgrade = tt; refused = tt }
+turn_row v u (ReleaseTurn (ending.NotFree p)) (Turn _) t e = absurd e
+turn_row v u (ReleaseTurn (ending.NotFree p)) _ t e = absurd e
+turn_row v u (ReleasingTurn (ending.NotFree p)) (Turn (turn_step.End turn_end.GivenBack)) t e = record { reading = refl; sharing = refl; over = refl; upgrade = tt; refused = tt }
+turn_row v u (ReleasingTurn (ending.NotFree p)) (Turn _) t e = absurd e
+turn_row v u (ReleasingTurn (ending.NotFree p)) _ t e = absurd e
+turn_row v u (ReleaseTurn ending.RefuseReaders) (Turn turn_step.More) t e = record { reading = refl; sharing = refl; over = refl; upgrade = λ t h. refl; refused = tt }
+turn_row v u (ReleaseTurn ending.RefuseReaders) (Turn (turn_step.End turn_end.GivenBack)) t e = record { reading = refl; sharing = refl; over = refl; upgrade = refl; refused = inl (refl, refl) }
+turn_row v u (ReleaseTurn ending.RefuseReaders) (Turn _) t e = absurd e
+turn_row v u (ReleaseTurn ending.RefuseReaders) _ t e = absurd e
+turn_row v u (ReleasingTurn ending.RefuseReaders) (Turn (turn_step.End turn_end.GivenBack)) t e = record { reading = refl; sharing = refl; over = refl; upgrade = refl; refused = inl (refl, refl) }
+turn_row v u (ReleasingTurn ending.RefuseReaders) (Turn _) t e = absurd e
+turn_row v u (ReleasingTurn ending.RefuseReaders) _ t e = absurd e
+turn_row v u (ReleaseTurn ending.RefuseMemory) (Turn turn_step.More) t e = record { reading = refl; sharing = refl; over = refl; upgrade = λ t h. refl; refused = tt }
+turn_row v u (ReleaseTurn ending.RefuseMemory) (Turn (turn_step.End turn_end.GivenBack)) t e = record { reading = refl; sharing = refl; over = refl; upgrade = refl; refused = inl (refl, refl) }
+turn_row v u (ReleaseTurn ending.RefuseMemory) (Turn _) t e = absurd e
+turn_row v u (ReleaseTurn ending.RefuseMemory) _ t e = absurd e
+turn_row v u (ReleasingTurn ending.RefuseMemory) (Turn (turn_step.End turn_end.GivenBack)) t e = record { reading = refl; sharing = refl; over = refl; upgrade = refl; refused = inl (refl, refl) }
+turn_row v u (ReleasingTurn ending.RefuseMemory) (Turn _) t e = absurd e
+turn_row v u (ReleasingTurn ending.RefuseMemory) _ t e = absurd e
+turn_row v u (ReleaseTurn ending.Reading) (Turn turn_step.More) t e = record { reading = refl; sharing = refl; over = refl; upgrade = λ t h. refl; refused = tt }
+turn_row v u (ReleaseTurn ending.Reading) (Turn (turn_step.End turn_end.GivenBack)) t e = record { reading = refl; sharing = refl; over = refl; upgrade = tt; refused = tt }
+turn_row v u (ReleaseTurn ending.Reading) (Turn _) t e = absurd e
+turn_row v u (ReleaseTurn ending.Reading) _ t e = absurd e
+turn_row v u (ReleasingTurn ending.Reading) (Turn (turn_step.End turn_end.GivenBack)) t e = record { reading = refl; sharing = refl; over = refl; upgrade = tt; refused = tt }
+turn_row v u (ReleasingTurn ending.Reading) (Turn _) t e = absurd e
+turn_row v u (ReleasingTurn ending.Reading) _ t e = absurd e
+turn_row v u (ReleaseTurn ending.NotifyReaders) (Turn turn_step.More) t e = record { reading = refl; sharing = refl; over = refl; upgrade = λ t h. refl; refused = tt }
+turn_row v u (ReleaseTurn ending.NotifyReaders) (Turn (turn_step.End turn_end.GivenBack)) t e = record { reading = refl; sharing = refl; over = refl; upgrade = λ t h. refl; refused = tt }
+turn_row v u (ReleaseTurn ending.NotifyReaders) (Turn _) t e = absurd e
+turn_row v u (ReleaseTurn ending.NotifyReaders) _ t e = absurd e
+turn_row v u (ReleasingTurn ending.NotifyReaders) (Turn (turn_step.End turn_end.GivenBack)) t e = record { reading = refl; sharing = refl; over = refl; upgrade = λ t h. refl; refused = tt }
+turn_row v u (ReleasingTurn ending.NotifyReaders) (Turn _) t e = absurd e
+turn_row v u (ReleasingTurn ending.NotifyReaders) _ t e = absurd e
+turn_row v u _ f t e = absurd (cc)

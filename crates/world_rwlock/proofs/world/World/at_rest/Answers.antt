@@ -1,0 +1,12 @@
+-- The World is at rest where its table is.
+use Rattle.std.proofs.Common.{ap, sym, ◌∙◌}
+use Rattle.world_base.proofs.of_table.Views.{rest_seen}
+use Rattle.world_rwlock.specs.Laws.{is_at_rest}
+use Rattle.world_rwlock.specs.View.{verdict_of}
+use Rattle.world_rwlock.proofs.world.World.at_rest.Goals as goal
+
+pub returns : goal.returns
+returns c =
+    let t = c.self.inside.table in
+    c.at_rest.ensures
+    ∙ (sym (rest_seen (verdict_of t.machine) t.stages) ∙ ap is_at_rest c.self.view_is)

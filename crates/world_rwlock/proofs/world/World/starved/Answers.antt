@@ -1,0 +1,13 @@
+-- The word's number is the size of the starved set.
+use Rattle.std.proofs.Common.{ap, sym, ◌∙◌}
+use Rattle.world_mutex.specs.machine.Mutex.{starved}
+use Rattle.world_base.specs.Rosters.{how_many}
+use Rattle.world_rwlock.specs.machine.Machine.{RwLock}
+use Rattle.world_rwlock.specs.Guarded.{Guarded}
+use Rattle.world_mutex.proofs.of_machine.callers.Holders.{how_many_counted}
+use Rattle.world_rwlock.proofs.world.World.starved.Goals as goal
+
+pub returns : goal.returns
+returns c =
+    c.starved.ensures
+    ∙ (ap starved (c.turn.ensures ∙ ap (λ (l : RwLock). l.turn) (c.lock.ensures ∙ ap (λ (x : Guarded). x.lock) c.machine.ensures)) ∙ (sym (how_many_counted c.self.inside.table.machine.lock.turn.courses) ∙ ap (λ w. how_many w.state.starved) c.self.view_is))

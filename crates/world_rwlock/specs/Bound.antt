@@ -1,0 +1,130 @@
+-- How often what is free may be passed over: whole polls of notified parties, one after the other, each carried out while the others stand still.
+use Rattle.std.specs.Prelude.{◌≡◌, ◌≢◌, ℕ, ◌<◌, ◌⊎◌, true, false, List, length}
+use Rattle.lock_event.specs.declared.event.Entry.{Entry}
+use Rattle.lock_event.specs.Lists.{marked_count}
+use Rattle.world_base.specs.queue.Parties.{entries_of}
+use Rattle.world_base.specs.declared.moves.Answer.{Answer}
+use Rattle.world_base.specs.declared.moves.Answer.TheVariants as answer
+use Rattle.world_base.specs.declared.moves.Call.{Call}
+use Rattle.world_base.specs.declared.moves.Call.TheVariants as call
+use Rattle.world_base.specs.declared.moves.Got.TheVariants.{Value}
+use Rattle.world_base.specs.declared.moves.Inputs.{Inputs}
+use Rattle.world_base.specs.declared.moves.What.TheVariants.{Begin}
+use Rattle.world_base.specs.declared.standing.Rest.TheVariants.{Pending}
+use Rattle.world_base.specs.Frame.{is_refusal}
+use Rattle.world_base.specs.Rights.{upgradable, write}
+use Rattle.world_base.specs.Rosters.{how_many}
+use Rattle.world_base.specs.Standings.{outside}
+use Rattle.world_base.specs.Bounds as bounds
+use Rattle.world_rwlock.specs.State.{ListName, list_of, nobody, is_upgradable, waits_to_write, writes, World, standing_of, reads, is_starved, how_many_read, is_marked, is_turn_free, is_upgrader, HasTurn}
+use Rattle.world_rwlock.specs.Laws.{is_at_rest}
+use Rattle.world_rwlock.specs.Legal.{is_first}
+use Rattle.world_rwlock.specs.Whole.{IsWholeCall}
+use Rattle.lock_program.specs.declared.refusal.Refusal.TheVariants.{Starved}
+use Rattle.world_base.specs.Standings.{refused}
+use Rattle.world_base.specs.Marks.{MarksNobody}
+
+-- ---- Solo polls
+
+-- A solo poll for the turn, or to read, is of a pending party whose entry in that list is marked, and it finds memory.
+abbrev pub IsSoloForTurn : World → ℕ → Inputs → Type 0
+IsSoloForTurn w p inputs = bounds.IsSolo (standing_of w p) w.turn_list p inputs
+
+abbrev pub IsSoloToRead : World → ℕ → Inputs → Type 0
+IsSoloToRead w p inputs = bounds.IsSolo (standing_of w p) w.no_writer p inputs
+
+-- A solo poll to write is of a pending party that looks for readers first: it has an entry among those that wait until none is left, marked or not, or its future is an upgrade's, in the list or not.
+pub record IsSoloToWrite (w : World) (p : ℕ) (inputs : Inputs) : Type 0 where
+  pub pending : standing_of w p ≡ outside Pending
+  pub looks : (0 < entries_of p w.no_readers) ⊎ (is_upgrader w p ≡ true)
+  pub memory : inputs.memory ≡ true
+
+-- ---- What they do
+
+-- The poll took the turn: it is ready, and its party is upgradable or writes; or it is pending, and its party waits to write.
+pub record TakesTurn (w : World) (p : ℕ) (a : Answer) (v : World) : Type 0 where
+  pub has_turn : HasTurn v.state.turn p
+  pub kept : v.state.value ≡ w.state.value
+  pub answered : ((a ≡ answer.Ready (Value v.state.value)) × ((v.state.turn ≡ is_upgradable p) ⊎ (v.state.turn ≡ writes p))) ⊎ ((a ≡ answer.Pending) × (v.state.turn ≡ waits_to_write p))
+
+-- The poll left the turn to nobody and gave way to a starved party: it is pending again, with one entry less in the list of a party that isn't starved. Whoever read reads, and a World at rest stays at rest.
+pub record GivesTurnWay (w : World) (p : ℕ) (a : Answer) (v : World) : Type 0 where
+  pub free : v.state.turn ≡ nobody
+  pub pending : a ≡ answer.Pending
+  pub gave_way : bounds.GaveWay p w.state.starved w.turn_list v.state.starved v.turn_list
+  pub readers : v.state.readers ≡ w.state.readers
+  pub rests : is_at_rest w ≡ true → is_at_rest v ≡ true
+
+-- What a solo poll does to a free turn, while readers are below their limit: it takes it or gives way, unless the limit of starved parties is met; and whatever that limit, it takes it if its party is starved, or if nobody is.
+pub record SoloPollForTurn (w : World) (p : ℕ) (a : Answer) (v : World) : Type 0 where
+  pub takes_or_gives_way : how_many w.state.starved < w.starved_limit → TakesTurn w p a v ⊎ GivesTurnWay w p a v
+  pub takes : (is_starved w p ≡ true) ⊎ (how_many w.state.starved ≡ 0) → TakesTurn w p a v
+
+-- The poll is ready with the value as it was, and its party reads.
+pub record TakesToRead (w : World) (p : ℕ) (a : Answer) (v : World) : Type 0 where
+  pub ready : a ≡ answer.Ready (Value v.state.value)
+  pub kept : v.state.value ≡ w.state.value
+  pub reads : reads v p ≡ true
+
+-- The poll is ready with the value as it was, and its party writes.
+pub record TakesToWrite (w : World) (p : ℕ) (a : Answer) (v : World) : Type 0 where
+  pub ready : a ≡ answer.Ready (Value v.state.value)
+  pub kept : v.state.value ≡ w.state.value
+  pub writes : v.state.turn ≡ writes p
+
+-- What a whole call promises: a solo poll of a free turn takes it or gives way; one to read or to write, where that is free, takes it; where nobody is starved, a party isn't starved at the end that hasn't waited for too long; a first poll of what is free is ready; and a refused poll hands on.
+pub record Promises (w : World) (p : ℕ) (c : Call) (inputs : Inputs) (a : Answer) (v : World) : Type 0 where
+  pub turn : c ≡ call.Poll → IsSoloForTurn w p inputs → w.state.turn ≡ nobody → how_many_read w < w.readers_limit → SoloPollForTurn w p a v
+  pub reading : c ≡ call.Poll → IsSoloToRead w p inputs → is_marked w.state.turn ≡ false → how_many_read w < w.readers_limit → TakesToRead w p a v
+  pub writing : c ≡ call.Poll → IsSoloToWrite w p inputs → how_many_read w ≡ 0 → TakesToWrite w p a v
+  pub unstarved : inputs.starving ≡ false → how_many w.state.starved ≡ 0 → is_starved v p ≡ false
+  -- nor is its call refused then for the number of starved parties
+  pub patient : inputs.starving ≡ false → how_many w.state.starved ≡ 0 → a ≢ refused Starved
+  -- nor has it notified anybody for the turn then, if it waits for the turn at its end: so waiting parties don't wake one another over a turn that none of them gets
+  pub tells_nobody : inputs.starving ≡ false → how_many w.state.starved ≡ 0 → a ≡ answer.Pending → 0 < entries_of p v.turn_list → MarksNobody p w.turn_list v.turn_list
+  -- a first poll that finds the turn free is ready: of an upgradable read where readers are below their limit, of a write where nobody reads
+  pub first_upgradable : is_first w (record { party = p; what = Begin c inputs }) upgradable ≡ true → is_turn_free w.state ≡ true → how_many_read w < w.readers_limit → a ≡ answer.Ready (Value w.state.value)
+  pub first_write : is_first w (record { party = p; what = Begin c inputs }) write ≡ true → is_upgrader w p ≡ false → is_turn_free w.state ≡ true → how_many_read w ≡ 0 → a ≡ answer.Ready (Value w.state.value)
+  -- A refused poll of a party that stood in a list hands on what it was told there: some entry of that list is marked, if there is any.
+  pub hands_on : (list : ListName) → c ≡ call.Poll → standing_of w p ≡ outside Pending → 0 < entries_of p (list_of w list) → is_refusal a ≡ true → 0 < length (list_of v list) → 0 < marked_count (list_of v list)
+
+-- ---- Polls that pass over what is free
+
+-- A whole solo poll that doesn't take the turn, while neither limit is met.
+pub record PassesTurnOver (w : World) (p : ℕ) (inputs : Inputs) (a : Answer) (v : World) : Type 0 where
+  pub solo : IsSoloForTurn w p inputs
+  pub starved_limit : how_many w.state.starved < w.starved_limit
+  pub readers_limit : how_many_read w < w.readers_limit
+  pub whole : IsWholeCall w p call.Poll inputs a v
+  pub not_taken : HasTurn v.state.turn p → ⊥
+
+-- A whole solo poll after which its party doesn't read, while readers are below their limit.
+pub record PassesReadingOver (w : World) (p : ℕ) (inputs : Inputs) (a : Answer) (v : World) : Type 0 where
+  pub solo : IsSoloToRead w p inputs
+  pub readers_limit : how_many_read w < w.readers_limit
+  pub whole : IsWholeCall w p call.Poll inputs a v
+  pub not_taken : reads v p ≡ false
+
+-- A whole solo poll after which its party doesn't write.
+pub record PassesWritingOver (w : World) (p : ℕ) (inputs : Inputs) (a : Answer) (v : World) : Type 0 where
+  pub solo : IsSoloToWrite w p inputs
+  pub whole : IsWholeCall w p call.Poll inputs a v
+  pub not_taken : v.state.turn ≢ writes p
+
+-- ---- What holds at rest
+
+-- Where somebody waits for a free turn, some entry is marked, of a party that is pending, or was when it was forgotten; and fewer solo polls in turn pass the turn over than the list has entries, so that among as many one takes it.
+pub record IsTurnBounded (w : World) : Type 0 where
+  pub some_marked : bounds.SomeMarked (standing_of w) w.turn_list
+  pub one_takes : bounds.OneTakes PassesTurnOver (λ v. v.turn_list) w
+
+-- Where somebody waits in another list for what is free, some entry there is marked, too; and no solo poll passes it over.
+pub record IsTakenAtOnce (PassesOver : World → ℕ → Inputs → Answer → World → Type 0) (list : List (Entry ℕ)) (w : World) : Type 0 where
+  pub some_marked : bounds.SomeMarked (standing_of w) list
+  pub none_passes : (p : ℕ) (inputs : Inputs) (a : Answer) (v : World) → PassesOver w p inputs a v → ⊥
+
+abbrev pub IsReadingBounded : World → Type 0
+IsReadingBounded w = IsTakenAtOnce PassesReadingOver w.no_writer w
+
+abbrev pub IsWritingBounded : World → Type 0
+IsWritingBounded w = IsTakenAtOnce PassesWritingOver w.no_readers w

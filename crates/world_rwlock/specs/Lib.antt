@@ -1,0 +1,16 @@
+pub mod program
+pub mod machine
+pub mod State
+pub mod Changes
+pub mod Legal
+pub mod Laws
+pub mod Stages
+pub mod Guarded
+pub mod Stays
+pub mod View
+pub mod Runs
+pub mod Whole
+pub mod Openings
+pub mod Lending
+pub mod Bound
+pub mod Steps

@@ -1,0 +1,21 @@
+-- A new semaphore.
+use Rattle.std.proofs.Common.{ℕ, ◌≤◌, [], replicate, refl, sym, arith}
+use Rattle.std.proofs.lemmas.List.{length-replicate}
+use Rattle.world_base.specs.queue.Queues.{queue}
+use Rattle.world_base.proofs.Alike.{all_alike, none_of_all}
+use Rattle.sync_program.specs.declared.semaphore.Position.TheVariants.{Out}
+use Rattle.world_semaphore.specs.machine.Deeds.{words}
+use Rattle.world_semaphore.specs.machine.Seats.{permits_at, under_way_at, listed, waits}
+use Rattle.world_semaphore.specs.machine.Machine.{IsKept}
+
+pub new_is : (n permits most : ℕ) → permits ≤ most → IsKept (words permits permits most) (replicate n Out) (queue n [])
+new_is n permits most few = record {
+  sound = record {
+    balanced = omega (arith, none_of_all permits_at Out refl n, none_of_all under_way_at Out refl n);
+    limited = few;
+    in_list = none_of_all listed Out refl n;
+    owed = λ free some. absurd (omega (arith, none_of_all waits Out refl n));
+  };
+  owners = λ p. rw (all_alike Out n p) refl;
+  as_many = sym (length-replicate n Out);
+}

@@ -1,0 +1,126 @@
+-- A move that does nothing is a legal step: one that its party may not make, and a poll of a future that has been ready.
+use Rattle.std.proofs.Common.{◌≡◌, ◌≢◌, ℕ, ◌||◌, true, false, Option, Some, None, refl, ap, sym, ◌∙◌, subst}
+use Rattle.std.proofs.lemmas.Bool.{false≢true}
+use Rattle.world_base.specs.declared.moves.Answer.{Answer}
+use Rattle.world_base.specs.declared.moves.Answer.TheVariants as answer
+use Rattle.world_base.specs.declared.moves.Call.TheVariants as call
+use Rattle.world_base.specs.declared.moves.Move.{Move}
+use Rattle.world_base.specs.declared.moves.What.{What}
+use Rattle.world_base.specs.declared.moves.What.TheVariants.{Begin}
+use Rattle.lock_program.specs.declared.refusal.Refusal.TheVariants as refusal
+use Rattle.world_base.specs.declared.standing.Rest.TheVariants as rest
+use Rattle.world_base.specs.declared.standing.Within.{Within}
+use Rattle.world_base.specs.Standings.{Standing, outside, inside, is_outside, call_in, may_end, refused}
+use Rattle.world_base.specs.Frame.{is_poll_after_ready, is_drop}
+use Rattle.world_base.specs.Steps.{nothing}
+use Rattle.world_base.proofs.Equations.{outside_inside}
+use Rattle.world_base.proofs.of_table.Idle as idle
+use Rattle.world_base.proofs.of_table.Idle.{Idle, same_decides}
+use Rattle.world_semaphore.specs.machine.Machine.{knows}
+use Rattle.world_semaphore.specs.State.{World, standing_of, adds_of}
+use Rattle.world_semaphore.specs.Legal.{call_of, added_in, is_forget, IsCause, HasItsOwn, Legal}
+use Rattle.world_semaphore.specs.AtOnce.{AnswersAtOnce, is_try, is_poll, is_first_poll}
+
+-- which moves are possible
+module _ (n : ℕ) where
+  poll_possible : (s : Standing) (what : What) → is_poll s what ≡ true → call_in knows s what ≡ None → ⊥
+  poll_possible (outside rest.Idle) (Begin call.Acquire i) h e = cc
+  poll_possible (outside rest.Finished) (Begin call.Acquire i) h e = cc
+  poll_possible (outside rest.Pending) (Begin call.Poll i) h e = cc
+  poll_possible _ _ h e = cc
+
+  first_polls : (s : Standing) (what : What) → is_first_poll s what n ≡ true → is_poll s what ≡ true
+  first_polls (outside rest.Idle) (Begin call.Acquire i) h = refl
+  first_polls (outside rest.Finished) (Begin call.Acquire i) h = refl
+  first_polls (outside rest.Pending) (Begin call.Poll i) h = refl
+  first_polls _ _ h = absurd (cc)
+
+  drop_possible : (s : Standing) (what : What) → is_drop what ≡ true → s ≡ outside rest.Holding → call_in knows s what ≡ None → ⊥
+  drop_possible s (Begin call.Drop i) h e none = let P : Standing → Type 0 = λ x. call_in knows x (Begin call.Drop i) ≡ None in let never : P (outside rest.Holding) = subst P e none in cc (never)
+  drop_possible s _ h e none = cc (h)
+
+-- a poll after ready is nothing else
+record Again (s : Standing) (what : What) : Type 0 where
+  pub try : is_try what ≡ false
+  pub poll : is_poll s what ≡ false
+  pub add : added_in what ≡ None
+  pub forget : is_forget what ≡ false
+  pub drop : is_drop what ≡ false
+  pub outside : (u : Within) (d : Option Answer) → s ≢ inside u d
+
+again : (s : Standing) (what : What) → is_poll_after_ready s what ≡ true → Again s what
+again (outside rest.Holding) (Begin call.Poll i) h = record { try = refl; poll = refl; add = refl; forget = refl; drop = refl; outside = λ u d. outside_inside }
+again (outside rest.Finished) (Begin call.Poll i) h = record { try = refl; poll = refl; add = refl; forget = refl; drop = refl; outside = λ u d. outside_inside }
+again _ _ h = absurd (cc)
+
+-- what holds of any World that stands
+pub record StandsWell (w : World) : Type 0 where
+  pub each : (p : ℕ) → HasItsOwn w p (standing_of w p)
+  pub adds : (p : ℕ) → is_outside (standing_of w p) ≡ true → adds_of w p ≡ 0
+  pub ends : (p : ℕ) (u : Within) (b : Answer) → standing_of w p ≡ inside u (Some b) → may_end u.kind b ≡ true
+  pub never_pending : (p : ℕ) (u : Within) → standing_of w p ≢ inside u (Some answer.Pending)
+
+module _ (w : World) (m : Move) (well : StandsWell w) where
+  abbrev s : Standing
+  s = standing_of w m.party
+
+  abbrev Still : Answer → Type 0
+  Still = Idle standing_of (λ x p. knows) rest.Holding IsCause w m refl
+
+  pub impossible : call_of w m ≡ None → Legal w m answer.NotPossible w
+  impossible none = let still : Still answer.NotPossible = idle.impossible standing_of (λ x p. knows) rest.Holding IsCause w m refl none in record {
+    possible = still.possible;
+    one_change = record { deed = nothing; allowed = tt; state = refl; entries = refl; most = refl; opening_permits = refl; others = λ q apart. refl; parties = refl; found_memory = λ list e. absurd (cc); parting = λ h. refl; giving_up = λ h. absurd (cc) };
+    knows_adds = record { begun = λ n e h. absurd (cc); going = λ i e h. absurd (cc); others = λ q apart. refl };
+    carries = record { ready = λ got d. (let e = same_decides s answer.NotPossible (answer.Ready got) d in absurd (cc)); granted = λ got d. (let e = same_decides s answer.NotPossible (answer.Granted got) d in absurd (cc)) };
+    waits = record { waiting = λ e. absurd (cc); not_before = well.never_pending m.party };
+    refused_for_cause = still.refused_for_cause;
+    leaves_clear = record { each = well.each; decided = well.ends; adds = well.adds; refused = λ h. absurd (cc) };
+    ends_properly = still.ends_properly;
+  }
+
+  pub impossible_at_once : call_of w m ≡ None → AnswersAtOnce w m answer.NotPossible w
+  impossible_at_once none = record {
+    tried = λ t h. absurd (cc);
+    polled = λ h. absurd (poll_possible 0 s m.what h none);
+    taken = λ h f. absurd (poll_possible 0 s m.what h none);
+    ready = λ h. absurd (poll_possible 0 s m.what (first_polls _ s m.what h) none);
+    added = λ n e h. absurd (cc);
+    forgotten = λ e h. absurd (cc);
+    looks = λ e h. absurd (cc);
+    returned = λ d e. absurd (drop_possible 0 s m.what d e none);
+    notifies = λ e h. absurd (cc);
+    refuses = λ v e h. absurd (cc);
+    gives = λ e h. absurd (cc);
+  }
+
+  module _ (h : is_poll_after_ready s m.what ≡ true) where
+    abbrev so : Again s m.what
+    so = again s m.what h
+
+    pub over : Legal w m (refused refusal.Finished) w
+    over = let still : Still (refused refusal.Finished) = idle.over standing_of (λ x p. knows) rest.Holding IsCause w m refl h refl in record {
+      possible = still.possible;
+      one_change = record { deed = nothing; allowed = tt; state = refl; entries = refl; most = refl; opening_permits = refl; others = λ q apart. refl; parties = refl; found_memory = λ list e. absurd (cc); parting = λ h. refl; giving_up = λ h. absurd (cc) };
+      knows_adds = record { begun = λ n e h. absurd (cc); going = λ i e h. absurd (cc); others = λ q apart. refl };
+      carries = record { ready = λ got d. (let e = same_decides s (refused refusal.Finished) (answer.Ready got) d in absurd (cc)); granted = λ got d. (let e = same_decides s (refused refusal.Finished) (answer.Granted got) d in absurd (cc)) };
+      waits = record { waiting = λ e. absurd (cc); not_before = well.never_pending m.party };
+      refused_for_cause = still.refused_for_cause;
+      leaves_clear = record { each = well.each; decided = well.ends; adds = well.adds; refused = λ h. absurd (cc) };
+      ends_properly = still.ends_properly;
+    }
+
+    pub over_at_once : AnswersAtOnce w m (refused refusal.Finished) w
+    over_at_once = record {
+      tried = λ t g. (let never = so.try in absurd (cc));
+      polled = λ g. (let never = so.poll in absurd (cc));
+      taken = λ g f. (let never = so.poll in absurd (cc));
+      ready = λ g. (let never = so.poll in let polls = first_polls _ s m.what g in absurd (cc));
+      added = λ n e g. (let never = so.add in absurd (cc));
+      forgotten = λ e g. (let never = so.forget in absurd (cc));
+      looks = λ e g. (let never : is_try m.what || is_poll s m.what ≡ false = ap (λ b. b || is_poll s m.what) so.try ∙ so.poll in absurd (false≢true (sym never ∙ e)));
+      returned = λ d e. (let never = so.drop in absurd (cc));
+      notifies = λ e g. absurd (so.outside _ _ e);
+      refuses = λ v e g. absurd (so.outside _ _ e);
+      gives = λ e g. absurd (so.outside _ _ e);
+    }

@@ -1,0 +1,12 @@
+-- The word is what the state says.
+use Rattle.std.proofs.Common.{ap, sym, ◌∙◌}
+use Rattle.world_semaphore.specs.machine.Machine.{Semaphore}
+use Rattle.world_semaphore.specs.State.{available}
+use Rattle.world_semaphore.proofs.table.Seen.{available_seen}
+use Rattle.world_semaphore.proofs.world.World.available.Goals as goal
+
+pub returns : goal.returns
+returns c =
+    c.available.ensures
+    ∙ (ap (λ (s : Semaphore). s.words.available) c.machine-2.ensures
+    ∙ (sym (available_seen c.self.inside.table (rw c.machine.ensures at c.laws.ensures)) ∙ ap (λ w. available w.state) c.self.view_is))

@@ -1,0 +1,7 @@
+-- The limit is what the state says.
+use Rattle.std.proofs.Common.{ap, ◌∙◌}
+use Rattle.world_semaphore.specs.machine.Machine.{Semaphore}
+use Rattle.world_semaphore.proofs.world.World.limit.Goals as goal
+
+pub returns : goal.returns
+returns c = c.limit.ensures ∙ (ap (λ (s : Semaphore). s.words.limit) c.machine.ensures ∙ ap (λ w. w.state.limit) c.self.view_is)

@@ -1,0 +1,14 @@
+-- What follows from a step of the World.
+use Rattle.world_semaphore.proofs.laws.WorldLaws as law
+use Rattle.world_semaphore.proofs.whole.Promises.{keeps_promises}
+use Rattle.world_semaphore.proofs.world.WorldAnyWorld.step_laws.Goals as goal
+
+pub returns : goal.returns
+returns c = record {
+  told_at_first = law.told_at_first;
+  goes_well = law.goes_well;
+  begins = law.begins;
+  falls = law.falls;
+  ends_outside = law.ends_outside;
+  keeps_promise = keeps_promises;
+}

@@ -1,0 +1,12 @@
+pub mod machine
+pub mod State
+pub mod View
+pub mod Legal
+pub mod AtOnce
+pub mod Laws
+pub mod Steps
+pub mod Runs
+pub mod Whole
+pub mod Bound
+pub mod Openings
+pub mod Limits
