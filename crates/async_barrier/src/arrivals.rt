@@ -23,6 +23,15 @@ pub struct Arrival {
     generation: u64,
 }
 
+impl Arrival {
+    /// The generation that it was counted in, from 0. It is for tests.
+    pub fn generation(&self) -> u64
+        ensures { result ≡ self.now.generation }
+    {
+        self.generation
+    }
+}
+
 /// An arrival has finished its generation. Only [`Arrivals::complete`] makes one, and it can't be dropped: whoever has it
 /// leads.
 pub struct Led {

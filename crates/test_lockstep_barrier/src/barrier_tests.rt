@@ -1,0 +1,72 @@
+//! The barrier's parties beside their World.
+
+use crate::barrier::{BarrierShell, Setting};
+use lockstep::{Bench, Order, Walk, walk_by_chance, walk_schedules, walk_states};
+use std::alloc::AllocGlobal;
+use std::process::Abort;
+use std::sync::Wait;
+
+const MANY: usize = 1_000_000;
+
+fn setting<R: AllocGlobal>(rt: &R, parties: u32, size: u64) -> Setting {
+    Setting {
+        alloc: rt.alloc(),
+        parties,
+        size,
+        generations: 2,
+    }
+}
+
+// A walk that was refused memory, and so is none, is begun once more.
+fn again<F: Fn() -> Option<Walk>>(walk: F) -> Option<Walk> {
+    match walk() {
+        None => walk(),
+        walk => walk,
+    }
+}
+
+// Stops the test with the schedule at the end of which shell and World differ.
+fn expect_alike<R: Abort>(bench: &Bench<R>, walk: Option<Walk>) {
+    let walk = walk.expect(bench.rt(), "memory for a walk");
+    assert_eq!(bench.rt(); walk.difference, None);
+}
+
+fn in_each_state<R: Wait + Abort>(bench: &Bench<R>, setting: Setting) {
+    let walk = again(|| walk_states::<BarrierShell, R>(bench, setting, Order::Far, MANY));
+    expect_alike(bench, walk);
+}
+
+#[test]
+fn two_parties_go_on_alike_in_each_state(rt: HostRuntime) {
+    let of_two = setting(&rt, 2, 2);
+    if let Some(bench) = Bench::new(rt, 2) {
+        for size in [0, 1, 2, 3] {
+            in_each_state(&bench, Setting { size, ..of_two });
+        }
+    }
+}
+
+#[test]
+fn three_parties_go_alike_by_each_schedule(rt: HostRuntime) {
+    let of_three = setting(&rt, 3, 2);
+    if let Some(bench) = Bench::new(rt, 3) {
+        let walk = again(|| walk_schedules::<BarrierShell, _>(&bench, of_three, 9));
+        expect_alike(&bench, walk);
+    }
+}
+
+#[test]
+fn three_parties_go_alike_by_chance(rt: HostRuntime) {
+    let of_three = setting(&rt, 3, 2);
+    if let Some(bench) = Bench::new(rt, 3) {
+        for size in [2, 3] {
+            let of_size = Setting {
+                size,
+                generations: 9,
+                ..of_three
+            };
+            let walk = again(|| walk_by_chance::<BarrierShell, _>(&bench, of_size, 17, 1000, 100));
+            expect_alike(&bench, walk);
+        }
+    }
+}
