@@ -1,12 +1,14 @@
-//! Times the public mutex beside std's lock, and prints median nanoseconds. It asserts nothing.
+//! Times the public locks beside std's mutex, and prints median nanoseconds. It asserts nothing.
 #![tactic(auto)]
 
+mod barrier;
 mod rows;
 mod threads;
 mod timing;
 mod waiting;
 
-use async_lock::Mutex;
+use async_lock::{Barrier, Mutex};
+use barrier::{RoundOfFour, RoundOfOne};
 use futures::test::MockTask;
 use rows::{BlockingPair, HeldTry, LockArcPair, LockPair, NewPair, StdPair, TryArcPair, TryPair};
 use std::alloc::AllocGlobal;
@@ -101,6 +103,26 @@ where
     Ok(())
 }
 
+/// Rounds at a barrier, for each wait.
+fn print_barriers<R>(rt: &R, task: &MockTask) -> io::Result<()>
+where
+    R: Wait + Clock + Print + AllocGlobal + Copy + Drop,
+{
+    for size in [1usize, 4] {
+        let Ok(barrier) = Barrier::new(*rt, size) else {
+            return Err(io::Error::other("no memory for a barrier"));
+        };
+        let barrier = &barrier;
+        if size == 1 {
+            print(rt, "a round of one", &RoundOfOne { barrier, task }, OFTEN)?;
+        } else {
+            let row = RoundOfFour { barrier, task };
+            print(rt, "a round of four, each wait", &row, OFTEN)?;
+        }
+    }
+    Ok(())
+}
+
 fn print_threads<R>(rt: &R) -> io::Result<()>
 where
     R: Threads + Wait + Clock + Print + AllocGlobal + RandomSource + Sync + Copy + Drop,
@@ -155,6 +177,7 @@ where
     print(&rt, "std lock and unlock", &std_pair, OFTEN)?;
     print_rows(&rt, &owned)?;
     print(&rt, "new and drop", &NewPair { rt: &rt }, SELDOM)?;
+    print_barriers(&rt, &MockTask::new(&rt)?)?;
     print_contenders(&rt, &owned)?;
     print_threads(&rt)
 }
