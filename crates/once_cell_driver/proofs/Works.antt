@@ -35,8 +35,8 @@ module _ {T E M : Type 0} (new can : M → Type 0) (gives : M → Result T E →
   abbrev Has : Purpose → Where → Work T E M → Option T → Type 0
   Has u w work lent = HasWork new can gives u origin w work lent
 
-  abbrev So : Action → Found → Work T E M → Option T → Work T E M → Option T → Type 0
-  So a f old lent work lent' = WorksSo new can gives a f old lent work lent'
+  abbrev So : Purpose → Action → Found → Work T E M → Option T → Work T E M → Option T → Type 0
+  So u a f old lent work lent' = WorksSo new can gives u a f old lent work lent'
 
   over : (u : Purpose) (w : Where) (old work : Work T E M) (lent lent' : Option T) → (work ≡ old) × (lent' ≡ lent) → Has u w old lent → Has u w work lent'
   over u w old work lent lent' s h = subst (λ l. Has u w work l) (sym s.1) (subst (λ k. Has u w k lent) (sym s.0) h)
@@ -48,8 +48,8 @@ module _ {T E M : Type 0} (new can : M → Type 0) (gives : M → Result T E →
   first : (m : M) → (origin ≡ Some m) × can m × new m → can m × ((x : Result T E) → gives m x → Promised new can gives origin x)
   first m a = (a.1, λ x g. subst (λ o. Promised new can gives o x) (sym a.0) g)
 
-  made_so : (u : Purpose) (k : _) (f : Found) (old work : Work T E M) (lent lent' : Option T) → CanFind (action_of (Make k)) f → MakesSo new can gives f old work → lent' ≡ lent → Has u (at (Make k)) old lent → Has u (where_of (next_of (Make k) f)) work lent'
-  made_so u k found.NotYet old work lent lent' x s l h = (tt, (s.0, λ y g. h.1.1 y (s.1 y g)), s.2 ∙ h.2, s.3 ∙ h.3, none _ work.made (s.2 ∙ h.2), none _ work.failed (s.3 ∙ h.3), tt)
+  made_so : (u : Purpose) (k : _) (f : Found) (old work : Work T E M) (lent lent' : Option T) → CanFind (action_of (Make k)) f → MakesSo new can gives u f old work → lent' ≡ lent → Has u (at (Make k)) old lent → Has u (where_of (next_of (Make k) f)) work lent'
+  made_so u k found.NotYet old work lent lent' x s l h = (tt, (s.1, λ y g. h.1.1 y (s.2 y g)), s.3 ∙ h.2, s.4 ∙ h.3, none _ work.made (s.3 ∙ h.2), none _ work.failed (s.4 ∙ h.3), s.0)
   made_so u k (found.Made v) old work lent lent' x s l h =
       let t = there _ (λ y. Promised new can gives origin (Ok y)) work.made (λ y g. h.1.1 (Ok y) g) s.0 in
       (tt, tt, t.0, s.1 ∙ h.3, t.1, none _ work.failed (s.1 ∙ h.3), tt)
@@ -58,7 +58,7 @@ module _ {T E M : Type 0} (new can : M → Type 0) (gives : M → Result T E →
       (tt, tt, s.1 ∙ h.2, t.0, none _ work.made (s.1 ∙ h.2), t.1, tt)
   made_so u k f old work lent lent' x s l h = absurd x
 
-  works_so : (u : Purpose) (p : Place) (f : Found) (old work : Work T E M) (lent lent' : Option T) → IsFor u (at p) → CanFind (action_of p) f → So (action_of p) f old lent work lent' → Has u (at p) old lent → Has u (where_of (next_of p f)) work lent'
+  works_so : (u : Purpose) (p : Place) (f : Found) (old work : Work T E M) (lent lent' : Option T) → IsFor u (at p) → CanFind (action_of p) f → So u (action_of p) f old lent work lent' → Has u (at p) old lent → Has u (where_of (next_of p f)) work lent'
   works_so u (Claim k told) found.Empty old work lent lent' m x s h = renewed u (at (Make k)) old work lent' s (tt, first old.maker h.0, h.2, h.3, h.4, h.5, tt)
   works_so u (Claim k told) found.BeingMade old work lent lent' m x s h = renewed u (at (JoinActive k told)) old work lent' s (h.0, tt, h.2, h.3, h.4, h.5, tt)
   works_so Makes (Claim Closure told) (found.Full v) old work lent lent' m x s h = renewed Makes (Ready (got.Value v)) old work lent' s (tt, tt, tt, h.3, h.4, h.5, tt)
@@ -120,7 +120,7 @@ module _ {T E M : Type 0} (new can : M → Type 0) (gives : M → Result T E →
   works_so Sets (LeavePassive v) f old work lent lent' m x s h = absurd m
   works_so u p f old work lent lent' m x s h = absurd x
 
-  works_in : (u : Purpose) (w : Where) (f : Found) (old work : Work T E M) (lent lent' : Option T) → IsFor u w → CanFind (action_in w) f → So (action_in w) f old lent work lent' → Has u w old lent → Has u (next_where w f) work lent'
+  works_in : (u : Purpose) (w : Where) (f : Found) (old work : Work T E M) (lent lent' : Option T) → IsFor u w → CanFind (action_in w) f → So u (action_in w) f old lent work lent' → Has u w old lent → Has u (next_where w f) work lent'
   works_in u (Outside (At p)) f old work lent lent' m x s h = works_so u p f old work lent lent' m x s h
   works_in u (Outside Out) f old work lent lent' m x s h = over u (Outside Out) old work lent lent' s h
   works_in u (Outside (ToMake k)) f old work lent lent' m x s h = over u (Outside (ToMake k)) old work lent lent' s h
@@ -130,8 +130,8 @@ module _ {T E M : Type 0} (new can : M → Type 0) (gives : M → Result T E →
   works_in u (Outside Waiting) f old work lent lent' m x s h = over u (Outside Waiting) old work lent lent' s h
   works_in u (Ready g) f old work lent lent' m x s h = over u (Ready g) old work lent lent' s h
 
-  pub works : (u : Purpose) (a : Action) (w : Where) (f : Found) (old work : Work T E M) (lent lent' : Option T) → a ≡ action_in w → IsFor u w → CanFind a f → WorksSo new can gives a f old lent work lent' → HasWork new can gives u origin w old lent → HasWork new can gives u origin (next_where w f) work lent'
-  works u a w f old work lent lent' acts m x s h = works_in u w f old work lent lent' m (subst (λ b. CanFind b f) acts x) (subst (λ b. So b f old lent work lent') acts s) h
+  pub works : (u : Purpose) (a : Action) (w : Where) (f : Found) (old work : Work T E M) (lent lent' : Option T) → a ≡ action_in w → IsFor u w → CanFind a f → WorksSo new can gives u a f old lent work lent' → HasWork new can gives u origin w old lent → HasWork new can gives u origin (next_where w f) work lent'
+  works u a w f old work lent lent' acts m x s h = works_in u w f old work lent lent' m (subst (λ b. CanFind b f) acts x) (subst (λ b. So u b f old lent work lent') acts s) h
 
   asks_in : (u : Purpose) (w : Where) (work : Work T E M) (lent : Option T) → IsFor u w → Has u w work lent → NeedsMaker (action_in w) (can work.maker) × NeedsMade (action_in w) work.made
   asks_in u (Outside (At (Make k))) work lent m h = (h.1.0, tt)
@@ -151,7 +151,7 @@ module _ {T E M : Type 0} (new can : M → Type 0) (gives : M → Result T E →
   on_begin u call.Poll (Outside Out) = tt
   on_begin u call.Poll (Outside (ToMake k)) = λ work lent h. h
   on_begin u call.Poll (Outside (WaitingToMake k)) = λ work lent h. h
-  on_begin u call.Poll (Outside (Making k)) = λ work lent h. h
+  on_begin u call.Poll (Outside (Making k)) = λ work lent h. (h.0, h.1, h.2, h.3, h.4, h.5, tt)
   on_begin u call.Poll (Outside ToWait) = λ work lent h. h
   on_begin u call.Poll (Outside Waiting) = λ work lent h. h
   on_begin u call.Poll (Outside (At p)) = tt

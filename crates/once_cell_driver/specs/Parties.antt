@@ -8,9 +8,9 @@ use Rattle.lock_program.specs.declared.end.End.{End}
 use Rattle.lock_program.specs.declared.end.End.TheVariants as ending
 use Rattle.lock_program.specs.declared.refusal.Refusal.TheVariants.{Memory}
 use Rattle.once_cell_driver.specs.Cells.{Cell}
-use Rattle.once_cell_driver.specs.Purposes.{IsBy, IsMaking, IsSetting, IsWaiting, OnMaking, OnSets}
+use Rattle.once_cell_driver.specs.Purposes.{IsAwaited, IsBy, IsMaking, IsSetting, IsWaiting, OnMaking, OnSets}
 use Rattle.once_cell_driver.specs.Sides.{Half, half, half_of, IsTied, IsReceipt}
-use Rattle.once_cell_driver.specs.Table.{Place, Action, Found, Where, Call, CanPoll}
+use Rattle.once_cell_driver.specs.Table.{Place, Action, Found, Where, Call, CanPoll, Pends}
 use Rattle.once_cell_driver.specs.declared.maker.Purpose.{Purpose}
 use Rattle.once_cell_driver.specs.declared.party.CellParty.{CellParty}
 use Rattle.once_cell_driver.specs.declared.party.Work.{Work}
@@ -242,11 +242,12 @@ IsFailed (Outside (At FailNotify)) failed = IsSome failed
 IsFailed (Ready got.Failed) failed = IsSome failed
 IsFailed _ failed = failed ≡ None
 
--- a fact of a cell that the party has filled
+-- a fact of a cell that the party has filled; and who awaits a maker may do so
 abbrev pub Filled : Purpose → Where → Type 0 → Type 0
 Filled u (Outside (At (NotifyActive v))) F = F
 Filled u (Outside (At (NotifyPassive v))) F = F
 Filled u (Ready (got.Value v)) F = OnSets u F
+Filled u (Outside (Making k)) F = IsAwaited u
 Filled u _ F = ⊤
 
 -- what a fill leaves: its value is in the cell, or it has it back
@@ -271,19 +272,19 @@ module _ {T E M : Type 0} (new can : M → Type 0) (gives : M → Result T E →
       × Filled u w (IfNone work.made (IsSomeAnd lent (λ v. Promised origin (Ok v))))
 
   -- what a poll of the maker leaves
-  abbrev pub MakesSo : Found → Work T E M → Work T E M → Type 0
-  MakesSo found.NotYet old new = can new.maker × ((x : Result T E) → gives new.maker x → gives old.maker x) × (new.made ≡ old.made) × (new.failed ≡ old.failed)
-  MakesSo (found.Made v) old new = IsSomeAnd new.made (λ x. gives old.maker (Ok x)) × (new.failed ≡ old.failed)
-  MakesSo found.Failed old new = IsSomeAnd new.failed (λ e. gives old.maker (Err e)) × (new.made ≡ old.made)
-  MakesSo _ old new = ⊥
+  abbrev pub MakesSo : Purpose → Found → Work T E M → Work T E M → Type 0
+  MakesSo u found.NotYet old new = IsAwaited u × can new.maker × ((x : Result T E) → gives new.maker x → gives old.maker x) × (new.made ≡ old.made) × (new.failed ≡ old.failed)
+  MakesSo u (found.Made v) old new = IsSomeAnd new.made (λ x. gives old.maker (Ok x)) × (new.failed ≡ old.failed)
+  MakesSo u found.Failed old new = IsSomeAnd new.failed (λ e. gives old.maker (Err e)) × (new.made ≡ old.made)
+  MakesSo u _ old new = ⊥
 
   -- what an action leaves of what it makes
-  abbrev pub WorksSo : Action → Found → Work T E M → Option T → Work T E M → Option T → Type 0
-  WorksSo (act.Make k) f old lent new lent' = MakesSo f old new × (lent' ≡ lent)
-  WorksSo (act.Fill v) f old lent new lent' = FillsSo old.made new.made lent' × (new.failed ≡ old.failed)
-  WorksSo act.Claim f old lent new lent' = new ≡ old
-  WorksSo act.Look f old lent new lent' = new ≡ old
-  WorksSo _ f old lent new lent' = (new ≡ old) × (lent' ≡ lent)
+  abbrev pub WorksSo : Purpose → Action → Found → Work T E M → Option T → Work T E M → Option T → Type 0
+  WorksSo u (act.Make k) f old lent new lent' = MakesSo u f old new × (lent' ≡ lent)
+  WorksSo u (act.Fill v) f old lent new lent' = FillsSo old.made new.made lent' × (new.failed ≡ old.failed)
+  WorksSo u act.Claim f old lent new lent' = new ≡ old
+  WorksSo u act.Look f old lent new lent' = new ≡ old
+  WorksSo u _ f old lent new lent' = (new ≡ old) × (lent' ≡ lent)
 
 -- a fact that an action needs of the maker
 abbrev pub NeedsMaker : Action → Type 0 → Type 0
@@ -373,7 +374,7 @@ IsWithin _ w = ⊤
 -- how a poll ends, and where: ready, pending where it may be polled, or refused for memory as when it was made
 abbrev pub EndsAt : End → Where → Type 0
 EndsAt ending.Got (Ready g) = ⊤
-EndsAt ending.Pending w = CanPoll w
+EndsAt ending.Pending w = Pends w
 EndsAt (ending.Refused Memory) (Outside (ToMake k)) = ⊤
 EndsAt (ending.Refused Memory) (Outside ToWait) = ⊤
 EndsAt _ _ = ⊥
@@ -397,6 +398,7 @@ module _ {T E M : Type 0} (u : Purpose) (new can : M → Type 0) (gives : M → 
   abbrev pub OnOutcome : Option M → Cell → Context → Outcome T E M → Type 0
   OnOutcome origin cell cx (outcome.Waits q w) =
       Rests u new can gives cell q w
+      × Pends w
       × Receipt cell cx q.active.entry q.passive.entry (needs q.work.maker)
       × Asked w (origin ≡ Some q.work.maker)
       × Polls w ((x : Result T E) → gives q.work.maker x → IsSomeAnd origin (λ m. gives m x))

@@ -25,6 +25,11 @@ abbrev pub IsWaiting : Purpose → Type 0
 IsWaiting Waits = ⊤
 IsWaiting _ = ⊥
 
+-- whose maker may be pending
+abbrev pub IsAwaited : Purpose → Type 0
+IsAwaited Makes = ⊤
+IsAwaited _ = ⊥
+
 -- a fact of a party that sets
 abbrev pub OnSets : Purpose → Type 0 → Type 0
 OnSets Sets F = F

@@ -86,3 +86,10 @@ CanPoll (Outside (Making k)) = ⊤
 CanPoll (Outside ToWait) = ⊤
 CanPoll (Outside Waiting) = ⊤
 CanPoll _ = ⊥
+
+-- where a future is whose poll ended pending
+abbrev pub Pends : Where → Type 0
+Pends (Outside (WaitingToMake k)) = ⊤
+Pends (Outside (Making k)) = ⊤
+Pends (Outside Waiting) = ⊤
+Pends _ = ⊥

@@ -3,7 +3,7 @@
 ghost use Rattle.std.specs.Prelude.{◌≡◌, ℕ, ⊤, Result};
 ghost use Rattle.futures.specs.Task.{Covers, Keeps};
 ghost use Rattle.futures.specs.Poll.{IfReady, OnPending};
-ghost use Rattle.once_cell_driver.specs.Purposes.{IsFirst};
+ghost use Rattle.once_cell_driver.specs.Purposes.{IsAwaited, IsFirst};
 ghost use Rattle.once_cell_driver.specs.declared.maker.Purpose.TheVariants as purposes;
 
 use futures::task::{Context, Poll};
@@ -48,7 +48,7 @@ pub trait Maker<T, E>: Drop {
     fn make(&mut self, cx: &mut Context<'_>) -> Poll<Result<T, E>>
         requires { can_make self.old }
         ensures made { IfReady result (gives self.old) }
-        ensures again { OnPending result (can_make self.new) }
+        ensures again { OnPending result (IsAwaited purpose × can_make self.new) }
         ensures same { OnPending result ((made : Result T E) → gives self.new made → gives self.old made) }
         ensures registered { OnPending result (Covers cx.new (needs self.new)) }
         ensures kept { Keeps cx.old cx.new };

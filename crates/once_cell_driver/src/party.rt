@@ -59,7 +59,7 @@ impl<'a, T: Drop, E: Drop, M: Maker<T, E>> CellParty<'a, T, E, M> {
         ensures tied { IsTiedTo cell.now self.new }
         ensures found { CanFind action result × (having_of self.new ≡ after action result (having_of self.old)) }
         ensures sees { SeesBy action result (seen_by self.new.seat) }
-        ensures works { WorksSo M.is_new M.can_make M.gives action result self.old.work (lent_of self.old) self.new.work (lent_of self.new) }
+        ensures works { WorksSo M.is_new M.can_make M.gives M.purpose action result self.old.work (lent_of self.old) self.new.work (lent_of self.new) }
         ensures tells { TellsSo action result (IsReceipt cx.new cell.now.source cell.now.active self.new.active.entry) (IsReceipt cx.new cell.now.source cell.now.passive self.new.passive.entry) (Covers cx.new (M.needs self.new.work.maker)) }
         ensures kept { Keeps cx.old cx.new }
     {
@@ -130,7 +130,7 @@ impl<'a, T: Drop, E: Drop, M: Maker<T, E>> CellParty<'a, T, E, M> {
     fn make(&mut self, cx: &mut Context<'_>, by: By<()>) -> Found<()>
         requires maker { M.can_make self.old.work.maker }
         ensures found { CanFind (does.Make by) result }
-        ensures makes { MakesSo M.is_new M.can_make M.gives result self.old.work self.new.work }
+        ensures makes { MakesSo M.is_new M.can_make M.gives M.purpose result self.old.work self.new.work }
         ensures same { (self.new.seat ≡ self.old.seat) × (self.new.active ≡ self.old.active) × (self.new.passive ≡ self.old.passive) × (self.new.got ≡ self.old.got) }
         ensures tells { TellsSo (does.Make by) result ⊤ ⊤ (Covers cx.new (M.needs self.new.work.maker)) }
         ensures kept { Keeps cx.old cx.new }
