@@ -1,5 +1,5 @@
 -- What contracts see of a cell's future, and what a poll of it answers.
-use Rattle.std.specs.Prelude.{◌≡◌, ℕ, ⊤, Bool, true, false, Option, Some, None, IsSomeAnd, Result, Ok, Err}
+use Rattle.std.specs.Prelude.{◌≡◌, ℕ, ⊤, Bool, true, false, Option, Some, None, IfSome, IsSomeAnd, Result, Ok, Err}
 use Rattle.async_driver.specs.declared.waiting_list.Listed.{Listed}
 use Rattle.async_once_cell.specs.declared.task.Answer.{Answer}
 use Rattle.async_once_cell.specs.declared.task.Answer.TheVariants as answer
@@ -9,7 +9,8 @@ use Rattle.futures.specs.Task.{Covers}
 use Rattle.futures.specs.declared.task.context.Context.{Context}
 use Rattle.lock_program.specs.declared.refusal.Refusal.TheVariants.{Finished, Memory}
 use Rattle.once_cell_driver.specs.Cells.{Cell}
-use Rattle.once_cell_driver.specs.Parties.{IsReady, Rests}
+use Rattle.once_cell_driver.specs.Parties.{IsTiedTo, Rests, having_at, having_of}
+use Rattle.once_cell_driver.specs.Table.{CanPoll}
 use Rattle.once_cell_driver.specs.Purposes.{IsSetting, OnMaking, OnSets}
 use Rattle.once_cell_driver.specs.Sides.{IsReceipt}
 use Rattle.once_cell_driver.specs.declared.maker.Purpose.{Purpose}
@@ -48,10 +49,19 @@ abbrev pub future : {C T E M : Type 0} → C → Stage T E M → Future C M
 future cell stage = record { cell = cell; is_over = is_over_in stage; active = active_in stage; passive = passive_in stage; maker = maker_in stage }
 
 -- what a future keeps between its polls: a maker that was never polled, or a party that waits
-abbrev pub IsKept : {T E M : Type 0} → Purpose → (M → Type 0) → (M → Type 0) → (M → Result T E → Type 0) → Cell → Stage T E M → Type 0
-IsKept u new can gives cell (New m) = IsReady u new can m
-IsKept u new can gives cell (Inside q w) = Rests u new can gives cell q w
-IsKept u new can gives cell Over = ⊤
+abbrev pub IsKept : {T E M : Type 0} → Purpose → (M → Type 0) → Cell → Stage T E M → Type 0
+IsKept u new cell (New m) = OnMaking u (new m)
+IsKept u new cell (Inside q w) = Rests u new cell q w
+IsKept u new cell Over = ⊤
+
+-- what its drop needs: of a party that waits, that it does
+abbrev pub CanDrop : {T E M : Type 0} → Cell → Stage T E M → Type 0
+CanDrop cell (Inside q w) = IsTiedTo cell q × CanPoll w × (having_of q ≡ having_at w)
+CanDrop cell _ = ⊤
+
+-- a fact of the maker, if the future is there to make
+abbrev pub OfMaker : {M : Type 0} → Purpose → (M → Type 0) → Option M → Type 0
+OfMaker u can maker = OnMaking u (IfSome maker can)
 
 abbrev pub NeedsOf : {M : Type 0} → (M → ℕ → Type 0) → Option M → ℕ → Type 0
 NeedsOf needs None s = ⊥
@@ -79,5 +89,5 @@ module _ {C T E M : Type 0} (u : Purpose) (new : M → Type 0) (gives : M → Re
   OnAnswer cx old (answer.Refused _) now = ⊥
   OnAnswer cx old (answer.Value r) now = (old.is_over ≡ false) × (now.is_over ≡ true) × OnSets u (IsSomeAnd old.maker (λ m. gives m (Ok r.now)))
   OnAnswer cx old (answer.Back v r) now = (old.is_over ≡ false) × (now.is_over ≡ true) × IsSomeAnd old.maker (λ m. gives m (Ok v))
-  OnAnswer cx old (answer.Kept m) now = (old.is_over ≡ false) × (now.is_over ≡ true) × IsSetting u × (old.maker ≡ Some m)
+  OnAnswer cx old (answer.Kept m) now = (old.is_over ≡ false) × (now.is_over ≡ true) × IsSetting u × (old.maker ≡ Some m) × new m
   OnAnswer cx old (answer.Failed e) now = (old.is_over ≡ false) × (now.is_over ≡ true) × IsSomeAnd old.maker (λ m. gives m (Err e))

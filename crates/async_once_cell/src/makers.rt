@@ -1,9 +1,8 @@
 //! What makes the value of a cell: a closure's future, or a value that is there.
 
-ghost use Rattle.std.specs.Prelude.{◌≡◌, ⊤, Some, IsOkAnd, IsSome, IsSomeAnd};
+ghost use Rattle.std.specs.Prelude.{◌≡◌, Some, IsOkAnd, IsSome};
 ghost use Rattle.once_cell_driver.specs.declared.maker.Purpose.TheVariants as purposes;
-ghost use Rattle.async_once_cell.specs.declared.makers.Trying.TheVariants as tries;
-ghost use Rattle.async_once_cell.specs.declared.makers.Making.TheVariants as makes;
+ghost use Rattle.async_once_cell.specs.Closures.{CanMake, CanTry, MakeGives, MakeNeeds, TryGives, TryNeeds, is_new_make, is_new_try};
 
 use futures::task::{Context, Poll};
 use futures::{Future, ready};
@@ -26,21 +25,13 @@ pub enum Trying<F, Fut> {
 impl<T, E, F: FnOnce() -> Fut, Fut: Future<Output = Result<T, E>>> Maker<T, E> for Trying<F, Fut> {
     ghost purpose = { purposes.Makes };
 
-    ghost is_new = { elim [ tries.Closure f ↦ ⊤ | tries.Future fut ↦ ⊥ | tries.Asked ↦ ⊥ ] };
+    ghost is_new = { is_new_try };
 
-    ghost can_make = { elim [
-      | tries.Closure f ↦ F.pre f × ((fut : _) → F.post f fut → Fut.can_poll fut)
-      | tries.Future fut ↦ Fut.can_poll fut
-      | tries.Asked ↦ ⊥
-    ] };
+    ghost can_make = { CanTry F.pre F.post Fut.can_poll };
 
-    ghost needs = { elim [ tries.Closure f ↦ λ _. ⊥ | tries.Future fut ↦ Fut.needs fut | tries.Asked ↦ λ _. ⊥ ] };
+    ghost needs = { TryNeeds Fut.needs };
 
-    ghost gives = { elim [
-      | tries.Closure f ↦ λ made. (fut : _) × F.post f fut × Fut.gives fut made
-      | tries.Future fut ↦ Fut.gives fut
-      | tries.Asked ↦ λ _. ⊥
-    ] };
+    ghost gives = { TryGives F.post Fut.gives };
 
     fn first_place() -> Left<()> {
         Left::Outside(Position::ToMake(By::Closure))
@@ -74,21 +65,13 @@ pub enum Making<F, Fut> {
 impl<T, F: FnOnce() -> Fut, Fut: Future<Output = T>> Maker<T, Infallible> for Making<F, Fut> {
     ghost purpose = { purposes.Makes };
 
-    ghost is_new = { elim [ makes.Closure f ↦ ⊤ | makes.Future fut ↦ ⊥ | makes.Asked ↦ ⊥ ] };
+    ghost is_new = { is_new_make };
 
-    ghost can_make = { elim [
-      | makes.Closure f ↦ F.pre f × ((fut : _) → F.post f fut → Fut.can_poll fut)
-      | makes.Future fut ↦ Fut.can_poll fut
-      | makes.Asked ↦ ⊥
-    ] };
+    ghost can_make = { CanMake F.pre F.post Fut.can_poll };
 
-    ghost needs = { elim [ makes.Closure f ↦ λ _. ⊥ | makes.Future fut ↦ Fut.needs fut | makes.Asked ↦ λ _. ⊥ ] };
+    ghost needs = { MakeNeeds Fut.needs };
 
-    ghost gives = { elim [
-      | makes.Closure f ↦ λ made. (fut : _) × F.post f fut × IsOkAnd made (Fut.gives fut)
-      | makes.Future fut ↦ λ made. IsOkAnd made (Fut.gives fut)
-      | makes.Asked ↦ λ _. ⊥
-    ] };
+    ghost gives = { MakeGives F.post Fut.gives };
 
     fn first_place() -> Left<()> {
         Left::Outside(Position::ToMake(By::Closure))

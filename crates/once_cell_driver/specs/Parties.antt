@@ -323,9 +323,17 @@ module _ {T E M : Type 0} (u : Purpose) (new can : M → Type 0) (gives : M → 
       × IsSeenAt w (seen_by q.seat)
       × HasWork new can gives u origin w q.work (lent_of q)
 
-  -- it waits between two polls
-  abbrev pub Rests : Cell → CellParty T E M → Where → Type 0
-  Rests cell q w = Stands (Some q.work.maker) cell q w × CanPoll w
+-- it waits between two polls
+abbrev pub Rests : {T E M : Type 0} → Purpose → (M → Type 0) → Cell → CellParty T E M → Where → Type 0
+Rests u new cell q w =
+    IsTiedTo cell q
+    × (having_of q ≡ having_at w)
+    × IsFor u w
+    × CanPoll w
+    × Asked w (new q.work.maker)
+    × IsMade w q.work.made
+    × IsFailed w q.work.failed
+    × Filled u w ⊤
 
 -- ---- How a call ends
 
@@ -379,10 +387,6 @@ EndsAt (ending.Refused Memory) (Outside (ToMake k)) = ⊤
 EndsAt (ending.Refused Memory) (Outside ToWait) = ⊤
 EndsAt _ _ = ⊥
 
--- the maker is one that was never polled
-abbrev pub IsReady : {M : Type 0} → Purpose → (M → Type 0) → (M → Type 0) → M → Type 0
-IsReady u new can m = OnMaking u (can m × new m)
-
 module _ {T E M : Type 0} (u : Purpose) (new can : M → Type 0) (gives : M → Result T E → Type 0) (needs : M → ℕ → Type 0) where
   -- How a poll ended that began with this maker. One that was refused has its maker back, as it was. The value of a cell that it set is
   -- the one that its maker promised; one that finds the cell full has its maker or its value back.
@@ -397,7 +401,8 @@ module _ {T E M : Type 0} (u : Purpose) (new can : M → Type 0) (gives : M → 
   -- How a poll went. A party that waits has the receipt of that; its maker is the one that the poll began with, or promises what that one did.
   abbrev pub OnOutcome : Option M → Cell → Context → Outcome T E M → Type 0
   OnOutcome origin cell cx (outcome.Waits q w) =
-      Rests u new can gives cell q w
+      Rests u new cell q w
+      × OnMaking u (can q.work.maker)
       × Pends w
       × Receipt cell cx q.active.entry q.passive.entry (needs q.work.maker)
       × Asked w (origin ≡ Some q.work.maker)

@@ -2,8 +2,8 @@
 
 ghost use Rattle.std.specs.Prelude.{◌≡◌, Bool, Some, false};
 ghost use Rattle.futures.specs.Task.{Keeps};
-ghost use Rattle.once_cell_driver.specs.Parties.{EndsAt, EndsSo, IfPending, IsReady, IsTiedTo, OnOutcome, Receipt, Rests, Stands, having, having_of, no};
-ghost use Rattle.once_cell_driver.specs.Purposes.{IsFirst};
+ghost use Rattle.once_cell_driver.specs.Parties.{EndsAt, EndsSo, IfPending, IsTiedTo, OnOutcome, Receipt, Rests, Stands, having, having_of, no};
+ghost use Rattle.once_cell_driver.specs.Purposes.{IsFirst, OnMaking};
 ghost use Rattle.once_cell_driver.specs.Table.{CanPoll, Where};
 ghost use Rattle.lock_program.specs.declared.end.End.TheVariants as ends;
 ghost use Rattle.lock_program.specs.declared.refusal.Refusal.TheVariants as refusals;
@@ -27,9 +27,9 @@ use sync_program::once_cell::{CellCall, Got, Left};
 impl<'a, T: Drop, E: Drop, M: Maker<T, E>> CellParty<'a, T, E, M> {
     /// A party that was never polled, with nothing but its maker.
     pub fn new(cell: &'a RawCell<T>, maker: M) -> CellParty<'a, T, E, M>
-        requires { IsReady M.purpose M.is_new M.can_make maker }
+        requires { OnMaking M.purpose (M.is_new maker) }
         ensures maker { result.work.maker ≡ maker }
-        ensures stands { (w : Where) → IsFirst M.purpose w → Rests M.purpose M.is_new M.can_make M.gives cell.now result w }
+        ensures stands { (w : Where) → IsFirst M.purpose w → Rests M.purpose M.is_new cell.now result w }
     {
         first_rows();
         CellParty {
@@ -169,7 +169,8 @@ impl<T: Drop> RawCell<T> {
         party: CellParty<'a, T, E, M>,
         place: Left<()>,
     ) -> Outcome<'a, T, E, M>
-        requires { Rests M.purpose M.is_new M.can_make M.gives cell.now party place }
+        requires rests { Rests M.purpose M.is_new cell.now party place }
+        requires ready { OnMaking M.purpose (M.can_make party.work.maker) }
         ensures outcome { OnOutcome M.purpose M.is_new M.can_make M.gives M.needs (Some party.entry.work.maker) cell.now cx.new result }
         ensures kept { Keeps cx.old cx.new }
     {

@@ -1,7 +1,8 @@
 //! The programs that have no branch, or one alone, carried out straight: a try, and what a dropped future gives back.
 
 ghost use Rattle.std.specs.Prelude.{◌≡◌, Some, IfErr, IfSome, true, false};
-ghost use Rattle.once_cell_driver.specs.Parties.{Rests};
+ghost use Rattle.once_cell_driver.specs.Parties.{IsTiedTo, having_at, having_of};
+ghost use Rattle.once_cell_driver.specs.Table.{CanPoll};
 ghost use Rattle.lock_program.specs.declared.end.End.TheVariants as ends;
 ghost use Rattle.lock_program.specs.declared.end.Next.TheVariants as next;
 ghost use Rattle.sync_program.specs.OnceCell.{action_of, next_of, start_of};
@@ -14,7 +15,6 @@ ghost use Rattle.sync_program.specs.declared.once_cell.Maker.TheVariants as make
 ghost use Rattle.sync_program.specs.declared.once_cell.Place.TheVariants as at;
 ghost use Rattle.sync_program.specs.declared.once_cell.Position.TheVariants as stands;
 
-use crate::maker::Maker;
 use crate::party::CellParty;
 use crate::raw::RawCell;
 use async_driver::Owed;
@@ -87,13 +87,14 @@ impl<T: Drop> RawCell<T> {
 
     /// Gives back what a party has that waits between two polls. The program of it has no branch, and so its actions stand here in
     /// their order; that they are the table's is proved (`cancel_rows`). What made the value is dropped first.
-    pub fn cancel<'a, E: Drop, M: Maker<T, E>, R: Wait>(
+    pub fn cancel<'a, E: Drop, M: Drop, R: Wait>(
         cell: &'a RawCell<T>,
         rt: &R,
         party: CellParty<'a, T, E, M>,
         place: Left<()>,
     )
-        requires { Rests M.purpose M.is_new M.can_make M.gives cell.now party place }
+        requires tied { IsTiedTo cell.now party }
+        requires rests { CanPoll place × (having_of party ≡ having_at place) }
     {
         cancel_rows();
         let CellParty {
