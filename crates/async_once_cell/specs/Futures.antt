@@ -1,0 +1,66 @@
+-- What contracts see of a cell's futures, and what their polls answer.
+use Rattle.std.specs.Prelude.{◌≡◌, ⊤, Bool, true, false, Option, Some, None, IsSomeAnd, Result, Ok, Err}
+use denote.Ref.{Bor}
+use Rattle.async_driver.specs.declared.turn.Turn.{Turn}
+use Rattle.async_driver.specs.declared.turn.Turn.TheVariants.{Pending, Ready, Refused}
+use Rattle.async_driver.specs.declared.waiting_list.Listed.{Listed}
+use Rattle.async_once_cell.specs.Stages.{Future}
+use Rattle.async_once_cell.specs.declared.makers.Given.{Given}
+use Rattle.lock_program.specs.declared.refusal.Refusal.TheVariants.{Finished, Memory}
+
+-- a wait: its cell, whether it was ready before, and its entry in the cell's list of those that wait
+pub record Waiting (C : Type 0) : Type 0 where
+  pub cell : C
+  pub is_over : Bool
+  pub entry : Option Listed
+
+-- an initialisation: its cell, whether it was ready before, its entry in the cell's list of those that would make the value, and its maker
+pub record Initialising (C M : Type 0) : Type 0 where
+  pub cell : C
+  pub is_over : Bool
+  pub entry : Option Listed
+  pub maker : Option M
+
+-- a set: as an initialisation, with its value until it is ready
+pub record Setting (C T : Type 0) : Type 0 where
+  pub cell : C
+  pub is_over : Bool
+  pub entry : Option Listed
+  pub value : Option T
+
+abbrev pub waiting : {C M : Type 0} → Future C M → Waiting C
+waiting f = record { cell = f.cell; is_over = f.is_over; entry = f.passive }
+
+abbrev pub initialising : {C M : Type 0} → Future C M → Initialising C M
+initialising f = record { cell = f.cell; is_over = f.is_over; entry = f.active; maker = f.maker }
+
+abbrev pub value_in : {T : Type 0} → Option (Given T) → Option T
+value_in None = None
+value_in (Some given) = given.value
+
+abbrev pub setting : {C T : Type 0} → Future C (Given T) → Setting C T
+setting f = record { cell = f.cell; is_over = f.is_over; entry = f.active; value = value_in f.maker }
+
+-- Ready, what was got is this and the future is over. One that is over is refused as finished and stays so; no other is, and none for
+-- another reason than memory.
+abbrev pub IsTurn : {G : Type 0} → (G → Type 0) → Bool → Turn G → Bool → Type 0
+IsTurn got was (Ready g) is = (was ≡ false) × (is ≡ true) × got g
+IsTurn got was Pending is = (was ≡ false) × (is ≡ false)
+IsTurn got was (Refused Finished) is = (was ≡ true) × (is ≡ true)
+IsTurn got was (Refused Memory) is = (was ≡ false) × (is ≡ false)
+IsTurn got was (Refused _) is = ⊥
+
+-- a fact of a poll that was refused for memory
+abbrev pub OnMemory : {G : Type 0} → Turn G → Type 0 → Type 0
+OnMemory (Refused Memory) F = F
+OnMemory _ F = ⊤
+
+-- a set that was done put its value in; one that found the cell full has its value back
+abbrev pub IsSet : {T : Type 0} → Option T → Result (Bor T) T → Type 0
+IsSet value (Ok r) = value ≡ Some r.now
+IsSet value (Err v) = value ≡ Some v
+
+-- how the maker failed, it promised
+abbrev pub FailsSo : {T E M : Type 0} → (M → Result T E → Type 0) → Option M → Result (Bor T) E → Type 0
+FailsSo gives maker (Ok r) = ⊤
+FailsSo gives maker (Err e) = IsSomeAnd maker (λ m. gives m (Err e))

@@ -1,0 +1,21 @@
+//! Why a blocking call on a cell gave up.
+
+use lock_program::Refusal;
+
+/// Why an initialisation by a closure that may fail gave no value.
+#[derive(Debug, Drop, PartialEq, Eq)]
+pub enum InitFault<E> {
+    /// The closure failed with this.
+    Closure(E),
+    /// The call was refused, and the closure's value, if there was any, isn't in the cell.
+    Refused(Refusal),
+}
+
+/// Why a set gave its value back.
+#[derive(Debug, Drop, PartialEq, Eq)]
+pub enum SetFault<T> {
+    /// The cell had a value already.
+    Taken(T),
+    /// The call was refused.
+    Refused(T, Refusal),
+}

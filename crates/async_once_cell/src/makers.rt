@@ -1,0 +1,141 @@
+//! What makes the value of a cell: a closure's future, or a value that is there.
+
+ghost use Rattle.std.specs.Prelude.{◌≡◌, Some, IsOkAnd, IsSome};
+ghost use Rattle.once_cell_driver.specs.declared.maker.Purpose.TheVariants as purposes;
+ghost use Rattle.async_once_cell.specs.Closures.{CanMake, CanTry, MakeGives, MakeNeeds, TryGives, TryNeeds, is_new_make, is_new_try};
+
+use futures::task::{Context, Poll};
+use futures::{Future, ready};
+use once_cell_driver::Maker;
+use std::convert::Infallible;
+use std::mem;
+use sync_program::once_cell::{Left, Maker as By, Position};
+
+/// A closure that answers a future of a value or a failure.
+#[derive(Drop)]
+pub enum Trying<F, Fut> {
+    /// It wasn't called.
+    Closure(F),
+    /// It was called, and this is what it answered.
+    Future(Fut),
+    /// Its future was ready.
+    Asked,
+}
+
+impl<T, E, F: FnOnce() -> Fut, Fut: Future<Output = Result<T, E>>> Maker<T, E> for Trying<F, Fut> {
+    ghost purpose = { purposes.Makes };
+
+    ghost is_new = { is_new_try };
+
+    ghost can_make = { CanTry F.pre F.post Fut.can_poll };
+
+    ghost needs = { TryNeeds Fut.needs };
+
+    ghost gives = { TryGives F.post Fut.gives };
+
+    fn first_place() -> Left<()> {
+        Left::Outside(Position::ToMake(By::Closure))
+    }
+
+    fn make(&mut self, cx: &mut Context<'_>) -> Poll<Result<T, E>> {
+        match mem::replace(self, Trying::Asked) {
+            Trying::Closure(closure) => *self = Trying::Future(closure()),
+            asked => *self = asked,
+        }
+        let Trying::Future(future) = self else {
+            unreachable!()
+        };
+        let made = ready!(future.poll(cx));
+        *self = Trying::Asked;
+        Poll::Ready(made)
+    }
+}
+
+/// A closure that answers a future of a value.
+#[derive(Drop)]
+pub enum Making<F, Fut> {
+    /// It wasn't called.
+    Closure(F),
+    /// It was called, and this is what it answered.
+    Future(Fut),
+    /// Its future was ready.
+    Asked,
+}
+
+impl<T, F: FnOnce() -> Fut, Fut: Future<Output = T>> Maker<T, Infallible> for Making<F, Fut> {
+    ghost purpose = { purposes.Makes };
+
+    ghost is_new = { is_new_make };
+
+    ghost can_make = { CanMake F.pre F.post Fut.can_poll };
+
+    ghost needs = { MakeNeeds Fut.needs };
+
+    ghost gives = { MakeGives F.post Fut.gives };
+
+    fn first_place() -> Left<()> {
+        Left::Outside(Position::ToMake(By::Closure))
+    }
+
+    fn make(&mut self, cx: &mut Context<'_>) -> Poll<Result<T, Infallible>> {
+        match mem::replace(self, Making::Asked) {
+            Making::Closure(closure) => *self = Making::Future(closure()),
+            asked => *self = asked,
+        }
+        let Making::Future(future) = self else {
+            unreachable!()
+        };
+        let made = ready!(future.poll(cx));
+        *self = Making::Asked;
+        Poll::Ready(Ok(made))
+    }
+}
+
+/// A value that is there already.
+#[derive(Drop)]
+pub struct Given<T> {
+    value: Option<T>,
+}
+
+impl<T> Given<T> {
+    pub(crate) fn new(value: T) -> Given<T>
+        ensures { result.value ≡ Some value }
+    {
+        Given { value: Some(value) }
+    }
+
+    pub(crate) fn into_value(self) -> T
+        requires { IsSome self.value }
+        ensures { self.value ≡ Some result }
+    {
+        let Given { value } = self;
+        match value {
+            Some(value) => value,
+            None => unreachable!(),
+        }
+    }
+}
+
+impl<T: Drop> Maker<T, Infallible> for Given<T> {
+    ghost purpose = { purposes.Sets };
+
+    ghost is_new = { λ given. IsSome given.value };
+
+    ghost can_make = { λ given. IsSome given.value };
+
+    ghost needs = { λ _ _. ⊥ };
+
+    ghost gives = { λ given made. IsOkAnd made (λ v. given.value ≡ Some v) };
+
+    fn first_place() -> Left<()> {
+        Left::Outside(Position::ToMake(By::Given(())))
+    }
+
+    fn make(&mut self, cx: &mut Context<'_>) -> Poll<Result<T, Infallible>> {
+        let _ = cx;
+        match self.value.take() {
+            Some(value) => Poll::Ready(Ok(value)),
+            None => unreachable!(),
+        }
+    }
+}

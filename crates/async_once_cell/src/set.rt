@@ -1,0 +1,108 @@
+//! A future that puts a value into a cell.
+
+ghost use Rattle.std.specs.Prelude.{◌≡◌, Some, false, true, None};
+ghost use Rattle.futures.specs.Task.{Keeps};
+ghost use Rattle.async_driver.specs.Turns.{OnPending};
+ghost use Rattle.once_cell_driver.specs.Sides.{IsReceipt};
+ghost use Rattle.async_once_cell.specs.Futures.{IsSet, IsTurn, OnMemory};
+
+use crate::cell::OnceCell;
+use crate::makers::Given;
+use crate::task::{Answer, Stage, drop_stage, poll_stage};
+use async_driver::{Polled, Turn};
+use futures::task::Context;
+use std::convert::Infallible;
+use std::fmt;
+use std::marker::Model;
+use std::sync::Wait;
+use std::time::Clock;
+
+/// A future that puts a value into a cell, or has it back. Dropping it drops its value and leaves the list in which it waits, and
+/// forwards a notification that it was given.
+///
+/// Contracts see its cell, whether it was ready before (`is_over`), its entry in the cell's list of those that would make the
+/// value (`entry`), and its value until it is ready (`value`).
+pub struct Set<'a, T, R: Wait> {
+    cell: &'a OnceCell<T, R>,
+    stage: Stage<'a, T, Infallible, Given<T>>,
+}
+
+impl<'a, T, R: Wait> Model for Set<'a, T, R> {
+    ghost use Rattle.async_once_cell.specs.Futures.{Setting, setting};
+    ghost use Rattle.async_once_cell.specs.Stages.{IsKept, future};
+    ghost use Rattle.async_once_cell.specs.declared.cell.OnceCell.{OnceCell};
+    ghost use Rattle.once_cell_driver.specs.declared.maker.Purpose.TheVariants as purposes;
+    ghost use Rattle.std.specs.Prelude.{IsSome};
+
+    ghost Value = { Setting (OnceCell T R) T };
+
+    ghost view = { λ s. setting (future s.cell.now s.stage) };
+
+    ghost invariant = { λ s. IsKept purposes.Sets (λ given. IsSome given.value) s.cell.now.raw s.stage };
+}
+
+impl<'a, T: Drop, R: Wait> Set<'a, T, R> {
+    pub(crate) fn new(cell: &'a OnceCell<T, R>, value: T) -> Set<'a, T, R>
+        ensures { result ≡ record { cell = cell.now; is_over = false; entry = None; value = Some value } }
+    {
+        Set {
+            cell,
+            stage: Stage::New(Given::new(value)),
+        }
+    }
+}
+
+impl<'a, T: Drop, R: Wait + Clock> Set<'a, T, R> {
+    /// One poll: ready with the cell's value, which is the one that was set; ready with the value back, if the cell was full;
+    /// or pending, while another task makes the value.
+    ///
+    /// It is refused as [`Refusal::Memory`](crate::Refusal) if memory for its entry was refused; then it is as when it was made, with its
+    /// value in it (`memory`), and may be polled again. Once it was ready it is refused as `Refusal::Finished`, and nothing changes
+    /// (`turn`, `over`).
+    ///
+    /// Pending, it keeps its value (`value`), and has an entry in the cell's list of those that would make the value, which keeps a
+    /// waker of the task that polls (`receipt`). The task has registered with the cell's source, and keeps what it had registered
+    /// before (`kept`).
+    pub fn poll(&mut self, cx: &mut Context<'_>) -> Turn<Result<&'a T, T>>
+        ensures turn { IsTurn (IsSet self.old.value) self.old.is_over result self.new.is_over }
+        ensures over { self.old.is_over ≡ true → self.new ≡ self.old }
+        ensures memory { OnMemory result ((self.new.entry ≡ None) × (self.new.value ≡ self.old.value)) }
+        ensures cell { self.new.cell ≡ self.old.cell }
+        ensures value { OnPending result (self.new.value ≡ self.old.value) }
+        ensures receipt { OnPending result (IsReceipt cx.new self.old.cell.raw.source self.old.cell.raw.active self.new.entry) }
+        ensures kept { Keeps cx.old cx.new }
+    {
+        let cell = self.cell;
+        match poll_stage(cell, &mut self.stage, cx) {
+            Answer::Pending => Turn::Pending,
+            Answer::Refused(refusal) => Turn::Refused(refusal),
+            Answer::Value(value) => Turn::Ready(Ok(value)),
+            Answer::Back(own, _) => Turn::Ready(Err(own)),
+            Answer::Kept(given) => Turn::Ready(Err(given.into_value())),
+            Answer::Failed(_) => unreachable!(),
+        }
+    }
+}
+
+impl<'a, T: Drop, R: Wait + Clock> Polled for Set<'a, T, R> {
+    type Got = Result<&'a T, T>;
+
+    ghost gives = { λ set got. IsSet set.value got };
+
+    fn poll_turn(&mut self, cx: &mut Context<'_>) -> Turn<Result<&'a T, T>> {
+        self.poll(cx)
+    }
+}
+
+impl<T: Drop, R: Wait> Drop for Set<'_, T, R> {
+    fn drop(self) {
+        let Self { cell, stage } = self;
+        drop_stage(cell, stage);
+    }
+}
+
+impl<T, R: Wait> fmt::Debug for Set<'_, T, R> {
+    fn fmt<W: fmt::Write>(&self, f: &mut fmt::Formatter<W>) -> fmt::Result {
+        f.debug_struct("Set").finish_non_exhaustive()
+    }
+}

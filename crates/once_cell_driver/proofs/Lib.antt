@@ -1,0 +1,3 @@
+mod Stays
+mod Works
+mod Ends

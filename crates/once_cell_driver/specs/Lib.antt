@@ -1,0 +1,5 @@
+pub mod Sides
+pub mod Cells
+pub mod Table
+pub mod Purposes
+pub mod Parties

@@ -1,0 +1,143 @@
+//! A once-cell without its runtime.
+
+ghost use Rattle.std.specs.Prelude.{◌≡◌, true, false, IfOk};
+
+use crate::queue::Queue;
+use async_driver::WaitingList;
+use futures::task::{Source, Waker};
+use std::alloc::{AllocError, Global};
+use std::marker::Model;
+use std::sync::OnceLock;
+use words_once_cell::{State, Words};
+
+/// A once-cell without its runtime: its word, its value, and who waits.
+///
+/// Contracts see which cell it is (`word`), the source that waiting tasks register with, and which lists the two are.
+pub struct RawCell<T> {
+    // Whether the cell is empty, being made, or full.
+    pub(crate) words: Words,
+    // The value. It is set before the word says that the cell is full, by the seat that has the right to make.
+    pub(crate) value: OnceLock<T>,
+    // Of the parties that would make the value.
+    pub(crate) active: Queue,
+    // Of the parties that only wait for it.
+    pub(crate) passive: Queue,
+    // What tasks register with that wait.
+    pub(crate) source: Source,
+}
+
+// By hand, so that a drop is one call to prove, and not all of its parts again.
+impl<T: Drop> Drop for RawCell<T> {
+    fn drop(self) {
+        let RawCell {
+            words: _,
+            value: _,
+            active: _,
+            passive: _,
+            source: _,
+        } = self;
+    }
+}
+
+impl<T> Model for RawCell<T> {
+    ghost use Rattle.once_cell_driver.specs.Cells.{Cell, cell_coded};
+
+    ghost Value = { Cell };
+
+    ghost coded = { cell_coded };
+
+    ghost view = { λ c. record { word = c.words; source = c.source.id; active = c.active; passive = c.passive } };
+}
+
+impl<T: Drop> RawCell<T> {
+    /// Makes an empty cell. It fails only if memory is refused.
+    pub fn new(alloc: Global) -> Result<RawCell<T>, AllocError>
+        ensures { IfOk result (λ cell. cell.word.start ≡ false) }
+    {
+        let words = Words::new(alloc)?;
+        Ok(RawCell::over(alloc, words, OnceLock::new()))
+    }
+
+    /// Makes a full cell. If memory is refused, the value is dropped.
+    pub fn with_value(alloc: Global, value: T) -> Result<RawCell<T>, AllocError>
+        ensures { IfOk result (λ cell. cell.word.start ≡ true) }
+    {
+        let words = Words::full(alloc)?;
+        Ok(RawCell::over(alloc, words, OnceLock::from(value)))
+    }
+}
+
+impl<T> RawCell<T> {
+    fn over(alloc: Global, words: Words, value: OnceLock<T>) -> RawCell<T>
+        ensures { result.word ≡ words }
+    {
+        RawCell {
+            words,
+            value,
+            active: Queue::new(alloc),
+            passive: Queue::new(alloc),
+            source: Source::new(),
+        }
+    }
+
+    /// Returns whether the cell was full at some moment of the call. It waits for nobody.
+    pub fn is_full(&self) -> bool {
+        self.words.is_full()
+    }
+
+    /// Returns the value of a full cell. It waits for nobody.
+    pub fn get(&self) -> Option<&T> {
+        if self.words.is_full() {
+            self.value.get()
+        } else {
+            None
+        }
+    }
+
+    /// Returns what the cell was at some moment of the call: one load, which waits for nobody.
+    pub fn state(&self) -> State {
+        let mut seat = self.words.sit();
+        let state = self.words.look(&mut seat);
+        self.words.rise(seat);
+        state
+    }
+
+    /// Returns the value to be written.
+    pub fn get_mut(&mut self) -> Option<&mut T> {
+        self.value.get_mut()
+    }
+
+    /// Takes the value out of a full cell, which is empty then. It waits for nobody and takes no memory.
+    pub fn take(&mut self) -> Option<T> {
+        let mut seat = self.words.sit();
+        let was_full = self.words.take(&mut seat);
+        self.words.rise(seat);
+        if was_full { self.value.take() } else { None }
+    }
+
+    /// Returns the value that the cell has. It waits for nobody and takes no memory.
+    pub fn into_inner(self) -> Option<T> {
+        let RawCell {
+            words: _,
+            value,
+            active: _,
+            passive: _,
+            source: _,
+        } = self;
+        value.into_inner()
+    }
+
+    /// Who waits to make the value.
+    pub fn active(&self) -> &WaitingList<Waker>
+        ensures { result.now.name.id ≡ self.now.active }
+    {
+        self.active.list()
+    }
+
+    /// Who waits for the value.
+    pub fn passive(&self) -> &WaitingList<Waker>
+        ensures { result.now.name.id ≡ self.now.passive }
+    {
+        self.passive.list()
+    }
+}

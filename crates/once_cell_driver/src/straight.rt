@@ -1,0 +1,149 @@
+//! The programs that have no branch, or one alone, carried out straight: a try, and what a dropped future gives back.
+
+ghost use Rattle.std.specs.Prelude.{◌≡◌, Some, IfErr, IfSome, true, false};
+ghost use Rattle.once_cell_driver.specs.Parties.{IsTiedTo, having_at, having_of};
+ghost use Rattle.once_cell_driver.specs.Table.{CanPoll};
+ghost use Rattle.lock_program.specs.declared.end.End.TheVariants as ends;
+ghost use Rattle.lock_program.specs.declared.end.Next.TheVariants as next;
+ghost use Rattle.sync_program.specs.OnceCell.{action_of, next_of, start_of};
+ghost use Rattle.sync_program.specs.declared.once_cell.Action.TheVariants as does;
+ghost use Rattle.sync_program.specs.declared.once_cell.CellCall.TheVariants as calls;
+ghost use Rattle.sync_program.specs.declared.once_cell.Found.TheVariants as finds;
+ghost use Rattle.sync_program.specs.declared.once_cell.Left.TheVariants as left;
+ghost use Rattle.sync_program.specs.declared.once_cell.ListName.TheVariants as lists;
+ghost use Rattle.sync_program.specs.declared.once_cell.Maker.TheVariants as makers;
+ghost use Rattle.sync_program.specs.declared.once_cell.Place.TheVariants as at;
+ghost use Rattle.sync_program.specs.declared.once_cell.Position.TheVariants as stands;
+
+use crate::party::CellParty;
+use crate::raw::RawCell;
+use async_driver::Owed;
+use std::sync::Wait;
+use sync_program::once_cell::{Left, Position};
+use words_once_cell::{Seat, State};
+
+// A value is in the cell: what has to be notified by that, and the value if another stood there already.
+struct Entered<T> {
+    active: Owed,
+    passive: Owed,
+    back: Option<T>,
+}
+
+impl<T: Drop> RawCell<T> {
+    /// Puts this value in at once if the cell is empty, and else gives it back: also while another makes the value.
+    ///
+    /// The program of a try has one branch, and so its actions stand here in their order; that they are the table's is proved
+    /// (`try_rows`). By their types the cell can't stay being made, nor the call end before both lists are notified.
+    pub fn try_set<R: Wait>(&self, rt: &R, value: T) -> Result<(), T>
+        ensures { IfErr result (λ back. back ≡ value) }
+    {
+        try_rows();
+        let mut seat = self.words.sit();
+        match self.words.claim(&mut seat) {
+            State::Empty => {
+                let Entered {
+                    active,
+                    passive,
+                    back,
+                } = self.enter(rt, &mut seat, value);
+                self.active.list().notify_additional(rt, usize::MAX, active);
+                self.passive
+                    .list()
+                    .notify_additional(rt, usize::MAX, passive);
+                self.words.rise(seat);
+                match back {
+                    None => Ok(()),
+                    Some(value) => Err(value),
+                }
+            }
+            State::Making | State::Full => {
+                self.words.rise(seat);
+                Err(value)
+            }
+        }
+    }
+
+    // Puts a value in, and then says so, by the seat that makes.
+    fn enter<R: Wait>(&self, rt: &R, seat: &mut Seat, value: T) -> Entered<T>
+        requires seat { seat.old.inner.table_id ≡ self.now.word.table }
+        requires makes { seat.old.inner.me.0.makes ≡ true }
+        ensures seat { seat.new.inner.table_id ≡ self.now.word.table }
+        ensures made { seat.new.inner.me.0.makes ≡ false }
+        ensures active { result.active.list.id ≡ self.now.active }
+        ensures passive { result.passive.list.id ≡ self.now.passive }
+        ensures back { IfSome result.back (λ back. back ≡ value) }
+    {
+        let back = match self.value.set(rt, value) {
+            Ok(_) => None,
+            Err(value) => Some(value),
+        };
+        self.words.fill(seat);
+        Entered {
+            active: Owed::new(self.active.list().id()),
+            passive: Owed::new(self.passive.list().id()),
+            back,
+        }
+    }
+
+    /// Gives back what a party has that waits between two polls. The program of it has no branch, and so its actions stand here in
+    /// their order; that they are the table's is proved (`cancel_rows`). What made the value is dropped first.
+    pub fn cancel<'a, E: Drop, M: Drop, R: Wait>(
+        cell: &'a RawCell<T>,
+        rt: &R,
+        party: CellParty<'a, T, E, M>,
+        place: Left<()>,
+    )
+        requires tied { IsTiedTo cell.now party }
+        requires rests { CanPoll place × (having_of party ≡ having_at place) }
+    {
+        cancel_rows();
+        let CellParty {
+            mut seat,
+            mut active,
+            mut passive,
+            work,
+            got: _,
+        } = party;
+        drop(work);
+        match place {
+            Left::Outside(Position::WaitingToMake(_)) => active.leave(cell.active.list(), rt),
+            Left::Outside(Position::Waiting) => passive.leave(cell.passive.list(), rt),
+            Left::Outside(Position::Making(_)) => {
+                cell.words.empty(&mut seat);
+                active.owe(cell.active.list());
+                active.notify(cell.active.list(), rt);
+            }
+            _ => {}
+        }
+        active.end();
+        passive.end();
+        cell.words.rise(seat);
+    }
+}
+
+// The rows of the program's table that a try carries out straight. It does nothing, and its contract has the rows.
+fn try_rows()
+    ensures begins { start_of {V = Unit {0}} (calls.TrySet (tt {0})) stands.Out ≡ Some (at.Try (tt {0})) }
+    ensures tries { (action_of {V = Unit {0}} (at.Try (tt {0})) ≡ does.Claim) × (next_of {V = Unit {0}} (at.Try (tt {0})) finds.Empty ≡ next.Do (at.TryFill (tt {0}))) × (next_of {V = Unit {0}} (at.Try (tt {0})) finds.BeingMade ≡ next.End ends.NotFree (left.Outside stands.Out)) × (next_of {V = Unit {0}} (at.Try (tt {0})) (finds.Full (tt {0})) ≡ next.End ends.NotFree (left.Outside stands.Out)) }
+    ensures fills { (action_of {V = Unit {0}} (at.TryFill (tt {0})) ≡ does.Fill (tt {0})) × (next_of {V = Unit {0}} (at.TryFill (tt {0})) finds.Done ≡ next.Do (at.TryNotifyActive (tt {0}))) }
+    ensures notifies { (action_of {V = Unit {0}} (at.TryNotifyActive (tt {0})) ≡ does.NotifyAll lists.Active) × (next_of {V = Unit {0}} (at.TryNotifyActive (tt {0})) finds.Done ≡ next.Do (at.TryNotifyPassive (tt {0}))) }
+    ensures ends { (action_of {V = Unit {0}} (at.TryNotifyPassive (tt {0})) ≡ does.NotifyAll lists.Passive) × (next_of {V = Unit {0}} (at.TryNotifyPassive (tt {0})) finds.Done ≡ next.End ends.Granted (left.Outside stands.Out)) }
+{}
+
+// The rows that a cancel carries out straight.
+fn cancel_rows()
+    ensures makes { (start_of {V = Unit {0}} calls.Drop (stands.Making makers.Closure) ≡ Some at.CancelMake) × (action_of {V = Unit {0}} at.CancelMake ≡ does.Empty) × (next_of {V = Unit {0}} at.CancelMake finds.Done ≡ next.Do at.CancelNotify) }
+    ensures notifies { (action_of {V = Unit {0}} at.CancelNotify ≡ does.Notify lists.Active) × (next_of {V = Unit {0}} at.CancelNotify finds.Done ≡ next.End ends.GivenBack (left.Outside stands.Out)) }
+    ensures active { start_of {V = Unit {0}} calls.Drop (stands.WaitingToMake makers.Closure) ≡ Some (at.CancelLeave lists.Active) }
+    ensures passive { start_of {V = Unit {0}} calls.Drop stands.Waiting ≡ Some (at.CancelLeave lists.Passive) }
+    ensures leaves { (action_of {V = Unit {0}} (at.CancelLeave lists.Active) ≡ does.Leave lists.Active) × (next_of {V = Unit {0}} (at.CancelLeave lists.Active) finds.Done ≡ next.End ends.GivenBack (left.Outside stands.Out)) }
+    ensures waits { (action_of {V = Unit {0}} (at.CancelLeave lists.Passive) ≡ does.Leave lists.Passive) × (next_of {V = Unit {0}} (at.CancelLeave lists.Passive) finds.Done ≡ next.End ends.GivenBack (left.Outside stands.Out)) }
+    ensures nothing { (start_of {V = Unit {0}} calls.Drop (stands.ToMake makers.Closure) ≡ Some at.Abandon) × (start_of {V = Unit {0}} calls.Drop stands.ToWait ≡ Some at.Abandon) × (action_of {V = Unit {0}} at.Abandon ≡ does.Nothing) }
+{}
+
+// First polls begin as the polls of parties that were refused: so a future that was never polled is where those are.
+pub(crate) fn first_rows()
+    ensures makes { start_of {V = Unit {0}} calls.Initialize stands.Out ≡ start_of calls.Poll (stands.ToMake makers.Closure) }
+    ensures sets { start_of {V = Unit {0}} (calls.Set (tt {0})) stands.Out ≡ start_of calls.Poll (stands.ToMake (makers.Given (tt {0}))) }
+    ensures waits { start_of {V = Unit {0}} calls.Wait stands.Out ≡ start_of calls.Poll stands.ToWait }
+{}
