@@ -1,0 +1,3 @@
+pub mod AtLists
+pub mod Rights
+pub mod Sound
