@@ -24,3 +24,14 @@ pub struct Finding {
     pub turn: TurnPlace,
     pub ghost sound: { is_sound found ≡ true },
 }
+
+impl Finding {
+    /// A finding that isn't a refusal of the turn for another reason.
+    #[inline]
+    pub(crate) fn of(found: Found, turn: TurnPlace) -> Finding
+        requires { is_sound found ≡ true }
+        ensures { (result.found ≡ found) × (result.turn ≡ turn) }
+    {
+        Finding { found, turn }
+    }
+}

@@ -5,14 +5,18 @@
 //! isn't known here: what a party gets is a seat whose view says that it reads or writes.
 #![tactic(auto)]
 
+mod actions;
 mod aim;
 mod at_list;
 mod duty;
 mod finding;
+mod party;
 mod raw;
 mod straight;
+mod turn;
 
-pub use aim::Aim;
+pub use aim::{Aim, Call};
 pub use at_list::AtList;
 pub use finding::{Finding, Standing};
+pub use party::RwLockParty;
 pub use raw::RawRwLock;
