@@ -1,5 +1,5 @@
 -- The places of a poll, by what it is for, and how it ends.
-use Rattle.std.specs.Prelude.{◌≡◌, Option, Some, None, true, false, ⊤}
+use Rattle.std.specs.Prelude.{◌≡◌, Option, Some, None, IsSomeAnd, true, false, ⊤}
 use Rattle.lock_driver.specs.Parties.{IsGivenUp}
 use Rattle.lock_program.specs.declared.end.End.{End}
 use Rattle.lock_program.specs.declared.end.End.TheVariants as ending
@@ -15,9 +15,16 @@ use Rattle.rwlock_driver.specs.declared.aim.Aim.{Aim}
 use Rattle.rwlock_driver.specs.declared.aim.Call.{Call}
 use Rattle.rwlock_driver.specs.declared.aim.Call.TheVariants as asked
 use Rattle.rwlock_driver.specs.declared.finding.Standing.{Standing}
-use Rattle.rwlock_driver.specs.Parties.{in_turns}
+use Rattle.rwlock_driver.specs.declared.party.RwLockParty.{RwLockParty}
+use Rattle.rwlock_driver.specs.declared.waiting.Outcome.{Outcome}
+use Rattle.rwlock_driver.specs.declared.waiting.Outcome.TheVariants as outcome
+use Rattle.rwlock_driver.specs.declared.waiting.Waiting.{Waiting}
+use Rattle.rwlock_driver.specs.declared.raw.RawRwLock.{RawRwLock}
+use Rattle.futures.specs.declared.task.context.Context.{Context}
+use Rattle.rwlock_driver.specs.AtLists.{IsReceipt}
+use Rattle.rwlock_driver.specs.Parties.{IfPending, Stands, in_turns}
 use Rattle.rwlock_driver.specs.declared.aim.Aim.TheVariants as aim
-use Rattle.rwlock_driver.specs.Rights.{Flags, reader, upgradable, writer}
+use Rattle.rwlock_driver.specs.Rights.{Flags, Has, reader, upgradable, writer}
 
 -- a read is refused for memory, or for too many readers; one with the turn for too many starved waiters too, and a write for memory or
 -- too many starved waiters; an upgrade for memory alone
@@ -150,3 +157,25 @@ EndsAt a ending.Got p = p ≡ got_at a
 EndsAt a ending.Pending p = IsAsking a p
 EndsAt a (ending.Refused r) p = (p ≡ first_of a) × Refuses a r
 EndsAt a _ p = ⊥
+
+-- The receipt of a party that waits at this place, in the list of what it wants next.
+abbrev pub HasReceipt : RawRwLock → Context → RwLockParty → Place → Type 0
+HasReceipt raw cx q AskNoWriter = IsReceipt raw.no_writer.name.id raw.source.id cx q.no_writer.entry
+HasReceipt raw cx q (WaitTurn p) = IsReceipt raw.turn.name.id raw.source.id cx q.turn.entry
+HasReceipt raw cx q (AwaitNoReaders upgrade) = IsReceipt raw.no_readers.name.id raw.source.id cx q.no_readers.entry
+HasReceipt raw cx q _ = ⊥
+
+-- the party has what it has at its place, and may be polled for this there
+abbrev pub WaitsFor : RawRwLock → Aim → Waiting → Type 0
+WaitsFor raw a w = Stands raw w.party w.place × CanPoll a w.place.at
+
+-- the party of a poll that ended so
+abbrev pub Polled : RawRwLock → Aim → Context → End → Waiting → Type 0
+Polled raw a cx end w = Stands raw w.party w.place × EndsAt a end w.place.at × IfPending end (HasReceipt raw cx w.party w.place.at)
+
+-- Who got its right has it by the seat, and nothing is left of the party. One that waits has its receipt. One that is refused stands as when
+-- its future was made.
+abbrev pub OnOutcome : RawRwLock → Aim → Context → Outcome → Option Waiting → Type 0
+OnOutcome raw a cx (outcome.Got seat) left = Has raw (right_of a) seat × (left ≡ None)
+OnOutcome raw a cx outcome.Waits left = IsSomeAnd left (λ w. HasReceipt raw cx w.party w.place.at)
+OnOutcome raw a cx (outcome.Refused refusal) left = Refuses a refusal × IsSomeAnd left (λ w. w.place.at ≡ first_of a)

@@ -17,7 +17,7 @@ use crate::party::RwLockParty;
 use crate::raw::RawRwLock;
 use async_driver::put;
 use futures::task::Context;
-use lock_program::Next;
+use lock_program::{End, Next};
 use lock_program::mutex::{Action, Found, LockCall, Place, Step, action_at, decide, start};
 use lock_program::rwlock;
 use std::sync::Wait;
@@ -302,13 +302,18 @@ impl RwLockParty {
         Found::Done
     }
 
-    // It waits, for the first time or still.
-    pub(crate) fn waits<R: Clock>(&mut self, rt: &R)
+    // A poll of it has ended so. It waits from the first poll on that is pending, until one isn't.
+    pub(crate) fn rests<R: Clock>(&mut self, rt: &R, end: End)
         ensures seat { self.new.seat ≡ self.old.seat }
         ensures lists { (self.new.turn ≡ self.old.turn) × (self.new.no_writer ≡ self.old.no_writer) × (self.new.no_readers ≡ self.old.no_readers) }
     {
-        if self.since.is_none() {
-            self.since = Instant::now(rt).ok();
+        match end {
+            End::Pending => {
+                if self.since.is_none() {
+                    self.since = Instant::now(rt).ok();
+                }
+            }
+            _ => self.since = None,
         }
     }
 }
