@@ -1,14 +1,14 @@
-//! What a guard lends to be written. It has a file of its own: its clauses name the rows of the guards, which the file that
-//! declares them cannot import.
+//! What a guard lends to be written. It has a file of its own: its clauses name the guard's row, which the file that
+//! declares it cannot import.
 
 ghost use Rattle.std.specs.Prelude.{◌≡◌};
 ghost use types.Logic.{sem};
 ghost use denote.Follow.{follows};
 ghost use Rattle.async_rwlock.specs.Lent.{held_with};
-ghost use Rattle.async_rwlock.specs.contracts.guards.WriteGuard.{the_row as guard_row};
+ghost use Rattle.async_rwlock.specs.contracts.write_guard.WriteGuard.{the_row as guard_row};
 
-use crate::guards::WriteGuard;
 use crate::owns::Owns;
+use crate::write_guard::WriteGuard;
 use std::ops::DerefMut;
 use std::sync::Wait;
 
