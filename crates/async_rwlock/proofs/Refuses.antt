@@ -1,5 +1,5 @@
 -- A poll that gave up is refused for a reason of its aim.
-use Rattle.std.proofs.Common.{◌≡◌, Bool, false, refl, sym, subst}
+use Rattle.std.proofs.Common.{◌≡◌, false, refl, sym, subst}
 use Rattle.lock_program.specs.declared.refusal.Refusal.{Refusal}
 use Rattle.lock_program.specs.declared.refusal.Refusal.TheVariants.{Memory, Finished}
 use Rattle.rwlock_driver.specs.Polls.{OnOutcome, Refuses}

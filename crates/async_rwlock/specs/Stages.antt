@@ -1,5 +1,5 @@
 -- How far a future is, what it has meanwhile, and what its polls answer.
-use Rattle.std.specs.Prelude.{◌≡◌, ℕ, Bool, true, false, ⊤, IfSome, IsSome, IsSomeAnd, Option, Some, None}
+use Rattle.std.specs.Prelude.{◌≡◌, ℕ, Bool, true, false, ⊤, IfSome, IsSome, IsSomeAnd, Option, None}
 use Rattle.async_driver.specs.declared.turn.Turn.{Turn}
 use Rattle.async_driver.specs.declared.turn.Turn.TheVariants.{Pending, Ready, Refused}
 use Rattle.futures.specs.declared.task.context.Context.{Context}
