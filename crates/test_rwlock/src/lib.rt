@@ -14,3 +14,7 @@ mod same;
 mod scene;
 #[cfg(test)]
 mod stories;
+#[cfg(test)]
+mod threads;
+#[cfg(test)]
+mod values;
