@@ -1,0 +1,3 @@
+pub mod Guards
+pub mod Lent
+pub mod Stages

@@ -1,0 +1,229 @@
+//! The calls of a read-write lock.
+
+ghost use Rattle.std.specs.Prelude.{◌≡◌, IfOk, IfSome, None};
+ghost use Rattle.async_rwlock.specs.Stages.{IsFor};
+ghost use Rattle.std.specs.Arc.{arc_value};
+
+use crate::lock_futures::{Read, ReadArc, UpgradableRead, UpgradableReadArc, Write, WriteArc};
+use crate::read::ReadFuture;
+use crate::read_guard::ReadGuard;
+use crate::rwlock::RwLock;
+use crate::stage::{Stage, first};
+use crate::upgradable_guard::UpgradableGuard;
+use crate::upgradable_read::UpgradableFuture;
+use crate::write::WriteFuture;
+use crate::write_guard::WriteGuard;
+use crate::{
+    RwLockReadGuard, RwLockReadGuardArc, RwLockUpgradableReadGuard, RwLockUpgradableReadGuardArc,
+    RwLockWriteGuard, RwLockWriteGuardArc,
+};
+use async_driver::Settled;
+use futures::executor::block_on;
+use lock_program::Refusal;
+use std::alloc::AllocGlobal;
+use std::fmt;
+use std::random::RandomSource;
+use std::sync::{Arc, Wait};
+use std::time::Clock;
+
+impl<T, R: Wait> RwLock<T, R> {
+    /// Attempts to acquire a right to read: it does if nobody writes or waits for readers to leave, and fewer read than may.
+    ///
+    /// By the contract a guard that it returns is of this lock. That a free lock is acquired is tested.
+    pub fn try_read(&self) -> Option<RwLockReadGuard<'_, T, R>>
+        ensures { IfSome result (λ guard. guard.lock ≡ self.now) }
+    {
+        let seat = self.raw.try_read(&self.rt)?;
+        Some(ReadGuard::new(self, seat))
+    }
+
+    /// Attempts to acquire the right to read that can become a right to write: it does if nobody has it or writes, nobody is starved
+    /// for it, and fewer read than may.
+    pub fn try_upgradable_read(&self) -> Option<RwLockUpgradableReadGuard<'_, T, R>>
+        ensures { IfSome result (λ guard. guard.lock ≡ self.now) }
+    {
+        let seat = self.raw.try_upgradable_read(&self.rt)?;
+        Some(UpgradableGuard::new(self, seat))
+    }
+
+    /// Attempts to acquire the right to write: it does if nobody reads or writes, and nobody is starved for it.
+    pub fn try_write(&self) -> Option<RwLockWriteGuard<'_, T, R>>
+        ensures { IfSome result (λ guard. guard.lock ≡ self.now) }
+    {
+        let seat = self.raw.try_write(&self.rt)?;
+        Some(WriteGuard::new(self, seat))
+    }
+
+    /// Returns a future of a right to read, which does nothing until it is polled.
+    pub fn read(&self) -> Read<'_, T, R>
+        ensures lock { IsFor (λ o. o.now) result.stage self.now }
+        ensures waiting { result.waiting ≡ None }
+    {
+        ReadFuture::new(Stage::Waits(self))
+    }
+
+    /// Returns a future of the right to read that can become a right to write, which does nothing until it is polled.
+    pub fn upgradable_read(&self) -> UpgradableRead<'_, T, R>
+        ensures lock { IsFor (λ o. o.now) result.stage self.now }
+        ensures waiting { result.waiting ≡ None }
+    {
+        UpgradableFuture::new(Stage::Waits(self))
+    }
+
+    /// Returns a future of the right to write, which does nothing until it is polled.
+    pub fn write(&self) -> Write<'_, T, R>
+        ensures lock { IsFor (λ o. o.now) result.stage self.now }
+        ensures waiting { result.waiting ≡ None }
+    {
+        WriteFuture::new(Stage::Waits(self))
+    }
+}
+
+impl<T: Drop, R: Wait + Clock + RandomSource + AllocGlobal> RwLock<T, R> {
+    /// Acquires a right to read, blocking the calling thread until it has it. Any error of `block_on` is
+    /// [`Refusal::Memory`]; the others are those of [`RwLock::read`]'s polls.
+    pub fn read_blocking(&self) -> Result<RwLockReadGuard<'_, T, R>, Refusal>
+        ensures { IfOk result (λ guard. guard.lock ≡ self.now) }
+    {
+        if let Some(guard) = self.try_read() {
+            return Ok(guard);
+        }
+        match block_on(&self.rt, Settled(self.read())) {
+            Ok(settled) => settled,
+            Err(_) => Err(Refusal::Memory),
+        }
+    }
+
+    /// Acquires the right to read that can become a right to write, blocking the calling thread until it has it. Any error of `block_on` is
+    /// [`Refusal::Memory`]; the others are those of [`RwLock::upgradable_read`]'s polls.
+    pub fn upgradable_read_blocking(&self) -> Result<RwLockUpgradableReadGuard<'_, T, R>, Refusal>
+        ensures { IfOk result (λ guard. guard.lock ≡ self.now) }
+    {
+        match block_on(&self.rt, Settled(self.upgradable_read())) {
+            Ok(settled) => settled,
+            Err(_) => Err(Refusal::Memory),
+        }
+    }
+
+    /// Acquires the right to write, blocking the calling thread until it has it. Any error of `block_on` is
+    /// [`Refusal::Memory`]; the others are those of [`RwLock::write`]'s polls.
+    pub fn write_blocking(&self) -> Result<RwLockWriteGuard<'_, T, R>, Refusal>
+        ensures { IfOk result (λ guard. guard.lock ≡ self.now) }
+    {
+        match block_on(&self.rt, Settled(self.write())) {
+            Ok(settled) => settled,
+            Err(_) => Err(Refusal::Memory),
+        }
+    }
+}
+
+impl<T: Drop, R: Wait + Drop> RwLock<T, R> {
+    /// As [`RwLock::try_read`], for a guard that has a share of the lock. It is `None` too if that share can't be had.
+    pub fn try_read_arc(this: &Arc<RwLock<T, R>>) -> Option<RwLockReadGuardArc<T, R>>
+        ensures { IfSome result (λ guard. guard.lock ≡ arc_value this.now) }
+    {
+        let owner = Arc::try_clone(this).ok()?;
+        let seat = owner.raw.try_read(&owner.rt)?;
+        Some(ReadGuard::new(owner, seat))
+    }
+
+    /// As [`RwLock::try_upgradable_read`], for a guard that has a share of the lock. It is `None` too if that share can't be had.
+    pub fn try_upgradable_read_arc(this: &Arc<RwLock<T, R>>) -> Option<RwLockUpgradableReadGuardArc<T, R>>
+        ensures { IfSome result (λ guard. guard.lock ≡ arc_value this.now) }
+    {
+        let owner = Arc::try_clone(this).ok()?;
+        let seat = owner.raw.try_upgradable_read(&owner.rt)?;
+        Some(UpgradableGuard::new(owner, seat))
+    }
+
+    /// As [`RwLock::try_write`], for a guard that has a share of the lock. It is `None` too if that share can't be had.
+    pub fn try_write_arc(this: &Arc<RwLock<T, R>>) -> Option<RwLockWriteGuardArc<T, R>>
+        ensures { IfSome result (λ guard. guard.lock ≡ arc_value this.now) }
+    {
+        let owner = Arc::try_clone(this).ok()?;
+        let seat = owner.raw.try_write(&owner.rt)?;
+        Some(WriteGuard::new(owner, seat))
+    }
+
+    /// As [`RwLock::read`], for a future that has a share of the lock and gives it to its guard. If that share can't be
+    /// had, its polls are refused as [`Refusal::Memory`].
+    pub fn read_arc(this: &Arc<RwLock<T, R>>) -> ReadArc<T, R>
+        ensures lock { IsFor arc_value result.stage (arc_value this.now) }
+        ensures waiting { result.waiting ≡ None }
+    {
+        ReadFuture::new(first::<T, R, Arc<RwLock<T, R>>>(Arc::try_clone(this).ok()))
+    }
+
+    /// As [`RwLock::upgradable_read`], for a future that has a share of the lock and gives it to its guard. If that share can't be
+    /// had, its polls are refused as [`Refusal::Memory`].
+    pub fn upgradable_read_arc(this: &Arc<RwLock<T, R>>) -> UpgradableReadArc<T, R>
+        ensures lock { IsFor arc_value result.stage (arc_value this.now) }
+        ensures waiting { result.waiting ≡ None }
+    {
+        UpgradableFuture::new(first::<T, R, Arc<RwLock<T, R>>>(Arc::try_clone(this).ok()))
+    }
+
+    /// As [`RwLock::write`], for a future that has a share of the lock and gives it to its guard. If that share can't be
+    /// had, its polls are refused as [`Refusal::Memory`].
+    pub fn write_arc(this: &Arc<RwLock<T, R>>) -> WriteArc<T, R>
+        ensures lock { IsFor arc_value result.stage (arc_value this.now) }
+        ensures waiting { result.waiting ≡ None }
+    {
+        WriteFuture::new(first::<T, R, Arc<RwLock<T, R>>>(Arc::try_clone(this).ok()))
+    }
+}
+
+impl<T: Drop, R: Wait + Clock + RandomSource + AllocGlobal + Drop> RwLock<T, R> {
+    /// As [`RwLock::read_blocking`], for a guard that has a share of the lock.
+    pub fn read_arc_blocking(this: &Arc<RwLock<T, R>>) -> Result<RwLockReadGuardArc<T, R>, Refusal>
+        ensures { IfOk result (λ guard. guard.lock ≡ arc_value this.now) }
+    {
+        match block_on(&this.rt, Settled(RwLock::read_arc(this))) {
+            Ok(settled) => settled,
+            Err(_) => Err(Refusal::Memory),
+        }
+    }
+
+    /// As [`RwLock::upgradable_read_blocking`], for a guard that has a share of the lock.
+    pub fn upgradable_read_arc_blocking(this: &Arc<RwLock<T, R>>) -> Result<RwLockUpgradableReadGuardArc<T, R>, Refusal>
+        ensures { IfOk result (λ guard. guard.lock ≡ arc_value this.now) }
+    {
+        match block_on(&this.rt, Settled(RwLock::upgradable_read_arc(this))) {
+            Ok(settled) => settled,
+            Err(_) => Err(Refusal::Memory),
+        }
+    }
+
+    /// As [`RwLock::write_blocking`], for a guard that has a share of the lock.
+    pub fn write_arc_blocking(this: &Arc<RwLock<T, R>>) -> Result<RwLockWriteGuardArc<T, R>, Refusal>
+        ensures { IfOk result (λ guard. guard.lock ≡ arc_value this.now) }
+    {
+        match block_on(&this.rt, Settled(RwLock::write_arc(this))) {
+            Ok(settled) => settled,
+            Err(_) => Err(Refusal::Memory),
+        }
+    }
+}
+
+impl<T: fmt::Debug, R: Wait> fmt::Debug for RwLock<T, R> {
+    fn fmt<W: fmt::Write>(&self, f: &mut fmt::Formatter<W>) -> fmt::Result {
+        match self.try_read() {
+            Some(guard) => debug_as(f, &*guard),
+            None => debug_as(f, &Locked),
+        }
+    }
+}
+
+// A lock with what stands for its value.
+fn debug_as<D: fmt::Debug, W: fmt::Write>(f: &mut fmt::Formatter<W>, value: &D) -> fmt::Result {
+    f.debug_struct("RwLock").field("value", value).finish()
+}
+
+// What stands for the value of a lock that can't be read at once.
+struct Locked;
+
+impl fmt::Debug for Locked {
+    fn fmt<W: fmt::Write>(&self, f: &mut fmt::Formatter<W>) -> fmt::Result {
+        f.write_str("<locked>")
+    }
+}

@@ -1,0 +1,87 @@
+//! A read-write lock for tasks: a task that finds it taken waits as a pending future, and blocks no thread.
+//!
+//! Many tasks read the value of a [`RwLock`] at a time, or one writes it. One reader at a time may be upgradable: it can become
+//! the writer without letting another in between. The lock is made with a runtime, which it keeps, and its guards and
+//! futures reach the runtime through it. A future is polled for a [`Turn`]; [`Settled`] makes it a `Future` of the
+//! kit's `futures`, and the blocking forms wait in the calling thread.
+//!
+//! Each guard and future is one type for both kinds of user: one that borrows the lock, and one that has a share of it
+//! ([`Owns`]). The names of the Rust crate stand for the two.
+#![tactic(auto)]
+
+mod calls;
+mod lending;
+mod lends;
+mod owns;
+mod read;
+mod read_guard;
+mod rwlock;
+mod stage;
+mod upgradable_guard;
+mod upgradable_read;
+mod upgrade;
+mod write;
+mod write_guard;
+
+use std::sync::Arc;
+
+/// The futures of the lock.
+pub mod lock_futures {
+    use crate::rwlock::RwLock;
+    use std::sync::Arc;
+
+    pub use crate::read::ReadFuture;
+    pub use crate::upgradable_read::UpgradableFuture;
+    pub use crate::upgrade::UpgradeFuture;
+    pub use crate::write::WriteFuture;
+
+    /// The future of [`RwLock::read`].
+    pub type Read<'a, T, R> = ReadFuture<T, R, &'a RwLock<T, R>>;
+
+    /// The future of [`RwLock::read_arc`].
+    pub type ReadArc<T, R> = ReadFuture<T, R, Arc<RwLock<T, R>>>;
+
+    /// The future of [`RwLock::upgradable_read`].
+    pub type UpgradableRead<'a, T, R> = UpgradableFuture<T, R, &'a RwLock<T, R>>;
+
+    /// The future of [`RwLock::upgradable_read_arc`].
+    pub type UpgradableReadArc<T, R> = UpgradableFuture<T, R, Arc<RwLock<T, R>>>;
+
+    /// The future of [`RwLock::write`].
+    pub type Write<'a, T, R> = WriteFuture<T, R, &'a RwLock<T, R>>;
+
+    /// The future of [`RwLock::write_arc`].
+    pub type WriteArc<T, R> = WriteFuture<T, R, Arc<RwLock<T, R>>>;
+
+    /// The future of an upgrade.
+    pub type Upgrade<'a, T, R> = UpgradeFuture<T, R, &'a RwLock<T, R>>;
+
+    /// The future of an upgrade of a guard that has a share of its lock.
+    pub type UpgradeArc<T, R> = UpgradeFuture<T, R, Arc<RwLock<T, R>>>;
+}
+
+/// A right to read.
+pub type RwLockReadGuard<'a, T, R> = ReadGuard<T, R, &'a RwLock<T, R>>;
+
+/// A right to read, with a share of the lock.
+pub type RwLockReadGuardArc<T, R> = ReadGuard<T, R, Arc<RwLock<T, R>>>;
+
+/// The right to read that can become a right to write.
+pub type RwLockUpgradableReadGuard<'a, T, R> = UpgradableGuard<T, R, &'a RwLock<T, R>>;
+
+/// The right to read that can become a right to write, with a share of the lock.
+pub type RwLockUpgradableReadGuardArc<T, R> = UpgradableGuard<T, R, Arc<RwLock<T, R>>>;
+
+/// The right to write.
+pub type RwLockWriteGuard<'a, T, R> = WriteGuard<T, R, &'a RwLock<T, R>>;
+
+/// The right to write, with a share of the lock.
+pub type RwLockWriteGuardArc<T, R> = WriteGuard<T, R, Arc<RwLock<T, R>>>;
+
+pub use async_driver::{Polled, Settled, Turn};
+pub use lock_program::Refusal;
+pub use owns::Owns;
+pub use read_guard::ReadGuard;
+pub use rwlock::RwLock;
+pub use upgradable_guard::UpgradableGuard;
+pub use write_guard::WriteGuard;

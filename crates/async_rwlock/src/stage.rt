@@ -1,0 +1,134 @@
+//! How far a future is, one poll of it, and what a dropped one gives back. All futures of a lock are written over this, each
+//! with its aim.
+
+ghost use Rattle.std.specs.Prelude.{◌≡◌, false, IfSome, IsSome, None};
+ghost use Rattle.futures.specs.Task.{Covers, Keeps};
+ghost use Rattle.async_rwlock.specs.Stages.{Goes, GotAt, HasReceiptAt, IsAsMade, IsBegun, IsFor, OnGaveUp, OnPolled, OnWaits, WaitsAs, WaitsAt, is_finished};
+ghost use Rattle.async_rwlock.specs.declared.rwlock.RwLock.{RwLock};
+ghost use Rattle.rwlock_driver.specs.Polls.{WaitsFor};
+ghost use Rattle.rwlock_driver.specs.declared.aim.Aim.TheVariants as aims;
+
+use crate::owns::Owns;
+use async_driver::nothing;
+use futures::task::Context;
+use lock_program::Refusal;
+use rwlock_driver::{Aim, Outcome, Waiting};
+use std::mem;
+use std::sync::Wait;
+use std::time::Clock;
+use words_rwlock::Seat;
+
+/// How far a future is.
+#[derive(Drop)]
+pub enum Stage<O> {
+    /// No share of the lock could be had.
+    Unowned,
+    /// It hasn't been ready, and has the lock.
+    Waits(O),
+    /// It was ready, and who has the lock went to the guard.
+    Finished,
+}
+
+/// How a poll went.
+pub enum Went<O> {
+    /// The right, by this seat of the lock that is had so.
+    Got(O, Seat),
+    /// It waits.
+    Waits,
+    /// It gave up.
+    Refused(Refusal),
+}
+
+/// How far a future is that is new: it waits, if the lock could be had.
+pub(crate) fn first<T, R, O: Owns<T, R>>(share: Option<O>) -> Stage<O>
+    ensures new { is_finished result ≡ false }
+    ensures lock { (lock : RwLock T R) → IfSome share (λ owner. lock ≡ O.lock_of owner) → IsFor O.lock_of result lock }
+{
+    match share {
+        Some(owner) => Stage::Waits(owner),
+        None => Stage::Unowned,
+    }
+}
+
+// One poll by who has the lock.
+fn poll_stage<T, R: Wait + Clock, O: Owns<T, R>>(
+    aim: Aim,
+    stage: &Stage<O>,
+    waiting: &mut Option<Waiting>,
+    cx: &mut Context<'_>,
+) -> Outcome
+    requires waits { IfSome waiting.old (WaitsAs O.lock_of aim stage.now) }
+    requires begun { IsBegun aim stage.now waiting.old }
+    requires open { is_finished stage.now ≡ false }
+    ensures waits { IfSome waiting.new (WaitsAs O.lock_of aim stage.now) }
+    ensures open { is_finished stage.now ≡ false }
+    ensures polled { OnPolled O.lock_of aim cx.new stage.now result waiting.new }
+    ensures kept { Keeps cx.old cx.new }
+{
+    match stage {
+        Stage::Waits(owner) => {
+            let lock = owner.lock();
+            lock.raw.poll_waiting(&lock.rt, cx, aim, waiting)
+        }
+        Stage::Unowned => Outcome::Refused(Refusal::Memory),
+        Stage::Finished => unreachable!(),
+    }
+}
+
+/// One poll of a future of this aim.
+pub(crate) fn poll_as<T, R: Wait + Clock, O: Owns<T, R>>(
+    aim: Aim,
+    stage: &mut Stage<O>,
+    waiting: &mut Option<Waiting>,
+    cx: &mut Context<'_>,
+) -> Went<O>
+    requires waits { IfSome waiting.old (WaitsAs O.lock_of aim stage.old) }
+    requires begun { IsBegun aim stage.old waiting.old }
+    ensures waits { IfSome waiting.new (WaitsAs O.lock_of aim stage.new) }
+    ensures begun { IsBegun aim stage.new waiting.new }
+    ensures went { Goes O.lock_of aim stage.old result stage.new }
+    ensures share { is_finished stage.new ≡ false → stage.new ≡ stage.old }
+    ensures receipt { OnWaits result (HasReceiptAt O.lock_of stage.old cx.new waiting.new) }
+    ensures refused { OnGaveUp result (IsAsMade aim waiting.new) }
+    ensures kept { Keeps cx.old cx.new }
+{
+    if let Stage::Finished = stage {
+        return Went::Refused(Refusal::Finished);
+    }
+    match poll_stage::<T, R, O>(aim, stage, waiting, cx) {
+        Outcome::Got(seat) => match mem::replace(stage, Stage::Finished) {
+            Stage::Waits(owner) => Went::Got(owner, seat),
+            Stage::Unowned | Stage::Finished => unreachable!(),
+        },
+        Outcome::Waits => Went::Waits,
+        Outcome::Refused(refusal) => Went::Refused(refusal),
+    }
+}
+
+/// What a dropped future gives back.
+#[inline]
+pub(crate) fn drop_as<T, R: Wait, O: Owns<T, R>>(
+    aim: Aim,
+    stage: Stage<O>,
+    waiting: Option<Waiting>,
+)
+    requires { IfSome waiting (WaitsAs O.lock_of aim stage) }
+{
+    match stage {
+        Stage::Waits(owner) => leave::<T, R, O>(aim, owner, waiting),
+        Stage::Unowned | Stage::Finished => nothing(waiting),
+    }
+}
+
+// What a dropped future gives back that hasn't been ready, its share of the lock last. It stands apart, so that the drop of
+// one that was ready is short.
+#[inline(never)]
+fn leave<T, R: Wait, O: Owns<T, R>>(aim: Aim, owner: O, waiting: Option<Waiting>)
+    requires { IfSome waiting (WaitsFor (O.lock_of owner).raw aim) }
+{
+    if let Some(waiting) = waiting {
+        let lock = owner.lock();
+        lock.raw.cancel(&lock.rt, aim, waiting);
+    }
+    drop(owner);
+}

@@ -1,0 +1,3 @@
+pub mod Polls
+pub mod Rests
+pub mod Stays

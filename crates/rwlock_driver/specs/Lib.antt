@@ -1,0 +1,5 @@
+pub mod AtLists
+pub mod Parties
+pub mod Polls
+pub mod Rights
+pub mod Sound

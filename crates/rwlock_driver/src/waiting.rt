@@ -1,0 +1,246 @@
+//! Polls of a future of a read-write lock, and what a dropped one gives back.
+
+ghost use Rattle.std.specs.Prelude.{◌≡◌, true, false, IfSome, IsSome, IsSomeAnd, None, Some, ◌≢◌};
+ghost use Rattle.futures.specs.Task.{Keeps};
+ghost use Rattle.lock_driver.specs.Parties.{having, having_at, CanPoll as CanPollTurn};
+ghost use Rattle.lock_program.specs.Mutex as turn_table;
+ghost use Rattle.lock_program.specs.ReadWrite.{start_of, action_of, next_of};
+ghost use Rattle.lock_program.specs.declared.end.End.TheVariants as ends;
+ghost use Rattle.lock_program.specs.declared.end.Next.TheVariants as next;
+ghost use Rattle.lock_program.specs.declared.rwlock.Action.TheVariants as does;
+ghost use Rattle.lock_program.specs.declared.rwlock.Ending.TheVariants as over;
+ghost use Rattle.lock_program.specs.declared.rwlock.Found.TheVariants as finds;
+ghost use Rattle.lock_program.specs.declared.rwlock.Place.TheVariants as at;
+ghost use Rattle.lock_program.specs.declared.rwlock.RwLockCall.TheVariants as calls;
+ghost use Rattle.rwlock_driver.specs.Parties.{IfPending, IsOf, Stands, none, share_of, turned};
+ghost use Rattle.rwlock_driver.specs.Polls.{CanPoll, EndsAt, HasReceipt, OnOutcome, Polled, WaitsFor, got_at, right_of};
+ghost use Rattle.rwlock_driver.specs.Rights.{Has, awaits};
+ghost use Rattle.rwlock_driver.specs.declared.aim.Aim.TheVariants as aims;
+
+use crate::aim::{Aim, Call};
+use crate::finding::Standing;
+use crate::party::RwLockParty;
+use crate::raw::RawRwLock;
+use async_driver::{Carries, put};
+use futures::task::Context;
+use lock_program::mutex::Place as TurnPlace;
+use lock_program::rwlock::{Place, Wanted};
+use lock_program::{End, Refusal};
+use std::sync::Wait;
+use std::time::Clock;
+use words_rwlock::Seat;
+
+/// A party between two polls. It has no `Drop`: a poll goes on with it, or a cancel ends it.
+pub struct Waiting {
+    /// What it has.
+    pub party: RwLockParty,
+    /// Where it stands.
+    pub place: Standing,
+}
+
+/// How a poll went.
+pub enum Outcome {
+    /// The right that the future is for, by this seat.
+    Got(Seat),
+    /// It waits.
+    Waits,
+    /// It gave up, and is as when it was made.
+    Refused(Refusal),
+}
+
+impl RawRwLock {
+    /// A party that waits to be polled for the first time, for another aim than an upgrade.
+    pub fn first(&self, aim: Aim) -> Waiting
+        requires { aim ≢ aims.Upgrade }
+        ensures { WaitsFor self.now aim result }
+    {
+        let wanted = match aim {
+            Aim::Read => Wanted::Read,
+            Aim::UpgradableRead => Wanted::UpgradableRead,
+            Aim::Write => Wanted::Write,
+            Aim::Upgrade => unreachable!(),
+        };
+        Waiting {
+            party: self.party(self.words.sit()),
+            place: Standing {
+                at: Place::Made { wanted },
+                turn: TurnPlace::Out,
+            },
+        }
+    }
+
+    /// A party that waits to be polled for an upgrade, whose seat has begun it.
+    pub fn upgrading(&self, seat: Seat) -> Waiting
+        requires { Has self.now awaits seat }
+        ensures { WaitsFor self.now aims.Upgrade result }
+    {
+        Waiting {
+            party: self.party(seat),
+            place: Standing {
+                at: Place::LookUnlisted { upgrade: true },
+                turn: TurnPlace::Holding,
+            },
+        }
+    }
+
+    /// Polls a party that stands at `place`, until the poll ends: how it ends, and where the party
+    /// stands then (`ended`), with what it has there (`stands`).
+    ///
+    /// Pending, the party has an entry in the list of what it wants next, which keeps a waker of the task that polls, and the
+    /// task has registered with the lock's source (`pending`).
+    pub fn poll<R: Wait + Clock>(
+        &self,
+        rt: &R,
+        cx: &mut Context<'_>,
+        aim: Aim,
+        party: &mut RwLockParty,
+        place: Standing,
+    ) -> (End, Standing)
+        requires stands { Stands self.now party.old place }
+        requires begins { CanPoll aim place.at }
+        ensures stands { Stands self.now party.new result.1 }
+        ensures ended { EndsAt aim result.0 result.1.at }
+        ensures pending { IfPending result.0 (HasReceipt self.now cx.new party.new result.1.at) }
+        ensures kept { Keeps cx.old cx.new }
+    {
+        let (end, place) = party.call(self, rt, cx, Call::Poll(aim), place);
+        party.rests(rt, end);
+        (end, place)
+    }
+
+    /// Polls in place: there is no party before the first poll and after the last. By the contract the party has what its place
+    /// says whenever there is one.
+    pub fn poll_waiting<R: Wait + Clock>(
+        &self,
+        rt: &R,
+        cx: &mut Context<'_>,
+        aim: Aim,
+        waiting: &mut Option<Waiting>,
+    ) -> Outcome
+        requires waits { IfSome waiting.old (WaitsFor self.now aim) }
+        requires begun { aim ≡ aims.Upgrade → IsSome waiting.old }
+        ensures waits { IfSome waiting.new (WaitsFor self.now aim) }
+        ensures outcome { OnOutcome self.now aim cx.new result waiting.new }
+        ensures kept { Keeps cx.old cx.new }
+    {
+        match self.poll_in_place(rt, cx, aim, waiting) {
+            End::Pending => Outcome::Waits,
+            End::Got => Outcome::Got(self.seat_of(aim, taken(waiting))),
+            End::Refused(refusal) => Outcome::Refused(refusal),
+            End::Granted | End::Waiting | End::NotFree | End::GivenBack => unreachable!(),
+        }
+    }
+
+    // One poll, from the place where the party stands: how it ends.
+    fn poll_in_place<R: Wait + Clock>(
+        &self,
+        rt: &R,
+        cx: &mut Context<'_>,
+        aim: Aim,
+        waiting: &mut Option<Waiting>,
+    ) -> End
+        requires waits { IfSome waiting.old (WaitsFor self.now aim) }
+        requires begun { aim ≡ aims.Upgrade → IsSome waiting.old }
+        ensures polled { IsSomeAnd waiting.new (Polled self.now aim cx.new result) }
+        ensures kept { Keeps cx.old cx.new }
+    {
+        if waiting.is_none() {
+            put(waiting, self.first(aim));
+        }
+        match waiting {
+            Some(inside) => {
+                let (end, place) = self.poll(rt, cx, aim, &mut inside.party, inside.place);
+                inside.place = place;
+                end
+            }
+            None => unreachable!(),
+        }
+    }
+
+    // The seat of a party that got what its future is for. Nothing is left of the party.
+    fn seat_of(&self, aim: Aim, waiting: Waiting) -> Seat
+        requires stands { Stands self.now waiting.party waiting.place }
+        requires got { waiting.place.at ≡ got_at aim }
+        ensures { Has self.now (right_of aim) result }
+    {
+        let _ = aim;
+        let Waiting { party, place: _ } = waiting;
+        party.into_seat()
+    }
+
+    /// Gives back what a party has that waits between two polls: its entry, a notification that it was given, its count as
+    /// starved, and, once it has set it, the writer's bit and the turn. Its program has no branch, and so its actions stand
+    /// here in their order; that they are the table's is proved (`cancel_rows`).
+    pub fn cancel<R: Wait>(&self, rt: &R, aim: Aim, waiting: Waiting)
+        requires { WaitsFor self.now aim waiting }
+    {
+        cancel_rows();
+        let _ = aim;
+        let Waiting { mut party, place } = waiting;
+        match place.at {
+            Place::AskNoWriter => {
+                party.no_writer.leave(rt, &self.no_writer);
+                self.end(party);
+            }
+            Place::WaitTurn { .. } => self.cancel_turn(rt, party, place.turn),
+            Place::AwaitNoReaders { .. } => {
+                party.no_readers.leave(rt, &self.no_readers);
+                self.unlock(rt, party.into_seat());
+            }
+            Place::LookUnlisted { .. } => self.unlock(rt, party.into_seat()),
+            _ => self.end(party),
+        }
+    }
+
+    // Gives back what a party has that waits for the turn.
+    fn cancel_turn<R: Wait>(&self, rt: &R, party: RwLockParty, place: TurnPlace)
+        requires of { IsOf self.now party }
+        requires waits { (turned party ≡ having_at place) × CanPollTurn place }
+        requires nothing { share_of party ≡ none }
+    {
+        let mut party = party;
+        match place {
+            TurnPlace::Ask => {
+                party.turn.leave(rt, &self.turn);
+                self.end(party);
+            }
+            TurnPlace::AskStarved => {
+                self.words.uncount(&mut party.seat);
+                party.turn.leave(rt, &self.turn);
+                self.end(party);
+            }
+            _ => self.end(party),
+        }
+    }
+
+    // Ends a party that has nothing.
+    fn end(&self, party: RwLockParty)
+        requires of { IsOf self.now party }
+        requires turn { turned party ≡ having false false false false }
+        requires nothing { share_of party ≡ none }
+    {
+        self.words.rise(party.into_seat());
+    }
+}
+
+// The party of a call that is over.
+fn taken(waiting: &mut Option<Waiting>) -> Waiting
+    requires { IsSome waiting.old }
+    ensures party { IfSome waiting.old (λ w. result ≡ w) }
+    ensures none { waiting.new ≡ None }
+{
+    match waiting.take() {
+        Some(waiting) => waiting,
+        None => unreachable!(),
+    }
+}
+
+// The rows of the program's table that `RawRwLock::cancel` carries out straight.
+#[inline]
+fn cancel_rows()
+    ensures reads { (start_of calls.Drop at.AskNoWriter ≡ Some at.CancelRead) × (action_of at.CancelRead ≡ does.LeaveNoWriter) × (next_of at.CancelRead finds.Done ≡ next.End ends.GivenBack at.Out) }
+    ensures awaits { (start_of calls.Drop (at.AwaitNoReaders true) ≡ Some at.CancelAwait) × (start_of calls.Drop (at.AwaitNoReaders false) ≡ Some at.CancelAwait) × (action_of at.CancelAwait ≡ does.LeaveNoReaders) × (next_of at.CancelAwait finds.Done ≡ next.Do (at.Unmark false)) }
+    ensures looks { start_of calls.Drop (at.LookUnlisted true) ≡ Some (at.Unmark false) }
+    ensures unmarks { (action_of (at.Unmark false) ≡ does.Unmark) × (next_of (at.Unmark false) finds.Done ≡ next.Do (at.UnmarkNotify false)) }
+    ensures notifies { (action_of (at.UnmarkNotify false) ≡ does.NotifyNoWriter) × (next_of (at.UnmarkNotify false) finds.Done ≡ next.Do (at.ReleaseTurn over.GivenBack)) }
+{}

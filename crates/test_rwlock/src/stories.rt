@@ -1,0 +1,902 @@
+//! The stories, each told from what the lock's rules say.
+
+use crate::party::{Answer, Deed};
+use crate::scene::{NOBODY, Name, Row, of_both, of_limited};
+use async_rwlock::Refusal;
+
+const WRITER_STEPS_DOWN: [Row; 6] = [
+    (Name::One, Deed::Write, Answer::Ready(1), NOBODY),
+    (Name::Two, Deed::Read, Answer::Pending, NOBODY),
+    (
+        Name::One,
+        Deed::ToUpgradable,
+        Answer::GivenBack,
+        (false, true, false, false),
+    ),
+    (Name::Two, Deed::Poll, Answer::Ready(1), NOBODY),
+    (Name::One, Deed::Drop, Answer::GivenBack, NOBODY),
+    (Name::Two, Deed::Drop, Answer::GivenBack, NOBODY),
+];
+
+#[test]
+fn a_writer_steps_down_to_an_upgradable_reader(rt: HostRuntime) {
+    of_both(rt, 1, &WRITER_STEPS_DOWN);
+}
+
+const UPGRADABLE_BESIDE_READERS: [Row; 6] = [
+    (Name::One, Deed::Read, Answer::Ready(0), NOBODY),
+    (Name::Two, Deed::Write, Answer::Pending, NOBODY),
+    (Name::Three, Deed::TryRead, Answer::Nothing, NOBODY),
+    (
+        Name::Two,
+        Deed::Drop,
+        Answer::GivenBack,
+        (false, true, false, false),
+    ),
+    (
+        Name::Three,
+        Deed::TryRead,
+        Answer::Granted(0),
+        (false, true, false, false),
+    ),
+    (
+        Name::Four,
+        Deed::TryUpgradableRead,
+        Answer::Granted(0),
+        (false, true, false, false),
+    ),
+];
+
+#[test]
+fn a_cancelled_write_lets_readers_in(rt: HostRuntime) {
+    of_both(rt, 0, &UPGRADABLE_BESIDE_READERS);
+}
+
+const CANCELLED_UPGRADE: [Row; 5] = [
+    (Name::One, Deed::UpgradableRead, Answer::Ready(0), NOBODY),
+    (Name::One, Deed::Upgrade, Answer::Waiting, NOBODY),
+    (Name::Two, Deed::TryRead, Answer::Nothing, NOBODY),
+    (Name::One, Deed::Drop, Answer::GivenBack, NOBODY),
+    (Name::Two, Deed::TryWrite, Answer::Granted(0), NOBODY),
+];
+
+#[test]
+fn a_dropped_upgrade_gives_up_bit_and_turn(rt: HostRuntime) {
+    of_both(rt, 0, &CANCELLED_UPGRADE);
+}
+
+const TRY_UPGRADE: [Row; 6] = [
+    (Name::One, Deed::UpgradableRead, Answer::Ready(1), NOBODY),
+    (Name::Two, Deed::Read, Answer::Ready(1), NOBODY),
+    (Name::One, Deed::TryUpgrade, Answer::Nothing, NOBODY),
+    (Name::Two, Deed::Drop, Answer::GivenBack, NOBODY),
+    (Name::One, Deed::TryUpgrade, Answer::Granted(1), NOBODY),
+    (Name::Two, Deed::TryRead, Answer::Nothing, NOBODY),
+];
+
+#[test]
+fn an_upgrade_is_tried_until_the_reader_is_gone(rt: HostRuntime) {
+    of_both(rt, 1, &TRY_UPGRADE);
+}
+
+const DOWNGRADE: [Row; 6] = [
+    (Name::One, Deed::Write, Answer::Ready(1), NOBODY),
+    (Name::One, Deed::Put(2), Answer::Granted(2), NOBODY),
+    (Name::Two, Deed::TryRead, Answer::Nothing, NOBODY),
+    (Name::One, Deed::Downgrade, Answer::GivenBack, NOBODY),
+    (Name::Two, Deed::TryRead, Answer::Granted(2), NOBODY),
+    (
+        Name::Three,
+        Deed::TryUpgradableRead,
+        Answer::Granted(2),
+        NOBODY,
+    ),
+];
+
+#[test]
+fn a_writer_steps_down_to_a_reader(rt: HostRuntime) {
+    of_both(rt, 1, &DOWNGRADE);
+}
+
+const UPGRADABLE_DOWNGRADE: [Row; 6] = [
+    (Name::One, Deed::UpgradableRead, Answer::Ready(1), NOBODY),
+    (Name::Two, Deed::UpgradableRead, Answer::Pending, NOBODY),
+    (
+        Name::Three,
+        Deed::TryUpgradableRead,
+        Answer::Nothing,
+        NOBODY,
+    ),
+    (
+        Name::One,
+        Deed::Downgrade,
+        Answer::GivenBack,
+        (false, true, false, false),
+    ),
+    (Name::Two, Deed::Poll, Answer::Ready(1), NOBODY),
+    (Name::Three, Deed::TryRead, Answer::Granted(1), NOBODY),
+];
+
+#[test]
+fn an_upgradable_reader_steps_down(rt: HostRuntime) {
+    of_both(rt, 1, &UPGRADABLE_DOWNGRADE);
+}
+
+const READERS_ONE_AFTER_THE_OTHER: [Row; 6] = [
+    (Name::One, Deed::Write, Answer::Ready(5), NOBODY),
+    (Name::Two, Deed::Read, Answer::Pending, NOBODY),
+    (Name::Three, Deed::Read, Answer::Pending, NOBODY),
+    (
+        Name::One,
+        Deed::Drop,
+        Answer::GivenBack,
+        (false, true, false, false),
+    ),
+    // Who reads has told the next.
+    (
+        Name::Two,
+        Deed::Poll,
+        Answer::Ready(5),
+        (false, false, true, false),
+    ),
+    (Name::Three, Deed::Poll, Answer::Ready(5), NOBODY),
+];
+
+#[test]
+fn waiting_readers_tell_one_another(rt: HostRuntime) {
+    of_both(rt, 5, &READERS_ONE_AFTER_THE_OTHER);
+}
+
+const WRITER_WAITS_FOR_READERS: [Row; 5] = [
+    (Name::One, Deed::Read, Answer::Ready(0), NOBODY),
+    (Name::Two, Deed::Write, Answer::Pending, NOBODY),
+    (
+        Name::One,
+        Deed::Drop,
+        Answer::GivenBack,
+        (false, true, false, false),
+    ),
+    (
+        Name::Three,
+        Deed::TryRead,
+        Answer::Nothing,
+        (false, true, false, false),
+    ),
+    (Name::Two, Deed::Poll, Answer::Ready(0), NOBODY),
+];
+
+#[test]
+fn a_writer_waits_for_the_last_reader(rt: HostRuntime) {
+    of_both(rt, 0, &WRITER_WAITS_FOR_READERS);
+}
+
+const WRITE_BEFORE_READ: [Row; 8] = [
+    (Name::One, Deed::Write, Answer::Ready(0), NOBODY),
+    (Name::Two, Deed::Read, Answer::Pending, NOBODY),
+    (Name::Three, Deed::Write, Answer::Pending, NOBODY),
+    (
+        Name::One,
+        Deed::Drop,
+        Answer::GivenBack,
+        (false, true, true, false),
+    ),
+    (
+        Name::Three,
+        Deed::Poll,
+        Answer::Ready(0),
+        (false, true, false, false),
+    ),
+    (Name::Two, Deed::Poll, Answer::Pending, NOBODY),
+    (
+        Name::Three,
+        Deed::Drop,
+        Answer::GivenBack,
+        (false, true, false, false),
+    ),
+    (Name::Two, Deed::Poll, Answer::Ready(0), NOBODY),
+];
+
+#[test]
+fn a_released_writer_tells_readers_and_the_next_writer(rt: HostRuntime) {
+    of_both(rt, 0, &WRITE_BEFORE_READ);
+}
+
+const UPGRADE_BEFORE_WRITE: [Row; 9] = [
+    (Name::One, Deed::UpgradableRead, Answer::Ready(0), NOBODY),
+    (Name::Two, Deed::Write, Answer::Pending, NOBODY),
+    (Name::One, Deed::Upgrade, Answer::Waiting, NOBODY),
+    (Name::One, Deed::Poll, Answer::Ready(0), NOBODY),
+    (Name::One, Deed::Put(2), Answer::Granted(2), NOBODY),
+    (
+        Name::One,
+        Deed::Drop,
+        Answer::GivenBack,
+        (false, true, false, false),
+    ),
+    (Name::Two, Deed::Poll, Answer::Ready(2), NOBODY),
+    (Name::Two, Deed::Drop, Answer::GivenBack, NOBODY),
+    (Name::Three, Deed::BlockToWrite, Answer::Granted(2), NOBODY),
+];
+
+#[test]
+fn an_upgrade_goes_before_a_write_that_waits(rt: HostRuntime) {
+    of_both(rt, 0, &UPGRADE_BEFORE_WRITE);
+}
+
+const UPGRADE_WAITS: [Row; 10] = [
+    (Name::One, Deed::UpgradableRead, Answer::Ready(0), NOBODY),
+    (Name::Two, Deed::Read, Answer::Ready(0), NOBODY),
+    (Name::One, Deed::Upgrade, Answer::Waiting, NOBODY),
+    (Name::One, Deed::Poll, Answer::Pending, NOBODY),
+    (Name::Three, Deed::TryRead, Answer::Nothing, NOBODY),
+    (
+        Name::Two,
+        Deed::Drop,
+        Answer::GivenBack,
+        (true, false, false, false),
+    ),
+    (Name::One, Deed::Poll, Answer::Ready(0), NOBODY),
+    (Name::One, Deed::Put(1), Answer::Granted(1), NOBODY),
+    (Name::One, Deed::Downgrade, Answer::GivenBack, NOBODY),
+    (Name::Three, Deed::TryRead, Answer::Granted(1), NOBODY),
+];
+
+#[test]
+fn an_upgrade_waits_for_the_other_readers(rt: HostRuntime) {
+    of_both(rt, 0, &UPGRADE_WAITS);
+}
+
+const WRITE_UPGRADABLE: [Row; 4] = [
+    (Name::One, Deed::Write, Answer::Ready(0), NOBODY),
+    (Name::Two, Deed::UpgradableRead, Answer::Pending, NOBODY),
+    (
+        Name::One,
+        Deed::Drop,
+        Answer::GivenBack,
+        (false, true, false, false),
+    ),
+    (Name::Two, Deed::Poll, Answer::Ready(0), NOBODY),
+];
+
+#[test]
+fn an_upgradable_read_waits_for_the_writer(rt: HostRuntime) {
+    of_both(rt, 0, &WRITE_UPGRADABLE);
+}
+
+const UPGRADABLE_WRITE: [Row; 4] = [
+    (Name::One, Deed::UpgradableRead, Answer::Ready(0), NOBODY),
+    (Name::Two, Deed::Write, Answer::Pending, NOBODY),
+    (
+        Name::One,
+        Deed::Drop,
+        Answer::GivenBack,
+        (false, true, false, false),
+    ),
+    (Name::Two, Deed::Poll, Answer::Ready(0), NOBODY),
+];
+
+#[test]
+fn a_write_waits_for_the_upgradable_reader(rt: HostRuntime) {
+    of_both(rt, 0, &UPGRADABLE_WRITE);
+}
+
+const FULL: [Row; 11] = [
+    (Name::One, Deed::TryRead, Answer::Granted(0), NOBODY),
+    (Name::Two, Deed::TryRead, Answer::Nothing, NOBODY),
+    (
+        Name::Three,
+        Deed::Read,
+        Answer::Refused(Refusal::Readers),
+        NOBODY,
+    ),
+    (
+        Name::Two,
+        Deed::UpgradableRead,
+        Answer::Refused(Refusal::Readers),
+        NOBODY,
+    ),
+    (Name::Four, Deed::TryUpgradableRead, Answer::Nothing, NOBODY),
+    // Refused, they are as when they were made.
+    (Name::One, Deed::Drop, Answer::GivenBack, NOBODY),
+    (Name::Two, Deed::Poll, Answer::Ready(0), NOBODY),
+    (
+        Name::Three,
+        Deed::Poll,
+        Answer::Refused(Refusal::Readers),
+        NOBODY,
+    ),
+    (Name::Two, Deed::Drop, Answer::GivenBack, NOBODY),
+    (Name::Three, Deed::Poll, Answer::Ready(0), NOBODY),
+    (Name::Four, Deed::TryWrite, Answer::Nothing, NOBODY),
+];
+
+#[test]
+fn too_many_readers_are_refused(rt: HostRuntime) {
+    of_limited(rt, 0, 1, &FULL);
+}
+
+const BLOCKING: [Row; 11] = [
+    (Name::One, Deed::BlockToRead, Answer::Granted(0), NOBODY),
+    (Name::Two, Deed::BlockToRead, Answer::Granted(0), NOBODY),
+    (Name::One, Deed::Drop, Answer::GivenBack, NOBODY),
+    (Name::Two, Deed::Drop, Answer::GivenBack, NOBODY),
+    (Name::One, Deed::BlockToWrite, Answer::Granted(0), NOBODY),
+    (Name::One, Deed::Put(1), Answer::Granted(1), NOBODY),
+    (Name::One, Deed::Drop, Answer::GivenBack, NOBODY),
+    (
+        Name::One,
+        Deed::BlockToReadUpgradably,
+        Answer::Granted(1),
+        NOBODY,
+    ),
+    (Name::One, Deed::BlockToUpgrade, Answer::Granted(1), NOBODY),
+    (Name::One, Deed::Drop, Answer::GivenBack, NOBODY),
+    (Name::Two, Deed::BlockToWrite, Answer::Granted(1), NOBODY),
+];
+
+#[test]
+fn each_blocking_call_gets_a_free_lock(rt: HostRuntime) {
+    of_both(rt, 0, &BLOCKING);
+}
+
+const CANCEL_READ_UNTOLD: [Row; 6] = [
+    (Name::One, Deed::Write, Answer::Ready(0), NOBODY),
+    (Name::Two, Deed::Read, Answer::Pending, NOBODY),
+    (Name::Three, Deed::Read, Answer::Pending, NOBODY),
+    // With its entry goes its waker, which wakes its own task.
+    (
+        Name::Two,
+        Deed::Drop,
+        Answer::GivenBack,
+        (false, true, false, false),
+    ),
+    (
+        Name::One,
+        Deed::Drop,
+        Answer::GivenBack,
+        (false, true, true, false),
+    ),
+    (
+        Name::Three,
+        Deed::Poll,
+        Answer::Ready(0),
+        (false, true, false, false),
+    ),
+];
+
+#[test]
+fn a_waiting_read_leaves_its_list(rt: HostRuntime) {
+    of_both(rt, 0, &CANCEL_READ_UNTOLD);
+}
+
+const CANCEL_READ_TOLD: [Row; 6] = [
+    (Name::One, Deed::Write, Answer::Ready(0), NOBODY),
+    (Name::Two, Deed::Read, Answer::Pending, NOBODY),
+    (Name::Three, Deed::Read, Answer::Pending, NOBODY),
+    (
+        Name::One,
+        Deed::Drop,
+        Answer::GivenBack,
+        (false, true, false, false),
+    ),
+    (
+        Name::Two,
+        Deed::Drop,
+        Answer::GivenBack,
+        (false, true, true, false),
+    ),
+    (
+        Name::Three,
+        Deed::Poll,
+        Answer::Ready(0),
+        (false, true, false, false),
+    ),
+];
+
+#[test]
+fn a_notified_read_passes_its_notification_on(rt: HostRuntime) {
+    of_both(rt, 0, &CANCEL_READ_TOLD);
+}
+
+const CANCEL_TURN_UNTOLD: [Row; 6] = [
+    (Name::One, Deed::UpgradableRead, Answer::Ready(0), NOBODY),
+    (Name::Two, Deed::Write, Answer::Pending, NOBODY),
+    (Name::Three, Deed::UpgradableRead, Answer::Pending, NOBODY),
+    (
+        Name::Two,
+        Deed::Drop,
+        Answer::GivenBack,
+        (false, true, false, false),
+    ),
+    (
+        Name::One,
+        Deed::Drop,
+        Answer::GivenBack,
+        (false, true, true, false),
+    ),
+    (
+        Name::Three,
+        Deed::Poll,
+        Answer::Ready(0),
+        (false, true, false, false),
+    ),
+];
+
+#[test]
+fn a_write_that_waits_for_the_turn_leaves_its_list(rt: HostRuntime) {
+    of_both(rt, 0, &CANCEL_TURN_UNTOLD);
+}
+
+const CANCEL_TURN_TOLD: [Row; 6] = [
+    (Name::One, Deed::UpgradableRead, Answer::Ready(0), NOBODY),
+    (Name::Two, Deed::Write, Answer::Pending, NOBODY),
+    (Name::Three, Deed::UpgradableRead, Answer::Pending, NOBODY),
+    (
+        Name::One,
+        Deed::Drop,
+        Answer::GivenBack,
+        (false, true, false, false),
+    ),
+    (
+        Name::Two,
+        Deed::Drop,
+        Answer::GivenBack,
+        (false, true, true, false),
+    ),
+    (
+        Name::Three,
+        Deed::Poll,
+        Answer::Ready(0),
+        (false, true, false, false),
+    ),
+];
+
+#[test]
+fn a_notified_write_passes_the_turn_on(rt: HostRuntime) {
+    of_both(rt, 0, &CANCEL_TURN_TOLD);
+}
+
+const CANCEL_UPGRADABLE_TOLD: [Row; 6] = [
+    (Name::One, Deed::UpgradableRead, Answer::Ready(0), NOBODY),
+    (Name::Two, Deed::UpgradableRead, Answer::Pending, NOBODY),
+    (Name::Three, Deed::Write, Answer::Pending, NOBODY),
+    (
+        Name::One,
+        Deed::Drop,
+        Answer::GivenBack,
+        (false, true, false, false),
+    ),
+    (
+        Name::Two,
+        Deed::Drop,
+        Answer::GivenBack,
+        (false, true, true, false),
+    ),
+    (
+        Name::Three,
+        Deed::Poll,
+        Answer::Ready(0),
+        (false, true, false, false),
+    ),
+];
+
+#[test]
+fn a_notified_upgradable_read_passes_the_turn_on(rt: HostRuntime) {
+    of_both(rt, 0, &CANCEL_UPGRADABLE_TOLD);
+}
+
+const CANCEL_WRITE_UNTOLD: [Row; 10] = [
+    (Name::One, Deed::Read, Answer::Ready(0), NOBODY),
+    (Name::Two, Deed::Write, Answer::Pending, NOBODY),
+    (Name::Three, Deed::Read, Answer::Pending, NOBODY),
+    (Name::Four, Deed::Write, Answer::Pending, NOBODY),
+    // It gives up the bit and the turn: a reader is told, and the next writer.
+    (
+        Name::Two,
+        Deed::Drop,
+        Answer::GivenBack,
+        (false, true, true, true),
+    ),
+    (
+        Name::Three,
+        Deed::Poll,
+        Answer::Ready(0),
+        (false, true, false, true),
+    ),
+    (
+        Name::Four,
+        Deed::Poll,
+        Answer::Pending,
+        (false, true, false, false),
+    ),
+    (
+        Name::Three,
+        Deed::Drop,
+        Answer::GivenBack,
+        (false, true, false, false),
+    ),
+    (
+        Name::One,
+        Deed::Drop,
+        Answer::GivenBack,
+        (false, true, false, true),
+    ),
+    (
+        Name::Four,
+        Deed::Poll,
+        Answer::Ready(0),
+        (false, true, false, false),
+    ),
+];
+
+#[test]
+fn a_write_that_waits_for_readers_gives_up_bit_and_turn(rt: HostRuntime) {
+    of_both(rt, 0, &CANCEL_WRITE_UNTOLD);
+}
+
+const CANCEL_WRITE_TOLD: [Row; 10] = [
+    (Name::One, Deed::Read, Answer::Ready(0), NOBODY),
+    (Name::Two, Deed::Write, Answer::Pending, NOBODY),
+    (Name::Three, Deed::Read, Answer::Pending, NOBODY),
+    (Name::Four, Deed::Write, Answer::Pending, NOBODY),
+    (
+        Name::One,
+        Deed::Drop,
+        Answer::GivenBack,
+        (false, true, false, false),
+    ),
+    (
+        Name::Two,
+        Deed::Drop,
+        Answer::GivenBack,
+        (false, true, true, true),
+    ),
+    (
+        Name::Three,
+        Deed::Poll,
+        Answer::Ready(0),
+        (false, true, false, true),
+    ),
+    (
+        Name::Four,
+        Deed::Poll,
+        Answer::Pending,
+        (false, true, false, false),
+    ),
+    (
+        Name::Three,
+        Deed::Drop,
+        Answer::GivenBack,
+        (false, true, false, true),
+    ),
+    (
+        Name::Four,
+        Deed::Poll,
+        Answer::Ready(0),
+        (false, true, false, false),
+    ),
+];
+
+#[test]
+fn a_notified_write_gives_up_bit_and_turn(rt: HostRuntime) {
+    of_both(rt, 0, &CANCEL_WRITE_TOLD);
+}
+
+const CANCEL_UPGRADE_UNTOLD: [Row; 9] = [
+    (Name::One, Deed::UpgradableRead, Answer::Ready(0), NOBODY),
+    (Name::Two, Deed::Read, Answer::Ready(0), NOBODY),
+    (Name::One, Deed::Upgrade, Answer::Waiting, NOBODY),
+    (Name::One, Deed::Poll, Answer::Pending, NOBODY),
+    (Name::Three, Deed::Read, Answer::Pending, NOBODY),
+    (Name::Four, Deed::UpgradableRead, Answer::Pending, NOBODY),
+    (
+        Name::One,
+        Deed::Drop,
+        Answer::GivenBack,
+        (true, false, true, true),
+    ),
+    (
+        Name::Three,
+        Deed::Poll,
+        Answer::Ready(0),
+        (true, false, false, true),
+    ),
+    (
+        Name::Four,
+        Deed::Poll,
+        Answer::Ready(0),
+        (true, false, false, false),
+    ),
+];
+
+#[test]
+fn an_upgrade_that_waits_gives_up_bit_and_turn(rt: HostRuntime) {
+    of_both(rt, 0, &CANCEL_UPGRADE_UNTOLD);
+}
+
+const CANCEL_UPGRADE_TOLD: [Row; 10] = [
+    (Name::One, Deed::UpgradableRead, Answer::Ready(0), NOBODY),
+    (Name::Two, Deed::Read, Answer::Ready(0), NOBODY),
+    (Name::One, Deed::Upgrade, Answer::Waiting, NOBODY),
+    (Name::One, Deed::Poll, Answer::Pending, NOBODY),
+    (Name::Three, Deed::Read, Answer::Pending, NOBODY),
+    (Name::Four, Deed::UpgradableRead, Answer::Pending, NOBODY),
+    (
+        Name::Two,
+        Deed::Drop,
+        Answer::GivenBack,
+        (true, false, false, false),
+    ),
+    (
+        Name::One,
+        Deed::Drop,
+        Answer::GivenBack,
+        (true, false, true, true),
+    ),
+    (
+        Name::Three,
+        Deed::Poll,
+        Answer::Ready(0),
+        (true, false, false, true),
+    ),
+    (
+        Name::Four,
+        Deed::Poll,
+        Answer::Ready(0),
+        (true, false, false, false),
+    ),
+];
+
+#[test]
+fn a_notified_upgrade_gives_up_bit_and_turn(rt: HostRuntime) {
+    of_both(rt, 0, &CANCEL_UPGRADE_TOLD);
+}
+
+const SMOKE: [Row; 10] = [
+    (Name::One, Deed::Read, Answer::Ready(0), NOBODY),
+    (Name::One, Deed::Drop, Answer::GivenBack, NOBODY),
+    (Name::One, Deed::Write, Answer::Ready(0), NOBODY),
+    (Name::One, Deed::Drop, Answer::GivenBack, NOBODY),
+    (Name::One, Deed::Read, Answer::Ready(0), NOBODY),
+    (Name::Two, Deed::Read, Answer::Ready(0), NOBODY),
+    (Name::One, Deed::Drop, Answer::GivenBack, NOBODY),
+    (Name::Two, Deed::Drop, Answer::GivenBack, NOBODY),
+    (Name::One, Deed::Write, Answer::Ready(0), NOBODY),
+    (Name::One, Deed::Drop, Answer::GivenBack, NOBODY),
+];
+
+#[test]
+fn smoke(rt: HostRuntime) {
+    of_both(rt, 0, &SMOKE);
+}
+
+const TRY_WRITE: [Row; 4] = [
+    (Name::One, Deed::Read, Answer::Ready(0), NOBODY),
+    (Name::Two, Deed::TryWrite, Answer::Nothing, NOBODY),
+    (Name::One, Deed::Drop, Answer::GivenBack, NOBODY),
+    (Name::Two, Deed::TryWrite, Answer::Granted(0), NOBODY),
+];
+
+#[test]
+fn try_write(rt: HostRuntime) {
+    of_both(rt, 0, &TRY_WRITE);
+}
+
+const UPGRADE: [Row; 12] = [
+    (Name::One, Deed::Read, Answer::Ready(0), NOBODY),
+    (Name::Two, Deed::Read, Answer::Ready(0), NOBODY),
+    (Name::Three, Deed::UpgradableRead, Answer::Ready(0), NOBODY),
+    (Name::Four, Deed::Read, Answer::Ready(0), NOBODY),
+    (Name::One, Deed::Drop, Answer::GivenBack, NOBODY),
+    (Name::Two, Deed::Drop, Answer::GivenBack, NOBODY),
+    (Name::Four, Deed::Drop, Answer::GivenBack, NOBODY),
+    (Name::One, Deed::TryWrite, Answer::Nothing, NOBODY),
+    (Name::Three, Deed::TryUpgrade, Answer::Granted(0), NOBODY),
+    (Name::Three, Deed::Put(1), Answer::Granted(1), NOBODY),
+    (Name::Three, Deed::Drop, Answer::GivenBack, NOBODY),
+    (Name::One, Deed::Read, Answer::Ready(1), NOBODY),
+];
+
+#[test]
+fn upgrade(rt: HostRuntime) {
+    of_both(rt, 0, &UPGRADE);
+}
+
+const NOT_UPGRADE: [Row; 14] = [
+    (Name::One, Deed::Read, Answer::Ready(0), NOBODY),
+    (Name::Two, Deed::Read, Answer::Ready(0), NOBODY),
+    (Name::Three, Deed::UpgradableRead, Answer::Ready(0), NOBODY),
+    (Name::Four, Deed::Read, Answer::Ready(0), NOBODY),
+    (Name::One, Deed::Drop, Answer::GivenBack, NOBODY),
+    (Name::Two, Deed::Drop, Answer::GivenBack, NOBODY),
+    (Name::Four, Deed::Drop, Answer::GivenBack, NOBODY),
+    (Name::Three, Deed::Drop, Answer::GivenBack, NOBODY),
+    (Name::One, Deed::Read, Answer::Ready(0), NOBODY),
+    (Name::One, Deed::Drop, Answer::GivenBack, NOBODY),
+    (Name::One, Deed::Write, Answer::Ready(0), NOBODY),
+    (Name::One, Deed::Put(1), Answer::Granted(1), NOBODY),
+    (Name::One, Deed::Drop, Answer::GivenBack, NOBODY),
+    (Name::One, Deed::Read, Answer::Ready(1), NOBODY),
+];
+
+#[test]
+fn not_upgrade(rt: HostRuntime) {
+    of_both(rt, 0, &NOT_UPGRADE);
+}
+
+const CONCURRENT_WRITER: [Row; 10] = [
+    (Name::One, Deed::UpgradableRead, Answer::Ready(0), NOBODY),
+    (Name::Two, Deed::Write, Answer::Pending, NOBODY),
+    (Name::One, Deed::Upgrade, Answer::Waiting, NOBODY),
+    (Name::One, Deed::Poll, Answer::Ready(0), NOBODY),
+    (Name::One, Deed::Put(2), Answer::Granted(2), NOBODY),
+    (
+        Name::One,
+        Deed::Drop,
+        Answer::GivenBack,
+        (false, true, false, false),
+    ),
+    (
+        Name::Two,
+        Deed::Drop,
+        Answer::GivenBack,
+        (false, true, false, false),
+    ),
+    (
+        Name::Three,
+        Deed::Write,
+        Answer::Ready(2),
+        (false, true, false, false),
+    ),
+    (
+        Name::Three,
+        Deed::Drop,
+        Answer::GivenBack,
+        (false, true, false, false),
+    ),
+    (
+        Name::Three,
+        Deed::Read,
+        Answer::Ready(2),
+        (false, true, false, false),
+    ),
+];
+
+#[test]
+fn upgradable_with_concurrent_writer(rt: HostRuntime) {
+    of_both(rt, 0, &CONCURRENT_WRITER);
+}
+
+const CANCELLATION: [Row; 14] = [
+    (Name::One, Deed::Read, Answer::Ready(0), NOBODY),
+    (Name::One, Deed::Drop, Answer::GivenBack, NOBODY),
+    (Name::One, Deed::UpgradableRead, Answer::Ready(0), NOBODY),
+    (Name::One, Deed::Drop, Answer::GivenBack, NOBODY),
+    (Name::One, Deed::Write, Answer::Ready(0), NOBODY),
+    (Name::One, Deed::Drop, Answer::GivenBack, NOBODY),
+    (Name::One, Deed::UpgradableRead, Answer::Ready(0), NOBODY),
+    (Name::One, Deed::Upgrade, Answer::Waiting, NOBODY),
+    (Name::One, Deed::Drop, Answer::GivenBack, NOBODY),
+    (Name::One, Deed::UpgradableRead, Answer::Ready(0), NOBODY),
+    (Name::One, Deed::Upgrade, Answer::Waiting, NOBODY),
+    (Name::One, Deed::Poll, Answer::Ready(0), NOBODY),
+    (Name::One, Deed::Drop, Answer::GivenBack, NOBODY),
+    (Name::One, Deed::TryWrite, Answer::Granted(0), NOBODY),
+];
+
+#[test]
+fn cancellation(rt: HostRuntime) {
+    of_both(rt, 0, &CANCELLATION);
+}
+
+const READ_BESIDE_WRITER: [Row; 4] = [
+    (Name::One, Deed::TryWrite, Answer::Granted(0), NOBODY),
+    (Name::Two, Deed::Read, Answer::Pending, NOBODY),
+    (
+        Name::One,
+        Deed::Drop,
+        Answer::GivenBack,
+        (false, true, false, false),
+    ),
+    (Name::Two, Deed::Poll, Answer::Ready(0), NOBODY),
+];
+
+const UPGRADABLE_BESIDE_WRITER: [Row; 4] = [
+    (Name::One, Deed::TryWrite, Answer::Granted(0), NOBODY),
+    (Name::Two, Deed::UpgradableRead, Answer::Pending, NOBODY),
+    (
+        Name::One,
+        Deed::Drop,
+        Answer::GivenBack,
+        (false, true, false, false),
+    ),
+    (Name::Two, Deed::Poll, Answer::Ready(0), NOBODY),
+];
+
+const WRITE_BESIDE_WRITER: [Row; 4] = [
+    (Name::One, Deed::TryWrite, Answer::Granted(0), NOBODY),
+    (Name::Two, Deed::Write, Answer::Pending, NOBODY),
+    (
+        Name::One,
+        Deed::Drop,
+        Answer::GivenBack,
+        (false, true, false, false),
+    ),
+    (Name::Two, Deed::Poll, Answer::Ready(0), NOBODY),
+];
+
+const WRITE_BESIDE_READER: [Row; 4] = [
+    (Name::One, Deed::TryRead, Answer::Granted(0), NOBODY),
+    (Name::Two, Deed::Write, Answer::Pending, NOBODY),
+    (
+        Name::One,
+        Deed::Drop,
+        Answer::GivenBack,
+        (false, true, false, false),
+    ),
+    (Name::Two, Deed::Poll, Answer::Ready(0), NOBODY),
+];
+
+const WRITE_BESIDE_UPGRADABLE: [Row; 4] = [
+    (
+        Name::One,
+        Deed::TryUpgradableRead,
+        Answer::Granted(0),
+        NOBODY,
+    ),
+    (Name::Two, Deed::Write, Answer::Pending, NOBODY),
+    (
+        Name::One,
+        Deed::Drop,
+        Answer::GivenBack,
+        (false, true, false, false),
+    ),
+    (Name::Two, Deed::Poll, Answer::Ready(0), NOBODY),
+];
+
+const UPGRADABLE_BESIDE_UPGRADABLE: [Row; 4] = [
+    (
+        Name::One,
+        Deed::TryUpgradableRead,
+        Answer::Granted(0),
+        NOBODY,
+    ),
+    (Name::Two, Deed::UpgradableRead, Answer::Pending, NOBODY),
+    (
+        Name::One,
+        Deed::Drop,
+        Answer::GivenBack,
+        (false, true, false, false),
+    ),
+    (Name::Two, Deed::Poll, Answer::Ready(0), NOBODY),
+];
+
+const UPGRADE_BESIDE_READER: [Row; 6] = [
+    (
+        Name::One,
+        Deed::TryUpgradableRead,
+        Answer::Granted(0),
+        NOBODY,
+    ),
+    (Name::Two, Deed::TryRead, Answer::Granted(0), NOBODY),
+    (Name::One, Deed::Upgrade, Answer::Waiting, NOBODY),
+    (Name::One, Deed::Poll, Answer::Pending, NOBODY),
+    (
+        Name::Two,
+        Deed::Drop,
+        Answer::GivenBack,
+        (true, false, false, false),
+    ),
+    (Name::One, Deed::Poll, Answer::Ready(0), NOBODY),
+];
+
+#[test]
+fn yields_when_contended(rt: HostRuntime) {
+    of_both(rt, 0, &READ_BESIDE_WRITER);
+    of_both(rt, 0, &UPGRADABLE_BESIDE_WRITER);
+    of_both(rt, 0, &WRITE_BESIDE_WRITER);
+    of_both(rt, 0, &WRITE_BESIDE_READER);
+    of_both(rt, 0, &WRITE_BESIDE_UPGRADABLE);
+    of_both(rt, 0, &UPGRADABLE_BESIDE_UPGRADABLE);
+    of_both(rt, 0, &UPGRADE_BESIDE_READER);
+}
