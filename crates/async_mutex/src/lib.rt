@@ -17,7 +17,7 @@ pub mod lock_futures {
     pub use crate::lock::{Lock, LockArc};
 }
 
+pub use async_driver::{Polled, Settled, Turn};
 pub use guard::{MutexGuard, MutexGuardArc};
 pub use lock_program::Refusal;
-pub use async_driver::{Polled, Settled, Turn};
 pub use mutex::Mutex;

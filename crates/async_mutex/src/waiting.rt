@@ -7,11 +7,11 @@ ghost use Rattle.async_mutex.specs.Outcomes.{OnOutcome, OnWaits, Polled, Waits};
 ghost use Rattle.lock_driver.specs.Parties.{IsReceipt, Stands};
 ghost use Rattle.lock_program.specs.declared.mutex.Place.TheVariants as at;
 
+use async_driver::put;
 use futures::task::Context;
 use lock_driver::{MutexParty, RawMutex};
 use lock_program::mutex::Place;
 use lock_program::{End, Refusal};
-use async_driver::put;
 use lock_words::{Hold, Seat};
 use std::sync::Wait;
 use std::time::Clock;

@@ -2,15 +2,19 @@
 #![tactic(auto)]
 
 mod barrier;
+mod once_cell;
 mod rows;
+mod rwlock;
 mod threads;
 mod timing;
 mod waiting;
 
-use async_lock::{Barrier, Mutex};
+use async_lock::{Barrier, Mutex, OnceCell, RwLock};
 use barrier::{RoundOfFour, RoundOfOne};
 use futures::test::MockTask;
+use once_cell::{Get, InitReady, NewSetAndEnd, WaitReady};
 use rows::{BlockingPair, HeldTry, LockArcPair, LockPair, NewPair, StdPair, TryArcPair, TryPair};
+use rwlock::{Pair, Use};
 use std::alloc::AllocGlobal;
 use std::process::ExitCode;
 use std::random::RandomSource;
@@ -103,6 +107,69 @@ where
     Ok(())
 }
 
+/// What is timed of a read-write lock that nobody else wants, but for the last: a reader beside which another stays.
+const USES: [(&str, Use); 7] = [
+    ("try_read and drop", Use::TryRead),
+    ("try_write and drop", Use::TryWrite),
+    ("read ready and drop", Use::Read),
+    ("write ready and drop", Use::Write),
+    ("upgradable read, upgrade and drop", Use::Upgrade),
+    ("read_arc ready and drop", Use::ReadArc),
+    ("write_arc ready and drop", Use::WriteArc),
+];
+
+/// A read-write lock.
+fn print_rwlocks<R>(rt: &R, task: &MockTask) -> io::Result<()>
+where
+    R: Wait + Clock + Print + AllocGlobal + Copy + Drop,
+{
+    let Ok(lock) = RwLock::new(*rt, 0_u64) else {
+        return Err(io::Error::other("no memory for a lock"));
+    };
+    let Ok(lock) = Arc::new(rt.alloc(), lock) else {
+        return Err(io::Error::other("no memory for a lock"));
+    };
+    let lock = &lock;
+    for (name, of) in USES {
+        print(rt, name, &Pair { lock, task, of }, OFTEN)?;
+    }
+    let beside = lock.try_read();
+    let of = Use::Read;
+    print(
+        rt,
+        "read ready and drop, beside another",
+        &Pair { lock, task, of },
+        OFTEN,
+    )?;
+    drop(beside);
+    Ok(())
+}
+
+/// A once-cell.
+fn print_cells<R>(rt: &R, task: &MockTask) -> io::Result<()>
+where
+    R: Wait + Clock + Print + AllocGlobal + RandomSource + Copy + Drop,
+{
+    let Ok(cell) = OnceCell::with_value(*rt, 7_u64) else {
+        return Err(io::Error::other("no memory for a cell"));
+    };
+    let cell = &cell;
+    print(rt, "get of a full cell", &Get { cell }, OFTEN)?;
+    print(rt, "wait ready", &WaitReady { cell, task }, OFTEN)?;
+    print(
+        rt,
+        "get_or_init_blocking of a full cell",
+        &InitReady { cell },
+        OFTEN,
+    )?;
+    print(
+        rt,
+        "new cell, try_set, into_inner",
+        &NewSetAndEnd { rt },
+        SELDOM,
+    )
+}
+
 /// Rounds at a barrier, for each wait.
 fn print_barriers<R>(rt: &R, task: &MockTask) -> io::Result<()>
 where
@@ -177,7 +244,10 @@ where
     print(&rt, "std lock and unlock", &std_pair, OFTEN)?;
     print_rows(&rt, &owned)?;
     print(&rt, "new and drop", &NewPair { rt: &rt }, SELDOM)?;
-    print_barriers(&rt, &MockTask::new(&rt)?)?;
+    let task = &MockTask::new(&rt)?;
+    print_rwlocks(&rt, task)?;
+    print_cells(&rt, task)?;
+    print_barriers(&rt, task)?;
     print_contenders(&rt, &owned)?;
     print_threads(&rt)
 }
