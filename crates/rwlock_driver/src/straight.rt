@@ -143,8 +143,8 @@ impl RawRwLock {
         requires marks { (seat.inner.me.0.marks ≡ true) × (seat.inner.me.0.reads ≡ false) }
     {
         let mut seat = seat;
-        let owed = self.unmark(&mut seat);
-        self.no_writer.notify(rt, 1, owed);
+        let to_readers = self.unmark(&mut seat);
+        self.no_writer.notify(rt, 1, to_readers);
         self.release_turn(rt, &mut seat);
         self.words.rise(seat);
     }
@@ -165,9 +165,9 @@ impl RawRwLock {
         ensures { Has self.now reader result }
     {
         let mut seat = seat;
-        let owed = self.down(&mut seat);
+        let later = self.down(&mut seat);
         self.release_turn(rt, &mut seat);
-        self.no_writer.notify(rt, 1, owed);
+        self.no_writer.notify(rt, 1, later);
         seat
     }
 

@@ -1,0 +1,55 @@
+//! The read-write lock as its users meet it: read by two threads at a time, upgraded without letting a writer in between, and
+//! owned by its guard. Each module is one example. The program runs them all, and prints a line for each.
+#![tactic(auto)]
+
+mod owned;
+mod two_readers;
+mod upgraded;
+
+use async_lock::{Refusal, RwLock};
+use std::alloc::AllocGlobal;
+use std::process::ExitCode;
+use std::random::RandomSource;
+use std::sync::Wait;
+use std::thread::Threads;
+use std::time::Clock;
+
+// What each example returns, in order.
+struct Results {
+    sum: u64,
+    upgraded: u64,
+    owned: u64,
+}
+
+fn run_all<R>(rt: R) -> Result<Results, Refusal>
+where
+    R: Wait + Clock + RandomSource + AllocGlobal + Threads + Sync + Copy + Drop,
+{
+    let sum = two_readers::run(rt)?;
+    let lock = RwLock::new(rt, 40_u64)?;
+    let first = upgraded::add_if_even(&lock, 1)?;
+    let second = upgraded::add_if_even(&lock, 1)?;
+    let owned = owned::read(rt, 9)?;
+    Ok(Results {
+        sum,
+        upgraded: first.saturating_add(second),
+        owned: *owned,
+    })
+}
+
+fn main(rt: HostRuntime) -> ExitCode {
+    let Ok(
+        Results {
+            sum,
+            upgraded,
+            owned,
+        },
+    ) = run_all(rt)
+    else {
+        return ExitCode::FAILURE;
+    };
+    match println!(rt; "two readers: {sum}\nupgraded: {upgraded}\nowned: {owned}") {
+        Ok(()) => ExitCode::SUCCESS,
+        Err(_) => ExitCode::FAILURE,
+    }
+}
