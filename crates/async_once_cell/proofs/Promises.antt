@@ -1,8 +1,10 @@
 -- What a pending maker may still fail with, it promised before.
 use Rattle.std.specs.Bool.{⊤}
-use Rattle.std.proofs.Common.{◌≡◌, ℕ, Option, Some, None, sym, subst}
-use Rattle.std.specs.Option.{IsSomeAnd}
-use Rattle.std.specs.Prelude.{Result, Ok, Err}
+use Rattle.std.proofs.Common.{◌≡◌, ◌⊎◌, inl, inr, ℕ, Option, Some, None, sym, subst}
+use Rattle.std.specs.Option.{IfSome, IsSomeAnd}
+use Rattle.std.specs.Prelude.{Result, Ok, Err, IfOk}
+use Rattle.async_once_cell.specs.Faults.{FailedSo}
+use Rattle.lock_program.specs.declared.refusal.Refusal.{Refusal}
 use denote.Ref.{Bor}
 use Rattle.async_driver.specs.declared.waiting_list.Listed.{Listed}
 use Rattle.async_driver.specs.declared.turn.Turn.{Turn}
@@ -23,3 +25,18 @@ module _ {T E M : Type 0} (gives : M → Result T E → Type 0) (needs : M → �
   same Pending entry r = kept entry r
   same (Ready g) entry r = tt
   same (Refused why) entry r = tt
+
+module _ {T E M : Type 0} (gives : M → Result T E → Type 0) (needs : M → ℕ → Type 0) (cell : Cell) (cx : Context) (old now : Option M) where
+  failed : (entry : Option Listed) → IsAwaiting gives needs cell cx old now entry → (x : Result (Unit {0}) E) → FailedSo gives now x → FailedSo gives old x
+  failed entry r (Ok v) f = tt
+  failed None r (Err e) f = r.1 (Err e) f
+  failed (Some l) r (Err e) f = subst (λ o. FailedSo {T = T} gives o (Err e)) r.1 f
+
+  pub fails : (entry : Option Listed) → IsAwaiting gives needs cell cx old now entry → (x : Result (Result (Unit {0}) E) Refusal) → IfOk x (FailedSo gives now) → IfOk x (FailedSo gives old)
+  fails entry r (Ok x) f = failed entry r x f
+  fails entry r (Err e) f = tt
+
+-- a value that stays or goes is the one that it was
+pub carried : {X : Type 0} (old now origin : Option X) → IfSome old (λ v. origin ≡ Some v) → (now ≡ None) ⊎ (now ≡ old) → IfSome now (λ v. origin ≡ Some v)
+carried old now origin h (inl e) = subst (λ o. IfSome o (λ v. origin ≡ Some v)) (sym e) tt
+carried old now origin h (inr e) = subst (λ o. IfSome o (λ v. origin ≡ Some v)) (sym e) h

@@ -1,3 +1,4 @@
 pub mod Stages
 pub mod Futures
 pub mod Closures
+pub mod Faults

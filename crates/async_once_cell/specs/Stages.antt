@@ -87,7 +87,7 @@ module _ {C T E M : Type 0} (u : Purpose) (new : M → Type 0) (gives : M → Re
   OnAnswer cx old (answer.Refused Finished) now = (old.is_over ≡ true) × (now ≡ old)
   OnAnswer cx old (answer.Refused Memory) now = (old.is_over ≡ false) × (now.is_over ≡ false) × (now.active ≡ None) × (now.passive ≡ None) × OnMaking u ((now.maker ≡ old.maker) × IsSomeAnd now.maker new)
   OnAnswer cx old (answer.Refused _) now = ⊥
-  OnAnswer cx old (answer.Value r) now = (old.is_over ≡ false) × (now.is_over ≡ true) × OnSets u (IsSomeAnd old.maker (λ m. gives m (Ok r.now)))
-  OnAnswer cx old (answer.Back v r) now = (old.is_over ≡ false) × (now.is_over ≡ true) × IsSomeAnd old.maker (λ m. gives m (Ok v))
-  OnAnswer cx old (answer.Kept m) now = (old.is_over ≡ false) × (now.is_over ≡ true) × IsSetting u × (old.maker ≡ Some m) × new m
-  OnAnswer cx old (answer.Failed e) now = (old.is_over ≡ false) × (now.is_over ≡ true) × IsSomeAnd old.maker (λ m. gives m (Err e))
+  OnAnswer cx old (answer.Value r) now = (old.is_over ≡ false) × (now.is_over ≡ true) × (now.maker ≡ None) × OnSets u (IsSomeAnd old.maker (λ m. gives m (Ok r.now)))
+  OnAnswer cx old (answer.Back v r) now = (old.is_over ≡ false) × (now.is_over ≡ true) × (now.maker ≡ None) × IsSomeAnd old.maker (λ m. gives m (Ok v))
+  OnAnswer cx old (answer.Kept m) now = (old.is_over ≡ false) × (now.is_over ≡ true) × (now.maker ≡ None) × IsSetting u × (old.maker ≡ Some m) × new m
+  OnAnswer cx old (answer.Failed e) now = (old.is_over ≡ false) × (now.is_over ≡ true) × (now.maker ≡ None) × IsSomeAnd old.maker (λ m. gives m (Err e))

@@ -1,18 +1,28 @@
 //! The once-cell.
 
-ghost use Rattle.std.specs.Prelude.{◌≡◌, Some, None, IfErr, IfOk, false, true};
+ghost use Rattle.std.specs.Prelude.{◌≡◌, Some, None, IfErr, IfOk, IsSome, IsSomeAnd, false, true};
+ghost use Rattle.async_once_cell.specs.Faults.{FaultOf, HasBack};
 ghost use Rattle.lock_program.specs.declared.refusal.Refusal.{Refusal};
 ghost use Rattle.async_once_cell.specs.declared.makers.Trying.TheVariants as tries;
 ghost use Rattle.async_once_cell.specs.declared.makers.Making.TheVariants as makes;
 
+use crate::blocking::{BlockedInit, BlockedSet, BlockedTry, BlockedWait, Kept};
+use crate::faults::{InitFault, SetFault};
 use crate::init::{GetOrInit, GetOrTryInit};
 use crate::set::Set;
 use crate::wait::Wait;
 use futures::Future;
+use futures::executor::block_on;
+use futures::future::{self, Ready};
 use lock_program::Refusal;
-use once_cell_driver::RawCell;
+use once_cell_driver::{Origin, RawCell};
 use std::alloc::AllocGlobal;
+use std::fmt;
+use std::marker::Brand;
+use std::random::RandomSource;
 use std::sync::Wait as Waits;
+use std::time::Clock;
+use words_once_cell::State;
 
 /// A value that is made once, and then read by any task.
 ///
@@ -132,5 +142,128 @@ impl<T: Drop, R: Waits> OnceCell<T, R> {
         ensures { IfErr result (λ back. back ≡ value) }
     {
         self.raw.try_set(&self.rt, value)
+    }
+}
+
+impl<T: Drop, R: Waits + Clock + RandomSource + AllocGlobal> OnceCell<T, R> {
+    /// Waits for the value, blocking the calling thread until the cell has one. Any error of `block_on` is
+    /// [`Refusal::Memory`]; a cell that is full gives its value without.
+    pub fn wait_blocking(&self) -> Result<&T, Refusal> {
+        if let Some(value) = self.get() {
+            return Ok(value);
+        }
+        match block_on(&self.rt, BlockedWait(self.wait())) {
+            Ok(Ok(())) => Ok(self.raw.made(&self.rt)),
+            Ok(Err(refusal)) => Err(refusal),
+            Err(_) => Err(Refusal::Memory),
+        }
+    }
+
+    /// Puts this value in if the cell is empty, and else gives it back. It blocks the calling thread while another makes the value. Any
+    /// error of `block_on` is [`Refusal::Memory`].
+    ///
+    /// What it gives back is the value that was handed in (`back`).
+    pub fn set_blocking(&self, value: T) -> Result<&T, SetFault<T>>
+        ensures back { IfErr result (HasBack value) }
+    {
+        set_in::<T, R, Brand>(self, value)
+    }
+
+    /// Returns the value, which the closure makes if the cell is empty. It blocks the calling thread while another makes the value.
+    /// Any error of `block_on` is [`Refusal::Memory`]; a cell that is full gives its value without.
+    pub fn get_or_init_blocking<F: FnOnce() -> T>(&self, closure: F) -> Result<&T, Refusal>
+        requires { F.pre closure }
+    {
+        if let Some(value) = self.get() {
+            return Ok(value);
+        }
+        let making = self.get_or_init(
+            move || -> Ready<T>
+                requires { F.pre closure }
+                ensures { IsSome result.0 }
+            { future::ready(closure()) },
+        );
+        match block_on(&self.rt, BlockedInit(making)) {
+            Ok(Ok(())) => Ok(self.raw.made(&self.rt)),
+            Ok(Err(refusal)) => Err(refusal),
+            Err(_) => Err(Refusal::Memory),
+        }
+    }
+
+    /// Returns the value, which the closure makes if the cell is empty and it doesn't fail. It blocks the calling thread while another
+    /// makes the value. Any error of `block_on` is [`Refusal::Memory`]; a cell that is full gives its value without.
+    ///
+    /// A failure is what the closure answered.
+    pub fn get_or_try_init_blocking<E: Drop, F: FnOnce() -> Result<T, E>>(
+        &self,
+        closure: F,
+    ) -> Result<&T, InitFault<E>>
+        requires { F.pre closure }
+        ensures { IfErr result (FaultOf (F.post closure)) }
+    {
+        if let Some(value) = self.get() {
+            return Ok(value);
+        }
+        let making = self.get_or_try_init(
+            move || -> Ready<Result<T, E>>
+                requires { F.pre closure }
+                ensures { IsSomeAnd result.0 (F.post closure) }
+            { future::ready(closure()) },
+        );
+        match block_on(&self.rt, BlockedTry(making)) {
+            Ok(Ok(Ok(()))) => Ok(self.raw.made(&self.rt)),
+            Ok(Ok(Err(fault))) => Err(InitFault::Closure(fault)),
+            Ok(Err(refusal)) => Err(InitFault::Refused(refusal)),
+            Err(_) => Err(InitFault::Refused(Refusal::Memory)),
+        }
+    }
+}
+
+impl<T: fmt::Debug, R> fmt::Debug for OnceCell<T, R> {
+    fn fmt<W: fmt::Write>(&self, f: &mut fmt::Formatter<W>) -> fmt::Result {
+        match self.get() {
+            Some(value) => debug_as(f, value),
+            None => debug_as(f, &Without(self.raw.state())),
+        }
+    }
+}
+
+// A cell with what stands for its value.
+fn debug_as<D: fmt::Debug, W: fmt::Write>(f: &mut fmt::Formatter<W>, value: &D) -> fmt::Result {
+    f.debug_tuple("OnceCell").field(value).finish()
+}
+
+// What stands for the value of a cell that has none.
+#[derive(Drop)]
+struct Without(State);
+
+impl fmt::Debug for Without {
+    fn fmt<W: fmt::Write>(&self, f: &mut fmt::Formatter<W>) -> fmt::Result {
+        match self.0 {
+            State::Making => f.write_str("<initializing>"),
+            State::Empty | State::Full => f.write_str("<uninitialized>"),
+        }
+    }
+}
+
+// A blocking set of the value that `O` names.
+fn set_in<T: Drop, R: Waits + Clock + RandomSource + AllocGlobal, O: Origin<T>>(
+    cell: &OnceCell<T, R>,
+    value: T,
+) -> Result<&T, SetFault<T>>
+    requires { O.origin ≡ Some value }
+    ensures { IfErr result (HasBack value) }
+{
+    let mut kept: Kept<'_, T, R, O> = Kept::new(cell.set(value));
+    let refusal = match block_on(&cell.rt, BlockedSet(&mut kept)) {
+        Ok(Ok(Ok(()))) => return Ok(cell.raw.made(&cell.rt)),
+        Ok(Ok(Err(value))) => return Err(SetFault::Taken(value)),
+        Ok(Err(refusal)) => refusal,
+        Err(_) => Refusal::Memory,
+    };
+    match kept.into_value() {
+        Some(value) => Err(SetFault::Refused(value, refusal)),
+        // It was ready, and so the cell is full.
+        None => Ok(cell.raw.made(&cell.rt)),
     }
 }

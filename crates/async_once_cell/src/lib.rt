@@ -1,6 +1,7 @@
 //! A once-cell for tasks: a value that is made once, by one task, while the others wait as pending futures.
 #![tactic(auto)]
 
+mod blocking;
 mod cell;
 mod faults;
 mod init;

@@ -104,6 +104,13 @@ impl<T> Given<T> {
         Given { value: Some(value) }
     }
 
+    pub(crate) fn into_option(self) -> Option<T>
+        ensures { result ≡ self.value }
+    {
+        let Given { value } = self;
+        value
+    }
+
     pub(crate) fn into_value(self) -> T
         requires { IsSome self.value }
         ensures { self.value ≡ Some result }

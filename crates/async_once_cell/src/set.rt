@@ -1,16 +1,18 @@
 //! A future that puts a value into a cell.
 
-ghost use Rattle.std.specs.Prelude.{◌≡◌, Some, false, true, None};
+ghost use Rattle.std.specs.Prelude.{◌≡◌, ◌⊎◌, IfSome, Some, false, true, None};
 ghost use Rattle.futures.specs.Task.{Keeps};
 ghost use Rattle.async_driver.specs.Turns.{OnPending};
 ghost use Rattle.once_cell_driver.specs.Sides.{IsReceipt};
-ghost use Rattle.async_once_cell.specs.Futures.{IsSet, IsTurn, OnMemory};
+ghost use Rattle.async_once_cell.specs.Futures.{IsSet, IsTurn, OnMemory, value_in};
+ghost use Rattle.async_once_cell.specs.Stages.{CanDrop, maker_in};
 
 use crate::cell::OnceCell;
 use crate::makers::Given;
 use crate::task::{Answer, Stage, drop_stage, poll_stage};
 use async_driver::{Polled, Turn};
 use futures::task::Context;
+use once_cell_driver::RawCell;
 use std::convert::Infallible;
 use std::fmt;
 use std::marker::Model;
@@ -52,6 +54,33 @@ impl<'a, T: Drop, R: Wait> Set<'a, T, R> {
     }
 }
 
+impl<'a, T: Drop, R: Wait> Set<'a, T, R> {
+    /// Ends the future, and returns its value, if it wasn't ready.
+    pub fn into_value(self) -> Option<T>
+        ensures { IfSome result (λ v. self.entry.value ≡ Some v) }
+    {
+        let Self { cell, stage } = self;
+        value_of(cell, stage)
+    }
+}
+
+// The value that a stage has, whose party gives back what it has.
+fn value_of<'a, T: Drop, R: Wait>(
+    cell: &'a OnceCell<T, R>,
+    stage: Stage<'a, T, Infallible, Given<T>>,
+) -> Option<T>
+    requires { CanDrop cell.now.raw stage }
+    ensures { IfSome result (λ v. value_in (maker_in stage.entry) ≡ Some v) }
+{
+    match stage {
+        Stage::New(given) => given.into_option(),
+        Stage::Inside(party, place) => {
+            RawCell::withdraw(&cell.raw, &cell.rt, party, place).into_option()
+        }
+        Stage::Over => None,
+    }
+}
+
 impl<'a, T: Drop, R: Wait + Clock> Set<'a, T, R> {
     /// One poll: ready with the cell's value, which is the one that was set; ready with the value back, if the cell was full;
     /// or pending, while another task makes the value.
@@ -69,6 +98,7 @@ impl<'a, T: Drop, R: Wait + Clock> Set<'a, T, R> {
         ensures memory { OnMemory result ((self.new.entry ≡ None) × (self.new.value ≡ self.old.value)) }
         ensures cell { self.new.cell ≡ self.old.cell }
         ensures value { OnPending result (self.new.value ≡ self.old.value) }
+        ensures stays { (self.new.value ≡ None) ⊎ (self.new.value ≡ self.old.value) }
         ensures receipt { OnPending result (IsReceipt cx.new self.old.cell.raw.source self.old.cell.raw.active self.new.entry) }
         ensures kept { Keeps cx.old cx.new }
     {

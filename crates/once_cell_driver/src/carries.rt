@@ -19,7 +19,7 @@ use sync_program::once_cell::{
     Action, CellCall, Found, Left, Place, Position, action_at, decide, start,
 };
 
-/// Which maker a poll began with. Each poll picks it.
+/// What a call began with, for its contracts: a poll's maker, for one. Each call picks it.
 pub trait Origin<M> {
     ghost origin: { Option M };
 }

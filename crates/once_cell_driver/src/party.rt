@@ -90,7 +90,7 @@ impl<'a, T: Drop, E: Drop, M: Maker<T, E>> CellParty<'a, T, E, M> {
             State::Empty => Found::Empty,
             State::Making => Found::BeingMade,
             State::Full => {
-                put(&mut self.got, cell.value.wait(rt));
+                put(&mut self.got, cell.made(rt));
                 if let Some(owed) = self.passive.owed.take() {
                     cell.all_waiting_told(owed, &self.seat);
                 }
@@ -117,7 +117,7 @@ impl<'a, T: Drop, E: Drop, M: Maker<T, E>> CellParty<'a, T, E, M> {
             }
             State::Making => Found::BeingMade,
             State::Full => {
-                put(&mut self.got, cell.value.wait(rt));
+                put(&mut self.got, cell.made(rt));
                 if let Some(owed) = self.active.owed.take() {
                     cell.all_told(owed, &self.seat);
                 }

@@ -7,7 +7,7 @@ use async_driver::WaitingList;
 use futures::task::{Source, Waker};
 use std::alloc::{AllocError, Global};
 use std::marker::Model;
-use std::sync::OnceLock;
+use std::sync::{OnceLock, Wait};
 use words_once_cell::{State, Words};
 
 /// A once-cell without its runtime: its word, its value, and who waits.
@@ -92,6 +92,12 @@ impl<T> RawCell<T> {
         } else {
             None
         }
+    }
+
+    /// Returns the value of a cell that is full, or waits until there is one. The value stands there before the word says so, and
+    /// so who has found the cell full doesn't wait.
+    pub fn made<R: Wait>(&self, rt: &R) -> &T {
+        self.value.wait(rt)
     }
 
     /// Returns what the cell was at some moment of the call: one load, which waits for nobody.

@@ -1,7 +1,8 @@
 //! The programs that have no branch, or one alone, carried out straight: a try, and what a dropped future gives back.
 
-ghost use Rattle.std.specs.Prelude.{◌≡◌, Some, IfErr, IfSome, true, false};
-ghost use Rattle.once_cell_driver.specs.Parties.{IsTiedTo, having_at, having_of};
+ghost use Rattle.std.specs.Prelude.{◌≡◌, Bool, Some, IfErr, IfSome, true, false};
+ghost use Rattle.once_cell_driver.specs.Parties.{IsTiedTo, having, having_at, having_of};
+ghost use Rattle.once_cell_driver.specs.Sides.{IsTied, half_of};
 ghost use Rattle.once_cell_driver.specs.Table.{CanPoll};
 ghost use Rattle.lock_program.specs.declared.end.End.TheVariants as ends;
 ghost use Rattle.lock_program.specs.declared.end.Next.TheVariants as next;
@@ -15,8 +16,9 @@ ghost use Rattle.sync_program.specs.declared.once_cell.Maker.TheVariants as make
 ghost use Rattle.sync_program.specs.declared.once_cell.Place.TheVariants as at;
 ghost use Rattle.sync_program.specs.declared.once_cell.Position.TheVariants as stands;
 
-use crate::party::CellParty;
+use crate::party::{CellParty, Work};
 use crate::raw::RawCell;
+use crate::side::Side;
 use async_driver::Owed;
 use std::sync::Wait;
 use sync_program::once_cell::{Left, Position};
@@ -96,28 +98,69 @@ impl<T: Drop> RawCell<T> {
         requires tied { IsTiedTo cell.now party }
         requires rests { CanPoll place × (having_of party ≡ having_at place) }
     {
-        cancel_rows();
         let CellParty {
-            mut seat,
-            mut active,
-            mut passive,
+            seat,
+            active,
+            passive,
             work,
             got: _,
         } = party;
         drop(work);
+        cell.give_back(rt, seat, active, passive, place);
+    }
+
+    /// Gives back what a party has that waits between two polls, as [`RawCell::cancel`], and returns its maker.
+    pub fn withdraw<'a, E: Drop, M: Drop, R: Wait>(
+        cell: &'a RawCell<T>,
+        rt: &R,
+        party: CellParty<'a, T, E, M>,
+        place: Left<()>,
+    ) -> M
+        requires tied { IsTiedTo cell.now party }
+        requires rests { CanPoll place × (having_of party ≡ having_at place) }
+        ensures { result ≡ party.entry.work.maker }
+    {
+        let CellParty {
+            seat,
+            active,
+            passive,
+            work,
+            got: _,
+        } = party;
+        cell.give_back(rt, seat, active, passive, place);
+        let Work {
+            maker,
+            made: _,
+            failed: _,
+        } = work;
+        maker
+    }
+
+    // The actions of a cancel.
+    fn give_back<R: Wait>(&self, rt: &R, seat: Seat, active: Side, passive: Side, place: Left<()>)
+        requires seat { seat.inner.table_id ≡ self.now.word.table }
+        requires active { IsTied self.now.active active }
+        requires passive { IsTied self.now.passive passive }
+        requires polls { CanPoll place }
+        requires rests { (got : Bool) × (having seat.inner.me.0.makes (half_of active) (half_of passive) got ≡ having_at place) }
+    {
+        cancel_rows();
+        let mut seat = seat;
+        let mut active = active;
+        let mut passive = passive;
         match place {
-            Left::Outside(Position::WaitingToMake(_)) => active.leave(cell.active.list(), rt),
-            Left::Outside(Position::Waiting) => passive.leave(cell.passive.list(), rt),
+            Left::Outside(Position::WaitingToMake(_)) => active.leave(self.active.list(), rt),
+            Left::Outside(Position::Waiting) => passive.leave(self.passive.list(), rt),
             Left::Outside(Position::Making(_)) => {
-                cell.words.empty(&mut seat);
-                active.owe(cell.active.list());
-                active.notify(cell.active.list(), rt);
+                self.words.empty(&mut seat);
+                active.owe(self.active.list());
+                active.notify(self.active.list(), rt);
             }
             _ => {}
         }
         active.end();
         passive.end();
-        cell.words.rise(seat);
+        self.words.rise(seat);
     }
 }
 

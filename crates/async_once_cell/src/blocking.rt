@@ -1,0 +1,166 @@
+//! The futures that blocking calls wait for. What they give borrows nothing: the cell's value is read afterwards.
+
+ghost use Rattle.std.specs.Prelude.{◌≡◌, IfOk, IfSome, Some};
+ghost use Rattle.async_once_cell.specs.Closures.{CanMake, CanTry, TryGives};
+ghost use Rattle.async_once_cell.specs.Faults.{BackSo, FailedSo};
+ghost use Rattle.futures.specs.Poll.{IfReady, OnPending};
+ghost use Rattle.futures.specs.Task.{Covers, Keeps};
+
+use crate::init::{GetOrInit, GetOrTryInit};
+use crate::set::Set;
+use crate::wait::Wait;
+use async_driver::Turn;
+use futures::Future;
+use futures::task::{Context, Poll};
+use lock_program::Refusal;
+use once_cell_driver::Origin;
+use std::marker::{Model, PhantomData};
+use std::sync::Wait as Waits;
+use std::time::Clock;
+
+/// A wait of a blocking call.
+#[derive(Drop)]
+pub(crate) struct BlockedWait<F>(pub(crate) F);
+
+impl<'a, T: Drop, R: Waits + Clock> Future for BlockedWait<Wait<'a, T, R>> {
+    type Output = Result<(), Refusal>;
+
+    fn poll(&mut self, cx: &mut Context<'_>) -> Poll<Result<(), Refusal>> {
+        match self.0.poll(cx) {
+            Turn::Pending => Poll::Pending,
+            Turn::Ready(_) => Poll::Ready(Ok(())),
+            Turn::Refused(refusal) => Poll::Ready(Err(refusal)),
+        }
+    }
+}
+
+/// An initialisation of a blocking call.
+#[derive(Drop)]
+pub(crate) struct BlockedInit<F>(pub(crate) F);
+
+impl<'a, T: Drop, R: Waits + Clock, F: FnOnce() -> Fut, Fut: Future<Output = T>> Future
+    for BlockedInit<GetOrInit<'a, T, R, F, Fut>> {
+    type Output = Result<(), Refusal>;
+
+    ghost can_poll = { λ b. IfSome b.0.maker (CanMake F.pre F.post Fut.can_poll) };
+
+    fn poll(&mut self, cx: &mut Context<'_>) -> Poll<Result<(), Refusal>> {
+        match self.0.poll(cx) {
+            Turn::Pending => Poll::Pending,
+            Turn::Ready(_) => Poll::Ready(Ok(())),
+            Turn::Refused(refusal) => Poll::Ready(Err(refusal)),
+        }
+    }
+}
+
+/// An initialisation of a blocking call that may fail.
+#[derive(Drop)]
+pub(crate) struct BlockedTry<F>(pub(crate) F);
+
+impl<
+    'a,
+    T: Drop,
+    E: Drop,
+    R: Waits + Clock,
+    F: FnOnce() -> Fut,
+    Fut: Future<Output = Result<T, E>>,
+> Future for BlockedTry<GetOrTryInit<'a, T, E, R, F, Fut>> {
+    type Output = Result<Result<(), E>, Refusal>;
+
+    ghost can_poll = { λ b. IfSome b.0.maker (CanTry F.pre F.post Fut.can_poll) };
+
+    ghost gives = { λ b got. IfOk got (FailedSo (TryGives F.post Fut.gives) b.0.maker) };
+
+    fn poll(&mut self, cx: &mut Context<'_>) -> Poll<Result<Result<(), E>, Refusal>> {
+        match self.0.poll(cx) {
+            Turn::Pending => Poll::Pending,
+            Turn::Ready(Ok(_)) => Poll::Ready(Ok(Ok(()))),
+            Turn::Ready(Err(fault)) => Poll::Ready(Ok(Err(fault))),
+            Turn::Refused(refusal) => Poll::Ready(Err(refusal)),
+        }
+    }
+}
+
+/// A set of a blocking call, with the value that was handed in (`O`), until it is ready.
+pub(crate) struct Kept<'a, T, R: Waits, O: Origin<T>> {
+    pub(crate) set: Set<'a, T, R>,
+    value: PhantomData<O>,
+}
+
+impl<'a, T, R: Waits, O: Origin<T>> Model for Kept<'a, T, R, O> {
+    ghost use Rattle.std.specs.Prelude.{◌≡◌, IfSome, Some};
+    ghost use Rattle.async_once_cell.specs.Futures.{Setting};
+    ghost use Rattle.async_once_cell.specs.declared.cell.OnceCell.{OnceCell};
+
+    ghost Value = { Setting (OnceCell T R) T };
+
+    ghost view = { λ k. k.set };
+
+    ghost invariant = { λ k. IfSome k.set.value (λ v. O.origin ≡ Some v) };
+}
+
+impl<'a, T: Drop, R: Waits, O: Origin<T>> Kept<'a, T, R, O> {
+    pub(crate) fn new(set: Set<'a, T, R>) -> Kept<'a, T, R, O>
+        requires { IfSome set.value (λ v. O.origin ≡ Some v) }
+        ensures { result ≡ set.entry }
+    {
+        Kept {
+            set,
+            value: PhantomData,
+        }
+    }
+
+    // One poll: whether the set was done, or its value back.
+    fn poll(&mut self, cx: &mut Context<'_>) -> Poll<Result<Result<(), T>, Refusal>>
+    where
+        R: Clock,
+        ensures value { IfReady result (BackSo O.origin) }
+        ensures registered { OnPending result (Covers cx.new (λ _. ⊥)) }
+        ensures kept { Keeps cx.old cx.new }
+    {
+        match self.set.poll(cx) {
+            Turn::Pending => Poll::Pending,
+            Turn::Ready(Ok(_)) => Poll::Ready(Ok(Ok(()))),
+            Turn::Ready(Err(value)) => Poll::Ready(Ok(Err(value))),
+            Turn::Refused(refusal) => Poll::Ready(Err(refusal)),
+        }
+    }
+
+    // The value, if the set wasn't ready.
+    pub(crate) fn into_value(self) -> Option<T>
+        ensures { IfSome result (λ v. O.origin ≡ Some v) }
+    {
+        let Kept { set, value: _ } = self;
+        set.into_value()
+    }
+}
+
+impl<T: Drop, R: Waits, O: Origin<T>> Drop for Kept<'_, T, R, O> {
+    fn drop(self) {
+        let Self { set: _, value: _ } = self;
+    }
+}
+
+/// The private future of a blocking set, which borrows the set.
+pub(crate) struct BlockedSet<'b, 'a, T, R: Waits, O: Origin<T>>(
+    pub(crate) &'b mut Kept<'a, T, R, O>,
+);
+
+impl<T, R: Waits, O: Origin<T>> Drop for BlockedSet<'_, '_, T, R, O> {
+    fn drop(self) {
+        let Self(_) = self;
+    }
+}
+
+impl<'b, 'a, T: Drop, R: Waits + Clock, O: Origin<T>> Future for BlockedSet<'b, 'a, T, R, O> {
+    type Output = Result<Result<(), T>, Refusal>;
+
+    ghost use Rattle.async_once_cell.specs.Faults.{BackSo};
+
+    ghost gives = { λ _ got. BackSo O.origin got };
+
+    fn poll(&mut self, cx: &mut Context<'_>) -> Poll<Result<Result<(), T>, Refusal>> {
+        let kept: &mut Kept<'a, T, R, O> = &mut *self.0;
+        kept.poll(cx)
+    }
+}

@@ -1,0 +1,98 @@
+//! Futures that are dropped while they are pending, with another behind them.
+
+use crate::polls::{assert_same, fresh, pends, task};
+use crate::steered::Step;
+use async_once_cell::Settled;
+use futures::task::Poll;
+
+// One that was notified, and is dropped before it looks: the next is woken and makes.
+#[test]
+fn a_notification_of_a_dropped_future_goes_on(rt: HostRuntime) {
+    let (one, two, three) = (task(&rt), task(&rt), task(&rt));
+    let (first, second, third) = (Step::new(), Step::new(), Step::new());
+    let cell = fresh::<u64, _>(rt);
+    let mut making = Settled(cell.get_or_try_init(|| first.future()));
+    let mut told = Settled(cell.get_or_try_init(|| second.future()));
+    let mut behind = Settled(cell.get_or_try_init(|| third.future()));
+    assert!(rt; pends(&one, &mut making));
+    assert!(rt; pends(&two, &mut told));
+    assert!(rt; pends(&three, &mut behind));
+    drop(making);
+    assert!(rt; two.is_woken() && !three.is_woken());
+    drop(told);
+    assert!(rt; three.is_woken());
+    third.gives(3);
+    assert_same(&rt, three.poll(&mut behind), Poll::Ready(Ok(Ok(&3))));
+    assert_same(&rt, (second.counts(), third.counts()), ((0, 0), (1, 1)));
+}
+
+// One that wasn't notified: the one behind it is the next.
+#[test]
+fn a_dropped_future_leaves_its_list(rt: HostRuntime) {
+    let (one, two, three) = (task(&rt), task(&rt), task(&rt));
+    let (first, second, third) = (Step::new(), Step::new(), Step::new());
+    let cell = fresh::<u64, _>(rt);
+    let mut making = Settled(cell.get_or_try_init(|| first.future()));
+    let mut untold = Settled(cell.get_or_try_init(|| second.future()));
+    let mut behind = Settled(cell.get_or_try_init(|| third.future()));
+    assert!(rt; pends(&one, &mut making));
+    assert!(rt; pends(&two, &mut untold));
+    assert!(rt; pends(&three, &mut behind));
+    drop(untold);
+    assert!(rt; !three.is_woken());
+    first.fails();
+    assert_same(&rt, one.poll(&mut making), Poll::Ready(Ok(Err(()))));
+    assert!(rt; three.is_woken());
+    third.gives(3);
+    assert_same(&rt, three.poll(&mut behind), Poll::Ready(Ok(Ok(&3))));
+}
+
+// One that only waits, told and untold: the one behind it is woken all the same, since all are.
+#[test]
+fn a_dropped_wait_leaves_its_list(rt: HostRuntime) {
+    let (one, two, three) = (task(&rt), task(&rt), task(&rt));
+    let cell = fresh::<u64, _>(rt);
+    let mut untold = Settled(cell.wait());
+    let mut told = Settled(cell.wait());
+    let mut behind = Settled(cell.wait());
+    assert!(rt; pends(&one, &mut untold));
+    assert!(rt; pends(&two, &mut told));
+    assert!(rt; pends(&three, &mut behind));
+    drop(untold);
+    assert_same(&rt, cell.try_set(1), Ok(()));
+    assert!(rt; two.is_woken() && three.is_woken());
+    drop(told);
+    assert_same(&rt, three.poll(&mut behind), Poll::Ready(Ok(&1)));
+}
+
+// A set that waits and is dropped.
+#[test]
+fn a_dropped_set_leaves_its_list(rt: HostRuntime) {
+    let (one, two, three) = (task(&rt), task(&rt), task(&rt));
+    let step = Step::new();
+    let cell = fresh::<u64, _>(rt);
+    let mut making = Settled(cell.get_or_try_init(|| step.future()));
+    let mut setting = Settled(cell.set(1));
+    let mut behind = Settled(cell.set(2));
+    assert!(rt; pends(&one, &mut making));
+    assert!(rt; pends(&two, &mut setting));
+    assert!(rt; pends(&three, &mut behind));
+    drop(making);
+    assert!(rt; two.is_woken() && !three.is_woken());
+    drop(setting);
+    assert!(rt; three.is_woken());
+    assert_same(&rt, three.poll(&mut behind), Poll::Ready(Ok(Ok(&2))));
+}
+
+// A future that was never polled gives nothing back, and calls no closure.
+#[test]
+fn a_future_that_was_never_polled_does_nothing(rt: HostRuntime) {
+    let step = Step::new();
+    let cell = fresh::<u64, _>(rt);
+    drop(cell.get_or_try_init(|| step.future()));
+    drop(cell.set(1));
+    drop(cell.wait());
+    assert_same(&rt, step.counts(), (0, 0));
+    assert!(rt; !cell.is_initialized());
+    assert_same(&rt, cell.set_blocking(2), Ok(&2));
+}

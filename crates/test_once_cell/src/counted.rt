@@ -1,0 +1,109 @@
+//! Values that count their drops: each is dropped once, whichever way it goes.
+
+use crate::polls::{assert_same, fresh, pends, task};
+use crate::steered::Step;
+use async_once_cell::{OnceCell, Settled};
+use futures::future;
+use std::sync::atomic::{AtomicU64, Ordering};
+
+/// Adds one where it is dropped.
+struct Counts<'c> {
+    drops: &'c AtomicU64,
+}
+
+impl Drop for Counts<'_> {
+    fn drop(self) {
+        let Self { drops } = self;
+        drops.fetch_add(1, Ordering::SeqCst);
+    }
+}
+
+fn drops(count: &AtomicU64) -> u64 {
+    count.load(Ordering::SeqCst)
+}
+
+#[test]
+fn a_cells_value_is_dropped_with_it(rt: HostRuntime) {
+    let count = AtomicU64::new(0);
+    let cell = fresh::<Counts<'_>, _>(rt);
+    assert!(rt; cell.try_set(Counts { drops: &count }).is_ok());
+    assert_same(&rt, drops(&count), 0);
+    drop(cell);
+    assert_same(&rt, drops(&count), 1);
+}
+
+#[test]
+fn a_value_that_is_taken_is_dropped_by_its_owner(rt: HostRuntime) {
+    let count = AtomicU64::new(0);
+    let mut cell = fresh::<Counts<'_>, _>(rt);
+    assert!(rt; cell.set_blocking(Counts { drops: &count }).is_ok());
+    let taken = cell.take();
+    assert_same(&rt, drops(&count), 0);
+    drop(taken);
+    assert_same(&rt, drops(&count), 1);
+    drop(cell);
+    assert_same(&rt, drops(&count), 1);
+}
+
+#[test]
+fn a_value_that_comes_back_is_dropped_by_its_owner(rt: HostRuntime) {
+    let count = AtomicU64::new(0);
+    let Ok(cell) = OnceCell::with_value(rt, Counts { drops: &count }) else {
+        return;
+    };
+    drop(cell.try_set(Counts { drops: &count }));
+    assert_same(&rt, drops(&count), 1);
+    drop(cell.set_blocking(Counts { drops: &count }));
+    assert_same(&rt, drops(&count), 2);
+    drop(cell.into_inner());
+    assert_same(&rt, drops(&count), 3);
+}
+
+// A set that waits, and one that was never polled.
+#[test]
+fn a_dropped_sets_value_is_dropped(rt: HostRuntime) {
+    let count = AtomicU64::new(0);
+    let (one, two) = (task(&rt), task(&rt));
+    let cell = fresh::<Counts<'_>, _>(rt);
+    let mut making = Settled(cell.get_or_init(future::pending::<Counts<'_>>));
+    let mut setting = Settled(cell.set(Counts { drops: &count }));
+    assert!(rt; pends(&one, &mut making));
+    assert!(rt; pends(&two, &mut setting));
+    assert_same(&rt, drops(&count), 0);
+    drop(setting);
+    assert_same(&rt, drops(&count), 1);
+    drop(cell.set(Counts { drops: &count }));
+    assert_same(&rt, drops(&count), 2);
+}
+
+// A maker's value is in the cell, and no other is made.
+#[test]
+fn a_made_value_is_dropped_with_its_cell(rt: HostRuntime) {
+    let count = AtomicU64::new(0);
+    let cell = fresh::<Counts<'_>, _>(rt);
+    assert!(rt;
+        cell.get_or_init_blocking(|| Counts { drops: &count })
+            .is_ok()
+    );
+    assert!(rt;
+        cell.get_or_init_blocking(|| Counts { drops: &count })
+            .is_ok()
+    );
+    assert_same(&rt, drops(&count), 0);
+    drop(cell);
+    assert_same(&rt, drops(&count), 1);
+}
+
+// A dropped maker's future is dropped, once.
+#[test]
+fn a_dropped_makers_future_is_dropped(rt: HostRuntime) {
+    let one = task(&rt);
+    let step = Step::new();
+    let cell = fresh::<u64, _>(rt);
+    let mut making = Settled(cell.get_or_try_init(|| step.future()));
+    assert!(rt; pends(&one, &mut making));
+    assert_same(&rt, step.counts(), (1, 0));
+    drop(making);
+    assert_same(&rt, step.counts(), (1, 1));
+    assert_same(&rt, cell.set_blocking(1), Ok(&1));
+}

@@ -1,0 +1,44 @@
+//! Cells, tasks and polls of a test.
+
+ghost use Rattle.std.specs.Prelude.{◌≡◌, true};
+
+use async_once_cell::OnceCell;
+use futures::Future;
+use futures::task::Poll;
+use futures::test::MockTask;
+use std::alloc::AllocGlobal;
+use std::fmt::Debug;
+use std::process::Abort;
+use std::random::RandomSource;
+
+// Why a test here stops where memory is refused.
+const AMPLE: &str = "memory is ample";
+
+/// An empty cell.
+pub(crate) fn fresh<T: Drop, R: AllocGlobal + Abort + Copy + Drop>(rt: R) -> OnceCell<T, R> {
+    OnceCell::new(rt).expect(&rt, AMPLE)
+}
+
+/// A task that counts as not woken before its first poll.
+pub(crate) fn task<R: RandomSource + AllocGlobal + Abort>(rt: &R) -> MockTask {
+    let task = MockTask::new(rt).expect(rt, AMPLE);
+    task.enter(|_| ());
+    task
+}
+
+/// Polls a future once, and says whether it is pending, and so may be polled again.
+pub(crate) fn pends<F: Future<Output: Drop>>(task: &MockTask, future: &mut F) -> bool
+    requires { F.can_poll future.old }
+    ensures { result ≡ true → F.can_poll future.new }
+{
+    match task.poll(future) {
+        Poll::Pending => true,
+        Poll::Ready(_) => false,
+    }
+}
+
+/// Stops the test unless both are equal. Each test calls this in place of `assert_eq!`, since what that macro
+/// writes at each place takes many times as much to prove as a call.
+pub(crate) fn assert_same<T: PartialEq + Debug + Drop>(rt: &impl Abort, left: T, right: T) {
+    assert_eq!(rt; left, right);
+}

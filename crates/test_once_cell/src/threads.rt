@@ -1,0 +1,94 @@
+//! Threads that would all make the value of one cell.
+
+use crate::polls::{assert_same, fresh};
+use async_once_cell::OnceCell;
+use std::alloc::{AllocGlobal, Global};
+use std::process::Abort;
+use std::random::RandomSource;
+use std::sync::Wait;
+use std::sync::atomic::{AtomicU64, Ordering};
+use std::thread;
+use std::thread::Threads;
+use std::time::Clock;
+
+const THREADS: usize = 16;
+
+// What each of the threads got: the value, or none where its call was refused.
+fn got_by_all<R>(rt: &R, alloc: Global, cell: &OnceCell<u64, R>, called: &AtomicU64) -> Vec<u64>
+where
+    R: Wait + Clock + RandomSource + AllocGlobal + Threads + Sync + Send + Abort,
+{
+    let got = thread::map_indices(
+        rt,
+        alloc,
+        THREADS,
+        &|index| {
+            let made = cell.get_or_init_blocking(|| {
+                called.fetch_add(1, Ordering::SeqCst);
+                index as u64
+            });
+            match made {
+                Ok(value) => *value,
+                Err(_) => u64::MAX,
+            }
+        },
+    );
+    got.expect(rt, "memory is ample")
+}
+
+// One closure is called, and all see its value.
+#[test]
+fn one_of_many_threads_makes_the_value(rt: HostRuntime) {
+    for _ in 0..200u32 {
+        let called = AtomicU64::new(0);
+        let cell = fresh::<u64, _>(rt);
+        let got = got_by_all(&rt, rt.alloc(), &cell, &called);
+        let first = cell.into_inner().unwrap_or(u64::MAX);
+        assert_same(&rt, called.load(Ordering::SeqCst), 1);
+        assert!(rt; first < 16);
+        assert!(rt; got.iter().all(|value| *value == first));
+    }
+}
+
+// As above, where every second thread fails: what each of them got, and how many values were made.
+fn tried_by_all<R>(rt: &R, alloc: Global, cell: &OnceCell<u64, R>, made: &AtomicU64) -> Vec<u64>
+where
+    R: Wait + Clock + RandomSource + AllocGlobal + Threads + Sync + Send + Abort,
+{
+    let got = thread::map_indices(
+        rt,
+        alloc,
+        THREADS,
+        &|index| {
+            let tried = cell.get_or_try_init_blocking(|| {
+                thread::yield_now();
+                if index % 2 == 0 {
+                    return Err(());
+                }
+                made.fetch_add(1, Ordering::SeqCst);
+                Ok(index as u64)
+            });
+            match tried {
+                Ok(value) => *value,
+                Err(_) => u64::MAX,
+            }
+        },
+    );
+    got.expect(rt, "memory is ample")
+}
+
+#[test]
+fn one_value_enters_where_half_of_the_makers_fail(rt: HostRuntime) {
+    for _ in 0..200u32 {
+        let made = AtomicU64::new(0);
+        let cell = fresh::<u64, _>(rt);
+        let got = tried_by_all(&rt, rt.alloc(), &cell, &made);
+        let first = cell.into_inner().unwrap_or(u64::MAX);
+        assert_same(&rt, made.load(Ordering::SeqCst), 1);
+        assert!(rt; first % 2 == 1);
+        assert!(rt;
+            got.iter()
+                .all(|value| *value == first || *value == u64::MAX)
+        );
+    }
+}
