@@ -3,7 +3,8 @@
 use crate::polls::{assert_same, fresh, pends, task};
 use crate::steered::Step;
 use async_once_cell::{OnceCell, Settled};
-use futures::future;
+use futures::Future;
+use futures::task::{Context, Poll, Source, Waker};
 use std::sync::atomic::{AtomicU64, Ordering};
 
 /// Adds one where it is dropped.
@@ -20,6 +21,41 @@ impl Drop for Counts<'_> {
 
 fn drops(count: &AtomicU64) -> u64 {
     count.load(Ordering::SeqCst)
+}
+
+/// A future that never gives one.
+struct Never<'c> {
+    drops: &'c AtomicU64,
+    source: Source,
+    waker: Option<Waker>,
+}
+
+impl<'c> Never<'c> {
+    fn of(drops: &'c AtomicU64) -> Never<'c> {
+        Never {
+            drops,
+            source: Source::new(),
+            waker: None,
+        }
+    }
+}
+
+impl<'c> Future for Never<'c> {
+    type Output = Counts<'c>;
+
+    fn poll(&mut self, cx: &mut Context<'_>) -> Poll<Counts<'c>> {
+        cx.register(&self.source, &mut self.waker)
+    }
+}
+
+impl Drop for Never<'_> {
+    fn drop(self) {
+        let Self {
+            drops: _,
+            source: _,
+            waker: _,
+        } = self;
+    }
 }
 
 #[test]
@@ -65,7 +101,7 @@ fn a_dropped_sets_value_is_dropped(rt: HostRuntime) {
     let count = AtomicU64::new(0);
     let (one, two) = (task(&rt), task(&rt));
     let cell = fresh::<Counts<'_>, _>(rt);
-    let mut making = Settled(cell.get_or_init(future::pending::<Counts<'_>>));
+    let mut making = Settled(cell.get_or_init(|| Never::of(&count)));
     let mut setting = Settled(cell.set(Counts { drops: &count }));
     assert!(rt; pends(&one, &mut making));
     assert!(rt; pends(&two, &mut setting));
