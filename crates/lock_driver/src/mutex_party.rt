@@ -164,6 +164,10 @@ impl<T> RawMutex<T> {
         let Some(first) = MutexParty::<T>::start(call, place) else {
             unreachable!()
         };
+        // A wait for the lock begins here: what the party waited before, for another purpose, doesn't count.
+        if let Place::Out = place {
+            party.since = None;
+        }
         self.go_on(rt, cx, party, first)
     }
 
@@ -209,11 +213,7 @@ impl<T> RawMutex<T> {
         ensures pending { IfPending result.0 (IsReceipt self.now.words cx.new party.new.entry) }
         ensures kept { Keeps cx.old cx.new }
     {
-        let (end, place) = party.call(self, rt, cx, LockCall::Poll, place);
-        if let End::Pending = end {
-            party.waits(rt);
-        }
-        (end, place)
+        party.call(self, rt, cx, LockCall::Poll, place)
     }
 
     /// Gives the lock back by the seat that holds it, with the right to its value. The program of a release has no
@@ -520,7 +520,7 @@ impl<T> MutexParty<T> {
         }
     }
 
-    fn ask<R: Wait>(&mut self, raw: &RawMutex<T>, rt: &R, cx: &mut Context<'_>) -> Found
+    fn ask<R: Wait + Clock>(&mut self, raw: &RawMutex<T>, rt: &R, cx: &mut Context<'_>) -> Found
         requires seated { IsSeated raw.now.words self.old.seat self.old.hold }
         requires tied { IsTied raw.now.words.list self.old.entry self.old.owed }
         requires listed { IsSome self.old.entry }
@@ -541,6 +541,7 @@ impl<T> MutexParty<T> {
             }
             Heard::Waiting(entry) => {
                 put(&mut self.entry, entry);
+                self.waits(rt);
                 Found::No
             }
         }
