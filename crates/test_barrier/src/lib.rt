@@ -7,7 +7,11 @@
 #[cfg(test)]
 mod cancelled;
 #[cfg(test)]
+mod clocks;
+#[cfg(test)]
 mod held;
+#[cfg(test)]
+mod many;
 #[cfg(test)]
 mod rounds;
 #[cfg(test)]

@@ -1,6 +1,6 @@
 //! Whole generations on one thread: who leads, who is woken, and what a later poll answers.
 
-use crate::stories::{Answer, Deed, NOBODY, Name, ONE, ONE_AND_TWO, Row, TWO, play};
+use crate::stories::{Answer, Deed, NOBODY, Name, ONE, ONE_AND_TWO, Row, THREE, TWO, play};
 use async_barrier::Refusal;
 
 const THREE_MEET: [Row; 5] = [
@@ -104,4 +104,68 @@ const PAST_THE_LIMIT_OF_TWO: [Row; 6] = [
 #[test]
 fn a_refused_arrival_is_not_counted(rt: HostRuntime) {
     play(rt, 2, 1, &PAST_THE_LIMIT_OF_TWO);
+}
+
+// Three wait, and each is woken by the last.
+const FOUR_MEET: [Row; 7] = [
+    (Deed::Arrive(Name::One), Answer::Pending, NOBODY),
+    (Deed::Arrive(Name::Two), Answer::Pending, NOBODY),
+    (Deed::Arrive(Name::Three), Answer::Pending, NOBODY),
+    (
+        Deed::Arrive(Name::Four),
+        Answer::Leader,
+        [true, true, true, false],
+    ),
+    (Deed::Poll(Name::Three), Answer::Follower, ONE_AND_TWO),
+    (Deed::Poll(Name::One), Answer::Follower, TWO),
+    (Deed::Poll(Name::Two), Answer::Follower, NOBODY),
+];
+
+#[test]
+fn the_last_of_four_wakes_the_others(rt: HostRuntime) {
+    play(rt, 4, u64::MAX, &FOUR_MEET);
+}
+
+// Who leads, and who is refused, gives the inner lock on to the next who waits for it.
+const GIVEN_ON: [Row; 9] = [
+    (Deed::Hold, Answer::Done, NOBODY),
+    (Deed::Arrive(Name::One), Answer::Pending, NOBODY),
+    (Deed::Arrive(Name::Two), Answer::Pending, NOBODY),
+    (Deed::Arrive(Name::Three), Answer::Pending, NOBODY),
+    (Deed::Free, Answer::Done, ONE),
+    (Deed::Poll(Name::One), Answer::Leader, TWO),
+    (
+        Deed::Poll(Name::Two),
+        Answer::Refused(Refusal::Generations),
+        THREE,
+    ),
+    (
+        Deed::Poll(Name::Three),
+        Answer::Refused(Refusal::Generations),
+        NOBODY,
+    ),
+    (Deed::Hold, Answer::Done, NOBODY),
+];
+
+#[test]
+fn the_inner_lock_is_given_on(rt: HostRuntime) {
+    play(rt, 1, 1, &GIVEN_ON);
+}
+
+// Who follows gives the inner lock on too.
+const GIVEN_ON_BY_A_FOLLOWER: [Row; 9] = [
+    (Deed::Arrive(Name::One), Answer::Pending, NOBODY),
+    (Deed::Arrive(Name::Two), Answer::Pending, NOBODY),
+    (Deed::Arrive(Name::Three), Answer::Leader, ONE_AND_TWO),
+    (Deed::Hold, Answer::Done, ONE_AND_TWO),
+    (Deed::Poll(Name::One), Answer::Pending, TWO),
+    (Deed::Poll(Name::Two), Answer::Pending, NOBODY),
+    (Deed::Free, Answer::Done, ONE),
+    (Deed::Poll(Name::One), Answer::Follower, TWO),
+    (Deed::Poll(Name::Two), Answer::Follower, NOBODY),
+];
+
+#[test]
+fn a_follower_gives_the_inner_lock_on(rt: HostRuntime) {
+    play(rt, 3, u64::MAX, &GIVEN_ON_BY_A_FOLLOWER);
 }

@@ -1,5 +1,6 @@
 //! What happens round a barrier, row by row: what is done, what it answers, and which tasks were told by it.
 
+use crate::clocks::Fake;
 use crate::held::Held;
 use crate::same::assert_same;
 use async_barrier::lock_futures::BarrierWait;
@@ -11,6 +12,7 @@ use std::mem;
 use std::process::Abort;
 use std::random::RandomSource;
 use std::sync::Wait;
+use std::sync::atomic::{AtomicU64, Ordering};
 use std::time::Clock;
 
 /// Names a wait and the task that polls it.
@@ -37,6 +39,8 @@ pub(crate) enum Deed {
     Hold,
     /// Gives the inner lock back.
     Free,
+    /// Puts the clock to so many microseconds, in a story that has one.
+    At(u64),
 }
 
 /// What a deed answers.
@@ -129,6 +133,7 @@ type Future<'a, R> = Settled<BarrierWait<'a, R>>;
 struct Scene<'a, R: Wait> {
     barrier: &'a Barrier<R>,
     rt: &'a R,
+    micros: &'a AtomicU64,
     hand: Option<Held<'a, R>>,
     one: Option<Future<'a, R>>,
     two: Option<Future<'a, R>>,
@@ -142,6 +147,7 @@ impl<R: Wait> Drop for Scene<'_, R> {
         let Self {
             barrier: _,
             rt: _,
+            micros: _,
             hand: _,
             one: _,
             two: _,
@@ -203,6 +209,7 @@ impl<'a, R: Wait + Clock> Scene<'a, R> {
             Deed::Forget(name) => mem::forget(self.place(name).take()),
             Deed::Hold => return self.hold(),
             Deed::Free => self.hand = None,
+            Deed::At(micros) => self.micros.store(micros, Ordering::SeqCst),
         }
         Answer::Done
     }
@@ -214,15 +221,44 @@ pub(crate) fn play<R>(rt: R, size: usize, most: u64, rows: &[Row]) -> bool
 where
     R: Wait + Clock + RandomSource + AllocGlobal + Abort + Copy + Drop,
 {
-    let Ok(barrier) = Barrier::with_limit(rt, size, most) else {
-        return false;
-    };
-    let Some(tasks) = Tasks::new(&rt) else {
+    let micros = AtomicU64::new(0);
+    match Barrier::with_limit(rt, size, most) {
+        Ok(barrier) => play_by(&rt, &rt, &barrier, &micros, rows),
+        Err(_) => false,
+    }
+}
+
+/// As [`play`], of a barrier by a clock that the rows set.
+pub(crate) fn play_timed<R>(rt: R, size: usize, rows: &[Row]) -> bool
+where
+    R: Wait + Clock + RandomSource + AllocGlobal + Abort + Copy + Drop,
+{
+    let micros = AtomicU64::new(0);
+    match Barrier::new(Fake::new(rt, &micros), size) {
+        Ok(barrier) => play_by(&rt, &Fake::new(rt, &micros), &barrier, &micros, rows),
+        Err(_) => false,
+    }
+}
+
+// Carries out these rows round this barrier, and compares.
+fn play_by<'a, Q, R>(
+    rt: &Q,
+    own: &'a R,
+    barrier: &'a Barrier<R>,
+    micros: &'a AtomicU64,
+    rows: &[Row],
+) -> bool
+where
+    Q: RandomSource + AllocGlobal + Abort,
+    R: Wait + Clock,
+{
+    let Some(tasks) = Tasks::new(rt) else {
         return false;
     };
     let mut scene = Scene {
-        barrier: &barrier,
-        rt: &rt,
+        barrier,
+        rt: own,
+        micros,
         hand: None,
         one: None,
         two: None,
@@ -231,7 +267,7 @@ where
     };
     for (i, (deed, answer, woken)) in rows.iter().enumerate() {
         let found = scene.carry_out(&tasks, *deed);
-        assert_same(&rt, (i, found, tasks.woken()), (i, *answer, *woken));
+        assert_same(rt, (i, found, tasks.woken()), (i, *answer, *woken));
     }
     true
 }
