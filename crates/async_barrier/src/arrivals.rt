@@ -55,7 +55,7 @@ impl Arrivals {
     ghost use Rattle.async_barrier.specs.Counts.{FindsLook, FindsCheck};
 
     /// Nobody has arrived.
-    pub fn new(size: u64, most: u64) -> Arrivals
+    pub(crate) fn new(size: u64, most: u64) -> Arrivals
         ensures sizes { (result.size ≡ size) × (result.most ≡ most) }
         ensures none { (result.generation ≡ 0) × (result.count ≡ 0) }
     {
@@ -69,7 +69,7 @@ impl Arrivals {
 
     /// What the next arrival has to do: wait, since more have to come; lead its generation; or be refused, since it would
     /// finish a generation past the limit.
-    pub fn look(&self) -> Found
+    pub(crate) fn look(&self) -> Found
         ensures { FindsLook result self.now }
     {
         if self.size > 0 && self.count < self.size - 1 {
@@ -82,7 +82,7 @@ impl Arrivals {
     }
 
     /// One more arrival is counted, which doesn't finish its generation.
-    pub fn arrive(&mut self) -> Arrival
+    pub(crate) fn arrive(&mut self) -> Arrival
         requires { self.old.count + 1 < self.old.size }
         ensures count { self.new.count ≡ self.old.count + 1 }
         ensures same { (self.new.size ≡ self.old.size) × (self.new.most ≡ self.old.most) × (self.new.generation ≡ self.old.generation) }
@@ -100,7 +100,7 @@ impl Arrivals {
     }
 
     /// One more arrival is counted, which finishes its generation and leads it.
-    pub fn complete(&mut self) -> Led
+    pub(crate) fn complete(&mut self) -> Led
         requires last { self.old.size ≤ self.old.count + 1 }
         requires room { self.old.generation < self.old.most }
         ensures finished { (self.new.generation ≡ self.old.generation + 1) × (self.new.count ≡ 0) }
@@ -116,7 +116,7 @@ impl Arrivals {
     }
 
     /// Whether the generation of this arrival is finished.
-    pub fn check(&self, arrival: &Arrival) -> Checked
+    pub(crate) fn check(&self, arrival: &Arrival) -> Checked
         ensures { FindsCheck arrival.now.generation result self.now }
     {
         if self.generation == arrival.generation {

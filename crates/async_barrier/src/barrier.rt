@@ -3,6 +3,7 @@
 ghost use Rattle.std.specs.Prelude.{◌≡◌, IfErr, None, false};
 ghost use Rattle.lock_program.specs.declared.refusal.Refusal.{Refusal};
 
+use crate::arrivals::Verdict;
 use crate::raw::RawBarrier;
 use crate::wait::BarrierWait;
 use async_driver::Settled;
@@ -103,10 +104,15 @@ pub struct BarrierWaitResult {
 }
 
 impl BarrierWaitResult {
-    pub(crate) fn new(is_leader: bool) -> BarrierWaitResult
-        ensures { result.is_leader ≡ is_leader }
+    ghost use Rattle.async_barrier.specs.Counts.{leads};
+
+    // It is what the evidence tells.
+    pub(crate) fn new(verdict: Verdict) -> BarrierWaitResult
+        ensures { result.is_leader ≡ leads verdict }
     {
-        BarrierWaitResult { is_leader }
+        BarrierWaitResult {
+            is_leader: verdict.told(),
+        }
     }
 
     /// Whether this wait was the arrival that finished its generation. Of each generation exactly one is.

@@ -16,7 +16,7 @@ pub mod lock_futures {
     pub use crate::wait::BarrierWait;
 }
 
-pub use arrivals::Arrivals;
+pub use arrivals::{Arrivals, Verdict};
 pub use async_driver::{Polled, Settled, Turn};
 pub use barrier::{Barrier, BarrierWaitResult};
 pub use lock_program::Refusal;

@@ -2,7 +2,7 @@
 
 ghost use Rattle.std.specs.Prelude.{◌≡◌, Option, Some, IfSome, IfNone, IsSome};
 ghost use Rattle.async_barrier.specs.Actions.{CanDo, Does};
-ghost use Rattle.async_barrier.specs.Counts.{leads};
+ghost use Rattle.async_barrier.specs.Counts.{leads as leads_by};
 ghost use Rattle.async_barrier.specs.Parties.{CanPoll, IsPollCall, first_of, IsInside, IsTied, Stands, end_of, standing_of};
 ghost use Rattle.futures.specs.Task.{Keeps};
 ghost use Rattle.lock_driver.specs.Parties as lock;
@@ -62,10 +62,10 @@ pub struct BarrierParty {
 }
 
 impl BarrierParty {
-    /// How the wait of a party has ended that is ready: whether it led. The rest of it is dropped.
-    pub fn into_verdict(self, raw: &RawBarrier, leads: bool) -> bool
+    /// How the wait of a party has ended that is ready: its evidence. The rest of it is dropped.
+    pub fn into_verdict(self, raw: &RawBarrier, leads: bool) -> Verdict
         requires { Stands raw.now self (left.Ready leads) }
-        ensures { result ≡ leads }
+        ensures { leads_by result ≡ leads }
     {
         let BarrierParty {
             lock,
@@ -79,7 +79,7 @@ impl BarrierParty {
         nothing(entry);
         nothing(owed);
         match verdict {
-            Some(verdict) => verdict.told(),
+            Some(verdict) => verdict,
             None => unreachable!(),
         }
     }

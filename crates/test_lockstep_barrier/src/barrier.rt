@@ -202,7 +202,7 @@ impl Member {
         } = old;
         match place {
             Left::Ready { leads } => {
-                party.into_verdict(&shared, leads);
+                party.into_verdict(&shared, leads).told();
             }
             _ => unreachable!(),
         }

@@ -83,7 +83,7 @@ pub(crate) fn end<R: Wait>(walker: Party, bench: &Bench<R>, number: usize) {
     } = walker;
     match place {
         Left::Ready { leads } => {
-            party.into_verdict(&shared, leads);
+            party.into_verdict(&shared, leads).told();
         }
         Left::Outside(Position::At(_)) => {
             for _ in bench.forever() {}
