@@ -2,6 +2,7 @@
 use Rattle.std.specs.Prelude.{◌≡◌, ◌+◌, ◌<◌, ◌≤◌, IfSome, IsSome, Bool, true, false, is_some, Option, Some, None, ⊤}
 use Rattle.async_barrier.specs.Counts.{FindsLook}
 use Rattle.async_barrier.specs.Parties.{HasSeen, IsKeptIn, inside, verdict_of}
+use Rattle.async_barrier.specs.declared.arrivals.Arrivals.{Arrivals}
 use Rattle.async_barrier.specs.declared.party.BarrierParty.{BarrierParty}
 use Rattle.async_barrier.specs.declared.raw.RawBarrier.{RawBarrier}
 use Rattle.futures.specs.Task.{Covers}
@@ -58,12 +59,23 @@ IsLockStep raw cx c s q' = lock.IsStepOf c (end_of_step s) q'.lock_place
 abbrev pub TellsLock : RawBarrier → Context → Step → BarrierParty → Type 0
 TellsLock raw cx s q' = IfSome (end_of_step s) (λ e. lock.IfPending e (lock.IsReceipt raw.inner.words cx q'.lock.entry))
 
+-- how far the barrier is, before and after, for whoever has the inner lock
+abbrev pub OnCount : (Arrivals → Arrivals → Type 0) → BarrierParty → BarrierParty → Type 0
+OnCount fact q q' = IfSome q.lock.hold (λ h. IfSome q'.lock.hold (λ h'. fact h.value h'.value))
+
+-- one arrival more is counted; or a generation more is finished, and nobody is counted
+abbrev pub CountsOne : Arrivals → Arrivals → Type 0
+CountsOne w w' = (w'.count ≡ w.count + 1) × (w'.generation ≡ w.generation)
+
+abbrev pub FinishesOne : Arrivals → Arrivals → Type 0
+FinishesOne w w' = (w'.generation ≡ w.generation + 1) × (w'.count ≡ 0)
+
 -- what an action that found this does
 abbrev pub Does : RawBarrier → Context → Action → Found → BarrierParty → BarrierParty → Type 0
 Does raw cx act.Nothing f q q' = q' ≡ q
 Does raw cx act.Look f q q' = (q' ≡ q) × IfSome q.lock.hold (λ h. FindsLook f h.value)
-Does raw cx act.Arrive f q q' = (q'.lock_place ≡ q.lock_place) × SameEntry q q' × (is_some q'.owed ≡ is_some q.owed) × (verdict_of q'.verdict ≡ verdict_of q.verdict) × (is_some q'.arrival ≡ true)
-Does raw cx act.Complete f q q' = (q'.lock_place ≡ q.lock_place) × SameEntry q q' × (is_some q'.owed ≡ true) × (verdict_of q'.verdict ≡ Some true)
+Does raw cx act.Arrive f q q' = (q'.lock_place ≡ q.lock_place) × SameEntry q q' × (is_some q'.owed ≡ is_some q.owed) × (verdict_of q'.verdict ≡ verdict_of q.verdict) × (is_some q'.arrival ≡ true) × OnCount CountsOne q q'
+Does raw cx act.Complete f q q' = (q'.lock_place ≡ q.lock_place) × SameEntry q q' × (is_some q'.owed ≡ true) × (verdict_of q'.verdict ≡ Some true) × OnCount FinishesOne q q'
 Does raw cx act.Check found.Finished q q' = SameLock q q' × SameEntry q q' × (is_some q'.owed ≡ is_some q.owed) × (verdict_of q'.verdict ≡ Some false) × (is_some q'.arrival ≡ is_some q.arrival)
 Does raw cx act.Check found.Unfinished q q' = q' ≡ q
 Does raw cx act.Join found.Done q q' = SameLock q q' × SameRest q q' × (is_some q'.entry ≡ true)

@@ -1,7 +1,7 @@
 //! Where duties to notify begin, and where one ends by its list's key.
 //!
 //! Whoever gives back what others wait for owes a notification of their list. A duty to `no_writer` ends by a notification
-//! alone, since nobody has that list's key. The three calls that end a duty without one, each because somebody else is bound
+//! alone, since nobody has that list's key. The four calls that end a duty without one, each because somebody else is bound
 //! to notify or to look, stand here and nowhere else.
 
 ghost use Rattle.std.specs.Prelude.{◌≡◌, ◌%◌, true, false, IfSome};
