@@ -128,7 +128,9 @@ impl<T: Drop, R: Wait + Drop> RwLock<T, R> {
     }
 
     /// As [`RwLock::try_upgradable_read`], for a guard that has a share of the lock. It is `None` too if that share can't be had.
-    pub fn try_upgradable_read_arc(this: &Arc<RwLock<T, R>>) -> Option<RwLockUpgradableReadGuardArc<T, R>>
+    pub fn try_upgradable_read_arc(
+        this: &Arc<RwLock<T, R>>,
+    ) -> Option<RwLockUpgradableReadGuardArc<T, R>>
         ensures { IfSome result (λ guard. guard.lock ≡ arc_value this.now) }
     {
         let owner = Arc::try_clone(this).ok()?;
@@ -185,7 +187,9 @@ impl<T: Drop, R: Wait + Clock + RandomSource + AllocGlobal + Drop> RwLock<T, R> 
     }
 
     /// As [`RwLock::upgradable_read_blocking`], for a guard that has a share of the lock.
-    pub fn upgradable_read_arc_blocking(this: &Arc<RwLock<T, R>>) -> Result<RwLockUpgradableReadGuardArc<T, R>, Refusal>
+    pub fn upgradable_read_arc_blocking(
+        this: &Arc<RwLock<T, R>>,
+    ) -> Result<RwLockUpgradableReadGuardArc<T, R>, Refusal>
         ensures { IfOk result (λ guard. guard.lock ≡ arc_value this.now) }
     {
         match block_on(&this.rt, Settled(RwLock::upgradable_read_arc(this))) {
@@ -195,7 +199,9 @@ impl<T: Drop, R: Wait + Clock + RandomSource + AllocGlobal + Drop> RwLock<T, R> 
     }
 
     /// As [`RwLock::write_blocking`], for a guard that has a share of the lock.
-    pub fn write_arc_blocking(this: &Arc<RwLock<T, R>>) -> Result<RwLockWriteGuardArc<T, R>, Refusal>
+    pub fn write_arc_blocking(
+        this: &Arc<RwLock<T, R>>,
+    ) -> Result<RwLockWriteGuardArc<T, R>, Refusal>
         ensures { IfOk result (λ guard. guard.lock ≡ arc_value this.now) }
     {
         match block_on(&this.rt, Settled(RwLock::write_arc(this))) {

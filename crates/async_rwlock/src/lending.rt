@@ -16,9 +16,7 @@ impl<T, R> RwLock<T, R> {
         ensures pledged { result.1.badge.views ≡ [] }
     {
         let mut pledge = self.raw.words.pledge(seat);
-        let glance = self
-            .vault
-            .read(self.raw.words.shared(), &mut pledge.badge);
+        let glance = self.vault.read(self.raw.words.shared(), &mut pledge.badge);
         (glance, pledge)
     }
 
@@ -43,9 +41,7 @@ impl<T, R> RwLock<T, R> {
         ensures pledged { result.1.badge.views ≡ [] }
     {
         let mut pledge = self.raw.words.pledge(seat);
-        let grip = self
-            .vault
-            .write(self.raw.words.shared(), &mut pledge.badge);
+        let grip = self.vault.write(self.raw.words.shared(), &mut pledge.badge);
         (grip, pledge)
     }
 

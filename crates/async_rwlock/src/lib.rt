@@ -27,13 +27,12 @@ use std::sync::Arc;
 
 /// The futures of the lock.
 pub mod lock_futures {
-    use crate::rwlock::RwLock;
-    use std::sync::Arc;
-
     pub use crate::read::ReadFuture;
+    use crate::rwlock::RwLock;
     pub use crate::upgradable_read::UpgradableFuture;
     pub use crate::upgrade::UpgradeFuture;
     pub use crate::write::WriteFuture;
+    use std::sync::Arc;
 
     /// The future of [`RwLock::read`].
     pub type Read<'a, T, R> = ReadFuture<T, R, &'a RwLock<T, R>>;

@@ -7,8 +7,8 @@ ghost use Rattle.async_rwlock.specs.Stages.{HasReceiptAt, IsAsMade, IsOf, IsTurn
 ghost use Rattle.rwlock_driver.specs.declared.aim.Aim.TheVariants as aims;
 
 use crate::owns::Owns;
-use crate::stage::{Stage, Went, drop_as, poll_as};
 use crate::read_guard::ReadGuard;
+use crate::stage::{Stage, Went, drop_as, poll_as};
 use async_driver::{Polled, Turn};
 use futures::task::Context;
 use rwlock_driver::{Aim, Waiting};

@@ -35,12 +35,7 @@ impl<T: Drop, R: AllocGlobal + Drop> RwLock<T, R> {
 
     /// Creates a free lock as [`RwLock::new`] does, where at most `starved` waiters may be starved for the turn, and at most
     /// `readers` may read at once. A larger number stands for the greatest limit. It is for tests.
-    pub fn with_limits(
-        rt: R,
-        value: T,
-        starved: u64,
-        readers: u64,
-    ) -> Result<RwLock<T, R>, Refusal>
+    pub fn with_limits(rt: R, value: T, starved: u64, readers: u64) -> Result<RwLock<T, R>, Refusal>
         ensures memory { IfErr result (λ refusal. refusal ≡ Refusal.Memory) }
         ensures limits { IfOk result (λ lock. (lock.raw.words.starved ≡ min starved 1073741823) × (lock.raw.words.readers ≡ min readers 1073741823)) }
     {

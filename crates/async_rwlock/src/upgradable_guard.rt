@@ -4,10 +4,10 @@ ghost use Rattle.std.specs.Prelude.{◌≡◌, IfOk, IfErr};
 ghost use Rattle.rwlock_driver.specs.Rights.{Has, upgradable};
 ghost use Rattle.async_rwlock.specs.Stages.{IsOf};
 
+use crate::owns::Owns;
 use crate::read_guard::ReadGuard;
 use crate::upgrade::UpgradeFuture;
 use crate::write_guard::WriteGuard;
-use crate::owns::Owns;
 use async_driver::Settled;
 use futures::executor::block_on;
 use lock_program::Refusal;
@@ -149,7 +149,11 @@ impl<T: fmt::Display, R: Wait, O: Owns<T, R>> fmt::Display for UpgradableGuard<T
     }
 }
 
-impl<T: Drop, R: Wait + Clock + RandomSource + AllocGlobal, O: Owns<T, R>> UpgradableGuard<T, R, O> {
+impl<T: Drop, R: Wait + Clock + RandomSource + AllocGlobal, O: Owns<T, R>> UpgradableGuard<
+    T,
+    R,
+    O,
+> {
     /// Writes once nobody else reads, blocking the calling thread until then. If it is refused, which is for memory alone, the right is
     /// given up.
     pub fn upgrade_blocking(guard: Self) -> Result<WriteGuard<T, R, O>, Refusal>
@@ -158,10 +162,7 @@ impl<T: Drop, R: Wait + Clock + RandomSource + AllocGlobal, O: Owns<T, R>> Upgra
         let Some(owner) = guard.owner.again() else {
             return Err(Refusal::Memory);
         };
-        let settled = block_on(
-            &owner.lock().rt,
-            Settled(UpgradableGuard::upgrade(guard)),
-        );
+        let settled = block_on(&owner.lock().rt, Settled(UpgradableGuard::upgrade(guard)));
         drop(owner);
         match settled {
             Ok(settled) => settled,

@@ -3,9 +3,9 @@
 ghost use Rattle.std.specs.Prelude.{◌≡◌};
 ghost use Rattle.rwlock_driver.specs.Rights.{Has, writer};
 
+use crate::owns::Owns;
 use crate::read_guard::ReadGuard;
 use crate::upgradable_guard::UpgradableGuard;
-use crate::owns::Owns;
 use rwlock_vault::Grip;
 use std::fmt;
 use std::marker::{Model, PhantomData};

@@ -11,14 +11,14 @@ mod at_list;
 mod duty;
 mod finding;
 mod party;
-mod waiting;
 mod raw;
 mod straight;
 mod turn;
+mod waiting;
 
 pub use aim::{Aim, Call};
 pub use at_list::AtList;
 pub use finding::{Finding, Standing};
 pub use party::RwLockParty;
-pub use waiting::{Outcome, Waiting};
 pub use raw::RawRwLock;
+pub use waiting::{Outcome, Waiting};

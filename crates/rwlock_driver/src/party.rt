@@ -13,11 +13,10 @@ use crate::finding::{Finding, Standing};
 use crate::raw::RawRwLock;
 use async_driver::Carries;
 use futures::task::Context;
-use lock_program::mutex;
 use lock_program::rwlock::{
     Action, Found, Place, Purpose, RwLockCall, Wanted, action_at, decide, start,
 };
-use lock_program::{End, Next};
+use lock_program::{End, Next, mutex};
 use std::sync::Wait;
 use std::time::{Clock, Instant};
 use words_rwlock::Seat;

@@ -8,7 +8,9 @@ use std::thread::{self, Threads};
 use std::time::Clock;
 
 // What one thread reads.
-fn read<R: Wait + Clock + RandomSource + AllocGlobal>(lock: &RwLock<u64, R>) -> Result<u64, Refusal> {
+fn read<R: Wait + Clock + RandomSource + AllocGlobal>(
+    lock: &RwLock<u64, R>,
+) -> Result<u64, Refusal> {
     let guard = lock.read_blocking()?;
     Ok(*guard)
 }
