@@ -7,9 +7,15 @@ use lock_program::rwlock::{Ending, Place, Purpose, Wanted};
 pub(crate) fn code_of_place(place: Place) -> u64 {
     match place {
         Place::Out => 0,
-        Place::Made { wanted: Wanted::Read } => 1,
-        Place::Made { wanted: Wanted::UpgradableRead } => 2,
-        Place::Made { wanted: Wanted::Write } => 3,
+        Place::Made {
+            wanted: Wanted::Read,
+        } => 1,
+        Place::Made {
+            wanted: Wanted::UpgradableRead,
+        } => 2,
+        Place::Made {
+            wanted: Wanted::Write,
+        } => 3,
         Place::Reading => 4,
         Place::Upgradable => 5,
         Place::Writing => 6,
@@ -27,28 +33,68 @@ pub(crate) fn code_of_place(place: Place) -> u64 {
         Place::RefuseNotify { .. } => 18,
         Place::CancelRead => 19,
         Place::TryRead => 20,
-        Place::EnterTurn { purpose: Purpose::UpgradableRead } => 21,
-        Place::EnterTurn { purpose: Purpose::Write } => 22,
-        Place::WaitTurn { purpose: Purpose::UpgradableRead } => 23,
-        Place::WaitTurn { purpose: Purpose::Write } => 24,
-        Place::TakeTurn { purpose: Purpose::UpgradableRead } => 25,
-        Place::TakeTurn { purpose: Purpose::Write } => 26,
-        Place::TryTurn { purpose: Purpose::UpgradableRead } => 27,
-        Place::TryTurn { purpose: Purpose::Write } => 28,
+        Place::EnterTurn {
+            purpose: Purpose::UpgradableRead,
+        } => 21,
+        Place::EnterTurn {
+            purpose: Purpose::Write,
+        } => 22,
+        Place::WaitTurn {
+            purpose: Purpose::UpgradableRead,
+        } => 23,
+        Place::WaitTurn {
+            purpose: Purpose::Write,
+        } => 24,
+        Place::TakeTurn {
+            purpose: Purpose::UpgradableRead,
+        } => 25,
+        Place::TakeTurn {
+            purpose: Purpose::Write,
+        } => 26,
+        Place::TryTurn {
+            purpose: Purpose::UpgradableRead,
+        } => 27,
+        Place::TryTurn {
+            purpose: Purpose::Write,
+        } => 28,
         Place::CancelTurn => 29,
         Place::CancellingTurn => 30,
-        Place::ReleaseTurn { ending: Ending::GivenBack } => 31,
-        Place::ReleaseTurn { ending: Ending::NotFree { .. } } => 32,
-        Place::ReleaseTurn { ending: Ending::RefuseReaders } => 33,
-        Place::ReleaseTurn { ending: Ending::RefuseMemory } => 34,
-        Place::ReleaseTurn { ending: Ending::Reading } => 35,
-        Place::ReleaseTurn { ending: Ending::NotifyReaders } => 36,
-        Place::ReleasingTurn { ending: Ending::GivenBack } => 37,
-        Place::ReleasingTurn { ending: Ending::NotFree { .. } } => 38,
-        Place::ReleasingTurn { ending: Ending::RefuseReaders } => 39,
-        Place::ReleasingTurn { ending: Ending::RefuseMemory } => 40,
-        Place::ReleasingTurn { ending: Ending::Reading } => 41,
-        Place::ReleasingTurn { ending: Ending::NotifyReaders } => 42,
+        Place::ReleaseTurn {
+            ending: Ending::GivenBack,
+        } => 31,
+        Place::ReleaseTurn {
+            ending: Ending::NotFree { .. },
+        } => 32,
+        Place::ReleaseTurn {
+            ending: Ending::RefuseReaders,
+        } => 33,
+        Place::ReleaseTurn {
+            ending: Ending::RefuseMemory,
+        } => 34,
+        Place::ReleaseTurn {
+            ending: Ending::Reading,
+        } => 35,
+        Place::ReleaseTurn {
+            ending: Ending::NotifyReaders,
+        } => 36,
+        Place::ReleasingTurn {
+            ending: Ending::GivenBack,
+        } => 37,
+        Place::ReleasingTurn {
+            ending: Ending::NotFree { .. },
+        } => 38,
+        Place::ReleasingTurn {
+            ending: Ending::RefuseReaders,
+        } => 39,
+        Place::ReleasingTurn {
+            ending: Ending::RefuseMemory,
+        } => 40,
+        Place::ReleasingTurn {
+            ending: Ending::Reading,
+        } => 41,
+        Place::ReleasingTurn {
+            ending: Ending::NotifyReaders,
+        } => 42,
         Place::Add { trying: false } => 43,
         Place::Add { trying: true } => 44,
         Place::TryUpgrade => 45,
@@ -101,8 +147,14 @@ pub(crate) fn code_of_turn(place: TurnPlace) -> u64 {
         TurnPlace::Retry => 12,
         TurnPlace::PassOn => 13,
         TurnPlace::Count { listed: false, .. } => 14,
-        TurnPlace::Count { listed: true, told: false } => 15,
-        TurnPlace::Count { listed: true, told: true } => 16,
+        TurnPlace::Count {
+            listed: true,
+            told: false,
+        } => 15,
+        TurnPlace::Count {
+            listed: true,
+            told: true,
+        } => 16,
         TurnPlace::JoinStarved => 17,
         TurnPlace::LookAlone => 18,
         TurnPlace::PassOnListed => 19,

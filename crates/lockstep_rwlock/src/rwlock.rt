@@ -13,7 +13,7 @@ use rwlock_world::World;
 use std::alloc::{AllocFailed, Global};
 use std::sync::{Arc, Wait};
 use test_lockstep::bench::Bench;
-use test_lockstep::shell::{Beside, Dids, Setting, Shell, moved};
+use test_lockstep::shell::{Beside, Dids, Setting, Shell, Table, moved};
 use test_lockstep::walker::Acted;
 
 /// What a party can do next, by the driver.
@@ -47,10 +47,11 @@ pub(crate) struct RwLockShell {
     members: Vec<Member>,
 }
 
-/// A lock's World.
+/// A lock's World, which may go by another table than its own.
 #[derive(Drop)]
 pub(crate) struct RwLockTwin {
     world: World,
+    table: Table,
 }
 
 // The value, which nobody writes here.
@@ -219,11 +220,7 @@ impl Member {
         let acted = task.enter(|cx| self.party.go(bench, cx));
         let answer = self.answer(acted);
         Dids {
-            moves: [
-                Some(moved(What::Go(inputs(starving)), answer)),
-                None,
-                None,
-            ],
+            moves: [Some(moved(What::Go(inputs(starving)), answer)), None, None],
         }
     }
 
@@ -317,7 +314,33 @@ fn entry_there(world: &World, which: Which, index: usize) -> Seen {
 
 impl Beside for RwLockTwin {
     fn follow(&mut self, m: Move) -> Answer {
-        self.world.step(&m)
+        let Move { party, what } = m;
+        self.world.step(&Move {
+            party,
+            what: exchanged(self.table, what),
+        })
+    }
+}
+
+// The move, by whose inputs a World takes the row of another table.
+fn exchanged(table: Table, what: What) -> What {
+    match what {
+        What::Begin(call, inputs) => What::Begin(call, other_inputs(table, inputs)),
+        What::Go(inputs) => What::Go(other_inputs(table, inputs)),
+    }
+}
+
+fn other_inputs(table: Table, inputs: Inputs) -> Inputs {
+    match table {
+        Table::Own => inputs,
+        Table::WaitsExchanged => Inputs {
+            starving: !inputs.starving,
+            ..inputs
+        },
+        Table::JoinsExchanged => Inputs {
+            memory: !inputs.memory,
+            ..inputs
+        },
     }
 }
 
@@ -331,12 +354,13 @@ impl Shell for RwLockShell {
             alloc,
             parties,
             limit,
-            ..
+            table,
+            ways: _,
         } = setting;
         let world = World::with_limits(alloc, parties, VALUE, limit, MOST_READERS).ok()?;
         let lock = new_lock(alloc, limit, MOST_READERS)?;
         let members = new_members(bench, alloc, &lock, parties)?;
-        Some((RwLockShell { lock, members }, RwLockTwin { world }))
+        Some((RwLockShell { lock, members }, RwLockTwin { world, table }))
     }
 
     fn end<R: Wait>(self, bench: &Bench<R>) {

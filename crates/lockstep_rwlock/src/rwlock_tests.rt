@@ -23,20 +23,22 @@ fn setting<R: AllocGlobal>(rt: &R, parties: u32, limit: u32) -> Setting {
     }
 }
 
-// Shell and World never differ. A walk that was refused memory is none.
+// Stops the test with the schedule at the end of which shell and World differ.
 fn expect_alike<R: Abort>(bench: &Bench<R>, walk: Option<Walk>) {
-    if let Some(walk) = walk {
-        let Walk {
-            states, difference, ..
-        } = walk;
-        assert!(bench.rt(); difference.is_none(), "{difference:?}");
-        assert!(bench.rt(); states > 0, "{states} states");
+    let walk = walk.expect(bench.rt(), "memory for a walk");
+    assert_eq!(bench.rt(); walk.difference, None);
+}
+
+// A walk through each state. One that was refused memory, and so is none, is begun once more.
+fn through_states<R: Wait>(bench: &Bench<R>, setting: Setting, order: Order) -> Option<Walk> {
+    match walk_states::<RwLockShell, R>(bench, setting, order, MANY) {
+        None => walk_states::<RwLockShell, R>(bench, setting, order, MANY),
+        walk => walk,
     }
 }
 
 fn in_each_state<R: Wait + Abort>(bench: &Bench<R>, setting: Setting) {
-    let walk = walk_states::<RwLockShell, R>(bench, setting, Order::Far, MANY);
-    expect_alike(bench, walk);
+    expect_alike(bench, through_states(bench, setting, Order::Far));
 }
 
 #[test]
@@ -56,11 +58,11 @@ fn two_parties_are_refused_alike(rt: HostRuntime) {
 }
 
 fn by_chance<R: Wait + Abort>(bench: &Bench<R>, setting: Setting) {
-    let walk = walk_by_chance::<RwLockShell, R>(bench, setting, 17, 1000, 100);
-    if let Some(walk) = walk {
-        let Walk { difference, .. } = walk;
-        assert!(bench.rt(); difference.is_none(), "{difference:?}");
-    }
+    let walk = match walk_by_chance::<RwLockShell, R>(bench, setting, 17, 1000, 100) {
+        None => walk_by_chance::<RwLockShell, R>(bench, setting, 17, 1000, 100),
+        walk => walk,
+    };
+    expect_alike(bench, walk);
 }
 
 #[test]
@@ -68,5 +70,26 @@ fn four_parties_go_alike_by_chance(rt: HostRuntime) {
     let of_four = setting(&rt, 4, NO_LIMIT);
     if let Some(bench) = Bench::new(rt, 4) {
         by_chance(&bench, of_four);
+    }
+}
+
+// A walk beside a World of another table, by as few deeds as may be: how many moves show it.
+fn shown_by<R: Wait + Abort>(bench: &Bench<R>, setting: Setting, table: Table) -> usize {
+    let other = Setting { table, ..setting };
+    let walk = through_states(bench, other, Order::Near);
+    match walk.expect(bench.rt(), "memory for a walk").difference {
+        Some(moves) => moves.len(),
+        None => 0,
+    }
+}
+
+#[test]
+fn a_row_that_is_exchanged_is_seen(rt: HostRuntime) {
+    let of_two = setting(&rt, 2, NO_LIMIT);
+    if let Some(bench) = Bench::new(rt, 2) {
+        let joins = shown_by(&bench, of_two, Table::JoinsExchanged);
+        assert!(bench.rt(); joins > 0, "an exchanged join is seen by {joins} moves");
+        let waits = shown_by(&bench, of_two, Table::WaitsExchanged);
+        assert!(bench.rt(); waits > 0, "an exchanged wait is seen by {waits} moves");
     }
 }

@@ -213,8 +213,8 @@ impl RawRwLock {
         }
     }
 
-    // Ends a party that has nothing.
-    fn end(&self, party: RwLockParty)
+    /// Ends a party that has nothing.
+    pub fn end(&self, party: RwLockParty)
         requires of { IsOf self.now party }
         requires turn { turned party ≡ having false false false false }
         requires nothing { share_of party ≡ none }

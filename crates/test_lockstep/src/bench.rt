@@ -10,7 +10,7 @@ use std::time::{Clock, Duration};
 
 /// A runtime with a clock of its own, and a task for each party.
 #[derive(Drop)]
-pub(crate) struct Bench<R> {
+pub struct Bench<R> {
     rt: R,
     micros: AtomicU64,
     tasks: Vec<MockTask>,
@@ -30,7 +30,7 @@ impl<R> Clock for Bench<R> {
 
 impl<R: RandomSource + AllocGlobal> Bench<R> {
     /// A bench for so many parties; none if memory or a random number is refused.
-    pub(crate) fn new(rt: R, parties: u32) -> Option<Bench<R>>
+    pub fn new(rt: R, parties: u32) -> Option<Bench<R>>
     where
         R: Drop,
     {
@@ -48,17 +48,17 @@ impl<R: RandomSource + AllocGlobal> Bench<R> {
 
 impl<R> Bench<R> {
     /// The runtime that it was made of.
-    pub(crate) fn rt(&self) -> &R {
+    pub fn rt(&self) -> &R {
         &self.rt
     }
 
     /// Puts the clock to this time, in microseconds.
-    pub(crate) fn set_clock(&self, micros: u64) {
+    pub fn set_clock(&self, micros: u64) {
         self.micros.store(micros, Ordering::SeqCst);
     }
 
     /// The task of this party.
-    pub(crate) fn task(&self, party: usize) -> Option<&MockTask> {
+    pub fn task(&self, party: usize) -> Option<&MockTask> {
         self.tasks.get(party)
     }
 }

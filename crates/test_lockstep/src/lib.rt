@@ -1,18 +1,14 @@
 //! Lockstep: the parties of the locks for threads, driven by single actions in one thread, in every interleaving, beside
-//! their Worlds. There are tests here and nothing else, and no crate stands on it.
+//! their Worlds. The engine is public, for the other locks' lockstep tests; the mutex's stand here, and nothing else.
 #![tactic(auto)]
 
-#[cfg(test)]
-mod bench;
+pub mod bench;
 #[cfg(test)]
 mod mutex;
 #[cfg(test)]
 mod mutex_tests;
 #[cfg(test)]
 mod party;
-#[cfg(test)]
-mod shell;
-#[cfg(test)]
-mod walker;
-#[cfg(test)]
-mod walks;
+pub mod shell;
+pub mod walker;
+pub mod walks;

@@ -8,24 +8,24 @@ use std::sync::Wait;
 
 /// A World's move, with the answer that the shell gives to it.
 #[derive(Clone, Copy, Debug, PartialEq, Eq)]
-pub(crate) struct Did {
-    pub(crate) what: What,
-    pub(crate) answer: Answer,
+pub struct Did {
+    pub what: What,
+    pub answer: Answer,
 }
 
-pub(crate) fn moved(what: What, answer: Answer) -> Did {
+pub fn moved(what: What, answer: Answer) -> Did {
     Did { what, answer }
 }
 
 /// The moves that one deed of a shell's party amounts to, at most three.
 #[derive(Clone, Copy)]
-pub(crate) struct Dids {
-    pub(crate) moves: [Option<Did>; 3],
+pub struct Dids {
+    pub moves: [Option<Did>; 3],
 }
 
 /// Which ways the parties of a shell go.
 #[derive(Clone, Copy, PartialEq, Eq)]
-pub(crate) enum Ways {
+pub enum Ways {
     /// By the driver.
     Driver,
     /// As the public type goes: what is done most goes past the driver.
@@ -36,7 +36,7 @@ pub(crate) enum Ways {
 
 /// Which table the World goes by.
 #[derive(Clone, Copy, PartialEq, Eq)]
-pub(crate) enum Table {
+pub enum Table {
     /// Its own.
     Own,
     /// Of a long wait and a short one each has the other's row.
@@ -47,23 +47,23 @@ pub(crate) enum Table {
 
 /// Of which lock: with how many parties, that go which ways; how many may be starved; and beside which World.
 #[derive(Clone, Copy)]
-pub(crate) struct Setting {
-    pub(crate) alloc: Global,
-    pub(crate) parties: u32,
-    pub(crate) ways: Ways,
-    pub(crate) limit: u32,
-    pub(crate) table: Table,
+pub struct Setting {
+    pub alloc: Global,
+    pub parties: u32,
+    pub ways: Ways,
+    pub limit: u32,
+    pub table: Table,
 }
 
 /// What stands beside a shell and makes the same moves.
-pub(crate) trait Beside {
+pub trait Beside {
     /// One move.
     fn follow(&mut self, m: Move) -> Answer;
 }
 
 /// A lock that threads share, with its parties, each driven by single actions. It has no `Drop`, since its parties have
 /// none.
-pub(crate) trait Shell {
+pub trait Shell {
     /// The lock's World.
     type World: Beside + Drop;
     /// What a party can do next.

@@ -8,7 +8,7 @@ use std::time::Clock;
 
 /// What became of an action.
 #[derive(Clone, Copy)]
-pub(crate) enum Acted<E> {
+pub enum Acted<E> {
     /// The call goes on.
     On,
     /// The call has ended.
@@ -19,13 +19,13 @@ pub(crate) enum Acted<E> {
 
 /// A party with its share of the lock, and the place at which it stands. Its type keeps that it has what its place says,
 /// so that the action of its place may be carried out. It has no `Drop`, since its party has none.
-pub(crate) struct Walker<C: Carries>
+pub struct Walker<C: Carries>
 where
     C::Shared: Drop,
 {
-    pub(crate) shared: Arc<C::Shared>,
-    pub(crate) party: C,
-    pub(crate) place: C::Place,
+    pub shared: Arc<C::Shared>,
+    pub party: C,
+    pub place: C::Place,
 }
 
 impl<C: Carries> Model for Walker<C>
@@ -46,7 +46,7 @@ where
     C::Shared: Drop,
 {
     /// The action of the party's place.
-    pub(crate) fn go<R: Wait + Clock>(&mut self, rt: &R, cx: &mut Context<'_>) -> Acted<C::End> {
+    pub fn go<R: Wait + Clock>(&mut self, rt: &R, cx: &mut Context<'_>) -> Acted<C::End> {
         let place = self.place;
         let (end, next) = self.party.go(&*self.shared, rt, cx, place);
         self.place = next;
@@ -57,7 +57,7 @@ where
     }
 
     /// Begins a call with its first action.
-    pub(crate) fn begin<R: Wait + Clock>(
+    pub fn begin<R: Wait + Clock>(
         &mut self,
         rt: &R,
         cx: &mut Context<'_>,

@@ -12,7 +12,7 @@ use std::sync::Wait;
 
 /// A move that a shell's party made, and what the World answered.
 #[derive(Clone, Copy, Debug, PartialEq, Eq)]
-pub(crate) struct Line {
+pub struct Line {
     party: usize,
     did: Did,
     there: Answer,
@@ -20,15 +20,15 @@ pub(crate) struct Line {
 
 /// How a walk went.
 #[derive(Debug, Drop)]
-pub(crate) struct Walk {
+pub struct Walk {
     /// How often it began.
-    pub(crate) schedules: u64,
+    pub schedules: u64,
     /// How many deeds were done, also those that were done before.
-    pub(crate) deeds: u64,
+    pub deeds: u64,
     /// How many states were told apart, if they were.
-    pub(crate) states: usize,
+    pub states: usize,
     /// The schedule at the end of which shell and World differ.
-    pub(crate) difference: Option<Vec<Line>>,
+    pub difference: Option<Vec<Line>>,
 }
 
 impl Walk {
@@ -289,7 +289,7 @@ fn play_on<S: Shell, R: Wait>(
 }
 
 /// Every schedule of so many deeds. None where memory is refused.
-pub(crate) fn walk_schedules<S: Shell, R: Wait>(
+pub fn walk_schedules<S: Shell, R: Wait>(
     bench: &Bench<R>,
     setting: Setting,
     length: usize,
@@ -400,7 +400,7 @@ impl States {
 
 /// In which order the states are looked at.
 #[derive(Clone, Copy, PartialEq, Eq)]
-pub(crate) enum Order {
+pub enum Order {
     /// A walk goes on for as long as it comes to something new.
     Far,
     /// States that fewer deeds lead to come first, so that a difference is found by as few deeds as may be.
@@ -437,7 +437,7 @@ fn explore<S: Shell, R: Wait>(
 }
 
 /// Each deed in each state that the parties can come to, by schedules of any length. It is over once `most` states were reached. None where memory is refused.
-pub(crate) fn walk_states<S: Shell, R: Wait>(
+pub fn walk_states<S: Shell, R: Wait>(
     bench: &Bench<R>,
     setting: Setting,
     order: Order,
@@ -510,7 +510,7 @@ fn gamble<S: Shell, R: Wait>(
 }
 
 /// So many schedules of this length, by chance, each told by the seed. None where memory is refused.
-pub(crate) fn walk_by_chance<S: Shell, R: Wait>(
+pub fn walk_by_chance<S: Shell, R: Wait>(
     bench: &Bench<R>,
     setting: Setting,
     seed: u64,

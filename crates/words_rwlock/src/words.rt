@@ -137,6 +137,26 @@ impl Words {
         }
     }
 
+    /// Whether the turn was held at some moment of the call. It needs no seat, as the next three.
+    pub fn is_turn_held(&self) -> bool {
+        self.table.shared.peek(TURN) % 2 == 1
+    }
+
+    /// Returns how many seats were counted as starved for the turn at some moment of the call.
+    pub fn starved(&self) -> u64 {
+        self.table.shared.peek(TURN) / 2
+    }
+
+    /// Whether the writer's bit was set at some moment of the call.
+    pub fn is_marked(&self) -> bool {
+        self.table.shared.peek(STATE) % 2 == 1
+    }
+
+    /// Returns how many readers there were at some moment of the call.
+    pub fn readers(&self) -> u64 {
+        self.table.shared.peek(STATE) / 2
+    }
+
     /// Takes the turn if it is free and nobody is starved for it: one try.
     pub fn take(&self, seat: &mut Seat) -> Taking
         requires table { seat.old.inner.table_id ≡ self.now.table }
