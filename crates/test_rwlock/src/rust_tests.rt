@@ -1,0 +1,253 @@
+//! The tests of the Rust crate, under their names.
+
+use crate::party::{Answer, Deed};
+use crate::scene::{NOBODY, Name, Row, of_both};
+
+const SMOKE: [Row; 10] = [
+    (Name::One, Deed::Read, Answer::Ready(0), NOBODY),
+    (Name::One, Deed::Drop, Answer::GivenBack, NOBODY),
+    (Name::One, Deed::Write, Answer::Ready(0), NOBODY),
+    (Name::One, Deed::Drop, Answer::GivenBack, NOBODY),
+    (Name::One, Deed::Read, Answer::Ready(0), NOBODY),
+    (Name::Two, Deed::Read, Answer::Ready(0), NOBODY),
+    (Name::One, Deed::Drop, Answer::GivenBack, NOBODY),
+    (Name::Two, Deed::Drop, Answer::GivenBack, NOBODY),
+    (Name::One, Deed::Write, Answer::Ready(0), NOBODY),
+    (Name::One, Deed::Drop, Answer::GivenBack, NOBODY),
+];
+
+#[test]
+fn smoke(rt: HostRuntime) {
+    of_both(rt, 0, &SMOKE);
+}
+
+const TRY_WRITE: [Row; 4] = [
+    (Name::One, Deed::Read, Answer::Ready(0), NOBODY),
+    (Name::Two, Deed::TryWrite, Answer::Nothing, NOBODY),
+    (Name::One, Deed::Drop, Answer::GivenBack, NOBODY),
+    (Name::Two, Deed::TryWrite, Answer::Granted(0), NOBODY),
+];
+
+#[test]
+fn try_write(rt: HostRuntime) {
+    of_both(rt, 0, &TRY_WRITE);
+}
+
+const UPGRADE: [Row; 12] = [
+    (Name::One, Deed::Read, Answer::Ready(0), NOBODY),
+    (Name::Two, Deed::Read, Answer::Ready(0), NOBODY),
+    (Name::Three, Deed::UpgradableRead, Answer::Ready(0), NOBODY),
+    (Name::Four, Deed::Read, Answer::Ready(0), NOBODY),
+    (Name::One, Deed::Drop, Answer::GivenBack, NOBODY),
+    (Name::Two, Deed::Drop, Answer::GivenBack, NOBODY),
+    (Name::Four, Deed::Drop, Answer::GivenBack, NOBODY),
+    (Name::One, Deed::TryWrite, Answer::Nothing, NOBODY),
+    (Name::Three, Deed::TryUpgrade, Answer::Granted(0), NOBODY),
+    (Name::Three, Deed::Put(1), Answer::Granted(1), NOBODY),
+    (Name::Three, Deed::Drop, Answer::GivenBack, NOBODY),
+    (Name::One, Deed::Read, Answer::Ready(1), NOBODY),
+];
+
+#[test]
+fn upgrade(rt: HostRuntime) {
+    of_both(rt, 0, &UPGRADE);
+}
+
+const NOT_UPGRADE: [Row; 14] = [
+    (Name::One, Deed::Read, Answer::Ready(0), NOBODY),
+    (Name::Two, Deed::Read, Answer::Ready(0), NOBODY),
+    (Name::Three, Deed::UpgradableRead, Answer::Ready(0), NOBODY),
+    (Name::Four, Deed::Read, Answer::Ready(0), NOBODY),
+    (Name::One, Deed::Drop, Answer::GivenBack, NOBODY),
+    (Name::Two, Deed::Drop, Answer::GivenBack, NOBODY),
+    (Name::Four, Deed::Drop, Answer::GivenBack, NOBODY),
+    (Name::Three, Deed::Drop, Answer::GivenBack, NOBODY),
+    (Name::One, Deed::Read, Answer::Ready(0), NOBODY),
+    (Name::One, Deed::Drop, Answer::GivenBack, NOBODY),
+    (Name::One, Deed::Write, Answer::Ready(0), NOBODY),
+    (Name::One, Deed::Put(1), Answer::Granted(1), NOBODY),
+    (Name::One, Deed::Drop, Answer::GivenBack, NOBODY),
+    (Name::One, Deed::Read, Answer::Ready(1), NOBODY),
+];
+
+#[test]
+fn not_upgrade(rt: HostRuntime) {
+    of_both(rt, 0, &NOT_UPGRADE);
+}
+
+const CONCURRENT_WRITER: [Row; 10] = [
+    (Name::One, Deed::UpgradableRead, Answer::Ready(0), NOBODY),
+    (Name::Two, Deed::Write, Answer::Pending, NOBODY),
+    (Name::One, Deed::Upgrade, Answer::Waiting, NOBODY),
+    (Name::One, Deed::Poll, Answer::Ready(0), NOBODY),
+    (Name::One, Deed::Put(2), Answer::Granted(2), NOBODY),
+    (
+        Name::One,
+        Deed::Drop,
+        Answer::GivenBack,
+        (false, true, false, false),
+    ),
+    (
+        Name::Two,
+        Deed::Drop,
+        Answer::GivenBack,
+        (false, true, false, false),
+    ),
+    (
+        Name::Three,
+        Deed::Write,
+        Answer::Ready(2),
+        (false, true, false, false),
+    ),
+    (
+        Name::Three,
+        Deed::Drop,
+        Answer::GivenBack,
+        (false, true, false, false),
+    ),
+    (
+        Name::Three,
+        Deed::Read,
+        Answer::Ready(2),
+        (false, true, false, false),
+    ),
+];
+
+#[test]
+fn upgradable_with_concurrent_writer(rt: HostRuntime) {
+    of_both(rt, 0, &CONCURRENT_WRITER);
+}
+
+const CANCELLATION: [Row; 14] = [
+    (Name::One, Deed::Read, Answer::Ready(0), NOBODY),
+    (Name::One, Deed::Drop, Answer::GivenBack, NOBODY),
+    (Name::One, Deed::UpgradableRead, Answer::Ready(0), NOBODY),
+    (Name::One, Deed::Drop, Answer::GivenBack, NOBODY),
+    (Name::One, Deed::Write, Answer::Ready(0), NOBODY),
+    (Name::One, Deed::Drop, Answer::GivenBack, NOBODY),
+    (Name::One, Deed::UpgradableRead, Answer::Ready(0), NOBODY),
+    (Name::One, Deed::Upgrade, Answer::Waiting, NOBODY),
+    (Name::One, Deed::Drop, Answer::GivenBack, NOBODY),
+    (Name::One, Deed::UpgradableRead, Answer::Ready(0), NOBODY),
+    (Name::One, Deed::Upgrade, Answer::Waiting, NOBODY),
+    (Name::One, Deed::Poll, Answer::Ready(0), NOBODY),
+    (Name::One, Deed::Drop, Answer::GivenBack, NOBODY),
+    (Name::One, Deed::TryWrite, Answer::Granted(0), NOBODY),
+];
+
+#[test]
+fn cancellation(rt: HostRuntime) {
+    of_both(rt, 0, &CANCELLATION);
+}
+
+const READ_BESIDE_WRITER: [Row; 4] = [
+    (Name::One, Deed::TryWrite, Answer::Granted(0), NOBODY),
+    (Name::Two, Deed::Read, Answer::Pending, NOBODY),
+    (
+        Name::One,
+        Deed::Drop,
+        Answer::GivenBack,
+        (false, true, false, false),
+    ),
+    (Name::Two, Deed::Poll, Answer::Ready(0), NOBODY),
+];
+
+const UPGRADABLE_BESIDE_WRITER: [Row; 4] = [
+    (Name::One, Deed::TryWrite, Answer::Granted(0), NOBODY),
+    (Name::Two, Deed::UpgradableRead, Answer::Pending, NOBODY),
+    (
+        Name::One,
+        Deed::Drop,
+        Answer::GivenBack,
+        (false, true, false, false),
+    ),
+    (Name::Two, Deed::Poll, Answer::Ready(0), NOBODY),
+];
+
+const WRITE_BESIDE_WRITER: [Row; 4] = [
+    (Name::One, Deed::TryWrite, Answer::Granted(0), NOBODY),
+    (Name::Two, Deed::Write, Answer::Pending, NOBODY),
+    (
+        Name::One,
+        Deed::Drop,
+        Answer::GivenBack,
+        (false, true, false, false),
+    ),
+    (Name::Two, Deed::Poll, Answer::Ready(0), NOBODY),
+];
+
+const WRITE_BESIDE_READER: [Row; 4] = [
+    (Name::One, Deed::TryRead, Answer::Granted(0), NOBODY),
+    (Name::Two, Deed::Write, Answer::Pending, NOBODY),
+    (
+        Name::One,
+        Deed::Drop,
+        Answer::GivenBack,
+        (false, true, false, false),
+    ),
+    (Name::Two, Deed::Poll, Answer::Ready(0), NOBODY),
+];
+
+const WRITE_BESIDE_UPGRADABLE: [Row; 4] = [
+    (
+        Name::One,
+        Deed::TryUpgradableRead,
+        Answer::Granted(0),
+        NOBODY,
+    ),
+    (Name::Two, Deed::Write, Answer::Pending, NOBODY),
+    (
+        Name::One,
+        Deed::Drop,
+        Answer::GivenBack,
+        (false, true, false, false),
+    ),
+    (Name::Two, Deed::Poll, Answer::Ready(0), NOBODY),
+];
+
+const UPGRADABLE_BESIDE_UPGRADABLE: [Row; 4] = [
+    (
+        Name::One,
+        Deed::TryUpgradableRead,
+        Answer::Granted(0),
+        NOBODY,
+    ),
+    (Name::Two, Deed::UpgradableRead, Answer::Pending, NOBODY),
+    (
+        Name::One,
+        Deed::Drop,
+        Answer::GivenBack,
+        (false, true, false, false),
+    ),
+    (Name::Two, Deed::Poll, Answer::Ready(0), NOBODY),
+];
+
+const UPGRADE_BESIDE_READER: [Row; 6] = [
+    (
+        Name::One,
+        Deed::TryUpgradableRead,
+        Answer::Granted(0),
+        NOBODY,
+    ),
+    (Name::Two, Deed::TryRead, Answer::Granted(0), NOBODY),
+    (Name::One, Deed::Upgrade, Answer::Waiting, NOBODY),
+    (Name::One, Deed::Poll, Answer::Pending, NOBODY),
+    (
+        Name::Two,
+        Deed::Drop,
+        Answer::GivenBack,
+        (true, false, false, false),
+    ),
+    (Name::One, Deed::Poll, Answer::Ready(0), NOBODY),
+];
+
+#[test]
+fn yields_when_contended(rt: HostRuntime) {
+    of_both(rt, 0, &READ_BESIDE_WRITER);
+    of_both(rt, 0, &UPGRADABLE_BESIDE_WRITER);
+    of_both(rt, 0, &WRITE_BESIDE_WRITER);
+    of_both(rt, 0, &WRITE_BESIDE_READER);
+    of_both(rt, 0, &WRITE_BESIDE_UPGRADABLE);
+    of_both(rt, 0, &UPGRADABLE_BESIDE_UPGRADABLE);
+    of_both(rt, 0, &UPGRADE_BESIDE_READER);
+}
