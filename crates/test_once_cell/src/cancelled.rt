@@ -26,6 +26,26 @@ fn a_notification_of_a_dropped_future_goes_on(rt: HostRuntime) {
     assert_same(&rt, (second.counts(), third.counts()), ((0, 0), (1, 1)));
 }
 
+// After a maker was dropped the cell is filled at once, before the one that was notified looks: all who would make are woken.
+#[test]
+fn a_try_that_fills_the_cell_wakes_all_who_would_make(rt: HostRuntime) {
+    let (one, two, three) = (task(&rt), task(&rt), task(&rt));
+    let (first, second, third) = (Step::new(), Step::new(), Step::new());
+    let cell = fresh::<u64, _>(rt);
+    let mut making = Settled(cell.get_or_try_init(|| first.future()));
+    let mut told = Settled(cell.get_or_try_init(|| second.future()));
+    let mut behind = Settled(cell.get_or_try_init(|| third.future()));
+    assert!(rt; pends(&one, &mut making));
+    assert!(rt; pends(&two, &mut told));
+    assert!(rt; pends(&three, &mut behind));
+    drop(making);
+    assert!(rt; two.is_woken() && !three.is_woken());
+    assert_same(&rt, cell.try_set(9), Ok(()));
+    assert!(rt; three.is_woken());
+    assert_same(&rt, three.poll(&mut behind), Poll::Ready(Ok(Ok(&9))));
+    assert_same(&rt, (second.counts(), third.counts()), ((0, 0), (0, 0)));
+}
+
 // One that wasn't notified: the one behind it is the next.
 #[test]
 fn a_dropped_future_leaves_its_list(rt: HostRuntime) {

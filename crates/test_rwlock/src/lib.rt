@@ -5,9 +5,13 @@
 #![tactic(auto)]
 
 #[cfg(test)]
+mod cancelled;
+#[cfg(test)]
 mod forms;
 #[cfg(test)]
 mod party;
+#[cfg(test)]
+mod rust_tests;
 #[cfg(test)]
 mod same;
 #[cfg(test)]
