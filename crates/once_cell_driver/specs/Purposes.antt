@@ -25,10 +25,10 @@ abbrev pub IsWaiting : Purpose → Type 0
 IsWaiting Waits = ⊤
 IsWaiting _ = ⊥
 
--- whose maker may be pending
+-- whose maker may be pending: not one that has its value from the beginning
 abbrev pub IsAwaited : Purpose → Type 0
-IsAwaited Makes = ⊤
-IsAwaited _ = ⊥
+IsAwaited Sets = ⊥
+IsAwaited _ = ⊤
 
 -- a fact of a party that sets
 abbrev pub OnSets : Purpose → Type 0 → Type 0

@@ -54,7 +54,7 @@ pub trait Maker<T, E>: Drop {
         ensures kept { Keeps cx.old cx.new };
 }
 
-/// The maker of a party that only waits.
+/// The maker of a party that only waits. No program asks it: it would be pending, and give nothing.
 #[derive(Drop)]
 pub struct Nobody;
 
@@ -63,7 +63,7 @@ impl<T> Maker<T, Infallible> for Nobody {
 
     ghost is_new = { λ _. ⊤ };
 
-    ghost can_make = { λ _. ⊥ };
+    ghost can_make = { λ _. ⊤ };
 
     fn first_place() -> Left<()> {
         Left::Outside(Position::ToWait)
@@ -74,7 +74,6 @@ impl<T> Maker<T, Infallible> for Nobody {
     ghost gives = { λ _ _. ⊥ };
 
     fn make(&mut self, cx: &mut Context<'_>) -> Poll<Result<T, Infallible>> {
-        let _ = cx;
-        unreachable!()
+        cx.yield_now()
     }
 }
