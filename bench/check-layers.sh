@@ -28,7 +28,7 @@ if [ -n "$named" ]; then
 fi
 echo 'what is inside a mutex is named by no crate above it'
 
-shells='async_driver lock_place lock_words lock_driver async_mutex'
+shells='async_driver lock_place lock_words lock_driver async_mutex words_base words_rwlock words_once_cell words_semaphore rwlock_vault rwlock_driver async_rwlock once_cell_driver async_once_cell async_barrier'
 worlds='world_[a-z_]+|lock_core|lock_audit'
 for shell in $shells; do
     line=$(grep -E "^$shell( [a-z_=0-9]*)?:" crates.txt) || {
