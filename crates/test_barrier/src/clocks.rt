@@ -1,5 +1,5 @@
-//! What the clock says of a wait for the inner lock: who was overtaken for too long goes first. The rows are those of the
-//! programs: 04, section 2, for the inner lock, and section 6.
+//! What the clock says of a wait for the inner lock: who was overtaken for too long goes first. The rows are those of a
+//! mutex's program and of the barrier's.
 
 use crate::stories::{Answer, Deed, NOBODY, Name, ONE, Row, TWO, play_timed};
 use std::alloc::{Alloc, AllocGlobal, Global};
