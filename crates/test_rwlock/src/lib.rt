@@ -7,6 +7,8 @@
 #[cfg(test)]
 mod cancelled;
 #[cfg(test)]
+mod clocks;
+#[cfg(test)]
 mod forms;
 #[cfg(test)]
 mod party;

@@ -3,6 +3,7 @@
 //! One scene carries out the rows of all stories, over any form, so that the prover follows what a lock
 //! promises through the scene once, and not through each story.
 
+use crate::clocks::Fake;
 use crate::forms::{Form, owned};
 use crate::party::{Answer, Deed, Party};
 use crate::same::assert_same;
@@ -13,6 +14,7 @@ use std::mem;
 use std::process::Abort;
 use std::random::RandomSource;
 use std::sync::Wait;
+use std::sync::atomic::{AtomicU64, Ordering};
 use std::time::Clock;
 
 /// Names a party, and its task.
@@ -206,4 +208,24 @@ where
         Ok(lock) => play(&rt, &lock, rows),
         Err(_) => false,
     }
+}
+
+/// As [`of_borrowed`], of a lock of 0 where at most so many may be starved for the turn, each row at its time, in microseconds.
+pub(crate) fn of_timed<R>(rt: R, starved: u64, rows: &[(u64, Row)]) -> bool
+where
+    R: Wait + Clock + RandomSource + AllocGlobal + Abort + Copy + Drop,
+{
+    let micros = AtomicU64::new(0);
+    let Ok(lock) = RwLock::with_limits(Fake::new(rt, &micros), 0, starved, 10) else {
+        return false;
+    };
+    let Some(tasks) = Tasks::new(&rt) else {
+        return false;
+    };
+    let mut scene = Scene::new(&lock);
+    for (at, row) in rows.iter() {
+        micros.store(*at, Ordering::SeqCst);
+        scene.play(&rt, &tasks, &[*row]);
+    }
+    true
 }

@@ -1,0 +1,105 @@
+//! What the clock says of a waiter for the turn.
+
+use crate::party::{Answer, Deed};
+use crate::scene::{NOBODY, Name, Row, Woken, of_timed};
+use async_rwlock::Refusal;
+use std::alloc::{Alloc, AllocGlobal, Global};
+use std::io;
+use std::random::RandomSource;
+use std::sync::Wait;
+use std::sync::atomic::{AtomicU64, Ordering};
+use std::time::{Clock, Duration};
+
+/// A runtime of a test's own: its clock stands where the test puts it. It has no random numbers.
+#[derive(Drop)]
+pub(crate) struct Fake<'a, R> {
+    rt: R,
+    micros: &'a AtomicU64,
+}
+
+impl<'a, R> Fake<'a, R> {
+    /// A runtime by this clock, in microseconds.
+    pub(crate) fn new(rt: R, micros: &'a AtomicU64) -> Fake<'a, R> {
+        Fake { rt, micros }
+    }
+}
+
+impl<R: Wait> Wait for Fake<'_, R> {}
+
+impl<R> Clock for Fake<'_, R> {
+    fn monotonic(&self) -> io::Result<Duration> {
+        Ok(Duration::from_micros(self.micros.load(Ordering::SeqCst)))
+    }
+
+    fn since_1970(&self) -> io::Result<Duration> {
+        Err(io::Error::other("no clock"))
+    }
+}
+
+impl<R> RandomSource for Fake<'_, R> {
+    fn fill_bytes(&self, _buf: &mut [u8]) -> io::Result<()> {
+        Err(io::Error::other("no random numbers"))
+    }
+}
+
+impl<R: AllocGlobal> Alloc for Fake<'_, R> {
+    type A = Global;
+
+    fn alloc(&self) -> Global {
+        self.rt.alloc()
+    }
+}
+
+const TWO: Woken = (false, true, false, false);
+
+// So many may be starved.
+const SOME: u64 = 10;
+
+// A write waits for the turn from the beginning, is polled once more at one time, and is overtaken at another. What a look finds
+// then says whether it was counted as starved: the starved one alone may have the turn.
+fn overtaken(polled: u64, at: u64, look: Answer) -> [(u64, Row); 8] {
+    [
+        (0, (Name::One, Deed::Write, Answer::Ready(0), NOBODY)),
+        (0, (Name::Two, Deed::Write, Answer::Pending, NOBODY)),
+        (polled, (Name::Two, Deed::Poll, Answer::Pending, NOBODY)),
+        (at, (Name::One, Deed::Drop, Answer::GivenBack, TWO)),
+        (at, (Name::Three, Deed::TryWrite, Answer::Granted(0), TWO)),
+        (at, (Name::Two, Deed::Poll, Answer::Pending, NOBODY)),
+        (at, (Name::Three, Deed::Drop, Answer::GivenBack, TWO)),
+        (at, (Name::Four, Deed::TryUpgradableRead, look, TWO)),
+    ]
+}
+
+#[test]
+fn more_than_500_microseconds_are_long(rt: HostRuntime) {
+    of_timed(rt, SOME, &overtaken(0, 500, Answer::Granted(0)));
+    of_timed(rt, SOME, &overtaken(0, 501, Answer::Nothing));
+}
+
+#[test]
+fn a_wait_is_as_long_as_since_its_first_poll(rt: HostRuntime) {
+    of_timed(rt, SOME, &overtaken(400, 600, Answer::Nothing));
+}
+
+// As many are starved as may be: the one that would count is refused, and hands on what it was told.
+const AT_THE_LIMIT: [(u64, Row); 6] = [
+    (0, (Name::One, Deed::Write, Answer::Ready(0), NOBODY)),
+    (0, (Name::Two, Deed::Write, Answer::Pending, NOBODY)),
+    (501, (Name::One, Deed::Drop, Answer::GivenBack, TWO)),
+    (501, (Name::Three, Deed::TryWrite, Answer::Granted(0), TWO)),
+    (
+        501,
+        (
+            Name::Two,
+            Deed::Poll,
+            Answer::Refused(Refusal::Starved),
+            NOBODY,
+        ),
+    ),
+    (501, (Name::Three, Deed::Drop, Answer::GivenBack, NOBODY)),
+];
+
+#[test]
+fn too_many_starved_waiters_are_refused(rt: HostRuntime) {
+    of_timed(rt, 0, &AT_THE_LIMIT);
+}
