@@ -17,10 +17,25 @@ fn setting<R: AllocGlobal>(rt: &R, parties: u32, size: u64) -> Setting {
     }
 }
 
-// A walk that was refused memory, and so is none, is begun once more.
-fn again<F: Fn() -> Option<Walk>>(walk: F) -> Option<Walk> {
-    match walk() {
-        None => walk(),
+// Each walk that was refused memory, and so is none, is begun once more.
+
+fn through_states<R: Wait>(bench: &Bench<R>, setting: Setting) -> Option<Walk> {
+    match walk_states::<BarrierShell, R>(bench, setting, Order::Far, MANY) {
+        None => walk_states::<BarrierShell, R>(bench, setting, Order::Far, MANY),
+        walk => walk,
+    }
+}
+
+fn through_schedules<R: Wait>(bench: &Bench<R>, setting: Setting) -> Option<Walk> {
+    match walk_schedules::<BarrierShell, R>(bench, setting, 9) {
+        None => walk_schedules::<BarrierShell, R>(bench, setting, 9),
+        walk => walk,
+    }
+}
+
+fn by_chance<R: Wait>(bench: &Bench<R>, setting: Setting) -> Option<Walk> {
+    match walk_by_chance::<BarrierShell, R>(bench, setting, 17, 1000, 100) {
+        None => walk_by_chance::<BarrierShell, R>(bench, setting, 17, 1000, 100),
         walk => walk,
     }
 }
@@ -32,8 +47,7 @@ fn expect_alike<R: Abort>(bench: &Bench<R>, walk: Option<Walk>) {
 }
 
 fn in_each_state<R: Wait + Abort>(bench: &Bench<R>, setting: Setting) {
-    let walk = again(|| walk_states::<BarrierShell, R>(bench, setting, Order::Far, MANY));
-    expect_alike(bench, walk);
+    expect_alike(bench, through_states(bench, setting));
 }
 
 #[test]
@@ -50,8 +64,7 @@ fn two_parties_go_on_alike_in_each_state(rt: HostRuntime) {
 fn three_parties_go_alike_by_each_schedule(rt: HostRuntime) {
     let of_three = setting(&rt, 3, 2);
     if let Some(bench) = Bench::new(rt, 3) {
-        let walk = again(|| walk_schedules::<BarrierShell, _>(&bench, of_three, 9));
-        expect_alike(&bench, walk);
+        expect_alike(&bench, through_schedules(&bench, of_three));
     }
 }
 
@@ -65,8 +78,7 @@ fn three_parties_go_alike_by_chance(rt: HostRuntime) {
                 generations: 9,
                 ..of_three
             };
-            let walk = again(|| walk_by_chance::<BarrierShell, _>(&bench, of_size, 17, 1000, 100));
-            expect_alike(&bench, walk);
+            expect_alike(&bench, by_chance(&bench, of_size));
         }
     }
 }

@@ -1,5 +1,7 @@
 //! Numbers for what a party and an entry are, by which a walk tells states apart.
 
+ghost use Rattle.std.specs.Prelude.{◌<◌};
+
 use lock_event::Mark;
 use lock_program::mutex::Place as LockPlace;
 use sync_program::barrier::{Aim, Ending, Left, Place, Position};
@@ -16,8 +18,10 @@ pub(crate) fn code_of_entry(entry: Option<(Option<u32>, Mark)>) -> u64 {
     }
 }
 
-/// A number for where a party stands at the barrier and at its inner lock.
-pub(crate) fn code_of_standing(place: Left, lock_place: LockPlace) -> u64 {
+/// A number below 1,344 for where a party stands at the barrier and at its inner lock.
+pub(crate) fn code_of_standing(place: Left, lock_place: LockPlace) -> u64
+    ensures { result < 1344 }
+{
     code_of_place(place) * 32 + code_of_lock_place(lock_place)
 }
 
