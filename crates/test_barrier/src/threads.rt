@@ -46,20 +46,33 @@ fn counters<R: AllocGlobal>(rt: &R, rounds: u32) -> Option<Vec<AtomicU64>> {
     Some(counters)
 }
 
-// So many threads meet so many times. In each round one of them leads.
+// So many threads meet so many times. They are started in a function of their own, which is handed the barrier.
+fn meet_in_threads<'x, R>(
+    rt: &'x R,
+    barrier: &'x Barrier<R>,
+    rounds: &'x Vec<AtomicU64>,
+    threads: u32,
+)
+where
+    R: Wait + Clock + RandomSource + AllocGlobal + Abort + Threads + Sync,
+{
+    thread::scope(thread::scope_env(), rt, |scope| {
+        for _ in 0..threads {
+            scope
+                .spawn(move || meet_each_round(barrier, rounds))
+                .expect(rt, STARTED);
+        }
+    });
+}
+
+// In each round one of the threads leads.
 fn one_leads_each_round<R>(rt: R, threads: u32, size: usize, rounds: u32)
 where
     R: Wait + Clock + RandomSource + AllocGlobal + Abort + Threads + Sync + Copy + Drop,
 {
     let barrier = Barrier::new(rt, size).expect(&rt, AMPLE);
     let counters = counters(&rt, rounds).expect(&rt, AMPLE);
-    thread::scope(thread::scope_env(), &rt, |scope| {
-        for _ in 0..threads {
-            scope
-                .spawn(|| meet_each_round(&barrier, &counters))
-                .expect(&rt, STARTED);
-        }
-    });
+    meet_in_threads(&rt, &barrier, &counters, threads);
     for leaders in counters.iter() {
         assert_same(&rt, leaders.load(Ordering::SeqCst), 1);
     }
@@ -76,13 +89,15 @@ fn one_of_a_hundred_threads_leads_in_each_of_a_hundred_rounds(rt: HostRuntime) {
 }
 
 // A round of ten, of which the calling thread is one.
-fn round<R>(rt: &R, barrier: &Barrier<R>, leaders: &AtomicU64)
+fn round<'x, R>(rt: &'x R, barrier: &'x Barrier<R>, leaders: &'x AtomicU64)
 where
     R: Wait + Clock + RandomSource + AllocGlobal + Abort + Threads + Sync,
 {
     thread::scope(thread::scope_env(), rt, |scope| {
         for _ in 0..9u32 {
-            scope.spawn(|| meet(barrier, leaders)).expect(rt, STARTED);
+            scope
+                .spawn(move || meet(barrier, leaders))
+                .expect(rt, STARTED);
         }
         meet(barrier, leaders);
     });
