@@ -7,7 +7,8 @@ use crate::room::{Hold, Room};
 use crate::send_lease::SendLease;
 use crate::strip::Strip;
 use core::slots::{Lease, Slots, release, reserve};
-use std::alloc::{AllocError, AllocFailed, Allocator};
+use std::alloc::{AllocError, Allocator};
+use std::{array, mem};
 
 /// The memory of one value, with the value in it. Dropped, it drops the value, whatever became of the rights.
 pub struct Place<T, A: Allocator> {
@@ -24,7 +25,7 @@ pub struct Refused<T> {
     pub value: T,
 }
 
-// A row of one place. What tells its size is a list that holds the value meanwhile.
+// A row of one place, as large as the value.
 pub fn room_for<T, A: Allocator>(
     alloc: &A,
     value: T,
@@ -32,17 +33,11 @@ pub fn room_for<T, A: Allocator>(
     ensures ok { IfOk result (λ r. (slots_len r.0.0 ≡ 1) × (lease_ptr r.0.1 ≡ slots_ptr r.0.0) × (lease_len r.0.1 ≡ 1) × (lease_heap r.0.1 ≡ alloc.now) × (r.1 ≡ value)) }
     ensures err { IfErr result (λ r. r.value ≡ value) }
 {
-    let mut list = Vec::new(alloc);
-    if let Err(failed) = list.push(value) {
-        let AllocFailed { value } = failed;
-        list.destroy_empty();
+    // No memory has room for such a value.
+    if mem::size_of_val(&value) >= 1 << 63 {
         return Err(Refused { value });
     }
-    let reserved = unsafe { reserve(alloc, list.as_slice()) };
-    let Some(value) = list.pop() else {
-        unreachable!()
-    };
-    list.destroy_empty();
+    let reserved = unsafe { reserve(alloc, array::from_ref(&value)) };
     match reserved {
         Ok(reserved) => Ok((reserved, value)),
         Err(AllocError) => Err(Refused { value }),

@@ -8,16 +8,14 @@ use Rattle.lock_program.specs.declared.end.Next.{Next}
 use Rattle.lock_program.specs.declared.end.Next.TheVariants as next
 use Rattle.lock_program.specs.declared.mutex.Step.TheVariants as turn_step
 use Rattle.lock_program.specs.declared.refusal.Refusal.TheVariants.{Memory, Starved}
-use Rattle.lock_program.specs.declared.rwlock.RwLockCall.{RwLockCall}
-use Rattle.lock_program.specs.declared.rwlock.RwLockCall.TheVariants as call
 use Rattle.lock_program.specs.declared.rwlock.Ending.TheVariants as over
 use Rattle.lock_program.specs.declared.rwlock.Purpose.TheVariants as purpose
 use Rattle.lock_program.specs.declared.rwlock.Wanted.TheVariants as wanted
 use Rattle.lock_program.specs.declared.rwlock.Found.{Found}
 use Rattle.lock_program.specs.declared.rwlock.Found.TheVariants.{Done, Writer, NoneLeft, Yes, Turn}
 use Rattle.lock_program.specs.declared.rwlock.Place.{Place}
-use Rattle.lock_program.specs.declared.rwlock.Place.TheVariants.{Out, Made, Reading, Upgradable, Writing, EnterRead, JoinNoWriter, LookNoWriter, AskNoWriter, PassOn, LeaveNoWriter, RefuseLeave, RefuseNotify, CancelRead, TryRead, EnterTurn, WaitTurn, TakeTurn, TryTurn, CancelTurn, CancellingTurn, ReleaseTurn, ReleasingTurn, Add, TryUpgrade, Upgrade, Mark, TryWrite, JoinNoReaders, LookNoReaders, AskNoReaders, AwaitNoReaders, LookUnlisted, LeaveNoReaders, DropRead, DropReadNotify, DropUpgradable, DropUpgradableNotify, DropWrite, CancelAwait, Unmark, UnmarkNotify, Down, DownNotify, DowngradeNotify}
-use Rattle.lock_program.specs.ReadWrite.{next_of, start_of, after_lock}
+use Rattle.lock_program.specs.declared.rwlock.Place.TheVariants.{Made, EnterRead, JoinNoWriter, LookNoWriter, AskNoWriter, PassOn, LeaveNoWriter, RefuseLeave, RefuseNotify, EnterTurn, WaitTurn, TakeTurn, ReleaseTurn, ReleasingTurn, Add, Mark, JoinNoReaders, LookNoReaders, AskNoReaders, AwaitNoReaders, LookUnlisted, LeaveNoReaders, Unmark, UnmarkNotify}
+use Rattle.lock_program.specs.ReadWrite.{next_of, after_lock}
 use Rattle.lock_program.specs.declared.mutex.Place.{Place as TurnPlace}
 use Rattle.rwlock_driver.specs.Parties.{end_of, in_turns, place_of}
 use Rattle.rwlock_driver.specs.Polls.{EndsAt, IsOnWay, IsWithin, poll_of}

@@ -1,6 +1,5 @@
 -- What a party has that rests: its receipt where it waits, and the right that it got.
 use Rattle.std.proofs.Common.{◌≡◌, ℕ, Bool, true, false, Option, Some, None, refl, ap, sym, subst, inl, inr, ◌∙◌}
-use Rattle.std.specs.Bool.{⊤}
 use Rattle.std.specs.Prelude.{IsSomeAnd, IfSome, is_some}
 use Rattle.futures.specs.declared.task.context.Context.{Context}
 use Rattle.async_driver.specs.declared.waiting_list.Listed.{Listed}
@@ -17,7 +16,7 @@ use Rattle.lock_program.specs.declared.rwlock.Purpose.TheVariants as purpose
 use Rattle.rwlock_driver.specs.AtLists.{IsReceipt}
 use Rattle.rwlock_driver.specs.Parties.{Fits, IfPending, IsOf, Share, Stands, Waits, share_at, share_of, turned}
 use Rattle.rwlock_driver.specs.Polls.{CanPoll, EndsAt, HasReceipt, Polled, WaitsFor, IsAsking, first_of, got_at, right_of}
-use Rattle.rwlock_driver.specs.Rights.{Has, Shows, flags}
+use Rattle.rwlock_driver.specs.Rights.{Has, flags}
 use Rattle.rwlock_driver.specs.declared.aim.Aim.{Aim}
 use Rattle.rwlock_driver.specs.declared.aim.Aim.TheVariants as aim
 use Rattle.rwlock_driver.specs.declared.finding.Standing.{Standing}

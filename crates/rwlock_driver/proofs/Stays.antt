@@ -27,11 +27,11 @@ use Rattle.lock_program.specs.declared.rwlock.Purpose.{Purpose}
 use Rattle.lock_program.specs.declared.rwlock.Purpose.TheVariants as purpose
 use Rattle.lock_program.specs.declared.rwlock.Wanted.TheVariants as wanted
 use Rattle.lock_program.specs.declared.rwlock.Found.{Found}
-use Rattle.lock_program.specs.declared.rwlock.Found.TheVariants.{Done, Writer, Full, NoneLeft, SomeLeft, NotFree, NoMemory, Yes, No, Turn}
+use Rattle.lock_program.specs.declared.rwlock.Found.TheVariants.{Done, Writer, Full, NoneLeft, SomeLeft, NotFree, NoMemory, Yes, No}
 use Rattle.lock_program.specs.declared.rwlock.Place.{Place}
 use Rattle.lock_program.specs.declared.rwlock.Place.TheVariants.{Out, Made, Reading, Upgradable, Writing, EnterRead, JoinNoWriter, LookNoWriter, AskNoWriter, PassOn, LeaveNoWriter, RefuseLeave, RefuseNotify, CancelRead, TryRead, EnterTurn, WaitTurn, TakeTurn, TryTurn, CancelTurn, CancellingTurn, ReleaseTurn, ReleasingTurn, Add, TryUpgrade, Upgrade, Mark, TryWrite, JoinNoReaders, LookNoReaders, AskNoReaders, AwaitNoReaders, LookUnlisted, LeaveNoReaders, DropRead, DropReadNotify, DropUpgradable, DropUpgradableNotify, DropWrite, CancelAwait, Unmark, UnmarkNotify, Down, DownNotify, DowngradeNotify}
 use Rattle.lock_program.specs.ReadWrite.{action_of, next_of, start_of, after_lock}
-use Rattle.rwlock_driver.specs.Parties.{CanDo, CanFind, CanStep, Came, Did, Fits, IfPending, IfWaits, Share, Stands, Stepped, StepsFrom, after, end_of, found_by, none, place_of, share_at, in_turns, standing}
+use Rattle.rwlock_driver.specs.Parties.{CanDo, CanFind, CanStep, Did, Fits, IfPending, IfWaits, Share, Stands, Stepped, StepsFrom, after, end_of, found_by, none, place_of, share_at, in_turns, standing}
 use Rattle.rwlock_driver.specs.declared.finding.Finding.{Finding}
 use Rattle.rwlock_driver.specs.declared.finding.Standing.{Standing}
 use Rattle.rwlock_driver.specs.declared.party.RwLockParty.{RwLockParty}

@@ -1,5 +1,5 @@
 -- What a party of a read-write lock has at a place of its call, and what an action does to that.
-use Rattle.std.specs.Prelude.{◌≡◌, ℕ, IfSome, IsSomeAnd, Bool, true, false, is_some, Option, Some, None, [], ⊤, ◌⊎◌}
+use Rattle.std.specs.Prelude.{◌≡◌, Bool, true, false, is_some, Option, Some, None, [], ⊤, ◌⊎◌}
 use Rattle.futures.specs.declared.task.context.Context.{Context}
 use Rattle.lock_driver.specs.Parties.{Having, having, having_at, IsReached, CanPoll, IsPolling}
 use Rattle.lock_driver.specs.Parties as turn
@@ -19,7 +19,7 @@ use Rattle.lock_program.specs.declared.rwlock.Ending.TheVariants as over
 use Rattle.lock_program.specs.declared.rwlock.Found.{Found}
 use Rattle.lock_program.specs.declared.rwlock.Found.TheVariants.{Done, Writer, Full, NoneLeft, SomeLeft, NotFree, NoMemory, Yes, No, Turn}
 use Rattle.lock_program.specs.declared.rwlock.Place.{Place}
-use Rattle.lock_program.specs.declared.rwlock.Place.TheVariants.{Out, Made, Reading, Upgradable, Writing, EnterRead, JoinNoWriter, LookNoWriter, AskNoWriter, PassOn, LeaveNoWriter, RefuseLeave, RefuseNotify, CancelRead, TryRead, EnterTurn, WaitTurn, TakeTurn, TryTurn, CancelTurn, CancellingTurn, ReleaseTurn, ReleasingTurn, Add, TryUpgrade, Upgrade, Mark, TryWrite, JoinNoReaders, LookNoReaders, AskNoReaders, AwaitNoReaders, LookUnlisted, LeaveNoReaders, DropRead, DropReadNotify, DropUpgradable, DropUpgradableNotify, DropWrite, CancelAwait, Unmark, UnmarkNotify, Down, DownNotify, DowngradeNotify}
+use Rattle.lock_program.specs.declared.rwlock.Place.TheVariants.{Reading, Upgradable, Writing, LookNoWriter, AskNoWriter, PassOn, LeaveNoWriter, RefuseLeave, CancelRead, WaitTurn, TakeTurn, CancelTurn, CancellingTurn, ReleaseTurn, ReleasingTurn, Add, TryUpgrade, Upgrade, Mark, TryWrite, JoinNoReaders, LookNoReaders, AskNoReaders, AwaitNoReaders, LookUnlisted, LeaveNoReaders, DropRead, DropReadNotify, DropUpgradable, DropUpgradableNotify, DropWrite, CancelAwait, Unmark, UnmarkNotify, Down, DownNotify, DowngradeNotify}
 use Rattle.lock_program.specs.ReadWrite.{next_of}
 use Rattle.rwlock_driver.specs.AtLists.{IsAt, IsReceipt}
 use Rattle.rwlock_driver.specs.declared.finding.Finding.{Finding}

@@ -24,7 +24,8 @@ use Rattle.futures.specs.declared.task.context.Context.{Context}
 use Rattle.rwlock_driver.specs.AtLists.{IsReceipt}
 use Rattle.rwlock_driver.specs.Parties.{IfPending, Stands, in_turns}
 use Rattle.rwlock_driver.specs.declared.aim.Aim.TheVariants as aim
-use Rattle.rwlock_driver.specs.Rights.{Flags, Has, reader, upgradable, writer}
+use Rattle.rwlock_driver.specs.Rights.{Flags, Has, awaits, passing, reader, upgradable, writer}
+use Rattle.words_rwlock.specs.declared.view.Seat.{Seat}
 
 -- a read is refused for memory, or for too many readers; one with the turn for too many starved waiters too, and a write for memory or
 -- too many starved waiters; an upgrade for memory alone
@@ -150,6 +151,12 @@ right_of aim.Read = reader
 right_of aim.UpgradableRead = upgradable
 right_of aim.Write = writer
 right_of aim.Upgrade = writer
+
+-- what the seat of a first poll has at this place, once it has the turn
+abbrev pub IsBegun : RawRwLock → Seat → Place → Type 0
+IsBegun raw seat (Add false) = Has raw passing seat
+IsBegun raw seat (JoinNoReaders false) = Has raw awaits seat
+IsBegun raw seat _ = ⊥
 
 -- how a poll of this ends, and where it leaves its party
 abbrev pub EndsAt : Aim → End → Place → Type 0

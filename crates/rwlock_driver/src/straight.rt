@@ -52,7 +52,7 @@ impl RawRwLock {
     }
 
     // The turn, if it is free and nobody is starved for it.
-    fn try_turn(&self) -> Option<Seat>
+    pub(crate) fn try_turn(&self) -> Option<Seat>
         ensures { IfSome result (Has self.now passing) }
     {
         let mut seat = self.words.sit();
@@ -81,7 +81,7 @@ impl RawRwLock {
     }
 
     // Reads with the turn, if there are fewer readers than may be, however often the word changes meanwhile.
-    fn add<R: Wait>(&self, rt: &R, seat: &mut Seat) -> bool
+    pub(crate) fn add<R: Wait>(&self, rt: &R, seat: &mut Seat) -> bool
         requires { Has self.now passing seat.old }
         ensures { MatchBool result (Has self.now upgradable seat.new) (Has self.now passing seat.new) }
     {

@@ -13,8 +13,16 @@ ghost use Rattle.lock_program.specs.declared.rwlock.Found.TheVariants as finds;
 ghost use Rattle.lock_program.specs.declared.rwlock.Place.TheVariants as at;
 ghost use Rattle.lock_program.specs.declared.rwlock.RwLockCall.TheVariants as calls;
 ghost use Rattle.rwlock_driver.specs.Parties.{IfPending, IsOf, Stands, none, share_of, turned};
-ghost use Rattle.rwlock_driver.specs.Polls.{CanPoll, EndsAt, HasReceipt, OnOutcome, Polled, WaitsFor, got_at, right_of};
-ghost use Rattle.rwlock_driver.specs.Rights.{Has, awaits};
+ghost use Rattle.lock_program.specs.declared.mutex.Action.TheVariants as turn_does;
+ghost use Rattle.lock_program.specs.declared.mutex.Found.TheVariants as turn_finds;
+ghost use Rattle.lock_program.specs.declared.mutex.LockCall.TheVariants as turn_calls;
+ghost use Rattle.lock_program.specs.declared.mutex.Place.TheVariants as turn_at;
+ghost use Rattle.lock_program.specs.declared.mutex.Step.TheVariants as turn_step;
+ghost use Rattle.lock_program.specs.declared.rwlock.Purpose.{Purpose};
+ghost use Rattle.lock_program.specs.declared.rwlock.Purpose.TheVariants as purpose;
+ghost use Rattle.lock_program.specs.declared.rwlock.Wanted.TheVariants as wanted;
+ghost use Rattle.rwlock_driver.specs.Polls.{CanPoll, EndsAt, HasReceipt, IsBegun, IsOnWay, OnOutcome, Polled, WaitsFor, got_at, poll_of, right_of};
+ghost use Rattle.rwlock_driver.specs.Rights.{Has, awaits, passing};
 ghost use Rattle.rwlock_driver.specs.declared.aim.Aim.TheVariants as aims;
 
 use crate::aim::{Aim, Call};
@@ -28,7 +36,7 @@ use lock_program::rwlock::{Place, Wanted};
 use lock_program::{End, Refusal};
 use std::sync::Wait;
 use std::time::Clock;
-use words_rwlock::Seat;
+use words_rwlock::{Readers, Seat};
 
 /// A party between two polls. It has no `Drop`: a poll goes on with it, or a cancel ends it.
 pub struct Waiting {
@@ -103,13 +111,39 @@ impl RawRwLock {
         ensures pending { IfPending result.0 (HasReceipt self.now cx.new party.new result.1.at) }
         ensures kept { Keeps cx.old cx.new }
     {
-        let (end, place) = party.call(self, rt, cx, Call::Poll(aim), place);
+        let Some(first) = RwLockParty::start(Call::Poll(aim), place) else {
+            unreachable!()
+        };
+        self.poll_from(rt, cx, aim, party, first)
+    }
+
+    // The rest of a poll, from this place of it on.
+    fn poll_from<R: Wait + Clock>(
+        &self,
+        rt: &R,
+        cx: &mut Context<'_>,
+        aim: Aim,
+        party: &mut RwLockParty,
+        place: Standing,
+    ) -> (End, Standing)
+        requires stands { Stands self.now party.old place }
+        requires on_way { IsOnWay aim place.at }
+        ensures stands { Stands self.now party.new result.1 }
+        ensures ended { EndsAt aim result.0 result.1.at }
+        ensures pending { IfPending result.0 (HasReceipt self.now cx.new party.new result.1.at) }
+        ensures kept { Keeps cx.old cx.new }
+    {
+        let (end, place) = party.drive(self, rt, cx, place);
         party.rests(rt, end);
         (end, place)
     }
 
     /// Polls in place: there is no party before the first poll and after the last. By the contract the party has what its place
     /// says whenever there is one.
+    ///
+    /// A first poll begins with the actions that get a free right, carried out straight; that they are the table's is proved
+    /// (`first_rows`). One that they don't end goes on by the driver.
+    #[inline]
     pub fn poll_waiting<R: Wait + Clock>(
         &self,
         rt: &R,
@@ -123,7 +157,136 @@ impl RawRwLock {
         ensures outcome { OnOutcome self.now aim cx.new result waiting.new }
         ensures kept { Keeps cx.old cx.new }
     {
-        match self.poll_in_place(rt, cx, aim, waiting) {
+        first_rows();
+        if waiting.is_some() {
+            return self.poll_on(rt, cx, aim, waiting);
+        }
+        match aim {
+            Aim::Read => match self.try_read(rt) {
+                Some(seat) => Outcome::Got(seat),
+                None => self.poll_on(rt, cx, aim, waiting),
+            },
+            Aim::UpgradableRead => match self.try_turn() {
+                Some(seat) => self.add_first(rt, cx, seat, waiting),
+                None => self.poll_on(rt, cx, aim, waiting),
+            },
+            Aim::Write => match self.try_turn() {
+                Some(seat) => self.mark_first(rt, cx, seat, waiting),
+                None => self.poll_on(rt, cx, aim, waiting),
+            },
+            Aim::Upgrade => unreachable!(),
+        }
+    }
+
+    // A first poll that has the turn reads with it.
+    #[inline]
+    fn add_first<R: Wait + Clock>(
+        &self,
+        rt: &R,
+        cx: &mut Context<'_>,
+        seat: Seat,
+        waiting: &mut Option<Waiting>,
+    ) -> Outcome
+        requires seat { Has self.now passing seat }
+        requires none { waiting.old ≡ None }
+        ensures waits { IfSome waiting.new (WaitsFor self.now aims.UpgradableRead) }
+        ensures outcome { OnOutcome self.now aims.UpgradableRead cx.new result waiting.new }
+        ensures kept { Keeps cx.old cx.new }
+    {
+        let mut seat = seat;
+        if self.add(rt, &mut seat) {
+            return Outcome::Got(seat);
+        }
+        let place = Place::Add { trying: false };
+        self.go_on(rt, cx, Aim::UpgradableRead, seat, place, waiting)
+    }
+
+    // A first poll that has the turn sets the writer's bit.
+    #[inline]
+    fn mark_first<R: Wait + Clock>(
+        &self,
+        rt: &R,
+        cx: &mut Context<'_>,
+        seat: Seat,
+        waiting: &mut Option<Waiting>,
+    ) -> Outcome
+        requires seat { Has self.now passing seat }
+        requires none { waiting.old ≡ None }
+        ensures waits { IfSome waiting.new (WaitsFor self.now aims.Write) }
+        ensures outcome { OnOutcome self.now aims.Write cx.new result waiting.new }
+        ensures kept { Keeps cx.old cx.new }
+    {
+        let mut seat = seat;
+        match self.words.mark(&mut seat) {
+            Readers::NoneLeft => Outcome::Got(seat),
+            Readers::SomeLeft => {
+                let place = Place::JoinNoReaders { upgrade: false };
+                self.go_on(rt, cx, Aim::Write, seat, place, waiting)
+            }
+        }
+    }
+
+    // The rest of a first poll that has the turn by this seat, from this place of it on.
+    #[inline(never)]
+    fn go_on<R: Wait + Clock>(
+        &self,
+        rt: &R,
+        cx: &mut Context<'_>,
+        aim: Aim,
+        seat: Seat,
+        at: Place,
+        waiting: &mut Option<Waiting>,
+    ) -> Outcome
+        requires stands { IsBegun self.now seat at }
+        requires on_way { IsOnWay aim at }
+        requires none { waiting.old ≡ None }
+        ensures waits { IfSome waiting.new (WaitsFor self.now aim) }
+        ensures outcome { OnOutcome self.now aim cx.new result waiting.new }
+        ensures kept { Keeps cx.old cx.new }
+    {
+        let place = Standing {
+            at,
+            turn: TurnPlace::Holding,
+        };
+        let mut party = self.party(seat);
+        let (end, place) = self.poll_from(rt, cx, aim, &mut party, place);
+        put(waiting, Waiting { party, place });
+        self.outcome(cx, aim, end, waiting)
+    }
+
+    // One poll by the driver.
+    #[inline(never)]
+    fn poll_on<R: Wait + Clock>(
+        &self,
+        rt: &R,
+        cx: &mut Context<'_>,
+        aim: Aim,
+        waiting: &mut Option<Waiting>,
+    ) -> Outcome
+        requires waits { IfSome waiting.old (WaitsFor self.now aim) }
+        requires begun { aim ≡ aims.Upgrade → IsSome waiting.old }
+        ensures waits { IfSome waiting.new (WaitsFor self.now aim) }
+        ensures outcome { OnOutcome self.now aim cx.new result waiting.new }
+        ensures kept { Keeps cx.old cx.new }
+    {
+        let end = self.poll_in_place(rt, cx, aim, waiting);
+        self.outcome(cx, aim, end, waiting)
+    }
+
+    // How a poll went that ended so.
+    fn outcome(
+        &self,
+        cx: &Context<'_>,
+        aim: Aim,
+        end: End,
+        waiting: &mut Option<Waiting>,
+    ) -> Outcome
+        requires polled { IsSomeAnd waiting.old (Polled self.now aim cx.now end) }
+        ensures waits { IfSome waiting.new (WaitsFor self.now aim) }
+        ensures outcome { OnOutcome self.now aim cx.now result waiting.new }
+    {
+        let _ = cx;
+        match end {
             End::Pending => Outcome::Waits,
             End::Got => Outcome::Got(self.seat_of(aim, taken(waiting))),
             End::Refused(refusal) => Outcome::Refused(refusal),
@@ -234,6 +397,15 @@ fn taken(waiting: &mut Option<Waiting>) -> Waiting
         None => unreachable!(),
     }
 }
+
+// The rows of the program's table that `RawRwLock::poll_waiting` carries out straight: what gets a free right.
+#[inline]
+fn first_rows()
+    ensures reads { (poll_of aims.Read (at.Made wanted.Read) ≡ Some (at.EnterRead false)) × (action_of (at.EnterRead false) ≡ does.Read) × (next_of (at.EnterRead false) finds.Done ≡ next.End ends.Got at.Reading) }
+    ensures turns { (p : Purpose) → (action_of (at.EnterTurn p) ≡ does.Begin turn_calls.Lock) × (turn_table.start_of turn_calls.Lock turn_at.Out ≡ Some turn_at.Enter) × (turn_table.action_of turn_at.Enter ≡ turn_does.Take) × (turn_table.next_of turn_at.Enter turn_finds.Free ≡ next.End ends.Got turn_at.Holding) }
+    ensures adds { (poll_of aims.UpgradableRead (at.Made wanted.UpgradableRead) ≡ Some (at.EnterTurn purpose.UpgradableRead)) × (next_of (at.EnterTurn purpose.UpgradableRead) (finds.Turn (turn_step.End ends.Got)) ≡ next.Do (at.Add false)) × (action_of (at.Add false) ≡ does.Add) × (next_of (at.Add false) finds.Done ≡ next.End ends.Got at.Upgradable) }
+    ensures marks { (poll_of aims.Write (at.Made wanted.Write) ≡ Some (at.EnterTurn purpose.Write)) × (next_of (at.EnterTurn purpose.Write) (finds.Turn (turn_step.End ends.Got)) ≡ next.Do at.Mark) × (action_of at.Mark ≡ does.Mark) × (next_of at.Mark finds.NoneLeft ≡ next.End ends.Got at.Writing) × (next_of at.Mark finds.SomeLeft ≡ next.Do (at.JoinNoReaders false)) }
+{}
 
 // The rows of the program's table that `RawRwLock::cancel` carries out straight.
 #[inline]

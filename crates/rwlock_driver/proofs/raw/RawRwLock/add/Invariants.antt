@@ -1,5 +1,4 @@
 -- Until the word stood still the seat is as it was.
-use Rattle.std.proofs.Common.{◌≡◌}
 use Rattle.rwlock_driver.specs.Rights.{Has, passing}
 use Rattle.rwlock_driver.proofs.raw.RawRwLock.add.Given as goal
 

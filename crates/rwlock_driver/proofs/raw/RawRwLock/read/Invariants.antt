@@ -1,5 +1,4 @@
 -- Until the word stood still the seat is as it was.
-use Rattle.std.proofs.Common.{◌≡◌}
 use Rattle.rwlock_driver.specs.Rights.{Has, idle}
 use Rattle.rwlock_driver.proofs.raw.RawRwLock.read.Given as goal
 
