@@ -1,26 +1,61 @@
 -- What contracts see of a mutex's future, and what a poll answers.
-use Rattle.std.specs.Prelude.{◌≡◌, Bool, true, false, Option, Some, None}
-use Rattle.async_mutex.specs.declared.mutex.Mutex.{Mutex}
-use Rattle.async_mutex.specs.declared.waiting.Waiting.{Waiting}
-use Rattle.lock_driver.specs.Parties.{IsGivenUp}
+use Rattle.std.specs.Prelude.{◌≡◌, ℕ, Bool, true, false, ⊤, Option, Some, None}
+use Rattle.async_driver.specs.declared.owns.Stage.{Stage}
+use Rattle.async_driver.specs.declared.owns.Stage.TheVariants as stages
 use Rattle.async_driver.specs.declared.turn.Turn.{Turn}
 use Rattle.async_driver.specs.declared.turn.Turn.TheVariants.{Pending, Ready, Refused}
 use Rattle.async_driver.specs.declared.waiting_list.Listed.{Listed}
+use Rattle.async_mutex.specs.declared.mutex.Mutex.{Mutex}
+use Rattle.async_mutex.specs.declared.waiting.Outcome.{Outcome}
+use Rattle.async_mutex.specs.declared.waiting.Outcome.TheVariants as outcome
+use Rattle.async_mutex.specs.declared.waiting.Waiting.{Waiting}
+use Rattle.async_mutex.specs.Outcomes as outcomes
+use Rattle.futures.specs.declared.task.context.Context.{Context}
+use Rattle.lock_driver.specs.Parties.{IsGivenUp, IsReceipt}
+use Rattle.lock_place.specs.declared.room.Hold.{Hold}
 use Rattle.lock_program.specs.declared.refusal.Refusal.TheVariants.{Finished}
+use Rattle.lock_words.specs.Lock.{Seated}
+use Rattle.lock_words.specs.Tries.{Holds}
 
--- its mutex, whether it was ready before, and its entry in the mutex's list
-pub record Future (T R : Type 0) : Type 0 where
-  pub mutex : Mutex T R
-  pub is_over : Bool
+-- how far it is, and its entry in the mutex's list
+pub record Future (O : Type 0) : Type 0 where
+  pub stage : Stage O
   pub entry : Option Listed
 
-abbrev pub future : {T R : Type 0} → Mutex T R → Bool → Option Listed → Future T R
-future mutex over entry = record { mutex = mutex; is_over = over; entry = entry }
+abbrev pub future : {O : Type 0} → Stage O → Option Listed → Future O
+future stage entry = record { stage = stage; entry = entry }
 
 -- the entry of what waits
 abbrev pub entry_of : {T : Type 0} → Option (Waiting T) → Option Listed
 entry_of None = None
 entry_of (Some q) = q.party.entry
+
+module _ {O T R : Type 0} (lock_of : O → Mutex T R) where
+  -- the sources at which it waits: its mutex's own
+  abbrev pub WaitsAt : Stage O → ℕ → Type 0
+  WaitsAt (stages.Waits owner) s = s ≡ (lock_of owner).raw.words.source
+  WaitsAt _ s = ⊥
+
+  -- its entry is a receipt of its mutex's list
+  abbrev pub HasReceipt : Stage O → Context → Option Listed → Type 0
+  HasReceipt (stages.Waits owner) cx entry = IsReceipt (lock_of owner).raw.words cx entry
+  HasReceipt _ cx entry = ⊥
+
+  -- its party waits at its mutex between two polls
+  abbrev pub WaitsAs : Stage O → Waiting T → Type 0
+  WaitsAs (stages.Waits owner) q = outcomes.Waits (lock_of owner).raw.words q
+  WaitsAs _ q = ⊥
+
+  -- a seat got the lock that it waits for, with the right to its value and without a count as starved
+  abbrev pub GotAt : Stage O → Seated → Hold T → Type 0
+  GotAt (stages.Waits owner) seat hold = Holds (lock_of owner).raw.words seat hold × (seat.starved ≡ false)
+  GotAt _ seat hold = ⊥
+
+  -- how its poll went, and what is left of its party
+  abbrev pub OnPolled : Stage O → Outcome T → Option (Waiting T) → Type 0
+  OnPolled stage (outcome.Got seat hold) left = GotAt stage seat hold × (left ≡ None)
+  OnPolled stage outcome.Waits left = ⊤
+  OnPolled stage (outcome.Refused refusal) left = IsGivenUp refusal
 
 -- Ready, what was got is this and the future is over. One that is over is refused as finished and stays so; no other is, and none for
 -- another reason than memory or too many starved waiters.

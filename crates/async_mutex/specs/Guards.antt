@@ -1,4 +1,4 @@
--- What contracts see of an owned guard.
+-- What contracts see of a guard.
 use Rattle.async_mutex.specs.declared.mutex.Mutex.{Mutex}
 
 -- the mutex that it holds, and the value

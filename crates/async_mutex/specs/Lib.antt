@@ -2,4 +2,3 @@ pub mod Futures
 pub mod Guards
 pub mod Lent
 pub mod Outcomes
-pub mod Sources

@@ -1,137 +1,104 @@
-//! The guards of a mutex.
+//! The guard of a mutex.
 
 ghost use Rattle.std.specs.Prelude.{◌≡◌, false};
 ghost use Rattle.std.specs.Arc.{arc_value};
 ghost use Rattle.lock_words.specs.Tries.{Holds};
 
 use crate::mutex::Mutex;
+use async_driver::Owns;
 use lock_words::{Hold, Seat};
 use std::fmt;
-use std::marker::Model;
+use std::marker::{Model, PhantomData};
 use std::ops::Deref;
 use std::sync::{Arc, Wait};
 
 /// Holds a mutex, and lends its value. Dropped, it gives the mutex back.
 ///
-/// Its type keeps that its seat holds the lock, with the right to the lock's value.
-pub struct MutexGuard<'a, T, R: Wait> {
-    pub(crate) mutex: &'a Mutex<T, R>,
+/// Its type keeps that its seat holds the lock, with the right to the lock's value. Contracts see the mutex, and the value.
+pub struct Guard<T, R: Wait, O: Owns<Mutex<T, R>>> {
+    pub(crate) owner: O,
     seat: Seat<T>,
     pub(crate) hold: Hold<T>,
-    ghost held: { Holds mutex.now.raw.words seat hold },
-    ghost uncounted: { seat.starved ≡ false },
+    runtime: PhantomData<R>,
 }
 
-/// A guard that owns its share of the mutex, and borrows nothing. In clauses it is the mutex that it holds, and the value.
-pub struct MutexGuardArc<T, R: Wait> {
-    pub(crate) mutex: Arc<Mutex<T, R>>,
-    seat: Seat<T>,
-    pub(crate) hold: Hold<T>,
-}
-
-impl<T, R: Wait> Model for MutexGuardArc<T, R> {
+impl<T, R: Wait, O: Owns<Mutex<T, R>>> Model for Guard<T, R, O> {
     ghost use Rattle.std.specs.Prelude.{◌≡◌, false};
-    ghost use Rattle.std.specs.Arc.{arc_value};
     ghost use Rattle.lock_words.specs.Tries.{Holds};
     ghost use Rattle.async_mutex.specs.Guards.{Held};
 
     ghost Value = { Held T R };
 
-    ghost view = { λ g. record { mutex = arc_value g.mutex; value = g.hold.value } };
+    ghost view = { λ g. record { mutex = O.lock_of g.owner; value = g.hold.value } };
 
-    ghost invariant = { λ g. Holds (arc_value g.mutex).raw.words g.seat g.hold × (g.seat.starved ≡ false) };
+    ghost invariant = { λ g. Holds (O.lock_of g.owner).raw.words g.seat g.hold × (g.seat.starved ≡ false) };
 }
 
-impl<'a, T, R: Wait> MutexGuard<'a, T, R> {
-    pub(crate) fn new(mutex: &'a Mutex<T, R>, seat: Seat<T>, hold: Hold<T>) -> MutexGuard<'a, T, R>
-        requires { Holds mutex.now.raw.words seat hold × (seat.starved ≡ false) }
-        ensures { result.mutex.now ≡ mutex.now }
+impl<T, R: Wait, O: Owns<Mutex<T, R>>> Guard<T, R, O> {
+    #[inline]
+    pub(crate) fn new(owner: O, seat: Seat<T>, hold: Hold<T>) -> Guard<T, R, O>
+        requires { Holds (O.lock_of owner).raw.words seat hold × (seat.starved ≡ false) }
+        ensures { result.mutex ≡ O.lock_of owner }
     {
-        MutexGuard { mutex, seat, hold }
-    }
-
-    /// The mutex that the guard holds.
-    pub fn source(guard: &MutexGuard<'a, T, R>) -> &'a Mutex<T, R>
-        ensures { result.now ≡ guard.now.mutex.now }
-    {
-        guard.mutex
+        Guard {
+            owner,
+            seat,
+            hold,
+            runtime: PhantomData,
+        }
     }
 }
 
-impl<T, R: Wait> MutexGuardArc<T, R> {
-    pub(crate) fn new(mutex: Arc<Mutex<T, R>>, seat: Seat<T>, hold: Hold<T>) -> MutexGuardArc<T, R>
-        requires { Holds (arc_value mutex).raw.words seat hold × (seat.starved ≡ false) }
-        ensures { result.mutex ≡ arc_value mutex }
-    {
-        MutexGuardArc { mutex, seat, hold }
-    }
-
+impl<'a, T, R: Wait> Guard<T, R, &'a Mutex<T, R>> {
     /// The mutex that the guard holds.
-    pub fn source(guard: &MutexGuardArc<T, R>) -> &Arc<Mutex<T, R>>
+    pub fn source(guard: &Guard<T, R, &'a Mutex<T, R>>) -> &'a Mutex<T, R>
+        ensures { result.now ≡ guard.now.mutex }
+    {
+        guard.owner
+    }
+}
+
+impl<T: Drop, R: Wait + Drop> Guard<T, R, Arc<Mutex<T, R>>> {
+    /// The mutex that the guard holds.
+    pub fn source(guard: &Guard<T, R, Arc<Mutex<T, R>>>) -> &Arc<Mutex<T, R>>
         ensures { arc_value result.now ≡ guard.now.mutex }
     {
-        &guard.mutex
+        &guard.owner
     }
 }
 
-impl<T, R: Wait> Deref for MutexGuard<'_, T, R> {
-    type Target = T;
-
-    ghost deref_gives = { λ guard value. value ≡ guard.hold.value };
-
-    fn deref(&self) -> &T {
-        let mutex = self.mutex;
-        self.hold.get(mutex.raw.words.room())
-    }
-}
-
-impl<T, R: Wait> Deref for MutexGuardArc<T, R> {
+impl<T, R: Wait, O: Owns<Mutex<T, R>>> Deref for Guard<T, R, O> {
     type Target = T;
 
     ghost deref_gives = { λ guard value. value ≡ guard.value };
 
     fn deref(&self) -> &T {
-        self.hold.get(self.mutex.raw.words.room())
+        self.hold.get(self.owner.lock().raw.words.room())
     }
 }
 
-impl<T, R: Wait> Drop for MutexGuard<'_, T, R> {
+impl<T, R: Wait, O: Owns<Mutex<T, R>>> Drop for Guard<T, R, O> {
+    #[inline]
     fn drop(self) {
-        let Self { mutex, seat, hold } = self;
-        mutex.release(seat, hold);
+        let Self {
+            owner,
+            seat,
+            hold,
+            runtime: _,
+        } = self;
+        owner.lock().release(seat, hold);
+        drop(owner);
     }
 }
 
-impl<T: Drop, R: Wait + Drop> Drop for MutexGuardArc<T, R> {
-    fn drop(self) {
-        let Self { mutex, seat, hold } = self;
-        mutex.release(seat, hold);
-        drop(mutex);
-    }
-}
-
-impl<T: fmt::Debug, R: Wait> fmt::Debug for MutexGuard<'_, T, R> {
+impl<T: fmt::Debug, R: Wait, O: Owns<Mutex<T, R>>> fmt::Debug for Guard<T, R, O> {
     fn fmt<W: fmt::Write>(&self, f: &mut fmt::Formatter<W>) -> fmt::Result {
         let value: &T = self;
         value.fmt(f)
     }
 }
 
-impl<T: fmt::Display, R: Wait> fmt::Display for MutexGuard<'_, T, R> {
-    fn fmt<W: fmt::Write>(&self, f: &mut fmt::Formatter<W>) -> fmt::Result {
-        let value: &T = self;
-        value.fmt(f)
-    }
-}
-
-impl<T: fmt::Debug, R: Wait> fmt::Debug for MutexGuardArc<T, R> {
-    fn fmt<W: fmt::Write>(&self, f: &mut fmt::Formatter<W>) -> fmt::Result {
-        let value: &T = self;
-        value.fmt(f)
-    }
-}
-
-impl<T: fmt::Display, R: Wait> fmt::Display for MutexGuardArc<T, R> {
+impl<T: fmt::Display, R: Wait, O: Owns<Mutex<T, R>>> fmt::Display for Guard<T, R, O> {
     fn fmt<W: fmt::Write>(&self, f: &mut fmt::Formatter<W>) -> fmt::Result {
         let value: &T = self;
         value.fmt(f)

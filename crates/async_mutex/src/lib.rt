@@ -4,20 +4,40 @@
 //! futures reach the runtime through it. A future is polled for a [`Turn`]; [`Settled`] makes it a `Future` of the
 //! kit's `futures`, and the blocking forms wait in the calling thread. The crate `async_lock` hands it on, beside the
 //! crates of which all interleavings are proved.
+//!
+//! The guard and the future are one type each for both kinds of user: one that borrows the mutex, and one that has a share of it
+//! ([`Owns`]). The names of the Rust crate stand for the two.
 #![tactic(auto)]
 
 mod guard;
 mod lends;
 mod lock;
 mod mutex;
+mod stage;
 mod waiting;
+
+use std::sync::Arc;
 
 /// The mutex's futures.
 pub mod lock_futures {
-    pub use crate::lock::{Lock, LockArc};
+    pub use crate::lock::LockFuture;
+    use crate::mutex::Mutex;
+    use std::sync::Arc;
+
+    /// The future of [`Mutex::lock`].
+    pub type Lock<'a, T, R> = LockFuture<T, R, &'a Mutex<T, R>>;
+
+    /// The future of [`Mutex::lock_arc`], which owns its share of the mutex and borrows nothing.
+    pub type LockArc<T, R> = LockFuture<T, R, Arc<Mutex<T, R>>>;
 }
 
-pub use async_driver::{Polled, Settled, Turn};
-pub use guard::{MutexGuard, MutexGuardArc};
+/// A guard that borrows its mutex.
+pub type MutexGuard<'a, T, R> = Guard<T, R, &'a Mutex<T, R>>;
+
+/// A guard that owns its share of the mutex, and borrows nothing.
+pub type MutexGuardArc<T, R> = Guard<T, R, Arc<Mutex<T, R>>>;
+
+pub use async_driver::{Owns, Polled, Settled, Turn};
+pub use guard::Guard;
 pub use lock_program::Refusal;
 pub use mutex::Mutex;

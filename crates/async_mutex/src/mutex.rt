@@ -2,14 +2,17 @@
 
 ghost use Rattle.std.specs.Prelude.{◌≡◌, IfSome, IfOk, IfErr, None, ◌≤◌, false};
 ghost use Rattle.std.specs.Arc.{arc_value};
+ghost use Rattle.async_driver.specs.Stages.{IsFor};
 ghost use Rattle.async_mutex.specs.Outcomes.{Waits};
 ghost use Rattle.lock_words.specs.Tries.{Holds};
 ghost use Rattle.lock_program.specs.declared.refusal.Refusal.{Refusal};
 
-use crate::guard::{MutexGuard, MutexGuardArc};
-use crate::lock::{Lock, LockArc};
+use crate::guard::Guard;
+use crate::lock::LockFuture;
+use crate::lock_futures::{Lock, LockArc};
 use crate::waiting::Waiting;
-use async_driver::Settled;
+use crate::{MutexGuard, MutexGuardArc};
+use async_driver::{Settled, Stage};
 use futures::executor::block_on;
 use lock_driver::RawMutex;
 use lock_program::Refusal;
@@ -82,23 +85,22 @@ impl<T, R> Mutex<T, R> {
 }
 
 impl<T, R: Wait> Mutex<T, R> {
-    ghost use Rattle.async_mutex.specs.Futures.{future};
-
     /// Takes the lock at once, if it is free and nobody is starved.
     ///
     /// By the contract a guard that it answers is this mutex's. That a free lock is got is tested.
     pub fn try_lock(&self) -> Option<MutexGuard<'_, T, R>>
-        ensures { IfSome result (λ guard. guard.mutex.now ≡ self.now) }
+        ensures { IfSome result (λ guard. guard.mutex ≡ self.now) }
     {
         let (seat, hold) = self.raw.take()?;
-        Some(MutexGuard::new(self, seat, hold))
+        Some(Guard::new(self, seat, hold))
     }
 
     /// A future of the lock, which does nothing until it is polled.
     pub fn lock(&self) -> Lock<'_, T, R>
-        ensures { result ≡ future self.now false None }
+        ensures mutex { IsFor (λ o. o.now) result.stage self.now }
+        ensures entry { result.entry ≡ None }
     {
-        Lock::new(self)
+        LockFuture::new(Stage::Waits(self))
     }
 
     // Gives the lock back that a guard has that is dropped.
@@ -119,8 +121,6 @@ impl<T, R: Wait> Mutex<T, R> {
 }
 
 impl<T: Drop, R: Wait + Drop> Mutex<T, R> {
-    ghost use Rattle.async_mutex.specs.Sources.{IsFor};
-
     /// As [`Mutex::try_lock`], for a guard that owns its share of the mutex. It is `None` too where that share
     /// can't be had.
     pub fn try_lock_arc(this: &Arc<Mutex<T, R>>) -> Option<MutexGuardArc<T, R>>
@@ -128,17 +128,17 @@ impl<T: Drop, R: Wait + Drop> Mutex<T, R> {
     {
         let mutex = Arc::try_clone(this).ok()?;
         let (seat, hold) = mutex.raw.take()?;
-        Some(MutexGuardArc::new(mutex, seat, hold))
+        Some(Guard::new(mutex, seat, hold))
     }
 
     /// As [`Mutex::lock`], for a future that owns its share of the mutex and gives it to its guard. Where that share
     /// can't be had, its polls are refused as [`Refusal::Memory`].
     #[inline]
     pub fn lock_arc(this: &Arc<Mutex<T, R>>) -> LockArc<T, R>
-        ensures mutex { IsFor result.stage (arc_value this.now) }
+        ensures mutex { IsFor arc_value result.stage (arc_value this.now) }
         ensures entry { result.entry ≡ None }
     {
-        LockArc::new(Arc::try_clone(this).ok())
+        LockFuture::new(Stage::first::<Mutex<T, R>>(Arc::try_clone(this).ok()))
     }
 }
 
@@ -146,7 +146,7 @@ impl<T: Drop, R: Wait + Clock + RandomSource + AllocGlobal> Mutex<T, R> {
     /// Acquires the lock, blocking the calling thread until it is available. Any error of `block_on` is
     /// [`Refusal::Memory`].
     pub fn lock_blocking(&self) -> Result<MutexGuard<'_, T, R>, Refusal>
-        ensures { IfOk result (λ guard. guard.mutex.now ≡ self.now) }
+        ensures { IfOk result (λ guard. guard.mutex ≡ self.now) }
     {
         if let Some(guard) = self.try_lock() {
             return Ok(guard);
@@ -175,10 +175,12 @@ impl<T: Drop, R: Wait + Clock + RandomSource + AllocGlobal + Drop> Mutex<T, R> {
 
 impl<T: fmt::Debug, R: Wait> fmt::Debug for Mutex<T, R> {
     fn fmt<W: fmt::Write>(&self, f: &mut fmt::Formatter<W>) -> fmt::Result {
-        match self.try_lock() {
-            Some(guard) => debug_as(f, &*guard),
-            None => debug_as(f, &Locked),
-        }
+        let Some((seat, hold)) = self.raw.take() else {
+            return debug_as(f, &Locked);
+        };
+        let shown = debug_as(f, hold.get(self.raw.words.room()));
+        self.release(seat, hold);
+        shown
     }
 }
 
