@@ -16,7 +16,7 @@ use Rattle.lock_words.specs.Steps.{first_view, with_holds, without_holds, with_c
 use Rattle.words_base.specs.Sums.{weight, number}
 use Rattle.words_base.specs.MutexWord.{IsWord}
 use Rattle.words_base.proofs.MutexWord as word
-use Rattle.words_base.proofs.Sums.{number-set, number-at, number-none}
+use Rattle.words_base.proofs.Sums.{number-set, number-none}
 
 abbrev most : ℕ
 most = 1073741823

@@ -7,6 +7,7 @@
 
 mod duty;
 mod found;
+mod look;
 mod rested;
 mod rule;
 mod seat;

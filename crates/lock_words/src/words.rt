@@ -14,13 +14,14 @@ ghost use Rattle.lock_words.specs.Seats.{HasSlots};
 ghost use Rattle.lock_words.specs.Steps.{with_holds, without_holds};
 ghost use Rattle.lock_words.specs.declared.rested.Rested.{Rested};
 
-use crate::duty::leave_to_holder;
+use crate::duty::Key;
 use crate::found::{Counting, Setting, Taking, TakingAlone, WasHeld};
+use crate::look::{HELD, Look, Ruled, WORD, exchange, peek};
 use crate::rested::Rested;
-use crate::rule::{Clear, Count, Keep, MutexRule, Set, Take, Uncount};
+use crate::rule::{Clear, Count, Keep, MutexRule, Set, Uncount};
 use crate::seat::{Seat, View};
-use async_driver::{Heard, ListKey, Listed, Owed, WaitingList};
-use atomic_table::{Seat as TableSeat, Shared, Table};
+use async_driver::{Heard, Listed, Owed, WaitingList};
+use atomic_table::{Seat as TableSeat, Table};
 use futures::task::{Context, Source, Waker};
 use lock_place::{Hold, Place, Room, Spare, Ticket};
 use std::alloc::{AllocError, Global};
@@ -30,19 +31,12 @@ use std::sync::Wait;
 /// The greatest number of seats that are counted as starved at once. [`Words::count`] meets it by name.
 pub const STARVED_LIMIT: u64 = 1_073_741_823;
 
-// The mutex's word is 1 while the lock is held, and 2 more for each starved waiter.
-const WORD: usize = 0;
-
 const FREE: u64 = 0;
-
-const HELD: u64 = 1;
 
 const STARVED: u64 = 2;
 
 // Where the right rests.
 const SLOT: usize = 0;
-
-type Ruled<T> = Shared<Rested<T>, View, Spare<T>, MutexRule>;
 
 /// A mutex without its waiting list: its words, the right to its value, and the value.
 ///
@@ -62,7 +56,7 @@ pub struct Words<T> {
     source: Source,
     list: WaitingList<Waker>,
     // With it a duty to notify ends where somebody else is bound to (see the module of duties).
-    pub(crate) key: ListKey,
+    pub(crate) key: Key,
 }
 
 // By hand, so that a drop is one call to prove, and not all of its parts again.
@@ -92,7 +86,7 @@ impl<T> Model for Words<T> {
 
     ghost view = { λ w. record { lock = record { table = w.table.shared.table_id; room = w.table.shared.key.room_id; deed = w.table.shared.key.deed }; room = w.place.room.room_id; source = w.source.id; list = w.list.name.id; limit = w.limit; is_left = is_some w.left } };
 
-    ghost invariant = { λ w. (w.limit ≤ 1073741823) × (w.key.list.id ≡ w.list.name.id) × (w.table.shared.table_id.words ≡ 1) × (w.table.shared.table_id.slots ≡ 1) × (w.spare.room_id ≡ w.place.room.room_id) × (is_some w.left ≡ false → (w.table.shared.key.room_id ≡ w.place.room.room_id) × (w.table.shared.key.deed ≡ w.spare.deed) × IsSome w.spare.value) };
+    ghost invariant = { λ w. (w.limit ≤ 1073741823) × (w.key.list.list.id ≡ w.list.name.id) × (w.table.shared.table_id.words ≡ 1) × (w.table.shared.table_id.slots ≡ 1) × (w.spare.room_id ≡ w.place.room.room_id) × (is_some w.left ≡ false → (w.table.shared.key.room_id ≡ w.place.room.room_id) × (w.table.shared.key.deed ≡ w.spare.deed) × IsSome w.spare.value) };
 }
 
 impl<T> Words<T> {
@@ -119,7 +113,7 @@ impl<T> Words<T> {
         };
         let (mut spare, ticket) = Spare::new(&place.room);
         spare.lend(hold, &place);
-        let (list, key) = WaitingList::new(alloc);
+        let (list, key) = Key::new(alloc);
         match free_table(alloc, &spare, ticket) {
             Ok(table) => Ok(Words {
                 table,
@@ -224,8 +218,8 @@ impl<T> Words<T> {
         match self.take_from(seat, FREE) {
             Ok(hold) => Taking::Got(hold),
             Err(found) => {
-                if found == HELD {
-                    self.leave_owed(owed, found);
+                if found.word() == HELD {
+                    self.leave_owed(owed, &found);
                     Taking::Held
                 } else {
                     Taking::Starved
@@ -248,8 +242,8 @@ impl<T> Words<T> {
         match self.take_from(seat, STARVED) {
             Ok(hold) => TakingAlone::Got(hold),
             Err(found) => {
-                if found % STARVED == HELD {
-                    self.leave_owed(owed, found);
+                if found.word() % STARVED == HELD {
+                    self.leave_owed(owed, &found);
                     TakingAlone::Held
                 } else {
                     TakingAlone::FreeWithOthers
@@ -259,9 +253,9 @@ impl<T> Words<T> {
     }
 
     // Takes the lock where the word is `free`, as of a free lock: one try, which is no exchange where the word is another.
-    // The answer has the right, or what the word was.
+    // The answer has the right, or what was found.
     #[inline]
-    fn take_from(&self, seat: &mut Seat<T>, free: u64) -> Result<Hold<T>, u64>
+    fn take_from(&self, seat: &mut Seat<T>, free: u64) -> Result<Hold<T>, Look>
         requires lock { seat.old.lock ≡ self.now.lock }
         requires idle { seat.old.holds ≡ false }
         requires free { (free % 2 ≡ 0) × (free ≤ 2) }
@@ -269,26 +263,26 @@ impl<T> Words<T> {
         ensures not { OnErr result (seat.new ≡ seat.old) }
     {
         let shared = &self.table.shared;
-        let seen = shared.peek(WORD);
-        if seen != free || self.left.is_some() {
+        let seen = peek(shared);
+        if seen.word() != free || self.left.is_some() {
             return Err(seen);
         }
-        let found = shared.compare_exchange::<Take>(&mut seat.inner, WORD, free, free + HELD);
-        if found != free {
+        let found = exchange(shared, &mut seat.inner, free);
+        if found.word() != free {
             return Err(found);
         }
         Ok(take_right(shared, &self.spare, &mut seat.inner))
     }
 
-    // The word was this, and so the lock was held: its holder notifies later.
+    // A look found the lock held: its holder notifies later.
     #[inline]
-    fn leave_owed(&self, owed: &mut Option<Owed>, word: u64)
-        requires held { word % 2 ≡ 1 }
+    fn leave_owed(&self, owed: &mut Option<Owed>, look: &Look)
+        requires held { look.now.word % 2 ≡ 1 }
         requires list { IfSome owed.old (λ o. o.list.id ≡ self.now.list) }
         ensures { owed.new ≡ None }
     {
         if let Some(owed) = owed.take() {
-            leave_to_holder(&self.key, owed, word);
+            self.key.leave_to_holder(owed, look);
         }
     }
 

@@ -5,12 +5,10 @@
 #![tactic(auto)]
 
 mod carries;
-mod duty;
 mod maker;
 mod outcome;
 mod party;
 mod poll;
-mod queue;
 mod raw;
 mod side;
 mod straight;
@@ -19,6 +17,5 @@ pub use carries::Origin;
 pub use maker::{Maker, Nobody, Purpose};
 pub use outcome::Outcome;
 pub use party::{CellParty, Work};
-pub use queue::Queue;
 pub use raw::RawCell;
 pub use side::Side;

@@ -14,7 +14,7 @@ use async_driver::put;
 use futures::task::{Context, Poll};
 use std::sync::Wait;
 use sync_program::once_cell::{Action, Found, ListName, Maker as By};
-use words_once_cell::{Seat, State};
+use words_once_cell::{Filled, Seat, State};
 
 /// What a party makes: its maker, the value that it gave until it is in the cell, and how it failed.
 #[derive(Drop)]
@@ -92,7 +92,7 @@ impl<'a, T: Drop, E: Drop, M: Maker<T, E>> CellParty<'a, T, E, M> {
             State::Full => {
                 put(&mut self.got, cell.made(rt));
                 if let Some(owed) = self.passive.owed.take() {
-                    cell.all_waiting_told(owed, &self.seat);
+                    cell.words.all_waiting_told(owed, &self.seat);
                 }
                 Found::Full(())
             }
@@ -111,7 +111,7 @@ impl<'a, T: Drop, E: Drop, M: Maker<T, E>> CellParty<'a, T, E, M> {
         match cell.words.claim(&mut self.seat) {
             State::Empty => {
                 if let Some(owed) = self.active.owed.take() {
-                    cell.put_off(owed, &self.seat);
+                    cell.words.put_off(owed, &self.seat);
                 }
                 Found::Empty
             }
@@ -119,7 +119,7 @@ impl<'a, T: Drop, E: Drop, M: Maker<T, E>> CellParty<'a, T, E, M> {
             State::Full => {
                 put(&mut self.got, cell.made(rt));
                 if let Some(owed) = self.active.owed.take() {
-                    cell.all_told(owed, &self.seat);
+                    cell.words.all_told(owed, &self.seat);
                 }
                 Found::Full(())
             }
@@ -165,16 +165,17 @@ impl<'a, T: Drop, E: Drop, M: Maker<T, E>> CellParty<'a, T, E, M> {
         let Some(value) = self.work.made.take() else {
             unreachable!()
         };
-        match cell.value.try_insert(rt, value) {
-            Ok(token) => put(&mut self.got, cell.value.value(&token)),
-            Err((token, value)) => {
-                put(&mut self.got, cell.value.value(&token));
+        let set = match cell.words.value().try_insert(rt, value) {
+            Ok(set) => set,
+            Err((set, value)) => {
                 self.work.made = Some(value);
+                set
             }
-        }
-        cell.words.fill(&mut self.seat);
-        self.active.owe(cell.active.list());
-        self.passive.owe(cell.passive.list());
+        };
+        put(&mut self.got, cell.words.value().value(&set));
+        let Filled { active, passive } = cell.words.fill(&mut self.seat, &set);
+        put(&mut self.active.owed, active);
+        put(&mut self.passive.owed, passive);
         Found::Done
     }
 
@@ -186,8 +187,8 @@ impl<'a, T: Drop, E: Drop, M: Maker<T, E>> CellParty<'a, T, E, M> {
         ensures found { CanFind does.Empty result × (having_of self.new ≡ after does.Empty result (having_of self.old)) }
         ensures works { (self.new.work ≡ self.old.work) × (self.new.got ≡ self.old.got) }
     {
-        cell.words.empty(&mut self.seat);
-        self.active.owe(cell.active.list());
+        let owed = cell.words.empty(&mut self.seat);
+        put(&mut self.active.owed, owed);
         Found::Done
     }
 
@@ -213,12 +214,12 @@ impl<'a, T: Drop, E: Drop, M: Maker<T, E>> CellParty<'a, T, E, M> {
         ensures found { CanFind (does.Join lists.Active) result × (having_of self.new ≡ after (does.Join lists.Active) result (having_of self.old)) }
         ensures works { (self.new.work ≡ self.old.work) × (self.new.got ≡ self.old.got) }
     {
-        if !self.active.join(cell.active.list(), rt) {
+        if !self.active.join(cell.words.active(), rt) {
             return Found::NoMemory;
         }
         if let Some(entry) = &self.active.entry {
             if let Some(owed) = self.active.owed.take() {
-                cell.leave_to_maker(owed, &self.seat, entry);
+                cell.words.claim_next(owed, &self.seat, entry);
             }
         }
         Found::Done
@@ -232,12 +233,12 @@ impl<'a, T: Drop, E: Drop, M: Maker<T, E>> CellParty<'a, T, E, M> {
         ensures found { CanFind (does.Join lists.Passive) result × (having_of self.new ≡ after (does.Join lists.Passive) result (having_of self.old)) }
         ensures works { (self.new.work ≡ self.old.work) × (self.new.got ≡ self.old.got) }
     {
-        if !self.passive.join(cell.passive.list(), rt) {
+        if !self.passive.join(cell.words.passive(), rt) {
             return Found::NoMemory;
         }
         if let Some(entry) = &self.passive.entry {
             if let Some(owed) = self.passive.owed.take() {
-                cell.leave_to_filler(owed, &self.seat, entry);
+                cell.words.look_next(owed, &self.seat, entry);
             }
         }
         Found::Done
@@ -259,8 +260,8 @@ impl<'a, T: Drop, E: Drop, M: Maker<T, E>> CellParty<'a, T, E, M> {
         ensures kept { Keeps cx.old cx.new }
     {
         let told = match list {
-            ListName::Active => self.active.ask(cell.active.list(), rt, &cell.source, cx),
-            ListName::Passive => self.passive.ask(cell.passive.list(), rt, &cell.source, cx),
+            ListName::Active => self.active.ask(cell.words.active(), rt, &cell.source, cx),
+            ListName::Passive => self.passive.ask(cell.words.passive(), rt, &cell.source, cx),
         };
         if told { Found::Yes } else { Found::No }
     }
@@ -273,8 +274,8 @@ impl<'a, T: Drop, E: Drop, M: Maker<T, E>> CellParty<'a, T, E, M> {
         ensures works { (self.new.work ≡ self.old.work) × (self.new.got ≡ self.old.got) }
     {
         match list {
-            ListName::Active => self.active.leave(cell.active.list(), rt),
-            ListName::Passive => self.passive.leave(cell.passive.list(), rt),
+            ListName::Active => self.active.leave(cell.words.active(), rt),
+            ListName::Passive => self.passive.leave(cell.words.passive(), rt),
         }
         Found::Done
     }
@@ -287,8 +288,8 @@ impl<'a, T: Drop, E: Drop, M: Maker<T, E>> CellParty<'a, T, E, M> {
         ensures works { (self.new.work ≡ self.old.work) × (self.new.got ≡ self.old.got) }
     {
         match list {
-            ListName::Active => self.active.notify(cell.active.list(), rt),
-            ListName::Passive => self.passive.notify(cell.passive.list(), rt),
+            ListName::Active => self.active.notify(cell.words.active(), rt),
+            ListName::Passive => self.passive.notify(cell.words.passive(), rt),
         }
         Found::Done
     }
@@ -301,8 +302,8 @@ impl<'a, T: Drop, E: Drop, M: Maker<T, E>> CellParty<'a, T, E, M> {
         ensures works { (self.new.work ≡ self.old.work) × (self.new.got ≡ self.old.got) }
     {
         match list {
-            ListName::Active => self.active.notify_all(cell.active.list(), rt),
-            ListName::Passive => self.passive.notify_all(cell.passive.list(), rt),
+            ListName::Active => self.active.notify_all(cell.words.active(), rt),
+            ListName::Passive => self.passive.notify_all(cell.words.passive(), rt),
         }
         Found::Done
     }

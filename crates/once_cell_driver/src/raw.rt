@@ -2,26 +2,19 @@
 
 ghost use Rattle.std.specs.Prelude.{◌≡◌, true, false, IfOk};
 
-use crate::queue::Queue;
 use async_driver::WaitingList;
 use futures::task::{Source, Waker};
 use std::alloc::{AllocError, Global};
 use std::marker::Model;
-use std::sync::{OnceLock, Wait};
+use std::sync::Wait;
 use words_once_cell::{State, Words};
 
 /// A once-cell without its runtime: its word, its value, and who waits.
 ///
 /// Contracts see which cell it is (`word`), the source that waiting tasks register with, and which lists the two are.
 pub struct RawCell<T> {
-    // Whether the cell is empty, being made, or full.
-    pub(crate) words: Words,
-    // The value. It is set before the word says that the cell is full, by the seat that has the right to make.
-    pub(crate) value: OnceLock<T>,
-    // Of the parties that would make the value.
-    pub(crate) active: Queue,
-    // Of the parties that only wait for it.
-    pub(crate) passive: Queue,
+    // Whether the cell is empty, being made, or full; its value; and who waits.
+    pub(crate) words: Words<T>,
     // What tasks register with that wait.
     pub(crate) source: Source,
 }
@@ -31,9 +24,6 @@ impl<T: Drop> Drop for RawCell<T> {
     fn drop(self) {
         let RawCell {
             words: _,
-            value: _,
-            active: _,
-            passive: _,
             source: _,
         } = self;
     }
@@ -46,7 +36,7 @@ impl<T> Model for RawCell<T> {
 
     ghost coded = { cell_coded };
 
-    ghost view = { λ c. record { word = c.words; source = c.source.id; active = c.active; passive = c.passive } };
+    ghost view = { λ c. record { word = c.words; source = c.source.id; active = c.words.active; passive = c.words.passive } };
 }
 
 impl<T: Drop> RawCell<T> {
@@ -55,27 +45,24 @@ impl<T: Drop> RawCell<T> {
         ensures { IfOk result (λ cell. cell.word.start ≡ false) }
     {
         let words = Words::new(alloc)?;
-        Ok(RawCell::over(alloc, words, OnceLock::new()))
+        Ok(RawCell::over(words))
     }
 
     /// Makes a full cell. If memory is refused, the value is dropped.
     pub fn with_value(alloc: Global, value: T) -> Result<RawCell<T>, AllocError>
         ensures { IfOk result (λ cell. cell.word.start ≡ true) }
     {
-        let words = Words::full(alloc)?;
-        Ok(RawCell::over(alloc, words, OnceLock::from(value)))
+        let words = Words::full(alloc, value)?;
+        Ok(RawCell::over(words))
     }
 }
 
 impl<T> RawCell<T> {
-    fn over(alloc: Global, words: Words, value: OnceLock<T>) -> RawCell<T>
+    fn over(words: Words<T>) -> RawCell<T>
         ensures { result.word ≡ words }
     {
         RawCell {
             words,
-            value,
-            active: Queue::new(alloc),
-            passive: Queue::new(alloc),
             source: Source::new(),
         }
     }
@@ -88,7 +75,7 @@ impl<T> RawCell<T> {
     /// Returns the value of a full cell. It waits for nobody.
     pub fn get(&self) -> Option<&T> {
         if self.words.is_full() {
-            self.value.get()
+            self.words.value().get()
         } else {
             None
         }
@@ -97,7 +84,7 @@ impl<T> RawCell<T> {
     /// Returns the value of a cell that is full, or waits until there is one. The value stands there before the word says so, and
     /// so who has found the cell full doesn't wait.
     pub fn made<R: Wait>(&self, rt: &R) -> &T {
-        self.value.wait(rt)
+        self.words.value().wait(rt)
     }
 
     /// Returns what the cell was at some moment of the call: one load, which waits for nobody.
@@ -110,40 +97,31 @@ impl<T> RawCell<T> {
 
     /// Returns the value to be written.
     pub fn get_mut(&mut self) -> Option<&mut T> {
-        self.value.get_mut()
+        self.words.get_mut()
     }
 
     /// Takes the value out of a full cell, which is empty then. It waits for nobody and takes no memory.
     pub fn take(&mut self) -> Option<T> {
-        let mut seat = self.words.sit();
-        let was_full = self.words.take(&mut seat);
-        self.words.rise(seat);
-        if was_full { self.value.take() } else { None }
+        self.words.take_value()
     }
 
     /// Returns the value that the cell has. It waits for nobody and takes no memory.
     pub fn into_inner(self) -> Option<T> {
-        let RawCell {
-            words: _,
-            value,
-            active: _,
-            passive: _,
-            source: _,
-        } = self;
-        value.into_inner()
+        let RawCell { words, source: _ } = self;
+        words.into_inner()
     }
 
     /// Who waits to make the value.
     pub fn active(&self) -> &WaitingList<Waker>
         ensures { result.now.name.id ≡ self.now.active }
     {
-        self.active.list()
+        self.words.active()
     }
 
     /// Who waits for the value.
     pub fn passive(&self) -> &WaitingList<Waker>
         ensures { result.now.name.id ≡ self.now.passive }
     {
-        self.passive.list()
+        self.words.passive()
     }
 }

@@ -124,15 +124,4 @@ impl Side {
         };
         list.notify_additional(rt, usize::MAX, owed);
     }
-
-    // Has to notify this list from now on.
-    pub(crate) fn owe(&mut self, list: &WaitingList<Waker>)
-        requires tied { IsTied list.now.name.id self.old }
-        requires pays { is_some self.old.owed ≡ false }
-        ensures tied { IsTied list.now.name.id self.new }
-        ensures entry { self.new.entry ≡ self.old.entry }
-        ensures owes { is_some self.new.owed ≡ true }
-    {
-        put(&mut self.owed, Owed::new(list.id()));
-    }
 }

@@ -19,15 +19,14 @@ ghost use Rattle.sync_program.specs.declared.once_cell.Position.TheVariants as s
 use crate::party::{CellParty, Work};
 use crate::raw::RawCell;
 use crate::side::Side;
-use async_driver::Owed;
+use async_driver::put;
 use std::sync::Wait;
 use sync_program::once_cell::{Left, Position};
-use words_once_cell::{Seat, State};
+use words_once_cell::{Filled, Seat, State};
 
 // A value is in the cell: what has to be notified by that, and the value if another stood there already.
 struct Entered<T> {
-    active: Owed,
-    passive: Owed,
+    filled: Filled,
     back: Option<T>,
 }
 
@@ -44,13 +43,14 @@ impl<T: Drop> RawCell<T> {
         match self.words.claim(&mut seat) {
             State::Empty => {
                 let Entered {
-                    active,
-                    passive,
+                    filled: Filled { active, passive },
                     back,
                 } = self.enter(rt, &mut seat, value);
-                self.active.list().notify_additional(rt, usize::MAX, active);
-                self.passive
-                    .list()
+                self.words
+                    .active()
+                    .notify_additional(rt, usize::MAX, active);
+                self.words
+                    .passive()
                     .notify_additional(rt, usize::MAX, passive);
                 self.words.rise(seat);
                 match back {
@@ -71,20 +71,16 @@ impl<T: Drop> RawCell<T> {
         requires makes { seat.old.inner.me.0.makes ≡ true }
         ensures seat { seat.new.inner.table_id ≡ self.now.word.table }
         ensures made { seat.new.inner.me.0.makes ≡ false }
-        ensures active { result.active.list.id ≡ self.now.active }
-        ensures passive { result.passive.list.id ≡ self.now.passive }
+        ensures active { result.filled.active.list.id ≡ self.now.active }
+        ensures passive { result.filled.passive.list.id ≡ self.now.passive }
         ensures back { IfSome result.back (λ back. back ≡ value) }
     {
-        let back = match self.value.set(rt, value) {
-            Ok(_) => None,
-            Err(value) => Some(value),
+        let (set, back) = match self.words.value().try_insert(rt, value) {
+            Ok(set) => (set, None),
+            Err((set, value)) => (set, Some(value)),
         };
-        self.words.fill(seat);
-        Entered {
-            active: Owed::new(self.active.list().id()),
-            passive: Owed::new(self.passive.list().id()),
-            back,
-        }
+        let filled = self.words.fill(seat, &set);
+        Entered { filled, back }
     }
 
     /// Gives back what a party has that waits between two polls. The program of it has no branch, and so its actions stand here in
@@ -149,12 +145,12 @@ impl<T: Drop> RawCell<T> {
         let mut active = active;
         let mut passive = passive;
         match place {
-            Left::Outside(Position::WaitingToMake(_)) => active.leave(self.active.list(), rt),
-            Left::Outside(Position::Waiting) => passive.leave(self.passive.list(), rt),
+            Left::Outside(Position::WaitingToMake(_)) => active.leave(self.words.active(), rt),
+            Left::Outside(Position::Waiting) => passive.leave(self.words.passive(), rt),
             Left::Outside(Position::Making(_)) => {
-                self.words.empty(&mut seat);
-                active.owe(self.active.list());
-                active.notify(self.active.list(), rt);
+                let owed = self.words.empty(&mut seat);
+                put(&mut active.owed, owed);
+                active.notify(self.words.active(), rt);
             }
             _ => {}
         }

@@ -48,7 +48,7 @@ impl RwLockParty {
         requires can { CanDo does.Off turn (turned self.old) (share_of self.old) }
         ensures { Does raw.now does.Off turn result self.old self.new }
     {
-        match raw.off(&mut self.seat) {
+        match raw.words.off(&mut self.seat) {
             Some(owed) => {
                 put(&mut self.no_readers.owed, owed);
                 Finding::of(Found::NoneLeft, turn)
@@ -117,7 +117,7 @@ impl RwLockParty {
         requires can { CanDo does.Down turn (turned self.old) (share_of self.old) }
         ensures { Does raw.now does.Down turn result self.old self.new }
     {
-        let owed = raw.down(&mut self.seat);
+        let owed = raw.words.down(&mut self.seat);
         put(&mut self.no_writer.owed, owed);
         Finding::of(Found::Done, turn)
     }
@@ -127,7 +127,7 @@ impl RwLockParty {
         requires can { CanDo does.Unmark turn (turned self.old) (share_of self.old) }
         ensures { Does raw.now does.Unmark turn result self.old self.new }
     {
-        let owed = raw.unmark(&mut self.seat);
+        let owed = raw.words.unmark(&mut self.seat);
         put(&mut self.no_writer.owed, owed);
         Finding::of(Found::Done, turn)
     }

@@ -1,67 +1,62 @@
-//! Where duties to notify begin, and where one ends by its list's key.
+//! The keys of a lock's lists, and where a duty to notify ends by one: each time somebody else is bound to notify, or to look.
 //!
-//! Whoever gives back what others wait for owes a notification of their list. A duty to `no_writer` ends by a notification
-//! alone, since nobody has that list's key. The four calls that end a duty without one, each because somebody else is bound
-//! to notify or to look, stand here and nowhere else.
+//! The keys are fields of this module alone, which makes the lists: no other function has one, and so ends a duty but by a
+//! notification or by one of the calls here, each of which asks for its reason. The key of the list of those that wait until no
+//! writer is nobody has: each duty to it ends by a notification.
 
-ghost use Rattle.std.specs.Prelude.{◌≡◌, ◌%◌, true, false, IfSome};
-ghost use Rattle.words_rwlock.specs.Steps.{having_found, without_turn, without_mark, without_read, downgraded};
+ghost use Rattle.std.specs.Prelude.{◌≡◌, ◌%◌, true};
 
 use crate::raw::RawRwLock;
-use async_driver::{Listed, Owed};
-use words_rwlock::{Readers, Seat};
+use async_driver::{ListKey, Listed, Owed, WaitingList};
+use futures::task::Waker;
+use std::alloc::Global;
+use words_rwlock::Seat;
 
-impl RawRwLock {
-    /// Gives the turn back: one step. Somebody who waits for it is to be notified.
-    pub(crate) fn clear(&self, seat: &mut Seat) -> Owed
-        requires table { seat.old.inner.table_id ≡ self.now.words.table }
-        requires turn { (seat.old.inner.me.0.holds ≡ true) × (seat.old.inner.me.0.marks ≡ false) }
-        ensures table { seat.new.inner.table_id ≡ seat.old.inner.table_id }
-        ensures step { seat.new.inner.me ≡ (without_turn seat.old.inner.me.0, seat.old.inner.me.1) }
-        ensures owed { result.list.id ≡ self.now.turn.name.id }
-    {
-        self.words.clear(seat);
-        Owed::new(self.turn.id())
+/// The keys of a lock's lists.
+pub(crate) struct Keys {
+    turn: ListKey,
+    no_readers: ListKey,
+}
+
+impl Drop for Keys {
+    fn drop(self) {
+        let Keys {
+            turn: _,
+            no_readers: _,
+        } = self;
     }
+}
 
-    /// Clears the writer's bit: one step. Somebody who waits for no writer is to be notified.
-    pub(crate) fn unmark(&self, seat: &mut Seat) -> Owed
-        requires table { seat.old.inner.table_id ≡ self.now.words.table }
-        requires marks { seat.old.inner.me.0.marks ≡ true }
-        ensures table { seat.new.inner.table_id ≡ seat.old.inner.table_id }
-        ensures step { seat.new.inner.me ≡ (without_mark seat.old.inner.me.0, seat.old.inner.me.1) }
-        ensures owed { result.list.id ≡ self.now.no_writer.name.id }
-    {
-        self.words.unmark(seat);
-        Owed::new(self.no_writer.id())
-    }
+/// A lock's lists, with their keys.
+pub(crate) struct KeyedLists {
+    pub(crate) turn: WaitingList<Waker>,
+    pub(crate) no_writer: WaitingList<Waker>,
+    pub(crate) no_readers: WaitingList<Waker>,
+    pub(crate) keys: Keys,
+}
 
-    /// Reads in place of writing: one step. Somebody who waits for no writer is to be notified.
-    pub(crate) fn down(&self, seat: &mut Seat) -> Owed
-        requires table { seat.old.inner.table_id ≡ self.now.words.table }
-        requires writes { seat.old.inner.me.0.writes ≡ true }
-        ensures table { seat.new.inner.table_id ≡ seat.old.inner.table_id }
-        ensures step { seat.new.inner.me ≡ (downgraded seat.old.inner.me.0, seat.old.inner.me.1) }
-        ensures owed { result.list.id ≡ self.now.no_writer.name.id }
+impl KeyedLists {
+    /// Three empty lists.
+    pub(crate) fn new(alloc: Global) -> KeyedLists
+        ensures turn { result.keys.turn.list.id ≡ result.turn.name.id }
+        ensures no_readers { result.keys.no_readers.list.id ≡ result.no_readers.name.id }
     {
-        self.words.down(seat);
-        Owed::new(self.no_writer.id())
-    }
-
-    /// Reads no more: one step. The last reader is to notify the one who waits for no readers.
-    pub(crate) fn off(&self, seat: &mut Seat) -> Option<Owed>
-        requires table { seat.old.inner.table_id ≡ self.now.words.table }
-        requires reads { seat.old.inner.me.0.reads ≡ true }
-        ensures table { seat.new.inner.table_id ≡ seat.old.inner.table_id }
-        ensures step { seat.new.inner.me ≡ (without_read (having_found seat.new.inner.me.0.found seat.old.inner.me.0), seat.old.inner.me.1) }
-        ensures owed { IfSome result (λ owed. owed.list.id ≡ self.now.no_readers.name.id) }
-    {
-        match self.words.off(seat) {
-            Readers::NoneLeft => Some(Owed::new(self.no_readers.id())),
-            Readers::SomeLeft => None,
+        let (turn, turn_key) = WaitingList::new(alloc);
+        let (no_readers, no_readers_key) = WaitingList::new(alloc);
+        let (no_writer, _) = WaitingList::new(alloc);
+        KeyedLists {
+            turn,
+            no_writer,
+            no_readers,
+            keys: Keys {
+                turn: turn_key,
+                no_readers: no_readers_key,
+            },
         }
     }
+}
 
+impl RawRwLock {
     /// Ends the duty of a seat that has the turn: when it gives the turn back, it notifies.
     pub(crate) fn put_off(&self, owed: Owed, holder: &Seat)
         requires list { owed.list.id ≡ self.now.turn.name.id }
@@ -69,17 +64,18 @@ impl RawRwLock {
         requires holds { holder.now.inner.me.0.holds ≡ true }
     {
         let _ = holder;
-        owed.end(&self.turn_key);
+        owed.end(&self.keys.turn);
     }
 
-    /// Ends the duty of a seat that has just found the turn held: whoever holds it notifies when it gives it back.
+    /// Ends the duty of a seat whose last look at the turn's word found the turn held: whoever holds it notifies when it gives
+    /// it back.
     pub(crate) fn leave_to_holder(&self, owed: Owed, seat: &Seat)
         requires list { owed.list.id ≡ self.now.turn.name.id }
         requires table { seat.now.inner.table_id ≡ self.now.words.table }
-        requires held { seat.now.inner.me.0.found % 2 ≡ 1 }
+        requires held { seat.now.inner.me.0.seen % 2 ≡ 1 }
     {
         let _ = seat;
-        owed.end(&self.turn_key);
+        owed.end(&self.keys.turn);
     }
 
     /// Ends the duty of a starved seat that stands in the turn's list: whoever gets the turn, or has found it held, notifies it.
@@ -91,7 +87,7 @@ impl RawRwLock {
     {
         let _ = waiter;
         let _ = entry;
-        owed.end(&self.turn_key);
+        owed.end(&self.keys.turn);
     }
 
     /// Ends the duty of a seat that waits to write and was notified that no reader is left. Nobody but who has set the writer's
@@ -102,6 +98,6 @@ impl RawRwLock {
         requires marks { seat.now.inner.me.0.marks ≡ true }
     {
         let _ = seat;
-        owed.end(&self.no_readers_key);
+        owed.end(&self.keys.no_readers);
     }
 }

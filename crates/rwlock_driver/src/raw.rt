@@ -2,10 +2,11 @@
 
 ghost use Rattle.std.specs.Prelude.{◌≡◌, ◌≤◌, IfOk, min};
 
-use async_driver::{ListKey, WaitingList};
+use crate::duty::{KeyedLists, Keys};
+use async_driver::WaitingList;
 use futures::task::{Source, Waker};
 use std::alloc::{AllocError, Global};
-use words_rwlock::{READERS_LIMIT, STARVED_LIMIT, Words};
+use words_rwlock::{Lists, READERS_LIMIT, STARVED_LIMIT, Words};
 
 /// A read-write lock without its value and its runtime: its words, and who waits.
 pub struct RawRwLock {
@@ -15,14 +16,17 @@ pub struct RawRwLock {
     pub source: Source,
     /// Those who wait for the turn.
     pub turn: WaitingList<Waker>,
-    pub(crate) turn_key: ListKey,
     /// Those who wait until no writer is.
     pub no_writer: WaitingList<Waker>,
     /// The one who has the turn and waits until no reader is left.
     pub no_readers: WaitingList<Waker>,
-    pub(crate) no_readers_key: ListKey,
-    ghost turn_by: { turn_key.list.id ≡ turn.name.id },
-    ghost no_readers_by: { no_readers_key.list.id ≡ no_readers.name.id },
+    // With them a duty to notify ends where somebody else is bound to (see the module of duties).
+    pub(crate) keys: Keys,
+    ghost turn_by: { keys.turn.list.id ≡ turn.name.id },
+    ghost no_readers_by: { keys.no_readers.list.id ≡ no_readers.name.id },
+    ghost turn_told: { words.turn ≡ turn.name.id },
+    ghost no_writer_told: { words.no_writer ≡ no_writer.name.id },
+    ghost no_readers_told: { words.no_readers ≡ no_readers.name.id },
 }
 
 // By hand, so that a drop is one call to prove, and not all of its parts again.
@@ -32,10 +36,9 @@ impl Drop for RawRwLock {
             words: _,
             source: _,
             turn: _,
-            turn_key: _,
             no_writer: _,
             no_readers: _,
-            no_readers_key: _,
+            keys: _,
         } = self;
     }
 }
@@ -50,19 +53,27 @@ impl RawRwLock {
     pub fn with_limits(alloc: Global, starved: u64, readers: u64) -> Result<RawRwLock, AllocError>
         ensures { IfOk result (λ raw. (raw.words.starved ≡ min starved 1073741823) × (raw.words.readers ≡ min readers 1073741823)) }
     {
-        let words = Words::with_limits(alloc, starved, readers)?;
-        let (turn, turn_key) = WaitingList::new(alloc);
-        let (no_readers, no_readers_key) = WaitingList::new(alloc);
-        // The key of this list is let go: each duty to it ends by a notification.
-        let (no_writer, _) = WaitingList::new(alloc);
-        Ok(RawRwLock {
-            words,
-            source: Source::new(),
+        let KeyedLists {
             turn,
-            turn_key,
             no_writer,
             no_readers,
-            no_readers_key,
-        })
+            keys,
+        } = KeyedLists::new(alloc);
+        let lists = Lists {
+            turn: turn.id(),
+            no_writer: no_writer.id(),
+            no_readers: no_readers.id(),
+        };
+        match Words::with_limits(alloc, starved, readers, lists) {
+            Ok(words) => Ok(RawRwLock {
+                words,
+                source: Source::new(),
+                turn,
+                no_writer,
+                no_readers,
+                keys,
+            }),
+            Err(error) => Err(error),
+        }
     }
 }

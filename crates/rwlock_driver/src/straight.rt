@@ -102,7 +102,7 @@ impl RawRwLock {
         ensures table { seat.new.inner.table_id ≡ seat.old.inner.table_id }
         ensures step { seat.new.inner.me ≡ (without_turn seat.old.inner.me.0, seat.old.inner.me.1) }
     {
-        let owed = self.clear(seat);
+        let owed = self.words.clear(seat);
         self.turn.notify(rt, 1, owed);
     }
 
@@ -111,7 +111,7 @@ impl RawRwLock {
         requires { Has self.now reader seat }
     {
         let mut seat = seat;
-        if let Some(owed) = self.off(&mut seat) {
+        if let Some(owed) = self.words.off(&mut seat) {
             self.no_readers.notify(rt, 1, owed);
         }
         self.words.rise(seat);
@@ -122,7 +122,7 @@ impl RawRwLock {
         requires { Has self.now upgradable seat }
     {
         let mut seat = seat;
-        if let Some(owed) = self.off(&mut seat) {
+        if let Some(owed) = self.words.off(&mut seat) {
             self.no_readers.notify(rt, 1, owed);
         }
         self.release_turn(rt, &mut seat);
@@ -143,7 +143,7 @@ impl RawRwLock {
         requires marks { (seat.inner.me.0.marks ≡ true) × (seat.inner.me.0.reads ≡ false) }
     {
         let mut seat = seat;
-        let to_readers = self.unmark(&mut seat);
+        let to_readers = self.words.unmark(&mut seat);
         self.no_writer.notify(rt, 1, to_readers);
         self.release_turn(rt, &mut seat);
         self.words.rise(seat);
@@ -165,7 +165,7 @@ impl RawRwLock {
         ensures { Has self.now reader result }
     {
         let mut seat = seat;
-        let later = self.down(&mut seat);
+        let later = self.words.down(&mut seat);
         self.release_turn(rt, &mut seat);
         self.no_writer.notify(rt, 1, later);
         seat
@@ -177,7 +177,7 @@ impl RawRwLock {
         ensures { Has self.now upgradable result }
     {
         let mut seat = seat;
-        let owed = self.down(&mut seat);
+        let owed = self.words.down(&mut seat);
         self.no_writer.notify(rt, 1, owed);
         seat
     }

@@ -117,7 +117,7 @@ impl RwLockParty {
     // its entry is refused, it has to notify.
     fn finds_held<R: Clock>(&mut self, raw: &RawRwLock, rt: &R) -> Found
         requires of { IsOf raw.now self.old }
-        requires held { self.old.seat.inner.me.0.found ≡ 1 }
+        requires held { self.old.seat.inner.me.0.seen ≡ 1 }
         ensures of { IsOf raw.now self.new }
         ensures share { share_of self.new ≡ share_of self.old }
         ensures found { CanFind does.Take result × (turned self.new ≡ after does.Take result (turned self.old)) }
@@ -244,7 +244,7 @@ impl RwLockParty {
         ensures share { share_of self.new ≡ share_of self.old }
         ensures found { CanFind does.Clear result × (turned self.new ≡ after does.Clear result (turned self.old)) }
     {
-        let owed = raw.clear(&mut self.seat);
+        let owed = raw.words.clear(&mut self.seat);
         put(&mut self.turn.owed, owed);
         Found::Done
     }

@@ -1,15 +1,19 @@
-//! The word of a once-cell, and the steps on it.
+//! The word of a once-cell with its value, and the steps on it.
 
 ghost use Rattle.std.specs.Prelude.{◌≡◌, ◌≢◌, ◌≤◌, ℕ, true, false, [], ◌∷◌, IfOk, MatchBool};
 ghost use Rattle.words_once_cell.specs.Steps.{first_view, having_found, having_claimed, having_filled, having_emptied, having_taken};
 ghost use Rattle.words_once_cell.specs.Words.{word_of};
 
+use crate::duty::Queue;
 use crate::found::State;
 use crate::rule::{CellRule, ClaimsStep, EmptiesStep, FillsStep, KeptStep, LooksStep, TakesStep};
 use crate::view::{Seat, View};
+use async_driver::{Owed, WaitingList};
 use atomic_table::Table;
+use futures::task::Waker;
 use std::alloc::{AllocError, Global};
 use std::marker::Model;
+use std::sync::{OnceLock, OnceToken};
 use words_base::Nothing;
 
 const WORD: usize = 0;
@@ -20,22 +24,54 @@ const MAKING: u64 = 1;
 
 const FULL: u64 = 2;
 
-/// A once-cell without its value and its waiting lists: whether it is empty, being made, or full.
-///
-/// Contracts see which cell it is, and whether it began full. Each call by a seat is a single try or step, and waits
-/// for nobody.
-pub struct Words {
+// The table of one word.
+struct Word {
     table: Table<Nothing, View, bool, CellRule, Global>,
+    ghost one: { table.shared.table_id.words ≡ 1 },
 }
 
-// By hand, so that a drop is one call to prove, and not all of its parts again.
-impl Drop for Words {
+impl Drop for Word {
     fn drop(self) {
-        let Words { table: _ } = self;
+        let Word { table: _ } = self;
     }
 }
 
-impl Model for Words {
+/// A once-cell without its program: whether it is empty, being made, or full, its value, and who waits.
+///
+/// Contracts see which cell it is, whether it began full, where its value lies, and which its two lists are. Each call by a
+/// seat is a single try or step, and waits for nobody. A step that others wait for answers the duty to notify them, which has
+/// no `Drop`.
+pub struct Words<T> {
+    word: Word,
+    // It is set before the word says that the cell is full.
+    value: OnceLock<T>,
+    // Of the parties that would make the value.
+    pub(crate) active: Queue,
+    // Of the parties that only wait for it.
+    pub(crate) passive: Queue,
+}
+
+/// What has to be notified by who has filled a cell. It has no `Drop`.
+pub struct Filled {
+    /// All that would make the value.
+    pub active: Owed,
+    /// All that wait for it.
+    pub passive: Owed,
+}
+
+// By hand, so that a drop is one call to prove, and not all of its parts again.
+impl<T: Drop> Drop for Words<T> {
+    fn drop(self) {
+        let Words {
+            word: _,
+            value: _,
+            active: _,
+            passive: _,
+        } = self;
+    }
+}
+
+impl<T> Model for Words<T> {
     ghost use Rattle.std.specs.Prelude.{◌≡◌};
     ghost use Rattle.words_once_cell.specs.Words.{Cell, cell_coded};
 
@@ -43,9 +79,7 @@ impl Model for Words {
 
     ghost coded = { cell_coded };
 
-    ghost view = { λ w. record { table = w.table.shared.table_id; start = w.table.shared.key } };
-
-    ghost invariant = { λ w. w.table.shared.table_id.words ≡ 1 };
+    ghost view = { λ w. record { table = w.word.table.shared.table_id; start = w.word.table.shared.key; store = w.value.id; active = w.active; passive = w.passive } };
 }
 
 // The state that a word stands for.
@@ -60,25 +94,85 @@ fn state_of(word: u64) -> State
     }
 }
 
-impl Words {
+impl<T: Drop> Words<T> {
     /// Makes an empty cell. It fails only if memory is refused.
-    pub fn new(alloc: Global) -> Result<Words, AllocError>
+    pub fn new(alloc: Global) -> Result<Words<T>, AllocError>
         ensures { IfOk result (λ words. words.start ≡ false) }
     {
         match Table::of_words(alloc, &[EMPTY], &false) {
-            Ok((table, _first)) => Ok(Words { table }),
+            Ok((table, _first)) => Ok(Words {
+                word: Word { table },
+                value: OnceLock::new(),
+                active: Queue::new(alloc),
+                passive: Queue::new(alloc),
+            }),
             Err(_) => Err(AllocError),
         }
     }
 
-    /// Makes a full cell, whose value stands beside it. It fails only if memory is refused.
-    pub fn full(alloc: Global) -> Result<Words, AllocError>
+    /// Makes a full cell. If memory is refused, the value is dropped.
+    pub fn full(alloc: Global, value: T) -> Result<Words<T>, AllocError>
         ensures { IfOk result (λ words. words.start ≡ true) }
     {
         match Table::of_words(alloc, &[FULL], &true) {
-            Ok((table, _first)) => Ok(Words { table }),
+            Ok((table, _first)) => Ok(Words {
+                word: Word { table },
+                value: OnceLock::from(value),
+                active: Queue::new(alloc),
+                passive: Queue::new(alloc),
+            }),
             Err(_) => Err(AllocError),
         }
+    }
+}
+
+impl<T> Words<T> {
+    /// Where the value lies.
+    pub fn value(&self) -> &OnceLock<T>
+        ensures { result.now.id ≡ self.now.store }
+    {
+        &self.value
+    }
+
+    /// Returns the value to be written.
+    pub fn get_mut(&mut self) -> Option<&mut T> {
+        self.value.get_mut()
+    }
+
+    /// Takes the value out of a full cell, which is empty then: by who has the cell alone. It waits for nobody and takes no memory.
+    pub fn take_value(&mut self) -> Option<T> {
+        let mut seat = self.sit();
+        let was_full = self.take(&mut seat);
+        self.rise(seat);
+        if was_full { self.value.take() } else { None }
+    }
+
+    /// Returns the value that the cell has. It waits for nobody and takes no memory.
+    pub fn into_inner(self) -> Option<T> {
+        let Words {
+            word,
+            value,
+            active,
+            passive,
+        } = self;
+        drop(word);
+        drop(active);
+        drop(passive);
+        value.into_inner()
+    }
+
+    /// Who waits to make the value.
+    pub fn active(&self) -> &WaitingList<Waker>
+        ensures { result.now.name.id ≡ self.now.active }
+    {
+        self.active.list()
+    }
+
+    /// Who waits for the value.
+    pub fn passive(&self) -> &WaitingList<Waker>
+        ensures { result.now.name.id ≡ self.now.passive }
+    {
+        self.passive.list()
     }
 
     /// Returns a new seat, which has no right. It costs one load, and takes no memory.
@@ -86,7 +180,7 @@ impl Words {
         ensures { (result.inner.table_id ≡ self.now.table) × (result.inner.me ≡ (first_view, [])) }
     {
         Seat {
-            inner: self.table.shared.load_new_seat::<KeptStep>(WORD).1,
+            inner: self.word.table.shared.load_new_seat::<KeptStep>(WORD).1,
         }
     }
 
@@ -101,7 +195,7 @@ impl Words {
     /// Reads whether the cell is full. It needs no seat and waits for nobody; another party may change the cell
     /// before the call returns.
     pub fn is_full(&self) -> bool {
-        self.table.shared.peek(WORD) == FULL
+        self.word.table.shared.peek(WORD) == FULL
     }
 
     /// Looks at the cell: one load.
@@ -110,7 +204,11 @@ impl Words {
         ensures same { (seat.new.inner.table_id ≡ seat.old.inner.table_id) × (seat.new.inner.id ≡ seat.old.inner.id) }
         ensures step { seat.new.inner.me ≡ (having_found (word_of result) seat.old.inner.me.0, seat.old.inner.me.1) }
     {
-        let found = self.table.shared.load::<LooksStep>(&mut seat.inner, WORD);
+        let found = self
+            .word
+            .table
+            .shared
+            .load::<LooksStep>(&mut seat.inner, WORD);
         state_of(found)
     }
 
@@ -121,34 +219,47 @@ impl Words {
         ensures claimed { result ≡ State.Empty → seat.new.inner.me ≡ (having_claimed seat.old.inner.me.0, seat.old.inner.me.1) }
         ensures missed { result ≢ State.Empty → seat.new.inner.me ≡ (having_found (word_of result) seat.old.inner.me.0, seat.old.inner.me.1) }
     {
-        let shared = &self.table.shared;
+        let shared = &self.word.table.shared;
         let found = shared.compare_exchange::<ClaimsStep>(&mut seat.inner, WORD, EMPTY, MAKING);
         state_of(found)
     }
 
-    /// Makes the cell full, by the seat that has the right to make: one step. Its value has been put in place
-    /// before.
-    pub fn fill(&self, seat: &mut Seat)
+    /// Makes the cell full, by the seat that has the right to make: one step. Its value has been set before, as the token shows.
+    /// All that wait are to be notified.
+    pub fn fill(&self, seat: &mut Seat, set: &OnceToken<'_, T>) -> Filled
         requires table { seat.old.inner.table_id ≡ self.now.table }
         requires makes { seat.old.inner.me.0.makes ≡ true }
+        requires set { set.now.of ≡ self.now.store }
         ensures same { (seat.new.inner.table_id ≡ seat.old.inner.table_id) × (seat.new.inner.id ≡ seat.old.inner.id) }
         ensures step { seat.new.inner.me ≡ (having_filled seat.old.inner.me.0, seat.old.inner.me.1) }
+        ensures active { result.active.list.id ≡ self.now.active }
+        ensures passive { result.passive.list.id ≡ self.now.passive }
     {
-        self.table
+        let _ = set;
+        self.word
+            .table
             .shared
             .fetch_add::<FillsStep>(&mut seat.inner, WORD, 1);
+        Filled {
+            active: Owed::new(self.active.list().id()),
+            passive: Owed::new(self.passive.list().id()),
+        }
     }
 
-    /// Makes the cell empty again, by the seat that has the right to make: one step.
-    pub fn empty(&self, seat: &mut Seat)
+    /// Makes the cell empty again, by the seat that has the right to make: one step. Another that would make the value is to be
+    /// notified.
+    pub fn empty(&self, seat: &mut Seat) -> Owed
         requires table { seat.old.inner.table_id ≡ self.now.table }
         requires makes { seat.old.inner.me.0.makes ≡ true }
         ensures same { (seat.new.inner.table_id ≡ seat.old.inner.table_id) × (seat.new.inner.id ≡ seat.old.inner.id) }
         ensures step { seat.new.inner.me ≡ (having_emptied seat.old.inner.me.0, seat.old.inner.me.1) }
+        ensures owed { result.list.id ≡ self.now.active }
     {
-        self.table
+        self.word
+            .table
             .shared
             .fetch_sub::<EmptiesStep>(&mut seat.inner, WORD, 1);
+        Owed::new(self.active.list().id())
     }
 
     /// Makes a full cell empty, for whoever takes its value out: one try. Returns whether the cell was full.
@@ -157,7 +268,7 @@ impl Words {
         ensures same { (seat.new.inner.table_id ≡ seat.old.inner.table_id) × (seat.new.inner.id ≡ seat.old.inner.id) }
         ensures step { MatchBool result (seat.new.inner.me ≡ (having_taken seat.old.inner.me.0, seat.old.inner.me.1)) (seat.new.inner.me ≡ (having_found seat.new.inner.me.0.found seat.old.inner.me.0, seat.old.inner.me.1)) }
     {
-        let shared = &self.table.shared;
+        let shared = &self.word.table.shared;
         shared.compare_exchange::<TakesStep>(&mut seat.inner, WORD, FULL, EMPTY) == FULL
     }
 }

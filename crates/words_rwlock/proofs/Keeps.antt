@@ -12,7 +12,7 @@ use Rattle.words_base.specs.declared.Nothing.{Nothing}
 use Rattle.words_rwlock.specs.declared.view.View.{View}
 use Rattle.words_rwlock.specs.Rule.{is_holder, is_starved, is_marked, is_reader, is_writer, Nested, AllNested, Ruled}
 use Rattle.words_base.proofs.Exchanges.{exchanged}
-use Rattle.words_rwlock.specs.Steps.{first_view, having_found, Sees, with_turn, without_turn, with_count, without_count, with_read, without_read, with_mark, with_write, upgraded, downgraded, without_mark, Kept, Took, WasSet, Counts, Uncounts, Clears, Reads, Offs, Adds, Marks, TriesWrite, Looks, TriesUpgrade, Upgrades, Downs, Unmarks}
+use Rattle.words_rwlock.specs.Steps.{first_view, having_found, having_seen, Sees, SeesTurn, with_turn, without_turn, with_count, without_count, with_read, without_read, with_mark, with_write, upgraded, downgraded, without_mark, Kept, Took, WasSet, Counts, Uncounts, Clears, Reads, Offs, Adds, Marks, TriesWrite, Looks, TriesUpgrade, Upgrades, Downs, Unmarks}
 use Rattle.words_base.specs.Sums.{weight, number}
 use Rattle.words_base.specs.MutexWord.{IsWord}
 use Rattle.words_base.proofs.MutexWord as word
@@ -86,8 +86,8 @@ module _ (s : St) (id : ℕ) (me : M) (r : R s) (at : get_elem? s.views id ≡ s
   still = turned me.0 x (word.stays is_holder is_starved most 0 s.words vs id me.0 me.0 r.0 at refl refl) refl refl refl mine
 
   -- what the seat has found changes nothing
-  pub still_found : (n : ℕ) → R (stepped s 0 x id me.1 (having_found n me.0) keeps)
-  still_found n = let w : View = having_found n me.0 in turned w x (word.stays is_holder is_starved most 0 s.words vs id me.0 w r.0 at refl refl) refl refl refl mine
+  pub still_seen : (n : ℕ) → R (stepped s 0 x id me.1 (having_seen n me.0) keeps)
+  still_seen n = let w : View = having_seen n me.0 in turned w x (word.stays is_holder is_starved most 0 s.words vs id me.0 w r.0 at refl refl) refl refl refl mine
 
   nested_turn : Nested (with_turn me.0)
   nested_turn = let a = weight_le me.0.marks in let b = mine.1 in (omega arith, omega arith)
@@ -200,8 +200,8 @@ module _ (slots id : ℕ) (me : M) where
   abbrev At : St → Type 0
   At s = get_elem? s.views id ≡ some me.0
 
-  pub sees_turn : Allows R slots id me 0 (λ x. x) (Sees (step slots 0 0 0 none) me)
-  sees_turn s r _ at _ = let n : ℕ = get_or s.words 0 0 in (having_found n me.0, keeps, tt, still_found s id me r at n, refl)
+  pub sees_turn : Allows R slots id me 0 (λ x. x) (SeesTurn (step slots 0 0 0 none) me)
+  sees_turn s r _ at _ = let n : ℕ = get_or s.words 0 0 in (having_seen n me.0, keeps, tt, still_seen s id me r at n, refl)
 
   pub sees_state : Allows R slots id me 1 (λ x. x) (Sees (step slots 1 0 0 none) me)
   sees_state s r _ at _ = let n : ℕ = get_or s.words 1 0 in (having_found n me.0, keeps, tt, rests_found s id me r at n, refl)
@@ -213,12 +213,12 @@ module _ (slots id : ℕ) (me : M) where
   keeps_state s r at = rests s id me r at
 
   pub taken : (old new : ℕ) → old % 2 ≡ 0 → new ≡ old + 1 → Allows R slots id me 0 (λ x. either (eqb x old) new x) (Took (step slots 0 old new none) me)
-  taken old new even one = exchanged R slots id me 0 old new (with_turn me.0) (λ n. having_found n me.0) (λ s r at hit. subst (λ n. R (stepped s 0 n id me.1 (with_turn me.0) keeps)) (ap (λ n. n + 1) hit ∙ sym one) (got s id me r at (subst (λ n. n % 2 ≡ 0) (sym hit) even))) (λ s r at. still_found s id me r at (get_or s.words 0 0))
+  taken old new even one = exchanged R slots id me 0 old new (with_turn me.0) (λ n. having_seen n me.0) (λ s r at hit. subst (λ n. R (stepped s 0 n id me.1 (with_turn me.0) keeps)) (ap (λ n. n + 1) hit ∙ sym one) (got s id me r at (subst (λ n. n % 2 ≡ 0) (sym hit) even))) (λ s r at. still_seen s id me r at (get_or s.words 0 0))
 
   pub set_held : Allows R slots id me 0 (λ x. bit_or x 1) (WasSet (step slots 0 1 0 none) me)
   set_held s r _ at _ = let x : ℕ = get_or s.words 0 0 in let low = word.or_one x in dite (ℕ_discrete (x % 2) 0)
       (λ even. let up : x + 1 ≡ bit_or x 1 = omega arith in (with_turn me.0, keeps, tt, subst (λ n. R (stepped s 0 n id me.1 (with_turn me.0) keeps)) up (got s id me r at even), ((λ _. refl), λ not. absurd (not even))))
-      (λ odd. let same : x ≡ bit_or x 1 = omega arith in (having_found x me.0, keeps, tt, subst (λ n. R (stepped s 0 n id me.1 (having_found x me.0) keeps)) same (still_found s id me r at x), ((λ even. absurd (odd even)), λ _. refl)))
+      (λ odd. let same : x ≡ bit_or x 1 = omega arith in (having_seen x me.0, keeps, tt, subst (λ n. R (stepped s 0 n id me.1 (having_seen x me.0) keeps)) same (still_seen s id me r at x), ((λ even. absurd (odd even)), λ _. refl)))
 
   pub counted : (old new : ℕ) → old / 2 < most → new ≡ old + 2 → me.0.starved ≡ false → Allows R slots id me 0 (λ x. either (eqb x old) new x) (Counts (step slots 0 old new none) me)
   counted old new below two not = exchanged R slots id me 0 old new (with_count me.0) (λ _. me.0) (λ s r at hit. let x : ℕ = get_or s.words 0 0 in let few : x / 2 < most = subst (λ n. n / 2 < most) (sym hit) below in

@@ -5,17 +5,21 @@ use Rattle.words_base.specs.declared.Nothing.{Nothing}
 use Rattle.words_rwlock.specs.declared.view.View.{View}
 
 abbrev pub first_view : View
-first_view = record { holds = false; starved = false; marks = false; reads = false; writes = false; found = 0 }
+first_view = record { holds = false; starved = false; marks = false; reads = false; writes = false; found = 0; seen = 0 }
 
--- it has found this number in a word
+-- it has found this number in the state word
 abbrev pub having_found : ℕ → View → View
 having_found n v = record v { found = n }
 
+-- it has found this number in the turn's word
+abbrev pub having_seen : ℕ → View → View
+having_seen n v = record v { seen = n }
+
 abbrev pub with_turn : View → View
-with_turn v = record v { holds = true }
+with_turn v = record v { holds = true; seen = 0 }
 
 abbrev pub without_turn : View → View
-without_turn v = record v { holds = false }
+without_turn v = record v { holds = false; seen = 0 }
 
 abbrev pub with_count : View → View
 with_count v = record v { starved = true }
@@ -59,13 +63,16 @@ Kept step m r m' = m' ≡ m
 abbrev pub Sees : Made → Seen → ℕ → Seen → Type 0
 Sees step m r m' = m' ≡ (having_found r m.0, m.1)
 
+abbrev pub SeesTurn : Made → Seen → ℕ → Seen → Type 0
+SeesTurn step m r m' = m' ≡ (having_seen r m.0, m.1)
+
 -- from the word expected
 abbrev pub Took : Made → Seen → ℕ → Seen → Type 0
-Took step m r m' = (r ≡ step.first → m' ≡ (with_turn m.0, m.1)) × (r ≢ step.first → m' ≡ (having_found r m.0, m.1))
+Took step m r m' = (r ≡ step.first → m' ≡ (with_turn m.0, m.1)) × (r ≢ step.first → m' ≡ (having_seen r m.0, m.1))
 
 -- from an even word
 abbrev pub WasSet : Made → Seen → ℕ → Seen → Type 0
-WasSet step m r m' = (r % 2 ≡ 0 → m' ≡ (with_turn m.0, m.1)) × (r % 2 ≢ 0 → m' ≡ (having_found r m.0, m.1))
+WasSet step m r m' = (r % 2 ≡ 0 → m' ≡ (with_turn m.0, m.1)) × (r % 2 ≢ 0 → m' ≡ (having_seen r m.0, m.1))
 
 abbrev pub Counts : Made → Seen → ℕ → Seen → Type 0
 Counts step m r m' = (r ≡ step.first → m' ≡ (with_count m.0, m.1)) × (r ≢ step.first → m' ≡ m)

@@ -7,11 +7,13 @@
 #![tactic(auto)]
 
 mod found;
+mod lists;
 mod rule;
 mod view;
 mod words;
 
 pub use found::{Adding, Counting, Readers, Reading, Setting, Taking, TakingAlone};
+pub use lists::Lists;
 pub use rule::RwRule;
 pub use view::{Pledge, Seat, View};
 pub use words::{READERS_LIMIT, STARVED_LIMIT, Words};

@@ -32,6 +32,14 @@ impl Play<Nothing, View> for SeesStep {
     ghost then = { Sees };
 }
 
+pub(crate) struct SeesTurnStep;
+
+impl Play<Nothing, View> for SeesTurnStep {
+    ghost use Rattle.words_rwlock.specs.Steps.{SeesTurn};
+
+    ghost then = { SeesTurn };
+}
+
 pub(crate) struct TookStep;
 
 impl Play<Nothing, View> for TookStep {

@@ -18,8 +18,10 @@ pub struct View {
     pub ghost reads: { Bool },
     /// Whether it writes.
     pub ghost writes: { Bool },
-    /// What its last look found in a word.
+    /// What its last look found in the state word.
     pub ghost found: { ℕ },
+    /// What its last look found in the turn's word; 0 once it has got the turn or given it back.
+    pub ghost seen: { ℕ },
 }
 
 impl Model for View {

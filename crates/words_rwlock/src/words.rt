@@ -1,17 +1,19 @@
 //! The words of a read-write lock, and the tries on them.
 
-ghost use Rattle.std.specs.Prelude.{◌≡◌, ◌≢◌, ℕ, ◌+◌, ◌*◌, ◌<◌, ◌≤◌, ◌%◌, ◌/◌, true, false, [], ◌∷◌, IfOk, MatchBool, min};
-ghost use Rattle.words_rwlock.specs.Steps.{first_view, having_found, with_turn, without_turn, with_count, without_count, with_read, without_read, with_mark, with_write, upgraded, downgraded, without_mark};
+ghost use Rattle.std.specs.Prelude.{◌≡◌, ◌≢◌, ℕ, ◌+◌, ◌*◌, ◌<◌, ◌≤◌, ◌%◌, ◌/◌, true, false, [], ◌∷◌, IfOk, IfSome, IsSome, ◌↔◌, MatchBool, min};
+ghost use Rattle.words_rwlock.specs.Steps.{first_view, having_found, having_seen, with_turn, without_turn, with_count, without_count, with_read, without_read, with_mark, with_write, upgraded, downgraded, without_mark};
 ghost use Rattle.words_rwlock.specs.declared.view.View.{View as SeatView};
 ghost use Rattle.words_rwlock.specs.Tries.{OnTaking, OnAlone, OnSetting, OnReading, OnAdding, OnCounting, OnReaders};
 
 use crate::found::{Adding, Counting, Readers, Reading, Setting, Taking, TakingAlone};
+use crate::lists::Lists;
 use crate::rule::{
     AddsStep, ClearsStep, CountsStep, DownsStep, KeptStep, LooksStep, MarksStep, OffsStep,
-    ReadsStep, RwRule, SeesStep, TookStep, TriesUpgradeStep, TriesWriteStep, UncountsStep,
-    UnmarksStep, UpgradesStep, WasSetStep,
+    ReadsStep, RwRule, SeesStep, SeesTurnStep, TookStep, TriesUpgradeStep, TriesWriteStep,
+    UncountsStep, UnmarksStep, UpgradesStep, WasSetStep,
 };
 use crate::view::{Pledge, Seat, View};
+use async_driver::Owed;
 use atomic_table::{Shared, Table};
 use std::alloc::{AllocError, Global};
 use std::marker::Model;
@@ -31,12 +33,14 @@ const STATE: usize = 1;
 
 /// A read-write lock without its value and its waiting lists: its turn, the writer's bit, and its readers.
 ///
-/// Contracts see which lock it is, and its two limits. Each call by a seat is a single try or step on one word, and
-/// waits for nobody.
+/// Contracts see which lock it is, its two limits, and which lists are told of its changes. Each call by a seat is a single
+/// try or step on one word, and waits for nobody. A step that gives back what others wait for answers the duty to notify
+/// them, which has no `Drop`: so nobody is notified of a step that wasn't made, and no such step is kept secret.
 pub struct Words {
     table: Table<Nothing, View, (), RwRule, Global>,
     starved_limit: u64,
     readers_limit: u64,
+    lists: Lists,
 }
 
 // By hand, so that a drop is one call to prove, and not all of its parts again.
@@ -46,6 +50,7 @@ impl Drop for Words {
             table: _,
             starved_limit: _,
             readers_limit: _,
+            lists: _,
         } = self;
     }
 }
@@ -58,29 +63,37 @@ impl Model for Words {
 
     ghost coded = { lock_coded };
 
-    ghost view = { λ w. record { table = w.table.shared.table_id; starved = w.starved_limit; readers = w.readers_limit } };
+    ghost view = { λ w. record { table = w.table.shared.table_id; starved = w.starved_limit; readers = w.readers_limit; turn = w.lists.turn.id; no_writer = w.lists.no_writer.id; no_readers = w.lists.no_readers.id } };
 
     ghost invariant = { λ w. (w.table.shared.table_id.words ≡ 2) × (w.starved_limit ≤ 1073741823) × (w.readers_limit ≤ 1073741823) };
 }
 
 impl Words {
-    /// Makes a free lock with the greatest limits. It fails only if memory is refused.
-    pub fn new(alloc: Global) -> Result<Words, AllocError>
-        ensures { IfOk result (λ words. (words.starved ≡ 1073741823) × (words.readers ≡ 1073741823)) }
+    /// Makes a free lock with the greatest limits, of whose changes these lists are told. It fails only if memory is refused.
+    pub fn new(alloc: Global, lists: Lists) -> Result<Words, AllocError>
+        ensures limits { IfOk result (λ words. (words.starved ≡ 1073741823) × (words.readers ≡ 1073741823)) }
+        ensures lists { IfOk result (λ words. (words.turn ≡ lists.turn.id) × (words.no_writer ≡ lists.no_writer.id) × (words.no_readers ≡ lists.no_readers.id)) }
     {
-        Words::with_limits(alloc, STARVED_LIMIT, READERS_LIMIT)
+        Words::with_limits(alloc, STARVED_LIMIT, READERS_LIMIT, lists)
     }
 
     /// Makes a free lock whose turn counts at most this many seats as starved, and that has at most this many
     /// readers. A larger number stands for the greatest limit. It fails only if memory is refused.
-    pub fn with_limits(alloc: Global, starved: u64, readers: u64) -> Result<Words, AllocError>
-        ensures { IfOk result (λ words. (words.starved ≡ min starved 1073741823) × (words.readers ≡ min readers 1073741823)) }
+    pub fn with_limits(
+        alloc: Global,
+        starved: u64,
+        readers: u64,
+        lists: Lists,
+    ) -> Result<Words, AllocError>
+        ensures limits { IfOk result (λ words. (words.starved ≡ min starved 1073741823) × (words.readers ≡ min readers 1073741823)) }
+        ensures lists { IfOk result (λ words. (words.turn ≡ lists.turn.id) × (words.no_writer ≡ lists.no_writer.id) × (words.no_readers ≡ lists.no_readers.id)) }
     {
         match Table::of_words(alloc, &[0, 0], &()) {
             Ok((table, _first)) => Ok(Words {
                 table,
                 starved_limit: starved.min(STARVED_LIMIT),
                 readers_limit: readers.min(READERS_LIMIT),
+                lists,
             }),
             Err(_) => Err(AllocError),
         }
@@ -161,10 +174,10 @@ impl Words {
     pub fn take(&self, seat: &mut Seat) -> Taking
         requires table { seat.old.inner.table_id ≡ self.now.table }
         ensures same { (seat.new.inner.table_id ≡ seat.old.inner.table_id) × (seat.new.inner.id ≡ seat.old.inner.id) }
-        ensures step { OnTaking result (seat.new.inner.me ≡ (with_turn (having_found seat.new.inner.me.0.found seat.old.inner.me.0), seat.old.inner.me.1)) ((seat.new.inner.me ≡ (having_found seat.new.inner.me.0.found seat.old.inner.me.0, seat.old.inner.me.1)) × (seat.new.inner.me.0.found ≡ 1)) ((seat.new.inner.me ≡ (having_found seat.new.inner.me.0.found seat.old.inner.me.0, seat.old.inner.me.1)) × (2 ≤ seat.new.inner.me.0.found)) }
+        ensures step { OnTaking result (seat.new.inner.me ≡ (with_turn seat.old.inner.me.0, seat.old.inner.me.1)) ((seat.new.inner.me ≡ (having_seen seat.new.inner.me.0.seen seat.old.inner.me.0, seat.old.inner.me.1)) × (seat.new.inner.me.0.seen ≡ 1)) ((seat.new.inner.me ≡ (having_seen seat.new.inner.me.0.seen seat.old.inner.me.0, seat.old.inner.me.1)) × (2 ≤ seat.new.inner.me.0.seen)) }
     {
         let shared = &self.table.shared;
-        let seen = shared.load::<SeesStep>(&mut seat.inner, TURN);
+        let seen = shared.load::<SeesTurnStep>(&mut seat.inner, TURN);
         if seen > 1 {
             return Taking::Starved;
         }
@@ -186,7 +199,7 @@ impl Words {
     pub fn take_alone(&self, seat: &mut Seat) -> TakingAlone
         requires table { seat.old.inner.table_id ≡ self.now.table }
         ensures same { (seat.new.inner.table_id ≡ seat.old.inner.table_id) × (seat.new.inner.id ≡ seat.old.inner.id) }
-        ensures step { OnAlone result (seat.new.inner.me ≡ (with_turn (having_found seat.new.inner.me.0.found seat.old.inner.me.0), seat.old.inner.me.1)) ((seat.new.inner.me ≡ (having_found seat.new.inner.me.0.found seat.old.inner.me.0, seat.old.inner.me.1)) × (seat.new.inner.me.0.found % 2 ≡ 1)) ((seat.new.inner.me ≡ (having_found seat.new.inner.me.0.found seat.old.inner.me.0, seat.old.inner.me.1)) × (seat.new.inner.me.0.found % 2 ≡ 0) × (seat.new.inner.me.0.found ≢ 2)) }
+        ensures step { OnAlone result (seat.new.inner.me ≡ (with_turn seat.old.inner.me.0, seat.old.inner.me.1)) ((seat.new.inner.me ≡ (having_seen seat.new.inner.me.0.seen seat.old.inner.me.0, seat.old.inner.me.1)) × (seat.new.inner.me.0.seen % 2 ≡ 1)) ((seat.new.inner.me ≡ (having_seen seat.new.inner.me.0.seen seat.old.inner.me.0, seat.old.inner.me.1)) × (seat.new.inner.me.0.seen % 2 ≡ 0) × (seat.new.inner.me.0.seen ≢ 2)) }
     {
         let shared = &self.table.shared;
         let found = shared.compare_exchange::<TookStep>(&mut seat.inner, TURN, 2, 3);
@@ -203,7 +216,7 @@ impl Words {
     pub fn set(&self, seat: &mut Seat) -> Setting
         requires table { seat.old.inner.table_id ≡ self.now.table }
         ensures same { (seat.new.inner.table_id ≡ seat.old.inner.table_id) × (seat.new.inner.id ≡ seat.old.inner.id) }
-        ensures step { OnSetting result (seat.new.inner.me ≡ (with_turn (having_found seat.new.inner.me.0.found seat.old.inner.me.0), seat.old.inner.me.1)) ((seat.new.inner.me ≡ (having_found seat.new.inner.me.0.found seat.old.inner.me.0, seat.old.inner.me.1)) × (seat.new.inner.me.0.found % 2 ≡ 1)) }
+        ensures step { OnSetting result (seat.new.inner.me ≡ (with_turn seat.old.inner.me.0, seat.old.inner.me.1)) ((seat.new.inner.me ≡ (having_seen seat.new.inner.me.0.seen seat.old.inner.me.0, seat.old.inner.me.1)) × (seat.new.inner.me.0.seen % 2 ≡ 1)) }
     {
         let found = self
             .table
@@ -221,10 +234,10 @@ impl Words {
         requires table { seat.old.inner.table_id ≡ self.now.table }
         requires one { seat.old.inner.me.0.starved ≡ false }
         ensures same { (seat.new.inner.table_id ≡ seat.old.inner.table_id) × (seat.new.inner.id ≡ seat.old.inner.id) }
-        ensures step { OnCounting result (seat.new.inner.me ≡ (with_count (having_found seat.new.inner.me.0.found seat.old.inner.me.0), seat.old.inner.me.1)) ((seat.new.inner.me ≡ (having_found seat.new.inner.me.0.found seat.old.inner.me.0, seat.old.inner.me.1)) × (self.now.starved ≤ seat.new.inner.me.0.found / 2)) (seat.new.inner.me ≡ (having_found seat.new.inner.me.0.found seat.old.inner.me.0, seat.old.inner.me.1)) }
+        ensures step { OnCounting result (seat.new.inner.me ≡ (with_count (having_seen seat.new.inner.me.0.seen seat.old.inner.me.0), seat.old.inner.me.1)) ((seat.new.inner.me ≡ (having_seen seat.new.inner.me.0.seen seat.old.inner.me.0, seat.old.inner.me.1)) × (self.now.starved ≤ seat.new.inner.me.0.seen / 2)) (seat.new.inner.me ≡ (having_seen seat.new.inner.me.0.seen seat.old.inner.me.0, seat.old.inner.me.1)) }
     {
         let shared = &self.table.shared;
-        let found = shared.load::<SeesStep>(&mut seat.inner, TURN);
+        let found = shared.load::<SeesTurnStep>(&mut seat.inner, TURN);
         if found / 2 >= self.starved_limit {
             return Counting::AtLimit;
         }
@@ -248,16 +261,19 @@ impl Words {
             .fetch_sub::<UncountsStep>(&mut seat.inner, TURN, 2);
     }
 
-    /// Gives the turn back: one step. The seat has cleared the writer's bit before.
-    pub fn clear(&self, seat: &mut Seat)
+    /// Gives the turn back: one step. The seat has cleared the writer's bit before. Somebody who waits for the turn is to be
+    /// notified.
+    pub fn clear(&self, seat: &mut Seat) -> Owed
         requires table { seat.old.inner.table_id ≡ self.now.table }
         requires turn { (seat.old.inner.me.0.holds ≡ true) × (seat.old.inner.me.0.marks ≡ false) }
         ensures same { (seat.new.inner.table_id ≡ seat.old.inner.table_id) × (seat.new.inner.id ≡ seat.old.inner.id) }
         ensures step { seat.new.inner.me ≡ (without_turn seat.old.inner.me.0, seat.old.inner.me.1) }
+        ensures owed { result.list.id ≡ self.now.turn }
     {
         self.table
             .shared
             .fetch_sub::<ClearsStep>(&mut seat.inner, TURN, 1);
+        Owed::new(self.lists.turn.again())
     }
 
     /// Reads, if the writer's bit is clear and the readers are below their limit: one try.
@@ -283,21 +299,23 @@ impl Words {
         }
     }
 
-    /// Reads no more: one step. Returns whether readers are left, whatever the writer's bit is.
-    pub fn off(&self, seat: &mut Seat) -> Readers
+    /// Reads no more: one step. The last reader, whatever the writer's bit is, is to notify the one that waits for no readers.
+    pub fn off(&self, seat: &mut Seat) -> Option<Owed>
         requires table { seat.old.inner.table_id ≡ self.now.table }
         requires reads { seat.old.inner.me.0.reads ≡ true }
         ensures same { (seat.new.inner.table_id ≡ seat.old.inner.table_id) × (seat.new.inner.id ≡ seat.old.inner.id) }
         ensures step { seat.new.inner.me ≡ (without_read (having_found seat.new.inner.me.0.found seat.old.inner.me.0), seat.old.inner.me.1) }
+        ensures last { IsSome result ↔ (seat.new.inner.me.0.found / 2 ≡ 1) }
+        ensures owed { IfSome result (λ owed. owed.list.id ≡ self.now.no_readers) }
     {
         let found = self
             .table
             .shared
             .fetch_sub::<OffsStep>(&mut seat.inner, STATE, 2);
         if found / 2 == 1 {
-            Readers::NoneLeft
+            Some(Owed::new(self.lists.no_readers.again()))
         } else {
-            Readers::SomeLeft
+            None
         }
     }
 
@@ -397,27 +415,32 @@ impl Words {
             .fetch_sub::<UpgradesStep>(&mut seat.inner, STATE, 1);
     }
 
-    /// Reads in place of writing: one step.
-    pub fn down(&self, seat: &mut Seat)
+    /// Reads in place of writing: one step. Somebody who waits for no writer is to be notified.
+    pub fn down(&self, seat: &mut Seat) -> Owed
         requires table { seat.old.inner.table_id ≡ self.now.table }
         requires writes { seat.old.inner.me.0.writes ≡ true }
         ensures same { (seat.new.inner.table_id ≡ seat.old.inner.table_id) × (seat.new.inner.id ≡ seat.old.inner.id) }
         ensures step { seat.new.inner.me ≡ (downgraded seat.old.inner.me.0, seat.old.inner.me.1) }
+        ensures owed { result.list.id ≡ self.now.no_writer }
     {
         self.table
             .shared
             .fetch_add::<DownsStep>(&mut seat.inner, STATE, 1);
+        Owed::new(self.lists.no_writer.again())
     }
 
-    /// Clears the writer's bit: one step. The seat neither writes nor waits to any more.
-    pub fn unmark(&self, seat: &mut Seat)
+    /// Clears the writer's bit: one step. The seat neither writes nor waits to any more. Somebody who waits for no writer is to be
+    /// notified.
+    pub fn unmark(&self, seat: &mut Seat) -> Owed
         requires table { seat.old.inner.table_id ≡ self.now.table }
         requires marks { seat.old.inner.me.0.marks ≡ true }
         ensures same { (seat.new.inner.table_id ≡ seat.old.inner.table_id) × (seat.new.inner.id ≡ seat.old.inner.id) }
         ensures step { seat.new.inner.me ≡ (without_mark seat.old.inner.me.0, seat.old.inner.me.1) }
+        ensures owed { result.list.id ≡ self.now.no_writer }
     {
         self.table
             .shared
             .fetch_sub::<UnmarksStep>(&mut seat.inner, STATE, 1);
+        Owed::new(self.lists.no_writer.again())
     }
 }

@@ -1,18 +1,17 @@
-use Rattle.std.proofs.Common.{◌≡◌, ℕ, ◌∷◌, false, rules, refl, sym, ap, ◌∙◌, subst}
+use Rattle.std.proofs.Common.{◌≡◌, ℕ, ◌∷◌, false, rules, sym, ap, ◌∙◌, subst}
 use Rattle.lock_place.specs.Held.{RoomId}
 use Rattle.lock_words.specs.Right.{IsRight}
 use Rattle.lock_words.specs.Seats.{HasSlots}
-use Rattle.lock_words.proofs.Keeps.{taken}
 use Rattle.lock_words.proofs.Seats.{one_table}
 use Rattle.lock_words.proofs.words.Words.take_from.Goals as goal
 
-pub compare_exchange-found-requires : goal.compare_exchange-found-requires
-compare_exchange-found-requires g c = (one_table _ _ _ _ c.seat.view_is c.requires.lock c.self.view_is, search rules, taken _ _ _ _ _ _ _ _ c.requires.free.0 refl)
+pub exchange-found-requires-clause-table : goal.exchange-found-requires-clause-table
+exchange-found-requires-clause-table g c = (one_table _ _ _ _ c.seat.view_is c.requires.lock c.self.view_is, search rules)
 
 -- the right that came out of the slot is the spare's
 pub take_right-requires-clause-right : goal.take_right-requires-clause-right
 take_right-requires-clause-right g c =
-    let got = c.compare_exchange-found.ensures.2.0 c.if-found-free.false in
+    let got = c.exchange-found.ensures.took.0 (search rules) in
     let me = c.seat.inside.inner.me in
     let spare = c.self.inside.spare in
     let keyed = c.self.invariant.5 (sym c.is_some.ensures ∙ c.if-is_some.false) in

@@ -3,4 +3,4 @@ use Rattle.words_once_cell.proofs.Keeps.{looks}
 use Rattle.words_once_cell.proofs.words.Words.look.Goals as goal
 
 pub load-found-requires : goal.load-found-requires
-load-found-requires c = (c.requires.table ∙ sym (ap (λ w. w.table) c.self.view_is), search rules, looks _ _ _ _)
+load-found-requires g c = (c.requires.table ∙ sym (ap (λ w. w.table) c.self.view_is), search rules, looks _ _ _ _)
