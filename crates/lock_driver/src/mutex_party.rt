@@ -173,7 +173,6 @@ impl<T> RawMutex<T> {
 
     /// Carries out the next action of the call inside which the party stands at `place`, as [`RawMutex::begin`] does. Where a
     /// word changed during a try nothing has changed, and the party stands where it stood.
-    #[inline]
     pub fn go_on<R: Wait + Clock>(
         &self,
         rt: &R,
@@ -192,7 +191,7 @@ impl<T> RawMutex<T> {
 }
 
 impl<T> RawMutex<T> {
-    ghost use Rattle.lock_driver.specs.Parties.{Stands, EndsAt, EndsPoll, CanPoll, IsPolling};
+    ghost use Rattle.lock_driver.specs.Parties.{Stands, EndsAt, EndsPoll, CanPoll};
 
     /// Polls a party that stands at `place`, until the poll ends: how it ends, and where the party
     /// stands then (`ended`), with what it has there (`stands`).
@@ -214,118 +213,7 @@ impl<T> RawMutex<T> {
         ensures pending { IfPending result.0 (IsReceipt self.now.words cx.new party.new.entry) }
         ensures kept { Keeps cx.old cx.new }
     {
-        let Some(first) = MutexParty::<T>::start(LockCall::Poll, place) else {
-            unreachable!()
-        };
-        match first {
-            Place::Enter => self.poll_first(rt, cx, party),
-            Place::Ask => self.poll_again(rt, cx, party),
-            _ => self.poll_from(rt, cx, party, first),
-        }
-    }
-
-    // A first poll. Each action is the driver's at its place. The places of a poll that waits stand here in their order, so
-    // that each is known when the program is built; from any other place on the driver goes on.
-    #[inline]
-    fn poll_first<R: Wait + Clock>(
-        &self,
-        rt: &R,
-        cx: &mut Context<'_>,
-        party: &mut MutexParty<T>,
-    ) -> (End, Place)
-        requires { Stands self.now.words party.old at.Enter }
-        ensures stands { Stands self.now.words party.new result.1 }
-        ensures ended { EndsAt result.0 result.1 }
-        ensures polled { EndsPoll result.0 }
-        ensures pending { IfPending result.0 (IsReceipt self.now.words cx.new party.new.entry) }
-        ensures kept { Keeps cx.old cx.new }
-    {
-        match self.poll_step(rt, cx, party, Place::Enter) {
-            (None, Place::Join { told: false }) => {}
-            (None, place) => return self.poll_from(rt, cx, party, place),
-            (Some(end), place) => return (end, place),
-        }
-        match self.poll_step(rt, cx, party, Place::Join { told: false }) {
-            (None, Place::Look { told: false }) => {}
-            (None, place) => return self.poll_from(rt, cx, party, place),
-            (Some(end), place) => return (end, place),
-        }
-        match self.poll_step(rt, cx, party, Place::Look { told: false }) {
-            (None, Place::Ask) => {}
-            (None, place) => return self.poll_from(rt, cx, party, place),
-            (Some(end), place) => return (end, place),
-        }
-        match self.poll_step(rt, cx, party, Place::Ask) {
-            (None, place) => self.poll_from(rt, cx, party, place),
-            (Some(end), place) => (end, place),
-        }
-    }
-
-    // The next poll of a party that isn't starved, as a first one.
-    #[inline]
-    fn poll_again<R: Wait + Clock>(
-        &self,
-        rt: &R,
-        cx: &mut Context<'_>,
-        party: &mut MutexParty<T>,
-    ) -> (End, Place)
-        requires { Stands self.now.words party.old at.Ask }
-        ensures stands { Stands self.now.words party.new result.1 }
-        ensures ended { EndsAt result.0 result.1 }
-        ensures polled { EndsPoll result.0 }
-        ensures pending { IfPending result.0 (IsReceipt self.now.words cx.new party.new.entry) }
-        ensures kept { Keeps cx.old cx.new }
-    {
-        match self.poll_step(rt, cx, party, Place::Ask) {
-            (None, Place::Retry) => {}
-            (None, place) => return self.poll_from(rt, cx, party, place),
-            (Some(end), place) => return (end, place),
-        }
-        match self.poll_step(rt, cx, party, Place::Retry) {
-            (None, place) => self.poll_from(rt, cx, party, place),
-            (Some(end), place) => (end, place),
-        }
-    }
-
-    // One action of a poll.
-    #[inline]
-    fn poll_step<R: Wait + Clock>(
-        &self,
-        rt: &R,
-        cx: &mut Context<'_>,
-        party: &mut MutexParty<T>,
-        place: Place,
-    ) -> (Option<End>, Place)
-        requires stands { Stands self.now.words party.old place }
-        requires polling { IsPolling place }
-        ensures stands { Stands self.now.words party.new result.1 }
-        ensures polling { IfNone result.0 (IsPolling result.1) }
-        ensures ended { IfSome result.0 (λ end. EndsAt end result.1) }
-        ensures polled { IfSome result.0 EndsPoll }
-        ensures pending { IfSome result.0 (λ end. IfPending end (IsReceipt self.now.words cx.new party.new.entry)) }
-        ensures kept { Keeps cx.old cx.new }
-    {
-        party.go(self, rt, cx, place)
-    }
-
-    // The rest of a poll, from this place of it on.
-    #[inline(never)]
-    fn poll_from<R: Wait + Clock>(
-        &self,
-        rt: &R,
-        cx: &mut Context<'_>,
-        party: &mut MutexParty<T>,
-        place: Place,
-    ) -> (End, Place)
-        requires stands { Stands self.now.words party.old place }
-        requires polling { IsPolling place }
-        ensures stands { Stands self.now.words party.new result.1 }
-        ensures ended { EndsAt result.0 result.1 }
-        ensures polled { EndsPoll result.0 }
-        ensures pending { IfPending result.0 (IsReceipt self.now.words cx.new party.new.entry) }
-        ensures kept { Keeps cx.old cx.new }
-    {
-        party.drive(self, rt, cx, place)
+        party.call(self, rt, cx, LockCall::Poll, place)
     }
 
     /// Gives the lock back by the seat that holds it, with the right to its value. The program of a release has no
@@ -444,7 +332,6 @@ impl<T> Carries for MutexParty<T> {
         start(call, place)
     }
 
-    #[inline]
     fn act<R: Wait + Clock>(
         &mut self,
         shared: &RawMutex<T>,
@@ -455,7 +342,6 @@ impl<T> Carries for MutexParty<T> {
         self.carry_out(shared, rt, cx, action_at(place))
     }
 
-    #[inline]
     fn decide(place: Place, found: Found) -> (Place, Option<End>) {
         match decide(place, found) {
             Next::Do(next) => (next, None),
@@ -468,7 +354,6 @@ impl<T> MutexParty<T> {
     ghost use Rattle.lock_driver.specs.Parties.{IsSeated, IsTied, CanDo, CanFind, after, having, having_of, still};
 
     // Carries out one action.
-    #[inline]
     fn carry_out<R: Wait + Clock>(
         &mut self,
         raw: &RawMutex<T>,
