@@ -1,7 +1,7 @@
 -- A semaphore's words and list, and a duty to notify there.
 use Rattle.std.specs.Prelude.{◌≡◌, ℕ, nat_lt, if◌then◌else◌, Option, Some, None, IfSome, refl}
 use Rattle.std.specs.Coded.{Coded, code_by, coded×, coded_ℕ}
-use Rattle.semaphore_driver.specs.declared.duty.Duty.{Duty}
+use Rattle.semaphore_driver.specs.declared.stock.Duty.{Duty}
 use Rattle.words_semaphore.specs.Words.{Permits, permits_coded}
 
 -- which semaphore it is, with how many permits it began, and which its list is

@@ -10,7 +10,7 @@ use Rattle.lock_program.specs.declared.refusal.Refusal.TheVariants.{Memory}
 use Rattle.semaphore_driver.specs.Duties.{IsOf, left, looked, seen_of, unseen}
 use Rattle.semaphore_driver.specs.Semaphores.{Semaphore}
 use Rattle.semaphore_driver.specs.declared.carries.PollFor.{PollFor}
-use Rattle.semaphore_driver.specs.declared.duty.Duty.{Duty}
+use Rattle.semaphore_driver.specs.declared.stock.Duty.{Duty}
 use Rattle.semaphore_driver.specs.declared.party.PermitParty.{PermitParty}
 use Rattle.sync_program.specs.declared.permits.Action.{Action}
 use Rattle.sync_program.specs.declared.permits.Action.TheVariants as act

@@ -8,10 +8,12 @@ mod carries;
 mod duty;
 mod party;
 mod raw;
+mod stock;
 mod straight;
 mod waiting;
 
-pub use duty::{Duty, Stock};
+pub use duty::Keys;
 pub use party::PermitParty;
 pub use raw::RawSemaphore;
+pub use stock::{Duty, Stock};
 pub use waiting::{Outcome, Waiting};

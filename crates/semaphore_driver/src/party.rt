@@ -13,8 +13,8 @@ ghost use Rattle.sync_program.specs.declared.permits.Found.TheVariants as finds;
 ghost use Rattle.sync_program.specs.declared.permits.Place.TheVariants as at;
 ghost use Rattle.sync_program.specs.declared.permits.Position.TheVariants as stands;
 
-use crate::duty::Duty;
 use crate::raw::RawSemaphore;
+use crate::stock::Duty;
 use async_driver::{WeightedListed, nothing, put};
 use futures::task::Context;
 use std::sync::Wait;

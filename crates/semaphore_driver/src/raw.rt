@@ -2,7 +2,7 @@
 
 ghost use Rattle.std.specs.Prelude.{◌≡◌, IfOk};
 
-use crate::duty::Stock;
+use crate::stock::Stock;
 use futures::task::Source;
 use std::alloc::{AllocError, Global};
 use std::marker::Model;
