@@ -14,11 +14,11 @@ use Rattle.lock_event.specs.declared.event.Slot.{Slot}
 use Rattle.async_driver.specs.Heard.{IsTaskOf, IsKept}
 use Rattle.async_driver.specs.declared.task_id.TaskId.{TaskId}
 
-listed_after : (a b : Bool) → a ≡ false → (a || b) ≡ true → b ≡ true
+pub listed_after : (a b : Bool) → a ≡ false → (a || b) ≡ true → b ≡ true
 listed_after true b other h = absurd (cc)
 listed_after false b other h = h
 
-same_number : (n : ℕ) → (n == n) ≡ true
+pub same_number : (n : ℕ) → (n == n) ≡ true
 same_number n = eq-eqb n n refl
 
 -- the entry that has asked keeps what it asked with

@@ -1,3 +1,4 @@
 pub mod Heard
 pub mod Turns
 pub mod Stages
+pub mod Weighted

@@ -4,16 +4,19 @@
 //! this file says of that is to be read, and is short for it.
 
 ghost use Rattle.std.specs.Prelude.{◌≡◌, ◌≤◌, IfSome};
+ghost use Rattle.lock_event.specs.Loads.{weight_of};
+ghost use Rattle.lock_event.specs.Weights.{fitted};
 
 use crate::list_id::ListId;
-use lock_event::Event;
+use lock_event::{Event, WeightedEvent};
 use std::sync::atomic::{AtomicBool, Ordering};
 
 /// A duty to notify somebody who waits in one list.
 ///
 /// It has no bytes and no `Drop`. Releasing a lock creates one, and so does taking a notification out of the list. It ends
-/// when the list has been notified ([`WaitingList::notify`](crate::WaitingList::notify)), or by the list's key
-/// ([`Owed::end`]). Anybody may create one, and must then notify.
+/// when the list has been notified ([`WaitingList::notify`](crate::WaitingList::notify),
+/// [`WeightedList::fit`](crate::WeightedList::fit)), or by the list's key ([`Owed::end`]). Anybody may create one, and must
+/// then notify.
 pub struct Owed {
     // Private, since whoever sees all fields may take the duty apart.
     list: ListId,
@@ -74,6 +77,14 @@ impl Owed {
         let Owed { list: _ } = self;
     }
 
+    // Notifies the first entry that so many are enough for, unless one is notified, under the list's lock.
+    pub(crate) fn fit<W: Drop>(self, entries: &mut WeightedEvent<W>, available: u64)
+        ensures { entries.new.entries ≡ fitted weight_of available entries.old.entries }
+    {
+        entries.fit(available);
+        let Owed { list: _ } = self;
+    }
+
     // Ends the duty to a list that had no entries.
     #[inline]
     pub(crate) fn unless_listed(self, is_listed: &Flag) -> Option<Owed>
@@ -106,7 +117,15 @@ impl Flag {
 
     // Under the list's lock: says whether it has entries, if that has changed.
     pub(crate) fn follow<W: Drop>(&self, entries: &Event<W>) {
-        let is_listed = !entries.is_empty();
+        self.say(!entries.is_empty());
+    }
+
+    // The same of a list whose entries have weights.
+    pub(crate) fn follow_weighted<W: Drop>(&self, entries: &WeightedEvent<W>) {
+        self.say(entries.len() > 0);
+    }
+
+    fn say(&self, is_listed: bool) {
         if self.is_set() != is_listed {
             self.is_set.store(is_listed, Ordering::SeqCst);
         }

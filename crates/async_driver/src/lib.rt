@@ -1,7 +1,8 @@
 //! What the running types of all locks share: the waiting list with its duties, the driver, and what a poll answers.
 //!
 //! A [`WaitingList`] is an event list under a short lock of its own. Whoever stands in it has a [`Listed`], and whoever has to
-//! notify it an [`Owed`]; neither can be dropped. [`Carries`] carries out a lock's program, which is a table: at a place one
+//! notify it an [`Owed`]; neither can be dropped. A [`WeightedList`] is the same of entries that each wait for a number of
+//! units. [`Carries`] carries out a lock's program, which is a table: at a place one
 //! action is done, and what it finds gives the next place. An action is a single try on a lock's words or one function of
 //! a list, and between two actions nothing is held. [`Turn`] is what a poll answers, and [`Settled`] makes a lock's future
 //! a `Future`.
@@ -16,6 +17,7 @@ mod settled;
 mod task_id;
 mod turn;
 mod waiting_list;
+mod weighted_list;
 
 pub use carries::Carries;
 pub use duty::{ListKey, Owed};
@@ -26,3 +28,4 @@ pub use settled::{Polled, Settled};
 pub use task_id::TaskId;
 pub use turn::Turn;
 pub use waiting_list::{Heard, Listed, WaitingList, Wakes};
+pub use weighted_list::{WeightedHeard, WeightedList, WeightedListed};

@@ -386,7 +386,7 @@ fn poll_locked(
 }
 
 // The task of a waker, if there is one.
-fn task_of(waker: &Option<Waker>) -> Option<TaskId>
+pub(crate) fn task_of(waker: &Option<Waker>) -> Option<TaskId>
     ensures { IsTaskOf waker.now result }
 {
     match waker {

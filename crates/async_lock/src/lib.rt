@@ -1,13 +1,15 @@
 //! Locks for tasks: a task that finds its lock taken waits as a pending future, and holds up no thread.
 //!
-//! [`Mutex`] guards a value for one task at a time, [`RwLock`] for many that read it or one that writes it; a [`OnceCell`] gets a
-//! value once; at a [`Barrier`] tasks wait for each other. Each is made with a runtime, which it keeps, and its guards and futures
+//! [`Mutex`] guards a value for one task at a time, [`RwLock`] for many that read it or one that writes it; a [`Semaphore`] has
+//! permits, of which a task acquires one or several; a [`OnceCell`] gets a value once; at a [`Barrier`] tasks wait for each other.
+//! Each is made with a runtime, which it keeps, and its guards and futures
 //! reach the runtime through it. A future is polled for a [`Turn`]; [`Settled`] makes it a `Future` of the kit's `futures`, and the
 //! blocking forms wait in the calling thread.
 //!
 //! Each lock carries out a program, a table of single actions, and the theorems about all interleavings are proved
 //! of the same table: [`lock_core`] has the Worlds in which parties move by it, and [`lock_audit`] a book of one.
-//! This crate has no code of its own: the types stand in `async_mutex`, `async_rwlock`, `async_once_cell` and `async_barrier`.
+//! This crate has no code of its own: the types stand in `async_mutex`, `async_rwlock`, `async_semaphore`, `async_once_cell` and
+//! `async_barrier`.
 #![tactic(auto)]
 
 /// The futures of the locks.
@@ -18,6 +20,7 @@ pub mod lock_futures {
     pub use async_rwlock::lock_futures::{
         Read, ReadArc, UpgradableRead, UpgradableReadArc, Upgrade, UpgradeArc, Write, WriteArc,
     };
+    pub use async_semaphore::lock_futures::{Acquire, AcquireArc};
 }
 
 pub use async_barrier::{Barrier, BarrierWaitResult};
@@ -27,6 +30,7 @@ pub use async_rwlock::{
     RwLock, RwLockReadGuard, RwLockReadGuardArc, RwLockUpgradableReadGuard,
     RwLockUpgradableReadGuardArc, RwLockWriteGuard, RwLockWriteGuardArc,
 };
+pub use async_semaphore::{Semaphore, SemaphoreGuard, SemaphoreGuardArc};
 pub use lock_audit;
 pub use lock_core;
 pub use lock_event;

@@ -7,4 +7,5 @@
 
 pub mod barrier;
 pub mod once_cell;
+pub mod permits;
 pub mod semaphore;

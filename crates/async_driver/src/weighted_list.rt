@@ -1,0 +1,265 @@
+//! The waiting list of a lock that threads share, where each entry waits for a number of units.
+
+ghost use Rattle.std.specs.Prelude.{◌≡◌, ℕ, IfOk, IfSome, None};
+ghost use Rattle.async_driver.specs.Heard.{OnPolled, IsKept};
+ghost use Rattle.async_driver.specs.Weighted.{IsOf, OnWaiting, KeepsAt};
+ghost use Rattle.futures.specs.Task.{Covers, Keeps};
+ghost use Rattle.lock_event.specs.Lists.{joined};
+ghost use Rattle.lock_event.specs.Loads.{laden, weight_of};
+ghost use Rattle.lock_event.specs.Weights.{fitted};
+
+use crate::duty::{Flag, ListKey, Owed};
+use crate::list_id::ListId;
+use crate::task_id::TaskId;
+use crate::waiting_list::{Polled, task_of};
+use futures::task::{Context, Poll, Source, Waker};
+use lock_event::{Asked, EntryId, Memory, WeightedEvent};
+use std::alloc::Global;
+use std::sync::{Mutex, Wait};
+
+/// An entry in a [`WeightedList`].
+///
+/// Only [`WeightedList::remove`] ends it, and a poll that finds it notified: it has no `Drop`. In clauses it is its list,
+/// the task whose waker the entry keeps, once it has been polled, and for how many units it waits.
+pub struct WeightedListed {
+    id: EntryId,
+    pub list: ListId,
+    pub keeps: Option<TaskId>,
+    pub weight: u64,
+}
+
+impl WeightedListed {
+    /// The id of the entry, for [`WeightedList::is_notified`].
+    pub fn id(&self) -> EntryId {
+        self.id
+    }
+}
+
+/// What an entry of a [`WeightedList`] has heard.
+pub enum WeightedHeard {
+    /// It was notified, and has left the list. The notification goes on.
+    Notified(Owed),
+    /// It waits.
+    Waiting(WeightedListed),
+}
+
+/// The waiting list of a lock that threads share, where each entry waits for a number of units: a [`WeightedEvent`] under a
+/// short lock of its own.
+///
+/// It is as a [`WaitingList`](crate::WaitingList), except that at most one entry is notified at a time, by
+/// [`WeightedList::fit`], and that an entry that leaves passes nothing on: whoever removes a notified one has to notify.
+///
+/// No contract sees through the list's lock: what the calls do to the list is what the functions of [`WeightedEvent`]
+/// say, and tested.
+pub struct WeightedList {
+    // Which list it is. Nobody registers with it.
+    name: Source,
+    is_listed: Flag,
+    entries: Mutex<WeightedEvent<Waker>>,
+}
+
+// By hand, so that a drop is one call to prove, and not all of its parts again.
+impl Drop for WeightedList {
+    fn drop(self) {
+        let WeightedList {
+            name: _,
+            is_listed: _,
+            entries: _,
+        } = self;
+    }
+}
+
+impl WeightedList {
+    /// Creates an empty list, and its key. It takes no memory.
+    pub fn new(alloc: Global) -> (WeightedList, ListKey)
+        ensures { result.1.list.id ≡ result.0.name.id }
+    {
+        let name = Source::new();
+        let key = ListKey::new(ListId::of(&name));
+        let list = WeightedList {
+            name,
+            is_listed: Flag::new(),
+            entries: Mutex::new(WeightedEvent::new(alloc)),
+        };
+        (list, key)
+    }
+
+    /// Returns which list it is.
+    pub fn id(&self) -> ListId
+        ensures { result.id ≡ self.now.name.id }
+    {
+        ListId::of(&self.name)
+    }
+
+    /// Returns whether the list had entries at some moment of the call. It waits for nobody.
+    ///
+    /// Whoever joins says so before the list's lock is released. So if a party joins and then looks at its lock
+    /// again, and another releases the lock and then asks here, one of the two finds the other.
+    pub fn is_listed(&self) -> bool {
+        self.is_listed.is_set()
+    }
+
+    /// Returns how many entries the list has. It is for tests.
+    pub fn len<R: Wait>(&self, rt: &R) -> usize {
+        self.entries.lock(rt).len()
+    }
+
+    /// Returns whether the entry of this id stands in the list and is notified. It is for tests.
+    pub fn is_notified<R: Wait>(&self, rt: &R, id: EntryId) -> bool {
+        let entries = self.entries.lock(rt);
+        entries.contains(id) && entries.is_notified(id)
+    }
+
+    /// Adds a waiting entry for so many units at the back, with no waker. [`Memory`] comes only if memory was refused,
+    /// and the list then is as it was.
+    pub fn join<R: Wait>(&self, rt: &R, weight: u64) -> Result<WeightedListed, Memory>
+        ensures { IfOk result (λ entry. (entry.list.id ≡ self.now.name.id) × (entry.weight ≡ weight) × (entry.keeps ≡ None)) }
+    {
+        match join_locked(&mut self.entries.lock(rt), &self.is_listed, weight) {
+            Ok(id) => Ok(WeightedListed {
+                id,
+                list: self.id(),
+                keeps: None,
+                weight,
+            }),
+            Err(memory) => Err(memory),
+        }
+    }
+
+    /// Polls this entry, for the task of `cx`. A notified entry leaves the list. A waiting one keeps a waker of the task,
+    /// which has registered with `source`; a waker of the same task that it keeps already stays.
+    ///
+    /// A waiting entry is the receipt of that (`waits`). An entry that isn't there counts as notified.
+    pub fn poll<R: Wait>(
+        &self,
+        rt: &R,
+        entry: WeightedListed,
+        source: &Source,
+        cx: &mut Context<'_>,
+    ) -> WeightedHeard
+        requires { entry.list.id ≡ self.now.name.id }
+        ensures list { IsOf self.now.name.id entry.weight result }
+        ensures waits { OnWaiting result (λ entry. IsKept cx.new entry.keeps × Covers cx.new (λ s. s ≡ source.now.id)) }
+        ensures kept { Keeps cx.old cx.new }
+    {
+        let WeightedListed {
+            id,
+            list,
+            keeps: _,
+            weight,
+        } = entry;
+        let polled = poll_locked(&mut self.entries.lock(rt), &self.is_listed, id, source, cx);
+        match polled {
+            Polled::Waiting(keeps) => WeightedHeard::Waiting(WeightedListed {
+                id,
+                list,
+                keeps,
+                weight,
+            }),
+            Polled::Notified(waker) => {
+                drop(waker);
+                WeightedHeard::Notified(Owed::new(list))
+            }
+        }
+    }
+
+    /// Takes this entry out of the list without asking. If it was notified, nobody else is in its place: the caller has
+    /// to notify (`list`). Its own waker is dropped, by which the kit wakes its task once more.
+    pub fn remove<R: Wait>(&self, rt: &R, entry: WeightedListed) -> Option<Owed>
+        requires { entry.list.id ≡ self.now.name.id }
+        ensures list { IfSome result (λ owed. owed.list.id ≡ self.now.name.id) }
+    {
+        let WeightedListed {
+            id,
+            list,
+            keeps: _,
+            weight: _,
+        } = entry;
+        let (was_notified, kept) = remove_locked(&mut self.entries.lock(rt), &self.is_listed, id);
+        drop(kept);
+        if was_notified {
+            Some(Owed::new(list))
+        } else {
+            None
+        }
+    }
+
+    /// Notifies the first entry for which so many units are enough, if no entry is notified and there is such a one, and
+    /// calls its waker. A list without entries isn't asked for its lock.
+    #[inline]
+    pub fn fit<R: Wait>(&self, rt: &R, available: u64, owed: Owed)
+        requires { owed.list.id ≡ self.now.name.id }
+    {
+        if let Some(owed) = owed.unless_listed(&self.is_listed) {
+            self.fit_listed(rt, available, owed);
+        }
+    }
+
+    // As `fit`, of a list that had entries.
+    #[inline(never)]
+    fn fit_listed<R: Wait>(&self, rt: &R, available: u64, owed: Owed) {
+        let due = fit_locked(&mut self.entries.lock(rt), available, owed);
+        if let Some(waker) = due {
+            waker.wake();
+        }
+    }
+}
+
+// The calls as they are under the list's lock.
+
+fn join_locked(
+    entries: &mut WeightedEvent<Waker>,
+    is_listed: &Flag,
+    weight: u64,
+) -> Result<EntryId, Memory>
+    ensures { IfOk result (λ id. entries.new.entries ≡ joined entries.old.entries (laden id weight None)) }
+{
+    let joined = entries.listen(weight);
+    is_listed.follow_weighted(entries);
+    joined
+}
+
+// Whether the entry was notified, and what it kept.
+fn remove_locked(
+    entries: &mut WeightedEvent<Waker>,
+    is_listed: &Flag,
+    id: EntryId,
+) -> (bool, Option<Waker>) {
+    let removed = entries.withdraw(id);
+    is_listed.follow_weighted(entries);
+    removed
+}
+
+// Notifies one entry for which so many are enough: the waker that is due.
+fn fit_locked(entries: &mut WeightedEvent<Waker>, available: u64, owed: Owed) -> Option<Waker> {
+    owed.fit(entries, available);
+    entries.next_waker()
+}
+
+// By the contract an entry that waits keeps a waker of the task that is answered.
+fn poll_locked(
+    entries: &mut WeightedEvent<Waker>,
+    is_listed: &Flag,
+    id: EntryId,
+    source: &Source,
+    cx: &mut Context<'_>,
+) -> Polled
+    ensures waits { OnPolled result (λ keeps. KeepsAt id keeps entries.new.entries × IsKept cx.new keeps × Covers cx.new (λ s. s ≡ source.now.id)) }
+    ensures kept { Keeps cx.old cx.new }
+{
+    let mut waker = match entries.ask(id, None) {
+        Asked::Waiting { kept } => kept,
+        Asked::Notified { kept, .. } => {
+            is_listed.follow_weighted(entries);
+            return Polled::Notified(kept);
+        }
+        Asked::Unlisted { .. } => return Polled::Notified(None),
+    };
+    let _: Poll<()> = cx.register(source, &mut waker);
+    let keeps = task_of(&waker);
+    match entries.ask(id, waker) {
+        Asked::Waiting { .. } => Polled::Waiting(keeps),
+        Asked::Notified { .. } => unreachable!(),
+        Asked::Unlisted { .. } => unreachable!(),
+    }
+}

@@ -1,0 +1,89 @@
+-- How far a future is, what it has meanwhile, and what its polls answer.
+use Rattle.std.specs.Prelude.{◌≡◌, ℕ, Bool, true, false, ⊤, IfSome, Option, None}
+use Rattle.async_driver.specs.declared.turn.Turn.{Turn}
+use Rattle.async_driver.specs.declared.turn.Turn.TheVariants.{Pending, Ready, Refused}
+use Rattle.async_semaphore.specs.Guards.{Held}
+use Rattle.async_semaphore.specs.declared.semaphore.Semaphore.{Semaphore}
+use Rattle.async_semaphore.specs.declared.stage.Stage.{Stage}
+use Rattle.async_semaphore.specs.declared.stage.Stage.TheVariants.{Unowned, Waits, Finished as Over}
+use Rattle.futures.specs.declared.task.context.Context.{Context}
+use Rattle.lock_program.specs.declared.refusal.Refusal.TheVariants.{Memory, Finished}
+use Rattle.semaphore_driver.specs.Polls.{HasReceipt, WaitsFor}
+use Rattle.semaphore_driver.specs.Semaphores.{Has}
+use Rattle.semaphore_driver.specs.declared.waiting.Outcome.{Outcome}
+use Rattle.semaphore_driver.specs.declared.waiting.Outcome.TheVariants as outcome
+use Rattle.semaphore_driver.specs.declared.waiting.Waiting.{Waiting}
+use Rattle.sync_program.specs.declared.permits.Position.TheVariants.{Unlisted}
+use Rattle.words_semaphore.specs.declared.view.Seat.{Seat}
+
+-- what contracts see of a future: how far it is, for how many permits it is, and its party at the semaphore, with its entry
+pub record Future (O : Type 0) : Type 0 where
+  pub stage : Stage O
+  pub permits : ℕ
+  pub waiting : Option Waiting
+
+abbrev pub future : {O : Type 0} → Stage O → ℕ → Option Waiting → Future O
+future stage permits waiting = record { stage = stage; permits = permits; waiting = waiting }
+
+abbrev pub is_finished : {O : Type 0} → Stage O → Bool
+is_finished Over = true
+is_finished _ = false
+
+-- it waits for this semaphore
+abbrev pub IsOf : {O R : Type 0} → (O → Semaphore R) → Stage O → Semaphore R → Type 0
+IsOf semaphore_of (Waits owner) s = s ≡ semaphore_of owner
+IsOf semaphore_of _ s = ⊥
+
+-- it waits for this semaphore, or could have no share of it
+abbrev pub IsFor : {O R : Type 0} → (O → Semaphore R) → Stage O → Semaphore R → Type 0
+IsFor semaphore_of (Waits owner) s = s ≡ semaphore_of owner
+IsFor semaphore_of Unowned s = ⊤
+IsFor semaphore_of Over s = ⊥
+
+-- a guard has as many permits as it is for, of the semaphore that it waits for
+abbrev pub Gives : {O R : Type 0} → (O → Semaphore R) → Stage O → ℕ → Held R → Type 0
+Gives semaphore_of stage k guard = IsOf semaphore_of stage guard.semaphore × (guard.permits ≡ k)
+
+-- the sources at which it waits: its semaphore's own
+abbrev pub WaitsAt : {O R : Type 0} → (O → Semaphore R) → Stage O → ℕ → Type 0
+WaitsAt semaphore_of (Waits owner) s = s ≡ (semaphore_of owner).raw.source
+WaitsAt semaphore_of _ s = ⊥
+
+-- its party waits at its semaphore between two polls
+abbrev pub WaitsAs : {O R : Type 0} → (O → Semaphore R) → Stage O → ℕ → Waiting → Type 0
+WaitsAs semaphore_of (Waits owner) k w = WaitsFor (semaphore_of owner).raw k w
+WaitsAs semaphore_of _ k w = ⊥
+
+-- its party has a receipt of the semaphore's list, for as many permits as it is for
+abbrev pub HasReceiptAt : {O R : Type 0} → (O → Semaphore R) → Stage O → ℕ → Context → Option Waiting → Type 0
+HasReceiptAt semaphore_of (Waits owner) k cx waiting = HasReceipt (semaphore_of owner).raw k cx waiting
+HasReceiptAt semaphore_of _ k cx waiting = ⊥
+
+-- it has no more than when it was made
+abbrev pub IsAsMade : ℕ → Option Waiting → Type 0
+IsAsMade k waiting = IfSome waiting (λ w. w.position ≡ Unlisted k)
+
+-- a seat got the permits that it is for
+abbrev pub GotAt : {O R : Type 0} → (O → Semaphore R) → Stage O → ℕ → Seat → Type 0
+GotAt semaphore_of (Waits owner) k seat = Has (semaphore_of owner).raw k seat
+GotAt semaphore_of _ k seat = ⊥
+
+-- how a poll by who has the semaphore went, and what is left of its party
+abbrev pub OnPolled : {O R : Type 0} → (O → Semaphore R) → Stage O → ℕ → Context → Outcome → Option Waiting → Type 0
+OnPolled semaphore_of stage k cx (outcome.Got seat) rest = GotAt semaphore_of stage k seat × (rest ≡ None)
+OnPolled semaphore_of stage k cx outcome.Waits rest = HasReceiptAt semaphore_of stage k cx rest
+OnPolled semaphore_of stage k cx (outcome.Refused refusal) rest = (refusal ≡ Memory) × IsAsMade k rest
+
+-- Ready, what was got is this and the future is over. One that is over is refused as finished and stays so; no other is, and none for
+-- another reason than memory.
+abbrev pub IsTurn : {G : Type 0} → (G → Type 0) → Bool → Turn G → Bool → Type 0
+IsTurn got was (Ready g) is = (was ≡ false) × (is ≡ true) × got g
+IsTurn got was Pending is = (was ≡ false) × (is ≡ false)
+IsTurn got was (Refused Finished) is = (was ≡ true) × (is ≡ true)
+IsTurn got was (Refused Memory) is = (was ≡ false) × (is ≡ false)
+IsTurn got was (Refused _) is = ⊥
+
+-- a fact of a poll that was refused
+abbrev pub OnRefused : {G : Type 0} → Turn G → Type 0 → Type 0
+OnRefused (Refused refusal) fact = fact
+OnRefused _ fact = ⊤

@@ -1,0 +1,154 @@
+//! The future of permits.
+
+ghost use Rattle.std.specs.Prelude.{◌≡◌, false, None};
+ghost use Rattle.futures.specs.Task.{Covers, Keeps};
+ghost use Rattle.async_driver.specs.Turns.{OnPending};
+ghost use Rattle.async_semaphore.specs.Stages.{Gives, HasReceiptAt, IsAsMade, IsTurn, OnRefused, WaitsAt, future, is_finished};
+
+use crate::guard::PermitGuard;
+use crate::owns::Owns;
+use crate::stage::{Stage, drop_stage, into_guard, poll_stage, take};
+use async_driver::{Polled, Turn};
+use futures::task::Context;
+use lock_program::Refusal;
+use semaphore_driver::{Outcome, Waiting};
+use std::marker::{Model, PhantomData};
+use std::sync::Wait;
+use std::time::Clock;
+use std::{fmt, mem};
+
+/// A future of a number of permits. Dropping it while it waits takes its entry out of the list; if the entry was notified, the
+/// first waiter for whom the available permits are enough is notified instead.
+///
+/// Contracts see how far it is (`stage`), for how many permits it is (`permits`), and what it has at the semaphore meanwhile
+/// (`waiting`).
+pub struct AcquireFuture<R: Wait, O: Owns<R>> {
+    stage: Stage<O>,
+    permits: u64,
+    // `None` before the first poll that didn't get the permits, and once it was ready.
+    waiting: Option<Waiting>,
+    runtime: PhantomData<R>,
+}
+
+impl<R: Wait, O: Owns<R>> Model for AcquireFuture<R, O> {
+    ghost use Rattle.std.specs.Prelude.{IfSome};
+    ghost use Rattle.async_semaphore.specs.Stages.{Future, WaitsAs, future};
+
+    ghost Value = { Future O };
+
+    ghost view = { λ f. future f.stage f.permits f.waiting };
+
+    ghost invariant = { λ f. IfSome f.waiting (WaitsAs O.semaphore_of f.stage f.permits) };
+}
+
+impl<R: Wait, O: Owns<R>> AcquireFuture<R, O> {
+    #[inline]
+    pub(crate) fn new(stage: Stage<O>, permits: u64) -> AcquireFuture<R, O>
+        requires { is_finished stage ≡ false }
+        ensures { result ≡ future stage permits None }
+    {
+        AcquireFuture {
+            stage,
+            permits,
+            waiting: None,
+            runtime: PhantomData,
+        }
+    }
+
+    /// Returns for how many permits the future is.
+    pub fn permits(&self) -> usize
+        ensures { result ≡ self.now.permits }
+    {
+        self.permits as usize
+    }
+}
+
+impl<R: Wait + Clock, O: Owns<R>> AcquireFuture<R, O> {
+    /// One poll: ready with the guard, or pending.
+    ///
+    /// It is refused as [`Refusal::Memory`] if memory for its entry was refused, or if no share of the semaphore could be had. Then
+    /// the future is as when it was made, and may be polled again (`refused`). Once it was ready it is refused as
+    /// [`Refusal::Finished`], and nothing changes (`turn`).
+    ///
+    /// Pending, it has an entry for its permits in the semaphore's list, which keeps a waker of the task that polls
+    /// (`receipt`). The task has registered with the semaphore's source (`registered`), and keeps what it had registered before
+    /// (`kept`).
+    #[inline]
+    pub fn poll(&mut self, cx: &mut Context<'_>) -> Turn<PermitGuard<R, O>>
+        ensures turn { IsTurn (Gives O.semaphore_of self.old.stage self.old.permits) (is_finished self.old.stage) result (is_finished self.new.stage) }
+        ensures permits { self.new.permits ≡ self.old.permits }
+        ensures share { is_finished self.new.stage ≡ false → self.new.stage ≡ self.old.stage }
+        ensures refused { OnRefused result (IsAsMade self.old.permits self.new.waiting) }
+        ensures receipt { OnPending result (HasReceiptAt O.semaphore_of self.old.stage self.old.permits cx.new self.new.waiting) }
+        ensures registered { OnPending result (Covers cx.new (WaitsAt O.semaphore_of self.old.stage)) }
+        ensures kept { Keeps cx.old cx.new }
+    {
+        if self.waiting.is_none() {
+            if let Some(seat) = take::<R, O>(&self.stage, self.permits) {
+                let stage = mem::replace(&mut self.stage, Stage::Finished);
+                return Turn::Ready(into_guard(stage, seat, self.permits));
+            }
+        }
+        if let Stage::Finished = self.stage {
+            return Turn::Refused(Refusal::Finished);
+        }
+        self.go_on(cx)
+    }
+
+    // A poll that doesn't get the permits at once. It stands apart, since what it takes room for would be cleared at each poll.
+    #[inline(never)]
+    fn go_on(&mut self, cx: &mut Context<'_>) -> Turn<PermitGuard<R, O>>
+        requires { is_finished self.old.stage ≡ false }
+        ensures turn { IsTurn (Gives O.semaphore_of self.old.stage self.old.permits) false result (is_finished self.new.stage) }
+        ensures permits { self.new.permits ≡ self.old.permits }
+        ensures share { is_finished self.new.stage ≡ false → self.new.stage ≡ self.old.stage }
+        ensures refused { OnRefused result (IsAsMade self.old.permits self.new.waiting) }
+        ensures receipt { OnPending result (HasReceiptAt O.semaphore_of self.old.stage self.old.permits cx.new self.new.waiting) }
+        ensures registered { OnPending result (Covers cx.new (WaitsAt O.semaphore_of self.old.stage)) }
+        ensures kept { Keeps cx.old cx.new }
+    {
+        match poll_stage::<R, O>(&self.stage, self.permits, &mut self.waiting, cx) {
+            Outcome::Got(seat) => {
+                let stage = mem::replace(&mut self.stage, Stage::Finished);
+                Turn::Ready(into_guard(stage, seat, self.permits))
+            }
+            Outcome::Waits => Turn::Pending,
+            Outcome::Refused(refusal) => Turn::Refused(refusal),
+        }
+    }
+}
+
+impl<R: Wait + Clock, O: Owns<R>> Polled for AcquireFuture<R, O> {
+    type Got = PermitGuard<R, O>;
+
+    ghost use Rattle.async_semaphore.specs.Stages.{Gives};
+
+    ghost gives = { λ future guard. Gives O.semaphore_of future.stage future.permits guard };
+
+    fn poll_turn(&mut self, cx: &mut Context<'_>) -> Turn<PermitGuard<R, O>> {
+        self.poll(cx)
+    }
+}
+
+impl<R: Wait, O: Owns<R>> Drop for AcquireFuture<R, O> {
+    #[inline]
+    fn drop(self) {
+        let Self {
+            stage,
+            permits,
+            waiting,
+            runtime: _,
+        } = self;
+        drop_stage::<R, O>(stage, permits, waiting);
+    }
+}
+
+impl<R: Wait, O: Owns<R>> fmt::Debug for AcquireFuture<R, O> {
+    fn fmt<W: fmt::Write>(&self, f: &mut fmt::Formatter<W>) -> fmt::Result {
+        if O::is_share() {
+            f.write_str("AcquireArc { .. }")
+        } else {
+            f.write_str("Acquire { .. }")
+        }
+    }
+}

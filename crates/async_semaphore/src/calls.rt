@@ -1,0 +1,176 @@
+//! The calls of a semaphore.
+
+ghost use Rattle.std.specs.Prelude.{◌≡◌, IfErr, IfOk, IfSome, None};
+ghost use Rattle.std.specs.Arc.{arc_value};
+ghost use Rattle.async_semaphore.specs.Stages.{IsFor};
+ghost use Rattle.lock_program.specs.declared.refusal.Refusal.{Refusal};
+
+use crate::acquire::AcquireFuture;
+use crate::guard::PermitGuard;
+use crate::lock_futures::{Acquire, AcquireArc};
+use crate::semaphore::Semaphore;
+use crate::stage::{Stage, first};
+use crate::{SemaphoreGuard, SemaphoreGuardArc};
+use async_driver::Settled;
+use futures::executor::block_on;
+use lock_program::Refusal;
+use std::alloc::AllocGlobal;
+use std::random::RandomSource;
+use std::sync::{Arc, Wait};
+use std::time::Clock;
+
+impl<R: Wait> Semaphore<R> {
+    /// Attempts to acquire a permit: it does if one is available.
+    ///
+    /// By the contract a guard that it returns has one permit of this semaphore. That an available one is acquired is tested.
+    #[inline]
+    pub fn try_acquire(&self) -> Option<SemaphoreGuard<'_, R>>
+        ensures { IfSome result (λ guard. (guard.semaphore ≡ self.now) × (guard.permits ≡ 1)) }
+    {
+        self.try_acquire_many(1)
+    }
+
+    /// Attempts to acquire this many permits at once: it does if as many are available. None are enough for 0.
+    ///
+    /// The Rust crate has no such call.
+    #[inline]
+    pub fn try_acquire_many(&self, permits: usize) -> Option<SemaphoreGuard<'_, R>>
+        ensures { IfSome result (λ guard. (guard.semaphore ≡ self.now) × (guard.permits ≡ permits)) }
+    {
+        let seat = self.raw.try_take(&self.rt, permits as u64)?;
+        Some(PermitGuard::new(self, seat, permits as u64))
+    }
+
+    /// Returns a future of a permit, which does nothing until it is polled.
+    #[inline]
+    pub fn acquire(&self) -> Acquire<'_, R>
+        ensures semaphore { IsFor (λ o. o.now) result.stage self.now }
+        ensures permits { result.permits ≡ 1 }
+        ensures waiting { result.waiting ≡ None }
+    {
+        self.acquire_many(1)
+    }
+
+    /// Returns a future of this many permits at once, which does nothing until it is polled.
+    ///
+    /// With 0 it is ready at once. With more than the semaphore's limit it waits until enough are added. It isn't fair to large
+    /// requests: a waiter for fewer permits may be notified first, and a large request that was notified and found too few goes
+    /// on waiting. The Rust crate has no such call.
+    #[inline]
+    pub fn acquire_many(&self, permits: usize) -> Acquire<'_, R>
+        ensures semaphore { IsFor (λ o. o.now) result.stage self.now }
+        ensures permits { result.permits ≡ permits }
+        ensures waiting { result.waiting ≡ None }
+    {
+        AcquireFuture::new(Stage::Waits(self), permits as u64)
+    }
+
+    /// Adds this many permits, and notifies the first waiter for whom those that are then available are enough. It takes no
+    /// memory.
+    ///
+    /// If the limit would pass 18,446,744,073,709,551,615, it returns [`Refusal::Permits`] and changes nothing. The Rust crate
+    /// wraps there.
+    pub fn add_permits(&self, permits: usize) -> Result<(), Refusal>
+        ensures { IfErr result (λ refusal. refusal ≡ Refusal.Permits) }
+    {
+        self.raw.add(&self.rt, permits as u64)
+    }
+}
+
+impl<R: Wait + Clock + RandomSource + AllocGlobal> Semaphore<R> {
+    /// Acquires a permit, blocking the calling thread until it has one. Any error of `block_on` is [`Refusal::Memory`].
+    pub fn acquire_blocking(&self) -> Result<SemaphoreGuard<'_, R>, Refusal>
+        ensures { IfOk result (λ guard. (guard.semaphore ≡ self.now) × (guard.permits ≡ 1)) }
+    {
+        self.acquire_many_blocking(1)
+    }
+
+    /// Acquires this many permits at once, as [`Semaphore::acquire_many`], blocking the calling thread until it has them. Any
+    /// error of `block_on` is [`Refusal::Memory`].
+    pub fn acquire_many_blocking(&self, permits: usize) -> Result<SemaphoreGuard<'_, R>, Refusal>
+        ensures { IfOk result (λ guard. (guard.semaphore ≡ self.now) × (guard.permits ≡ permits)) }
+    {
+        if let Some(guard) = self.try_acquire_many(permits) {
+            return Ok(guard);
+        }
+        match block_on(&self.rt, Settled(self.acquire_many(permits))) {
+            Ok(settled) => settled,
+            Err(_) => Err(Refusal::Memory),
+        }
+    }
+}
+
+impl<R: Wait + Drop> Semaphore<R> {
+    /// As [`Semaphore::try_acquire`], for a guard that has a share of the semaphore. It is `None` too if that share can't be had.
+    #[inline]
+    pub fn try_acquire_arc(this: &Arc<Semaphore<R>>) -> Option<SemaphoreGuardArc<R>>
+        ensures { IfSome result (λ guard. (guard.semaphore ≡ arc_value this.now) × (guard.permits ≡ 1)) }
+    {
+        Semaphore::try_acquire_many_arc(this, 1)
+    }
+
+    /// As [`Semaphore::try_acquire_many`], for a guard that has a share of the semaphore. It is `None` too if that share can't be
+    /// had.
+    #[inline]
+    pub fn try_acquire_many_arc(
+        this: &Arc<Semaphore<R>>,
+        permits: usize,
+    ) -> Option<SemaphoreGuardArc<R>>
+        ensures { IfSome result (λ guard. (guard.semaphore ≡ arc_value this.now) × (guard.permits ≡ permits)) }
+    {
+        let owner = Arc::try_clone(this).ok()?;
+        let seat = owner.raw.try_take(&owner.rt, permits as u64)?;
+        Some(PermitGuard::new(owner, seat, permits as u64))
+    }
+
+    /// As [`Semaphore::acquire`], for a future that has a share of the semaphore and gives it to its guard. If that share can't be
+    /// had, its polls are refused as [`Refusal::Memory`].
+    #[inline]
+    pub fn acquire_arc(this: &Arc<Semaphore<R>>) -> AcquireArc<R>
+        ensures semaphore { IsFor arc_value result.stage (arc_value this.now) }
+        ensures permits { result.permits ≡ 1 }
+        ensures waiting { result.waiting ≡ None }
+    {
+        Semaphore::acquire_many_arc(this, 1)
+    }
+
+    /// As [`Semaphore::acquire_many`], for a future that has a share of the semaphore and gives it to its guard. If that share
+    /// can't be had, its polls are refused as [`Refusal::Memory`].
+    #[inline]
+    pub fn acquire_many_arc(this: &Arc<Semaphore<R>>, permits: usize) -> AcquireArc<R>
+        ensures semaphore { IsFor arc_value result.stage (arc_value this.now) }
+        ensures permits { result.permits ≡ permits }
+        ensures waiting { result.waiting ≡ None }
+    {
+        let stage = first::<R, Arc<Semaphore<R>>>(Arc::try_clone(this).ok());
+        AcquireFuture::new(stage, permits as u64)
+    }
+}
+
+impl<R: Wait + Clock + RandomSource + AllocGlobal + Drop> Semaphore<R> {
+    /// As [`Semaphore::acquire_blocking`], for a guard that has a share of the semaphore.
+    pub fn acquire_arc_blocking(this: &Arc<Semaphore<R>>) -> Result<SemaphoreGuardArc<R>, Refusal>
+        ensures { IfOk result (λ guard. (guard.semaphore ≡ arc_value this.now) × (guard.permits ≡ 1)) }
+    {
+        Semaphore::acquire_many_arc_blocking(this, 1)
+    }
+
+    /// As [`Semaphore::acquire_many_blocking`], for a guard that has a share of the semaphore.
+    pub fn acquire_many_arc_blocking(
+        this: &Arc<Semaphore<R>>,
+        permits: usize,
+    ) -> Result<SemaphoreGuardArc<R>, Refusal>
+        ensures { IfOk result (λ guard. (guard.semaphore ≡ arc_value this.now) × (guard.permits ≡ permits)) }
+    {
+        if let Some(guard) = Semaphore::try_acquire_many_arc(this, permits) {
+            return Ok(guard);
+        }
+        match block_on(
+            &this.rt,
+            Settled(Semaphore::acquire_many_arc(this, permits)),
+        ) {
+            Ok(settled) => settled,
+            Err(_) => Err(Refusal::Memory),
+        }
+    }
+}

@@ -1,0 +1,96 @@
+//! Permits that a task has.
+
+ghost use Rattle.std.specs.Prelude.{◌≡◌};
+ghost use Rattle.semaphore_driver.specs.Semaphores.{Has};
+
+use crate::owns::Owns;
+use std::fmt;
+use std::marker::{Model, PhantomData};
+use std::sync::Wait;
+use words_semaphore::Seat;
+
+/// Permits of a semaphore. Dropping it gives them back, and notifies the first waiter for whom those that are then available
+/// are enough.
+///
+/// Its type keeps that its seat has exactly as many permits as it says, so a drop gives back neither more nor fewer. Contracts see
+/// the semaphore, and how many permits it has.
+pub struct PermitGuard<R: Wait, O: Owns<R>> {
+    owner: O,
+    seat: Seat,
+    permits: u64,
+    runtime: PhantomData<R>,
+}
+
+impl<R: Wait, O: Owns<R>> Model for PermitGuard<R, O> {
+    ghost use Rattle.async_semaphore.specs.Guards.{Held};
+    ghost use Rattle.semaphore_driver.specs.Semaphores.{Has};
+
+    ghost Value = { Held R };
+
+    ghost view = { λ g. record { semaphore = O.semaphore_of g.owner; permits = g.permits } };
+
+    ghost invariant = { λ g. Has (O.semaphore_of g.owner).raw g.permits g.seat };
+}
+
+impl<R: Wait, O: Owns<R>> PermitGuard<R, O> {
+    #[inline]
+    pub(crate) fn new(owner: O, seat: Seat, permits: u64) -> PermitGuard<R, O>
+        requires { Has (O.semaphore_of owner).raw permits seat }
+        ensures { (result.semaphore ≡ O.semaphore_of owner) × (result.permits ≡ permits) }
+    {
+        PermitGuard {
+            owner,
+            seat,
+            permits,
+            runtime: PhantomData,
+        }
+    }
+
+    /// Returns how many permits the guard has.
+    pub fn permits(&self) -> usize
+        ensures { result ≡ self.now.permits }
+    {
+        self.permits as usize
+    }
+
+    /// Ends the guard without giving its permits back: the semaphore's limit is lowered by as many, and they never come back.
+    /// It waits for nobody and takes no memory.
+    pub fn forget(self) {
+        let Self {
+            owner,
+            seat,
+            permits,
+            runtime: _,
+        } = self;
+        owner.semaphore().raw.forget(seat, permits);
+        drop(owner);
+    }
+}
+
+impl<R: Wait, O: Owns<R>> Drop for PermitGuard<R, O> {
+    #[inline]
+    fn drop(self) {
+        let Self {
+            owner,
+            seat,
+            permits,
+            runtime: _,
+        } = self;
+        let semaphore = owner.semaphore();
+        semaphore.raw.give(&semaphore.rt, seat, permits);
+        drop(owner);
+    }
+}
+
+impl<R: Wait, O: Owns<R>> fmt::Debug for PermitGuard<R, O> {
+    fn fmt<W: fmt::Write>(&self, f: &mut fmt::Formatter<W>) -> fmt::Result {
+        let name = if O::is_share() {
+            "SemaphoreGuardArc"
+        } else {
+            "SemaphoreGuard"
+        };
+        f.debug_struct(name)
+            .field("permits", &self.permits)
+            .finish_non_exhaustive()
+    }
+}

@@ -1,0 +1,5 @@
+pub mod Duties
+pub mod Parties
+pub mod Polls
+pub mod Semaphores
+pub mod Table

@@ -1,0 +1,322 @@
+//! A semaphore's words and its list, and the duty to notify that goes from the one to the other.
+
+ghost use Rattle.std.specs.Prelude.{◌≡◌, ℕ, ◌<◌, ◌≤◌, [], IfOk, IfErr, IfNone, IfSome, Some, None, MatchBool};
+ghost use Rattle.async_driver.specs.Heard.{IsKept};
+ghost use Rattle.futures.specs.Task.{Covers, Keeps};
+ghost use Rattle.semaphore_driver.specs.Duties.{IsOf, left, looked, seen_of, unseen};
+ghost use Rattle.words_semaphore.specs.Steps.{first_view, having_taken, having_lowered, having_given, having_given_new, having_raised, having_found};
+ghost use Rattle.words_semaphore.specs.Tries.{OnTaking, OnRaising};
+
+use crate::duty::Keys;
+use async_driver::{Owed, WeightedHeard, WeightedList, WeightedListed, put};
+use futures::task::{Context, Source};
+use lock_event::Memory;
+use std::alloc::{AllocError, Global};
+use std::marker::Model;
+use std::sync::Wait;
+use words_semaphore::{Raising, Seat, Taking, Words};
+
+/// A duty to notify the first waiter for whom the available permits are enough.
+///
+/// It has no `Drop`. Giving permits creates one, and so does taking a notification out of the list. It ends by [`Stock::fit`],
+/// which needs a number of permits found since then; or for a reason of [`Keys`]. In clauses it is its list and that number,
+/// if one was found.
+pub struct Duty {
+    owed: Owed,
+    // How many permits were available when its party last looked.
+    seen: Option<u64>,
+}
+
+/// A semaphore's words and its list. Contracts see the words, and which list it is.
+pub struct Stock {
+    words: Words,
+    list: WeightedList,
+    keys: Keys,
+}
+
+impl Model for Stock {
+    ghost use Rattle.std.specs.Prelude.{◌≡◌};
+    ghost use Rattle.semaphore_driver.specs.Duties.{Stocked, stocked_coded};
+
+    ghost Value = { Stocked };
+
+    ghost coded = { stocked_coded };
+
+    ghost view = { λ s. record { word = s.words; list = s.list.name.id } };
+
+    ghost invariant = { λ s. s.keys ≡ s.list.name.id };
+}
+
+impl Drop for Stock {
+    fn drop(self) {
+        let Stock {
+            words: _,
+            list: _,
+            keys: _,
+        } = self;
+    }
+}
+
+impl Stock {
+    /// Makes a semaphore of this many permits, all of them available, without its source. It fails only if memory is refused.
+    pub(crate) fn new(alloc: Global, permits: u64) -> Result<Stock, AllocError>
+        ensures { IfOk result (λ stock. stock.word.start ≡ permits) }
+    {
+        let words = Words::new(alloc, permits)?;
+        let (list, key) = WeightedList::new(alloc);
+        Ok(Stock {
+            words,
+            list,
+            keys: Keys::new(key),
+        })
+    }
+
+    /// Returns a new seat, which has nothing. It costs one load, and takes no memory.
+    #[inline]
+    pub fn sit(&self) -> Seat
+        ensures { (result.inner.table_id ≡ self.now.word.table) × (result.inner.me ≡ (first_view, [])) }
+    {
+        self.words.sit()
+    }
+
+    /// Ends a seat that has no permits and nothing under way.
+    #[inline]
+    pub fn rise(&self, seat: Seat)
+        requires table { seat.inner.table_id ≡ self.now.word.table }
+        requires nothing { (seat.inner.me.0.permits ≡ 0) × (seat.inner.me.0.under_way ≡ 0) }
+    {
+        self.words.rise(seat);
+    }
+
+    /// Reads how many permits are available. It waits for nobody.
+    #[inline]
+    pub fn available(&self) -> u64 {
+        self.words.available()
+    }
+
+    /// Returns how many stand in the list. It is for tests.
+    pub fn waiting<R: Wait>(&self, rt: &R) -> usize {
+        self.list.len(rt)
+    }
+
+    /// Takes this many permits if as many are available: one try. What it found is the newest that a duty knows of. If it
+    /// took the last permit, a duty is over: a waiter could be notified of nothing.
+    #[inline]
+    pub fn take(&self, seat: &mut Seat, permits: u64, duty: &mut Option<Duty>) -> Taking
+        requires table { seat.old.inner.table_id ≡ self.now.word.table }
+        requires list { IsOf self.now.list duty.old }
+        ensures same { (seat.new.inner.table_id ≡ seat.old.inner.table_id) × (seat.new.inner.id ≡ seat.old.inner.id) }
+        ensures step { OnTaking result (λ a. seat.new.inner.me ≡ (having_taken permits a seat.old.inner.me.0, seat.old.inner.me.1)) (λ a. (a < permits) × (seat.new.inner.me ≡ (having_found a seat.old.inner.me.0, seat.old.inner.me.1))) (seat.new.inner.me ≡ (having_found seat.new.inner.me.0.found seat.old.inner.me.0, seat.old.inner.me.1)) }
+        ensures list { IsOf self.now.list duty.new }
+        ensures duty { OnTaking result (λ a. seen_of duty.new ≡ left (seen_of duty.old) a) (λ a. seen_of duty.new ≡ looked (seen_of duty.old) a) (duty.new ≡ duty.old) }
+    {
+        let taking = self.words.take(seat, permits);
+        match taking {
+            Taking::Left(available) => self.leave(seat, duty, available),
+            Taking::Short(available) => look(duty, available),
+            Taking::Changed => {}
+        }
+        taking
+    }
+
+    // So many are left: a duty is over if that is nothing.
+    #[inline]
+    fn leave(&self, seat: &Seat, duty: &mut Option<Duty>, available: u64)
+        requires found { available ≡ seat.now.inner.me.0.found }
+        requires list { IsOf self.now.list duty.old }
+        ensures list { IsOf self.now.list duty.new }
+        ensures duty { seen_of duty.new ≡ left (seen_of duty.old) available }
+    {
+        if available > 0 {
+            look(duty, available);
+        } else if let Some(Duty { owed, seen: _ }) = duty.take() {
+            self.keys.nothing_left(owed, seat);
+        }
+    }
+
+    /// Sees how many permits are available: one step. It is the newest that a duty knows of.
+    pub fn load(&self, seat: &mut Seat, duty: &mut Option<Duty>) -> u64
+        requires table { seat.old.inner.table_id ≡ self.now.word.table }
+        requires list { IsOf self.now.list duty.old }
+        ensures same { (seat.new.inner.table_id ≡ seat.old.inner.table_id) × (seat.new.inner.id ≡ seat.old.inner.id) }
+        ensures step { seat.new.inner.me ≡ (having_found result seat.old.inner.me.0, seat.old.inner.me.1) }
+        ensures list { IsOf self.now.list duty.new }
+        ensures duty { seen_of duty.new ≡ looked (seen_of duty.old) result }
+    {
+        let available = self.words.load(seat);
+        look(duty, available);
+        available
+    }
+
+    /// Gives this many of the seat's permits back: one step. Returns how many are then available, and the duty to notify.
+    #[inline]
+    pub fn give(&self, seat: &mut Seat, permits: u64) -> (u64, Duty)
+        requires table { seat.old.inner.table_id ≡ self.now.word.table }
+        requires has { permits ≤ seat.old.inner.me.0.permits }
+        ensures same { (seat.new.inner.table_id ≡ seat.old.inner.table_id) × (seat.new.inner.id ≡ seat.old.inner.id) }
+        ensures step { seat.new.inner.me ≡ (having_given permits result.0 seat.old.inner.me.0, seat.old.inner.me.1) }
+        ensures duty { (result.1.owed.list.id ≡ self.now.list) × (result.1.seen ≡ Some result.0) }
+    {
+        let available = self.words.give(seat, permits);
+        (available, self.owes(available))
+    }
+
+    /// Raises the limit by this many permits if it stays a number of 64 bits: one try. The seat has the new
+    /// permits under way.
+    pub fn raise(&self, seat: &mut Seat, permits: u64) -> Raising
+        requires table { seat.old.inner.table_id ≡ self.now.word.table }
+        ensures same { (seat.new.inner.table_id ≡ seat.old.inner.table_id) × (seat.new.inner.id ≡ seat.old.inner.id) }
+        ensures step { OnRaising result (seat.new.inner.me ≡ (having_raised permits seat.old.inner.me.0, seat.old.inner.me.1)) (seat.new.inner.me ≡ seat.old.inner.me) }
+    {
+        self.words.raise(seat, permits)
+    }
+
+    /// Gives this many new permits that the seat has under way: one step. Returns how many are then available, and the duty
+    /// to notify.
+    pub fn give_new(&self, seat: &mut Seat, permits: u64) -> (u64, Duty)
+        requires table { seat.old.inner.table_id ≡ self.now.word.table }
+        requires has { permits ≤ seat.old.inner.me.0.under_way }
+        ensures same { (seat.new.inner.table_id ≡ seat.old.inner.table_id) × (seat.new.inner.id ≡ seat.old.inner.id) }
+        ensures step { seat.new.inner.me ≡ (having_given_new permits result.0 seat.old.inner.me.0, seat.old.inner.me.1) }
+        ensures duty { (result.1.owed.list.id ≡ self.now.list) × (result.1.seen ≡ Some result.0) }
+    {
+        let available = self.words.give_new(seat, permits);
+        (available, self.owes(available))
+    }
+
+    // A duty that knows of so many.
+    #[inline]
+    fn owes(&self, available: u64) -> Duty
+        ensures { (result.owed.list.id ≡ self.now.list) × (result.seen ≡ Some available) }
+    {
+        Duty {
+            owed: Owed::new(self.list.id()),
+            seen: Some(available),
+        }
+    }
+
+    /// Lowers the limit by this many of the seat's permits, which never come back: one step.
+    pub fn lower(&self, seat: &mut Seat, permits: u64)
+        requires table { seat.old.inner.table_id ≡ self.now.word.table }
+        requires has { permits ≤ seat.old.inner.me.0.permits }
+        ensures same { (seat.new.inner.table_id ≡ seat.old.inner.table_id) × (seat.new.inner.id ≡ seat.old.inner.id) }
+        ensures step { seat.new.inner.me ≡ (having_lowered permits seat.old.inner.me.0, seat.old.inner.me.1) }
+    {
+        self.words.lower(seat, permits);
+    }
+
+    /// Joins the list for this many permits. Who has joined looks again: what a duty knows of is older than that.
+    pub fn join<R: Wait>(
+        &self,
+        rt: &R,
+        permits: u64,
+        duty: &mut Option<Duty>,
+    ) -> Result<WeightedListed, Memory>
+        requires list { IsOf self.now.list duty.old }
+        ensures joined { IfOk result (λ entry. (entry.list.id ≡ self.now.list) × (entry.weight ≡ permits) × (seen_of duty.new ≡ unseen (seen_of duty.old))) }
+        ensures refused { IfErr result (λ _. duty.new ≡ duty.old) }
+        ensures list { IsOf self.now.list duty.new }
+    {
+        let joined = self.list.join(rt, permits);
+        if joined.is_ok() {
+            forget_look(duty);
+        }
+        joined
+    }
+
+    /// Polls an entry, for the task of `cx`. `None` says that it was notified, and is out of the list: its party has to look
+    /// and to notify. An entry that waits keeps a waker of the task, which has registered with `source`.
+    pub fn poll<R: Wait>(
+        &self,
+        rt: &R,
+        entry: WeightedListed,
+        source: &Source,
+        cx: &mut Context<'_>,
+        duty: &mut Option<Duty>,
+    ) -> Option<WeightedListed>
+        requires entry { entry.list.id ≡ self.now.list }
+        requires list { IsOf self.now.list duty.old }
+        ensures waits { IfSome result (λ waiting. (waiting.list.id ≡ self.now.list) × (waiting.weight ≡ entry.weight) × IsKept cx.new waiting.keeps × Covers cx.new (λ s. s ≡ source.now.id) × (duty.new ≡ duty.old)) }
+        ensures told { IfNone result (seen_of duty.new ≡ Some None) }
+        ensures list { IsOf self.now.list duty.new }
+        ensures kept { Keeps cx.old cx.new }
+    {
+        match self.list.poll(rt, entry, source, cx) {
+            WeightedHeard::Waiting(waiting) => Some(waiting),
+            WeightedHeard::Notified(owed) => {
+                self.told(owed, duty);
+                None
+            }
+        }
+    }
+
+    /// Takes an entry out of the list: whether it was notified. If so, its party has to look and to notify.
+    pub fn remove<R: Wait>(&self, rt: &R, entry: WeightedListed, duty: &mut Option<Duty>) -> bool
+        requires entry { entry.list.id ≡ self.now.list }
+        requires list { IsOf self.now.list duty.old }
+        ensures told { MatchBool result (seen_of duty.new ≡ Some None) (duty.new ≡ duty.old) }
+        ensures list { IsOf self.now.list duty.new }
+    {
+        match self.list.remove(rt, entry) {
+            Some(owed) => {
+                self.told(owed, duty);
+                true
+            }
+            None => false,
+        }
+    }
+
+    // A notification was taken, of which nothing is known yet. Two duties to the list are one.
+    fn told(&self, owed: Owed, duty: &mut Option<Duty>)
+        requires owed { owed.list.id ≡ self.now.list }
+        requires list { IsOf self.now.list duty.old }
+        ensures list { IsOf self.now.list duty.new }
+        ensures duty { seen_of duty.new ≡ Some None }
+    {
+        if let Some(
+            Duty {
+                owed: older,
+                seen: _,
+            },
+        ) = duty.take()
+        {
+            self.keys.merge(older, &owed);
+        }
+        put(duty, Duty { owed, seen: None });
+    }
+
+    /// Notifies the first waiter for whom the available permits are enough, if nobody is notified and there is such a one. It
+    /// needs how many the seat found last, since the duty arose.
+    #[inline]
+    pub fn fit<R: Wait>(&self, rt: &R, seat: &Seat, available: u64, duty: Duty)
+        requires seat { seat.now.inner.table_id ≡ self.now.word.table }
+        requires found { available ≡ seat.now.inner.me.0.found }
+        requires list { duty.owed.list.id ≡ self.now.list }
+        requires seen { duty.seen ≡ Some available }
+    {
+        let _ = seat;
+        let Duty { owed, seen: _ } = duty;
+        self.list.fit(rt, available, owed);
+    }
+}
+
+// Of a duty so many are known to be available now.
+#[inline]
+fn look(duty: &mut Option<Duty>, available: u64)
+    ensures duty { seen_of duty.new ≡ looked (seen_of duty.old) available }
+    ensures list { (list : ℕ) → IsOf list duty.old → IsOf list duty.new }
+{
+    if let Some(duty) = duty {
+        duty.seen = Some(available);
+    }
+}
+
+// What a duty knew of is too old.
+fn forget_look(duty: &mut Option<Duty>)
+    ensures duty { seen_of duty.new ≡ unseen (seen_of duty.old) }
+    ensures list { (list : ℕ) → IsOf list duty.old → IsOf list duty.new }
+{
+    if let Some(duty) = duty {
+        duty.seen = None;
+    }
+}

@@ -1,0 +1,150 @@
+//! The calls whose programs are short, carried out straight on a seat: a try, what ends a guard, and an addition.
+//!
+//! By their types a seat can't end with permits, nor a call before whoever the permits are enough for is notified. That the
+//! actions are the table's, in its order, is proved beside them.
+
+ghost use Rattle.std.specs.Prelude.{◌≡◌, ℕ, Some, false, IfErr, IfSome, MatchBool};
+ghost use Rattle.lock_program.specs.declared.end.End.TheVariants as ends;
+ghost use Rattle.lock_program.specs.declared.end.Next.TheVariants as next;
+ghost use Rattle.lock_program.specs.declared.refusal.Refusal.{Refusal};
+ghost use Rattle.lock_program.specs.declared.refusal.Refusal.TheVariants as refusals;
+ghost use Rattle.semaphore_driver.specs.Semaphores.{Has, HasUnderWay};
+ghost use Rattle.sync_program.specs.Permits.{action_of, next_of, start_of};
+ghost use Rattle.sync_program.specs.declared.permits.Action.TheVariants as does;
+ghost use Rattle.sync_program.specs.declared.permits.Found.TheVariants as finds;
+ghost use Rattle.sync_program.specs.declared.permits.Place.TheVariants as at;
+ghost use Rattle.sync_program.specs.declared.permits.Position.TheVariants as stands;
+ghost use Rattle.sync_program.specs.declared.permits.SemaphoreCall.TheVariants as calls;
+
+use crate::raw::RawSemaphore;
+use async_driver::nothing;
+use lock_program::Refusal;
+use std::sync::Wait;
+use words_semaphore::{Raising, Seat, Taking};
+
+impl RawSemaphore {
+    /// Takes this many permits at once, if as many are available. A word that changed meanwhile is tried again.
+    ///
+    /// It is the one action of a try, and the first of a first poll: a poll that it doesn't end goes on by
+    /// [`RawSemaphore::poll_waiting`]. By the contract the seat that it returns has exactly these permits.
+    #[inline]
+    pub fn try_take<R: Wait>(&self, rt: &R, permits: u64) -> Option<Seat>
+        ensures { IfSome result (Has self.now permits) }
+    {
+        try_rows();
+        let mut seat = self.stock.sit();
+        if self.take(rt, &mut seat, permits) {
+            return Some(seat);
+        }
+        self.stock.rise(seat);
+        None
+    }
+
+    // Takes this many permits, if as many are available, however often the word changes meanwhile.
+    #[inline]
+    fn take<R: Wait>(&self, rt: &R, seat: &mut Seat, permits: u64) -> bool
+        requires { Has self.now 0 seat.old }
+        ensures { MatchBool result (Has self.now permits seat.new) (Has self.now 0 seat.new) }
+    {
+        for _ in rt.forever() {
+            let mut duty = None;
+            let taking = self.stock.take(seat, permits, &mut duty);
+            nothing(duty);
+            match taking {
+                Taking::Left(_) => return true,
+                Taking::Short(_) => return false,
+                Taking::Changed => {}
+            }
+        }
+        unreachable!()
+    }
+
+    /// Gives a guard's permits back, and notifies the first waiter for whom those that are then available are enough.
+    #[inline]
+    pub fn give<R: Wait>(&self, rt: &R, seat: Seat, permits: u64)
+        requires { Has self.now permits seat }
+    {
+        give_rows();
+        let mut seat = seat;
+        let (available, duty) = self.stock.give(&mut seat, permits);
+        self.stock.fit(rt, &seat, available, duty);
+        self.stock.rise(seat);
+    }
+
+    /// Ends a guard's permits for good: the limit is lowered by as many. It waits for nobody.
+    pub fn forget(&self, seat: Seat, permits: u64)
+        requires { Has self.now permits seat }
+    {
+        forget_rows();
+        let mut seat = seat;
+        self.stock.lower(&mut seat, permits);
+        self.stock.rise(seat);
+    }
+
+    /// Adds this many permits, and notifies the first waiter for whom those that are then available are enough. It takes no
+    /// memory.
+    ///
+    /// If the limit would pass its greatest value, it returns [`Refusal::Permits`], and nothing has changed.
+    pub fn add<R: Wait>(&self, rt: &R, permits: u64) -> Result<(), Refusal>
+        ensures { IfErr result (λ refusal. refusal ≡ Refusal.Permits) }
+    {
+        add_rows();
+        let mut seat = self.stock.sit();
+        if !self.raise(rt, &mut seat, permits) {
+            self.stock.rise(seat);
+            return Err(Refusal::Permits);
+        }
+        let (available, duty) = self.stock.give_new(&mut seat, permits);
+        self.stock.fit(rt, &seat, available, duty);
+        self.stock.rise(seat);
+        Ok(())
+    }
+
+    // Raises the limit by this many, if its greatest value allows it, however often the word changes meanwhile.
+    fn raise<R: Wait>(&self, rt: &R, seat: &mut Seat, permits: u64) -> bool
+        requires { Has self.now 0 seat.old }
+        ensures { MatchBool result (HasUnderWay self.now permits seat.new) (Has self.now 0 seat.new) }
+    {
+        for _ in rt.forever() {
+            match self.stock.raise(seat, permits) {
+                Raising::Raised => return true,
+                Raising::PastLimit => return false,
+                Raising::Changed => {}
+            }
+        }
+        unreachable!()
+    }
+}
+
+// The rows of the program's table that `RawSemaphore::try_take` carries out straight.
+#[inline]
+fn try_rows()
+    ensures begins { (k : ℕ) → start_of (calls.TryAcquire k) stands.Out ≡ Some (at.Try k) }
+    ensures tries { (k a : ℕ) → (action_of (at.Try k) ≡ does.Take k) × (next_of (at.Try k) (finds.Left a) ≡ next.End ends.Granted (stands.Holding k)) × (next_of (at.Try k) (finds.Short a) ≡ next.End ends.NotFree stands.Out) }
+    ensures polls { (k : ℕ) → (start_of (calls.Acquire k) stands.Out ≡ start_of calls.Poll (stands.Unlisted k)) × (start_of calls.Poll (stands.Unlisted k) ≡ Some (at.Take k false false)) }
+    ensures takes { (k a : ℕ) → (action_of (at.Take k false false) ≡ does.Take k) × (next_of (at.Take k false false) (finds.Left a) ≡ next.End ends.Got (stands.Holding k)) }
+{}
+
+// Those that `RawSemaphore::give` carries out.
+#[inline]
+fn give_rows()
+    ensures begins { (k : ℕ) → start_of calls.Drop (stands.Holding k) ≡ Some (at.GiveBack k) }
+    ensures gives { (k a : ℕ) → (action_of (at.GiveBack k) ≡ does.GiveBack k) × (next_of (at.GiveBack k) (finds.Available a) ≡ next.Do (at.FitGivenBack a)) }
+    ensures fits { (a : ℕ) → (action_of (at.FitGivenBack a) ≡ does.Fit a) × (next_of (at.FitGivenBack a) finds.Done ≡ next.End ends.GivenBack stands.Out) }
+{}
+
+// Those that `RawSemaphore::forget` carries out.
+#[inline]
+fn forget_rows()
+    ensures begins { (k : ℕ) → start_of calls.Forget (stands.Holding k) ≡ Some (at.Lower k) }
+    ensures lowers { (k : ℕ) → (action_of (at.Lower k) ≡ does.Lower k) × (next_of (at.Lower k) finds.Done ≡ next.End ends.GivenBack stands.Out) }
+{}
+
+// Those that `RawSemaphore::add` carries out.
+#[inline]
+fn add_rows()
+    ensures begins { (n : ℕ) → start_of (calls.AddPermits n) stands.Out ≡ Some (at.Raise n) }
+    ensures raises { (n : ℕ) → (action_of (at.Raise n) ≡ does.Raise n) × (next_of (at.Raise n) finds.Done ≡ next.Do (at.GiveAdded n)) × (next_of (at.Raise n) finds.PastLimit ≡ next.End (ends.Refused refusals.Permits) stands.Out) }
+    ensures gives { (n a : ℕ) → (action_of (at.GiveAdded n) ≡ does.Give n) × (next_of (at.GiveAdded n) (finds.Available a) ≡ next.Do (at.FitAdded a)) }
+    ensures fits { (a : ℕ) → (action_of (at.FitAdded a) ≡ does.Fit a) × (next_of (at.FitAdded a) finds.Done ≡ next.End ends.Granted stands.Out) }
+{}

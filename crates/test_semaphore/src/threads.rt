@@ -1,0 +1,195 @@
+//! Threads that share a semaphore.
+
+use crate::forms::{Form, owned};
+use crate::same::assert_same;
+use async_semaphore::Semaphore;
+use std::alloc::AllocGlobal;
+use std::random::RandomSource;
+use std::sync::Wait;
+use std::sync::atomic::{AtomicBool, AtomicU64, Ordering};
+use std::thread;
+use std::time::Clock;
+
+const THREADS: usize = 50;
+
+// Acquires a permit and gives it back so often, and says how often it was refused.
+fn acquire_often<R, O>(semaphore: &O, rounds: u32) -> u64
+where
+    R: Wait + Clock + RandomSource + AllocGlobal,
+    O: Form<R>,
+{
+    let mut refused = 0u64;
+    for _ in 0..rounds {
+        if semaphore.block(1).is_err() {
+            refused = refused.saturating_add(1);
+        }
+    }
+    refused
+}
+
+// How many single permits can be acquired, of six tries.
+fn single_permits<R, O>(semaphore: &O) -> (bool, bool, bool, bool, bool, bool, bool)
+where
+    R: Wait + Clock + RandomSource + AllocGlobal,
+    O: Form<R>,
+{
+    let one = semaphore.take(1);
+    let two = semaphore.take(1);
+    let three = semaphore.take(1);
+    let four = semaphore.take(1);
+    let five = semaphore.take(1);
+    let sixth = semaphore.take(1).is_some();
+    let had = (
+        one.is_some(),
+        two.is_some(),
+        three.is_some(),
+        four.is_some(),
+        five.is_some(),
+    );
+    drop(one);
+    let next = semaphore.take(1).is_some();
+    (had.0, had.1, had.2, had.3, had.4, sixth, next)
+}
+
+#[test]
+fn fifty_threads_acquire_and_release(rt: HostRuntime) {
+    let Ok(semaphore) = Semaphore::new(rt, 5) else {
+        return;
+    };
+    let shared = &semaphore;
+    let refused = thread::map_indices(&rt, rt.alloc(), THREADS, &|_| acquire_often(&shared, 1000));
+    let refused = refused.expect(&rt, "memory is ample");
+    assert!(rt; refused.iter().all(|often| *often == 0));
+    assert_same(&rt, semaphore.available_permits(), 5);
+    assert_same(
+        &rt,
+        single_permits(&shared),
+        (true, true, true, true, true, false, true),
+    );
+}
+
+#[test]
+fn fifty_threads_acquire_and_release_by_shares(rt: HostRuntime) {
+    let Some(semaphore) = owned(rt, 5) else {
+        return;
+    };
+    let refused = thread::map_indices(
+        &rt,
+        rt.alloc(),
+        THREADS,
+        &|_| { acquire_often(&semaphore, 1000) },
+    );
+    let refused = refused.expect(&rt, "memory is ample");
+    assert!(rt; refused.iter().all(|often| *often == 0));
+    assert_same(
+        &rt,
+        single_permits(&semaphore),
+        (true, true, true, true, true, false, true),
+    );
+}
+
+// Acquires a permit and forgets it, or adds so many: whether that was refused.
+fn forget_or_add<R>(semaphore: &Semaphore<R>, adds: bool) -> bool
+where
+    R: Wait + Clock + RandomSource + AllocGlobal,
+{
+    if adds {
+        return semaphore.add_permits(THREADS).is_err();
+    }
+    match semaphore.acquire_blocking() {
+        Ok(guard) => {
+            guard.forget();
+            false
+        }
+        Err(_) => true,
+    }
+}
+
+#[test]
+fn fifty_threads_forget_what_is_added(rt: HostRuntime) {
+    let Ok(semaphore) = Semaphore::new(rt, 0) else {
+        return;
+    };
+    let refused = thread::map_indices(
+        &rt,
+        rt.alloc(),
+        THREADS + 1,
+        &|index| { forget_or_add(&semaphore, index == THREADS) },
+    );
+    let refused = refused.expect(&rt, "memory is ample");
+    assert!(rt; refused.iter().all(|refused| !*refused));
+    assert_same(&rt, semaphore.available_permits(), 0);
+}
+
+const PERMITS: u64 = 10;
+
+// The next of a sequence of numbers without order.
+fn scrambled(number: u64) -> u64 {
+    let mut number = number;
+    number ^= number << 13;
+    number ^= number >> 7;
+    number ^= number << 17;
+    number
+}
+
+// Acquires from 0 to 7 permits so often, and says how often more were out than there are, or it was refused.
+fn acquire_some<R>(semaphore: &Semaphore<R>, out: &AtomicU64, seed: u64) -> u64
+where
+    R: Wait + Clock + RandomSource + AllocGlobal,
+{
+    let mut wrong = 0u64;
+    let mut number = seed;
+    for _ in 0..1000u32 {
+        number = scrambled(number);
+        let permits = number % 8;
+        let Ok(guard) = semaphore.acquire_many_blocking(permits as usize) else {
+            wrong = wrong.saturating_add(1);
+            continue;
+        };
+        let before = out.fetch_add(permits, Ordering::SeqCst);
+        if before.saturating_add(permits) > PERMITS {
+            wrong = wrong.saturating_add(1);
+        }
+        thread::yield_now();
+        out.fetch_sub(permits, Ordering::SeqCst);
+        drop(guard);
+    }
+    wrong
+}
+
+#[test]
+fn never_more_are_out_than_there_are(rt: HostRuntime) {
+    let Ok(semaphore) = Semaphore::new(rt, PERMITS as usize) else {
+        return;
+    };
+    let out = AtomicU64::new(0);
+    let wrong = thread::map_indices(
+        &rt,
+        rt.alloc(),
+        8,
+        &|index| { acquire_some(&semaphore, &out, (index as u64).wrapping_add(0x9e37_79b9)) },
+    );
+    let wrong = wrong.expect(&rt, "memory is ample");
+    assert!(rt; wrong.iter().all(|often| *often == 0));
+    assert_same(&rt, semaphore.available_permits(), 10);
+}
+
+/// Holds a permit, and sees the other's flag meanwhile: whether it did, or had no memory.
+pub(crate) fn holds_beside<R, O>(semaphore: &O, mine: &AtomicBool, other: &AtomicBool) -> bool
+where
+    R: Wait + Clock + RandomSource + AllocGlobal,
+    O: Form<R>,
+{
+    let guard = semaphore.block(1);
+    mine.store(true, Ordering::SeqCst);
+    if guard.is_err() {
+        return true;
+    }
+    for _ in 0..10_000_000u32 {
+        if other.load(Ordering::SeqCst) {
+            return true;
+        }
+        thread::yield_now();
+    }
+    false
+}
