@@ -32,6 +32,10 @@ abbrev pub is_over_in : {T E M : Type 0} → Stage T E M → Bool
 is_over_in Over = true
 is_over_in _ = false
 
+abbrev pub IsNew : {T E M : Type 0} → Stage T E M → Type 0
+IsNew (New m) = ⊤
+IsNew _ = ⊥
+
 abbrev pub active_in : {T E M : Type 0} → Stage T E M → Option Listed
 active_in (Inside q w) = q.active.entry
 active_in _ = None

@@ -11,7 +11,7 @@ ghost use Rattle.async_once_cell.specs.declared.makers.Making.TheVariants as mak
 
 use crate::cell::OnceCell;
 use crate::makers::{Making, Trying};
-use crate::task::{Answer, Stage, drop_stage, poll_stage};
+use crate::task::{Answer, Stage, drop_stage, find, poll_stage};
 use async_driver::{Polled, Turn};
 use futures::Future;
 use futures::task::Context;
@@ -86,6 +86,7 @@ impl<
     /// Pending, either it has an entry in the cell's list of those that would make the value, which keeps a waker of the task that
     /// polls, and the task has registered with the cell's source; or it makes the value, and its closure's future has registered
     /// with what that one waits for (`receipt`). It keeps what the task had registered before (`kept`).
+    #[inline]
     pub fn poll(&mut self, cx: &mut Context<'_>) -> Turn<Result<&'a T, E>>
         requires { IfSome self.old.maker (CanTry F.pre F.post Fut.can_poll) }
         ensures again { IfSome self.new.maker (CanTry F.pre F.post Fut.can_poll) }
@@ -97,6 +98,9 @@ impl<
         ensures kept { Keeps cx.old cx.new }
     {
         let cell = self.cell;
+        if let Some(value) = find(cell, &mut self.stage) {
+            return Turn::Ready(Ok(value));
+        }
         match poll_stage(cell, &mut self.stage, cx) {
             Answer::Pending => Turn::Pending,
             Answer::Refused(refusal) => Turn::Refused(refusal),
@@ -193,6 +197,7 @@ impl<'a, T: Drop, R: Wait + Clock, F: FnOnce() -> Fut, Fut: Future<Output = T>> 
     ghost use Rattle.std.specs.declared.convert.Infallible.{Infallible};
 
     /// One poll, as [`GetOrTryInit::poll`]: ready with the cell's value, or pending.
+    #[inline]
     pub fn poll(&mut self, cx: &mut Context<'_>) -> Turn<&'a T>
         requires { IfSome self.old.maker (CanMake F.pre F.post Fut.can_poll) }
         ensures again { IfSome self.new.maker (CanMake F.pre F.post Fut.can_poll) }
@@ -204,6 +209,9 @@ impl<'a, T: Drop, R: Wait + Clock, F: FnOnce() -> Fut, Fut: Future<Output = T>> 
         ensures kept { Keeps cx.old cx.new }
     {
         let cell = self.cell;
+        if let Some(value) = find(cell, &mut self.stage) {
+            return Turn::Ready(value);
+        }
         match poll_stage(cell, &mut self.stage, cx) {
             Answer::Pending => Turn::Pending,
             Answer::Refused(refusal) => Turn::Refused(refusal),

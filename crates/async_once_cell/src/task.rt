@@ -1,8 +1,8 @@
 //! What every future of a cell has: a maker, or a party that waits.
 
-ghost use Rattle.std.specs.Prelude.{◌≡◌};
+ghost use Rattle.std.specs.Prelude.{◌≡◌, false, IfNone, IfSome};
 ghost use Rattle.futures.specs.Task.{Keeps};
-ghost use Rattle.async_once_cell.specs.Stages.{CanDrop, IsKept, OfMaker, OnAnswer, future, maker_in};
+ghost use Rattle.async_once_cell.specs.Stages.{CanDrop, IsKept, IsNew, OfMaker, OnAnswer, future, is_over_in, maker_in};
 ghost use Rattle.async_once_cell.specs.declared.task.Stage.TheVariants as stages;
 
 use crate::cell::OnceCell;
@@ -51,7 +51,38 @@ fn put_stage<'a, T, E, M>(stage: &mut Stage<'a, T, E, M>, next: Stage<'a, T, E, 
     }
 }
 
+// The value of a full cell, for a future that was never polled or was refused. It is the first action of its program, which ends
+// it where the cell is full; a poll that it doesn't end goes on by `poll_stage`.
+#[inline]
+pub(crate) fn find<'a, T: Drop, E: Drop, M: Drop, R>(
+    cell: &'a OnceCell<T, R>,
+    stage: &mut Stage<'a, T, E, M>,
+) -> Option<&'a T>
+    ensures found { IfSome result (λ _. (is_over_in stage.old ≡ false) × (stage.new ≡ stages.Over)) }
+    ensures none { IfNone result (stage.new ≡ stage.old) }
+{
+    if let Stage::New(_) = stage {
+        let value = cell.get()?;
+        end_new(stage);
+        return Some(value);
+    }
+    None
+}
+
+// Ends a future that was never polled: it is over, and its maker is dropped.
+#[inline]
+fn end_new<T, E, M: Drop>(stage: &mut Stage<'_, T, E, M>)
+    requires { IsNew stage.old }
+    ensures { stage.new ≡ stages.Over }
+{
+    match mem::replace(stage, Stage::Over) {
+        Stage::New(maker) => drop(maker),
+        Stage::Inside(..) | Stage::Over => unreachable!(),
+    }
+}
+
 // One poll of a future of this cell.
+#[inline(never)]
 pub(crate) fn poll_stage<'a, T: Drop, E: Drop, M: Maker<T, E>, R: Wait + Clock>(
     cell: &'a OnceCell<T, R>,
     stage: &mut Stage<'a, T, E, M>,

@@ -7,7 +7,7 @@ ghost use Rattle.once_cell_driver.specs.Sides.{IsReceipt};
 ghost use Rattle.async_once_cell.specs.Futures.{IsTurn, OnMemory};
 
 use crate::cell::OnceCell;
-use crate::task::{Answer, Stage, drop_stage, poll_stage};
+use crate::task::{Answer, Stage, drop_stage, find, poll_stage};
 use async_driver::{Polled, Turn};
 use futures::task::Context;
 use once_cell_driver::Nobody;
@@ -60,6 +60,7 @@ impl<'a, T: Drop, R: Waits + Clock> Wait<'a, T, R> {
     ///
     /// Pending, it has an entry in the cell's list of those that wait, which keeps a waker of the task that polls (`receipt`). The
     /// task has registered with the cell's source, and keeps what it had registered before (`kept`).
+    #[inline]
     pub fn poll(&mut self, cx: &mut Context<'_>) -> Turn<&'a T>
         ensures turn { IsTurn (λ _. ⊤) self.old.is_over result self.new.is_over }
         ensures over { self.old.is_over ≡ true → self.new ≡ self.old }
@@ -69,6 +70,9 @@ impl<'a, T: Drop, R: Waits + Clock> Wait<'a, T, R> {
         ensures kept { Keeps cx.old cx.new }
     {
         let cell = self.cell;
+        if let Some(value) = find(cell, &mut self.stage) {
+            return Turn::Ready(value);
+        }
         match poll_stage(cell, &mut self.stage, cx) {
             Answer::Pending => Turn::Pending,
             Answer::Refused(refusal) => Turn::Refused(refusal),

@@ -11,11 +11,10 @@ use Rattle.rwlock_driver.specs.declared.waiting.Waiting.{Waiting}
 use Rattle.futures.specs.declared.task.context.Context.{Context}
 use Rattle.std.specs.Bool.{⊤}
 use Rattle.std.specs.Prelude.{Option, Some, None}
-use Rattle.async_driver.specs.Stages.{is_finished}
-use Rattle.async_rwlock.specs.Stages.{Goes, IsAsMade, IsBegun, OnPolled}
+use Rattle.async_rwlock.specs.Stages.{Goes, IsAsMade, IsBegun, OnPolled, is_finished}
 use Rattle.async_rwlock.specs.declared.rwlock.RwLock.{RwLock}
-use Rattle.async_driver.specs.declared.owns.Stage.{Stage}
-use Rattle.async_driver.specs.declared.owns.Stage.TheVariants.{Waits}
+use Rattle.async_rwlock.specs.declared.stage.Stage.{Stage}
+use Rattle.async_rwlock.specs.declared.stage.Stage.TheVariants.{Waits}
 use Rattle.async_rwlock.specs.declared.stage.Went.TheVariants as went
 
 abbrev memory : Refusal → Type 0

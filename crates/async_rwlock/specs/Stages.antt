@@ -13,9 +13,8 @@ use Rattle.rwlock_driver.specs.declared.waiting.Outcome.{Outcome}
 use Rattle.rwlock_driver.specs.declared.waiting.Outcome.TheVariants as outcome
 use Rattle.rwlock_driver.specs.declared.waiting.Waiting.{Waiting}
 use Rattle.async_rwlock.specs.declared.rwlock.RwLock.{RwLock}
-use Rattle.async_driver.specs.Stages.{IsOf, is_finished}
-use Rattle.async_driver.specs.declared.owns.Stage.{Stage}
-use Rattle.async_driver.specs.declared.owns.Stage.TheVariants.{Unowned, Waits, Finished as Over}
+use Rattle.async_rwlock.specs.declared.stage.Stage.{Stage}
+use Rattle.async_rwlock.specs.declared.stage.Stage.TheVariants.{Unowned, Waits, Finished as Over}
 use Rattle.async_rwlock.specs.declared.stage.Went.{Went}
 use Rattle.async_rwlock.specs.declared.stage.Went.TheVariants as went
 
@@ -26,6 +25,21 @@ pub record Future (O : Type 0) : Type 0 where
 
 abbrev pub future : {O : Type 0} → Stage O → Option Waiting → Future O
 future stage waiting = record { stage = stage; waiting = waiting }
+
+abbrev pub is_finished : {O : Type 0} → Stage O → Bool
+is_finished Over = true
+is_finished _ = false
+
+-- it waits for this lock
+abbrev pub IsOf : {O T R : Type 0} → (O → RwLock T R) → Stage O → RwLock T R → Type 0
+IsOf lock_of (Waits owner) lock = lock ≡ lock_of owner
+IsOf lock_of _ lock = ⊥
+
+-- it waits for this lock, or could have no share of it
+abbrev pub IsFor : {O T R : Type 0} → (O → RwLock T R) → Stage O → RwLock T R → Type 0
+IsFor lock_of (Waits owner) lock = lock ≡ lock_of owner
+IsFor lock_of Unowned lock = ⊤
+IsFor lock_of Over lock = ⊥
 
 -- the sources at which it waits: its lock's own
 abbrev pub WaitsAt : {O T R : Type 0} → (O → RwLock T R) → Stage O → ℕ → Type 0

@@ -1,13 +1,14 @@
 //! The calls of a read-write lock.
 
 ghost use Rattle.std.specs.Prelude.{◌≡◌, IfOk, IfSome, None};
-ghost use Rattle.async_driver.specs.Stages.{IsFor};
+ghost use Rattle.async_rwlock.specs.Stages.{IsFor};
 ghost use Rattle.std.specs.Arc.{arc_value};
 
 use crate::lock_futures::{Read, ReadArc, UpgradableRead, UpgradableReadArc, Write, WriteArc};
 use crate::read::ReadFuture;
 use crate::read_guard::ReadGuard;
 use crate::rwlock::RwLock;
+use crate::stage::{Stage, first};
 use crate::upgradable_guard::UpgradableGuard;
 use crate::upgradable_read::UpgradableFuture;
 use crate::write::WriteFuture;
@@ -16,7 +17,7 @@ use crate::{
     RwLockReadGuard, RwLockReadGuardArc, RwLockUpgradableReadGuard, RwLockUpgradableReadGuardArc,
     RwLockWriteGuard, RwLockWriteGuardArc,
 };
-use async_driver::{Settled, Stage};
+use async_driver::Settled;
 use futures::executor::block_on;
 use lock_program::Refusal;
 use std::alloc::AllocGlobal;
@@ -152,7 +153,7 @@ impl<T: Drop, R: Wait + Drop> RwLock<T, R> {
         ensures lock { IsFor arc_value result.stage (arc_value this.now) }
         ensures waiting { result.waiting ≡ None }
     {
-        ReadFuture::new(Stage::first::<RwLock<T, R>>(Arc::try_clone(this).ok()))
+        ReadFuture::new(first::<T, R, Arc<RwLock<T, R>>>(Arc::try_clone(this).ok()))
     }
 
     /// As [`RwLock::upgradable_read`], for a future that has a share of the lock and gives it to its guard. If that share can't be
@@ -161,7 +162,7 @@ impl<T: Drop, R: Wait + Drop> RwLock<T, R> {
         ensures lock { IsFor arc_value result.stage (arc_value this.now) }
         ensures waiting { result.waiting ≡ None }
     {
-        UpgradableFuture::new(Stage::first::<RwLock<T, R>>(Arc::try_clone(this).ok()))
+        UpgradableFuture::new(first::<T, R, Arc<RwLock<T, R>>>(Arc::try_clone(this).ok()))
     }
 
     /// As [`RwLock::write`], for a future that has a share of the lock and gives it to its guard. If that share can't be
@@ -170,7 +171,7 @@ impl<T: Drop, R: Wait + Drop> RwLock<T, R> {
         ensures lock { IsFor arc_value result.stage (arc_value this.now) }
         ensures waiting { result.waiting ≡ None }
     {
-        WriteFuture::new(Stage::first::<RwLock<T, R>>(Arc::try_clone(this).ok()))
+        WriteFuture::new(first::<T, R, Arc<RwLock<T, R>>>(Arc::try_clone(this).ok()))
     }
 }
 

@@ -7,13 +7,12 @@ ghost use denote.Follow.{follows};
 ghost use Rattle.async_rwlock.specs.Lent.{held_with};
 ghost use Rattle.async_rwlock.specs.contracts.write_guard.WriteGuard.{the_row as guard_row};
 
-use crate::rwlock::RwLock;
+use crate::owns::Owns;
 use crate::write_guard::WriteGuard;
-use async_driver::Owns;
 use std::ops::DerefMut;
 use std::sync::Wait;
 
-impl<T, R: Wait, O: Owns<RwLock<T, R>>> DerefMut for WriteGuard<T, R, O> {
+impl<T, R: Wait, O: Owns<T, R>> DerefMut for WriteGuard<T, R, O> {
     ghost deref_mut_gives = { λ guard value. value ≡ guard.value };
 
     fn deref_mut(&mut self) -> &mut T

@@ -12,6 +12,7 @@
 mod calls;
 mod lending;
 mod lends;
+mod owns;
 mod read;
 mod read_guard;
 mod rwlock;
@@ -76,8 +77,9 @@ pub type RwLockWriteGuard<'a, T, R> = WriteGuard<T, R, &'a RwLock<T, R>>;
 /// The right to write, with a share of the lock.
 pub type RwLockWriteGuardArc<T, R> = WriteGuard<T, R, Arc<RwLock<T, R>>>;
 
-pub use async_driver::{Owns, Polled, Settled, Turn};
+pub use async_driver::{Polled, Settled, Turn};
 pub use lock_program::Refusal;
+pub use owns::Owns;
 pub use read_guard::ReadGuard;
 pub use rwlock::RwLock;
 pub use upgradable_guard::UpgradableGuard;

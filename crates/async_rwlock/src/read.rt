@@ -3,14 +3,13 @@
 ghost use Rattle.std.specs.Prelude.{◌≡◌, false, None};
 ghost use Rattle.futures.specs.Task.{Covers, Keeps};
 ghost use Rattle.async_driver.specs.Turns.{OnPending};
-ghost use Rattle.async_driver.specs.Stages.{IsOf, is_finished};
-ghost use Rattle.async_rwlock.specs.Stages.{HasReceiptAt, IsAsMade, IsTurn, OnRefused, WaitsAt, future};
+ghost use Rattle.async_rwlock.specs.Stages.{HasReceiptAt, IsAsMade, IsOf, IsTurn, OnRefused, WaitsAt, future, is_finished};
 ghost use Rattle.rwlock_driver.specs.declared.aim.Aim.TheVariants as aims;
 
+use crate::owns::Owns;
 use crate::read_guard::ReadGuard;
-use crate::rwlock::RwLock;
-use crate::stage::{Went, drop_as, poll_as};
-use async_driver::{Owns, Polled, Stage, Turn};
+use crate::stage::{Stage, Went, drop_as, poll_as};
+use async_driver::{Polled, Turn};
 use futures::task::Context;
 use rwlock_driver::{Aim, Waiting};
 use std::fmt;
@@ -22,14 +21,14 @@ use std::time::Clock;
 /// to the next.
 ///
 /// Contracts see how far it is (`stage`), and what it has at the lock meanwhile (`waiting`).
-pub struct ReadFuture<T, R: Wait, O: Owns<RwLock<T, R>>> {
+pub struct ReadFuture<T, R: Wait, O: Owns<T, R>> {
     stage: Stage<O>,
     // `None` before the first poll, and once it was ready.
     waiting: Option<Waiting>,
     lock: PhantomData<(T, R)>,
 }
 
-impl<T, R: Wait, O: Owns<RwLock<T, R>>> Model for ReadFuture<T, R, O> {
+impl<T, R: Wait, O: Owns<T, R>> Model for ReadFuture<T, R, O> {
     ghost use Rattle.std.specs.Prelude.{IfSome};
     ghost use Rattle.async_rwlock.specs.Stages.{Future, WaitsAs, future};
     ghost use Rattle.rwlock_driver.specs.declared.aim.Aim.TheVariants as aims;
@@ -41,7 +40,7 @@ impl<T, R: Wait, O: Owns<RwLock<T, R>>> Model for ReadFuture<T, R, O> {
     ghost invariant = { λ l. IfSome l.waiting (WaitsAs O.lock_of aims.Read l.stage) };
 }
 
-impl<T, R: Wait, O: Owns<RwLock<T, R>>> ReadFuture<T, R, O> {
+impl<T, R: Wait, O: Owns<T, R>> ReadFuture<T, R, O> {
     pub(crate) fn new(stage: Stage<O>) -> ReadFuture<T, R, O>
         requires { is_finished stage ≡ false }
         ensures { result ≡ future stage None }
@@ -54,7 +53,7 @@ impl<T, R: Wait, O: Owns<RwLock<T, R>>> ReadFuture<T, R, O> {
     }
 }
 
-impl<T, R: Wait + Clock, O: Owns<RwLock<T, R>>> ReadFuture<T, R, O> {
+impl<T, R: Wait + Clock, O: Owns<T, R>> ReadFuture<T, R, O> {
     /// One poll: ready with the guard, or pending.
     ///
     /// It is refused as [`Refusal::Memory`](crate::Refusal::Memory) if memory for its entry was refused, and as
@@ -79,10 +78,10 @@ impl<T, R: Wait + Clock, O: Owns<RwLock<T, R>>> ReadFuture<T, R, O> {
     }
 }
 
-impl<T, R: Wait + Clock, O: Owns<RwLock<T, R>>> Polled for ReadFuture<T, R, O> {
+impl<T, R: Wait + Clock, O: Owns<T, R>> Polled for ReadFuture<T, R, O> {
     type Got = ReadGuard<T, R, O>;
 
-    ghost use Rattle.async_driver.specs.Stages.{IsOf};
+    ghost use Rattle.async_rwlock.specs.Stages.{IsOf};
 
     ghost gives = { λ future guard. IsOf O.lock_of future.stage guard.lock };
 
@@ -91,7 +90,7 @@ impl<T, R: Wait + Clock, O: Owns<RwLock<T, R>>> Polled for ReadFuture<T, R, O> {
     }
 }
 
-impl<T, R: Wait, O: Owns<RwLock<T, R>>> Drop for ReadFuture<T, R, O> {
+impl<T, R: Wait, O: Owns<T, R>> Drop for ReadFuture<T, R, O> {
     fn drop(self) {
         let Self {
             stage,
@@ -102,7 +101,7 @@ impl<T, R: Wait, O: Owns<RwLock<T, R>>> Drop for ReadFuture<T, R, O> {
     }
 }
 
-impl<T, R: Wait, O: Owns<RwLock<T, R>>> fmt::Debug for ReadFuture<T, R, O> {
+impl<T, R: Wait, O: Owns<T, R>> fmt::Debug for ReadFuture<T, R, O> {
     fn fmt<W: fmt::Write>(&self, f: &mut fmt::Formatter<W>) -> fmt::Result {
         if O::is_share() {
             f.write_str("ReadArc { .. }")

@@ -3,8 +3,7 @@
 ghost use Rattle.std.specs.Prelude.{◌≡◌};
 ghost use Rattle.rwlock_driver.specs.Rights.{Has, reader};
 
-use crate::rwlock::RwLock;
-use async_driver::Owns;
+use crate::owns::Owns;
 use rwlock_vault::Glance;
 use std::fmt;
 use std::marker::{Model, PhantomData};
@@ -15,7 +14,7 @@ use words_rwlock::{Pledge, Seat};
 /// A right to read, and the value to read. Dropping it ends the right; the last reader notifies the writer that waits for this.
 ///
 /// Its type keeps that its seat reads, and that the value is lent against that. Contracts see the lock, and the value.
-pub struct ReadGuard<T, R: Wait, O: Owns<RwLock<T, R>>> {
+pub struct ReadGuard<T, R: Wait, O: Owns<T, R>> {
     owner: O,
     glance: Glance<T>,
     // The seat, while what it says is lent.
@@ -23,7 +22,7 @@ pub struct ReadGuard<T, R: Wait, O: Owns<RwLock<T, R>>> {
     runtime: PhantomData<R>,
 }
 
-impl<T, R: Wait, O: Owns<RwLock<T, R>>> Model for ReadGuard<T, R, O> {
+impl<T, R: Wait, O: Owns<T, R>> Model for ReadGuard<T, R, O> {
     ghost use Rattle.std.specs.Prelude.{◌≡◌, []};
     ghost use Rattle.async_rwlock.specs.Guards.{Held};
     ghost use Rattle.rwlock_driver.specs.Rights.{Shows, reader};
@@ -35,7 +34,7 @@ impl<T, R: Wait, O: Owns<RwLock<T, R>>> Model for ReadGuard<T, R, O> {
     ghost invariant = { λ g. (g.glance.vault_id ≡ (O.lock_of g.owner).vault.vault_id) × Shows g.glance.view reader × (g.pledge.badge.views ≡ []) };
 }
 
-impl<T, R: Wait, O: Owns<RwLock<T, R>>> ReadGuard<T, R, O> {
+impl<T, R: Wait, O: Owns<T, R>> ReadGuard<T, R, O> {
     #[inline]
     pub(crate) fn new(owner: O, seat: Seat) -> ReadGuard<T, R, O>
         requires { Has (O.lock_of owner).raw reader seat }
@@ -51,7 +50,7 @@ impl<T, R: Wait, O: Owns<RwLock<T, R>>> ReadGuard<T, R, O> {
     }
 }
 
-impl<T, R: Wait, O: Owns<RwLock<T, R>>> Deref for ReadGuard<T, R, O> {
+impl<T, R: Wait, O: Owns<T, R>> Deref for ReadGuard<T, R, O> {
     type Target = T;
 
     ghost deref_gives = { λ guard value. value ≡ guard.value };
@@ -61,7 +60,7 @@ impl<T, R: Wait, O: Owns<RwLock<T, R>>> Deref for ReadGuard<T, R, O> {
     }
 }
 
-impl<T, R: Wait, O: Owns<RwLock<T, R>>> Drop for ReadGuard<T, R, O> {
+impl<T, R: Wait, O: Owns<T, R>> Drop for ReadGuard<T, R, O> {
     fn drop(self) {
         let Self {
             owner,
@@ -76,14 +75,14 @@ impl<T, R: Wait, O: Owns<RwLock<T, R>>> Drop for ReadGuard<T, R, O> {
     }
 }
 
-impl<T: fmt::Debug, R: Wait, O: Owns<RwLock<T, R>>> fmt::Debug for ReadGuard<T, R, O> {
+impl<T: fmt::Debug, R: Wait, O: Owns<T, R>> fmt::Debug for ReadGuard<T, R, O> {
     fn fmt<W: fmt::Write>(&self, f: &mut fmt::Formatter<W>) -> fmt::Result {
         let value: &T = self;
         value.fmt(f)
     }
 }
 
-impl<T: fmt::Display, R: Wait, O: Owns<RwLock<T, R>>> fmt::Display for ReadGuard<T, R, O> {
+impl<T: fmt::Display, R: Wait, O: Owns<T, R>> fmt::Display for ReadGuard<T, R, O> {
     fn fmt<W: fmt::Write>(&self, f: &mut fmt::Formatter<W>) -> fmt::Result {
         let value: &T = self;
         value.fmt(f)

@@ -1,15 +1,15 @@
-//! One poll of a future, and what a dropped one gives back. All futures of a lock are written over this, each
+//! How far a future is, one poll of it, and what a dropped one gives back. All futures of a lock are written over this, each
 //! with its aim.
 
 ghost use Rattle.std.specs.Prelude.{◌≡◌, false, IfSome, IsSome, None};
 ghost use Rattle.futures.specs.Task.{Covers, Keeps};
-ghost use Rattle.async_driver.specs.Stages.{IsFor, is_finished};
-ghost use Rattle.async_rwlock.specs.Stages.{Goes, GotAt, HasReceiptAt, IsAsMade, IsBegun, OnGaveUp, OnPolled, OnWaits, WaitsAs, WaitsAt};
+ghost use Rattle.async_rwlock.specs.Stages.{Goes, GotAt, HasReceiptAt, IsAsMade, IsBegun, IsFor, OnGaveUp, OnPolled, OnWaits, WaitsAs, WaitsAt, is_finished};
+ghost use Rattle.async_rwlock.specs.declared.rwlock.RwLock.{RwLock};
 ghost use Rattle.rwlock_driver.specs.Polls.{WaitsFor};
 ghost use Rattle.rwlock_driver.specs.declared.aim.Aim.TheVariants as aims;
 
-use crate::rwlock::RwLock;
-use async_driver::{Owns, Stage, nothing};
+use crate::owns::Owns;
+use async_driver::nothing;
 use futures::task::Context;
 use lock_program::Refusal;
 use rwlock_driver::{Aim, Outcome, Waiting};
@@ -17,6 +17,17 @@ use std::mem;
 use std::sync::Wait;
 use std::time::Clock;
 use words_rwlock::Seat;
+
+/// How far a future is.
+#[derive(Drop)]
+pub enum Stage<O> {
+    /// No share of the lock could be had.
+    Unowned,
+    /// It hasn't been ready, and has the lock.
+    Waits(O),
+    /// It was ready, and who has the lock went to the guard.
+    Finished,
+}
 
 /// How a poll went.
 pub enum Went<O> {
@@ -28,8 +39,19 @@ pub enum Went<O> {
     Refused(Refusal),
 }
 
+/// How far a future is that is new: it waits, if the lock could be had.
+pub(crate) fn first<T, R, O: Owns<T, R>>(share: Option<O>) -> Stage<O>
+    ensures new { is_finished result ≡ false }
+    ensures lock { (lock : RwLock T R) → IfSome share (λ owner. lock ≡ O.lock_of owner) → IsFor O.lock_of result lock }
+{
+    match share {
+        Some(owner) => Stage::Waits(owner),
+        None => Stage::Unowned,
+    }
+}
+
 // One poll by who has the lock.
-fn poll_stage<T, R: Wait + Clock, O: Owns<RwLock<T, R>>>(
+fn poll_stage<T, R: Wait + Clock, O: Owns<T, R>>(
     aim: Aim,
     stage: &Stage<O>,
     waiting: &mut Option<Waiting>,
@@ -54,7 +76,7 @@ fn poll_stage<T, R: Wait + Clock, O: Owns<RwLock<T, R>>>(
 }
 
 /// One poll of a future of this aim.
-pub(crate) fn poll_as<T, R: Wait + Clock, O: Owns<RwLock<T, R>>>(
+pub(crate) fn poll_as<T, R: Wait + Clock, O: Owns<T, R>>(
     aim: Aim,
     stage: &mut Stage<O>,
     waiting: &mut Option<Waiting>,
@@ -85,7 +107,7 @@ pub(crate) fn poll_as<T, R: Wait + Clock, O: Owns<RwLock<T, R>>>(
 
 /// What a dropped future gives back.
 #[inline]
-pub(crate) fn drop_as<T, R: Wait, O: Owns<RwLock<T, R>>>(
+pub(crate) fn drop_as<T, R: Wait, O: Owns<T, R>>(
     aim: Aim,
     stage: Stage<O>,
     waiting: Option<Waiting>,
@@ -101,7 +123,7 @@ pub(crate) fn drop_as<T, R: Wait, O: Owns<RwLock<T, R>>>(
 // What a dropped future gives back that hasn't been ready, its share of the lock last. It stands apart, so that the drop of
 // one that was ready is short.
 #[inline(never)]
-fn leave<T, R: Wait, O: Owns<RwLock<T, R>>>(aim: Aim, owner: O, waiting: Option<Waiting>)
+fn leave<T, R: Wait, O: Owns<T, R>>(aim: Aim, owner: O, waiting: Option<Waiting>)
     requires { IfSome waiting (WaitsFor (O.lock_of owner).raw aim) }
 {
     if let Some(waiting) = waiting {

@@ -2,13 +2,13 @@
 
 ghost use Rattle.std.specs.Prelude.{◌≡◌, IfOk, IfErr};
 ghost use Rattle.rwlock_driver.specs.Rights.{Has, upgradable};
-ghost use Rattle.async_driver.specs.Stages.{IsOf};
+ghost use Rattle.async_rwlock.specs.Stages.{IsOf};
 
+use crate::owns::Owns;
 use crate::read_guard::ReadGuard;
-use crate::rwlock::RwLock;
 use crate::upgrade::UpgradeFuture;
 use crate::write_guard::WriteGuard;
-use async_driver::{Owns, Settled};
+use async_driver::Settled;
 use futures::executor::block_on;
 use lock_program::Refusal;
 use rwlock_vault::Glance;
@@ -26,7 +26,7 @@ use words_rwlock::{Pledge, Seat};
 ///
 /// Its type keeps that its seat reads and has the lock's turn, and that the value is lent against that. Contracts see the lock,
 /// and the value.
-pub struct UpgradableGuard<T, R: Wait, O: Owns<RwLock<T, R>>> {
+pub struct UpgradableGuard<T, R: Wait, O: Owns<T, R>> {
     owner: O,
     glance: Glance<T>,
     // The seat, while what it says is lent.
@@ -34,7 +34,7 @@ pub struct UpgradableGuard<T, R: Wait, O: Owns<RwLock<T, R>>> {
     runtime: PhantomData<R>,
 }
 
-impl<T, R: Wait, O: Owns<RwLock<T, R>>> Model for UpgradableGuard<T, R, O> {
+impl<T, R: Wait, O: Owns<T, R>> Model for UpgradableGuard<T, R, O> {
     ghost use Rattle.std.specs.Prelude.{◌≡◌, []};
     ghost use Rattle.async_rwlock.specs.Guards.{Held};
     ghost use Rattle.rwlock_driver.specs.Rights.{Shows, upgradable};
@@ -46,7 +46,7 @@ impl<T, R: Wait, O: Owns<RwLock<T, R>>> Model for UpgradableGuard<T, R, O> {
     ghost invariant = { λ g. (g.glance.vault_id ≡ (O.lock_of g.owner).vault.vault_id) × Shows g.glance.view upgradable × (g.pledge.badge.views ≡ []) };
 }
 
-impl<T, R: Wait, O: Owns<RwLock<T, R>>> UpgradableGuard<T, R, O> {
+impl<T, R: Wait, O: Owns<T, R>> UpgradableGuard<T, R, O> {
     #[inline]
     pub(crate) fn new(owner: O, seat: Seat) -> UpgradableGuard<T, R, O>
         requires { Has (O.lock_of owner).raw upgradable seat }
@@ -110,7 +110,7 @@ impl<T, R: Wait, O: Owns<RwLock<T, R>>> UpgradableGuard<T, R, O> {
     }
 }
 
-impl<T, R: Wait, O: Owns<RwLock<T, R>>> Deref for UpgradableGuard<T, R, O> {
+impl<T, R: Wait, O: Owns<T, R>> Deref for UpgradableGuard<T, R, O> {
     type Target = T;
 
     ghost deref_gives = { λ guard value. value ≡ guard.value };
@@ -120,7 +120,7 @@ impl<T, R: Wait, O: Owns<RwLock<T, R>>> Deref for UpgradableGuard<T, R, O> {
     }
 }
 
-impl<T, R: Wait, O: Owns<RwLock<T, R>>> Drop for UpgradableGuard<T, R, O> {
+impl<T, R: Wait, O: Owns<T, R>> Drop for UpgradableGuard<T, R, O> {
     fn drop(self) {
         let Self {
             owner,
@@ -135,21 +135,21 @@ impl<T, R: Wait, O: Owns<RwLock<T, R>>> Drop for UpgradableGuard<T, R, O> {
     }
 }
 
-impl<T: fmt::Debug, R: Wait, O: Owns<RwLock<T, R>>> fmt::Debug for UpgradableGuard<T, R, O> {
+impl<T: fmt::Debug, R: Wait, O: Owns<T, R>> fmt::Debug for UpgradableGuard<T, R, O> {
     fn fmt<W: fmt::Write>(&self, f: &mut fmt::Formatter<W>) -> fmt::Result {
         let value: &T = self;
         value.fmt(f)
     }
 }
 
-impl<T: fmt::Display, R: Wait, O: Owns<RwLock<T, R>>> fmt::Display for UpgradableGuard<T, R, O> {
+impl<T: fmt::Display, R: Wait, O: Owns<T, R>> fmt::Display for UpgradableGuard<T, R, O> {
     fn fmt<W: fmt::Write>(&self, f: &mut fmt::Formatter<W>) -> fmt::Result {
         let value: &T = self;
         value.fmt(f)
     }
 }
 
-impl<T: Drop, R: Wait + Clock + RandomSource + AllocGlobal, O: Owns<RwLock<T, R>>> UpgradableGuard<
+impl<T: Drop, R: Wait + Clock + RandomSource + AllocGlobal, O: Owns<T, R>> UpgradableGuard<
     T,
     R,
     O,

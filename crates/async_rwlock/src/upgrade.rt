@@ -3,15 +3,14 @@
 ghost use Rattle.std.specs.Prelude.{◌≡◌, false, None};
 ghost use Rattle.futures.specs.Task.{Covers, Keeps};
 ghost use Rattle.async_driver.specs.Turns.{OnPending};
-ghost use Rattle.async_driver.specs.Stages.{IsOf, is_finished};
-ghost use Rattle.async_rwlock.specs.Stages.{HasReceiptAt, IsAsMade, IsTurn, OnRefused, WaitsAt, future};
+ghost use Rattle.async_rwlock.specs.Stages.{HasReceiptAt, IsAsMade, IsOf, IsTurn, OnRefused, WaitsAt, future, is_finished};
 ghost use Rattle.rwlock_driver.specs.declared.aim.Aim.TheVariants as aims;
 ghost use Rattle.rwlock_driver.specs.Rights.{Has, awaits};
 
-use crate::rwlock::RwLock;
-use crate::stage::{Went, drop_as, poll_as};
+use crate::owns::Owns;
+use crate::stage::{Stage, Went, drop_as, poll_as};
 use crate::write_guard::WriteGuard;
-use async_driver::{Owns, Polled, Stage, Turn};
+use async_driver::{Polled, Turn};
 use futures::task::Context;
 use rwlock_driver::{Aim, Waiting};
 use std::fmt;
@@ -25,14 +24,14 @@ use words_rwlock::Seat;
 /// notified.
 ///
 /// Contracts see how far it is (`stage`), and what it has at the lock meanwhile (`waiting`).
-pub struct UpgradeFuture<T, R: Wait, O: Owns<RwLock<T, R>>> {
+pub struct UpgradeFuture<T, R: Wait, O: Owns<T, R>> {
     stage: Stage<O>,
     // Always there, until it was ready.
     waiting: Option<Waiting>,
     lock: PhantomData<(T, R)>,
 }
 
-impl<T, R: Wait, O: Owns<RwLock<T, R>>> Model for UpgradeFuture<T, R, O> {
+impl<T, R: Wait, O: Owns<T, R>> Model for UpgradeFuture<T, R, O> {
     ghost use Rattle.std.specs.Prelude.{IfSome};
     ghost use Rattle.async_rwlock.specs.Stages.{Future, IsBegun, WaitsAs, future};
     ghost use Rattle.rwlock_driver.specs.declared.aim.Aim.TheVariants as aims;
@@ -44,7 +43,7 @@ impl<T, R: Wait, O: Owns<RwLock<T, R>>> Model for UpgradeFuture<T, R, O> {
     ghost invariant = { λ l. IfSome l.waiting (WaitsAs O.lock_of aims.Upgrade l.stage) × IsBegun aims.Upgrade l.stage l.waiting };
 }
 
-impl<T, R: Wait, O: Owns<RwLock<T, R>>> UpgradeFuture<T, R, O> {
+impl<T, R: Wait, O: Owns<T, R>> UpgradeFuture<T, R, O> {
     pub(crate) fn new(owner: O, seat: Seat) -> UpgradeFuture<T, R, O>
         requires { Has (O.lock_of owner).raw awaits seat }
         ensures { IsOf O.lock_of result.stage (O.lock_of owner) }
@@ -58,7 +57,7 @@ impl<T, R: Wait, O: Owns<RwLock<T, R>>> UpgradeFuture<T, R, O> {
     }
 }
 
-impl<T, R: Wait + Clock, O: Owns<RwLock<T, R>>> UpgradeFuture<T, R, O> {
+impl<T, R: Wait + Clock, O: Owns<T, R>> UpgradeFuture<T, R, O> {
     /// One poll: ready with the guard, or pending.
     ///
     /// It is refused as [`Refusal::Memory`](crate::Refusal::Memory) if memory for its entry was refused. Then it keeps the right to be
@@ -83,10 +82,10 @@ impl<T, R: Wait + Clock, O: Owns<RwLock<T, R>>> UpgradeFuture<T, R, O> {
     }
 }
 
-impl<T, R: Wait + Clock, O: Owns<RwLock<T, R>>> Polled for UpgradeFuture<T, R, O> {
+impl<T, R: Wait + Clock, O: Owns<T, R>> Polled for UpgradeFuture<T, R, O> {
     type Got = WriteGuard<T, R, O>;
 
-    ghost use Rattle.async_driver.specs.Stages.{IsOf};
+    ghost use Rattle.async_rwlock.specs.Stages.{IsOf};
 
     ghost gives = { λ future guard. IsOf O.lock_of future.stage guard.lock };
 
@@ -95,7 +94,7 @@ impl<T, R: Wait + Clock, O: Owns<RwLock<T, R>>> Polled for UpgradeFuture<T, R, O
     }
 }
 
-impl<T, R: Wait, O: Owns<RwLock<T, R>>> Drop for UpgradeFuture<T, R, O> {
+impl<T, R: Wait, O: Owns<T, R>> Drop for UpgradeFuture<T, R, O> {
     fn drop(self) {
         let Self {
             stage,
@@ -106,7 +105,7 @@ impl<T, R: Wait, O: Owns<RwLock<T, R>>> Drop for UpgradeFuture<T, R, O> {
     }
 }
 
-impl<T, R: Wait, O: Owns<RwLock<T, R>>> fmt::Debug for UpgradeFuture<T, R, O> {
+impl<T, R: Wait, O: Owns<T, R>> fmt::Debug for UpgradeFuture<T, R, O> {
     fn fmt<W: fmt::Write>(&self, f: &mut fmt::Formatter<W>) -> fmt::Result {
         if O::is_share() {
             f.write_str("ArcUpgrade")

@@ -3,10 +3,9 @@
 ghost use Rattle.std.specs.Prelude.{◌≡◌};
 ghost use Rattle.rwlock_driver.specs.Rights.{Has, writer};
 
+use crate::owns::Owns;
 use crate::read_guard::ReadGuard;
-use crate::rwlock::RwLock;
 use crate::upgradable_guard::UpgradableGuard;
-use async_driver::Owns;
 use rwlock_vault::Grip;
 use std::fmt;
 use std::marker::{Model, PhantomData};
@@ -18,7 +17,7 @@ use words_rwlock::{Pledge, Seat};
 /// who wait for the right.
 ///
 /// Its type keeps that its seat writes, and that the value is lent against that. Contracts see the lock, and the value.
-pub struct WriteGuard<T, R: Wait, O: Owns<RwLock<T, R>>> {
+pub struct WriteGuard<T, R: Wait, O: Owns<T, R>> {
     pub(crate) owner: O,
     pub(crate) grip: Grip<T>,
     // The seat, while what it says is lent.
@@ -26,7 +25,7 @@ pub struct WriteGuard<T, R: Wait, O: Owns<RwLock<T, R>>> {
     runtime: PhantomData<R>,
 }
 
-impl<T, R: Wait, O: Owns<RwLock<T, R>>> Model for WriteGuard<T, R, O> {
+impl<T, R: Wait, O: Owns<T, R>> Model for WriteGuard<T, R, O> {
     ghost use Rattle.std.specs.Prelude.{◌≡◌, []};
     ghost use Rattle.async_rwlock.specs.Guards.{Held};
     ghost use Rattle.rwlock_driver.specs.Rights.{Shows, writer};
@@ -38,7 +37,7 @@ impl<T, R: Wait, O: Owns<RwLock<T, R>>> Model for WriteGuard<T, R, O> {
     ghost invariant = { λ g. (g.grip.vault_id ≡ (O.lock_of g.owner).vault.vault_id) × Shows g.grip.view writer × (g.pledge.badge.views ≡ []) };
 }
 
-impl<T, R: Wait, O: Owns<RwLock<T, R>>> WriteGuard<T, R, O> {
+impl<T, R: Wait, O: Owns<T, R>> WriteGuard<T, R, O> {
     #[inline]
     pub(crate) fn new(owner: O, seat: Seat) -> WriteGuard<T, R, O>
         requires { Has (O.lock_of owner).raw writer seat }
@@ -89,7 +88,7 @@ impl<T, R: Wait, O: Owns<RwLock<T, R>>> WriteGuard<T, R, O> {
     }
 }
 
-impl<T, R: Wait, O: Owns<RwLock<T, R>>> Deref for WriteGuard<T, R, O> {
+impl<T, R: Wait, O: Owns<T, R>> Deref for WriteGuard<T, R, O> {
     type Target = T;
 
     ghost deref_gives = { λ guard value. value ≡ guard.value };
@@ -99,7 +98,7 @@ impl<T, R: Wait, O: Owns<RwLock<T, R>>> Deref for WriteGuard<T, R, O> {
     }
 }
 
-impl<T, R: Wait, O: Owns<RwLock<T, R>>> Drop for WriteGuard<T, R, O> {
+impl<T, R: Wait, O: Owns<T, R>> Drop for WriteGuard<T, R, O> {
     fn drop(self) {
         let Self {
             owner,
@@ -114,14 +113,14 @@ impl<T, R: Wait, O: Owns<RwLock<T, R>>> Drop for WriteGuard<T, R, O> {
     }
 }
 
-impl<T: fmt::Debug, R: Wait, O: Owns<RwLock<T, R>>> fmt::Debug for WriteGuard<T, R, O> {
+impl<T: fmt::Debug, R: Wait, O: Owns<T, R>> fmt::Debug for WriteGuard<T, R, O> {
     fn fmt<W: fmt::Write>(&self, f: &mut fmt::Formatter<W>) -> fmt::Result {
         let value: &T = self;
         value.fmt(f)
     }
 }
 
-impl<T: fmt::Display, R: Wait, O: Owns<RwLock<T, R>>> fmt::Display for WriteGuard<T, R, O> {
+impl<T: fmt::Display, R: Wait, O: Owns<T, R>> fmt::Display for WriteGuard<T, R, O> {
     fn fmt<W: fmt::Write>(&self, f: &mut fmt::Formatter<W>) -> fmt::Result {
         let value: &T = self;
         value.fmt(f)
