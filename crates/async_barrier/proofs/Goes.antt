@@ -1,8 +1,7 @@
 -- A party that has done its place's action has what its next standing says.
-use Rattle.std.proofs.Common.{◌≡◌, ◌⊎◌, inr, inl, Bool, true, false, Option, Some, None, is_some, IfSome, IsSome, IsSomeAnd, refl, sym, ap, subst, ◌∙◌}
-use Rattle.async_barrier.specs.Actions.{CanDo, Does, IsLockStep, TellsLock, end_of_step}
-use Rattle.async_barrier.specs.Counts.{leads}
-use Rattle.async_barrier.specs.Parties.{Having, HasSeen, IsCounted, IsCountedFor, IsCountedThen, IsGivenUp, IsTied, OnLock, Stands, Tells, Standing, having, having_by, having_of, having_then, listed, nothing, inside, standing_of, end_of, verdict_of, next_standing, end_after}
+use Rattle.std.proofs.Common.{◌≡◌, inr, inl, Bool, true, false, Option, Some, None, is_some, IfSome, IsSome, IsSomeAnd, refl, sym, ap, subst, ◌∙◌}
+use Rattle.async_barrier.specs.Actions.{CanDo, Does, TellsLock, end_of_step}
+use Rattle.async_barrier.specs.Parties.{Having, HasSeen, IsCounted, IsCountedFor, IsCountedThen, IsGivenUp, IsTied, OnLock, Stands, Tells, Standing, having, having_by, having_of, having_then, nothing, inside, standing_of, end_of, verdict_of}
 use Rattle.async_barrier.specs.declared.arrivals.Arrivals.{Arrivals}
 use Rattle.async_barrier.specs.declared.arrivals.Verdict.{Verdict}
 use Rattle.async_barrier.specs.declared.party.BarrierParty.{BarrierParty}
@@ -11,7 +10,6 @@ use Rattle.futures.specs.declared.task.context.Context.{Context}
 use Rattle.lock_driver.specs.Parties as lock
 use Rattle.lock_place.specs.declared.room.Hold.{Hold}
 use Rattle.lock_program.specs.Mutex.{start_of}
-use Rattle.lock_program.specs.declared.end.End.{End}
 use Rattle.lock_program.specs.declared.end.End.TheVariants as lock_end
 use Rattle.lock_program.specs.declared.mutex.LockCall.TheVariants as lock_call
 use Rattle.lock_program.specs.declared.mutex.Place.{Place as LockPlace}
@@ -59,7 +57,7 @@ can_cancel p can = absurd can
 
 -- a party has what its place's action needs
 module _ (raw : RawBarrier) (q : BarrierParty) where
-  pub can : (p : Place) → Stands raw q (inside p) → CanDo (action_of p) q
+  pub can : (p : Place) → Stands raw q (inside p) → CanDo raw (action_of p) q
   can (EnterLock a) s = subst (λ x. IsSome (start_of lock_call.Lock x)) (sym s.1) refl
   can (WaitLock a) s = can_poll q.lock_place s.1
   can (TakeLock a) s = tt
@@ -72,14 +70,14 @@ module _ (raw : RawBarrier) (q : BarrierParty) where
   can JoinAgain s = ap (λ x. x.entry) s.2
   can (ReleaseLock e) s = subst (λ x. IsSome (start_of lock_call.Release x)) (sym s.1) refl
   can (ReleasingLock e) s = tt
-  can Ask s = ap (λ x. x.entry) s.2
+  can Ask s = (ap (λ x. x.entry) s.2, s.3, unsaid q.verdict (ap (λ x. x.verdict) s.2))
   can CancelLock s = can_cancel q.lock_place s.1
   can CancellingLock s = tt
   can CancelLeave s = ap (λ x. x.entry) s.2
   can Abandon s = tt
 
 module _ (raw : RawBarrier) (cx : Context) (q q' : BarrierParty) (locked : lock.Stands raw.inner.words q'.lock q'.lock_place) (tied : IsTied raw.list.name.id q'.entry q'.owed) where
-  at : (t : Standing) → OnLock t q'.lock_place → having_of q' ≡ having_by t → IsCounted t (is_some q'.arrival) → IfSome q'.lock.hold (λ h. HasSeen t h.value) → Stands raw q' t
+  at : (t : Standing) → OnLock t q'.lock_place → having_of q' ≡ having_by t → IsCounted t (is_some q'.arrival) → IfSome q'.lock.hold (λ h. HasSeen raw t h.value) → Stands raw q' t
   at t on has counted seen = (locked, on, has, counted, seen, tied)
 
   parts : (entry owes : Bool) (verdict : Option Bool) → is_some q'.entry ≡ entry → is_some q'.owed ≡ owes → verdict_of q'.verdict ≡ verdict → having_of q' ≡ having entry owes verdict
@@ -130,8 +128,8 @@ module _ (raw : RawBarrier) (cx : Context) (q q' : BarrierParty) (locked : lock.
   counted_then e same counted = subst (IsCountedThen e) (sym same) counted
 
   looked : (f : Found) → Stands raw q (inside Look) → Does raw cx (action_of Look) f q q' → Goes Look f
-  looked found.MustWait s d = (at (inside Join) (ap (λ r. r.lock_place) d.0 ∙ s.1) (ap having_of d.0 ∙ s.2) tt (subst (λ r. IfSome r.lock.hold (λ h. HasSeen (inside Join) h.value)) (sym d.0) d.1), tt)
-  looked found.Leads s d = (at (inside Complete) (ap (λ r. r.lock_place) d.0 ∙ s.1) (ap having_of d.0 ∙ s.2) tt (subst (λ r. IfSome r.lock.hold (λ h. HasSeen (inside Complete) h.value)) (sym d.0) d.1), tt)
+  looked found.MustWait s d = (at (inside Join) (ap (λ r. r.lock_place) d.0 ∙ s.1) (ap having_of d.0 ∙ s.2) tt (subst (λ r. IfSome r.lock.hold (λ h. HasSeen raw (inside Join) h.value)) (sym d.0) d.1), tt)
+  looked found.Leads s d = (at (inside Complete) (ap (λ r. r.lock_place) d.0 ∙ s.1) (ap having_of d.0 ∙ s.2) tt (subst (λ r. IfSome r.lock.hold (λ h. HasSeen raw (inside Complete) h.value)) (sym d.0) d.1), tt)
   looked f s d = (at (inside (ReleaseLock then.RefuseGenerations)) (ap (λ r. r.lock_place) d.0 ∙ s.1) (ap having_of d.0 ∙ s.2) tt (unseen _), tt)
 
   pub goes : (p : Place) (f : Found) → Stands raw q (inside p) → Does raw cx (action_of p) f q q' → Goes p f
@@ -139,7 +137,7 @@ module _ (raw : RawBarrier) (cx : Context) (q q' : BarrierParty) (locked : lock.
   goes (WaitLock a) (found.Lock x) s d = polled a x d.2 d.3 (same_having nothing s.2 d.0 d.1) (counted_for a d.1.2 s.3)
   goes (TakeLock a) (found.Lock x) s d = polled a x (d.2 lock_call.Poll s.1) d.3 (same_having nothing s.2 d.0 d.1) (counted_for a d.1.2 s.3)
   goes Look f s d = looked f s d
-  goes Join found.Done s d = (at (inside Arrive) (d.0.1 ∙ s.1) (parts true false None d.2 (d.1.0 ∙ ap (λ x. x.owes) s.2) (d.1.1 ∙ ap (λ x. x.verdict) s.2)) tt (subst (λ l. IfSome l.hold (λ h. HasSeen (inside Arrive) h.value)) (sym d.0.0) s.4), tt)
+  goes Join found.Done s d = (at (inside Arrive) (d.0.1 ∙ s.1) (parts true false None d.2 (d.1.0 ∙ ap (λ x. x.owes) s.2) (d.1.1 ∙ ap (λ x. x.verdict) s.2)) tt (subst (λ l. IfSome l.hold (λ h. HasSeen raw (inside Arrive) h.value)) (sym d.0.0) s.4), tt)
   goes Join found.NoMemory s d = (at (inside (ReleaseLock (then.RefuseMemory aim.Arrive))) (ap (λ r. r.lock_place) d ∙ s.1) (ap having_of d ∙ s.2) tt (unseen _), tt)
   goes Arrive f s d = (at (inside (ReleaseLock then.Wait)) (d.0 ∙ s.1) (parts true false None (d.1 ∙ ap (λ x. x.entry) s.2) (d.2 ∙ ap (λ x. x.owes) s.2) (d.3 ∙ ap (λ x. x.verdict) s.2)) d.4 (unseen _), tt)
   goes Complete f s d = (at (inside NotifyAll) (d.0 ∙ s.1) (parts false true (Some true) (d.1 ∙ ap (λ x. x.entry) s.2) d.2 d.3) tt (unseen _), tt)

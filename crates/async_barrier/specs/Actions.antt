@@ -1,5 +1,5 @@
 -- What an action of a barrier's party needs, and what it does.
-use Rattle.std.specs.Prelude.{◌≡◌, ◌+◌, ◌<◌, ◌≤◌, IfSome, IsSome, Bool, true, false, is_some, Option, Some, None, ⊤}
+use Rattle.std.specs.Prelude.{◌≡◌, ◌+◌, IfSome, IsSome, true, false, is_some, Option, Some, None, ⊤}
 use Rattle.async_barrier.specs.Counts.{FindsLook}
 use Rattle.async_barrier.specs.Parties.{HasSeen, IsKeptIn, inside, verdict_of}
 use Rattle.async_barrier.specs.declared.arrivals.Arrivals.{Arrivals}
@@ -10,9 +10,7 @@ use Rattle.futures.specs.declared.task.context.Context.{Context}
 use Rattle.lock_driver.specs.Parties as lock
 use Rattle.lock_program.specs.Mutex.{start_of}
 use Rattle.lock_program.specs.declared.end.End.{End}
-use Rattle.lock_program.specs.declared.end.End.TheVariants as ending
 use Rattle.lock_program.specs.declared.mutex.LockCall.{LockCall}
-use Rattle.lock_program.specs.declared.mutex.Place.{Place as LockPlace}
 use Rattle.lock_program.specs.declared.mutex.Place.TheVariants as lock_at
 use Rattle.lock_program.specs.declared.mutex.Step.{Step}
 use Rattle.lock_program.specs.declared.mutex.Step.TheVariants as step
@@ -26,17 +24,17 @@ abbrev pub Holds : BarrierParty → Type 0
 Holds q = q.lock_place ≡ lock_at.Holding
 
 -- what an action needs
-abbrev pub CanDo : Action → BarrierParty → Type 0
-CanDo act.Look q = Holds q
-CanDo act.Arrive q = Holds q × IfSome q.lock.hold (λ h. HasSeen (inside Join) h.value)
-CanDo act.Complete q = Holds q × IfSome q.lock.hold (λ h. HasSeen (inside Complete) h.value) × (is_some q.owed ≡ false) × (is_some q.verdict ≡ false)
-CanDo act.Check q = Holds q × IsSome q.arrival × (is_some q.verdict ≡ false)
-CanDo act.Join q = is_some q.entry ≡ false
-CanDo act.Ask q = IsSome q.entry
-CanDo act.Leave q = IsSome q.entry
-CanDo act.NotifyAll q = IsSome q.owed
-CanDo (act.Begin c) q = IsSome (start_of c q.lock_place)
-CanDo _ q = ⊤
+abbrev pub CanDo : RawBarrier → Action → BarrierParty → Type 0
+CanDo raw act.Look q = Holds q
+CanDo raw act.Arrive q = Holds q × IfSome q.lock.hold (λ h. HasSeen raw (inside Join) h.value)
+CanDo raw act.Complete q = Holds q × IfSome q.lock.hold (λ h. HasSeen raw (inside Complete) h.value) × (is_some q.owed ≡ false) × (is_some q.verdict ≡ false)
+CanDo raw act.Check q = Holds q × IsSome q.arrival × (is_some q.verdict ≡ false)
+CanDo raw act.Join q = is_some q.entry ≡ false
+CanDo raw act.Ask q = IsSome q.entry × IsSome q.arrival × (is_some q.verdict ≡ false)
+CanDo raw act.Leave q = IsSome q.entry
+CanDo raw act.NotifyAll q = IsSome q.owed
+CanDo raw (act.Begin c) q = IsSome (start_of c q.lock_place)
+CanDo raw _ q = ⊤
 
 -- what stays: all but the lock's party, the entry, the duty, the evidence, the arrival
 abbrev pub SameLock : BarrierParty → BarrierParty → Type 0
@@ -73,7 +71,7 @@ FinishesOne w w' = (w'.generation ≡ w.generation + 1) × (w'.count ≡ 0)
 -- what an action that found this does
 abbrev pub Does : RawBarrier → Context → Action → Found → BarrierParty → BarrierParty → Type 0
 Does raw cx act.Nothing f q q' = q' ≡ q
-Does raw cx act.Look f q q' = (q' ≡ q) × IfSome q.lock.hold (λ h. FindsLook f h.value)
+Does raw cx act.Look f q q' = (q' ≡ q) × IfSome q.lock.hold (λ h. FindsLook raw.size raw.most f h.value)
 Does raw cx act.Arrive f q q' = (q'.lock_place ≡ q.lock_place) × SameEntry q q' × (is_some q'.owed ≡ is_some q.owed) × (verdict_of q'.verdict ≡ verdict_of q.verdict) × (is_some q'.arrival ≡ true) × OnCount CountsOne q q'
 Does raw cx act.Complete f q q' = (q'.lock_place ≡ q.lock_place) × SameEntry q q' × (is_some q'.owed ≡ true) × (verdict_of q'.verdict ≡ Some true) × OnCount FinishesOne q q'
 Does raw cx act.Check found.Finished q q' = SameLock q q' × SameEntry q q' × (is_some q'.owed ≡ is_some q.owed) × (verdict_of q'.verdict ≡ Some false) × (is_some q'.arrival ≡ is_some q.arrival)

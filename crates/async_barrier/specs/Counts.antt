@@ -8,12 +8,12 @@ use Rattle.async_barrier.specs.declared.arrivals.Verdict.TheVariants as verdict
 use Rattle.sync_program.specs.declared.barrier.Found.{Found}
 use Rattle.sync_program.specs.declared.barrier.Found.TheVariants.{MustWait, Leads, Past}
 
--- more have to come; or it finishes its generation; or that would pass the limit
-abbrev pub FindsLook : Found → Arrivals → Type 0
-FindsLook MustWait w = w.count + 1 < w.size
-FindsLook Leads w = (w.size ≤ w.count + 1) × (w.generation < w.most)
-FindsLook Past w = (w.size ≤ w.count + 1) × (w.most ≤ w.generation)
-FindsLook _ w = ⊥
+-- at a barrier of this size and limit: more have to come; or it finishes its generation; or that would pass the limit
+abbrev pub FindsLook : ℕ → ℕ → Found → Arrivals → Type 0
+FindsLook size most MustWait w = w.count + 1 < size
+FindsLook size most Leads w = (size ≤ w.count + 1) × (w.generation < most)
+FindsLook size most Past w = (size ≤ w.count + 1) × (most ≤ w.generation)
+FindsLook size most _ w = ⊥
 
 -- its generation is finished exactly where the barrier is at another
 abbrev pub FindsCheck : ℕ → Checked → Arrivals → Type 0

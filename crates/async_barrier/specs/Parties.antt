@@ -1,9 +1,11 @@
 -- What a party of a barrier has at a place of its call.
-use Rattle.std.specs.Prelude.{◌≡◌, ℕ, ◌+◌, ◌<◌, ◌≤◌, ◌⊎◌, IfSome, IfNone, IsSomeAnd, Bool, true, false, is_some, Option, Some, None, ⊤}
+use Rattle.std.specs.Prelude.{◌≡◌, ℕ, ◌+◌, ◌<◌, ◌≤◌, ◌⊎◌, IfSome, IsSomeAnd, Bool, true, false, is_some, Option, Some, None, ⊤}
 use Rattle.async_barrier.specs.Counts.{leads}
 use Rattle.async_barrier.specs.declared.arrivals.Arrivals.{Arrivals}
 use Rattle.async_barrier.specs.declared.arrivals.Verdict.{Verdict}
 use Rattle.async_barrier.specs.declared.party.BarrierParty.{BarrierParty}
+use Rattle.async_barrier.specs.declared.party.Call.{Call}
+use Rattle.async_barrier.specs.declared.party.Call.TheVariants as party
 use Rattle.async_barrier.specs.declared.party.WaitEnd.{WaitEnd}
 use Rattle.async_barrier.specs.declared.party.WaitEnd.TheVariants as ended
 use Rattle.async_barrier.specs.declared.raw.RawBarrier.{RawBarrier}
@@ -13,7 +15,6 @@ use Rattle.async_driver.specs.Heard.{IsKept}
 use Rattle.async_driver.specs.declared.duty.Owed.{Owed}
 use Rattle.async_driver.specs.declared.waiting_list.Listed.{Listed}
 use Rattle.lock_driver.specs.Parties as lock
-use Rattle.lock_place.specs.declared.room.Hold.{Hold}
 use Rattle.lock_program.specs.declared.end.End.{End}
 use Rattle.lock_program.specs.declared.end.End.TheVariants as ending
 use Rattle.lock_program.specs.declared.end.Next.{Next}
@@ -23,7 +24,6 @@ use Rattle.lock_program.specs.declared.mutex.Place.TheVariants as lock_at
 use Rattle.lock_program.specs.declared.refusal.Refusal.{Refusal}
 use Rattle.lock_program.specs.declared.refusal.Refusal.TheVariants.{Memory, Starved, Generations}
 use Rattle.sync_program.specs.Barrier.{next_of, start_of}
-use Rattle.sync_program.specs.declared.barrier.BarrierCall.{BarrierCall}
 use Rattle.sync_program.specs.declared.barrier.BarrierCall.TheVariants as call
 use Rattle.sync_program.specs.declared.barrier.Aim.{Aim}
 use Rattle.sync_program.specs.declared.barrier.Aim.TheVariants as aim
@@ -33,7 +33,7 @@ use Rattle.sync_program.specs.declared.barrier.Found.{Found}
 use Rattle.sync_program.specs.declared.barrier.Left.{Left}
 use Rattle.sync_program.specs.declared.barrier.Left.TheVariants.{Ready, Outside}
 use Rattle.sync_program.specs.declared.barrier.Place.{Place}
-use Rattle.sync_program.specs.declared.barrier.Place.TheVariants.{EnterLock, WaitLock, TakeLock, Look, Join, Arrive, Complete, NotifyAll, Check, JoinAgain, ReleaseLock, ReleasingLock, Ask, CancelLock, CancellingLock, CancelLeave, Abandon}
+use Rattle.sync_program.specs.declared.barrier.Place.TheVariants.{EnterLock, WaitLock, TakeLock, Join, Arrive, Complete, NotifyAll, Check, JoinAgain, ReleaseLock, ReleasingLock, Ask, CancelLock, CancellingLock, CancelLeave, Abandon}
 use Rattle.sync_program.specs.declared.barrier.Position.{Position}
 use Rattle.sync_program.specs.declared.barrier.Position.TheVariants as position
 
@@ -136,12 +136,12 @@ IsCounted (Outside (position.Locking a)) counted = IsCountedFor a counted
 IsCounted (Outside position.Waiting) counted = counted ≡ true
 IsCounted _ counted = ⊤
 
--- what it has found of the count, and still holds of it, since it has the inner lock
-abbrev pub HasSeen : Standing → Arrivals → Type 0
-HasSeen (Outside (position.At Join)) w = w.count + 1 < w.size
-HasSeen (Outside (position.At Arrive)) w = w.count + 1 < w.size
-HasSeen (Outside (position.At Complete)) w = (w.size ≤ w.count + 1) × (w.generation < w.most)
-HasSeen _ w = ⊤
+-- what it has found of the count of a barrier, and still holds of it, since it has the inner lock
+abbrev pub HasSeen : RawBarrier → Standing → Arrivals → Type 0
+HasSeen raw (Outside (position.At Join)) w = w.count + 1 < raw.size
+HasSeen raw (Outside (position.At Arrive)) w = w.count + 1 < raw.size
+HasSeen raw (Outside (position.At Complete)) w = (raw.size ≤ w.count + 1) × (w.generation < raw.most)
+HasSeen raw _ w = ⊤
 
 -- its entry stands in this list, and whoever it owes a notification does
 abbrev pub IsTied : ℕ → Option Listed → Option Owed → Type 0
@@ -150,7 +150,7 @@ IsTied list entry owed = IfSome entry (λ e. e.list.id ≡ list) × IfSome owed 
 -- The party has what it has at this standing.
 abbrev pub Stands : RawBarrier → BarrierParty → Standing → Type 0
 Stands raw q s = lock.Stands raw.inner.words q.lock q.lock_place × OnLock s q.lock_place × (having_of q ≡ having_by s) × IsCounted s (is_some q.arrival)
-    × IfSome q.lock.hold (λ h. HasSeen s h.value) × IsTied raw.list.name.id q.entry q.owed
+    × IfSome q.lock.hold (λ h. HasSeen raw s h.value) × IsTied raw.list.name.id q.entry q.owed
 
 -- where a party stands by what comes next, and how its call has ended by that
 abbrev pub standing_of : Next Place Left → Standing
@@ -184,8 +184,16 @@ abbrev pub entered : Option Place → Option Standing
 entered None = None
 entered (Some p) = Some (inside p)
 
-abbrev pub first_of : BarrierCall → Standing → Option Standing
-first_of c (Outside p) = entered (start_of c p)
+-- the first place of a later poll of an arrival that was counted
+abbrev pub first_counted : Position → Option Standing
+first_counted (position.Made aim.Check) = entered (start_of call.Poll (position.Made aim.Check))
+first_counted (position.Locking aim.Check) = entered (start_of call.Poll (position.Locking aim.Check))
+first_counted position.Waiting = entered (start_of call.Poll position.Waiting)
+first_counted _ = None
+
+abbrev pub first_of : Call → Standing → Option Standing
+first_of (party.Of c) (Outside p) = entered (start_of c p)
+first_of party.PollCounted (Outside p) = first_counted p
 first_of c (Ready led) = None
 
 -- a poll is refused for memory, for too many starved waiters at the inner lock, or for too many generations
@@ -218,13 +226,49 @@ IsPolling (Outside (position.At Abandon)) = ⊥
 IsPolling (Outside (position.At p)) = ⊤
 IsPolling _ = ⊥
 
-abbrev pub IsWithin : BarrierCall → Standing → Type 0
-IsWithin call.Drop s = ⊤
-IsWithin _ s = IsPolling s
+-- the places that an arrival comes to once it is counted
+abbrev pub CountedThen : Ending → Type 0
+CountedThen then.Wait = ⊤
+CountedThen then.Follow = ⊤
+CountedThen (then.RefuseMemory aim.Check) = ⊤
+CountedThen _ = ⊥
 
-abbrev pub IsPollCall : BarrierCall → Type 0
-IsPollCall call.Drop = ⊥
+abbrev pub IsPastCount : Standing → Type 0
+IsPastCount (Outside (position.At (EnterLock aim.Check))) = ⊤
+IsPastCount (Outside (position.At (WaitLock aim.Check))) = ⊤
+IsPastCount (Outside (position.At (TakeLock aim.Check))) = ⊤
+IsPastCount (Outside (position.At Check)) = ⊤
+IsPastCount (Outside (position.At JoinAgain)) = ⊤
+IsPastCount (Outside (position.At (ReleaseLock e))) = CountedThen e
+IsPastCount (Outside (position.At (ReleasingLock e))) = CountedThen e
+IsPastCount (Outside (position.At Ask)) = ⊤
+IsPastCount _ = ⊥
+
+abbrev pub IsWithin : Call → Standing → Type 0
+IsWithin (party.Of call.Drop) s = ⊤
+IsWithin (party.Of _) s = IsPolling s
+IsWithin party.PollCounted s = IsPolling s × IsPastCount s
+
+abbrev pub IsPollCall : Call → Type 0
+IsPollCall (party.Of call.Drop) = ⊥
 IsPollCall _ = ⊤
+
+-- a wait whose arrival is counted, between two polls
+abbrev pub WaitsCounted : Standing → Type 0
+WaitsCounted (Outside (position.Made aim.Check)) = ⊤
+WaitsCounted (Outside (position.Locking aim.Check)) = ⊤
+WaitsCounted (Outside position.Waiting) = ⊤
+WaitsCounted _ = ⊥
+
+-- the poll of a wait whose arrival is counted is that of a counted one
+abbrev pub IsPolled : Standing → Call → Type 0
+IsPolled s c = WaitsCounted s → c ≡ party.PollCounted
+
+-- an arrival that was counted stays so where its poll ends pending or refused
+abbrev pub KeepsCount : Standing → WaitEnd → Standing → Type 0
+KeepsCount s ended.Pending s' = WaitsCounted s → WaitsCounted s'
+KeepsCount s (ended.Refused refusal) s' = WaitsCounted s → WaitsCounted s'
+KeepsCount s _ s' = ⊤
 
 -- where a wait may be polled
 abbrev pub CanPoll : Standing → Type 0

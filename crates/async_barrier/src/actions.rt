@@ -23,7 +23,7 @@ impl BarrierParty {
     pub(crate) fn look(&mut self, raw: &RawBarrier) -> Found
         requires lock { lock.Stands raw.now.inner.words self.old.lock self.old.lock_place }
         requires tied { IsTied raw.now.list.name.id self.old.entry self.old.owed }
-        requires can { CanDo act.Look self.old }
+        requires can { CanDo raw.now act.Look self.old }
         ensures lock { lock.Stands raw.now.inner.words self.new.lock self.new.lock_place }
         ensures tied { IsTied raw.now.list.name.id self.new.entry self.new.owed }
         ensures does { (cx : Polling) → Does raw.now cx act.Look result self.old self.new }
@@ -31,13 +31,13 @@ impl BarrierParty {
         let Some(hold) = &self.lock.hold else {
             unreachable!()
         };
-        hold.get(raw.inner.words.room()).look()
+        hold.get(raw.inner.words.room()).look(raw.size, raw.most)
     }
 
     pub(crate) fn arrive(&mut self, raw: &RawBarrier) -> Found
         requires lock { lock.Stands raw.now.inner.words self.old.lock self.old.lock_place }
         requires tied { IsTied raw.now.list.name.id self.old.entry self.old.owed }
-        requires can { CanDo act.Arrive self.old }
+        requires can { CanDo raw.now act.Arrive self.old }
         ensures lock { lock.Stands raw.now.inner.words self.new.lock self.new.lock_place }
         ensures tied { IsTied raw.now.list.name.id self.new.entry self.new.owed }
         ensures does { (cx : Polling) → Does raw.now cx act.Arrive result self.old self.new }
@@ -45,7 +45,7 @@ impl BarrierParty {
         let Some(hold) = &mut self.lock.hold else {
             unreachable!()
         };
-        let arrival = hold.get_mut(raw.inner.words.room()).arrive();
+        let arrival = hold.get_mut(raw.inner.words.room()).arrive(raw.size);
         self.arrival = Some(arrival);
         Found::Done
     }
@@ -54,7 +54,7 @@ impl BarrierParty {
     pub(crate) fn complete(&mut self, raw: &RawBarrier) -> Found
         requires lock { lock.Stands raw.now.inner.words self.old.lock self.old.lock_place }
         requires tied { IsTied raw.now.list.name.id self.old.entry self.old.owed }
-        requires can { CanDo act.Complete self.old }
+        requires can { CanDo raw.now act.Complete self.old }
         ensures lock { lock.Stands raw.now.inner.words self.new.lock self.new.lock_place }
         ensures tied { IsTied raw.now.list.name.id self.new.entry self.new.owed }
         ensures does { (cx : Polling) → Does raw.now cx act.Complete result self.old self.new }
@@ -62,7 +62,9 @@ impl BarrierParty {
         let Some(hold) = &mut self.lock.hold else {
             unreachable!()
         };
-        let led = hold.get_mut(raw.inner.words.room()).complete();
+        let led = hold
+            .get_mut(raw.inner.words.room())
+            .complete(raw.size, raw.most);
         put(&mut self.verdict, Verdict::Led(led));
         put(&mut self.owed, Owed::new(raw.list.id()));
         Found::Done
@@ -71,7 +73,7 @@ impl BarrierParty {
     pub(crate) fn check(&mut self, raw: &RawBarrier) -> Found
         requires lock { lock.Stands raw.now.inner.words self.old.lock self.old.lock_place }
         requires tied { IsTied raw.now.list.name.id self.old.entry self.old.owed }
-        requires can { CanDo act.Check self.old }
+        requires can { CanDo raw.now act.Check self.old }
         ensures lock { lock.Stands raw.now.inner.words self.new.lock self.new.lock_place }
         ensures tied { IsTied raw.now.list.name.id self.new.entry self.new.owed }
         ensures does { (cx : Polling) → Does raw.now cx act.Check result self.old self.new }
@@ -91,7 +93,7 @@ impl BarrierParty {
     pub(crate) fn join<R: Wait>(&mut self, raw: &RawBarrier, rt: &R) -> Found
         requires lock { lock.Stands raw.now.inner.words self.old.lock self.old.lock_place }
         requires tied { IsTied raw.now.list.name.id self.old.entry self.old.owed }
-        requires can { CanDo act.Join self.old }
+        requires can { CanDo raw.now act.Join self.old }
         ensures lock { lock.Stands raw.now.inner.words self.new.lock self.new.lock_place }
         ensures tied { IsTied raw.now.list.name.id self.new.entry self.new.owed }
         ensures does { (cx : Polling) → Does raw.now cx act.Join result self.old self.new }
@@ -108,7 +110,7 @@ impl BarrierParty {
     pub(crate) fn ask<R: Wait>(&mut self, raw: &RawBarrier, rt: &R, cx: &mut Context<'_>) -> Found
         requires lock { lock.Stands raw.now.inner.words self.old.lock self.old.lock_place }
         requires tied { IsTied raw.now.list.name.id self.old.entry self.old.owed }
-        requires can { CanDo act.Ask self.old }
+        requires can { CanDo raw.now act.Ask self.old }
         ensures lock { lock.Stands raw.now.inner.words self.new.lock self.new.lock_place }
         ensures tied { IsTied raw.now.list.name.id self.new.entry self.new.owed }
         ensures does { Does raw.now cx.new act.Ask result self.old self.new }
@@ -117,7 +119,10 @@ impl BarrierParty {
         let Some(entry) = self.entry.take() else {
             unreachable!()
         };
-        match raw.ask(rt, entry, cx) {
+        let Some(counted) = &self.arrival else {
+            unreachable!()
+        };
+        match raw.ask(rt, entry, counted, &self.verdict, cx) {
             None => Found::Yes,
             Some(entry) => {
                 put(&mut self.entry, entry);
@@ -129,7 +134,7 @@ impl BarrierParty {
     pub(crate) fn leave<R: Wait>(&mut self, raw: &RawBarrier, rt: &R) -> Found
         requires lock { lock.Stands raw.now.inner.words self.old.lock self.old.lock_place }
         requires tied { IsTied raw.now.list.name.id self.old.entry self.old.owed }
-        requires can { CanDo act.Leave self.old }
+        requires can { CanDo raw.now act.Leave self.old }
         ensures lock { lock.Stands raw.now.inner.words self.new.lock self.new.lock_place }
         ensures tied { IsTied raw.now.list.name.id self.new.entry self.new.owed }
         ensures does { (cx : Polling) → Does raw.now cx act.Leave result self.old self.new }
@@ -144,7 +149,7 @@ impl BarrierParty {
     pub(crate) fn notify_all<R: Wait>(&mut self, raw: &RawBarrier, rt: &R) -> Found
         requires lock { lock.Stands raw.now.inner.words self.old.lock self.old.lock_place }
         requires tied { IsTied raw.now.list.name.id self.old.entry self.old.owed }
-        requires can { CanDo act.NotifyAll self.old }
+        requires can { CanDo raw.now act.NotifyAll self.old }
         ensures lock { lock.Stands raw.now.inner.words self.new.lock self.new.lock_place }
         ensures tied { IsTied raw.now.list.name.id self.new.entry self.new.owed }
         ensures does { (cx : Polling) → Does raw.now cx act.NotifyAll result self.old self.new }
@@ -165,7 +170,7 @@ impl BarrierParty {
     ) -> Found
         requires lock { lock.Stands raw.now.inner.words self.old.lock self.old.lock_place }
         requires tied { IsTied raw.now.list.name.id self.old.entry self.old.owed }
-        requires can { CanDo (act.Begin call) self.old }
+        requires can { CanDo raw.now (act.Begin call) self.old }
         ensures lock { lock.Stands raw.now.inner.words self.new.lock self.new.lock_place }
         ensures tied { IsTied raw.now.list.name.id self.new.entry self.new.owed }
         ensures does { Does raw.now cx.new (act.Begin call) result self.old self.new }
@@ -186,7 +191,7 @@ impl BarrierParty {
     ) -> Found
         requires lock { lock.Stands raw.now.inner.words self.old.lock self.old.lock_place }
         requires tied { IsTied raw.now.list.name.id self.old.entry self.old.owed }
-        requires can { CanDo act.Go self.old }
+        requires can { CanDo raw.now act.Go self.old }
         ensures lock { lock.Stands raw.now.inner.words self.new.lock self.new.lock_place }
         ensures tied { IsTied raw.now.list.name.id self.new.entry self.new.owed }
         ensures does { Does raw.now cx.new act.Go result self.old self.new }

@@ -1,20 +1,16 @@
 //! How far a barrier is, which lies in its inner lock.
 
-ghost use Rattle.std.specs.Prelude.{◌≡◌, ◌+◌, ◌-◌, ◌<◌, ◌≤◌};
+ghost use Rattle.std.specs.Prelude.{◌≡◌, ◌+◌, ◌<◌, ◌≤◌};
 
 use sync_program::barrier::Found;
 
-/// How many parties a barrier waits for (`size`), how many generations it may finish (`most`), how many it has finished, and
-/// how many arrivals are counted towards the next one.
+/// How many generations a barrier has finished, and how many arrivals are counted towards the next one.
 ///
-/// Its type keeps that the count is below the size, or 0, and that no generation past the limit is finished.
+/// How many arrivals make a generation (`size`), and how many generations may be finished (`most`), the barrier says: an arrival
+/// is counted only where that leaves the count below the size, and a generation finished only below the limit.
 pub struct Arrivals {
-    pub size: u64,
-    pub most: u64,
     pub generation: u64,
     pub count: u64,
-    ghost counted: { count ≤ size - 1 },
-    ghost finished: { generation ≤ most },
 }
 
 /// An arrival that was counted and has to wait: the generation that it was counted in. Only [`Arrivals::arrive`] makes one.
@@ -55,13 +51,10 @@ impl Arrivals {
     ghost use Rattle.async_barrier.specs.Counts.{FindsLook, FindsCheck};
 
     /// Nobody has arrived.
-    pub(crate) fn new(size: u64, most: u64) -> Arrivals
-        ensures sizes { (result.size ≡ size) × (result.most ≡ most) }
-        ensures none { (result.generation ≡ 0) × (result.count ≡ 0) }
+    pub(crate) fn new() -> Arrivals
+        ensures { (result.generation ≡ 0) × (result.count ≡ 0) }
     {
         Arrivals {
-            size,
-            most,
             generation: 0,
             count: 0,
         }
@@ -69,12 +62,12 @@ impl Arrivals {
 
     /// What the next arrival has to do: wait, since more have to come; lead its generation; or be refused, since it would
     /// finish a generation past the limit.
-    pub(crate) fn look(&self) -> Found
-        ensures { FindsLook result self.now }
+    pub(crate) fn look(&self, size: u64, most: u64) -> Found
+        ensures { FindsLook size most result self.now }
     {
-        if self.size > 0 && self.count < self.size - 1 {
+        if size > 0 && self.count < size - 1 {
             Found::MustWait
-        } else if self.generation < self.most {
+        } else if self.generation < most {
             Found::Leads
         } else {
             Found::Past
@@ -82,36 +75,29 @@ impl Arrivals {
     }
 
     /// One more arrival is counted, which doesn't finish its generation.
-    pub(crate) fn arrive(&mut self) -> Arrival
-        requires { self.old.count + 1 < self.old.size }
+    pub(crate) fn arrive(&mut self, size: u64) -> Arrival
+        requires { self.old.count + 1 < size }
         ensures count { self.new.count ≡ self.old.count + 1 }
-        ensures same { (self.new.size ≡ self.old.size) × (self.new.most ≡ self.old.most) × (self.new.generation ≡ self.old.generation) }
+        ensures same { self.new.generation ≡ self.old.generation }
         ensures generation { result.generation ≡ self.old.generation }
     {
-        *self = Arrivals {
-            size: self.size,
-            most: self.most,
-            generation: self.generation,
-            count: self.count + 1,
-        };
+        let _ = size;
+        self.count += 1;
         Arrival {
             generation: self.generation,
         }
     }
 
     /// One more arrival is counted, which finishes its generation and leads it.
-    pub(crate) fn complete(&mut self) -> Led
-        requires last { self.old.size ≤ self.old.count + 1 }
-        requires room { self.old.generation < self.old.most }
-        ensures finished { (self.new.generation ≡ self.old.generation + 1) × (self.new.count ≡ 0) }
-        ensures same { (self.new.size ≡ self.old.size) × (self.new.most ≡ self.old.most) }
+    pub(crate) fn complete(&mut self, size: u64, most: u64) -> Led
+        requires last { size ≤ self.old.count + 1 }
+        requires room { self.old.generation < most }
+        ensures { (self.new.generation ≡ self.old.generation + 1) × (self.new.count ≡ 0) }
     {
-        *self = Arrivals {
-            size: self.size,
-            most: self.most,
-            generation: self.generation + 1,
-            count: 0,
-        };
+        let _ = size;
+        let _ = most;
+        self.generation += 1;
+        self.count = 0;
         Led { seal: () }
     }
 
@@ -158,8 +144,6 @@ impl Verdict {
 impl Drop for Arrivals {
     fn drop(self) {
         let Self {
-            size: _,
-            most: _,
             generation: _,
             count: _,
         } = self;

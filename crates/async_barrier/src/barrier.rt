@@ -1,6 +1,7 @@
 //! The barrier.
 
-ghost use Rattle.std.specs.Prelude.{◌≡◌, IfErr, None, false};
+ghost use Rattle.std.specs.Prelude.{◌≡◌, IfErr, IfOk, None, false};
+ghost use Rattle.async_barrier.specs.Parties.{IsGivenUp};
 ghost use Rattle.lock_program.specs.declared.refusal.Refusal.{Refusal};
 
 use crate::arrivals::Verdict;
@@ -39,14 +40,16 @@ impl<R: AllocGlobal + Drop> Barrier<R> {
     /// The first `n` - 1 arrivals of a generation wait, and the last leads and ends their wait. At a barrier for 0 or 1 each
     /// arrival leads.
     pub fn new(rt: R, n: usize) -> Result<Barrier<R>, Refusal>
-        ensures { IfErr result (λ refusal. refusal ≡ Refusal.Memory) }
+        ensures memory { IfErr result (λ refusal. refusal ≡ Refusal.Memory) }
+        ensures barrier { IfOk result (λ barrier. (barrier.raw.size ≡ n) × (barrier.raw.most ≡ u64.MAX)) }
     {
         Barrier::with_limit(rt, n, GENERATIONS_LIMIT)
     }
 
     /// Creates a barrier as [`Barrier::new`] does, which may finish so many generations. It is for tests.
     pub fn with_limit(rt: R, n: usize, most: u64) -> Result<Barrier<R>, Refusal>
-        ensures { IfErr result (λ refusal. refusal ≡ Refusal.Memory) }
+        ensures memory { IfErr result (λ refusal. refusal ≡ Refusal.Memory) }
+        ensures barrier { IfOk result (λ barrier. (barrier.raw.size ≡ n) × (barrier.raw.most ≡ most)) }
     {
         match RawBarrier::new(rt.alloc(), n as u64, most) {
             Ok(raw) => Ok(Barrier { raw, rt }),
@@ -78,10 +81,12 @@ impl<R: Wait> Barrier<R> {
 
 impl<R: Wait + Clock + RandomSource + AllocGlobal> Barrier<R> {
     /// Waits at this barrier, blocking the calling thread until its generation is finished. Any error of `block_on` is
-    /// [`Refusal::Memory`].
+    /// [`Refusal::Memory`]. It is refused by the names by which a wait gives up, and never as finished (`refused`).
     ///
     /// It isn't for tasks that share an executor's thread: none of them goes on meanwhile.
-    pub fn wait_blocking(&self) -> Result<BarrierWaitResult, Refusal> {
+    pub fn wait_blocking(&self) -> Result<BarrierWaitResult, Refusal>
+        ensures refused { IfErr result IsGivenUp }
+    {
         match block_on(&self.rt, Settled(self.wait())) {
             Ok(settled) => settled,
             Err(_) => Err(Refusal::Memory),

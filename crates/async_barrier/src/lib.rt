@@ -7,6 +7,7 @@
 mod actions;
 mod arrivals;
 mod barrier;
+mod duty;
 mod party;
 mod raw;
 mod wait;
@@ -20,5 +21,5 @@ pub use arrivals::{Arrivals, Verdict};
 pub use async_driver::{Polled, Settled, Turn};
 pub use barrier::{Barrier, BarrierWaitResult};
 pub use lock_program::Refusal;
-pub use party::{BarrierParty, WaitEnd};
+pub use party::{BarrierParty, Call, WaitEnd};
 pub use raw::RawBarrier;

@@ -3,7 +3,7 @@
 ghost use Rattle.std.specs.Prelude.{◌≡◌, Option, Some, IfSome, IfNone, IsSome};
 ghost use Rattle.async_barrier.specs.Actions.{CanDo, Does};
 ghost use Rattle.async_barrier.specs.Counts.{leads as leads_by};
-ghost use Rattle.async_barrier.specs.Parties.{CanPoll, IsPollCall, first_of, IsInside, IsTied, Stands, end_of, standing_of};
+ghost use Rattle.async_barrier.specs.Parties.{CanPoll, IsPollCall, IsPolled, first_of, first_counted, IsInside, IsTied, entered as entered_at, Stands, end_of, standing_of};
 ghost use Rattle.futures.specs.Task.{Keeps};
 ghost use Rattle.lock_driver.specs.Parties as lock;
 ghost use Rattle.lock_program.specs.declared.end.End.TheVariants as ends;
@@ -28,8 +28,17 @@ use lock_program::{End, Next, Refusal};
 use std::sync::Wait;
 use std::time::Clock;
 use sync_program::barrier::{
-    Action, BarrierCall, Found, Left, Place, Position, action_at, decide, start,
+    Action, Aim, BarrierCall, Found, Left, Place, Position, action_at, decide, start,
 };
+
+/// A call of a party.
+#[derive(Clone, Copy)]
+pub enum Call {
+    /// A call of the barrier's program.
+    Of(BarrierCall),
+    /// A later poll of an arrival that was counted.
+    PollCounted,
+}
 
 /// How a call on a barrier ends.
 #[derive(Clone, Copy)]
@@ -120,14 +129,14 @@ impl RawBarrier {
 }
 
 impl RawBarrier {
-    ghost use Rattle.async_barrier.specs.Parties.{CanPoll, EndsPoll, Tells};
+    ghost use Rattle.async_barrier.specs.Parties.{CanPoll, EndsPoll, KeepsCount, Tells};
 
     /// Polls a party that stands so, until the poll ends: how it ends, and where the party stands then (`ended`), with what it
     /// has there (`stands`).
     ///
     /// Pending, the party has an entry in the barrier's list or in the inner lock's, which keeps a waker of the task that polls,
     /// and the task has registered with the barrier's source; and a poll is refused for memory, too many starved waiters or
-    /// too many generations (`tells`).
+    /// too many generations (`tells`). An arrival that was counted before stays counted (`counted`).
     pub fn poll<R: Wait + Clock>(
         &self,
         rt: &R,
@@ -140,6 +149,7 @@ impl RawBarrier {
         ensures stands { Stands self.now party.new result.1 }
         ensures ended { EndsPoll result.0 result.1 }
         ensures tells { Tells self.now cx.new party.new result.0 }
+        ensures counted { KeepsCount standing result.0 result.1 }
         ensures kept { Keeps cx.old cx.new }
     {
         let call = poll_call(standing);
@@ -171,15 +181,41 @@ impl RawBarrier {
     }
 }
 
-// Which poll it is of a party that stands so: the first, or a later one.
-fn poll_call(standing: Left) -> BarrierCall
+// Which poll it is of a party that stands so: the first, or a later one, of an arrival that was counted or of one that wasn't.
+fn poll_call(standing: Left) -> Call
     requires { CanPoll standing }
     ensures poll { IsPollCall result }
+    ensures counted { IsPolled standing result }
     ensures begins { IsSome (first_of result standing) }
 {
     match standing {
-        Left::Outside(Position::Out) => BarrierCall::Wait,
-        _ => BarrierCall::Poll,
+        Left::Outside(Position::Out) => Call::Of(BarrierCall::Wait),
+        Left::Outside(Position::Made(Aim::Check))
+        | Left::Outside(Position::Locking(Aim::Check))
+        | Left::Outside(Position::Waiting) => Call::PollCounted,
+        _ => Call::Of(BarrierCall::Poll),
+    }
+}
+
+// The first place of a later poll of an arrival that was counted.
+fn start_counted(position: Position) -> Option<Left>
+    ensures { result ≡ first_counted position }
+{
+    match position {
+        Position::Made(Aim::Check) | Position::Locking(Aim::Check) | Position::Waiting => {
+            entered(start(BarrierCall::Poll, position))
+        }
+        _ => None,
+    }
+}
+
+// Where a party is that has come to this place.
+fn entered(first: Option<Place>) -> Option<Left>
+    ensures { result ≡ entered_at first }
+{
+    match first {
+        Some(first) => Some(Left::Outside(Position::At(first))),
+        None => None,
     }
 }
 
@@ -196,7 +232,7 @@ impl Carries for BarrierParty {
 
     type Shared = RawBarrier;
 
-    type Call = BarrierCall;
+    type Call = Call;
 
     type Place = Left;
 
@@ -216,13 +252,11 @@ impl Carries for BarrierParty {
 
     ghost tells = { Tells };
 
-    fn start(call: BarrierCall, place: Left) -> Option<Left> {
-        match place {
-            Left::Outside(position) => match start(call, position) {
-                Some(first) => Some(Left::Outside(Position::At(first))),
-                None => None,
-            },
-            Left::Ready { .. } => None,
+    fn start(call: Call, place: Left) -> Option<Left> {
+        match (call, place) {
+            (Call::Of(call), Left::Outside(position)) => entered(start(call, position)),
+            (Call::PollCounted, Left::Outside(position)) => start_counted(position),
+            (_, Left::Ready { .. }) => None,
         }
     }
 
@@ -284,7 +318,7 @@ impl BarrierParty {
     ) -> Found
         requires lock { lock.Stands raw.now.inner.words self.old.lock self.old.lock_place }
         requires tied { IsTied raw.now.list.name.id self.old.entry self.old.owed }
-        requires can { CanDo action self.old }
+        requires can { CanDo raw.now action self.old }
         ensures lock { lock.Stands raw.now.inner.words self.new.lock self.new.lock_place }
         ensures tied { IsTied raw.now.list.name.id self.new.entry self.new.owed }
         ensures does { Does raw.now cx.new action result self.old self.new }

@@ -3,7 +3,7 @@
 ghost use Rattle.std.specs.Prelude.{◌≡◌, false, IfSome, IsSome, IsSomeAnd, None};
 ghost use Rattle.futures.specs.Task.{Covers, Keeps};
 ghost use Rattle.async_driver.specs.Turns.{OnPending};
-ghost use Rattle.async_barrier.specs.Futures.{IsTurn, Polled, Waits, entry_of, locking_of};
+ghost use Rattle.async_barrier.specs.Futures.{IsCountedIn, IsTurn, KeepsCountIn, OnAgain, Polled, Waits, entry_of, locking_of};
 ghost use Rattle.async_barrier.specs.Parties.{IsReceipt};
 
 use crate::barrier::{Barrier, BarrierWaitResult};
@@ -69,12 +69,15 @@ impl<R: Wait + Clock> BarrierWait<'_, R> {
     /// the wait may be polled again: an arrival that wasn't counted begins anew, and one that was stays counted. Once it was
     /// ready it is refused as [`Refusal::Finished`], and nothing changes (`turn`).
     ///
+    /// An arrival that was counted stays counted while the wait isn't ready (`counted`).
+    ///
     /// Pending, it has an entry in the barrier's list or in the inner lock's that keeps a waker of the task that polls
     /// (`receipt`). The task has registered with the barrier's source (`registered`), and keeps what it had registered before
     /// (`kept`).
     pub fn poll(&mut self, cx: &mut Context<'_>) -> Turn<BarrierWaitResult>
         ensures turn { IsTurn self.old.is_over result self.new.is_over }
         ensures barrier { self.new.barrier ≡ self.old.barrier }
+        ensures counted { OnAgain result (IsCountedIn self.old.waiting → IsCountedIn self.new.waiting) }
         ensures receipt { OnPending result (IsReceipt self.old.barrier.raw cx.new (entry_of self.new.waiting) (locking_of self.new.waiting)) }
         ensures registered { OnPending result (Covers cx.new (λ s. s ≡ self.old.barrier.raw.inner.words.source)) }
         ensures kept { Keeps cx.old cx.new }
@@ -119,6 +122,7 @@ fn poll_in_place<R: Wait + Clock>(
 ) -> WaitEnd
     requires { IfSome waiting.old (Waits raw.now) }
     ensures polled { IsSomeAnd waiting.new (Polled raw.now cx.new result) }
+    ensures counted { KeepsCountIn waiting.old result waiting.new }
     ensures kept { Keeps cx.old cx.new }
 {
     if waiting.is_none() {
@@ -146,6 +150,10 @@ fn first(raw: &RawBarrier) -> Waiting
 
 impl<R: Wait + Clock> Polled for BarrierWait<'_, R> {
     type Got = BarrierWaitResult;
+
+    ghost use Rattle.async_barrier.specs.Futures.{CanRefuse};
+
+    ghost refuses = { λ wait. CanRefuse wait.is_over };
 
     fn poll_turn(&mut self, cx: &mut Context<'_>) -> Turn<BarrierWaitResult> {
         self.poll(cx)

@@ -1,8 +1,7 @@
 -- What a pending maker may still fail with, it promised before.
-use Rattle.std.specs.Bool.{⊤}
-use Rattle.std.proofs.Common.{◌≡◌, ◌⊎◌, inl, inr, ℕ, Option, Some, None, sym, subst}
-use Rattle.std.specs.Option.{IfSome, IsSomeAnd}
-use Rattle.std.specs.Prelude.{Result, Ok, Err, IfOk}
+use Rattle.std.proofs.Common.{◌≡◌, ◌⊎◌, inl, inr, ℕ, Bool, false, Option, Some, None, sym, subst, ◌∙◌}
+use Rattle.std.specs.Option.{IfSome}
+use Rattle.std.specs.Prelude.{Result, Ok, Err, IfOk, IfErr}
 use Rattle.async_once_cell.specs.Faults.{FailedSo}
 use Rattle.lock_program.specs.declared.refusal.Refusal.{Refusal}
 use denote.Ref.{Bor}
@@ -10,7 +9,7 @@ use Rattle.async_driver.specs.declared.waiting_list.Listed.{Listed}
 use Rattle.async_driver.specs.declared.turn.Turn.{Turn}
 use Rattle.async_driver.specs.declared.turn.Turn.TheVariants.{Pending, Ready, Refused}
 use Rattle.async_driver.specs.Turns.{OnPending}
-use Rattle.async_once_cell.specs.Futures.{FailsSo}
+use Rattle.async_once_cell.specs.Futures.{CanRefuse, FailsSo}
 use Rattle.async_once_cell.specs.Stages.{IsAwaiting}
 use Rattle.futures.specs.declared.task.context.Context.{Context}
 use Rattle.once_cell_driver.specs.Cells.{Cell}
@@ -35,6 +34,10 @@ module _ {T E M : Type 0} (gives : M → Result T E → Type 0) (needs : M → �
   pub fails : (entry : Option Listed) → IsAwaiting gives needs cell cx old now entry → (x : Result (Result (Unit {0}) E) Refusal) → IfOk x (FailedSo gives now) → IfOk x (FailedSo gives old)
   fails entry r (Ok x) f = failed entry r x f
   fails entry r (Err e) f = tt
+
+-- while a future is pending it may refuse as before
+pub refuses_still : {X : Type 0} (was is : Bool) → (was ≡ false) × (is ≡ false) → (x : Result X Refusal) → IfErr x (CanRefuse is) → IfErr x (CanRefuse was)
+refuses_still was is e x = subst (λ b. IfErr x (CanRefuse is) → IfErr x (CanRefuse b)) (e.1 ∙ sym e.0) (λ f. f)
 
 -- a value that stays or goes is the one that it was
 pub carried : {X : Type 0} (old now origin : Option X) → IfSome old (λ v. origin ≡ Some v) → (now ≡ None) ⊎ (now ≡ old) → IfSome now (λ v. origin ≡ Some v)

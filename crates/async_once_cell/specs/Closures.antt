@@ -1,5 +1,5 @@
 -- What a closure and its future are to a cell, as its maker.
-use Rattle.std.specs.Prelude.{◌≡◌, ℕ, ⊤, Result, IsOkAnd}
+use Rattle.std.specs.Prelude.{ℕ, ⊤, Result, IsOkAnd}
 use Rattle.async_once_cell.specs.declared.makers.Making.{Making}
 use Rattle.async_once_cell.specs.declared.makers.Making.TheVariants as makes
 use Rattle.async_once_cell.specs.declared.makers.Trying.{Trying}

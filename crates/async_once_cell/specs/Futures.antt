@@ -6,6 +6,7 @@ use Rattle.async_driver.specs.declared.turn.Turn.TheVariants.{Pending, Ready, Re
 use Rattle.async_driver.specs.declared.waiting_list.Listed.{Listed}
 use Rattle.async_once_cell.specs.Stages.{Future}
 use Rattle.async_once_cell.specs.declared.makers.Given.{Given}
+use Rattle.lock_program.specs.declared.refusal.Refusal.{Refusal}
 use Rattle.lock_program.specs.declared.refusal.Refusal.TheVariants.{Finished, Memory}
 
 -- a wait: its cell, whether it was ready before, and its entry in the cell's list of those that wait
@@ -49,6 +50,11 @@ IsTurn got was Pending is = (was ≡ false) × (is ≡ false)
 IsTurn got was (Refused Finished) is = (was ≡ true) × (is ≡ true)
 IsTurn got was (Refused Memory) is = (was ≡ false) × (is ≡ false)
 IsTurn got was (Refused _) is = ⊥
+
+-- how a future may refuse: as finished where it is over, and else for memory
+abbrev pub CanRefuse : Bool → Refusal → Type 0
+CanRefuse true refusal = refusal ≡ Finished
+CanRefuse false refusal = refusal ≡ Memory
 
 -- a fact of a poll that was refused for memory
 abbrev pub OnMemory : {G : Type 0} → Turn G → Type 0 → Type 0

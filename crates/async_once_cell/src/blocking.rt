@@ -1,8 +1,9 @@
 //! The futures that blocking calls wait for. What they give borrows nothing: the cell's value is read afterwards.
 
-ghost use Rattle.std.specs.Prelude.{◌≡◌, IfOk, IfSome, Some};
+ghost use Rattle.std.specs.Prelude.{◌≡◌, IfErr, IfOk, IfSome, Some, false};
 ghost use Rattle.async_once_cell.specs.Closures.{CanMake, CanTry, TryGives};
 ghost use Rattle.async_once_cell.specs.Faults.{BackSo, FailedSo};
+ghost use Rattle.async_once_cell.specs.Futures.{CanRefuse};
 ghost use Rattle.futures.specs.Poll.{IfReady, OnPending};
 ghost use Rattle.futures.specs.Task.{Covers, Keeps};
 
@@ -25,6 +26,8 @@ pub(crate) struct BlockedWait<F>(pub(crate) F);
 impl<'a, T: Drop, R: Waits + Clock> Future for BlockedWait<Wait<'a, T, R>> {
     type Output = Result<(), Refusal>;
 
+    ghost gives = { λ b got. IfErr got (CanRefuse b.0.is_over) };
+
     fn poll(&mut self, cx: &mut Context<'_>) -> Poll<Result<(), Refusal>> {
         match self.0.poll(cx) {
             Turn::Pending => Poll::Pending,
@@ -43,6 +46,8 @@ impl<'a, T: Drop, R: Waits + Clock, F: FnOnce() -> Fut, Fut: Future<Output = T>>
     type Output = Result<(), Refusal>;
 
     ghost can_poll = { λ b. IfSome b.0.maker (CanMake F.pre F.post Fut.can_poll) };
+
+    ghost gives = { λ b got. IfErr got (CanRefuse b.0.is_over) };
 
     fn poll(&mut self, cx: &mut Context<'_>) -> Poll<Result<(), Refusal>> {
         match self.0.poll(cx) {
@@ -69,7 +74,7 @@ impl<
 
     ghost can_poll = { λ b. IfSome b.0.maker (CanTry F.pre F.post Fut.can_poll) };
 
-    ghost gives = { λ b got. IfOk got (FailedSo (TryGives F.post Fut.gives) b.0.maker) };
+    ghost gives = { λ b got. IfOk got (FailedSo (TryGives F.post Fut.gives) b.0.maker) × IfErr got (CanRefuse b.0.is_over) };
 
     fn poll(&mut self, cx: &mut Context<'_>) -> Poll<Result<Result<(), E>, Refusal>> {
         match self.0.poll(cx) {
@@ -114,7 +119,8 @@ impl<'a, T: Drop, R: Waits, O: Origin<T>> Kept<'a, T, R, O> {
     fn poll(&mut self, cx: &mut Context<'_>) -> Poll<Result<Result<(), T>, Refusal>>
     where
         R: Clock,
-        ensures value { IfReady result (BackSo O.origin) }
+        ensures value { IfReady result (BackSo self.old.is_over O.origin) }
+        ensures over { OnPending result ((self.old.is_over ≡ false) × (self.new.is_over ≡ false)) }
         ensures registered { OnPending result (Covers cx.new (λ _. ⊥)) }
         ensures kept { Keeps cx.old cx.new }
     {
@@ -157,7 +163,7 @@ impl<'b, 'a, T: Drop, R: Waits + Clock, O: Origin<T>> Future for BlockedSet<'b, 
 
     ghost use Rattle.async_once_cell.specs.Faults.{BackSo};
 
-    ghost gives = { λ _ got. BackSo O.origin got };
+    ghost gives = { λ b got. BackSo b.0.now.is_over O.origin got };
 
     fn poll(&mut self, cx: &mut Context<'_>) -> Poll<Result<Result<(), T>, Refusal>> {
         let kept: &mut Kept<'a, T, R, O> = &mut *self.0;

@@ -148,7 +148,9 @@ impl<T: Drop, R: Waits> OnceCell<T, R> {
 impl<T: Drop, R: Waits + Clock + RandomSource + AllocGlobal> OnceCell<T, R> {
     /// Waits for the value, blocking the calling thread until the cell has one. Any error of `block_on` is
     /// [`Refusal::Memory`]; a cell that is full gives its value without.
-    pub fn wait_blocking(&self) -> Result<&T, Refusal> {
+    pub fn wait_blocking(&self) -> Result<&T, Refusal>
+        ensures memory { IfErr result (λ refusal. refusal ≡ Refusal.Memory) }
+    {
         if let Some(value) = self.get() {
             return Ok(value);
         }
@@ -173,6 +175,7 @@ impl<T: Drop, R: Waits + Clock + RandomSource + AllocGlobal> OnceCell<T, R> {
     /// Any error of `block_on` is [`Refusal::Memory`]; a cell that is full gives its value without.
     pub fn get_or_init_blocking<F: FnOnce() -> T>(&self, closure: F) -> Result<&T, Refusal>
         requires { F.pre closure }
+        ensures memory { IfErr result (λ refusal. refusal ≡ Refusal.Memory) }
     {
         if let Some(value) = self.get() {
             return Ok(value);
@@ -193,13 +196,13 @@ impl<T: Drop, R: Waits + Clock + RandomSource + AllocGlobal> OnceCell<T, R> {
     /// Returns the value, which the closure makes if the cell is empty and it doesn't fail. It blocks the calling thread while another
     /// makes the value. Any error of `block_on` is [`Refusal::Memory`]; a cell that is full gives its value without.
     ///
-    /// A failure is what the closure answered.
+    /// A failure is what the closure answered; it is refused for memory alone (`fault`).
     pub fn get_or_try_init_blocking<E: Drop, F: FnOnce() -> Result<T, E>>(
         &self,
         closure: F,
     ) -> Result<&T, InitFault<E>>
         requires { F.pre closure }
-        ensures { IfErr result (FaultOf (F.post closure)) }
+        ensures fault { IfErr result (FaultOf (F.post closure)) }
     {
         if let Some(value) = self.get() {
             return Ok(value);

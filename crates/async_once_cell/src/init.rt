@@ -122,12 +122,14 @@ impl<
     type Got = Result<&'a T, E>;
 
     ghost use Rattle.async_once_cell.specs.Closures.{CanTry, TryGives};
-    ghost use Rattle.async_once_cell.specs.Futures.{FailsSo};
+    ghost use Rattle.async_once_cell.specs.Futures.{CanRefuse, FailsSo};
     ghost use Rattle.std.specs.Prelude.{IfSome};
 
     ghost can_poll = { λ g. IfSome g.maker (CanTry F.pre F.post Fut.can_poll) };
 
     ghost gives = { λ g got. FailsSo (TryGives F.post Fut.gives) g.maker got };
+
+    ghost refuses = { λ g. CanRefuse g.is_over };
 
     fn poll_turn(&mut self, cx: &mut Context<'_>) -> Turn<Result<&'a T, E>> {
         self.poll(cx)
@@ -228,8 +230,11 @@ impl<'a, T: Drop, R: Wait + Clock, F: FnOnce() -> Fut, Fut: Future<Output = T>> 
 
     ghost use Rattle.async_once_cell.specs.Closures.{CanMake};
     ghost use Rattle.std.specs.Prelude.{IfSome};
+    ghost use Rattle.async_once_cell.specs.Futures.{CanRefuse};
 
     ghost can_poll = { λ g. IfSome g.maker (CanMake F.pre F.post Fut.can_poll) };
+
+    ghost refuses = { λ g. CanRefuse g.is_over };
 
     fn poll_turn(&mut self, cx: &mut Context<'_>) -> Turn<&'a T> {
         self.poll(cx)

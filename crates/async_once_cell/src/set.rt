@@ -117,7 +117,11 @@ impl<'a, T: Drop, R: Wait + Clock> Set<'a, T, R> {
 impl<'a, T: Drop, R: Wait + Clock> Polled for Set<'a, T, R> {
     type Got = Result<&'a T, T>;
 
+    ghost use Rattle.async_once_cell.specs.Futures.{CanRefuse};
+
     ghost gives = { λ set got. IsSet set.value got };
+
+    ghost refuses = { λ set. CanRefuse set.is_over };
 
     fn poll_turn(&mut self, cx: &mut Context<'_>) -> Turn<Result<&'a T, T>> {
         self.poll(cx)

@@ -85,6 +85,10 @@ impl<'a, T: Drop, R: Waits + Clock> Wait<'a, T, R> {
 impl<'a, T: Drop, R: Waits + Clock> Polled for Wait<'a, T, R> {
     type Got = &'a T;
 
+    ghost use Rattle.async_once_cell.specs.Futures.{CanRefuse};
+
+    ghost refuses = { λ wait. CanRefuse wait.is_over };
+
     fn poll_turn(&mut self, cx: &mut Context<'_>) -> Turn<&'a T> {
         self.poll(cx)
     }

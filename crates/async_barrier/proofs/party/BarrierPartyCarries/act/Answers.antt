@@ -1,5 +1,5 @@
 -- The party goes on to what its next standing says.
-use Rattle.std.proofs.Common.{◌≡◌, IfSome, sym, subst}
+use Rattle.std.proofs.Common.{IfSome, sym, subst}
 use Rattle.async_barrier.specs.Actions.{CanDo, Does}
 use Rattle.async_barrier.specs.Parties.{Stands, Standing, Tells, end_after, next_standing}
 use Rattle.async_barrier.proofs.Goes.{can, goes}
@@ -10,7 +10,7 @@ pub carry_out-requires-clause-can : goal.carry_out-requires-clause-can
 carry_out-requires-clause-can g c =
     let raw = c.args.shared.now in
     let party = c.args.self.now in
-    subst (λ (a : Action). CanDo a party) (sym c.action_at.ensures) (can raw party c.in-Some.place (subst (Stands raw party) c.in-Some.ensures c.requires))
+    subst (λ (a : Action). CanDo raw a party) (sym c.action_at.ensures) (can raw party c.in-Some.place (subst (Stands raw party) c.in-Some.ensures c.requires))
 
 pub returns-in-Some-clause-found : goal.returns-in-Some-clause-found
 returns-in-Some-clause-found g c =
