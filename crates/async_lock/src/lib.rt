@@ -2,12 +2,12 @@
 //!
 //! [`Mutex`] guards a value for one task at a time, [`RwLock`] for many that read it or one that writes it; a [`Semaphore`] has
 //! permits, of which a task acquires one or several; a [`OnceCell`] gets a value once; at a [`Barrier`] tasks wait for each other.
-//! Each is made with a runtime, which it keeps, and its guards and futures
-//! reach the runtime through it. A future is polled for a [`Turn`]; [`Settled`] makes it a `Future` of the kit's `futures`, and the
-//! blocking forms wait in the calling thread.
+//! Each is made with a runtime, which it keeps, and its guards and futures reach the runtime through it. A future is polled for a
+//! [`Turn`]; [`Settled`] makes it a `Future` of the kit's `futures`, and the blocking forms wait in the calling thread.
 //!
 //! Each lock carries out a program, a table of single actions, and the theorems about all interleavings are proved
-//! of the same table: [`lock_core`] has the Worlds in which parties move by it, and [`lock_audit`] a book of one.
+//! of the same table: [`lock_core`] has the Worlds in which parties move by it, and [`lock_audit`] a book of one. (The semaphore
+//! carries out a table of several permits; its World's table is of single ones.)
 //! This crate has no code of its own: the types stand in `async_mutex`, `async_rwlock`, `async_semaphore`, `async_once_cell` and
 //! `async_barrier`.
 #![tactic(auto)]

@@ -5,11 +5,12 @@ mod barrier;
 mod once_cell;
 mod rows;
 mod rwlock;
+mod semaphore;
 mod threads;
 mod timing;
 mod waiting;
 
-use async_lock::{Barrier, Mutex, OnceCell, RwLock};
+use async_lock::{Barrier, Mutex, OnceCell, RwLock, Semaphore};
 use barrier::{RoundOfFour, RoundOfOne};
 use futures::test::MockTask;
 use once_cell::{Get, InitReady, NewSetAndEnd, WaitReady};
@@ -145,6 +146,46 @@ where
     Ok(())
 }
 
+/// What is timed of a semaphore.
+const ACQUIRES: [(&str, semaphore::Use); 7] = [
+    ("try_acquire and drop", semaphore::Use::TryAcquire),
+    (
+        "try_acquire_many of three and drop",
+        semaphore::Use::TryMany,
+    ),
+    ("try_acquire_many of too many", semaphore::Use::TryInVain),
+    ("acquire ready and drop", semaphore::Use::Acquire),
+    ("acquire_arc ready and drop", semaphore::Use::AcquireArc),
+    ("available_permits", semaphore::Use::Available),
+    (
+        "add_permits, try_acquire, forget",
+        semaphore::Use::AddAndForget,
+    ),
+];
+
+/// A semaphore.
+fn print_semaphores<R>(rt: &R, task: &MockTask) -> io::Result<()>
+where
+    R: Wait + Clock + Print + AllocGlobal + Copy + Drop,
+{
+    let Ok(semaphore) = Semaphore::new(*rt, 5) else {
+        return Err(io::Error::other("no memory for a semaphore"));
+    };
+    let Ok(semaphore) = Arc::new(rt.alloc(), semaphore) else {
+        return Err(io::Error::other("no memory for a semaphore"));
+    };
+    let semaphore = &semaphore;
+    for (name, of) in ACQUIRES {
+        let row = semaphore::Pair {
+            semaphore,
+            task,
+            of,
+        };
+        print(rt, name, &row, OFTEN)?;
+    }
+    Ok(())
+}
+
 /// A once-cell.
 fn print_cells<R>(rt: &R, task: &MockTask) -> io::Result<()>
 where
@@ -246,6 +287,7 @@ where
     print(&rt, "new and drop", &NewPair { rt: &rt }, SELDOM)?;
     let task = &MockTask::new(&rt)?;
     print_rwlocks(&rt, task)?;
+    print_semaphores(&rt, task)?;
     print_cells(&rt, task)?;
     print_barriers(&rt, task)?;
     print_contenders(&rt, &owned)?;
