@@ -13,6 +13,7 @@ use Rattle.async_mutex.specs.Outcomes as outcomes
 use Rattle.futures.specs.declared.task.context.Context.{Context}
 use Rattle.lock_driver.specs.Parties.{IsGivenUp, IsReceipt}
 use Rattle.lock_place.specs.declared.room.Hold.{Hold}
+use Rattle.lock_program.specs.declared.refusal.Refusal.{Refusal}
 use Rattle.lock_program.specs.declared.refusal.Refusal.TheVariants.{Finished}
 use Rattle.lock_words.specs.Lock.{Seated}
 use Rattle.lock_words.specs.Tries.{Holds}
@@ -64,3 +65,8 @@ IsTurn got was (Ready g) is = (was ≡ false) × (is ≡ true) × got g
 IsTurn got was Pending is = (was ≡ false) × (is ≡ false)
 IsTurn got was (Refused Finished) is = (was ≡ true) × (is ≡ true)
 IsTurn got was (Refused refusal) is = (was ≡ false) × (is ≡ false) × IsGivenUp refusal
+
+-- With which names a future refuses: one that is over as finished, any other for memory or for too many starved waiters.
+abbrev pub CanRefuse : Bool → Refusal → Type 0
+CanRefuse true refusal = refusal ≡ Finished
+CanRefuse false refusal = IsGivenUp refusal

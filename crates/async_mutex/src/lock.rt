@@ -109,9 +109,12 @@ impl<T, R: Wait + Clock, O: Owns<Mutex<T, R>>> LockFuture<T, R, O> {
 impl<T, R: Wait + Clock, O: Owns<Mutex<T, R>>> Polled for LockFuture<T, R, O> {
     type Got = Guard<T, R, O>;
 
-    ghost use Rattle.async_driver.specs.Stages.{IsOf};
+    ghost use Rattle.async_driver.specs.Stages.{IsOf, is_finished};
+    ghost use Rattle.async_mutex.specs.Futures.{CanRefuse};
 
     ghost gives = { λ future guard. IsOf O.lock_of future.stage guard.mutex };
+
+    ghost refuses = { λ future. CanRefuse (is_finished future.stage) };
 
     fn poll_turn(&mut self, cx: &mut Context<'_>) -> Turn<Guard<T, R, O>> {
         self.poll(cx)

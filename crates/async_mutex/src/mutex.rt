@@ -2,7 +2,8 @@
 
 ghost use Rattle.std.specs.Prelude.{◌≡◌, IfSome, IfOk, IfErr, None, ◌≤◌, false};
 ghost use Rattle.std.specs.Arc.{arc_value};
-ghost use Rattle.async_driver.specs.Stages.{IsFor};
+ghost use Rattle.async_driver.specs.Stages.{IsFor, is_finished};
+ghost use Rattle.lock_driver.specs.Parties.{IsGivenUp};
 ghost use Rattle.async_mutex.specs.Outcomes.{Waits};
 ghost use Rattle.lock_words.specs.Tries.{Holds};
 ghost use Rattle.lock_program.specs.declared.refusal.Refusal.{Refusal};
@@ -98,6 +99,7 @@ impl<T, R: Wait> Mutex<T, R> {
     /// A future of the lock, which does nothing until it is polled.
     pub fn lock(&self) -> Lock<'_, T, R>
         ensures mutex { IsFor (λ o. o.now) result.stage self.now }
+        ensures new { is_finished result.stage ≡ false }
         ensures entry { result.entry ≡ None }
     {
         LockFuture::new(Stage::Waits(self))
@@ -136,6 +138,7 @@ impl<T: Drop, R: Wait + Drop> Mutex<T, R> {
     #[inline]
     pub fn lock_arc(this: &Arc<Mutex<T, R>>) -> LockArc<T, R>
         ensures mutex { IsFor arc_value result.stage (arc_value this.now) }
+        ensures new { is_finished result.stage ≡ false }
         ensures entry { result.entry ≡ None }
     {
         LockFuture::new(Stage::first::<Mutex<T, R>>(Arc::try_clone(this).ok()))
@@ -144,9 +147,10 @@ impl<T: Drop, R: Wait + Drop> Mutex<T, R> {
 
 impl<T: Drop, R: Wait + Clock + RandomSource + AllocGlobal> Mutex<T, R> {
     /// Acquires the lock, blocking the calling thread until it is available. Any error of `block_on` is
-    /// [`Refusal::Memory`].
+    /// [`Refusal::Memory`]. It is refused as this, or as [`Refusal::Starved`] (`refused`).
     pub fn lock_blocking(&self) -> Result<MutexGuard<'_, T, R>, Refusal>
-        ensures { IfOk result (λ guard. guard.mutex ≡ self.now) }
+        ensures mutex { IfOk result (λ guard. guard.mutex ≡ self.now) }
+        ensures refused { IfErr result IsGivenUp }
     {
         if let Some(guard) = self.try_lock() {
             return Ok(guard);
@@ -161,7 +165,8 @@ impl<T: Drop, R: Wait + Clock + RandomSource + AllocGlobal> Mutex<T, R> {
 impl<T: Drop, R: Wait + Clock + RandomSource + AllocGlobal + Drop> Mutex<T, R> {
     /// As [`Mutex::lock_blocking`], for a guard that owns its share of the mutex.
     pub fn lock_arc_blocking(this: &Arc<Mutex<T, R>>) -> Result<MutexGuardArc<T, R>, Refusal>
-        ensures { IfOk result (λ guard. guard.mutex ≡ arc_value this.now) }
+        ensures mutex { IfOk result (λ guard. guard.mutex ≡ arc_value this.now) }
+        ensures refused { IfErr result IsGivenUp }
     {
         if let Some(guard) = Mutex::try_lock_arc(this) {
             return Ok(guard);
