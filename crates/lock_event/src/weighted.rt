@@ -1,6 +1,6 @@
 //! A list whose entries have weights, of which at most one is notified at a time.
 
-ghost use Rattle.std.specs.Prelude.{◌≡◌, ℕ, ◌+◌, ◌<◌, ◌≤◌, ◌^◌, [], length, true, false, IsTrue, IfOk, OnOk, OnErr, IsOk, IfSome, Some, None};
+ghost use Rattle.std.specs.Prelude.{◌≡◌, ℕ, ◌+◌, ◌<◌, ◌≤◌, ◌^◌, [], length, true, false, IsTrue, IfOk, OnOk, OnErr, IsOk, IfSome, Some, None, slice_get};
 ghost use Rattle.lock_event.specs.Lists.{joined, marked_count, with_key, is_marked_at, without, is_marked, IsListed, is_listed};
 ghost use Rattle.lock_event.specs.Slots.{has_id};
 ghost use Rattle.lock_event.specs.Chains.{is_in, at_slot, rewritten, with_waker};
@@ -146,6 +146,14 @@ impl<W: Drop> WeightedEvent<W> {
         ensures { result ≡ length self.now.entries }
     {
         self.chain.len()
+    }
+
+    /// The entry at this place, counted from the front. It walks there.
+    pub fn entry(&self, index: usize) -> &Entry<Slot<Load<W>>>
+        requires { index < length self.now.entries }
+        ensures { slice_get self.now.entries index ≡ Some result.now }
+    {
+        self.chain.entry(index)
     }
 
     /// How many slots the last [`WeightedEvent::fit`] or [`WeightedEvent::remove`] visited. It is 0 before

@@ -4,43 +4,70 @@ use Rattle.std.specs.Prelude.{if◌then◌else◌, Option, None, Some, bytes_eq,
 use Rattle.world_base.specs.declared.moves.Call.{Call}
 use Rattle.world_base.specs.declared.moves.Call.TheVariants as call
 use Rattle.std.specs.Str.Parse.{digits_value}
-use Rattle.lockrun_script.specs.Commands.{BeginsWithCall, IsWordOf, TakesNumber}
+use Rattle.lockrun_script.specs.Commands.{AsksPermits, BeginsWithCall, IsWordOf, TakesNumber}
 use Rattle.lockrun_script.specs.Lines.{IsNumber, Writes}
 
--- a call is begun by a word that names it alone, or by one that names it with the number after it
-begins : (words others : List (List ℕ)) (c : Call) → BeginsWithCall words c others → ((word : List ℕ) × (words ≡ word ∷ others) × IsWordOf word c) ⊎ ((word digits : List ℕ) × (v : ℕ) × (words ≡ word ∷ digits ∷ others) × Writes digits v × TakesNumber word v c)
-begins words others (call.Put v) (w, a, h) = inr (_, w, v, a, h, (refl, refl))
-begins words others (call.AddPermits v) (w, a, h) = inr (_, w, v, a, h, (refl, refl))
-begins words others (call.Set v) (w, a, h) = inr (_, w, v, a, h, (refl, refl))
-begins words others (call.TrySet v) (w, a, h) = inr (_, w, v, a, h, (refl, refl))
+-- a call is begun by a word that names it alone, by one that names it with the number after it, or by one that names it with permits
+abbrev Alone : List (List ℕ) → List (List ℕ) → Call → Type 0
+Alone words others c = (word : List ℕ) × (words ≡ word ∷ others) × IsWordOf word c
+
+abbrev WithNumber : List (List ℕ) → List (List ℕ) → Call → Type 0
+WithNumber words others c = (word digits : List ℕ) × (v : ℕ) × (words ≡ word ∷ digits ∷ others) × Writes digits v × TakesNumber word v c
+
+abbrev WithPermits : List (List ℕ) → List (List ℕ) → Call → Type 0
+WithPermits words others c = (word : List ℕ) × (after : List (List ℕ)) × (words ≡ word ∷ after) × AsksPermits word after c others
+
+begins : (words others : List (List ℕ)) (c : Call) → BeginsWithCall words c others → Alone words others c ⊎ (WithNumber words others c ⊎ WithPermits words others c)
+begins words others (call.Put v) (w, a, h) = inr (inl (_, w, v, a, h, (refl, refl)))
+begins words others (call.AddPermits v) (w, a, h) = inr (inl (_, w, v, a, h, (refl, refl)))
+begins words others (call.Set v) (w, a, h) = inr (inl (_, w, v, a, h, (refl, refl)))
+begins words others (call.TrySet v) (w, a, h) = inr (inl (_, w, v, a, h, (refl, refl)))
+begins words others (call.Acquire k) h = inr (inr h)
+begins words others (call.TryAcquire k) h = inr (inr h)
 begins words others c h = inl h
 
--- a word that names no call alone, with no number after it, begins none
-pub no_call : (words after others : List (List ℕ)) (word : List ℕ) (c : Call) → words ≡ word ∷ after → ¬ IsWordOf word c → ((w : List ℕ) (rest : List (List ℕ)) → after ≡ w ∷ rest → ¬ IsNumber w) → ¬ BeginsWithCall words c others
-no_call words after others word c e alone none h = elim (begins words others c h) [
+-- a word that asks for permits begins the call that it asks for
+pub permits_begin : (words after others : List (List ℕ)) (word : List ℕ) (c : Call) → words ≡ word ∷ after → AsksPermits word after c others → BeginsWithCall words c others
+permits_begin words after others word (call.Acquire k) e h = (word, after, e, h)
+permits_begin words after others word (call.TryAcquire k) e h = (word, after, e, h)
+permits_begin words after others word _ e h = absurd h
+
+-- a word that names no call alone and asks for no permits, with no number after it, begins none
+pub no_call : (words after others : List (List ℕ)) (word : List ℕ) (c : Call) → words ≡ word ∷ after → ¬ IsWordOf word c → ¬ AsksPermits word after c others → ((w : List ℕ) (rest : List (List ℕ)) → after ≡ w ∷ rest → ¬ IsNumber w) → ¬ BeginsWithCall words c others
+no_call words after others word c e alone permits none h = elim (begins words others c h) as (λ _. ⊥) [
   | inl (w, a, d) ↦
       let both : word ∷ after ≡ w ∷ others = sym e ∙ a in
       let same : w ≡ word = cc in
       alone (subst (λ x. IsWordOf x c) same d)
-  | inr (w, digits, v, a, writes, d) ↦
+  | inr (inl (w, digits, v, a, writes, d)) ↦
       let both : word ∷ after ≡ w ∷ digits ∷ others = sym e ∙ a in
       let next : after ≡ digits ∷ others = cc in
       none digits others next writes.0
+  | inr (inr (w, rest, a, d)) ↦
+      let both : word ∷ after ≡ w ∷ rest = sym e ∙ a in
+      let same : w ≡ word = cc in
+      let next : rest ≡ after = cc in
+      permits (subst (λ x. AsksPermits word x c others) next (subst (λ x. AsksPermits x rest c others) same d))
 ]
 
--- a word that names no call alone begins the one that it names with the number after it
-pub numbered : (words after others left : List (List ℕ)) (word digits : List ℕ) (n : ℕ) (r : Option Call) (c : Call) → words ≡ word ∷ after → ¬ IsWordOf word c → after ≡ digits ∷ left → Writes digits n → (TakesNumber word n c → r ≡ Some c) → BeginsWithCall words c others → (r ≡ Some c) × (left ≡ others)
-numbered words after others left word digits n r c e alone are writes named h = elim (begins words others c h) [
+-- a word that names no call alone and asks for no permits begins the one that it names with the number after it
+pub numbered : (words after others left : List (List ℕ)) (word digits : List ℕ) (n : ℕ) (r : Option Call) (c : Call) → words ≡ word ∷ after → ¬ IsWordOf word c → ¬ AsksPermits word after c others → after ≡ digits ∷ left → Writes digits n → (TakesNumber word n c → r ≡ Some c) → BeginsWithCall words c others → (r ≡ Some c) × (left ≡ others)
+numbered words after others left word digits n r c e alone permits are writes named h = elim (begins words others c h) as (λ _. (r ≡ Some c) × (left ≡ others)) [
   | inl (w, a, d) ↦
       let both : word ∷ after ≡ w ∷ others = sym e ∙ a in
       let same : w ≡ word = cc in
       absurd (alone (subst (λ x. IsWordOf x c) same d))
-  | inr (w, number, v, a, written, d) ↦
+  | inr (inl (w, number, v, a, written, d)) ↦
       let both : word ∷ after ≡ w ∷ number ∷ others = sym e ∙ a in
       let same : w ≡ word = cc in
       let read : number ≡ digits = cc in
       let value : v ≡ n = written.1 ∙ ap (digits_value 10) read ∙ sym writes.1 in
       (named (subst (λ x. TakesNumber x n c) same (subst (λ x. TakesNumber w x c) value d)), cc)
+  | inr (inr (w, rest, a, d)) ↦
+      let both : word ∷ after ≡ w ∷ rest = sym e ∙ a in
+      let same : w ≡ word = cc in
+      let next : rest ≡ after = cc in
+      absurd (permits (subst (λ x. AsksPermits word x c others) next (subst (λ x. AsksPermits x rest c others) same d)))
 ]
 
 -- the call that a word names, if it takes no number
@@ -58,8 +85,6 @@ named_call word =
     if bytes_eq word (codes "tryupgrade") then Some call.TryUpgrade else
     if bytes_eq word (codes "downgrade") then Some call.Downgrade else
     if bytes_eq word (codes "toupgradable") then Some call.DowngradeToUpgradable else
-    if bytes_eq word (codes "acquire") then Some call.Acquire else
-    if bytes_eq word (codes "tryacquire") then Some call.TryAcquire else
     if bytes_eq word (codes "forget") then Some call.Forget else
     if bytes_eq word (codes "init") then Some call.Initialize else
     if bytes_eq word (codes "wait") then Some call.Wait else
@@ -81,13 +106,13 @@ named word call.Upgrade h = ap named_call h
 named word call.TryUpgrade h = ap named_call h
 named word call.Downgrade h = ap named_call h
 named word call.DowngradeToUpgradable h = ap named_call h
-named word call.Acquire h = ap named_call h
-named word call.TryAcquire h = ap named_call h
 named word call.Forget h = ap named_call h
 named word call.Initialize h = ap named_call h
 named word call.Wait h = ap named_call h
 named word call.Poll h = ap named_call h
 named word call.Drop h = ap named_call h
+named word (call.Acquire n) h = absurd h
+named word (call.TryAcquire n) h = absurd h
 named word (call.Put n) h = absurd h
 named word (call.AddPermits n) h = absurd h
 named word (call.Set n) h = absurd h

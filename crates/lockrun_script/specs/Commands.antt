@@ -1,5 +1,5 @@
 -- What a line's words ask for.
-use Rattle.std.specs.Prelude.{◌≡◌, ℕ, ◌≤◌, List, [], ◌∷◌, codes, Option, None, Some}
+use Rattle.std.specs.Prelude.{◌≡◌, ◌⊎◌, ℕ, ◌≤◌, List, [], ◌∷◌, codes, Option, None, Some}
 use Rattle.world_base.specs.declared.moves.Call.{Call}
 use Rattle.world_base.specs.declared.moves.Call.TheVariants as call
 use Rattle.world_base.specs.declared.moves.Inputs.{Inputs}
@@ -12,7 +12,7 @@ use Rattle.lockrun_script.specs.declared.command.Model.TheVariants.{Mutex, RwLoc
 use Rattle.lockrun_script.specs.declared.command.Request.TheVariants.{Step, Whole, Put, Take, Show}
 use Rattle.lockrun_script.specs.Verbs.{name_of}
 use Rattle.lockrun_script.specs.Inputs.{WritesInputs}
-use Rattle.lockrun_script.specs.Lines.{Writes}
+use Rattle.lockrun_script.specs.Lines.{Writes, BeginsWithNoNumber}
 
 -- the words write this limit: one number, or no word where none is given
 abbrev pub WritesLimit : List (List ℕ) → Option ℕ → Type 0
@@ -62,8 +62,6 @@ IsWordOf word call.Upgrade = word ≡ codes "upgrade"
 IsWordOf word call.TryUpgrade = word ≡ codes "tryupgrade"
 IsWordOf word call.Downgrade = word ≡ codes "downgrade"
 IsWordOf word call.DowngradeToUpgradable = word ≡ codes "toupgradable"
-IsWordOf word call.Acquire = word ≡ codes "acquire"
-IsWordOf word call.TryAcquire = word ≡ codes "tryacquire"
 IsWordOf word call.Forget = word ≡ codes "forget"
 IsWordOf word call.Initialize = word ≡ codes "init"
 IsWordOf word call.Wait = word ≡ codes "wait"
@@ -79,12 +77,24 @@ TakesNumber word n (call.Set v) = (word ≡ codes "set") × (v ≡ n)
 TakesNumber word n (call.TrySet v) = (word ≡ codes "tryset") × (v ≡ n)
 TakesNumber word n _ = ⊥
 
+-- the words write so many permits, and the others follow: one number, or none, which stands for one permit
+abbrev pub WritesPermits : List (List ℕ) → ℕ → List (List ℕ) → Type 0
+WritesPermits words k others = ((word : List ℕ) × (words ≡ word ∷ others) × Writes word k) ⊎ ((words ≡ others) × (k ≡ 1) × BeginsWithNoNumber words)
+
+-- the word is that of a call for so many permits, which the words after it write, and the others follow
+abbrev pub AsksPermits : List ℕ → List (List ℕ) → Call → List (List ℕ) → Type 0
+AsksPermits word words (call.Acquire k) others = (word ≡ codes "acquire") × WritesPermits words k others
+AsksPermits word words (call.TryAcquire k) others = (word ≡ codes "tryacquire") × WritesPermits words k others
+AsksPermits word words _ others = ⊥
+
 -- the words begin with those of this call, and the others follow
 abbrev pub BeginsWithCall : List (List ℕ) → Call → List (List ℕ) → Type 0
 BeginsWithCall words (call.Put v) others = (word : List ℕ) × (words ≡ codes "put" ∷ word ∷ others) × Writes word v
 BeginsWithCall words (call.AddPermits n) others = (word : List ℕ) × (words ≡ codes "add" ∷ word ∷ others) × Writes word n
 BeginsWithCall words (call.Set v) others = (word : List ℕ) × (words ≡ codes "set" ∷ word ∷ others) × Writes word v
 BeginsWithCall words (call.TrySet v) others = (word : List ℕ) × (words ≡ codes "tryset" ∷ word ∷ others) × Writes word v
+BeginsWithCall words (call.Acquire k) others = (word : List ℕ) × (after : List (List ℕ)) × (words ≡ word ∷ after) × AsksPermits word after (call.Acquire k) others
+BeginsWithCall words (call.TryAcquire k) others = (word : List ℕ) × (after : List (List ℕ)) × (words ≡ word ∷ after) × AsksPermits word after (call.TryAcquire k) others
 BeginsWithCall words c others = (word : List ℕ) × (words ≡ word ∷ others) × IsWordOf word c
 
 -- the words after `begin` or `do`: a party's number, its call, and the inputs

@@ -1,5 +1,5 @@
 -- Lines, words and numbers of a script, over their bytes.
-use Rattle.std.specs.Prelude.{◌≡◌, ◌≢◌, ◌⊎◌, ℕ, ◌<◌, ◌≤◌, ◌^◌, ◌-◌, Bool, List, length, nat_lt, slice_get, None, Some, All, ◌==◌, filter}
+use Rattle.std.specs.Prelude.{◌≡◌, ◌≢◌, ◌⊎◌, ℕ, ◌<◌, ◌≤◌, ◌^◌, ◌-◌, Bool, List, [], ◌∷◌, length, nat_lt, slice_get, None, Some, All, ◌==◌, filter}
 use Rattle.std.specs.List.{slice_split}
 use Rattle.std.specs.Str.Parse.{digits_value}
 
@@ -45,3 +45,8 @@ pub record IsNumber (word : List ℕ) : Type 0 where
 -- the word is a number, and its digits write n
 abbrev pub Writes : List ℕ → ℕ → Type 0
 Writes word n = IsNumber word × (n ≡ digits_value 10 word)
+
+-- the first of these words, if there is one, is no number
+abbrev pub BeginsWithNoNumber : List (List ℕ) → Type 0
+BeginsWithNoNumber [] = Unit {0}
+BeginsWithNoNumber (word ∷ words) = ¬ IsNumber word

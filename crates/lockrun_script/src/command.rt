@@ -1,8 +1,9 @@
 //! What a line of a script asks for.
 
-ghost use Rattle.std.specs.Prelude.{◌≡◌, ◌↔◌, ◌≤◌, ℕ, List, [], ◌∷◌, Option, Some, IsSome, OnSome, IfSome};
+ghost use Rattle.std.specs.Prelude.{◌≡◌, ◌↔◌, ◌≤◌, ℕ, List, [], ◌∷◌, Option, Some, IsSome, OnSome, IfSome, IfNone};
 ghost use Rattle.world_base.specs.declared.moves.Call.{Call};
 ghost use Rattle.world_base.specs.declared.moves.Inputs.{Inputs};
+ghost use Rattle.lockrun_script.specs.Commands.{AsksPermits, WritesPermits};
 ghost use Rattle.lockrun_script.specs.Commands.{verb_of, AreNumbersAndLimit, AreNumbersAndLimits, AreOfCall, Asks, BeginsWithCall, Details, IsWordOf, TakesNumber};
 ghost use Rattle.lockrun_script.specs.Commands.{WritesLimit, WritesLimits};
 ghost use Rattle.lockrun_script.specs.declared.command.Command.{Command};
@@ -362,10 +363,37 @@ fn call(words: &mut Words<'_>) -> Option<Call>
         → (result ≡ Some c) × (words.new ≡ others) }
 {
     let word = words.next()?;
-    match plain_call(word) {
+    if let Some(call) = plain_call(word) {
+        return Some(call);
+    }
+    match permits_call(word, words) {
         Some(call) => Some(call),
         None => numbered_call(word, number(words)?),
     }
+}
+
+/// The call that a word names together with a number of permits, which the next word writes, or none, and
+/// then it is one permit. Where the word names no such call, nothing is taken.
+fn permits_call(word: &[u8], words: &mut Words<'_>) -> Option<Call>
+    ensures words { IfSome result (λ c. AsksPermits word.now words.old c words.new) }
+    ensures asked { (c : Call) (others : List (List ℕ)) → AsksPermits word.now words.old c others
+        → (result ≡ Some c) × (words.new ≡ others) }
+    ensures none { IfNone result (words.new ≡ words.old) }
+{
+    match word {
+        _ if is(word, b"acquire") => Some(Call::Acquire(permits(words))),
+        _ if is(word, b"tryacquire") => Some(Call::TryAcquire(permits(words))),
+        _ => None,
+    }
+}
+
+/// The number of permits that the next word writes; one, where it writes none or no word is left.
+fn permits(words: &mut Words<'_>) -> u64
+    ensures words { WritesPermits words.old result words.new }
+    ensures only { (k : ℕ) (others : List (List ℕ)) → WritesPermits words.old k others
+        → (result ≡ k) × (words.new ≡ others) }
+{
+    words.number().unwrap_or(1)
 }
 
 /// The call that a word names together with the number after it, if it takes one.
@@ -400,8 +428,6 @@ fn plain_call(word: &[u8]) -> Option<Call>
         _ if is(word, b"tryupgrade") => Some(Call::TryUpgrade),
         _ if is(word, b"downgrade") => Some(Call::Downgrade),
         _ if is(word, b"toupgradable") => Some(Call::DowngradeToUpgradable),
-        _ if is(word, b"acquire") => Some(Call::Acquire),
-        _ if is(word, b"tryacquire") => Some(Call::TryAcquire),
         _ if is(word, b"forget") => Some(Call::Forget),
         _ if is(word, b"init") => Some(Call::Initialize),
         _ if is(word, b"wait") => Some(Call::Wait),

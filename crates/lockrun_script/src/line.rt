@@ -1,9 +1,9 @@
 //! The lines of a script: their bytes, their words and their numbers.
 
-ghost use Rattle.std.specs.Prelude.{◌≡◌, ◌↔◌, ℕ, List, IsTrue, IfSome, IfNone};
+ghost use Rattle.std.specs.Prelude.{◌≡◌, ◌↔◌, ℕ, List, ◌∷◌, IsTrue, IfSome, IfNone};
 ghost use Rattle.std.specs.Iterator.{YieldsFirstRef, item_count};
 ghost use Rattle.std.specs.List.{before_first, after_first, position_or_len};
-ghost use Rattle.lockrun_script.specs.Lines.{words_of, is_byte, IsDecimal, IsPrintable, IsSkipped, IsTrimmed, IsNumber, Writes};
+ghost use Rattle.lockrun_script.specs.Lines.{words_of, is_byte, IsDecimal, IsPrintable, IsSkipped, IsTrimmed, IsNumber, Writes, BeginsWithNoNumber};
 
 use std::marker::Model;
 
@@ -77,6 +77,18 @@ impl<'a> Words<'a> {
         ensures { result ≡ words_of line.now }
     {
         Words { rest: line }
+    }
+
+    /// The number that the next word writes, which then is taken. Where it writes none, or no word is left,
+    /// nothing is taken.
+    pub fn number(&mut self) -> Option<u64>
+        ensures taken { IfSome result (λ n. (word : List ℕ) × (self.old ≡ word ∷ self.new) × Writes word n) }
+        ensures none { IfNone result ((self.new ≡ self.old) × BeginsWithNoNumber self.old) }
+    {
+        let mut ahead = Words { rest: self.rest };
+        let number = number(ahead.next()?)?;
+        self.rest = ahead.rest;
+        Some(number)
     }
 }
 

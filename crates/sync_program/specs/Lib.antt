@@ -1,4 +1,3 @@
-pub mod Semaphore
 pub mod OnceCell
 pub mod Barrier
 pub mod Permits

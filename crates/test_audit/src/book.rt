@@ -107,11 +107,11 @@ fn a_book_takes_a_read_write_lock(rt: HostRuntime) {
 }
 
 const PERMITS: [(Move, Answer); 6] = [
-    (begin!(0, Call::TryAcquire), Answer::Granted(Got::Plain)),
-    (begin!(1, Call::TryAcquire), Answer::None),
+    (begin!(0, Call::TryAcquire(1)), Answer::Granted(Got::Plain)),
+    (begin!(1, Call::TryAcquire(1)), Answer::None),
     (begin!(0, Call::Drop), Answer::Stepped),
     (go!(0), Answer::GivenBack),
-    (begin!(1, Call::Acquire), Answer::Ready(Got::Plain)),
+    (begin!(1, Call::Acquire(1)), Answer::Ready(Got::Plain)),
     (begin!(1, Call::Forget), Answer::GivenBack),
 ];
 

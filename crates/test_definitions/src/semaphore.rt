@@ -2,10 +2,10 @@
 
 ghost use Rattle.test_definitions.specs.Tables.{AreRowsOf, AreRowsOfTwo};
 ghost use Rattle.test_definitions.specs.SemaphoreTable.{beginnings, actions, followings};
-ghost use Rattle.sync_program.specs.Semaphore.{action_of, next_of};
+ghost use Rattle.sync_program.specs.Permits.{action_of, next_of};
 ghost use Rattle.world_semaphore.specs.machine.Program.{start_of};
 ghost use Rattle.test_definitions.specs.Never.{Never};
-ghost use Rattle.test_definitions.specs.Semaphore.{TriesInVain, TakesUndecided, GivesBackWithin, GivesBeforeItRaises, NotifiesForOthers, ForgetsInVain, RefusedThoughFree, RefusedAtLast, WaitsUnlisted, GoesOnUndecided, DecidesInVain, HasRefused, AddsAndTakes, TellsMore, TriesAndTells, ReturnsLate, ReturnsSilently, AddsSilently, AddsAfterTelling, PassesOverInVain, KeepsItsTold, TakesWhatWasTold, WakesTheNext, SleepsThoughFree, RefusedSilently};
+ghost use Rattle.test_definitions.specs.Semaphore.{TriesInVain, TakesUndecided, GivesBackWithin, GivesBeforeItRaises, TellsOfOthers, ForgetsInVain, RefusedThoughFree, RefusedAtLast, WaitsUnlisted, GoesOnUndecided, DecidesInVain, HasRefused, AddsAndTakes, TellsTwo, TriesAndTells, ReturnsLate, ReturnsSilently, AddsSilently, AddsAfterTelling, PassesOverInVain, KeepsItsTold, TakesWhatWasTold, DropsWhatWasTold, HandsOverInVain, WakesTheNext, SleepsThoughFree, SleepsBehindALargerOne, RefusedSilently, WaitsSilently, TakesOthers, TakesTooMany, ReadyWithoutAGuard, GoesOnWithTheOlder};
 
 /// Each clause says of one wrong run that it isn't legal.
 fn wrong_runs()
@@ -13,7 +13,7 @@ fn wrong_runs()
     ensures takes_undecided { Never (TakesUndecided) }
     ensures gives_back_within { Never (GivesBackWithin) }
     ensures gives_before_it_raises { Never (GivesBeforeItRaises) }
-    ensures notifies_for_others { Never (NotifiesForOthers) }
+    ensures tells_of_others { Never (TellsOfOthers) }
     ensures forgets_in_vain { Never (ForgetsInVain) }
     ensures refused_though_free { Never (RefusedThoughFree) }
     ensures refused_at_last { Never (RefusedAtLast) }
@@ -22,7 +22,7 @@ fn wrong_runs()
     ensures decides_in_vain { Never (DecidesInVain) }
     ensures has_refused { Never (HasRefused) }
     ensures adds_and_takes { Never (AddsAndTakes) }
-    ensures tells_more { Never (TellsMore) }
+    ensures tells_two { Never (TellsTwo) }
     ensures tries_and_tells { Never (TriesAndTells) }
     ensures returns_late { Never (ReturnsLate) }
     ensures returns_silently { Never (ReturnsSilently) }
@@ -31,9 +31,17 @@ fn wrong_runs()
     ensures passes_over_in_vain { Never (PassesOverInVain) }
     ensures keeps_its_told { Never (KeepsItsTold) }
     ensures takes_what_was_told { Never (TakesWhatWasTold) }
+    ensures drops_what_was_told { Never (DropsWhatWasTold) }
+    ensures hands_over_in_vain { Never (HandsOverInVain) }
     ensures wakes_the_next { Never (WakesTheNext) }
     ensures sleeps_though_free { Never (SleepsThoughFree) }
+    ensures sleeps_behind_a_larger_one { Never (SleepsBehindALargerOne) }
     ensures refused_silently { Never (RefusedSilently) }
+    ensures waits_silently { Never (WaitsSilently) }
+    ensures takes_others { Never (TakesOthers) }
+    ensures takes_too_many { Never (TakesTooMany) }
+    ensures ready_without_a_guard { Never (ReadyWithoutAGuard) }
+    ensures goes_on_with_the_older { Never (GoesOnWithTheOlder) }
 {}
 
 /// The programs' places, each with its action and what follows what it finds, as docs/PROGRAMS.md lists them.

@@ -76,8 +76,8 @@ do 0 upgrade write\n\
 do 0 add\n\
 do 0 add nomem\n\
 do 0 add 1 2\n\
-do 0 acquire 1\n\
-do 0 tryacquire 1\n\
+do 0 acquire 1 1\n\
+do 0 tryacquire nomem 1\n\
 do 0 forget 1\n\
 do 0 set\n\
 do 0 set nomem\n\

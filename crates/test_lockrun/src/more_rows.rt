@@ -301,6 +301,26 @@ given back
 granted 0
 refused 1
 mutex locked=1 starved=0 value=0 list=[2n]
+== told-in-vain-hands-over
+semaphore 4 0
+do 0 acquire 2
+do 1 acquire 1
+do 3 add 2
+do 2 tryacquire 1
+show
+do 0 poll
+show
+do 1 poll
+=>
+ok
+pending
+pending
+granted
+granted
+semaphore available=1 limit=2 list=[0n 1w]
+pending
+semaphore available=1 limit=2 list=[1n 0w]
+ready
 == too-many-permits-to-begin-with
 semaphore 1 3 2
 =>
@@ -398,4 +418,4 @@ rwlock turn=1 starved=0 writer=1 readers=0 value=0 turnlist=[] noreaders=[] nowr
 ";
 
 /// How many rows there are.
-pub const HOW_MANY: usize = 21;
+pub const HOW_MANY: usize = 22;

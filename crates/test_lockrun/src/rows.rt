@@ -56,7 +56,7 @@ stepped
 stepped
 stepped
 refused 1
-semaphore available=0 limit=1 list=[2n]
+semaphore available=0 limit=1 list=[2w]
 given back
 ready
 == added-permit-wakes-one
@@ -389,6 +389,28 @@ ok
 ready leader
 refused 5
 barrier count=0 generation=1 locked=0 starved=0 lock=[] list=[]
+== larger-request-is-passed-over
+semaphore 4 3
+do 0 acquire 3
+do 1 acquire 3
+do 2 acquire 2
+do 3 add 2
+show
+do 2 poll
+do 0 drop
+show
+do 1 poll
+=>
+ok
+ready
+pending
+pending
+granted
+semaphore available=2 limit=5 list=[1w 2n]
+ready
+given back
+semaphore available=3 limit=5 list=[1n]
+ready
 == last-reader-wakes-the-writer
 rwlock 2 0
 do 0 read
@@ -434,4 +456,4 @@ mutex locked=1 starved=0 value=0 list=[1w]
 ";
 
 /// How many rows there are.
-pub const HOW_MANY: usize = 24;
+pub const HOW_MANY: usize = 25;

@@ -69,11 +69,11 @@ pub enum Call {
     Downgrade,
     /// Turns a write right into an upgradable one.
     DowngradeToUpgradable,
-    /// The first poll of an acquire.
-    Acquire,
-    /// Takes a permit at once, or not at all.
-    TryAcquire,
-    /// Ends a permit for good.
+    /// The first poll of an acquire of so many permits.
+    Acquire(u64),
+    /// Takes so many permits at once, or none.
+    TryAcquire(u64),
+    /// Ends a guard's permits for good.
     Forget,
     /// Adds so many permits.
     AddPermits(u64),

@@ -2,5 +2,8 @@
 
 mod seat;
 mod wait_queue;
+mod weighted_queue;
+mod weighted_seat;
 
 pub use wait_queue::WaitQueue;
+pub use weighted_queue::WeightedQueue;

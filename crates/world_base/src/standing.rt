@@ -70,7 +70,7 @@ impl Call {
             | Call::TryRead
             | Call::TryUpgradableRead
             | Call::TryWrite
-            | Call::TryAcquire
+            | Call::TryAcquire(_)
             | Call::TrySet(_) => Kind::Try,
             Call::AddPermits(_) => Kind::Add,
             Call::Upgrade => Kind::Upgrade,

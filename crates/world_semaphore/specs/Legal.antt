@@ -1,13 +1,14 @@
 -- What one move may do to a semaphore, and how it may be answered.
-use Rattle.std.specs.Prelude.{◌≡◌, ◌≢◌, ℕ, ◌+◌, ◌<◌, ◌≤◌, ◌||◌, if◌then◌else◌, Bool, true, false, length, Option, Some, None, slice_set}
+use Rattle.std.specs.Prelude.{◌≡◌, ◌≢◌, ℕ, ◌+◌, ◌<◌, ◌≤◌, ◌||◌, ◌⊎◌, Bool, true, false, length, Option, Some, None, slice_set}
 use Rattle.lock_event.specs.declared.event.Mark.TheVariants.{Waiting}
-use Rattle.world_base.specs.queue.Parties.{entries_of}
+use Rattle.lock_event.specs.Lists.{is_marked_at}
+use Rattle.lock_event.specs.Weights.{fitted}
+use Rattle.world_base.specs.queue.Parties.{is_party, entries_of}
 use Rattle.world_base.specs.declared.moves.Answer.{Answer}
 use Rattle.world_base.specs.declared.moves.Answer.TheVariants as answer
 use Rattle.world_base.specs.declared.moves.Call.TheVariants as call
 use Rattle.world_base.specs.declared.moves.Got.{Got}
 use Rattle.world_base.specs.declared.moves.Got.TheVariants.{Plain}
-use Rattle.world_base.specs.declared.moves.Inputs.{Inputs}
 use Rattle.world_base.specs.declared.moves.Move.{Move}
 use Rattle.world_base.specs.declared.moves.What.{What}
 use Rattle.world_base.specs.declared.moves.What.TheVariants.{Begin, Go}
@@ -15,17 +16,15 @@ use Rattle.lock_program.specs.declared.refusal.Refusal.{Refusal}
 use Rattle.lock_program.specs.declared.refusal.Refusal.TheVariants as refusal
 use Rattle.world_base.specs.declared.standing.Kind.{Kind}
 use Rattle.world_base.specs.declared.standing.Kind.TheVariants as kind
-use Rattle.world_base.specs.declared.standing.Rest.{Rest}
 use Rattle.world_base.specs.declared.standing.Rest.TheVariants.{Idle, Pending, Holding, Finished}
 use Rattle.world_base.specs.declared.standing.Within.{Within}
-use Rattle.world_base.specs.Standings.{Standing, outside, inside, inputs_of, is_decided, is_outside, may_end}
+use Rattle.world_base.specs.Standings.{Standing, outside, inside, inputs_of, is_possible, is_decided, is_outside, may_end}
 use Rattle.world_base.specs.Frame as frame
 use Rattle.world_base.specs.Frame.{is_drop, is_giving_back, is_refusal}
-use Rattle.world_base.specs.Steps.{Deed, nothing, changes, does, joins, leaves, notifies, notifies_additionally, is_parting}
-use Rattle.world_semaphore.specs.machine.Seats.{nothing_had, one_permit}
-use Rattle.world_semaphore.specs.machine.Deeds.{Change, ListName, takes, gives_back, forgets, raises, gives, limit_after, share_after, entries_after}
+use Rattle.world_semaphore.specs.machine.Seats.{nothing_had, guard_of, nothing_owed, a_look, a_fit}
+use Rattle.world_semaphore.specs.machine.Deeds.{Deed, ListFunction, nothing, changes, does, joins, asks, removes, fits, takes, gives_back, forgets, raises, gives, limit_after, share_after, entries_after}
 use Rattle.world_semaphore.specs.machine.Machine.{knows}
-use Rattle.world_semaphore.specs.State.{State, World, share_at, has_permit, is_free, standing_of, adds_of, mark_of}
+use Rattle.world_semaphore.specs.State.{State, World, share_at, has_permits, available, standing_of, size_of, debt_of, mark_of}
 
 -- The call that a move belongs to, where its party may make it.
 abbrev pub call_of : World → Move → Option Within
@@ -42,26 +41,32 @@ IsPossible = frame.IsPossible standing_of (λ w p. knows)
 
 -- ---- What changes
 
-abbrev pub state_after : ℕ → Deed Change ListName → State → State
+abbrev pub state_after : ℕ → Deed → State → State
 state_after p (changes c) s = record { limit = limit_after c s.limit; shares = slice_set s.shares p (share_after c (share_at s p)) }
 state_after p _ s = s
 
--- Once its call is decided, a party only gives back: its permit, the permits that are under way, its entry, a notification.
-abbrev pub gives_something_back : Deed Change ListName → Bool
+-- A party whose call is decided may leave the list or tell others, and neither join nor ask.
+abbrev pub is_parting : ListFunction → Bool
+is_parting joins = false
+is_parting asks = false
+is_parting _ = true
+
+-- Once its call is decided, a party only gives back: its permits, those that are under way, its entry, a notification.
+abbrev pub gives_something_back : Deed → Bool
 gives_something_back nothing = true
-gives_something_back (changes takes) = false
+gives_something_back (changes (takes k)) = false
 gives_something_back (changes (raises n)) = false
 gives_something_back (changes _) = true
-gives_something_back (does list f) = is_parting f
+gives_something_back (does f) = is_parting f
 
--- What gives something up: a permit, or a place in the list without asking there.
-abbrev pub gives_up : Deed Change ListName → Bool
-gives_up (changes gives_back) = true
-gives_up (changes forgets) = true
-gives_up (does list leaves) = true
+-- What gives something up: permits, or a place in the list without asking there.
+abbrev pub gives_up : Deed → Bool
+gives_up (changes (gives_back k)) = true
+gives_up (changes (forgets k)) = true
+gives_up (does removes) = true
 gives_up _ = false
 
--- How many permits a move begins to add; whether it begins to forget one.
+-- How many permits a move begins to add; whether it begins to forget some.
 abbrev pub added_in : What → Option ℕ
 added_in (Begin (call.AddPermits n) inputs) = Some n
 added_in _ = None
@@ -70,74 +75,84 @@ abbrev pub is_forget : What → Bool
 is_forget (Begin call.Forget inputs) = true
 is_forget _ = false
 
-abbrev pub is_add : Kind → Bool
-is_add kind.Add = true
-is_add _ = false
-
 abbrev pub is_poll_call : Kind → Bool
 is_poll_call kind.FirstPoll = true
 is_poll_call kind.LaterPoll = true
 is_poll_call _ = false
 
--- For how many permits a party notifies that stands so: for those that its add adds, else for one.
-abbrev pub notice : Standing → ℕ → ℕ
-notice (inside w decided) adds = if is_add w.kind then adds else 1
-notice s adds = 1
+-- For how many permits the call is that a move belongs to, of a party whose future, guard or call was for so many.
+abbrev pub wanted_in : What → ℕ → ℕ
+wanted_in (Begin (call.Acquire k) inputs) s = k
+wanted_in (Begin (call.TryAcquire k) inputs) s = k
+wanted_in _ s = s
 
-abbrev pub is_held : Rest → Bool
-is_held Holding = true
-is_held _ = false
+abbrev pub wanted : World → Move → ℕ
+wanted w m = wanted_in m.what (size_of w m.party)
 
--- Who may notify, by what its call is decided on: who is to be ready or refused, an add, and who held a permit. While a call isn't decided its party notifies nobody.
-abbrev pub may_tell : Standing → Bool
-may_tell (inside w (Some (answer.Ready got))) = true
-may_tell (inside w (Some (answer.Refused n))) = true
-may_tell (inside w (Some (answer.Granted got))) = is_add w.kind
-may_tell (inside w (Some answer.GivenBack)) = is_held w.was
-may_tell s = false
-
--- Where a change may be made. A permit is taken where one is available; a drop gives back what its party has, and a forget ends it; an add raises the limit if that doesn't pass its greatest value, and gives what it raised it by. Who may notify does so for as many as it gave, and not beside those that were notified before.
-abbrev pub IsAllowed : World → Move → Deed Change ListName → Type 0
-IsAllowed w m (changes takes) = (is_free w.state ≡ true) × (share_at w.state m.party ≡ nothing_had)
-IsAllowed w m (changes gives_back) = (share_at w.state m.party ≡ one_permit) × (is_drop m.what ≡ true)
-IsAllowed w m (changes forgets) = (share_at w.state m.party ≡ one_permit) × (is_forget m.what ≡ true)
+-- Where a change may be made. Permits are taken as many as the call is for, where as many are available; a drop gives back what its party's guard has, and a forget ends it; an add raises the limit if that doesn't pass its greatest value, and gives what it raised it by. Only a party whose call is decided tells others, and of so many permits as it owes to tell of.
+abbrev pub IsAllowed : World → Move → Deed → Type 0
+IsAllowed w m (changes (takes k)) = (wanted w m ≡ k) × (k ≤ available w.state) × (share_at w.state m.party ≡ nothing_had)
+IsAllowed w m (changes (gives_back k)) = (share_at w.state m.party ≡ guard_of k) × (is_drop m.what ≡ true)
+IsAllowed w m (changes (forgets k)) = (share_at w.state m.party ≡ guard_of k) × (is_forget m.what ≡ true)
 IsAllowed w m (changes (raises n)) = (added_in m.what ≡ Some n) × (w.state.limit + n ≤ w.most) × (share_at w.state m.party ≡ nothing_had)
-IsAllowed w m (changes (gives n)) = (share_at w.state m.party ≡ record { permit = false; under_way = n }) × (adds_of w m.party ≡ n)
-IsAllowed w m (does list (notifies n)) = (notice (standing_of w m.party) (adds_of w m.party) ≡ n) × (may_tell (standing_of w m.party) ≡ true)
-IsAllowed w m (does list (notifies_additionally n)) = ⊥
+IsAllowed w m (changes (gives n)) = share_at w.state m.party ≡ record { held = None; under_way = n }
+IsAllowed w m (does (fits a)) = (debt_of w m.party ≡ a_fit a) × (is_decided (standing_of w m.party) ≡ true)
 IsAllowed w m _ = Unit {0}
 
 -- A move changes one thing of the state or does one list function, never both, and moves no other party. A join has found memory; a party whose call is decided only gives back, and no other gives anything up.
 pub record ChangesOneThing (old : World) (m : Move) (new : World) : Type 0 where
-  pub deed : Deed Change ListName
+  pub deed : Deed
   pub allowed : IsAllowed old m deed
   pub state : new.state ≡ state_after m.party deed old.state
-  pub entries : new.entries ≡ entries_after m.party deed old.entries
+  pub entries : new.entries ≡ entries_after (size_of old) m.party deed old.entries
   pub most : new.most ≡ old.most
   pub opening_permits : new.opening_permits ≡ old.opening_permits
   pub others : (q : ℕ) → q ≢ m.party → standing_of new q ≡ standing_of old q
   pub parties : length new.standings ≡ length old.standings
-  pub found_memory : (list : ListName) → deed ≡ does list joins → (inputs_of m.what).memory ≡ true
+  pub found_memory : deed ≡ does joins → (inputs_of m.what).memory ≡ true
   pub parting : is_decided (standing_of old m.party) || is_giving_back m.what ≡ true → gives_something_back deed ≡ true
   pub giving_up : gives_up deed ≡ true → is_decided (standing_of old m.party) || is_giving_back m.what ≡ true
 
--- The World remembers what an add adds, from its first step to its end.
-pub record KnowsAdds (old : World) (m : Move) (a : Answer) (new : World) : Type 0 where
-  pub begun : (n : ℕ) → added_in m.what ≡ Some n → a ≡ answer.Stepped → adds_of new m.party ≡ n
-  pub going : (inputs : Inputs) → m.what ≡ Go inputs → a ≡ answer.Stepped → adds_of new m.party ≡ adds_of old m.party
-  pub others : (q : ℕ) → q ≢ m.party → adds_of new q ≡ adds_of old q
+-- For how many permits a party's future, guard or call is after a move: an acquire says it, and it stays so until a drop or a forget.
+abbrev pub size_after : What → Answer → ℕ → ℕ
+size_after what answer.NotPossible s = s
+size_after (Begin (call.Acquire k) inputs) a s = k
+size_after (Begin (call.TryAcquire k) inputs) answer.None s = s
+size_after (Begin (call.TryAcquire k) inputs) a s = k
+size_after (Begin call.Drop inputs) a s = 0
+size_after (Begin call.Forget inputs) a s = 0
+size_after what a s = s
+
+pub record KnowsSizes (old : World) (m : Move) (a : Answer) (new : World) : Type 0 where
+  pub own : size_of new m.party ≡ size_after m.what a (size_of old m.party)
+  pub others : (q : ℕ) → q ≢ m.party → size_of new q ≡ size_of old q
+
+-- What a possible move does to what its party owes.
+pub record KnowsDebts (old : World) (m : Move) (new : World) : Type 0 where
+  -- Who has taken its notified entry out of the list owes a look;
+  pub told : is_marked_at (is_party m.party) old.entries ≡ true → is_marked_at (is_party m.party) new.entries ≡ false → debt_of new m.party ≡ a_look
+  -- and nobody else comes to owe one, but who owed to tell of some and has joined again.
+  pub looks : debt_of new m.party ≡ a_look → (is_marked_at (is_party m.party) old.entries ≡ true) ⊎ ((n : ℕ) × (debt_of old m.party ≡ a_fit n))
+  -- Who owes to tell of so many has found them available in this move; or it owed that before, and its entry wasn't notified meanwhile.
+  pub finds : (n : ℕ) → debt_of new m.party ≡ a_fit n → (n ≡ available new.state) ⊎ ((debt_of old m.party ≡ a_fit n) × (is_marked_at (is_party m.party) old.entries ≡ false))
+  -- A look is owed no more once it has found what is available, and nothing once there is none.
+  pub looked : debt_of old m.party ≡ a_look → debt_of new m.party ≡ nothing_owed → available new.state ≡ 0
+  -- What is to be told is owed no more once it was told.
+  pub fitted : (n : ℕ) → debt_of old m.party ≡ a_fit n → debt_of new m.party ≡ nothing_owed → new.entries ≡ fitted (size_of old) n old.entries
+  pub others : (q : ℕ) → q ≢ m.party → debt_of new q ≡ debt_of old q
 
 -- ---- What an answer says, where its call is decided
 
--- Ready says that its party has a permit; neither Ready nor Granted carries a value.
+-- Ready says that its party has the permits that its future was for; neither Ready nor Granted carries a value.
 pub record Carries (old : World) (m : Move) (a : Answer) (new : World) : Type 0 where
-  pub ready : (got : Got) → DecidesOn old m a new (answer.Ready got) → (got ≡ Plain) × (has_permit new.state m.party ≡ true)
+  pub ready : (got : Got) → DecidesOn old m a new (answer.Ready got) → (got ≡ Plain) × (share_at new.state m.party ≡ guard_of (wanted old m))
   pub granted : (got : Got) → DecidesOn old m a new (answer.Granted got) → got ≡ Plain
 
--- Pending: the party stands waiting in the list. No call is decided on Pending before that answer.
-pub record Waits (m : Move) (a : Answer) (new : World) : Type 0 where
-  pub waiting : a ≡ answer.Pending → mark_of new m.party ≡ Some Waiting
-  pub not_before : (within : Within) → standing_of new m.party ≢ inside within (Some answer.Pending)
+-- A poll that is decided on Pending leaves its party waiting in the list. It is so before that answer only where the party has to tell others of permits.
+pub record Waits (old : World) (m : Move) (a : Answer) (new : World) : Type 0 where
+  pub waiting : DecidesOn old m a new answer.Pending → mark_of new m.party ≡ Some Waiting
+  pub listed : a ≡ answer.Pending → entries_of m.party new.entries ≡ 1
+  pub before : (within : Within) → standing_of new m.party ≡ inside within (Some answer.Pending) → (n : ℕ) × (debt_of new m.party ≡ a_fit n)
 
 -- Why a call of a semaphore may be refused: a join found no memory, for the move's input said so, and nothing else happened; an add would pass the greatest limit, and nothing changed; or the future had been ready before.
 abbrev pub IsCause : World → Move → World → Refusal → Type 0
@@ -151,23 +166,23 @@ IsRefusedForCause = frame.IsRefusedForCause standing_of IsCause
 
 -- ---- What parties have
 
--- What a party has by how it stands: outside every call it has a permit exactly if it stands as one that holds it, and unless it is pending it is in no list; until its call is decided it has nothing, and only a poll goes on so; once it is to be ready it has a permit, while it adds it has none, and while it gives back or is refused it has nothing.
+-- What a party has by how it stands: outside every call it has a guard exactly if it stands as one that holds it, of the permits that it is for, and unless it is pending it is in no list; until its call is decided it has nothing, and only a poll goes on so; once it is to be ready it has its permits, while it adds it has no guard, and while it gives back, waits or is refused it has nothing.
 abbrev pub HasItsOwn : World → ℕ → Standing → Type 0
-HasItsOwn w p (outside Idle) = (entries_of p w.entries ≡ 0) × (share_at w.state p ≡ nothing_had)
-HasItsOwn w p (outside Finished) = (entries_of p w.entries ≡ 0) × (share_at w.state p ≡ nothing_had)
-HasItsOwn w p (outside Holding) = (entries_of p w.entries ≡ 0) × (share_at w.state p ≡ one_permit)
+HasItsOwn w p (outside Idle) = (entries_of p w.entries ≡ 0) × (share_at w.state p ≡ nothing_had) × (size_of w p ≡ 0)
+HasItsOwn w p (outside Finished) = (entries_of p w.entries ≡ 0) × (share_at w.state p ≡ nothing_had) × (size_of w p ≡ 0)
+HasItsOwn w p (outside Holding) = (entries_of p w.entries ≡ 0) × (share_at w.state p ≡ guard_of (size_of w p))
 HasItsOwn w p (outside Pending) = share_at w.state p ≡ nothing_had
 HasItsOwn w p (inside within None) = (share_at w.state p ≡ nothing_had) × (is_poll_call within.kind ≡ true)
-HasItsOwn w p (inside within (Some (answer.Ready got))) = share_at w.state p ≡ one_permit
-HasItsOwn w p (inside within (Some (answer.Granted got))) = has_permit w.state p ≡ false
+HasItsOwn w p (inside within (Some (answer.Ready got))) = share_at w.state p ≡ guard_of (size_of w p)
+HasItsOwn w p (inside within (Some (answer.Granted got))) = (share_at w.state p).held ≡ None
 HasItsOwn w p (inside within (Some a)) = share_at w.state p ≡ nothing_had
 HasItsOwn w p _ = Unit {0}
 
--- Each party has what its standing says, its call is decided only on an answer with which such a call may end, and outside every call it adds nothing; and after a refusal its future is as when it was made, in no list.
+-- Each party has what its standing says, its call is decided only on an answer with which such a call may end, and outside every call it owes nothing; and after a refusal its future is as when it was made, in no list.
 pub record LeavesClear (m : Move) (a : Answer) (new : World) : Type 0 where
   pub each : (p : ℕ) → HasItsOwn new p (standing_of new p)
   pub decided : (p : ℕ) (within : Within) (b : Answer) → standing_of new p ≡ inside within (Some b) → may_end within.kind b ≡ true
-  pub adds : (p : ℕ) → is_outside (standing_of new p) ≡ true → adds_of new p ≡ 0
+  pub paid : (p : ℕ) → is_outside (standing_of new p) ≡ true → debt_of new p ≡ nothing_owed
   pub refused : is_refusal a ≡ true → entries_of m.party new.entries ≡ 0
 
 -- ---- How a call ends
@@ -181,9 +196,10 @@ EndsProperly = frame.EndsProperly standing_of (λ w p. knows) Holding
 pub record Legal (old : World) (m : Move) (a : Answer) (new : World) : Type 0 where
   pub possible : IsPossible old m a new
   pub one_change : ChangesOneThing old m new
-  pub knows_adds : KnowsAdds old m a new
+  pub knows_sizes : KnowsSizes old m a new
+  pub knows_debts : is_possible a ≡ true → KnowsDebts old m new
   pub carries : Carries old m a new
-  pub waits : Waits m a new
+  pub waits : Waits old m a new
   pub refused_for_cause : IsRefusedForCause old m a new
   pub leaves_clear : LeavesClear m a new
   pub ends_properly : EndsProperly old m a new

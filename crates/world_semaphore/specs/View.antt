@@ -2,7 +2,7 @@
 use Rattle.std.specs.Prelude.{map}
 use Rattle.world_base.specs.table.Tables.{Table}
 use Rattle.world_base.specs.table.Views.{standings}
-use Rattle.world_semaphore.specs.machine.Seats.{share_of, adds_at, verdict}
+use Rattle.world_semaphore.specs.machine.Seats.{share_of, size_at, debt_at, verdict}
 use Rattle.world_semaphore.specs.machine.Machine.{Semaphore, position_at}
 use Rattle.world_semaphore.specs.State.{World}
 
@@ -11,7 +11,8 @@ view_of t = record {
   state = record { limit = t.machine.words.limit; shares = map share_of t.machine.positions };
   entries = t.machine.entries;
   standings = standings (λ p. verdict (position_at t.machine.positions p)) t.stages;
-  adds = map adds_at t.machine.positions;
+  sizes = map size_at t.machine.positions;
+  debts = map debt_at t.machine.positions;
   most = t.machine.words.most;
   opening_permits = t.opening;
   behind = t;

@@ -9,12 +9,12 @@ use Rattle.world_semaphore.specs.machine.Ranks.{steps_left}
 use Rattle.world_semaphore.specs.State.{World, standing_of}
 use Rattle.world_semaphore.specs.Runs.{RunsOn}
 
--- The greatest number of steps that a call of a semaphore takes if its party moves alone: 5 for a first poll, 7 for a later one, 3 for an add, 2 for a drop, 1 for any other.
+-- The greatest number of steps that a call of a semaphore takes if its party moves alone: 5 for a first poll, 7 for a later one, 3 for an add and for a drop, 1 for any other.
 abbrev pub most_steps_of : Call → ℕ
-most_steps_of call.Acquire = 5
+most_steps_of (call.Acquire k) = 5
 most_steps_of call.Poll = 7
 most_steps_of (call.AddPermits n) = 3
-most_steps_of call.Drop = 2
+most_steps_of call.Drop = 3
 most_steps_of _ = 1
 
 -- The call is begun and carried out to its end, whose answer this is.

@@ -1,6 +1,6 @@
 //! The machine of a semaphore: the words and the list that carry its programs out.
 //!
-//! The programs themselves are the table `sync_program::semaphore`; [`Semaphore`] is the words, the list and where each party
+//! The programs themselves are the table `sync_program::permits`; [`Semaphore`] is the words, the list and where each party
 //! stands.
 
 mod calls;

@@ -1,9 +1,10 @@
 //! The semaphore's World: permits, a limit, and the parties that have, want, add and forget permits. It is a
 //! table over the machine `machine::Semaphore`.
 //!
-//! The Rust crate's `Semaphore` runs in threads. Here a guard is a party that has a permit, and one step is
-//! one call, so that contracts can speak of every interleaving: specs/State says what is seen, specs/Legal
-//! what a step may do, specs/AtOnce what it decides at once.
+//! The Rust crate's `Semaphore` runs in threads, and each of its guards has one permit. Here a guard is a party
+//! that has so many, none or more, and one step is one call, so that contracts can speak of every
+//! interleaving: specs/State says what is seen, specs/Legal what a step may do, specs/AtOnce what it decides
+//! at once.
 
 ghost use Rattle.std.specs.Prelude.{◌≡◌, ◌<◌, ◌≤◌, ◌^◌, ◌-◌, ℕ, Bool, true, None, IfOk, IfErr, OnErr, length, slice_get};
 ghost use Rattle.lock_program.specs.declared.refusal.Refusal.TheVariants as refusals;
@@ -95,8 +96,12 @@ impl World {
     /// change nothing. It takes no memory: `Refused(1)` comes where the move's input says so. The contract's
     /// `legal` says all that a step may do, and `at_once` what the first step of a call decides.
     ///
-    /// The Rust crate's `acquire` carries out a whole poll in one call and never refuses, and there a party
-    /// that was told and leaves permits hands nothing on.
+    /// The list isn't fair: a newcomer takes where as many permits are available as it wants, whoever is
+    /// listed; those that are available are told to the first for whom they are enough; and whoever was told in
+    /// vain joins again at the back. So a large request may starve beside small ones.
+    ///
+    /// The Rust crate's `acquire` is for one permit, carries out a whole poll in one call and never refuses,
+    /// and there a party that was told and leaves permits hands nothing on.
     pub fn step(&mut self, m: &Move) -> Answer
         ensures { Steps self.old m.now result self.new }
     {
@@ -116,8 +121,8 @@ impl World {
     }
 
     /// What always holds of a World, between any two moves: permits that are had, under way and available
-    /// make up the limit, each party has what its standing says, and at rest no notification is lost. It does
-    /// nothing.
+    /// make up the limit, each party has what its standing says, at most one entry is marked, and at rest no
+    /// notification is lost. It does nothing.
     pub fn laws(&self)
         ensures sound { IsSound self.now }
         ensures awake { is_at_rest self.now ≡ true → IsAwake self.now }
@@ -126,8 +131,8 @@ impl World {
         self.table.machine().laws();
     }
 
-    /// How often a permit that is available, at rest, may be passed over while parties wait for one: the first
-    /// solo poll takes it. It does nothing.
+    /// How often permits that are available, at rest, may be passed over while some party waits for so many: the
+    /// first or the second solo poll takes. It does nothing.
     ///
     /// A solo poll is a [`AnyWorld::poll_whole`] of a pending party whose entry is marked and that finds
     /// memory. The clause `bounded` also says that some entry is marked, so that there is a party to poll.

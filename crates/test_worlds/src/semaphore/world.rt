@@ -57,10 +57,10 @@ fn expect(
 }
 
 const HANDED_ON: [Row; 12] = [
-    Calls(0, Call::TryAcquire, GRANTED),
-    Calls(1, Call::TryAcquire, GRANTED),
-    Calls(2, Call::Acquire, Answer::Pending),
-    Calls(3, Call::Acquire, Answer::Pending),
+    Calls(0, Call::TryAcquire(1), GRANTED),
+    Calls(1, Call::TryAcquire(1), GRANTED),
+    Calls(2, Call::Acquire(1), Answer::Pending),
+    Calls(3, Call::Acquire(1), Answer::Pending),
     Steps(2, BEGIN_POLL, Answer::Stepped),
     Calls(0, Call::Drop, Answer::GivenBack),
     Calls(1, Call::Drop, Answer::GivenBack),
@@ -77,8 +77,8 @@ fn an_acquire_hands_on_what_is_left(rt: HostRuntime) -> Result<(), Fail> {
 }
 
 const ADDED: [Row; 8] = [
-    Calls(0, Call::Acquire, Answer::Pending),
-    Calls(1, Call::Acquire, Answer::Pending),
+    Calls(0, Call::Acquire(1), Answer::Pending),
+    Calls(1, Call::Acquire(1), Answer::Pending),
     Calls(2, Call::AddPermits(1), GRANTED),
     Calls(0, Call::Poll, READY),
     Calls(1, Call::Poll, Answer::Pending),
@@ -94,7 +94,7 @@ fn an_added_permit_wakes_one(rt: HostRuntime) -> Result<(), Fail> {
 
 const AT_THE_LIMIT: [Row; 6] = [
     Calls(0, Call::AddPermits(1), Answer::Refused(4)),
-    Calls(0, Call::Acquire, READY),
+    Calls(0, Call::Acquire(1), READY),
     Calls(0, Call::Forget, Answer::GivenBack),
     State(u64::MAX - 1, u64::MAX - 1, 0),
     Calls(0, Call::AddPermits(1), GRANTED),
@@ -128,18 +128,18 @@ fn too_many_permits_to_begin_with(rt: HostRuntime) -> Result<(), Fail> {
 }
 
 const REFUSED: [Row; 14] = [
-    Calls(0, Call::TryAcquire, GRANTED),
-    Calls(1, Call::Acquire, Answer::Pending),
-    Calls(2, Call::Acquire, Answer::Pending),
+    Calls(0, Call::TryAcquire(1), GRANTED),
+    Calls(1, Call::Acquire(1), Answer::Pending),
+    Calls(2, Call::Acquire(1), Answer::Pending),
     Steps(1, BEGIN_POLL, Answer::Stepped),
     Calls(0, Call::Drop, Answer::GivenBack),
-    Calls(3, Call::TryAcquire, GRANTED),
+    Calls(3, Call::TryAcquire(1), GRANTED),
     Steps(1, GO, Answer::Stepped),
     Steps(1, GO, Answer::Stepped),
     Steps(1, What::Go(NO_MEMORY), Answer::Stepped),
     Steps(1, GO, Answer::Refused(1)),
     State(0, 1, 1),
-    Told(0, Some((2, Mark::Notified))),
+    Told(0, Some((2, Mark::Waiting))),
     Calls(3, Call::Drop, Answer::GivenBack),
     Calls(2, Call::Poll, READY),
 ];
@@ -147,6 +147,85 @@ const REFUSED: [Row; 14] = [
 #[test]
 fn an_acquire_is_refused_after_its_notification(rt: HostRuntime) -> Result<(), Fail> {
     expect(&rt, 4, 1, &REFUSED)
+}
+
+// The first waiter wants more than are added, so that the second one is told; and once there are enough, the
+// first.
+const PASSED_OVER: [Row; 12] = [
+    Calls(0, Call::Acquire(3), READY),
+    Calls(1, Call::Acquire(3), Answer::Pending),
+    Calls(2, Call::Acquire(2), Answer::Pending),
+    Calls(3, Call::AddPermits(2), GRANTED),
+    State(2, 5, 2),
+    Told(0, Some((1, Mark::Waiting))),
+    Told(1, Some((2, Mark::Notified))),
+    Calls(2, Call::Poll, READY),
+    Calls(0, Call::Drop, Answer::GivenBack),
+    State(3, 5, 1),
+    Told(0, Some((1, Mark::Notified))),
+    Calls(1, Call::Poll, READY),
+];
+
+#[test]
+fn a_larger_request_is_passed_over(rt: HostRuntime) -> Result<(), Fail> {
+    expect(&rt, 4, 3, &PASSED_OVER)
+}
+
+// A newcomer takes one of the two permits, of which the first waiter had been told; polled in vain, that one
+// hands over, and joins again at the back.
+const HANDED_OVER: [Row; 12] = [
+    Calls(0, Call::Acquire(2), Answer::Pending),
+    Calls(1, Call::Acquire(1), Answer::Pending),
+    Calls(3, Call::AddPermits(2), GRANTED),
+    Calls(2, Call::TryAcquire(1), GRANTED),
+    State(1, 2, 2),
+    Told(0, Some((0, Mark::Notified))),
+    Told(1, Some((1, Mark::Waiting))),
+    Calls(0, Call::Poll, Answer::Pending),
+    State(1, 2, 2),
+    Told(0, Some((1, Mark::Notified))),
+    Told(1, Some((0, Mark::Waiting))),
+    Calls(1, Call::Poll, READY),
+];
+
+#[test]
+fn a_poll_in_vain_hands_over(rt: HostRuntime) -> Result<(), Fail> {
+    expect(&rt, 4, 0, &HANDED_OVER)
+}
+
+// A guard of no permits is a guard: it is had where none is available, and its drop and its forget give
+// nothing back.
+const OF_NONE: [Row; 10] = [
+    Calls(0, Call::Acquire(0), READY),
+    Calls(1, Call::TryAcquire(0), GRANTED),
+    Calls(0, Call::Poll, Answer::Refused(6)),
+    Calls(2, Call::TryAcquire(1), Answer::None),
+    State(0, 0, 0),
+    Calls(0, Call::Drop, Answer::GivenBack),
+    Calls(1, Call::Forget, Answer::GivenBack),
+    State(0, 0, 0),
+    Calls(1, Call::Forget, Answer::NotPossible),
+    AtRest(true),
+];
+
+#[test]
+fn a_guard_of_no_permits(rt: HostRuntime) -> Result<(), Fail> {
+    expect(&rt, 3, 0, &OF_NONE)
+}
+
+const FORGOTTEN: [Row; 7] = [
+    Calls(0, Call::Acquire(3), READY),
+    Calls(1, Call::TryAcquire(3), Answer::None),
+    Calls(1, Call::Acquire(6), Answer::Pending),
+    Calls(0, Call::Forget, Answer::GivenBack),
+    State(2, 2, 1),
+    Told(0, Some((1, Mark::Waiting))),
+    Calls(0, Call::Acquire(2), READY),
+];
+
+#[test]
+fn a_forget_of_several_and_one_above_the_limit(rt: HostRuntime) -> Result<(), Fail> {
+    expect(&rt, 2, 5, &FORGOTTEN)
 }
 
 const UNDER_WAY: [Row; 7] = [
@@ -165,13 +244,13 @@ fn what_is_under_way_is_not_available(rt: HostRuntime) -> Result<(), Fail> {
 }
 
 const NOT_POSSIBLE: [Row; 8] = [
-    Calls(0, Call::Acquire, READY),
+    Calls(0, Call::Acquire(1), READY),
     Calls(0, Call::Poll, Answer::Refused(6)),
-    Calls(0, Call::Acquire, Answer::NotPossible),
+    Calls(0, Call::Acquire(1), Answer::NotPossible),
     Calls(1, Call::Poll, Answer::NotPossible),
     Calls(1, Call::Lock, Answer::NotPossible),
-    Calls(2, Call::Acquire, Answer::NotPossible),
-    Calls(1, Call::TryAcquire, Answer::None),
+    Calls(2, Call::Acquire(1), Answer::NotPossible),
+    Calls(1, Call::TryAcquire(1), Answer::None),
     State(0, 1, 0),
 ];
 
@@ -183,11 +262,11 @@ fn a_poll_after_ready_and_moves_that_are_not_possible(rt: HostRuntime) -> Result
 const TRIES: [Move; 2] = [
     Move {
         party: 0,
-        what: What::Begin(Call::TryAcquire, INPUTS),
+        what: What::Begin(Call::TryAcquire(1), INPUTS),
     },
     Move {
         party: 1,
-        what: What::Begin(Call::TryAcquire, INPUTS),
+        what: What::Begin(Call::TryAcquire(1), INPUTS),
     },
 ];
 

@@ -25,7 +25,7 @@ pub one_at_most : (o : Option EntryId) → taken o ≤ 1
 one_at_most None = omega arith
 one_at_most (Some id) = omega arith
 
-kept_seat : (j : ℕ) (l m : List (Entry (Slot ℕ))) (o : Option EntryId) → ((id : EntryId) → o ≡ Some id → IsSeatOf j l id → IsSeatOf j m id) → IsSeatedIf j l o → IsSeatedIf j m o
+pub kept_seat : (j : ℕ) (l m : List (Entry (Slot ℕ))) (o : Option EntryId) → ((id : EntryId) → o ≡ Some id → IsSeatOf j l id → IsSeatOf j m id) → IsSeatedIf j l o → IsSeatedIf j m o
 kept_seat j l m None f h = tt
 kept_seat j l m (Some id) f h = f id refl h
 
@@ -39,12 +39,12 @@ own_one p l = grind (arith, nat_tests)
 pub other_one : (j p : ℕ) (l : List (Entry ℕ)) → j ≢ p → entries_of j (entry p Waiting ∷ l) ≡ entries_of j l
 other_one j p l apart = grind (arith, nat_tests)
 
-past_end : (xs : List (Option EntryId)) (p : ℕ) → length xs ≤ p → seat_at xs p ≡ None
+pub past_end : (xs : List (Option EntryId)) (p : ℕ) → length xs ≤ p → seat_at xs p ≡ None
 past_end [] p h = refl
 past_end (x ∷ xs) zero h = absurd (omega arith)
 past_end (x ∷ xs) (suc p) h = past_end xs p (omega arith)
 
-set_own : (xs : List (Option EntryId)) (p : ℕ) → set xs p (seat_at xs p) ≡ xs
+pub set_own : (xs : List (Option EntryId)) (p : ℕ) → set xs p (seat_at xs p) ≡ xs
 set_own [] p = refl
 set_own (x ∷ xs) zero = refl
 set_own (x ∷ xs) (suc p) = ap (λ ys. x ∷ ys) (set_own xs p)

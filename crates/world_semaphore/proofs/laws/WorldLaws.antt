@@ -20,7 +20,7 @@ use Rattle.world_semaphore.proofs.rights.Rights.{counted, holds_well}
 use Rattle.world_semaphore.proofs.whole.Whole as whole
 
 pub told_at_first : (w : World) → Tells (known_of w) w
-told_at_first w = record { rights = λ p. refl; limit = refl }
+told_at_first w = record { rights = λ p. refl; sizes = λ p. refl; limit = refl }
 
 pub goes_well : (k : Known) (w : World) (m : Move) (a : Answer) (v : World) → Tells k w → Steps w m a v → StepsWell Tells HoldsWell (learn k m a) v
 goes_well k w m a v tells s =

@@ -1,5 +1,6 @@
 -- What always holds.
 pub mod Steps
+pub mod Entries
 pub mod Effects
 pub mod Kept
 pub mod CanDo

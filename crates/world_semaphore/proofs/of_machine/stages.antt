@@ -1,2 +1,3 @@
 -- At which stage a party is before and after each action.
+pub mod Taking
 pub mod Turns

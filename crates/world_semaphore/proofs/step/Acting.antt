@@ -5,7 +5,7 @@ use Rattle.std.proofs.Math.Seq.{map-set_same}
 use Rattle.std.proofs.lemmas.List.{map-set}
 use Rattle.lock_event.specs.declared.event.Entry.{Entry}
 use Rattle.lock_event.specs.declared.event.Mark.TheVariants.{Waiting}
-use Rattle.lock_event.specs.Lists.{mark_at}
+use Rattle.lock_event.specs.Lists.{mark_at, is_marked_at}
 use Rattle.world_base.specs.queue.Parties.{is_party, entries_of}
 use Rattle.world_base.proofs.of_queue.Told.{waits_at}
 use Rattle.world_base.specs.declared.moves.Answer.{Answer}
@@ -27,37 +27,43 @@ use Rattle.world_base.specs.declared.standing.Within.{Within}
 use Rattle.world_base.specs.Standings.{inputs_of, call_in, is_possible, is_stepped, is_decided, may_end, decision, refused, IsUndecided}
 use Rattle.world_base.specs.Frame.{is_giving_back, is_poll_after_ready, is_refusal}
 use Rattle.lock_program.specs.Refusals.{number_of}
-use Rattle.world_base.specs.Steps.{Deed, nothing, changes, does, joins, asks, leaves, notifies, notifies_additionally}
 use Rattle.world_base.proofs.Equations.{some_eq, none_some, finished_number}
 use Rattle.world_base.specs.table.Stages.{stage_at, stands_as, call_at, polls_again, stage_after}
 use Rattle.world_base.specs.table.Tables.{Table}
 use Rattle.world_base.proofs.of_table.Mapped.{set_same}
 use Rattle.world_base.proofs.of_table.Acting as acting
 use Rattle.world_base.proofs.of_table.Calls.{call_seen, again_seen, stands_seen, decided_after, decision_seen, later_ends}
-use Rattle.sync_program.specs.declared.semaphore.Found.{Found}
-use Rattle.sync_program.specs.declared.semaphore.Found.TheVariants.{Done, Taken, PastLimit, Yes, No}
+use Rattle.sync_program.specs.declared.permits.Action.{Action}
+use Rattle.sync_program.specs.declared.permits.Action.TheVariants as act
+use Rattle.sync_program.specs.declared.permits.Found.{Found}
+use Rattle.sync_program.specs.declared.permits.Found.TheVariants.{Available}
+use Rattle.sync_program.specs.declared.permits.Found.TheVariants.{Done, Left, PastLimit, Yes, No}
 use Rattle.world_semaphore.specs.machine.Program.{Next}
 use Rattle.lock_program.specs.declared.end.Next.TheVariants as next
 use Rattle.lock_program.specs.declared.end.End.TheVariants as «end»
-use Rattle.sync_program.specs.declared.semaphore.Place.{Place}
-use Rattle.sync_program.specs.declared.semaphore.Place.TheVariants.{Take, Retake, Join, Ask, Leave, HandOn, RefuseNotify, Try, Lower, GiveBack, GiveBackNotify, Raise, GiveAdded, NotifyAdded, CancelLeave, Abandon}
-use Rattle.sync_program.specs.declared.semaphore.Position.{Position}
-use Rattle.sync_program.specs.declared.semaphore.Position.TheVariants.{Out, At}
+use Rattle.sync_program.specs.declared.permits.Place.{Place}
+use Rattle.sync_program.specs.declared.permits.Place.TheVariants.{Take, Retake, Join, Ask, Remove, Load, HandOn, PassOn, RefuseFit, Try, Lower, GiveBack, Raise, GiveAdded, FitAdded, CancelRemove, CancelLoad, FitGivenBack, Abandon}
+use Rattle.sync_program.specs.declared.permits.Position.{Position}
+use Rattle.sync_program.specs.declared.permits.Position.TheVariants.{Out, At}
 use Rattle.world_semaphore.specs.declared.machine.words.Words.{Words}
 use Rattle.world_semaphore.specs.machine.Program.{place_for, action_of, next_of, position_after}
-use Rattle.world_semaphore.specs.machine.Seats.{Seat, Share, seat_of, share_of, listed, verdict, verdict_of, adds_at}
-use Rattle.world_semaphore.specs.machine.Deeds.{Change, ListName, takes, gives_back, forgets, raises, gives, share_after, deed_of, Finds, words_after, entries_after}
-use Rattle.world_semaphore.specs.machine.Machine.{Semaphore, IsSemaphore, Acts, knows, runs, is_begun, position_at, answer_by, is_polling}
+use Rattle.world_semaphore.specs.machine.Seats.{Seat, Share, Debt, guard_of, a_fit, seat_of, share_of, size_at, debt_at, listed, verdict, verdict_of}
+use Rattle.world_semaphore.specs.machine.Deeds.{Deed, nothing, changes, does, joins, asks, removes, fits, takes, gives_back, forgets, raises, gives, share_after, deed_of, Finds, words_after, entries_after}
+use Rattle.world_semaphore.specs.machine.Machine.{Semaphore, IsSemaphore, Acts, knows, runs, is_begun, position_at, sizes_of, answer_by, is_polling}
 use Rattle.world_semaphore.proofs.of_machine.laws.Kept.{after}
-use Rattle.world_semaphore.specs.State.{State, World, share_at, has_permit, standing_of, adds_of}
+use Rattle.world_semaphore.specs.State.{State, World, share_at, available, standing_of, size_of, debt_of}
 use Rattle.world_semaphore.specs.View.{view_of}
-use Rattle.world_semaphore.specs.Legal.{call_of, DecidesOn, state_after, gives_something_back, added_in, notice, may_tell, IsAllowed, ChangesOneThing, KnowsAdds, Carries, Waits, IsCause, IsRefusedForCause, LeavesClear, EndsProperly, Legal}
+use Rattle.world_semaphore.specs.Legal.{call_of, DecidesOn, state_after, gives_something_back, added_in, wanted, wanted_in, IsAllowed, ChangesOneThing, KnowsSizes, KnowsDebts, Carries, Waits, IsCause, IsRefusedForCause, size_after, LeavesClear, EndsProperly, Legal}
 use Rattle.world_semaphore.specs.Steps.{IsSemaphoreTable}
 use Rattle.world_semaphore.proofs.table.Seen as seen
-use Rattle.world_semaphore.proofs.step.Rows.{said, SharesSo, AllowedAt, is_join, Refuses, Reason, Judged, Room, Row, row, never_pending}
+use Rattle.world_semaphore.proofs.step.Rows.{said, SharesSo, AllowedAt, is_join, is_ask, Refuses, Reason, Judged, Room, Row, row}
+use Rattle.world_semaphore.proofs.step.Debts.{OwedBy, owed}
+use Rattle.world_semaphore.proofs.step.Sizes.{Sized, sized}
+use Rattle.world_semaphore.proofs.of_machine.stages.Taking.{taken}
+use Rattle.world_semaphore.proofs.of_machine.laws.Entries.{fitted-agree}
 use Rattle.world_semaphore.proofs.step.Here.{Here}
 use Rattle.world_semaphore.proofs.step.Owns as legals
-use Rattle.world_semaphore.proofs.step.Owns.{each_has, ends_well, none_added}
+use Rattle.world_semaphore.proofs.step.Owns.{each_has, ends_well, none_owed}
 
 -- ---- Answers
 
@@ -87,68 +93,71 @@ said_then : (n : Next) (b : Answer) → is_stepped b ≡ false → answer_by n �
 said_then (next.Do y) b h e = let never : is_stepped answer.Stepped ≡ false = ap is_stepped e ∙ h in absurd (cc)
 said_then (next.End f y) b h e = ap Some e
 
-polls_end : (x : Place) (f : Found) → is_polling x ≡ true → is_stepped (answer_by (next_of x f)) ≡ false → may_end kind.FirstPoll (answer_by (next_of x f)) ≡ true
-polls_end (Take true told) (Taken more) h e = absurd (cc)
-polls_end (Take false true) (Taken true) h e = absurd (cc)
-polls_end (Take false true) (Taken false) h e = refl
-polls_end (Take false false) (Taken more) h e = refl
-polls_end (Take true told) _ h e = absurd (cc)
-polls_end (Take false true) _ h e = absurd (cc)
-polls_end (Take false false) _ h e = absurd (cc)
-polls_end Retake (Taken more) h e = absurd (cc)
-polls_end Retake _ h e = absurd (cc)
-polls_end (Join told) Done h e = absurd (cc)
-polls_end (Join true) _ h e = absurd (cc)
-polls_end (Join false) _ h e = refl
-polls_end Ask Yes h e = absurd (cc)
-polls_end Ask _ h e = refl
-polls_end (Leave true) _ h e = absurd (cc)
-polls_end (Leave false) _ h e = refl
-polls_end HandOn _ h e = refl
-polls_end RefuseNotify _ h e = refl
+abbrev EndsBy : Kind → Next → Type 0
+EndsBy k n = is_stepped (answer_by n) ≡ false → may_end k (answer_by n) ≡ true
+
+polls_end : (x : Place) (f : Found) → is_polling x ≡ true → EndsBy kind.FirstPoll (next_of x f)
+polls_end (Take k true told) (Left a) h e = absurd (cc)
+polls_end (Take k false true) (Left a) h e = taken (EndsBy kind.FirstPoll) k a (λ g. absurd (cc g)) (λ none g. refl) e
+polls_end (Take k false false) (Left a) h e = refl
+polls_end (Take k true told) _ h e = absurd (cc)
+polls_end (Take k false told) _ h e = absurd (cc)
+polls_end (Retake k) (Left a) h e = absurd (cc)
+polls_end (Retake k) _ h e = absurd (cc)
+polls_end (Join k told) Done h e = absurd (cc)
+polls_end (Join k (Some a)) _ h e = absurd (cc)
+polls_end (Join k None) _ h e = refl
+polls_end (Ask k told) Yes h e = absurd (cc)
+polls_end (Ask k (Some a)) _ h e = absurd (cc)
+polls_end (Ask k None) _ h e = refl
+polls_end (Remove k more) Yes h e = absurd (cc)
+polls_end (Remove k (Some a)) _ h e = absurd (cc)
+polls_end (Remove k None) _ h e = refl
+polls_end (Load k) _ h e = absurd (cc)
+polls_end (HandOn k a) _ h e = refl
+polls_end (PassOn k a) _ h e = refl
+polls_end (RefuseFit k a) _ h e = refl
 polls_end _ f h e = absurd (cc h)
 
-ends_by : (k : Kind) (r : Rest) (x : Place) (f : Found) → runs k r x ≡ true → is_stepped (answer_by (next_of x f)) ≡ false → may_end k (answer_by (next_of x f)) ≡ true
+ends_by : (k : Kind) (r : Rest) (x : Place) (f : Found) → runs k r x ≡ true → EndsBy k (next_of x f)
 ends_by kind.FirstPoll rest.Idle x f h e = polls_end x f h e
 ends_by kind.LaterPoll rest.Pending x f h e = later_ends (answer_by (next_of x f)) (polls_end x f h e)
-ends_by kind.Try rest.Idle Try (Taken more) h e = refl
-ends_by kind.Try rest.Idle Try _ h e = refl
+ends_by kind.Try rest.Idle (Try k) (Left a) h e = refl
+ends_by kind.Try rest.Idle (Try k) _ h e = refl
 ends_by kind.Try rest.Idle _ f h e = absurd (cc h)
 ends_by kind.Add rest.Idle (Raise n) Done h e = absurd (cc)
 ends_by kind.Add rest.Idle (Raise n) _ h e = refl
 ends_by kind.Add rest.Idle (GiveAdded n) f h e = absurd (cc)
-ends_by kind.Add rest.Idle (NotifyAdded n) f h e = refl
+ends_by kind.Add rest.Idle (FitAdded a) f h e = refl
 ends_by kind.Add rest.Idle _ f h e = absurd (cc h)
-ends_by kind.Drop rest.Pending CancelLeave f h e = refl
+ends_by kind.Drop rest.Pending CancelRemove Yes h e = absurd (cc)
+ends_by kind.Drop rest.Pending CancelRemove _ h e = refl
+ends_by kind.Drop rest.Pending CancelLoad f h e = absurd (cc)
+ends_by kind.Drop rest.Pending (FitGivenBack a) f h e = refl
 ends_by kind.Drop rest.Pending Abandon f h e = refl
 ends_by kind.Drop rest.Pending _ f h e = absurd (cc h)
-ends_by kind.Drop rest.Holding GiveBack f h e = absurd (cc)
-ends_by kind.Drop rest.Holding GiveBackNotify f h e = refl
+ends_by kind.Drop rest.Holding (GiveBack k) f h e = absurd (cc)
+ends_by kind.Drop rest.Holding (FitGivenBack a) f h e = refl
 ends_by kind.Drop rest.Holding _ f h e = absurd (cc h)
-ends_by kind.Forget rest.Holding Lower f h e = refl
+ends_by kind.Forget rest.Holding (Lower k) f h e = refl
 ends_by kind.Forget rest.Holding _ f h e = absurd (cc h)
 ends_by _ _ x f h e = absurd (cc h)
 
 -- ---- What was decided, and what is decided now
 
-module _ (memory : Bool) (w : Words) (x : Place) (f : Found) where
-  parted : (v o : Option Answer) → Judged memory w x f v o → is_some v ≡ true → gives_something_back (deed_of (action_of x) f) ≡ true
+module _ (memory : Bool) (w : Words) (x : Place) (f : Found) (n : Next) where
+  parted : (v o : Option Answer) → Judged memory w x f n v o → is_some v ≡ true → gives_something_back (deed_of (action_of x) f) ≡ true
   parted (Some b) o j h = j.1
   parted None o j h = absurd (cc)
 
-  kept_on : (v o : Option Answer) (b : Answer) → Judged memory w x f v o → v ≡ Some b → o ≡ Some b
+  kept_on : (v o : Option Answer) (b : Answer) → Judged memory w x f n v o → v ≡ Some b → o ≡ Some b
   kept_on (Some c) o b j e = j.0 ∙ e
   kept_on None o b j e = absurd (none_some e)
 
-  reasoned : (v o : Option Answer) (b : Answer) → Judged memory w x f v o → ((c : Answer) → v ≡ Some c → c ≡ answer.GivenBack) → o ≡ Some b → (b ≡ answer.GivenBack) ⊎ Reason memory w x f b
+  reasoned : (v o : Option Answer) (b : Answer) → Judged memory w x f n v o → ((c : Answer) → v ≡ Some c → c ≡ answer.GivenBack) → o ≡ Some b → (b ≡ answer.GivenBack) ⊎ Reason memory w x f n b
   reasoned (Some c) o b j late e = inl (some_eq (sym e ∙ j.0) ∙ late c refl)
   reasoned None None b j late e = absurd (none_some e)
-  reasoned None (Some c) b j late e = let P : Answer → Type 0 = Reason memory w x f in inr (subst P (some_eq e) j)
-
-  pended : (v o : Option Answer) → Judged memory w x f v o → (v ≡ Some answer.Pending → ⊥) → o ≡ Some answer.Pending → (x ≡ Ask) × (f ≡ No)
-  pended (Some c) o j late e = absurd (late (sym j.0 ∙ e))
-  pended None None j late e = absurd (none_some e)
-  pended None (Some c) j late e = let P : Answer → Type 0 = Reason memory w x f in subst P (some_eq e) j
+  reasoned None (Some c) b j late e = let P : Answer → Type 0 = Reason memory w x f n in inr (subst P (some_eq e) j)
 
   overs : (r : Refusal) → 6 ≡ number_of r → Refuses memory w x f r → ⊥
   overs refusal.Memory e y = omega arith
@@ -158,47 +167,49 @@ module _ (memory : Bool) (w : Words) (x : Place) (f : Found) where
   overs refusal.Readers e y = y
   overs refusal.Generations e y = y
 
-  not_over : (v o : Option Answer) → Judged memory w x f v o → (v ≡ Some (refused refusal.Finished) → ⊥) → o ≡ Some (refused refusal.Finished) → ⊥
+  not_over : (v o : Option Answer) → Judged memory w x f n v o → (v ≡ Some (refused refusal.Finished) → ⊥) → o ≡ Some (refused refusal.Finished) → ⊥
   not_over (Some c) o j late e = late (sym j.0 ∙ e)
   not_over None None j late e = none_some e
-  not_over None (Some c) j late e = let P : Answer → Type 0 = Reason memory w x f in let why = subst P (some_eq e) j in overs why.0 why.1 why.2
+  not_over None (Some c) j late e = let P : Answer → Type 0 = Reason memory w x f n in let why = subst P (some_eq e) j in overs why.0 why.1 why.2
 
 never_over : (x : Place) → verdict_of x ≡ Some (refused refusal.Finished) → ⊥
-never_over RefuseNotify e = let six : Path ℕ 1 6 = finished_number 1 (some_eq e) in absurd (omega (arith, six))
+never_over (RefuseFit k a) e = let six : Path ℕ 1 6 = finished_number 1 (some_eq e) in absurd (omega (arith, six))
 never_over _ e = cc
 
 join_unlisted : (x : Place) → is_join x ≡ true → (seat_of x).listed ≡ 0
-join_unlisted (Join told) h = refl
+join_unlisted (Join k told) h = refl
 join_unlisted _ h = absurd (cc)
 
-room_found : (memory : Bool) (d : Deed Change ListName) (list : ListName) → Room memory d → d ≡ does list joins → memory ≡ true
-room_found memory d list h e = let P : Deed Change ListName → Type 0 = Room memory in subst P e h
+room_found : (memory : Bool) (d : Deed) → Room memory d → d ≡ does joins → memory ≡ true
+room_found memory d h e = let P : Deed → Type 0 = Room memory in subst P e h
 
-raise_adds : (n : ℕ) (f : Found) → answer_by (next_of (Raise n) f) ≡ answer.Stepped → adds_at (after (Raise n) f) ≡ n
-raise_adds n Done e = refl
-raise_adds n _ e = absurd (cc)
-
-goes_adds : (x : Place) (f : Found) → is_begun x ≡ true → answer_by (next_of x f) ≡ answer.Stepped → adds_at (after x f) ≡ adds_at (At x)
-goes_adds (Take true told) (Taken more) b e = refl
-goes_adds (Take false true) (Taken true) b e = refl
-goes_adds (Take false true) (Taken false) b e = refl
-goes_adds (Take true told) _ b e = refl
-goes_adds (Take false true) _ b e = refl
-goes_adds (Take false false) f b e = absurd (cc)
-goes_adds Retake f b e = absurd (cc)
-goes_adds (Join told) Done b e = refl
-goes_adds (Join true) _ b e = refl
-goes_adds (Join false) _ b e = refl
-goes_adds Ask Yes b e = refl
-goes_adds Ask _ b e = refl
-goes_adds (Leave true) _ b e = refl
-goes_adds (Leave false) _ b e = refl
-goes_adds (Raise n) f b e = absurd (cc)
-goes_adds (GiveAdded n) f b e = refl
-goes_adds (NotifyAdded n) f b e = absurd (cc)
-goes_adds Try f b e = absurd (cc)
-goes_adds GiveBack f b e = absurd (cc)
-goes_adds _ f b e = refl
+-- who is answered Pending stands in the list
+pended_listed : (x : Place) (f : Found) → answer_by (next_of x f) ≡ answer.Pending → listed (after x f) ≡ 1
+pended_listed (Ask k (Some a)) Yes e = absurd (cc e)
+pended_listed (Ask k None) Yes e = absurd (cc e)
+pended_listed (Ask k (Some a)) _ e = absurd (cc e)
+pended_listed (Ask k None) _ e = refl
+pended_listed (PassOn k a) f e = refl
+pended_listed (Take k true told) (Left a) e = absurd (cc e)
+pended_listed (Take k true told) _ e = absurd (cc e)
+pended_listed (Take k false true) (Left a) e = taken (λ n. answer_by n ≡ answer.Pending → listed (position_after n) ≡ 1) k a (λ g. absurd (cc g)) (λ none g. absurd (cc g)) e
+pended_listed (Take k false false) (Left a) e = absurd (cc e)
+pended_listed (Take k false told) _ e = absurd (cc e)
+pended_listed (Retake k) (Left a) e = absurd (cc e)
+pended_listed (Retake k) _ e = absurd (cc e)
+pended_listed (Join k told) Done e = absurd (cc e)
+pended_listed (Join k (Some a)) _ e = absurd (cc e)
+pended_listed (Join k None) _ e = absurd (cc e)
+pended_listed (Remove k more) Yes e = absurd (cc e)
+pended_listed (Remove k (Some a)) _ e = absurd (cc e)
+pended_listed (Remove k None) _ e = absurd (cc e)
+pended_listed (Try k) (Left a) e = absurd (cc e)
+pended_listed (Try k) _ e = absurd (cc e)
+pended_listed (Raise n) Done e = absurd (cc e)
+pended_listed (Raise n) _ e = absurd (cc e)
+pended_listed CancelRemove Yes e = absurd (cc e)
+pended_listed CancelRemove _ e = absurd (cc e)
+pended_listed _ f e = absurd (cc e)
 
 add_stage : (s : Stage) (what : What) (w : Within) (n : ℕ) → added_in what ≡ Some n → call_at knows s what ≡ Some w → s ≡ Outside w.was
 add_stage (Outside rest.Idle) (Begin (call.AddPermits k) i) w n a e = ap (λ (v : Within). Outside v.was) (some_eq e)
@@ -208,6 +219,31 @@ add_stage (Outside rest.Holding) (Begin (call.AddPermits k) i) w n a e = absurd 
 add_stage (Inside v) (Begin (call.AddPermits k) i) w n a e = absurd (none_some e)
 add_stage Forgotten (Begin (call.AddPermits k) i) w n a e = absurd (none_some e)
 add_stage s _ w n a e = absurd (cc a)
+
+-- only a fit has an entry notified
+fits_action : (b : Action) (f : Found) (c : ℕ) → deed_of b f ≡ does (fits c) → b ≡ act.Fit c
+fits_action (act.Fit n) Done c e = cc e
+fits_action (act.Fit n) _ c e = absurd (cc e)
+fits_action (act.Take n) (Left d) c e = absurd (cc e)
+fits_action (act.Take n) _ c e = absurd (cc e)
+fits_action (act.GiveBack n) (Available d) c e = absurd (cc e)
+fits_action (act.GiveBack n) _ c e = absurd (cc e)
+fits_action (act.Give n) (Available d) c e = absurd (cc e)
+fits_action (act.Give n) _ c e = absurd (cc e)
+fits_action (act.Raise n) Done c e = absurd (cc e)
+fits_action (act.Raise n) _ c e = absurd (cc e)
+fits_action (act.Lower n) Done c e = absurd (cc e)
+fits_action (act.Lower n) _ c e = absurd (cc e)
+fits_action (act.Join n) Done c e = absurd (cc e)
+fits_action (act.Join n) _ c e = absurd (cc e)
+fits_action act.Ask Yes c e = absurd (cc e)
+fits_action act.Ask No c e = absurd (cc e)
+fits_action act.Ask _ c e = absurd (cc e)
+fits_action act.Remove Yes c e = absurd (cc e)
+fits_action act.Remove No c e = absurd (cc e)
+fits_action act.Remove _ c e = absurd (cc e)
+fits_action act.Load f c e = absurd (cc e)
+fits_action act.Nothing f c e = absurd (cc e)
 
 same_state : (l k : ℕ) (s r : List Share) → l ≡ k → s ≡ r → Path State (record { limit = l; shares = s }) (record { limit = k; shares = r })
 same_state l k s r e d = cc
@@ -273,7 +309,7 @@ module _ (t u : Table Semaphore) (m : Move) (a : Answer) (w : Within) where
     abbrev to : Position
     to = after from found
 
-    abbrev deed : Deed Change ListName
+    abbrev deed : Deed
     deed = deed_of (action_of from) found
 
     r : Row memory t.machine.words from found
@@ -306,94 +342,126 @@ module _ (t u : Table Semaphore) (m : Move) (a : Answer) (w : Within) where
     pub share_new : share_at new.state p ≡ share_of to
     share_new = seen.share_seen u p ∙ ap share_of lands
 
-    state_so : (d : Deed Change ListName) → SharesSo d (seat_of from).share (share_of to) → u.machine.words ≡ words_after d t.machine.words → new.state ≡ state_after p d old.state
+    state_so : (d : Deed) → SharesSo d (seat_of from).share (share_of to) → u.machine.words ≡ words_after d t.machine.words → new.state ≡ state_after p d old.state
     state_so (changes c) h e = same_state _ _ _ _ (ap (λ (v : Words). v.limit) e) (ap (map share_of) k.acts.positions ∙ (map-set share_of xs p to ∙ ap (set (map share_of xs) p) (h ∙ ap (share_after c) (sym share_old))))
     state_so nothing h e = same_state _ _ _ _ (ap (λ (v : Words). v.limit) e) (ap (map share_of) k.acts.positions ∙ map-set_same share_of xs p to Out (h ∙ ap (λ (z : Seat). z.share) k.here.same))
-    state_so (does list f) h e = same_state _ _ _ _ (ap (λ (v : Words). v.limit) e) (ap (map share_of) k.acts.positions ∙ map-set_same share_of xs p to Out (h ∙ ap (λ (z : Seat). z.share) k.here.same))
+    state_so (does f) h e = same_state _ _ _ _ (ap (λ (v : Words). v.limit) e) (ap (map share_of) k.acts.positions ∙ map-set_same share_of xs p to Out (h ∙ ap (λ (z : Seat). z.share) k.here.same))
 
     pub state_is : new.state ≡ state_after p deed old.state
     state_is = state_so deed r.shares k.acts.words
 
-    most_so : (d : Deed Change ListName) → u.machine.words ≡ words_after d t.machine.words → u.machine.words.most ≡ t.machine.words.most
+    most_so : (d : Deed) → u.machine.words ≡ words_after d t.machine.words → u.machine.words.most ≡ t.machine.words.most
     most_so (changes c) e = ap (λ (v : Words). v.most) e
     most_so nothing e = ap (λ (v : Words). v.most) e
-    most_so (does list f) e = ap (λ (v : Words). v.most) e
+    most_so (does f) e = ap (λ (v : Words). v.most) e
 
-    allowed_so : (d : Deed Change ListName) → AllowedAt d from t.machine.words → IsAllowed old m d
-    allowed_so nothing h = tt
-    allowed_so (changes takes) h = (seen.free_seen t k.old_laws ∙ seen.some_free t.machine.words.available h.0, share_old ∙ h.1)
-    allowed_so (changes gives_back) h = (share_old ∙ ap (λ y. (seat_of y).share) h, k.here.drop h)
-    allowed_so (changes forgets) h = (share_old ∙ ap (λ y. (seat_of y).share) h, k.here.forget h)
-    allowed_so (changes (raises n)) h = (k.here.raise n h.0, h.1, share_old ∙ ap (λ y. (seat_of y).share) h.0)
-    allowed_so (changes (gives n)) h = (share_old ∙ ap (λ y. (seat_of y).share) h, seen.adds_seen t p ∙ k.here.gives n h)
-    allowed_so (does list joins) h = tt
-    allowed_so (does list asks) h = tt
-    allowed_so (does list leaves) h = tt
-    allowed_so (does list (notifies n)) h = (ap (λ z. notice z (adds_of old p)) stood ∙ (ap (notice (stands_as (verdict x) s)) (seen.adds_seen t p) ∙ k.here.told n h), ap may_tell stood ∙ k.here.tells n h)
-    allowed_so (does list (notifies_additionally n)) h = h
+    pub debt_old : debt_of old p ≡ (seat_of from).debt
+    debt_old = seen.debt_seen t p ∙ ap (λ (z : Seat). z.debt) (sym k.here.same)
+
+    pub debt_new : debt_of new p ≡ debt_at to
+    debt_new = seen.debt_seen u p ∙ ap debt_at lands
+
+    pub wants : (n : ℕ) → action_of from ≡ act.Take n → wanted old m ≡ n
+    wants n e = ap (wanted_in m.what) (seen.size_seen t p) ∙ k.here.wants n e
+
+    allowed_so : (d : Deed) → d ≡ deed → AllowedAt d from t.machine.words → IsAllowed old m d
+    allowed_so nothing is h = tt
+    allowed_so (changes (takes n)) is h = (wants n h.0, omega (arith, seen.available_seen t k.old_laws, h.1), share_old ∙ h.2)
+    allowed_so (changes (gives_back n)) is h = (share_old ∙ ap (λ y. (seat_of y).share) h, k.here.drop n h)
+    allowed_so (changes (forgets n)) is h = (share_old ∙ ap (λ y. (seat_of y).share) h, k.here.forget n h)
+    allowed_so (changes (raises n)) is h = (k.here.raise n h.0, h.1, share_old ∙ ap (λ y. (seat_of y).share) h.0)
+    allowed_so (changes (gives n)) is h = share_old ∙ ap (λ y. (seat_of y).share) h
+    allowed_so (does joins) is h = tt
+    allowed_so (does asks) is h = tt
+    allowed_so (does removes) is h = tt
+    allowed_so (does (fits c)) is h = (debt_old ∙ h.0, ap is_decided stood ∙ k.here.fits c (fits_action (action_of from) found c (sym is)))
 
     decided_there : is_decided (standing_of old p) || is_giving_back m.what ≡ is_some (verdict_of from)
     decided_there = ap (λ z. is_decided z || is_giving_back m.what) stood ∙ k.here.decides
 
+    pub entries_seen : u.machine.entries ≡ entries_after (size_of old) p deed t.machine.entries
+    entries_seen = k.acts.entries ∙ same_sizes deed where
+      same_sizes : (d : Deed) → entries_after (sizes_of xs) p d t.machine.entries ≡ entries_after (size_of old) p d t.machine.entries
+      same_sizes nothing = refl
+      same_sizes (changes c) = refl
+      same_sizes (does joins) = refl
+      same_sizes (does asks) = refl
+      same_sizes (does removes) = refl
+      same_sizes (does (fits c)) = fitted-agree (sizes_of xs) (size_of old) c t.machine.entries (λ q some. sym (seen.size_seen t q))
+
     one_change : ChangesOneThing old m new
     one_change = record {
       deed = deed;
-      allowed = allowed_so deed r.allowed;
+      allowed = allowed_so deed refl r.allowed;
       state = state_is;
-      entries = k.acts.entries;
+      entries = entries_seen;
       most = most_so deed k.acts.words;
       opening_permits = k.opening;
       others = others_stand;
       parties = acting.as_many verdict_in rest.Holding t u p w a k.inside k.stages;
-      found_memory = λ list e. room_found memory deed list r.room e;
-      parting = λ h. parted memory t.machine.words from found (verdict_of from) (said (next_of from found)) r.judged (sym decided_there ∙ h);
+      found_memory = λ e. room_found memory deed r.room e;
+      parting = λ h. parted memory t.machine.words from found (next_of from found) (verdict_of from) (said (next_of from found)) r.judged (sym decided_there ∙ h);
       giving_up = λ h. decided_there ∙ r.held_on h;
-    }
-
-    adds_new : adds_of new p ≡ adds_at to
-    adds_new = seen.adds_seen u p ∙ ap adds_at lands
-
-    stepped : a ≡ answer.Stepped → answer_by (next_of from found) ≡ answer.Stepped
-    stepped e = sym k.answer ∙ e
-
-    knows_adds : KnowsAdds old m a new
-    knows_adds = record {
-      begun = λ n e h. (let P : Place → Type 0 = λ y. answer_by (next_of y found) ≡ answer.Stepped → adds_at (after y found) ≡ n in adds_new ∙ subst P (sym (k.here.adds n e).0) (raise_adds n found) (stepped h));
-      going = λ i e h. adds_new ∙ (goes_adds from found (k.here.going i e).1 (stepped h) ∙ (ap adds_at (sym (k.here.going i e).0) ∙ sym (seen.adds_seen t p)));
-      others = λ q apart. seen.adds_seen u q ∙ (ap adds_at (stays q apart) ∙ sym (seen.adds_seen t q));
-    }
-
-    -- what is decided now, and was not before, has its reason, or is given back
-    reason : (b : Answer) → DecidesOn old m a new b → (b ≡ answer.GivenBack) ⊎ Reason memory t.machine.words from found b
-    reason b d = reasoned memory t.machine.words from found (verdict_of from) (said (next_of from found)) b r.judged (k.here.undecided (sym (ap is_decided stood) ∙ d.0)) (sym decides ∙ d.1)
-
-    carries : Carries old m a new
-    carries = record {
-      ready = λ got d. elim (reason (answer.Ready got) d) as (λ _. (got ≡ Plain) × (has_permit new.state p ≡ true)) [ inl e ↦ absurd (cc) | inr y ↦ (y.0, ap (λ (z : Share). z.permit) (share_new ∙ y.1)) ];
-      granted = λ got d. elim (reason (answer.Granted got) d) as (λ _. got ≡ Plain) [ inl e ↦ absurd (cc) | inr y ↦ y ];
     }
 
     pub own_entries : entries_of p t.machine.entries ≡ (seat_of from).listed
     own_entries = k.old_laws.owners p ∙ ap (λ (z : Seat). z.listed) (sym k.here.same)
 
-    pended_so : (y : Place) (f : Found) (es : List (Entry ℕ)) → y ≡ Ask → f ≡ No → Finds memory p (action_of y) f t.machine.words t.machine.entries → es ≡ entries_after p (deed_of (action_of y) f) t.machine.entries → entries_of p t.machine.entries ≡ (seat_of y).listed → mark_at (is_party p) es ≡ Some Waiting
-    pended_so y f es ey ef finds is own =
-        let P : Place → Found → Type 0 = λ y f. Finds memory p (action_of y) f t.machine.words t.machine.entries → es ≡ entries_after p (deed_of (action_of y) f) t.machine.entries → entries_of p t.machine.entries ≡ (seat_of y).listed → mark_at (is_party p) es ≡ Some Waiting in
-        let base : P Ask No = λ marked same one. (let kept : es ≡ t.machine.entries = same ∙ rw marked refl in rw kept (waits_at p t.machine.entries one marked)) in
-        let Q : Place → Type 0 = λ y. P y f in
-        subst Q (sym ey) (subst (P Ask) (sym ef) base) finds is own
+    pub owes : OwedBy p t.machine.words t.machine.entries (size_of old) from found to
+    owes = owed memory p t.machine.words t.machine.entries (size_of old) from found k.acts.finds own_entries
 
-    waits : Waits m a new
+    pub available_new : available new.state ≡ (words_after deed t.machine.words).available
+    available_new = seen.available_seen u k.new_laws ∙ ap (λ (v : Words). v.available) k.acts.words
+
+    size_rows : Sized s m.what w x from
+    size_rows =
+        let turned = sized s m.what w x (k.old_fits.stands p k.inside) k.call k.first in
+        let P : Place → Type 0 = Sized s m.what w x in
+        subst P (some_eq (sym turned.starts ∙ k.starts)) turned.holds
+
+    pub knows_sizes : KnowsSizes old m a new
+    knows_sizes = record {
+      own = seen.size_seen u p ∙ (ap size_at lands ∙ (size_rows found ∙ (ap (size_after m.what (answer_by (next_of from found))) (sym (seen.size_seen t p)) ∙ ap (λ b. size_after m.what b (size_of old p)) (sym k.answer))));
+      others = λ q apart. seen.size_seen u q ∙ (ap size_at (stays q apart) ∙ sym (seen.size_seen t q));
+    }
+
+    knows_debts : KnowsDebts old m new
+    knows_debts = record {
+      told = λ was isnt. debt_new ∙ owes.told was (sym (ap (is_marked_at (is_party p)) entries_seen) ∙ isnt);
+      looks = λ e. elim (owes.looks (sym debt_new ∙ e)) as (λ _. (is_marked_at (is_party p) t.machine.entries ≡ true) ⊎ ((n : ℕ) × (debt_of old p ≡ a_fit n))) [ inl y ↦ inl y | inr y ↦ inr (y.0, debt_old ∙ y.1) ];
+      finds = λ n e. elim (owes.finds n (sym debt_new ∙ e)) as (λ _. (n ≡ available new.state) ⊎ ((debt_of old p ≡ a_fit n) × (is_marked_at (is_party p) t.machine.entries ≡ false))) [ inl y ↦ inl (y ∙ sym available_new) | inr y ↦ inr (debt_old ∙ y.0, y.1) ];
+      looked = λ was none. available_new ∙ owes.looked (sym debt_old ∙ was) (sym debt_new ∙ none);
+      fitted = λ n was none. entries_seen ∙ owes.fitted n (sym debt_old ∙ was) (sym debt_new ∙ none);
+      others = λ q apart. seen.debt_seen u q ∙ (ap debt_at (stays q apart) ∙ sym (seen.debt_seen t q));
+    }
+
+    -- what is decided now, and was not before, has its reason, or is given back
+    reason : (b : Answer) → DecidesOn old m a new b → (b ≡ answer.GivenBack) ⊎ Reason memory t.machine.words from found (next_of from found) b
+    reason b d = reasoned memory t.machine.words from found (next_of from found) (verdict_of from) (said (next_of from found)) b r.judged (k.here.undecided (sym (ap is_decided stood) ∙ d.0)) (sym decides ∙ d.1)
+
+    carries : Carries old m a new
+    carries = record {
+      ready = λ got d. elim (reason (answer.Ready got) d) as (λ _. (got ≡ Plain) × (share_at new.state p ≡ guard_of (wanted old m))) [ inl e ↦ absurd (cc) | inr y ↦ (y.0, share_new ∙ (y.1.2 ∙ ap guard_of (sym (wants y.1.0 y.1.1)))) ];
+      granted = λ got d. elim (reason (answer.Granted got) d) as (λ _. got ≡ Plain) [ inl e ↦ absurd (cc) | inr y ↦ y ];
+    }
+
+    pended_so : (y : Place) (f : Found) (es : List (Entry ℕ)) → is_ask y ≡ true → f ≡ No → Finds memory p (action_of y) f t.machine.words t.machine.entries → es ≡ entries_after (size_of old) p (deed_of (action_of y) f) t.machine.entries → entries_of p t.machine.entries ≡ (seat_of y).listed → mark_at (is_party p) es ≡ Some Waiting
+    pended_so (Ask n told) f es is_so ef finds is own =
+        let P : Found → Type 0 = λ f. Finds memory p (action_of (Ask n told)) f t.machine.words t.machine.entries → es ≡ entries_after (size_of old) p (deed_of (action_of (Ask n told)) f) t.machine.entries → mark_at (is_party p) es ≡ Some Waiting in
+        let base : P No = λ marked same. (let kept : es ≡ t.machine.entries = same ∙ rw marked refl in rw kept (waits_at p t.machine.entries own marked)) in
+        subst P (sym ef) base finds is
+    pended_so _ f es is_so ef finds is own = absurd (cc is_so)
+
+    waits : Waits old m a new
     waits = record {
-      waiting = λ e.
-          let at = pended memory t.machine.words from found (verdict_of from) (said (next_of from found)) r.judged (never_pending from) (said_then (next_of from found) answer.Pending refl (sym k.answer ∙ e)) in
-          pended_so from found u.machine.entries at.0 at.1 k.acts.finds k.acts.entries own_entries;
-      not_before = λ v e. (legals.well u k.new_laws k.new_fits).never_pending p v e;
+      waiting = λ d. elim (reason answer.Pending d) as (λ _. mark_at (is_party p) u.machine.entries ≡ Some Waiting) [ inl e ↦ absurd (cc e) | inr y ↦ pended_so from found u.machine.entries y.0 y.1 k.acts.finds entries_seen own_entries ];
+      listed = λ e. k.new_laws.owners p ∙ (ap listed lands ∙ pended_listed from found (sym k.answer ∙ e));
+      before = λ v e. (legals.well u k.new_laws k.new_fits).pends p v e;
     }
 
     pub unchanged : (n : ℕ) → from ≡ Raise n → found ≡ PastLimit → u ≡ t
     unchanged n ef ep =
-        let P : Place → Found → Type 0 = λ y f. (u.machine.words ≡ words_after (deed_of (action_of y) f) t.machine.words) × (u.machine.entries ≡ entries_after p (deed_of (action_of y) f) t.machine.entries) × (u.machine.positions ≡ set xs p (after y f)) × (a ≡ answer_by (next_of y f)) in
+        let P : Place → Found → Type 0 = λ y f. (u.machine.words ≡ words_after (deed_of (action_of y) f) t.machine.words) × (u.machine.entries ≡ entries_after (sizes_of xs) p (deed_of (action_of y) f) t.machine.entries) × (u.machine.positions ≡ set xs p (after y f)) × (a ≡ answer_by (next_of y f)) in
         let all : P from found = (k.acts.words, k.acts.entries, k.acts.positions, k.answer) in
         let Q : Place → Type 0 = λ y. P y found in
         let so : P (Raise n) PastLimit = subst (P (Raise n)) ep (subst Q ef all) in
@@ -404,7 +472,7 @@ module _ (t u : Table Semaphore) (m : Move) (a : Answer) (w : Within) where
         same_table _ _ _ _ _ _ (same_machine _ _ _ _ _ _ so.0 positions so.1) stages k.opening
 
     cause : (c : Refusal) → Refuses memory t.machine.words from found c → IsCause old m new c
-    cause refusal.Memory y = (y.0, own_entries ∙ join_unlisted from y.1, k.acts.entries ∙ ap (λ (d : Deed Change ListName). entries_after p d t.machine.entries) y.2, state_is ∙ ap (λ (d : Deed Change ListName). state_after p d old.state) y.2)
+    cause refusal.Memory y = (y.0, own_entries ∙ join_unlisted from y.1, entries_seen ∙ ap (λ (d : Deed). entries_after (size_of old) p d t.machine.entries) y.2, state_is ∙ ap (λ (d : Deed). state_after p d old.state) y.2)
     cause refusal.Permits y = (y.0, k.here.raise y.0 y.1, y.2, ap view_of (unchanged y.0 y.1 y.3))
     cause refusal.Finished y = absurd y
     cause _ y = absurd y
@@ -419,7 +487,7 @@ module _ (t u : Table Semaphore) (m : Move) (a : Answer) (w : Within) where
       cause = λ n d. elim (reason (answer.Refused n) d) as (λ _. (c : Refusal) × (n ≡ number_of c) × IsCause old m new c) [ inl e ↦ absurd (cc) | inr y ↦ (y.0, y.1, cause y.0 y.2) ];
       memory = λ d. elim (reason (refused refusal.Memory) d) as (λ _. IsUndecided (standing_of old p)) [ inl e ↦ absurd (cc) | inr y ↦ was_inside y.0 y.1 y.2 ];
       after_ready = (
-        (λ e. absurd (not_over memory t.machine.words from found (verdict_of from) (said (next_of from found)) r.judged (never_over from) (said_then (next_of from found) (refused refusal.Finished) refl (sym k.answer ∙ e)))),
+        (λ e. absurd (not_over memory t.machine.words from found (next_of from found) (verdict_of from) (said (next_of from found)) r.judged (never_over from) (said_then (next_of from found) (refused refusal.Finished) refl (sym k.answer ∙ e)))),
         (λ e. let never : polls_again s m.what ≡ true = sym (again_seen (verdict x) s m.what) ∙ (ap (λ z. is_poll_after_ready z m.what) (sym stood) ∙ e) in absurd (cc (k.first, never))),
       );
     }
@@ -428,7 +496,7 @@ module _ (t u : Table Semaphore) (m : Move) (a : Answer) (w : Within) where
     leaves_clear = record {
       each = each_has u k.new_laws k.new_fits;
       decided = ends_well u k.new_laws k.new_fits;
-      adds = none_added u k.new_laws k.new_fits;
+      paid = none_owed u k.new_laws k.new_fits;
       refused = λ h. k.new_laws.owners p ∙ (ap listed lands ∙ r.clear (ap is_refusal (sym k.answer) ∙ h));
     }
 
@@ -443,13 +511,14 @@ module _ (t u : Table Semaphore) (m : Move) (a : Answer) (w : Within) where
 
     ends_properly : EndsProperly old m a new
     ends_properly = acting.ends_so standing_of (λ y q. knows) rest.Holding old m a new w called is_possible_now (rw stands (stands_seen rest.Holding w a (verdict to) is_possible_now may_end_so))
-        (λ v b e. decides ∙ kept_on memory t.machine.words from found (verdict_of from) (said (next_of from found)) b r.judged (k.here.kept v b (sym stood ∙ e)))
+        (λ v b e. decides ∙ kept_on memory t.machine.words from found (next_of from found) (verdict_of from) (said (next_of from found)) b r.judged (k.here.kept v b (sym stood ∙ e)))
 
     pub legal : Legal old m a new
     legal = record {
       possible = acting.possible_so standing_of (λ y q. knows) rest.Holding old m a new w called is_possible_now;
       one_change = one_change;
-      knows_adds = knows_adds;
+      knows_sizes = knows_sizes;
+      knows_debts = λ possible. knows_debts;
       carries = carries;
       waits = waits;
       refused_for_cause = refused_for_cause;

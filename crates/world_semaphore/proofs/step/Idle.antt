@@ -12,26 +12,27 @@ use Rattle.world_base.specs.declared.standing.Rest.TheVariants as rest
 use Rattle.world_base.specs.declared.standing.Within.{Within}
 use Rattle.world_base.specs.Standings.{Standing, outside, inside, is_outside, call_in, may_end, refused}
 use Rattle.world_base.specs.Frame.{is_poll_after_ready, is_drop}
-use Rattle.world_base.specs.Steps.{nothing}
 use Rattle.world_base.proofs.Equations.{outside_inside}
 use Rattle.world_base.proofs.of_table.Idle as idle
 use Rattle.world_base.proofs.of_table.Idle.{Idle, same_decides}
 use Rattle.world_semaphore.specs.machine.Machine.{knows}
-use Rattle.world_semaphore.specs.State.{World, standing_of, adds_of}
-use Rattle.world_semaphore.specs.Legal.{call_of, added_in, is_forget, IsCause, HasItsOwn, Legal}
+use Rattle.world_semaphore.specs.State.{World, standing_of, size_of, debt_of}
+use Rattle.world_semaphore.specs.machine.Deeds.{nothing}
+use Rattle.world_semaphore.specs.machine.Seats.{nothing_owed, a_look, a_fit}
+use Rattle.world_semaphore.specs.Legal.{call_of, added_in, is_forget, size_after, KnowsDebts, IsCause, HasItsOwn, Legal}
 use Rattle.world_semaphore.specs.AtOnce.{AnswersAtOnce, is_try, is_poll, is_first_poll}
 
 -- which moves are possible
 module _ (n : ℕ) where
   poll_possible : (s : Standing) (what : What) → is_poll s what ≡ true → call_in knows s what ≡ None → ⊥
-  poll_possible (outside rest.Idle) (Begin call.Acquire i) h e = cc
-  poll_possible (outside rest.Finished) (Begin call.Acquire i) h e = cc
+  poll_possible (outside rest.Idle) (Begin (call.Acquire k) i) h e = cc
+  poll_possible (outside rest.Finished) (Begin (call.Acquire k) i) h e = cc
   poll_possible (outside rest.Pending) (Begin call.Poll i) h e = cc
   poll_possible _ _ h e = cc
 
   first_polls : (s : Standing) (what : What) → is_first_poll s what n ≡ true → is_poll s what ≡ true
-  first_polls (outside rest.Idle) (Begin call.Acquire i) h = refl
-  first_polls (outside rest.Finished) (Begin call.Acquire i) h = refl
+  first_polls (outside rest.Idle) (Begin (call.Acquire k) i) h = refl
+  first_polls (outside rest.Finished) (Begin (call.Acquire k) i) h = refl
   first_polls (outside rest.Pending) (Begin call.Poll i) h = refl
   first_polls _ _ h = absurd (cc)
 
@@ -56,13 +57,40 @@ again _ _ h = absurd (cc)
 -- what holds of any World that stands
 pub record StandsWell (w : World) : Type 0 where
   pub each : (p : ℕ) → HasItsOwn w p (standing_of w p)
-  pub adds : (p : ℕ) → is_outside (standing_of w p) ≡ true → adds_of w p ≡ 0
+  pub paid : (p : ℕ) → is_outside (standing_of w p) ≡ true → debt_of w p ≡ nothing_owed
   pub ends : (p : ℕ) (u : Within) (b : Answer) → standing_of w p ≡ inside u (Some b) → may_end u.kind b ≡ true
-  pub never_pending : (p : ℕ) (u : Within) → standing_of w p ≢ inside u (Some answer.Pending)
+  pub pends : (p : ℕ) (u : Within) → standing_of w p ≡ inside u (Some answer.Pending) → (n : ℕ) × (debt_of w p ≡ a_fit n)
+
+again_out : (s : Standing) (what : What) → is_poll_after_ready s what ≡ true → is_outside s ≡ true
+again_out (outside rest.Holding) (Begin call.Poll i) h = refl
+again_out (outside rest.Finished) (Begin call.Poll i) h = refl
+again_out _ _ h = absurd (cc)
+
+-- such a move is for no other number of permits
+never_sized : (what : What) (n : ℕ) → n ≡ size_after what answer.NotPossible n
+never_sized what n = refl
+
+again_sized : (s : Standing) (what : What) (n : ℕ) → is_poll_after_ready s what ≡ true → n ≡ size_after what (refused refusal.Finished) n
+again_sized (outside rest.Holding) (Begin call.Poll i) n h = refl
+again_sized (outside rest.Finished) (Begin call.Poll i) n h = refl
+again_sized _ _ n h = absurd (cc)
 
 module _ (w : World) (m : Move) (well : StandsWell w) where
   abbrev s : Standing
   s = standing_of w m.party
+
+  -- who stands outside every call owes nothing, before and after a move that does nothing
+  unmoved : is_outside s ≡ true → KnowsDebts w m w
+  unmoved out =
+      let none : debt_of w m.party ≡ nothing_owed = well.paid m.party out in
+      record {
+        told = λ is isnt. absurd (cc (is, isnt));
+        looks = λ h. absurd (cc (none, h));
+        finds = λ n h. absurd (cc (none, h));
+        looked = λ h g. absurd (cc (h, g));
+        fitted = λ n h g. absurd (cc (h, g));
+        others = λ q apart. refl;
+      }
 
   abbrev Still : Answer → Type 0
   Still = Idle standing_of (λ x p. knows) rest.Holding IsCause w m refl
@@ -70,12 +98,13 @@ module _ (w : World) (m : Move) (well : StandsWell w) where
   pub impossible : call_of w m ≡ None → Legal w m answer.NotPossible w
   impossible none = let still : Still answer.NotPossible = idle.impossible standing_of (λ x p. knows) rest.Holding IsCause w m refl none in record {
     possible = still.possible;
-    one_change = record { deed = nothing; allowed = tt; state = refl; entries = refl; most = refl; opening_permits = refl; others = λ q apart. refl; parties = refl; found_memory = λ list e. absurd (cc); parting = λ h. refl; giving_up = λ h. absurd (cc) };
-    knows_adds = record { begun = λ n e h. absurd (cc); going = λ i e h. absurd (cc); others = λ q apart. refl };
+    one_change = record { deed = nothing; allowed = tt; state = refl; entries = refl; most = refl; opening_permits = refl; others = λ q apart. refl; parties = refl; found_memory = λ e. absurd (cc); parting = λ h. refl; giving_up = λ h. absurd (cc) };
+    knows_sizes = record { own = never_sized m.what (size_of w m.party); others = λ q apart. refl };
+    knows_debts = λ h. absurd (cc h);
     carries = record { ready = λ got d. (let e = same_decides s answer.NotPossible (answer.Ready got) d in absurd (cc)); granted = λ got d. (let e = same_decides s answer.NotPossible (answer.Granted got) d in absurd (cc)) };
-    waits = record { waiting = λ e. absurd (cc); not_before = well.never_pending m.party };
+    waits = record { waiting = λ d. (let e = same_decides s answer.NotPossible answer.Pending d in absurd (cc e)); listed = λ e. absurd (cc e); before = well.pends m.party };
     refused_for_cause = still.refused_for_cause;
-    leaves_clear = record { each = well.each; decided = well.ends; adds = well.adds; refused = λ h. absurd (cc) };
+    leaves_clear = record { each = well.each; decided = well.ends; paid = well.paid; refused = λ h. absurd (cc) };
     ends_properly = still.ends_properly;
   }
 
@@ -89,9 +118,10 @@ module _ (w : World) (m : Move) (well : StandsWell w) where
     forgotten = λ e h. absurd (cc);
     looks = λ e h. absurd (cc);
     returned = λ d e. absurd (drop_possible 0 s m.what d e none);
-    notifies = λ e h. absurd (cc);
-    refuses = λ v e h. absurd (cc);
+    tells = λ r e h. absurd (cc);
     gives = λ e h. absurd (cc);
+    refuses = λ v e h. absurd (cc);
+    waits = λ v e h. absurd (cc);
   }
 
   module _ (h : is_poll_after_ready s m.what ≡ true) where
@@ -101,12 +131,13 @@ module _ (w : World) (m : Move) (well : StandsWell w) where
     pub over : Legal w m (refused refusal.Finished) w
     over = let still : Still (refused refusal.Finished) = idle.over standing_of (λ x p. knows) rest.Holding IsCause w m refl h refl in record {
       possible = still.possible;
-      one_change = record { deed = nothing; allowed = tt; state = refl; entries = refl; most = refl; opening_permits = refl; others = λ q apart. refl; parties = refl; found_memory = λ list e. absurd (cc); parting = λ h. refl; giving_up = λ h. absurd (cc) };
-      knows_adds = record { begun = λ n e h. absurd (cc); going = λ i e h. absurd (cc); others = λ q apart. refl };
+      one_change = record { deed = nothing; allowed = tt; state = refl; entries = refl; most = refl; opening_permits = refl; others = λ q apart. refl; parties = refl; found_memory = λ e. absurd (cc); parting = λ h. refl; giving_up = λ h. absurd (cc) };
+      knows_sizes = record { own = again_sized s m.what (size_of w m.party) h; others = λ q apart. refl };
+      knows_debts = λ possible. unmoved (again_out s m.what h);
       carries = record { ready = λ got d. (let e = same_decides s (refused refusal.Finished) (answer.Ready got) d in absurd (cc)); granted = λ got d. (let e = same_decides s (refused refusal.Finished) (answer.Granted got) d in absurd (cc)) };
-      waits = record { waiting = λ e. absurd (cc); not_before = well.never_pending m.party };
+      waits = record { waiting = λ d. (let e = same_decides s (refused refusal.Finished) answer.Pending d in absurd (cc e)); listed = λ e. absurd (cc e); before = well.pends m.party };
       refused_for_cause = still.refused_for_cause;
-      leaves_clear = record { each = well.each; decided = well.ends; adds = well.adds; refused = λ h. absurd (cc) };
+      leaves_clear = record { each = well.each; decided = well.ends; paid = well.paid; refused = λ h. absurd (cc) };
       ends_properly = still.ends_properly;
     }
 
@@ -120,7 +151,8 @@ module _ (w : World) (m : Move) (well : StandsWell w) where
       forgotten = λ e g. (let never = so.forget in absurd (cc));
       looks = λ e g. (let never : is_try m.what || is_poll s m.what ≡ false = ap (λ b. b || is_poll s m.what) so.try ∙ so.poll in absurd (false≢true (sym never ∙ e)));
       returned = λ d e. (let never = so.drop in absurd (cc));
-      notifies = λ e g. absurd (so.outside _ _ e);
-      refuses = λ v e g. absurd (so.outside _ _ e);
+      tells = λ r e g. absurd (so.outside _ _ e);
       gives = λ e g. absurd (so.outside _ _ e);
+      refuses = λ v e g. absurd (so.outside _ _ e);
+      waits = λ v e g. absurd (so.outside _ _ e);
     }

@@ -14,7 +14,7 @@ use Rattle.world_base.specs.table.Stages.{stage_at, call_at, polls_again}
 use Rattle.world_base.specs.table.Tables.{Table, Acted}
 use Rattle.world_base.proofs.of_table.Calls.{call_seen, again_seen}
 use Rattle.world_base.proofs.of_table.Ways.{way, by_way}
-use Rattle.sync_program.specs.declared.semaphore.Place.{Place}
+use Rattle.sync_program.specs.declared.permits.Place.{Place}
 use Rattle.world_semaphore.specs.machine.Seats.{verdict}
 use Rattle.world_semaphore.specs.machine.Machine.{Semaphore, IsSemaphore, Moves, knows, position_at}
 use Rattle.world_semaphore.specs.State.{standing_of}

@@ -1,135 +1,173 @@
--- A poll that takes a permit leaves some entry marked, if there is any, where one was.
-use Rattle.std.proofs.Common.{◌≡◌, ◌≢◌, ℕ, ◌<◌, ◌⊎◌, inl, inr, Bool, true, false, List, length, refl, arith, ap, sym, ◌∙◌, subst}
+-- A poll or a drop of a pending party leaves some entry notified, if as many permits are available as somebody listed waits for, where one was.
+use Rattle.std.proofs.Common.{◌≡◌, ◌≢◌, ℕ, ◌<◌, ◌≤◌, ◌⊎◌, inl, inr, true, false, Bool, List, Option, Some, None, refl, arith, ap, sym, ◌∙◌, subst}
+use Rattle.std.proofs.Math.Decide.{ℕ_discrete}
 use Rattle.lock_event.specs.declared.event.Entry.{Entry}
-use Rattle.lock_event.specs.Lists.{marked_count, left, is_marked_at}
-use Rattle.world_base.specs.queue.Parties.{is_party, entries_of}
+use Rattle.lock_event.specs.Lists.{marked_count}
+use Rattle.lock_event.specs.Weights.{fitted}
+use Rattle.world_base.specs.queue.Parties.{entries_of}
 use Rattle.world_base.specs.declared.moves.Answer.{Answer}
 use Rattle.world_base.specs.declared.moves.Answer.TheVariants as answer
+use Rattle.world_base.specs.declared.moves.Call.{Call}
 use Rattle.world_base.specs.declared.moves.Call.TheVariants as call
 use Rattle.world_base.specs.declared.moves.Inputs.{Inputs}
-use Rattle.world_base.specs.declared.moves.Move.{Move}
+use Rattle.world_base.specs.declared.moves.What.{What}
 use Rattle.world_base.specs.declared.moves.What.TheVariants.{Begin}
-use Rattle.lock_program.specs.declared.refusal.Refusal.TheVariants as refusal
 use Rattle.world_base.specs.declared.standing.Rest.TheVariants as rest
 use Rattle.world_base.specs.declared.standing.Within.{Within}
-use Rattle.world_base.specs.Standings.{outside, inputs_of, refused}
-use Rattle.world_base.specs.Steps.{leaves}
-use Rattle.world_base.specs.Whole.{going_on, moves_of, answers_of}
-use Rattle.world_base.proofs.Lists.{counted_by}
-use Rattle.world_base.specs.any_world.Steps.{beginning}
-use Rattle.world_base.proofs.of_any_world.Runs.{Onward, along}
+use Rattle.world_base.specs.Frame.{is_refusal}
+use Rattle.world_base.specs.Standings.{outside, inputs_of, is_stepped}
+use Rattle.world_base.specs.Whole.{moves_of, answers_of}
+use Rattle.world_base.proofs.Equations.{some_eq, none_some}
 use Rattle.world_base.specs.table.Tables.{Table}
-use Rattle.sync_program.specs.declared.semaphore.Action.TheVariants as act
-use Rattle.sync_program.specs.declared.semaphore.Found.{Found}
-use Rattle.sync_program.specs.declared.semaphore.Found.TheVariants.{Done, Taken, NoneLeft}
-use Rattle.sync_program.specs.declared.semaphore.Place.{Place}
-use Rattle.sync_program.specs.declared.semaphore.Place.TheVariants.{Take, Retake, Leave}
-use Rattle.sync_program.specs.declared.semaphore.Position.TheVariants.{At}
+use Rattle.sync_program.specs.declared.permits.Action.{Action}
+use Rattle.sync_program.specs.declared.permits.Action.TheVariants as act
+use Rattle.sync_program.specs.declared.permits.Found.{Found}
+use Rattle.sync_program.specs.declared.permits.Found.TheVariants.{Done, Left, Yes}
+use Rattle.sync_program.specs.declared.permits.Place.{Place}
+use Rattle.sync_program.specs.declared.permits.Place.TheVariants.{Take, Retake, Join, Ask, Remove, Load, HandOn, PassOn, RefuseFit, FitAdded, FitGivenBack, CancelRemove, Abandon}
+use Rattle.sync_program.specs.declared.permits.Position.{Position}
+use Rattle.sync_program.specs.declared.permits.Position.TheVariants.{Out, Unlisted, Waiting, Holding, At}
 use Rattle.world_semaphore.specs.declared.machine.words.Words.{Words}
-use Rattle.world_semaphore.specs.machine.Program.{action_of, next_of}
-use Rattle.world_semaphore.specs.machine.Seats.{seat_of}
-use Rattle.world_semaphore.specs.machine.Deeds.{deed_of, entries_after, Finds}
-use Rattle.world_semaphore.specs.machine.Machine.{Semaphore, answer_by, position_at}
+use Rattle.world_semaphore.specs.machine.Program.{action_of, next_of, place_for}
+use Rattle.world_semaphore.specs.machine.Seats.{a_look, seat_of, size_of, size_at, listed}
+use Rattle.world_semaphore.specs.machine.Deeds.{deed_of, Finds, words_after, entries_after}
+use Rattle.world_semaphore.specs.machine.Machine.{Semaphore, IsSemaphore, answer_by, position_at, sizes_of}
+use Rattle.world_semaphore.proofs.of_machine.laws.Entries.{entries_of-fitted, fitted_marks, wanted_so}
 use Rattle.world_semaphore.proofs.of_machine.laws.Kept.{after}
-use Rattle.world_semaphore.specs.State.{World, is_free, standing_of}
-use Rattle.world_semaphore.specs.AtOnce.{is_poll}
-use Rattle.world_semaphore.specs.Steps.{Steps}
+use Rattle.world_semaphore.specs.State.{World, standing_of}
+use Rattle.world_semaphore.specs.Laws.{IsFreeAndWanted}
+use Rattle.world_semaphore.specs.Runs.{Known, Runs}
+use Rattle.world_semaphore.specs.Steps.{IsSemaphoreTable}
 use Rattle.world_semaphore.specs.View.{view_of}
-use Rattle.world_semaphore.specs.Runs.{Known, HoldsWell, learn, Runs}
 use Rattle.world_semaphore.proofs.table.Seen as seen
+use Rattle.world_semaphore.proofs.laws.Sound.{some_wanted, wanted_there}
 use Rattle.world_semaphore.proofs.step.Acting.{Acting}
 use Rattle.world_semaphore.proofs.step.Acting as acting
-use Rattle.world_semaphore.proofs.step.Stepping.{by_step, door}
-use Rattle.world_semaphore.proofs.whole.Whole.{from_turn}
+use Rattle.world_semaphore.proofs.whole.Covers.{Covered, EndsCovered, CoversBy, covers}
+use Rattle.world_semaphore.proofs.whole.Onwards.{along_acts}
 
--- some entry is marked, if there is any
-abbrev SomeTold : List (Entry ℕ) → Type 0
-SomeTold l = 0 < length l → 0 < marked_count l
+-- whoever has told others stands for as many permits as before
+tells_size : (x : Place) (f : Found) (c : ℕ) → action_of x ≡ act.Fit c → size_at (after x f) ≡ size_of x
+tells_size (HandOn k a) f c e = refl
+tells_size (PassOn k a) f c e = refl
+tells_size (RefuseFit k a) f c e = refl
+tells_size (FitAdded a) f c e = refl
+tells_size (FitGivenBack a) f c e = refl
+tells_size _ f c e = absurd (cc e)
 
-left_told : (p : ℕ) (l es : List (Entry ℕ)) → es ≡ left (is_party p) l → 0 < entries_of p l → SomeTold l → SomeTold es
-left_told p l es e there told some =
-    let counts = counted_by p l es leaves (is_marked_at (is_party p) l) refl there e in
-    counts.1 some (told (omega (arith, counts.0)))
+-- where somebody is wanted, some entry is marked
+abbrev pub MarksWanted : Table Semaphore → Type 0
+MarksWanted u = IsFreeAndWanted (view_of u) → 0 < marked_count u.machine.entries
 
--- a first look that takes a permit ends the poll, or leaves the list next, and doesn't touch it
-record TakesSo (p : ℕ) (y : Place) (f : Found) : Type 0 where
-  pub list : (l : List (Entry ℕ)) → entries_after p (deed_of (action_of y) f) l ≡ l
-  pub going : answer_by (next_of y f) ≡ answer.Stepped → after y f ≡ At (Leave false)
+abbrev pub IsCovered : Place → Table Semaphore → Type 0
+IsCovered y t = Covered (seat_of y).debt (marked_count t.machine.entries) t.machine.words.available
 
-takes_so : (memory : Bool) (p : ℕ) (w : Words) (l : List (Entry ℕ)) (y : Place) (f : Found) → (y ≡ Take false false) ⊎ (y ≡ Retake) → Finds memory p (action_of y) f w l → 0 < w.available → TakesSo p y f
-takes_so memory p w l (Take false false) (Taken more) h e some = record { list = λ k. refl; going = λ s. absurd (cc (s)) }
-takes_so memory p w l (Take false false) NoneLeft h e some = absurd (omega (arith, e, some))
-takes_so memory p w l (Take false false) _ h e some = absurd e
-takes_so memory p w l Retake (Taken more) h e some = record { list = λ k. refl; going = λ s. refl }
-takes_so memory p w l Retake NoneLeft h e some = absurd (omega (arith, e, some))
-takes_so memory p w l Retake _ h e some = absurd e
-takes_so memory p w l _ f h e some = absurd (elim h as (λ _. ⊥) [ inl is ↦ cc | inr is ↦ cc ])
+fit_done : (memory : Bool) (p c : ℕ) (f : Found) (w : Words) (size : ℕ → ℕ) (l es : List (Entry ℕ)) → Finds memory p (act.Fit c) f w l → es ≡ entries_after size p (deed_of (act.Fit c) f) l → es ≡ fitted size c l
+fit_done memory p c Done w size l es e is = is
+fit_done memory p c _ w size l es e is = absurd e
 
-leaves_done : (memory : Bool) (p : ℕ) (w : Words) (l es : List (Entry ℕ)) (f : Found) → Finds memory p act.Leave f w l → es ≡ entries_after p (deed_of act.Leave f) l → es ≡ left (is_party p) l
-leaves_done memory p w l es Done e is = is
-leaves_done memory p w l es _ e is = absurd e
+module _ (p : ℕ) (t u : Table Semaphore) (what : What) (a : Answer) (w : Within) (k : Acting t u (record { party = p; what = what }) a w) where
+  covered_so : IsCovered k.from t → CoversBy k.from (marked_count (entries_after (sizes_of t.machine.positions) p (deed_of (action_of k.from) k.found) t.machine.entries)) (words_after (deed_of (action_of k.from) k.found) t.machine.words).available (next_of k.from k.found)
+  covered_so = covers (inputs_of what).memory p t.machine.words t.machine.entries (sizes_of t.machine.positions) k.from k.found k.acts.finds (acting.own_entries t u (record { party = p; what = what }) a w k)
 
-module _ (p : ℕ) (i : Inputs) where
-  record Leaving (x : World) : Type 0 where
-    pub at : position_at x.behind.machine.positions p ≡ At (Leave false)
-    pub told : SomeTold x.entries
+  on_then : IsCovered k.from t → (z : Place) → after k.from k.found ≡ At z → IsCovered z u
+  on_then h z e =
+      let P : ℕ → ℕ → Type 0 = λ n b. Covered (seat_of z).debt n b in
+      let Q : ℕ → Type 0 = λ n. P n u.machine.words.available in
+      subst Q (sym (ap marked_count k.acts.entries)) (subst (P _) (sym (ap (λ (v : Words). v.available) k.acts.words)) ((covered_so h).0 z e))
 
-  abbrev Ends : Answer → World → Type 0
-  Ends a v = SomeTold v.entries
+  -- who has told others stands for as many permits as before
+  pub same_sizes : (c : ℕ) → action_of k.from ≡ act.Fit c → (q : ℕ) → sizes_of u.machine.positions q ≡ sizes_of t.machine.positions q
+  same_sizes c e q = elim (ℕ_discrete q p) as (λ _. sizes_of u.machine.positions q ≡ sizes_of t.machine.positions q) [
+    | yes is ↦ (let P : ℕ → Type 0 = λ j. sizes_of u.machine.positions j ≡ sizes_of t.machine.positions j in
+        subst P (sym is) (ap size_at (acting.lands t u (record { party = p; what = what }) a w k) ∙ (tells_size k.from k.found c e ∙ sym (ap size_at (k.here.told c e)))))
+    | no apart ↦ ap size_at (acting.stays t u (record { party = p; what = what }) a w k q apart)
+  ]
 
-  abbrev Onwards : Answer → World → Type 0
-  Onwards a v = Onward Leaving Ends a v
+  pub told_then : (c : ℕ) → action_of k.from ≡ act.Fit c → u.machine.entries ≡ fitted (sizes_of t.machine.positions) c t.machine.entries
+  told_then c e =
+      let F : Action → Type 0 = λ b. Finds (inputs_of what).memory p b k.found t.machine.words t.machine.entries × (u.machine.entries ≡ entries_after (sizes_of t.machine.positions) p (deed_of b k.found) t.machine.entries) in
+      let so : F (act.Fit c) = subst F e (k.acts.finds, k.acts.entries) in
+      fit_done (inputs_of what).memory p c k.found t.machine.words (sizes_of t.machine.positions) t.machine.entries u.machine.entries so.0 so.1
 
-  still : (b : Answer) (x : World) → (b ≡ answer.Stepped → ⊥) → SomeTold x.entries → Onwards b x
-  still b x never told = record { going = λ s. absurd (never s); ended = λ s. told }
+  by_end : EndsCovered k.from (marked_count u.machine.entries) u.machine.words.available → MarksWanted u
+  by_end (inl marked) free = marked
+  by_end (inr (inl none)) free =
+      let who = wanted_there u k.new_laws k.new_fits free in
+      let some = some_wanted u k.new_laws k.new_fits who.0 who.1 in
+      absurd (omega (arith, none, some, who.2, seen.size_seen u who.0))
+  by_end (inr (inr told)) free =
+      let who = wanted_there u k.new_laws k.new_fits free in
+      let c = u.machine.words.available in
+      let es : u.machine.entries ≡ fitted (sizes_of t.machine.positions) c t.machine.entries = told_then c told in
+      let listed : 0 < entries_of who.0 t.machine.entries = omega (arith, who.1, ap (entries_of who.0) es, entries_of-fitted (sizes_of t.machine.positions) c who.0 t.machine.entries) in
+      let few : sizes_of t.machine.positions who.0 ≤ c = omega (arith, who.2, same_sizes c told who.0) in
+      omega (arith, fitted_marks (sizes_of t.machine.positions) c t.machine.entries (wanted_so (sizes_of t.machine.positions) c who.0 t.machine.entries listed few), ap marked_count es)
 
-  seen_as : (a : Answer) (v : World) → v ≡ view_of v.behind → Onwards a (view_of v.behind) → Onwards a v
-  seen_as a v e o = record {
-    going = λ s. (let g = o.going s in record { at = g.at; told = subst (λ (z : World). SomeTold z.entries) (sym e) g.told });
-    ended = λ s. subst (λ (z : World). SomeTold z.entries) (sym e) (o.ended s);
-  }
+  marks_then : IsCovered k.from t → is_stepped (answer_by (next_of k.from k.found)) ≡ false → MarksWanted u
+  marks_then h ends =
+      let P : ℕ → ℕ → Type 0 = λ n b. EndsCovered k.from n b in
+      let Q : ℕ → Type 0 = λ n. P n u.machine.words.available in
+      by_end (subst Q (sym (ap marked_count k.acts.entries)) (subst (P _) (sym (ap (λ (v : Words). v.available) k.acts.words)) ((covered_so h).1 ends)))
 
-  at_same : (x y : Place) → At x ≡ At y → x ≡ y
-  at_same x y e = cc
+-- ---- whoever was notified before the call
 
-  leaves_on : (t u : Table Semaphore) (m : Move) (a : Answer) (w : Within) (k : Acting t u m a w) → m.party ≡ p → k.from ≡ Leave false → SomeTold t.machine.entries → Onwards a (view_of u)
-  leaves_on t u m a w k same here told =
-      let P : Place → Type 0 = λ y. Finds (inputs_of m.what).memory m.party (action_of y) k.found t.machine.words t.machine.entries × (u.machine.entries ≡ entries_after m.party (deed_of (action_of y) k.found) t.machine.entries) in
-      let acts : P k.from = (k.acts.finds, k.acts.entries) in
-      let so : P (Leave false) = subst P here acts in
-      let gone = leaves_done (inputs_of m.what).memory m.party t.machine.words t.machine.entries u.machine.entries k.found so.0 so.1 in
-      let one : entries_of m.party t.machine.entries ≡ 1 = acting.own_entries t u m a w k ∙ ap (λ y. (seat_of y).listed) here in
-      let ends : a ≡ answer.Ready _ = k.answer ∙ ap (λ y. answer_by (next_of y k.found)) here in
-      still a (view_of u) (λ s. cc (sym ends ∙ s)) (left_told m.party t.machine.entries u.machine.entries gone (omega (arith, one)) told)
+covered_at_first : (y : Place) (t : Table Semaphore) → 0 < marked_count t.machine.entries → IsCovered y t
+covered_at_first y t some = inl some
 
-  onward : (x : World) (b : Answer) (y : World) → Leaving x → Steps x (going_on p i) b y → Onwards b y
-  onward x b y g s =
-      let told : SomeTold x.behind.machine.entries = subst (λ (z : World). SomeTold z.entries) s.did.stood.seen g.told in
-      seen_as b y s.did.stands.seen (by_step x.behind y.behind (going_on p i) b s.did.stood.semaphore s.did.stood.fits s.did.stands.semaphore s.did.stands.fits (λ c z. Onwards c (view_of z))
-      (λ e. still answer.NotPossible (view_of x.behind) (λ n. cc (n)) told) (λ w e f. still (refused refusal.Finished) (view_of x.behind) (λ n. cc (n)) told)
-      (λ w k. leaves_on x.behind y.behind (going_on p i) b w k refl (at_same k.from (Leave false) (sym (from_turn x.behind y.behind (going_on p i) b w k) ∙ g.at)) told) s.did.step)
+pub passes_on : (known : Known) (w : World) (p : ℕ) (c : Call) (i : Inputs) (n : ℕ) (a : Answer) (v : World) → Runs known w (moves_of p c i n) (answers_of n a) v → a ≢ answer.Stepped → (c ≡ call.Poll) ⊎ (c ≡ call.Drop) → standing_of w p ≡ outside rest.Pending
+    → 0 < marked_count w.behind.machine.entries → MarksWanted v.behind
+passes_on known w p c i n a v runs ended which pending some =
+    along_acts p i IsCovered (λ b u. MarksWanted u) (λ t u what b x k is h. (on_then p t u what b x k h, marks_then p t u what b x k h)) c which known w n a v runs ended pending (λ from starts. covered_at_first from w.behind some)
 
-  takes_on : (t u : Table Semaphore) (m : Move) (a : Answer) (w : Within) (k : Acting t u m a w) → m.party ≡ p → (k.from ≡ Take false false) ⊎ (k.from ≡ Retake) → 0 < t.machine.words.available → SomeTold t.machine.entries → Onwards a (view_of u)
-  takes_on t u m a w k same looks some told =
-      let so = takes_so (inputs_of m.what).memory m.party t.machine.words t.machine.entries k.from k.found looks k.acts.finds some in
-      let kept : SomeTold u.machine.entries = subst SomeTold (sym (k.acts.entries ∙ so.list t.machine.entries)) told in
-      record {
-        going = λ s. record { at = ap (position_at u.machine.positions) (sym same) ∙ (acting.lands t u m a w k ∙ so.going (sym k.answer ∙ s)); told = kept };
-        ended = λ s. kept;
-      }
+-- ---- a poll that is refused
 
-  begun : (w : World) (b : Answer) (y : World) → standing_of w p ≡ outside rest.Pending → is_free w.state ≡ true → SomeTold w.entries → Steps w (beginning p call.Poll i) b y → Onwards b y
-  begun w b y pending free told s =
-      let m : Move = beginning p call.Poll i in
-      let t : Table Semaphore = w.behind in
-      let u : Table Semaphore = y.behind in
-      let same : w ≡ view_of t = s.did.stood.seen in
-      let told_so : SomeTold t.machine.entries = subst (λ (z : World). SomeTold z.entries) same told in
-      let stands : standing_of (view_of t) p ≡ outside rest.Pending = ap (λ z. standing_of z p) (sym same) ∙ pending in
-      let some : 0 < t.machine.words.available = seen.is_some t.machine.words.available (sym (seen.free_seen t s.did.stood.semaphore) ∙ (ap (λ (z : World). is_free z.state) (sym same) ∙ free)) in
-      seen_as b y s.did.stands.seen (by_step t u m b s.did.stood.semaphore s.did.stood.fits s.did.stands.semaphore s.did.stands.fits (λ c z. Onwards c (view_of z))
-      (λ e. still answer.NotPossible (view_of t) (λ n. cc (n)) told_so) (λ w e f. still (refused refusal.Finished) (view_of t) (λ n. cc (n)) told_so)
-      (λ v k. takes_on t u m b v k refl ((door t u m b s.did.stood.semaphore s.did.stood.fits s.did.stands.semaphore s.did.stands.fits v k).polls (ap (λ z. is_poll z (Begin call.Poll i)) (sym (acting.stood t u m b v k) ∙ stands))) some told_so) s.did.step)
+-- the party stands in the list, or is to be ready, and took no notification
+abbrev is_quiet : Place → Bool
+is_quiet (Retake k) = true
+is_quiet (Ask k None) = true
+is_quiet (Remove k None) = true
+is_quiet _ = false
 
-  pub passes_on : (known : Known) (w : World) (n : ℕ) (a : Answer) (v : World) → Runs known w (moves_of p call.Poll i n) (answers_of n a) v → a ≢ answer.Stepped → standing_of w p ≡ outside rest.Pending → is_free w.state ≡ true → 0 < marked_count w.entries → 0 < length v.entries → 0 < marked_count v.entries
-  passes_on known w n a v runs ended pending free told = along Steps learn HoldsWell p i Leaving Ends onward known n w (beginning p call.Poll i) a v (λ b x s. begun w b x pending free (λ some. told) s) ended runs
+record Quiet (y : Place) (f : Found) : Type 0 where
+  pub going : (z : Place) → after y f ≡ At z → (is_quiet z ≡ true) ⊎ ((seat_of z).debt ≡ a_look)
+  pub ends : is_refusal (answer_by (next_of y f)) ≡ false
+
+went : (y z : Place) → (is_quiet y ≡ true) ⊎ ((seat_of y).debt ≡ a_look) → At y ≡ At z → (is_quiet z ≡ true) ⊎ ((seat_of z).debt ≡ a_look)
+went y z h e = let P : Place → Type 0 = λ z. (is_quiet z ≡ true) ⊎ ((seat_of z).debt ≡ a_look) in subst P (cc e) h
+
+quietly : (y : Place) (f : Found) → is_quiet y ≡ true → Quiet y f
+quietly (Retake k) (Left c) h = record { going = λ z e. went (Remove k None) z (inl refl) e; ends = refl }
+quietly (Retake k) _ h = record { going = λ z e. went (Ask k None) z (inl refl) e; ends = refl }
+quietly (Ask k None) Yes h = record { going = λ z e. went (Take k false true) z (inr refl) e; ends = refl }
+quietly (Ask k None) _ h = record { going = λ z e. absurd (cc e); ends = refl }
+quietly (Ask k (Some c)) f h = absurd (cc h)
+quietly (Remove k None) Yes h = record { going = λ z e. went (Load k) z (inr refl) e; ends = refl }
+quietly (Remove k None) _ h = record { going = λ z e. absurd (cc e); ends = refl }
+quietly (Remove k (Some c)) f h = absurd (cc h)
+quietly _ f h = absurd (cc h)
+
+abbrev IsHanding : Place → Table Semaphore → Type 0
+IsHanding y t = (is_quiet y ≡ true) ⊎ IsCovered y t
+
+abbrev pub HandsOn : Answer → Table Semaphore → Type 0
+HandsOn a u = is_refusal a ≡ true → MarksWanted u
+
+module _ (p : ℕ) (t u : Table Semaphore) (what : What) (a : Answer) (w : Within) (k : Acting t u (record { party = p; what = what }) a w) where
+  hands : IsHanding k.from t → ((z : Place) → after k.from k.found ≡ At z → IsHanding z u) × (is_stepped (answer_by (next_of k.from k.found)) ≡ false → HandsOn a u)
+  hands (inl quiet) =
+      let q = quietly k.from k.found quiet in (
+        (λ z e. elim (q.going z e) as (λ _. IsHanding z u) [ inl h ↦ inl h | inr h ↦ inr (inr (inl h)) ]),
+        (λ ends refused. (let never : is_refusal a ≡ false = ap is_refusal k.answer ∙ q.ends in absurd (cc (never, refused)))),
+      )
+  hands (inr h) = ((λ z e. inr (on_then p t u what a w k h z e)), (λ ends refused. marks_then p t u what a w k h ends))
+
+listed_polls : (x : Position) (i : Inputs) (from : Place) → 0 < listed x → place_for (Begin call.Poll i) x ≡ Some from → is_quiet from ≡ true
+listed_polls (Waiting k) i from some starts = let same : Retake k ≡ from = some_eq starts in ap is_quiet (sym same)
+listed_polls (At y) i from some starts = absurd (none_some starts)
+listed_polls _ i from some starts = absurd (omega arith)
+
+pub hands_on : (known : Known) (w : World) (p : ℕ) (i : Inputs) (n : ℕ) (a : Answer) (v : World) → Runs known w (moves_of p call.Poll i n) (answers_of n a) v → a ≢ answer.Stepped → standing_of w p ≡ outside rest.Pending
+    → 0 < listed (position_at w.behind.machine.positions p) → HandsOn a v.behind
+hands_on known w p i n a v runs ended pending some =
+    along_acts p i IsHanding HandsOn (λ t u what b x k is h. hands p t u what b x k h) call.Poll (inl refl) known w n a v runs ended pending (λ from starts. inl (listed_polls (position_at w.behind.machine.positions p) i from some starts))

@@ -1,5 +1,5 @@
 -- A call that is carried out alone ends within its number of steps.
-use Rattle.std.proofs.Common.{◌≡◌, ℕ, ◌+◌, ◌<◌, ◌≤◌, if◌then◌else◌, Bool, true, false, List, Some, refl, arith, ap, sym, ◌∙◌, subst}
+use Rattle.std.proofs.Common.{◌≡◌, ℕ, ◌+◌, ◌<◌, ◌≤◌, if◌then◌else◌, Bool, true, false, List, Option, Some, None, refl, arith, ap, sym, ◌∙◌, subst}
 use Rattle.lock_event.specs.declared.event.Entry.{Entry}
 use Rattle.lock_event.specs.Lists.{is_marked_at}
 use Rattle.world_base.specs.queue.Parties.{is_party, entries_of}
@@ -18,20 +18,21 @@ use Rattle.world_base.proofs.Equations.{some_eq}
 use Rattle.world_base.specs.any_world.Steps.{left_by, beginning}
 use Rattle.world_base.specs.table.Stages.{stage_at, call_at, polls_again}
 use Rattle.world_base.specs.table.Tables.{Table}
-use Rattle.world_base.proofs.Lists.{joined_unmarked}
-use Rattle.sync_program.specs.declared.semaphore.Found.{Found}
-use Rattle.sync_program.specs.declared.semaphore.Found.TheVariants.{Done, Taken, NoneLeft, PastLimit, NoMemory, Yes, No}
-use Rattle.sync_program.specs.declared.semaphore.Place.{Place}
-use Rattle.sync_program.specs.declared.semaphore.Place.TheVariants.{Take, Retake, Join, Ask, Leave, HandOn, RefuseNotify, Try, Lower, GiveBack, GiveBackNotify, Raise, GiveAdded, NotifyAdded, CancelLeave, Abandon}
-use Rattle.sync_program.specs.declared.semaphore.Position.{Position}
-use Rattle.sync_program.specs.declared.semaphore.Position.TheVariants.{Out, Waiting, Holding, At}
+use Rattle.world_base.proofs.Lists.{unlisted_unmarked, joined_unmarked}
+use Rattle.sync_program.specs.declared.permits.Found.{Found}
+use Rattle.sync_program.specs.declared.permits.Found.TheVariants.{Done, Left as Left_there, Short, Available, PastLimit, NoMemory, Yes, No}
+use Rattle.sync_program.specs.declared.permits.Place.{Place}
+use Rattle.sync_program.specs.declared.permits.Place.TheVariants.{Take, Retake, Join, Ask, Remove, Load, HandOn, PassOn, RefuseFit, Try, Lower, GiveBack, Raise, GiveAdded, FitAdded, CancelRemove, CancelLoad, FitGivenBack, Abandon}
+use Rattle.sync_program.specs.declared.permits.Position.{Position}
+use Rattle.sync_program.specs.declared.permits.Position.TheVariants.{Out, Unlisted, Waiting, Holding, At}
 use Rattle.world_semaphore.specs.declared.machine.words.Words.{Words}
-use Rattle.world_semaphore.specs.machine.Program.{action_of, next_of}
+use Rattle.world_semaphore.specs.machine.Program.{Next, action_of, next_of, position_after}
 use Rattle.world_semaphore.specs.machine.Seats.{seat_of, listed}
 use Rattle.world_semaphore.specs.machine.Deeds.{deed_of, entries_after, Finds}
-use Rattle.world_semaphore.specs.machine.Machine.{Semaphore, IsSemaphore, answer_by, position_at, knows, goes_with}
+use Rattle.world_semaphore.specs.machine.Machine.{Semaphore, IsSemaphore, answer_by, position_at, sizes_of, knows, goes_with}
 use Rattle.world_semaphore.specs.machine.Ranks.{left, left_at, is_own_marked, steps_left}
 use Rattle.world_semaphore.proofs.of_machine.laws.Kept.{after}
+use Rattle.world_semaphore.proofs.of_machine.stages.Taking.{taken}
 use Rattle.world_semaphore.proofs.of_machine.stages.Turns.{Turn, turn}
 use Rattle.world_semaphore.specs.Steps.{IsSemaphoreTable, TableSteps}
 use Rattle.world_semaphore.specs.Whole.{most_steps_of}
@@ -40,97 +41,96 @@ use Rattle.world_semaphore.proofs.step.Acting as acting
 use Rattle.world_semaphore.proofs.step.Stepping.{by_step}
 
 -- how many steps are left once this was found, by whether the party's own entry is marked then
-abbrev pub Left : Place → Found → Bool → ℕ
-Left x f marked = left_by (answer_by (next_of x f)) (left_at (after x f) marked)
+abbrev LeftBy : Next → Bool → ℕ
+LeftBy n marked = left_by (answer_by n) (left_at (position_after n) marked)
 
-module _ (memory : Bool) (p : ℕ) (w : Words) (l : List (Entry ℕ)) where
+abbrev pub Left : Place → Found → Bool → ℕ
+Left x f marked = LeftBy (next_of x f) marked
+
+module _ (memory : Bool) (size : ℕ → ℕ) (p : ℕ) (w : Words) (l : List (Entry ℕ)) where
   abbrev own : Bool
   own = is_marked_at (is_party p) l
 
   abbrev told_then : Place → Found → Bool
-  told_then x f = is_marked_at (is_party p) (entries_after p (deed_of (action_of x) f) l)
-
-  by_mark : (b : Bool) (x : Place) (f : Found) → b ≡ own → Left x f b < left x b → Left x f own < left x own
-  by_mark b x f e h = let P : Bool → Type 0 = λ b. Left x f b < left x b in subst P e h
+  told_then x f = is_marked_at (is_party p) (entries_after size p (deed_of (action_of x) f) l)
 
   pub fewer : (x : Place) (f : Found) → Finds memory p (action_of x) f w l → entries_of p l ≡ (seat_of x).listed → Left x f (told_then x f) < left x own
-  fewer (Take true true) (Taken true) e n = leaves own where
-    leaves : (b : Bool) → 2 < (if b then 7 else 3)
-    leaves true = omega arith
-    leaves false = omega arith
-  fewer (Take true true) (Taken false) e n = ends own where
-    ends : (b : Bool) → 1 < (if b then 7 else 3)
-    ends true = omega arith
-    ends false = omega arith
-  fewer (Take true false) (Taken more) e n = ends own where
-    ends : (b : Bool) → 1 < (if b then 7 else 3)
-    ends true = omega arith
-    ends false = omega arith
-  fewer (Take true told) NoneLeft e n = asks own where
-    asks : (b : Bool) → (if b then 6 else 1) < (if b then 7 else 3)
+  fewer (Take k true told) (Left_there a) e n = removes own where
+    removes : (b : Bool) → (if b then 3 else 2) < (if b then 7 else 3)
+    removes true = omega arith
+    removes false = omega arith
+  fewer (Take k true told) (Short a) e n = asks own where
+    asks : (b : Bool) → (if b then 6 else 2) < (if b then 7 else 3)
     asks true = omega arith
     asks false = omega arith
-  fewer (Take false true) (Taken true) e n = omega arith
-  fewer (Take false true) (Taken false) e n = omega arith
-  fewer (Take false false) (Taken more) e n = omega arith
-  fewer (Take false true) NoneLeft e n = omega arith
-  fewer (Take false false) NoneLeft e n = omega arith
-  fewer (Take listed told) _ e n = absurd e
-  fewer Retake (Taken more) e n = ends own where
-    ends : (b : Bool) → 1 < (if b then 7 else 3)
-    ends true = omega arith
-    ends false = omega arith
-  fewer Retake NoneLeft e n = asks own where
-    asks : (b : Bool) → (if b then 6 else 1) < (if b then 7 else 3)
+  fewer (Take k false true) (Left_there a) e n = taken (λ m. LeftBy m own < 5) k a (omega arith) (λ none. omega arith)
+  fewer (Take k false false) (Left_there a) e n = omega arith
+  fewer (Take k false told) (Short a) e n = omega arith
+  fewer (Take k there told) _ e n = absurd e
+  fewer (Retake k) (Left_there a) e n = removes own where
+    removes : (b : Bool) → (if b then 3 else 2) < (if b then 7 else 3)
+    removes true = omega arith
+    removes false = omega arith
+  fewer (Retake k) (Short a) e n = asks own where
+    asks : (b : Bool) → (if b then 6 else 2) < (if b then 7 else 3)
     asks true = omega arith
     asks false = omega arith
-  fewer Retake _ e n = absurd e
-  fewer (Join told) Done e n = let un = joined_unmarked p l n in rw un (omega arith)
-  fewer (Join true) NoMemory e n = omega arith
-  fewer (Join false) NoMemory e n = omega arith
-  fewer (Join told) _ e n = absurd e
-  fewer Ask Yes e n = rw e (omega arith)
-  fewer Ask No e n = rw e (omega arith)
-  fewer Ask _ e n = absurd e
-  fewer (Leave true) f e n = omega arith
-  fewer (Leave false) f e n = omega arith
-  fewer HandOn f e n = omega arith
-  fewer RefuseNotify f e n = omega arith
-  fewer Try (Taken more) e n = omega arith
-  fewer Try NoneLeft e n = omega arith
-  fewer Try _ e n = absurd e
-  fewer Lower f e n = omega arith
-  fewer GiveBack f e n = omega arith
-  fewer GiveBackNotify f e n = omega arith
+  fewer (Retake k) _ e n = absurd e
+  fewer (Join k told) Done e n = let un = joined_unmarked p l n in rw un (omega arith)
+  fewer (Join k (Some a)) NoMemory e n = omega arith
+  fewer (Join k None) NoMemory e n = omega arith
+  fewer (Join k told) _ e n = absurd e
+  fewer (Ask k told) Yes e n = rw e (omega arith)
+  fewer (Ask k (Some a)) No e n = rw e (omega arith)
+  fewer (Ask k None) No e n = rw e (omega arith)
+  fewer (Ask k told) _ e n = absurd e
+  fewer (Remove k more) Yes e n = rw e (omega arith)
+  fewer (Remove k (Some a)) No e n = rw e (omega arith)
+  fewer (Remove k None) No e n = rw e (omega arith)
+  fewer (Remove k more) _ e n = absurd e
+  fewer (Load k) f e n = omega arith
+  fewer (HandOn k a) f e n = omega arith
+  fewer (PassOn k a) f e n = omega arith
+  fewer (RefuseFit k a) f e n = omega arith
+  fewer (Try k) (Left_there a) e n = omega arith
+  fewer (Try k) (Short a) e n = omega arith
+  fewer (Try k) _ e n = absurd e
+  fewer (Lower k) f e n = omega arith
+  fewer (GiveBack k) f e n = omega arith
   fewer (Raise k) Done e n = omega arith
   fewer (Raise k) PastLimit e n = omega arith
   fewer (Raise k) _ e n = absurd e
   fewer (GiveAdded k) f e n = omega arith
-  fewer (NotifyAdded k) f e n = omega arith
-  fewer CancelLeave f e n = omega arith
+  fewer (FitAdded a) f e n = omega arith
+  fewer CancelRemove Yes e n = omega arith
+  fewer CancelRemove No e n = omega arith
+  fewer CancelRemove _ e n = absurd e
+  fewer CancelLoad f e n = omega arith
+  fewer (FitGivenBack a) f e n = omega arith
   fewer Abandon f e n = omega arith
 
 -- at least one step is left
 some_left : (x : Place) (b : Bool) → 0 < left x b
-some_left (Take false told) b = omega arith
-some_left (Take true told) true = omega arith
-some_left (Take true told) false = omega arith
-some_left Retake true = omega arith
-some_left Retake false = omega arith
-some_left Ask true = omega arith
-some_left Ask false = omega arith
-some_left (Leave true) b = omega arith
-some_left (Leave false) b = omega arith
+some_left (Take k false told) b = omega arith
+some_left (Take k true told) true = omega arith
+some_left (Take k true told) false = omega arith
+some_left (Retake k) true = omega arith
+some_left (Retake k) false = omega arith
+some_left (Ask k told) true = omega arith
+some_left (Ask k told) false = omega arith
+some_left (Remove k more) true = omega arith
+some_left (Remove k more) false = omega arith
 some_left _ b = omega arith
 
 some_at : (x : Position) (b : Bool) → 0 < left_at x b
 some_at (At x) b = some_left x b
 some_at Out b = omega arith
-some_at Waiting b = omega arith
-some_at Holding b = omega arith
+some_at (Unlisted k) b = omega arith
+some_at (Waiting k) b = omega arith
+some_at (Holding k) b = omega arith
 
 one_at_least : (c : Call) → 1 ≤ most_steps_of c
-one_at_least call.Acquire = omega arith
+one_at_least (call.Acquire k) = omega arith
 one_at_least call.Poll = omega arith
 one_at_least call.Drop = omega arith
 one_at_least (call.AddPermits n) = omega arith
@@ -141,21 +141,21 @@ abbrev Within_most : Stage → What → Within → Position → Place → Type 0
 Within_most s (Begin c i) w x from = (b : Bool) → left from b ≤ most_steps_of c
 Within_most s (Go i) w x from = x ≡ At from
 
-at_most_seven : (b : Bool) → left Retake b ≤ 7
-at_most_seven true = omega arith
-at_most_seven false = omega arith
+at_most_seven : (k : ℕ) (b : Bool) → left (Retake k) b ≤ 7
+at_most_seven k true = omega arith
+at_most_seven k false = omega arith
 
 within_most : (s : Stage) (what : What) (w : Within) (x : Position) → goes_with s x ≡ true → call_at knows s what ≡ Some w → polls_again s what ≡ false → Turn Within_most s what w x
 within_most = turn Within_most (record {
-  acquire = λ i b. omega arith;
-  try = λ i b. omega arith;
+  acquire = λ k i b. omega arith;
+  try = λ k i b. omega arith;
   add = λ n i b. omega arith;
-  poll = λ i b. omega arith;
-  poll_listed = λ i b. at_most_seven b;
-  abandon = λ i b. omega arith;
-  cancel = λ i b. omega arith;
-  give_back = λ i b. omega arith;
-  forget = λ i b. omega arith;
+  poll = λ k i b. omega arith;
+  poll_listed = λ k i b. at_most_seven k b;
+  abandon = λ k i b. omega arith;
+  cancel = λ k i b. omega arith;
+  give_back = λ k i b. omega arith;
+  forget = λ k i b. omega arith;
   go = λ w x i begun here. refl;
 })
 
@@ -167,9 +167,9 @@ module _ (t u : Table Semaphore) (m : Move) (a : Answer) where
   less : (w : Within) (k : Acting t u m a w) → left_by a (steps_left u.machine p) < left k.from (is_own_marked t.machine p)
   less w k =
       let own : entries_of p t.machine.entries ≡ (seat_of k.from).listed = acting.own_entries t u m a w k in
-      let here = fewer (inputs_of m.what).memory p t.machine.words t.machine.entries k.from k.found k.acts.finds own in
-      let marks : is_own_marked u.machine p ≡ is_marked_at (is_party p) (entries_after p (deed_of (action_of k.from) k.found) t.machine.entries) = ap (is_marked_at (is_party p)) k.acts.entries in
-      let same : left_by a (steps_left u.machine p) ≡ Left k.from k.found (is_marked_at (is_party p) (entries_after p (deed_of (action_of k.from) k.found) t.machine.entries)) =
+      let here = fewer (inputs_of m.what).memory (sizes_of t.machine.positions) p t.machine.words t.machine.entries k.from k.found k.acts.finds own in
+      let marks : is_own_marked u.machine p ≡ is_marked_at (is_party p) (entries_after (sizes_of t.machine.positions) p (deed_of (action_of k.from) k.found) t.machine.entries) = ap (is_marked_at (is_party p)) k.acts.entries in
+      let same : left_by a (steps_left u.machine p) ≡ Left k.from k.found (is_marked_at (is_party p) (entries_after (sizes_of t.machine.positions) p (deed_of (action_of k.from) k.found) t.machine.entries)) =
       ap (λ b. left_by b (steps_left u.machine p)) k.answer ∙ (ap (λ x. left_by (answer_by (next_of k.from k.found)) (left_at x (is_own_marked u.machine p))) (acting.lands t u m a w k) ∙ ap (λ b. Left k.from k.found b) marks) in
       rw same here
 

@@ -6,13 +6,13 @@ use Rattle.world_base.specs.declared.moves.Call.{Call}
 use Rattle.world_base.specs.declared.moves.Call.TheVariants as call
 use Rattle.world_base.specs.declared.moves.What.{What}
 use Rattle.world_base.specs.declared.moves.What.TheVariants.{Begin, Go}
-use Rattle.sync_program.specs.declared.semaphore.Place.{Place}
-use Rattle.sync_program.specs.declared.semaphore.Position.{Position}
-use Rattle.sync_program.specs.declared.semaphore.Position.TheVariants.{At}
-use Rattle.sync_program.specs.declared.semaphore.SemaphoreCall.{SemaphoreCall}
-use Rattle.sync_program.specs.declared.semaphore.SemaphoreCall.TheVariants as asks
-use Rattle.sync_program.specs.Semaphore as table
-pub use Rattle.sync_program.specs.Semaphore.{action_of, next_of}
+use Rattle.sync_program.specs.declared.permits.Place.{Place}
+use Rattle.sync_program.specs.declared.permits.Position.{Position}
+use Rattle.sync_program.specs.declared.permits.Position.TheVariants.{At}
+use Rattle.sync_program.specs.declared.permits.SemaphoreCall.{SemaphoreCall}
+use Rattle.sync_program.specs.declared.permits.SemaphoreCall.TheVariants as asks
+use Rattle.sync_program.specs.Permits as table
+pub use Rattle.sync_program.specs.Permits.{action_of, next_of}
 
 -- what comes next after a place
 abbrev pub Next : Type 0
@@ -20,8 +20,8 @@ Next = TableNext Place Position
 
 -- what a call asks of the programs; nothing, if it is none of theirs
 abbrev pub asked_of : Call → Option SemaphoreCall
-asked_of call.Acquire = Some asks.Acquire
-asked_of call.TryAcquire = Some asks.TryAcquire
+asked_of (call.Acquire k) = Some (asks.Acquire k)
+asked_of (call.TryAcquire k) = Some (asks.TryAcquire k)
 asked_of call.Poll = Some asks.Poll
 asked_of call.Forget = Some asks.Forget
 asked_of (call.AddPermits n) = Some (asks.AddPermits n)

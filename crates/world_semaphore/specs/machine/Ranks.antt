@@ -2,23 +2,26 @@
 use Rattle.std.specs.Prelude.{ℕ, if◌then◌else◌, Bool, true, false}
 use Rattle.lock_event.specs.Lists.{is_marked_at}
 use Rattle.world_base.specs.queue.Parties.{is_party}
-use Rattle.sync_program.specs.declared.semaphore.Place.{Place}
-use Rattle.sync_program.specs.declared.semaphore.Place.TheVariants.{Take, Retake, Join, Ask, Leave, GiveBack, Raise, GiveAdded}
-use Rattle.sync_program.specs.declared.semaphore.Position.{Position}
-use Rattle.sync_program.specs.declared.semaphore.Position.TheVariants.{At}
+use Rattle.sync_program.specs.declared.permits.Place.{Place}
+use Rattle.sync_program.specs.declared.permits.Place.TheVariants.{Take, Retake, Join, Ask, Remove, Load, GiveBack, Raise, GiveAdded, CancelRemove, CancelLoad}
+use Rattle.sync_program.specs.declared.permits.Position.{Position}
+use Rattle.sync_program.specs.declared.permits.Position.TheVariants.{At}
 use Rattle.world_semaphore.specs.machine.Machine.{Semaphore, position_at}
 
 -- How many steps are left at most from a place, by whether the party's own entry is marked.
 abbrev pub left : Place → Bool → ℕ
-left (Take false told) marked = 5
-left (Take true told) marked = if marked then 7 else 3
-left Retake marked = if marked then 7 else 3
-left (Join told) marked = 4
-left Ask marked = if marked then 6 else 1
-left (Leave true) marked = 2
-left GiveBack marked = 2
+left (Take k false told) marked = 5
+left (Take k true told) marked = if marked then 7 else 3
+left (Retake k) marked = if marked then 7 else 3
+left (Join k told) marked = 4
+left (Ask k told) marked = if marked then 6 else 2
+left (Remove k more) marked = if marked then 3 else 2
+left (Load k) marked = 2
+left (GiveBack k) marked = 2
 left (Raise n) marked = 3
 left (GiveAdded n) marked = 2
+left CancelRemove marked = 3
+left CancelLoad marked = 2
 left _ marked = 1
 
 -- The party's own entry is marked.

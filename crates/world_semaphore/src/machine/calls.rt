@@ -3,7 +3,7 @@
 ghost use Rattle.std.specs.Prelude.{◌≡◌};
 ghost use Rattle.world_semaphore.specs.machine.Program.{asked_of, start_of};
 
-use sync_program::semaphore::{self, Place, Position, SemaphoreCall};
+use sync_program::permits::{self, Place, Position, SemaphoreCall};
 use world_base::Call;
 
 /// What a call asks; None of the calls that the programs don't have.
@@ -11,8 +11,8 @@ fn asked(call: Call) -> Option<SemaphoreCall>
     ensures { result ≡ asked_of call }
 {
     match call {
-        Call::Acquire => Some(SemaphoreCall::Acquire),
-        Call::TryAcquire => Some(SemaphoreCall::TryAcquire),
+        Call::Acquire(k) => Some(SemaphoreCall::Acquire(k)),
+        Call::TryAcquire(k) => Some(SemaphoreCall::TryAcquire(k)),
         Call::Poll => Some(SemaphoreCall::Poll),
         Call::Forget => Some(SemaphoreCall::Forget),
         Call::AddPermits(n) => Some(SemaphoreCall::AddPermits(n)),
@@ -26,7 +26,7 @@ pub(crate) fn start(call: Call, at: Position) -> Option<Place>
     ensures { result ≡ start_of call at }
 {
     match asked(call) {
-        Some(call) => semaphore::start(call, at),
+        Some(call) => permits::start(call, at),
         None => None,
     }
 }

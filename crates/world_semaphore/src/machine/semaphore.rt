@@ -3,9 +3,9 @@
 ghost use Rattle.std.specs.Prelude.{◌≡◌, ℕ, ◌<◌, ◌≤◌, length, slice_get, replicate, IfOk};
 ghost use Rattle.world_base.specs.declared.standing.Stage.TheVariants.{Outside};
 ghost use Rattle.world_base.specs.declared.standing.Rest.TheVariants.{Idle};
-ghost use Rattle.sync_program.specs.declared.semaphore.Position.TheVariants.{Out};
+ghost use Rattle.sync_program.specs.declared.permits.Position.TheVariants.{Out};
 ghost use Rattle.world_semaphore.specs.machine.Program.{place_for as place_for_lem, position_after};
-ghost use Rattle.world_semaphore.specs.machine.Deeds.{CanDo};
+ghost use Rattle.world_semaphore.specs.machine.Deeds.{CanDo, told_by};
 ghost use Rattle.world_semaphore.specs.machine.Carried.{Carried};
 ghost use Rattle.world_semaphore.specs.machine.Machine.{new_semaphore, IsSemaphore, answer_by};
 
@@ -15,8 +15,8 @@ use lock_event::Entry;
 use lock_program::Next;
 use std::alloc::{AllocError, Global};
 use std::marker::Model;
-use sync_program::semaphore::{Action, Found, Place, Position, action_at, decide};
-use world_base::queue::WaitQueue;
+use sync_program::permits::{Action, Found, Place, Position, action_at, decide};
+use world_base::queue::WeightedQueue;
 use world_base::standing::{Rest, Within};
 use world_base::table::{Machine, answer};
 use world_base::{Answer, Call, Got, What};
@@ -27,7 +27,7 @@ use world_base::{Answer, Call, Got, What};
 /// so that added permits may wrap. Here one step is one call.
 pub struct Semaphore {
     words: Words,
-    list: WaitQueue,
+    list: WeightedQueue,
     positions: Vec<Position>,
 }
 
@@ -55,7 +55,7 @@ impl Model for Semaphore {
 /// Carries out one action for a party.
 fn carry_out(
     words: &mut Words,
-    list: &mut WaitQueue,
+    list: &mut WeightedQueue,
     party: u32,
     action: Action,
     memory: bool,
@@ -65,44 +65,37 @@ fn carry_out(
 {
     match action {
         Action::Nothing => Found::Done,
-        Action::Take => words.take(),
-        Action::GiveBack => {
-            words.give(1);
-            Found::Done
-        }
-        Action::Give(n) => {
-            words.give(n);
-            Found::Done
-        }
+        Action::Take(k) => words.take(k),
+        Action::GiveBack(k) => words.give(k),
+        Action::Give(n) => words.give(n),
         Action::Raise(n) => words.raise(n),
-        Action::Lower => {
-            words.lower();
+        Action::Lower(k) => {
+            words.lower(k);
             Found::Done
         }
-        Action::Join => {
+        Action::Load => words.load(),
+        Action::Join(k) => {
             if memory {
-                list.join(party);
+                list.join(party, k);
                 Found::Done
             } else {
                 Found::NoMemory
             }
         }
-        Action::Ask => {
-            if list.ask(party) {
-                Found::Yes
-            } else {
-                Found::No
-            }
-        }
-        Action::Leave => {
-            list.leave(party);
-            Found::Done
-        }
-        Action::Notify(n) => {
-            list.notify(n as usize);
+        Action::Ask => told(list.ask(party)),
+        Action::Remove => told(list.remove(party)),
+        Action::Fit(a) => {
+            list.fit(a);
             Found::Done
         }
     }
+}
+
+/// Whether a party found that its entry was notified.
+fn told(marked: bool) -> Found
+    ensures { result ≡ told_by marked }
+{
+    if marked { Found::Yes } else { Found::No }
 }
 
 /// Where a party stands after this.
@@ -151,7 +144,7 @@ impl Semaphore {
         ensures { IfOk result (λ s. s ≡ new_semaphore parties permits most) }
     {
         let positions = all_out(alloc, parties)?;
-        let list = WaitQueue::new(alloc, parties)?;
+        let list = WeightedQueue::new(alloc, parties)?;
         Ok(Semaphore {
             words: Words {
                 available: permits,
@@ -228,8 +221,8 @@ impl Machine for Semaphore {
     fn knows(&self, _party: u32, call: Call) -> bool {
         matches!(
             call,
-            Call::Acquire
-                | Call::TryAcquire
+            Call::Acquire(_)
+                | Call::TryAcquire(_)
                 | Call::AddPermits(_)
                 | Call::Poll
                 | Call::Drop

@@ -1,10 +1,10 @@
 //! The words of a semaphore: how many permits are available, and how many there are.
 
 ghost use Rattle.std.specs.Prelude.{◌≡◌, ◌+◌, ◌-◌, ◌<◌, ◌≤◌, IfOk, IfErr};
-ghost use Rattle.world_semaphore.specs.machine.Deeds.{FindsPermit, FindsRoom, words, taken_after, raised_after};
+ghost use Rattle.world_semaphore.specs.machine.Deeds.{FindsPermits, FindsSo, FindsRoom, words, taken_after, raised_after};
 
 use lock_program::Refusal;
-use sync_program::semaphore::Found;
+use sync_program::permits::Found;
 
 /// Whether a semaphore may begin with so many permits, whose limit never passes `most`. Refused as [`Refusal::Permits`] where there are
 /// more of them.
@@ -29,27 +29,34 @@ pub struct Words {
 }
 
 impl Words {
-    /// Takes one permit, if one is available.
-    pub fn take(&mut self) -> Found
-        ensures finds { FindsPermit result self.old.available }
-        ensures words { self.new ≡ taken_after result self.old }
+    /// How many permits are available.
+    pub fn load(&self) -> Found
+        ensures { FindsSo self.now.available result }
     {
-        if self.available == 0 {
-            Found::NoneLeft
+        Found::Available(self.available)
+    }
+
+    /// Takes so many permits, if as many are available.
+    pub fn take(&mut self, k: u64) -> Found
+        ensures finds { FindsPermits k result self.old.available }
+        ensures words { self.new ≡ taken_after k result self.old }
+    {
+        if self.available < k {
+            Found::Short(self.available)
         } else {
-            self.available -= 1;
-            Found::Taken {
-                more: self.available > 0,
-            }
+            self.available -= k;
+            Found::Left(self.available)
         }
     }
 
-    /// Makes so many permits available.
-    pub fn give(&mut self, n: u64)
+    /// Makes so many permits available, and finds how many are then.
+    pub fn give(&mut self, n: u64) -> Found
         requires { self.old.available + n ≤ self.old.limit }
-        ensures { self.new ≡ words (self.old.available + n) self.old.limit self.old.most }
+        ensures finds { FindsSo (self.old.available + n) result }
+        ensures words { self.new ≡ words (self.old.available + n) self.old.limit self.old.most }
     {
         self.available += n;
+        Found::Available(self.available)
     }
 
     /// Raises the limit by so many, if its greatest value allows it.
@@ -66,11 +73,11 @@ impl Words {
         }
     }
 
-    /// Lowers the limit by one.
-    pub fn lower(&mut self)
-        requires { 0 < self.old.limit }
-        ensures { self.new ≡ words self.old.available (self.old.limit - 1) self.old.most }
+    /// Lowers the limit by so many.
+    pub fn lower(&mut self, k: u64)
+        requires { k ≤ self.old.limit }
+        ensures { self.new ≡ words self.old.available (self.old.limit - k) self.old.most }
     {
-        self.limit -= 1;
+        self.limit -= k;
     }
 }

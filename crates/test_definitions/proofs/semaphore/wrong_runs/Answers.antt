@@ -1,26 +1,23 @@
 -- No wrong run of a semaphore is legal.
-use Rattle.std.proofs.Common.{◌≡◌, ℕ, zero, suc, ◌+◌, ◌-◌, ◌<◌, ◌||◌, if◌then◌else◌, inl, inr, Bool, true, false, List, length, Option, None, refl, arith, ap, sym, ◌∙◌, subst}
+use Rattle.std.proofs.Common.{◌≡◌, ℕ, ◌+◌, ◌-◌, ◌<◌, ◌||◌, if◌then◌else◌, inl, inr, Bool, true, false, List, Option, Some, None, is_some, refl, arith, ap, sym, ◌∙◌, subst}
 use Rattle.std.proofs.lemmas.Bool.{false≢true, true≢false}
 use Rattle.lock_event.specs.declared.event.Entry.{Entry}
-use Rattle.lock_event.specs.Lists.{notified, marked_count, is_marked_at}
-use Rattle.world_base.specs.queue.Parties.{is_party}
+use Rattle.lock_event.specs.Lists.{marked_count}
+use Rattle.lock_event.specs.Weights.{fitted, is_wanted}
 use Rattle.world_base.specs.declared.moves.Answer.{Answer}
 use Rattle.world_base.specs.declared.moves.Answer.TheVariants as answer
 use Rattle.world_base.specs.declared.moves.Inputs.{Inputs}
 use Rattle.world_base.specs.declared.moves.Move.{Move}
 use Rattle.world_base.specs.declared.moves.What.TheVariants.{Go}
-use Rattle.world_base.specs.declared.standing.Kind.TheVariants as kind
-use Rattle.world_base.specs.declared.standing.Within.{Within}
 use Rattle.world_base.specs.Frame.{is_drop}
-use Rattle.world_base.specs.Standings.{Standing, inside, is_possible}
-use Rattle.world_base.specs.Steps.{Deed, nothing, changes, does, notifies}
+use Rattle.world_base.specs.Standings.{Standing, inside, is_decided, is_possible}
 use Rattle.world_base.proofs.Equations.{none_some}
-use Rattle.world_base.proofs.Lists.{counted_by}
-use Rattle.world_semaphore.specs.machine.Seats.{Share}
-use Rattle.world_semaphore.specs.machine.Deeds.{Change, ListName, takes, gives_back, forgets, raises, gives, for_a_permit}
-use Rattle.world_semaphore.specs.State.{State, World, has_permit, standing_of, adds_of}
+use Rattle.world_semaphore.specs.machine.Seats.{Share, a_look, a_fit}
+use Rattle.world_semaphore.specs.machine.Deeds.{Deed, nothing, changes, does, fits, takes, gives_back, forgets, raises, gives}
+use Rattle.world_semaphore.specs.State.{State, World, has_permits, standing_of, size_of}
 use Rattle.world_semaphore.specs.AtOnce.{is_try}
-use Rattle.world_semaphore.specs.Legal.{HasItsOwn, IsAllowed, state_after, is_forget, added_in, is_add, notice, may_tell}
+use Rattle.world_semaphore.specs.Legal.{HasItsOwn, IsAllowed, state_after, is_forget, added_in}
+use Rattle.world_semaphore.proofs.of_machine.laws.Entries.{fitted_marks}
 use Rattle.test_definitions.proofs.semaphore.wrong_runs.Goals as goal
 
 chosen : (b : Bool) (x y : Answer) → b ≡ true → (if b then x else y) ≡ x
@@ -34,27 +31,27 @@ pub returns-clause-tries_in_vain : goal.returns-clause-tries_in_vain
 returns-clause-tries_in_vain c = λ r.
     let granted = (r.legal.tried r.tries (none_possible r.step.answer r.none)).0 ∙ chosen _ _ _ r.free in absurd (cc)
 
+own_at : (w : World) (p : ℕ) (s : Standing) → standing_of w p ≡ s → HasItsOwn w p (standing_of w p) → HasItsOwn w p s
+own_at w p s e own = subst (HasItsOwn w p) e own
+
 pub returns-clause-takes_undecided : goal.returns-clause-takes_undecided
 returns-clause-takes_undecided c = λ r.
-    let p : ℕ = r.step.move.party in
-    let P : Standing → Type 0 = HasItsOwn r.step.new p in
-    let own : P (inside r.within None) = subst P r.undecided (r.legal.leaves_clear.each p) in
-    true≢false (sym r.took ∙ ap (λ (s : Share). s.permit) own.0)
+    true≢false (sym r.took ∙ ap (λ (s : Share). is_some s.held) (own_at r.step.new r.step.move.party _ r.undecided (r.legal.leaves_clear.each r.step.move.party)).0)
 
--- a party that goes on neither gives its permit back nor forgets it
-keeps : (w : World) (m : Move) (d : Deed Change ListName) (i : Inputs) → m.what ≡ Go i → IsAllowed w m d → has_permit w.state m.party ≡ true → has_permit (state_after m.party d w.state) m.party ≡ false → ⊥
+-- a party that goes on neither gives its permits back nor forgets them
+keeps : (w : World) (m : Move) (d : Deed) (i : Inputs) → m.what ≡ Go i → IsAllowed w m d → has_permits w.state m.party ≡ true → has_permits (state_after m.party d w.state) m.party ≡ false → ⊥
 keeps w m nothing i e h had gave = true≢false (sym had ∙ gave)
-keeps w m (does list f) i e h had gave = true≢false (sym had ∙ gave)
-keeps w m (changes takes) i e h had gave = true≢false (sym had ∙ ap (λ (s : Share). s.permit) h.1)
-keeps w m (changes gives_back) i e h had gave = false≢true (sym (ap is_drop e) ∙ h.1)
-keeps w m (changes forgets) i e h had gave = false≢true (sym (ap is_forget e) ∙ h.1)
+keeps w m (does f) i e h had gave = true≢false (sym had ∙ gave)
+keeps w m (changes (takes k)) i e h had gave = true≢false (sym had ∙ ap (λ (s : Share). is_some s.held) h.2)
+keeps w m (changes (gives_back k)) i e h had gave = false≢true (sym (ap is_drop e) ∙ h.1)
+keeps w m (changes (forgets k)) i e h had gave = false≢true (sym (ap is_forget e) ∙ h.1)
 keeps w m (changes (raises n)) i e h had gave = none_some (sym (ap added_in e) ∙ h.0)
-keeps w m (changes (gives n)) i e h had gave = true≢false (sym had ∙ ap (λ (s : Share). s.permit) h.0)
+keeps w m (changes (gives n)) i e h had gave = true≢false (sym had ∙ ap (λ (s : Share). is_some s.held) h)
 
 pub returns-clause-gives_back_within : goal.returns-clause-gives_back_within
 returns-clause-gives_back_within c = λ r.
     let one = r.legal.one_change in
-    keeps r.step.old r.step.move one.deed r.inputs r.goes one.allowed r.had (sym (ap (λ (s : State). has_permit s r.step.move.party) one.state) ∙ r.gave)
+    keeps r.step.old r.step.move one.deed r.inputs r.goes one.allowed r.had (sym (ap (λ (s : State). has_permits s r.step.move.party) one.state) ∙ r.gave)
 
 pub returns-clause-gives_before_it_raises : goal.returns-clause-gives_before_it_raises
 returns-clause-gives_before_it_raises c = λ r.
@@ -62,24 +59,18 @@ returns-clause-gives_before_it_raises c = λ r.
     let limit : r.step.new.state.limit ≡ r.step.old.state.limit + r.number = ap (λ (s : State). s.limit) raised in
     absurd (omega (arith, limit, r.some, r.not_raised))
 
-notice_of : (s : Standing) (w : Within) (d : Option Answer) (n : ℕ) → s ≡ inside w d → w.kind ≡ kind.Add → notice s n ≡ n
-notice_of s w d n e k = ap (λ z. notice z n) e ∙ chosen_number (is_add w.kind) (ap is_add k) where
-  chosen_number : (b : Bool) → b ≡ true → (if b then n else 1) ≡ n
-  chosen_number true h = refl
-  chosen_number false h = absurd (false≢true h)
+-- what the deed of a legal step is, it is allowed to be
+allowed_as : (w : World) (m : Move) (d e : Deed) → d ≡ e → IsAllowed w m d → IsAllowed w m e
+allowed_as w m d e is h = subst (IsAllowed w m) is h
 
-pub returns-clause-notifies_for_others : goal.returns-clause-notifies_for_others
-returns-clause-notifies_for_others c = λ r.
-    let p : ℕ = r.step.move.party in
-    let P : Deed Change ListName → Type 0 = IsAllowed r.step.old r.step.move in
-    let allowed : P (does for_a_permit (notifies r.told)) = subst P r.notifies r.legal.one_change.allowed in
-    r.others (sym allowed.0 ∙ notice_of (standing_of r.step.old p) r.within r.decided (adds_of r.step.old p) r.adding r.kind)
+pub returns-clause-tells_of_others : goal.returns-clause-tells_of_others
+returns-clause-tells_of_others c = λ r. r.others (allowed_as r.step.old r.step.move _ (does (fits r.number)) r.tells r.legal.one_change.allowed).0
 
 pub returns-clause-forgets_in_vain : goal.returns-clause-forgets_in_vain
 returns-clause-forgets_in_vain c = λ r.
     let lowered = (r.legal.forgotten r.forgets r.possible).1 in
-    let limit : r.step.new.state.limit ≡ r.step.old.state.limit - 1 = ap (λ (s : State). s.limit) lowered in
-    absurd (omega (arith, limit, r.some, r.left))
+    let limit : r.step.new.state.limit ≡ r.step.old.state.limit - size_of r.step.old r.step.move.party = ap (λ (s : State). s.limit) lowered in
+    absurd (omega (arith, limit, r.some, r.had, r.left))
 
 pub returns-clause-refused_though_free : goal.returns-clause-refused_though_free
 returns-clause-refused_though_free c = λ r. let ready = r.legal.ready r.first ∙ chosen _ _ _ r.free in absurd (cc)
@@ -88,10 +79,7 @@ pub returns-clause-refused_at_last : goal.returns-clause-refused_at_last
 returns-clause-refused_at_last c = λ r. let ready = r.kept.first r.first r.free in absurd (cc (r.refused))
 
 pub returns-clause-waits_unlisted : goal.returns-clause-waits_unlisted
-returns-clause-waits_unlisted c = λ r. none_some (sym r.unlisted ∙ r.legal.waits.waiting r.pending)
-
-own_at : (w : World) (p : ℕ) (s : Standing) → standing_of w p ≡ s → HasItsOwn w p (standing_of w p) → HasItsOwn w p s
-own_at w p s e own = subst (HasItsOwn w p) e own
+returns-clause-waits_unlisted c = λ r. let one = r.legal.waits.listed r.pending in absurd (omega (arith, one, r.unlisted))
 
 pub returns-clause-goes_on_undecided : goal.returns-clause-goes_on_undecided
 returns-clause-goes_on_undecided c = λ r. false≢true (sym r.no_poll ∙ (own_at r.step.new r.party _ r.undecided (r.legal.leaves_clear.each r.party)).1)
@@ -100,13 +88,13 @@ pub returns-clause-decides_in_vain : goal.returns-clause-decides_in_vain
 returns-clause-decides_in_vain c = λ r. true≢false (sym (r.legal.leaves_clear.decided r.party r.within r.by r.decided) ∙ r.never)
 
 pub returns-clause-has_refused : goal.returns-clause-has_refused
-returns-clause-has_refused c = λ r. true≢false (sym r.has ∙ ap (λ (s : Share). s.permit) (own_at r.step.new r.party _ r.refused (r.legal.leaves_clear.each r.party)))
+returns-clause-has_refused c = λ r. true≢false (sym r.has ∙ ap (λ (s : Share). is_some s.held) (own_at r.step.new r.party _ r.refused (r.legal.leaves_clear.each r.party)))
 
 pub returns-clause-adds_and_takes : goal.returns-clause-adds_and_takes
-returns-clause-adds_and_takes c = λ r. true≢false (sym r.has ∙ own_at r.step.new r.party _ r.adding (r.legal.leaves_clear.each r.party))
+returns-clause-adds_and_takes c = λ r. true≢false (sym r.has ∙ ap is_some (own_at r.step.new r.party _ r.adding (r.legal.leaves_clear.each r.party)))
 
-pub returns-clause-tells_more : goal.returns-clause-tells_more
-returns-clause-tells_more c = λ r. let P : Deed Change ListName → Type 0 = IsAllowed r.step.old r.step.move in subst P r.tells r.legal.one_change.allowed
+pub returns-clause-tells_two : goal.returns-clause-tells_two
+returns-clause-tells_two c = λ r. absurd (omega (arith, r.told, r.sound.one_marked))
 
 either_true : (b c : Bool) → b ≡ true → b || c ≡ true
 either_true true c e = refl
@@ -118,25 +106,18 @@ returns-clause-tries_and_tells c = λ r. r.told (r.legal.looks (either_true (is_
 pub returns-clause-returns_late : goal.returns-clause-returns_late
 returns-clause-returns_late c = λ r. r.kept (r.legal.returned r.drops r.holding).1
 
--- a list in which some were notified, and that isn't empty, has a marked entry
-told_some : (l m : List (Entry ℕ)) (n : ℕ) → m ≡ notified l n → 0 < n → 0 < length m → 0 < marked_count m
-told_some l m zero e k some = absurd (omega (arith, k))
-told_some l m (suc n) e k some = let counts = counted_by 0 l m (notifies (suc n)) (is_marked_at (is_party 0) l) refl tt e in counts.1 (omega (arith, counts.0))
+-- a list that was told of so many, as somebody in it wants, has a marked entry
+told_some : (size : ℕ → ℕ) (n : ℕ) (l m : List (Entry ℕ)) → m ≡ fitted size n l → is_wanted size n l ≡ true → marked_count m ≡ 0 → ⊥
+told_some size n l m e wanted none = let some = fitted_marks size n l wanted in omega (arith, some, none, ap marked_count e)
 
 pub returns-clause-returns_silently : goal.returns-clause-returns_silently
-returns-clause-returns_silently c = λ r.
-    let told = (r.legal.notifies r.returns (ap is_possible r.given_back)).1 in
-    let some = told_some r.step.old.entries r.step.new.entries 1 told (omega arith) r.some in
-    absurd (omega (arith, some, r.none_told))
+returns-clause-returns_silently c = λ r. told_some (size_of r.step.old) r.number r.step.old.entries r.step.new.entries ((r.legal.tells _ r.returns (ap is_possible r.given_back)).tells r.number r.owes).1 r.some r.none_told
 
 pub returns-clause-adds_silently : goal.returns-clause-adds_silently
-returns-clause-adds_silently c = λ r.
-    let told = ((r.legal.gives r.adding r.possible r.adds).told r.gave).1 in
-    let some = told_some r.step.old.entries r.step.new.entries (adds_of r.step.old r.step.move.party) told r.adds r.some in
-    absurd (omega (arith, some, r.none_told))
+returns-clause-adds_silently c = λ r. told_some (size_of r.step.old) r.number r.step.old.entries r.step.new.entries ((r.legal.gives r.adding r.possible).told r.number r.gave).1 r.some r.none_told
 
 pub returns-clause-adds_after_telling : goal.returns-clause-adds_after_telling
-returns-clause-adds_after_telling c = λ r. r.kept ((r.legal.gives r.adding r.possible r.adds).given r.under_way).1
+returns-clause-adds_after_telling c = λ r. r.kept ((r.legal.gives r.adding r.possible).given r.under_way).1
 
 pub returns-clause-passes_over_in_vain : goal.returns-clause-passes_over_in_vain
 returns-clause-passes_over_in_vain c = λ r. let ready = (r.kept.later r.polls r.was_pending r.free).ready in absurd (cc (r.pending))
@@ -145,19 +126,37 @@ pub returns-clause-keeps_its_told : goal.returns-clause-keeps_its_told
 returns-clause-keeps_its_told c = λ r. let some = r.kept.hands_on r.polls r.was_pending r.listed r.refused r.some in absurd (omega (arith, some, r.none_told))
 
 pub returns-clause-takes_what_was_told : goal.returns-clause-takes_what_was_told
-returns-clause-takes_what_was_told c = λ r. let some = r.kept.passes_on r.polls r.was_pending r.free r.told r.some in absurd (omega (arith, some, r.none_told))
+returns-clause-takes_what_was_told c = λ r. let some = r.kept.passes_on (inl r.polls) r.was_pending r.told r.some in absurd (omega (arith, some, r.none_told))
+
+pub returns-clause-drops_what_was_told : goal.returns-clause-drops_what_was_told
+returns-clause-drops_what_was_told c = λ r. let some = r.kept.passes_on (inr r.drops) r.was_pending r.told r.some in absurd (omega (arith, some, r.none_told))
+
+pub returns-clause-hands_over_in_vain : goal.returns-clause-hands_over_in_vain
+returns-clause-hands_over_in_vain c = λ r. let enough = (r.kept.hands_over r.polls r.solo r.short).enough r.some r.other r.told in absurd (omega (arith, enough, r.too_few))
 
 pub returns-clause-wakes_the_next : goal.returns-clause-wakes_the_next
-returns-clause-wakes_the_next c = λ r.
-    let P : Deed Change ListName → Type 0 = IsAllowed r.step.old r.step.move in
-    let allowed : P (does for_a_permit (notifies r.many)) = subst P r.notifies r.legal.one_change.allowed in
-    false≢true (sym (ap may_tell r.undecided) ∙ allowed.1)
+returns-clause-wakes_the_next c = λ r. false≢true (sym (ap is_decided r.undecided) ∙ (allowed_as r.step.old r.step.move _ (does (fits r.many)) r.tells r.legal.one_change.allowed).1)
 
 pub returns-clause-sleeps_though_free : goal.returns-clause-sleeps_though_free
-returns-clause-sleeps_though_free c = λ r. elim (r.sound.told_or_due r.free r.party r.stands r.listed) as (λ _. ⊥) [ inl some ↦ absurd (omega (arith, some, r.none_told)) | inr one ↦ r.none_due one.0 one.1 ]
+returns-clause-sleeps_though_free c = λ r. elim (r.sound.told_or_due r.party r.stands r.listed r.free) as (λ _. ⊥) [ inl some ↦ absurd (omega (arith, some, r.none_told)) | inr one ↦ r.none_due one.0 one.1 ]
+
+pub returns-clause-sleeps_behind_a_larger_one : goal.returns-clause-sleeps_behind_a_larger_one
+returns-clause-sleeps_behind_a_larger_one c = λ r. let some = r.awake.marked (r.party, r.listed, r.free) in absurd (omega (arith, some, r.none_told))
 
 pub returns-clause-refused_silently : goal.returns-clause-refused_silently
-returns-clause-refused_silently c = λ r.
-    let told = (r.legal.refuses r.within r.refusing (ap is_possible r.answered)).1 in
-    let some = told_some r.step.old.entries r.step.new.entries 1 told (omega arith) r.some in
-    absurd (omega (arith, some, r.none_told))
+returns-clause-refused_silently c = λ r. told_some (size_of r.step.old) r.number r.step.old.entries r.step.new.entries ((r.legal.refuses r.within r.refusing (ap is_possible r.answered)).tells r.number r.owes).1 r.some r.none_told
+
+pub returns-clause-waits_silently : goal.returns-clause-waits_silently
+returns-clause-waits_silently c = λ r. told_some (size_of r.step.old) r.number r.step.old.entries r.step.new.entries ((r.legal.waits r.within r.waiting (ap is_possible r.answered)).tells r.number r.owes).1 r.some r.none_told
+
+pub returns-clause-takes_others : goal.returns-clause-takes_others
+returns-clause-takes_others c = λ r. r.others (allowed_as r.step.old r.step.move _ (changes (takes r.number)) r.took r.legal.one_change.allowed).0
+
+pub returns-clause-takes_too_many : goal.returns-clause-takes_too_many
+returns-clause-takes_too_many c = λ r. let few = (allowed_as r.step.old r.step.move _ (changes (takes r.number)) r.took r.legal.one_change.allowed).1 in absurd (omega (arith, few, r.few))
+
+pub returns-clause-ready_without_a_guard : goal.returns-clause-ready_without_a_guard
+returns-clause-ready_without_a_guard c = λ r. true≢false (sym (ap (λ (s : Share). is_some s.held) (r.legal.carries.ready r.got r.ready).1) ∙ r.none)
+
+pub returns-clause-goes_on_with_the_older : goal.returns-clause-goes_on_with_the_older
+returns-clause-goes_on_with_the_older c = λ r. let look = (r.legal.knows_debts r.possible).told r.was_told r.gone in absurd (cc (look, r.older))

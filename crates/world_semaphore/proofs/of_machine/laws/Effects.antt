@@ -1,54 +1,47 @@
 -- What an action does, in numbers.
-use Rattle.std.proofs.Common.{ℕ, zero, suc, Bool, true, false, refl, arith}
-use Rattle.lock_event.specs.Lists.{is_marked_at}
+use Rattle.std.proofs.Common.{◌≡◌, ℕ, ◌<◌, ◌≤◌, Bool, true, false, refl, arith}
+use Rattle.lock_event.specs.Weights.{is_wanted}
+use Rattle.lock_event.proofs.Counts.{length-joined, length-without, marked_count-without_marked, marked_count-without_waiting}
+use Rattle.lock_event.proofs.Marks.{marked_count-joined}
 use Rattle.world_base.specs.queue.Parties.{is_party}
-use Rattle.world_base.specs.queue.Queues.{Queue}
-use Rattle.world_base.specs.Steps.{joins, asks, leaves, notifies}
-use Rattle.world_base.proofs.Lists.{Counted, counted}
-use Rattle.sync_program.specs.declared.semaphore.Action.{Action}
-use Rattle.sync_program.specs.declared.semaphore.Action.TheVariants as act
-use Rattle.sync_program.specs.declared.semaphore.Found.{Found}
-use Rattle.sync_program.specs.declared.semaphore.Found.TheVariants.{Done, Taken, NoneLeft, PastLimit, NoMemory, Yes, No}
+use Rattle.world_base.specs.queue.Weighted.{WeightedQueue}
+use Rattle.world_base.proofs.Lists.{is_there}
+use Rattle.sync_program.specs.declared.permits.Action.{Action}
+use Rattle.sync_program.specs.declared.permits.Action.TheVariants as act
+use Rattle.sync_program.specs.declared.permits.Found.{Found}
+use Rattle.sync_program.specs.declared.permits.Found.TheVariants.{Done, Left, Short, Available, PastLimit, NoMemory, Yes, No}
 use Rattle.world_semaphore.specs.declared.machine.words.Words.{Words}
 use Rattle.world_semaphore.specs.machine.Deeds.{CanDo, Finds, deed_of, words_after, entries_after}
 use Rattle.world_semaphore.specs.machine.Tally.{tally_of}
 use Rattle.world_semaphore.proofs.of_machine.laws.Steps.{Effect}
+use Rattle.world_semaphore.proofs.of_machine.laws.Entries.{length-fitted, marked_count-fitted, fitted_marks}
 
--- who asks, leaves or is notified of what, whatever it was told
-left_so : (b : Bool) (size marked size' marked' : ℕ) → Counted leaves b size marked size' marked' → Counted leaves false size marked size' marked'
-left_so b size marked size' marked' c = c
-
-notified_so : (n : ℕ) (b : Bool) (size marked size' marked' : ℕ) → Counted (notifies n) b size marked size' marked' → Counted (notifies n) false size marked size' marked'
-notified_so zero b size marked size' marked' c = c
-notified_so (suc n) b size marked size' marked' c = c
-
-module _ (p : ℕ) (w : Words) (q : Queue) (memory : Bool) where
-  abbrev told : Bool
-  told = is_marked_at (is_party p) q.entries
-
-  pub numbers : (a : Action) (f : Found) → Finds memory p a f w q.entries → CanDo p a w q → Effect a f (tally_of w q.entries) (tally_of (words_after (deed_of a f) w) (entries_after p (deed_of a f) q.entries))
-  numbers act.Take (Taken true) e k = (e, omega arith, refl, refl, (refl, refl))
-  numbers act.Take (Taken false) e k = (e, (omega arith, refl, refl), (refl, refl))
-  numbers act.Take NoneLeft e k = (e, (refl, refl, refl), (refl, refl))
-  numbers act.Take _ e k = absurd e
-  numbers act.GiveBack Done e k = ((refl, refl, refl), (refl, refl))
-  numbers act.GiveBack _ e k = absurd e
-  numbers (act.Give n) Done e k = ((refl, refl, refl), (refl, refl))
-  numbers (act.Give n) _ e k = absurd e
-  numbers (act.Raise n) Done e k = (e, (refl, refl, refl), (refl, refl))
-  numbers (act.Raise n) PastLimit e k = ((refl, refl, refl), (refl, refl))
-  numbers (act.Raise n) _ e k = absurd e
-  numbers act.Lower Done e k = (refl, omega arith, refl, (refl, refl))
-  numbers act.Lower _ e k = absurd e
-  numbers act.Join Done e k = ((refl, refl, refl), counted p q.entries joins told refl tt)
-  numbers act.Join NoMemory e k = ((refl, refl, refl), (refl, refl))
-  numbers act.Join _ e k = absurd e
-  numbers act.Ask Yes e k = ((refl, refl, refl), counted p q.entries asks true e k.1)
-  numbers act.Ask No e k = ((refl, refl, refl), counted p q.entries asks false e k.1)
-  numbers act.Ask _ e k = absurd e
-  numbers act.Leave Done e k = ((refl, refl, refl), counted p q.entries leaves told refl k.1)
-  numbers act.Leave _ e k = absurd e
-  numbers (act.Notify n) Done e k = ((refl, refl, refl), notified_so n told _ _ _ _ (counted p q.entries (notifies n) told refl tt))
-  numbers (act.Notify n) _ e k = absurd e
-  numbers act.Nothing Done e k = ((refl, refl, refl), (refl, refl))
-  numbers act.Nothing _ e k = absurd e
+module _ (p : ℕ) (w : Words) (q : WeightedQueue) (memory : Bool) (size : ℕ → ℕ) (s n : ℕ) (wanted : (c : ℕ) → s ≤ c → 0 < n → is_wanted size c q.entries ≡ true) where
+  pub numbers : (a : Action) (f : Found) → Finds memory p a f w q.entries → CanDo p a w q → Effect s n a f (tally_of w q.entries) (tally_of (words_after (deed_of a f) w) (entries_after size p (deed_of a f) q.entries))
+  numbers (act.Take k) (Left a) e c = (omega arith, e, refl, refl, (refl, refl))
+  numbers (act.Take k) (Short a) e c = (omega (arith, e.0), e.1, (refl, refl, refl), (refl, refl))
+  numbers (act.Take k) _ e c = absurd e
+  numbers (act.GiveBack k) (Available a) e c = (e, (omega (arith, e), refl, refl), (refl, refl))
+  numbers (act.GiveBack k) _ e c = absurd e
+  numbers (act.Give k) (Available a) e c = (e, (omega (arith, e), refl, refl), (refl, refl))
+  numbers (act.Give k) _ e c = absurd e
+  numbers (act.Raise k) Done e c = (e, (refl, refl, refl), (refl, refl))
+  numbers (act.Raise k) PastLimit e c = ((refl, refl, refl), (refl, refl))
+  numbers (act.Raise k) _ e c = absurd e
+  numbers (act.Lower k) Done e c = (refl, omega (arith, c), refl, (refl, refl))
+  numbers (act.Lower k) _ e c = absurd e
+  numbers act.Load (Available a) e c = (e, (refl, refl, refl), (refl, refl))
+  numbers act.Load _ e c = absurd e
+  numbers (act.Join k) Done e c = ((refl, refl, refl), length-joined q.entries p, marked_count-joined q.entries p)
+  numbers (act.Join k) NoMemory e c = ((refl, refl, refl), (refl, refl))
+  numbers (act.Join k) _ e c = absurd e
+  numbers act.Ask Yes e c = rw e ((refl, refl, refl), length-without (is_party p) q.entries (is_there p q.entries c.1), marked_count-without_marked (is_party p) q.entries e)
+  numbers act.Ask No e c = rw e ((refl, refl, refl), (refl, refl))
+  numbers act.Ask _ e c = absurd e
+  numbers act.Remove Yes e c = ((refl, refl, refl), length-without (is_party p) q.entries (is_there p q.entries c.1), marked_count-without_marked (is_party p) q.entries e)
+  numbers act.Remove No e c = ((refl, refl, refl), length-without (is_party p) q.entries (is_there p q.entries c.1), marked_count-without_waiting (is_party p) q.entries e)
+  numbers act.Remove _ e c = absurd e
+  numbers (act.Fit a) Done e c = ((refl, refl, refl), length-fitted size a q.entries, marked_count-fitted size a q.entries, λ few some. fitted_marks size a q.entries (wanted a few some))
+  numbers (act.Fit a) _ e c = absurd e
+  numbers act.Nothing Done e c = ((refl, refl, refl), (refl, refl))
+  numbers act.Nothing _ e c = absurd e

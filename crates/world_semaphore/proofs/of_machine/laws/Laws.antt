@@ -1,35 +1,78 @@
 -- What always holds of a semaphore, as callers see it.
-use Rattle.std.proofs.Common.{◌≡◌, ◌<◌, true, List, [], ◌∷◌, length, refl}
-use Rattle.lock_event.specs.Lists.{marked_count, IsMarkedFirst}
-use Rattle.world_base.specs.queue.Queues.{Queue}
-use Rattle.world_base.specs.queue.Debts.{Roles, Rests, AllRest}
-use Rattle.world_base.proofs.of_queue.Debts.{paid_at_rest}
-use Rattle.sync_program.specs.declared.semaphore.Position.{Position}
-use Rattle.sync_program.specs.declared.semaphore.Position.TheVariants.{Out, Waiting, Holding, At}
+use Rattle.std.proofs.Common.{◌≡◌, ℕ, zero, suc, ◌<◌, ◌≤◌, true, List, [], ◌∷◌, length, get_or, refl, arith, sym, ◌∙◌, subst}
+use Rattle.std.specs.List.{sum_by}
+use Rattle.std.proofs.lemmas.List.Sums.{get_or-le-sum_by, sum_by-cons}
+use Rattle.lock_event.specs.Lists.{marked_count}
+use Rattle.lock_event.specs.Weights.{is_wanted}
+use Rattle.world_base.specs.queue.Parties.{entries_of}
+use Rattle.world_base.specs.queue.Weighted.{WeightedQueue}
+use Rattle.world_base.proofs.of_table.Mapped.{past_last}
+use Rattle.world_base.proofs.Equations.{same_test}
+use Rattle.sync_program.specs.declared.permits.Position.{Position}
+use Rattle.sync_program.specs.declared.permits.Position.TheVariants.{Out, Unlisted, Waiting, Holding, At}
 use Rattle.world_semaphore.specs.declared.machine.words.Words.{Words}
-use Rattle.world_semaphore.specs.machine.Seats.{listed, waits, owes, is_resting}
-use Rattle.world_semaphore.specs.machine.Machine.{IsKept, IsAtRest, IsSemaphore}
+use Rattle.world_semaphore.specs.machine.Seats.{bit, listed, waits, owes, size_at, is_short, is_resting}
+use Rattle.world_semaphore.specs.machine.Machine.{IsKept, IsAtRest, IsSemaphore, position_at, sizes_of}
+use Rattle.world_semaphore.proofs.of_machine.laws.Entries.{wanted_who}
 
-abbrev roles : Roles Position
-roles = record { listed = listed; waits = waits; owes = owes }
+-- a resting party owes nothing, and waits for its size where it is listed
+pub rests_waits : (x : Position) → is_resting x ≡ true → 0 < listed x → waits (size_at x) x ≡ 1
+rests_waits Out h some = absurd (omega arith)
+rests_waits (Unlisted k) h some = absurd (omega arith)
+rests_waits (Waiting k) h some = rw (same_test k k refl) refl
+rests_waits (Holding k) h some = absurd (omega arith)
+rests_waits (At place) h some = absurd (cc h)
 
--- a resting party owes nothing, and waits where it is listed
-rests : (x : Position) → is_resting x ≡ true → Rests roles x
-rests Out h = (refl, refl)
-rests Waiting h = (refl, refl)
-rests Holding h = (refl, refl)
-rests (At place) h = absurd (cc)
+pub rests_short : (x : Position) → is_resting x ≡ true → 0 < listed x → is_short x ≡ true
+rests_short (Waiting k) h some = refl
+rests_short (At place) h some = absurd (cc h)
+rests_short _ h some = absurd (omega arith)
 
-all_rest : (xs : List Position) → IsAtRest xs → AllRest roles xs
-all_rest [] h = tt
-all_rest (x ∷ xs) h = (rests x h.0, all_rest xs h.1)
+rests_owes : (s : ℕ) (x : Position) → is_resting x ≡ true → owes s x ≡ 0
+rests_owes s Out h = refl
+rests_owes s (Unlisted k) h = refl
+rests_owes s (Waiting k) h = refl
+rests_owes s (Holding k) h = refl
+rests_owes s (At place) h = absurd (cc h)
 
-pub is_semaphore : (w : Words) (xs : List Position) (q : Queue) → IsKept w xs q → IsMarkedFirst q.entries → IsSemaphore (record { words = w; positions = xs; entries = q.entries })
-is_semaphore w xs q k ordered = record {
-  balanced = k.sound.balanced;
-  limited = k.sound.limited;
-  owners = k.owners;
-  in_order = ordered;
-  owed = k.sound.owed;
-  wakes = λ rest free some. paid_at_rest roles (0 < w.available) xs (length q.entries) (marked_count q.entries) (all_rest xs rest) k.sound.in_list k.sound.owed free some;
-}
+none_owing : (s : ℕ) (xs : List Position) → IsAtRest xs → sum_by (owes s) xs ≡ 0
+none_owing s [] h = refl
+none_owing s (x ∷ xs) h = omega (arith, sum_by-cons (owes s) x xs, rests_owes s x h.0, none_owing s xs h.1)
+
+at_rest : (xs : List Position) (p : ℕ) → IsAtRest xs → p < length xs → is_resting (position_at xs p) ≡ true
+at_rest [] p h known = absurd (omega arith)
+at_rest (x ∷ xs) zero h known = h.0
+at_rest (x ∷ xs) (suc p) h known = at_rest xs p h.1 (omega arith)
+
+-- whoever is listed is in the table
+pub listed_known : (xs : List Position) (p : ℕ) → 0 < listed (position_at xs p) → p < length xs
+listed_known [] p some = absurd (omega arith)
+listed_known (x ∷ xs) zero some = omega arith
+listed_known (x ∷ xs) (suc p) some = let more = listed_known xs p some in omega arith
+
+module _ (w : Words) (xs : List Position) (q : WeightedQueue) (k : IsKept w xs q) where
+  wakes : IsAtRest xs → is_wanted (sizes_of xs) w.available q.entries ≡ true → 0 < marked_count q.entries
+  wakes rest wanted =
+      let who = wanted_who (sizes_of xs) w.available q.entries wanted in
+      let p = who.0 in
+      let there : 0 < listed (position_at xs p) = rw (← k.owners p) who.1 in
+      let known : p < length xs = listed_known xs p there in
+      let resting : is_resting (position_at xs p) ≡ true = at_rest xs p rest known in
+      let s = sizes_of xs p in
+      let some : 0 < s = k.some p (rests_short (position_at xs p) resting there) in
+      let one : waits s (get_or xs p Out) ≡ 1 = rests_waits (position_at xs p) resting there in
+      let among : waits s (get_or xs p Out) ≤ sum_by (waits s) xs = get_or-le-sum_by (waits s) xs p Out known in
+      let sound = k.sound s some in
+      let due = sound.owed who.2 (omega (arith, one, among)) in
+      omega (arith, due, none_owing s xs rest)
+
+  pub is_semaphore : marked_count q.entries ≤ 1 → IsSemaphore (record { words = w; positions = xs; entries = q.entries })
+  is_semaphore one = let first = k.sound 1 (omega arith) in record {
+    balanced = first.balanced;
+    limited = first.limited;
+    owners = k.owners;
+    some = k.some;
+    one_marked = one;
+    owed = λ s more. (let sound = k.sound s more in sound.owed);
+    wakes = wakes;
+  }

@@ -1,14 +1,15 @@
 -- An action of one party keeps what always holds of a semaphore.
-use Rattle.std.proofs.Common.{◌≡◌, ◌≢◌, ℕ, ◌+◌, ◌<◌, ◌≤◌, Bool, true, false, List, length, get_or, Some, refl, arith, ap, sym, subst, ◌∙◌, length-set, get_or-set_same, get_or-set_other}
+use Rattle.std.proofs.Common.{◌≡◌, ◌≢◌, ℕ, ◌+◌, ◌<◌, ◌≤◌, ◌⊎◌, inl, inr, Bool, true, false, List, length, get_or, Option, Some, None, ◌==◌, refl, arith, ap, sym, subst, ◌∙◌, length-set, get_or-set_same, get_or-set_other}
 use Rattle.std.proofs.Math.ListN.{set}
 use Rattle.std.proofs.Math.Decide.{ℕ_discrete}
 use Rattle.std.specs.List.{sum_by}
 use Rattle.std.proofs.lemmas.List.{get_or_default}
-use Rattle.std.proofs.lemmas.List.Sums.{sum_by-set, sum_by-le-sum_by, get_or-le-sum_by}
+use Rattle.std.proofs.lemmas.List.Sums.{sum_by-set, get_or-le-sum_by}
+use Rattle.std.proofs.lemmas.Bool.Decides.{nat_tests}
 use Rattle.lock_event.specs.declared.event.Entry.{Entry}
+use Rattle.lock_event.specs.Weights.{is_wanted}
 use Rattle.world_base.specs.queue.Parties.{entries_of}
-use Rattle.world_base.specs.queue.Queues.{Queue, queue}
-use Rattle.world_base.specs.Steps.{Deed, nothing, changes, does}
+use Rattle.world_base.specs.queue.Weighted.{WeightedQueue, weighted_queue, weight_in}
 use Rattle.world_base.specs.declared.moves.What.{What}
 use Rattle.world_base.specs.declared.standing.Rest.TheVariants as rest
 use Rattle.world_base.specs.declared.standing.Stage.{Stage}
@@ -16,126 +17,251 @@ use Rattle.world_base.specs.declared.standing.Within.{Within}
 use Rattle.world_base.proofs.Equations.{some_eq}
 use Rattle.world_base.specs.table.Stages.{call_at, polls_again, stage_after}
 use Rattle.world_base.specs.table.Tables.{Keeps}
-use Rattle.world_base.proofs.Lists as lists
-use Rattle.world_base.proofs.Lists.{CanList}
-use Rattle.sync_program.specs.declared.semaphore.Action.{Action}
-use Rattle.sync_program.specs.declared.semaphore.Action.TheVariants as act
-use Rattle.sync_program.specs.declared.semaphore.Found.{Found}
-use Rattle.sync_program.specs.declared.semaphore.Found.TheVariants.{Done, Taken, Yes, No}
-use Rattle.sync_program.specs.declared.semaphore.Place.{Place}
-use Rattle.sync_program.specs.declared.semaphore.Place.TheVariants.{Take, Retake, Ask, Leave, CancelLeave}
-use Rattle.sync_program.specs.declared.semaphore.Position.{Position}
-use Rattle.sync_program.specs.declared.semaphore.Position.TheVariants.{Out, Waiting, Holding, At}
+use Rattle.world_base.proofs.Owing.{some_term}
+use Rattle.sync_program.specs.declared.permits.Action.{Action}
+use Rattle.sync_program.specs.declared.permits.Action.TheVariants as act
+use Rattle.sync_program.specs.declared.permits.Found.{Found}
+use Rattle.sync_program.specs.declared.permits.Found.TheVariants.{Done, Left, Short, Available, PastLimit, NoMemory, Yes, No}
+use Rattle.sync_program.specs.declared.permits.Place.{Place}
+use Rattle.sync_program.specs.declared.permits.Place.TheVariants.{Take, Retake, Join, Ask, Remove, Load, HandOn, PassOn, RefuseFit, Try, Lower, GiveBack, Raise, GiveAdded, FitAdded, CancelRemove, CancelLoad, FitGivenBack, Abandon}
+use Rattle.sync_program.specs.declared.permits.Position.{Position}
+use Rattle.sync_program.specs.declared.permits.Position.TheVariants.{Out, Unlisted, Waiting, Holding, At}
 use Rattle.world_semaphore.specs.declared.machine.words.Words.{Words}
-use Rattle.world_semaphore.specs.machine.Program.{place_for, action_of, next_of}
-use Rattle.world_semaphore.specs.machine.Seats.{Seat, seat_of, seated, permits_of, permits_at, under_way_at, listed, waits, owes}
-use Rattle.world_semaphore.specs.machine.Deeds.{Change, ListName, for_a_permit, CanDo, Finds, deed_of, words_after, entries_after}
+use Rattle.world_semaphore.specs.machine.Program.{place_for, action_of, next_of, position_after}
+use Rattle.world_semaphore.specs.machine.Seats.{Seat, bit, pays, seat_of, seated, permits_of, permits_at, under_way_at, listed, waits_for, waits, owes, size_of, size_at, is_short_at, is_short}
+use Rattle.world_semaphore.specs.machine.Deeds.{Deed, CanDo, Finds, deed_of, words_after, entries_after, weights_after, fits as fits_so, does, changes, nothing, joins, asks, removes}
 use Rattle.world_semaphore.specs.machine.Tally.{Tally, IsSound, tally_of, counts_of}
-use Rattle.world_semaphore.specs.machine.Machine.{Semaphore, IsKept, Stands, knows, goes_with, answer_by, runs, position_at}
+use Rattle.world_semaphore.specs.machine.Machine.{Semaphore, IsKept, Stands, knows, goes_with, answer_by, runs, position_at, sizes_of}
 use Rattle.world_semaphore.proofs.of_machine.laws.Steps.{Effect, Goes}
 use Rattle.world_semaphore.proofs.of_machine.laws.Effects.{numbers}
+use Rattle.world_semaphore.proofs.of_machine.laws.Entries.{CanOf, own, others, wanted_so, fitted-agree}
 use Rattle.world_semaphore.proofs.of_machine.laws.Kept.{after, kept}
+use Rattle.world_semaphore.proofs.of_machine.laws.Laws.{listed_known}
 use Rattle.world_semaphore.proofs.of_machine.laws.CanDo.{can_do}
 use Rattle.world_semaphore.proofs.of_machine.stages.Turns.{Fits, fits, lands}
+use Rattle.world_semaphore.proofs.of_machine.stages.Taking.{taken}
+use Rattle.sync_program.specs.Permits.{told_more}
 
--- a party that waits stands in the list
-waits_there : (x : Position) → waits x ≤ listed x
-waits_there Out = omega arith
-waits_there Waiting = omega arith
-waits_there Holding = omega arith
-waits_there (At (Take true told)) = omega arith
-waits_there (At (Take false told)) = omega arith
-waits_there (At Retake) = omega arith
-waits_there (At Ask) = omega arith
-waits_there (At (Leave more)) = omega arith
-waits_there (At CancelLeave) = omega arith
-waits_there (At _) = omega arith
+-- a party that waits for so many stands in the list for them
+so_many : (s k : ℕ) → 0 < bit (k == s) → k ≡ s
+so_many s k some = grind (arith, nat_tests)
 
-module _ (xs : List Position) (p : ℕ) (x : Place) (to : Position) where
-  goes : p < length xs → seat_of x ≡ seated (position_at xs p) → Goes (At x) to (counts_of xs) (counts_of (set xs p to))
-  goes known same =
+waits_there : (s : ℕ) (x : Position) → 0 < waits s x → (listed x ≡ 1) × (size_at x ≡ s)
+waits_there s (Waiting k) some = (refl, so_many s k some)
+waits_there s (At (Retake k)) some = (refl, so_many s k some)
+waits_there s (At (Ask k told)) some = (refl, so_many s k some)
+waits_there s (At (PassOn k a)) some = (refl, so_many s k some)
+waits_there s (At _) some = absurd (omega arith)
+waits_there s _ some = absurd (omega arith)
+
+pub one_listed : (x : Position) → listed x ≤ 1
+one_listed (Waiting k) = omega arith
+one_listed (At (Take k true told)) = omega arith
+one_listed (At (Take k false told)) = omega arith
+one_listed (At _) = omega arith
+one_listed _ = omega arith
+
+-- ---- the size of who found too few
+
+-- who has found too few then wants some, or did before and wants as many
+abbrev ShortBy : Place → Position → Type 0
+ShortBy x y = is_short y ≡ true → (0 < size_at y) ⊎ ((is_short_at x ≡ true) × (size_at y ≡ size_of x))
+
+module _ (memory : Bool) (p : ℕ) (w : Words) (l : List (Entry ℕ)) where
+  short_by : (x : Place) (f : Found) → Finds memory p (action_of x) f w l → ShortBy x (after x f)
+  short_by (Take k true told) (Left a) e h = inr (refl, refl)
+  short_by (Take k true told) (Short a) e h = inr (refl, refl)
+  short_by (Take k false true) (Left a) e h = taken (λ n. ShortBy (Take k false true) (position_after n)) k a (λ h. absurd (cc h)) (λ none h. absurd (cc h)) h
+  short_by (Take k false false) (Left a) e h = absurd (cc h)
+  short_by (Take k false told) (Short a) e h = inl (let few = e.1 in omega (arith, few))
+  short_by (Take k there told) _ e h = absurd e
+  short_by (Retake k) (Left a) e h = inr (refl, refl)
+  short_by (Retake k) (Short a) e h = inr (refl, refl)
+  short_by (Retake k) _ e h = absurd e
+  short_by (Join k told) Done e h = inr (refl, refl)
+  short_by (Join k (Some a)) NoMemory e h = absurd (cc h)
+  short_by (Join k None) NoMemory e h = absurd (cc h)
+  short_by (Join k told) _ e h = absurd e
+  short_by (Ask k told) Yes e h = absurd (cc h)
+  short_by (Ask k (Some a)) No e h = inr (refl, refl)
+  short_by (Ask k None) No e h = inr (refl, refl)
+  short_by (Ask k told) _ e h = absurd e
+  short_by (Remove k more) Yes e h = absurd (cc h)
+  short_by (Remove k (Some a)) No e h = absurd (cc h)
+  short_by (Remove k None) No e h = absurd (cc h)
+  short_by (Remove k more) _ e h = absurd e
+  short_by (PassOn k a) f e h = inr (refl, refl)
+  short_by (Try k) (Left a) e h = absurd (cc h)
+  short_by (Try k) (Short a) e h = absurd (cc h)
+  short_by (Try k) _ e h = absurd e
+  short_by (Raise n) Done e h = absurd (cc h)
+  short_by (Raise n) PastLimit e h = absurd (cc h)
+  short_by (Raise n) _ e h = absurd e
+  short_by CancelRemove Yes e h = absurd (cc h)
+  short_by CancelRemove No e h = absurd (cc h)
+  short_by CancelRemove _ e h = absurd e
+  short_by (Load k) f e h = absurd (cc h)
+  short_by (HandOn k a) f e h = absurd (cc h)
+  short_by (RefuseFit k a) f e h = absurd (cc h)
+  short_by (Lower k) f e h = absurd (cc h)
+  short_by (GiveBack k) f e h = absurd (cc h)
+  short_by (GiveAdded n) f e h = absurd (cc h)
+  short_by (FitAdded a) f e h = absurd (cc h)
+  short_by CancelLoad f e h = absurd (cc h)
+  short_by (FitGivenBack a) f e h = absurd (cc h)
+  short_by Abandon f e h = absurd (cc h)
+
+-- ---- the weight of who is listed
+
+-- the weights then, and where a party then stands in the list, its weight is its size
+abbrev WeighsBy : ℕ → List ℕ → Place → Found → Position → Type 0
+WeighsBy p ws x f y = listed y ≡ 1 → weight_in (weights_after p (action_of x) f ws) p ≡ size_at y
+
+module _ (p : ℕ) (ws : List ℕ) (known : p < length ws) where
+  weighs_by : (x : Place) (f : Found) → ((seat_of x).listed ≡ 1 → is_short_at x ≡ true → weight_in ws p ≡ size_of x) → WeighsBy p ws x f (after x f)
+  weighs_by (Join k told) Done was h = get_or-set_same ws p k 0 known
+  weighs_by (Join k (Some a)) _ was h = absurd (omega (arith, h))
+  weighs_by (Join k None) _ was h = absurd (omega (arith, h))
+  weighs_by (Take k true told) (Left a) was h = was refl refl
+  weighs_by (Take k true told) _ was h = was refl refl
+  weighs_by (Take k false true) (Left a) was h = taken (λ n. WeighsBy p ws (Take k false true) (Left a) (position_after n)) k a (λ h. absurd (omega (arith, h))) (λ none h. absurd (omega (arith, h))) h
+  weighs_by (Take k false false) (Left a) was h = absurd (omega (arith, h))
+  weighs_by (Take k false told) _ was h = absurd (omega (arith, h))
+  weighs_by (Retake k) (Left a) was h = was refl refl
+  weighs_by (Retake k) _ was h = was refl refl
+  weighs_by (Ask k told) Yes was h = absurd (omega (arith, h))
+  weighs_by (Ask k (Some a)) _ was h = was refl refl
+  weighs_by (Ask k None) _ was h = was refl refl
+  weighs_by (Remove k more) Yes was h = absurd (omega (arith, h))
+  weighs_by (Remove k (Some a)) _ was h = absurd (omega (arith, h))
+  weighs_by (Remove k None) _ was h = absurd (omega (arith, h))
+  weighs_by (PassOn k a) f was h = was refl refl
+  weighs_by (Try k) (Left a) was h = absurd (omega (arith, h))
+  weighs_by (Try k) _ was h = absurd (omega (arith, h))
+  weighs_by (Raise n) Done was h = absurd (omega (arith, h))
+  weighs_by (Raise n) _ was h = absurd (omega (arith, h))
+  weighs_by CancelRemove Yes was h = absurd (omega (arith, h))
+  weighs_by CancelRemove _ was h = absurd (omega (arith, h))
+  weighs_by _ f was h = absurd (omega (arith, h))
+
+  others_weigh : (a : Action) (f : Found) (j : ℕ) → j ≢ p → weight_in (weights_after p a f ws) j ≡ weight_in ws j
+  others_weigh (act.Join k) Done j apart = get_or-set_other ws p j k 0 apart
+  others_weigh _ f j apart = refl
+
+as_many_weights : (p : ℕ) (a : Action) (f : Found) (ws : List ℕ) → length (weights_after p a f ws) ≡ length ws
+as_many_weights p (act.Join k) Done ws = length-set ws p k
+as_many_weights p _ f ws = refl
+
+-- ---- one party goes on
+
+module _ (s : ℕ) (xs : List Position) (p : ℕ) (x : Place) (to : Position) where
+  goes : p < length xs → seat_of x ≡ seated (position_at xs p) → waits_for s x ≤ waits s (position_at xs p) → Goes s (seat_of x) (seated to) (waits_for s x) (waits s to) (counts_of s xs) (counts_of s (set xs p to))
+  goes known same waited =
       let there : p < length (set xs p to) = rw length-set known in
-      let itself : owes (get_or (set xs p to) p Out) ≤ sum_by owes (set xs p to) = get_or-le-sum_by owes (set xs p to) p Out there in
-      let itself' : owes to ≤ sum_by owes (set xs p to) = rw (get_or-set_same xs p to Out known) at itself in
-      let held : permits_at (get_or xs p Out) ≡ permits_at (At x) = ap (λ (z : Seat). permits_of z.share) (sym same) in
-      let way : under_way_at (get_or xs p Out) ≡ under_way_at (At x) = ap (λ (z : Seat). z.share.under_way) (sym same) in
-      let stands : listed (get_or xs p Out) ≡ listed (At x) = ap (λ (z : Seat). z.listed) (sym same) in
-      let waiting : waits (get_or xs p Out) ≡ waits (At x) = ap (λ (z : Seat). z.waits) (sym same) in
-      let owing : owes (get_or xs p Out) ≡ owes (At x) = ap (λ (z : Seat). z.owes) (sym same) in
+      let itself : owes s (get_or (set xs p to) p Out) ≤ sum_by (owes s) (set xs p to) = get_or-le-sum_by (owes s) (set xs p to) p Out there in
+      let itself' : owes s to ≤ sum_by (owes s) (set xs p to) = rw (get_or-set_same xs p to Out known) at itself in
+      let held : permits_at (get_or xs p Out) ≡ permits_of (seat_of x).share = ap (λ (z : Seat). permits_of z.share) (sym same) in
+      let way : under_way_at (get_or xs p Out) ≡ (seat_of x).share.under_way = ap (λ (z : Seat). z.share.under_way) (sym same) in
+      let stands : listed (get_or xs p Out) ≡ (seat_of x).listed = ap (λ (z : Seat). z.listed) (sym same) in
+      let owing : owes s (get_or xs p Out) ≡ bit (pays s (seat_of x).debt) = ap (λ (z : Seat). bit (pays s z.debt)) (sym same) in
+      let waiting : sum_by (waits s) (set xs p to) + waits s (get_or xs p Out) ≡ sum_by (waits s) xs + waits s to = sum_by-set (waits s) xs p to Out known in
       record {
         held = omega (arith, held, sum_by-set permits_at xs p to Out known);
         under_way = omega (arith, way, sum_by-set under_way_at xs p to Out known);
         listed = omega (arith, stands, sum_by-set listed xs p to Out known);
-        waiting = omega (arith, waiting, sum_by-set waits xs p to Out known);
-        owing = omega (arith, owing, sum_by-set owes xs p to Out known);
+        waiting = omega (arith, waited, waiting);
+        owing = omega (arith, owing, sum_by-set (owes s) xs p to Out known);
         owes_itself = itself';
       }
 
--- whose the entries are, after what an action does
-module _ (p : ℕ) (l : List (Entry ℕ)) where
-  abbrev CanOf : Deed Change ListName → Type 0
-  CanOf (does name f) = CanList p l f
-  CanOf _ = Unit {0}
-
-  own : (d : Deed Change ListName) → CanOf d → entries_of p (entries_after p d l) + length l ≡ entries_of p l + length (entries_after p d l)
-  own nothing can = refl
-  own (changes c) can = refl
-  own (does for_a_permit f) can = lists.own p l f can
-
-  pub others : (d : Deed Change ListName) (j : ℕ) → j ≢ p → entries_of j (entries_after p d l) ≡ entries_of j l
-  others nothing j apart = refl
-  others (changes c) j apart = refl
-  others (does for_a_permit f) j apart = lists.others p l f j apart
-
-can_of : (p : ℕ) (w : Words) (q : Queue) (a : Action) (f : Found) → CanDo p a w q → CanOf p q.entries (deed_of a f)
-can_of p w q act.Take (Taken more) k = tt
-can_of p w q act.Take _ k = tt
-can_of p w q act.GiveBack Done k = tt
-can_of p w q act.GiveBack _ k = tt
-can_of p w q (act.Give n) Done k = tt
+can_of : (p : ℕ) (w : Words) (q : WeightedQueue) (a : Action) (f : Found) → CanDo p a w q → CanOf p q.entries (deed_of a f)
+can_of p w q (act.Take n) (Left a) k = tt
+can_of p w q (act.Take n) _ k = tt
+can_of p w q (act.GiveBack n) (Available a) k = tt
+can_of p w q (act.GiveBack n) _ k = tt
+can_of p w q (act.Give n) (Available a) k = tt
 can_of p w q (act.Give n) _ k = tt
 can_of p w q (act.Raise n) Done k = tt
 can_of p w q (act.Raise n) _ k = tt
-can_of p w q act.Lower Done k = tt
-can_of p w q act.Lower _ k = tt
-can_of p w q act.Join Done k = tt
-can_of p w q act.Join _ k = tt
+can_of p w q (act.Lower n) Done k = tt
+can_of p w q (act.Lower n) _ k = tt
+can_of p w q act.Load f k = tt
+can_of p w q (act.Join n) Done k = tt
+can_of p w q (act.Join n) _ k = tt
 can_of p w q act.Ask Yes k = k.1
 can_of p w q act.Ask No k = k.1
 can_of p w q act.Ask _ k = tt
-can_of p w q act.Leave Done k = k.1
-can_of p w q act.Leave _ k = tt
-can_of p w q (act.Notify n) Done k = tt
-can_of p w q (act.Notify n) _ k = tt
+can_of p w q act.Remove Yes k = k.1
+can_of p w q act.Remove No k = k.1
+can_of p w q act.Remove _ k = tt
+can_of p w q (act.Fit n) Done k = tt
+can_of p w q (act.Fit n) _ k = tt
 can_of p w q act.Nothing f k = tt
 
-module _ (p : ℕ) (w : Words) (xs : List Position) (q : Queue) (memory : Bool) where
-  pub locked : (x : Place) (f : Found) → IsKept w xs q → p < length xs → seat_of x ≡ seated (position_at xs p) → Finds memory p (action_of x) f w q.entries
-      → IsKept (words_after (deed_of (action_of x) f) w) (set xs p (after x f)) (queue q.parties (entries_after p (deed_of (action_of x) f) q.entries))
-  locked x f lock known same finds =
+module _ (p : ℕ) (w : Words) (xs : List Position) (q : WeightedQueue) (memory : Bool) (lock : IsKept w xs q) where
+  -- whoever waits for as many as are available is wanted
+  wanted : (s c : ℕ) → s ≤ c → 0 < sum_by (waits s) xs → is_wanted (weight_in q.weights) c q.entries ≡ true
+  wanted s c few some =
+      let who = some_term Out (waits s) xs some in
+      let so = waits_there s (position_at xs who.0) who.2 in
+      let there : entries_of who.0 q.entries ≡ 1 = lock.owners who.0 ∙ so.0 in
+      let weight : weight_in q.weights who.0 ≡ s = lock.weighs who.0 so.0 ∙ so.1 in
+      wanted_so (weight_in q.weights) c who.0 q.entries (omega (arith, there)) (omega (arith, weight, few))
+
+  -- the parties' sizes are the weights of those who are listed
+  agree : (j : ℕ) → 0 < entries_of j q.entries → weight_in q.weights j ≡ sizes_of xs j
+  agree j some = let own = lock.owners j in lock.weighs j (omega (arith, some, own, one_listed (position_at xs j)))
+
+  pub alike : (d : Deed) → entries_after (weight_in q.weights) p d q.entries ≡ entries_after (sizes_of xs) p d q.entries
+  alike nothing = refl
+  alike (changes c) = refl
+  alike (does joins) = refl
+  alike (does asks) = refl
+  alike (does removes) = refl
+  alike (does (fits_so a)) = fitted-agree (weight_in q.weights) (sizes_of xs) a q.entries agree
+
+  pub locked : (x : Place) (f : Found) → p < length xs → seat_of x ≡ seated (position_at xs p) → ((s : ℕ) → waits_for s x ≤ waits s (position_at xs p)) → (is_short_at x ≡ true → (is_short (position_at xs p) ≡ true) × (size_of x ≡ size_at (position_at xs p))) → Finds memory p (action_of x) f w q.entries
+      → IsKept (words_after (deed_of (action_of x) f) w) (set xs p (after x f)) (weighted_queue q.parties (entries_after (weight_in q.weights) p (deed_of (action_of x) f) q.entries) (weights_after p (action_of x) f q.weights))
+  locked x f known same waited short finds =
       let to : Position = after x f in
-      let d : Deed Change ListName = deed_of (action_of x) f in
+      let d : Deed = deed_of (action_of x) f in
       let can : CanDo p (action_of x) w q = can_do p w xs q lock known x same in
-      let s : Tally = tally_of w q.entries in
-      let t : Tally = tally_of (words_after d w) (entries_after p d q.entries) in
-      let effect : Effect (action_of x) f s t = numbers p w q memory (action_of x) f finds can in
-      let go : Goes (At x) to (counts_of xs) (counts_of (set xs p to)) = goes xs p x to known same in
-      let few : sum_by waits (set xs p to) ≤ sum_by listed (set xs p to) = sum_by-le-sum_by waits listed (set xs p to) waits_there in
-      let sound : IsSound t (counts_of (set xs p to)) = kept s t (counts_of xs) (counts_of (set xs p to)) x f effect lock.sound few go in
-      let was : entries_of p q.entries ≡ listed (At x) = lock.owners p ∙ ap (λ (z : Seat). z.listed) (sym same) in
-      let mine : entries_of p (entries_after p d q.entries) + length q.entries ≡ entries_of p q.entries + length (entries_after p d q.entries) = own p q.entries d (can_of p w q (action_of x) f can) in
-      let size : sum_by listed (set xs p to) ≡ length (entries_after p d q.entries) = sound.in_list in
-      let size' : sum_by listed xs ≡ length q.entries = lock.sound.in_list in
-      let move : sum_by listed (set xs p to) + listed (At x) ≡ sum_by listed xs + listed to = go.listed in
-      let now : entries_of p (entries_after p d q.entries) ≡ listed to = omega (arith, was, mine, size, size', move) in
+      let t : Tally = tally_of w q.entries in
+      let u : Tally = tally_of (words_after d w) (entries_after (weight_in q.weights) p d q.entries) in
+      let sound : (s : ℕ) → 0 < s → IsSound s u (counts_of s (set xs p to)) = λ s some. kept s some t u (counts_of s xs) (counts_of s (set xs p to)) x f
+      (numbers p w q memory (weight_in q.weights) s (sum_by (waits s) xs) (wanted s) (action_of x) f finds can) (lock.sound s some) (goes s xs p x to known same (waited s)) in
+      let was : entries_of p q.entries ≡ (seat_of x).listed = lock.owners p ∙ ap (λ (z : Seat). z.listed) (sym same) in
+      let mine : entries_of p (entries_after (weight_in q.weights) p d q.entries) + length q.entries ≡ entries_of p q.entries + length (entries_after (weight_in q.weights) p d q.entries) = own (weight_in q.weights) p q.entries d (can_of p w q (action_of x) f can) in
+      let first = sound 1 (omega arith) in
+      let size : sum_by listed (set xs p to) ≡ length (entries_after (weight_in q.weights) p d q.entries) = first.in_list in
+      let before = lock.sound 1 (omega arith) in
+      let size' : sum_by listed xs ≡ length q.entries = before.in_list in
+      let go = goes 1 xs p x to known same (waited 1) in
+      let move : sum_by listed (set xs p to) + (seat_of x).listed ≡ sum_by listed xs + listed to = go.listed in
+      let now : entries_of p (entries_after (weight_in q.weights) p d q.entries) ≡ listed to = omega (arith, was, mine, size, size', move) in
+      let there : p < length q.weights = omega (arith, known, lock.weighed) in
+      let weighs_now : listed to ≡ 1 → weight_in (weights_after p (action_of x) f q.weights) p ≡ size_at to =
+      weighs_by p q.weights there x f (λ l sh. lock.weighs p (sym (ap (λ (z : Seat). z.listed) same) ∙ l) ∙ sym (short sh).1) in
+      let some_now : is_short to ≡ true → 0 < size_at to = λ h. elim (short_by memory p w q.entries x f finds h) as (λ _. 0 < size_at to) [ inl y ↦ y | inr y ↦ (let old = short y.0 in let some = lock.some p old.0 in omega (arith, some, old.1, y.1)) ] in
       record {
         sound = sound;
-        owners = λ j. elim (ℕ_discrete j p) as (λ _. entries_of j (entries_after p d q.entries) ≡ listed (position_at (set xs p to) j)) [
-          | yes e ↦ (let P : ℕ → Type 0 = λ k. entries_of k (entries_after p d q.entries) ≡ listed (position_at (set xs p to) k) in
+        owners = λ j. elim (ℕ_discrete j p) as (λ _. entries_of j (entries_after (weight_in q.weights) p d q.entries) ≡ listed (position_at (set xs p to) j)) [
+          | yes e ↦ (let P : ℕ → Type 0 = λ k. entries_of k (entries_after (weight_in q.weights) p d q.entries) ≡ listed (position_at (set xs p to) k) in
               subst P (sym e) (rw (get_or-set_same xs p to Out known) now))
-          | no apart ↦ rw (get_or-set_other xs p j to Out apart) (others p q.entries d j apart ∙ lock.owners j)
+          | no apart ↦ rw (get_or-set_other xs p j to Out apart) (others (weight_in q.weights) p q.entries d j apart ∙ lock.owners j)
+        ];
+        weighs = λ j. elim (ℕ_discrete j p) as (λ _. listed (position_at (set xs p to) j) ≡ 1 → weight_in (weights_after p (action_of x) f q.weights) j ≡ sizes_of (set xs p to) j) [
+          | yes e ↦ (let P : ℕ → Type 0 = λ k. listed (position_at (set xs p to) k) ≡ 1 → weight_in (weights_after p (action_of x) f q.weights) k ≡ sizes_of (set xs p to) k in
+              subst P (sym e) (rw (get_or-set_same xs p to Out known) weighs_now))
+          | no apart ↦ rw (get_or-set_other xs p j to Out apart) (λ l. others_weigh p q.weights there (action_of x) f j apart ∙ lock.weighs j l)
+        ];
+        some = λ j. elim (ℕ_discrete j p) as (λ _. is_short (position_at (set xs p to) j) ≡ true → 0 < sizes_of (set xs p to) j) [
+          | yes e ↦ (let P : ℕ → Type 0 = λ k. is_short (position_at (set xs p to) k) ≡ true → 0 < sizes_of (set xs p to) k in
+              subst P (sym e) (rw (get_or-set_same xs p to Out known) some_now))
+          | no apart ↦ rw (get_or-set_other xs p j to Out apart) (lock.some j)
         ];
         as_many = lock.as_many ∙ sym (length-set xs p to);
+        weighed = as_many_weights p (action_of x) f q.weights ∙ (lock.weighed ∙ sym (length-set xs p to));
       }
 
 -- ---- as the machine's call says it

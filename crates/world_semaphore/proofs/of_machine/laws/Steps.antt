@@ -1,13 +1,11 @@
 -- What a step does to the numbers.
 use Rattle.std.proofs.Common.{◌≡◌, ℕ, ◌+◌, ◌<◌, ◌≤◌, Bool, true, false}
-use Rattle.world_base.specs.Steps.{ListFunction, joins, asks, leaves, notifies}
-use Rattle.world_base.proofs.Lists.{Counted}
-use Rattle.sync_program.specs.declared.semaphore.Action.{Action}
-use Rattle.sync_program.specs.declared.semaphore.Action.TheVariants as act
-use Rattle.sync_program.specs.declared.semaphore.Found.{Found}
-use Rattle.sync_program.specs.declared.semaphore.Found.TheVariants.{Done, Taken, NoneLeft, PastLimit, NoMemory, Yes, No}
-use Rattle.sync_program.specs.declared.semaphore.Position.{Position}
-use Rattle.world_semaphore.specs.machine.Seats.{permits_at, under_way_at, listed as stands, waits, owes}
+use Rattle.sync_program.specs.declared.permits.Action.{Action}
+use Rattle.sync_program.specs.declared.permits.Action.TheVariants as act
+use Rattle.sync_program.specs.declared.permits.Found.{Found}
+use Rattle.sync_program.specs.declared.permits.Found.TheVariants.{Done, Left, Short, Available, PastLimit, NoMemory, Yes, No}
+use Rattle.sync_program.specs.declared.permits.Position.{Position}
+use Rattle.world_semaphore.specs.machine.Seats.{Seat, permits_of, bit, pays}
 use Rattle.world_semaphore.specs.machine.Tally.{Tally, Counts}
 
 abbrev pub SameList : Tally → Tally → Type 0
@@ -17,34 +15,36 @@ SameList s t = (t.size ≡ s.size) × (t.marked ≡ s.marked)
 abbrev pub Words : Tally → Tally → ℕ → ℕ → Type 0
 Words s t available limit = (t.available ≡ available) × (t.limit ≡ limit) × (t.most ≡ s.most)
 
-abbrev pub ListDid : ListFunction → Bool → Tally → Tally → Type 0
-ListDid f told s t = Words s t s.available s.limit × Counted f told s.size s.marked t.size t.marked
+-- the party's entry was marked, and is gone
+abbrev pub Told : Tally → Tally → Type 0
+Told s t = Words s t s.available s.limit × (t.size + 1 ≡ s.size) × (t.marked + 1 ≡ s.marked)
 
--- what an action does to the numbers where it finds this
-abbrev pub Effect : Action → Found → Tally → Tally → Type 0
-Effect act.Take (Taken true) s t = (1 < s.available) × (t.available + 1 ≡ s.available) × (t.limit ≡ s.limit) × (t.most ≡ s.most) × SameList s t
-Effect act.Take (Taken false) s t = (s.available ≡ 1) × Words s t 0 s.limit × SameList s t
-Effect act.Take NoneLeft s t = (s.available ≡ 0) × Words s t s.available s.limit × SameList s t
-Effect act.GiveBack Done s t = Words s t (s.available + 1) s.limit × SameList s t
-Effect (act.Give n) Done s t = Words s t (s.available + n) s.limit × SameList s t
-Effect (act.Raise n) Done s t = (s.limit + n ≤ s.most) × Words s t s.available (s.limit + n) × SameList s t
-Effect (act.Raise n) PastLimit s t = Words s t s.available s.limit × SameList s t
-Effect act.Lower Done s t = (t.available ≡ s.available) × (t.limit + 1 ≡ s.limit) × (t.most ≡ s.most) × SameList s t
-Effect act.Join Done s t = ListDid joins false s t
-Effect act.Join NoMemory s t = Words s t s.available s.limit × SameList s t
-Effect act.Ask Yes s t = ListDid asks true s t
-Effect act.Ask No s t = ListDid asks false s t
-Effect act.Leave Done s t = ListDid leaves false s t
-Effect (act.Notify n) Done s t = ListDid (notifies n) false s t
-Effect act.Nothing Done s t = Words s t s.available s.limit × SameList s t
-Effect _ _ s t = ⊥
+-- what an action does to the numbers where it finds this; n is how many wait for s permits
+abbrev pub Effect : ℕ → ℕ → Action → Found → Tally → Tally → Type 0
+Effect s n (act.Take k) (Left a) t u = (u.available ≡ a) × (a + k ≡ t.available) × (u.limit ≡ t.limit) × (u.most ≡ t.most) × SameList t u
+Effect s n (act.Take k) (Short a) t u = (t.available ≡ a) × (a < k) × Words t u t.available t.limit × SameList t u
+Effect s n (act.GiveBack k) (Available a) t u = (a ≡ t.available + k) × Words t u a t.limit × SameList t u
+Effect s n (act.Give k) (Available a) t u = (a ≡ t.available + k) × Words t u a t.limit × SameList t u
+Effect s n (act.Raise k) Done t u = (t.limit + k ≤ t.most) × Words t u t.available (t.limit + k) × SameList t u
+Effect s n (act.Raise k) PastLimit t u = Words t u t.available t.limit × SameList t u
+Effect s n (act.Lower k) Done t u = (u.available ≡ t.available) × (u.limit + k ≡ t.limit) × (u.most ≡ t.most) × SameList t u
+Effect s n act.Load (Available a) t u = (a ≡ t.available) × Words t u t.available t.limit × SameList t u
+Effect s n (act.Join k) Done t u = Words t u t.available t.limit × (u.size ≡ t.size + 1) × (u.marked ≡ t.marked)
+Effect s n (act.Join k) NoMemory t u = Words t u t.available t.limit × SameList t u
+Effect s n act.Ask Yes t u = Told t u
+Effect s n act.Ask No t u = Words t u t.available t.limit × SameList t u
+Effect s n act.Remove Yes t u = Told t u
+Effect s n act.Remove No t u = Words t u t.available t.limit × (u.size + 1 ≡ t.size) × (u.marked ≡ t.marked)
+Effect s n (act.Fit a) Done t u = Words t u t.available t.limit × (u.size ≡ t.size) × (t.marked ≤ u.marked) × (s ≤ a → 0 < n → 0 < u.marked)
+Effect s n act.Nothing Done t u = Words t u t.available t.limit × SameList t u
+Effect s n _ _ t u = ⊥
 
--- one party goes from x to y
-pub record Goes (x y : Position) (a b : Counts) : Type 0 where
-  pub held : b.held + permits_at x ≡ a.held + permits_at y
-  pub under_way : b.under_way + under_way_at x ≡ a.under_way + under_way_at y
-  pub listed : b.listed + stands x ≡ a.listed + stands y
-  pub waiting : b.waiting + waits x ≡ a.waiting + waits y
-  pub owing : b.owing + owes x ≡ a.owing + owes y
+-- One party goes from where it has and owes this, and waits for s permits or not, to where it has and owes that. It may have waited where its action's place no longer counts it so.
+pub record Goes (s : ℕ) (x y : Seat) (waited waits : ℕ) (a b : Counts) : Type 0 where
+  pub held : b.held + permits_of x.share ≡ a.held + permits_of y.share
+  pub under_way : b.under_way + x.share.under_way ≡ a.under_way + y.share.under_way
+  pub listed : b.listed + x.listed ≡ a.listed + y.listed
+  pub waiting : b.waiting + waited ≤ a.waiting + waits
+  pub owing : b.owing + bit (pays s x.debt) ≡ a.owing + bit (pays s y.debt)
   -- the party is one of those that are counted
-  pub owes_itself : owes y ≤ b.owing
+  pub owes_itself : bit (pays s y.debt) ≤ b.owing

@@ -1,15 +1,24 @@
 -- An action of one party is one of its program, and keeps what always holds of the semaphore.
 use Rattle.std.proofs.Common.{◌≡◌, ◌<◌, length, ap, sym, ◌∙◌}
 use Rattle.std.proofs.Math.ListN.{set}
-use Rattle.world_base.specs.queue.Queues.{queue}
+use Rattle.world_base.specs.queue.Weighted.{weighted_queue, weight_in}
 use Rattle.world_base.specs.Standings.{inputs_of}
 use Rattle.world_base.specs.declared.moves.Inputs.{Inputs}
 use Rattle.world_semaphore.specs.machine.Program.{action_of, position_after}
-use Rattle.world_semaphore.specs.machine.Deeds.{Finds, deed_of, words_after, entries_after}
+use Rattle.world_semaphore.specs.machine.Deeds.{Finds, deed_of, words_after, entries_after, weights_after}
 use Rattle.world_semaphore.specs.machine.Machine.{answer_by}
+use Rattle.world_semaphore.proofs.of_machine.laws.CanDo.{can_do}
 use Rattle.world_semaphore.proofs.of_machine.laws.Kept.{after}
-use Rattle.world_semaphore.proofs.of_machine.laws.Locks.{began, locked, keeps}
+use Rattle.world_semaphore.proofs.of_machine.laws.Locks.{began, locked, alike, keeps}
 use Rattle.world_semaphore.proofs.machine.semaphore.SemaphoreMachine.act.Goals as goal
+
+pub carry_out-found-requires : goal.carry_out-found-requires
+carry_out-found-requires c =
+    let xs = c.self.inside.positions.items in
+    let known : c.args.party < length xs = rw (ap (λ s. length s.positions) c.self.view_is) c.requires.known in
+    let start = began xs c.args.party c.index.result.now c.args._within c.args.what c.requires.called.stage c.in-Some.from known c.index.ensures (sym c.place_for.ensures ∙ c.in-Some.is)
+    (rw (ap (λ s. s.positions) c.self.view_is) c.requires.called.stands) c.requires.called.call c.requires.called.first in
+    rw c.action_at.ensures (can_do c.args.party c.self.inside.words xs c.self.inside.list c.self.invariant known c.in-Some.from start.fits.same)
 
 pub invariant_of-self : goal.invariant_of-self
 invariant_of-self c =
@@ -19,10 +28,10 @@ invariant_of-self c =
     (rw (ap (λ s. s.positions) c.self.view_is) c.requires.called.stands) c.requires.called.call c.requires.called.first in
     let to : c.after.result ≡ after c.in-Some.from c.carry_out-found.result = c.after.ensures ∙ ap position_after c.decide-next.ensures in
     let words : c.carry_out-found.new.words ≡ words_after (deed_of (action_of c.in-Some.from) c.carry_out-found.result) c.self.inside.words = rw c.action_at.ensures at c.carry_out-found.ensures.words in
-    let list : c.carry_out-found.new.list ≡ queue c.self.inside.list.parties (entries_after c.args.party (deed_of (action_of c.in-Some.from) c.carry_out-found.result) c.self.inside.list.entries) = rw c.action_at.ensures at c.carry_out-found.ensures.list in
+    let list : c.carry_out-found.new.list ≡ weighted_queue c.self.inside.list.parties (entries_after (weight_in c.self.inside.list.weights) c.args.party (deed_of (action_of c.in-Some.from) c.carry_out-found.result) c.self.inside.list.entries) (weights_after c.args.party (action_of c.in-Some.from) c.carry_out-found.result c.self.inside.list.weights) = rw c.action_at.ensures at c.carry_out-found.ensures.list in
     let finds : Finds (c.inputs.result.memory) c.args.party (action_of c.in-Some.from) c.carry_out-found.result c.self.inside.words c.self.inside.list.entries = rw c.action_at.ensures at c.carry_out-found.ensures.finds in
     rw (to, words, list)
-    (locked c.args.party c.self.inside.words xs c.self.inside.list c.inputs.result.memory c.in-Some.from c.carry_out-found.result c.self.invariant known start.fits.same finds)
+    (locked c.args.party c.self.inside.words xs c.self.inside.list c.inputs.result.memory c.self.invariant c.in-Some.from c.carry_out-found.result known start.fits.same start.fits.waits start.fits.short finds)
 
 pub returns-clause-acts : goal.returns-clause-acts
 returns-clause-acts c =
@@ -32,7 +41,7 @@ returns-clause-acts c =
     (rw (ap (λ s. s.positions) c.self.view_is) c.requires.called.stands) c.requires.called.call c.requires.called.first in
     let to : c.after.result ≡ after c.in-Some.from c.carry_out-found.result = c.after.ensures ∙ ap position_after c.decide-next.ensures in
     let words : c.carry_out-found.new.words ≡ words_after (deed_of (action_of c.in-Some.from) c.carry_out-found.result) c.self.inside.words = rw c.action_at.ensures at c.carry_out-found.ensures.words in
-    let list : c.carry_out-found.new.list ≡ queue c.self.inside.list.parties (entries_after c.args.party (deed_of (action_of c.in-Some.from) c.carry_out-found.result) c.self.inside.list.entries) = rw c.action_at.ensures at c.carry_out-found.ensures.list in
+    let list : c.carry_out-found.new.list ≡ weighted_queue c.self.inside.list.parties (entries_after (weight_in c.self.inside.list.weights) c.args.party (deed_of (action_of c.in-Some.from) c.carry_out-found.result) c.self.inside.list.entries) (weights_after c.args.party (action_of c.in-Some.from) c.carry_out-found.result c.self.inside.list.weights) = rw c.action_at.ensures at c.carry_out-found.ensures.list in
     let finds : Finds (c.inputs.result.memory) c.args.party (action_of c.in-Some.from) c.carry_out-found.result c.self.inside.words c.self.inside.list.entries = rw c.action_at.ensures at c.carry_out-found.ensures.finds in
     let memory : c.inputs.result.memory ≡ (inputs_of c.args.what).memory = ap (λ (i : Inputs). i.memory) c.inputs.ensures in
     rw (← c.self.view_is)
@@ -44,7 +53,7 @@ returns-clause-acts c =
       acts = record {
         finds = rw memory at finds;
         words = words;
-        entries = ap (λ q. q.entries) list;
+        entries = ap (λ q. q.entries) list ∙ alike c.args.party c.self.inside.words xs c.self.inside.list c.inputs.result.memory c.self.invariant (deed_of (action_of c.in-Some.from) c.carry_out-found.result);
         positions = ap (set xs c.args.party) to;
       };
       answer = c.answer_to.ensures ∙ ap answer_by c.decide-next.ensures;
