@@ -6,6 +6,7 @@ use Rattle.lock_driver.specs.Parties.{IsGivenUp}
 use Rattle.async_driver.specs.declared.turn.Turn.{Turn}
 use Rattle.async_driver.specs.declared.turn.Turn.TheVariants.{Pending, Ready, Refused}
 use Rattle.async_driver.specs.declared.waiting_list.Listed.{Listed}
+use Rattle.lock_program.specs.declared.refusal.Refusal.{Refusal}
 use Rattle.lock_program.specs.declared.refusal.Refusal.TheVariants.{Finished}
 
 -- its mutex, whether it was ready before, and its entry in the mutex's list
@@ -21,6 +22,11 @@ future mutex over entry = record { mutex = mutex; is_over = over; entry = entry 
 abbrev pub entry_of : {T : Type 0} → Option (Waiting T) → Option Listed
 entry_of None = None
 entry_of (Some q) = q.party.entry
+
+-- how a future may refuse: as finished where it is over, and else as it gives up
+abbrev pub CanRefuse : Bool → Refusal → Type 0
+CanRefuse true refusal = refusal ≡ Finished
+CanRefuse false refusal = IsGivenUp refusal
 
 -- Ready, what was got is this and the future is over. One that is over is refused as finished and stays so; no other is, and none for
 -- another reason than memory or too many starved waiters.

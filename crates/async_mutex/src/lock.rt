@@ -116,7 +116,11 @@ impl<'a, T, R: Wait + Clock> Lock<'a, T, R> {
 impl<'a, T, R: Wait + Clock> Polled for Lock<'a, T, R> {
     type Got = MutexGuard<'a, T, R>;
 
+    ghost use Rattle.async_mutex.specs.Futures.{CanRefuse};
+
     ghost gives = { λ lock guard. guard.mutex.now ≡ lock.mutex };
+
+    ghost refuses = { λ lock. CanRefuse lock.is_over };
 
     fn poll_turn(&mut self, cx: &mut Context<'_>) -> Turn<MutexGuard<'a, T, R>> {
         self.poll(cx)
@@ -301,9 +305,12 @@ impl<T: Drop, R: Wait + Clock + Drop> LockArc<T, R> {
 impl<T: Drop, R: Wait + Clock + Drop> Polled for LockArc<T, R> {
     type Got = MutexGuardArc<T, R>;
 
-    ghost use Rattle.async_mutex.specs.Sources.{IsOf};
+    ghost use Rattle.async_mutex.specs.Futures.{CanRefuse};
+    ghost use Rattle.async_mutex.specs.Sources.{IsOf, is_finished};
 
     ghost gives = { λ lock guard. IsOf lock.stage guard.mutex };
+
+    ghost refuses = { λ lock. CanRefuse (is_finished lock.stage) };
 
     fn poll_turn(&mut self, cx: &mut Context<'_>) -> Turn<MutexGuardArc<T, R>> {
         self.poll(cx)

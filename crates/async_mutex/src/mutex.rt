@@ -3,6 +3,7 @@
 ghost use Rattle.std.specs.Prelude.{◌≡◌, IfSome, IfOk, IfErr, None, ◌≤◌, false};
 ghost use Rattle.std.specs.Arc.{arc_value};
 ghost use Rattle.async_mutex.specs.Outcomes.{Waits};
+ghost use Rattle.lock_driver.specs.Parties.{IsGivenUp};
 ghost use Rattle.lock_words.specs.Tries.{Holds};
 ghost use Rattle.lock_program.specs.declared.refusal.Refusal.{Refusal};
 
@@ -146,7 +147,8 @@ impl<T: Drop, R: Wait + Clock + RandomSource + AllocGlobal> Mutex<T, R> {
     /// Acquires the lock, blocking the calling thread until it is available. Any error of `block_on` is
     /// [`Refusal::Memory`].
     pub fn lock_blocking(&self) -> Result<MutexGuard<'_, T, R>, Refusal>
-        ensures { IfOk result (λ guard. guard.mutex.now ≡ self.now) }
+        ensures lock { IfOk result (λ guard. guard.mutex.now ≡ self.now) }
+        ensures refused { IfErr result IsGivenUp }
     {
         if let Some(guard) = self.try_lock() {
             return Ok(guard);
@@ -161,7 +163,8 @@ impl<T: Drop, R: Wait + Clock + RandomSource + AllocGlobal> Mutex<T, R> {
 impl<T: Drop, R: Wait + Clock + RandomSource + AllocGlobal + Drop> Mutex<T, R> {
     /// As [`Mutex::lock_blocking`], for a guard that owns its share of the mutex.
     pub fn lock_arc_blocking(this: &Arc<Mutex<T, R>>) -> Result<MutexGuardArc<T, R>, Refusal>
-        ensures { IfOk result (λ guard. guard.mutex ≡ arc_value this.now) }
+        ensures lock { IfOk result (λ guard. guard.mutex ≡ arc_value this.now) }
+        ensures refused { IfErr result IsGivenUp }
     {
         if let Some(guard) = Mutex::try_lock_arc(this) {
             return Ok(guard);

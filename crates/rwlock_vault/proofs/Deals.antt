@@ -22,7 +22,7 @@ abbrev pub cells : Coded (Cell View)
 cells = cell_coded views
 
 abbrev pub idle : Cell View
-idle = writing 0 (record { holds = false; starved = false; marks = false; reads = false; writes = false; found = 0 })
+idle = writing 0 (record { holds = false; starved = false; marks = false; reads = false; writes = false; found = 0; seen = 0 })
 
 module _ {M : Type 1} {𝓤 : Ura M} (𝓛 : Logic 𝓤) (R : RattleType) (p : Ptr) (t : TableId) where
   open 𝓛 use {H, A}
