@@ -95,6 +95,15 @@ impl<T, R> OnceCell<T, R> {
     }
 }
 
+impl<T, R> OnceCell<T, R> {
+    /// The cell without its runtime. It is for tests.
+    pub fn raw(&self) -> &RawCell<T>
+        ensures { result.now ≡ self.now.raw }
+    {
+        &self.raw
+    }
+}
+
 impl<T: Drop, R: Waits> OnceCell<T, R> {
     /// A future of the value, which only waits until the cell has one. It does nothing until it is polled.
     pub fn wait(&self) -> Wait<'_, T, R>

@@ -3,6 +3,7 @@ use Rattle.std.specs.Prelude.{◌≡◌, ℕ, Bool, true, false, ⊤, IfSome, Is
 use Rattle.async_driver.specs.declared.turn.Turn.{Turn}
 use Rattle.async_driver.specs.declared.turn.Turn.TheVariants.{Pending, Ready, Refused}
 use Rattle.futures.specs.declared.task.context.Context.{Context}
+use Rattle.lock_program.specs.declared.refusal.Refusal.{Refusal}
 use Rattle.lock_program.specs.declared.refusal.Refusal.TheVariants.{Finished}
 use Rattle.words_rwlock.specs.declared.view.Seat.{Seat}
 use Rattle.rwlock_driver.specs.Polls.{HasReceipt, Refuses, WaitsFor, first_of, right_of}
@@ -83,6 +84,11 @@ IsTurn a got was (Ready g) is = (was ≡ false) × (is ≡ true) × got g
 IsTurn a got was Pending is = (was ≡ false) × (is ≡ false)
 IsTurn a got was (Refused Finished) is = (was ≡ true) × (is ≡ true)
 IsTurn a got was (Refused refusal) is = (was ≡ false) × (is ≡ false) × Refuses a refusal
+
+-- how a future may refuse: as finished where it is over, and else as a poll for its aim
+abbrev pub CanRefuse : Aim → Bool → Refusal → Type 0
+CanRefuse a true refusal = refusal ≡ Finished
+CanRefuse a false refusal = Refuses a refusal
 
 -- the same before the guard is made: who has the lock, and the seat with its right
 abbrev pub Goes : {O T R : Type 0} → (O → RwLock T R) → Aim → Stage O → Went O → Stage O → Type 0

@@ -1,7 +1,9 @@
 //! The calls of a read-write lock.
 
-ghost use Rattle.std.specs.Prelude.{◌≡◌, IfOk, IfSome, None};
+ghost use Rattle.std.specs.Prelude.{◌≡◌, IfErr, IfOk, IfSome, None};
 ghost use Rattle.async_rwlock.specs.Stages.{IsFor};
+ghost use Rattle.rwlock_driver.specs.Polls.{Refuses};
+ghost use Rattle.rwlock_driver.specs.declared.aim.Aim.TheVariants as aims;
 ghost use Rattle.std.specs.Arc.{arc_value};
 
 use crate::lock_futures::{Read, ReadArc, UpgradableRead, UpgradableReadArc, Write, WriteArc};
@@ -83,7 +85,8 @@ impl<T: Drop, R: Wait + Clock + RandomSource + AllocGlobal> RwLock<T, R> {
     /// Acquires a right to read, blocking the calling thread until it has it. Any error of `block_on` is
     /// [`Refusal::Memory`]; the others are those of [`RwLock::read`]'s polls.
     pub fn read_blocking(&self) -> Result<RwLockReadGuard<'_, T, R>, Refusal>
-        ensures { IfOk result (λ guard. guard.lock ≡ self.now) }
+        ensures lock { IfOk result (λ guard. guard.lock ≡ self.now) }
+        ensures refused { IfErr result (Refuses aims.Read) }
     {
         if let Some(guard) = self.try_read() {
             return Ok(guard);
@@ -97,7 +100,8 @@ impl<T: Drop, R: Wait + Clock + RandomSource + AllocGlobal> RwLock<T, R> {
     /// Acquires the right to read that can become a right to write, blocking the calling thread until it has it. Any error of `block_on` is
     /// [`Refusal::Memory`]; the others are those of [`RwLock::upgradable_read`]'s polls.
     pub fn upgradable_read_blocking(&self) -> Result<RwLockUpgradableReadGuard<'_, T, R>, Refusal>
-        ensures { IfOk result (λ guard. guard.lock ≡ self.now) }
+        ensures lock { IfOk result (λ guard. guard.lock ≡ self.now) }
+        ensures refused { IfErr result (Refuses aims.UpgradableRead) }
     {
         match block_on(&self.rt, Settled(self.upgradable_read())) {
             Ok(settled) => settled,
@@ -108,7 +112,8 @@ impl<T: Drop, R: Wait + Clock + RandomSource + AllocGlobal> RwLock<T, R> {
     /// Acquires the right to write, blocking the calling thread until it has it. Any error of `block_on` is
     /// [`Refusal::Memory`]; the others are those of [`RwLock::write`]'s polls.
     pub fn write_blocking(&self) -> Result<RwLockWriteGuard<'_, T, R>, Refusal>
-        ensures { IfOk result (λ guard. guard.lock ≡ self.now) }
+        ensures lock { IfOk result (λ guard. guard.lock ≡ self.now) }
+        ensures refused { IfErr result (Refuses aims.Write) }
     {
         match block_on(&self.rt, Settled(self.write())) {
             Ok(settled) => settled,
@@ -178,7 +183,8 @@ impl<T: Drop, R: Wait + Drop> RwLock<T, R> {
 impl<T: Drop, R: Wait + Clock + RandomSource + AllocGlobal + Drop> RwLock<T, R> {
     /// As [`RwLock::read_blocking`], for a guard that has a share of the lock.
     pub fn read_arc_blocking(this: &Arc<RwLock<T, R>>) -> Result<RwLockReadGuardArc<T, R>, Refusal>
-        ensures { IfOk result (λ guard. guard.lock ≡ arc_value this.now) }
+        ensures lock { IfOk result (λ guard. guard.lock ≡ arc_value this.now) }
+        ensures refused { IfErr result (Refuses aims.Read) }
     {
         match block_on(&this.rt, Settled(RwLock::read_arc(this))) {
             Ok(settled) => settled,
@@ -190,7 +196,8 @@ impl<T: Drop, R: Wait + Clock + RandomSource + AllocGlobal + Drop> RwLock<T, R> 
     pub fn upgradable_read_arc_blocking(
         this: &Arc<RwLock<T, R>>,
     ) -> Result<RwLockUpgradableReadGuardArc<T, R>, Refusal>
-        ensures { IfOk result (λ guard. guard.lock ≡ arc_value this.now) }
+        ensures lock { IfOk result (λ guard. guard.lock ≡ arc_value this.now) }
+        ensures refused { IfErr result (Refuses aims.UpgradableRead) }
     {
         match block_on(&this.rt, Settled(RwLock::upgradable_read_arc(this))) {
             Ok(settled) => settled,
@@ -202,7 +209,8 @@ impl<T: Drop, R: Wait + Clock + RandomSource + AllocGlobal + Drop> RwLock<T, R> 
     pub fn write_arc_blocking(
         this: &Arc<RwLock<T, R>>,
     ) -> Result<RwLockWriteGuardArc<T, R>, Refusal>
-        ensures { IfOk result (λ guard. guard.lock ≡ arc_value this.now) }
+        ensures lock { IfOk result (λ guard. guard.lock ≡ arc_value this.now) }
+        ensures refused { IfErr result (Refuses aims.Write) }
     {
         match block_on(&this.rt, Settled(RwLock::write_arc(this))) {
             Ok(settled) => settled,

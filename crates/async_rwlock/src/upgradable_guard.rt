@@ -1,6 +1,7 @@
 //! A reader that may become the writer.
 
 ghost use Rattle.std.specs.Prelude.{◌≡◌, IfOk, IfErr};
+ghost use Rattle.lock_program.specs.declared.refusal.Refusal.{Refusal};
 ghost use Rattle.rwlock_driver.specs.Rights.{Has, upgradable};
 ghost use Rattle.async_rwlock.specs.Stages.{IsOf};
 
@@ -157,7 +158,8 @@ impl<T: Drop, R: Wait + Clock + RandomSource + AllocGlobal, O: Owns<T, R>> Upgra
     /// Writes once nobody else reads, blocking the calling thread until then. If it is refused, which is for memory alone, the right is
     /// given up.
     pub fn upgrade_blocking(guard: Self) -> Result<WriteGuard<T, R, O>, Refusal>
-        ensures { IfOk result (λ writer. writer.lock ≡ guard.lock) }
+        ensures lock { IfOk result (λ writer. writer.lock ≡ guard.lock) }
+        ensures memory { IfErr result (λ refusal. refusal ≡ Refusal.Memory) }
     {
         let Some(owner) = guard.owner.again() else {
             return Err(Refusal::Memory);

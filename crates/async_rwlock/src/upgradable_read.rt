@@ -82,9 +82,12 @@ impl<T, R: Wait + Clock, O: Owns<T, R>> UpgradableFuture<T, R, O> {
 impl<T, R: Wait + Clock, O: Owns<T, R>> Polled for UpgradableFuture<T, R, O> {
     type Got = UpgradableGuard<T, R, O>;
 
-    ghost use Rattle.async_rwlock.specs.Stages.{IsOf};
+    ghost use Rattle.async_rwlock.specs.Stages.{CanRefuse, IsOf, is_finished};
+    ghost use Rattle.rwlock_driver.specs.declared.aim.Aim.TheVariants as aims;
 
     ghost gives = { λ future guard. IsOf O.lock_of future.stage guard.lock };
+
+    ghost refuses = { λ future. CanRefuse aims.UpgradableRead (is_finished future.stage) };
 
     fn poll_turn(&mut self, cx: &mut Context<'_>) -> Turn<UpgradableGuard<T, R, O>> {
         self.poll(cx)

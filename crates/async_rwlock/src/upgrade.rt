@@ -85,9 +85,12 @@ impl<T, R: Wait + Clock, O: Owns<T, R>> UpgradeFuture<T, R, O> {
 impl<T, R: Wait + Clock, O: Owns<T, R>> Polled for UpgradeFuture<T, R, O> {
     type Got = WriteGuard<T, R, O>;
 
-    ghost use Rattle.async_rwlock.specs.Stages.{IsOf};
+    ghost use Rattle.async_rwlock.specs.Stages.{CanRefuse, IsOf, is_finished};
+    ghost use Rattle.rwlock_driver.specs.declared.aim.Aim.TheVariants as aims;
 
     ghost gives = { λ future guard. IsOf O.lock_of future.stage guard.lock };
+
+    ghost refuses = { λ future. CanRefuse aims.Upgrade (is_finished future.stage) };
 
     fn poll_turn(&mut self, cx: &mut Context<'_>) -> Turn<WriteGuard<T, R, O>> {
         self.poll(cx)

@@ -4,7 +4,7 @@ use crate::codes::{code_of_entry, code_of_standing};
 use crate::party::{
     Party, end, entry_of, generation_of, locking_of, new_party, seen_by, set_starving,
 };
-use async_barrier::{RawBarrier, WaitEnd};
+use async_barrier::{Call as PartyCall, RawBarrier, WaitEnd};
 use async_driver::WaitingList;
 use futures::task::Waker;
 use futures::test::MockTask;
@@ -13,7 +13,7 @@ use lock_program::mutex::Place as LockPlace;
 use lockstep::{Acted, Bench, Beside, Dids, Shell, moved};
 use std::alloc::{AllocFailed, Global};
 use std::sync::{Arc, Wait};
-use sync_program::barrier::{BarrierCall, Ending, Left, Place, Position};
+use sync_program::barrier::{Aim, BarrierCall, Ending, Left, Place, Position};
 use world_barrier::{ListName, World};
 use world_base::{Answer, Call, Got, Inputs, Made, Move, What};
 
@@ -126,11 +126,18 @@ fn deed_of(place: Left, lock_place: LockPlace, number: usize) -> Option<Deed> {
     }
 }
 
-fn wait_call(call: Call) -> Option<BarrierCall> {
-    match call {
-        Call::Wait => Some(BarrierCall::Wait),
-        Call::Poll => Some(BarrierCall::Poll),
-        Call::Drop => Some(BarrierCall::Drop),
+// The call of a party that stands so, as `RawBarrier::poll` makes it.
+fn wait_call(call: Call, place: Left) -> Option<PartyCall> {
+    match (call, place) {
+        (Call::Wait, _) => Some(PartyCall::Of(BarrierCall::Wait)),
+        (
+            Call::Poll,
+            Left::Outside(
+                Position::Made(Aim::Check) | Position::Locking(Aim::Check) | Position::Waiting,
+            ),
+        ) => Some(PartyCall::PollCounted),
+        (Call::Poll, _) => Some(PartyCall::Of(BarrierCall::Poll)),
+        (Call::Drop, _) => Some(PartyCall::Of(BarrierCall::Drop)),
         _ => None,
     }
 }
@@ -211,7 +218,7 @@ impl Member {
 
     fn begin<R: Wait>(&mut self, bench: &Bench<R>, task: &MockTask, call: Call) -> Dids {
         self.is_fresh = false;
-        let acted = match wait_call(call) {
+        let acted = match wait_call(call, self.party.place) {
             Some(call) => task.enter(|cx| self.party.begin(bench, cx, call)),
             None => Acted::Never,
         };

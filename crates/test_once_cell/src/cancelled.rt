@@ -2,8 +2,47 @@
 
 use crate::polls::{assert_same, fresh, pends, task};
 use crate::steered::Step;
-use async_once_cell::Settled;
-use futures::task::Poll;
+use async_once_cell::{OnceCell, Settled};
+use futures::Future;
+use futures::task::{Context, Poll};
+use std::sync::Wait;
+use std::sync::atomic::{AtomicBool, Ordering};
+
+/// A maker's future that is never ready. Dropped, it tries to fill its cell.
+struct FillsLate<'a, R: Wait> {
+    cell: &'a OnceCell<u64, R>,
+    has_filled: &'a AtomicBool,
+}
+
+impl<R: Wait> Future for FillsLate<'_, R> {
+    type Output = Result<u64, ()>;
+
+    fn poll(&mut self, cx: &mut Context<'_>) -> Poll<Result<u64, ()>> {
+        cx.yield_now()
+    }
+}
+
+impl<R: Wait> Drop for FillsLate<'_, R> {
+    fn drop(self) {
+        let Self { cell, has_filled } = self;
+        has_filled.store(cell.try_set(9).is_ok(), Ordering::SeqCst);
+    }
+}
+
+// The maker's future is dropped while the cell is being made still: what its drop tries finds it so.
+#[test]
+fn a_dropped_makers_future_finds_the_cell_being_made(rt: HostRuntime) {
+    let one = task(&rt);
+    let has_filled = AtomicBool::new(false);
+    let cell = fresh::<u64, _>(rt);
+    let mut making = Settled(cell.get_or_try_init(|| FillsLate {
+        cell: &cell,
+        has_filled: &has_filled,
+    }));
+    assert!(rt; pends(&one, &mut making));
+    drop(making);
+    assert!(rt; !has_filled.load(Ordering::SeqCst) && !cell.is_initialized());
+}
 
 // One that was notified, and is dropped before it looks: the next is woken and makes.
 #[test]

@@ -10,6 +10,7 @@ use std::sync::atomic::{AtomicU64, Ordering};
 use std::thread;
 use std::thread::Threads;
 use std::time::Clock;
+use words_once_cell::State;
 
 const THREADS: usize = 16;
 
@@ -39,7 +40,7 @@ where
 // One closure is called, and all see its value.
 #[test]
 fn one_of_many_threads_makes_the_value(rt: HostRuntime) {
-    for _ in 0..200u32 {
+    for _ in 0..1_000u32 {
         let called = AtomicU64::new(0);
         let cell = fresh::<u64, _>(rt);
         let got = got_by_all(&rt, rt.alloc(), &cell, &called);
@@ -79,7 +80,7 @@ where
 
 #[test]
 fn one_value_enters_where_half_of_the_makers_fail(rt: HostRuntime) {
-    for _ in 0..200u32 {
+    for _ in 0..1_000u32 {
         let made = AtomicU64::new(0);
         let cell = fresh::<u64, _>(rt);
         let got = tried_by_all(&rt, rt.alloc(), &cell, &made);
@@ -91,4 +92,54 @@ fn one_value_enters_where_half_of_the_makers_fail(rt: HostRuntime) {
                 .all(|value| *value == first || *value == u64::MAX)
         );
     }
+}
+
+// Whether this came to hold within many looks.
+fn comes<F: Fn() -> bool>(holds: F) -> bool
+    requires { F.IsAlwaysCallable holds }
+{
+    for _ in 0..1_000_000u32 {
+        if holds() {
+            return true;
+        }
+        thread::yield_now();
+    }
+    false
+}
+
+// A wait that blocks goes on once another thread has set the value, which does so when the wait stands in the list.
+#[test]
+fn a_blocking_wait_stands_in_the_list_until_the_value_is_set(rt: HostRuntime) {
+    let cell = fresh::<u64, _>(rt);
+    let waits = || match cell.wait_blocking() {
+        Ok(value) => *value,
+        Err(_) => u64::MAX,
+    };
+    let sets = || comes(|| cell.raw().passive().is_listed()) && cell.try_set(7).is_ok();
+    let (got, was_set) = thread::join(&rt, &waits, &sets);
+    assert!(rt; was_set);
+    assert_same(&rt, got, 7);
+}
+
+// A set that blocks goes on once another thread's maker has failed, which does so when the set stands in the list.
+#[test]
+fn a_blocking_set_stands_in_the_list_until_the_maker_fails(rt: HostRuntime) {
+    let cell = fresh::<u64, _>(rt);
+    let fails = || {
+        let tried = cell.get_or_try_init_blocking(|| {
+            let _ = comes(|| cell.raw().active().is_listed());
+            Err(())
+        });
+        tried.is_err()
+    };
+    let sets = || {
+        let _ = comes(|| cell.raw().state() == State::Making);
+        match cell.set_blocking(7) {
+            Ok(value) => *value,
+            Err(_) => u64::MAX,
+        }
+    };
+    let (failed, got) = thread::join(&rt, &fails, &sets);
+    assert!(rt; failed);
+    assert_same(&rt, got, 7);
 }

@@ -3,19 +3,27 @@
 ghost use Rattle.std.specs.Prelude.{◌≡◌};
 
 use std::process::Abort;
+use std::sync::Wait;
 use std::thread;
-use words_once_cell::{State, Words};
+use words_once_cell::{Filled, State, Words};
 
 // One try to claim by a new seat, which fills the cell or leaves it empty: what the cell was before.
-fn claim_once(words: &Words, fills: bool) -> State {
+fn claim_once<R: Wait>(rt: &R, words: &Words<u32>, fills: bool) -> State {
     let mut seat = words.sit();
     match words.claim(&mut seat) {
         State::Empty => {
             if fills {
-                words.fill(&mut seat);
+                let set = match words.value().try_insert(rt, 7) {
+                    Ok(set) => set,
+                    Err((set, _)) => set,
+                };
+                let Filled { active, passive } = words.fill(&mut seat, &set);
+                words.active().notify_additional(rt, usize::MAX, active);
+                words.passive().notify_additional(rt, usize::MAX, passive);
                 words.rise(seat);
             } else {
-                words.empty(&mut seat);
+                let owed = words.empty(&mut seat);
+                words.active().notify(rt, 1, owed);
                 words.rise(seat);
             }
             State::Empty
@@ -31,14 +39,14 @@ fn claim_once(words: &Words, fills: bool) -> State {
     }
 }
 
-fn look_once(words: &Words) -> State {
+fn look_once(words: &Words<u32>) -> State {
     let mut seat = words.sit();
     let state = words.look(&mut seat);
     words.rise(seat);
     state
 }
 
-fn take_once(words: &Words) -> bool {
+fn take_once(words: &Words<u32>) -> bool {
     let mut seat = words.sit();
     let was_full = words.take(&mut seat);
     words.rise(seat);
@@ -47,10 +55,10 @@ fn take_once(words: &Words) -> bool {
 
 // How often this thread found the cell empty and filled it, while others do the same. Each of its failed makers
 // leaves the cell empty.
-fn fill_a_thousand_times(words: &Words) -> u32 {
+fn fill_a_thousand_times<R: Wait>(rt: &R, words: &Words<u32>) -> u32 {
     let mut filled: u32 = 0;
     for round in 0..1000u32 {
-        if claim_once(words, round % 2 == 1) == State::Empty && round % 2 == 1 {
+        if claim_once(rt, words, round % 2 == 1) == State::Empty && round % 2 == 1 {
             filled = filled.saturating_add(1);
         }
     }
@@ -65,7 +73,7 @@ fn expect(rt: &impl Abort, what: &str, is_so: bool) {
 
 #[test]
 fn a_cell_is_claimed_filled_and_emptied(rt: HostRuntime) {
-    let Ok(words) = Words::new(rt.alloc()) else {
+    let Ok(words) = Words::<u32>::new(rt.alloc()) else {
         return;
     };
     expect(
@@ -76,14 +84,14 @@ fn a_cell_is_claimed_filled_and_emptied(rt: HostRuntime) {
     expect(
         &rt,
         "a maker fails",
-        claim_once(&words, false) == State::Empty,
+        claim_once(&rt, &words, false) == State::Empty,
     );
     expect(&rt, "it is empty again", look_once(&words) == State::Empty);
     expect(&rt, "nothing can be taken", !take_once(&words));
     expect(
         &rt,
         "a maker fills it",
-        claim_once(&words, true) == State::Empty,
+        claim_once(&rt, &words, true) == State::Empty,
     );
     expect(
         &rt,
@@ -93,7 +101,7 @@ fn a_cell_is_claimed_filled_and_emptied(rt: HostRuntime) {
     expect(
         &rt,
         "nobody makes of a full cell",
-        claim_once(&words, true) == State::Full,
+        claim_once(&rt, &words, true) == State::Full,
     );
     expect(&rt, "its value is taken", take_once(&words));
     expect(
@@ -105,7 +113,7 @@ fn a_cell_is_claimed_filled_and_emptied(rt: HostRuntime) {
 
 #[test]
 fn a_cell_that_begins_full(rt: HostRuntime) {
-    let Ok(words) = Words::full(rt.alloc()) else {
+    let Ok(words) = Words::full(rt.alloc(), 7) else {
         return;
     };
     expect(
@@ -117,10 +125,10 @@ fn a_cell_that_begins_full(rt: HostRuntime) {
 
 #[test]
 fn one_of_two_threads_fills(rt: HostRuntime) {
-    let Ok(words) = Words::new(rt.alloc()) else {
+    let Ok(words) = Words::<u32>::new(rt.alloc()) else {
         return;
     };
-    let fills = || fill_a_thousand_times(&words);
+    let fills = || fill_a_thousand_times(&rt, &words);
     let (one, other) = thread::join(&rt, &fills, &fills);
     expect(
         &rt,
