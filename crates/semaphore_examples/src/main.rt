@@ -13,21 +13,21 @@ use std::sync::Wait;
 use std::thread::Threads;
 use std::time::Clock;
 
-fn run_all<R>(rt: R) -> Result<(u64, usize), Refusal>
+fn run_all<R>(rt: R) -> Result<(u64, bool, usize), Refusal>
 where
     R: Wait + Clock + RandomSource + AllocGlobal + Threads + Sync + Copy + Drop,
 {
     let most = at_most_two::run(rt)?;
-    let left = several_at_once::run(rt)?;
-    Ok((most, left))
+    let (three_more, left) = several_at_once::run(rt)?;
+    Ok((most, three_more, left))
 }
 
 fn main(rt: HostRuntime) -> ExitCode {
-    let Ok((most, left)) = run_all(rt) else {
+    let Ok((most, three_more, left)) = run_all(rt) else {
         return ExitCode::FAILURE;
     };
     match println!(rt;
-        "never more than two at work: {}\nleft of five: {left}",
+        "at most two: {}\nthree more: {three_more}\nleft of five: {left}",
         most <= 2
     ) {
         Ok(()) => ExitCode::SUCCESS,

@@ -6,18 +6,17 @@ use std::random::RandomSource;
 use std::sync::Wait;
 use std::time::Clock;
 
-/// How many of five permits are left in the end.
-pub(crate) fn run<R>(rt: R) -> Result<usize, Refusal>
+/// Whether three more of five permits could be had beside three, and how many are left in the end.
+pub(crate) fn run<R>(rt: R) -> Result<(bool, usize), Refusal>
 where
     R: Wait + Clock + RandomSource + AllocGlobal + Drop,
 {
     let semaphore = Semaphore::new(rt, 5)?;
     let three = semaphore.acquire_many_blocking(3)?;
     // Two are left, too few for three more.
-    if semaphore.try_acquire_many(3).is_none() {
-        drop(three);
-    }
-    // One permit is taken away for good, and none is added.
+    let three_more = semaphore.try_acquire_many(3).is_some();
+    drop(three);
+    // One permit is taken away for good.
     semaphore.acquire_blocking()?.forget();
-    Ok(semaphore.available_permits())
+    Ok((three_more, semaphore.available_permits()))
 }
