@@ -6,8 +6,7 @@
 //! [`Turn`]; [`Settled`] makes it a `Future` of the kit's `futures`, and the blocking forms wait in the calling thread.
 //!
 //! Each lock carries out a program, a table of single actions, and the theorems about all interleavings are proved
-//! of the same table: [`lock_core`] has the Worlds in which parties move by it, and [`lock_audit`] a book of one. (The semaphore
-//! carries out a table of several permits; its World's table is of single ones.)
+//! of the same table: [`lock_core`] has the Worlds in which parties move by it, and [`lock_audit`] a book of one.
 //! This crate has no code of its own: the types stand in `async_mutex`, `async_rwlock`, `async_semaphore`, `async_once_cell` and
 //! `async_barrier`.
 #![tactic(auto)]
