@@ -428,6 +428,24 @@ mutex locked=0 starved=0 value=7 list=[]
 ok
 refused 4
 semaphore available=2 limit=2 list=[]
+== semaphore: None, several or the most permits, and one where the number is left off
+semaphore 4 2
+do 0 acquire 0
+do 1 tryacquire 2 nomem
+do 2 acquire 18446744073709551615
+do 3 acquire nomem
+show
+do 1 forget
+show
+=>
+ok
+ready
+granted
+pending
+refused 1
+semaphore available=0 limit=2 list=[2w]
+given back
+semaphore available=0 limit=0 list=[2w]
 == semaphore: Each call
 semaphore 2 1 3
 do 0 acquire
@@ -777,5 +795,5 @@ fn answers_the_stored_rows(rt: HostRuntime) {
 
 #[test]
 fn answers_each_good_line(rt: HostRuntime) {
-    expect_answers(&rt, GOOD_LINES, 64);
+    expect_answers(&rt, GOOD_LINES, 65);
 }
