@@ -56,9 +56,6 @@ pub(crate) struct RwLockTwin {
 // The value, which nobody writes here.
 const VALUE: u64 = 7;
 
-// So many never read at a time.
-const MOST_READERS: u32 = 9;
-
 fn new_lock(alloc: Global, limit: u32, readers: u32) -> Option<Arc<RawRwLock>> {
     let raw = RawRwLock::with_limits(alloc, u64::from(limit), u64::from(readers)).ok()?;
     Arc::new(alloc, raw).ok()
@@ -359,10 +356,11 @@ impl Shell for RwLockShell {
             alloc,
             parties,
             limit,
+            readers,
             table,
         } = setting;
-        let world = World::with_limits(alloc, parties, VALUE, limit, MOST_READERS).ok()?;
-        let lock = new_lock(alloc, limit, MOST_READERS)?;
+        let world = World::with_limits(alloc, parties, VALUE, limit, readers).ok()?;
+        let lock = new_lock(alloc, limit, readers)?;
         let members = new_members(bench, alloc, &lock, parties)?;
         Some((RwLockShell { lock, members }, RwLockTwin { world, table }))
     }

@@ -12,12 +12,24 @@ const MANY: usize = 10_000_000;
 // So many parties are never starved at a time.
 const NO_LIMIT: u32 = 9;
 
+// So many never read at a time.
+const MOST_READERS: u32 = 9;
+
 fn setting<R: AllocGlobal>(rt: &R, parties: u32, limit: u32) -> Setting {
     Setting {
         alloc: rt.alloc(),
         parties,
         limit,
+        readers: MOST_READERS,
         table: Table::Own,
+    }
+}
+
+// The same of a lock at which so many may read.
+fn limited<R: AllocGlobal>(rt: &R, parties: u32, readers: u32) -> Setting {
+    Setting {
+        readers,
+        ..setting(rt, parties, NO_LIMIT)
     }
 }
 
@@ -55,6 +67,17 @@ fn two_parties_are_refused_alike(rt: HostRuntime) {
     }
 }
 
+// Reads that are refused since as many read as may, also such that were notified.
+#[test]
+fn two_parties_are_refused_alike_where_one_or_nobody_may_read(rt: HostRuntime) {
+    let of_one = limited(&rt, 2, 1);
+    let of_nobody = limited(&rt, 2, 0);
+    if let Some(bench) = Bench::new(rt, 2) {
+        in_each_state(&bench, of_one);
+        in_each_state(&bench, of_nobody);
+    }
+}
+
 fn by_chance<R: Wait + Abort>(bench: &Bench<R>, setting: Setting) {
     let walk = match walk_by_chance::<RwLockShell, R>(bench, setting, 17, 1000, 100) {
         None => walk_by_chance::<RwLockShell, R>(bench, setting, 17, 1000, 100),
@@ -68,6 +91,17 @@ fn four_parties_go_alike_by_chance(rt: HostRuntime) {
     let of_four = setting(&rt, 4, NO_LIMIT);
     if let Some(bench) = Bench::new(rt, 4) {
         by_chance(&bench, of_four);
+    }
+}
+
+// A read that was notified, and is refused, notifies once more: for one that joins between its two notifications.
+#[test]
+fn three_parties_are_refused_alike_by_chance(rt: HostRuntime) {
+    let of_one = limited(&rt, 3, 1);
+    let of_nobody = limited(&rt, 3, 0);
+    if let Some(bench) = Bench::new(rt, 3) {
+        by_chance(&bench, of_one);
+        by_chance(&bench, of_nobody);
     }
 }
 

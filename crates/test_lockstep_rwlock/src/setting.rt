@@ -13,11 +13,13 @@ pub(crate) enum Table {
     JoinsExchanged,
 }
 
-/// Of which lock: with how many parties, how many of which may be starved for the turn; and beside which World.
+/// Of which lock: with how many parties, how many of which may be starved for the turn, and how many may read; and beside which
+/// World.
 #[derive(Clone, Copy)]
 pub(crate) struct Setting {
     pub(crate) alloc: Global,
     pub(crate) parties: u32,
     pub(crate) limit: u32,
+    pub(crate) readers: u32,
     pub(crate) table: Table,
 }
