@@ -12,6 +12,7 @@ mod stock;
 mod straight;
 mod waiting;
 
+pub use carries::PollFor;
 pub use duty::Keys;
 pub use party::PermitParty;
 pub use raw::RawSemaphore;

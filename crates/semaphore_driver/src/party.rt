@@ -160,8 +160,9 @@ impl PermitParty {
         Found::Done
     }
 
-    // Where the driver has stopped, the notification that a pending poll still has to pass on.
-    pub(crate) fn pass_on<R: Wait>(
+    /// Passes on, where the driver has stopped, the notification that a pending poll still has to pass on: where the party
+    /// stands then.
+    pub fn pass_on<R: Wait>(
         &mut self,
         raw: &RawSemaphore,
         rt: &R,
@@ -183,8 +184,8 @@ impl PermitParty {
         }
     }
 
-    // The seat of a party that has what its future is for, and nothing else.
-    pub(crate) fn into_seat(self, raw: &RawSemaphore, permits: u64) -> Seat
+    /// The seat of a party that has what its future is for, and nothing else.
+    pub fn into_seat(self, raw: &RawSemaphore, permits: u64) -> Seat
         requires tied { IsTied raw.now self }
         requires entry { is_some self.entry ≡ false }
         requires duty { self.duty ≡ None }

@@ -3,6 +3,7 @@
 ghost use Rattle.std.specs.Prelude.{◌≡◌, IfOk};
 
 use crate::stock::Stock;
+use async_driver::WeightedListed;
 use futures::task::Source;
 use std::alloc::{AllocError, Global};
 use std::marker::Model;
@@ -59,5 +60,10 @@ impl RawSemaphore {
     /// Returns how many stand in the list. It is for tests.
     pub fn waiting<R: Wait>(&self, rt: &R) -> usize {
         self.stock.waiting(rt)
+    }
+
+    /// Returns whether this entry is notified. It is for tests.
+    pub fn is_notified<R: Wait>(&self, rt: &R, entry: &WeightedListed) -> bool {
+        self.stock.is_notified(rt, entry)
     }
 }

@@ -99,6 +99,11 @@ impl Stock {
         self.list.len(rt)
     }
 
+    /// Returns whether this entry is notified. It is for tests.
+    pub fn is_notified<R: Wait>(&self, rt: &R, entry: &WeightedListed) -> bool {
+        self.list.is_notified(rt, entry.id())
+    }
+
     /// Takes this many permits if as many are available: one try. What it found is the newest that a duty knows of. If it
     /// took the last permit, a duty is over: a waiter could be notified of nothing.
     #[inline]

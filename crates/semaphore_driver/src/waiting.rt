@@ -45,8 +45,8 @@ pub enum Outcome {
 }
 
 impl RawSemaphore {
-    // A party that waits to be polled for the first time, for so many permits.
-    fn first(&self, permits: u64) -> Waiting
+    /// A party that waits to be polled for the first time, for so many permits.
+    pub fn first(&self, permits: u64) -> Waiting
         ensures { WaitsFor self.now permits result }
     {
         Waiting {

@@ -1,0 +1,164 @@
+//! What a party of a shared semaphore has, driven by single actions.
+
+ghost use Rattle.std.specs.Prelude.{◌≡◌};
+
+use async_driver::WeightedListed;
+use lockstep::{Bench, Walker};
+use semaphore_driver::{PermitParty, RawSemaphore, Waiting};
+use std::marker::Model;
+use std::sync::{Arc, Wait};
+use sync_program::permits::Position;
+use words_semaphore::Seat;
+
+/// A future.
+pub(crate) type Party = Walker<PermitParty>;
+
+/// Permits that a party has. Its type keeps that its seat has exactly so many. It has no `Drop`.
+pub(crate) struct Held {
+    shared: Arc<RawSemaphore>,
+    seat: Seat,
+    permits: u64,
+}
+
+impl Model for Held {
+    ghost use Rattle.semaphore_driver.specs.Semaphores.{Has};
+    ghost use Rattle.std.specs.Arc.{arc_value};
+    ghost use Rattle.std.specs.Prelude.{ℕ};
+
+    ghost Value = { ℕ };
+
+    ghost view = { λ h. h.permits };
+
+    ghost invariant = { λ h. Has (arc_value h.shared) h.permits h.seat };
+}
+
+impl Held {
+    /// So many permits, if they are available.
+    pub(crate) fn try_take<R: Wait>(
+        shared: Arc<RawSemaphore>,
+        rt: &R,
+        permits: u64,
+    ) -> Option<Held> {
+        match shared.try_take(rt, permits) {
+            Some(seat) => Some(Held {
+                shared,
+                seat,
+                permits,
+            }),
+            None => None,
+        }
+    }
+
+    /// Gives the permits back.
+    pub(crate) fn give<R: Wait>(self, rt: &R) {
+        let Held {
+            shared,
+            seat,
+            permits,
+        } = self;
+        shared.give(rt, seat, permits);
+    }
+
+    /// Ends the permits for good.
+    pub(crate) fn forget(self) {
+        let Held {
+            shared,
+            seat,
+            permits,
+        } = self;
+        shared.forget(seat, permits);
+    }
+
+    pub(crate) fn permits(&self) -> u64 {
+        self.permits
+    }
+}
+
+/// What a party has outside every call, or inside one. It has no `Drop`, since its parts have none.
+pub(crate) enum Having {
+    Nothing,
+    Future(Party),
+    Permits(Held),
+}
+
+/// A future of so many permits.
+pub(crate) fn new_future(shared: Arc<RawSemaphore>, permits: u64) -> Party {
+    let Waiting { party, position } = shared.first(permits);
+    Walker {
+        shared,
+        party,
+        place: position,
+    }
+}
+
+/// The party's entry, while it stands in the list.
+pub(crate) fn entry_of(walker: &Party) -> Option<&WeightedListed> {
+    walker.party.entry.as_ref()
+}
+
+/// What a party has whose future may have got its permits.
+pub(crate) fn settled(walker: Party) -> Having {
+    let Walker {
+        shared,
+        party,
+        place,
+    } = walker;
+    match place {
+        Position::Holding(permits) => {
+            let seat = party.into_seat(&shared, permits);
+            Having::Permits(Held {
+                shared,
+                seat,
+                permits,
+            })
+        }
+        _ => Having::Future(Walker {
+            shared,
+            party,
+            place,
+        }),
+    }
+}
+
+/// Ends a future: the call that it is in, and then it gives back what it has.
+pub(crate) fn end_future<R: Wait>(walker: Party, bench: &Bench<R>, number: usize) {
+    let mut walker = walker;
+    if let Some(task) = bench.task(number) {
+        for _ in bench.forever() {
+            if !matches!(walker.place, Position::At(_)) {
+                break;
+            }
+            let _ = task.enter(|cx| walker.go(bench, cx));
+        }
+    }
+    match settled(walker) {
+        Having::Permits(held) => held.give(bench),
+        Having::Future(walker) => cancel(walker, bench),
+        Having::Nothing => {}
+    }
+}
+
+/// Drops a future that is outside every call.
+pub(crate) fn cancel<R: Wait>(walker: Party, bench: &Bench<R>) {
+    let Walker {
+        shared,
+        party,
+        place,
+    } = walker;
+    match place {
+        Position::Unlisted(permits) | Position::Waiting(permits) => {
+            shared.cancel(
+                bench,
+                permits,
+                Waiting {
+                    party,
+                    position: place,
+                },
+            );
+        }
+        _ => {
+            for _ in bench.forever() {}
+            unreachable!()
+        }
+    }
+}

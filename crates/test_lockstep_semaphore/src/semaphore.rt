@@ -1,0 +1,515 @@
+//! The semaphore's shell, beside its World.
+
+use crate::codes::code_of_position;
+use crate::party::{Having, Held, Party, cancel, end_future, entry_of, new_future, settled};
+use lock_program::End;
+use lockstep::{Acted, Bench, Beside, Dids, Shell, moved};
+use semaphore_driver::{PollFor, RawSemaphore};
+use std::alloc::{AllocFailed, Global};
+use std::mem;
+use std::sync::{Arc, Wait};
+use sync_program::permits::{Place, Position};
+use world_base::{Answer, Call, Got, Inputs, Made, Move, What};
+use world_semaphore::World;
+
+/// What a party of a semaphore can do next.
+#[derive(Clone, Copy, Debug, PartialEq, Eq)]
+pub(crate) enum Deed {
+    /// The first poll of a future of so many permits.
+    Acquire(u64),
+    /// A try to take so many permits, whole.
+    Try(u64),
+    /// An addition of one permit, whole.
+    Add,
+    /// A later poll.
+    Poll,
+    /// The next action of a poll.
+    Go,
+    /// The drop of a future or of permits, whole.
+    Drop,
+    /// Permits are forgotten.
+    Forget,
+}
+
+/// By what a semaphore and its World are made.
+#[derive(Clone, Copy)]
+pub(crate) struct Setting {
+    pub(crate) alloc: Global,
+    pub(crate) parties: u32,
+    /// How many permits there are to begin with.
+    pub(crate) permits: u64,
+    /// For how many permits futures and tries are.
+    pub(crate) sizes: (u64, u64),
+    /// Whether permits are added: then there is no end of states.
+    pub(crate) adds: bool,
+}
+
+/// A party, and whether it has done nothing yet. It has no `Drop`, since what it has has none.
+struct Member {
+    having: Having,
+    is_fresh: bool,
+    // The number of its last join among all joins.
+    joined: u64,
+}
+
+/// A semaphore with its parties.
+pub(crate) struct SemaphoreShell {
+    raw: Arc<RawSemaphore>,
+    members: Vec<Member>,
+    sizes: (u64, u64),
+    adds: bool,
+    joins: u64,
+}
+
+/// A semaphore's World.
+#[derive(Drop)]
+pub(crate) struct SemaphoreTwin {
+    world: World,
+}
+
+impl Beside for SemaphoreTwin {
+    fn follow(&mut self, m: Move) -> Answer {
+        self.world.step(&m)
+    }
+}
+
+fn inputs(memory: bool) -> Inputs {
+    Inputs {
+        memory,
+        starving: false,
+        made: Made::Pending,
+    }
+}
+
+// One move with its answer, and none beside it.
+fn one(what: What, answer: Answer) -> Dids {
+    Dids {
+        moves: [Some(moved(what, answer)), None, None],
+    }
+}
+
+// A call of three moves, which ends so.
+fn three(call: Call, end: Answer) -> Dids {
+    let go = What::Go(inputs(true));
+    Dids {
+        moves: [
+            Some(moved(What::Begin(call, inputs(true)), Answer::Stepped)),
+            Some(moved(go, Answer::Stepped)),
+            Some(moved(go, end)),
+        ],
+    }
+}
+
+// The shell's answer to an action, after which the party stands so.
+fn answer(acted: Acted<End>, place: Position) -> Answer {
+    match acted {
+        Acted::On => Answer::Stepped,
+        Acted::Over(End::Got) => Answer::Ready(Got::Plain),
+        // The driver stops before a pending poll passes its notification on.
+        Acted::Over(End::Pending) => match place {
+            Position::At(_) => Answer::Stepped,
+            _ => Answer::Pending,
+        },
+        Acted::Over(End::Refused(refusal)) => Answer::Refused(refusal.number()),
+        Acted::Over(_) | Acted::Never => Answer::NotPossible,
+    }
+}
+
+// Whether a join found memory, by where the party stood before it and stands after it. What the allocator did is an input of
+// the World's, and the shell is asked for it.
+fn found_memory(before: Position, after: Position) -> bool {
+    match before {
+        Position::At(Place::Join { .. }) => {
+            matches!(after, Position::At(Place::Take { listed: true, .. }))
+        }
+        _ => true,
+    }
+}
+
+// The next action of a future's poll.
+fn go<R: Wait>(walker: &mut Party, bench: &Bench<R>, party: usize) -> Dids {
+    let Some(task) = bench.task(party) else {
+        return one(What::Go(inputs(true)), Answer::NotPossible);
+    };
+    let before = walker.place;
+    if let Position::At(Place::PassOn { .. }) = before {
+        walker.place = walker.party.pass_on(&walker.shared, bench, before);
+        return one(What::Go(inputs(true)), Answer::Pending);
+    }
+    let acted = task.enter(|cx| walker.go(bench, cx));
+    let after = walker.place;
+    let memory = found_memory(before, after);
+    one(What::Go(inputs(memory)), answer(acted, after))
+}
+
+// A poll's first action.
+fn begin<R: Wait>(walker: &mut Party, bench: &Bench<R>, party: usize, call: Call) -> Dids {
+    let what = What::Begin(call, inputs(true));
+    let Some(task) = bench.task(party) else {
+        return one(what, Answer::NotPossible);
+    };
+    let poll = PollFor {
+        permits: walker.party.permits,
+    };
+    let acted = task.enter(|cx| walker.begin(bench, cx, poll));
+    one(what, answer(acted, walker.place))
+}
+
+// The drop of what a party has, and the moves that it is.
+fn dropped<R: Wait>(having: Having, bench: &Bench<R>) -> Dids {
+    let what = What::Begin(Call::Drop, inputs(true));
+    match having {
+        Having::Nothing => one(what, Answer::NotPossible),
+        Having::Permits(held) => {
+            held.give(bench);
+            Dids {
+                moves: [
+                    Some(moved(what, Answer::Stepped)),
+                    Some(moved(What::Go(inputs(true)), Answer::GivenBack)),
+                    None,
+                ],
+            }
+        }
+        Having::Future(walker) => {
+            let is_told = match entry_of(&walker) {
+                Some(entry) => walker.shared.is_notified(bench, entry),
+                None => false,
+            };
+            cancel(walker, bench);
+            if is_told {
+                three(Call::Drop, Answer::GivenBack)
+            } else {
+                one(what, Answer::GivenBack)
+            }
+        }
+    }
+}
+
+// What is left of permits that are forgotten.
+fn forgotten(having: Having) -> (Having, Dids) {
+    let what = What::Begin(Call::Forget, inputs(true));
+    match having {
+        Having::Permits(held) => {
+            held.forget();
+            (Having::Nothing, one(what, Answer::GivenBack))
+        }
+        other => (other, one(what, Answer::NotPossible)),
+    }
+}
+
+// A try of a party that has nothing.
+fn tried<R: Wait>(shared: Arc<RawSemaphore>, bench: &Bench<R>, permits: u64) -> (Having, Dids) {
+    let what = What::Begin(Call::TryAcquire(permits), inputs(true));
+    match Held::try_take(shared, bench, permits) {
+        Some(held) => (
+            Having::Permits(held),
+            one(what, Answer::Granted(Got::Plain)),
+        ),
+        None => (Having::Nothing, one(what, Answer::None)),
+    }
+}
+
+// An addition of one permit.
+fn added<R: Wait>(raw: &RawSemaphore, bench: &Bench<R>) -> Dids {
+    match raw.add(bench, 1) {
+        Ok(()) => three(Call::AddPermits(1), Answer::Granted(Got::Plain)),
+        Err(refusal) => one(
+            What::Begin(Call::AddPermits(1), inputs(true)),
+            Answer::Refused(refusal.number()),
+        ),
+    }
+}
+
+impl Member {
+    // A deed of a party that has nothing.
+    fn start<R: Wait>(
+        &mut self,
+        shared: Arc<RawSemaphore>,
+        bench: &Bench<R>,
+        party: usize,
+        deed: Deed,
+    ) -> Dids {
+        let (having, dids) = match deed {
+            Deed::Acquire(permits) => {
+                let mut walker = new_future(shared, permits);
+                let dids = begin(&mut walker, bench, party, Call::Acquire(permits));
+                (settled(walker), dids)
+            }
+            Deed::Try(permits) => tried(shared, bench, permits),
+            _ => (Having::Nothing, added(&shared, bench)),
+        };
+        match mem::replace(&mut self.having, having) {
+            Having::Nothing => {}
+            old => end_having(old, bench, party),
+        }
+        dids
+    }
+
+    // A deed of a party that has a future or permits.
+    fn go_on<R: Wait>(&mut self, bench: &Bench<R>, party: usize, deed: Deed) -> Dids {
+        let having = mem::replace(&mut self.having, Having::Nothing);
+        let (next, dids) = match (having, deed) {
+            (Having::Future(mut walker), Deed::Poll) => {
+                let dids = begin(&mut walker, bench, party, Call::Poll);
+                (settled(walker), dids)
+            }
+            (Having::Future(mut walker), Deed::Go) => {
+                let dids = go(&mut walker, bench, party);
+                (settled(walker), dids)
+            }
+            (having, Deed::Forget) => forgotten(having),
+            (having, _) => (Having::Nothing, dropped(having, bench)),
+        };
+        match mem::replace(&mut self.having, next) {
+            Having::Nothing => {}
+            old => end_having(old, bench, party),
+        }
+        dids
+    }
+
+    fn place(&self) -> Option<Position> {
+        match &self.having {
+            Having::Future(walker) => Some(walker.place),
+            _ => None,
+        }
+    }
+
+    // Whether the party stands in the list, and is notified there.
+    fn mark<R: Wait>(&self, bench: &Bench<R>) -> Option<bool> {
+        match &self.having {
+            Having::Future(walker) => {
+                let entry = entry_of(walker)?;
+                Some(walker.shared.is_notified(bench, entry))
+            }
+            _ => None,
+        }
+    }
+}
+
+// Ends what a party has.
+fn end_having<R: Wait>(having: Having, bench: &Bench<R>, party: usize) {
+    match having {
+        Having::Nothing => {}
+        Having::Permits(held) => held.give(bench),
+        Having::Future(walker) => end_future(walker, bench, party),
+    }
+}
+
+// Ends parties, the last one first.
+fn end_all<R: Wait>(members: Vec<Member>, bench: &Bench<R>) {
+    let mut members = members;
+    while let Some(member) = members.pop() {
+        let Member {
+            having,
+            is_fresh: _,
+            joined: _,
+        } = member;
+        end_having(having, bench, members.len());
+    }
+    members.destroy_empty();
+}
+
+// One more party; false where memory is refused.
+fn add<R: Wait>(members: &mut Vec<Member>, bench: &Bench<R>) -> bool {
+    let member = Member {
+        having: Having::Nothing,
+        is_fresh: true,
+        joined: 0,
+    };
+    match members.push(member) {
+        Ok(()) => true,
+        Err(failed) => {
+            let AllocFailed { value } = failed;
+            let Member {
+                having,
+                is_fresh: _,
+                joined: _,
+            } = value;
+            end_having(having, bench, 0);
+            false
+        }
+    }
+}
+
+fn new_members<R: Wait>(bench: &Bench<R>, alloc: Global, parties: u32) -> Option<Vec<Member>> {
+    let mut members = Vec::new(alloc);
+    for _ in 0..parties {
+        if !add(&mut members, bench) {
+            end_all(members, bench);
+            return None;
+        }
+    }
+    Some(members)
+}
+
+impl SemaphoreShell {
+    // Whether the entry at this place of the World's list is the party's, with its mark, and whoever was notified between two
+    // polls was woken; and the number of the party's join.
+    fn entry_agrees<R: Wait>(&self, bench: &Bench<R>, world: &World, index: usize) -> Option<u64> {
+        let entry = world.entry(index)?;
+        let number = usize::try_from(entry.key).ok()?;
+        let member = self.members.get(number)?;
+        let is_told = member.mark(bench)?;
+        if is_told != entry.mark.is_marked() {
+            return None;
+        }
+        let is_outside = matches!(member.place(), Some(Position::Waiting(_)));
+        if is_told && is_outside && !bench.task(number)?.is_woken() {
+            return None;
+        }
+        Some(member.joined)
+    }
+
+    // Whether the list is the World's, in its order.
+    fn lists_agree<R: Wait>(&self, bench: &Bench<R>, world: &World) -> bool {
+        let waiting = world.waiting();
+        let mut last = 0u64;
+        for index in 0..waiting {
+            match self.entry_agrees(bench, world, index) {
+                Some(joined) if joined > last => last = joined,
+                _ => return false,
+            }
+        }
+        self.raw.waiting(bench) == waiting
+    }
+
+    // How many joined before this party that are listed still.
+    fn rank<R: Wait>(&self, bench: &Bench<R>, joined: u64) -> u64 {
+        let mut rank = 0u64;
+        for member in self.members.iter() {
+            if member.mark(bench).is_some() && member.joined < joined {
+                rank = rank.wrapping_add(1);
+            }
+        }
+        rank
+    }
+
+    fn code<R: Wait>(&self, bench: &Bench<R>, member: &Member) -> u64 {
+        let code = match &member.having {
+            Having::Nothing => 2000,
+            Having::Permits(held) => 2001 + held.permits() % 8,
+            Having::Future(walker) => code_of_position(walker.place, walker.party.permits),
+        };
+        let entry = match member.mark(bench) {
+            None => 0,
+            Some(false) => 1 + self.rank(bench, member.joined) % 4,
+            Some(true) => 5 + self.rank(bench, member.joined) % 4,
+        };
+        code.wrapping_mul(16).wrapping_add(entry)
+    }
+}
+
+impl Shell for SemaphoreShell {
+    type Setting = Setting;
+
+    type World = SemaphoreTwin;
+
+    type Deed = Deed;
+
+    fn alloc(setting: &Setting) -> Global {
+        setting.alloc
+    }
+
+    fn new<R: Wait>(bench: &Bench<R>, setting: Setting) -> Option<(SemaphoreShell, SemaphoreTwin)> {
+        let Setting {
+            alloc,
+            parties,
+            permits,
+            sizes,
+            adds,
+        } = setting;
+        let world = World::new(alloc, parties, permits).ok()?;
+        let raw = RawSemaphore::new(alloc, permits).ok()?;
+        let raw = Arc::new(alloc, raw).ok()?;
+        let members = new_members(bench, alloc, parties)?;
+        let shell = SemaphoreShell {
+            raw,
+            members,
+            sizes,
+            adds,
+            joins: 0,
+        };
+        Some((shell, SemaphoreTwin { world }))
+    }
+
+    fn end<R: Wait>(self, bench: &Bench<R>) {
+        let SemaphoreShell {
+            raw,
+            members,
+            sizes: _,
+            adds: _,
+            joins: _,
+        } = self;
+        end_all(members, bench);
+        drop(raw);
+    }
+
+    fn parties(&self) -> usize {
+        self.members.len()
+    }
+
+    fn is_fresh(&self, party: usize) -> bool {
+        match self.members.get(party) {
+            Some(member) => member.is_fresh,
+            None => false,
+        }
+    }
+
+    fn deed(&self, party: usize, number: usize) -> Option<Deed> {
+        let member = self.members.get(party)?;
+        match (&member.having, number) {
+            (Having::Nothing, 0) => Some(Deed::Acquire(self.sizes.0)),
+            (Having::Nothing, 1) => Some(Deed::Acquire(self.sizes.1)),
+            (Having::Nothing, 2) => Some(Deed::Try(self.sizes.0)),
+            (Having::Nothing, 3) => Some(Deed::Try(self.sizes.1)),
+            (Having::Nothing, 4) if self.adds => Some(Deed::Add),
+            (Having::Permits(_), 0) => Some(Deed::Drop),
+            (Having::Permits(_), 1) => Some(Deed::Forget),
+            (Having::Future(walker), number) => match (walker.place, number) {
+                (Position::At(_), 0) => Some(Deed::Go),
+                (Position::Unlisted(_) | Position::Waiting(_), 0) => Some(Deed::Poll),
+                (Position::Unlisted(_) | Position::Waiting(_), 1) => Some(Deed::Drop),
+                _ => None,
+            },
+            _ => None,
+        }
+    }
+
+    fn carry_out<R: Wait>(&mut self, bench: &Bench<R>, party: usize, deed: Deed) -> Dids {
+        let none = Dids {
+            moves: [None, None, None],
+        };
+        let Ok(shared) = Arc::try_clone(&self.raw) else {
+            return none;
+        };
+        let Some(member) = self.members.get_mut(party) else {
+            return none;
+        };
+        member.is_fresh = false;
+        let was_listed = member.mark(bench).is_some();
+        let dids = match deed {
+            Deed::Acquire(_) | Deed::Try(_) | Deed::Add => member.start(shared, bench, party, deed),
+            Deed::Poll | Deed::Go | Deed::Drop | Deed::Forget => member.go_on(bench, party, deed),
+        };
+        if !was_listed && member.mark(bench).is_some() {
+            self.joins = self.joins.wrapping_add(1);
+            member.joined = self.joins;
+        }
+        dids
+    }
+
+    fn is_as<R: Wait>(&self, bench: &Bench<R>, world: &SemaphoreTwin) -> bool {
+        let world = &world.world;
+        self.raw.available() == world.available() && self.lists_agree(bench, world)
+    }
+
+    fn key<R: Wait>(&self, bench: &Bench<R>) -> u64 {
+        let mut key = self.raw.available() % 16;
+        for member in self.members.iter() {
+            key = key
+                .wrapping_mul(1_000_003)
+                .wrapping_add(self.code(bench, member));
+        }
+        key
+    }
+}
