@@ -11,3 +11,5 @@ mod rwlock;
 mod rwlock_tests;
 #[cfg(test)]
 mod setting;
+#[cfg(test)]
+mod told_tests;

@@ -56,7 +56,7 @@ pub(crate) struct RwLockTwin {
 // The value, which nobody writes here.
 const VALUE: u64 = 7;
 
-fn new_lock(alloc: Global, limit: u32, readers: u32) -> Option<Arc<RawRwLock>> {
+pub(crate) fn new_lock(alloc: Global, limit: u32, readers: u32) -> Option<Arc<RawRwLock>> {
     let raw = RawRwLock::with_limits(alloc, u64::from(limit), u64::from(readers)).ok()?;
     Arc::new(alloc, raw).ok()
 }

@@ -94,7 +94,6 @@ fn four_parties_go_alike_by_chance(rt: HostRuntime) {
     }
 }
 
-// A read that was notified, and is refused, notifies once more: for one that joins between its two notifications.
 #[test]
 fn three_parties_are_refused_alike_by_chance(rt: HostRuntime) {
     let of_one = limited(&rt, 3, 1);
