@@ -1,5 +1,4 @@
 -- A poll stays at the positions of its program until it ends, for as many permits as it began with, and ends as a poll does.
-use Rattle.std.specs.Bool.{⊤}
 use Rattle.std.specs.Option.{IfSome, IfNone}
 use Rattle.std.proofs.Common.{◌≡◌, ℕ, Bool, true, false, Option, Some, None, refl, sym, subst, ◌∙◌}
 use Rattle.lock_program.specs.declared.end.End.{End}

@@ -9,7 +9,6 @@ use Rattle.semaphore_driver.specs.Table.{CanPoll}
 use Rattle.semaphore_driver.specs.declared.waiting.Outcome.{Outcome}
 use Rattle.semaphore_driver.specs.declared.waiting.Outcome.TheVariants.{Got, Waits, Refused}
 use Rattle.semaphore_driver.specs.declared.waiting.Waiting.{Waiting}
-use Rattle.sync_program.specs.declared.permits.Position.{Position}
 use Rattle.sync_program.specs.declared.permits.Position.TheVariants.{Unlisted}
 
 -- it waits for so many permits, between two polls

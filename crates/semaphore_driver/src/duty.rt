@@ -4,6 +4,7 @@
 
 ghost use Rattle.std.specs.Prelude.{◌≡◌};
 
+use crate::stock::Stock;
 use async_driver::{ListKey, Owed};
 use std::marker::Model;
 use words_semaphore::Seat;
@@ -36,24 +37,27 @@ impl Keys {
     {
         Keys { key }
     }
+}
 
+impl Stock {
     /// Ends the duty of a party that took the last permit: a waiter could be notified of nothing. Who gives permits next
     /// notifies.
     #[inline]
     pub fn nothing_left(&self, owed: Owed, seat: &Seat)
-        requires list { owed.list.id ≡ self.now }
+        requires list { owed.list.id ≡ self.now.list }
+        requires seat { seat.now.inner.table_id ≡ self.now.word.table }
         requires nothing { seat.now.inner.me.0.found ≡ 0 }
     {
         let _ = seat;
-        owed.end(&self.key);
+        owed.end(&self.keys.key);
     }
 
     /// Ends the older of two duties to the list: the other one stays, and its party looks anew.
     pub fn merge(&self, older: Owed, other: &Owed)
-        requires list { older.list.id ≡ self.now }
-        requires other { other.now.list.id ≡ self.now }
+        requires list { older.list.id ≡ self.now.list }
+        requires other { other.now.list.id ≡ self.now.list }
     {
         let _ = other;
-        older.end(&self.key);
+        older.end(&self.keys.key);
     }
 }

@@ -31,7 +31,7 @@ pub struct Duty {
 pub struct Stock {
     words: Words,
     list: WeightedList,
-    keys: Keys,
+    pub(crate) keys: Keys,
 }
 
 impl Model for Stock {
@@ -127,6 +127,7 @@ impl Stock {
     // So many are left: a duty is over if that is nothing.
     #[inline]
     fn leave(&self, seat: &Seat, duty: &mut Option<Duty>, available: u64)
+        requires table { seat.now.inner.table_id ≡ self.now.word.table }
         requires found { available ≡ seat.now.inner.me.0.found }
         requires list { IsOf self.now.list duty.old }
         ensures list { IsOf self.now.list duty.new }
@@ -135,7 +136,7 @@ impl Stock {
         if available > 0 {
             look(duty, available);
         } else if let Some(Duty { owed, seen: _ }) = duty.take() {
-            self.keys.nothing_left(owed, seat);
+            self.nothing_left(owed, seat);
         }
     }
 
@@ -285,7 +286,7 @@ impl Stock {
             },
         ) = duty.take()
         {
-            self.keys.merge(older, &owed);
+            self.merge(older, &owed);
         }
         put(duty, Duty { owed, seen: None });
     }
