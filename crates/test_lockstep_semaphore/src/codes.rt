@@ -57,5 +57,8 @@ pub(crate) fn code_of_position(position: Position, permits: u64) -> u64 {
         Position::Holding(_) => (18, 0),
         Position::At(place) => code_of_place(place),
     };
-    place * 64 + permits % 8 * 8 + available % 8
+    place
+        .wrapping_mul(64)
+        .wrapping_add(permits % 8 * 8)
+        .wrapping_add(available % 8)
 }

@@ -7,7 +7,7 @@ use lockstep::{Bench, Walker};
 use semaphore_driver::{PermitParty, RawSemaphore, Waiting};
 use std::marker::Model;
 use std::sync::{Arc, Wait};
-use sync_program::permits::Position;
+use sync_program::permits::{Place, Position};
 use words_semaphore::Seat;
 
 /// A future.
@@ -120,6 +120,17 @@ pub(crate) fn settled(walker: Party) -> Having {
     }
 }
 
+/// Whether the driver has stopped the future's poll, which is pending and has its notification to pass on.
+pub(crate) fn is_passing_on(walker: &Party) -> bool {
+    matches!(walker.place, Position::At(Place::PassOn { .. }))
+}
+
+/// The last action of such a poll.
+pub(crate) fn pass_on<R: Wait>(walker: &mut Party, bench: &Bench<R>) {
+    let place = walker.place;
+    walker.place = walker.party.pass_on(&walker.shared, bench, place);
+}
+
 /// Ends a future: the call that it is in, and then it gives back what it has.
 pub(crate) fn end_future<R: Wait>(walker: Party, bench: &Bench<R>, number: usize) {
     let mut walker = walker;
@@ -128,7 +139,11 @@ pub(crate) fn end_future<R: Wait>(walker: Party, bench: &Bench<R>, number: usize
             if !matches!(walker.place, Position::At(_)) {
                 break;
             }
-            let _ = task.enter(|cx| walker.go(bench, cx));
+            if is_passing_on(&walker) {
+                pass_on(&mut walker, bench);
+            } else {
+                let _ = task.enter(|cx| walker.go(bench, cx));
+            }
         }
     }
     match settled(walker) {

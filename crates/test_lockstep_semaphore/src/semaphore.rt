@@ -1,7 +1,9 @@
 //! The semaphore's shell, beside its World.
 
 use crate::codes::code_of_position;
-use crate::party::{Having, Held, Party, cancel, end_future, entry_of, new_future, settled};
+use crate::party::{
+    Having, Held, Party, cancel, end_future, entry_of, is_passing_on, new_future, pass_on, settled,
+};
 use lock_program::End;
 use lockstep::{Acted, Bench, Beside, Dids, Shell, moved};
 use semaphore_driver::{PollFor, RawSemaphore};
@@ -132,8 +134,8 @@ fn go<R: Wait>(walker: &mut Party, bench: &Bench<R>, party: usize) -> Dids {
         return one(What::Go(inputs(true)), Answer::NotPossible);
     };
     let before = walker.place;
-    if let Position::At(Place::PassOn { .. }) = before {
-        walker.place = walker.party.pass_on(&walker.shared, bench, before);
+    if is_passing_on(walker) {
+        pass_on(walker, bench);
         return one(What::Go(inputs(true)), Answer::Pending);
     }
     let acted = task.enter(|cx| walker.go(bench, cx));
