@@ -1,4 +1,3 @@
 pub mod Heard
 pub mod Turns
-pub mod Stages
 pub mod Weighted

@@ -1,7 +1,7 @@
 -- What contracts see of a mutex's future, and what a poll answers.
 use Rattle.std.specs.Prelude.{◌≡◌, ℕ, Bool, true, false, ⊤, Option, Some, None}
-use Rattle.async_driver.specs.declared.owns.Stage.{Stage}
-use Rattle.async_driver.specs.declared.owns.Stage.TheVariants as stages
+use Rattle.async_mutex.specs.declared.stage.Stage.{Stage}
+use Rattle.async_mutex.specs.declared.stage.Stage.TheVariants as stages
 use Rattle.async_driver.specs.declared.turn.Turn.{Turn}
 use Rattle.async_driver.specs.declared.turn.Turn.TheVariants.{Pending, Ready, Refused}
 use Rattle.async_driver.specs.declared.waiting_list.Listed.{Listed}

@@ -9,11 +9,11 @@ ghost use Rattle.async_mutex.specs.contracts.guard.Guard.{the_row as guard_row};
 
 use crate::guard::Guard;
 use crate::mutex::Mutex;
-use async_driver::Owns;
+use crate::owns::Owns;
 use std::ops::DerefMut;
 use std::sync::Wait;
 
-impl<T, R: Wait, O: Owns<Mutex<T, R>>> DerefMut for Guard<T, R, O> {
+impl<T, R: Wait, O: Owns<T, R>> DerefMut for Guard<T, R, O> {
     ghost deref_mut_gives = { λ guard value. value ≡ guard.value };
 
     fn deref_mut(&mut self) -> &mut T

@@ -13,6 +13,7 @@ mod guard;
 mod lends;
 mod lock;
 mod mutex;
+mod owns;
 mod stage;
 mod waiting;
 
@@ -37,7 +38,8 @@ pub type MutexGuard<'a, T, R> = Guard<T, R, &'a Mutex<T, R>>;
 /// A guard that owns its share of the mutex, and borrows nothing.
 pub type MutexGuardArc<T, R> = Guard<T, R, Arc<Mutex<T, R>>>;
 
-pub use async_driver::{Owns, Polled, Settled, Turn};
+pub use async_driver::{Polled, Settled, Turn};
 pub use guard::Guard;
 pub use lock_program::Refusal;
 pub use mutex::Mutex;
+pub use owns::Owns;

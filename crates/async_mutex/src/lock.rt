@@ -2,15 +2,16 @@
 
 ghost use Rattle.std.specs.Prelude.{◌≡◌, false, None};
 ghost use Rattle.futures.specs.Task.{Covers, Keeps};
-ghost use Rattle.async_driver.specs.Stages.{IsOf, is_finished};
+ghost use Rattle.async_mutex.specs.Stages.{IsOf, is_finished};
 ghost use Rattle.async_driver.specs.Turns.{OnPending};
 ghost use Rattle.async_mutex.specs.Futures.{HasReceipt, IsTurn, WaitsAt, future};
 
 use crate::guard::Guard;
 use crate::mutex::Mutex;
-use crate::stage::{drop_stage, into_guard, poll_stage, take};
+use crate::owns::Owns;
+use crate::stage::{Stage, drop_stage, into_guard, poll_stage, take};
 use crate::waiting::{Outcome, Waiting};
-use async_driver::{Owns, Polled, Stage, Turn};
+use async_driver::{Polled, Turn};
 use futures::task::Context;
 use lock_program::Refusal;
 use std::marker::{Model, PhantomData};
@@ -22,14 +23,14 @@ use std::{fmt, mem};
 /// given, and its count as starved.
 ///
 /// In clauses it is how far it is (`stage`), and its entry in the mutex's list (`entry`).
-pub struct LockFuture<T, R: Wait, O: Owns<Mutex<T, R>>> {
+pub struct LockFuture<T, R: Wait, O: Owns<T, R>> {
     stage: Stage<O>,
     // `None` before the first poll that didn't get the lock, and once it was ready.
     waiting: Option<Waiting<T>>,
     runtime: PhantomData<R>,
 }
 
-impl<T, R: Wait, O: Owns<Mutex<T, R>>> Model for LockFuture<T, R, O> {
+impl<T, R: Wait, O: Owns<T, R>> Model for LockFuture<T, R, O> {
     ghost use Rattle.std.specs.Prelude.{IfSome};
     ghost use Rattle.async_mutex.specs.Futures.{Future, WaitsAs, entry_of, future};
 
@@ -40,7 +41,7 @@ impl<T, R: Wait, O: Owns<Mutex<T, R>>> Model for LockFuture<T, R, O> {
     ghost invariant = { λ l. IfSome l.waiting (WaitsAs O.lock_of l.stage) };
 }
 
-impl<T, R: Wait, O: Owns<Mutex<T, R>>> LockFuture<T, R, O> {
+impl<T, R: Wait, O: Owns<T, R>> LockFuture<T, R, O> {
     #[inline]
     pub(crate) fn new(stage: Stage<O>) -> LockFuture<T, R, O>
         requires { is_finished stage ≡ false }
@@ -54,7 +55,7 @@ impl<T, R: Wait, O: Owns<Mutex<T, R>>> LockFuture<T, R, O> {
     }
 }
 
-impl<T, R: Wait + Clock, O: Owns<Mutex<T, R>>> LockFuture<T, R, O> {
+impl<T, R: Wait + Clock, O: Owns<T, R>> LockFuture<T, R, O> {
     /// One poll: ready with the guard, or pending.
     ///
     /// It is refused as [`Refusal::Memory`] if memory for its entry was refused, or if no share of the mutex could be had, and as
@@ -106,10 +107,10 @@ impl<T, R: Wait + Clock, O: Owns<Mutex<T, R>>> LockFuture<T, R, O> {
     }
 }
 
-impl<T, R: Wait + Clock, O: Owns<Mutex<T, R>>> Polled for LockFuture<T, R, O> {
+impl<T, R: Wait + Clock, O: Owns<T, R>> Polled for LockFuture<T, R, O> {
     type Got = Guard<T, R, O>;
 
-    ghost use Rattle.async_driver.specs.Stages.{IsOf, is_finished};
+    ghost use Rattle.async_mutex.specs.Stages.{IsOf, is_finished};
     ghost use Rattle.async_mutex.specs.Futures.{CanRefuse};
 
     ghost gives = { λ future guard. IsOf O.lock_of future.stage guard.mutex };
@@ -121,7 +122,7 @@ impl<T, R: Wait + Clock, O: Owns<Mutex<T, R>>> Polled for LockFuture<T, R, O> {
     }
 }
 
-impl<T, R: Wait, O: Owns<Mutex<T, R>>> Drop for LockFuture<T, R, O> {
+impl<T, R: Wait, O: Owns<T, R>> Drop for LockFuture<T, R, O> {
     #[inline]
     fn drop(self) {
         let Self {
@@ -133,7 +134,7 @@ impl<T, R: Wait, O: Owns<Mutex<T, R>>> Drop for LockFuture<T, R, O> {
     }
 }
 
-impl<T, R: Wait, O: Owns<Mutex<T, R>>> fmt::Debug for LockFuture<T, R, O> {
+impl<T, R: Wait, O: Owns<T, R>> fmt::Debug for LockFuture<T, R, O> {
     fn fmt<W: fmt::Write>(&self, f: &mut fmt::Formatter<W>) -> fmt::Result {
         if O::is_share() {
             f.write_str("LockArc { .. }")

@@ -2,7 +2,7 @@
 
 ghost use Rattle.std.specs.Prelude.{◌≡◌, IfSome, IfOk, IfErr, None, ◌≤◌, false};
 ghost use Rattle.std.specs.Arc.{arc_value};
-ghost use Rattle.async_driver.specs.Stages.{IsFor, is_finished};
+ghost use Rattle.async_mutex.specs.Stages.{IsFor, is_finished};
 ghost use Rattle.lock_driver.specs.Parties.{IsGivenUp};
 ghost use Rattle.async_mutex.specs.Outcomes.{Waits};
 ghost use Rattle.lock_words.specs.Tries.{Holds};
@@ -11,9 +11,10 @@ ghost use Rattle.lock_program.specs.declared.refusal.Refusal.{Refusal};
 use crate::guard::Guard;
 use crate::lock::LockFuture;
 use crate::lock_futures::{Lock, LockArc};
+use crate::stage::{Stage, first};
 use crate::waiting::Waiting;
 use crate::{MutexGuard, MutexGuardArc};
-use async_driver::{Settled, Stage};
+use async_driver::Settled;
 use futures::executor::block_on;
 use lock_driver::RawMutex;
 use lock_program::Refusal;
@@ -141,7 +142,7 @@ impl<T: Drop, R: Wait + Drop> Mutex<T, R> {
         ensures new { is_finished result.stage ≡ false }
         ensures entry { result.entry ≡ None }
     {
-        LockFuture::new(Stage::first::<Mutex<T, R>>(Arc::try_clone(this).ok()))
+        LockFuture::new(first::<T, R, Arc<Mutex<T, R>>>(Arc::try_clone(this).ok()))
     }
 }
 

@@ -1,24 +1,49 @@
-//! A poll of a future by who has the mutex, and what a dropped one gives back.
+//! How far a future is, one poll of it by who has the mutex, and what a dropped one gives back.
 
 ghost use Rattle.std.specs.Prelude.{◌≡◌, false, IfSome};
 ghost use Rattle.futures.specs.Task.{Keeps};
-ghost use Rattle.async_driver.specs.Stages.{IsOf, is_finished};
+ghost use Rattle.async_mutex.specs.Stages.{IsFor, IsOf, is_finished};
 ghost use Rattle.async_mutex.specs.Futures.{GotAt, HasReceipt, OnPolled, WaitsAs, entry_of};
 ghost use Rattle.async_mutex.specs.Outcomes.{OnWaits, Waits};
+ghost use Rattle.async_mutex.specs.declared.mutex.Mutex.{Mutex};
 
 use crate::guard::Guard;
 use crate::mutex::Mutex;
+use crate::owns::Owns;
 use crate::waiting::{Outcome, Waiting, poll_waiting};
-use async_driver::{Owns, Stage, nothing};
+use async_driver::nothing;
 use futures::task::Context;
 use lock_program::Refusal;
 use lock_words::{Hold, Seat};
 use std::sync::Wait;
 use std::time::Clock;
 
+/// How far a future is.
+#[derive(Drop)]
+pub enum Stage<O> {
+    /// No share of the mutex could be had.
+    Unowned,
+    /// It hasn't been ready, and has the mutex.
+    Waits(O),
+    /// It was ready, and who has the mutex went to the guard.
+    Finished,
+}
+
+/// How far a future is that is new: it waits, if the mutex could be had.
+#[inline]
+pub(crate) fn first<T, R, O: Owns<T, R>>(share: Option<O>) -> Stage<O>
+    ensures new { is_finished result ≡ false }
+    ensures mutex { (mutex : Mutex T R) → IfSome share (λ owner. mutex ≡ O.lock_of owner) → IsFor O.lock_of result mutex }
+{
+    match share {
+        Some(owner) => Stage::Waits(owner),
+        None => Stage::Unowned,
+    }
+}
+
 /// The lock, if it can be had at once.
 #[inline]
-pub(crate) fn take<T, R, O: Owns<Mutex<T, R>>>(stage: &Stage<O>) -> Option<(Seat<T>, Hold<T>)>
+pub(crate) fn take<T, R, O: Owns<T, R>>(stage: &Stage<O>) -> Option<(Seat<T>, Hold<T>)>
     ensures { IfSome result (λ r. GotAt O.lock_of stage.now r.0 r.1) }
 {
     match stage {
@@ -29,7 +54,7 @@ pub(crate) fn take<T, R, O: Owns<Mutex<T, R>>>(stage: &Stage<O>) -> Option<(Seat
 
 /// The guard of a future that got the lock, with who has the mutex.
 #[inline]
-pub(crate) fn into_guard<T, R: Wait, O: Owns<Mutex<T, R>>>(
+pub(crate) fn into_guard<T, R: Wait, O: Owns<T, R>>(
     stage: Stage<O>,
     seat: Seat<T>,
     hold: Hold<T>,
@@ -44,7 +69,7 @@ pub(crate) fn into_guard<T, R: Wait, O: Owns<Mutex<T, R>>>(
 }
 
 /// One poll by who has the mutex.
-pub(crate) fn poll_stage<T, R: Wait + Clock, O: Owns<Mutex<T, R>>>(
+pub(crate) fn poll_stage<T, R: Wait + Clock, O: Owns<T, R>>(
     stage: &Stage<O>,
     cx: &mut Context<'_>,
     waiting: &mut Option<Waiting<T>>,
@@ -68,10 +93,7 @@ pub(crate) fn poll_stage<T, R: Wait + Clock, O: Owns<Mutex<T, R>>>(
 
 /// What a dropped future gives back.
 #[inline]
-pub(crate) fn drop_stage<T, R: Wait, O: Owns<Mutex<T, R>>>(
-    stage: Stage<O>,
-    waiting: Option<Waiting<T>>,
-)
+pub(crate) fn drop_stage<T, R: Wait, O: Owns<T, R>>(stage: Stage<O>, waiting: Option<Waiting<T>>)
     requires { IfSome waiting (WaitsAs O.lock_of stage) }
 {
     match stage {
@@ -83,7 +105,7 @@ pub(crate) fn drop_stage<T, R: Wait, O: Owns<Mutex<T, R>>>(
 // What a dropped future gives back that hasn't been ready, its share of the mutex last. It stands apart, so that the drop of
 // one that was ready is short.
 #[inline(never)]
-fn leave<T, R: Wait, O: Owns<Mutex<T, R>>>(owner: O, waiting: Option<Waiting<T>>)
+fn leave<T, R: Wait, O: Owns<T, R>>(owner: O, waiting: Option<Waiting<T>>)
     requires { IfSome waiting (Waits (O.lock_of owner).raw.words) }
 {
     if let Some(waiting) = waiting {

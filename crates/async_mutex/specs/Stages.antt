@@ -1,7 +1,7 @@
 -- How far a future is, and whose it is.
 use Rattle.std.specs.Prelude.{◌≡◌, Bool, true, false, ⊤}
-use Rattle.async_driver.specs.declared.owns.Stage.{Stage}
-use Rattle.async_driver.specs.declared.owns.Stage.TheVariants.{Unowned, Waits, Finished}
+use Rattle.async_mutex.specs.declared.stage.Stage.{Stage}
+use Rattle.async_mutex.specs.declared.stage.Stage.TheVariants.{Unowned, Waits, Finished}
 
 abbrev pub is_finished : {O : Type 0} → Stage O → Bool
 is_finished Finished = true

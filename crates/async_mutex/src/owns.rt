@@ -1,0 +1,61 @@
+//! Who has a lock.
+
+ghost use Rattle.std.specs.Prelude.{◌≡◌, IfSome};
+
+use crate::mutex::Mutex;
+use std::sync::Arc;
+
+/// Who has a lock: by a reference to it, or as one of its owners. Guards and futures are written once, for both.
+///
+/// It is implemented for `&Mutex` and for `Arc<Mutex>`.
+pub trait Owns<T, R>: Drop {
+    ghost use Rattle.async_mutex.specs.declared.mutex.Mutex.{Mutex};
+
+    /// The lock.
+    ghost lock_of: { Self → Mutex T R };
+
+    /// Returns the lock.
+    fn lock(&self) -> &Mutex<T, R>
+        ensures { result.now ≡ lock_of self.now };
+
+    /// Returns another of the same, or `None` if no more shares of the lock can be had.
+    fn again(&self) -> Option<Self>
+        ensures { IfSome result (λ other. lock_of other ≡ lock_of self.now) };
+
+    /// Returns whether this is a share of the lock. The names under which futures are shown differ by it.
+    fn is_share() -> bool;
+}
+
+impl<'a, T, R> Owns<T, R> for &'a Mutex<T, R> {
+    ghost lock_of = { λ o. o.now };
+
+    fn lock(&self) -> &Mutex<T, R> {
+        self
+    }
+
+    fn again(&self) -> Option<Self> {
+        Some(*self)
+    }
+
+    fn is_share() -> bool {
+        false
+    }
+}
+
+impl<T: Drop, R: Drop> Owns<T, R> for Arc<Mutex<T, R>> {
+    ghost use Rattle.std.specs.Arc.{arc_value};
+
+    ghost lock_of = { arc_value };
+
+    fn lock(&self) -> &Mutex<T, R> {
+        self
+    }
+
+    fn again(&self) -> Option<Self> {
+        Arc::try_clone(self).ok()
+    }
+
+    fn is_share() -> bool {
+        true
+    }
+}
