@@ -162,12 +162,7 @@ impl PermitParty {
 
     /// Passes on, where the driver has stopped, the notification that a pending poll still has to pass on: where the party
     /// stands then.
-    pub fn pass_on<R: Wait>(
-        &mut self,
-        raw: &RawSemaphore,
-        rt: &R,
-        position: Position,
-    ) -> Position
+    pub fn pass_on<R: Wait>(&mut self, raw: &RawSemaphore, rt: &R, position: Position) -> Position
         requires { Stands raw.now self.old position }
         ensures stands { Stands raw.now self.new result }
         ensures permits { self.new.permits ≡ self.old.permits }
