@@ -22,7 +22,7 @@ UNCOUNTED = {
 # what a list may do without counting: look at one entry by its id, look at a place, search for a waker
 ALLOWED = {
     "event": {"len", "is_empty", "entry", "in_order", "contains", "is_notified", "poll_entry", "ask", "next_waker", "withdraw", "notify", "notify_additional"},
-    "weighted": {"len", "contains", "is_notified", "poll_entry", "ask", "next_waker", "withdraw", "fit", "remove", "find", "take_waker"},
+    "weighted": {"len", "entry", "contains", "is_notified", "poll_entry", "ask", "next_waker", "withdraw", "fit", "remove", "find", "take_waker"},
 }
 # of these the calls that promise their visits may use the ones that reach no slot
 HARMLESS = {"laws", "len", "contains"}
