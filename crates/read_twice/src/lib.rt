@@ -17,7 +17,7 @@ pub fn reads_agree<R: Wait>(guard: &MutexGuard<'_, u64, R>) -> bool
 }
 
 /// As [`reads_agree`], of an owned guard.
-pub fn owned_reads_agree<R: Wait>(guard: &MutexGuardArc<u64, R>) -> bool
+pub fn owned_reads_agree<R: Wait + Drop>(guard: &MutexGuardArc<u64, R>) -> bool
     ensures { result ≡ true }
 {
     **guard == **guard
@@ -32,7 +32,7 @@ pub fn written<R: Wait>(guard: &mut MutexGuard<'_, u64, R>, number: u64) -> u64
 }
 
 /// As [`written`], by an owned guard.
-pub fn owned_written<R: Wait>(guard: &mut MutexGuardArc<u64, R>, number: u64) -> u64
+pub fn owned_written<R: Wait + Drop>(guard: &mut MutexGuardArc<u64, R>, number: u64) -> u64
     ensures { result ≡ number }
 {
     **guard = number;
