@@ -4,7 +4,7 @@
 # The crates of the read-write lock and of the barrier may name of a mutex: what is asked of it, what a step of it came to and how a
 # call ends (lock_program::mutex::{LockCall, Step}, lock_program::End), and of world_mutex the type `machine::Mutex`, what its contract
 # speaks of and the lemmas that follow from it. A place, an action, the table of places, the machine behind a `Mutex` (`reveal`), or a
-# mutex's World they must not name.
+# mutex's World they must not name; but a reader that is for tests shows at which place of the table a party stands.
 #
 # The crates of the locks for threads may stand, by crates.txt, on no crate of a World.
 #
@@ -14,13 +14,15 @@ set -eu
 above='crates/world_rwlock crates/world_barrier'
 tables='crates/lock_program/src/rwlock.rt crates/lock_program/specs/ReadWrite.antt crates/sync_program/src/barrier.rt crates/sync_program/specs/Barrier.antt'
 calls='lock_program\.specs\.declared\.mutex\.(LockCall|Step)\.|(lock_program|crate)::mutex::(LockCall|Step|\{LockCall, Step\})'
-contract='world_mutex\.specs\.machine\.(Mutex|Course|Conduct|Deeds|Alone)|world_mutex\.specs\.machine\.Behind\.\{behind_coded\}'
+contract='world_mutex\.specs\.machine\.(Mutex|Course|Conduct|Deeds|Alone|Steps)|world_mutex\.specs\.machine\.Behind\.\{behind_coded\}'
 lemmas='world_mutex\.proofs\.of_machine\.callers\.'
 type='world_mutex::machine::Mutex'
+# What the readers of places show, which are for tests.
+readers='world\.rt:[0-9]+:(use lock_program::mutex::Place as (LockPlace|TurnPlace);|ghost use .*\{place_behind\};)$'
 
 named=$(grep -rnE 'world_mutex(\.|::)|lock_program\.specs\.(declared\.mutex|Mutex)|(lock_program|crate)::mutex|\breveal\b' $above $tables \
     --include='*.antt' --include='*.rt' --exclude-dir=out |
-    grep -vE "($calls|$contract|$lemmas|$type)" || true)
+    grep -vE "($calls|$contract|$lemmas|$type|$readers)" || true)
 if [ -n "$named" ]; then
     echo "$named" >&2
     echo 'these lines name what is inside a mutex' >&2
@@ -28,7 +30,7 @@ if [ -n "$named" ]; then
 fi
 echo 'what is inside a mutex is named by no crate above it'
 
-shells='async_driver lock_place lock_words lock_driver async_mutex words_base words_rwlock words_once_cell words_semaphore rwlock_vault rwlock_driver async_rwlock once_cell_driver async_once_cell async_barrier'
+shells='async_driver lock_place lock_words lock_driver async_mutex words_base words_rwlock words_once_cell words_semaphore rwlock_vault rwlock_driver async_rwlock semaphore_driver async_semaphore once_cell_driver async_once_cell async_barrier'
 worlds='world_[a-z_]+|lock_core|lock_audit'
 for shell in $shells; do
     line=$(grep -E "^$shell( [a-z_=0-9]*)?:" crates.txt) || {

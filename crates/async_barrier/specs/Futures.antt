@@ -2,7 +2,7 @@
 use Rattle.std.specs.Prelude.{◌≡◌, ⊤, Bool, true, false, Option, Some, None}
 use Rattle.async_barrier.specs.Parties.{CanPoll, EndsPoll, IsGivenUp, Stands, Tells, WaitsCounted}
 use Rattle.async_barrier.specs.declared.barrier.Barrier.{Barrier}
-use Rattle.async_barrier.specs.declared.barrier.BarrierWaitResult.{BarrierWaitResult}
+use Rattle.async_barrier.specs.declared.result.BarrierWaitResult.{BarrierWaitResult}
 use Rattle.async_barrier.specs.declared.party.WaitEnd.{WaitEnd}
 use Rattle.async_barrier.specs.declared.party.WaitEnd.TheVariants as ended
 use Rattle.async_barrier.specs.declared.raw.RawBarrier.{RawBarrier}

@@ -4,8 +4,8 @@ ghost use Rattle.std.specs.Prelude.{◌≡◌, IfErr, IfOk, None, false};
 ghost use Rattle.async_barrier.specs.Parties.{IsGivenUp};
 ghost use Rattle.lock_program.specs.declared.refusal.Refusal.{Refusal};
 
-use crate::arrivals::Verdict;
 use crate::raw::RawBarrier;
+use crate::result::BarrierWaitResult;
 use crate::wait::BarrierWait;
 use async_driver::Settled;
 use futures::executor::block_on;
@@ -97,33 +97,5 @@ impl<R: Wait + Clock + RandomSource + AllocGlobal> Barrier<R> {
 impl<R> fmt::Debug for Barrier<R> {
     fn fmt<W: fmt::Write>(&self, f: &mut fmt::Formatter<W>) -> fmt::Result {
         f.debug_struct("Barrier").finish_non_exhaustive()
-    }
-}
-
-/// How a wait at a barrier has ended.
-///
-/// It is made of the evidence that the arrival has: that it finished its generation, or found it finished.
-#[derive(Debug, Clone, Drop)]
-pub struct BarrierWaitResult {
-    is_leader: bool,
-}
-
-impl BarrierWaitResult {
-    ghost use Rattle.async_barrier.specs.Counts.{leads};
-
-    // It is what the evidence tells.
-    pub(crate) fn new(verdict: Verdict) -> BarrierWaitResult
-        ensures { result.is_leader ≡ leads verdict }
-    {
-        BarrierWaitResult {
-            is_leader: verdict.told(),
-        }
-    }
-
-    /// Whether this wait was the arrival that finished its generation. Of each generation exactly one is.
-    pub fn is_leader(&self) -> bool
-        ensures { result ≡ self.now.is_leader }
-    {
-        self.is_leader
     }
 }

@@ -10,6 +10,7 @@ mod barrier;
 mod duty;
 mod party;
 mod raw;
+mod result;
 mod wait;
 
 /// The barrier's future.
@@ -19,7 +20,8 @@ pub mod lock_futures {
 
 pub use arrivals::{Arrivals, Verdict};
 pub use async_driver::{Polled, Settled, Turn};
-pub use barrier::{Barrier, BarrierWaitResult};
+pub use barrier::Barrier;
 pub use lock_program::Refusal;
 pub use party::{BarrierParty, Call, WaitEnd};
 pub use raw::RawBarrier;
+pub use result::BarrierWaitResult;

@@ -6,9 +6,10 @@ ghost use Rattle.async_driver.specs.Turns.{OnPending};
 ghost use Rattle.async_barrier.specs.Futures.{IsCountedIn, IsTurn, KeepsCountIn, OnAgain, Polled, Waits, entry_of, locking_of};
 ghost use Rattle.async_barrier.specs.Parties.{IsReceipt};
 
-use crate::barrier::{Barrier, BarrierWaitResult};
+use crate::barrier::Barrier;
 use crate::party::{BarrierParty, WaitEnd};
 use crate::raw::RawBarrier;
+use crate::result::BarrierWaitResult;
 use async_driver::{Polled, Turn, put};
 use futures::task::Context;
 use lock_program::Refusal;

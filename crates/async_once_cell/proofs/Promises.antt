@@ -1,6 +1,5 @@
 -- What a pending maker may still fail with, it promised before.
-use Rattle.std.proofs.Common.{◌≡◌, ◌⊎◌, inl, inr, ℕ, Bool, false, Option, Some, None, sym, subst, ◌∙◌}
-use Rattle.std.specs.Option.{IfSome}
+use Rattle.std.proofs.Common.{◌≡◌, ℕ, Bool, false, Option, Some, None, sym, subst, ◌∙◌}
 use Rattle.std.specs.Prelude.{Result, Ok, Err, IfOk, IfErr}
 use Rattle.async_once_cell.specs.Faults.{FailedSo}
 use Rattle.lock_program.specs.declared.refusal.Refusal.{Refusal}
@@ -38,8 +37,3 @@ module _ {T E M : Type 0} (gives : M → Result T E → Type 0) (needs : M → �
 -- while a future is pending it may refuse as before
 pub refuses_still : {X : Type 0} (was is : Bool) → (was ≡ false) × (is ≡ false) → (x : Result X Refusal) → IfErr x (CanRefuse is) → IfErr x (CanRefuse was)
 refuses_still was is e x = subst (λ b. IfErr x (CanRefuse is) → IfErr x (CanRefuse b)) (e.1 ∙ sym e.0) (λ f. f)
-
--- a value that stays or goes is the one that it was
-pub carried : {X : Type 0} (old now origin : Option X) → IfSome old (λ v. origin ≡ Some v) → (now ≡ None) ⊎ (now ≡ old) → IfSome now (λ v. origin ≡ Some v)
-carried old now origin h (inl e) = subst (λ o. IfSome o (λ v. origin ≡ Some v)) (sym e) tt
-carried old now origin h (inr e) = subst (λ o. IfSome o (λ v. origin ≡ Some v)) (sym e) h

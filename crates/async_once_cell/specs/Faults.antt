@@ -1,10 +1,13 @@
 -- Why blocking calls give up.
-use Rattle.std.specs.Prelude.{◌≡◌, Bool, Option, Some, IsSomeAnd, Result, Ok, Err}
+use Rattle.std.specs.Prelude.{◌≡◌, Option, Some, IfNone, IfSome, IsSome, IsSomeAnd, Result, Ok, Err}
+use denote.Ref.{Bor}
+use Rattle.async_once_cell.specs.declared.blocking.Ended.{Ended}
+use Rattle.async_once_cell.specs.declared.blocking.Ended.TheVariants as ended
 use Rattle.async_once_cell.specs.declared.faults.InitFault.{InitFault}
 use Rattle.async_once_cell.specs.declared.faults.InitFault.TheVariants as init
 use Rattle.async_once_cell.specs.declared.faults.SetFault.{SetFault}
 use Rattle.async_once_cell.specs.declared.faults.SetFault.TheVariants as set
-use Rattle.async_once_cell.specs.Futures.{CanRefuse}
+use Rattle.async_once_cell.specs.Futures.{IsSet}
 use Rattle.lock_program.specs.declared.refusal.Refusal.{Refusal}
 use Rattle.lock_program.specs.declared.refusal.Refusal.TheVariants.{Memory}
 
@@ -18,11 +21,15 @@ abbrev pub HasBack : {T : Type 0} → T → SetFault T → Type 0
 HasBack value (set.Taken v) = v ≡ value
 HasBack value (set.Refused v refusal) = (v ≡ value) × (refusal ≡ Memory)
 
--- a set that found the cell full has the value that was handed in; one that is refused may be so
-abbrev pub BackSo : {T : Type 0} → Bool → Option T → Result (Result (Unit {0}) T) Refusal → Type 0
-BackSo over origin (Ok (Err v)) = origin ≡ Some v
-BackSo over origin (Ok (Ok done)) = Unit {0}
-BackSo over origin (Err refusal) = CanRefuse over refusal
+-- a set has the value that was handed in, until it is ready; and what it is ready with is that value
+abbrev pub HasValue : {T : Type 0} → Option T → Option T → Option (Result (Bor T) T) → Type 0
+HasValue origin value got = IfSome value (λ v. origin ≡ Some v) × IfNone got (IsSome value) × IfSome got (IsSet origin)
+
+-- however it ended, what is left is the value that was handed in
+abbrev pub EndsWith : {T : Type 0} → Option T → Ended T → Type 0
+EndsWith origin (ended.Done r) = origin ≡ Some r.now
+EndsWith origin (ended.Back v) = origin ≡ Some v
+EndsWith origin (ended.Never v) = origin ≡ Some v
 
 -- how the maker failed, it promised
 abbrev pub FailedSo : {T E M : Type 0} → (M → Result T E → Type 0) → Option M → Result (Unit {0}) E → Type 0

@@ -1,8 +1,8 @@
 //! The futures that blocking calls wait for. What they give borrows nothing: the cell's value is read afterwards.
 
-ghost use Rattle.std.specs.Prelude.{◌≡◌, IfErr, IfOk, IfSome, Some, false};
+ghost use Rattle.std.specs.Prelude.{◌≡◌, IfErr, IfOk, IfSome, IsSomeAnd, Some, false};
 ghost use Rattle.async_once_cell.specs.Closures.{CanMake, CanTry, TryGives};
-ghost use Rattle.async_once_cell.specs.Faults.{BackSo, FailedSo};
+ghost use Rattle.async_once_cell.specs.Faults.{EndsWith, FailedSo};
 ghost use Rattle.async_once_cell.specs.Futures.{CanRefuse};
 ghost use Rattle.futures.specs.Poll.{IfReady, OnPending};
 ghost use Rattle.futures.specs.Task.{Covers, Keeps};
@@ -86,14 +86,25 @@ impl<
     }
 }
 
-/// A set of a blocking call, with the value that was handed in (`O`), until it is ready.
+/// How a blocking set has ended.
+pub(crate) enum Ended<'a, T> {
+    /// It was done, and this is the cell's value.
+    Done(&'a T),
+    /// The cell was full, and this is the value back.
+    Back(T),
+    /// It wasn't ready, and this is the value that it was to set.
+    Never(T),
+}
+
+/// A set of a blocking call, of the value that was handed in (`O`), with what it was ready with, once it was.
 pub(crate) struct Kept<'a, T, R: Waits, O: Origin<T>> {
     pub(crate) set: Set<'a, T, R>,
+    got: Option<Result<&'a T, T>>,
     value: PhantomData<O>,
 }
 
 impl<'a, T, R: Waits, O: Origin<T>> Model for Kept<'a, T, R, O> {
-    ghost use Rattle.std.specs.Prelude.{◌≡◌, IfSome, Some};
+    ghost use Rattle.async_once_cell.specs.Faults.{HasValue};
     ghost use Rattle.async_once_cell.specs.Futures.{Setting};
     ghost use Rattle.async_once_cell.specs.declared.cell.OnceCell.{OnceCell};
 
@@ -101,49 +112,63 @@ impl<'a, T, R: Waits, O: Origin<T>> Model for Kept<'a, T, R, O> {
 
     ghost view = { λ k. k.set };
 
-    ghost invariant = { λ k. IfSome k.set.value (λ v. O.origin ≡ Some v) };
+    ghost invariant = { λ k. HasValue O.origin k.set.value k.got };
 }
 
 impl<'a, T: Drop, R: Waits, O: Origin<T>> Kept<'a, T, R, O> {
     pub(crate) fn new(set: Set<'a, T, R>) -> Kept<'a, T, R, O>
-        requires { IfSome set.value (λ v. O.origin ≡ Some v) }
+        requires { IsSomeAnd set.value (λ v. O.origin ≡ Some v) }
         ensures { result ≡ set.entry }
     {
         Kept {
             set,
+            got: None,
             value: PhantomData,
         }
     }
 
-    // One poll: whether the set was done, or its value back.
-    fn poll(&mut self, cx: &mut Context<'_>) -> Poll<Result<Result<(), T>, Refusal>>
+    // One poll: whether the set was ready, with what it keeps then.
+    fn poll(&mut self, cx: &mut Context<'_>) -> Poll<Result<(), Refusal>>
     where
         R: Clock,
-        ensures value { IfReady result (BackSo self.old.is_over O.origin) }
+        ensures refused { IfReady result (λ got. IfErr got (CanRefuse self.old.is_over)) }
         ensures over { OnPending result ((self.old.is_over ≡ false) × (self.new.is_over ≡ false)) }
         ensures registered { OnPending result (Covers cx.new (λ _. ⊥)) }
         ensures kept { Keeps cx.old cx.new }
     {
         match self.set.poll(cx) {
             Turn::Pending => Poll::Pending,
-            Turn::Ready(Ok(_)) => Poll::Ready(Ok(Ok(()))),
-            Turn::Ready(Err(value)) => Poll::Ready(Ok(Err(value))),
+            Turn::Ready(got) => {
+                self.got = Some(got);
+                Poll::Ready(Ok(()))
+            }
             Turn::Refused(refusal) => Poll::Ready(Err(refusal)),
         }
     }
 
-    // The value, if the set wasn't ready.
-    pub(crate) fn into_value(self) -> Option<T>
-        ensures { IfSome result (λ v. O.origin ≡ Some v) }
+    // How the set has ended.
+    pub(crate) fn into_end(self) -> Ended<'a, T>
+        ensures { EndsWith O.origin result }
     {
-        let Kept { set, value: _ } = self;
-        set.into_value()
+        let Kept { set, got, value: _ } = self;
+        match got {
+            Some(Ok(value)) => Ended::Done(value),
+            Some(Err(value)) => Ended::Back(value),
+            None => match set.into_value() {
+                Some(value) => Ended::Never(value),
+                None => unreachable!(),
+            },
+        }
     }
 }
 
 impl<T: Drop, R: Waits, O: Origin<T>> Drop for Kept<'_, T, R, O> {
     fn drop(self) {
-        let Self { set: _, value: _ } = self;
+        let Self {
+            set: _,
+            got: _,
+            value: _,
+        } = self;
     }
 }
 
@@ -159,13 +184,11 @@ impl<T, R: Waits, O: Origin<T>> Drop for BlockedSet<'_, '_, T, R, O> {
 }
 
 impl<'b, 'a, T: Drop, R: Waits + Clock, O: Origin<T>> Future for BlockedSet<'b, 'a, T, R, O> {
-    type Output = Result<Result<(), T>, Refusal>;
+    type Output = Result<(), Refusal>;
 
-    ghost use Rattle.async_once_cell.specs.Faults.{BackSo};
+    ghost gives = { λ b got. IfErr got (CanRefuse b.0.now.is_over) };
 
-    ghost gives = { λ b got. BackSo b.0.now.is_over O.origin got };
-
-    fn poll(&mut self, cx: &mut Context<'_>) -> Poll<Result<Result<(), T>, Refusal>> {
+    fn poll(&mut self, cx: &mut Context<'_>) -> Poll<Result<(), Refusal>> {
         let kept: &mut Kept<'a, T, R, O> = &mut *self.0;
         kept.poll(cx)
     }

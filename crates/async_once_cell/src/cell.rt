@@ -6,7 +6,7 @@ ghost use Rattle.lock_program.specs.declared.refusal.Refusal.{Refusal};
 ghost use Rattle.async_once_cell.specs.declared.makers.Trying.TheVariants as tries;
 ghost use Rattle.async_once_cell.specs.declared.makers.Making.TheVariants as makes;
 
-use crate::blocking::{BlockedInit, BlockedSet, BlockedTry, BlockedWait, Kept};
+use crate::blocking::{BlockedInit, BlockedSet, BlockedTry, BlockedWait, Ended, Kept};
 use crate::faults::{InitFault, SetFault};
 use crate::init::{GetOrInit, GetOrTryInit};
 use crate::set::Set;
@@ -173,8 +173,9 @@ impl<T: Drop, R: Waits + Clock + RandomSource + AllocGlobal> OnceCell<T, R> {
     /// Puts this value in if the cell is empty, and else gives it back. It blocks the calling thread while another makes the value. Any
     /// error of `block_on` is [`Refusal::Memory`].
     ///
-    /// What it gives back is the value that was handed in (`back`).
+    /// What it gives is the value that was handed in (`value`), and so is what it gives back (`back`).
     pub fn set_blocking(&self, value: T) -> Result<&T, SetFault<T>>
+        ensures value { IfOk result (λ r. r.now ≡ value) }
         ensures back { IfErr result (HasBack value) }
     {
         set_in::<T, R, Brand>(self, value)
@@ -264,18 +265,17 @@ fn set_in<T: Drop, R: Waits + Clock + RandomSource + AllocGlobal, O: Origin<T>>(
     value: T,
 ) -> Result<&T, SetFault<T>>
     requires { O.origin ≡ Some value }
-    ensures { IfErr result (HasBack value) }
+    ensures value { IfOk result (λ r. r.now ≡ value) }
+    ensures back { IfErr result (HasBack value) }
 {
     let mut kept: Kept<'_, T, R, O> = Kept::new(cell.set(value));
     let refusal = match block_on(&cell.rt, BlockedSet(&mut kept)) {
-        Ok(Ok(Ok(()))) => return Ok(cell.raw.made(&cell.rt)),
-        Ok(Ok(Err(value))) => return Err(SetFault::Taken(value)),
         Ok(Err(refusal)) => refusal,
-        Err(_) => Refusal::Memory,
+        Ok(Ok(())) | Err(_) => Refusal::Memory,
     };
-    match kept.into_value() {
-        Some(value) => Err(SetFault::Refused(value, refusal)),
-        // It was ready, and so the cell is full.
-        None => Ok(cell.raw.made(&cell.rt)),
+    match kept.into_end() {
+        Ended::Done(value) => Ok(value),
+        Ended::Back(value) => Err(SetFault::Taken(value)),
+        Ended::Never(value) => Err(SetFault::Refused(value, refusal)),
     }
 }

@@ -1,6 +1,6 @@
 //! A future that puts a value into a cell.
 
-ghost use Rattle.std.specs.Prelude.{◌≡◌, ◌⊎◌, IfSome, Some, false, true, None};
+ghost use Rattle.std.specs.Prelude.{◌≡◌, ◌⊎◌, Some, false, true, None};
 ghost use Rattle.futures.specs.Task.{Keeps};
 ghost use Rattle.async_driver.specs.Turns.{OnPending};
 ghost use Rattle.once_cell_driver.specs.Sides.{IsReceipt};
@@ -57,7 +57,7 @@ impl<'a, T: Drop, R: Wait> Set<'a, T, R> {
 impl<'a, T: Drop, R: Wait> Set<'a, T, R> {
     /// Ends the future, and returns its value, if it wasn't ready.
     pub fn into_value(self) -> Option<T>
-        ensures { IfSome result (λ v. self.entry.value ≡ Some v) }
+        ensures { result ≡ self.entry.value }
     {
         let Self { cell, stage } = self;
         value_of(cell, stage)
@@ -70,7 +70,7 @@ fn value_of<'a, T: Drop, R: Wait>(
     stage: Stage<'a, T, Infallible, Given<T>>,
 ) -> Option<T>
     requires { CanDrop cell.now.raw stage }
-    ensures { IfSome result (λ v. value_in (maker_in stage.entry) ≡ Some v) }
+    ensures { result ≡ value_in (maker_in stage.entry) }
 {
     match stage {
         Stage::New(given) => given.into_option(),

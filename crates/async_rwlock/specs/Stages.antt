@@ -1,5 +1,5 @@
 -- How far a future is, what it has meanwhile, and what its polls answer.
-use Rattle.std.specs.Prelude.{◌≡◌, ℕ, Bool, true, false, ⊤, IfSome, IsSome, IsSomeAnd, Option, None}
+use Rattle.std.specs.Prelude.{◌≡◌, ℕ, Bool, true, false, ⊤, IfSome, IsSome, IsSomeAnd, Option, None, Some}
 use Rattle.async_driver.specs.declared.turn.Turn.{Turn}
 use Rattle.async_driver.specs.declared.turn.Turn.TheVariants.{Pending, Ready, Refused}
 use Rattle.futures.specs.declared.task.context.Context.{Context}
@@ -7,7 +7,7 @@ use Rattle.lock_program.specs.declared.refusal.Refusal.{Refusal}
 use Rattle.lock_program.specs.declared.refusal.Refusal.TheVariants.{Finished}
 use Rattle.words_rwlock.specs.declared.view.Seat.{Seat}
 use Rattle.rwlock_driver.specs.Polls.{HasReceipt, Refuses, WaitsFor, first_of, right_of}
-use Rattle.rwlock_driver.specs.Rights.{Has}
+use Rattle.rwlock_driver.specs.Rights.{Has, awaits}
 use Rattle.rwlock_driver.specs.declared.aim.Aim.{Aim}
 use Rattle.rwlock_driver.specs.declared.aim.Aim.TheVariants as aim
 use Rattle.rwlock_driver.specs.declared.waiting.Outcome.{Outcome}
@@ -56,6 +56,12 @@ WaitsAs lock_of a _ w = ⊥
 abbrev pub IsBegun : {O : Type 0} → Aim → Stage O → Option Waiting → Type 0
 IsBegun aim.Upgrade (Waits owner) waiting = IsSome waiting
 IsBegun a stage waiting = ⊤
+
+-- one that was never polled has a seat alone, with the writer's bit and the turn
+abbrev pub IsUpgrading : {O T R : Type 0} → (O → RwLock T R) → Stage O → Option Seat → Option Waiting → Type 0
+IsUpgrading lock_of (Waits owner) (Some seat) waiting = Has (lock_of owner).raw awaits seat × (waiting ≡ None)
+IsUpgrading lock_of _ (Some seat) waiting = ⊥
+IsUpgrading lock_of stage None waiting = IsBegun aim.Upgrade stage waiting
 
 -- its party has a receipt of the list of what it wants next
 abbrev pub HasReceiptAt : {O T R : Type 0} → (O → RwLock T R) → Stage O → Context → Option Waiting → Type 0

@@ -103,6 +103,9 @@ impl<T: Drop, R: Wait + Clock + RandomSource + AllocGlobal> RwLock<T, R> {
         ensures lock { IfOk result (λ guard. guard.lock ≡ self.now) }
         ensures refused { IfErr result (Refuses aims.UpgradableRead) }
     {
+        if let Some(guard) = self.try_upgradable_read() {
+            return Ok(guard);
+        }
         match block_on(&self.rt, Settled(self.upgradable_read())) {
             Ok(settled) => settled,
             Err(_) => Err(Refusal::Memory),
@@ -115,6 +118,9 @@ impl<T: Drop, R: Wait + Clock + RandomSource + AllocGlobal> RwLock<T, R> {
         ensures lock { IfOk result (λ guard. guard.lock ≡ self.now) }
         ensures refused { IfErr result (Refuses aims.Write) }
     {
+        if let Some(guard) = self.try_write() {
+            return Ok(guard);
+        }
         match block_on(&self.rt, Settled(self.write())) {
             Ok(settled) => settled,
             Err(_) => Err(Refusal::Memory),
@@ -186,6 +192,9 @@ impl<T: Drop, R: Wait + Clock + RandomSource + AllocGlobal + Drop> RwLock<T, R> 
         ensures lock { IfOk result (λ guard. guard.lock ≡ arc_value this.now) }
         ensures refused { IfErr result (Refuses aims.Read) }
     {
+        if let Some(guard) = RwLock::try_read_arc(this) {
+            return Ok(guard);
+        }
         match block_on(&this.rt, Settled(RwLock::read_arc(this))) {
             Ok(settled) => settled,
             Err(_) => Err(Refusal::Memory),
@@ -199,6 +208,9 @@ impl<T: Drop, R: Wait + Clock + RandomSource + AllocGlobal + Drop> RwLock<T, R> 
         ensures lock { IfOk result (λ guard. guard.lock ≡ arc_value this.now) }
         ensures refused { IfErr result (Refuses aims.UpgradableRead) }
     {
+        if let Some(guard) = RwLock::try_upgradable_read_arc(this) {
+            return Ok(guard);
+        }
         match block_on(&this.rt, Settled(RwLock::upgradable_read_arc(this))) {
             Ok(settled) => settled,
             Err(_) => Err(Refusal::Memory),
@@ -212,6 +224,9 @@ impl<T: Drop, R: Wait + Clock + RandomSource + AllocGlobal + Drop> RwLock<T, R> 
         ensures lock { IfOk result (λ guard. guard.lock ≡ arc_value this.now) }
         ensures refused { IfErr result (Refuses aims.Write) }
     {
+        if let Some(guard) = RwLock::try_write_arc(this) {
+            return Ok(guard);
+        }
         match block_on(&this.rt, Settled(RwLock::write_arc(this))) {
             Ok(settled) => settled,
             Err(_) => Err(Refusal::Memory),

@@ -1,9 +1,9 @@
 //! How far a future is, one poll of it, and what a dropped one gives back. All futures of a lock are written over this, each
 //! with its aim.
 
-ghost use Rattle.std.specs.Prelude.{◌≡◌, false, IfSome, IsSome, None};
+ghost use Rattle.std.specs.Prelude.{◌≡◌, false, IfSome, IsSome, None, Some};
 ghost use Rattle.futures.specs.Task.{Covers, Keeps};
-ghost use Rattle.async_rwlock.specs.Stages.{Goes, GotAt, HasReceiptAt, IsAsMade, IsBegun, IsFor, OnGaveUp, OnPolled, OnWaits, WaitsAs, WaitsAt, is_finished};
+ghost use Rattle.async_rwlock.specs.Stages.{Goes, GotAt, HasReceiptAt, IsAsMade, IsBegun, IsFor, IsUpgrading, OnGaveUp, OnPolled, OnWaits, WaitsAs, WaitsAt, is_finished};
 ghost use Rattle.async_rwlock.specs.declared.rwlock.RwLock.{RwLock};
 ghost use Rattle.rwlock_driver.specs.Polls.{WaitsFor};
 ghost use Rattle.rwlock_driver.specs.declared.aim.Aim.TheVariants as aims;
@@ -103,6 +103,74 @@ pub(crate) fn poll_as<T, R: Wait + Clock, O: Owns<T, R>>(
         Outcome::Waits => Went::Waits,
         Outcome::Refused(refusal) => Went::Refused(refusal),
     }
+}
+
+// The first poll of an upgrade, by who has the lock.
+#[inline]
+fn look_stage<T, R: Wait + Clock, O: Owns<T, R>>(
+    seat: Seat,
+    stage: &Stage<O>,
+    waiting: &mut Option<Waiting>,
+    cx: &mut Context<'_>,
+) -> Outcome
+    requires begun { IsUpgrading O.lock_of stage.now (Some seat) waiting.old }
+    ensures waits { IfSome waiting.new (WaitsAs O.lock_of aims.Upgrade stage.now) }
+    ensures open { is_finished stage.now ≡ false }
+    ensures polled { OnPolled O.lock_of aims.Upgrade cx.new stage.now result waiting.new }
+    ensures kept { Keeps cx.old cx.new }
+{
+    match stage {
+        Stage::Waits(owner) => {
+            let lock = owner.lock();
+            lock.raw.poll_upgrading(&lock.rt, cx, seat, waiting)
+        }
+        Stage::Unowned | Stage::Finished => unreachable!(),
+    }
+}
+
+/// The first poll of an upgrade, whose seat has set the writer's bit.
+#[inline]
+pub(crate) fn poll_begun<T, R: Wait + Clock, O: Owns<T, R>>(
+    seat: Seat,
+    stage: &mut Stage<O>,
+    waiting: &mut Option<Waiting>,
+    cx: &mut Context<'_>,
+) -> Went<O>
+    requires begun { IsUpgrading O.lock_of stage.old (Some seat) waiting.old }
+    ensures waits { IfSome waiting.new (WaitsAs O.lock_of aims.Upgrade stage.new) }
+    ensures begun { IsBegun aims.Upgrade stage.new waiting.new }
+    ensures went { Goes O.lock_of aims.Upgrade stage.old result stage.new }
+    ensures share { is_finished stage.new ≡ false → stage.new ≡ stage.old }
+    ensures receipt { OnWaits result (HasReceiptAt O.lock_of stage.old cx.new waiting.new) }
+    ensures refused { OnGaveUp result (IsAsMade aims.Upgrade waiting.new) }
+    ensures kept { Keeps cx.old cx.new }
+{
+    match look_stage::<T, R, O>(seat, stage, waiting, cx) {
+        Outcome::Got(seat) => match mem::replace(stage, Stage::Finished) {
+            Stage::Waits(owner) => Went::Got(owner, seat),
+            Stage::Unowned | Stage::Finished => unreachable!(),
+        },
+        Outcome::Waits => Went::Waits,
+        Outcome::Refused(why) => Went::Refused(why),
+    }
+}
+
+/// What an upgrade gives back that was never polled: the writer's bit and the turn, and its share of the lock last.
+#[inline(never)]
+pub(crate) fn drop_begun<T, R: Wait, O: Owns<T, R>>(
+    seat: Seat,
+    stage: Stage<O>,
+    waiting: Option<Waiting>,
+)
+    requires begun { IsUpgrading O.lock_of stage (Some seat) waiting }
+{
+    nothing(waiting);
+    let Stage::Waits(owner) = stage else {
+        unreachable!()
+    };
+    let lock = owner.lock();
+    lock.raw.cancel_upgrading(&lock.rt, seat);
+    drop(owner);
 }
 
 /// What a dropped future gives back.

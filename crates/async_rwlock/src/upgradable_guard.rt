@@ -63,6 +63,7 @@ impl<T, R: Wait, O: Owns<T, R>> UpgradableGuard<T, R, O> {
     }
 
     // Who has the lock, and the seat with its right. Nothing is lent any more.
+    #[inline]
     fn into_seat(self) -> (O, Seat)
         ensures owner { O.lock_of result.0 ≡ self.lock }
         ensures seat { Has self.lock.raw upgradable result.1 }
@@ -102,6 +103,7 @@ impl<T, R: Wait, O: Owns<T, R>> UpgradableGuard<T, R, O> {
 
     /// Begins to write: from now on nobody begins to read. The future is ready once no other reader is left. Until then it lends
     /// nothing.
+    #[inline]
     pub fn upgrade(guard: Self) -> UpgradeFuture<T, R, O>
         ensures { IsOf O.lock_of result.stage guard.lock }
     {

@@ -3,12 +3,12 @@
 ghost use Rattle.std.specs.Prelude.{◌≡◌, false, None};
 ghost use Rattle.futures.specs.Task.{Covers, Keeps};
 ghost use Rattle.async_driver.specs.Turns.{OnPending};
-ghost use Rattle.async_rwlock.specs.Stages.{HasReceiptAt, IsAsMade, IsOf, IsTurn, OnRefused, WaitsAt, future, is_finished};
+ghost use Rattle.async_rwlock.specs.Stages.{HasReceiptAt, IsAsMade, IsOf, IsTurn, IsUpgrading, OnRefused, WaitsAt, future, is_finished};
 ghost use Rattle.rwlock_driver.specs.declared.aim.Aim.TheVariants as aims;
 ghost use Rattle.rwlock_driver.specs.Rights.{Has, awaits};
 
 use crate::owns::Owns;
-use crate::stage::{Stage, Went, drop_as, poll_as};
+use crate::stage::{Stage, Went, drop_as, drop_begun, poll_as, poll_begun};
 use crate::write_guard::WriteGuard;
 use async_driver::{Polled, Turn};
 use futures::task::Context;
@@ -26,32 +26,35 @@ use words_rwlock::Seat;
 /// Contracts see how far it is (`stage`), and what it has at the lock meanwhile (`waiting`).
 pub struct UpgradeFuture<T, R: Wait, O: Owns<T, R>> {
     stage: Stage<O>,
-    // Always there, until it was ready.
+    // There before the first poll.
+    begun: Option<Seat>,
+    // There from the first poll on that wasn't ready.
     waiting: Option<Waiting>,
     lock: PhantomData<(T, R)>,
 }
 
 impl<T, R: Wait, O: Owns<T, R>> Model for UpgradeFuture<T, R, O> {
     ghost use Rattle.std.specs.Prelude.{IfSome};
-    ghost use Rattle.async_rwlock.specs.Stages.{Future, IsBegun, WaitsAs, future};
+    ghost use Rattle.async_rwlock.specs.Stages.{Future, IsUpgrading, WaitsAs, future};
     ghost use Rattle.rwlock_driver.specs.declared.aim.Aim.TheVariants as aims;
 
     ghost Value = { Future O };
 
     ghost view = { λ l. future l.stage l.waiting };
 
-    ghost invariant = { λ l. IfSome l.waiting (WaitsAs O.lock_of aims.Upgrade l.stage) × IsBegun aims.Upgrade l.stage l.waiting };
+    ghost invariant = { λ l. IfSome l.waiting (WaitsAs O.lock_of aims.Upgrade l.stage) × IsUpgrading O.lock_of l.stage l.begun l.waiting };
 }
 
 impl<T, R: Wait, O: Owns<T, R>> UpgradeFuture<T, R, O> {
+    #[inline]
     pub(crate) fn new(owner: O, seat: Seat) -> UpgradeFuture<T, R, O>
         requires { Has (O.lock_of owner).raw awaits seat }
         ensures { IsOf O.lock_of result.stage (O.lock_of owner) }
     {
-        let waiting = owner.lock().raw.upgrading(seat);
         UpgradeFuture {
             stage: Stage::Waits(owner),
-            waiting: Some(waiting),
+            begun: Some(seat),
+            waiting: None,
             lock: PhantomData,
         }
     }
@@ -66,6 +69,7 @@ impl<T, R: Wait + Clock, O: Owns<T, R>> UpgradeFuture<T, R, O> {
     ///
     /// Pending, it has an entry in the list of what it wants next, which keeps a waker of the task that polls (`receipt`). The task
     /// has registered with the lock's source (`registered`), and keeps what it had registered before (`kept`).
+    #[inline]
     pub fn poll(&mut self, cx: &mut Context<'_>) -> Turn<WriteGuard<T, R, O>>
         ensures turn { IsTurn aims.Upgrade (λ guard. IsOf O.lock_of self.old.stage guard.lock) (is_finished self.old.stage) result (is_finished self.new.stage) }
         ensures share { is_finished self.new.stage ≡ false → self.new.stage ≡ self.old.stage }
@@ -74,7 +78,11 @@ impl<T, R: Wait + Clock, O: Owns<T, R>> UpgradeFuture<T, R, O> {
         ensures registered { OnPending result (Covers cx.new (WaitsAt O.lock_of self.old.stage)) }
         ensures kept { Keeps cx.old cx.new }
     {
-        match poll_as::<T, R, O>(Aim::Upgrade, &mut self.stage, &mut self.waiting, cx) {
+        let went = match self.begun.take() {
+            Some(seat) => poll_begun::<T, R, O>(seat, &mut self.stage, &mut self.waiting, cx),
+            None => poll_as::<T, R, O>(Aim::Upgrade, &mut self.stage, &mut self.waiting, cx),
+        };
+        match went {
             Went::Got(owner, seat) => Turn::Ready(WriteGuard::new(owner, seat)),
             Went::Waits => Turn::Pending,
             Went::Refused(refusal) => Turn::Refused(refusal),
@@ -98,13 +106,18 @@ impl<T, R: Wait + Clock, O: Owns<T, R>> Polled for UpgradeFuture<T, R, O> {
 }
 
 impl<T, R: Wait, O: Owns<T, R>> Drop for UpgradeFuture<T, R, O> {
+    #[inline]
     fn drop(self) {
         let Self {
             stage,
+            begun,
             waiting,
             lock: _,
         } = self;
-        drop_as::<T, R, O>(Aim::Upgrade, stage, waiting);
+        match begun {
+            Some(seat) => drop_begun::<T, R, O>(seat, stage, waiting),
+            None => drop_as::<T, R, O>(Aim::Upgrade, stage, waiting),
+        }
     }
 }
 

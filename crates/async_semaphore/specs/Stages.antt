@@ -7,6 +7,7 @@ use Rattle.async_semaphore.specs.declared.semaphore.Semaphore.{Semaphore}
 use Rattle.async_semaphore.specs.declared.stage.Stage.{Stage}
 use Rattle.async_semaphore.specs.declared.stage.Stage.TheVariants.{Unowned, Waits, Finished as Over}
 use Rattle.futures.specs.declared.task.context.Context.{Context}
+use Rattle.lock_program.specs.declared.refusal.Refusal.{Refusal}
 use Rattle.lock_program.specs.declared.refusal.Refusal.TheVariants.{Memory, Finished}
 use Rattle.semaphore_driver.specs.Polls.{HasReceipt, WaitsFor}
 use Rattle.semaphore_driver.specs.Semaphores.{Has}
@@ -82,6 +83,11 @@ IsTurn got was Pending is = (was ≡ false) × (is ≡ false)
 IsTurn got was (Refused Finished) is = (was ≡ true) × (is ≡ true)
 IsTurn got was (Refused Memory) is = (was ≡ false) × (is ≡ false)
 IsTurn got was (Refused _) is = ⊥
+
+-- how a future may refuse: as finished where it is over, and else for memory
+abbrev pub CanRefuse : Bool → Refusal → Type 0
+CanRefuse true refusal = refusal ≡ Finished
+CanRefuse false refusal = refusal ≡ Memory
 
 -- a fact of a poll that was refused
 abbrev pub OnRefused : {G : Type 0} → Turn G → Type 0 → Type 0

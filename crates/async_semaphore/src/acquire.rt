@@ -121,9 +121,11 @@ impl<R: Wait + Clock, O: Owns<R>> AcquireFuture<R, O> {
 impl<R: Wait + Clock, O: Owns<R>> Polled for AcquireFuture<R, O> {
     type Got = PermitGuard<R, O>;
 
-    ghost use Rattle.async_semaphore.specs.Stages.{Gives};
+    ghost use Rattle.async_semaphore.specs.Stages.{CanRefuse, Gives, is_finished};
 
     ghost gives = { λ future guard. Gives O.semaphore_of future.stage future.permits guard };
+
+    ghost refuses = { λ future. CanRefuse (is_finished future.stage) };
 
     fn poll_turn(&mut self, cx: &mut Context<'_>) -> Turn<PermitGuard<R, O>> {
         self.poll(cx)

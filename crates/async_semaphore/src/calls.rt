@@ -73,14 +73,19 @@ impl<R: Wait> Semaphore<R> {
     pub fn add_permits(&self, permits: usize) -> Result<(), Refusal>
         ensures { IfErr result (λ refusal. refusal ≡ Refusal.Permits) }
     {
-        self.raw.add(&self.rt, permits as u64)
+        match self.raw.add(&self.rt, permits as u64) {
+            Ok(_) => Ok(()),
+            Err(refusal) => Err(refusal),
+        }
     }
 }
 
 impl<R: Wait + Clock + RandomSource + AllocGlobal> Semaphore<R> {
-    /// Acquires a permit, blocking the calling thread until it has one. Any error of `block_on` is [`Refusal::Memory`].
+    /// Acquires a permit, blocking the calling thread until it has one. It is refused for memory
+    /// alone (`memory`), and any error of `block_on` is [`Refusal::Memory`].
     pub fn acquire_blocking(&self) -> Result<SemaphoreGuard<'_, R>, Refusal>
-        ensures { IfOk result (λ guard. (guard.semaphore ≡ self.now) × (guard.permits ≡ 1)) }
+        ensures permits { IfOk result (λ guard. (guard.semaphore ≡ self.now) × (guard.permits ≡ 1)) }
+        ensures memory { IfErr result (λ refusal. refusal ≡ Refusal.Memory) }
     {
         self.acquire_many_blocking(1)
     }
@@ -88,7 +93,8 @@ impl<R: Wait + Clock + RandomSource + AllocGlobal> Semaphore<R> {
     /// Acquires this many permits at once, as [`Semaphore::acquire_many`], blocking the calling thread until it has them. Any
     /// error of `block_on` is [`Refusal::Memory`].
     pub fn acquire_many_blocking(&self, permits: usize) -> Result<SemaphoreGuard<'_, R>, Refusal>
-        ensures { IfOk result (λ guard. (guard.semaphore ≡ self.now) × (guard.permits ≡ permits)) }
+        ensures permits { IfOk result (λ guard. (guard.semaphore ≡ self.now) × (guard.permits ≡ permits)) }
+        ensures memory { IfErr result (λ refusal. refusal ≡ Refusal.Memory) }
     {
         if let Some(guard) = self.try_acquire_many(permits) {
             return Ok(guard);
@@ -150,7 +156,8 @@ impl<R: Wait + Drop> Semaphore<R> {
 impl<R: Wait + Clock + RandomSource + AllocGlobal + Drop> Semaphore<R> {
     /// As [`Semaphore::acquire_blocking`], for a guard that has a share of the semaphore.
     pub fn acquire_arc_blocking(this: &Arc<Semaphore<R>>) -> Result<SemaphoreGuardArc<R>, Refusal>
-        ensures { IfOk result (λ guard. (guard.semaphore ≡ arc_value this.now) × (guard.permits ≡ 1)) }
+        ensures permits { IfOk result (λ guard. (guard.semaphore ≡ arc_value this.now) × (guard.permits ≡ 1)) }
+        ensures memory { IfErr result (λ refusal. refusal ≡ Refusal.Memory) }
     {
         Semaphore::acquire_many_arc_blocking(this, 1)
     }
@@ -160,7 +167,8 @@ impl<R: Wait + Clock + RandomSource + AllocGlobal + Drop> Semaphore<R> {
         this: &Arc<Semaphore<R>>,
         permits: usize,
     ) -> Result<SemaphoreGuardArc<R>, Refusal>
-        ensures { IfOk result (λ guard. (guard.semaphore ≡ arc_value this.now) × (guard.permits ≡ permits)) }
+        ensures permits { IfOk result (λ guard. (guard.semaphore ≡ arc_value this.now) × (guard.permits ≡ permits)) }
+        ensures memory { IfErr result (λ refusal. refusal ≡ Refusal.Memory) }
     {
         if let Some(guard) = Semaphore::try_acquire_many_arc(this, permits) {
             return Ok(guard);

@@ -4,6 +4,7 @@ ghost use Rattle.std.specs.Prelude.{◌≡◌};
 ghost use Rattle.semaphore_driver.specs.Semaphores.{Has};
 
 use crate::owns::Owns;
+use semaphore_driver::{Given, Lowered};
 use std::fmt;
 use std::marker::{Model, PhantomData};
 use std::sync::Wait;
@@ -56,15 +57,35 @@ impl<R: Wait, O: Owns<R>> PermitGuard<R, O> {
     /// Ends the guard without giving its permits back: the semaphore's limit is lowered by as many, and they never come back.
     /// It waits for nobody and takes no memory.
     pub fn forget(self) {
+        let _ = self.end_for_good();
+    }
+
+    // The limit is lowered by exactly the guard's permits, which the receipt says.
+    fn end_for_good(self) -> Lowered
+        ensures { result.permits ≡ self.permits }
+    {
         let Self {
             owner,
             seat,
             permits,
             runtime: _,
         } = self;
-        owner.semaphore().raw.forget(seat, permits);
+        let lowered = owner.semaphore().raw.forget(seat, permits);
         drop(owner);
+        lowered
     }
+}
+
+// Gives a guard's permits back, which the receipt says.
+#[inline]
+fn give_back<R: Wait, O: Owns<R>>(owner: O, seat: Seat, permits: u64) -> Given
+    requires { Has (O.semaphore_of owner).raw permits seat }
+    ensures { result.permits ≡ permits }
+{
+    let semaphore = owner.semaphore();
+    let given = semaphore.raw.give(&semaphore.rt, seat, permits);
+    drop(owner);
+    given
 }
 
 impl<R: Wait, O: Owns<R>> Drop for PermitGuard<R, O> {
@@ -76,9 +97,7 @@ impl<R: Wait, O: Owns<R>> Drop for PermitGuard<R, O> {
             permits,
             runtime: _,
         } = self;
-        let semaphore = owner.semaphore();
-        semaphore.raw.give(&semaphore.rt, seat, permits);
-        drop(owner);
+        let _ = give_back::<R, O>(owner, seat, permits);
     }
 }
 

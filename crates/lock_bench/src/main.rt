@@ -13,7 +13,7 @@ mod waiting;
 use async_lock::{Barrier, Mutex, OnceCell, RwLock, Semaphore};
 use barrier::{RoundOfFour, RoundOfOne};
 use futures::test::MockTask;
-use once_cell::{Get, InitReady, NewSetAndEnd, WaitReady};
+use once_cell::{Get, InitBlocking, InitReady, NewSetAndEnd, WaitReady};
 use rows::{BlockingPair, HeldTry, LockArcPair, LockPair, NewPair, StdPair, TryArcPair, TryPair};
 use rwlock::{Pair, Use};
 use std::alloc::AllocGlobal;
@@ -197,10 +197,11 @@ where
     let cell = &cell;
     print(rt, "get of a full cell", &Get { cell }, OFTEN)?;
     print(rt, "wait ready", &WaitReady { cell, task }, OFTEN)?;
+    print(rt, "get_or_init ready", &InitReady { cell, task }, OFTEN)?;
     print(
         rt,
         "get_or_init_blocking of a full cell",
-        &InitReady { cell },
+        &InitBlocking { cell },
         OFTEN,
     )?;
     print(

@@ -1,7 +1,10 @@
 //! What is timed of a once-cell on one thread.
 
+ghost use Rattle.std.specs.Prelude.{IsSome};
+
 use crate::timing::Row;
 use async_lock::{OnceCell, Turn};
+use futures::future::{self, Ready};
 use futures::test::MockTask;
 use std::alloc::AllocGlobal;
 use std::hint::black_box;
@@ -43,13 +46,38 @@ impl<R: Wait + Clock> Row for WaitReady<'_, '_, R> {
     }
 }
 
+/// `get_or_init` of a full cell, ready at its first poll.
+#[derive(Drop)]
+pub(crate) struct InitReady<'a, 'b, R> {
+    pub cell: &'a OnceCell<u64, R>,
+    pub task: &'b MockTask,
+}
+
+impl<R: Wait + Clock> Row for InitReady<'_, '_, R> {
+    fn go(&self, times: u64) {
+        let cell = self.cell;
+        self.task.enter(|cx| {
+            for _ in 0..times {
+                let mut init = black_box(cell).get_or_init(
+                    || -> Ready<u64>
+                        ensures { IsSome result.0 }
+                    { future::ready(0) },
+                );
+                if let Turn::Ready(value) = init.poll(cx) {
+                    black_box(*value);
+                }
+            }
+        });
+    }
+}
+
 /// `get_or_init_blocking` of a full cell.
 #[derive(Drop)]
-pub(crate) struct InitReady<'a, R> {
+pub(crate) struct InitBlocking<'a, R> {
     pub cell: &'a OnceCell<u64, R>,
 }
 
-impl<R: Wait + Clock + RandomSource + AllocGlobal> Row for InitReady<'_, R> {
+impl<R: Wait + Clock + RandomSource + AllocGlobal> Row for InitBlocking<'_, R> {
     fn go(&self, times: u64) {
         for _ in 0..times {
             if let Ok(value) = black_box(self.cell).get_or_init_blocking(|| 0u64) {

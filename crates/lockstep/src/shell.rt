@@ -57,6 +57,13 @@ pub trait Shell {
     /// The deed of this number of those that the party can do now.
     fn deed(&self, party: usize, number: usize) -> Option<Self::Deed>;
 
+    /// Whether the deed is made of whole calls, each of which the shell carries out without a stop. Each of its moves tells of a
+    /// call's beginning, with the answer of its end: the World goes on until the call has ended there.
+    fn is_whole(deed: Self::Deed) -> bool {
+        let _ = deed;
+        false
+    }
+
     /// Does it: the moves that it is in the World, with the shell's answers.
     fn carry_out<R: Wait>(&mut self, bench: &Bench<R>, party: usize, deed: Self::Deed) -> Dids;
 

@@ -8,7 +8,7 @@ use crate::shell::{Beside, Did, Shell};
 use std::alloc::Global;
 use std::collections::BTreeMap;
 use std::sync::Wait;
-use world_base::{Answer, Move};
+use world_base::{Answer, Move, What};
 
 /// A move that a shell's party made, and what the World answered.
 #[derive(Clone, Copy, Debug, PartialEq, Eq)]
@@ -57,7 +57,10 @@ struct Pair<S: Shell> {
 }
 
 // No party can do more than so many things next.
-const MOST_DEEDS: usize = 8;
+const MOST_DEEDS: usize = 24;
+
+// No call has so many actions.
+const MOST_STEPS: usize = 64;
 
 // How many deeds can be done now. Of parties that have done nothing yet only the first counts.
 fn options<S: Shell>(shell: &S) -> usize {
@@ -116,24 +119,37 @@ impl<S: Shell> Pair<S> {
     fn act<R: Wait>(&mut self, bench: &Bench<R>, choice: usize) -> [Option<Line>; 3] {
         match pick(&self.shell, choice) {
             Some((party, deed)) => {
+                let whole = S::is_whole(deed);
                 let [first, second, third] = self.shell.carry_out(bench, party, deed).moves;
                 [
-                    self.follow(party, first),
-                    self.follow(party, second),
-                    self.follow(party, third),
+                    self.follow(party, first, whole),
+                    self.follow(party, second, whole),
+                    self.follow(party, third, whole),
                 ]
             }
             None => [None, None, None],
         }
     }
 
-    // The World makes the move that the shell has made.
-    fn follow(&mut self, party: usize, did: Option<Did>) -> Option<Line> {
+    // The World makes the move that the shell has made, and goes on until the call has ended if that was a whole call.
+    fn follow(&mut self, party: usize, did: Option<Did>, whole: bool) -> Option<Line> {
         let did = did?;
-        let there = self.world.follow(Move {
-            party: u32::try_from(party).unwrap_or(u32::MAX),
+        let number = u32::try_from(party).unwrap_or(u32::MAX);
+        let mut there = self.world.follow(Move {
+            party: number,
             what: did.what,
         });
+        if whole {
+            for _ in 0..MOST_STEPS {
+                if there != Answer::Stepped {
+                    break;
+                }
+                there = self.world.follow(Move {
+                    party: number,
+                    what: What::Go(did.what.inputs()),
+                });
+            }
+        }
         Some(Line { party, did, there })
     }
 
@@ -386,6 +402,15 @@ impl States {
         Some(path)
     }
 
+    // Whether a party that stands in this state may do as many deeds as when it was reached first. Where fewer parties have done
+    // something, fewer count.
+    fn is_offered(&self, number: usize, of: usize) -> bool {
+        match self.nodes.get(number) {
+            Some(node) => node.of == of,
+            None => false,
+        }
+    }
+
     // The next deed of this state.
     fn undone(&mut self, number: usize) -> Option<usize> {
         let node = self.nodes.get_mut(number)?;
@@ -401,13 +426,17 @@ impl States {
 /// In which order the states are looked at.
 #[derive(Clone, Copy, PartialEq, Eq)]
 pub enum Order {
-    /// A walk goes on for as long as it comes to something new.
+    /// A walk goes on for as long as there is something new to do.
     Far,
     /// States that fewer deeds lead to come first, so that a difference is found by as few deeds as may be.
     Near,
 }
 
-// From this state on, by deeds that weren't done yet, up to a state that was known.
+// From so many deeds on a walk that goes far begins anew, so that the schedule of a difference can be read.
+const MOST_ON_END: usize = 1000;
+
+// From this state on, by deeds that weren't done yet. Near, it ends after one. Far, it goes on, also from a state that was known,
+// up to one whose deeds were all done: what is known of a state is all of it, so each that stands in it is as the first was.
 // Whether both sides agree; none where memory is refused.
 fn explore<S: Shell, R: Wait>(
     bench: &Bench<R>,
@@ -419,7 +448,7 @@ fn explore<S: Shell, R: Wait>(
     walk: &mut Walk,
 ) -> Option<bool> {
     let mut at = from;
-    for _ in bench.forever() {
+    for _ in 0..MOST_ON_END {
         let Some(choice) = states.undone(at) else {
             return Some(true);
         };
@@ -427,13 +456,12 @@ fn explore<S: Shell, R: Wait>(
         if !pair.agrees(bench, choice, walk) {
             return Some(false);
         }
-        let known = states.nodes.len();
         at = states.reached(bench, &pair.shell, at, choice)?;
-        if states.nodes.len() == known || order == Order::Near {
+        if order == Order::Near || !states.is_offered(at, options(&pair.shell)) {
             return Some(true);
         }
     }
-    None
+    Some(true)
 }
 
 /// Each deed in each state that the parties can come to, by schedules of any length. It is over once `most` states were reached. None where memory is refused.

@@ -30,12 +30,14 @@ impl<M> Origin<M> for Brand {
 
 /// A party that is polled, and the maker that the poll began with.
 pub struct Polling<'a, T, E, M, O> {
-    party: CellParty<'a, T, E, M>,
+    /// The party.
+    pub party: CellParty<'a, T, E, M>,
     origin: PhantomData<O>,
 }
 
 impl<'a, T, E, M, O> Polling<'a, T, E, M, O> {
-    pub(crate) fn new(party: CellParty<'a, T, E, M>) -> Polling<'a, T, E, M, O>
+    /// A poll of this party.
+    pub fn new(party: CellParty<'a, T, E, M>) -> Polling<'a, T, E, M, O>
         ensures { result.party ≡ party.entry }
     {
         Polling {
@@ -44,7 +46,8 @@ impl<'a, T, E, M, O> Polling<'a, T, E, M, O> {
         }
     }
 
-    pub(crate) fn into_party(self) -> CellParty<'a, T, E, M>
+    /// Returns the party.
+    pub fn into_party(self) -> CellParty<'a, T, E, M>
         ensures { result ≡ self.entry.party }
     {
         let Polling { party, origin: _ } = self;

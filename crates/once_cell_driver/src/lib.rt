@@ -13,7 +13,7 @@ mod raw;
 mod side;
 mod straight;
 
-pub use carries::Origin;
+pub use carries::{Origin, Polling};
 pub use maker::{Maker, Nobody, Purpose};
 pub use outcome::Outcome;
 pub use party::{CellParty, Work};

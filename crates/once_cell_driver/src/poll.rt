@@ -45,8 +45,8 @@ impl<'a, T: Drop, E: Drop, M: Maker<T, E>> CellParty<'a, T, E, M> {
         }
     }
 
-    // Ends a party that has nothing at the cell: what it made, and the cell's value if it found it.
-    fn end(self, cell: &RawCell<T>) -> (Work<T, E, M>, Option<&'a T>)
+    /// Ends a party that has nothing at the cell: what it made, and the cell's value if it found it.
+    pub fn end(self, cell: &RawCell<T>) -> (Work<T, E, M>, Option<&'a T>)
         requires tied { IsTiedTo cell.now self }
         requires nothing { (got : Bool) × (having_of self ≡ having false no no got) }
         ensures { (result.0 ≡ self.entry.work) × (result.1 ≡ self.entry.got) }

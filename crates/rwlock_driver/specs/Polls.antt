@@ -155,7 +155,7 @@ right_of aim.Upgrade = writer
 -- what the seat of a first poll has at this place, once it has the turn
 abbrev pub IsBegun : RawRwLock → Seat → Place → Type 0
 IsBegun raw seat (Add false) = Has raw passing seat
-IsBegun raw seat (JoinNoReaders false) = Has raw awaits seat
+IsBegun raw seat (JoinNoReaders upgrade) = Has raw awaits seat
 IsBegun raw seat _ = ⊥
 
 -- how a poll of this ends, and where it leaves its party

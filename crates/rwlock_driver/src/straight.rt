@@ -191,6 +191,7 @@ impl RawRwLock {
     }
 
     /// Waits to write in place of reading with the turn: from now on nobody begins to read.
+    #[inline]
     pub fn upgrade(&self, seat: Seat) -> Seat
         requires { Has self.now upgradable seat }
         ensures { Has self.now awaits result }

@@ -77,7 +77,7 @@ impl RawRwLock {
         }
     }
 
-    /// A party that waits to be polled for an upgrade, whose seat has begun it.
+    /// A party that waits to be polled for an upgrade, whose seat has begun it. It is for tests, which drive it action by action.
     pub fn upgrading(&self, seat: Seat) -> Waiting
         requires { Has self.now awaits seat }
         ensures { WaitsFor self.now aims.Upgrade result }
@@ -224,6 +224,41 @@ impl RawRwLock {
                 self.go_on(rt, cx, Aim::Write, seat, place, waiting)
             }
         }
+    }
+
+    /// A first poll of an upgrade, whose seat has set the writer's bit: it looks whether a reader is left. By the contract it goes
+    /// as any poll of an upgrade.
+    #[inline]
+    pub fn poll_upgrading<R: Wait + Clock>(
+        &self,
+        rt: &R,
+        cx: &mut Context<'_>,
+        seat: Seat,
+        waiting: &mut Option<Waiting>,
+    ) -> Outcome
+        requires seat { Has self.now awaits seat }
+        requires none { waiting.old ≡ None }
+        ensures waits { IfSome waiting.new (WaitsFor self.now aims.Upgrade) }
+        ensures outcome { OnOutcome self.now aims.Upgrade cx.new result waiting.new }
+        ensures kept { Keeps cx.old cx.new }
+    {
+        upgrade_rows();
+        let mut seat = seat;
+        match self.words.look(&mut seat) {
+            Readers::NoneLeft => Outcome::Got(seat),
+            Readers::SomeLeft => {
+                let place = Place::JoinNoReaders { upgrade: true };
+                self.go_on(rt, cx, Aim::Upgrade, seat, place, waiting)
+            }
+        }
+    }
+
+    /// Gives up an upgrade that was never polled: the writer's bit and the turn.
+    pub fn cancel_upgrading<R: Wait>(&self, rt: &R, seat: Seat)
+        requires { Has self.now awaits seat }
+    {
+        cancel_rows();
+        self.unlock(rt, seat);
     }
 
     // The rest of a first poll that has the turn by this seat, from this place of it on.
@@ -407,7 +442,14 @@ fn first_rows()
     ensures marks { (poll_of aims.Write (at.Made wanted.Write) ≡ Some (at.EnterTurn purpose.Write)) × (next_of (at.EnterTurn purpose.Write) (finds.Turn (turn_step.End ends.Got)) ≡ next.Do at.Mark) × (action_of at.Mark ≡ does.Mark) × (next_of at.Mark finds.NoneLeft ≡ next.End ends.Got at.Writing) × (next_of at.Mark finds.SomeLeft ≡ next.Do (at.JoinNoReaders false)) }
 {}
 
-// The rows of the program's table that `RawRwLock::cancel` carries out straight.
+// The rows that `RawRwLock::poll_upgrading` carries out straight: an upgrade's first look.
+#[inline]
+fn upgrade_rows()
+    ensures begins { poll_of aims.Upgrade (at.LookUnlisted true) ≡ Some (at.LookUnlisted true) }
+    ensures looks { (action_of (at.LookUnlisted true) ≡ does.Load) × (next_of (at.LookUnlisted true) finds.NoneLeft ≡ next.End ends.Got at.Writing) × (next_of (at.LookUnlisted true) finds.SomeLeft ≡ next.Do (at.JoinNoReaders true)) }
+{}
+
+// The rows of the program's table that `RawRwLock::cancel` and `RawRwLock::cancel_upgrading` carry out straight.
 #[inline]
 fn cancel_rows()
     ensures reads { (start_of calls.Drop at.AskNoWriter ≡ Some at.CancelRead) × (action_of at.CancelRead ≡ does.LeaveNoWriter) × (next_of at.CancelRead finds.Done ≡ next.End ends.GivenBack at.Out) }

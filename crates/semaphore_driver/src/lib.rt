@@ -16,5 +16,5 @@ pub use carries::PollFor;
 pub use duty::Keys;
 pub use party::PermitParty;
 pub use raw::RawSemaphore;
-pub use stock::{Duty, Stock};
+pub use stock::{Duty, Given, Lowered, Stock};
 pub use waiting::{Outcome, Waiting};

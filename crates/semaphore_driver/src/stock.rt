@@ -27,6 +27,30 @@ pub struct Duty {
     seen: Option<u64>,
 }
 
+/// A receipt: so many permits were made available, by one step of [`Stock::give`] or [`Stock::give_new`], which alone make it.
+#[derive(Drop)]
+pub struct Given {
+    permits: u64,
+    // How many were available then.
+    available: u64,
+}
+
+impl Given {
+    /// Returns how many permits were available once these were given.
+    #[inline]
+    pub fn available(&self) -> u64
+        ensures { result ≡ self.now.available }
+    {
+        self.available
+    }
+}
+
+/// A receipt: the limit was lowered by so many permits, by one step of [`Stock::lower`], which alone makes it.
+#[derive(Drop)]
+pub struct Lowered {
+    permits: u64,
+}
+
 /// A semaphore's words and its list. Contracts see the words, and which list it is.
 pub struct Stock {
     words: Words,
@@ -156,15 +180,16 @@ impl Stock {
 
     /// Gives this many of the seat's permits back: one step. Returns how many are then available, and the duty to notify.
     #[inline]
-    pub fn give(&self, seat: &mut Seat, permits: u64) -> (u64, Duty)
+    pub fn give(&self, seat: &mut Seat, permits: u64) -> (Given, Duty)
         requires table { seat.old.inner.table_id ≡ self.now.word.table }
         requires has { permits ≤ seat.old.inner.me.0.permits }
         ensures same { (seat.new.inner.table_id ≡ seat.old.inner.table_id) × (seat.new.inner.id ≡ seat.old.inner.id) }
-        ensures step { seat.new.inner.me ≡ (having_given permits result.0 seat.old.inner.me.0, seat.old.inner.me.1) }
-        ensures duty { (result.1.owed.list.id ≡ self.now.list) × (result.1.seen ≡ Some result.0) }
+        ensures step { seat.new.inner.me ≡ (having_given permits result.0.available seat.old.inner.me.0, seat.old.inner.me.1) }
+        ensures given { result.0.permits ≡ permits }
+        ensures duty { (result.1.owed.list.id ≡ self.now.list) × (result.1.seen ≡ Some result.0.available) }
     {
         let available = self.words.give(seat, permits);
-        (available, self.owes(available))
+        (Given { permits, available }, self.owes(available))
     }
 
     /// Raises the limit by this many permits if it stays a number of 64 bits: one try. The seat has the new
@@ -179,15 +204,16 @@ impl Stock {
 
     /// Gives this many new permits that the seat has under way: one step. Returns how many are then available, and the duty
     /// to notify.
-    pub fn give_new(&self, seat: &mut Seat, permits: u64) -> (u64, Duty)
+    pub fn give_new(&self, seat: &mut Seat, permits: u64) -> (Given, Duty)
         requires table { seat.old.inner.table_id ≡ self.now.word.table }
         requires has { permits ≤ seat.old.inner.me.0.under_way }
         ensures same { (seat.new.inner.table_id ≡ seat.old.inner.table_id) × (seat.new.inner.id ≡ seat.old.inner.id) }
-        ensures step { seat.new.inner.me ≡ (having_given_new permits result.0 seat.old.inner.me.0, seat.old.inner.me.1) }
-        ensures duty { (result.1.owed.list.id ≡ self.now.list) × (result.1.seen ≡ Some result.0) }
+        ensures step { seat.new.inner.me ≡ (having_given_new permits result.0.available seat.old.inner.me.0, seat.old.inner.me.1) }
+        ensures given { result.0.permits ≡ permits }
+        ensures duty { (result.1.owed.list.id ≡ self.now.list) × (result.1.seen ≡ Some result.0.available) }
     {
         let available = self.words.give_new(seat, permits);
-        (available, self.owes(available))
+        (Given { permits, available }, self.owes(available))
     }
 
     // A duty that knows of so many.
@@ -202,13 +228,15 @@ impl Stock {
     }
 
     /// Lowers the limit by this many of the seat's permits, which never come back: one step.
-    pub fn lower(&self, seat: &mut Seat, permits: u64)
+    pub fn lower(&self, seat: &mut Seat, permits: u64) -> Lowered
         requires table { seat.old.inner.table_id ≡ self.now.word.table }
         requires has { permits ≤ seat.old.inner.me.0.permits }
         ensures same { (seat.new.inner.table_id ≡ seat.old.inner.table_id) × (seat.new.inner.id ≡ seat.old.inner.id) }
         ensures step { seat.new.inner.me ≡ (having_lowered permits seat.old.inner.me.0, seat.old.inner.me.1) }
+        ensures lowered { result.permits ≡ permits }
     {
         self.words.lower(seat, permits);
+        Lowered { permits }
     }
 
     /// Joins the list for this many permits. Who has joined looks again: what a duty knows of is older than that.

@@ -3,7 +3,7 @@
 //! By their types a seat can't end with permits, nor a call before whoever the permits are enough for is notified. That the
 //! actions are the table's, in its order, is proved beside them.
 
-ghost use Rattle.std.specs.Prelude.{◌≡◌, ℕ, Some, false, IfErr, IfSome, MatchBool};
+ghost use Rattle.std.specs.Prelude.{◌≡◌, ℕ, Some, false, IfErr, IfOk, IfSome, MatchBool};
 ghost use Rattle.lock_program.specs.declared.end.End.TheVariants as ends;
 ghost use Rattle.lock_program.specs.declared.end.Next.TheVariants as next;
 ghost use Rattle.lock_program.specs.declared.refusal.Refusal.{Refusal};
@@ -17,6 +17,7 @@ ghost use Rattle.sync_program.specs.declared.permits.Position.TheVariants as sta
 ghost use Rattle.sync_program.specs.declared.permits.SemaphoreCall.TheVariants as calls;
 
 use crate::raw::RawSemaphore;
+use crate::stock::{Given, Lowered};
 use async_driver::nothing;
 use lock_program::Refusal;
 use std::sync::Wait;
@@ -59,34 +60,40 @@ impl RawSemaphore {
         unreachable!()
     }
 
-    /// Gives a guard's permits back, and notifies the first waiter for whom those that are then available are enough.
+    /// Gives a guard's permits back, and notifies the first waiter for whom those that are then available are enough. Its receipt
+    /// says that they were given.
     #[inline]
-    pub fn give<R: Wait>(&self, rt: &R, seat: Seat, permits: u64)
+    pub fn give<R: Wait>(&self, rt: &R, seat: Seat, permits: u64) -> Given
         requires { Has self.now permits seat }
+        ensures { result.permits ≡ permits }
     {
         give_rows();
         let mut seat = seat;
-        let (available, duty) = self.stock.give(&mut seat, permits);
-        self.stock.fit(rt, &seat, available, duty);
+        let (given, duty) = self.stock.give(&mut seat, permits);
+        self.stock.fit(rt, &seat, given.available(), duty);
         self.stock.rise(seat);
+        given
     }
 
-    /// Ends a guard's permits for good: the limit is lowered by as many. It waits for nobody.
-    pub fn forget(&self, seat: Seat, permits: u64)
+    /// Ends a guard's permits for good: the limit is lowered by as many, which its receipt says. It waits for nobody.
+    pub fn forget(&self, seat: Seat, permits: u64) -> Lowered
         requires { Has self.now permits seat }
+        ensures { result.permits ≡ permits }
     {
         forget_rows();
         let mut seat = seat;
-        self.stock.lower(&mut seat, permits);
+        let lowered = self.stock.lower(&mut seat, permits);
         self.stock.rise(seat);
+        lowered
     }
 
     /// Adds this many permits, and notifies the first waiter for whom those that are then available are enough. It takes no
-    /// memory.
+    /// memory. Its receipt says that they were given.
     ///
     /// If the limit would pass its greatest value, it returns [`Refusal::Permits`], and nothing has changed.
-    pub fn add<R: Wait>(&self, rt: &R, permits: u64) -> Result<(), Refusal>
-        ensures { IfErr result (λ refusal. refusal ≡ Refusal.Permits) }
+    pub fn add<R: Wait>(&self, rt: &R, permits: u64) -> Result<Given, Refusal>
+        ensures given { IfOk result (λ given. given.permits ≡ permits) }
+        ensures refused { IfErr result (λ refusal. refusal ≡ Refusal.Permits) }
     {
         add_rows();
         let mut seat = self.stock.sit();
@@ -94,10 +101,10 @@ impl RawSemaphore {
             self.stock.rise(seat);
             return Err(Refusal::Permits);
         }
-        let (available, duty) = self.stock.give_new(&mut seat, permits);
-        self.stock.fit(rt, &seat, available, duty);
+        let (given, duty) = self.stock.give_new(&mut seat, permits);
+        self.stock.fit(rt, &seat, given.available(), duty);
         self.stock.rise(seat);
-        Ok(())
+        Ok(given)
     }
 
     // Raises the limit by this many, if its greatest value allows it, however often the word changes meanwhile.

@@ -1,5 +1,5 @@
 -- Runs of a barrier that no user would accept. Each record is one wrong run: what its steps would be, if it were legal.
-use Rattle.std.specs.Prelude.{◌≡◌, ◌≢◌, ℕ, ◌<◌, ◌≤◌, ◌⊎◌, Bool, true, false, length, Some, None}
+use Rattle.std.specs.Prelude.{◌≡◌, ◌≢◌, ℕ, ◌<◌, ◌≤◌, ◌⊎◌, Bool, true, false, List, [], ◌∷◌, length, Some, None}
 use Rattle.lock_event.specs.Lists.{marked_count, is_marked_at}
 use Rattle.lock_event.specs.declared.event.Mark.TheVariants.{Waiting}
 use Rattle.world_base.specs.queue.Parties.{is_party, entries_of}
@@ -22,7 +22,7 @@ use Rattle.world_barrier.specs.AtOnce.{AnswersAtOnce, is_first_poll, is_later_po
 use Rattle.world_barrier.specs.Bound.{IsSolo, Promises}
 use Rattle.world_barrier.specs.Changes.{wait_then}
 use Rattle.world_barrier.specs.Laws.{IsSound, IsAwake}
-use Rattle.world_barrier.specs.Legal.{Legal, DecidesOn, next_arrival}
+use Rattle.world_barrier.specs.Legal.{Legal, DecidesOn, HasToWait, next_arrival}
 use Rattle.world_barrier.specs.Numbers.{Leads, IsFinished, generations_of}
 use Rattle.world_barrier.specs.State.{World, standing_of, wait_of, told_in, is_free}
 use Rattle.world_base.specs.declared.standing.Rest.{Rest}
@@ -333,3 +333,42 @@ pub record RefusedSilently : Type 0 where
   pub possible : is_possible step.answer ≡ true
   pub none_told : step.new.lock_list ≢ notified step.old.lock_list 1
   pub legal : IsAtOnce step
+
+-- Steps of other parties than this one lead from one World to another.
+abbrev pub Meanwhile : ℕ → List Step → World → World → Type 0
+Meanwhile p [] w v = v ≡ w
+Meanwhile p (s ∷ ss) w v = (s.old ≡ w) × (s.move.party ≢ p) × IsLegal s × Meanwhile p ss s.new v
+
+-- A step releases the inner lock, and its call is over: those that wait for the lock are told by nobody.
+pub record EndsByReleasing : Type 0 where
+  pub step : Step
+  pub held : step.old.lock.holder ≡ Some step.move.party
+  pub released : step.new.lock.holder ≢ Some step.move.party
+  pub ended : step.answer ≢ answer.Stepped
+  pub legal : IsLegal step
+
+-- A party releases the inner lock, others move, and its next step tells nobody that waits for the lock, or two.
+pub record ReleasesUntold : Type 0 where
+  pub first : Step
+  pub between : List Step
+  pub next : Step
+  pub held : first.old.lock.holder ≡ Some first.move.party
+  pub released : first.new.lock.holder ≢ Some first.move.party
+  pub meanwhile : Meanwhile first.move.party between first.new next.old
+  pub same : next.move.party ≡ first.move.party
+  pub possible : is_possible next.answer ≡ true
+  pub untold : next.new.lock_list ≢ notified next.old.lock_list 1
+  pub legal : IsLegal first
+  pub legal_too : IsLegal next
+
+-- A party was told of the inner lock, finds it free with nobody starved, and has not to wait for its generation. Its poll is refused for memory, which it doesn't need.
+pub record RefusedUnneeded : Type 0 where
+  pub whole : Whole
+  pub polls : whole.call ≡ call.Poll
+  pub was_pending : standing_of whole.old whole.party ≡ outside Pending
+  pub marked : is_marked_at (is_party whole.party) whole.old.lock_list ≡ true
+  pub goes_on : HasToWait whole.old (wait_of whole.old whole.party) → ⊥
+  pub free : whole.old.lock.holder ≡ None
+  pub none_starved : how_many whole.old.lock.starved ≡ 0
+  pub is_refused : whole.answer ≡ refused refusal.Memory
+  pub kept : Keeps whole

@@ -467,3 +467,15 @@ pub record FillsUntold : Type 0 where
   pub listed : 0 < entries_of waiter step.new.passive
   pub unmarked : is_marked_at (is_party waiter) step.new.passive ≡ false
   pub legal : IsAtOnce step
+
+-- Two parties fill the cell, or one is about to while another has still to tell that it did.
+pub record TwoTellers : Type 0 where
+  pub world : World
+  pub first : ℕ
+  pub second : ℕ
+  pub one : ℕ
+  pub another : ℕ
+  pub fills : task_of world first ≡ fills_with one
+  pub fills_too : task_of world second ≡ fills_with another
+  pub apart : first ≢ second
+  pub sound : IsSound world

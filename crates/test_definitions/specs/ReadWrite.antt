@@ -1,5 +1,5 @@
 -- Runs of a read-write lock that no user would accept. Each record is one wrong run: what its step would be, if it were legal.
-use Rattle.std.specs.Prelude.{◌≡◌, ◌≢◌, ℕ, ◌<◌, true, false, length, Some, None}
+use Rattle.std.specs.Prelude.{◌≡◌, ◌≢◌, ℕ, ◌<◌, true, false, List, [], ◌∷◌, length, Some, None}
 use Rattle.lock_event.specs.Lists.{marked_count}
 use Rattle.world_base.specs.queue.Parties.{entries_of}
 use Rattle.world_base.specs.declared.moves.Answer.{Answer}
@@ -14,20 +14,20 @@ use Rattle.world_base.specs.declared.standing.Kind.TheVariants.{Downgrade, Drop}
 use Rattle.world_base.specs.declared.standing.Rest.{Rest}
 use Rattle.world_base.specs.declared.standing.Rest.TheVariants.{Pending, Holding}
 use Rattle.world_base.specs.declared.standing.Within.{Within}
-use Rattle.world_base.specs.Frame.{is_refusal}
+use Rattle.world_base.specs.Frame.{is_drop, is_refusal}
 use Rattle.world_base.specs.Rights.{Right, read, upgradable, write}
 use Rattle.world_base.specs.Standings.{outside, inside, decision, is_possible, refused}
 use Rattle.world_base.specs.Rosters.{how_many}
-use Rattle.world_rwlock.specs.Bound.{IsSoloForTurn, IsSoloToRead, IsSoloToWrite, Promises}
+use Rattle.world_rwlock.specs.Bound.{IsSoloForTurn, IsToldToRead, IsSoloToWrite, Promises}
 use Rattle.world_rwlock.specs.Legal.{DecidesOn, list_for, may_read, is_first, IsTryWithTurn, Legal, AnswersAtOnce}
 use Rattle.world_rwlock.specs.State.{ListName, list_of, nobody, passes, waits_to_write, is_marked, HasTurn, is_turn_free, World, standing_of, sought_by, reads, how_many_read, told_in, is_starved, is_upgrader}
 use Rattle.world_base.specs.Standings.{is_outside, may_end}
 use Rattle.world_base.specs.Steps.{does, notifies, notifies_additionally}
 use Rattle.world_rwlock.specs.Laws.{IsSound, IsDueForTurn, IsDueToReaders, IsDueToWriter}
-use Rattle.world_rwlock.specs.Legal.{is_try_for_turn}
+use Rattle.world_rwlock.specs.Legal.{is_for_turn, is_try_for_turn}
 use Rattle.world_rwlock.specs.State.{for_the_turn}
 use Rattle.world_base.specs.queue.Parties.{is_party}
-use Rattle.lock_event.specs.Lists.{is_marked_at}
+use Rattle.lock_event.specs.Lists.{is_marked_at, notified}
 
 -- A move of a party, and what it leads to.
 pub record Step : Type 0 where
@@ -258,7 +258,7 @@ pub record PassesTurnInVain : Type 0 where
 pub record PassesReadingInVain : Type 0 where
   pub whole : Whole
   pub polls : whole.call ≡ call.Poll
-  pub solo : IsSoloToRead whole.old whole.party whole.inputs
+  pub told : IsToldToRead whole.old whole.party
   pub free : may_read whole.old ≡ true
   pub pending : whole.answer ≡ answer.Pending
   pub kept : Keeps whole
@@ -267,7 +267,7 @@ pub record PassesReadingInVain : Type 0 where
 pub record PassesWritingInVain : Type 0 where
   pub whole : Whole
   pub polls : whole.call ≡ call.Poll
-  pub solo : IsSoloToWrite whole.old whole.party whole.inputs
+  pub solo : IsSoloToWrite whole.old whole.party
   pub free : how_many_read whole.old ≡ 0
   pub pending : whole.answer ≡ answer.Pending
   pub kept : Keeps whole
@@ -278,7 +278,6 @@ pub record UpgradeWaitsForNobody : Type 0 where
   pub polls : whole.call ≡ call.Poll
   pub was_pending : standing_of whole.old whole.party ≡ outside Pending
   pub upgrade : is_upgrader whole.old whole.party ≡ true
-  pub memory : whole.inputs.memory ≡ true
   pub free : how_many_read whole.old ≡ 0
   pub pending : whole.answer ≡ answer.Pending
   pub kept : Keeps whole
@@ -474,3 +473,121 @@ pub record TriesAndTells : Type 0 where
   pub told : 0 < marked_count step.new.no_writer
   pub none_told : marked_count step.old.no_writer ≡ 0
   pub legal : IsAtOnce step
+
+-- A call for the turn that is to be refused, and has nothing to do with the turn any more, goes on or ends, and some other that waits for the turn is notified by nobody.
+pub record RefusedSilently : Type 0 where
+  pub step : Step
+  pub within : Within
+  pub why : ℕ
+  pub refused : standing_of step.old step.move.party ≡ inside within (Some (answer.Refused why))
+  pub for_turn : is_for_turn (sought_by step.old step.move.party) ≡ true
+  pub without : HasTurn step.old.state.turn step.move.party → ⊥
+  pub unlisted : entries_of step.move.party step.old.turn_list ≡ 0
+  pub unstarved : is_starved step.old step.move.party ≡ false
+  pub possible : is_possible step.answer ≡ true
+  pub none_told : step.new.turn_list ≢ notified step.old.turn_list 1
+  pub legal : IsAtOnce step
+
+-- So does a read among those that wait to read.
+pub record RefusedToReadSilently : Type 0 where
+  pub step : Step
+  pub within : Within
+  pub why : ℕ
+  pub refused : standing_of step.old step.move.party ≡ inside within (Some (answer.Refused why))
+  pub to_read : sought_by step.old step.move.party ≡ Some read
+  pub unlisted : entries_of step.move.party step.old.no_writer ≡ 0
+  pub possible : is_possible step.answer ≡ true
+  pub none_told : step.new.no_writer ≢ notified step.old.no_writer 1
+  pub legal : IsAtOnce step
+
+-- Steps of other parties than this one lead from one World to another.
+abbrev pub Meanwhile : ℕ → List Step → World → World → Type 0
+Meanwhile p [] w v = v ≡ w
+Meanwhile p (s ∷ ss) w v = (s.old ≡ w) × (s.move.party ≢ p) × IsAtOnce s × Meanwhile p ss s.new v
+
+-- The drop of the last reader is over at its first step, and the one that waits to write is told by nobody.
+pub record DropsLastSilently : Type 0 where
+  pub step : Step
+  pub drops : is_drop step.move.what ≡ true
+  pub read : reads step.old step.move.party ≡ true
+  pub last : how_many_read step.new ≡ 0
+  pub ended : step.answer ≢ answer.Stepped
+  pub legal : IsAtOnce step
+
+-- A step gives the turn up, and its call is over: those that wait for the turn are told by nobody.
+pub record EndsWithoutTurn : Type 0 where
+  pub step : Step
+  pub had : HasTurn step.old.state.turn step.move.party
+  pub lost : HasTurn step.new.state.turn step.move.party → ⊥
+  pub ended : step.answer ≢ answer.Stepped
+  pub legal : IsAtOnce step
+
+-- A step clears the writer's bit, and its call is over: those that wait to read are told by nobody.
+pub record EndsWithoutBit : Type 0 where
+  pub step : Step
+  pub had : HasTurn step.old.state.turn step.move.party
+  pub was : is_marked step.old.state.turn ≡ true
+  pub now : is_marked step.new.state.turn ≡ false
+  pub ended : step.answer ≢ answer.Stepped
+  pub legal : IsAtOnce step
+
+-- A party gives the turn up, others move, and its next step tells nobody that waits for the turn, or two.
+pub record ReleasesUntold : Type 0 where
+  pub first : Step
+  pub between : List Step
+  pub next : Step
+  pub had : HasTurn first.old.state.turn first.move.party
+  pub lost : HasTurn first.new.state.turn first.move.party → ⊥
+  pub meanwhile : Meanwhile first.move.party between first.new next.old
+  pub same : next.move.party ≡ first.move.party
+  pub possible : is_possible next.answer ≡ true
+  pub untold : next.new.turn_list ≢ notified next.old.turn_list 1
+  pub legal : IsAtOnce first
+  pub legal_too : IsAtOnce next
+
+-- The last reader goes, others move, and its call ends by a step that doesn't tell the one that waits to write.
+pub record LastReaderUntold : Type 0 where
+  pub first : Step
+  pub between : List Step
+  pub next : Step
+  pub drops : is_drop first.move.what ≡ true
+  pub read : reads first.old first.move.party ≡ true
+  pub last : how_many_read first.new ≡ 0
+  pub meanwhile : Meanwhile first.move.party between first.new next.old
+  pub same : next.move.party ≡ first.move.party
+  pub possible : is_possible next.answer ≡ true
+  pub ended : next.answer ≢ answer.Stepped
+  pub untold : next.new.no_readers ≢ notified next.old.no_readers 1
+  pub legal : IsAtOnce first
+  pub legal_too : IsAtOnce next
+
+-- A notified reader polls alone, where it may read, and is refused for want of memory: it needs none.
+pub record RefusedToReadUnneeded : Type 0 where
+  pub whole : Whole
+  pub polls : whole.call ≡ call.Poll
+  pub told : IsToldToRead whole.old whole.party
+  pub free : may_read whole.old ≡ true
+  pub is_refused : whole.answer ≡ refused Memory
+  pub kept : Keeps whole
+
+-- A party that waits until no reader is left polls alone where none is, and is refused so.
+pub record RefusedToWriteUnneeded : Type 0 where
+  pub whole : Whole
+  pub polls : whole.call ≡ call.Poll
+  pub solo : IsSoloToWrite whole.old whole.party
+  pub free : how_many_read whole.old ≡ 0
+  pub is_refused : whole.answer ≡ refused Memory
+  pub kept : Keeps whole
+
+-- A party that was notified for the turn polls alone where that is free, nobody is starved and nobody reads, and is refused so: it has nobody to wait for.
+pub record RefusedTurnUnneeded : Type 0 where
+  pub whole : Whole
+  pub polls : whole.call ≡ call.Poll
+  pub was_pending : standing_of whole.old whole.party ≡ outside Pending
+  pub marked : is_marked_at (is_party whole.party) whole.old.turn_list ≡ true
+  pub free : whole.old.state.turn ≡ nobody
+  pub below : 0 < whole.old.readers_limit
+  pub none_read : how_many_read whole.old ≡ 0
+  pub none_starved : how_many whole.old.state.starved ≡ 0
+  pub is_refused : whole.answer ≡ refused Memory
+  pub kept : Keeps whole

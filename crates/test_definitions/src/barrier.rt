@@ -5,7 +5,7 @@ ghost use Rattle.test_definitions.specs.BarrierTable.{beginnings, actions, follo
 ghost use Rattle.sync_program.specs.Barrier.{action_of, next_of};
 ghost use Rattle.world_barrier.specs.program.Program.{start_of};
 ghost use Rattle.test_definitions.specs.Never.{Never};
-ghost use Rattle.test_definitions.specs.Barrier.{TwoLeaders, LeadsInTheMidst, HasNoLeader, CountedTwice, TakenBack, FollowsTooSoon, CountedUnlisted, CountedWithoutLock, WaitsUncounted, KeepsTheLock, RefusedAndCounted, RefusedTooSoon, LeftAsleep, LeadsUntold, ReadyUntried, RefusedInVain, WaitsForNothing, PassesOverInVain, KeepsItsTold, LooksInVain, WakesAll, SleepsThoughFree, StarvedHavingTaken, StarvedTwice, StarvedAtFirst, StarvedForNothing, WakesInARing, ReleasesSilently, RefusedSilently};
+ghost use Rattle.test_definitions.specs.Barrier.{TwoLeaders, LeadsInTheMidst, HasNoLeader, CountedTwice, TakenBack, FollowsTooSoon, CountedUnlisted, CountedWithoutLock, WaitsUncounted, KeepsTheLock, RefusedAndCounted, RefusedTooSoon, LeftAsleep, LeadsUntold, ReadyUntried, RefusedInVain, WaitsForNothing, PassesOverInVain, KeepsItsTold, LooksInVain, WakesAll, SleepsThoughFree, StarvedHavingTaken, StarvedTwice, StarvedAtFirst, StarvedForNothing, WakesInARing, ReleasesSilently, RefusedSilently, EndsByReleasing, ReleasesUntold, RefusedUnneeded};
 
 /// Each clause says of one wrong run that it isn't legal.
 fn wrong_runs()
@@ -38,6 +38,9 @@ fn wrong_runs()
     ensures wakes_in_a_ring { Never (WakesInARing) }
     ensures releases_silently { Never (ReleasesSilently) }
     ensures refused_silently { Never (RefusedSilently) }
+    ensures ends_by_releasing { Never (EndsByReleasing) }
+    ensures releases_untold { Never (ReleasesUntold) }
+    ensures refused_unneeded { Never (RefusedUnneeded) }
 {}
 
 /// The programs' places, each with its action and what follows what it finds, as docs/PROGRAMS.md lists them.

@@ -5,7 +5,7 @@ ghost use Rattle.test_definitions.specs.ReadWriteTable.{beginnings, actions, fol
 ghost use Rattle.lock_program.specs.ReadWrite.{action_of, next_of};
 ghost use Rattle.world_rwlock.specs.program.Program.{start_of};
 ghost use Rattle.test_definitions.specs.Never.{Never};
-ghost use Rattle.test_definitions.specs.ReadWrite.{TriesInVain, ReadsUnready, WaitsUnlisted, PendsTooEarly, RefusedAtFirst, RefusedHavingMoved, ReadsWithTheBit, LetsGoUndecided, UnmarksUndecided, StopsReadingUndecided, DowngradesUndecided, DropsUndecided, DowngradesThroughNothing, OtherIsUpgrade, IdleHasTurn, TriesOn, WriteMeetsReaders, ReadMeetsStarved, LacksMemoryWithTurn, ReadMeetsReadersBesideWriter, MeetsReadersWithoutTurn, MeetsStarvedWithTurn, PassesTurnInVain, PassesReadingInVain, PassesWritingInVain, UpgradeWaitsForNobody, UpgradableUnready, WriteUnready, StarvesUnasked, KeepsItsTold, TriesTurnInVain, StarvedHavingTaken, StarvedTwice, StarvedAtFirst, DecidesInVain, TellsMany, TellsMore, WakesTheNext, SleepsThoughFree, SleepsThoughReadable, SleepsThoughWritable, StarvedForNothing, WakesInARing, PollsUntold, PollsUntoldToRead, TriesAndTells};
+ghost use Rattle.test_definitions.specs.ReadWrite.{TriesInVain, ReadsUnready, WaitsUnlisted, PendsTooEarly, RefusedAtFirst, RefusedHavingMoved, ReadsWithTheBit, LetsGoUndecided, UnmarksUndecided, StopsReadingUndecided, DowngradesUndecided, DropsUndecided, DowngradesThroughNothing, OtherIsUpgrade, IdleHasTurn, TriesOn, WriteMeetsReaders, ReadMeetsStarved, LacksMemoryWithTurn, ReadMeetsReadersBesideWriter, MeetsReadersWithoutTurn, MeetsStarvedWithTurn, PassesTurnInVain, PassesReadingInVain, PassesWritingInVain, UpgradeWaitsForNobody, UpgradableUnready, WriteUnready, StarvesUnasked, KeepsItsTold, TriesTurnInVain, StarvedHavingTaken, StarvedTwice, StarvedAtFirst, DecidesInVain, TellsMany, TellsMore, WakesTheNext, SleepsThoughFree, SleepsThoughReadable, SleepsThoughWritable, StarvedForNothing, WakesInARing, PollsUntold, PollsUntoldToRead, TriesAndTells, RefusedSilently, RefusedToReadSilently, DropsLastSilently, EndsWithoutTurn, EndsWithoutBit, ReleasesUntold, LastReaderUntold, RefusedToReadUnneeded, RefusedToWriteUnneeded, RefusedTurnUnneeded};
 
 /// Each clause says of one wrong run that it isn't legal.
 fn wrong_runs()
@@ -55,6 +55,16 @@ fn wrong_runs()
     ensures polls_untold { Never (PollsUntold) }
     ensures polls_untold_to_read { Never (PollsUntoldToRead) }
     ensures tries_and_tells { Never (TriesAndTells) }
+    ensures refused_silently { Never (RefusedSilently) }
+    ensures refused_to_read_silently { Never (RefusedToReadSilently) }
+    ensures drops_last_silently { Never (DropsLastSilently) }
+    ensures ends_without_turn { Never (EndsWithoutTurn) }
+    ensures ends_without_bit { Never (EndsWithoutBit) }
+    ensures releases_untold { Never (ReleasesUntold) }
+    ensures last_reader_untold { Never (LastReaderUntold) }
+    ensures refused_to_read_unneeded { Never (RefusedToReadUnneeded) }
+    ensures refused_to_write_unneeded { Never (RefusedToWriteUnneeded) }
+    ensures refused_turn_unneeded { Never (RefusedTurnUnneeded) }
 {}
 
 /// The programs' places, each with its action and what follows what it finds, as docs/PROGRAMS.md lists them.

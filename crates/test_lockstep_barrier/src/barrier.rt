@@ -1,6 +1,6 @@
 //! The barrier's shell, beside its World.
 
-use crate::codes::{code_of_entry, code_of_standing};
+use crate::codes::{code_of_entry, code_of_lock_place, code_of_place, code_of_standing};
 use crate::party::{
     Party, end, entry_of, generation_of, locking_of, new_party, seen_by, set_starving,
 };
@@ -24,6 +24,8 @@ pub(crate) enum Deed {
     Begin(Call),
     /// The next action of its call, by the driver; whether it has waited for too long for the inner lock.
     Go(bool),
+    /// A whole drop of a wait, past the driver.
+    Cancel,
 }
 
 /// By what a barrier and its World are made.
@@ -122,6 +124,9 @@ fn deed_of(place: Left, lock_place: LockPlace, number: usize) -> Option<Deed> {
         (Left::Outside(Position::Made(_) | Position::Locking(_) | Position::Waiting), 1) => {
             Some(Deed::Begin(Call::Drop))
         }
+        (Left::Outside(Position::Made(_) | Position::Locking(_) | Position::Waiting), 2) => {
+            Some(Deed::Cancel)
+        }
         _ => None,
     }
 }
@@ -188,14 +193,48 @@ fn answer(acted: Acted<WaitEnd>) -> Answer {
     }
 }
 
+// Where a party stands, for whom a wait that is over is as none.
+fn without_verdict(place: Left) -> Left {
+    match place {
+        Left::Ready { .. } => Left::Outside(Position::Out),
+        Left::Outside(_) => place,
+    }
+}
+
+// Whether a party stands here that has finished its generation.
+fn is_leading(place: Left) -> bool {
+    matches!(
+        place,
+        Left::Outside(Position::At(
+            Place::NotifyAll | Place::ReleaseLock(Ending::Lead) | Place::ReleasingLock(Ending::Lead)
+        ))
+    )
+}
+
+// Whether this arrival, by its number from 1, is one of the generation, and doesn't finish it.
+fn is_in_generation(arrival: u128, size: u64, generation: u64) -> bool {
+    let size = u128::from(size);
+    let count = arrival.wrapping_sub(size.wrapping_mul(u128::from(generation)));
+    count > 0 && count < size
+}
+
 impl Member {
     fn standing(&self) -> Standing {
         (self.party.place, self.party.party.lock_place)
     }
 
+    // The generation that the party's arrival was counted in, of a wait that is neither over nor dropped.
+    fn waits_for(&self) -> Option<u64> {
+        match self.party.place {
+            Left::Ready { .. }
+            | Left::Outside(Position::Out | Position::At(Place::CancellingLock)) => None,
+            Left::Outside(_) => generation_of(&self.party),
+        }
+    }
+
     // A party whose wait is over begins another one as a party of its own: what the first one had is given back.
     fn renew(&mut self, raw: &Arc<RawBarrier>) -> bool {
-        let Left::Ready { .. } = self.party.place else {
+        let (Left::Ready { .. } | Left::Outside(Position::Out)) = self.party.place else {
             return true;
         };
         let Ok(shared) = Arc::try_clone(raw) else {
@@ -211,6 +250,7 @@ impl Member {
             Left::Ready { leads } => {
                 party.into_verdict(&shared, leads).told();
             }
+            Left::Outside(Position::Out) => party.end(&shared),
             _ => unreachable!(),
         }
         true
@@ -228,6 +268,22 @@ impl Member {
                 None,
                 None,
             ],
+        }
+    }
+
+    // A party that is outside every call ends, and a new one takes its place.
+    fn cancel<R: Wait>(&mut self, bench: &Bench<R>, party: usize) -> Dids {
+        let what = What::Begin(Call::Drop, inputs(true, false));
+        let answer = match Arc::try_clone(&self.party.shared) {
+            Ok(shared) => {
+                let old = std::mem::replace(&mut self.party, new_party(shared));
+                end(old, bench, party);
+                Answer::GivenBack
+            }
+            Err(_) => Answer::NotPossible,
+        };
+        Dids {
+            moves: [Some(moved(what, answer)), None, None],
         }
     }
 
@@ -321,6 +377,44 @@ impl BarrierShell {
         list.is_listed() == (waiting > 0) && list.entry(bench, waiting).is_none()
     }
 
+    // Whether each party stands where it does in the World, at the barrier and at its inner lock.
+    fn places_agree(&self, world: &World) -> bool {
+        let mut number = 0u32;
+        for member in self.members.iter() {
+            let (Some(at), Some(lock_at)) = (world.place(number), world.lock_place(number)) else {
+                return false;
+            };
+            let (here, lock_here) = member.standing();
+            if code_of_place(Left::Outside(at)) != code_of_place(without_verdict(here))
+                || code_of_lock_place(lock_at) != code_of_lock_place(lock_here)
+            {
+                return false;
+            }
+            number = number.wrapping_add(1);
+        }
+        world.place(number).is_none()
+    }
+
+    // Whether each arrival that was counted and waits was counted in the World's generation.
+    fn arrivals_agree(&self, world: &World) -> bool {
+        let size = world.size();
+        let mut number = 0u32;
+        for member in self.members.iter() {
+            let agrees = match (member.waits_for(), world.arrival(number)) {
+                (Some(generation), Some(arrival)) => is_in_generation(arrival, size, generation),
+                // Whoever leads has no arrival that waits.
+                (None, Some(_)) => is_leading(member.party.place),
+                (None, None) => true,
+                (Some(_), None) => false,
+            };
+            if !agrees {
+                return false;
+            }
+            number = number.wrapping_add(1);
+        }
+        true
+    }
+
     // What whoever has the inner lock leaves.
     fn look(&mut self, party: usize) {
         if let Some(member) = self.members.get(party) {
@@ -391,6 +485,10 @@ impl Shell for BarrierShell {
         deed_of(place, lock_place, number)
     }
 
+    fn is_whole(deed: Deed) -> bool {
+        deed == Deed::Cancel
+    }
+
     fn carry_out<R: Wait>(&mut self, bench: &Bench<R>, party: usize, deed: Deed) -> Dids {
         let mut dids = Dids {
             moves: [None, None, None],
@@ -401,6 +499,7 @@ impl Shell for BarrierShell {
                 dids = match deed {
                     Deed::Begin(call) => member.begin(bench, task, call),
                     Deed::Go(starving) => member.go(bench, task, starving),
+                    Deed::Cancel => member.cancel(bench, party),
                 };
             }
         }
@@ -416,6 +515,8 @@ impl Shell for BarrierShell {
             && self.raw.inner.words.starved() == u64::from(world.starved())
             && self.lists_agree(bench, world, ListName::Lock)
             && self.lists_agree(bench, world, ListName::Generation)
+            && self.places_agree(world)
+            && self.arrivals_agree(world)
     }
 
     fn key<R: Wait>(&self, bench: &Bench<R>) -> u64 {
@@ -430,7 +531,7 @@ impl Shell for BarrierShell {
             }
         }
         for member in self.members.iter() {
-            let is_past = generation_of(&member.party) != Some(self.generation);
+            let is_past = member.waits_for() != Some(self.generation);
             let (place, lock_place) = member.standing();
             let code = code_of_standing(place, lock_place) * 2 + u64::from(is_past);
             key = key.wrapping_mul(4099).wrapping_add(code);

@@ -6,7 +6,9 @@ use std::alloc::AllocGlobal;
 use std::process::Abort;
 use std::sync::Wait;
 
-const MANY: usize = 1_000_000;
+const MANY: usize = 10_000_000;
+
+const SOME: usize = 300_000;
 
 fn setting<R: AllocGlobal>(rt: &R, parties: u32, size: u64) -> Setting {
     Setting {
@@ -20,8 +22,12 @@ fn setting<R: AllocGlobal>(rt: &R, parties: u32, size: u64) -> Setting {
 // Each walk that was refused memory, and so is none, is begun once more.
 
 fn through_states<R: Wait>(bench: &Bench<R>, setting: Setting) -> Option<Walk> {
-    match walk_states::<BarrierShell, R>(bench, setting, Order::Far, MANY) {
-        None => walk_states::<BarrierShell, R>(bench, setting, Order::Far, MANY),
+    through_first_states(bench, setting, MANY)
+}
+
+fn through_first_states<R: Wait>(bench: &Bench<R>, setting: Setting, most: usize) -> Option<Walk> {
+    match walk_states::<BarrierShell, R>(bench, setting, Order::Far, most) {
+        None => walk_states::<BarrierShell, R>(bench, setting, Order::Far, most),
         walk => walk,
     }
 }
@@ -47,7 +53,16 @@ fn expect_alike<R: Abort>(bench: &Bench<R>, walk: Option<Walk>) {
 }
 
 fn in_each_state<R: Wait + Abort>(bench: &Bench<R>, setting: Setting) {
-    expect_alike(bench, through_states(bench, setting));
+    let walk = through_states(bench, setting);
+    let states = match &walk {
+        Some(walk) => walk.states,
+        None => 0,
+    };
+    expect_alike(bench, walk);
+    assert!(bench.rt();
+        states <= MANY,
+        "{states} states are not all that there are"
+    );
 }
 
 #[test]
@@ -57,6 +72,31 @@ fn two_parties_go_on_alike_in_each_state(rt: HostRuntime) {
         for size in [0, 1, 2, 3] {
             in_each_state(&bench, Setting { size, ..of_two });
         }
+    }
+}
+
+// Three parties at a barrier of this size that may finish one generation.
+fn setting_of_three<R: AllocGlobal>(rt: &R, size: u64) -> Setting {
+    Setting {
+        generations: 1,
+        ..setting(rt, 3, size)
+    }
+}
+
+#[test]
+fn three_parties_go_on_alike_in_each_state_of_a_barrier_for_two(rt: HostRuntime) {
+    let these = setting_of_three(&rt, 2);
+    if let Some(bench) = Bench::new(rt, 3) {
+        in_each_state(&bench, these);
+    }
+}
+
+// All states are too many for a test: the walk is over after so many.
+#[test]
+fn three_parties_go_on_alike_in_many_states_of_a_barrier_for_three(rt: HostRuntime) {
+    let these = setting_of_three(&rt, 3);
+    if let Some(bench) = Bench::new(rt, 3) {
+        expect_alike(&bench, through_first_states(&bench, these, SOME));
     }
 }
 

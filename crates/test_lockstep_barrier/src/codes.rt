@@ -1,4 +1,5 @@
-//! Numbers for what a party and an entry are, by which a walk tells states apart.
+//! Numbers for what a party and an entry are, by which places are compared and a walk tells states apart: no two places have
+//! the same.
 
 ghost use Rattle.std.specs.Prelude.{◌<◌};
 
@@ -47,8 +48,8 @@ fn code_of_ending(ending: Ending) -> u64
     }
 }
 
-// A number below 42.
-fn code_of_place(place: Left) -> u64
+/// A number below 42 for a place in the barrier's program.
+pub(crate) fn code_of_place(place: Left) -> u64
     ensures { result < 42 }
 {
     match place {
@@ -86,8 +87,8 @@ fn code_of_inside(place: Place) -> u64
     }
 }
 
-// A number below 32.
-fn code_of_lock_place(place: LockPlace) -> u64
+/// A number below 32 for a place in the inner lock's program.
+pub(crate) fn code_of_lock_place(place: LockPlace) -> u64
     ensures { result < 32 }
 {
     match place {

@@ -1,5 +1,6 @@
-//! Numbers for places, by which states are told apart.
+//! Numbers for places, by which places are compared and states told apart: no two places have the same.
 
+use lock_program::Refusal;
 use lock_program::mutex::Place as TurnPlace;
 use lock_program::rwlock::{Ending, Place, Purpose, Wanted};
 
@@ -30,7 +31,14 @@ pub(crate) fn code_of_place(place: Place) -> u64 {
         Place::LeaveNoWriter => 15,
         Place::RefuseLeave { told: false } => 16,
         Place::RefuseLeave { told: true } => 17,
-        Place::RefuseNotify { .. } => 18,
+        Place::RefuseNotify {
+            refusal: Refusal::Memory,
+        } => 18,
+        Place::RefuseNotify {
+            refusal: Refusal::Readers,
+        } => 74,
+        // No read is refused for anything else.
+        Place::RefuseNotify { .. } => 75,
         Place::CancelRead => 19,
         Place::TryRead => 20,
         Place::EnterTurn {
@@ -63,8 +71,15 @@ pub(crate) fn code_of_place(place: Place) -> u64 {
             ending: Ending::GivenBack,
         } => 31,
         Place::ReleaseTurn {
-            ending: Ending::NotFree { .. },
+            ending: Ending::NotFree {
+                purpose: Purpose::UpgradableRead,
+            },
         } => 32,
+        Place::ReleaseTurn {
+            ending: Ending::NotFree {
+                purpose: Purpose::Write,
+            },
+        } => 76,
         Place::ReleaseTurn {
             ending: Ending::RefuseReaders,
         } => 33,
@@ -81,8 +96,15 @@ pub(crate) fn code_of_place(place: Place) -> u64 {
             ending: Ending::GivenBack,
         } => 37,
         Place::ReleasingTurn {
-            ending: Ending::NotFree { .. },
+            ending: Ending::NotFree {
+                purpose: Purpose::UpgradableRead,
+            },
         } => 38,
+        Place::ReleasingTurn {
+            ending: Ending::NotFree {
+                purpose: Purpose::Write,
+            },
+        } => 77,
         Place::ReleasingTurn {
             ending: Ending::RefuseReaders,
         } => 39,
@@ -146,7 +168,14 @@ pub(crate) fn code_of_turn(place: TurnPlace) -> u64 {
         TurnPlace::Ask => 11,
         TurnPlace::Retry => 12,
         TurnPlace::PassOn => 13,
-        TurnPlace::Count { listed: false, .. } => 14,
+        TurnPlace::Count {
+            listed: false,
+            told: true,
+        } => 14,
+        TurnPlace::Count {
+            listed: false,
+            told: false,
+        } => 31,
         TurnPlace::Count {
             listed: true,
             told: false,

@@ -12,4 +12,6 @@ mod rwlock_tests;
 #[cfg(test)]
 mod setting;
 #[cfg(test)]
+mod straight;
+#[cfg(test)]
 mod told_tests;

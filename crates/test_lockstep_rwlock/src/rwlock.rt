@@ -2,12 +2,13 @@
 
 use crate::codes::{code_of_place, code_of_turn};
 use crate::party::{Party, Which, end, entry_of, new_party, set_starving};
-use crate::setting::{Setting, Table};
+use crate::setting::{Calls, Setting, Table, Ways};
+use crate::straight::{VALUE, first_poll, straight};
 use futures::test::MockTask;
 use lock_event::Mark;
-use lock_program::End;
 use lock_program::mutex::Place as TurnPlace;
 use lock_program::rwlock::{Place, RwLockCall};
+use lock_program::{End, Refusal};
 use lockstep::{Acted, Bench, Beside, Dids, Shell, moved};
 use rwlock_driver::{Call as Asked, RawRwLock};
 use std::alloc::{AllocFailed, Global};
@@ -15,13 +16,17 @@ use std::sync::{Arc, Wait};
 use world_base::{Answer, Call, Got, Inputs, Made, Move, What};
 use world_rwlock::World;
 
-/// What a party can do next, by the driver.
+/// What a party can do next.
 #[derive(Clone, Copy, Debug, PartialEq, Eq)]
 pub(crate) enum Deed {
-    /// Begins this call.
+    /// Begins this call by the driver.
     Begin(Call),
-    /// The next action of its call; whether it has waited for too long.
+    /// The next action of its call, by the driver; whether it has waited for too long.
     Go(bool),
+    /// A whole first poll, as the public types begin it.
+    First(Call),
+    /// Another whole call, past the driver.
+    Straight(Call),
 }
 
 /// How a party stands.
@@ -44,6 +49,8 @@ struct Member {
 pub(crate) struct RwLockShell {
     lock: Arc<RawRwLock>,
     members: Vec<Member>,
+    ways: Ways,
+    calls: Calls,
 }
 
 /// A lock's World, which may go by another table than its own.
@@ -52,9 +59,6 @@ pub(crate) struct RwLockTwin {
     world: World,
     table: Table,
 }
-
-// The value, which nobody writes here.
-const VALUE: u64 = 7;
 
 pub(crate) fn new_lock(alloc: Global, limit: u32, readers: u32) -> Option<Arc<RawRwLock>> {
     let raw = RawRwLock::with_limits(alloc, u64::from(limit), u64::from(readers)).ok()?;
@@ -116,10 +120,20 @@ const FIRST_CALLS: [Call; 6] = [
     Call::TryWrite,
 ];
 
+const READS_AND_WRITES: [Call; 2] = [Call::Read, Call::Write];
+
+// The calls that a party may begin that has nothing.
+fn first_calls(calls: Calls, number: usize) -> Option<Call> {
+    match calls {
+        Calls::All => FIRST_CALLS.get(number).copied(),
+        Calls::ReadsAndWrites => READS_AND_WRITES.get(number).copied(),
+    }
+}
+
 // The calls that a party may begin that stands here outside every call.
-fn calls_at(place: Place, number: usize) -> Option<Call> {
+fn calls_at(place: Place, calls: Calls, number: usize) -> Option<Call> {
     match (place, number) {
-        (Place::Out, number) => FIRST_CALLS.get(number).copied(),
+        (Place::Out, number) => first_calls(calls, number),
         (Place::Reading, 0) => Some(Call::Drop),
         (Place::Upgradable, 0) => Some(Call::Drop),
         (Place::Upgradable, 1) => Some(Call::Upgrade),
@@ -220,18 +234,64 @@ impl Member {
         }
     }
 
+    // A whole call past the driver, or a first poll.
+    fn whole<R: Wait>(&mut self, bench: &Bench<R>, task: &MockTask, deed: Deed) -> Dids {
+        let (call, answer) = match deed {
+            Deed::First(call) => (
+                call,
+                task.enter(|cx| first_poll(&mut self.party, bench, cx, call)),
+            ),
+            Deed::Straight(call) | Deed::Begin(call) => {
+                (call, straight(&mut self.party, bench, call))
+            }
+            Deed::Go(_) => (Call::Poll, Answer::NotPossible),
+        };
+        self.stage = Stage::Outside;
+        // What the allocator did is an input of the World's, and the shell is asked for it.
+        let memory = answer != Answer::Refused(Refusal::Memory.number());
+        let given = Inputs {
+            memory,
+            ..inputs(false)
+        };
+        Dids {
+            moves: [Some(moved(What::Begin(call, given), answer)), None, None],
+        }
+    }
+
     // What it can do next.
-    fn deed(&self, number: usize) -> Option<Deed> {
+    fn deed(&self, ways: Ways, calls: Calls, number: usize) -> Option<Deed> {
         let place = self.party.place;
         match (self.stage, number) {
-            (Stage::Fresh | Stage::Outside, number) => {
-                let call = calls_at(place.at, number)?;
-                Some(Deed::Begin(call))
-            }
+            (Stage::Fresh | Stage::Outside, number) => by_ways(place.at, ways, calls, number),
             (Stage::Inside, 0) => Some(Deed::Go(false)),
             (Stage::Inside, 1) if matches!(place.turn, TurnPlace::Retry) => Some(Deed::Go(true)),
             _ => None,
         }
+    }
+}
+
+// A deed of a party that stands here outside every call.
+fn by_ways(place: Place, ways: Ways, calls: Calls, number: usize) -> Option<Deed> {
+    match ways {
+        Ways::Driver => Some(Deed::Begin(calls_at(place, calls, number)?)),
+        Ways::Public => Some(past_driver(calls_at(place, calls, number)?)),
+        Ways::Both => {
+            let call = calls_at(place, calls, number / 2)?;
+            if number % 2 == 0 {
+                Some(Deed::Begin(call))
+            } else {
+                Some(past_driver(call))
+            }
+        }
+    }
+}
+
+// The deed that this call is past the driver, if it goes past it.
+fn past_driver(call: Call) -> Deed {
+    match call {
+        Call::Read | Call::UpgradableRead | Call::Write => Deed::First(call),
+        Call::Poll => Deed::Begin(call),
+        _ => Deed::Straight(call),
     }
 }
 
@@ -287,6 +347,24 @@ impl RwLockShell {
             }
         }
         self.entry(bench, which, waiting).is_none()
+    }
+
+    // Whether each party stands where it does in the World, in the lock's program and in the turn's.
+    fn places_agree(&self, world: &World) -> bool {
+        let mut number = 0u32;
+        for member in self.members.iter() {
+            let (Some(at), Some(turn)) = (world.place(number), world.turn_place(number)) else {
+                return false;
+            };
+            let here = member.party.place;
+            if code_of_place(at) != code_of_place(here.at)
+                || code_of_turn(turn) != code_of_turn(here.turn)
+            {
+                return false;
+            }
+            number = number.wrapping_add(1);
+        }
+        world.place(number).is_none()
     }
 
     fn words_agree(&self, world: &World) -> bool {
@@ -357,16 +435,29 @@ impl Shell for RwLockShell {
             parties,
             limit,
             readers,
+            ways,
+            calls,
             table,
         } = setting;
         let world = World::with_limits(alloc, parties, VALUE, limit, readers).ok()?;
         let lock = new_lock(alloc, limit, readers)?;
         let members = new_members(bench, alloc, &lock, parties)?;
-        Some((RwLockShell { lock, members }, RwLockTwin { world, table }))
+        let shell = RwLockShell {
+            lock,
+            members,
+            ways,
+            calls,
+        };
+        Some((shell, RwLockTwin { world, table }))
     }
 
     fn end<R: Wait>(self, bench: &Bench<R>) {
-        let RwLockShell { lock, members } = self;
+        let RwLockShell {
+            lock,
+            members,
+            ways: _,
+            calls: _,
+        } = self;
         end_all(members, bench);
         drop(lock);
     }
@@ -383,7 +474,11 @@ impl Shell for RwLockShell {
     }
 
     fn deed(&self, party: usize, number: usize) -> Option<Deed> {
-        self.members.get(party)?.deed(number)
+        self.members.get(party)?.deed(self.ways, self.calls, number)
+    }
+
+    fn is_whole(deed: Deed) -> bool {
+        matches!(deed, Deed::First(_) | Deed::Straight(_))
     }
 
     fn carry_out<R: Wait>(&mut self, bench: &Bench<R>, party: usize, deed: Deed) -> Dids {
@@ -391,6 +486,7 @@ impl Shell for RwLockShell {
             return match deed {
                 Deed::Begin(call) => member.begin(bench, task, call),
                 Deed::Go(starving) => member.go(bench, task, starving),
+                Deed::First(_) | Deed::Straight(_) => member.whole(bench, task, deed),
             };
         }
         Dids {
@@ -404,6 +500,7 @@ impl Shell for RwLockShell {
             && self.list_agrees(bench, world, Which::Turn)
             && self.list_agrees(bench, world, Which::NoWriter)
             && self.list_agrees(bench, world, Which::NoReaders)
+            && self.places_agree(world)
     }
 
     fn key<R: Wait>(&self, bench: &Bench<R>) -> u64 {

@@ -1,7 +1,7 @@
 //! The read-write lock's shell beside its World.
 
 use crate::rwlock::RwLockShell;
-use crate::setting::{Setting, Table};
+use crate::setting::{Calls, Setting, Table, Ways};
 use lockstep::{Bench, Order, Walk, walk_by_chance, walk_states};
 use std::alloc::AllocGlobal;
 use std::process::Abort;
@@ -21,6 +21,8 @@ fn setting<R: AllocGlobal>(rt: &R, parties: u32, limit: u32) -> Setting {
         parties,
         limit,
         readers: MOST_READERS,
+        ways: Ways::Both,
+        calls: Calls::All,
         table: Table::Own,
     }
 }
@@ -48,7 +50,16 @@ fn through_states<R: Wait>(bench: &Bench<R>, setting: Setting, order: Order) -> 
 }
 
 fn in_each_state<R: Wait + Abort>(bench: &Bench<R>, setting: Setting) {
-    expect_alike(bench, through_states(bench, setting, Order::Far));
+    let walk = through_states(bench, setting, Order::Far);
+    let states = match &walk {
+        Some(walk) => walk.states,
+        None => 0,
+    };
+    expect_alike(bench, walk);
+    assert!(bench.rt();
+        states <= MANY,
+        "{states} states are not all that there are"
+    );
 }
 
 #[test]
@@ -75,6 +86,65 @@ fn two_parties_are_refused_alike_where_one_or_nobody_may_read(rt: HostRuntime) {
     if let Some(bench) = Bench::new(rt, 2) {
         in_each_state(&bench, of_one);
         in_each_state(&bench, of_nobody);
+    }
+}
+
+// Each action of each call.
+#[test]
+fn three_parties_go_alike_in_each_state(rt: HostRuntime) {
+    let of_three = Setting {
+        ways: Ways::Driver,
+        ..setting(&rt, 3, NO_LIMIT)
+    };
+    if let Some(bench) = Bench::new(rt, 3) {
+        in_each_state(&bench, of_three);
+    }
+}
+
+// Each call, as the public types go, also where a starved party is refused, or one that reads.
+#[test]
+fn three_parties_go_alike_past_the_driver_in_each_state(rt: HostRuntime) {
+    let of_three = Setting {
+        ways: Ways::Public,
+        ..setting(&rt, 3, NO_LIMIT)
+    };
+    if let Some(bench) = Bench::new(rt, 3) {
+        in_each_state(&bench, of_three);
+        in_each_state(
+            &bench,
+            Setting {
+                limit: 0,
+                ..of_three
+            },
+        );
+        in_each_state(
+            &bench,
+            Setting {
+                readers: 1,
+                ..of_three
+            },
+        );
+    }
+}
+
+// Each action of reads that are refused, also such that were notified, beside writes.
+#[test]
+fn three_parties_are_refused_alike_where_one_or_nobody_may_read(rt: HostRuntime) {
+    let of_three = Setting {
+        ways: Ways::Driver,
+        calls: Calls::ReadsAndWrites,
+        ..setting(&rt, 3, NO_LIMIT)
+    };
+    if let Some(bench) = Bench::new(rt, 3) {
+        for readers in [1, 0] {
+            in_each_state(
+                &bench,
+                Setting {
+                    readers,
+                    ..of_three
+                },
+            );
+        }
     }
 }
 

@@ -1,64 +1,94 @@
-//! Numbers for where parties stand, by which a walk tells states apart.
+//! Numbers for where parties stand.
 
 use sync_program::permits::{Place, Position};
 
-// A place's own number, and how many permits it knows of.
-fn code_of_place(place: Place) -> (u64, u64) {
-    match place {
-        Place::Take {
-            listed: false,
-            told: false,
-            ..
-        } => (1, 0),
-        Place::Take {
-            listed: false,
-            told: true,
-            ..
-        } => (2, 0),
-        Place::Take {
-            listed: true,
-            told: false,
-            ..
-        } => (3, 0),
-        Place::Take {
-            listed: true,
-            told: true,
-            ..
-        } => (4, 0),
-        Place::Join { told: None, .. } => (5, 0),
-        Place::Join {
-            told: Some(available),
-            ..
-        } => (6, available),
-        Place::Ask { told: None, .. } => (7, 0),
-        Place::Ask {
-            told: Some(available),
-            ..
-        } => (8, available),
-        Place::Remove { more: None, .. } => (9, 0),
-        Place::Remove {
-            more: Some(available),
-            ..
-        } => (10, available),
-        Place::Load(_) => (11, 0),
-        Place::HandOn { available, .. } => (12, available),
-        Place::PassOn { available, .. } => (13, available),
-        Place::RefuseFit { available, .. } => (14, available),
-        _ => (15, 0),
+/// What a position is: a number for its name, and the numbers of permits that it tells of. No two positions have the same.
+pub(crate) type Code = (u64, u64, u64);
+
+/// What this position is.
+pub(crate) fn code_of_position(position: Position) -> Code {
+    match position {
+        Position::Out => (0, 0, 0),
+        Position::Unlisted(permits) => (1, permits, 0),
+        Position::Waiting(permits) => (2, permits, 0),
+        Position::Holding(permits) => (3, permits, 0),
+        Position::At(place) => code_of_place(place),
     }
 }
 
-/// A number for where a future of so many permits stands.
-pub(crate) fn code_of_position(position: Position, permits: u64) -> u64 {
-    let (place, available) = match position {
-        Position::Out => (0, 0),
-        Position::Unlisted(_) => (16, 0),
-        Position::Waiting(_) => (17, 0),
-        Position::Holding(_) => (18, 0),
-        Position::At(place) => code_of_place(place),
-    };
-    place
-        .wrapping_mul(64)
-        .wrapping_add(permits % 8 * 8)
-        .wrapping_add(available % 8)
+fn code_of_place(place: Place) -> Code {
+    match place {
+        Place::Take { .. }
+        | Place::Retake(_)
+        | Place::Join { .. }
+        | Place::Ask { .. }
+        | Place::Remove { .. } => code_of_poll(place),
+        Place::Load(permits) => (15, permits, 0),
+        Place::HandOn { permits, available } => (16, permits, available),
+        Place::PassOn { permits, available } => (17, permits, available),
+        Place::RefuseFit { permits, available } => (18, permits, available),
+        Place::Try(permits) => (19, permits, 0),
+        Place::Lower(permits) => (20, permits, 0),
+        Place::GiveBack(permits) => (21, permits, 0),
+        Place::Raise(permits) => (22, permits, 0),
+        Place::GiveAdded(permits) => (23, permits, 0),
+        Place::FitAdded(available) => (24, 0, available),
+        Place::CancelRemove => (25, 0, 0),
+        Place::CancelLoad => (26, 0, 0),
+        Place::FitGivenBack(available) => (27, 0, available),
+        Place::Abandon => (28, 0, 0),
+    }
+}
+
+// What a place is at which a poll takes, joins, asks or leaves.
+fn code_of_poll(place: Place) -> Code {
+    match place {
+        Place::Take {
+            permits,
+            listed: false,
+            told: false,
+        } => (4, permits, 0),
+        Place::Take {
+            permits,
+            listed: false,
+            told: true,
+        } => (5, permits, 0),
+        Place::Take {
+            permits,
+            listed: true,
+            told: false,
+        } => (6, permits, 0),
+        Place::Take {
+            permits,
+            listed: true,
+            told: true,
+        } => (7, permits, 0),
+        Place::Retake(permits) => (8, permits, 0),
+        Place::Join {
+            permits,
+            told: None,
+        } => (9, permits, 0),
+        Place::Join {
+            permits,
+            told: Some(available),
+        } => (10, permits, available),
+        Place::Ask {
+            permits,
+            told: None,
+        } => (11, permits, 0),
+        Place::Ask {
+            permits,
+            told: Some(available),
+        } => (12, permits, available),
+        Place::Remove {
+            permits,
+            more: None,
+        } => (13, permits, 0),
+        Place::Remove {
+            permits,
+            more: Some(available),
+        } => (14, permits, available),
+        // No other place is one of these.
+        _ => (29, 0, 0),
+    }
 }

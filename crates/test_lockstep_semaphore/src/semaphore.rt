@@ -17,8 +17,10 @@ use world_semaphore::World;
 /// What a party of a semaphore can do next.
 #[derive(Clone, Copy, Debug, PartialEq, Eq)]
 pub(crate) enum Deed {
-    /// The first poll of a future of so many permits.
+    /// The first poll of a future of so many permits, by the driver.
     Acquire(u64),
+    /// The same as the public type begins it: a straight try, and where that gets nothing, the driver.
+    Take(u64),
     /// A try to take so many permits, whole.
     Try(u64),
     /// An addition of one permit, whole.
@@ -42,8 +44,8 @@ pub(crate) struct Setting {
     pub(crate) permits: u64,
     /// For how many permits futures and tries are.
     pub(crate) sizes: (u64, u64),
-    /// Whether permits are added: then there is no end of states.
-    pub(crate) adds: bool,
+    /// A permit is added where there are fewer than so many.
+    pub(crate) most: u64,
 }
 
 /// A party, and whether it has done nothing yet. It has no `Drop`, since what it has has none.
@@ -59,7 +61,7 @@ pub(crate) struct SemaphoreShell {
     raw: Arc<RawSemaphore>,
     members: Vec<Member>,
     sizes: (u64, u64),
-    adds: bool,
+    most: u64,
     joins: u64,
 }
 
@@ -211,10 +213,42 @@ fn tried<R: Wait>(shared: Arc<RawSemaphore>, bench: &Bench<R>, permits: u64) -> 
     }
 }
 
+// The first poll of a party that has nothing, as the public type begins it. A straight look in vain is a try that got nothing.
+fn taken<R: Wait>(
+    shared: Arc<RawSemaphore>,
+    bench: &Bench<R>,
+    party: usize,
+    permits: u64,
+) -> (Having, Dids) {
+    let Ok(again) = Arc::try_clone(&shared) else {
+        return (
+            Having::Nothing,
+            one(
+                What::Begin(Call::Acquire(permits), inputs(true)),
+                Answer::NotPossible,
+            ),
+        );
+    };
+    let call = Call::Acquire(permits);
+    if let Some(held) = Held::try_take(shared, bench, permits) {
+        return (
+            Having::Permits(held),
+            one(What::Begin(call, inputs(true)), Answer::Ready(Got::Plain)),
+        );
+    }
+    let failed = What::Begin(Call::TryAcquire(permits), inputs(true));
+    let mut walker = new_future(again, permits);
+    let [first, _, _] = begin(&mut walker, bench, party, call).moves;
+    let dids = Dids {
+        moves: [Some(moved(failed, Answer::None)), first, None],
+    };
+    (settled(walker), dids)
+}
+
 // An addition of one permit.
 fn added<R: Wait>(raw: &RawSemaphore, bench: &Bench<R>) -> Dids {
     match raw.add(bench, 1) {
-        Ok(()) => three(Call::AddPermits(1), Answer::Granted(Got::Plain)),
+        Ok(_) => three(Call::AddPermits(1), Answer::Granted(Got::Plain)),
         Err(refusal) => one(
             What::Begin(Call::AddPermits(1), inputs(true)),
             Answer::Refused(refusal.number()),
@@ -237,6 +271,7 @@ impl Member {
                 let dids = begin(&mut walker, bench, party, Call::Acquire(permits));
                 (settled(walker), dids)
             }
+            Deed::Take(permits) => taken(shared, bench, party, permits),
             Deed::Try(permits) => tried(shared, bench, permits),
             _ => (Having::Nothing, added(&shared, bench)),
         };
@@ -269,10 +304,11 @@ impl Member {
         dids
     }
 
-    fn place(&self) -> Option<Position> {
+    fn place(&self) -> Position {
         match &self.having {
-            Having::Future(walker) => Some(walker.place),
-            _ => None,
+            Having::Nothing => Position::Out,
+            Having::Permits(held) => Position::Holding(held.permits()),
+            Having::Future(walker) => walker.place,
         }
     }
 
@@ -285,6 +321,17 @@ impl Member {
             }
             _ => None,
         }
+    }
+}
+
+// How many permits a party has that stands here.
+fn permits_at(position: Position) -> u64 {
+    match position {
+        Position::Holding(permits)
+        | Position::At(
+            Place::Remove { permits, .. } | Place::Load(permits) | Place::HandOn { permits, .. },
+        ) => permits,
+        _ => 0,
     }
 }
 
@@ -355,7 +402,7 @@ impl SemaphoreShell {
         if is_told != entry.mark.is_marked() {
             return None;
         }
-        let is_outside = matches!(member.place(), Some(Position::Waiting(_)));
+        let is_outside = matches!(member.place(), Position::Waiting(_));
         if is_told && is_outside && !bench.task(number)?.is_woken() {
             return None;
         }
@@ -375,6 +422,32 @@ impl SemaphoreShell {
         self.raw.waiting(bench) == waiting
     }
 
+    // Whether each party stands where it does in the World.
+    fn places_agree(&self, world: &World) -> bool {
+        let mut number = 0u32;
+        for member in self.members.iter() {
+            match world.place(number) {
+                Some(place) => {
+                    if code_of_position(place) != code_of_position(member.place()) {
+                        return false;
+                    }
+                }
+                None => return false,
+            }
+            number = number.wrapping_add(1);
+        }
+        world.place(number).is_none()
+    }
+
+    // How many permits there are, had and available.
+    fn limit(&self) -> u64 {
+        let mut limit = self.raw.available();
+        for member in self.members.iter() {
+            limit = limit.wrapping_add(permits_at(member.place()));
+        }
+        limit
+    }
+
     // How many joined before this party that are listed still.
     fn rank<R: Wait>(&self, bench: &Bench<R>, joined: u64) -> u64 {
         let mut rank = 0u64;
@@ -387,17 +460,13 @@ impl SemaphoreShell {
     }
 
     fn code<R: Wait>(&self, bench: &Bench<R>, member: &Member) -> u64 {
-        let code = match &member.having {
-            Having::Nothing => 2000,
-            Having::Permits(held) => 2001 + held.permits() % 8,
-            Having::Future(walker) => code_of_position(walker.place, walker.party.permits),
-        };
+        let (name, permits, available) = code_of_position(member.place());
         let entry = match member.mark(bench) {
             None => 0,
             Some(false) => 1 + self.rank(bench, member.joined) % 4,
             Some(true) => 5 + self.rank(bench, member.joined) % 4,
         };
-        code.wrapping_mul(16).wrapping_add(entry)
+        mixed(mixed(mixed(name, permits), available), entry)
     }
 }
 
@@ -418,7 +487,7 @@ impl Shell for SemaphoreShell {
             parties,
             permits,
             sizes,
-            adds,
+            most,
         } = setting;
         let world = World::new(alloc, parties, permits).ok()?;
         let raw = RawSemaphore::new(alloc, permits).ok()?;
@@ -428,7 +497,7 @@ impl Shell for SemaphoreShell {
             raw,
             members,
             sizes,
-            adds,
+            most,
             joins: 0,
         };
         Some((shell, SemaphoreTwin { world }))
@@ -439,7 +508,7 @@ impl Shell for SemaphoreShell {
             raw,
             members,
             sizes: _,
-            adds: _,
+            most: _,
             joins: _,
         } = self;
         end_all(members, bench);
@@ -464,7 +533,9 @@ impl Shell for SemaphoreShell {
             (Having::Nothing, 1) => Some(Deed::Acquire(self.sizes.1)),
             (Having::Nothing, 2) => Some(Deed::Try(self.sizes.0)),
             (Having::Nothing, 3) => Some(Deed::Try(self.sizes.1)),
-            (Having::Nothing, 4) if self.adds => Some(Deed::Add),
+            (Having::Nothing, 4) => Some(Deed::Take(self.sizes.0)),
+            (Having::Nothing, 5) => Some(Deed::Take(self.sizes.1)),
+            (Having::Nothing, 6) if self.limit() < self.most => Some(Deed::Add),
             (Having::Permits(_), 0) => Some(Deed::Drop),
             (Having::Permits(_), 1) => Some(Deed::Forget),
             (Having::Future(walker), number) => match (walker.place, number) {
@@ -490,7 +561,9 @@ impl Shell for SemaphoreShell {
         member.is_fresh = false;
         let was_listed = member.mark(bench).is_some();
         let dids = match deed {
-            Deed::Acquire(_) | Deed::Try(_) | Deed::Add => member.start(shared, bench, party, deed),
+            Deed::Acquire(_) | Deed::Take(_) | Deed::Try(_) | Deed::Add => {
+                member.start(shared, bench, party, deed)
+            }
             Deed::Poll | Deed::Go | Deed::Drop | Deed::Forget => member.go_on(bench, party, deed),
         };
         if !was_listed && member.mark(bench).is_some() {
@@ -502,16 +575,24 @@ impl Shell for SemaphoreShell {
 
     fn is_as<R: Wait>(&self, bench: &Bench<R>, world: &SemaphoreTwin) -> bool {
         let world = &world.world;
-        self.raw.available() == world.available() && self.lists_agree(bench, world)
+        self.raw.available() == world.available()
+            && self.limit() == world.limit()
+            && self.lists_agree(bench, world)
+            && self.places_agree(world)
     }
 
     fn key<R: Wait>(&self, bench: &Bench<R>) -> u64 {
-        let mut key = self.raw.available() % 16;
+        let mut key = self.raw.available();
         for member in self.members.iter() {
-            key = key
-                .wrapping_mul(1_000_003)
-                .wrapping_add(self.code(bench, member));
+            key = mixed(key, self.code(bench, member));
         }
         key
     }
+}
+
+// One number of two. That two states of one number meet is as good as ruled out.
+fn mixed(key: u64, more: u64) -> u64 {
+    (key ^ more)
+        .wrapping_mul(0x9E37_79B9_7F4A_7C15)
+        .rotate_left(23)
 }

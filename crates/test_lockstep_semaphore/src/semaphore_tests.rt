@@ -14,7 +14,7 @@ fn setting<R: AllocGlobal>(rt: &R, parties: u32, permits: u64) -> Setting {
         parties,
         permits,
         sizes: (1, 2),
-        adds: false,
+        most: 0,
     }
 }
 
@@ -47,6 +47,19 @@ fn expect_alike<R: Abort>(bench: &Bench<R>, walk: Option<Walk>) {
     assert_eq!(bench.rt(); walk.difference, None);
 }
 
+fn in_each_state<R: Wait + Abort>(bench: &Bench<R>, setting: Setting) {
+    let walk = through_states(bench, setting);
+    let states = match &walk {
+        Some(walk) => walk.states,
+        None => 0,
+    };
+    expect_alike(bench, walk);
+    assert!(bench.rt();
+        states <= MANY,
+        "{states} states are not all that there are"
+    );
+}
+
 #[test]
 fn two_parties_go_on_alike_in_each_state(rt: HostRuntime) {
     let of_two = setting(&rt, 2, 2);
@@ -58,8 +71,24 @@ fn two_parties_go_on_alike_in_each_state(rt: HostRuntime) {
                     sizes,
                     ..of_two
                 };
-                expect_alike(&bench, through_states(&bench, of_these));
+                in_each_state(&bench, of_these);
             }
+        }
+    }
+}
+
+// Permits are added and forgotten.
+#[test]
+fn three_parties_go_on_alike_in_each_state(rt: HostRuntime) {
+    let of_three = setting(&rt, 3, 2);
+    if let Some(bench) = Bench::new(rt, 3) {
+        for sizes in [(1, 2), (0, 3)] {
+            let of_these = Setting {
+                sizes,
+                most: 3,
+                ..of_three
+            };
+            in_each_state(&bench, of_these);
         }
     }
 }
@@ -76,10 +105,10 @@ fn three_parties_go_alike_by_each_schedule(rt: HostRuntime) {
 fn three_parties_go_alike_by_chance(rt: HostRuntime) {
     let of_three = setting(&rt, 3, 2);
     if let Some(bench) = Bench::new(rt, 3) {
-        for (permits, adds) in [(3, false), (1, true), (2, true)] {
+        for (permits, most) in [(3, 0), (1, u64::MAX), (2, u64::MAX)] {
             let of_these = Setting {
                 permits,
-                adds,
+                most,
                 ..of_three
             };
             expect_alike(&bench, by_chance(&bench, of_these));

@@ -27,4 +27,6 @@ mod threads;
 #[cfg(test)]
 mod wait_queue;
 #[cfg(test)]
+mod weighted_queue;
+#[cfg(test)]
 mod words;

@@ -8,6 +8,7 @@ pub mod OwnRows
 pub mod LockRows
 pub mod Rows
 pub mod Endings
+pub mod Telling
 pub mod Acting
 pub mod AtOnce
 pub mod Stepping

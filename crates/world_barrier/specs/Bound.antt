@@ -37,6 +37,12 @@ pub record IsNotified (w : World) (p : ℕ) (inputs : Inputs) : Type 0 where
   pub marked : is_marked_at (is_party p) w.list ≡ true
   pub memory : HasToWait w (wait_of w p) → inputs.memory ≡ true
 
+-- A pending party was notified in the inner lock's list, and its poll finds memory if its wait has to wait.
+pub record IsToldOfLock (w : World) (p : ℕ) (inputs : Inputs) : Type 0 where
+  pub pending : standing_of w p ≡ outside Pending
+  pub marked : is_marked_at (is_party p) w.lock_list ≡ true
+  pub memory : HasToWait w (wait_of w p) → inputs.memory ≡ true
+
 -- The party is pending, counted as this arrival, and waits in its generation's list.
 pub record WaitsOn (p a : ℕ) (given : Answer) (v : World) : Type 0 where
   pub pending : given ≡ answer.Pending
@@ -94,6 +100,8 @@ pub record Promises (w : World) (p : ℕ) (c : Call) (inputs : Inputs) (a : Answ
   pub first : is_first_poll (standing_of w p) (Begin c inputs) (entries_in w p) ≡ true → is_free w.lock ≡ true → (HasToWait w (wait_then (Begin c inputs) answer.Stepped (wait_of w p)) → inputs.memory ≡ true) → Takes w p (wait_then (Begin c inputs) answer.Stepped (wait_of w p)) a v
   -- So does a poll of a party that was notified in its generation's list.
   pub notified : c ≡ call.Poll → IsNotified w p inputs → is_free w.lock ≡ true → Takes w p (wait_of w p) a v
+  -- And so does one of a party that was notified in the inner lock's list, if it is starved or nobody is. It needs memory only if its wait has to wait.
+  pub told : c ≡ call.Poll → IsToldOfLock w p inputs → w.lock.holder ≡ None → (is_starved w.lock p ≡ true) ⊎ (how_many w.lock.starved ≡ 0) → Takes w p (wait_of w p) a v
   -- A solo poll of a free inner lock takes it or gives way.
   pub solo : c ≡ call.Poll → IsSolo w p inputs → w.lock.holder ≡ None → SoloPoll w p a v
   -- Where nobody is starved, a party isn't starved at the end that hasn't waited for too long.

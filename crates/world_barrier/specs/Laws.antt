@@ -14,7 +14,7 @@ use Rattle.world_base.specs.Standings.{Standing, outside, inside, forgotten, is_
 use Rattle.world_barrier.specs.machine.Waits.{uncounted, counted}
 use Rattle.world_barrier.specs.declared.world.ListName.{ListName}
 use Rattle.world_barrier.specs.Numbers.{IsFinished, generations_of}
-use Rattle.world_barrier.specs.State.{World, list_in, standing_of, wait_of, is_starved}
+use Rattle.world_barrier.specs.State.{World, list_in, standing_of, wait_of, is_starved, has_to_tell}
 use Rattle.world_barrier.specs.AtOnce.{entries_in}
 use Rattle.world_barrier.specs.Legal.{HasItsOwn}
 use Rattle.world_base.specs.declared.moves.Answer.TheVariants as answer
@@ -45,6 +45,8 @@ pub record IsSound (w : World) : Type 0 where
   pub each : (p : ℕ) → HasItsOwn w p (standing_of w p)
   pub uncounted : (p : ℕ) → wait_of w p ≡ uncounted → (w.lock.holder ≡ Some p → ⊥) → entries_of p w.list ≡ 0
   pub holder_inside : (p : ℕ) → w.lock.holder ≡ Some p → is_outside (standing_of w p) ≡ false
+  -- A party outside every call has nothing to tell, nor has the holder.
+  pub told_before : (p : ℕ) → has_to_tell w p ≡ true → (is_outside (standing_of w p) ≡ false) × (w.lock.holder ≡ Some p → ⊥)
   -- A party that is inside a call is in a poll or a drop, which it could begin.
   pub inside_calls : (p : ℕ) (u : Within) (decided : Option Answer) → standing_of w p ≡ inside u decided → is_long_call u.kind u.was ≡ true
   -- Each counted wait has the number of one arrival, no two the same; and no generation is past the limit.

@@ -1,6 +1,7 @@
 -- What one move may do to a barrier, and how it may be answered.
 use Rattle.std.specs.Prelude.{◌≡◌, ◌≢◌, ℕ, ◌+◌, ◌<◌, ◌≤◌, ◌||◌, ◌↔◌, ◌⊎◌, Bool, true, false, length, Option, Some, None}
 use Rattle.lock_event.specs.declared.event.Mark.TheVariants.{Waiting}
+use Rattle.lock_event.specs.Lists.{notified}
 use Rattle.world_base.specs.queue.Parties.{entries_of}
 use Rattle.world_base.specs.declared.moves.Answer.{Answer}
 use Rattle.world_base.specs.declared.moves.Answer.TheVariants as answer
@@ -14,7 +15,7 @@ use Rattle.world_base.specs.declared.standing.Within.{Within}
 use Rattle.world_base.specs.Frame as frame
 use Rattle.world_base.specs.Frame.{is_drop, is_refusal}
 use Rattle.world_base.specs.Rosters.{how_many}
-use Rattle.world_base.specs.Standings.{Standing, outside, inside, forgotten, inputs_of, is_decided}
+use Rattle.world_base.specs.Standings.{Standing, outside, inside, forgotten, inputs_of, is_decided, is_possible}
 use Rattle.world_base.specs.Steps.{Deed, changes, does, joins, asks, leaves, notifies, notifies_additionally}
 use Rattle.world_barrier.specs.program.Deeds.{everyone}
 use Rattle.world_barrier.specs.machine.Machine.{knows}
@@ -22,7 +23,7 @@ use Rattle.world_barrier.specs.machine.Waits.{Wait, no_wait, uncounted, counted}
 use Rattle.world_barrier.specs.declared.world.ListName.{ListName}
 use Rattle.world_barrier.specs.declared.world.ListName.TheVariants.{Lock, Generation}
 use Rattle.world_barrier.specs.Numbers.{Leads, IsFinished, generations_of}
-use Rattle.world_barrier.specs.State.{World, list_in, standing_of, wait_of, is_starved, is_held_by, told_in, IsClear}
+use Rattle.world_barrier.specs.State.{World, list_in, standing_of, wait_of, is_starved, is_held_by, has_to_tell, told_in, IsClear}
 use Rattle.world_barrier.specs.Changes.{Change, takes, releases, starves, recovers, arrives, lock_after, arrivals_after, lock_list_after, generation_list_after, wait_after, gives_back, gives_up}
 use Rattle.world_base.specs.Standings.{IsUndecided}
 
@@ -125,6 +126,13 @@ IsTakenFairly old new = (p : ℕ) → new.lock.holder ≡ Some p → old.lock.ho
 pub record OthersKeepTheirs (old : World) (m : Move) (new : World) : Type 0 where
   pub lock : (q : ℕ) → q ≢ m.party → (new.lock.holder ≡ Some q) ↔ (old.lock.holder ≡ Some q)
   pub starved : (q : ℕ) → q ≢ m.party → is_starved new.lock q ≡ is_starved old.lock q
+
+-- Whoever releases the inner lock goes on, and has to tell: its next step tells exactly one of those that wait for the lock, if there is any, and does nothing else there. Nothing but a release makes a party have to tell, and no other party's step.
+pub record TellsOnRelease (old : World) (m : Move) (a : Answer) (new : World) : Type 0 where
+  pub releases : old.lock.holder ≡ Some m.party → new.lock.holder ≢ Some m.party → (a ≡ answer.Stepped) × (has_to_tell new m.party ≡ true)
+  pub tells : has_to_tell old m.party ≡ true → is_possible a ≡ true → (new.lock_list ≡ notified old.lock_list 1) × (has_to_tell new m.party ≡ false)
+  pub only_then : has_to_tell old m.party ≡ false → has_to_tell new m.party ≡ true → old.lock.holder ≡ Some m.party
+  pub others : (q : ℕ) → q ≢ m.party → has_to_tell new q ≡ has_to_tell old q
 
 -- ---- What an answer says, where its call is decided
 
@@ -239,6 +247,7 @@ pub record Legal (old : World) (m : Move) (a : Answer) (new : World) : Type 0 wh
   pub one_change : ChangesOneThing old m a new
   pub taken_fairly : IsTakenFairly old new
   pub others_keep : OthersKeepTheirs old m new
+  pub tells_on_release : TellsOnRelease old m a new
   pub carries : Carries old m a new
   pub waits : Waits m a new
   pub refused_for_cause : IsRefusedForCause old m a new

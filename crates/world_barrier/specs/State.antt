@@ -18,7 +18,7 @@ pub record LockState : Type 0 where
   pub holder : Option ℕ
   pub starved : List Bool
 
--- For how many parties the barrier waits, how many may be starved and how many generations finished. How many arrivals are counted, and each party's wait with its arrival's number; the inner lock; the list of those that wait for the lock, and that of those that wait for their generation, with their marks; and how each party stands. What stands behind the World is named by no clause but that of its own step.
+-- For how many parties the barrier waits, how many may be starved and how many generations finished. How many arrivals are counted, and each party's wait with its arrival's number; the inner lock; for each party whether it has released the lock, and hasn't told one of those yet that wait for it; the list of those that wait for the lock, and that of those that wait for their generation, with their marks; and how each party stands. What stands behind the World is named by no clause but that of its own step, and that of the readers of places for tests.
 pub record World : Type 0 where
   pub size : ℕ
   pub starved_limit : ℕ
@@ -26,6 +26,7 @@ pub record World : Type 0 where
   pub arrivals : ℕ
   pub waits : List Wait
   pub lock : LockState
+  pub releasing : List Bool
   pub lock_list : List (Entry ℕ)
   pub list : List (Entry ℕ)
   pub standings : List Standing
@@ -46,6 +47,10 @@ wait_of w p = slice_index_or w.waits p no_wait
 abbrev pub is_starved : LockState → ℕ → Bool
 is_starved s p = is_on s.starved p
 
+-- The party has released the inner lock, and has to tell one of those that wait for it.
+abbrev pub has_to_tell : World → ℕ → Bool
+has_to_tell w p = is_on w.releasing p
+
 -- This party holds the inner lock.
 abbrev pub is_held_by : Option ℕ → ℕ → Bool
 is_held_by None p = false
@@ -65,7 +70,7 @@ pub record IsClear (w : World) (p : ℕ) : Type 0 where
   pub starved : is_starved w.lock p ≡ false
   pub lock : w.lock.holder ≡ Some p → ⊥
 
--- As it is made, for so many parties: it waits for this many, so many may be starved and so many generations finished. Nobody has arrived, holds the lock, is starved or listed, and each party is idle.
+-- As it is made, for so many parties: it waits for this many, so many may be starved and so many generations finished. Nobody has arrived, holds the lock or has just released it, is starved or listed, and each party is idle.
 abbrev pub new_world : ℕ → ℕ → ℕ → ℕ → World
 new_world parties size starved most = record {
   size = size;
@@ -74,6 +79,7 @@ new_world parties size starved most = record {
   arrivals = 0;
   waits = replicate parties no_wait;
   lock = record { holder = None; starved = replicate parties false };
+  releasing = replicate parties false;
   lock_list = [];
   list = [];
   standings = replicate parties (outside Idle);

@@ -1,8 +1,9 @@
 -- How callers see what stands behind a barrier's World.
-use Rattle.std.specs.Prelude.{ℕ, List, [], ◌∷◌, Option}
+use Rattle.std.specs.Prelude.{ℕ, List, [], ◌∷◌, map, Option}
 use Rattle.world_base.specs.declared.moves.Answer.{Answer}
 use Rattle.world_base.specs.table.Tables.{Table}
 use Rattle.world_base.specs.table.Views.{standings}
+use Rattle.world_mutex.specs.machine.Course.{is_releasing}
 use Rattle.world_mutex.specs.machine.Mutex.{course_at, holder_of, starved_of}
 use Rattle.sync_program.specs.declared.barrier.Position.{Position}
 use Rattle.world_barrier.specs.declared.program.words.Progress.{Progress}
@@ -29,6 +30,7 @@ view_of t = record {
   arrivals = arrivals_at t.machine.words.size t.machine.words.progress;
   waits = waits_of t.machine.words.size t.machine.positions t.machine.arrivals;
   lock = record { holder = holder_of t.machine.lock; starved = starved_of t.machine.lock };
+  releasing = map is_releasing t.machine.lock.courses;
   lock_list = t.machine.lock.entries;
   list = t.machine.entries;
   standings = standings (verdict_in t.machine) t.stages;

@@ -8,6 +8,7 @@
 ghost use Rattle.std.specs.Prelude.{◌≡◌, ◌+◌, ◌<◌, ◌≤◌, ℕ, Bool, true, List, IfOk, IfErr, length, min, slice_get, is_some};
 ghost use Rattle.world_base.specs.Rosters.{how_many};
 ghost use Rattle.world_base.specs.Accounts.{Account};
+ghost use Rattle.world_mutex.specs.machine.Behind.{place_behind};
 ghost use Rattle.world_base.specs.declared.moves.Answer.{Answer as AnswerOf};
 ghost use Rattle.world_base.specs.declared.moves.Move.{Move as MoveOf};
 ghost use Rattle.lock_program.specs.declared.refusal.Refusal.TheVariants as refusals;
@@ -22,8 +23,10 @@ ghost use Rattle.world_barrier.specs.Bound.{IsBounded};
 use crate::machine::Barrier;
 use lock_event::Entry;
 use lock_program::Refusal;
+use lock_program::mutex::Place as LockPlace;
 use std::alloc::Global;
 use std::marker::Model;
+use sync_program::barrier::Position;
 use world_base::table::Table;
 use world_base::{Answer, AnyWorld, Move};
 
@@ -128,6 +131,21 @@ impl World {
         ensures { result ≡ is_at_rest self.now }
     {
         self.table.at_rest()
+    }
+
+    /// Where a party stands in its program; None past the last. It is for tests that carry out the same program beside a
+    /// World: no other clause but [`World::lock_place`]'s names a place.
+    pub fn place(&self, party: u32) -> Option<Position>
+        ensures { result ≡ slice_get self.now.behind.machine.positions party }
+    {
+        self.table.machine().position_of(party)
+    }
+
+    /// Where a party stands in the program of the inner lock; None past the last. It is for tests, as [`World::place`] is.
+    pub fn lock_place(&self, party: u32) -> Option<LockPlace>
+        ensures { result ≡ place_behind self.now.behind.machine.lock.behind party }
+    {
+        self.table.machine().lock().place_of(party)
     }
 
     /// What always holds of a World, between any two moves: each party has what its standing says, each

@@ -14,3 +14,4 @@ pub mod Mutex
 pub mod Conduct
 pub mod Seen
 pub mod Alone
+pub mod Steps

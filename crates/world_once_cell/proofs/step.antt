@@ -5,4 +5,5 @@ pub mod Idle
 pub mod Owns
 pub mod Acting
 pub mod AtOnce
+pub mod Tellers
 pub mod Stepping

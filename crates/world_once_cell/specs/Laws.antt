@@ -16,7 +16,7 @@ use Rattle.sync_program.specs.declared.once_cell.ListName.{ListName}
 use Rattle.world_once_cell.specs.declared.program.words.Content.TheVariants.{Empty, BeingMade, Full}
 use Rattle.world_once_cell.specs.machine.Seats.{Task, fills_with}
 use Rattle.world_once_cell.specs.machine.Machine.{is_maker}
-use Rattle.world_once_cell.specs.State.{World, list_in, standing_of, task_of}
+use Rattle.world_once_cell.specs.State.{World, list_in, standing_of, task_of, HasOneTeller}
 use Rattle.world_once_cell.specs.AtOnce.{would_make}
 use Rattle.world_once_cell.specs.Legal.{HasItsOwn}
 
@@ -60,6 +60,8 @@ pub record IsSound (w : World) : Type 0 where
   pub inside_calls : (p : ℕ) (u : Within) (decided : Option Answer) → standing_of w p ≡ inside u decided → is_long_call u.kind u.was ≡ true
   -- Whenever the cell is empty, and a party outside every call waits to make its value, some entry there is marked, or somebody has still to tell one or to look.
   pub told_or_due : w.cell ≡ Empty → (p : ℕ) → is_outside (standing_of w p) ≡ true → 0 < entries_of p w.active → (0 < marked_count w.active) ⊎ ((q : ℕ) × IsDue w q)
+  -- Two parties never fill the cell, nor is one about to fill it while another has still to tell that it did.
+  pub one_teller : HasOneTeller w
   -- Whenever the cell is full, and nobody who filled it has still to tell, each entry of a party outside every call is marked.
   pub told : (v : ℕ) → w.cell ≡ Full v → ((q n : ℕ) → task_of w q ≢ fills_with n) → (list : ListName) (p : ℕ) → is_outside (standing_of w p) ≡ true → 0 < entries_of p (list_in list w) → is_marked_at (is_party p) (list_in list w) ≡ true
   -- No party has two entries, in both lists together, and the marked entries stand before the waiting ones.

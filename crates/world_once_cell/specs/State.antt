@@ -1,5 +1,5 @@
 -- What callers see of a once-cell's World: what is in the cell, its lists, and how each party stands.
-use Rattle.std.specs.Prelude.{ℕ, Bool, true, false, List, [], slice_index_or, replicate, length}
+use Rattle.std.specs.Prelude.{◌≡◌, ℕ, Bool, true, false, List, [], slice_index_or, replicate, length}
 use Rattle.lock_event.specs.declared.event.Entry.{Entry}
 use Rattle.world_base.specs.declared.standing.Rest.TheVariants.{Idle}
 use Rattle.world_base.specs.Standings.{Standing, outside, forgotten}
@@ -7,7 +7,7 @@ use Rattle.world_base.specs.table.Tables.{Table, new_table}
 use Rattle.sync_program.specs.declared.once_cell.ListName.{ListName}
 use Rattle.world_once_cell.specs.declared.program.words.Content.{Content}
 use Rattle.world_once_cell.specs.declared.program.words.Content.TheVariants.{Empty, BeingMade, Full}
-use Rattle.world_once_cell.specs.machine.Seats.{Task, no_task}
+use Rattle.world_once_cell.specs.machine.Seats.{Task, no_task, fills_with}
 use Rattle.world_once_cell.specs.program.Deeds.{list_of}
 use Rattle.world_once_cell.specs.machine.Machine.{OnceCell, new_cell}
 
@@ -41,6 +41,10 @@ standing_of w p = slice_index_or w.standings p forgotten
 -- What a party's future is for.
 abbrev pub task_of : World → ℕ → Task
 task_of w p = slice_index_or w.tasks p no_task
+
+-- At most one party has a value with which it fills the cell, or has filled it and has still to tell.
+abbrev pub HasOneTeller : World → Type 0
+HasOneTeller w = (p q u v : ℕ) → task_of w p ≡ fills_with u → task_of w q ≡ fills_with v → p ≡ q
 
 -- As it is made: empty, nobody is listed, and each party is idle.
 abbrev pub new_world : ℕ → World

@@ -5,7 +5,7 @@ use Rattle.world_base.specs.declared.moves.Move.{Move}
 use Rattle.world_base.specs.declared.standing.Rest.TheVariants.{Finished}
 use Rattle.world_base.specs.table.Tables.{Table, IsTable, IsStep}
 use Rattle.world_once_cell.specs.machine.Machine.{OnceCell, IsCell, knows, Moves, Stands as StandsThere}
-use Rattle.world_once_cell.specs.State.{World}
+use Rattle.world_once_cell.specs.State.{World, HasOneTeller}
 use Rattle.world_once_cell.specs.View.{view_of}
 use Rattle.world_once_cell.specs.Legal.{Legal}
 use Rattle.world_once_cell.specs.AtOnce.{AnswersAtOnce}
@@ -21,6 +21,7 @@ pub record Stands (w : World) : Type 0 where
   pub seen : w ≡ view_of w.behind
   pub cell : IsCell w.behind.machine
   pub fits : IsCellTable w.behind
+  pub one_teller : HasOneTeller w
 
 -- what the table did
 pub record Did (old : World) (m : Move) (a : Answer) (new : World) : Type 0 where

@@ -26,7 +26,7 @@ use lock_event::Entry;
 use lock_program::Refusal;
 use std::alloc::Global;
 use std::marker::Model;
-use sync_program::once_cell::ListName;
+use sync_program::once_cell::{ListName, Position};
 use world_base::table::Table;
 use world_base::{Answer, AnyWorld, Move};
 
@@ -43,12 +43,14 @@ impl Drop for World {
 }
 
 impl Model for World {
-    ghost use Rattle.world_once_cell.specs.State.{World};
+    ghost use Rattle.world_once_cell.specs.State.{World, HasOneTeller};
     ghost use Rattle.world_once_cell.specs.View.{view_of};
 
     ghost Value = { World };
 
     ghost view = { λ w. view_of w.table };
+
+    ghost invariant = { λ w. HasOneTeller (view_of w.table) };
 }
 
 impl World {
@@ -93,6 +95,14 @@ impl World {
         ensures { result ≡ is_at_rest self.now }
     {
         self.table.at_rest()
+    }
+
+    /// Where a party stands in its program; None past the last. It is for tests that carry out the same program beside a
+    /// World: no other clause names a place.
+    pub fn place(&self, party: u32) -> Option<Position<u64>>
+        ensures { result ≡ slice_get self.now.behind.machine.positions party }
+    {
+        self.table.machine().place_of(party)
     }
 
     /// What always holds of a World, between any two moves: each party has what its standing says, one party

@@ -9,8 +9,11 @@ pub mod TurnFacts
 pub mod Endings
 pub mod Legals
 pub mod Idle
+pub mod Owed
 pub mod Acting
 pub mod AtOnce
 pub mod Asked
+pub mod Refusing
+pub mod Owing
 pub mod Instants
 pub mod Stepping

@@ -1,8 +1,8 @@
 -- How often what is free may be passed over: whole polls of notified parties, one after the other, each carried out while the others stand still.
-use Rattle.std.specs.Prelude.{◌≡◌, ◌≢◌, ℕ, ◌<◌, ◌⊎◌, true, false, List, length}
+use Rattle.std.specs.Prelude.{◌≡◌, ◌≢◌, ℕ, ◌<◌, ◌⊎◌, true, false, List, length, Some}
 use Rattle.lock_event.specs.declared.event.Entry.{Entry}
-use Rattle.lock_event.specs.Lists.{marked_count}
-use Rattle.world_base.specs.queue.Parties.{entries_of}
+use Rattle.lock_event.specs.Lists.{marked_count, is_marked_at}
+use Rattle.world_base.specs.queue.Parties.{is_party, entries_of}
 use Rattle.world_base.specs.declared.moves.Answer.{Answer}
 use Rattle.world_base.specs.declared.moves.Answer.TheVariants as answer
 use Rattle.world_base.specs.declared.moves.Call.{Call}
@@ -16,7 +16,7 @@ use Rattle.world_base.specs.Rights.{upgradable, write}
 use Rattle.world_base.specs.Rosters.{how_many}
 use Rattle.world_base.specs.Standings.{outside}
 use Rattle.world_base.specs.Bounds as bounds
-use Rattle.world_rwlock.specs.State.{ListName, list_of, nobody, is_upgradable, waits_to_write, writes, World, standing_of, reads, is_starved, how_many_read, is_marked, is_turn_free, is_upgrader, HasTurn}
+use Rattle.world_rwlock.specs.State.{ListName, list_of, nobody, is_upgradable, waits_to_write, writes, World, standing_of, sought_by, reads, is_starved, how_many_read, is_marked, is_turn_free, is_upgrader, HasTurn}
 use Rattle.world_rwlock.specs.Laws.{is_at_rest}
 use Rattle.world_rwlock.specs.Legal.{is_first}
 use Rattle.world_rwlock.specs.Whole.{IsWholeCall}
@@ -26,18 +26,25 @@ use Rattle.world_base.specs.Marks.{MarksNobody}
 
 -- ---- Solo polls
 
--- A solo poll for the turn, or to read, is of a pending party whose entry in that list is marked, and it finds memory.
+-- A solo poll for the turn is of a pending party whose entry in that list is marked, and it finds memory.
 abbrev pub IsSoloForTurn : World → ℕ → Inputs → Type 0
 IsSoloForTurn w p inputs = bounds.IsSolo (standing_of w p) w.turn_list p inputs
 
-abbrev pub IsSoloToRead : World → ℕ → Inputs → Type 0
-IsSoloToRead w p inputs = bounds.IsSolo (standing_of w p) w.no_writer p inputs
+-- A pending party was notified for the turn, and its poll finds memory if it is a write's and somebody reads.
+pub record IsToldOfTurn (w : World) (p : ℕ) (inputs : Inputs) : Type 0 where
+  pub pending : standing_of w p ≡ outside Pending
+  pub marked : is_marked_at (is_party p) w.turn_list ≡ true
+  pub memory : sought_by w p ≡ Some write → 0 < how_many_read w → inputs.memory ≡ true
 
--- A solo poll to write is of a pending party that looks for readers first: it has an entry among those that wait until none is left, marked or not, or its future is an upgrade's, in the list or not.
-pub record IsSoloToWrite (w : World) (p : ℕ) (inputs : Inputs) : Type 0 where
+-- A pending party was notified to read, whether or not its poll finds memory.
+pub record IsToldToRead (w : World) (p : ℕ) : Type 0 where
+  pub pending : standing_of w p ≡ outside Pending
+  pub marked : is_marked_at (is_party p) w.no_writer ≡ true
+
+-- A solo poll to write is of a pending party that looks for readers first: it has an entry among those that wait until none is left, marked or not, or its future is an upgrade's, in the list or not. It needs no memory.
+pub record IsSoloToWrite (w : World) (p : ℕ) : Type 0 where
   pub pending : standing_of w p ≡ outside Pending
   pub looks : (0 < entries_of p w.no_readers) ⊎ (is_upgrader w p ≡ true)
-  pub memory : inputs.memory ≡ true
 
 -- ---- What they do
 
@@ -72,11 +79,13 @@ pub record TakesToWrite (w : World) (p : ℕ) (a : Answer) (v : World) : Type 0 
   pub kept : v.state.value ≡ w.state.value
   pub writes : v.state.turn ≡ writes p
 
--- What a whole call promises: a solo poll of a free turn takes it or gives way; one to read or to write, where that is free, takes it; where nobody is starved, a party isn't starved at the end that hasn't waited for too long; a first poll of what is free is ready; and a refused poll hands on.
+-- What a whole call promises: a solo poll of a free turn takes it or gives way; one of a party that was told to read, or that looks for readers to write, takes that where it is free; where nobody is starved, a party isn't starved at the end that hasn't waited for too long; a first poll of what is free is ready; and a refused poll hands on.
 pub record Promises (w : World) (p : ℕ) (c : Call) (inputs : Inputs) (a : Answer) (v : World) : Type 0 where
   pub turn : c ≡ call.Poll → IsSoloForTurn w p inputs → w.state.turn ≡ nobody → how_many_read w < w.readers_limit → SoloPollForTurn w p a v
-  pub reading : c ≡ call.Poll → IsSoloToRead w p inputs → is_marked w.state.turn ≡ false → how_many_read w < w.readers_limit → TakesToRead w p a v
-  pub writing : c ≡ call.Poll → IsSoloToWrite w p inputs → how_many_read w ≡ 0 → TakesToWrite w p a v
+  -- of a party that was notified for it, it takes it without memory too if its party is starved or nobody is, but for a write beside readers
+  pub told : c ≡ call.Poll → IsToldOfTurn w p inputs → w.state.turn ≡ nobody → how_many_read w < w.readers_limit → (is_starved w p ≡ true) ⊎ (how_many w.state.starved ≡ 0) → TakesTurn w p a v
+  pub reading : c ≡ call.Poll → IsToldToRead w p → is_marked w.state.turn ≡ false → how_many_read w < w.readers_limit → TakesToRead w p a v
+  pub writing : c ≡ call.Poll → IsSoloToWrite w p → how_many_read w ≡ 0 → TakesToWrite w p a v
   pub unstarved : inputs.starving ≡ false → how_many w.state.starved ≡ 0 → is_starved v p ≡ false
   -- nor is its call refused then for the number of starved parties
   pub patient : inputs.starving ≡ false → how_many w.state.starved ≡ 0 → a ≢ refused Starved
@@ -100,14 +109,14 @@ pub record PassesTurnOver (w : World) (p : ℕ) (inputs : Inputs) (a : Answer) (
 
 -- A whole solo poll after which its party doesn't read, while readers are below their limit.
 pub record PassesReadingOver (w : World) (p : ℕ) (inputs : Inputs) (a : Answer) (v : World) : Type 0 where
-  pub solo : IsSoloToRead w p inputs
+  pub told : IsToldToRead w p
   pub readers_limit : how_many_read w < w.readers_limit
   pub whole : IsWholeCall w p call.Poll inputs a v
   pub not_taken : reads v p ≡ false
 
 -- A whole solo poll after which its party doesn't write.
 pub record PassesWritingOver (w : World) (p : ℕ) (inputs : Inputs) (a : Answer) (v : World) : Type 0 where
-  pub solo : IsSoloToWrite w p inputs
+  pub solo : IsSoloToWrite w p
   pub whole : IsWholeCall w p call.Poll inputs a v
   pub not_taken : v.state.turn ≢ writes p
 

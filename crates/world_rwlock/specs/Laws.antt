@@ -12,7 +12,7 @@ use Rattle.world_base.specs.declared.standing.Within.{Within}
 use Rattle.world_base.specs.Rights.{Right, read, upgradable, write, wait_to_write, excludes}
 use Rattle.world_base.specs.Rosters.{how_many}
 use Rattle.world_base.specs.Standings.{outside, inside, forgotten, is_outside}
-use Rattle.world_rwlock.specs.State.{ListName, list_of, nobody, is_upgradable, waits_to_write, writes, World, standing_of, sought_by, reads, is_starved, is_marked, how_many_read, entries_in}
+use Rattle.world_rwlock.specs.State.{ListName, list_of, nobody, is_upgradable, waits_to_write, writes, World, standing_of, sought_by, reads, is_starved, is_marked, how_many_read, entries_in, has_to_tell}
 use Rattle.world_rwlock.specs.Legal.{HasItsOwn}
 use Rattle.world_base.specs.declared.moves.Answer.TheVariants as answer
 use Rattle.world_base.specs.Standings.{Standing, is_decided}
@@ -86,6 +86,8 @@ pub record IsSound (w : World) : Type 0 where
   -- A party that is inside a call is in one that it could begin and that may take more than one step; and in a drop it seeks nothing.
   pub inside_calls : (p : ℕ) (u : Within) (decided : Option Answer) → standing_of w p ≡ inside u decided → is_long_call u.kind u.was ≡ true
   pub drops_seek_nothing : (p : ℕ) (u : Within) (decided : Option Answer) → standing_of w p ≡ inside u decided → u.kind ≡ kind.Drop → sought_by w p ≡ None
+  -- A party outside every call has nothing to tell.
+  pub told_before : (list : ListName) (p : ℕ) → has_to_tell list w p ≡ true → is_outside (standing_of w p) ≡ false
   -- It is known of each party what it seeks.
   pub as_many_seek : length w.sought ≡ length w.standings
   pub few_starved : how_many w.state.starved ≤ w.starved_limit

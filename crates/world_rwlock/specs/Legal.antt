@@ -26,8 +26,8 @@ use Rattle.world_rwlock.specs.State.{ListName, list_of, Turn, passes, is_upgrada
 use Rattle.world_rwlock.specs.Changes.{Change, state_after, entries_after, IsAllowed, gives_back, gives_up}
 use Rattle.world_base.specs.Standings.{IsUndecided}
 use Rattle.world_base.specs.Standings.{may_end}
-use Rattle.world_rwlock.specs.State.{is_starved}
-use Rattle.lock_event.specs.Lists.{is_marked_at}
+use Rattle.world_rwlock.specs.State.{is_starved, for_the_turn, for_no_readers, for_no_writer, has_to_tell}
+use Rattle.lock_event.specs.Lists.{is_marked_at, notified}
 use Rattle.world_base.specs.queue.Parties.{is_party}
 use Rattle.world_base.specs.queue.Parties.{entries_of}
 use Rattle.world_base.specs.Steps.{asked}
@@ -192,6 +192,17 @@ pub record Legal (old : World) (m : Move) (a : Answer) (new : World) : Type 0 wh
   pub ends_properly : EndsProperly old m a new
   pub keeps_upgrades : KeepsUpgrades old m a new
 
+-- ---- Whom a party tells of what it gave up
+
+-- Whoever gives the turn up, clears the writer's bit, or drops the last reader's guard goes on, and has to tell one of those that wait for that. It goes on until it has told exactly one of them; of the turn it tells at its next step. Nobody else comes to have to tell, or is freed of it.
+pub record TellsOnRelease (old : World) (m : Move) (a : Answer) (new : World) : Type 0 where
+  pub turn : HasTurn old.state.turn m.party → (HasTurn new.state.turn m.party → ⊥) → (a ≡ answer.Stepped) × (has_to_tell for_the_turn new m.party ≡ true)
+  pub bit : HasTurn old.state.turn m.party → is_marked old.state.turn ≡ true → is_marked new.state.turn ≡ false → (a ≡ answer.Stepped) × (has_to_tell for_no_writer new m.party ≡ true)
+  pub last_reader : is_drop m.what ≡ true → reads old m.party ≡ true → how_many_read new ≡ 0 → (a ≡ answer.Stepped) × (has_to_tell for_no_readers new m.party ≡ true)
+  pub tells : (list : ListName) → has_to_tell list old m.party ≡ true → is_possible a ≡ true → (list_of new list ≡ notified (list_of old list) 1) ⊎ ((a ≡ answer.Stepped) × (has_to_tell list new m.party ≡ true))
+  pub tells_at_once : has_to_tell for_the_turn old m.party ≡ true → is_possible a ≡ true → new.turn_list ≡ notified old.turn_list 1
+  pub others : (list : ListName) (q : ℕ) → q ≢ m.party → has_to_tell list new q ≡ has_to_tell list old q
+
 -- ---- Immediate answers
 
 -- A reader may enter: nobody waits to write or writes, and there are fewer readers than there may be.
@@ -233,6 +244,12 @@ pub record LeavesLists (old new : World) : Type 0 where
   pub no_writer : new.no_writer ≡ old.no_writer
   pub no_readers : new.no_readers ≡ old.no_readers
 
+-- For this right one takes the turn first.
+abbrev pub is_for_turn : Option Right → Bool
+is_for_turn (Some upgradable) = true
+is_for_turn (Some write) = true
+is_for_turn s = false
+
 -- A poll asks in this list: it goes on exactly where its party has been notified, and else is pending still.
 abbrev pub AsksIn : ℕ → List (Entry ℕ) → Answer → List (Entry ℕ) → Type 0
 AsksIn p old a new = (a ≡ (if is_marked_at (is_party p) old then answer.Stepped else answer.Pending)) × (new ≡ asked p old)
@@ -260,3 +277,10 @@ pub record AnswersAtOnce (old : World) (m : Move) (a : Answer) (new : World) : T
   -- A poll of a party that waits for the turn, or to read, asks in that list first.
   pub listed_for_turn : (inputs : _) → m.what ≡ Begin call.Poll inputs → standing_of old m.party ≡ outside Pending → 0 < entries_of m.party old.turn_list → AsksIn m.party old.turn_list a new.turn_list
   pub listed_to_read : (inputs : _) → m.what ≡ Begin call.Poll inputs → standing_of old m.party ≡ outside Pending → 0 < entries_of m.party old.no_writer → AsksIn m.party old.no_writer a new.no_writer
+  -- A call for the turn that is to be refused, has not the turn, stands in its list no more and isn't starved for it, notifies one there as it ends; and so does a read that is to be refused, among those that wait to read.
+  pub refuses_turn : (within : Within) (r : ℕ) → standing_of old m.party ≡ inside within (Some (answer.Refused r)) → is_for_turn (sought_by old m.party) ≡ true → (HasTurn old.state.turn m.party → ⊥) → entries_of m.party old.turn_list ≡ 0 → is_starved old m.party ≡ false → is_possible a ≡ true
+      → (a ≡ answer.Refused r) × (new.turn_list ≡ notified old.turn_list 1)
+  pub refuses_read : (within : Within) (r : ℕ) → standing_of old m.party ≡ inside within (Some (answer.Refused r)) → sought_by old m.party ≡ Some read → entries_of m.party old.no_writer ≡ 0 → is_possible a ≡ true
+      → (a ≡ answer.Refused r) × (new.no_writer ≡ notified old.no_writer 1)
+  -- What is given up is told of.
+  pub gives_up : TellsOnRelease old m a new

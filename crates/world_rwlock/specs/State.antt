@@ -26,7 +26,16 @@ pub record State : Type 0 where
   pub starved : List Bool
   pub value : ℕ
 
--- The state, the lists of those that wait for the turn, until no reader is left, and until no writer is, each entry with its mark; how each party stands, the right that its call, future or guard is for, and whether its future is an upgrade's; how many parties may be starved and how many may read; and the value that the World was made with. What stands behind the World is named by no clause but that of its own step.
+-- What a party has given up and hasn't told of yet: the turn; the writer's bit, of which those are told that wait to read; and the right of the last reader, of which the one is told that waits to write.
+pub record Owing : Type 0 where
+  pub turn : Bool
+  pub readers : Bool
+  pub writer : Bool
+
+abbrev pub nothing_owed : Owing
+nothing_owed = record { turn = false; readers = false; writer = false }
+
+-- The state, the lists of those that wait for the turn, until no reader is left, and until no writer is, each entry with its mark; how each party stands, the right that its call, future or guard is for, whether its future is an upgrade's, and what it has still to tell of; how many parties may be starved and how many may read; and the value that the World was made with. What stands behind the World is named by no clause but that of its own step, and that of the readers of places for tests.
 pub record World : Type 0 where
   pub state : State
   pub turn_list : List (Entry ℕ)
@@ -35,6 +44,7 @@ pub record World : Type 0 where
   pub standings : List Standing
   pub sought : List (Option Right)
   pub upgraders : List Bool
+  pub owing : List Owing
   pub starved_limit : ℕ
   pub readers_limit : ℕ
   pub opening_value : ℕ
@@ -66,6 +76,15 @@ is_starved w p = is_on w.state.starved p
 
 abbrev pub is_upgrader : World → ℕ → Bool
 is_upgrader w p = is_on w.upgraders p
+
+-- The party has to tell one in this list, since it gave up what those wait for that stand there.
+abbrev pub owes_in : ListName → Owing → Bool
+owes_in for_the_turn o = o.turn
+owes_in for_no_writer o = o.readers
+owes_in for_no_readers o = o.writer
+
+abbrev pub has_to_tell : ListName → World → ℕ → Bool
+has_to_tell list w p = owes_in list (slice_index_or w.owing p nothing_owed)
 
 abbrev pub how_many_read : World → ℕ
 how_many_read w = how_many w.state.readers
@@ -114,6 +133,7 @@ new_world parties starved readers value = record {
   standings = replicate parties (outside Idle);
   sought = replicate parties None;
   upgraders = replicate parties false;
+  owing = replicate parties nothing_owed;
   starved_limit = starved;
   readers_limit = readers;
   opening_value = value;

@@ -21,7 +21,7 @@ use Rattle.world_rwlock.specs.machine.Roles as roles
 use Rattle.world_rwlock.specs.machine.Machine.{RwLock, place_at}
 use Rattle.world_rwlock.specs.Guarded.{Guarded}
 use Rattle.world_rwlock.specs.Stages.{sought_at}
-use Rattle.world_rwlock.specs.State.{Turn, nobody, passes, is_upgradable, waits_to_write, writes, World}
+use Rattle.world_rwlock.specs.State.{Turn, nobody, passes, is_upgradable, waits_to_write, writes, World, Owing, nothing_owed}
 
 -- ---- The state
 
@@ -74,6 +74,21 @@ is_upgrade (place.AskNoReaders upgrade) = upgrade
 is_upgrade (place.AwaitNoReaders upgrade) = upgrade
 is_upgrade (place.LookUnlisted upgrade) = upgrade
 is_upgrade _ = false
+
+-- what a party has still to tell of that stands here; a writer that goes on as a reader gives the turn up before it tells the readers
+abbrev pub tells_readers : Ending → Bool
+tells_readers ending.NotifyReaders = true
+tells_readers _ = false
+
+abbrev pub owing_at : Place → Owing
+owing_at place.DropReadNotify = record { turn = false; readers = false; writer = true }
+owing_at place.DropUpgradableNotify = record { turn = false; readers = false; writer = true }
+owing_at (place.UnmarkNotify refused) = record { turn = false; readers = true; writer = false }
+owing_at place.DownNotify = record { turn = false; readers = true; writer = false }
+owing_at place.DowngradeNotify = record { turn = false; readers = true; writer = false }
+owing_at (place.ReleaseTurn e) = record { turn = false; readers = tells_readers e; writer = false }
+owing_at (place.ReleasingTurn e) = record { turn = true; readers = tells_readers e; writer = false }
+owing_at _ = nothing_owed
 
 -- ---- The standings
 
@@ -134,6 +149,7 @@ seen l ss opening v = record {
   standings = standings (verdict_of (record { lock = l; value = v })) ss;
   sought = map sought_at l.places;
   upgraders = map is_upgrade l.places;
+  owing = map owing_at l.places;
   starved_limit = l.turn.limit;
   readers_limit = l.limit;
   opening_value = opening;

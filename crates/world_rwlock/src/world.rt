@@ -8,6 +8,7 @@
 ghost use Rattle.std.specs.Prelude.{◌≡◌, ◌<◌, ℕ, true, false, not, IfOk, IfErr, OnErr, length, min, slice_get};
 ghost use Rattle.world_rwlock.specs.State.{new_world, how_many_read, is_nobody, is_marked, nobody};
 ghost use Rattle.world_base.specs.Rosters.{how_many};
+ghost use Rattle.world_mutex.specs.machine.Behind.{place_behind};
 ghost use Rattle.world_rwlock.specs.Steps.{Steps};
 ghost use Rattle.world_rwlock.specs.Laws.{IsSound, IsAwake, IsTurnWanted, IsReadingWanted, IsWritingWanted, is_at_rest};
 ghost use Rattle.world_rwlock.specs.Bound.{IsTurnBounded, IsReadingBounded, IsWritingBounded};
@@ -15,6 +16,8 @@ ghost use Rattle.world_rwlock.specs.Bound.{IsTurnBounded, IsReadingBounded, IsWr
 use crate::guarded::Guarded;
 use lock_event::Entry;
 use lock_program::Refusal;
+use lock_program::mutex::Place as TurnPlace;
+use lock_program::rwlock::Place;
 use std::alloc::Global;
 use std::marker::Model;
 use world_base::table::Table;
@@ -122,6 +125,22 @@ impl World {
         ensures { result ≡ is_at_rest self.now }
     {
         self.table.at_rest()
+    }
+
+    /// Where a party stands in its program; None past the last. It is for tests that carry out the same program beside a
+    /// World: no other clause but [`World::turn_place`]'s names a place.
+    pub fn place(&self, party: u32) -> Option<Place>
+        ensures { result ≡ slice_get self.now.behind.machine.lock.places party }
+    {
+        self.table.machine().lock().place_of(party)
+    }
+
+    /// Where a party stands in the program of the turn, which is a mutex's; None past the last. It is for tests, as
+    /// [`World::place`] is.
+    pub fn turn_place(&self, party: u32) -> Option<TurnPlace>
+        ensures { result ≡ place_behind self.now.behind.machine.lock.turn.behind party }
+    {
+        self.table.machine().lock().turn().place_of(party)
     }
 
     /// What always holds of a World, between any two moves: rights that exclude each other don't coexist,

@@ -16,7 +16,7 @@ pub record State : Type 0 where
   pub limit : ℕ
   pub shares : List Share
 
--- The state; the list of waiting parties with their marks; how each party stands; for each party, for how many permits its future, guard or call is; what each party still owes those in the list; the greatest value of the limit; and the number of permits that the World was made with. What stands behind the World is named by no clause but that of its own step.
+-- The state; the list of waiting parties with their marks; how each party stands; for each party, for how many permits its future, guard or call is; what each party still owes those in the list; the greatest value of the limit; and the number of permits that the World was made with. What stands behind the World is named by no clause but that of its own step, and that of the reader of places for tests.
 pub record World : Type 0 where
   pub state : State
   pub entries : List (Entry ℕ)

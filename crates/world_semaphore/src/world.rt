@@ -19,6 +19,7 @@ use lock_event::Entry;
 use lock_program::Refusal;
 use std::alloc::Global;
 use std::marker::Model;
+use sync_program::permits::Position;
 use world_base::table::Table;
 use world_base::{Answer, AnyWorld, Move};
 
@@ -118,6 +119,14 @@ impl World {
         ensures { result ≡ is_at_rest self.now }
     {
         self.table.at_rest()
+    }
+
+    /// Where a party stands in its program; None past the last. It is for tests that carry out the same program beside a
+    /// World: no other clause names a place.
+    pub fn place(&self, party: u32) -> Option<Position>
+        ensures { result ≡ slice_get self.now.behind.machine.positions party }
+    {
+        self.table.machine().position_of(party)
     }
 
     /// What always holds of a World, between any two moves: permits that are had, under way and available

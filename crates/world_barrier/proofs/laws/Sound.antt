@@ -382,6 +382,7 @@ module _ (t : Table Barrier) (laws : IsBarrier t.machine) (fits : IsBarrierTable
   sound = record {
     each = owns.each_has t laws fits;
     uncounted = owns.unlisted t laws fits;
+    told_before = λ q h. (owns.told_inside t laws fits q h, owns.told_without t laws fits q h);
     holder_inside = λ q h. inside_by (view_of t) q (standing_of (view_of t) q) (owns.each_has t laws fits q) h;
     inside_calls = λ q u d e. by_stage_or_past_at t.stages q (is_long_call u.kind u.was ≡ true)
         (λ past. (let h : stands_as (verdict_in t.machine q) Forgotten ≡ inside u d = ap (stands_as (verdict_in t.machine q)) (sym past) ∙ (sym (seen.standing_seen t q) ∙ e) in absurd (cc (h))))

@@ -32,7 +32,7 @@ use Rattle.world_barrier.specs.program.Program.{Next}
 use Rattle.sync_program.specs.declared.barrier.Place.{Place}
 use Rattle.sync_program.specs.declared.barrier.Place.TheVariants.{Arrive, Complete}
 use Rattle.sync_program.specs.declared.barrier.Position.{Position}
-use Rattle.sync_program.specs.declared.barrier.Position.TheVariants.{Out, Made}
+use Rattle.sync_program.specs.declared.barrier.Position.TheVariants.{Out, Made, At}
 use Rattle.world_barrier.specs.declared.program.words.Progress.{Progress}
 use Rattle.world_barrier.specs.declared.program.words.Words.{Words}
 use Rattle.world_barrier.specs.program.Words.{progress, arrivals_at}
@@ -47,17 +47,18 @@ use Rattle.world_barrier.specs.declared.world.ListName.{ListName}
 use Rattle.world_barrier.specs.State.{World, standing_of, wait_of, is_starved, is_held_by, IsClear}
 use Rattle.world_barrier.specs.View.{verdict_in, view_of}
 use Rattle.world_barrier.specs.Changes.{Change, takes, releases, starves, recovers, arrives, lock_after, wait_then, wait_after}
-use Rattle.world_barrier.specs.Legal.{call_of, DecidesOn, MayTake, IsAllowed, ChangesOneThing, IsTakenFairly, Carried, Carries, Waits, IsCause, IsRefusedForCause, LeavesClear, EndsProperly, Legal}
+use Rattle.world_barrier.specs.Legal.{call_of, DecidesOn, MayTake, IsAllowed, ChangesOneThing, TellsOnRelease, IsTakenFairly, Carried, Carries, Waits, IsCause, IsRefusedForCause, LeavesClear, EndsProperly, Legal}
 use Rattle.world_barrier.specs.Steps.{IsBarrierTable}
 use Rattle.world_barrier.proofs.table.Seen as seen
 use Rattle.world_barrier.proofs.step.Here.{Here, may_begin_at}
 use Rattle.world_barrier.proofs.step.Locks.{wait_by}
+use Rattle.world_barrier.proofs.step.Telling as telling
 use Rattle.world_barrier.proofs.step.Owns as owns
 use Rattle.world_barrier.proofs.step.Turns as turns
 use Rattle.world_barrier.proofs.step.Turns.{said}
 use Rattle.world_barrier.proofs.step.Rows.{row}
 use Rattle.world_barrier.proofs.step.Endings.{said_so, possible_by, said_then, ends_by, wait_goes}
-use Rattle.world_mutex.specs.machine.Course.{is_counting}
+use Rattle.world_mutex.specs.machine.Course.{is_counting, is_releasing}
 
 -- ---- By the deed
 
@@ -278,13 +279,16 @@ module _ (t u : Table Barrier) (m : Move) (a : Answer) (w : Within) where
         ∙ (ap (λ r. wait_at (position_at xs q) (arrivals_at u.machine.words.size r)) (arrival_stays q apart)
         ∙ (ap (λ z. wait_at (position_at xs q) (arrivals_at z (arrival_at t.machine.arrivals q))) same_size ∙ sym (seen.wait_seen t q))))
 
+    link : fits_lock (in_lock (At from)) c ≡ true
+    link = ap (λ l. fits_lock l c) k.here.fits.lock ∙ k.old_laws.links p
+
     known : turns.Known t u m w from k.found
     known = record {
       finds = k.acts.finds;
       words_then = k.acts.words;
       entries_then = k.acts.entries;
       lock = k.acts.lock;
-      link = ap (λ l. fits_lock l c) k.here.fits.lock ∙ k.old_laws.links p;
+      link = link;
       owner = k.old_laws.owners p ∙ sym k.here.fits.stands;
       sure = k.here.fits.sure mine t.machine.words (k.old_laws.sure p);
       follower = λ h. k.old_laws.followers p (k.here.fits.counted h);
@@ -385,12 +389,21 @@ module _ (t u : Table Barrier) (m : Move) (a : Answer) (w : Within) where
     ends_properly = acting.ends_so standing_of (λ y q. knows) rest.Finished old m a new w called is_possible_now (rw stands (stands_seen rest.Finished w a (verdict to d) is_possible_now may_end_so))
         (λ v b e. decides ∙ kept_on t u m w starts_here (verdict_of from c) (said n d) b r.judged (k.here.kept c v b (sym stood ∙ e)))
 
+    tells_on_release : TellsOnRelease old m a new
+    tells_on_release = record {
+      releases = λ has lost. (let y = telling.released_by i p t.machine.lock u.machine.lock k.old_laws.lock.one_holder from k.found link k.acts.lock has lost in (k.answer ∙ y.0, seen.telling_seen u p ∙ y.1));
+      tells = λ tells possible. (let y = telling.tells_by i p t.machine.lock u.machine.lock k.old_laws.lock.one_holder from k.found link k.acts.lock (sym (seen.telling_seen t p) ∙ tells) in (y.0, seen.telling_seen u p ∙ y.1));
+      only_then = λ not tells. telling.only_by i p t.machine.lock u.machine.lock k.old_laws.lock.one_holder from k.found link k.acts.lock (sym (seen.telling_seen t p) ∙ not) (sym (seen.telling_seen u p) ∙ tells);
+      others = λ q apart. seen.telling_seen u q ∙ (ap is_releasing (course_stays q apart) ∙ sym (seen.telling_seen t q));
+    }
+
     pub legal : Legal old m a new
     legal = record {
       possible = acting.possible_so standing_of (λ y q. knows) rest.Finished old m a new w called is_possible_now;
       one_change = one_change;
       taken_fairly = fairly old m new r.deed r.allowed r.lock;
       others_keep = record { lock = keep_lock old m new r.deed r.allowed r.lock; starved = keep_starved old m new r.deed r.lock };
+      tells_on_release = tells_on_release;
       carries = carries;
       waits = waits;
       refused_for_cause = refused_for_cause;

@@ -23,7 +23,6 @@ use Rattle.lock_program.specs.declared.mutex.Step.TheVariants as lock_step
 use Rattle.lock_program.specs.declared.end.End.TheVariants as lock_end
 use Rattle.world_mutex.specs.machine.Mutex.{course_at, holders, starved}
 use Rattle.world_mutex.proofs.of_machine.callers.Callers.{out_unlisted, waiting_listed}
-use Rattle.world_mutex.proofs.of_machine.callers.Begun.{lock_goes, poll_asks}
 use Rattle.world_mutex.proofs.of_machine.callers.Holders as sees
 use Rattle.sync_program.specs.declared.barrier.Aim.{Aim}
 use Rattle.sync_program.specs.declared.barrier.Aim.TheVariants as aim
@@ -163,7 +162,7 @@ module _ (t u : Table Barrier) (m : Move) (a : Answer) (w : Within) (k : Acting 
   by_step : (b : Aim) (f : Found) → OnLock i p (action_of (EnterLock b)) f t.machine.lock u.machine.lock → a ≡ answer_by (next_of (EnterLock b) f) → TakesAtOnce old m a new
   by_step b (found.Lock s) l e = record {
     takes = ((λ h. old_free ((l.at_once.takes refl).0 h)), (λ h. (l.at_once.takes refl).1 (free_old h)));
-    goes_on = rw e (goes_on b s (lock_goes i.memory p s t.machine.lock u.machine.lock l.done));
+    goes_on = rw e (goes_on b s (l.first refl));
   }
   by_step b _ l e = absurd l
 
@@ -197,16 +196,16 @@ module _ (t u : Table Barrier) (m : Move) (a : Answer) (w : Within) (k : Acting 
   abbrev marked_there : Bool
   marked_there = is_marked_at (is_party p) t.machine.lock.entries
 
-  locking_by : (b : Aim) (f : Found) → is_waiting c ≡ true → OnLock i p (action_of (WaitLock b)) f t.machine.lock u.machine.lock → a ≡ answer_by (next_of (WaitLock b) f) → a ≡ (if marked_there then answer.Stepped else answer.Pending)
-  locking_by b (found.Lock s) waits l e = e ∙ (ap (λ z. answer_by (after_lock b (found.Lock z))) (poll_asks i.memory p s t.machine.lock u.machine.lock waits l.done) ∙ told_on b marked_there)
-  locking_by b _ waits l e = absurd l
+  locking_by : (b : Aim) (f : Found) → 0 < entries_of p t.machine.lock.entries → OnLock i p (action_of (WaitLock b)) f t.machine.lock u.machine.lock → a ≡ answer_by (next_of (WaitLock b) f) → a ≡ (if marked_there then answer.Stepped else answer.Pending)
+  locking_by b (found.Lock s) some l e = e ∙ (ap (λ z. answer_by (after_lock b (found.Lock z))) (l.at_once.listed refl some).step ∙ told_on b marked_there)
+  locking_by b _ some l e = absurd l
 
   locking_so : is_later_poll (standing_of old p) m.what ≡ true → 0 < entries_of p old.lock_list → a ≡ (if is_marked_at (is_party p) old.lock_list then answer.Stepped else answer.Pending)
   locking_so h some =
       let own = k.old_laws.lock.owners p in
       let there = begins_there (standing_of old p) m.what x c k.from h k.starts (k.old_laws.links p) (omega arith) in
       let P : Place → Type 0 = λ y. OnLock i p (action_of y) k.found t.machine.lock u.machine.lock in
-      locking_by there.0 k.found there.2 (subst P there.1 k.acts.lock) (k.answer ∙ ap (λ y. answer_by (next_of y k.found)) there.1)
+      locking_by there.0 k.found some (subst P there.1 k.acts.lock) (k.answer ∙ ap (λ y. answer_by (next_of y k.found)) there.1)
 
   -- where a refused party notifies
   refuses_by : (y : Place) (f : Found) (r : ℕ) → fits_lock (in_lock (At y)) c ≡ true → OnLock i p (action_of y) f t.machine.lock u.machine.lock → verdict_of y c ≡ Some (answer.Refused r) → old.lock.holder ≢ Some p → listed_there c ≡ 0 → counted c ≡ 0

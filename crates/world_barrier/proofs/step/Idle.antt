@@ -1,5 +1,6 @@
 -- A move that does nothing is a legal step: one that its party may not make, and a poll of a future that has been ready.
-use Rattle.std.proofs.Common.{◌≡◌, ℕ, ◌+◌, true, false, None, refl, arith, sym}
+use Rattle.std.proofs.Common.{◌≡◌, ℕ, ◌+◌, true, false, None, refl, arith, sym, ◌∙◌}
+use Rattle.std.proofs.lemmas.Bool.{true≢false}
 use Rattle.world_base.specs.declared.moves.Answer.{Answer}
 use Rattle.world_base.specs.declared.moves.Answer.TheVariants as answer
 use Rattle.world_base.specs.declared.moves.Call.TheVariants as call
@@ -8,16 +9,16 @@ use Rattle.world_base.specs.declared.moves.What.{What}
 use Rattle.world_base.specs.declared.moves.What.TheVariants.{Begin}
 use Rattle.lock_program.specs.declared.refusal.Refusal.TheVariants as refusal
 use Rattle.world_base.specs.declared.standing.Rest.TheVariants as rest
-use Rattle.world_base.specs.Standings.{Standing, outside, call_in, refused, Decides}
+use Rattle.world_base.specs.Standings.{Standing, outside, call_in, refused, Decides, is_outside, is_possible}
 use Rattle.world_base.specs.Frame.{is_poll_after_ready}
 use Rattle.world_base.specs.Steps.{nothing}
 use Rattle.world_base.proofs.of_table.Idle as idle
 use Rattle.world_base.proofs.of_table.Idle.{Idle, same_decides}
 use Rattle.world_barrier.specs.machine.Machine.{knows}
 use Rattle.world_barrier.specs.machine.Waits.{Wait}
-use Rattle.world_barrier.specs.State.{World, standing_of, wait_of}
+use Rattle.world_barrier.specs.State.{World, standing_of, wait_of, has_to_tell}
 use Rattle.world_barrier.specs.Changes.{wait_then}
-use Rattle.world_barrier.specs.Legal.{call_of, IsCause, ChangesOneThing, Carries, Legal}
+use Rattle.world_barrier.specs.Legal.{call_of, IsCause, ChangesOneThing, TellsOnRelease, Carries, Legal}
 use Rattle.world_barrier.specs.AtOnce.{AnswersAtOnce, is_first_poll, is_later_poll, entries_in}
 use Rattle.world_barrier.proofs.step.Owns.{Standing_well}
 use Rattle.std.proofs.Common.{Some}
@@ -41,11 +42,12 @@ record Again (s : Standing) (what : What) : Type 0 where
   first : (n : ℕ) → is_first_poll s what n ≡ false
   later : is_later_poll s what ≡ false
   wait : (b : Wait) → wait_then what (refused refusal.Finished) b ≡ b
+  outside : is_outside s ≡ true
   outside_it : (u : Within) (d : Option Answer) → s ≡ inside u d → ⊥
 
 again : (s : Standing) (what : What) → is_poll_after_ready s what ≡ true → Again s what
-again (outside rest.Holding) (Begin call.Poll i) h = record { first = λ n. refl; later = refl; wait = λ b. refl; outside_it = λ u d e. cc e }
-again (outside rest.Finished) (Begin call.Poll i) h = record { first = λ n. refl; later = refl; wait = λ b. refl; outside_it = λ u d e. cc e }
+again (outside rest.Holding) (Begin call.Poll i) h = record { first = λ n. refl; later = refl; wait = λ b. refl; outside = refl; outside_it = λ u d e. cc e }
+again (outside rest.Finished) (Begin call.Poll i) h = record { first = λ n. refl; later = refl; wait = λ b. refl; outside = refl; outside_it = λ u d e. cc e }
 again _ _ h = absurd (cc)
 
 module _ (w : World) (m : Move) (well : Standing_well w) where
@@ -78,6 +80,9 @@ module _ (w : World) (m : Move) (well : Standing_well w) where
   carries_nothing : (a : Answer) → ((g : _) → Decides s a s (answer.Ready g) → ⊥) → Carries w m a w
   carries_nothing a never = record { ready = λ g d. absurd (never g d); led = λ e leads. absurd (never_more e) }
 
+  tells_nothing : (a : Answer) → (has_to_tell w m.party ≡ true → is_possible a ≡ true → ⊥) → TellsOnRelease w m a w
+  tells_nothing a never = record { releases = λ has lost. absurd (lost has); tells = λ tells possible. absurd (never tells possible); only_then = λ not tells. absurd (true≢false (sym tells ∙ not)); others = λ q apart. refl }
+
   abbrev Still : Answer → Type 0
   Still = Idle standing_of (λ x p. knows) rest.Finished IsCause w m refl
 
@@ -87,6 +92,7 @@ module _ (w : World) (m : Move) (well : Standing_well w) where
     one_change = still_one answer.NotPossible refl;
     taken_fairly = λ p now before. absurd (before now);
     others_keep = record { lock = λ q apart. ((λ e. e), (λ e. e)); starved = λ q apart. refl };
+    tells_on_release = tells_nothing answer.NotPossible (λ tells possible. cc possible);
     carries = carries_nothing answer.NotPossible (λ g d. (let e = same_decides s answer.NotPossible (answer.Ready g) d in cc));
     waits = record { waiting = λ e. absurd (cc); not_before = well.never_pending m.party };
     refused_for_cause = still.refused_for_cause;
@@ -112,6 +118,7 @@ module _ (w : World) (m : Move) (well : Standing_well w) where
       one_change = still_one (refused refusal.Finished) (so.wait (wait_of w m.party));
       taken_fairly = λ p now before. absurd (before now);
       others_keep = record { lock = λ q apart. ((λ e. e), (λ e. e)); starved = λ q apart. refl };
+      tells_on_release = tells_nothing (refused refusal.Finished) (λ tells possible. (let within = well.told_before m.party tells in let out = so.outside in cc (within, out)));
       carries = carries_nothing (refused refusal.Finished) (λ g d. (let e = same_decides s (refused refusal.Finished) (answer.Ready g) d in cc));
       waits = record { waiting = λ e. absurd (cc); not_before = well.never_pending m.party };
       refused_for_cause = still.refused_for_cause;

@@ -9,7 +9,7 @@ use Rattle.world_base.specs.declared.moves.Answer.TheVariants as answer
 use Rattle.lock_program.specs.declared.refusal.Refusal.{Refusal}
 use Rattle.world_base.specs.Steps.{Deed, nothing, changes, does, joins, asks, leaves, notifies, notifies_additionally, list_after}
 use Rattle.world_base.proofs.Equations.{some_eq, none_some}
-use Rattle.world_mutex.specs.machine.Course.{Course, out, waiting, taking, releasing, cancelling, undecided, called, counting, has_lock, gives_up as giving_up, holds, counted as starved_there, listed as listed_there, decision, is_taking, is_releasing, is_cancelling}
+use Rattle.world_mutex.specs.machine.Course.{Course, out, holding, waiting, taking, releasing, cancelling, undecided, called, counting, has_lock, gives_up as giving_up, holds, counted as starved_there, listed as listed_there, decision, is_out, is_holding, is_waiting, is_taking, is_releasing, is_cancelling}
 use Rattle.lock_program.specs.declared.end.End.TheVariants.{Got, Pending, Refused}
 use Rattle.world_mutex.specs.machine.Deeds as mutex
 use Rattle.world_barrier.specs.declared.world.ListName.{ListName}
@@ -140,6 +140,28 @@ undecided_free _ h e = absurd (cc h)
 pub cancelling_free : (c : Course) → is_cancelling c ≡ true → holds c ≡ 0
 cancelling_free (cancelling b) h = refl
 cancelling_free _ h = absurd (cc)
+
+-- whoever releases the lock does nothing else there
+pub out_quiet : (c : Course) → is_out c ≡ true → is_releasing c ≡ true → ⊥
+out_quiet out o h = cc h
+out_quiet _ o h = cc o
+
+pub waiting_quiet : (c : Course) → is_waiting c ≡ true → is_releasing c ≡ true → ⊥
+waiting_quiet (waiting b) o h = cc h
+waiting_quiet _ o h = cc o
+
+pub holding_quiet : (c : Course) → is_holding c ≡ true → is_releasing c ≡ true → ⊥
+holding_quiet holding o h = cc h
+holding_quiet _ o h = cc o
+
+pub taking_quiet : (c : Course) → is_taking c ≡ true → is_releasing c ≡ true → ⊥
+taking_quiet (waiting b) o h = cc h
+taking_quiet (taking x a b d) o h = cc h
+taking_quiet _ o h = cc o
+
+pub cancelling_quiet : (c : Course) → is_cancelling c ≡ true → is_releasing c ≡ true → ⊥
+cancelling_quiet (cancelling b) o h = cc h
+cancelling_quiet _ o h = cc o
 
 pub releasing_unstarved : (c : Course) → is_releasing c ≡ true → starved_there c ≡ 0
 releasing_unstarved releasing h = refl

@@ -1,22 +1,22 @@
 -- What parties have, by where they stand.
-use Rattle.std.proofs.Common.{◌≡◌, ◌≢◌, ℕ, ◌≤◌, true, Option, Some, None, refl, arith, ap, sym, ◌∙◌, subst}
+use Rattle.std.proofs.Common.{◌≡◌, ◌≢◌, ℕ, ◌≤◌, true, false, Option, Some, None, refl, arith, ap, sym, ◌∙◌, subst}
 use Rattle.world_base.specs.queue.Parties.{entries_of}
 use Rattle.world_base.specs.declared.moves.Answer.TheVariants as answer
 use Rattle.world_base.specs.declared.standing.Rest.TheVariants as rest
 use Rattle.world_base.specs.declared.standing.Stage.{Stage}
 use Rattle.world_base.specs.declared.standing.Stage.TheVariants.{Outside, Inside, Forgotten}
 use Rattle.world_base.specs.declared.standing.Within.{Within}
-use Rattle.world_base.specs.Standings.{inside}
+use Rattle.world_base.specs.Standings.{inside, is_outside}
 use Rattle.world_base.proofs.Equations.{some_eq, none_some, both}
 use Rattle.world_base.specs.table.Stages.{stage_at, stands_as}
 use Rattle.world_base.specs.table.Tables.{Table}
 use Rattle.world_base.proofs.of_table.Mapped.{past_last}
 use Rattle.world_base.proofs.of_table.Past.{by_stage_or_past_at, by_stage_or_past}
-use Rattle.world_mutex.specs.machine.Course.{Course, holds, is_out, decision}
+use Rattle.world_mutex.specs.machine.Course.{Course, holds, is_out, is_releasing, decision}
 use Rattle.lock_program.specs.declared.end.End.{End}
 use Rattle.lock_program.specs.declared.end.End.TheVariants as lock_end
 use Rattle.world_mutex.specs.machine.Mutex.{course_at}
-use Rattle.world_mutex.proofs.of_machine.callers.Callers.{out_unlisted, out_free, out_unstarved, waiting_free, holding_holds}
+use Rattle.world_mutex.proofs.of_machine.callers.Callers.{out_unlisted, out_free, out_unstarved, waiting_free, releasing_free, holding_holds}
 use Rattle.world_mutex.proofs.of_machine.callers.Holders as sees
 use Rattle.sync_program.specs.declared.barrier.Aim.{Aim}
 use Rattle.sync_program.specs.declared.barrier.Aim.TheVariants as aim
@@ -33,12 +33,12 @@ use Rattle.world_barrier.specs.machine.Waits.{Wait, no_wait, uncounted, counted,
 use Rattle.world_barrier.specs.machine.Machine.{Barrier, IsBarrier, goes_with, is_begun, runs, position_at, arrival_at}
 use Rattle.world_barrier.specs.declared.world.ListName.{ListName}
 use Rattle.world_barrier.specs.declared.world.ListName.TheVariants.{Lock, Generation}
-use Rattle.world_barrier.specs.State.{World, list_in, standing_of, wait_of, IsClear}
+use Rattle.world_barrier.specs.State.{World, list_in, standing_of, wait_of, has_to_tell, IsClear}
 use Rattle.world_barrier.specs.View.{view_of}
 use Rattle.world_barrier.specs.Legal.{HasItsOwn}
 use Rattle.world_barrier.specs.Steps.{IsBarrierTable}
 use Rattle.world_barrier.proofs.table.Seen as seen
-use Rattle.world_barrier.proofs.step.Locks.{cancelling_free}
+use Rattle.world_barrier.proofs.step.Locks.{cancelling_free, out_quiet, waiting_quiet}
 use Rattle.world_barrier.proofs.Numbers as numbers
 
 -- whoever has a wait has one
@@ -123,6 +123,7 @@ pub record Standing_well (w : World) : Type 0 where
   pub each : (p : ℕ) → HasItsOwn w p (standing_of w p)
   pub uncounted : (p : ℕ) → wait_of w p ≡ uncounted → w.lock.holder ≢ Some p → entries_of p w.list ≡ 0
   pub never_pending : (p : ℕ) (u : Within) → standing_of w p ≢ inside u (Some answer.Pending)
+  pub told_before : (p : ℕ) → has_to_tell w p ≡ true → is_outside (standing_of w p) ≡ false
 
 module _ (t : Table Barrier) (laws : IsBarrier t.machine) (fits : IsBarrierTable t) where
   abbrev w : World
@@ -242,9 +243,31 @@ module _ (t : Table Barrier) (laws : IsBarrier t.machine) (fits : IsBarrierTable
       (λ past. ap (goes_with Forgotten) (past_last t.machine.positions q Out (omega (arith, past, fits.as_many))))
       (λ inside. (let P : Stage → Type 0 = λ s. goes_with s (x_of q) ≡ true in subst P e (fits.stands q inside)))
 
+  goes_so : (q : ℕ) → goes_with (stage_at t.stages q) (x_of q) ≡ true
+  goes_so q = by_stage_or_past_at t.stages q (goes_with (stage_at t.stages q) (x_of q) ≡ true)
+      (λ past. ap (λ s. goes_with s (x_of q)) past ∙ past_is_out q past) (λ inside. fits.stands q inside)
+
+  -- who has to tell is inside a call
+  tells_inside : (q : ℕ) (s : Stage) (x : Position) → goes_with s x ≡ true → fits_lock (in_lock x) (c_of q) ≡ true → is_releasing (c_of q) ≡ true → is_outside (stands_as (verdict x (c_of q)) s) ≡ false
+  tells_inside q (Inside u) x g link h = refl
+  tells_inside q _ Out g link h = absurd (out_quiet (c_of q) link h)
+  tells_inside q _ (Made a) g link h = absurd (out_quiet (c_of q) link h)
+  tells_inside q _ (Locking a) g link h = absurd (waiting_quiet (c_of q) link h)
+  tells_inside q _ Waiting g link h = absurd (out_quiet (c_of q) link h)
+  tells_inside q (Outside rest.Idle) (At y) g link h = absurd (cc g)
+  tells_inside q (Outside rest.Pending) (At y) g link h = absurd (cc g)
+  tells_inside q (Outside rest.Holding) (At y) g link h = absurd (cc g)
+  tells_inside q (Outside rest.Finished) (At y) g link h = absurd (cc g)
+  tells_inside q Forgotten (At y) g link h = absurd (cc g)
+
+  pub told_inside : (q : ℕ) → has_to_tell w q ≡ true → is_outside (standing_of w q) ≡ false
+  told_inside q h = ap is_outside (seen.standing_seen t q) ∙ tells_inside q (stage_at t.stages q) (x_of q) (goes_so q) (laws.links q) (sym (seen.telling_seen t q) ∙ h)
+
+  pub told_without : (q : ℕ) → has_to_tell w q ≡ true → w.lock.holder ≢ Some q
+  told_without q h = not_holder q (releasing_free (c_of q) (sym (seen.telling_seen t q) ∙ h))
+
   pub each_has : (q : ℕ) → HasItsOwn w q (standing_of w q)
-  each_has q = subst (HasItsOwn w q) (sym (seen.standing_seen t q)) (owns_by q (stage_at t.stages q) (x_of q) (by_stage_or_past_at t.stages q (goes_with (stage_at t.stages q) (x_of q) ≡ true)
-      (λ past. ap (λ s. goes_with s (x_of q)) past ∙ past_is_out q past) (λ inside. fits.stands q inside)) (facts q (x_of q) refl))
+  each_has q = subst (HasItsOwn w q) (sym (seen.standing_seen t q)) (owns_by q (stage_at t.stages q) (x_of q) (goes_so q) (facts q (x_of q) refl))
 
   pub unlisted : (q : ℕ) → wait_of w q ≡ uncounted → w.lock.holder ≢ Some q → entries_of q w.list ≡ 0
   unlisted q e free = laws.owners q ∙ unlisted_by (x_of q) (num q) (sym (seen.wait_seen t q) ∙ e) (λ h. free (holds_lock q h))
@@ -254,4 +277,5 @@ module _ (t : Table Barrier) (laws : IsBarrier t.machine) (fits : IsBarrierTable
     each = each_has;
     uncounted = unlisted;
     never_pending = λ q u e. pends_by (stage_at t.stages q) (x_of q) (c_of q) u (sym (seen.standing_seen t q) ∙ e);
+    told_before = told_inside;
   }

@@ -1,7 +1,8 @@
 -- A new table is seen as a new World.
-use Rattle.std.proofs.Common.{◌≡◌, ℕ, zero, suc, ◌∷◌, replicate, refl, ap, arith}
+use Rattle.std.proofs.Common.{◌≡◌, ℕ, zero, suc, ◌∷◌, map, replicate, false, refl, ap, arith}
 use Rattle.world_base.specs.table.Tables.{new_table}
 use Rattle.world_base.proofs.of_table.Views.{all_idle}
+use Rattle.world_mutex.specs.machine.Course.{out, is_releasing}
 use Rattle.world_mutex.proofs.of_machine.callers.Callers.{new_has_no_holder, new_has_none_starved}
 use Rattle.sync_program.specs.declared.barrier.Position.TheVariants.{Out}
 use Rattle.world_barrier.specs.machine.Waits.{no_wait}
@@ -18,11 +19,16 @@ no_waits : (size n : ℕ) → waits_of size (replicate n Out) (replicate n (prog
 no_waits size zero = refl
 no_waits size (suc n) = ap (λ l. no_wait ∷ l) (no_waits size n)
 
+none_releases : (n : ℕ) → map is_releasing (replicate n out) ≡ replicate n false
+none_releases zero = refl
+none_releases (suc n) = ap (λ l. false ∷ l) (none_releases n)
+
 pub starts_new : (parties size starved most : ℕ) → view_of (new_table (new_barrier parties size starved most) parties 0) ≡ new_world parties size starved most
 starts_new parties size starved most =
     let k = none_arrived size in
     let w = no_waits size parties in
     let h = new_has_no_holder parties starved in
     let s = new_has_none_starved parties starved in
+    let r = none_releases parties in
     let i = all_idle parties (verdict_in (new_barrier parties size starved most)) in
     cc

@@ -1,16 +1,17 @@
 -- What callers see of a machine, party by party.
-use Rattle.std.proofs.Common.{◌≡◌, ℕ, zero, suc, true, List, [], ◌∷◌, get_or, Some, refl}
+use Rattle.std.proofs.Common.{◌≡◌, ℕ, zero, suc, true, false, List, [], ◌∷◌, map, get_or, Some, refl}
 use Rattle.world_base.proofs.Equations.{same_test}
 use Rattle.world_base.specs.table.Stages.{stage_at, stands_as}
 use Rattle.world_base.specs.table.Tables.{Table}
 use Rattle.world_base.proofs.of_table.Views.{standings_at}
+use Rattle.world_mutex.specs.machine.Course.{Course, is_releasing}
 use Rattle.world_mutex.specs.machine.Mutex.{course_at}
 use Rattle.sync_program.specs.declared.barrier.Position.{Position}
 use Rattle.world_barrier.specs.declared.program.words.Progress.{Progress}
 use Rattle.world_barrier.specs.machine.Waits.{no_wait, wait_at, verdict}
 use Rattle.world_barrier.specs.program.Words.{arrivals_at}
 use Rattle.world_barrier.specs.machine.Machine.{Barrier, position_at, arrival_at}
-use Rattle.world_barrier.specs.State.{standing_of, wait_of, is_held_by}
+use Rattle.world_barrier.specs.State.{standing_of, wait_of, is_held_by, has_to_tell}
 use Rattle.world_barrier.specs.View.{waits_of, verdict_in, view_of}
 
 wait_in : (size : ℕ) (xs : List Position) (rs : List Progress) (q : ℕ) → get_or (waits_of size xs rs) q no_wait ≡ wait_at (position_at xs q) (arrivals_at size (arrival_at rs q))
@@ -20,7 +21,15 @@ wait_in size (x ∷ xs) [] (suc q) = wait_in size xs [] q
 wait_in size (x ∷ xs) (a ∷ rs) zero = refl
 wait_in size (x ∷ xs) (a ∷ rs) (suc q) = wait_in size xs rs q
 
+telling_in : (cs : List Course) (q : ℕ) → get_or (map is_releasing cs) q false ≡ is_releasing (course_at cs q)
+telling_in [] q = refl
+telling_in (c ∷ cs) zero = refl
+telling_in (c ∷ cs) (suc q) = telling_in cs q
+
 module _ (t : Table Barrier) where
+  pub telling_seen : (q : ℕ) → has_to_tell (view_of t) q ≡ is_releasing (course_at t.machine.lock.courses q)
+  telling_seen q = telling_in t.machine.lock.courses q
+
   pub wait_seen : (q : ℕ) → wait_of (view_of t) q ≡ wait_at (position_at t.machine.positions q) (arrivals_at t.machine.words.size (arrival_at t.machine.arrivals q))
   wait_seen q = wait_in t.machine.words.size t.machine.positions t.machine.arrivals q
 

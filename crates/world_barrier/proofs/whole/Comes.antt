@@ -1,5 +1,5 @@
 -- What comes of a poll that is carried out alone, as callers see it.
-use Rattle.std.proofs.Common.{◌≡◌, ◌≢◌, ℕ, zero, suc, ◌+◌, ◌<◌, inl, inr, true, List, [], ◌∷◌, refl, sym, ap, ◌∙◌, subst, arith}
+use Rattle.std.proofs.Common.{◌≡◌, ◌≢◌, ℕ, zero, suc, ◌+◌, ◌<◌, inl, inr, Bool, true, List, [], ◌∷◌, refl, sym, ap, ◌∙◌, subst, arith}
 use Rattle.std.proofs.Math.Decide.{ℕ_discrete}
 use Rattle.std.specs.List.{list_all}
 use Rattle.world_base.specs.queue.Parties.{entries_of}
@@ -143,8 +143,8 @@ module _ (p : ℕ) (b : Aim) (t u : Table Barrier) (a : Answer) where
       rest_seen (verdict_in y) u.stages ∙ all_outside u.stages each
 
   module _ (others : (q : ℕ) → q ≢ p → stage_at u.stages q ≡ stage_at t.stages q) (outside : is_outside_stage (stage_at u.stages p) ≡ true) (here : position_at s.positions p ≡ Locking b) where
-    gives_by : (e : LockEnd) → (k : GaveUp p b s a (position_at y.positions p) y) → k.to ≡ e → 0 < entries_of p s.lock.entries → starved s.lock < s.lock.limit → StandsBack p s.lock e y.lock → GivesWay old p a new
-    gives_by lock_end.Pending k is there below back =
+    gives_by : (memory : Bool) (e : LockEnd) → (k : GaveUp p b s memory a (position_at y.positions p) y) → k.to ≡ e → 0 < entries_of p s.lock.entries → starved s.lock < s.lock.limit → StandsBack p s.lock e y.lock → GivesWay old p a new
+    gives_by memory lock_end.Pending k is there below back =
         let at : position_at y.positions p ≡ Locking b = k.place ∙ ap (λ e. position_after (after_lock b (found.Lock (lock_step.End e)))) is in
         record {
           free = none_held 0 y.lock.courses k.gave.free;
@@ -154,8 +154,8 @@ module _ (p : ℕ) (b : Aim) (t u : Table Barrier) (a : Answer) where
           wait = wait_so (Locking b) _ _ at k.same ∙ sym (wait_seen t p ∙ ap (λ x. wait_at x number) here);
           rests = rests_seen others outside;
         }
-    gives_by (lock_end.Refused refusal.Starved) k is there below back = absurd (omega (arith, back.2, below))
-    gives_by _ k is there below back = absurd back
+    gives_by memory (lock_end.Refused refusal.Starved) k is there below back = absurd (omega (arith, back.2, below))
+    gives_by memory _ k is there below back = absurd back
 
-    pub gives_seen : GaveUp p b s a (position_at y.positions p) y → 0 < entries_of p s.lock.entries → starved s.lock < s.lock.limit → GivesWay old p a new
-    gives_seen k there below = gives_by k.to k refl there below k.gave.stands_back
+    pub gives_seen : (memory : Bool) → GaveUp p b s memory a (position_at y.positions p) y → 0 < entries_of p s.lock.entries → starved s.lock < s.lock.limit → GivesWay old p a new
+    gives_seen memory k there below = gives_by memory k.to k refl there below k.gave.stands_back

@@ -19,7 +19,7 @@ use Rattle.lock_program.specs.declared.end.End.TheVariants as lock_end
 use Rattle.world_mutex.specs.machine.Conduct.{HandsOn}
 use Rattle.world_mutex.specs.machine.Course.{is_told, is_waiting}
 use Rattle.world_mutex.specs.machine.Mutex.{course_at}
-use Rattle.world_mutex.proofs.of_machine.callers.Released.{release_goes, released_marks}
+use Rattle.world_mutex.proofs.of_machine.callers.Released.{released_marks}
 use Rattle.sync_program.specs.declared.barrier.Aim.{Aim}
 use Rattle.sync_program.specs.declared.barrier.Aim.TheVariants as aim
 use Rattle.sync_program.specs.declared.barrier.Ending.{Ending}
@@ -109,7 +109,7 @@ module _ (p : ℕ) where
 
     lets_go : (e : Ending) (n : LockStep) → Joined e x → Step i p (ReleaseLock e) (found.Lock n) x y → HandsThen (after_release e (found.Lock n)) y
     lets_go e lock_step.More so k = kept e x y k.entries so
-    lets_go e (lock_step.End z) so k = let never : lock_step.End z ≡ lock_step.More = release_goes i.memory p (lock_step.End z) x.lock y.lock k.lock.done in absurd (cc never)
+    lets_go e (lock_step.End z) so k = let never : lock_step.End z ≡ lock_step.More = k.lock.releases refl in absurd (cc never)
 
     done : (e : Ending) → Joined e y → IsWoken y → HandsThen (released e) y
     done ending.Wait so woken = so
@@ -120,7 +120,7 @@ module _ (p : ℕ) where
 
     gives_back : (e : Ending) (n : LockStep) → position_at x.positions p ≡ At (ReleasingLock e) → Joined e x → Step i p (ReleasingLock e) (found.Lock n) x y → HandsThen (after_release e (found.Lock n)) y
     gives_back e lock_step.More here so k = kept e x y k.entries so
-    gives_back e (lock_step.End z) here so k = done e (kept e x y k.entries so) (released_marks i.memory p (lock_step.End z) x.lock y.lock (lock_at (ReleasingLock e) here) k.lock.done)
+    gives_back e (lock_step.End z) here so k = done e (kept e x y k.entries so) (released_marks i.memory p _ (lock_step.End z) x.lock y.lock (lock_at (ReleasingLock e) here) k.lock.legal)
 
     hands : (from : Place) (f : Found) → position_at x.positions p ≡ At from → Hands (At from) x → Step i p from f x y → HandsThen (next_of from f) y
     hands (TakeLock a) (found.Lock n) here so k = takes a n y (k.lock.hands_on so)

@@ -10,7 +10,7 @@ use Rattle.lock_program.specs.declared.mutex.Step.TheVariants as lock_step
 use Rattle.lock_program.specs.declared.end.End.{End as LockEnd}
 use Rattle.lock_program.specs.declared.end.End.TheVariants as lock_end
 use Rattle.lock_program.specs.declared.mutex.LockCall.TheVariants as lock_call
-use Rattle.world_mutex.specs.machine.Alone.{HasBegun, HasGoneOn, GoesOnAlone, last, further, PollsAlone, at_once, begun, IsCalled, GaveWay, StandsBack, SoloPolls, Took}
+use Rattle.world_mutex.specs.machine.Alone.{HasBegun, HasGoneOn, GoesOnAlone, last, further, PollsAlone, at_once, begun, GaveWay, StandsBack, Took}
 use Rattle.world_mutex.specs.machine.Mutex.{Mutex, holders, starved}
 use Rattle.sync_program.specs.declared.barrier.Aim.{Aim}
 use Rattle.sync_program.specs.declared.barrier.Aim.TheVariants as aim
@@ -71,68 +71,75 @@ module _ (p : ℕ) (b : Aim) (s : Barrier) where
   -- ---- a poll of a party that waits there
 
   -- it is on its way, and whatever comes of it there is what comes of a poll that is carried out alone
-  pub record IsTaking (x : Barrier) : Type 0 where
+  pub record IsTaking (memory : Bool) (x : Barrier) : Type 0 where
     pub same : Same p b s x
     pub entries : x.entries ≡ s.entries
-    pub polled : (e : LockEnd) (new : Mutex) → GoesOnAlone p e new x.lock → PollsAlone p e new s.lock
+    pub polled : (e : LockEnd) (new : Mutex) → GoesOnAlone memory p e new x.lock → PollsAlone memory p e new s.lock
 
   -- it gave way, and the call is over
-  pub record GaveUp (a : Answer) (at : Position) (y : Barrier) : Type 0 where
+  pub record GaveUp (memory : Bool) (a : Answer) (at : Position) (y : Barrier) : Type 0 where
     pub to : LockEnd
-    pub polls : PollsAlone p to y.lock s.lock
+    pub polls : PollsAlone memory p to y.lock s.lock
     pub gave : GaveWay p s.lock to y.lock
     pub answer : a ≡ answer_by (after_lock b (found.Lock (lock_step.End to)))
     pub place : at ≡ position_after (after_lock b (found.Lock (lock_step.End to)))
     pub same : Same p b s y
     pub entries : y.entries ≡ s.entries
 
-  abbrev pub Goes : Position → Barrier → Type 0
-  Goes (At (TakeLock a)) x = (a ≡ b) × IsTaking x
-  Goes z x = Serves p b s z x
+  abbrev pub Goes : Bool → Position → Barrier → Type 0
+  Goes memory (At (TakeLock a)) x = (a ≡ b) × IsTaking memory x
+  Goes memory z x = Serves p b s z x
 
-  abbrev pub Ends : Answer → Position → Barrier → Type 0
-  Ends a at y = Came p b s a at y ⊎ GaveUp a at y
+  abbrev pub Ends : Bool → Answer → Position → Barrier → Type 0
+  Ends memory a at y = Came p b s a at y ⊎ GaveUp memory a at y
 
-  abbrev pub SoloThen : Next → Barrier → Type 0
-  SoloThen = Then Goes Ends
+  abbrev pub SoloThen : Bool → Next → Barrier → Type 0
+  SoloThen memory = Then (Goes memory) (Ends memory)
 
-  goes_served : (z : Place) (y : Barrier) → Serves p b s (At z) y → Goes (At z) y
-  goes_served (TakeLock a) y h = absurd h
-  goes_served _ y h = h
+  goes_served : (memory : Bool) (z : Place) (y : Barrier) → Serves p b s (At z) y → Goes memory (At z) y
+  goes_served memory (TakeLock a) y h = absurd h
+  goes_served memory _ y h = h
 
-  pub then_served : (n : Next) (y : Barrier) → ServesThen p b s n y → SoloThen n y
-  then_served (next.Do z) y h = goes_served z y h
-  then_served (next.End e x) y h = inl h
+  pub then_served : (memory : Bool) (n : Next) (y : Barrier) → ServesThen p b s n y → SoloThen memory n y
+  then_served memory (next.Do z) y h = goes_served memory z y h
+  then_served memory (next.End e x) y h = inl h
 
-  gets_there : (a : Aim) (y : Barrier) → a ≡ b → Same p b s y → SoloThen (next.Do (with_lock a)) y
-  gets_there aim.Arrive y e same = (sym e, same)
-  gets_there aim.Check y e same = (sym e, same)
+  gets_there : (memory : Bool) (a : Aim) (y : Barrier) → a ≡ b → Same p b s y → SoloThen memory (next.Do (with_lock a)) y
+  gets_there memory aim.Arrive y e same = (sym e, same)
+  gets_there memory aim.Check y e same = (sym e, same)
 
-  module _ (law : SoloPolls s.lock) (called : IsCalled s.lock p) (i : Inputs) (memory : i.memory ≡ true) (y : Barrier) where
-    gives_up : (e : LockEnd) → PollsAlone p e y.lock s.lock → Same p b s y → y.entries ≡ s.entries → GaveWay p s.lock e y.lock → StandsBack p s.lock e y.lock → SoloThen (after_lock b (found.Lock (lock_step.End e))) y
+  -- whoever polls there takes the lock or gives way, with this memory
+  abbrev pub Settles : Bool → Type 0
+  Settles memory = (e : LockEnd) (new : Mutex) → PollsAlone memory p e new s.lock → Took p e new ⊎ GaveWay p s.lock e new
+
+  module _ (i : Inputs) (settles : Settles i.memory) (y : Barrier) where
+    abbrev Leads : Next → Barrier → Type 0
+    Leads = SoloThen i.memory
+
+    gives_up : (e : LockEnd) → PollsAlone i.memory p e y.lock s.lock → Same p b s y → y.entries ≡ s.entries → GaveWay p s.lock e y.lock → StandsBack p s.lock e y.lock → Leads (after_lock b (found.Lock (lock_step.End e))) y
     gives_up lock_end.Pending polls same entries g back = inr (record { to = lock_end.Pending; polls = polls; gave = g; answer = refl; place = refl; same = same; entries = entries })
     gives_up (lock_end.Refused Starved) polls same entries g back = inr (record { to = lock_end.Refused Starved; polls = polls; gave = g; answer = refl; place = refl; same = same; entries = entries })
     gives_up _ polls same entries g back = absurd back
 
-    by_end : (e : LockEnd) → PollsAlone p e y.lock s.lock → Same p b s y → y.entries ≡ s.entries → Took p e y.lock ⊎ GaveWay p s.lock e y.lock → SoloThen (after_lock b (found.Lock (lock_step.End e))) y
-    by_end e polls same entries (inl took) = let P : LockEnd → Type 0 = λ z. SoloThen (after_lock b (found.Lock (lock_step.End z))) y in subst P (sym took.0) (gets_there b y refl same)
+    by_end : (e : LockEnd) → PollsAlone i.memory p e y.lock s.lock → Same p b s y → y.entries ≡ s.entries → Took p e y.lock ⊎ GaveWay p s.lock e y.lock → Leads (after_lock b (found.Lock (lock_step.End e))) y
+    by_end e polls same entries (inl took) = let P : LockEnd → Type 0 = λ z. Leads (after_lock b (found.Lock (lock_step.End z))) y in subst P (sym took.0) (gets_there i.memory b y refl same)
     by_end e polls same entries (inr g) = gives_up e polls same entries g g.stands_back
 
-    ends : (e : LockEnd) → PollsAlone p e y.lock s.lock → Same p b s y → y.entries ≡ s.entries → SoloThen (after_lock b (found.Lock (lock_step.End e))) y
-    ends e polls same entries = by_end e polls same entries (law.takes_or_gives_way p e y.lock called polls)
+    ends : (e : LockEnd) → PollsAlone i.memory p e y.lock s.lock → Same p b s y → y.entries ≡ s.entries → Leads (after_lock b (found.Lock (lock_step.End e))) y
+    ends e polls same entries = by_end e polls same entries (settles e y.lock polls)
 
-    begins_so : (n : LockStep) → HasBegun true p lock_call.Poll n s.lock y.lock → Same p b s y → y.entries ≡ s.entries → SoloThen (after_lock b (found.Lock n)) y
+    begins_so : (n : LockStep) → HasBegun i.memory p lock_call.Poll n s.lock y.lock → Same p b s y → y.entries ≡ s.entries → Leads (after_lock b (found.Lock n)) y
     begins_so lock_step.More did same entries = (refl, record { same = same; entries = entries; polled = λ e new g. begun s.lock y.lock did g })
     begins_so (lock_step.End e) did same entries = ends e (at_once s.lock did) same entries
 
-    pub begins : (f : Found) → Step i p (WaitLock b) f s y → SoloThen (next_of (WaitLock b) f) y
-    begins (found.Lock n) k = begins_so n (let P : Bool → Type 0 = λ m. HasBegun m p lock_call.Poll n s.lock y.lock in subst P memory k.lock.done) (k.words, k.arrival) k.entries
+    pub begins : (f : Found) → Step i p (WaitLock b) f s y → Leads (next_of (WaitLock b) f) y
+    begins (found.Lock n) k = begins_so n k.lock.done (k.words, k.arrival) k.entries
     begins _ k = absurd k.lock
 
-    goes_so : (n : LockStep) (x : Barrier) → IsTaking x → HasGoneOn true p n x.lock y.lock → Same p b s y → y.entries ≡ s.entries → SoloThen (after_lock b (found.Lock n)) y
+    goes_so : (n : LockStep) (x : Barrier) → IsTaking i.memory x → HasGoneOn i.memory p n x.lock y.lock → Same p b s y → y.entries ≡ s.entries → Leads (after_lock b (found.Lock n)) y
     goes_so lock_step.More x so did same entries = (refl, record { same = same; entries = entries; polled = λ e new g. so.polled e new (further x.lock y.lock did g) })
     goes_so (lock_step.End e) x so did same entries = ends e (so.polled e y.lock (last x.lock did)) same entries
 
-    pub goes_on : (f : Found) (x : Barrier) → IsTaking x → Step i p (TakeLock b) f x y → SoloThen (next_of (TakeLock b) f) y
-    goes_on (found.Lock n) x so k = goes_so n x so (let P : Bool → Type 0 = λ m. HasGoneOn m p n x.lock y.lock in subst P memory k.lock.done) (k.words ∙ so.same.0, k.arrival ∙ so.same.1) (k.entries ∙ so.entries)
+    pub goes_on : (f : Found) (x : Barrier) → IsTaking i.memory x → Step i p (TakeLock b) f x y → Leads (next_of (TakeLock b) f) y
+    goes_on (found.Lock n) x so k = goes_so n x so k.lock.done (k.words ∙ so.same.0, k.arrival ∙ so.same.1) (k.entries ∙ so.entries)
     goes_on _ x so k = absurd k.lock

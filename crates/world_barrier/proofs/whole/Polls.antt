@@ -1,5 +1,5 @@
 -- Whole polls on a free inner lock: where they begin, and that they take it or give way.
-use Rattle.std.proofs.Common.{◌≡◌, ◌≢◌, ℕ, ◌+◌, ◌<◌, ◌==◌, ◌⊎◌, inl, inr, true, false, Option, Some, None, refl, sym, ap, ◌∙◌, subst, arith}
+use Rattle.std.proofs.Common.{◌≡◌, ◌≢◌, ℕ, ◌+◌, ◌<◌, ◌==◌, ◌⊎◌, inl, inr, Bool, true, false, Option, Some, None, refl, sym, ap, ◌∙◌, subst, arith}
 use Rattle.std.specs.Prelude.{is_none}
 use Rattle.std.proofs.lemmas.Bool.Decides.{nat_tests}
 use Rattle.lock_event.specs.Lists.{is_marked_at}
@@ -27,7 +27,7 @@ use Rattle.world_base.specs.table.Tables.{Table}
 use Rattle.world_base.proofs.of_table.Past.{inside_or_past}
 use Rattle.world_base.proofs.of_table.Views.{outside_stage}
 use Rattle.world_mutex.specs.machine.Course.{bit, is_waiting}
-use Rattle.world_mutex.specs.machine.Alone.{IsCalled, SoloPolls, StandsBack}
+use Rattle.world_mutex.specs.machine.Alone.{IsCalled, PollsAlone, SoloPolls, StandsBack}
 use Rattle.lock_program.specs.declared.end.End.{End as LockEnd}
 use Rattle.lock_program.specs.declared.end.End.TheVariants as lock_end
 use Rattle.world_mutex.specs.machine.Mutex.{Mutex, course_at, holders, starved, holder_of, starved_of, IsStarved}
@@ -50,12 +50,12 @@ use Rattle.world_barrier.specs.View.{view_of, verdict_in}
 use Rattle.world_barrier.specs.AtOnce.{entries_in, is_first_poll}
 use Rattle.world_barrier.specs.Changes.{wait_then}
 use Rattle.world_barrier.specs.Legal.{HasToWait}
-use Rattle.world_barrier.specs.Bound.{IsSolo, IsNotified, Takes, SoloPoll}
+use Rattle.world_barrier.specs.Bound.{IsSolo, IsNotified, IsToldOfLock, Takes, SoloPoll}
 use Rattle.world_barrier.specs.Runs.{Runs}
 use Rattle.world_barrier.specs.Steps.{IsBarrierTable, Stands}
 use Rattle.world_barrier.proofs.table.Seen.{wait_seen, standing_seen}
 use Rattle.world_barrier.proofs.whole.Served.{Came, IsSupplied, Serves, serves}
-use Rattle.world_barrier.proofs.whole.Locked.{GaveUp, Enters, asks, gets_at_once, Goes, Ends, begins}
+use Rattle.world_barrier.proofs.whole.Locked.{GaveUp, Enters, Settles, asks, gets_at_once, Goes, Ends, begins}
 use Rattle.world_barrier.proofs.whole.Alone.{EndsAt, whole}
 use Rattle.world_barrier.proofs.whole.Walks.{serves_inside, enters_inside, enters_on, goes_inside, takes_on}
 use Rattle.world_barrier.proofs.whole.Comes.{has_to_wait, takes_seen, gives_seen}
@@ -201,9 +201,9 @@ module _ (known : ℕ → Account) (w : World) (p : ℕ) (i : Inputs) (n : ℕ) 
   notified_comes runs k memory checks marked free unstarved = (whole t p i (Enters p k.its_aim s) (Came p k.its_aim s) (enters_inside p k.its_aim s) (λ x y from f laws later here so step. enters_on p k.its_aim s i memory x y from f laws later here so step)
       known w call.Poll n a v k.stage k.within Ask refl k.at k.called k.first k.starts (λ f y laws step. asks p k.its_aim s i f y marked free unstarved checks step) runs ended).ended
 
-  solo_comes : IsRun call.Poll → i.memory ≡ true → (k : Begins t p call.Poll i WaitLock) → SoloPolls s.lock → IsCalled s.lock p → EndsAt t p i (Goes p k.its_aim s) (Ends p k.its_aim s) a v
-  solo_comes runs memory k law called = whole t p i (Goes p k.its_aim s) (Ends p k.its_aim s) (goes_inside p k.its_aim s) (λ x y from f laws later here so step. takes_on p k.its_aim s i memory x y law called from f laws later here so step)
-      known w call.Poll n a v k.stage k.within (WaitLock k.its_aim) refl k.at k.called k.first k.starts (λ f y laws step. begins p k.its_aim s law called i memory y f step) runs ended
+  lock_comes : IsRun call.Poll → (k : Begins t p call.Poll i WaitLock) → IsSupplied p k.its_aim s i → Settles p k.its_aim s i.memory → EndsAt t p i (Goes p k.its_aim s i.memory) (Ends p k.its_aim s i.memory) a v
+  lock_comes runs k memory settles = whole t p i (Goes p k.its_aim s i.memory) (Ends p k.its_aim s i.memory) (goes_inside p k.its_aim s i.memory) (λ x y from f laws later here so step. takes_on p k.its_aim s i memory x y settles from f laws later here so step)
+      known w call.Poll n a v k.stage k.within (WaitLock k.its_aim) refl k.at k.called k.first k.starts (λ f y laws step. begins p k.its_aim s i settles y f step) runs ended
 
   -- as callers see it
   as_seen : (P : World → World → Type 0) → P (view_of t) (view_of v.behind) → P w v
@@ -244,14 +244,22 @@ module _ (known : ℕ → Account) (w : World) (p : ℕ) (i : Inputs) (n : ℕ) 
     takes_back lock_end.Got is back = back
     takes_back _ is back = absurd (cc is)
 
-    solo_by : (k : Begins t p call.Poll i WaitLock) → position_at s.positions p ≡ Locking k.its_aim → (law : SoloPolls s.lock) → IsCalled s.lock p → 0 < entries_of p s.lock.entries → EndsAt t p i (Goes p k.its_aim s) (Ends p k.its_aim s) a v
-        → Came p k.its_aim s a (position_at v.behind.machine.positions p) v.behind.machine ⊎ GaveUp p k.its_aim s a (position_at v.behind.machine.positions p) v.behind.machine → SoloPoll (view_of t) p a (view_of v.behind)
-    solo_by k here law called there end (inl came) =
-        let takes = subst (λ z. Takes (view_of t) p z a (view_of v.behind)) (sym k.wait) (takes_seen p k.its_aim t v.behind a stood.barrier stands.barrier k.follower came) in
-        record { takes_or_gives_way = λ below. inl takes; takes = λ why. takes }
+    -- a poll that has had the inner lock
+    came_seen : (k : Begins t p call.Poll i WaitLock) → Came p k.its_aim s a (position_at v.behind.machine.positions p) v.behind.machine → Takes (view_of t) p (wait_of (view_of t) p) a (view_of v.behind)
+    came_seen k came = subst (λ z. Takes (view_of t) p z a (view_of v.behind)) (sym k.wait) (takes_seen p k.its_aim t v.behind a stood.barrier stands.barrier k.follower came)
+
+    -- it has had it, where it is starved or nobody is
+    must_come : (k : Begins t p call.Poll i WaitLock) → (law : SoloPolls s.lock) → IsCalled s.lock p → (is_starved (view_of t).lock p ≡ true) ⊎ (how_many (view_of t).lock.starved ≡ 0)
+        → Came p k.its_aim s a (position_at v.behind.machine.positions p) v.behind.machine ⊎ GaveUp p k.its_aim s i.memory a (position_at v.behind.machine.positions p) v.behind.machine → Takes (view_of t) p (wait_of (view_of t) p) a (view_of v.behind)
+    must_come k law called why (inl came) = came_seen k came
+    must_come k law called why (inr gave) = absurd (takes_back gave.to (law.takes i.memory p gave.to v.behind.machine.lock called (why_seen why) gave.polls).0 gave.gave.stands_back)
+
+    solo_by : (k : Begins t p call.Poll i WaitLock) → position_at s.positions p ≡ Locking k.its_aim → (law : SoloPolls s.lock) → IsCalled s.lock p → 0 < entries_of p s.lock.entries → EndsAt t p i (Goes p k.its_aim s i.memory) (Ends p k.its_aim s i.memory) a v
+        → Came p k.its_aim s a (position_at v.behind.machine.positions p) v.behind.machine ⊎ GaveUp p k.its_aim s i.memory a (position_at v.behind.machine.positions p) v.behind.machine → SoloPoll (view_of t) p a (view_of v.behind)
+    solo_by k here law called there end (inl came) = record { takes_or_gives_way = λ below. inl (came_seen k came); takes = λ why. came_seen k came }
     solo_by k here law called there end (inr gave) = record {
-      takes_or_gives_way = λ below. inr (gives_seen p k.its_aim t v.behind a end.elsewhere end.outside here gave there (rw sees.how_many_counted at below));
-      takes = λ why. absurd (takes_back gave.to (law.takes p gave.to v.behind.machine.lock called (why_seen why) gave.polls).0 gave.gave.stands_back);
+      takes_or_gives_way = λ below. inr (gives_seen p k.its_aim t v.behind a end.elsewhere end.outside here i.memory gave there (rw sees.how_many_counted at below));
+      takes = λ why. must_come k law called why (inr gave);
     }
 
     pub solo : IsSolo w p i → w.lock.holder ≡ None → SoloPoll w p a v
@@ -263,5 +271,22 @@ module _ (known : ℕ → Account) (w : World) (p : ℕ) (i : Inputs) (n : ℕ) 
         let found = from_waiting t p stood.barrier stood.fits i (position_at s.positions p) refl at (stands_at t p stood.barrier stood.fits rest.Pending at) there in
         let law = lock_law s.lock stood.barrier.lock free' in
         let called : IsCalled s.lock p = (found.2, solo'.marked) in
-        let end = solo_comes runs solo'.memory found.0 law called in
+        let M : LockEnd → Mutex → Bool → Type 0 = λ e new m. PollsAlone m p e new s.lock in
+        let end = lock_comes runs found.0 (λ must. solo'.memory) (λ e new polls. law.takes_or_gives_way p e new called (subst (M e new) solo'.memory polls)) in
         as_seen (λ x y. SoloPoll x p a y) (solo_by found.0 found.1 law called there end end.ended)
+
+    -- whether or not it finds memory, unless it has to wait
+    pub told : IsToldOfLock w p i → w.lock.holder ≡ None → (is_starved w.lock p ≡ true) ⊎ (how_many w.lock.starved ≡ 0) → Takes w p (wait_of w p) a v
+    told polls free why =
+        let told' = subst (λ x. IsToldOfLock x p i) stood.seen polls in
+        let free' = nobody_holds t (subst (λ x. x.lock.holder ≡ None) stood.seen free) in
+        let why' = subst (λ x. (is_starved x.lock p ≡ true) ⊎ (how_many x.lock.starved ≡ 0)) stood.seen why in
+        let at = at_rest_there t p stood.barrier stood.fits rest.Pending told'.pending in
+        let there = marked_listed p s.lock.entries told'.marked in
+        let found = from_waiting t p stood.barrier stood.fits i (position_at s.positions p) refl at (stands_at t p stood.barrier stood.fits rest.Pending at) there in
+        let k = found.0 in
+        let law = lock_law s.lock stood.barrier.lock free' in
+        let called : IsCalled s.lock p = (found.2, told'.marked) in
+        let some = supplied call.Poll WaitLock k (subst (λ z. HasToWait (view_of t) z → i.memory ≡ true) k.wait told'.memory) in
+        let end = lock_comes runs k some (λ e new polls. inl (law.takes i.memory p e new called (why_seen why') polls)) in
+        as_seen (λ x y. Takes x p (wait_of x p) a y) (must_come k law called why' end.ended)

@@ -29,7 +29,7 @@ use Rattle.world_barrier.specs.Runs.{Runs, HoldsWell}
 use Rattle.world_barrier.specs.Steps.{Stands, Steps}
 use Rattle.world_barrier.proofs.whole.Alone.{known_calls}
 use Rattle.world_barrier.proofs.whole.Handing.{hands_on}
-use Rattle.world_barrier.proofs.whole.Polls.{nobody_starved, first, notified, solo}
+use Rattle.world_barrier.proofs.whole.Polls.{nobody_starved, first, notified, told, solo}
 use Rattle.std.proofs.Common.{Bool, Option, None, refl}
 use Rattle.world_base.specs.declared.moves.Move.{Move}
 use Rattle.world_base.specs.Standings.{Standing, outside, inside, forgotten, is_outside, is_decided, is_possible, decision, call_in}
@@ -145,6 +145,7 @@ module _ (known : ℕ → Account) (w : World) (p : ℕ) (c : Call) (i : Inputs)
   kept = record {
     first = λ is free memory. first known w p i n a v stood stands ended c runs is free memory;
     notified = λ is told free. notified known w p i n a v stood stands ended (as_poll is) told free;
+    told = λ is called free why. told known w p i n a v stood stands ended (as_poll is) called free why;
     solo = λ is called free. solo known w p i n a v stood stands ended (as_poll is) called free;
     unstarved = unstarved;
     patient = unrefused;

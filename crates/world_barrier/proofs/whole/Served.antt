@@ -19,7 +19,7 @@ use Rattle.world_mutex.specs.machine.Deeds.{Change, takes, releases, starves, re
 use Rattle.world_mutex.specs.machine.Mutex.{Mutex, course_at, IsMutex, holder_of}
 use Rattle.world_mutex.proofs.of_machine.callers.Callers.{holding_holds, releasing_free, releasing_decided}
 use Rattle.world_mutex.proofs.of_machine.callers.Holders.{holds_it, is_held_by}
-use Rattle.world_mutex.proofs.of_machine.callers.Released.{release_goes, released_marks}
+use Rattle.world_mutex.proofs.of_machine.callers.Released.{released_marks}
 use Rattle.sync_program.specs.declared.barrier.Action.TheVariants as act
 use Rattle.sync_program.specs.declared.barrier.Aim.{Aim}
 use Rattle.sync_program.specs.declared.barrier.Aim.TheVariants as aim
@@ -240,7 +240,7 @@ module _ (p : ℕ) (b : Aim) (s : Barrier) where
 
     lets_go : (e : Ending) (n : LockStep) → position_at x.positions p ≡ At (ReleaseLock e) → ComesTo e x → Step i p (ReleaseLock e) (found.Lock n) x y → ServesThen (next_of (ReleaseLock e) (found.Lock n)) y
     lets_go e lock_step.More here so k = (comes_kept e x y k.words k.arrival k.entries so, begins_free i p lock_step.More x.lock y.lock laws.lock (lock_at (ReleaseLock e) here) k.lock refl)
-    lets_go e (lock_step.End z) here so k = let never : lock_step.End z ≡ lock_step.More = release_goes i.memory p (lock_step.End z) x.lock y.lock k.lock.done in absurd (cc never)
+    lets_go e (lock_step.End z) here so k = let never : lock_step.End z ≡ lock_step.More = k.lock.releases refl in absurd (cc never)
 
     served : (e : Ending) → ComesTo e y → IsFree y → IsWoken y → ServesThen (released e) y
     served ending.Wait so free woken = (so, free, woken)
@@ -253,7 +253,7 @@ module _ (p : ℕ) (b : Aim) (s : Barrier) where
     released_now e lock_step.More here so k = let never = (k.lock.leads.releases (lock_at (ReleasingLock e) here)).0 in absurd (cc never)
     released_now e (lock_step.End z) here so k =
         let releasing : is_releasing (course_at x.lock.courses p) ≡ true = lock_at (ReleasingLock e) here in
-        served e (comes_kept e x y k.words k.arrival k.entries so.0) (goes_free i p (lock_step.End z) x.lock y.lock releasing k.lock so.1) (released_marks i.memory p (lock_step.End z) x.lock y.lock releasing k.lock.done)
+        served e (comes_kept e x y k.words k.arrival k.entries so.0) (goes_free i p (lock_step.End z) x.lock y.lock releasing k.lock so.1) (released_marks i.memory p _ (lock_step.End z) x.lock y.lock releasing k.lock.legal)
 
     pub serves : (from : Place) (f : Found) → position_at x.positions p ≡ At from → Serves (At from) x → Step i p from f x y → ServesThen (next_of from f) y
     serves Look found.MustWait here so k = (so.0, (k.words ∙ so.1.0, k.arrival ∙ so.1.1))

@@ -1,7 +1,6 @@
 -- From place to place: how a poll that is carried out alone goes on that has the inner lock, or is to get it.
-use Rattle.std.proofs.Common.{◌≡◌, ℕ, true, refl, sym, subst}
+use Rattle.std.proofs.Common.{◌≡◌, ℕ, Bool, refl, sym, subst}
 use Rattle.world_base.specs.declared.moves.Inputs.{Inputs}
-use Rattle.world_mutex.specs.machine.Alone.{IsCalled, SoloPolls}
 use Rattle.sync_program.specs.declared.barrier.Aim.{Aim}
 use Rattle.sync_program.specs.declared.barrier.Found.{Found}
 use Rattle.sync_program.specs.declared.barrier.Place.{Place}
@@ -11,7 +10,7 @@ use Rattle.sync_program.specs.declared.barrier.Position.TheVariants.{At}
 use Rattle.world_barrier.specs.program.Program.{next_of}
 use Rattle.world_barrier.specs.machine.Machine.{Barrier, IsBarrier, position_at}
 use Rattle.world_barrier.proofs.whole.Served.{Step, IsSupplied, Serves, serves}
-use Rattle.world_barrier.proofs.whole.Locked.{IsTaking, IsFresh, Goes, SoloThen, then_served, goes_on, Enters, EntersThen, then_entered, gets_at_once}
+use Rattle.world_barrier.proofs.whole.Locked.{IsTaking, Settles, IsFresh, Goes, SoloThen, then_served, goes_on, Enters, EntersThen, then_entered, gets_at_once}
 
 module _ (p : ℕ) (b : Aim) (s : Barrier) where
   pub serves_inside : (z : Position) (x : Barrier) → Serves p b s z x → (y : Place) × (z ≡ At y)
@@ -22,9 +21,9 @@ module _ (p : ℕ) (b : Aim) (s : Barrier) where
   enters_inside (At y) x h = (y, refl)
   enters_inside _ x h = absurd h
 
-  pub goes_inside : (z : Position) (x : Barrier) → Goes p b s z x → (y : Place) × (z ≡ At y)
-  goes_inside (At y) x h = (y, refl)
-  goes_inside _ x h = absurd h
+  pub goes_inside : (memory : Bool) (z : Position) (x : Barrier) → Goes p b s memory z x → (y : Place) × (z ≡ At y)
+  goes_inside memory (At y) x h = (y, refl)
+  goes_inside memory _ x h = absurd h
 
   module _ (i : Inputs) (memory : IsSupplied p b s i) (x y : Barrier) where
     enters_so : (a : Aim) (f : Found) → (a ≡ b) × IsFresh p b s x → Step i p (EnterLock a) f x y → EntersThen p b s (next_of (EnterLock a) f) y
@@ -36,12 +35,12 @@ module _ (p : ℕ) (b : Aim) (s : Barrier) where
     enters_on (EnterLock a) f laws later here so k = enters_so a f so k
     enters_on from f laws later here so k = then_entered p b s (next_of from f) y (serves p b s i memory x y laws from f here so k)
 
-  module _ (i : Inputs) (memory : i.memory ≡ true) (x y : Barrier) (law : SoloPolls s.lock) (called : IsCalled s.lock p) where
-    takes_so : (a : Aim) (f : Found) → (a ≡ b) × IsTaking p b s x → Step i p (TakeLock a) f x y → SoloThen p b s (next_of (TakeLock a) f) y
+  module _ (i : Inputs) (memory : IsSupplied p b s i) (x y : Barrier) (settles : Settles p b s i.memory) where
+    takes_so : (a : Aim) (f : Found) → (a ≡ b) × IsTaking p b s i.memory x → Step i p (TakeLock a) f x y → SoloThen p b s i.memory (next_of (TakeLock a) f) y
     takes_so a f so k =
-        let P : Aim → Type 0 = λ c. Step i p (TakeLock c) f x y → SoloThen p b s (next_of (TakeLock c) f) y in
-        subst P (sym so.0) (goes_on p b s law called i memory y f x so.1) k
+        let P : Aim → Type 0 = λ c. Step i p (TakeLock c) f x y → SoloThen p b s i.memory (next_of (TakeLock c) f) y in
+        subst P (sym so.0) (goes_on p b s i settles y f x so.1) k
 
-    pub takes_on : (from : Place) (f : Found) → IsBarrier x → IsBarrier y → position_at x.positions p ≡ At from → Goes p b s (At from) x → Step i p from f x y → SoloThen p b s (next_of from f) y
+    pub takes_on : (from : Place) (f : Found) → IsBarrier x → IsBarrier y → position_at x.positions p ≡ At from → Goes p b s i.memory (At from) x → Step i p from f x y → SoloThen p b s i.memory (next_of from f) y
     takes_on (TakeLock a) f laws later here so k = takes_so a f so k
-    takes_on from f laws later here so k = then_served p b s (next_of from f) y (serves p b s i (λ _. memory) x y laws from f here so k)
+    takes_on from f laws later here so k = then_served p b s i.memory (next_of from f) y (serves p b s i memory x y laws from f here so k)

@@ -199,6 +199,13 @@ impl Barrier {
         }
     }
 
+    /// Where a party stands in its program; None past the last.
+    pub fn position_of(&self, party: u32) -> Option<Position>
+        ensures { result ≡ slice_get self.now.positions party }
+    {
+        self.positions.get(party as usize).copied()
+    }
+
     /// The inner lock.
     pub fn lock(&self) -> &Mutex
         ensures { result.now ≡ self.now.lock }

@@ -123,12 +123,12 @@ module _ (p : ℕ) (i : Inputs) where
 
     -- a poll that has begun goes on alone
     goes_on : (known : ℕ → Account) (k : ℕ) (w v : World) (a : Answer) → a ≢ answer.Stepped → stage_at w.behind.stages p ≡ Inside later
-        → Runs known w (going_on p i ∷ replicate k (going_on p i)) (replicate k answer.Stepped ++ a ∷ []) v → (e : End) × GoesOnAlone p e v.behind.machine.lock w.behind.machine.lock × Ended w.behind p a v.behind e
+        → Runs known w (going_on p i ∷ replicate k (going_on p i)) (replicate k answer.Stepped ++ a ∷ []) v → (e : End) × GoesOnAlone true p e v.behind.machine.lock w.behind.machine.lock × Ended w.behind p a v.behind e
     goes_on known zero w v a not_stepped inside runs =
         let mid : World = runs.0 in
         let d = going w mid a inside runs.1 in
         let so = ends_so (Go i) w.behind mid.behind a memory not_stepped d in
-        let P : World → Type 0 = λ x. (e : End) × GoesOnAlone p e x.behind.machine.lock w.behind.machine.lock × Ended w.behind p a x.behind e in
+        let P : World → Type 0 = λ x. (e : End) × GoesOnAlone true p e x.behind.machine.lock w.behind.machine.lock × Ended w.behind p a x.behind e in
         subst P (sym runs.3) (so.0, last w.behind.machine.lock (goes_from w.behind mid.behind a (next.End so.0) d so.1), so.2)
     goes_on known (suc k) w v a not_stepped inside runs =
         let mid : World = runs.0 in
@@ -137,16 +137,16 @@ module _ (p : ℕ) (i : Inputs) where
         let more = goes_on (accounts_after known (going_on p i) answer.Stepped) k mid v a not_stepped (still_inside (Go i) w.behind mid.behind d) runs.3 in
         (more.0, step w.behind.machine.lock mid.behind.machine.lock on.0 on.1 (goes_from w.behind mid.behind answer.Stepped (next.Do on.0 on.1) d on.2) more.1, ended_before (Go i) w.behind mid.behind v.behind a more.0 d more.2)
 
-    begins_from : (t u : Table Guarded) (a : Answer) (n : Next) (d : Does (Begin call.Poll i) t a u) → ActsSo d.carries.from n t u → BeginsPoll p n t.machine.lock u.machine.lock
+    begins_from : (t u : Table Guarded) (a : Answer) (n : Next) (d : Does (Begin call.Poll i) t a u) → ActsSo d.carries.from n t u → BeginsPoll true p n t.machine.lock u.machine.lock
     begins_from t u a n d acts = is_some_and (λ from. ActsSo from n t u) (start_of lock_call.Poll (place_of t.machine p)) d.carries.from d.carries.starts acts
 
     pub polls_alone : (known : ℕ → Account) (k : ℕ) (w v : World) (a : Answer) → a ≢ answer.Stepped → stage_at w.behind.stages p ≡ Outside rest.Pending
-        → Runs known w (moves_of p call.Poll i k) (answers_of k a) v → (e : End) × PollsAlone p e v.behind.machine.lock w.behind.machine.lock × Ended w.behind p a v.behind e
+        → Runs known w (moves_of p call.Poll i k) (answers_of k a) v → (e : End) × PollsAlone true p e v.behind.machine.lock w.behind.machine.lock × Ended w.behind p a v.behind e
     polls_alone known zero w v a not_stepped pending runs =
         let mid : World = runs.0 in
         let d = beginning_so w mid a pending runs.1 in
         let so = ends_so (Begin call.Poll i) w.behind mid.behind a memory not_stepped d in
-        let P : World → Type 0 = λ x. (e : End) × PollsAlone p e x.behind.machine.lock w.behind.machine.lock × Ended w.behind p a x.behind e in
+        let P : World → Type 0 = λ x. (e : End) × PollsAlone true p e x.behind.machine.lock w.behind.machine.lock × Ended w.behind p a x.behind e in
         subst P (sym runs.3) (so.0, at_once w.behind.machine.lock (begins_from w.behind mid.behind a (next.End so.0) d so.1), so.2)
     polls_alone known (suc k) w v a not_stepped pending runs =
         let mid : World = runs.0 in

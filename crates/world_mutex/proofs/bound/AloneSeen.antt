@@ -105,12 +105,12 @@ module _ (t : Table Guarded) (p : ℕ) where
       either_seen e k below (inl took) = inl (takes_seen u a um uf e took k)
       either_seen e k below (inr gave) = inr (gives_seen u a um uf e listed_here below gave gave.stands_back k)
 
-      pub ended_seen : (e : End) → PollsAlone p e u.machine.lock t.machine.lock → Ended t p a u e → (view_of t).state.holder ≡ None → SoloPoll (view_of t) p a (view_of u)
+      pub ended_seen : (e : End) → PollsAlone true p e u.machine.lock t.machine.lock → Ended t p a u e → (view_of t).state.holder ≡ None → SoloPoll (view_of t) p a (view_of u)
       ended_seen e polls k free =
           let law = solo_polls t.machine.lock tm (sees.none_holds 0 t.machine.lock.places free) in
           record {
             takes_or_gives_way = λ below. either_seen e k (rw sees.how_many_counted at below) (law.takes_or_gives_way p e u.machine.lock is_called polls);
-            takes = λ why. takes_seen u a um uf e (law.takes p e u.machine.lock is_called (why_seen why) polls) k;
+            takes = λ why. takes_seen u a um uf e (law.takes true p e u.machine.lock is_called (why_seen why) polls) k;
           }
 
 -- a solo poll that was carried out alone keeps its promise

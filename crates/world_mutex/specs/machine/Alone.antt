@@ -35,15 +35,15 @@ HasBegun memory p c s old new = IsDone (λ n l k. IsSomeAnd (start_of c (place_a
 abbrev pub HasGoneOn : Bool → ℕ → Step → Mutex → Mutex → Type 0
 HasGoneOn memory p s old new = IsDone (λ n l k. Acts memory p (place_at l.places p) n l k) s old new
 
--- A party inside a call goes on with it alone, always finding memory, until the call ends so and leaves this mutex.
-pub data GoesOnAlone (p : ℕ) (e : End) (new : Mutex) : Mutex → Type 0 where
-  last : (old : Mutex) → HasGoneOn true p (step.End e) old new → GoesOnAlone p e new old
-  further : (old mid : Mutex) → HasGoneOn true p step.More old mid → GoesOnAlone p e new mid → GoesOnAlone p e new old
+-- A party inside a call goes on with it alone, always or never finding memory, until the call ends so and leaves this mutex.
+pub data GoesOnAlone (memory : Bool) (p : ℕ) (e : End) (new : Mutex) : Mutex → Type 0 where
+  last : (old : Mutex) → HasGoneOn memory p (step.End e) old new → GoesOnAlone memory p e new old
+  further : (old mid : Mutex) → HasGoneOn memory p step.More old mid → GoesOnAlone memory p e new mid → GoesOnAlone memory p e new old
 
--- A party's poll is carried out alone, always finding memory: it begins at the old mutex, ends so, and leaves the new one.
-pub data PollsAlone (p : ℕ) (e : End) (new : Mutex) : Mutex → Type 0 where
-  at_once : (old : Mutex) → HasBegun true p call.Poll (step.End e) old new → PollsAlone p e new old
-  begun : (old mid : Mutex) → HasBegun true p call.Poll step.More old mid → GoesOnAlone p e new mid → PollsAlone p e new old
+-- A party's poll is carried out alone, always or never finding memory: it begins at the old mutex, ends so, and leaves the new one.
+pub data PollsAlone (memory : Bool) (p : ℕ) (e : End) (new : Mutex) : Mutex → Type 0 where
+  at_once : (old : Mutex) → HasBegun memory p call.Poll (step.End e) old new → PollsAlone memory p e new old
+  begun : (old mid : Mutex) → HasBegun memory p call.Poll step.More old mid → GoesOnAlone memory p e new mid → PollsAlone memory p e new old
 
 -- A party that is pending, and has been notified.
 abbrev pub IsCalled : Mutex → ℕ → Type 0
@@ -77,17 +77,17 @@ pub record GaveWay (p : ℕ) (old : Mutex) (e : End) (new : Mutex) : Type 0 wher
   pub notified : 0 < length new.entries → 0 < marked_count new.entries
   pub fewer : unstarved_listed new + 1 ≡ unstarved_listed old
 
--- So many polls in a row, each carried out alone by a party that is pending and has been notified, and none of which takes the lock.
+-- So many polls in a row, each carried out alone by a party that is pending and has been notified, and finds memory, and none of which takes the lock.
 abbrev pub PollsInTurn : ℕ → Mutex → Mutex → Type 0
 PollsInTurn zero old new = new ≡ old
-PollsInTurn (suc n) old new = (p : ℕ) × (e : End) × (mid : Mutex) × IsCalled old p × (e ≢ Got) × PollsAlone p e mid old × PollsInTurn n mid new
+PollsInTurn (suc n) old new = (p : ℕ) × (e : End) × (mid : Mutex) × IsCalled old p × (e ≢ Got) × PollsAlone true p e mid old × PollsInTurn n mid new
 
 -- What polls that are carried out alone do to a free mutex.
 pub record SoloPolls (m : Mutex) : Type 0 where
-  -- Such a poll of a notified party takes the lock, or gives way.
-  pub takes_or_gives_way : (p : ℕ) (e : End) (new : Mutex) → IsCalled m p → PollsAlone p e new m → Took p e new ⊎ GaveWay p m e new
-  -- It takes the lock if its party is starved, or if nobody is.
-  pub takes : (p : ℕ) (e : End) (new : Mutex) → IsCalled m p → IsStarved m p ⊎ (starved m ≡ 0) → PollsAlone p e new m → Took p e new
+  -- Such a poll of a notified party that finds memory takes the lock, or gives way.
+  pub takes_or_gives_way : (p : ℕ) (e : End) (new : Mutex) → IsCalled m p → PollsAlone true p e new m → Took p e new ⊎ GaveWay p m e new
+  -- It takes the lock if its party is starved, or if nobody is, and needs no memory then.
+  pub takes : (memory : Bool) (p : ℕ) (e : End) (new : Mutex) → IsCalled m p → IsStarved m p ⊎ (starved m ≡ 0) → PollsAlone memory p e new m → Took p e new
   -- At rest, where somebody waits in the list, some party has been notified.
   pub some_called : IsAtRest m.courses → 0 < length m.entries → (p : ℕ) × IsCalled m p
   -- And fewer polls in a row give way than the list has entries: so among as many polls one takes the lock.

@@ -1,5 +1,5 @@
 -- Polls that are carried out alone, each from its first action to its end before another party moves.
-use Rattle.std.specs.Prelude.{◌≡◌, ◌≢◌, ℕ, zero, suc, ◌+◌, ◌-◌, ◌<◌, ◌⊎◌, true, length, IsSomeAnd}
+use Rattle.std.specs.Prelude.{◌≡◌, ◌≢◌, ℕ, zero, suc, ◌+◌, ◌-◌, ◌<◌, ◌⊎◌, Bool, true, length, IsSomeAnd}
 use Rattle.std.specs.List.{sum_by}
 use Rattle.lock_event.specs.Lists.{marked_count, is_marked_at}
 use Rattle.world_base.specs.queue.Parties.{is_party}
@@ -18,19 +18,19 @@ use Rattle.world_mutex.specs.machine.Courses.{is_waiting}
 use Rattle.world_mutex.specs.machine.Machine.{Lock, place_at}
 use Rattle.world_mutex.specs.machine.Acts.{Acts, IsAtRest, IsStarved, holders, starved}
 
--- A party inside a call goes on with it alone, always finding memory, until the call ends so and leaves this mutex.
-pub data GoesOnAlone (p : ℕ) (e : End) (new : Lock) : Lock → Type 0 where
-  last : (old : Lock) → Acts true p (place_at old.places p) (next.End e) old new → GoesOnAlone p e new old
-  step : (old mid : Lock) (a : Action) (to : Place) → Acts true p (place_at old.places p) (next.Do a to) old mid → GoesOnAlone p e new mid → GoesOnAlone p e new old
+-- A party inside a call goes on with it alone, always or never finding memory, until the call ends so and leaves this mutex.
+pub data GoesOnAlone (memory : Bool) (p : ℕ) (e : End) (new : Lock) : Lock → Type 0 where
+  last : (old : Lock) → Acts memory p (place_at old.places p) (next.End e) old new → GoesOnAlone memory p e new old
+  step : (old mid : Lock) (a : Action) (to : Place) → Acts memory p (place_at old.places p) (next.Do a to) old mid → GoesOnAlone memory p e new mid → GoesOnAlone memory p e new old
 
 -- The first action of a party's poll.
-abbrev pub BeginsPoll : ℕ → Next → Lock → Lock → Type 0
-BeginsPoll p n old new = IsSomeAnd (start_of call.Poll (place_at old.places p)) (λ from. Acts true p from n old new)
+abbrev pub BeginsPoll : Bool → ℕ → Next → Lock → Lock → Type 0
+BeginsPoll memory p n old new = IsSomeAnd (start_of call.Poll (place_at old.places p)) (λ from. Acts memory p from n old new)
 
--- A party's poll is carried out alone, always finding memory: it begins at the old mutex, ends so, and leaves the new one.
-pub data PollsAlone (p : ℕ) (e : End) (new : Lock) : Lock → Type 0 where
-  at_once : (old : Lock) → BeginsPoll p (next.End e) old new → PollsAlone p e new old
-  begun : (old mid : Lock) (a : Action) (to : Place) → BeginsPoll p (next.Do a to) old mid → GoesOnAlone p e new mid → PollsAlone p e new old
+-- A party's poll is carried out alone, always or never finding memory: it begins at the old mutex, ends so, and leaves the new one.
+pub data PollsAlone (memory : Bool) (p : ℕ) (e : End) (new : Lock) : Lock → Type 0 where
+  at_once : (old : Lock) → BeginsPoll memory p (next.End e) old new → PollsAlone memory p e new old
+  begun : (old mid : Lock) (a : Action) (to : Place) → BeginsPoll memory p (next.Do a to) old mid → GoesOnAlone memory p e new mid → PollsAlone memory p e new old
 
 -- A party that is pending, and has been notified.
 abbrev pub IsCalled : Lock → ℕ → Type 0
@@ -64,17 +64,17 @@ pub record GaveWay (p : ℕ) (old : Lock) (e : End) (new : Lock) : Type 0 where
   pub notified : 0 < length new.entries → 0 < marked_count new.entries
   pub fewer : unstarved_listed new + 1 ≡ unstarved_listed old
 
--- So many polls in a row, each carried out alone by a party that is pending and has been notified, and none of which takes the lock.
+-- So many polls in a row, each carried out alone by a party that is pending and has been notified, and finds memory, and none of which takes the lock.
 abbrev pub PollsInTurn : ℕ → Lock → Lock → Type 0
 PollsInTurn zero old new = new ≡ old
-PollsInTurn (suc n) old new = (p : ℕ) × (e : End) × (mid : Lock) × IsCalled old p × (e ≢ Got) × PollsAlone p e mid old × PollsInTurn n mid new
+PollsInTurn (suc n) old new = (p : ℕ) × (e : End) × (mid : Lock) × IsCalled old p × (e ≢ Got) × PollsAlone true p e mid old × PollsInTurn n mid new
 
 -- What polls that are carried out alone do to a free mutex.
 pub record SoloPolls (l : Lock) : Type 0 where
-  -- Such a poll of a notified party takes the lock, or gives way.
-  pub takes_or_gives_way : (p : ℕ) (e : End) (new : Lock) → IsCalled l p → PollsAlone p e new l → Took p e new ⊎ GaveWay p l e new
-  -- It takes the lock if its party is starved, or if nobody is.
-  pub takes : (p : ℕ) (e : End) (new : Lock) → IsCalled l p → IsStarved l p ⊎ (starved l ≡ 0) → PollsAlone p e new l → Took p e new
+  -- Such a poll of a notified party that finds memory takes the lock, or gives way.
+  pub takes_or_gives_way : (p : ℕ) (e : End) (new : Lock) → IsCalled l p → PollsAlone true p e new l → Took p e new ⊎ GaveWay p l e new
+  -- It takes the lock if its party is starved, or if nobody is, and needs no memory then.
+  pub takes : (memory : Bool) (p : ℕ) (e : End) (new : Lock) → IsCalled l p → IsStarved l p ⊎ (starved l ≡ 0) → PollsAlone memory p e new l → Took p e new
   -- At rest, where somebody waits in the list, some party has been notified.
   pub some_called : IsAtRest l.places → 0 < length l.entries → (p : ℕ) × IsCalled l p
   -- And fewer polls in a row give way than the list has entries: so among as many polls one takes the lock.

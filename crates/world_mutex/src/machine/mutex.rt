@@ -10,7 +10,7 @@ ghost use Rattle.std.specs.Prelude.{◌≡◌, ◌<◌, true, length, slice_get,
 use crate::machine::lock::Lock;
 use crate::program::led::step_after;
 use lock_event::Entry;
-use lock_program::mutex::{LockCall, Step};
+use lock_program::mutex::{LockCall, Place, Step};
 use std::alloc::{AllocError, Global};
 use std::marker::Model;
 
@@ -44,12 +44,11 @@ impl Model for Mutex {
     ghost invariant = { λ m. AreKept m.machine.places };
 }
 
-ghost use Rattle.world_mutex.specs.machine.Alone.{HasBegun, HasGoneOn, SoloPolls};
-ghost use Rattle.world_mutex.specs.machine.Conduct.{IsLegal, IsUnrefused, TakesAtOnce, HeedsClock, CountsNobody, HandsOn, BeginsToHandOn};
-ghost use Rattle.world_mutex.specs.machine.Course.{bit, may_begin, decision, is_told, Begins, GoesOn};
-ghost use Rattle.world_mutex.specs.machine.Deeds.{decided_by};
-ghost use Rattle.world_mutex.specs.machine.Mutex.{course_at, new_mutex, holders, starved as starved_lem, left_after, steps_left, TakenFairly, IsMutex};
-ghost use Rattle.world_mutex.specs.machine.Ranks.{most_steps};
+ghost use Rattle.world_mutex.specs.machine.Behind.{place_behind};
+ghost use Rattle.world_mutex.specs.machine.Alone.{SoloPolls};
+ghost use Rattle.world_mutex.specs.machine.Course.{bit, may_begin};
+ghost use Rattle.world_mutex.specs.machine.Mutex.{course_at, new_mutex, holders, starved as starved_lem, IsMutex};
+ghost use Rattle.world_mutex.specs.machine.Steps.{LockBegins, LockGoesOn};
 
 impl Mutex {
     /// A free mutex for so many parties, numbered from 0, none of which has called yet; at most `limit`
@@ -63,44 +62,30 @@ impl Mutex {
 
     /// Begins a call of a party with its first step. `memory` says whether a join finds memory,
     /// `starving` whether the party has waited for too long. The caller begins a call only where the
-    /// course of the party allows it (`can`). If only this party moves until the call ends, it has at
-    /// most so many steps as `bounded` says. A first poll, a try, and a poll of a party in no list end at
-    /// once with the lock where it is free and nobody is starved (`at_once`); no call is refused at its
-    /// first step (`unrefused`). `done` is there for [`Mutex::solo_polls`].
+    /// course of the party allows it (`can`). What the step does, specs/machine/Steps says.
     pub fn begin(&mut self, party: u32, call: LockCall, memory: bool, starving: bool) -> Step
         requires known { party < length self.old.courses }
         requires can { may_begin call (course_at self.old.courses party) ≡ true }
-        ensures leads { Begins call result (course_at self.new.courses party) }
-        ensures legal { IsLegal memory party (decided_by call) result self.old self.new }
-        ensures at_once { TakesAtOnce call party result self.old self.new }
-        ensures fair { TakenFairly self.old self.new }
-        ensures bounded { left_after result self.new party < most_steps call }
-        ensures unrefused { IsUnrefused result (course_at self.new.courses party) }
-        ensures patient { CountsNobody starving party self.old self.new }
-        ensures hands_on { BeginsToHandOn call (course_at self.old.courses party) result (course_at self.new.courses party) self.new.entries }
-        ensures done { HasBegun memory party call result self.old self.new }
+        ensures { LockBegins memory starving party call result self.old self.new }
     {
         self.machine.laws();
         step_after(self.machine.begin(party, call, memory, starving))
     }
 
-    /// Goes on with a call of a party, by one step, with the inputs as [`Mutex::begin`] takes them. It
-    /// leaves fewer steps to do (`falls`), so that a party that moves alone ends its call, whatever the
-    /// others were about. The clock matters where a notified party finds the lock held (`clock`), and
-    /// who hasn't waited for too long isn't counted as starved while nobody is (`patient`). Who took a
-    /// notification and is refused has handed it on (`hands_on`).
+    /// Goes on with a call of a party, by one step, with the inputs as [`Mutex::begin`] takes them.
     pub fn go(&mut self, party: u32, memory: bool, starving: bool) -> Step
         requires known { party < length self.old.courses }
-        ensures leads { GoesOn (course_at self.old.courses party) result (course_at self.new.courses party) }
-        ensures legal { IsLegal memory party (decision (course_at self.old.courses party)) result self.old self.new }
-        ensures fair { TakenFairly self.old self.new }
-        ensures falls { left_after result self.new party < steps_left self.old party }
-        ensures clock { HeedsClock starving (course_at self.old.courses party) self.old (course_at self.new.courses party) }
-        ensures patient { CountsNobody starving party self.old self.new }
-        ensures hands_on { is_told (course_at self.old.courses party) ≡ true → HandsOn result (course_at self.new.courses party) self.new.entries }
-        ensures done { HasGoneOn memory party result self.old self.new }
+        ensures { LockGoesOn memory starving party result self.old self.new }
     {
         step_after(self.machine.go(party, memory, starving))
+    }
+
+    /// Where a party stands in the mutex's own program; None past the last. It is for tests that carry out the same program
+    /// beside a World: no other clause of a mutex names a place.
+    pub fn place_of(&self, party: u32) -> Option<Place>
+        ensures { result ≡ place_behind self.now.behind party }
+    {
+        self.machine.place_of(party)
     }
 
     /// Whether the lock is held.

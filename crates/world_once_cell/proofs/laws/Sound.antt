@@ -34,7 +34,7 @@ use Rattle.world_once_cell.specs.machine.Machine.{OnceCell, IsCell, IsAtRest, go
 use Rattle.world_once_cell.proofs.of_machine.laws.Contents as contents
 use Rattle.world_once_cell.proofs.of_machine.laws.Told.{in_list}
 use Rattle.world_once_cell.proofs.of_machine.laws.Taken.{some_term}
-use Rattle.world_once_cell.specs.State.{list_in, standing_of, task_of}
+use Rattle.world_once_cell.specs.State.{list_in, standing_of, task_of, HasOneTeller}
 use Rattle.world_once_cell.specs.View.{view_of}
 use Rattle.world_once_cell.specs.Laws.{IsDue, is_due, IsSound, IsAwake, IsStillThere, is_at_rest, is_long_call, may_be_maker}
 use Rattle.world_once_cell.specs.Steps.{IsCellTable}
@@ -200,7 +200,7 @@ stage_outside (Outside r) d h = refl
 stage_outside Forgotten d h = refl
 stage_outside (Inside w) d h = absurd (cc h)
 
-module _ (t : Table OnceCell) (laws : IsCell t.machine) (fits : IsCellTable t) where
+module _ (t : Table OnceCell) (laws : IsCell t.machine) (fits : IsCellTable t) (one : HasOneTeller (view_of t)) where
   abbrev xs : List Position
   xs = t.machine.positions
 
@@ -269,6 +269,7 @@ module _ (t : Table OnceCell) (laws : IsCell t.machine) (fits : IsCellTable t) w
         (λ past. (let h : stands_as (verdict (position_at xs q)) Forgotten ≡ inside u d = ap (stands_as (verdict (position_at xs q))) (sym past) ∙ (sym (seen.standing_seen t q) ∙ e) in absurd (cc (h))))
         (λ inside. long_at (stage_at t.stages q) (position_at xs q) (verdict (position_at xs q)) u d (fits.stands q inside).goes (sym (seen.standing_seen t q) ∙ e));
     told_or_due = told_or_due;
+    one_teller = one;
     told = told;
     once = λ q. omega (arith, laws.active_owners q, laws.passive_owners q, one_listed (position_at xs q));
     active_in_order = laws.active_in_order;

@@ -11,7 +11,7 @@ use Rattle.world_base.proofs.Equations.{some_eq, none_some}
 use Rattle.world_once_cell.specs.declared.program.words.Content.{Content}
 use Rattle.world_once_cell.specs.declared.program.words.Content.TheVariants.{Empty, BeingMade, Full}
 use Rattle.world_once_cell.specs.machine.Machine.{knows}
-use Rattle.world_once_cell.specs.State.{World, standing_of}
+use Rattle.world_once_cell.specs.State.{World, standing_of, HasOneTeller}
 use Rattle.world_once_cell.specs.program.Words.{value_in}
 use Rattle.world_once_cell.specs.View.{view_of}
 use Rattle.world_once_cell.specs.Legal.{Legal}
@@ -38,9 +38,10 @@ goes_well k w m a v tells s =
     let P : World → Type 0 = StepsWell Tells HoldsWell (learn k m a) in
     let Q : World → Type 0 = Tells k in
     let L : World → World → Type 0 = λ x y. Legal x m a y in
+    let one : HasOneTeller (view_of v.behind) = subst HasOneTeller s.did.stands.seen s.did.stands.one_teller in
     let R : World → Type 0 = λ x. L x v in
     subst P (sym s.did.stands.seen) (holds_well k w.behind v.behind m a s.did.stood.cell s.did.stood.fits (subst (L (view_of w.behind)) s.did.stands.seen (subst R s.did.stood.seen s.legal)) (quiet w.behind v.behind m a s.did.stood.cell s.did.stood.fits s.did.stands.cell s.did.stands.fits s.did.step) (subst Q s.did.stood.seen tells)
-    (sound v.behind s.did.stands.cell s.did.stands.fits) (awake v.behind s.did.stands.cell s.did.stands.fits))
+    (sound v.behind s.did.stands.cell s.did.stands.fits one) (awake v.behind s.did.stands.cell s.did.stands.fits one))
 
 pub begins_few : (w : World) (p : ℕ) (c : Call) (i : Inputs) (a : Answer) (v : World) → Steps w (beginning p c i) a v → 1 + left_by a (steps_left_of v p) ≤ most_steps_of c
 begins_few w p c i a v s = whole.begins_few w.behind v.behind s.did.stood.cell s.did.stood.fits s.did.stands.cell s.did.stands.fits p i a c s.did.step

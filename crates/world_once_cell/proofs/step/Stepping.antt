@@ -17,7 +17,7 @@ use Rattle.world_base.proofs.of_table.Ways.{way, by_way}
 use Rattle.world_once_cell.specs.program.Program.{Place}
 use Rattle.world_once_cell.specs.machine.Seats.{verdict}
 use Rattle.world_once_cell.specs.machine.Machine.{OnceCell, IsCell, Moves, knows, position_at}
-use Rattle.world_once_cell.specs.State.{standing_of}
+use Rattle.world_once_cell.specs.State.{standing_of, HasOneTeller}
 use Rattle.world_once_cell.specs.View.{view_of}
 use Rattle.world_once_cell.specs.Legal.{call_of, Legal}
 use Rattle.world_once_cell.specs.AtOnce.{AnswersAtOnce}
@@ -26,8 +26,9 @@ use Rattle.world_once_cell.proofs.table.Seen as seen
 use Rattle.world_once_cell.proofs.step.Idle as idle
 use Rattle.world_once_cell.proofs.step.Owns.{well}
 use Rattle.world_once_cell.proofs.step.Here.{Here, here}
-use Rattle.world_once_cell.proofs.step.Acting.{Acting, legal}
+use Rattle.world_once_cell.proofs.step.Acting.{Acting, legal, is_possible_now}
 use Rattle.world_once_cell.proofs.step.AtOnce.{Entrance, entrance, at_once}
+use Rattle.world_once_cell.proofs.step.Tellers.{filling, still_one}
 
 abbrev pub known_calls : OnceCell → ℕ → Call → Bool
 known_calls s p = knows
@@ -63,8 +64,8 @@ module _ (t u : Table OnceCell) (m : Move) (a : Answer) (tl : IsCell t.machine) 
       → ((w : Within) → Acting t u m a w → P a u) → TableSteps t m a u → P a u
   by_step P none again act step = by_way known_calls rest.Finished Moves t u m a P none again (λ w e f d. act w (carried w e f d)) (way known_calls rest.Finished Moves t u m a step)
 
-  stands : (x : Table OnceCell) → IsCell x.machine → IsCellTable x → Stands (view_of x)
-  stands x laws fits = record { seen = refl; cell = laws; fits = fits }
+  stands : (x : Table OnceCell) → IsCell x.machine → IsCellTable x → HasOneTeller (view_of x) → Stands (view_of x)
+  stands x laws fits one = record { seen = refl; cell = laws; fits = fits; one_teller = one }
 
   call_is : call_of (view_of t) m ≡ call_at knows (stage_at t.stages m.party) m.what
   call_is = ap (λ z. call_in knows z m.what) (seen.standing_seen t m.party) ∙ call_seen knows (verdict (position_at t.machine.positions m.party)) (stage_at t.stages m.party) m.what
@@ -89,7 +90,12 @@ module _ (t u : Table OnceCell) (m : Move) (a : Answer) (tl : IsCell t.machine) 
       (λ w e f. (idle.over (view_of t) m (well t tl tf) (again_is ∙ f), idle.over_at_once (view_of t) m (well t tl tf) (again_is ∙ f)))
       (λ w k. (legal t u m a w k, at_once t u m a w k (door w k))) step
 
-  pub stepped : TableSteps t m a u → Steps (view_of t) m a (view_of u)
-  stepped step =
+  -- at most one party fills the cell still
+  pub one_still : HasOneTeller (view_of t) → TableSteps t m a u → HasOneTeller (view_of u)
+  one_still one step = by_step (λ b x. HasOneTeller (view_of x)) (λ e. one) (λ w e f. one)
+      (λ w k. still_one (view_of t) (view_of u) m a (is_possible_now t u m a w k) (legal t u m a w k) (at_once t u m a w k (door w k)) (filling t tl tf) (filling u ul uf) one) step
+
+  pub stepped : HasOneTeller (view_of t) → TableSteps t m a u → Steps (view_of t) m a (view_of u)
+  stepped one step =
       let both = good step in
-      record { legal = both.0; at_once = both.1; did = record { stood = stands t tl tf; step = step; stands = stands u ul uf } }
+      record { legal = both.0; at_once = both.1; did = record { stood = stands t tl tf one; step = step; stands = stands u ul uf (one_still one step) } }

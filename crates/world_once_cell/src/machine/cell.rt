@@ -131,6 +131,13 @@ impl OnceCell {
         }
     }
 
+    /// Where a party stands in its program; None past the last.
+    pub fn place_of(&self, party: u32) -> Option<Position<u64>>
+        ensures { result ≡ slice_get self.now.positions party }
+    {
+        self.positions.get(party as usize).copied()
+    }
+
     /// What always holds of a cell. It does nothing.
     pub fn laws(&self)
         ensures { IsCell self.now }

@@ -75,28 +75,27 @@ pub record Ended (w : World) (p : ℕ) (a : Answer) (v : World) (e : End) : Type
   pub stands : Stands v
 
 -- a step that goes on
-record Onward (starving : Bool) (t : Table Guarded) (p : ℕ) (from : Place) (u : Table Guarded) : Type 0 where
+record Onward (memory starving : Bool) (t : Table Guarded) (p : ℕ) (from : Place) (u : Table Guarded) : Type 0 where
   pub action : Action
   pub to : Place
-  pub acts : Acts true starving p from (next.Do action to) t.machine.lock u.machine.lock
+  pub acts : Acts memory starving p from (next.Do action to) t.machine.lock u.machine.lock
   pub stages : u.stages ≡ set t.stages p (Inside later)
   pub value : u.machine.value ≡ t.machine.value
 
 pub laws : (w : World) → Stands w → Laws w.behind
 laws w s = record { lock = s.lock; fits = s.fits }
 
-module _ (p : ℕ) (i : Inputs) (memory : i.memory ≡ true) where
-  -- one step of the poll, which found memory
-  found_memory : (what : What) (from : Place) (n k : Next) (t u : Table Guarded) → inputs_of what ≡ i → n ≡ k → Acts (inputs_of what).memory (inputs_of what).starving p from n t.machine.lock u.machine.lock → Acts true i.starving p from k t.machine.lock u.machine.lock
-  found_memory what from n k t u are is h =
+module _ (p : ℕ) (i : Inputs) where
+  -- one step of the poll, with the inputs that it began with
+  on_inputs : (what : What) (from : Place) (n k : Next) (t u : Table Guarded) → inputs_of what ≡ i → n ≡ k → Acts (inputs_of what).memory (inputs_of what).starving p from n t.machine.lock u.machine.lock → Acts i.memory i.starving p from k t.machine.lock u.machine.lock
+  on_inputs what from n k t u are is h =
       let A : Inputs → Type 0 = λ j. Acts j.memory j.starving p from k t.machine.lock u.machine.lock in
-      let M : Bool → Type 0 = λ b. Acts b i.starving p from k t.machine.lock u.machine.lock in
       let N : Next → Type 0 = λ x. Acts (inputs_of what).memory (inputs_of what).starving p from x t.machine.lock u.machine.lock in
-      subst M memory (subst A are (subst N is h))
+      subst A are (subst N is h)
 
   -- the step that ends a poll
   ends_so : (w v : World) (what : What) (a : Answer) → inputs_of what ≡ i → a ≢ answer.Stepped → Moved w (record { party = p; what = what }) a v → (c : Acting w.behind v.behind (record { party = p; what = what }) a later)
-      → (e : End) × (to : Place) × Acts true i.starving p c.from (next.End e to) w.behind.machine.lock v.behind.machine.lock × Ended w p a v e
+      → (e : End) × (to : Place) × Acts i.memory i.starving p c.from (next.End e to) w.behind.machine.lock v.behind.machine.lock × Ended w p a v e
   ends_so w v what a are not_stepped did c =
       let t = w.behind in
       let u = v.behind in
@@ -105,14 +104,14 @@ module _ (p : ℕ) (i : Inputs) (memory : i.memory ≡ true) where
       let said : a ≡ answer_by t.machine.value (next.End n.0 n.1) = c.answer ∙ ap (answer_by t.machine.value) n.2 in (
         n.0,
         n.1,
-        found_memory what c.from c.next (next.End n.0 n.1) t u are n.2 c.acts,
+        on_inputs what c.from c.next (next.End n.0 n.1) t u are n.2 c.acts,
         record { to = n.1; answer = said; stages = c.stages ∙ ap (λ b. set t.stages p (stage_after rest.Holding later b)) said; value = c.value; stands = did.did.stands },
       )
 
-  goes_so : (t u : Table Guarded) (what : What) → inputs_of what ≡ i → (c : Acting t u (record { party = p; what = what }) answer.Stepped later) → Onward i.starving t p c.from u
+  goes_so : (t u : Table Guarded) (what : What) → inputs_of what ≡ i → (c : Acting t u (record { party = p; what = what }) answer.Stepped later) → Onward i.memory i.starving t p c.from u
   goes_so t u what are c =
       let n = goes t.machine.value c.next (sym c.answer) in
-      record { action = n.0; to = n.1; acts = found_memory what c.from c.next (next.Do n.0 n.1) t u are n.2 c.acts; stages = c.stages; value = c.value }
+      record { action = n.0; to = n.1; acts = on_inputs what c.from c.next (next.Do n.0 n.1) t u are n.2 c.acts; stages = c.stages; value = c.value }
 
   -- what ended from a World that a step left ended from the one before
   ended_before : (w mid v : World) (a : Answer) (e : End) (s : Stage) → mid.behind.stages ≡ set w.behind.stages p s → mid.behind.machine.value ≡ w.behind.machine.value → Ended mid p a v e → Ended w p a v e
@@ -136,14 +135,14 @@ module _ (p : ℕ) (i : Inputs) (memory : i.memory ≡ true) where
 
   -- a poll that has begun goes on alone
   goes_on : (known : ℕ → Account) (k : ℕ) (w v : World) (a : Answer) → a ≢ answer.Stepped → p < length w.behind.stages → stage_at w.behind.stages p ≡ Inside later
-      → Runs known w (going_on p i ∷ replicate k (going_on p i)) (replicate k answer.Stepped ++ a ∷ []) v → (e : End) × GoesOnAlone p e v.behind.machine.lock w.behind.machine.lock × Ended w p a v e
+      → Runs known w (going_on p i ∷ replicate k (going_on p i)) (replicate k answer.Stepped ++ a ∷ []) v → (e : End) × GoesOnAlone i.memory p e v.behind.machine.lock w.behind.machine.lock × Ended w p a v e
   goes_on known zero w v a not_stepped here inside runs =
       let t = w.behind in
       let mid : World = runs.0 in
       let c = going w mid a inside runs.1 in
       let so = ends_so w mid (Go i) a refl not_stepped runs.1 c in
-      let F : Place → Type 0 = λ x. Acts true i.starving p x (next.End so.0 so.1) t.machine.lock mid.behind.machine.lock in
-      let P : World → Type 0 = λ x. (e : End) × GoesOnAlone p e x.behind.machine.lock t.machine.lock × Ended w p a x e in
+      let F : Place → Type 0 = λ x. Acts i.memory i.starving p x (next.End so.0 so.1) t.machine.lock mid.behind.machine.lock in
+      let P : World → Type 0 = λ x. (e : End) × GoesOnAlone i.memory p e x.behind.machine.lock t.machine.lock × Ended w p a x e in
       subst P (sym runs.3) (so.0, last t.machine.lock i.starving so.1 (subst F (sym (some_eq c.starts)) so.2), so.3)
   goes_on known (suc k) w v a not_stepped here inside runs =
       let t = w.behind in
@@ -152,7 +151,7 @@ module _ (p : ℕ) (i : Inputs) (memory : i.memory ≡ true) where
       let on = goes_so t mid.behind (Go i) refl c in
       let there = still_inside t mid.behind here on.stages in
       let more = goes_on (accounts_after known (going_on p i) answer.Stepped) k mid v a not_stepped there.0 there.1 runs.3 in
-      let F : Place → Type 0 = λ x. Acts true i.starving p x (next.Do on.action on.to) t.machine.lock mid.behind.machine.lock in
+      let F : Place → Type 0 = λ x. Acts i.memory i.starving p x (next.Do on.action on.to) t.machine.lock mid.behind.machine.lock in
       (more.0, step t.machine.lock mid.behind.machine.lock i.starving on.action on.to (subst F (sym (some_eq c.starts)) on.acts) more.1, ended_before w mid v a more.0 (Inside later) on.stages on.value more.2)
 
   abbrev first_move : Move
@@ -164,21 +163,21 @@ module _ (p : ℕ) (i : Inputs) (memory : i.memory ≡ true) where
       acting w.behind v.behind first_move a (laws w did.did.stood) (laws v did.did.stands) later (ap (λ s. call_at (knows_at x) s (Begin call.Poll i)) pending) (ap (λ s. polls_again s (Begin call.Poll i)) pending) refl did.did.step
 
   pub polls_alone : (known : ℕ → Account) (k : ℕ) (w v : World) (a : Answer) → a ≢ answer.Stepped → p < length w.behind.stages → stage_at w.behind.stages p ≡ Outside rest.Pending
-      → Runs known w (moves_of p call.Poll i k) (answers_of k a) v → (e : End) × PollsAlone p e v.behind.machine.lock w.behind.machine.lock × Ended w p a v e
+      → Runs known w (moves_of p call.Poll i k) (answers_of k a) v → (e : End) × PollsAlone i.memory p e v.behind.machine.lock w.behind.machine.lock × Ended w p a v e
   polls_alone known zero w v a not_stepped here pending runs =
       let t = w.behind in
       let mid : World = runs.0 in
       let c = beginning w mid a pending runs.1 in
       let so = ends_so w mid (Begin call.Poll i) a refl not_stepped runs.1 c in
-      let begins : BeginsPoll i.starving p (next.End so.0 so.1) t.machine.lock mid.behind.machine.lock = is_some_and (λ from. Acts true i.starving p from (next.End so.0 so.1) t.machine.lock mid.behind.machine.lock) (start_of call.Poll (place_at t.machine.lock.places p)) c.from c.starts so.2 in
-      let P : World → Type 0 = λ x. (e : End) × PollsAlone p e x.behind.machine.lock t.machine.lock × Ended w p a x e in
+      let begins : BeginsPoll i.memory i.starving p (next.End so.0 so.1) t.machine.lock mid.behind.machine.lock = is_some_and (λ from. Acts i.memory i.starving p from (next.End so.0 so.1) t.machine.lock mid.behind.machine.lock) (start_of call.Poll (place_at t.machine.lock.places p)) c.from c.starts so.2 in
+      let P : World → Type 0 = λ x. (e : End) × PollsAlone i.memory p e x.behind.machine.lock t.machine.lock × Ended w p a x e in
       subst P (sym runs.3) (so.0, at_once t.machine.lock i.starving so.1 begins, so.3)
   polls_alone known (suc k) w v a not_stepped here pending runs =
       let t = w.behind in
       let mid : World = runs.0 in
       let c = beginning w mid answer.Stepped pending runs.1 in
       let on = goes_so t mid.behind (Begin call.Poll i) refl c in
-      let begins : BeginsPoll i.starving p (next.Do on.action on.to) t.machine.lock mid.behind.machine.lock = is_some_and (λ from. Acts true i.starving p from (next.Do on.action on.to) t.machine.lock mid.behind.machine.lock) (start_of call.Poll (place_at t.machine.lock.places p)) c.from c.starts on.acts in
+      let begins : BeginsPoll i.memory i.starving p (next.Do on.action on.to) t.machine.lock mid.behind.machine.lock = is_some_and (λ from. Acts i.memory i.starving p from (next.Do on.action on.to) t.machine.lock mid.behind.machine.lock) (start_of call.Poll (place_at t.machine.lock.places p)) c.from c.starts on.acts in
       let there = still_inside t mid.behind here on.stages in
       let more = goes_on (accounts_after known first_move answer.Stepped) k mid v a not_stepped there.0 there.1 runs.3 in
       (more.0, begun t.machine.lock mid.behind.machine.lock i.starving on.action on.to begins more.1, ended_before w mid v a more.0 (Inside later) on.stages on.value more.2)

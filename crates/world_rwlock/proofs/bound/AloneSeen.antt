@@ -4,7 +4,8 @@ use Rattle.std.proofs.Math.ListN.{set}
 use Rattle.std.proofs.lemmas.List.{set-get_or}
 use Rattle.std.proofs.lemmas.Bool.{false≢true}
 use Rattle.std.specs.List.{list_all}
-use Rattle.world_base.specs.queue.Parties.{entries_of}
+use Rattle.lock_event.specs.Lists.{is_marked_at}
+use Rattle.world_base.specs.queue.Parties.{is_party, entries_of}
 use Rattle.world_base.specs.declared.moves.Answer.{Answer}
 use Rattle.world_base.specs.declared.moves.Answer.TheVariants as answer
 use Rattle.world_base.specs.declared.moves.Call.TheVariants as call
@@ -29,10 +30,10 @@ use Rattle.lock_program.specs.declared.rwlock.Place.TheVariants as place
 use Rattle.world_rwlock.specs.machine.Roles.{has_turn, in_no_writer, in_no_readers, fits_turn}
 use Rattle.world_rwlock.specs.machine.Machine.{place_at}
 use Rattle.world_rwlock.specs.machine.Acts.{IsRwLock, readers}
-use Rattle.world_rwlock.specs.machine.Solo.{PollsAlone, waits_to_read, looks_for_readers, waits_for_turn, IsCalledToTurn, Took, TookTurn, StandsBack, GaveTurnWay, SoloPolls}
+use Rattle.world_rwlock.specs.machine.Solo.{PollsAlone, waits_to_read, looks_for_readers, waits_for_turn, IsCalledToTurn, Took, TookTurn, StandsBack, GaveTurnWay, HasEnough, SoloPolls}
 use Rattle.world_rwlock.proofs.of_machine.solo_polls.Solo.{writer_at, solo_polls}
 use Rattle.world_base.specs.table.Stages.{stage_at}
-use Rattle.world_rwlock.specs.Stages.{is_future, goes_with}
+use Rattle.world_rwlock.specs.Stages.{is_future, goes_with, sought_at}
 use Rattle.world_base.specs.table.Tables.{Table}
 use Rattle.world_rwlock.specs.Guarded.{Guarded, answer_by}
 use Rattle.world_base.specs.Accounts.{Account}
@@ -42,11 +43,12 @@ use Rattle.world_rwlock.specs.Steps.{IsRwLockTable, Stands}
 use Rattle.world_rwlock.specs.State.{nobody, is_upgradable, waits_to_write as waits, writes, World, standing_of, is_starved, is_upgrader, how_many_read, is_marked}
 use Rattle.world_rwlock.specs.Laws.{is_at_rest}
 use Rattle.world_rwlock.specs.View.{upgrading, waiting, writing, turn_as, share_of, turn_by, is_reading, is_upgrade, verdict, standing_at, view_of}
-use Rattle.world_rwlock.specs.Bound.{IsSoloForTurn, IsSoloToRead, IsSoloToWrite, TakesTurn, GivesTurnWay, SoloPollForTurn, TakesToRead, TakesToWrite}
+use Rattle.world_rwlock.specs.Bound.{IsSoloForTurn, IsToldOfTurn, IsToldToRead, IsSoloToWrite, TakesTurn, GivesTurnWay, SoloPollForTurn, TakesToRead, TakesToWrite}
 use Rattle.world_rwlock.proofs.table.Begun.{at_future}
 use Rattle.world_rwlock.proofs.bound.Alone.{Ended, polls_alone}
 use Rattle.world_rwlock.proofs.laws.Sound.{nobody_holds, bit_seen}
 use Rattle.world_base.proofs.of_table.Views.{rest_seen, outside_stage}
+use Rattle.world_rwlock.proofs.step.Idle.{sought_is}
 use Rattle.world_rwlock.proofs.step.Owns as owns
 use Rattle.world_base.proofs.of_table.Past.{inside_or_past}
 use Rattle.world_rwlock.proofs.table.Views as view
@@ -177,12 +179,12 @@ module _ (w : World) (p : ℕ) (i : Inputs) (laws : IsRwLock w.behind.machine.lo
   law : SoloPolls t.machine.lock
   law = solo_polls t.machine.lock laws
 
-  module _ (v : World) (a : Answer) (e : End) (polls : PollsAlone p e v.behind.machine.lock w.behind.machine.lock) (k : Ended w p a v e) where
-    reading_polled : IsSoloToRead (shown w) p i → is_marked (shown w).state.turn ≡ false → how_many_read (shown w) < t.machine.lock.limit → TakesToRead (shown w) p a (shown v)
+  module _ (v : World) (a : Answer) (e : End) (polls : PollsAlone i.memory p e v.behind.machine.lock w.behind.machine.lock) (k : Ended w p a v e) where
+    reading_polled : IsToldToRead (shown w) p → is_marked (shown w).state.turn ≡ false → how_many_read (shown w) < t.machine.lock.limit → TakesToRead (shown w) p a (shown v)
     reading_polled solo free below =
         let there : 0 < in_no_writer (place_at t.machine.lock.places p) = omega (arith, laws.owners_no_writer p, marked_listed p t.machine.lock.no_writer solo.marked) in
         let few : readers t.machine.lock < t.machine.lock.limit = rw view.how_many-read at below in
-        reads_seen w v p a e (law.reads (bit_seen t.machine.lock t.stages t.opening t.machine.value laws tf free) few p e v.behind.machine.lock (in_no_writer_list (place_at t.machine.lock.places p) future there, solo.marked) polls) k
+        reads_seen w v p a e (law.reads (bit_seen t.machine.lock t.stages t.opening t.machine.value laws tf free) few i.memory p e v.behind.machine.lock (in_no_writer_list (place_at t.machine.lock.places p) future there, solo.marked) polls) k
 
     writing_polled : (0 < entries_of p t.machine.lock.no_readers) ⊎ (is_upgrader (shown w) p ≡ true) → how_many_read (shown w) ≡ 0 → TakesToWrite (shown w) p a (shown v)
     writing_polled some free =
@@ -191,7 +193,7 @@ module _ (w : World) (p : ℕ) (i : Inputs) (laws : IsRwLock w.behind.machine.lo
           | inr up ↦ upgrade_looks (place_at t.machine.lock.places p) future (sym (view.upgrades_at t.machine.lock.places p) ∙ up)
         ] in
         let none : readers t.machine.lock ≡ 0 = sym (view.how_many-read t.machine.lock.places) ∙ free in
-        writes_seen w v p a e (law.writes none p e v.behind.machine.lock looks polls) k
+        writes_seen w v p a e (law.writes none i.memory p e v.behind.machine.lock looks polls) k
 
     either_seen : 0 < entries_of p t.machine.lock.turn.entries → starved t.machine.lock.turn < t.machine.lock.turn.limit → TookTurn p e v.behind.machine.lock ⊎ GaveTurnWay p t.machine.lock e v.behind.machine.lock → TakesTurn (shown w) p a (shown v) ⊎ GivesTurnWay (shown w) p a (shown v)
     either_seen some below (inl took) = inl (takes_turn_seen w v p a e took k)
@@ -201,27 +203,48 @@ module _ (w : World) (p : ℕ) (i : Inputs) (laws : IsRwLock w.behind.machine.lo
     why_seen (inl starving) = inl (sym (sees.counted_bit (turn_at t.machine.lock.turn.courses p)) ∙ ap bit (sym (sees.starved_at t.machine.lock.turn.courses p) ∙ starving))
     why_seen (inr none) = inr (sym (sees.how_many_counted t.machine.lock.turn.courses) ∙ none)
 
+    -- it was notified for the turn, while nobody has that and readers are below their limit
+    record CalledThere : Type 0 where
+      pub some : 0 < entries_of p t.machine.lock.turn.entries
+      pub called : IsCalledToTurn t.machine.lock p
+      pub few : readers t.machine.lock < t.machine.lock.limit
+      pub nobody_there : holders t.machine.lock.turn ≡ 0
+
+    called_there : is_marked_at (is_party p) t.machine.lock.turn.entries ≡ true → (shown w).state.turn ≡ nobody → how_many_read (shown w) < t.machine.lock.limit → CalledThere
+    called_there marked free below =
+        let some : 0 < entries_of p t.machine.lock.turn.entries = marked_listed p t.machine.lock.turn.entries marked in
+        let there : 0 < listed (turn_at t.machine.lock.turn.courses p) = omega (arith, laws.turn.owners p, some) in
+        record {
+          some = some;
+          called = (in_turn_list (turn_at t.machine.lock.turn.courses p) (place_at t.machine.lock.places p) future (laws.in_turn p) there, marked);
+          few = rw view.how_many-read at below;
+          nobody_there = sees.none_holds 0 t.machine.lock.turn.courses (nobody_holds (holder_of t.machine.lock.turn) t.machine.lock.places free);
+        }
+
     turn_polled : IsSoloForTurn (shown w) p i → (shown w).state.turn ≡ nobody → how_many_read (shown w) < t.machine.lock.limit → SoloPollForTurn (shown w) p a (shown v)
     turn_polled solo free below =
-        let some : 0 < entries_of p t.machine.lock.turn.entries = marked_listed p t.machine.lock.turn.entries solo.marked in
-        let there : 0 < listed (turn_at t.machine.lock.turn.courses p) = omega (arith, laws.turn.owners p, some) in
-        let called : IsCalledToTurn t.machine.lock p = (in_turn_list (turn_at t.machine.lock.turn.courses p) (place_at t.machine.lock.places p) future (laws.in_turn p) there, solo.marked) in
-        let few : readers t.machine.lock < t.machine.lock.limit = rw view.how_many-read at below in
-        let nobody_there : holders t.machine.lock.turn ≡ 0 = sees.none_holds 0 t.machine.lock.turn.courses (nobody_holds (holder_of t.machine.lock.turn) t.machine.lock.places free) in
+        let c = called_there solo.marked free below in
+        let with_memory : PollsAlone true p e v.behind.machine.lock w.behind.machine.lock = subst (λ b. PollsAlone b p e v.behind.machine.lock w.behind.machine.lock) solo.memory polls in
         record {
-          takes_or_gives_way = λ under. either_seen some (rw sees.how_many_counted at under) (law.takes_turn_or_gives_way nobody_there few p e v.behind.machine.lock called polls);
-          takes = λ why. takes_turn_seen w v p a e (law.takes_turn nobody_there few p e v.behind.machine.lock called (why_seen why) polls) k;
+          takes_or_gives_way = λ under. either_seen c.some (rw sees.how_many_counted at under) (law.takes_turn_or_gives_way c.nobody_there c.few p e v.behind.machine.lock c.called with_memory);
+          takes = λ why. takes_turn_seen w v p a e (law.takes_turn c.nobody_there c.few true p e v.behind.machine.lock c.called (λ is_write some. refl) (why_seen why) with_memory) k;
         }
+
+    told_polled : IsToldOfTurn (shown w) p i → (shown w).state.turn ≡ nobody → how_many_read (shown w) < t.machine.lock.limit → (is_starved (shown w) p ≡ true) ⊎ (how_many (shown w).state.starved ≡ 0) → TakesTurn (shown w) p a (shown v)
+    told_polled told free below why =
+        let c = called_there told.marked free below in
+        let enough : HasEnough i.memory t.machine.lock p = λ is_write some. told.memory (sought_is t p ∙ ap sought_at is_write) (omega (arith, some, view.how_many-read t.machine.lock.places)) in
+        takes_turn_seen w v p a e (law.takes_turn c.nobody_there c.few i.memory p e v.behind.machine.lock c.called enough (why_seen why) polls) k
 
 -- ---- a solo poll that was carried out alone keeps its promise
 
 module _ (known : ℕ → Account) (w : World) (p : ℕ) (i : Inputs) (k : ℕ) (a : Answer) (v : World) (stood : Stands w) (runs : Runs known w (moves_of p call.Poll i k) (answers_of k a) v) (not_stepped : a ≢ answer.Stepped) where
   -- what is so of the World as it is seen is so of it
-  as_seen : (P : World → World → Type 0) → standing_of w p ≡ outside rest.Pending → i.memory ≡ true
-      → ((e : End) → PollsAlone p e v.behind.machine.lock w.behind.machine.lock → Ended w p a v e → P (shown w) (shown v)) → P w v
-  as_seen P pending memory gives =
+  as_seen : (P : World → World → Type 0) → standing_of w p ≡ outside rest.Pending
+      → ((e : End) → PollsAlone i.memory p e v.behind.machine.lock w.behind.machine.lock → Ended w p a v e → P (shown w) (shown v)) → P w v
+  as_seen P pending gives =
       let here = at_stage w p i stood.lock stood.fits (subst (λ x. standing_of x p ≡ outside rest.Pending) stood.seen pending) in
-      let polls = polls_alone p i memory known k w v a not_stepped here.0 here.1 runs in
+      let polls = polls_alone p i known k w v a not_stepped here.0 here.1 runs in
       let last : v ≡ shown v = polls.2.stands.seen in
       subst (λ x. P x v) (sym stood.seen) (subst (P (shown w)) (sym last) (gives polls.0 polls.1 polls.2))
 
@@ -229,16 +252,22 @@ module _ (known : ℕ → Account) (w : World) (p : ℕ) (i : Inputs) (k : ℕ) 
   turn_seen_polled solo free below =
       let F : World → Type 0 = λ x. IsSoloForTurn x p i × (x.state.turn ≡ nobody) × (how_many_read x < x.readers_limit) in
       let so : F (shown w) = subst F stood.seen (solo, free, below) in
-      as_seen (λ x y. SoloPollForTurn x p a y) solo.pending solo.memory (λ e polls ended. turn_polled w p i stood.lock stood.fits so.0.pending v a e polls ended so.0 so.1 so.2)
+      as_seen (λ x y. SoloPollForTurn x p a y) solo.pending (λ e polls ended. turn_polled w p i stood.lock stood.fits so.0.pending v a e polls ended so.0 so.1 so.2)
 
-  pub reading_seen_polled : IsSoloToRead w p i → is_marked w.state.turn ≡ false → how_many_read w < w.readers_limit → TakesToRead w p a v
-  reading_seen_polled solo free below =
-      let F : World → Type 0 = λ x. IsSoloToRead x p i × (is_marked x.state.turn ≡ false) × (how_many_read x < x.readers_limit) in
-      let so : F (shown w) = subst F stood.seen (solo, free, below) in
-      as_seen (λ x y. TakesToRead x p a y) solo.pending solo.memory (λ e polls ended. reading_polled w p i stood.lock stood.fits so.0.pending v a e polls ended so.0 so.1 so.2)
+  pub told_seen_polled : IsToldOfTurn w p i → w.state.turn ≡ nobody → how_many_read w < w.readers_limit → (is_starved w p ≡ true) ⊎ (how_many w.state.starved ≡ 0) → TakesTurn w p a v
+  told_seen_polled told free below why =
+      let F : World → Type 0 = λ x. IsToldOfTurn x p i × (x.state.turn ≡ nobody) × (how_many_read x < x.readers_limit) × ((is_starved x p ≡ true) ⊎ (how_many x.state.starved ≡ 0)) in
+      let so : F (shown w) = subst F stood.seen (told, free, below, why) in
+      as_seen (λ x y. TakesTurn x p a y) told.pending (λ e polls ended. told_polled w p i stood.lock stood.fits so.0.pending v a e polls ended so.0 so.1 so.2 so.3)
 
-  pub writing_seen_polled : IsSoloToWrite w p i → how_many_read w ≡ 0 → TakesToWrite w p a v
+  pub reading_seen_polled : IsToldToRead w p → is_marked w.state.turn ≡ false → how_many_read w < w.readers_limit → TakesToRead w p a v
+  reading_seen_polled told free below =
+      let F : World → Type 0 = λ x. IsToldToRead x p × (is_marked x.state.turn ≡ false) × (how_many_read x < x.readers_limit) in
+      let so : F (shown w) = subst F stood.seen (told, free, below) in
+      as_seen (λ x y. TakesToRead x p a y) told.pending (λ e polls ended. reading_polled w p i stood.lock stood.fits so.0.pending v a e polls ended so.0 so.1 so.2)
+
+  pub writing_seen_polled : IsSoloToWrite w p → how_many_read w ≡ 0 → TakesToWrite w p a v
   writing_seen_polled solo free =
-      let F : World → Type 0 = λ x. IsSoloToWrite x p i × (how_many_read x ≡ 0) in
+      let F : World → Type 0 = λ x. IsSoloToWrite x p × (how_many_read x ≡ 0) in
       let so : F (shown w) = subst F stood.seen (solo, free) in
-      as_seen (λ x y. TakesToWrite x p a y) solo.pending solo.memory (λ e polls ended. writing_polled w p i stood.lock stood.fits so.0.pending v a e polls ended so.0.looks so.1)
+      as_seen (λ x y. TakesToWrite x p a y) solo.pending (λ e polls ended. writing_polled w p i stood.lock stood.fits so.0.pending v a e polls ended so.0.looks so.1)

@@ -49,7 +49,7 @@ turn_bounded w sound awake wanted = record {
 pub reading_bounded : (w : World) → IsSound w → IsAwake w → IsReadingWanted w → IsReadingBounded w
 reading_bounded w sound awake wanted = record {
   some_marked = some_marked w awake w.no_writer (λ p. omega arith) (sound.in_order for_no_writer) (awake.reading_marked wanted);
-  none_passes = λ p inputs a v over. let reads = ((kept w p inputs a v over.whole).reading refl over.solo wanted.0 over.readers_limit).reads in let not = over.not_taken in absurd (cc);
+  none_passes = λ p inputs a v over. let reads = ((kept w p inputs a v over.whole).reading refl over.told wanted.0 over.readers_limit).reads in let not = over.not_taken in absurd (cc);
 }
 
 pub writing_bounded : (w : World) → IsSound w → IsAwake w → IsWritingWanted w → IsWritingBounded w

@@ -16,6 +16,7 @@ use Rattle.world_mutex.proofs.of_machine.callers.Holders as sees
 use Rattle.lock_program.specs.declared.rwlock.Ending.TheVariants as ending
 use Rattle.lock_program.specs.declared.rwlock.Place.{Place}
 use Rattle.lock_program.specs.declared.rwlock.Place.TheVariants as place
+use Rattle.world_rwlock.proofs.step.Owed.{owes_outside}
 use Rattle.world_rwlock.specs.machine.Roles.{bit, reads, marks, has_turn, is_resting}
 use Rattle.world_rwlock.specs.machine.Roles as roles
 use Rattle.world_rwlock.specs.machine.Machine.{RwLock, place_at}
@@ -342,6 +343,7 @@ module _ (t : Table Guarded) (laws : IsRwLock t.machine.lock) (fits : IsRwLockTa
     each = owns.each t.machine.lock t.stages t.opening t.machine.value laws fits;
     inside_calls = calls.inside_calls t.machine.lock t.stages t.opening t.machine.value fits;
     drops_seek_nothing = calls.drops_seek_nothing t.machine.lock t.stages t.opening t.machine.value fits;
+    told_before = λ list p h. owes_outside t list p (record { lock = laws; fits = fits }) h;
     as_many_seek = calls.as_many_seek t.machine.lock t.stages t.opening t.machine.value fits;
     few_starved = rw (sees.how_many_counted) laws.turn.few_starved;
     turn_told_or_due = turn_due;

@@ -28,7 +28,7 @@ use Rattle.world_rwlock.proofs.whole.Handing.{hands_on}
 use Rattle.world_rwlock.proofs.whole.FirstPolls.{upgradable_ready, write_ready}
 use Rattle.world_rwlock.proofs.whole.Promises.{unstarved_at_end, patient_at_end}
 use Rattle.world_rwlock.proofs.whole.Ring.{tells_nobody_at_end}
-use Rattle.world_rwlock.proofs.bound.AloneSeen.{turn_seen_polled, reading_seen_polled, writing_seen_polled}
+use Rattle.world_rwlock.proofs.bound.AloneSeen.{turn_seen_polled, told_seen_polled, reading_seen_polled, writing_seen_polled}
 
 sound_now : (w : World) → Stands w → IsSound w
 sound_now w s = subst IsSound (sym s.seen) (sound w.behind s.lock s.fits)
@@ -63,6 +63,7 @@ keeps_promise known w p c i n a v runs ended =
     let R : Call → Type 0 = λ x. Runs known w (moves_of p x i n) (answers_of n a) v in
     record {
       turn = λ is. turn_seen_polled known w p i n a v stood (subst R is runs) ended;
+      told = λ is. told_seen_polled known w p i n a v stood (subst R is runs) ended;
       reading = λ is. reading_seen_polled known w p i n a v stood (subst R is runs) ended;
       writing = λ is. writing_seen_polled known w p i n a v stood (subst R is runs) ended;
       unstarved = λ patient none. unstarved_at_end known w p c i n a v stood patient none runs ended;

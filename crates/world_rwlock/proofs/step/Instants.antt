@@ -56,6 +56,17 @@ use Rattle.lock_event.specs.declared.event.Entry.{Entry}
 use Rattle.world_base.specs.queue.Parties.{entries_of}
 use Rattle.world_rwlock.specs.Legal.{AsksIn}
 use Rattle.world_rwlock.proofs.step.Asked as asked
+use Rattle.world_rwlock.proofs.step.Refusing as refusing
+use Rattle.world_rwlock.proofs.step.Owed.{owes_outside}
+use Rattle.world_rwlock.proofs.step.Owing as owing
+use Rattle.world_rwlock.specs.Legal.{TellsOnRelease}
+use Rattle.world_base.specs.Frame.{is_drop}
+use Rattle.world_base.specs.Standings.{is_outside}
+use Rattle.world_base.specs.Rosters.{is_on}
+use Rattle.std.proofs.Common.{zero, suc, [], ◌∷◌}
+use Rattle.lock_event.specs.Lists.{notified}
+use Rattle.world_rwlock.specs.Legal.{is_for_turn}
+use Rattle.world_rwlock.specs.State.{is_starved, HasTurn}
 use Rattle.std.proofs.Common.{◌⊎◌, inl, inr}
 use Rattle.world_rwlock.specs.program.Parties.{OnNoWriter, OnNoReaders}
 use Rattle.world_rwlock.specs.Legal.{LeavesLists}
@@ -253,8 +264,13 @@ looks_at t u m place.TryUpgrade at k = record { turn_list = ap (λ l. l.entries)
 looks_at t u m (place.EnterRead told) at k = record { turn_list = ap (λ l. l.entries) k.turn; no_writer = k.no_writer; no_readers = k.no_readers }
 looks_at t u m x at k = absurd (elim at as (λ _. ⊥) [ inl e ↦ cc e | inr other ↦ elim other as (λ _. ⊥) [ inl e ↦ cc e | inr e ↦ cc e ] ])
 
-acted_at_once : (t u : Table Guarded) (m : Move) (a : Answer) (from : Place) → Acted t u m a from → Begins (view_of t) m from → Asking (λ w. w.turn_list) (view_of t) m a (view_of u) → Asking (λ w. w.no_writer) (view_of t) m a (view_of u) → InLists t u m from → AnswersAtOnce (view_of t) m a (view_of u)
-acted_at_once t u m a from y b for_turn to_read l =
+-- what a call does that is to be refused
+record Refuses (old : World) (m : Move) (a : Answer) (new : World) : Type 0 where
+  pub for_turn : (within : Within) (r : ℕ) → standing_of old m.party ≡ inside within (Some (answer.Refused r)) → is_for_turn (sought_by old m.party) ≡ true → (HasTurn old.state.turn m.party → ⊥) → entries_of m.party old.turn_list ≡ 0 → is_starved old m.party ≡ false → (a ≡ answer.Refused r) × (new.turn_list ≡ notified old.turn_list 1)
+  pub to_read : (within : Within) (r : ℕ) → standing_of old m.party ≡ inside within (Some (answer.Refused r)) → sought_by old m.party ≡ Some read → entries_of m.party old.no_writer ≡ 0 → (a ≡ answer.Refused r) × (new.no_writer ≡ notified old.no_writer 1)
+
+acted_at_once : (t u : Table Guarded) (m : Move) (a : Answer) (from : Place) → Acted t u m a from → Begins (view_of t) m from → Asking (λ w. w.turn_list) (view_of t) m a (view_of u) → Asking (λ w. w.no_writer) (view_of t) m a (view_of u) → InLists t u m from → Refuses (view_of t) m a (view_of u) → TellsOnRelease (view_of t) m a (view_of u) → AnswersAtOnce (view_of t) m a (view_of u)
+acted_at_once t u m a from y b for_turn to_read l refuses gives_up =
     let P : Place → Type 0 = λ x. Acted t u m a x in
     record {
       try_read = λ i e h. at_try_read t u m a (subst P (b.try_read i e) y);
@@ -274,6 +290,9 @@ acted_at_once t u m a from y b for_turn to_read l =
       first_read_looks = λ e. looks_at t u m from (inr (inr (b.first_read e))) l;
       listed_for_turn = for_turn;
       listed_to_read = to_read;
+      refuses_turn = λ within r at sought without none plain possible. refuses.for_turn within r at sought without none plain;
+      refuses_read = λ within r at sought none possible. refuses.to_read within r at sought none;
+      gives_up = gives_up;
     }
 
 -- ---- where a move acts
@@ -332,6 +351,8 @@ module _ (t u : Table Guarded) (m : Move) (a : Answer) (w : Within) (c : Acting 
         decides = decided;
       }) begins (asked.for_turn t u m a w c) (asked.to_read t u m a w c)
       (record { found = c.acts.found; turn = c.acts.turn; no_writer = c.acts.no_writer; no_readers = c.acts.no_readers })
+      (record { for_turn = refusing.for_turn t u m a w c; to_read = refusing.to_read t u m a w c })
+      (owing.releases t u m a w c)
 
 -- ---- a poll after ready, and a put
 
@@ -351,6 +372,11 @@ apart_from_tries (Begin call.TryUpgradableRead i) h e = cc
 apart_from_tries (Begin call.TryWrite i) h e = cc
 apart_from_tries _ h e = cc
 
+apart_from_drops : (what : What) → holds_on what ≡ true → is_drop what ≡ true → ⊥
+apart_from_drops (Begin call.Poll i) h e = cc e
+apart_from_drops (Begin (call.Put v) i) h e = cc e
+apart_from_drops _ h e = cc h
+
 apart_from_read : (what : What) (i : Inputs) → holds_on what ≡ true → what ≡ Begin call.TryRead i → ⊥
 apart_from_read what i h e = let no : holds_on (Begin call.TryRead i) ≡ true = sym (ap holds_on e) ∙ h in absurd (cc)
 
@@ -360,8 +386,8 @@ apart_from_upgrade what i h e = let no : holds_on (Begin call.TryUpgrade i) ≡ 
 outside_apart : (s : Standing) (r : Rest) (w : Within) (d : Option Answer) → s ≡ outside r → s ≡ inside w d → ⊥
 outside_apart s r w d e h = absurd (cc)
 
-pub still_at_once : (t : Table Guarded) (m : Move) (a : Answer) (after : World) → Laws t → stage_at t.stages m.party ≡ Outside rest.Holding → holds_on m.what ≡ true → AnswersAtOnce (view_of t) m a after
-still_at_once t m a after k at holds =
+pub still_at_once : (t : Table Guarded) (m : Move) (a : Answer) (after : World) → Laws t → stage_at t.stages m.party ≡ Outside rest.Holding → holds_on m.what ≡ true → after.state.turn ≡ (view_of t).state.turn → after.owing ≡ (view_of t).owing → AnswersAtOnce (view_of t) m a after
+still_at_once t m a after k at holds same_turn same_owing =
     let s : Standing = standing_of (view_of t) m.party in
     let o : Option Right = sought_by (view_of t) m.party in
     let n : ℕ = entries_in (view_of t) m.party in
@@ -384,6 +410,9 @@ still_at_once t m a after k at holds =
       first_read_looks = λ e. absurd (never_first read s (outside rest.Holding) o m.what n is refl e);
       listed_for_turn = λ i polls pending. absurd (cc (sym is ∙ pending));
       listed_to_read = λ i polls pending. absurd (cc (sym is ∙ pending));
+      refuses_turn = λ within r at sought without none plain b. absurd (outside_apart s rest.Holding within (Some (answer.Refused r)) is at);
+      refuses_read = λ within r at sought none b. absurd (outside_apart s rest.Holding within (Some (answer.Refused r)) is at);
+      gives_up = owing.keeps_owing (view_of t) m a after same_turn same_owing (λ d r none. apart_from_drops m.what holds d) (λ list h possible. (let inside = owes_outside t list m.party k h in let out : is_outside s ≡ true = ap is_outside is in cc (inside, out)));
     }
 
 -- ---- a move that isn't possible
@@ -412,6 +441,19 @@ never_polls s o what i e p none =
     let S : Standing → Type 0 = λ z. call_in (knows o) z what ≡ None in
     some_none (subst N e (subst S p none))
 
+-- whoever reads is one of those that read
+reads_some : (rs : List Bool) (p : ℕ) → is_on rs p ≡ true → 0 < how_many rs
+reads_some [] p h = absurd (cc h)
+reads_some (true ∷ rs) zero h = omega arith
+reads_some (false ∷ rs) zero h = absurd (cc h)
+reads_some (b ∷ rs) (suc p) h = let more = reads_some rs p h in by_first b more where
+  by_first : (b : Bool) → 0 < how_many rs → 0 < how_many (b ∷ rs)
+  by_first true more = omega arith
+  by_first false more = omega (arith, more)
+
+none_left : (w : World) (p : ℕ) → state.reads w p ≡ true → how_many_read w ≡ 0 → ⊥
+none_left w p r left = let some = reads_some w.state.readers p r in absurd (omega (arith, some, left))
+
 pub impossible_at_once : (w : World) (m : Move) → call_of w m ≡ None → AnswersAtOnce w m answer.NotPossible w
 impossible_at_once w m none =
     let s = standing_of w m.party in
@@ -435,4 +477,7 @@ impossible_at_once w m none =
       first_read_looks = λ e. absurd (never_read s o m.what n e none);
       listed_for_turn = λ i polls pending. absurd (never_polls s o m.what i polls pending none);
       listed_to_read = λ i polls pending. absurd (never_polls s o m.what i polls pending none);
+      refuses_turn = λ within r at sought without unlisted plain h. absurd (cc);
+      refuses_read = λ within r at sought unlisted h. absurd (cc);
+      gives_up = owing.keeps_owing w m answer.NotPossible w refl refl (λ d r left. none_left w m.party r left) (λ list h possible. cc possible);
     }

@@ -34,7 +34,7 @@ use Rattle.lock_program.specs.declared.rwlock.Place.{Place}
 use Rattle.lock_program.specs.declared.rwlock.Place.TheVariants as place
 use Rattle.world_rwlock.specs.program.Program.{action_of, next_of, place_after, after_lock, after_turn}
 use Rattle.world_rwlock.specs.machine.Roles.{in_no_writer, in_no_readers, fits_turn}
-use Rattle.world_rwlock.specs.program.Turns.{OnTurn, TurnBegins, TurnGoesOn}
+use Rattle.world_rwlock.specs.program.Turns.{OnTurn, LockBegins, LockGoesOn}
 use Rattle.world_rwlock.specs.machine.Machine.{RwLock}
 use Rattle.world_rwlock.specs.machine.Acts.{IsRwLock}
 use Rattle.world_rwlock.proofs.of_machine.stages.Leads.{Led, Ends, steps_in_turn}
@@ -272,10 +272,10 @@ module _ (m : Move) (l k : RwLock) (ss : List Stage) (opening : ℕ) (ts : List 
   idle_there pr n did mv refusal.Readers e h takes out = absurd (did.legal.reason (turn_end.Refused refusal.Readers) e h)
   idle_there pr n did mv _ e h takes out = tt
 
-  begun : (c : LockCall) (n : TurnStep) → TurnBegins memory starving p c n l.turn k.turn → TurnDid memory p (decided_by c) n l.turn k.turn
+  begun : (c : LockCall) (n : TurnStep) → LockBegins memory starving p c n l.turn k.turn → TurnDid memory p (decided_by c) n l.turn k.turn
   begun c n b = record { legal = b.legal; fair = b.fair }
 
-  gone_on : (n : TurnStep) → TurnGoesOn memory starving p n l.turn k.turn → TurnDid memory p (decision t) n l.turn k.turn
+  gone_on : (n : TurnStep) → LockGoesOn memory starving p n l.turn k.turn → TurnDid memory p (decision t) n l.turn k.turn
   gone_on n b = record { legal = b.legal; fair = b.fair }
 
   pub on_turn : (x : Place) (f : Found) → Known m l k ss v x f → steps_in_turn x ≡ true → OnTurn memory starving p (action_of x) f l.turn k.turn → Led x f u → fits_turn x t ≡ true → Facts m l k ss opening ts v x (next_of x f)

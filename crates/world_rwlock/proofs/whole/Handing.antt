@@ -34,7 +34,7 @@ use Rattle.lock_program.specs.declared.end.End.TheVariants as turn_end
 use Rattle.world_mutex.specs.machine.Conduct.{HandsOn}
 use Rattle.world_mutex.specs.machine.Mutex.{Mutex, course_at as turn_at}
 use Rattle.world_mutex.proofs.of_machine.callers.Callers.{out_unlisted, holding_unlisted}
-use Rattle.world_mutex.proofs.of_machine.callers.Released.{release_goes, released_marks}
+use Rattle.world_mutex.proofs.of_machine.callers.Released.{released_marks}
 use Rattle.lock_program.specs.declared.rwlock.Action.{Action}
 use Rattle.lock_program.specs.declared.rwlock.Action.TheVariants as act
 use Rattle.lock_program.specs.declared.rwlock.Found.{Found}
@@ -167,12 +167,12 @@ goes_taking memory starving p (place.LookUnlisted false) _ l k o fits h = refl
 goes_taking memory starving p place.LeaveNoReaders f l k o fits h = tt
 goes_taking memory starving p (place.Unmark true) f l k o fits h = refl
 goes_taking memory starving p (place.UnmarkNotify true) f l k o fits h = refl
-goes_taking memory starving p (place.ReleaseTurn ending.RefuseReaders) (Turn n) l k o fits h = rw (release_goes memory p n l k o.done) refl
-goes_taking memory starving p (place.ReleaseTurn ending.RefuseMemory) (Turn n) l k o fits h = rw (release_goes memory p n l k o.done) refl
+goes_taking memory starving p (place.ReleaseTurn ending.RefuseReaders) (Turn n) l k o fits h = rw (o.releases refl) refl
+goes_taking memory starving p (place.ReleaseTurn ending.RefuseMemory) (Turn n) l k o fits h = rw (o.releases refl) refl
 goes_taking memory starving p (place.ReleaseTurn e) (Turn n) l k o fits h = absurd (cc)
 goes_taking memory starving p (place.ReleaseTurn e) _ l k o fits h = absurd o
-goes_taking memory starving p (place.ReleasingTurn ending.RefuseReaders) (Turn n) l k o fits h = released_marks memory p n l k fits o.done
-goes_taking memory starving p (place.ReleasingTurn ending.RefuseMemory) (Turn n) l k o fits h = released_marks memory p n l k fits o.done
+goes_taking memory starving p (place.ReleasingTurn ending.RefuseReaders) (Turn n) l k o fits h = released_marks memory p _ n l k fits o.legal
+goes_taking memory starving p (place.ReleasingTurn ending.RefuseMemory) (Turn n) l k o fits h = released_marks memory p _ n l k fits o.legal
 goes_taking memory starving p (place.ReleasingTurn e) (Turn n) l k o fits h = absurd (cc)
 goes_taking memory starving p (place.ReleasingTurn e) _ l k o fits h = absurd o
 goes_taking memory starving p _ f l k o fits h = absurd (cc)

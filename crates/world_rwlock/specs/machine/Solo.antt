@@ -7,6 +7,7 @@ use Rattle.lock_program.specs.declared.refusal.Refusal.TheVariants.{Starved}
 use Rattle.lock_program.specs.declared.end.End.TheVariants as turn_end
 use Rattle.world_mutex.specs.machine.Mutex.{IsStarved, holders, starved}
 use Rattle.world_mutex.specs.machine.Alone.{GaveWay}
+use Rattle.lock_program.specs.declared.rwlock.Purpose.TheVariants.{Write}
 use Rattle.lock_program.specs.declared.rwlock.Place.{Place}
 use Rattle.lock_program.specs.declared.rwlock.Place.TheVariants.{Made, Reading, Upgradable, Writing, AskNoWriter, WaitTurn, AwaitNoReaders, LookUnlisted}
 use Rattle.lock_program.specs.declared.rwlock.Action.{Action}
@@ -18,19 +19,19 @@ use Rattle.world_rwlock.specs.program.Program.{start_of}
 use Rattle.world_rwlock.specs.machine.Machine.{RwLock, place_at}
 use Rattle.world_rwlock.specs.machine.Acts.{Acts, IsAtRest, readers, marked}
 
--- A party inside a call goes on with it alone, always finding memory, until the call ends so and leaves this lock.
-pub data GoesOnAlone (p : ℕ) (e : End) (new : RwLock) : RwLock → Type 0 where
-  last : (old : RwLock) (starving : Bool) (to : Place) → Acts true starving p (place_at old.places p) (next.End e to) old new → GoesOnAlone p e new old
-  step : (old mid : RwLock) (starving : Bool) (a : Action) (to : Place) → Acts true starving p (place_at old.places p) (next.Do a to) old mid → GoesOnAlone p e new mid → GoesOnAlone p e new old
+-- A party inside a call goes on with it alone, always with or always without memory, until the call ends so and leaves this lock.
+pub data GoesOnAlone (memory : Bool) (p : ℕ) (e : End) (new : RwLock) : RwLock → Type 0 where
+  last : (old : RwLock) (starving : Bool) (to : Place) → Acts memory starving p (place_at old.places p) (next.End e to) old new → GoesOnAlone memory p e new old
+  step : (old mid : RwLock) (starving : Bool) (a : Action) (to : Place) → Acts memory starving p (place_at old.places p) (next.Do a to) old mid → GoesOnAlone memory p e new mid → GoesOnAlone memory p e new old
 
 -- The first action of a party's poll.
-abbrev pub BeginsPoll : Bool → ℕ → Next → RwLock → RwLock → Type 0
-BeginsPoll starving p n old new = IsSomeAnd (start_of call.Poll (place_at old.places p)) (λ from. Acts true starving p from n old new)
+abbrev pub BeginsPoll : Bool → Bool → ℕ → Next → RwLock → RwLock → Type 0
+BeginsPoll memory starving p n old new = IsSomeAnd (start_of call.Poll (place_at old.places p)) (λ from. Acts memory starving p from n old new)
 
--- A party's poll is carried out alone, always finding memory: it begins at the old lock, ends so, and leaves the new one.
-pub data PollsAlone (p : ℕ) (e : End) (new : RwLock) : RwLock → Type 0 where
-  at_once : (old : RwLock) (starving : Bool) (to : Place) → BeginsPoll starving p (next.End e to) old new → PollsAlone p e new old
-  begun : (old mid : RwLock) (starving : Bool) (a : Action) (to : Place) → BeginsPoll starving p (next.Do a to) old mid → GoesOnAlone p e new mid → PollsAlone p e new old
+-- A party's poll is carried out alone, with memory or without: it begins at the old lock, ends so, and leaves the new one.
+pub data PollsAlone (memory : Bool) (p : ℕ) (e : End) (new : RwLock) : RwLock → Type 0 where
+  at_once : (old : RwLock) (starving : Bool) (to : Place) → BeginsPoll memory starving p (next.End e to) old new → PollsAlone memory p e new old
+  begun : (old mid : RwLock) (starving : Bool) (a : Action) (to : Place) → BeginsPoll memory starving p (next.Do a to) old mid → GoesOnAlone memory p e new mid → PollsAlone memory p e new old
 
 -- A party that is pending in one of the lists.
 abbrev pub waits_to_read : Place → Bool
@@ -90,16 +91,20 @@ pub record GaveTurnWay (p : ℕ) (old : RwLock) (e : End) (new : RwLock) : Type 
   pub no_readers : new.no_readers ≡ old.no_readers
   pub limit : new.limit ≡ old.limit
 
+-- Only a write that takes the turn while others read needs memory: it waits until no reader is left.
+abbrev pub HasEnough : Bool → RwLock → ℕ → Type 0
+HasEnough memory v p = place_at v.places p ≡ WaitTurn Write → 0 < readers v → memory ≡ true
+
 -- What polls that are carried out alone do to a lock that is free for them.
 pub record SoloPolls (v : RwLock) : Type 0 where
   -- Where the bit is clear and readers are below their limit, such a poll of a notified reader reads.
-  pub reads : marked v ≡ 0 → readers v < v.limit → (p : ℕ) (e : End) (new : RwLock) → IsCalledToRead v p → PollsAlone p e new v → Took p Reading e new
+  pub reads : marked v ≡ 0 → readers v < v.limit → (memory : Bool) (p : ℕ) (e : End) (new : RwLock) → IsCalledToRead v p → PollsAlone memory p e new v → Took p Reading e new
   -- Where no reader is left, such a poll of a party that looks for them writes, notified or not, in the list or not.
-  pub writes : readers v ≡ 0 → (p : ℕ) (e : End) (new : RwLock) → looks_for_readers (place_at v.places p) ≡ true → PollsAlone p e new v → Took p Writing e new
-  -- Where nobody has the turn and readers are below their limit, such a poll of a party that was notified for the turn takes it or gives way,
-  pub takes_turn_or_gives_way : holders v.turn ≡ 0 → readers v < v.limit → (p : ℕ) (e : End) (new : RwLock) → IsCalledToTurn v p → PollsAlone p e new v → TookTurn p e new ⊎ GaveTurnWay p v e new
-  -- and takes it if its party is starved, or if nobody is.
-  pub takes_turn : holders v.turn ≡ 0 → readers v < v.limit → (p : ℕ) (e : End) (new : RwLock) → IsCalledToTurn v p → IsStarved v.turn p ⊎ (starved v.turn ≡ 0) → PollsAlone p e new v → TookTurn p e new
+  pub writes : readers v ≡ 0 → (memory : Bool) (p : ℕ) (e : End) (new : RwLock) → looks_for_readers (place_at v.places p) ≡ true → PollsAlone memory p e new v → Took p Writing e new
+  -- Where nobody has the turn and readers are below their limit, such a poll of a party that was notified for the turn takes it or gives way if it finds memory,
+  pub takes_turn_or_gives_way : holders v.turn ≡ 0 → readers v < v.limit → (p : ℕ) (e : End) (new : RwLock) → IsCalledToTurn v p → PollsAlone true p e new v → TookTurn p e new ⊎ GaveTurnWay p v e new
+  -- and takes it if its party is starved, or if nobody is, and it has memory enough.
+  pub takes_turn : holders v.turn ≡ 0 → readers v < v.limit → (memory : Bool) (p : ℕ) (e : End) (new : RwLock) → IsCalledToTurn v p → HasEnough memory v p → IsStarved v.turn p ⊎ (starved v.turn ≡ 0) → PollsAlone memory p e new v → TookTurn p e new
   -- At rest, where somebody waits in a list for something free, some party there has been notified.
   pub some_reader_called : IsAtRest v → marked v ≡ 0 → 0 < length v.no_writer → (p : ℕ) × IsCalledToRead v p
   pub some_writer_called : IsAtRest v → readers v ≡ 0 → 0 < length v.no_readers → (p : ℕ) × IsCalledToWrite v p

@@ -142,6 +142,13 @@ impl RwLock {
         self.places[party as usize]
     }
 
+    /// As [`RwLock::place`], of any number: None past the last party.
+    pub fn place_of(&self, party: u32) -> Option<Place>
+        ensures { result ≡ slice_get self.now.places party }
+    {
+        self.places.get(party as usize).copied()
+    }
+
     /// Whether the writer's bit is set.
     pub fn is_writer_marked(&self) -> bool
         ensures { bit result ≡ marked self.now }

@@ -156,6 +156,13 @@ impl Semaphore {
         })
     }
 
+    /// Where a party stands in its program; None past the last.
+    pub fn position_of(&self, party: u32) -> Option<Position>
+        ensures { result ≡ slice_get self.now.positions party }
+    {
+        self.positions.get(party as usize).copied()
+    }
+
     /// How many permits are available.
     pub fn available(&self) -> u64
         ensures { result ≡ self.now.words.available }

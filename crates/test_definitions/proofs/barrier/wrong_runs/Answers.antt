@@ -1,5 +1,5 @@
 -- No wrong run of a barrier is legal.
-use Rattle.std.proofs.Common.{◌≡◌, ◌≢◌, ℕ, zero, suc, ◌+◌, ◌*◌, ◌/◌, ◌%◌, ◌≤◌, inl, inr, if◌then◌else◌, Bool, true, false, arith, ap, sym, ◌∙◌, subst}
+use Rattle.std.proofs.Common.{◌≡◌, ◌≢◌, ℕ, zero, suc, ◌+◌, ◌*◌, ◌/◌, ◌%◌, ◌≤◌, inl, inr, if◌then◌else◌, Bool, true, false, List, [], ◌∷◌, arith, ap, sym, ◌∙◌, subst}
 use Rattle.std.proofs.Math.Nat.{mul_comm, div-add-mod}
 use Rattle.std.proofs.lemmas.Bool.{false≢true}
 use Rattle.std.proofs.lemmas.Nat.{le-div}
@@ -16,13 +16,14 @@ use Rattle.lock_program.specs.Refusals.{number_of}
 use Rattle.world_base.specs.Standings.{outside, refused}
 use Rattle.world_base.specs.Steps.{Deed, nothing, changes, does}
 use Rattle.world_barrier.specs.machine.Waits.{Wait, no_wait, uncounted, counted}
-use Rattle.world_barrier.specs.Bound.{ComesTo, IsNotified}
+use Rattle.world_barrier.specs.Bound.{ComesTo, IsNotified, IsToldOfLock}
 use Rattle.world_barrier.specs.Changes.{Change, takes, releases, starves, recovers, arrives, arrivals_after}
 use Rattle.world_barrier.specs.declared.world.ListName.{ListName}
 use Rattle.world_barrier.specs.Legal.{IsAllowed, MayArrive, IsCause, IsOutOfMemory, IsOutOfGenerations, HasItsOwn, HasToWait, next_arrival}
 use Rattle.world_barrier.specs.Numbers.{Leads, IsFinished, generations_of}
-use Rattle.world_barrier.specs.State.{World, wait_of}
+use Rattle.world_barrier.specs.State.{World, wait_of, has_to_tell}
 use Rattle.world_barrier.proofs.Numbers.{next_generation}
+use Rattle.test_definitions.specs.Barrier.{Step, Meanwhile}
 use Rattle.test_definitions.proofs.barrier.wrong_runs.Goals as goal
 use Rattle.world_base.specs.Steps.{notifies}
 use Rattle.world_base.proofs.Equations.{outside_inside}
@@ -257,3 +258,39 @@ returns-clause-wakes_in_a_ring c = λ r. true≢false (sym (r.kept.tells_nobody 
 
 pub returns-clause-refused_silently : goal.returns-clause-refused_silently
 returns-clause-refused_silently c = λ r. r.none_told (r.legal.refuses r.within r.why r.refused r.apart r.unlisted r.unstarved r.possible).1
+
+pub returns-clause-ends_by_releasing : goal.returns-clause-ends_by_releasing
+returns-clause-ends_by_releasing c = λ r. r.ended (r.legal.tells_on_release.releases r.held r.released).0
+
+-- what a party has to tell it has still to tell after steps of others
+still_to_tell : (p : ℕ) (ss : List Step) (w v : World) → Meanwhile p ss w v → has_to_tell w p ≡ true → has_to_tell v p ≡ true
+still_to_tell p [] w v e h = ap (λ (x : World). has_to_tell x p) e ∙ h
+still_to_tell p (s ∷ ss) w v e h =
+    let same : has_to_tell s.new p ≡ has_to_tell s.old p = e.2.tells_on_release.others p (λ is. e.1 (sym is)) in
+    still_to_tell p ss s.new v e.3 (same ∙ (ap (λ (x : World). has_to_tell x p) e.0 ∙ h))
+
+pub returns-clause-releases_untold : goal.returns-clause-releases_untold
+returns-clause-releases_untold c = λ r.
+    let left = (r.legal.tells_on_release.releases r.held r.released).1 in
+    let still = still_to_tell r.first.move.party r.between r.first.new r.next.old r.meanwhile left in
+    r.untold (r.legal_too.tells_on_release.tells (ap (has_to_tell r.next.old) r.same ∙ still) r.possible).0
+
+-- a poll that has had the inner lock isn't refused for memory
+never_for_memory : (w : World) (p : ℕ) (a : Answer) (v : World) (x : Wait) → ComesTo x w p a v → a ≡ refused refusal.Memory → ⊥
+never_for_memory w p a v uncounted h e = elim h as (λ _. ⊥) [
+  | inl led ↦ (let never = sym led.ready ∙ e in cc never)
+  | inr others ↦ (elim others as (λ _. ⊥) [
+    | inl late ↦ (let never = sym late.refused ∙ e in cc never)
+    | inr waits ↦ (let never = sym waits.waits.pending ∙ e in cc never)
+  ])
+]
+never_for_memory w p a v (counted n) h e = elim h.1 as (λ _. ⊥) [
+  | inl follows ↦ (let never = sym follows.1 ∙ e in cc never)
+  | inr waits ↦ (let never = sym waits.1.pending ∙ e in cc never)
+]
+never_for_memory w p a v no_wait h e = h
+
+pub returns-clause-refused_unneeded : goal.returns-clause-refused_unneeded
+returns-clause-refused_unneeded c = λ r.
+    let told : IsToldOfLock r.whole.old r.whole.party r.whole.inputs = record { pending = r.was_pending; marked = r.marked; memory = λ must. absurd (r.goes_on must) } in
+    never_for_memory _ _ _ _ _ (r.kept.told r.polls told r.free (inr r.none_starved)).comes_to r.is_refused

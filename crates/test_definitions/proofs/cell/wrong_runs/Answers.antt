@@ -299,3 +299,6 @@ returns-clause-made_by_nobody c = λ r.
 
 pub returns-clause-fills_untold : goal.returns-clause-fills_untold
 returns-clause-fills_untold c = λ r. true≢false (sym (r.legal.told_all r.value r.possible r.ended r.filled r.waiter r.listed) ∙ r.unmarked)
+
+pub returns-clause-two_tellers : goal.returns-clause-two_tellers
+returns-clause-two_tellers c = λ r. r.apart (r.sound.one_teller r.first r.second r.one r.another r.fills r.fills_too)

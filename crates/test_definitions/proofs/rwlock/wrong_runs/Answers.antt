@@ -21,14 +21,15 @@ use Rattle.world_base.specs.Standings.{Standing, outside, inside, is_decided, is
 use Rattle.world_base.specs.Steps.{Deed, nothing, changes, does}
 use Rattle.world_base.proofs.Equations.{none_some, outside_inside}
 use Rattle.world_rwlock.specs.Changes.{Change, takes_turn, leaves_turn, starves, recovers, begins_to_read, stops_reading, becomes_upgradable, stops_upgradable, begins_to_wait, begins_to_write, upgrades, upgrades_at_once, unmarks, downgrades, downgrades_to_upgradable, puts, turn_after, readers_after, IsAllowed, gives_up}
+use Rattle.world_rwlock.specs.Bound.{IsToldOfTurn}
 use Rattle.world_rwlock.specs.Legal.{DecidesOn, HasItsOwn, HasNothing, MayMeet, IsCause, may_read}
 use Rattle.world_rwlock.specs.State.{ListName, Turn, nobody, passes, waits_to_write, is_marked, HasTurn, State, World, standing_of, sought_by, how_many_read, is_upgrader}
-use Rattle.test_definitions.specs.ReadWrite.{Step, IsLegal}
+use Rattle.test_definitions.specs.ReadWrite.{Step, IsLegal, Meanwhile}
 use Rattle.test_definitions.proofs.rwlock.wrong_runs.Goals as goal
 use Rattle.world_base.specs.Standings.{IsUndecided}
 use Rattle.world_base.specs.Steps.{notifies, notifies_additionally}
 use Rattle.world_rwlock.specs.Changes.{IsAllowed}
-use Rattle.world_rwlock.specs.State.{is_starved, for_the_turn, for_no_readers, for_no_writer}
+use Rattle.world_rwlock.specs.State.{is_starved, for_the_turn, for_no_readers, for_no_writer, has_to_tell}
 use Rattle.lock_event.specs.Lists.{marked_count}
 
 none_possible : (a : Answer) → a ≡ answer.None → is_possible a ≡ true
@@ -257,14 +258,14 @@ may_read_parts w h = let both = and_parts (not (is_marked w.state.turn)) (nat_lt
   unmarked false e = refl
 
 pub returns-clause-passes_reading_in_vain : goal.returns-clause-passes_reading_in_vain
-returns-clause-passes_reading_in_vain c = λ r. let free = may_read_parts r.whole.old r.free in let ready = (r.kept.reading r.polls r.solo free.0 free.1).ready in absurd (cc (r.pending))
+returns-clause-passes_reading_in_vain c = λ r. let free = may_read_parts r.whole.old r.free in let ready = (r.kept.reading r.polls r.told free.0 free.1).ready in absurd (cc (r.pending))
 
 pub returns-clause-passes_writing_in_vain : goal.returns-clause-passes_writing_in_vain
 returns-clause-passes_writing_in_vain c = λ r. let ready = (r.kept.writing r.polls r.solo r.free).ready in absurd (cc (r.pending))
 
 pub returns-clause-upgrade_waits_for_nobody : goal.returns-clause-upgrade_waits_for_nobody
 returns-clause-upgrade_waits_for_nobody c = λ r.
-    let ready = (r.kept.writing r.polls (record { pending = r.was_pending; looks = inr r.upgrade; memory = r.memory }) r.free).ready in
+    let ready = (r.kept.writing r.polls (record { pending = r.was_pending; looks = inr r.upgrade }) r.free).ready in
     absurd (cc (r.pending))
 
 pub returns-clause-upgradable_unready : goal.returns-clause-upgradable_unready
@@ -355,3 +356,54 @@ returns-clause-polls_untold_to_read c = λ r. let pending = (r.legal.listed_to_r
 
 pub returns-clause-tries_and_tells : goal.returns-clause-tries_and_tells
 returns-clause-tries_and_tells c = λ r. let same = ap (λ l. marked_count l) (r.legal.try_read_looks r.inputs r.tries r.possible).no_writer in absurd (omega (arith, same, r.told, r.none_told))
+
+pub returns-clause-refused_silently : goal.returns-clause-refused_silently
+returns-clause-refused_silently c = λ r. r.none_told (r.legal.refuses_turn r.within r.why r.refused r.for_turn r.without r.unlisted r.unstarved r.possible).1
+
+pub returns-clause-refused_to_read_silently : goal.returns-clause-refused_to_read_silently
+returns-clause-refused_to_read_silently c = λ r. r.none_told (r.legal.refuses_read r.within r.why r.refused r.to_read r.unlisted r.possible).1
+
+pub returns-clause-drops_last_silently : goal.returns-clause-drops_last_silently
+returns-clause-drops_last_silently c = λ r. r.ended (r.legal.gives_up.last_reader r.drops r.read r.last).0
+
+pub returns-clause-ends_without_turn : goal.returns-clause-ends_without_turn
+returns-clause-ends_without_turn c = λ r. r.ended (r.legal.gives_up.turn r.had r.lost).0
+
+pub returns-clause-ends_without_bit : goal.returns-clause-ends_without_bit
+returns-clause-ends_without_bit c = λ r. r.ended (r.legal.gives_up.bit r.had r.was r.now).0
+
+-- what a party has to tell it has still to tell after steps of others
+still_to_tell : (list : ListName) (p : ℕ) (ss : List Step) (w v : World) → Meanwhile p ss w v → has_to_tell list w p ≡ true → has_to_tell list v p ≡ true
+still_to_tell list p [] w v e h = ap (λ (x : World). has_to_tell list x p) e ∙ h
+still_to_tell list p (s ∷ ss) w v e h =
+    let same : has_to_tell list s.new p ≡ has_to_tell list s.old p = e.2.gives_up.others list p (λ is. e.1 (sym is)) in
+    still_to_tell list p ss s.new v e.3 (same ∙ (ap (λ (x : World). has_to_tell list x p) e.0 ∙ h))
+
+pub returns-clause-releases_untold : goal.returns-clause-releases_untold
+returns-clause-releases_untold c = λ r.
+    let left = (r.legal.gives_up.turn r.had r.lost).1 in
+    let still = still_to_tell for_the_turn r.first.move.party r.between r.first.new r.next.old r.meanwhile left in
+    r.untold (r.legal_too.gives_up.tells_at_once (ap (has_to_tell for_the_turn r.next.old) r.same ∙ still) r.possible)
+
+pub returns-clause-last_reader_untold : goal.returns-clause-last_reader_untold
+returns-clause-last_reader_untold c = λ r.
+    let left = (r.legal.gives_up.last_reader r.drops r.read r.last).1 in
+    let still = still_to_tell for_no_readers r.first.move.party r.between r.first.new r.next.old r.meanwhile left in
+    elim (r.legal_too.gives_up.tells for_no_readers (ap (has_to_tell for_no_readers r.next.old) r.same ∙ still) r.possible) as (λ _. ⊥) [ inl told ↦ r.untold told | inr later ↦ r.ended later.0 ]
+
+pub returns-clause-refused_to_read_unneeded : goal.returns-clause-refused_to_read_unneeded
+returns-clause-refused_to_read_unneeded c = λ r.
+    let free = may_read_parts r.whole.old r.free in
+    let ready = (r.kept.reading r.polls r.told free.0 free.1).ready in
+    absurd (cc (r.is_refused))
+
+pub returns-clause-refused_to_write_unneeded : goal.returns-clause-refused_to_write_unneeded
+returns-clause-refused_to_write_unneeded c = λ r. let ready = (r.kept.writing r.polls r.solo r.free).ready in absurd (cc (r.is_refused))
+
+pub returns-clause-refused_turn_unneeded : goal.returns-clause-refused_turn_unneeded
+returns-clause-refused_turn_unneeded c = λ r.
+    let told : IsToldOfTurn r.whole.old r.whole.party r.whole.inputs = record { pending = r.was_pending; marked = r.marked; memory = λ is_write some. absurd (omega (arith, some, r.none_read)) } in
+    elim (r.kept.told r.polls told r.free (omega (arith, r.below, r.none_read)) (inr r.none_starved)).answered as (λ _. ⊥) [
+      | inl ready ↦ (let is = ready.0 in cc (r.is_refused))
+      | inr waits ↦ (let is = waits.0 in cc (r.is_refused))
+    ]

@@ -1,5 +1,5 @@
 -- Polls in a row, each carried out alone while the lock is free, as those see them who build on a mutex.
-use Rattle.std.proofs.Common.{◌≡◌, ℕ, zero, suc, ◌<◌, ◌⊎◌, inl, inr, true, List, [], ◌∷◌, length, refl, sym, ap, arith, subst, ◌∙◌}
+use Rattle.std.proofs.Common.{◌≡◌, ℕ, zero, suc, ◌<◌, ◌⊎◌, inl, inr, Bool, true, List, [], ◌∷◌, length, refl, sym, ap, arith, subst, ◌∙◌}
 use Rattle.std.specs.List.{sum_by}
 use Rattle.std.proofs.lemmas.List.Sums.{sum_by-cons}
 use Rattle.lock_event.specs.declared.event.Entry.{Entry}
@@ -29,13 +29,13 @@ IsSeen m = m ≡ seen (behind m)
 
 -- ---- what was done behind
 
-module _ (p : ℕ) (e : End) (new : Mutex) where
-  goes : (old : Mutex) → GoesOnAlone p e new old → by.GoesOnAlone p e (behind new) (behind old) × IsSeen new
+module _ (memory : Bool) (p : ℕ) (e : End) (new : Mutex) where
+  goes : (old : Mutex) → GoesOnAlone memory p e new old → by.GoesOnAlone memory p e (behind new) (behind old) × IsSeen new
   goes old (last old_then d) =
-      let A : Next → Type 0 = λ n. Acts true p (place_at (behind old).places p) n (behind old) (behind new) in
+      let A : Next → Type 0 = λ n. Acts memory p (place_at (behind old).places p) n (behind old) (behind new) in
       (by.last (behind old) (subst A (ended d.next e d.step) d.does), d.after)
   goes old (further old_then mid d g) =
-      let A : Next → Type 0 = λ n. Acts true p (place_at (behind old).places p) n (behind old) (behind mid) in
+      let A : Next → Type 0 = λ n. Acts memory p (place_at (behind old).places p) n (behind old) (behind mid) in
       let w = went_on d.next d.step in
       let r = goes mid g in
       (by.step (behind old) (behind mid) w.0 w.1 (subst A w.2 d.does) r.0, r.1)
@@ -44,14 +44,14 @@ module _ (p : ℕ) (e : End) (new : Mutex) where
     pub before : IsSeen old
     pub kept : AreKept (behind old).places
     pub after : IsSeen new
-    pub polls : by.PollsAlone p e (behind new) (behind old)
+    pub polls : by.PollsAlone memory p e (behind new) (behind old)
 
-  polled : (old : Mutex) → PollsAlone p e new old → Polled old
+  polled : (old : Mutex) → PollsAlone memory p e new old → Polled old
   polled old (at_once old_then d) =
-      let B : Next → Type 0 = λ n. by.BeginsPoll p n (behind old) (behind new) in
+      let B : Next → Type 0 = λ n. by.BeginsPoll memory p n (behind old) (behind new) in
       record { before = d.before; kept = d.kept; after = d.after; polls = by.at_once (behind old) (subst B (ended d.next e d.step) d.does) }
   polled old (begun old_then mid d g) =
-      let B : Next → Type 0 = λ n. by.BeginsPoll p n (behind old) (behind mid) in
+      let B : Next → Type 0 = λ n. by.BeginsPoll memory p n (behind old) (behind mid) in
       let w = went_on d.next d.step in
       let r = goes mid g in
       record { before = d.before; kept = d.kept; after = r.1; polls = by.begun (behind old) (behind mid) w.0 w.1 (subst B w.2 d.does) r.0 }
@@ -65,7 +65,7 @@ called_there m p s c =
 in_turn : (n : ℕ) (old new : Mutex) → IsSeen old → PollsInTurn n old new → by.PollsInTurn n (behind old) (behind new)
 in_turn zero old new s t = ap behind t
 in_turn (suc n) old new s t =
-    let d = polled t.0 t.1 t.2 old t.5 in
+    let d = polled true t.0 t.1 t.2 old t.5 in
     (t.0, t.1, behind t.2, called_there old t.0 s t.3, t.4, d.polls, in_turn n t.2 new d.after t.6)
 
 -- ---- what comes of it, as it is seen
@@ -120,12 +120,9 @@ module _ (m : Mutex) (laws : IsMutex m) (free : holders m ≡ 0) where
         let S : Mutex → Type 0 = λ x. IsStarved x p ⊎ (starved x ≡ 0) in
         elim (subst S s why) as (λ _. acts.IsStarved (behind m) p ⊎ (acts.starved (behind m) ≡ 0)) [ inl own ↦ inl (sym (counted_here (behind m) p) ∙ own) | inr none ↦ inr (sym (starved_seen (behind m).places) ∙ none) ]
 
-  module _ (p : ℕ) (e : End) (new : Mutex) (called : IsCalled m p) (polls : PollsAlone p e new m) where
-    d : Polled p e new m
-    d = polled p e new m polls
-
-    abbrev Took_there : Mutex → Type 0
-    Took_there y = Took p e y
+  module _ (p : ℕ) (e : End) (new : Mutex) (called : IsCalled m p) (polls : PollsAlone true p e new m) where
+    d : Polled true p e new m
+    d = polled true p e new m polls
 
     abbrev Came : Mutex → Mutex → Type 0
     Came x y = Took p e y ⊎ GaveWay p x e y
@@ -136,13 +133,19 @@ module _ (m : Mutex) (laws : IsMutex m) (free : holders m ≡ 0) where
         let C : Mutex → Type 0 = λ x. Came x (seen (behind new)) in
         subst (Came m) (sym d.after) (subst C (sym d.before) it)
 
+  module _ (memory : Bool) (p : ℕ) (e : End) (new : Mutex) (called : IsCalled m p) (polls : PollsAlone memory p e new m) where
+    abbrev Took_there : Mutex → Type 0
+    Took_there y = Took p e y
+
     must_take : IsStarved m p ⊎ (starved m ≡ 0) → Took p e new
-    must_take why = subst Took_there (sym d.after) (took p (behind m) (behind new) e ((law_there d.before).takes p e (behind new) (called_there m p d.before called) (counts_there d.before p why) d.polls))
+    must_take why =
+        let d = polled memory p e new m polls in
+        subst Took_there (sym d.after) (took p (behind m) (behind new) e ((law_there d.before).takes memory p e (behind new) (called_there m p d.before called) (counts_there d.before p why) d.polls))
 
   fewer_than_listed : IsAtRest m.courses → 0 < length m.entries → (n : ℕ) (new : Mutex) → PollsInTurn n m new → n < length m.entries
   fewer_than_listed rest some zero new t = some
   fewer_than_listed rest some (suc n) new t =
-      let d = polled t.0 t.1 t.2 m t.5 in
+      let d = polled true t.0 t.1 t.2 m t.5 in
       let same : (behind m).entries ≡ m.entries = ap (λ x. x.entries) (sym d.before) in
       let R : Mutex → Type 0 = λ x. IsAtRest x.courses in
       rw same at ((law_there d.before).one_takes (all_rest (behind m) (behind m).places d.kept (subst R d.before rest)) (rw same some) (suc n) (behind new) (in_turn (suc n) m new d.before t))
@@ -151,7 +154,7 @@ module _ (m : Mutex) (laws : IsMutex m) (free : holders m ≡ 0) where
 pub solo_polls : (m : Mutex) → IsMutex m → holders m ≡ 0 → SoloPolls m
 solo_polls m laws free = record {
   takes_or_gives_way = λ p e new called polls. came m laws free p e new called polls;
-  takes = λ p e new called why polls. must_take m laws free p e new called polls why;
+  takes = λ memory p e new called why polls. must_take m laws free memory p e new called polls why;
   some_called = λ rest some.
       let found = places.first_marked m.entries laws.in_order (laws.wakes rest free some) in
       let there : 0 < listed (course_at m.courses found.0) = omega (arith, laws.owners found.0, found.2) in

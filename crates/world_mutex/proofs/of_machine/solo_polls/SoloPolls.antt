@@ -1,5 +1,5 @@
 -- Polls in a row, each carried out alone while the lock is free.
-use Rattle.std.proofs.Common.{◌≡◌, ◌≢◌, ℕ, zero, suc, ◌+◌, ◌-◌, ◌<◌, ◌≤◌, ◌⊎◌, inl, inr, true, IsSomeAnd, List, [], ◌∷◌, length, refl, sym, ap, arith, subst, ◌∙◌}
+use Rattle.std.proofs.Common.{◌≡◌, ◌≢◌, ℕ, zero, suc, ◌+◌, ◌-◌, ◌<◌, ◌≤◌, ◌⊎◌, inl, inr, Bool, true, IsSomeAnd, List, [], ◌∷◌, length, refl, sym, ap, arith, subst, ◌∙◌}
 use Rattle.std.proofs.Math.Decide.{ℕ_discrete}
 use Rattle.std.specs.List.{sum_by}
 use Rattle.std.proofs.lemmas.List.Sums.{sum_by-cons}
@@ -30,7 +30,7 @@ use Rattle.world_mutex.specs.machine.Machine.{Lock, place_at}
 use Rattle.world_mutex.specs.machine.Acts.{Acts, IsMutex, IsAtRest, IsStarved, holders, starved}
 use Rattle.world_mutex.specs.machine.Solo.{GoesOnAlone, last, step, PollsAlone, at_once, begun, IsCalled, unstarved, unstarved_listed, Took, GaveWay, PollsInTurn, SoloPolls}
 use Rattle.world_mutex.proofs.of_machine.laws.Laws.{resting_at}
-use Rattle.world_mutex.proofs.of_machine.solo_polls.Solo.{Reached, Gives, Ends, polls_unstarved, polls_starved}
+use Rattle.world_mutex.proofs.of_machine.solo_polls.Solo.{Reached, Gives, Ends, polls_unstarved, polls_starved, polls_free}
 
 -- ---- Sums over the entries of a list, by their parties
 
@@ -79,15 +79,15 @@ known_party [] p h = absurd (cc)
 known_party (x ∷ xs) zero h = omega arith
 known_party (x ∷ xs) (suc p) h = let more : p < length xs = known_party xs p h in omega arith
 
-begins_here : (p : ℕ) (x : Place) (n : Next) (old mid : Lock) → is_waiting x ≡ true → IsSomeAnd (start_of call.Poll x) (λ from. Acts true p from n old mid) → Acts true p x n old mid
-begins_here p Ask n old mid h a = a
-begins_here p AskStarved n old mid h a = a
-begins_here p _ n old mid h a = absurd (cc)
+begins_here : (memory : Bool) (p : ℕ) (x : Place) (n : Next) (old mid : Lock) → is_waiting x ≡ true → IsSomeAnd (start_of call.Poll x) (λ from. Acts memory p from n old mid) → Acts memory p x n old mid
+begins_here memory p Ask n old mid h a = a
+begins_here memory p AskStarved n old mid h a = a
+begins_here memory p _ n old mid h a = absurd (cc)
 
 -- the poll of a pending party goes on where it stands
-goes_on_here : (p : ℕ) (e : End) (new l : Lock) → is_waiting (place_at l.places p) ≡ true → PollsAlone p e new l → GoesOnAlone p e new l
-goes_on_here p e new l h (at_once old a) = last l (begins_here p (place_at l.places p) (next.End e) l new h a)
-goes_on_here p e new l h (begun old mid a to acts on) = step l mid a to (begins_here p (place_at l.places p) (next.Do a to) l mid h acts) on
+goes_on_here : (memory : Bool) (p : ℕ) (e : End) (new l : Lock) → is_waiting (place_at l.places p) ≡ true → PollsAlone memory p e new l → GoesOnAlone memory p e new l
+goes_on_here memory p e new l h (at_once old a) = last l (begins_here memory p (place_at l.places p) (next.End e) l new h a)
+goes_on_here memory p e new l h (begun old mid a to acts on) = step l mid a to (begins_here memory p (place_at l.places p) (next.Do a to) l mid h acts) on
 
 abbrev Owned : Lock → Type 0
 Owned l = (q : ℕ) → entries_of q l.entries ≡ listed (place_at l.places q)
@@ -135,7 +135,7 @@ module _ (p : ℕ) (l new : Lock) (own : entries_of p l.entries ≡ 1) where
   back_length = omega (arith, told_length (joined (told gone) p), length-joined (told gone) p, told_length gone, gone_length)
 
   module _ (open_lock : holders l ≡ 0) (here : place_at l.places p ≡ Ask) (out : holds (place_at l.places p) ≡ 0) (counts_not : counted (place_at l.places p) ≡ 0) where
-    gave : (e : End) → 0 < starved l → Gives p l open_lock out e new counts_not e (told gone) → GaveWay p l e new
+    gave : (e : End) → 0 < starved l → Gives true p l open_lock out e new refl counts_not e (told gone) → GaveWay p l e new
     gave Pending some g =
         let sum : unstarved_listed new ≡ keyed (unstarved new) new.entries = keyed_is (unstarved new) new.entries in
         let now : keyed (unstarved new) new.entries ≡ keyed (unstarved new) back = ap (keyed (unstarved new)) g.0 in
@@ -176,7 +176,7 @@ module _ (p : ℕ) (l new : Lock) (own : entries_of p l.entries ≡ 1) where
         ]
 
     -- each listed party has its one entry then too
-    still_owned : (e : End) → Owned l → Gives p l open_lock out e new counts_not e (told gone) → Owned new
+    still_owned : (e : End) → Owned l → Gives true p l open_lock out e new refl counts_not e (told gone) → Owned new
     still_owned Pending owned g =
         owned_by AskStarved back owned g.1 g.0
         (back_entries p ∙ (own_one p (told gone) ∙ (ap (λ n. 1 + n) (told_entries p gone) ∙ ap (λ n. 1 + n) none_of_it)))
@@ -188,9 +188,9 @@ module _ (p : ℕ) (l new : Lock) (own : entries_of p l.entries ≡ 1) where
     still_owned _ owned g = absurd g
 
 -- a poll takes the lock or gives way
-module _ (l : Lock) (owned : Owned l) (open_lock : holders l ≡ 0) (p : ℕ) (e : End) (new : Lock) (called : IsCalled l p) (polls : PollsAlone p e new l) where
+module _ (l : Lock) (owned : Owned l) (open_lock : holders l ≡ 0) (p : ℕ) (e : End) (new : Lock) (called : IsCalled l p) (polls : PollsAlone true p e new l) where
   outcome : (own : entries_of p l.entries ≡ 1) (here : place_at l.places p ≡ Ask) (out : holds (place_at l.places p) ≡ 0) (counts_not : counted (place_at l.places p) ≡ 0)
-      → Ends p l open_lock out e new counts_not (without (is_party p) l.entries) → Took p e new ⊎ (GaveWay p l e new × Owned new)
+      → Ends true p l open_lock out e new refl counts_not (without (is_party p) l.entries) → Took p e new ⊎ (GaveWay p l e new × Owned new)
   outcome own here out counts_not (inl took) = inl took
   outcome own here out counts_not (inr gives) =
       inr (gave p l new own open_lock here out counts_not e gives.0 gives.1, still_owned p l new own open_lock here out counts_not e owned gives.1)
@@ -200,10 +200,10 @@ module _ (l : Lock) (owned : Owned l) (open_lock : holders l ≡ 0) (p : ℕ) (e
       let out : holds (place_at l.places p) ≡ 0 = ap holds here in
       let counts_not : counted (place_at l.places p) ≡ 0 = ap counted here in
       outcome (owned p ∙ ap listed here) here out counts_not
-      (polls_unstarved p l open_lock out e new counts_not (known_party l.places p called.0) here called.1 (goes_on_here p e new l called.0 polls))
+      (polls_unstarved true p l open_lock out e new refl counts_not (known_party l.places p called.0) here called.1 (goes_on_here true p e new l called.0 polls))
   by_place (inr here) =
       let out : holds (place_at l.places p) ≡ 0 = ap holds here in
-      inl (polls_starved p l open_lock out e new (known_party l.places p called.0) here called.1 (goes_on_here p e new l called.0 polls))
+      inl (polls_starved true p l open_lock out e new (known_party l.places p called.0) here called.1 (goes_on_here true p e new l called.0 polls))
 
   either : Took p e new ⊎ (GaveWay p l e new × Owned new)
   either = by_place (waiting_at (place_at l.places p) called.0)
@@ -212,11 +212,15 @@ module _ (l : Lock) (owned : Owned l) (open_lock : holders l ≡ 0) (p : ℕ) (e
   takes_or_gives (inl took) = inl took
   takes_or_gives (inr gives) = inr gives.0
 
-  -- a starved party gives way to nobody, and nobody gives way where none is starved
-  must_take : IsStarved l p ⊎ (starved l ≡ 0) → Took p e new ⊎ (GaveWay p l e new × Owned new) → Took p e new
-  must_take why (inl took) = took
-  must_take (inl starving) (inr gives) = let not_so : counted (place_at l.places p) ≡ 0 = ap counted gives.0.unstarved_here in absurd (omega arith)
-  must_take (inr none) (inr gives) = let some : 0 < starved l = gives.0.starved_there in absurd (omega arith)
+-- a starved party gives way to nobody, and nobody gives way where none is starved; and neither needs memory
+module _ (l : Lock) (open_lock : holders l ≡ 0) (memory : Bool) (p : ℕ) (e : End) (new : Lock) (called : IsCalled l p) (polls : PollsAlone memory p e new l) where
+  take_by : (place_at l.places p ≡ Ask) ⊎ (place_at l.places p ≡ AskStarved) → IsStarved l p ⊎ (starved l ≡ 0) → Took p e new
+  take_by (inl here) (inl starving) = let not_so : counted (place_at l.places p) ≡ 0 = ap counted here in absurd (omega arith)
+  take_by (inl here) (inr none) = polls_free memory p l open_lock (ap holds here) e new (ap counted here) none (known_party l.places p called.0) here called.1 (goes_on_here memory p e new l called.0 polls)
+  take_by (inr here) why = polls_starved memory p l open_lock (ap holds here) e new (known_party l.places p called.0) here called.1 (goes_on_here memory p e new l called.0 polls)
+
+  must_take : IsStarved l p ⊎ (starved l ≡ 0) → Took p e new
+  must_take = take_by (waiting_at (place_at l.places p) called.0)
 
 -- ---- Polls in a row
 
@@ -284,7 +288,7 @@ pending_at _ h there = absurd (cc)
 pub solo_polls : (l : Lock) → IsMutex l → holders l ≡ 0 → SoloPolls l
 solo_polls l mutex open_lock = record {
   takes_or_gives_way = λ p e new called polls. takes_or_gives l mutex.owners open_lock p e new called polls (either l mutex.owners open_lock p e new called polls);
-  takes = λ p e new called why polls. must_take l mutex.owners open_lock p e new called polls why (either l mutex.owners open_lock p e new called polls);
+  takes = λ memory p e new called why polls. must_take l open_lock memory p e new called polls why;
   some_called = λ rest some.
       let found = first_marked l.entries mutex.in_order (mutex.wakes rest open_lock some) in
       let there : 0 < listed (place_at l.places found.0) = omega (arith, mutex.owners found.0, found.2) in

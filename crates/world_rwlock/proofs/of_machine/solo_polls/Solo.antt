@@ -26,7 +26,7 @@ use Rattle.world_rwlock.specs.machine.Acts.{Acts, Finds, IsRwLock, readers, mark
 use Rattle.world_rwlock.specs.machine.Solo.{GoesOnAlone, last, step, PollsAlone, at_once, begun, waits_to_read, waits_to_write, looks_for_readers, waits_for_turn, Took, SoloPolls}
 use Rattle.world_rwlock.proofs.of_machine.solo_polls.SoloTurns.{either, must_take}
 
-module _ (p : ℕ) (v : RwLock) where
+module _ (memory : Bool) (p : ℕ) (v : RwLock) where
   -- since v only this party has moved, and it stands at x
   record Reached (x : Place) (m : RwLock) : Type 0 where
     pub known : p < length m.places
@@ -38,7 +38,7 @@ module _ (p : ℕ) (v : RwLock) where
   at_start x known e = record { known = known; here = e; sums = λ f. ap (λ y. sum_by f v.places + f y) e; limit = refl }
 
   -- one action on
-  reaches : (x : Place) (starving : Bool) (m n : RwLock) (next : Next) → Reached x m → Acts true starving p x next m n → Reached (place_after next) n
+  reaches : (x : Place) (starving : Bool) (m n : RwLock) (next : Next) → Reached x m → Acts memory starving p x next m n → Reached (place_after next) n
   reaches x starving m n next r a =
       let to : Place = place_after next in
       record {
@@ -54,7 +54,7 @@ module _ (p : ℕ) (v : RwLock) where
   module _ (e : End) (new : RwLock) where
     -- what is left of a call after an action
     abbrev Rest : Next → RwLock → Type 0
-    Rest (next.Do a q) m = GoesOnAlone p e new m
+    Rest (next.Do a q) m = GoesOnAlone memory p e new m
     Rest (next.End x q) m = (e ≡ x) × (new ≡ m)
     Rest (next.Wait q) m = ⊥
 
@@ -63,18 +63,18 @@ module _ (p : ℕ) (v : RwLock) where
       pub next : Next
       pub mid : RwLock
       pub starving : Bool
-      pub acts : Acts true starving p x next m mid
+      pub acts : Acts memory starving p x next m mid
       pub rest : Rest next mid
       pub reached : Reached (place_after next) mid
 
-    unfolds_here : (m : RwLock) → GoesOnAlone p e new m → (next : Next) × (mid : RwLock) × (starving : Bool) × Acts true starving p (place_at m.places p) next m mid × Rest next mid
+    unfolds_here : (m : RwLock) → GoesOnAlone memory p e new m → (next : Next) × (mid : RwLock) × (starving : Bool) × Acts memory starving p (place_at m.places p) next m mid × Rest next mid
     unfolds_here m (last old starving to a) = (next.End e to, new, starving, a, (refl, refl))
     unfolds_here m (step old mid starving a to acts on) = (next.Do a to, mid, starving, acts, on)
 
-    unfolds : (x : Place) (m : RwLock) → Reached x m → GoesOnAlone p e new m → Unfolded x m
+    unfolds : (x : Place) (m : RwLock) → Reached x m → GoesOnAlone memory p e new m → Unfolded x m
     unfolds x m r g =
         let u = unfolds_here m g in
-        let acts : Acts true u.2 p x u.0 m u.1 = rw r.here at u.3 in
+        let acts : Acts memory u.2 p x u.0 m u.1 = rw r.here at u.3 in
         record { next = u.0; mid = u.1; starving = u.2; acts = acts; rest = u.4; reached = reaches x u.2 m u.1 u.0 r acts }
 
     along : (x : Place) (m : RwLock) (u : Unfolded x m) (n : Next) → u.next ≡ n → Rest n u.mid × Reached (place_after n) u.mid
@@ -90,22 +90,22 @@ asked p l m No e told = absurd (cc)
 asked p l m _ e told = absurd e
 
 -- where the bit is clear and readers are below the limit, a reader reads
-entered : (v : RwLock) (f : Found) → Finds true act.Read f v → marked v ≡ 0 → readers v < v.limit → next_of (EnterRead true) f ≡ ends Got Reading
-entered v Done e free below = refl
-entered v Writer e free below = absurd (omega arith)
-entered v Full e free below = absurd (omega arith)
-entered v _ e free below = absurd e
+entered : (memory : Bool) (v : RwLock) (f : Found) → Finds memory act.Read f v → marked v ≡ 0 → readers v < v.limit → next_of (EnterRead true) f ≡ ends Got Reading
+entered memory v Done e free below = refl
+entered memory v Writer e free below = absurd (omega arith)
+entered memory v Full e free below = absurd (omega arith)
+entered memory v _ e free below = absurd e
 
 -- where no reader is left, none is found
-none_left : (v : RwLock) (upgrade : Bool) (f : Found) → Finds true act.Load f v → readers v ≡ 0 → next_of (AwaitNoReaders upgrade) f ≡ go_to LeaveNoReaders
-none_left v upgrade NoneLeft e none = refl
-none_left v upgrade SomeLeft e none = absurd (omega arith)
-none_left v upgrade _ e none = absurd e
+none_left : (memory : Bool) (v : RwLock) (upgrade : Bool) (f : Found) → Finds memory act.Load f v → readers v ≡ 0 → next_of (AwaitNoReaders upgrade) f ≡ go_to LeaveNoReaders
+none_left memory v upgrade NoneLeft e none = refl
+none_left memory v upgrade SomeLeft e none = absurd (omega arith)
+none_left memory v upgrade _ e none = absurd e
 
-none_found : (v : RwLock) (f : Found) → Finds true act.Load f v → readers v ≡ 0 → next_of (LookUnlisted true) f ≡ ends Got Writing
-none_found v NoneLeft e none = refl
-none_found v SomeLeft e none = absurd (omega arith)
-none_found v _ e none = absurd e
+none_found : (memory : Bool) (v : RwLock) (f : Found) → Finds memory act.Load f v → readers v ≡ 0 → next_of (LookUnlisted true) f ≡ ends Got Writing
+none_found memory v NoneLeft e none = refl
+none_found memory v SomeLeft e none = absurd (omega arith)
+none_found memory v _ e none = absurd e
 
 -- a party whose place is not Out is one of the lock's
 known_reader : (ps : List Place) (p : ℕ) → waits_to_read (place_at ps p) ≡ true → p < length ps
@@ -132,49 +132,49 @@ looker_at (LookUnlisted true) h = inr refl
 looker_at _ h = absurd (cc)
 
 -- the poll of a pending party goes on where it stands
-module _ (p : ℕ) (e : End) (new : RwLock) where
-  reader_goes_on : (v : RwLock) → place_at v.places p ≡ AskNoWriter → PollsAlone p e new v → GoesOnAlone p e new v
+module _ (memory : Bool) (p : ℕ) (e : End) (new : RwLock) where
+  reader_goes_on : (v : RwLock) → place_at v.places p ≡ AskNoWriter → PollsAlone memory p e new v → GoesOnAlone memory p e new v
   reader_goes_on v here (at_once old starving to a) = last v starving to (rw here (rw here at a))
   reader_goes_on v here (begun old mid starving a to acts on) = step v mid starving a to (rw here (rw here at acts)) on
 
-  writer_goes_on : (v : RwLock) (upgrade : Bool) → place_at v.places p ≡ AwaitNoReaders upgrade → PollsAlone p e new v → GoesOnAlone p e new v
+  writer_goes_on : (v : RwLock) (upgrade : Bool) → place_at v.places p ≡ AwaitNoReaders upgrade → PollsAlone memory p e new v → GoesOnAlone memory p e new v
   writer_goes_on v upgrade here (at_once old starving to a) = last v starving to (rw here (rw here at a))
   writer_goes_on v upgrade here (begun old mid starving a to acts on) = step v mid starving a to (rw here (rw here at acts)) on
 
-  upgrade_goes_on : (v : RwLock) → place_at v.places p ≡ LookUnlisted true → PollsAlone p e new v → GoesOnAlone p e new v
+  upgrade_goes_on : (v : RwLock) → place_at v.places p ≡ LookUnlisted true → PollsAlone memory p e new v → GoesOnAlone memory p e new v
   upgrade_goes_on v here (at_once old starving to a) = last v starving to (rw here (rw here at a))
   upgrade_goes_on v here (begun old mid starving a to acts on) = step v mid starving a to (rw here (rw here at acts)) on
 
-  reader_polls : (v : RwLock) → marked v ≡ 0 → readers v < v.limit → waits_to_read (place_at v.places p) ≡ true → is_marked_at (is_party p) v.no_writer ≡ true → PollsAlone p e new v → Took p Reading e new
+  reader_polls : (v : RwLock) → marked v ≡ 0 → readers v < v.limit → waits_to_read (place_at v.places p) ≡ true → is_marked_at (is_party p) v.no_writer ≡ true → PollsAlone memory p e new v → Took p Reading e new
   reader_polls v free below waits told polls =
       let here : place_at v.places p ≡ AskNoWriter = reader_at (place_at v.places p) waits in
-      let one = unfolds p v e new AskNoWriter v (at_start p v AskNoWriter (known_reader v.places p waits) here) (reader_goes_on v here polls) in
-      let passed = along p v e new AskNoWriter v one (go_to PassOn) (one.acts.next_is ∙ asked p v.no_writer one.mid.no_writer one.acts.found one.acts.no_writer told) in
-      let two = unfolds p v e new PassOn one.mid passed.1 passed.0 in
-      let entering = along p v e new PassOn one.mid two (go_to (EnterRead true)) two.acts.next_is in
-      let three = unfolds p v e new (EnterRead true) two.mid entering.1 entering.0 in
+      let one = unfolds memory p v e new AskNoWriter v (at_start memory p v AskNoWriter (known_reader v.places p waits) here) (reader_goes_on v here polls) in
+      let passed = along memory p v e new AskNoWriter v one (go_to PassOn) (one.acts.next_is ∙ asked p v.no_writer one.mid.no_writer one.acts.found one.acts.no_writer told) in
+      let two = unfolds memory p v e new PassOn one.mid passed.1 passed.0 in
+      let entering = along memory p v e new PassOn one.mid two (go_to (EnterRead true)) two.acts.next_is in
+      let three = unfolds memory p v e new (EnterRead true) two.mid entering.1 entering.0 in
       let was_marked : marks (place_at v.places p) ≡ 0 = ap marks here in
       let was_reading : reads (place_at v.places p) ≡ 0 = ap reads here in
       let free_now : marked two.mid ≡ 0 = omega (arith, entering.1.sums marks) in
       let below_now : readers two.mid < two.mid.limit = omega (arith, entering.1.sums reads, entering.1.limit) in
-      let done = along p v e new (EnterRead true) two.mid three (ends Got Reading) (three.acts.next_is ∙ entered two.mid three.acts.found three.acts.finds free_now below_now) in
-      took p v e new Reading three.mid done.0 done.1
+      let done = along memory p v e new (EnterRead true) two.mid three (ends Got Reading) (three.acts.next_is ∙ entered memory two.mid three.acts.found three.acts.finds free_now below_now) in
+      took memory p v e new Reading three.mid done.0 done.1
 
-  listed_polls : (v : RwLock) (upgrade : Bool) → readers v ≡ 0 → p < length v.places → place_at v.places p ≡ AwaitNoReaders upgrade → PollsAlone p e new v → Took p Writing e new
+  listed_polls : (v : RwLock) (upgrade : Bool) → readers v ≡ 0 → p < length v.places → place_at v.places p ≡ AwaitNoReaders upgrade → PollsAlone memory p e new v → Took p Writing e new
   listed_polls v upgrade none known here polls =
-      let one = unfolds p v e new (AwaitNoReaders upgrade) v (at_start p v (AwaitNoReaders upgrade) known here) (writer_goes_on v upgrade here polls) in
-      let leaving = along p v e new (AwaitNoReaders upgrade) v one (go_to LeaveNoReaders) (one.acts.next_is ∙ none_left v upgrade one.acts.found one.acts.finds none) in
-      let two = unfolds p v e new LeaveNoReaders one.mid leaving.1 leaving.0 in
-      let done = along p v e new LeaveNoReaders one.mid two (ends Got Writing) two.acts.next_is in
-      took p v e new Writing two.mid done.0 done.1
+      let one = unfolds memory p v e new (AwaitNoReaders upgrade) v (at_start memory p v (AwaitNoReaders upgrade) known here) (writer_goes_on v upgrade here polls) in
+      let leaving = along memory p v e new (AwaitNoReaders upgrade) v one (go_to LeaveNoReaders) (one.acts.next_is ∙ none_left memory v upgrade one.acts.found one.acts.finds none) in
+      let two = unfolds memory p v e new LeaveNoReaders one.mid leaving.1 leaving.0 in
+      let done = along memory p v e new LeaveNoReaders one.mid two (ends Got Writing) two.acts.next_is in
+      took memory p v e new Writing two.mid done.0 done.1
 
-  unlisted_polls : (v : RwLock) → readers v ≡ 0 → p < length v.places → place_at v.places p ≡ LookUnlisted true → PollsAlone p e new v → Took p Writing e new
+  unlisted_polls : (v : RwLock) → readers v ≡ 0 → p < length v.places → place_at v.places p ≡ LookUnlisted true → PollsAlone memory p e new v → Took p Writing e new
   unlisted_polls v none known here polls =
-      let one = unfolds p v e new (LookUnlisted true) v (at_start p v (LookUnlisted true) known here) (upgrade_goes_on v here polls) in
-      let done = along p v e new (LookUnlisted true) v one (ends Got Writing) (one.acts.next_is ∙ none_found v one.acts.found one.acts.finds none) in
-      took p v e new Writing one.mid done.0 done.1
+      let one = unfolds memory p v e new (LookUnlisted true) v (at_start memory p v (LookUnlisted true) known here) (upgrade_goes_on v here polls) in
+      let done = along memory p v e new (LookUnlisted true) v one (ends Got Writing) (one.acts.next_is ∙ none_found memory v one.acts.found one.acts.finds none) in
+      took memory p v e new Writing one.mid done.0 done.1
 
-  writer_polls : (v : RwLock) → readers v ≡ 0 → looks_for_readers (place_at v.places p) ≡ true → PollsAlone p e new v → Took p Writing e new
+  writer_polls : (v : RwLock) → readers v ≡ 0 → looks_for_readers (place_at v.places p) ≡ true → PollsAlone memory p e new v → Took p Writing e new
   writer_polls v none looks polls =
       let known = known_writer v.places p looks in
       elim (looker_at (place_at v.places p) looks) as (λ _. Took p Writing e new) [
@@ -222,10 +222,10 @@ pending_t _ t h fits there = absurd (cc)
 -- what polls do that are carried out alone
 pub solo_polls : (v : RwLock) → IsRwLock v → SoloPolls v
 solo_polls v laws = record {
-  reads = λ free below p e new called polls. reader_polls p e new v free below called.0 called.1 polls;
-  writes = λ none p e new looks polls. writer_polls p e new v none looks polls;
-  takes_turn_or_gives_way = λ free below p e new called polls. either p e new v laws free below called polls;
-  takes_turn = λ free below p e new called why polls. must_take p e new v laws free below called why polls;
+  reads = λ free below memory p e new called polls. reader_polls memory p e new v free below called.0 called.1 polls;
+  writes = λ none memory p e new looks polls. writer_polls memory p e new v none looks polls;
+  takes_turn_or_gives_way = λ free below p e new called polls. either true p e new v laws free below called refl polls;
+  takes_turn = λ free below memory p e new called enough why polls. must_take memory p e new v laws free below called enough why polls;
   some_reader_called = λ rest free some.
       let found = first_marked v.no_writer laws.in_order_no_writer (laws.wakes_no_writer rest free some) in
       let there : 0 < in_no_writer (place_at v.places found.0) = omega (arith, laws.owners_no_writer found.0, found.2) in

@@ -18,7 +18,7 @@ use Rattle.lock_program.specs.declared.rwlock.Place.{Place}
 use Rattle.lock_program.specs.declared.rwlock.Place.TheVariants.{Out, Upgradable, Writing, WaitTurn, TakeTurn, Add, Mark, JoinNoReaders, LookNoReaders, AskNoReaders, LookUnlisted, LeaveNoReaders}
 use Rattle.lock_program.specs.declared.rwlock.Action.TheVariants as act
 use Rattle.lock_program.specs.declared.rwlock.Found.{Found}
-use Rattle.lock_program.specs.declared.rwlock.Found.TheVariants.{Done, Full, NoneLeft, NoMemory, Yes, Turn}
+use Rattle.lock_program.specs.declared.rwlock.Found.TheVariants.{Done, Full, NoneLeft, SomeLeft, NoMemory, Yes, Turn}
 use Rattle.lock_program.specs.declared.end.End.{End}
 use Rattle.lock_program.specs.declared.end.End.TheVariants.{Got, Pending, Refused}
 use Rattle.world_rwlock.specs.declared.program.led.Next.{Next}
@@ -28,7 +28,7 @@ use Rattle.world_rwlock.specs.machine.Roles.{reads}
 use Rattle.world_rwlock.specs.program.Turns.{OnTurn}
 use Rattle.world_rwlock.specs.machine.Machine.{RwLock, place_at}
 use Rattle.world_rwlock.specs.machine.Acts.{Acts, Finds, IsRwLock, readers}
-use Rattle.world_rwlock.specs.machine.Solo.{GoesOnAlone, last, step, PollsAlone, at_once, begun, waits_to_write, waits_for_turn, IsCalledToTurn, TookTurn, GaveTurnWay}
+use Rattle.world_rwlock.specs.machine.Solo.{GoesOnAlone, last, step, PollsAlone, at_once, begun, waits_to_write, waits_for_turn, IsCalledToTurn, TookTurn, GaveTurnWay, HasEnough}
 
 -- ---- once the turn is got
 
@@ -65,10 +65,20 @@ leads_on LeaveNoReaders f v h e = refl
 leads_on _ f v h e = absurd (cc)
 
 -- where readers are below the limit, an upgradable reader is added
-adds : (v : RwLock) (f : Found) → Finds true act.Add f v → readers v < v.limit → next_of (Add false) f ≡ ends Got Upgradable
-adds v Done e below = refl
-adds v Full e below = absurd (omega arith)
-adds v _ e below = absurd e
+adds : (memory : Bool) (v : RwLock) (f : Found) → Finds memory act.Add f v → readers v < v.limit → next_of (Add false) f ≡ ends Got Upgradable
+adds memory v Done e below = refl
+adds memory v Full e below = absurd (omega arith)
+adds memory v _ e below = absurd e
+
+-- where no reader is left, a write has the lock as soon as it has marked it
+marks_last : (memory : Bool) (v : RwLock) (f : Found) → Finds memory act.Mark f v → readers v ≡ 0 → next_of Mark f ≡ ends Got Writing
+marks_last memory v NoneLeft e none = refl
+marks_last memory v SomeLeft e none = absurd (omega arith)
+marks_last memory v _ e none = absurd e
+
+none_or_some : (n : ℕ) → (n ≡ 0) ⊎ (0 < n)
+none_or_some zero = inl refl
+none_or_some (suc n) = inr (omega arith)
 
 end_eq : (x y : End) (to at : Place) → next.End x to ≡ next.End y at → (x ≡ y) × (to ≡ at)
 end_eq x y to at h = (cc, cc)
@@ -84,17 +94,17 @@ abbrev SameLists : RwLock → RwLock → Type 0
 SameLists m mid = (mid.no_writer ≡ m.no_writer) × (mid.no_readers ≡ m.no_readers)
 
 -- what a step in the turn finds there
-goes : (p : ℕ) (starving : Bool) (t u : Mutex) (f : Found) → OnTurn true starving p act.Go f t u → (n : TurnStep) × (f ≡ Turn n) × turn.HasGoneOn true p n t u
-goes p starving t u (Turn n) o = (n, refl, o.done)
-goes p starving t u _ o = absurd o
+goes : (memory : Bool) (p : ℕ) (starving : Bool) (t u : Mutex) (f : Found) → OnTurn memory starving p act.Go f t u → (n : TurnStep) × (f ≡ Turn n) × turn.HasGoneOn memory p n t u
+goes memory p starving t u (Turn n) o = (n, refl, o.done)
+goes memory p starving t u _ o = absurd o
 
-begins : (p : ℕ) (starving : Bool) (t u : Mutex) (f : Found) → OnTurn true starving p (act.Begin turn_call.Poll) f t u → (n : TurnStep) × (f ≡ Turn n) × turn.HasBegun true p turn_call.Poll n t u
-begins p starving t u (Turn n) o = (n, refl, o.done)
-begins p starving t u _ o = absurd o
+begins : (memory : Bool) (p : ℕ) (starving : Bool) (t u : Mutex) (f : Found) → OnTurn memory starving p (act.Begin turn_call.Poll) f t u → (n : TurnStep) × (f ≡ Turn n) × turn.HasBegun memory p turn_call.Poll n t u
+begins memory p starving t u (Turn n) o = (n, refl, o.done)
+begins memory p starving t u _ o = absurd o
 
-module _ (p : ℕ) (e : End) (new : RwLock) where
+module _ (memory : Bool) (p : ℕ) (e : End) (new : RwLock) where
   -- where an action leaves its party
-  lands : (starving : Bool) (x : Place) (n : Next) (m mid : RwLock) → p < length m.places → Acts true starving p x n m mid → (p < length mid.places) × (place_at mid.places p ≡ place_after n)
+  lands : (starving : Bool) (x : Place) (n : Next) (m mid : RwLock) → p < length m.places → Acts memory starving p x n m mid → (p < length mid.places) × (place_at mid.places p ≡ place_after n)
   lands starving x n m mid known a = (
     rw (a.places, length-set m.places p (place_after n)) known,
     ap (λ ps. place_at ps p) a.places ∙ get_or-set_same m.places p (place_after n) Out known,
@@ -105,34 +115,47 @@ module _ (p : ℕ) (e : End) (new : RwLock) where
   ended Pending to leads at = ap waits_to_write at ∙ leads
   ended _ to leads at = absurd leads
 
-  goes_to_write : (m : RwLock) → p < length m.places → is_on_way (place_at m.places p) ≡ true → GoesOnAlone p e new m → TookTurn p e new
-  goes_to_write m known way (last old starving to a) =
-      let led : LeadsOn (next.End e to) = subst LeadsOn (sym a.next_is) (leads_on (place_at m.places p) a.found m way a.finds) in
+  goes_to_write : (m : RwLock) → memory ≡ true → p < length m.places → is_on_way (place_at m.places p) ≡ true → GoesOnAlone memory p e new m → TookTurn p e new
+  goes_to_write m found known way (last old starving to a) =
+      let led : LeadsOn (next.End e to) = subst LeadsOn (sym a.next_is) (leads_on (place_at m.places p) a.found m way (subst (λ b. Finds b (action_of (place_at m.places p)) a.found m) found a.finds)) in
       ended e to led (lands starving (place_at m.places p) (next.End e to) m new known a).1
-  goes_to_write m known way (step old mid starving a to acts on) =
-      let led : LeadsOn (next.Do a to) = subst LeadsOn (sym acts.next_is) (leads_on (place_at m.places p) acts.found m way acts.finds) in
+  goes_to_write m found known way (step old mid starving a to acts on) =
+      let led : LeadsOn (next.Do a to) = subst LeadsOn (sym acts.next_is) (leads_on (place_at m.places p) acts.found m way (subst (λ b. Finds b (action_of (place_at m.places p)) acts.found m) found acts.finds)) in
       let there = lands starving (place_at m.places p) (next.Do a to) m mid known acts in
-      goes_to_write mid there.0 (ap is_on_way there.1 ∙ led) on
+      goes_to_write mid found there.0 (ap is_on_way there.1 ∙ led) on
 
-  adds_itself : (m : RwLock) → p < length m.places → place_at m.places p ≡ Add false → readers m < m.limit → GoesOnAlone p e new m → TookTurn p e new
+  adds_itself : (m : RwLock) → p < length m.places → place_at m.places p ≡ Add false → readers m < m.limit → GoesOnAlone memory p e new m → TookTurn p e new
   adds_itself m known here below (last old starving to a) =
-      let acts : Acts true starving p (Add false) (next.End e to) m new = rw here at a in
-      let is = end_eq e Got to Upgradable (acts.next_is ∙ adds m acts.found acts.finds below) in
+      let acts : Acts memory starving p (Add false) (next.End e to) m new = rw here at a in
+      let is = end_eq e Got to Upgradable (acts.next_is ∙ adds memory m acts.found acts.finds below) in
       let there = lands starving (Add false) (next.End e to) m new known acts in
       subst (λ x. TookTurn p x new) (sym is.0) (inl (there.1 ∙ is.1))
   adds_itself m known here below (step old mid starving a to b on) =
-      let acts : Acts true starving p (Add false) (next.Do a to) m mid = rw here at b in
-      never a Got to Upgradable (acts.next_is ∙ adds m acts.found acts.finds below)
+      let acts : Acts memory starving p (Add false) (next.Do a to) m mid = rw here at b in
+      never a Got to Upgradable (acts.next_is ∙ adds memory m acts.found acts.finds below)
 
-  goes_with_turn : (q : Purpose) (m : RwLock) → p < length m.places → place_at m.places p ≡ with_turn q false → readers m < m.limit → GoesOnAlone p e new m → TookTurn p e new
-  goes_with_turn purpose.UpgradableRead m known here below g = adds_itself m known here below g
-  goes_with_turn purpose.Write m known here below g = goes_to_write m known (ap is_on_way here) g
+  marks_it : (m : RwLock) → p < length m.places → place_at m.places p ≡ Mark → readers m ≡ 0 → GoesOnAlone memory p e new m → TookTurn p e new
+  marks_it m known here none (last old starving to a) =
+      let acts : Acts memory starving p Mark (next.End e to) m new = rw here at a in
+      let is = end_eq e Got to Writing (acts.next_is ∙ marks_last memory m acts.found acts.finds none) in
+      let there = lands starving Mark (next.End e to) m new known acts in
+      subst (λ x. TookTurn p x new) (sym is.0) (inr (there.1 ∙ is.1))
+  marks_it m known here none (step old mid starving a to b on) =
+      let acts : Acts memory starving p Mark (next.Do a to) m mid = rw here at b in
+      never a Got to Writing (acts.next_is ∙ marks_last memory m acts.found acts.finds none)
+
+  goes_with_turn : (q : Purpose) (m : RwLock) → p < length m.places → place_at m.places p ≡ with_turn q false → readers m < m.limit → (q ≡ purpose.Write → 0 < readers m → memory ≡ true) → GoesOnAlone memory p e new m → TookTurn p e new
+  goes_with_turn purpose.UpgradableRead m known here below enough g = adds_itself m known here below g
+  goes_with_turn purpose.Write m known here below enough g = elim (none_or_some (readers m)) as (λ _. TookTurn p e new) [
+    | inl none ↦ marks_it m known here none g
+    | inr some ↦ goes_to_write m (enough refl some) known (ap is_on_way here) g
+  ]
 
   -- ---- the call on the turn
 
   -- what is left of a call after an action
   abbrev Rest : Next → RwLock → Type 0
-  Rest (next.Do a q) m = GoesOnAlone p e new m
+  Rest (next.Do a q) m = GoesOnAlone memory p e new m
   Rest (next.End x q) m = (e ≡ x) × (new ≡ m)
   Rest (next.Wait q) m = ⊥
 
@@ -148,7 +171,7 @@ module _ (p : ℕ) (e : End) (new : RwLock) where
     pub limit : mid.limit ≡ from.limit
 
   -- with this action
-  ends_turn : (Polls : TurnEnd → Mutex → Type 0) (q : Purpose) (x : Place) (starving : Bool) (n : Next) (m mid : RwLock) (te : TurnEnd) → Acts true starving p x n m mid → SameLists m mid → Rest n mid
+  ends_turn : (Polls : TurnEnd → Mutex → Type 0) (q : Purpose) (x : Place) (starving : Bool) (n : Next) (m mid : RwLock) (te : TurnEnd) → Acts memory starving p x n m mid → SameLists m mid → Rest n mid
       → n ≡ after_lock q (Turn (turn_step.End te)) → Polls te mid.turn → TurnEnded Polls q m
   ends_turn Polls q x starving n m mid te a same rest is polls = record {
     turn_end = te;
@@ -179,47 +202,47 @@ module _ (p : ℕ) (e : End) (new : RwLock) where
 
   -- the party goes on with its call on the turn, or polls there, and leaves the turn so
   abbrev Goes : RwLock → TurnEnd → Mutex → Type 0
-  Goes m te l = turn.GoesOnAlone p te l m.turn
+  Goes m te l = turn.GoesOnAlone memory p te l m.turn
 
   abbrev Polls : RwLock → TurnEnd → Mutex → Type 0
-  Polls m te l = turn.PollsAlone p te l m.turn
+  Polls m te l = turn.PollsAlone memory p te l m.turn
 
   module _ (q : Purpose) (starving : Bool) (m mid : RwLock) (n : Next) (known : p < length m.places) where
     -- the next action of a call on the turn, and the rest of it
-    one_goes : Acts true starving p (TakeTurn q) n m mid → Rest n mid → (n ≡ go_to (TakeTurn q) → p < length mid.places → place_at mid.places p ≡ TakeTurn q → TurnEnded (Goes mid) q mid)
-        → (k : TurnStep) → n ≡ after_lock q (Turn k) → turn.HasGoneOn true p k m.turn mid.turn → TurnEnded (Goes m) q m
+    one_goes : Acts memory starving p (TakeTurn q) n m mid → Rest n mid → (n ≡ go_to (TakeTurn q) → p < length mid.places → place_at mid.places p ≡ TakeTurn q → TurnEnded (Goes mid) q mid)
+        → (k : TurnStep) → n ≡ after_lock q (Turn k) → turn.HasGoneOn memory p k m.turn mid.turn → TurnEnded (Goes m) q m
     one_goes acts rest more turn_step.More is did =
         let there = lands starving (TakeTurn q) n m mid known acts in
         later (Goes m) (Goes mid) q m mid (acts.no_writer, acts.no_readers) (acts.places ∙ ap (λ k. set m.places p (place_after k)) is) acts.limit
         (λ te l g. turn.further m.turn mid.turn did g) (more is there.0 (there.1 ∙ ap place_after is))
     one_goes acts rest more (turn_step.End te) is did = ends_turn (Goes m) q (TakeTurn q) starving n m mid te acts (acts.no_writer, acts.no_readers) rest is (turn.last m.turn did)
 
-    first_goes : Acts true starving p (WaitTurn q) n m mid → Rest n mid → (n ≡ go_to (TakeTurn q) → p < length mid.places → place_at mid.places p ≡ TakeTurn q → TurnEnded (Goes mid) q mid)
-        → (k : TurnStep) → n ≡ after_lock q (Turn k) → turn.HasBegun true p turn_call.Poll k m.turn mid.turn → TurnEnded (Polls m) q m
+    first_goes : Acts memory starving p (WaitTurn q) n m mid → Rest n mid → (n ≡ go_to (TakeTurn q) → p < length mid.places → place_at mid.places p ≡ TakeTurn q → TurnEnded (Goes mid) q mid)
+        → (k : TurnStep) → n ≡ after_lock q (Turn k) → turn.HasBegun memory p turn_call.Poll k m.turn mid.turn → TurnEnded (Polls m) q m
     first_goes acts rest more turn_step.More is did =
         let there = lands starving (WaitTurn q) n m mid known acts in
         later (Polls m) (Goes mid) q m mid (acts.no_writer, acts.no_readers) (acts.places ∙ ap (λ k. set m.places p (place_after k)) is) acts.limit
         (λ te l g. turn.begun m.turn mid.turn did g) (more is there.0 (there.1 ∙ ap place_after is))
     first_goes acts rest more (turn_step.End te) is did = ends_turn (Polls m) q (WaitTurn q) starving n m mid te acts (acts.no_writer, acts.no_readers) rest is (turn.at_once m.turn did)
 
-  turn_goes : (q : Purpose) (m : RwLock) → p < length m.places → place_at m.places p ≡ TakeTurn q → GoesOnAlone p e new m → TurnEnded (Goes m) q m
+  turn_goes : (q : Purpose) (m : RwLock) → p < length m.places → place_at m.places p ≡ TakeTurn q → GoesOnAlone memory p e new m → TurnEnded (Goes m) q m
   turn_goes q m known here (last old starving to a) =
-      let acts : Acts true starving p (TakeTurn q) (next.End e to) m new = rw here at a in
-      let found = goes p starving m.turn new.turn acts.found acts.turn in
+      let acts : Acts memory starving p (TakeTurn q) (next.End e to) m new = rw here at a in
+      let found = goes memory p starving m.turn new.turn acts.found acts.turn in
       one_goes q starving m new (next.End e to) known acts (refl, refl) (λ is known_then there. ends_not e to is) found.0 (acts.next_is ∙ ap (next_of (TakeTurn q)) found.1) found.2
   turn_goes q m known here (step old mid starving a to b on) =
-      let acts : Acts true starving p (TakeTurn q) (next.Do a to) m mid = rw here at b in
-      let found = goes p starving m.turn mid.turn acts.found acts.turn in
+      let acts : Acts memory starving p (TakeTurn q) (next.Do a to) m mid = rw here at b in
+      let found = goes memory p starving m.turn mid.turn acts.found acts.turn in
       one_goes q starving m mid (next.Do a to) known acts on (λ is known_then there. turn_goes q mid known_then there on) found.0 (acts.next_is ∙ ap (next_of (TakeTurn q)) found.1) found.2
 
-  turn_polls : (q : Purpose) (m : RwLock) → p < length m.places → place_at m.places p ≡ WaitTurn q → PollsAlone p e new m → TurnEnded (Polls m) q m
+  turn_polls : (q : Purpose) (m : RwLock) → p < length m.places → place_at m.places p ≡ WaitTurn q → PollsAlone memory p e new m → TurnEnded (Polls m) q m
   turn_polls q m known here (at_once old starving to b) =
-      let acts : Acts true starving p (WaitTurn q) (next.End e to) m new = rw here at b in
-      let found = begins p starving m.turn new.turn acts.found acts.turn in
+      let acts : Acts memory starving p (WaitTurn q) (next.End e to) m new = rw here at b in
+      let found = begins memory p starving m.turn new.turn acts.found acts.turn in
       first_goes q starving m new (next.End e to) known acts (refl, refl) (λ is known_then there. ends_not e to is) found.0 (acts.next_is ∙ ap (next_of (WaitTurn q)) found.1) found.2
   turn_polls q m known here (begun old mid starving a to b on) =
-      let acts : Acts true starving p (WaitTurn q) (next.Do a to) m mid = rw here at b in
-      let found = begins p starving m.turn mid.turn acts.found acts.turn in
+      let acts : Acts memory starving p (WaitTurn q) (next.Do a to) m mid = rw here at b in
+      let found = begins memory p starving m.turn mid.turn acts.found acts.turn in
       first_goes q starving m mid (next.Do a to) known acts on (λ is known_then there. turn_goes q mid known_then there on) found.0 (acts.next_is ∙ ap (next_of (WaitTurn q)) found.1) found.2
 
 -- a party whose place is not Out is one of the lock's
@@ -237,7 +260,7 @@ pub reads_not : (q : Purpose) → reads (with_turn q false) ≡ 0
 reads_not purpose.UpgradableRead = refl
 reads_not purpose.Write = refl
 
-module _ (p : ℕ) (e : End) (new v : RwLock) (laws : IsRwLock v) (free : holders v.turn ≡ 0) (below : readers v < v.limit) (called : IsCalledToTurn v p) where
+module _ (memory : Bool) (p : ℕ) (e : End) (new v : RwLock) (laws : IsRwLock v) (free : holders v.turn ≡ 0) (below : readers v < v.limit) (called : IsCalledToTurn v p) where
   waiter : (q : Purpose) × (place_at v.places p ≡ WaitTurn q)
   waiter = waiter_at (place_at v.places p) called.0
 
@@ -251,19 +274,20 @@ module _ (p : ℕ) (e : End) (new v : RwLock) (laws : IsRwLock v) (free : holder
   law = turn_law v.turn laws.turn free
 
   -- the turn was got there
-  got : (te : TurnEnd) (mid : RwLock) → te ≡ turn_end.Got → Rest p e new (after_lock waiter.0 (Turn (turn_step.End te))) mid → mid.places ≡ set v.places p (place_after (after_lock waiter.0 (Turn (turn_step.End te)))) → mid.limit ≡ v.limit → TookTurn p e new
-  got turn_end.Got mid is rest places limit =
+  got : (te : TurnEnd) (mid : RwLock) → HasEnough memory v p → te ≡ turn_end.Got → Rest memory p e new (after_lock waiter.0 (Turn (turn_step.End te))) mid → mid.places ≡ set v.places p (place_after (after_lock waiter.0 (Turn (turn_step.End te)))) → mid.limit ≡ v.limit → TookTurn p e new
+  got turn_end.Got mid enough is rest places limit =
       let to : Place = with_turn waiter.0 false in
       let here : place_at mid.places p ≡ to = ap (λ ps. place_at ps p) places ∙ get_or-set_same v.places p to Out known in
       let size : length mid.places ≡ length v.places = ap length places ∙ length-set v.places p to in
       let sum : readers mid ≡ sum_by reads (set v.places p to) = ap (sum_by reads) places in
       let was : reads (place_at v.places p) ≡ 0 = ap reads waiter.1 in
-      let few : readers mid < mid.limit = omega (arith, sum, sum_by-set reads v.places p to Out known, was, reads_not waiter.0, limit) in
-      goes_with_turn p e new waiter.0 mid (omega (arith, size, known)) here few rest
-  got _ mid is rest places limit = absurd (cc)
+      let as_many : readers mid ≡ readers v = omega (arith, sum, sum_by-set reads v.places p to Out known, was, reads_not waiter.0) in
+      let few : readers mid < mid.limit = omega (arith, as_many, limit) in
+      goes_with_turn memory p e new waiter.0 mid (omega (arith, size, known)) here few (λ is_write some. enough (waiter.1 ∙ ap WaitTurn is_write) (omega (arith, as_many, some))) rest
+  got _ mid enough is rest places limit = absurd (cc)
 
   -- its party gave way there
-  gave : (te : TurnEnd) (mid : RwLock) → turn.GaveWay p v.turn te mid.turn → turn.StandsBack p v.turn te mid.turn → Rest p e new (after_lock waiter.0 (Turn (turn_step.End te))) mid → mid.places ≡ set v.places p (place_after (after_lock waiter.0 (Turn (turn_step.End te))))
+  gave : (te : TurnEnd) (mid : RwLock) → turn.GaveWay p v.turn te mid.turn → turn.StandsBack p v.turn te mid.turn → Rest memory p e new (after_lock waiter.0 (Turn (turn_step.End te))) mid → mid.places ≡ set v.places p (place_after (after_lock waiter.0 (Turn (turn_step.End te))))
       → SameLists v mid → mid.limit ≡ v.limit → GaveTurnWay p v e new
   gave turn_end.Pending mid g back rest places same limit =
       let here : place_at mid.places p ≡ WaitTurn waiter.0 = ap (λ ps. place_at ps p) places ∙ get_or-set_same v.places p (WaitTurn waiter.0) Out known in
@@ -288,18 +312,18 @@ module _ (p : ℕ) (e : End) (new v : RwLock) (laws : IsRwLock v) (free : holder
       subst (λ x. GaveTurnWay p v x new) (sym rest.0) (subst (λ m. GaveTurnWay p v (Refused Starved) m) (sym rest.1) so)
   gave _ mid g back rest places same limit = absurd back
 
-  by_turn : (k : TurnEnded p e new (Polls p e new v) waiter.0 v) → turn.Took p k.turn_end k.mid.turn ⊎ turn.GaveWay p v.turn k.turn_end k.mid.turn → TookTurn p e new ⊎ GaveTurnWay p v e new
-  by_turn k (inl took) = inl (got k.turn_end k.mid took.0 k.rest k.places k.limit)
-  by_turn k (inr g) = inr (gave k.turn_end k.mid g g.stands_back k.rest k.places (k.no_writer, k.no_readers) k.limit)
+  by_turn : HasEnough memory v p → (k : TurnEnded memory p e new (Polls memory p e new v) waiter.0 v) → turn.Took p k.turn_end k.mid.turn ⊎ turn.GaveWay p v.turn k.turn_end k.mid.turn → TookTurn p e new ⊎ GaveTurnWay p v e new
+  by_turn enough k (inl took) = inl (got k.turn_end k.mid enough took.0 k.rest k.places k.limit)
+  by_turn enough k (inr g) = inr (gave k.turn_end k.mid g g.stands_back k.rest k.places (k.no_writer, k.no_readers) k.limit)
 
   -- the poll takes the turn or gives way
-  pub either : PollsAlone p e new v → TookTurn p e new ⊎ GaveTurnWay p v e new
-  either polls =
-      let k = turn_polls p e new waiter.0 v known waiter.1 polls in
-      by_turn k (law.takes_or_gives_way p k.turn_end k.mid.turn called_there k.polls)
+  pub either : memory ≡ true → PollsAlone memory p e new v → TookTurn p e new ⊎ GaveTurnWay p v e new
+  either found polls =
+      let k = turn_polls memory p e new waiter.0 v known waiter.1 polls in
+      by_turn (λ is_write some. found) k (law.takes_or_gives_way p k.turn_end k.mid.turn called_there (subst (λ b. turn.PollsAlone b p k.turn_end k.mid.turn v.turn) found k.polls))
 
   -- that of a starved party gives way to nobody, and nobody gives way where none is starved
-  pub must_take : IsStarved v.turn p ⊎ (starved v.turn ≡ 0) → PollsAlone p e new v → TookTurn p e new
-  must_take why polls =
-      let k = turn_polls p e new waiter.0 v known waiter.1 polls in
-      got k.turn_end k.mid (law.takes p k.turn_end k.mid.turn called_there why k.polls).0 k.rest k.places k.limit
+  pub must_take : HasEnough memory v p → IsStarved v.turn p ⊎ (starved v.turn ≡ 0) → PollsAlone memory p e new v → TookTurn p e new
+  must_take enough why polls =
+      let k = turn_polls memory p e new waiter.0 v known waiter.1 polls in
+      got k.turn_end k.mid enough (law.takes memory p k.turn_end k.mid.turn called_there why k.polls).0 k.rest k.places k.limit

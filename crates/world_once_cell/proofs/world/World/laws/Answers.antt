@@ -3,7 +3,7 @@ use Rattle.world_once_cell.proofs.laws.Sound.{sound, awake}
 use Rattle.world_once_cell.proofs.world.World.laws.Goals as goal
 
 pub returns-clause-sound : goal.returns-clause-sound
-returns-clause-sound c = rw (← c.self.view_is) (sound c.self.inside.table (rw c.machine.ensures at c.laws-2.ensures) c.laws.ensures.fits)
+returns-clause-sound c = rw (← c.self.view_is) (sound c.self.inside.table (rw c.machine.ensures at c.laws-2.ensures) c.laws.ensures.fits c.self.invariant)
 
 pub returns-clause-awake : goal.returns-clause-awake
-returns-clause-awake c = rw (← c.self.view_is) (λ rests. awake c.self.inside.table (rw c.machine.ensures at c.laws-2.ensures) c.laws.ensures.fits rests)
+returns-clause-awake c = rw (← c.self.view_is) (λ rests. awake c.self.inside.table (rw c.machine.ensures at c.laws-2.ensures) c.laws.ensures.fits c.self.invariant rests)

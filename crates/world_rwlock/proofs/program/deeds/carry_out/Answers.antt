@@ -60,11 +60,7 @@ pub returns-in-NotifyNoReaders : goal.returns-in-NotifyNoReaders
 returns-in-NotifyNoReaders c = rw c.in-NotifyNoReaders.is (record { word = refl; no_writer = refl; no_readers = ap (λ q. q.entries) c.notify-in-NotifyNoReaders.ensures; parties_w = refl; parties_r = ap (λ q. q.parties) c.notify-in-NotifyNoReaders.ensures; turn = refl; memory = _ })
 
 pub returns-in-Begin : goal.returns-in-Begin
-returns-in-Begin c =
-    let e = c.begin.ensures in
-    rw c.in-Begin.is (record { word = refl; no_writer = refl; no_readers = refl; parties_w = refl; parties_r = refl; turn = record { leads = e.leads; legal = e.legal; at_once = e.at_once; fair = e.fair; bounded = e.bounded; unrefused = e.unrefused; patient = e.patient; hands_on = e.hands_on; done = e.done }; memory = _ })
+returns-in-Begin c = rw c.in-Begin.is (record { word = refl; no_writer = refl; no_readers = refl; parties_w = refl; parties_r = refl; turn = c.begin.ensures; memory = _ })
 
 pub returns-in-Go : goal.returns-in-Go
-returns-in-Go c =
-    let e = c.go.ensures in
-    rw c.in-Go.is (record { word = refl; no_writer = refl; no_readers = refl; parties_w = refl; parties_r = refl; turn = record { leads = e.leads; legal = e.legal; fair = e.fair; falls = e.falls; clock = e.clock; patient = e.patient; hands_on = e.hands_on; done = e.done }; memory = _ })
+returns-in-Go c = rw c.in-Go.is (record { word = refl; no_writer = refl; no_readers = refl; parties_w = refl; parties_r = refl; turn = c.go.ensures; memory = _ })

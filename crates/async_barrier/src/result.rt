@@ -1,0 +1,35 @@
+//! What a wait at a barrier gives.
+//!
+//! It stands apart, so that no other module can make one but of an arrival's evidence.
+
+ghost use Rattle.std.specs.Prelude.{◌≡◌};
+
+use crate::arrivals::Verdict;
+
+/// How a wait at a barrier has ended.
+///
+/// It is made of the evidence that the arrival has: that it finished its generation, or found it finished.
+#[derive(Debug, Clone, Drop)]
+pub struct BarrierWaitResult {
+    is_leader: bool,
+}
+
+impl BarrierWaitResult {
+    ghost use Rattle.async_barrier.specs.Counts.{leads};
+
+    // It is what the evidence tells.
+    pub(crate) fn new(verdict: Verdict) -> BarrierWaitResult
+        ensures { result.is_leader ≡ leads verdict }
+    {
+        BarrierWaitResult {
+            is_leader: verdict.told(),
+        }
+    }
+
+    /// Whether this wait was the arrival that finished its generation. Of each generation exactly one is.
+    pub fn is_leader(&self) -> bool
+        ensures { result ≡ self.now.is_leader }
+    {
+        self.is_leader
+    }
+}

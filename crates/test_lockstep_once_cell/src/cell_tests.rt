@@ -1,0 +1,93 @@
+//! The once-cell's parties beside their World.
+
+use crate::cell::CellShell;
+use crate::setting::{Setting, Table};
+use boxcar::Vec as Ground;
+use lockstep::{Bench, Order, Walk, walk_by_chance, walk_states};
+use once_cell_driver::RawCell;
+use std::alloc::{AllocGlobal, Global};
+use std::process::Abort;
+use std::sync::Wait;
+
+const MANY: usize = 10_000_000;
+
+fn setting<'g>(alloc: Global, ground: &'g Ground<RawCell<u64>>, parties: u32) -> Setting<'g> {
+    Setting {
+        alloc,
+        parties,
+        table: Table::Own,
+        ground,
+    }
+}
+
+// Each walk that was refused memory, and so is none, is begun once more.
+
+fn through_states<R: Wait>(bench: &Bench<R>, setting: Setting<'_>, order: Order) -> Option<Walk> {
+    match walk_states::<CellShell<'_>, R>(bench, setting, order, MANY) {
+        None => walk_states::<CellShell<'_>, R>(bench, setting, order, MANY),
+        walk => walk,
+    }
+}
+
+fn by_chance<R: Wait>(bench: &Bench<R>, setting: Setting<'_>) -> Option<Walk> {
+    match walk_by_chance::<CellShell<'_>, R>(bench, setting, 17, 1000, 100) {
+        None => walk_by_chance::<CellShell<'_>, R>(bench, setting, 17, 1000, 100),
+        walk => walk,
+    }
+}
+
+// Stops the test with the schedule at the end of which shell and World differ.
+fn expect_alike<R: Abort>(bench: &Bench<R>, walk: Option<Walk>) {
+    let walk = walk.expect(bench.rt(), "memory for a walk");
+    assert_eq!(bench.rt(); walk.difference, None);
+}
+
+#[test]
+fn two_parties_go_on_alike_in_each_state(rt: HostRuntime) {
+    let alloc = rt.alloc();
+    if let (Ok(ground), Some(bench)) = (Ground::new(alloc), Bench::new(rt, 2)) {
+        let of_two = setting(alloc, &ground, 2);
+        expect_alike(&bench, through_states(&bench, of_two, Order::Far));
+    }
+}
+
+#[test]
+fn three_parties_go_on_alike_in_each_state(rt: HostRuntime) {
+    let alloc = rt.alloc();
+    if let (Ok(ground), Some(bench)) = (Ground::new(alloc), Bench::new(rt, 3)) {
+        let of_three = setting(alloc, &ground, 3);
+        expect_alike(&bench, through_states(&bench, of_three, Order::Far));
+    }
+}
+
+#[test]
+fn four_parties_go_alike_by_chance(rt: HostRuntime) {
+    let alloc = rt.alloc();
+    if let (Ok(ground), Some(bench)) = (Ground::new(alloc), Bench::new(rt, 4)) {
+        let of_four = setting(alloc, &ground, 4);
+        expect_alike(&bench, by_chance(&bench, of_four));
+    }
+}
+
+// A walk beside a World of another table, by as few deeds as may be: how many moves show it.
+fn shown_by<R: Wait + Abort>(bench: &Bench<R>, setting: Setting<'_>, table: Table) -> usize {
+    let walk = through_states(bench, Setting { table, ..setting }, Order::Near);
+    match walk.expect(bench.rt(), "memory for a walk").difference {
+        Some(moves) => moves.len(),
+        None => 0,
+    }
+}
+
+#[test]
+fn a_row_that_is_exchanged_is_seen(rt: HostRuntime) {
+    let alloc = rt.alloc();
+    if let (Ok(ground), Some(bench)) = (Ground::new(alloc), Bench::new(rt, 2)) {
+        let of_two = setting(alloc, &ground, 2);
+        // One that waits looks at the empty cell, and joins.
+        let joins = shown_by(&bench, of_two, Table::JoinsExchanged);
+        assert_eq!(bench.rt(); joins, 2, "moves show an exchanged join");
+        // One that would make claims the empty cell, and asks its maker.
+        let makers = shown_by(&bench, of_two, Table::MakersExchanged);
+        assert_eq!(bench.rt(); makers, 2, "moves show an exchanged maker");
+    }
+}
