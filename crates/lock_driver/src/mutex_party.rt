@@ -464,7 +464,7 @@ impl<T> MutexParty<T> {
                 self.is_counted(raw);
                 Some(Found::Done)
             }
-            Counting::AtLimit { .. } => {
+            Counting::AtLimit(_) => {
                 if self.entry.is_none() {
                     owe(&mut self.owed, raw.words.list().id());
                 }

@@ -41,8 +41,8 @@ left_by_alone (alone.Got hold) owed = owed
 left_by_alone alone.Held owed = None
 left_by_alone alone.FreeWithOthers owed = owed
 
--- It counts the seat, or changes nothing, and says that the limit was met only of so many.
+-- It counts the seat, or changes nothing, and says that the limit was met where a look found so many.
 abbrev pub OnCounting : ℕ → Counting → Type 0 → Type 0 → Type 0
 OnCounting limit Counted counted not = counted
-OnCounting limit (AtLimit starved) counted not = (limit ≤ starved) × not
+OnCounting limit (AtLimit full) counted not = (limit ≤ full.starved) × not
 OnCounting limit Changed counted not = not

@@ -2,6 +2,7 @@
 
 ghost use Rattle.std.specs.Prelude.{◌≡◌, ◌%◌};
 
+use crate::look::Full;
 use lock_place::Hold;
 
 /// What [`take`](crate::Words::take) found.
@@ -53,11 +54,8 @@ impl WasHeld {
 pub enum Counting {
     /// The seat is counted as starved now.
     Counted,
-    /// So many are starved, as may be.
-    AtLimit {
-        /// How many are.
-        starved: u64,
-    },
+    /// As many are starved as may be: a look has found so many.
+    AtLimit(Full),
     /// The word changed meanwhile: try again.
     Changed,
 }

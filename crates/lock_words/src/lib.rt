@@ -15,5 +15,6 @@ mod words;
 
 pub use found::{Counting, Setting, Taking, TakingAlone};
 pub use lock_place::{Hold, Room};
+pub use look::Full;
 pub use seat::Seat;
 pub use words::{STARVED_LIMIT, Words};

@@ -1,8 +1,9 @@
 //! Looks at a lock's word.
 //!
-//! A [`Look`] is made here alone, by who has looked. So who has one that found the lock held has found it held.
+//! A [`Look`] is made here alone, by who has looked. So who has one that found the lock held has found it held, and a [`Full`] is
+//! made of a look alone.
 
-ghost use Rattle.std.specs.Prelude.{◌≡◌, ◌+◌, ◌≤◌, ◌%◌};
+ghost use Rattle.std.specs.Prelude.{◌≡◌, ◌+◌, ◌≤◌, ◌<◌, ◌%◌, ◌/◌, IfSome, IfNone};
 ghost use mathlib.Core.Option.{none};
 ghost use Rattle.atomic_table.specs.Table.{step};
 ghost use Rattle.lock_words.specs.Steps.{Took};
@@ -21,6 +22,8 @@ pub(crate) const WORD: usize = 0;
 
 pub(crate) const HELD: u64 = 1;
 
+const STARVED: u64 = 2;
+
 /// What a look found in the word.
 #[derive(Drop)]
 pub(crate) struct Look {
@@ -34,6 +37,33 @@ impl Look {
         ensures { result ≡ self.now.word }
     {
         self.word
+    }
+
+    /// Whether it found as many starved as may be.
+    pub(crate) fn full(&self, limit: u64) -> Option<Full>
+        ensures full { IfSome result (λ full. (limit ≤ full.starved) × (full.starved ≡ self.now.word / 2)) }
+        ensures below { IfNone result (self.now.word / 2 < limit) }
+    {
+        let starved = self.word / STARVED;
+        if starved < limit {
+            return None;
+        }
+        Some(Full { starved })
+    }
+}
+
+/// A look found as many starved as may be. It is made of such a look alone.
+#[derive(Clone, Copy, PartialEq, Eq)]
+pub struct Full {
+    starved: u64,
+}
+
+impl Full {
+    /// How many the look found.
+    pub fn starved(self) -> u64
+        ensures { result ≡ self.starved }
+    {
+        self.starved
     }
 }
 

@@ -303,7 +303,7 @@ impl<T> Words<T> {
     }
 
     /// Counts the seat as starved: one try, which says by name where as many seats are counted as may be
-    /// (`limit`) and where the word changed meanwhile. In both cases nothing changes.
+    /// (`limit`), as a look found (`Full`), and where the word changed meanwhile. In both cases nothing changes.
     ///
     /// By the table's rule no count passes [`STARVED_LIMIT`].
     pub fn count(&self, seat: &mut Seat<T>) -> Counting
@@ -312,12 +312,11 @@ impl<T> Words<T> {
         ensures { OnCounting self.now.limit result (seat.new ≡ counted seat.old) (seat.new ≡ seat.old) }
     {
         let shared = &self.table.shared;
-        let found = shared.peek(WORD);
-        if found / STARVED >= self.limit {
-            return Counting::AtLimit {
-                starved: found / STARVED,
-            };
+        let look = peek(shared);
+        if let Some(full) = look.full(self.limit) {
+            return Counting::AtLimit(full);
         }
+        let found = look.word();
         let more = found + STARVED;
         if shared.compare_exchange::<Count>(&mut seat.inner, WORD, found, more) == found {
             Counting::Counted
