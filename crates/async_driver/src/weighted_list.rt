@@ -11,7 +11,7 @@ ghost use Rattle.lock_event.specs.Weights.{fitted};
 use crate::duty::{Flag, ListKey, Owed};
 use crate::list_id::ListId;
 use crate::task_id::TaskId;
-use crate::waiting_list::{Polled, task_of};
+use crate::waiting_list::{Polled, Wakes, task_of};
 use futures::task::{Context, Poll, Source, Waker};
 use lock_event::{Asked, EntryId, Memory, WeightedEvent};
 use std::alloc::Global;
@@ -51,15 +51,15 @@ pub enum WeightedHeard {
 ///
 /// No contract sees through the list's lock: what the calls do to the list is what the functions of [`WeightedEvent`]
 /// say, and tested.
-pub struct WeightedList {
+pub struct WeightedList<W: Wakes> {
     // Which list it is. Nobody registers with it.
     name: Source,
     is_listed: Flag,
-    entries: Mutex<WeightedEvent<Waker>>,
+    entries: Mutex<WeightedEvent<W>>,
 }
 
 // By hand, so that a drop is one call to prove, and not all of its parts again.
-impl Drop for WeightedList {
+impl<W: Wakes> Drop for WeightedList<W> {
     fn drop(self) {
         let WeightedList {
             name: _,
@@ -69,9 +69,9 @@ impl Drop for WeightedList {
     }
 }
 
-impl WeightedList {
+impl<W: Wakes> WeightedList<W> {
     /// Creates an empty list, and its key. It takes no memory.
-    pub fn new(alloc: Global) -> (WeightedList, ListKey)
+    pub fn new(alloc: Global) -> (WeightedList<W>, ListKey)
         ensures { result.1.list.id ≡ result.0.name.id }
     {
         let name = Source::new();
@@ -126,21 +126,17 @@ impl WeightedList {
         }
     }
 
-    /// Polls this entry, for the task of `cx`. A notified entry leaves the list. A waiting one keeps a waker of the task,
-    /// which has registered with `source`; a waker of the same task that it keeps already stays.
-    ///
-    /// A waiting entry is the receipt of that (`waits`). An entry that isn't there counts as notified.
-    pub fn poll<R: Wait>(
+    /// Asks for the notification of this entry, by [`WeightedEvent::ask`], with a waker in hand. A notified entry leaves the list. A
+    /// waiting one keeps the waker, and what it kept before is in hand instead. It is [`WeightedList::poll`] for other wakers
+    /// than the kit's.
+    pub fn ask<R: Wait>(
         &self,
         rt: &R,
         entry: WeightedListed,
-        source: &Source,
-        cx: &mut Context<'_>,
+        waker: &mut Option<W>,
     ) -> WeightedHeard
         requires { entry.list.id ≡ self.now.name.id }
-        ensures list { IsOf self.now.name.id entry.weight result }
-        ensures waits { OnWaiting result (λ entry. IsKept cx.new entry.keeps × Covers cx.new (λ s. s ≡ source.now.id)) }
-        ensures kept { Keeps cx.old cx.new }
+        ensures { IsOf self.now.name.id entry.weight result }
     {
         let WeightedListed {
             id,
@@ -148,16 +144,28 @@ impl WeightedList {
             keeps: _,
             weight,
         } = entry;
-        let polled = poll_locked(&mut self.entries.lock(rt), &self.is_listed, id, source, cx);
-        match polled {
-            Polled::Waiting(keeps) => WeightedHeard::Waiting(WeightedListed {
-                id,
-                list,
-                keeps,
-                weight,
-            }),
-            Polled::Notified(waker) => {
-                drop(waker);
+        let asked = ask_locked(
+            &mut self.entries.lock(rt),
+            &self.is_listed,
+            id,
+            waker.take(),
+        );
+        match asked {
+            Asked::Waiting { kept } => {
+                *waker = kept;
+                WeightedHeard::Waiting(WeightedListed {
+                    id,
+                    list,
+                    keeps: None,
+                    weight,
+                })
+            }
+            Asked::Notified { kept, unused } => {
+                *waker = unused.or(kept);
+                WeightedHeard::Notified(Owed::new(list))
+            }
+            Asked::Unlisted { unused } => {
+                *waker = unused;
                 WeightedHeard::Notified(Owed::new(list))
             }
         }
@@ -205,10 +213,49 @@ impl WeightedList {
     }
 }
 
+impl WeightedList<Waker> {
+    /// Polls this entry, for the task of `cx`. A notified entry leaves the list. A waiting one keeps a waker of the task,
+    /// which has registered with `source`; a waker of the same task that it keeps already stays.
+    ///
+    /// A waiting entry is the receipt of that (`waits`). An entry that isn't there counts as notified.
+    pub fn poll<R: Wait>(
+        &self,
+        rt: &R,
+        entry: WeightedListed,
+        source: &Source,
+        cx: &mut Context<'_>,
+    ) -> WeightedHeard
+        requires { entry.list.id ≡ self.now.name.id }
+        ensures list { IsOf self.now.name.id entry.weight result }
+        ensures waits { OnWaiting result (λ entry. IsKept cx.new entry.keeps × Covers cx.new (λ s. s ≡ source.now.id)) }
+        ensures kept { Keeps cx.old cx.new }
+    {
+        let WeightedListed {
+            id,
+            list,
+            keeps: _,
+            weight,
+        } = entry;
+        let polled = poll_locked(&mut self.entries.lock(rt), &self.is_listed, id, source, cx);
+        match polled {
+            Polled::Waiting(keeps) => WeightedHeard::Waiting(WeightedListed {
+                id,
+                list,
+                keeps,
+                weight,
+            }),
+            Polled::Notified(waker) => {
+                drop(waker);
+                WeightedHeard::Notified(Owed::new(list))
+            }
+        }
+    }
+}
+
 // The calls as they are under the list's lock.
 
-fn join_locked(
-    entries: &mut WeightedEvent<Waker>,
+fn join_locked<W: Wakes>(
+    entries: &mut WeightedEvent<W>,
     is_listed: &Flag,
     weight: u64,
 ) -> Result<EntryId, Memory>
@@ -219,19 +266,30 @@ fn join_locked(
     joined
 }
 
-// Whether the entry was notified, and what it kept.
-fn remove_locked(
-    entries: &mut WeightedEvent<Waker>,
+fn ask_locked<W: Wakes>(
+    entries: &mut WeightedEvent<W>,
     is_listed: &Flag,
     id: EntryId,
-) -> (bool, Option<Waker>) {
+    waker: Option<W>,
+) -> Asked<W> {
+    let asked = entries.ask(id, waker);
+    is_listed.follow_weighted(entries);
+    asked
+}
+
+// Whether the entry was notified, and what it kept.
+fn remove_locked<W: Wakes>(
+    entries: &mut WeightedEvent<W>,
+    is_listed: &Flag,
+    id: EntryId,
+) -> (bool, Option<W>) {
     let removed = entries.withdraw(id);
     is_listed.follow_weighted(entries);
     removed
 }
 
 // Notifies one entry for which so many are enough: the waker that is due.
-fn fit_locked(entries: &mut WeightedEvent<Waker>, available: u64, owed: Owed) -> Option<Waker> {
+fn fit_locked<W: Wakes>(entries: &mut WeightedEvent<W>, available: u64, owed: Owed) -> Option<W> {
     owed.fit(entries, available);
     entries.next_waker()
 }

@@ -9,7 +9,7 @@ ghost use Rattle.words_semaphore.specs.Tries.{OnTaking, OnRaising};
 
 use crate::duty::Keys;
 use async_driver::{Owed, WeightedHeard, WeightedList, WeightedListed, put};
-use futures::task::{Context, Source};
+use futures::task::{Context, Source, Waker};
 use lock_event::Memory;
 use std::alloc::{AllocError, Global};
 use std::marker::Model;
@@ -54,7 +54,7 @@ pub struct Lowered {
 /// A semaphore's words and its list. Contracts see the words, and which list it is.
 pub struct Stock {
     words: Words,
-    list: WeightedList,
+    list: WeightedList<Waker>,
     pub(crate) keys: Keys,
 }
 

@@ -28,6 +28,4 @@ mod stories;
 #[cfg(test)]
 mod surface;
 #[cfg(test)]
-mod unlocked;
-#[cfg(test)]
 mod values;

@@ -114,7 +114,7 @@ fn counted<T>(words: &Words<T>) -> Option<Starved<'_, T>> {
     let mut seat = words.sit();
     match words.count(&mut seat) {
         Counting::Counted => Some(Starved { words, seat }),
-        Counting::AtLimit { .. } | Counting::Changed => {
+        Counting::AtLimit(_) | Counting::Changed => {
             seat.rise();
             None
         }

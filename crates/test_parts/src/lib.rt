@@ -1,4 +1,4 @@
-//! Tests of both lists, of a value in place and of the words of a mutex, by their public calls. They stand in a crate
+//! Tests of a value in place and of the words of a mutex, by their public calls. They stand in a crate
 //! above all of these, so that none is proved a second time with its own tests. There is nothing else here, and no
 //! crate stands on it.
 //!
@@ -11,8 +11,6 @@
 #[cfg(test)]
 mod drops;
 #[cfg(test)]
-mod event;
-#[cfg(test)]
 mod found;
 #[cfg(test)]
 mod place;
@@ -21,12 +19,6 @@ mod same;
 #[cfg(test)]
 mod settled;
 #[cfg(test)]
-mod text;
-#[cfg(test)]
 mod threads;
-#[cfg(test)]
-mod wait_queue;
-#[cfg(test)]
-mod weighted_queue;
 #[cfg(test)]
 mod words;

@@ -1,7 +1,7 @@
 use Rattle.std.proofs.Common.{◌<◌, sym, subst, ◌∙◌, ap, add-one, drop}
 use Rattle.world_base.specs.queue.Parties.{entries_of}
-use Rattle.test_parts.proofs.Listed.{found, missed}
-use Rattle.test_parts.proofs.weighted_queue.is_listed.Goals as goal
+use Rattle.test_lists.proofs.Listed.{found, missed}
+use Rattle.test_lists.proofs.weighted_queue.is_listed.Goals as goal
 
 pub returns-then-entry-party : goal.returns-then-entry-party
 returns-then-entry-party c =

@@ -2,76 +2,13 @@
 
 ghost use Rattle.std.specs.Prelude.{◌≡◌, IfSome};
 
+use crate::meeting::{Looks, Meeting, had_each};
 use crate::same::assert_same;
-use async_driver::{Heard, Listed, Owed, WaitingList, Wakes};
+use async_driver::{Heard, Listed, Owed, WaitingList};
 use std::alloc::AllocGlobal;
-use std::sync::atomic::{AtomicU64, Ordering};
 use std::sync::{Arc, Wait};
 use std::thread;
 use std::thread::Threads;
-
-/// Where wakers and the thread that looks after them meet.
-#[derive(Drop)]
-struct Meeting {
-    /// How many wakers were called or dropped.
-    called: AtomicU64,
-    /// How often the other thread had the list's lock, once for each of these.
-    had: AtomicU64,
-    /// How many wakers saw that while they were called.
-    met: AtomicU64,
-}
-
-impl Meeting {
-    fn new() -> Meeting {
-        Meeting {
-            called: AtomicU64::new(0),
-            had: AtomicU64::new(0),
-            met: AtomicU64::new(0),
-        }
-    }
-
-    /// A waker is called: it waits until the other thread had the lock, for so many looks at most.
-    fn meet(&self) {
-        let mine = self.called.fetch_add(1, Ordering::SeqCst).wrapping_add(1);
-        if has_come(&self.had, mine) {
-            self.met.fetch_add(1, Ordering::SeqCst);
-        }
-    }
-
-    fn met(&self) -> u64 {
-        self.met.load(Ordering::SeqCst)
-    }
-}
-
-/// Waits until a count has come so far, for so many looks at most, and says whether it has.
-fn has_come(count: &AtomicU64, far: u64) -> bool {
-    for _ in 0..10_000_000u32 {
-        if count.load(Ordering::SeqCst) >= far {
-            return true;
-        }
-        thread::yield_now();
-    }
-    false
-}
-
-/// A waker that looks whether the list's lock is free, when it is called or dropped.
-struct Looks {
-    meeting: Arc<Meeting>,
-}
-
-impl Drop for Looks {
-    fn drop(self) {
-        let Self { meeting } = self;
-        meeting.meet();
-        drop(meeting);
-    }
-}
-
-impl Wakes for Looks {
-    fn wake(self) {
-        drop(self);
-    }
-}
 
 /// A new entry. Where memory is refused, it is tried once more.
 fn joined<R: Wait>(rt: &R, list: &WaitingList<Looks>) -> Option<Listed>
@@ -145,11 +82,9 @@ fn tell<R: Wait>(rt: &R, list: &WaitingList<Looks>, meeting: &Arc<Meeting>) {
 
 /// Takes the list's lock once for each of four wakers, while that one is called.
 fn look<R: Wait>(rt: &R, list: &WaitingList<Looks>, meeting: &Meeting) {
-    for round in 1..5u64 {
-        has_come(&meeting.called, round);
+    had_each(meeting, || {
         list.entry(rt, 0);
-        meeting.had.store(round, Ordering::SeqCst);
-    }
+    });
 }
 
 /// Plays both parts, each in a thread, and says whether the system started the other one.
