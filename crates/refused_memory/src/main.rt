@@ -76,7 +76,9 @@ where
     Some((borrowed, owned, many, as_owner))
 }
 
-fn cells<R>(book: &Book<R>, counts: &Counts) -> Option<(u64, u64, (u64, u64), (u64, u64), u64)>
+type Cells = (u64, (u64, u64, u64, u64, u64), (u64, u64), (u64, u64), u64);
+
+fn cells<R>(book: &Book<R>, counts: &Counts) -> Option<Cells>
 where
     R: Wait + Clock + Eprint + RandomSource + AllocGlobal + Copy + Drop,
 {

@@ -80,13 +80,13 @@ where
     }
 }
 
-/// What blocks where it need not wait: a maker that fails, one that makes, a set that comes too late; the value is taken out, and
-/// set again.
+/// What blocks where it need not wait: a maker that fails, one that makes, a wait, a set that comes too late; the value is taken
+/// out, and that of the late set put in. What failed, and the values' numbers.
 pub(crate) fn blocking<'c, R>(
     book: &Book<R>,
     counts: &'c Counts,
     cell: &mut OnceCell<Token<'c>, R>,
-) -> Option<u64>
+) -> Option<(u64, u64, u64, u64, u64)>
 where
     R: Wait + Clock + Eprint + RandomSource + AllocGlobal + Copy + Drop,
 {
@@ -107,7 +107,7 @@ where
     let late = come_too_late(book, cell, counts.token(2))?;
     let taken = cell.take()?;
     let put = set_blocking(book, cell, late)?;
-    Some(fault + 10 * made + 100 * waited + 1000 * taken.number + 10_000 * put)
+    Some((fault, made, waited, taken.number, put))
 }
 
 /// An initialisation that is the first to wait, behind a maker that is dropped.
