@@ -1,7 +1,7 @@
 //! The calls of a read-write lock.
 
 ghost use Rattle.std.specs.Prelude.{◌≡◌, IfErr, IfOk, IfSome, None};
-ghost use Rattle.async_rwlock.specs.Stages.{IsFor};
+ghost use Rattle.async_rwlock.specs.Stages.{IsFor, IsOf};
 ghost use Rattle.rwlock_driver.specs.Polls.{Refuses};
 ghost use Rattle.rwlock_driver.specs.declared.aim.Aim.TheVariants as aims;
 ghost use Rattle.std.specs.Arc.{arc_value};
@@ -56,9 +56,9 @@ impl<T, R: Wait> RwLock<T, R> {
         Some(WriteGuard::new(self, seat))
     }
 
-    /// Returns a future of a right to read, which does nothing until it is polled.
+    /// Returns a future of a right to read of this lock, which does nothing until it is polled.
     pub fn read(&self) -> Read<'_, T, R>
-        ensures lock { IsFor (λ o. o.now) result.stage self.now }
+        ensures lock { IsOf (λ o. o.now) result.stage self.now }
         ensures waiting { result.waiting ≡ None }
     {
         ReadFuture::new(Stage::Waits(self))
@@ -66,7 +66,7 @@ impl<T, R: Wait> RwLock<T, R> {
 
     /// Returns a future of the right to read that can become a right to write, which does nothing until it is polled.
     pub fn upgradable_read(&self) -> UpgradableRead<'_, T, R>
-        ensures lock { IsFor (λ o. o.now) result.stage self.now }
+        ensures lock { IsOf (λ o. o.now) result.stage self.now }
         ensures waiting { result.waiting ≡ None }
     {
         UpgradableFuture::new(Stage::Waits(self))
@@ -74,7 +74,7 @@ impl<T, R: Wait> RwLock<T, R> {
 
     /// Returns a future of the right to write, which does nothing until it is polled.
     pub fn write(&self) -> Write<'_, T, R>
-        ensures lock { IsFor (λ o. o.now) result.stage self.now }
+        ensures lock { IsOf (λ o. o.now) result.stage self.now }
         ensures waiting { result.waiting ≡ None }
     {
         WriteFuture::new(Stage::Waits(self))

@@ -51,6 +51,7 @@ pub(crate) fn first<T, R, O: Owns<T, R>>(share: Option<O>) -> Stage<O>
 }
 
 // One poll by who has the lock.
+#[inline]
 fn poll_stage<T, R: Wait + Clock, O: Owns<T, R>>(
     aim: Aim,
     stage: &Stage<O>,
@@ -76,6 +77,7 @@ fn poll_stage<T, R: Wait + Clock, O: Owns<T, R>>(
 }
 
 /// One poll of a future of this aim.
+#[inline]
 pub(crate) fn poll_as<T, R: Wait + Clock, O: Owns<T, R>>(
     aim: Aim,
     stage: &mut Stage<O>,

@@ -42,6 +42,7 @@ impl<T, R: Wait, O: Owns<T, R>> Model for WriteFuture<T, R, O> {
 }
 
 impl<T, R: Wait, O: Owns<T, R>> WriteFuture<T, R, O> {
+    #[inline]
     pub(crate) fn new(stage: Stage<O>) -> WriteFuture<T, R, O>
         requires { is_finished stage ≡ false }
         ensures { result ≡ future stage None }
@@ -64,6 +65,7 @@ impl<T, R: Wait + Clock, O: Owns<T, R>> WriteFuture<T, R, O> {
     ///
     /// Pending, it has an entry in the list of what it wants next, which keeps a waker of the task that polls (`receipt`). The task
     /// has registered with the lock's source (`registered`), and keeps what it had registered before (`kept`).
+    #[inline]
     pub fn poll(&mut self, cx: &mut Context<'_>) -> Turn<WriteGuard<T, R, O>>
         ensures turn { IsTurn aims.Write (λ guard. IsOf O.lock_of self.old.stage guard.lock) (is_finished self.old.stage) result (is_finished self.new.stage) }
         ensures share { is_finished self.new.stage ≡ false → self.new.stage ≡ self.old.stage }
@@ -96,6 +98,7 @@ impl<T, R: Wait + Clock, O: Owns<T, R>> Polled for WriteFuture<T, R, O> {
 }
 
 impl<T, R: Wait, O: Owns<T, R>> Drop for WriteFuture<T, R, O> {
+    #[inline]
     fn drop(self) {
         let Self {
             stage,

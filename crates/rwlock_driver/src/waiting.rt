@@ -29,11 +29,12 @@ use crate::aim::{Aim, Call};
 use crate::finding::Standing;
 use crate::party::RwLockParty;
 use crate::raw::RawRwLock;
-use async_driver::{Carries, put};
+use async_driver::{Carries, nothing, put};
 use futures::task::Context;
 use lock_program::mutex::Place as TurnPlace;
 use lock_program::rwlock::{Place, Wanted};
 use lock_program::{End, Refusal};
+use std::mem;
 use std::sync::Wait;
 use std::time::Clock;
 use words_rwlock::{Readers, Seat};
@@ -261,9 +262,34 @@ impl RawRwLock {
         self.unlock(rt, seat);
     }
 
-    // The rest of a first poll that has the turn by this seat, from this place of it on.
-    #[inline(never)]
+    // The rest of a first poll that has the turn by this seat, from this place of it on. It works on an option of its own, so that a
+    // future that is ready at once need not have its party in memory.
+    #[inline]
     fn go_on<R: Wait + Clock>(
+        &self,
+        rt: &R,
+        cx: &mut Context<'_>,
+        aim: Aim,
+        seat: Seat,
+        at: Place,
+        waiting: &mut Option<Waiting>,
+    ) -> Outcome
+        requires stands { IsBegun self.now seat at }
+        requires on_way { IsOnWay aim at }
+        requires none { waiting.old ≡ None }
+        ensures waits { IfSome waiting.new (WaitsFor self.now aim) }
+        ensures outcome { OnOutcome self.now aim cx.new result waiting.new }
+        ensures kept { Keeps cx.old cx.new }
+    {
+        let mut begun = None;
+        let outcome = self.go_apart(rt, cx, aim, seat, at, &mut begun);
+        put_back(waiting, begun);
+        outcome
+    }
+
+    // As `go_on`, of what has nothing yet.
+    #[inline(never)]
+    fn go_apart<R: Wait + Clock>(
         &self,
         rt: &R,
         cx: &mut Context<'_>,
@@ -289,9 +315,30 @@ impl RawRwLock {
         self.outcome(cx, aim, end, waiting)
     }
 
-    // One poll by the driver.
-    #[inline(never)]
+    // One poll by the driver, of what is moved out for it and back, as in `go_on`.
+    #[inline]
     fn poll_on<R: Wait + Clock>(
+        &self,
+        rt: &R,
+        cx: &mut Context<'_>,
+        aim: Aim,
+        waiting: &mut Option<Waiting>,
+    ) -> Outcome
+        requires waits { IfSome waiting.old (WaitsFor self.now aim) }
+        requires begun { aim ≡ aims.Upgrade → IsSome waiting.old }
+        ensures waits { IfSome waiting.new (WaitsFor self.now aim) }
+        ensures outcome { OnOutcome self.now aim cx.new result waiting.new }
+        ensures kept { Keeps cx.old cx.new }
+    {
+        let mut moved = waiting.take();
+        let outcome = self.poll_apart(rt, cx, aim, &mut moved);
+        put_back(waiting, moved);
+        outcome
+    }
+
+    // As `poll_on`, of what was moved out.
+    #[inline(never)]
+    fn poll_apart<R: Wait + Clock>(
         &self,
         rt: &R,
         cx: &mut Context<'_>,
@@ -419,6 +466,15 @@ impl RawRwLock {
     {
         self.words.rise(party.into_seat());
     }
+}
+
+// Puts back what was moved out.
+#[inline]
+fn put_back(waiting: &mut Option<Waiting>, moved: Option<Waiting>)
+    requires { waiting.old ≡ None }
+    ensures { waiting.new ≡ moved }
+{
+    nothing(mem::replace(waiting, moved));
 }
 
 // The party of a call that is over.
