@@ -274,23 +274,24 @@ impl Member {
 fn by_ways(place: Place, ways: Ways, calls: Calls, number: usize) -> Option<Deed> {
     match ways {
         Ways::Driver => Some(Deed::Begin(calls_at(place, calls, number)?)),
-        Ways::Public => Some(past_driver(calls_at(place, calls, number)?)),
+        Ways::Public => Some(past_driver(place, calls_at(place, calls, number)?)),
         Ways::Both => {
             let call = calls_at(place, calls, number / 2)?;
             if number % 2 == 0 {
                 Some(Deed::Begin(call))
             } else {
-                Some(past_driver(call))
+                Some(past_driver(place, call))
             }
         }
     }
 }
 
-// The deed that this call is past the driver, if it goes past it.
-fn past_driver(call: Call) -> Deed {
-    match call {
-        Call::Read | Call::UpgradableRead | Call::Write => Deed::First(call),
-        Call::Poll => Deed::Begin(call),
+// The deed that this call is past the driver, if it goes past it. A poll goes past it where it is the first of an upgrade.
+fn past_driver(place: Place, call: Call) -> Deed {
+    match (place, call) {
+        (_, Call::Read | Call::UpgradableRead | Call::Write)
+        | (Place::LookUnlisted { upgrade: true }, Call::Poll) => Deed::First(call),
+        (_, Call::Poll) => Deed::Begin(call),
         _ => Deed::Straight(call),
     }
 }

@@ -1,11 +1,12 @@
 //! The calls of a party that go past the driver, each whole, and first polls as the public types begin them.
 
 ghost use Rattle.rwlock_driver.specs.Parties.{Stands};
-ghost use Rattle.rwlock_driver.specs.Polls.{CanPoll, WaitsFor, got_at, right_of};
-ghost use Rattle.rwlock_driver.specs.Rights.{Has};
+ghost use Rattle.rwlock_driver.specs.Polls.{CanPoll, OnOutcome, WaitsFor, got_at, right_of};
+ghost use Rattle.lock_program.specs.declared.rwlock.Place.TheVariants as places;
+ghost use Rattle.rwlock_driver.specs.Rights.{Has, awaits};
 ghost use Rattle.rwlock_driver.specs.declared.aim.Aim.TheVariants as aims;
 ghost use Rattle.std.specs.Arc.{arc_value};
-ghost use Rattle.std.specs.Prelude.{◌≡◌, ◌≢◌, IfSome, IsSome};
+ghost use Rattle.std.specs.Prelude.{◌≡◌, ◌≢◌, true, IfSome, IsSome};
 
 use crate::party::{Party, end, new_party};
 use async_driver::nothing;
@@ -67,6 +68,17 @@ fn seat_of(shared: &RawRwLock, party: RwLockParty, place: Standing, aim: Aim) ->
     party.into_seat()
 }
 
+// The seat of a party whose upgrade has begun, and was never polled or was refused. Nothing else is left of the party.
+fn seat_awaiting(shared: &RawRwLock, party: RwLockParty, place: Standing) -> Seat
+    requires stands { Stands shared.now party place }
+    requires begun { place.at ≡ places.LookUnlisted true }
+    ensures { Has shared.now awaits result }
+{
+    let _ = shared;
+    let _ = place;
+    party.into_seat()
+}
+
 // A party that waits.
 fn waits(shared: Arc<RawRwLock>, waiting: Option<Waiting>, aim: Aim) -> Party
     requires some { IsSome waiting }
@@ -99,7 +111,8 @@ pub(crate) fn straight<R: Wait>(walker: &mut Party, bench: &Bench<R>, call: Call
     answer
 }
 
-/// A whole first poll of a party that has nothing, as the public types begin it: straight actions first, and then the driver.
+/// A whole first poll of a party that has nothing, or whose upgrade has begun, as the public types begin it: straight actions first,
+/// and then the driver.
 pub(crate) fn first_poll<R: Wait>(
     walker: &mut Party,
     bench: &Bench<R>,
@@ -139,6 +152,11 @@ fn called<R: Wait>(walker: Party, bench: &Bench<R>, call: Call) -> (Party, Answe
         Place::Writing => {
             let seat = seat_of(&shared, party, place, Aim::Write);
             of_writer(shared, bench, seat, call)
+        }
+        Place::LookUnlisted { upgrade: true } => {
+            let seat = seat_awaiting(&shared, party, place);
+            shared.cancel_upgrading(bench, seat);
+            (new_party(shared), GIVEN_BACK)
         }
         _ => of_waiting(
             Walker {
@@ -286,7 +304,7 @@ fn of_waiting<R: Wait>(walker: Party, bench: &Bench<R>) -> (Party, Answer) {
     }
 }
 
-// What becomes of a party that has nothing by a whole first poll, and its answer.
+// What becomes of a party that has nothing, or whose upgrade has begun, by a whole first poll, and its answer.
 fn polled_first<R: Wait>(
     walker: Party,
     bench: &Bench<R>,
@@ -306,6 +324,12 @@ fn polled_first<R: Wait>(
                 Call::UpgradableRead => polled(shared, bench, cx, Aim::UpgradableRead),
                 _ => polled(shared, bench, cx, Aim::Write),
             }
+        }
+        Place::LookUnlisted { upgrade: true } => {
+            let seat = seat_awaiting(&shared, party, place);
+            let mut waiting = None;
+            let outcome = shared.poll_upgrading(bench, cx, seat, &mut waiting);
+            ended(shared, outcome, waiting, Aim::Upgrade, cx)
         }
         _ => (
             Walker {
@@ -327,7 +351,23 @@ fn polled<R: Wait>(
     requires { aim ≢ aims.Upgrade }
 {
     let mut waiting = None;
-    match shared.poll_waiting(bench, cx, aim, &mut waiting) {
+    let outcome = shared.poll_waiting(bench, cx, aim, &mut waiting);
+    ended(shared, outcome, waiting, aim, cx)
+}
+
+// What becomes of a party whose first poll ended so, and the answer.
+fn ended(
+    shared: Arc<RawRwLock>,
+    outcome: Outcome,
+    waiting: Option<Waiting>,
+    aim: Aim,
+    cx: &mut Context<'_>,
+) -> (Party, Answer)
+    requires waits { IfSome waiting (WaitsFor (arc_value shared) aim) }
+    requires outcome { OnOutcome (arc_value shared) aim cx.old outcome waiting }
+{
+    let _ = cx;
+    match outcome {
         Outcome::Got(seat) => {
             nothing(waiting);
             (seated(shared, seat, aim), Answer::Ready(Got::Value(VALUE)))
