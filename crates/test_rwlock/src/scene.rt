@@ -210,22 +210,32 @@ where
     }
 }
 
+// As [`play`], each row at its time by this clock.
+fn play_timed<R, O, Q>(rt: &Q, lock: O, micros: &AtomicU64, rows: &[(u64, Row)]) -> bool
+where
+    R: Wait + Clock + RandomSource + AllocGlobal,
+    O: Form<R>,
+    Q: RandomSource + AllocGlobal + Abort,
+{
+    let Some(tasks) = Tasks::new(rt) else {
+        return false;
+    };
+    let mut scene = Scene::new(lock);
+    for (at, row) in rows.iter() {
+        micros.store(*at, Ordering::SeqCst);
+        scene.play(rt, &tasks, &[*row]);
+    }
+    true
+}
+
 /// As [`of_borrowed`], of a lock of 0 where at most so many may be starved for the turn, each row at its time, in microseconds.
 pub(crate) fn of_timed<R>(rt: R, starved: u64, rows: &[(u64, Row)]) -> bool
 where
     R: Wait + Clock + RandomSource + AllocGlobal + Abort + Copy + Drop,
 {
     let micros = AtomicU64::new(0);
-    let Ok(lock) = RwLock::with_limits(Fake::new(rt, &micros), 0, starved, 10) else {
-        return false;
-    };
-    let Some(tasks) = Tasks::new(&rt) else {
-        return false;
-    };
-    let mut scene = Scene::new(&lock);
-    for (at, row) in rows.iter() {
-        micros.store(*at, Ordering::SeqCst);
-        scene.play(&rt, &tasks, &[*row]);
+    match RwLock::with_limits(Fake::new(rt, &micros), 0, starved, 10) {
+        Ok(lock) => play_timed(&rt, &lock, &micros, rows),
+        Err(_) => false,
     }
-    true
 }

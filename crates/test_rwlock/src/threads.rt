@@ -1,17 +1,33 @@
 //! Threads that share a lock.
+//!
+//! What they do is written over a form, and so proved once, for both.
 
 use crate::forms::{Form, owned};
 use crate::same::assert_same;
 use async_rwlock::RwLock;
 use std::alloc::AllocGlobal;
+use std::mem;
+use std::process::Abort;
 use std::random::RandomSource;
 use std::sync::Wait;
 use std::sync::atomic::{AtomicBool, Ordering};
+use std::thread::{self, Threads};
 use std::time::Clock;
-use std::{mem, thread};
 
 // What stands in the lock while the writer is at work.
 const MINUS_ONE: u64 = u64::MAX;
+
+// Reads once, and says whether it found the writer at work.
+fn finds_the_writer<R, O>(lock: &O) -> bool
+where
+    R: Wait + Clock + RandomSource + AllocGlobal,
+    O: Form<R>,
+{
+    match lock.block_to_read() {
+        Ok(guard) => *guard == MINUS_ONE,
+        Err(_) => false,
+    }
+}
 
 // Reads a thousand times, and says how often it found the writer at work.
 fn read_thousand<R, O>(lock: &O) -> u64
@@ -21,10 +37,8 @@ where
 {
     let mut caught = 0u64;
     for _ in 0..1000u32 {
-        if let Ok(guard) = lock.block_to_read() {
-            if *guard == MINUS_ONE {
-                caught = caught.saturating_add(1);
-            }
+        if finds_the_writer(lock) {
+            caught = caught.saturating_add(1);
         }
     }
     caught
@@ -70,42 +84,35 @@ where
     Some(*guard)
 }
 
-#[test]
-fn writer_and_readers(rt: HostRuntime) {
-    let Ok(lock) = RwLock::new(rt, 0) else {
-        return;
-    };
-    let shared = &lock;
-    let reads = || read_thousand(&shared);
-    let writes = || write_thousand(&shared);
-    let two = || thread::join(&rt, &reads, &reads);
-    let four = || thread::join(&rt, &two, &two);
-    let five = || thread::join(&rt, &reads, &four);
-    let (refused, (one, ((two, three), (four, five)))) = thread::join(&rt, &writes, &five);
-    assert_same(&rt, (one, two, three, four, five), (0, 0, 0, 0, 0));
-    assert_same(
-        &rt,
-        number_of(&shared),
-        Some(1000u64.saturating_sub(refused)),
-    );
+// A writer beside five readers: each number is written under the lock, and no reader sees the writer at work.
+fn write_beside_readers<R, O>(rt: &R, lock: &O)
+where
+    R: Wait + Clock + RandomSource + AllocGlobal + Threads + Abort + Sync,
+    O: Form<R> + Sync,
+{
+    let reads = || read_thousand(lock);
+    let writes = || write_thousand(lock);
+    let two = || thread::join(rt, &reads, &reads);
+    let four = || thread::join(rt, &two, &two);
+    let five = || thread::join(rt, &reads, &four);
+    let (refused, (one, ((two, three), (four, five)))) = thread::join(rt, &writes, &five);
+    assert_same(rt, (one, two, three, four, five), (0, 0, 0, 0, 0));
+    assert_same(rt, number_of(lock), Some(1000u64.saturating_sub(refused)));
     // Where one allocation fails, it is refused once.
-    assert_same(&rt, refused <= 1, true);
+    assert_same(rt, refused <= 1, true);
 }
 
-#[test]
-fn writer_and_readers_arc(rt: HostRuntime) {
-    let Some(lock) = owned(rt, 0) else {
-        return;
-    };
-    let reads = || read_thousand(&lock);
-    let writes = || write_thousand(&lock);
-    let two = || thread::join(&rt, &reads, &reads);
-    let four = || thread::join(&rt, &two, &two);
-    let five = || thread::join(&rt, &reads, &four);
-    let (refused, (one, ((two, three), (four, five)))) = thread::join(&rt, &writes, &five);
-    assert_same(&rt, (one, two, three, four, five), (0, 0, 0, 0, 0));
-    assert_same(&rt, number_of(&lock), Some(1000u64.saturating_sub(refused)));
-    assert_same(&rt, refused <= 1, true);
+// Acquires the lock to write or to read, and says whether it was refused.
+fn is_refused<R, O>(lock: &O, writes: bool) -> bool
+where
+    R: Wait + Clock + RandomSource + AllocGlobal,
+    O: Form<R>,
+{
+    if writes {
+        lock.block_to_write().is_err()
+    } else {
+        lock.block_to_read().is_err()
+    }
 }
 
 // Acquires the lock a thousand times, one time in ten to write, and says how often it was refused.
@@ -116,49 +123,28 @@ where
 {
     let mut refused = 0u64;
     for round in 0..1000u32 {
-        let is_refused = if round % 10 == 0 {
-            lock.block_to_write().is_err()
-        } else {
-            lock.block_to_read().is_err()
-        };
-        if is_refused {
+        if is_refused(lock, round % 10 == 0) {
             refused = refused.saturating_add(1);
         }
     }
     refused
 }
 
-#[test]
-fn contention(rt: HostRuntime) {
-    let Ok(lock) = RwLock::new(rt, 7) else {
-        return;
-    };
-    let shared = &lock;
-    let contends = || contend(&shared);
-    let two = || thread::join(&rt, &contends, &contends);
-    let ((one, other), (third, fourth)) = thread::join(&rt, &two, &two);
+// Four threads that contend for a lock of 7.
+fn contend_in_four<R, O>(rt: &R, lock: &O)
+where
+    R: Wait + Clock + RandomSource + AllocGlobal + Threads + Abort + Sync,
+    O: Form<R> + Sync,
+{
+    let contends = || contend(lock);
+    let two = || thread::join(rt, &contends, &contends);
+    let ((one, other), (third, fourth)) = thread::join(rt, &two, &two);
     let refused = one
         .saturating_add(other)
         .saturating_add(third)
         .saturating_add(fourth);
-    assert_same(&rt, refused <= 1, true);
-    assert_same(&rt, number_of(&shared), Some(7));
-}
-
-#[test]
-fn contention_arc(rt: HostRuntime) {
-    let Some(lock) = owned(rt, 7) else {
-        return;
-    };
-    let contends = || contend(&lock);
-    let two = || thread::join(&rt, &contends, &contends);
-    let ((one, other), (third, fourth)) = thread::join(&rt, &two, &two);
-    let refused = one
-        .saturating_add(other)
-        .saturating_add(third)
-        .saturating_add(fourth);
-    assert_same(&rt, refused <= 1, true);
-    assert_same(&rt, number_of(&lock), Some(7));
+    assert_same(rt, refused <= 1, true);
+    assert_same(rt, number_of(lock), Some(7));
 }
 
 // Holds the lock to read, and sees the other's flag meanwhile: whether it did, or had no memory.
@@ -181,27 +167,85 @@ where
     false
 }
 
-#[test]
-fn two_threads_read_at_the_same_time(rt: HostRuntime) {
-    let Ok(lock) = RwLock::new(rt, 7) else {
-        return;
-    };
-    let shared = &lock;
+// Two threads that each hold the lock to read until the other does too.
+fn read_at_the_same_time<R, O>(rt: &R, lock: &O)
+where
+    R: Wait + Clock + RandomSource + AllocGlobal + Threads + Abort + Sync,
+    O: Form<R> + Sync,
+{
     let one = AtomicBool::new(false);
     let two = AtomicBool::new(false);
-    let first = || reads_beside(&shared, &one, &two);
-    let second = || reads_beside(&shared, &two, &one);
-    assert_same(&rt, thread::join(&rt, &first, &second), (true, true));
+    let first = || reads_beside(lock, &one, &two);
+    let second = || reads_beside(lock, &two, &one);
+    assert_same(rt, thread::join(rt, &first, &second), (true, true));
+}
+
+/// What threads do round a lock.
+#[derive(Clone, Copy)]
+enum Story {
+    WriteBesideReaders,
+    Contend,
+    ReadAtTheSameTime,
+}
+
+fn play<R, O>(rt: &R, lock: &O, story: Story)
+where
+    R: Wait + Clock + RandomSource + AllocGlobal + Threads + Abort + Sync,
+    O: Form<R> + Sync,
+{
+    match story {
+        Story::WriteBesideReaders => write_beside_readers(rt, lock),
+        Story::Contend => contend_in_four(rt, lock),
+        Story::ReadAtTheSameTime => read_at_the_same_time(rt, lock),
+    }
+}
+
+// Plays a story round a borrowed lock of this number. It is not done where memory is refused.
+fn of_borrowed<R>(rt: R, number: u64, story: Story)
+where
+    R: Wait + Clock + RandomSource + AllocGlobal + Threads + Abort + Sync + Copy + Drop,
+{
+    if let Ok(lock) = RwLock::new(rt, number) {
+        play(&rt, &&lock, story);
+    }
+}
+
+// As [`of_borrowed`], of an owned lock.
+fn of_owned<R>(rt: R, number: u64, story: Story)
+where
+    R: Wait + Clock + RandomSource + AllocGlobal + Threads + Abort + Send + Sync + Copy + Drop,
+{
+    if let Some(lock) = owned(rt, number) {
+        play(&rt, &lock, story);
+    }
+}
+
+#[test]
+fn writer_and_readers(rt: HostRuntime) {
+    of_borrowed(rt, 0, Story::WriteBesideReaders);
+}
+
+#[test]
+fn writer_and_readers_arc(rt: HostRuntime) {
+    of_owned(rt, 0, Story::WriteBesideReaders);
+}
+
+#[test]
+fn contention(rt: HostRuntime) {
+    of_borrowed(rt, 7, Story::Contend);
+}
+
+#[test]
+fn contention_arc(rt: HostRuntime) {
+    of_owned(rt, 7, Story::Contend);
+}
+
+#[test]
+fn two_threads_read_at_the_same_time(rt: HostRuntime) {
+    of_borrowed(rt, 7, Story::ReadAtTheSameTime);
 }
 
 #[test]
 fn two_threads_read_at_the_same_time_by_shares(rt: HostRuntime) {
-    let Some(lock) = owned(rt, 7) else {
-        return;
-    };
-    let one = AtomicBool::new(false);
-    let two = AtomicBool::new(false);
-    let first = || reads_beside(&lock, &one, &two);
-    let second = || reads_beside(&lock, &two, &one);
-    assert_same(&rt, thread::join(&rt, &first, &second), (true, true));
+    of_owned(rt, 7, Story::ReadAtTheSameTime);
 }

@@ -1,13 +1,16 @@
 //! The value: reached past forgotten guards, dropped exactly once on every way out, and shown.
 
-use crate::forms::owned;
+use crate::forms::{Form, owned};
 use crate::same::assert_same;
-use async_rwlock::{Refusal, RwLock, Turn, UpgradableGuard};
+use async_rwlock::lock_futures::WriteFuture;
+use async_rwlock::{Owns, Refusal, RwLock, Turn, UpgradableGuard, WriteGuard};
 use futures::test::MockTask;
 use std::alloc::AllocGlobal;
 use std::process::Abort;
+use std::random::RandomSource;
 use std::sync::atomic::{AtomicU64, Ordering};
 use std::sync::{Arc, Wait};
+use std::time::Clock;
 use std::{fmt, mem};
 
 /// A value whose drops are counted.
@@ -92,47 +95,88 @@ fn assert_text(rt: &(impl AllocGlobal + Abort), shown: &impl fmt::Debug, text: &
     }
 }
 
+// Compares how a free lock of 7 and its guards are shown, and the lock while it is held to write.
+fn assert_guards_shown<R, O>(rt: &R, lock: &O)
+where
+    R: Wait + Clock + RandomSource + AllocGlobal + Abort,
+    O: Form<R> + fmt::Debug,
+{
+    assert_text(rt, lock, "RwLock { value: 7 }");
+    assert_text(rt, &lock.read_now(), "Some(7)");
+    assert_text(rt, &lock.upgradable_now(), "Some(7)");
+    let writer = lock.write_now();
+    assert_text(rt, &writer, "Some(7)");
+    assert_text(rt, lock, "RwLock { value: <locked> }");
+}
+
 #[test]
 fn locks_and_guards_are_shown(rt: HostRuntime) {
-    let Ok(lock) = RwLock::new(rt, 7u64) else {
-        return;
-    };
-    assert_text(&rt, &lock, "RwLock { value: 7 }");
-    assert_text(&rt, &lock.try_read(), "Some(7)");
-    assert_text(&rt, &lock.try_upgradable_read(), "Some(7)");
-    let writer = lock.try_write();
-    assert_text(&rt, &writer, "Some(7)");
-    assert_text(&rt, &lock, "RwLock { value: <locked> }");
+    if let Ok(lock) = RwLock::new(rt, 7u64) {
+        assert_guards_shown(&rt, &&lock);
+    }
 }
+
+// Compares how the futures of a free lock are shown: of a read, an upgradable read, a write and an upgrade.
+fn assert_futures_shown<R, O>(rt: &R, lock: &O, texts: (&str, &str, &str, &str))
+where
+    R: Wait + Clock + RandomSource + AllocGlobal + Abort,
+    O: Form<R>,
+{
+    assert_text(rt, &lock.reads(), texts.0);
+    assert_text(rt, &lock.reads_upgradably(), texts.1);
+    assert_text(rt, &lock.writes(), texts.2);
+    if let Some(guard) = lock.upgradable_now() {
+        assert_text(rt, &UpgradableGuard::upgrade(guard), texts.3);
+    }
+}
+
+const NAMES: (&str, &str, &str, &str) = (
+    "Read { .. }",
+    "UpgradableRead { .. }",
+    "Write { .. }",
+    "Upgrade",
+);
 
 #[test]
 fn futures_are_shown(rt: HostRuntime) {
-    let Ok(lock) = RwLock::new(rt, 7u64) else {
-        return;
-    };
-    assert_text(&rt, &lock.read(), "Read { .. }");
-    assert_text(&rt, &lock.upgradable_read(), "UpgradableRead { .. }");
-    assert_text(&rt, &lock.write(), "Write { .. }");
-    if let Some(guard) = lock.try_upgradable_read() {
-        assert_text(&rt, &UpgradableGuard::upgrade(guard), "Upgrade");
+    if let Ok(lock) = RwLock::new(rt, 7u64) {
+        assert_futures_shown(&rt, &&lock, NAMES);
     }
 }
 
+const OWNED_NAMES: (&str, &str, &str, &str) = (
+    "ReadArc { .. }",
+    "UpgradableReadArc { .. }",
+    "WriteArc { .. }",
+    "ArcUpgrade",
+);
+
 #[test]
 fn owned_futures_are_shown(rt: HostRuntime) {
-    let Some(lock) = owned(rt, 7) else {
-        return;
-    };
-    assert_text(&rt, &RwLock::read_arc(&lock), "ReadArc { .. }");
-    assert_text(
-        &rt,
-        &RwLock::upgradable_read_arc(&lock),
-        "UpgradableReadArc { .. }",
-    );
-    assert_text(&rt, &RwLock::write_arc(&lock), "WriteArc { .. }");
-    if let Some(guard) = RwLock::try_upgradable_read_arc(&lock) {
-        assert_text(&rt, &UpgradableGuard::upgrade(guard), "ArcUpgrade");
+    if let Some(lock) = owned(rt, 7) {
+        assert_futures_shown(&rt, &lock, OWNED_NAMES);
     }
+}
+
+// One poll by the context of a task.
+fn turn<R, O>(task: &MockTask, future: &mut WriteFuture<u64, R, O>) -> Turn<WriteGuard<u64, R, O>>
+where
+    R: Wait + Clock,
+    O: Owns<u64, R>,
+{
+    task.enter(|cx| future.poll(cx))
+}
+
+// Whether a future of the lock to write is ready at once, and refuses to be polled again.
+fn is_ready_and_finished<R, O>(task: &MockTask, lock: &O) -> (bool, bool)
+where
+    R: Wait + Clock + RandomSource + AllocGlobal,
+    O: Form<R>,
+{
+    let mut future = lock.writes();
+    let first = matches!(turn(task, &mut future), Turn::Ready(_));
+    let second = matches!(turn(task, &mut future), Turn::Refused(Refusal::Finished));
+    (first, second)
 }
 
 #[test]
@@ -140,11 +184,8 @@ fn a_future_that_was_ready_is_refused(rt: HostRuntime) {
     let Ok(lock) = RwLock::new(rt, 7u64) else {
         return;
     };
-    let Ok(task) = MockTask::new(&rt) else {
-        return;
-    };
-    let mut future = lock.write();
-    let first = task.enter(|cx| matches!(future.poll(cx), Turn::Ready(_)));
-    let second = task.enter(|cx| matches!(future.poll(cx), Turn::Refused(Refusal::Finished)));
-    assert_same(&rt, (first, second), (true, true));
+    if let Ok(task) = MockTask::new(&rt) {
+        let found = is_ready_and_finished(&task, &&lock);
+        assert_same(&rt, found, (true, true));
+    }
 }
