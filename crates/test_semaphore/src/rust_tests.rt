@@ -4,14 +4,15 @@ use crate::forms::{Form, owned};
 use crate::party::{Answer, Deed};
 use crate::same::assert_same;
 use crate::scene::{NOBODY, Name, Row, TWO, of_borrowed, of_both, of_owned};
-use crate::threads::holds_beside;
+use crate::threads::{assert_none_counted, assert_none_refused, holds_beside};
 use async_semaphore::{Semaphore, Settled};
 use futures::executor::block_on;
 use std::alloc::AllocGlobal;
+use std::process::Abort;
 use std::random::RandomSource;
 use std::sync::Wait;
 use std::sync::atomic::AtomicBool;
-use std::thread;
+use std::thread::{self, Threads};
 use std::time::Clock;
 
 const TRY_ACQUIRE: [Row; 5] = [
@@ -72,47 +73,75 @@ where
     refused
 }
 
-#[test]
-fn stress(rt: HostRuntime) {
-    let Some(semaphore) = owned(rt, 5) else {
-        return;
-    };
-    let refused = thread::map_indices(
-        &rt,
-        rt.alloc(),
-        50,
-        &|_| { await_often(&rt, &semaphore, 500) },
-    );
-    let refused = refused.expect(&rt, "memory is ample");
-    assert!(rt; refused.iter().all(|often| *often == 0));
+// Fifty threads that wait for permits as futures.
+fn fifty_await<R, O>(rt: &R, semaphore: &O)
+where
+    R: Wait + Clock + RandomSource + AllocGlobal + Threads + Abort + Sync,
+    O: Form<R> + Sync,
+{
+    let often = |_| await_often(rt, semaphore, 500);
+    let refused = thread::map_indices(rt, rt.alloc(), 50, &often);
+    assert_none_counted(rt, refused);
+}
+
+// Five permits can be had, and none while these are held.
+fn assert_five<R, O>(rt: &R, semaphore: &O)
+where
+    R: Wait + Clock + RandomSource + AllocGlobal + Abort,
+    O: Form<R>,
+{
     let all = semaphore.take(5);
     assert_same(
-        &rt,
+        rt,
         (all.is_some(), semaphore.take(1).is_some()),
         (true, false),
     );
     drop(all);
-    assert_same(&rt, semaphore.take(1).is_some(), true);
+    assert_same(rt, semaphore.take(1).is_some(), true);
+}
+
+#[test]
+fn stress(rt: HostRuntime) {
+    if let Some(semaphore) = owned(rt, 5) {
+        fifty_await(&rt, &semaphore);
+        assert_five(&rt, &semaphore);
+    }
+}
+
+// Two threads that wait for the only permit.
+fn two_await<R, O>(rt: &R, semaphore: &O)
+where
+    R: Wait + Clock + RandomSource + AllocGlobal + Threads + Abort + Sync,
+    O: Form<R> + Sync,
+{
+    let waits = || await_often(rt, semaphore, 1);
+    assert_same(rt, thread::join(rt, &waits, &waits), (0, 0));
 }
 
 #[test]
 fn as_mutex(rt: HostRuntime) {
-    let Some(semaphore) = owned(rt, 1) else {
-        return;
-    };
-    let waits = || await_often(&rt, &semaphore, 1);
-    assert_same(&rt, thread::join(&rt, &waits, &waits), (0, 0));
+    if let Some(semaphore) = owned(rt, 1) {
+        two_await(&rt, &semaphore);
+    }
+}
+
+// Two threads that each hold a permit until the other does too.
+fn hold_at_the_same_time<R, O>(rt: &R, semaphore: &O)
+where
+    R: Wait + Clock + RandomSource + AllocGlobal + Threads + Abort + Sync,
+    O: Form<R> + Sync,
+{
+    let (one, two) = (AtomicBool::new(false), AtomicBool::new(false));
+    let first = || holds_beside(semaphore, &one, &two);
+    let second = || holds_beside(semaphore, &two, &one);
+    assert_same(rt, thread::join(rt, &first, &second), (true, true));
 }
 
 #[test]
 fn multi_resource(rt: HostRuntime) {
-    let Some(semaphore) = owned(rt, 2) else {
-        return;
-    };
-    let (one, two) = (AtomicBool::new(false), AtomicBool::new(false));
-    let first = || holds_beside(&semaphore, &one, &two);
-    let second = || holds_beside(&semaphore, &two, &one);
-    assert_same(&rt, thread::join(&rt, &first, &second), (true, true));
+    if let Some(semaphore) = owned(rt, 2) {
+        hold_at_the_same_time(&rt, &semaphore);
+    }
 }
 
 // The future keeps the semaphore, and is dropped last.
@@ -172,18 +201,20 @@ where
     }
 }
 
+// Fifty threads that each wait for a permit and forget it, of those that one more thread adds.
+fn fifty_forget_what_is_added<R>(rt: &R, semaphore: &Semaphore<R>)
+where
+    R: Wait + Clock + RandomSource + AllocGlobal + Threads + Abort + Sync,
+{
+    let forgets = |index| forgets_or_adds(rt, semaphore, index == 50);
+    let refused = thread::map_indices(rt, rt.alloc(), 51, &forgets);
+    assert_none_refused(rt, refused);
+    assert_same(rt, semaphore.available_permits(), 0);
+}
+
 #[test]
 fn add_permits(rt: HostRuntime) {
-    let Ok(semaphore) = Semaphore::new(rt, 0) else {
-        return;
-    };
-    let refused = thread::map_indices(
-        &rt,
-        rt.alloc(),
-        51,
-        &|index| { forgets_or_adds(&rt, &semaphore, index == 50) },
-    );
-    let refused = refused.expect(&rt, "memory is ample");
-    assert!(rt; refused.iter().all(|refused| !*refused));
-    assert_same(&rt, semaphore.available_permits(), 0);
+    if let Ok(semaphore) = Semaphore::new(rt, 0) {
+        fifty_forget_what_is_added(&rt, &semaphore);
+    }
 }

@@ -1,13 +1,16 @@
 //! Threads that share a semaphore.
+//!
+//! What they do is written over a form, and so proved once, for both.
 
 use crate::forms::{Form, owned};
 use crate::same::assert_same;
 use async_semaphore::Semaphore;
-use std::alloc::AllocGlobal;
+use std::alloc::{AllocError, AllocGlobal, Global};
+use std::process::Abort;
 use std::random::RandomSource;
 use std::sync::Wait;
 use std::sync::atomic::{AtomicBool, AtomicU64, Ordering};
-use std::thread;
+use std::thread::{self, Threads};
 use std::time::Clock;
 
 const THREADS: usize = 50;
@@ -51,41 +54,41 @@ where
     (had.0, had.1, had.2, had.3, had.4, sixth, next)
 }
 
-#[test]
-fn fifty_threads_acquire_and_release(rt: HostRuntime) {
-    let Ok(semaphore) = Semaphore::new(rt, 5) else {
-        return;
-    };
-    let shared = &semaphore;
-    let refused = thread::map_indices(&rt, rt.alloc(), THREADS, &|_| acquire_often(&shared, 1000));
-    let refused = refused.expect(&rt, "memory is ample");
-    assert!(rt; refused.iter().all(|often| *often == 0));
-    assert_same(&rt, semaphore.available_permits(), 5);
+/// Asserts that there was memory for all threads, and that none of them counted anything.
+pub(crate) fn assert_none_counted<R: Abort>(rt: &R, counted: Result<Vec<u64, Global>, AllocError>) {
+    let counted = counted.expect(rt, "memory is ample");
+    assert!(rt; counted.iter().all(|often| *often == 0));
+}
+
+// Fifty threads that share a semaphore of five permits, which all are there in the end.
+fn fifty_acquire_and_release<R, O>(rt: &R, semaphore: &O)
+where
+    R: Wait + Clock + RandomSource + AllocGlobal + Threads + Abort + Sync,
+    O: Form<R> + Sync,
+{
+    let often = |_| acquire_often(semaphore, 1000);
+    let refused = thread::map_indices(rt, rt.alloc(), THREADS, &often);
+    assert_none_counted(rt, refused);
+    assert_same(rt, semaphore.available(), 5);
     assert_same(
-        &rt,
-        single_permits(&shared),
+        rt,
+        single_permits(semaphore),
         (true, true, true, true, true, false, true),
     );
 }
 
 #[test]
+fn fifty_threads_acquire_and_release(rt: HostRuntime) {
+    if let Ok(semaphore) = Semaphore::new(rt, 5) {
+        fifty_acquire_and_release(&rt, &&semaphore);
+    }
+}
+
+#[test]
 fn fifty_threads_acquire_and_release_by_shares(rt: HostRuntime) {
-    let Some(semaphore) = owned(rt, 5) else {
-        return;
-    };
-    let refused = thread::map_indices(
-        &rt,
-        rt.alloc(),
-        THREADS,
-        &|_| { acquire_often(&semaphore, 1000) },
-    );
-    let refused = refused.expect(&rt, "memory is ample");
-    assert!(rt; refused.iter().all(|often| *often == 0));
-    assert_same(
-        &rt,
-        single_permits(&semaphore),
-        (true, true, true, true, true, false, true),
-    );
+    if let Some(semaphore) = owned(rt, 5) {
+        fifty_acquire_and_release(&rt, &semaphore);
+    }
 }
 
 // Acquires a permit and forgets it, or adds so many: whether that was refused.
@@ -105,20 +108,31 @@ where
     }
 }
 
+/// Asserts that there was memory for all threads, and that none of them was refused.
+pub(crate) fn assert_none_refused<R: Abort>(
+    rt: &R,
+    refused: Result<Vec<bool, Global>, AllocError>,
+) {
+    let refused = refused.expect(rt, "memory is ample");
+    assert!(rt; refused.iter().all(|refused| !*refused));
+}
+
+// Fifty threads that each forget a permit, of those that one more thread adds.
+fn fifty_forget_what_is_added<R>(rt: &R, semaphore: &Semaphore<R>)
+where
+    R: Wait + Clock + RandomSource + AllocGlobal + Threads + Abort + Sync,
+{
+    let forgets_or_adds = |index| forget_or_add(semaphore, index == THREADS);
+    let refused = thread::map_indices(rt, rt.alloc(), THREADS + 1, &forgets_or_adds);
+    assert_none_refused(rt, refused);
+    assert_same(rt, semaphore.available_permits(), 0);
+}
+
 #[test]
 fn fifty_threads_forget_what_is_added(rt: HostRuntime) {
-    let Ok(semaphore) = Semaphore::new(rt, 0) else {
-        return;
-    };
-    let refused = thread::map_indices(
-        &rt,
-        rt.alloc(),
-        THREADS + 1,
-        &|index| { forget_or_add(&semaphore, index == THREADS) },
-    );
-    let refused = refused.expect(&rt, "memory is ample");
-    assert!(rt; refused.iter().all(|refused| !*refused));
-    assert_same(&rt, semaphore.available_permits(), 0);
+    if let Ok(semaphore) = Semaphore::new(rt, 0) {
+        fifty_forget_what_is_added(&rt, &semaphore);
+    }
 }
 
 const PERMITS: u64 = 10;
@@ -157,21 +171,23 @@ where
     wrong
 }
 
+// Eight threads that acquire some permits each: never more are out than there are.
+fn eight_acquire_some<R>(rt: &R, semaphore: &Semaphore<R>)
+where
+    R: Wait + Clock + RandomSource + AllocGlobal + Threads + Abort + Sync,
+{
+    let out = AtomicU64::new(0);
+    let acquires = |index| acquire_some(semaphore, &out, (index as u64).wrapping_add(0x9e37_79b9));
+    let wrong = thread::map_indices(rt, rt.alloc(), 8, &acquires);
+    assert_none_counted(rt, wrong);
+    assert_same(rt, semaphore.available_permits(), 10);
+}
+
 #[test]
 fn never_more_are_out_than_there_are(rt: HostRuntime) {
-    let Ok(semaphore) = Semaphore::new(rt, PERMITS as usize) else {
-        return;
-    };
-    let out = AtomicU64::new(0);
-    let wrong = thread::map_indices(
-        &rt,
-        rt.alloc(),
-        8,
-        &|index| { acquire_some(&semaphore, &out, (index as u64).wrapping_add(0x9e37_79b9)) },
-    );
-    let wrong = wrong.expect(&rt, "memory is ample");
-    assert!(rt; wrong.iter().all(|often| *often == 0));
-    assert_same(&rt, semaphore.available_permits(), 10);
+    if let Ok(semaphore) = Semaphore::new(rt, PERMITS as usize) {
+        eight_acquire_some(&rt, &semaphore);
+    }
 }
 
 /// Holds a permit, and sees the other's flag meanwhile: whether it did, or had no memory.
