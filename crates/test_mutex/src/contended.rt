@@ -1,40 +1,35 @@
 //! Threads that contend for one mutex.
+//!
+//! What each does is written over a form, and so proved once, for both.
 
-use crate::forms::{number_of, owned};
+use crate::forms::{Form, number_of, owned};
 use crate::same::assert_same;
 use async_mutex::Mutex;
 use std::alloc::AllocGlobal;
 use std::process::Abort;
 use std::random::RandomSource;
 use std::sync::{Arc, Wait};
-use std::thread;
+use std::thread::{self, Threads};
 use std::time::Clock;
 
-// Adds one a thousand times, and says how often it was refused.
-fn add_thousand<R>(mutex: &Mutex<u64, R>) -> u64
-where
-    R: Wait + Clock + RandomSource + AllocGlobal,
-{
-    let mut refused = 0u64;
-    for _ in 0..1000u32 {
-        match mutex.lock_blocking() {
-            Ok(mut guard) => *guard = guard.saturating_add(1),
-            Err(_) => refused = refused.saturating_add(1),
+// Adds one, and says whether it was refused.
+fn add_one<L: Form>(lock: &L) -> bool {
+    match lock.take_blocking() {
+        Ok(mut guard) => {
+            let number = L::read(&guard).saturating_add(1);
+            L::write(&mut guard, number);
+            false
         }
+        Err(_) => true,
     }
-    refused
 }
 
-// As [`add_thousand`], by guards that own the mutex.
-fn add_thousand_as_owner<R>(mutex: &Arc<Mutex<u64, R>>) -> u64
-where
-    R: Wait + Clock + RandomSource + AllocGlobal + Drop,
-{
+// Adds one a thousand times, and says how often it was refused.
+fn add_thousand<L: Form>(lock: &L) -> u64 {
     let mut refused = 0u64;
     for _ in 0..1000u32 {
-        match Mutex::lock_arc_blocking(mutex) {
-            Ok(mut guard) => *guard = guard.saturating_add(1),
-            Err(_) => refused = refused.saturating_add(1),
+        if add_one(lock) {
+            refused = refused.saturating_add(1);
         }
     }
     refused
@@ -47,13 +42,30 @@ fn added(rt: &impl Abort, refused: (u64, u64)) -> u64 {
     2000 - one - two
 }
 
+// What two threads have added under the lock.
+fn added_by_two<R>(rt: &R, mutex: &Mutex<u64, R>) -> u64
+where
+    R: Wait + Clock + RandomSource + AllocGlobal + Threads + Abort + Sync,
+{
+    let add = || add_thousand(&mutex);
+    added(rt, thread::join(rt, &add, &add))
+}
+
+// As [`added_by_two`], by guards that own the mutex.
+fn added_by_two_owners<R>(rt: &R, mutex: &Arc<Mutex<u64, R>>) -> u64
+where
+    R: Wait + Clock + RandomSource + AllocGlobal + Threads + Abort + Send + Sync + Drop,
+{
+    let add = || add_thousand(mutex);
+    added(rt, thread::join(rt, &add, &add))
+}
+
 #[test]
 fn two_threads_add_under_the_lock(rt: HostRuntime) {
     let Ok(mutex) = Mutex::new(rt, 0u64) else {
         return;
     };
-    let add = || add_thousand(&mutex);
-    let added = added(&rt, thread::join(&rt, &add, &add));
+    let added = added_by_two(&rt, &mutex);
     assert_same(&rt, mutex.into_inner(), added);
 }
 
@@ -62,7 +74,6 @@ fn two_threads_add_under_the_lock_that_they_own(rt: HostRuntime) {
     let Some(mutex) = owned(rt, 0u64) else {
         return;
     };
-    let add = || add_thousand_as_owner(&mutex);
-    let added = added(&rt, thread::join(&rt, &add, &add));
+    let added = added_by_two_owners(&rt, &mutex);
     assert_same(&rt, number_of(&mutex), Some(added));
 }
