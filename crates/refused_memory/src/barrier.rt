@@ -1,35 +1,36 @@
 //! The barrier's calls.
 
-use crate::book::Book;
-use async_lock::Barrier;
-use std::alloc::AllocGlobal;
-use std::random::RandomSource;
-use std::sync::Wait;
-use std::time::Clock;
+use crate::book::{Book, Runtime, twice};
+use async_lock::{Barrier, BarrierWaitResult};
 
-/// Two rounds of three at a barrier for three, the second with a wait that is dropped after its arrival: who leads.
-pub(crate) fn rounds<R>(book: &Book<R>, barrier: &Barrier<R>) -> Option<(bool, bool, bool, bool)>
-where
-    R: Wait + Clock + Eprint + RandomSource + AllocGlobal + Copy + Drop,
-{
-    let (task, other, third) = (book.task()?, book.task()?, book.task()?);
+fn leads(over: Option<BarrierWaitResult>) -> Option<bool> {
+    Some(over?.is_leader())
+}
+
+/// A round of three at a barrier for three: who leads.
+pub(crate) fn first_round<R: Runtime>(
+    book: &Book<R>,
+    barrier: &Barrier<R>,
+) -> Option<(bool, bool, bool)> {
     let (mut one, mut two) = (barrier.wait(), barrier.wait());
-    book.pends("Barrier::wait, the first", &task, &mut one)?;
-    book.pends("Barrier::wait, the second", &other, &mut two)?;
-    let led = book.ready("Barrier::wait, the last", &third, &mut barrier.wait())?;
-    let first = book.ready("Barrier::wait, woken", &task, &mut one)?;
-    let second = book.ready("Barrier::wait, woken", &other, &mut two)?;
+    book.pends("Barrier::wait, the first", &book.one, &mut one);
+    book.pends("Barrier::wait, the second", &book.two, &mut two);
+    let led = book.ready("Barrier::wait, the last", &book.three, &mut barrier.wait());
+    let first = book.ready("Barrier::wait, woken", &book.one, &mut one);
+    let second = book.ready("Barrier::wait, woken", &book.two, &mut two);
+    drop(one);
+    drop(two);
+    Some((leads(led)?, leads(first)?, leads(second)?))
+}
+
+/// A second round, with a wait that is dropped after its arrival: whether the last one leads.
+pub(crate) fn second_round<R: Runtime>(book: &Book<R>, barrier: &Barrier<R>) -> Option<bool> {
     let mut dropped = barrier.wait();
-    book.pends("Barrier::wait, dropped", &task, &mut dropped)?;
+    book.pends("Barrier::wait, dropped", &book.one, &mut dropped);
     drop(dropped);
     let mut again = barrier.wait();
-    book.pends("Barrier::wait, of the second round", &other, &mut again)?;
-    let last = book.twice("Barrier::wait_blocking", || barrier.wait_blocking())?;
-    let _ = book.ready("Barrier::wait, woken", &other, &mut again)?;
-    Some((
-        led.is_leader(),
-        first.is_leader(),
-        second.is_leader(),
-        last.is_leader(),
-    ))
+    book.pends("Barrier::wait, of the second round", &book.two, &mut again);
+    let last = twice!(book, "Barrier::wait_blocking", barrier.wait_blocking());
+    let _ = book.ready("Barrier::wait, woken", &book.two, &mut again);
+    leads(last)
 }

@@ -14,21 +14,20 @@ mod semaphore;
 mod threads;
 mod token;
 
-use async_lock::{Barrier, Mutex, OnceCell, RwLock, Semaphore};
-use book::Book;
-use std::alloc::AllocGlobal;
-use std::env;
+use async_lock::{Barrier, Mutex, RwLock, Semaphore};
+use book::{Book, Runtime, twice};
+use mutex::new_mutex;
+use once_cell::new_cell;
+use rwlock::new_lock;
+use semaphore::new_semaphore;
 use std::process::ExitCode;
-use std::random::RandomSource;
-use std::rt::Env;
-use std::sync::Wait;
 use std::thread::Threads;
-use std::time::Clock;
+use std::{env, io};
 use token::Counts;
 
 // As many allocations as the argument says.
-fn throw_away<R: Env + AllocGlobal>(rt: &R) -> Option<()> {
-    let mut words = env::args(rt).ok()?;
+fn throw_away(rt: HostRuntime) -> Option<()> {
+    let mut words = env::args(&rt).ok()?;
     let _ = words.next();
     let often = words.next()?.parse::<u64>().ok()?;
     for number in 0..often {
@@ -37,108 +36,93 @@ fn throw_away<R: Env + AllocGlobal>(rt: &R) -> Option<()> {
     Some(())
 }
 
-fn mutexes<R>(book: &Book<R>, counts: &Counts) -> Option<(u64, u64)>
-where
-    R: Wait + Clock + Eprint + RandomSource + AllocGlobal + Copy + Drop,
-{
-    let rt = *book.rt();
-    let new = || book.twice("Mutex::new", || Mutex::new(rt, counts.token(1)));
-    let borrowed = mutex::borrowed(book, counts, new()?)?;
-    let owned = mutex::owned(book, &book.shared(new)?)?;
-    Some((borrowed, owned))
+fn mutexes<R: Runtime>(book: &Book<R>, counts: &Counts) -> Option<(u64, u64)> {
+    let mutex = new_mutex(book, counts)?;
+    let borrowed = mutex::borrowed(book, counts, &mutex)?;
+    let held = mutex.into_inner().number;
+    let owned = mutex::owned(book, &book.shared(new_mutex(book, counts)?)?)?;
+    Some((borrowed.saturating_add(held), owned))
 }
 
-fn rwlocks<R>(book: &Book<R>, counts: &Counts) -> Option<(u64, u64, u64, u64, u64)>
-where
-    R: Wait + Clock + Eprint + RandomSource + AllocGlobal + Copy + Drop,
-{
-    let rt = *book.rt();
-    let new = || book.twice("RwLock::new", || RwLock::new(rt, counts.token(1)));
-    let lock = new()?;
+fn rwlocks<R: Runtime>(book: &Book<R>, counts: &Counts) -> Option<(u64, u64, u64, u64, u64)> {
+    let lock = new_lock(book, counts)?;
     let borrowed = rwlock::borrowed(book, counts, &lock)?;
     let cancelled = rwlock::cancelled(book, &lock)?;
-    let owned = rwlock::owned(book, &book.shared(new)?)?;
-    let upgraded = rwlock::upgraded(book, &new()?)?;
-    let as_owner = rwlock::upgraded_as_owner(book, &book.shared(new)?)?;
+    drop(lock);
+    let owned = rwlock::owned(book, &book.shared(new_lock(book, counts)?)?)?;
+    let upgraded = rwlock::upgraded(book, &new_lock(book, counts)?)?;
+    let as_owner = rwlock::upgraded_as_owner(book, &book.shared(new_lock(book, counts)?)?)?;
     Some((borrowed, cancelled, owned, upgraded, as_owner))
 }
 
-fn semaphores<R>(book: &Book<R>) -> Option<(usize, usize, usize, usize)>
-where
-    R: Wait + Clock + Eprint + RandomSource + AllocGlobal + Copy + Drop,
-{
-    let rt = *book.rt();
-    let new = || book.twice("Semaphore::new", || Semaphore::new(rt, 3));
-    let borrowed = semaphore::borrowed(book, &new()?)?;
-    let owned = semaphore::owned(book, &book.shared(new)?)?;
-    let many = semaphore::many(book, &new()?)?;
-    let as_owner = semaphore::many_as_owner(book, &book.shared(new)?)?;
+fn semaphores<R: Runtime>(book: &Book<R>) -> Option<(usize, usize, usize, usize)> {
+    let borrowed = semaphore::borrowed(book, &new_semaphore(book)?);
+    let owned = semaphore::owned(book, &book.shared(new_semaphore(book)?)?);
+    let many = semaphore::many(book, &new_semaphore(book)?)?;
+    let as_owner = semaphore::many_as_owner(book, &book.shared(new_semaphore(book)?)?)?;
     Some((borrowed, owned, many, as_owner))
+}
+
+// A cell that is waited for, and one that blocks.
+fn waited_and_blocking<R: Runtime>(
+    book: &Book<R>,
+    counts: &Counts,
+) -> Option<(u64, (u64, u64, u64, u64, u64))> {
+    let waited = once_cell::waited_for(book, counts, &new_cell(book)?)?;
+    let mut cell = new_cell(book)?;
+    let (fault, made, seen) = once_cell::blocking(book, counts, &cell)?;
+    let (taken, put) = once_cell::set_late(book, counts, &mut cell)?;
+    Some((waited, (fault, made, seen, taken, put)))
 }
 
 type Cells = (u64, (u64, u64, u64, u64, u64), (u64, u64), (u64, u64), u64);
 
-fn cells<R>(book: &Book<R>, counts: &Counts) -> Option<Cells>
-where
-    R: Wait + Clock + Eprint + RandomSource + AllocGlobal + Copy + Drop,
-{
-    let rt = *book.rt();
-    let new = || book.twice("OnceCell::new", || OnceCell::new(rt));
-    let waited = once_cell::waited_for(book, counts, &new()?)?;
-    let blocking = once_cell::blocking(book, counts, &mut new()?)?;
-    let tried = once_cell::tried(book, counts, &new()?)?;
-    let initialised = (
-        once_cell::initialised(book, counts, &new()?)?,
-        once_cell::tried_to_initialise(book, counts, &new()?)?,
-    );
-    let full = book.twice(
-        "OnceCell::with_value",
-        || OnceCell::with_value(rt, counts.token(6)),
-    )?;
-    Some((
-        waited,
-        blocking,
-        tried,
-        initialised,
-        full.into_inner()?.number,
-    ))
+fn cells<R: Runtime>(book: &Book<R>, counts: &Counts) -> Option<Cells> {
+    let (waited, blocking) = waited_and_blocking(book, counts)?;
+    let tried = once_cell::tried(book, counts, &new_cell(book)?)?;
+    let initialised = once_cell::initialised(book, counts, &new_cell(book)?)?;
+    let tried_to = once_cell::tried_to_initialise(book, counts, &new_cell(book)?)?;
+    let full = once_cell::full(book, counts)?;
+    Some((waited, blocking, tried, (initialised, tried_to), full))
 }
 
-fn barriers<R>(book: &Book<R>) -> Option<(bool, bool, bool, bool)>
-where
-    R: Wait + Clock + Eprint + RandomSource + AllocGlobal + Copy + Drop,
-{
-    let rt = *book.rt();
-    let barrier = book.twice("Barrier::new", || Barrier::new(rt, 3))?;
-    barrier::rounds(book, &barrier)
+fn barriers<R: Runtime>(book: &Book<R>) -> Option<(bool, bool, bool, bool)> {
+    let rt = book.rt();
+    let barrier = twice!(book, "Barrier::new", Barrier::new(rt, 3))?;
+    let (led, first, second) = barrier::first_round(book, &barrier)?;
+    let last = barrier::second_round(book, &barrier)?;
+    Some((led, first, second, last))
 }
 
-fn in_threads<R>(book: &Book<R>) -> Option<(u64, u64, usize)>
-where
-    R: Wait + Clock + Eprint + RandomSource + AllocGlobal + Threads + Sync + Copy + Drop,
-{
-    let rt = *book.rt();
-    let mutex = book.twice("Mutex::new", || Mutex::new(rt, 0u64))?;
-    let lock = book.twice("RwLock::new", || RwLock::new(rt, 0u64))?;
-    let semaphore = book.twice("Semaphore::new", || Semaphore::new(rt, 1))?;
+fn in_threads<R: Runtime + Threads + Sync>(book: &Book<R>) -> Option<(u64, u64, usize)> {
+    let rt = book.rt();
+    let mutex = twice!(book, "Mutex::new", Mutex::new(rt, 0u64))?;
+    let lock = twice!(book, "RwLock::new", RwLock::new(rt, 0u64))?;
+    let semaphore = twice!(book, "Semaphore::new", Semaphore::new(rt, 1))?;
     threads::added(book, &mutex, &lock, &semaphore)
 }
 
+fn print_all<R: Runtime + Print + Threads + Sync>(
+    rt: R,
+    book: &Book<R>,
+    counts: &Counts,
+) -> io::Result<()> {
+    println!(rt; "mutex: {:?}", book.found(mutexes(book, counts)))?;
+    println!(rt; "read-write lock: {:?}", book.found(rwlocks(book, counts)))?;
+    println!(rt; "semaphore: {:?}", book.found(semaphores(book)))?;
+    println!(rt; "once-cell: {:?}", book.found(cells(book, counts)))?;
+    println!(rt; "barrier: {:?}", book.found(barriers(book)))?;
+    println!(rt; "two threads: {:?}", book.found(in_threads(book)))?;
+    println!(rt; "values left: {}", counts.alive())
+}
+
 fn main(rt: HostRuntime) -> ExitCode {
-    let _ = throw_away(&rt);
-    let book = Book::new(rt);
-    let counts = Counts::new();
-    let told = (
-        println!(rt; "mutex: {:?}", mutexes(&book, &counts)),
-        println!(rt; "read-write lock: {:?}", rwlocks(&book, &counts)),
-        println!(rt; "semaphore: {:?}", semaphores(&book)),
-        println!(rt; "once-cell: {:?}", cells(&book, &counts)),
-        println!(rt; "barrier: {:?}", barriers(&book)),
-        println!(rt; "two threads: {:?}", in_threads(&book)),
-        println!(rt; "values left: {}", counts.alive()),
-    );
-    match told {
-        (Ok(()), Ok(()), Ok(()), Ok(()), Ok(()), Ok(()), Ok(())) => ExitCode::SUCCESS,
-        _ => ExitCode::FAILURE,
+    let _ = throw_away(rt);
+    let Some(book) = Book::new(rt) else {
+        return ExitCode::FAILURE;
+    };
+    match print_all(rt, &book, &Counts::new()) {
+        Ok(()) => ExitCode::SUCCESS,
+        Err(_) => ExitCode::FAILURE,
     }
 }

@@ -1,59 +1,70 @@
 //! The mutex's calls.
 
-use crate::book::Book;
+use crate::book::{Book, Runtime, twice};
 use crate::token::{Counts, Token};
-use async_lock::Mutex;
-use futures::test::MockTask;
-use std::alloc::AllocGlobal;
-use std::random::RandomSource;
-use std::sync::{Arc, Wait};
-use std::time::Clock;
+use async_lock::{Mutex, MutexGuard};
+use std::sync::Arc;
 
-/// Every call that waits, on a mutex that is borrowed; the number that is written last.
-pub(crate) fn borrowed<'c, R>(
+/// A mutex with the first token.
+pub(crate) fn new_mutex<'c, R: Runtime>(
     book: &Book<R>,
     counts: &'c Counts,
-    mutex: Mutex<Token<'c>, R>,
-) -> Option<u64>
-where
-    R: Wait + Clock + Eprint + RandomSource + AllocGlobal + Copy + Drop,
-{
-    let (task, other) = (book.task()?, book.task()?);
-    let first = book.ready("Mutex::lock, free", &task, &mut mutex.lock())?;
+) -> Option<Mutex<Token<'c>, R>> {
+    let rt = book.rt();
+    twice!(book, "Mutex::new", Mutex::new(rt, counts.token(1)))
+}
+
+// Another token under a mutex.
+fn put<'c, R: Runtime>(
+    guard: Option<MutexGuard<'_, Token<'c>, R>>,
+    token: Token<'c>,
+) -> Option<()> {
+    *guard? = token;
+    Some(())
+}
+
+fn add_one<R: Runtime>(guard: Option<MutexGuard<'_, Token<'_>, R>>) -> Option<()> {
+    let mut guard = guard?;
+    guard.number = guard.number.saturating_add(1);
+    Some(())
+}
+
+/// Every call that waits, on a mutex that is borrowed; the number that is written last.
+pub(crate) fn borrowed<'c, R: Runtime>(
+    book: &Book<R>,
+    counts: &'c Counts,
+    mutex: &Mutex<Token<'c>, R>,
+) -> Option<u64> {
+    let first = book.ready("Mutex::lock, free", &book.one, &mut mutex.lock());
     let mut waits = mutex.lock();
-    book.pends("Mutex::lock", &task, &mut waits)?;
+    book.pends("Mutex::lock", &book.one, &mut waits);
     let mut cancelled = mutex.lock();
-    book.pends("Mutex::lock, second", &other, &mut cancelled)?;
-    book.pends("Mutex::lock, again", &task, &mut waits)?;
+    book.pends("Mutex::lock, second", &book.two, &mut cancelled);
+    book.pends("Mutex::lock, again", &book.one, &mut waits);
     drop(first);
     drop(cancelled);
-    let mut second = book.ready("Mutex::lock, woken", &task, &mut waits)?;
-    *second = counts.token(2);
-    drop(second);
+    let second = book.ready("Mutex::lock, woken", &book.one, &mut waits);
+    put(second, counts.token(2));
     drop(waits);
-    let mut third = book.twice("Mutex::lock_blocking", || mutex.lock_blocking())?;
-    third.number = third.number.saturating_add(1);
-    drop(third);
-    let last = mutex.try_lock()?.number;
-    let held = mutex.into_inner();
-    Some(last.saturating_add(held.number))
+    add_one(twice!(book, "Mutex::lock_blocking", mutex.lock_blocking()));
+    Some(mutex.try_lock()?.number)
 }
 
 /// The same by guards that own the mutex.
-pub(crate) fn owned<R>(book: &Book<R>, mutex: &Arc<Mutex<Token<'_>, R>>) -> Option<u64>
-where
-    R: Wait + Clock + Eprint + RandomSource + AllocGlobal + Copy + Drop,
-{
-    let task: MockTask = book.task()?;
-    let first = book.ready("Mutex::lock_arc, free", &task, &mut Mutex::lock_arc(mutex))?;
+pub(crate) fn owned<R: Runtime>(book: &Book<R>, mutex: &Arc<Mutex<Token<'_>, R>>) -> Option<u64> {
+    let first = book.ready(
+        "Mutex::lock_arc, free",
+        &book.one,
+        &mut Mutex::lock_arc(mutex),
+    );
     let mut waits = Mutex::lock_arc(mutex);
-    book.pends("Mutex::lock_arc", &task, &mut waits)?;
+    book.pends("Mutex::lock_arc", &book.one, &mut waits);
     drop(first);
-    let second = book.ready("Mutex::lock_arc, woken", &task, &mut waits)?;
-    drop(second);
-    let third = book.twice("Mutex::lock_arc_blocking", || {
+    drop(book.ready("Mutex::lock_arc, woken", &book.one, &mut waits));
+    drop(twice!(
+        book,
+        "Mutex::lock_arc_blocking",
         Mutex::lock_arc_blocking(mutex)
-    })?;
-    drop(third);
+    ));
     Some(Mutex::try_lock_arc(mutex)?.number)
 }

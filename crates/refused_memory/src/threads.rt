@@ -1,58 +1,64 @@
 //! Two threads at the blocking calls of each lock: what is refused is repeated, so that nothing is left undone.
 
-use crate::book::Book;
+use crate::book::{Book, Runtime, twice};
 use async_lock::{Mutex, RwLock, Semaphore};
-use std::alloc::AllocGlobal;
-use std::random::RandomSource;
-use std::sync::Wait;
 use std::thread::{self, Threads};
-use std::time::Clock;
 
 /// How often each thread does its work.
 const OFTEN: u64 = 20;
 
-// Adds one, by a mutex and by a read-write lock, with a permit.
-fn add<R>(
-    book: &Book<R>,
-    mutex: &Mutex<u64, R>,
-    lock: &RwLock<u64, R>,
-    semaphore: &Semaphore<R>,
-) -> Option<()>
-where
-    R: Wait + Clock + Eprint + RandomSource + AllocGlobal + Copy + Drop,
-{
-    let permit = book.twice("Semaphore::acquire_blocking, two threads", || {
-        semaphore.acquire_blocking()
-    })?;
-    let mut guard = book.twice(
+// Adds one by a mutex.
+fn add_by_mutex<R: Runtime>(book: &Book<R>, mutex: &Mutex<u64, R>) -> Option<()> {
+    let mut guard = twice!(
+        book,
         "Mutex::lock_blocking, two threads",
-        || mutex.lock_blocking(),
+        mutex.lock_blocking()
     )?;
     *guard = guard.saturating_add(1);
-    drop(guard);
-    drop(permit);
-    let mut guard = book.twice(
-        "RwLock::write_blocking, two threads",
-        || lock.write_blocking(),
-    )?;
-    *guard = guard.saturating_add(1);
-    drop(guard);
-    let seen = *book.twice(
-        "RwLock::read_blocking, two threads",
-        || lock.read_blocking(),
-    )?;
-    (seen > 0).then_some(())
+    Some(())
 }
 
-fn add_often<R>(
+// Adds one by a read-write lock, and reads it.
+fn add_by_lock<R: Runtime>(book: &Book<R>, lock: &RwLock<u64, R>) -> Option<u64> {
+    let mut guard = twice!(
+        book,
+        "RwLock::write_blocking, two threads",
+        lock.write_blocking()
+    )?;
+    *guard = guard.saturating_add(1);
+    drop(guard);
+    let guard = twice!(
+        book,
+        "RwLock::read_blocking, two threads",
+        lock.read_blocking()
+    )?;
+    Some(*guard)
+}
+
+// Adds one, by a mutex with a permit, and by a read-write lock.
+fn add<R: Runtime>(
     book: &Book<R>,
     mutex: &Mutex<u64, R>,
     lock: &RwLock<u64, R>,
     semaphore: &Semaphore<R>,
-) -> bool
-where
-    R: Wait + Clock + Eprint + RandomSource + AllocGlobal + Copy + Drop,
-{
+) -> Option<()> {
+    let permit = twice!(
+        book,
+        "Semaphore::acquire_blocking, two threads",
+        semaphore.acquire_blocking()
+    );
+    let added = add_by_mutex(book, mutex);
+    drop(permit);
+    let seen = add_by_lock(book, lock)?;
+    if seen > 0 { added } else { None }
+}
+
+fn add_often<R: Runtime>(
+    book: &Book<R>,
+    mutex: &Mutex<u64, R>,
+    lock: &RwLock<u64, R>,
+    semaphore: &Semaphore<R>,
+) -> bool {
     for _ in 0..OFTEN {
         if add(book, mutex, lock, semaphore).is_none() {
             return false;
@@ -63,17 +69,17 @@ where
 
 /// What two threads have written that add one each time: by the mutex and by the read-write lock, and how many permits are
 /// there afterwards.
-pub(crate) fn added<R>(
+pub(crate) fn added<R: Runtime + Threads + Sync>(
     book: &Book<R>,
     mutex: &Mutex<u64, R>,
     lock: &RwLock<u64, R>,
     semaphore: &Semaphore<R>,
-) -> Option<(u64, u64, usize)>
-where
-    R: Wait + Clock + Eprint + RandomSource + AllocGlobal + Threads + Sync + Copy + Drop,
-{
-    let adds = || add_often(book, mutex, lock, semaphore);
-    let (one, two) = thread::join(book.rt(), &adds, &adds);
+) -> Option<(u64, u64, usize)> {
+    let (one, two) = thread::join(
+        &book.rt(),
+        || add_often(book, mutex, lock, semaphore),
+        || add_often(book, mutex, lock, semaphore),
+    );
     if !(one && two) {
         return None;
     }
