@@ -1,5 +1,7 @@
 //! What a lock's shell offers to be driven beside its World.
 
+ghost use Rattle.std.specs.Prelude.{◌≡◌};
+
 use crate::bench::Bench;
 use std::alloc::Global;
 use std::fmt::Debug;
@@ -13,7 +15,10 @@ pub struct Did {
     pub answer: Answer,
 }
 
-pub fn moved(what: What, answer: Answer) -> Did {
+/// That a party made this move, and was answered so.
+pub fn moved(what: What, answer: Answer) -> Did
+    ensures { (result.what ≡ what) × (result.answer ≡ answer) }
+{
     Did { what, answer }
 }
 

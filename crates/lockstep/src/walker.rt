@@ -1,5 +1,8 @@
 //! A party of any lock that threads share, driven by single actions.
 
+ghost use Rattle.lockstep.specs.declared.walker.Acted.TheVariants.{Never};
+ghost use Rattle.std.specs.Prelude.{◌≡◌, ◌≢◌};
+
 use async_driver::Carries;
 use futures::task::Context;
 use std::marker::Model;
@@ -45,8 +48,10 @@ impl<C: Carries> Walker<C>
 where
     C::Shared: Drop,
 {
-    /// The action of the party's place.
-    pub fn go<R: Wait + Clock>(&mut self, rt: &R, cx: &mut Context<'_>) -> Acted<C::End> {
+    /// The action of the party's place. There always is one.
+    pub fn go<R: Wait + Clock>(&mut self, rt: &R, cx: &mut Context<'_>) -> Acted<C::End>
+        ensures { result ≢ Never }
+    {
         let place = self.place;
         let (end, next) = self.party.go(&*self.shared, rt, cx, place);
         self.place = next;
@@ -56,13 +61,15 @@ where
         }
     }
 
-    /// Begins a call with its first action.
+    /// Begins a call with its first action. Where no such call begins, the party stays where it is.
     pub fn begin<R: Wait + Clock>(
         &mut self,
         rt: &R,
         cx: &mut Context<'_>,
         call: C::Call,
-    ) -> Acted<C::End> {
+    ) -> Acted<C::End>
+        ensures { result ≡ Never → self.new ≡ self.old }
+    {
         match C::start(call, self.place) {
             Some(first) => {
                 self.place = first;
