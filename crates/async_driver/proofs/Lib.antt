@@ -1,2 +1,2 @@
-pub mod Kept
-pub mod KeptWeights
+pub mod Keeping
+pub mod KeepingWeights

@@ -1,5 +1,5 @@
 -- What an entry heard, and whose waker it keeps.
-use Rattle.std.specs.Prelude.{◌≡◌, ℕ, ⊤, true, ◌⊎◌, List, Option, Some, None, IsSomeAnd}
+use Rattle.std.specs.Prelude.{◌≡◌, ℕ, ⊤, true, ◌⊎◌, List, IsSomeAnd}
 use Rattle.std.specs.Arc.{arc_value}
 use Rattle.futures.specs.declared.task.context.Context.{Context}
 use Rattle.futures.specs.declared.task.waker.Waker.{Waker}
@@ -7,7 +7,8 @@ use Rattle.lock_event.specs.Slots.{waker_at}
 use Rattle.lock_event.specs.declared.event.Entry.{Entry}
 use Rattle.lock_event.specs.declared.event.EntryId.{EntryId}
 use Rattle.lock_event.specs.declared.event.Slot.{Slot}
-use Rattle.async_driver.specs.declared.task_id.TaskId.{TaskId}
+use Rattle.async_driver.specs.Tasks.{Woken, woken_by}
+use Rattle.async_driver.specs.declared.kept.Kept.{Kept}
 use Rattle.async_driver.specs.declared.waiting_list.Heard.{Heard}
 use Rattle.async_driver.specs.declared.waiting_list.Heard.TheVariants.{Notified, Waiting}
 use Rattle.async_driver.specs.declared.waiting_list.Listed.{Listed}
@@ -23,26 +24,22 @@ abbrev pub OnWaiting : Heard → (Listed → Type 0) → Type 0
 OnWaiting (Notified owed) fact = ⊤
 OnWaiting (Waiting entry) fact = fact entry
 
-abbrev pub OnPolled : Polled → (Option TaskId → Type 0) → Type 0
+abbrev pub OnPolled : Polled → (Kept → Type 0) → Type 0
 OnPolled (polled.Notified waker) fact = ⊤
 OnPolled (polled.Waiting keeps) fact = fact keeps
 
--- this is the task that the waker wakes
-abbrev pub IsTask : Waker → TaskId → Type 0
-IsTask waker id = (id.task ≡ waker.owed.first.task) × (id.executor ≡ (arc_value waker.route).origin.executor) × (id.queue ≡ (arc_value waker.route).origin.queue)
-
-abbrev pub IsTaskOf : Option Waker → Option TaskId → Type 0
-IsTaskOf None keeps = keeps ≡ None
-IsTaskOf (Some waker) keeps = IsSomeAnd keeps (IsTask waker)
-
 -- the entry of this id keeps a waker of that task, or none
-abbrev pub KeepsAt : EntryId → Option TaskId → List (Entry (Slot Waker)) → Type 0
-KeepsAt id keeps es = IsTaskOf (waker_at id es) keeps
+abbrev pub KeepsAt : EntryId → Kept → List (Entry (Slot Waker)) → Type 0
+KeepsAt id keeps es = keeps.by ≡ woken_by (waker_at id es)
 
 -- it is the task that the context polls
-abbrev pub IsPolledBy : Context → TaskId → Type 0
-IsPolledBy cx id = (id.task ≡ cx.turn.task) × (id.executor ≡ (arc_value cx.route.now).origin.executor) × (id.queue ≡ (arc_value cx.route.now).origin.queue)
+abbrev pub IsPolledBy : Context → Woken → Type 0
+IsPolledBy cx t = (t.task ≡ cx.turn.task) × (t.executor ≡ (arc_value cx.route.now).origin.executor) × (t.queue ≡ (arc_value cx.route.now).origin.queue)
 
 -- what is kept is of the task that the context polls, unless no waker could be made, and the task is polled again without
-abbrev pub IsKept : Context → Option TaskId → Type 0
-IsKept cx keeps = (cx.lacks_waker ≡ true) ⊎ IsSomeAnd keeps (IsPolledBy cx)
+abbrev pub IsKept : Context → Kept → Type 0
+IsKept cx keeps = (cx.lacks_waker ≡ true) ⊎ IsSomeAnd keeps.by (IsPolledBy cx)
+
+-- it stands for no entry of its list any more
+abbrev pub HasLeft : Listed → Type 0
+HasLeft entry = entry.id.number ≡ 18446744073709551615

@@ -1,3 +1,4 @@
+pub mod Tasks
 pub mod Heard
 pub mod Turns
 pub mod Weighted

@@ -1,13 +1,13 @@
 -- What an entry that waits for a number of units heard, and whose waker it keeps.
-use Rattle.std.specs.Prelude.{◌≡◌, ℕ, ⊤, List, Option}
+use Rattle.std.specs.Prelude.{◌≡◌, ℕ, ⊤, List}
 use Rattle.futures.specs.declared.task.waker.Waker.{Waker}
 use Rattle.lock_event.specs.Loads.{kept_at}
 use Rattle.lock_event.specs.declared.event.Entry.{Entry}
 use Rattle.lock_event.specs.declared.event.EntryId.{EntryId}
 use Rattle.lock_event.specs.declared.event.Slot.{Slot}
 use Rattle.lock_event.specs.declared.weighted.Load.{Load}
-use Rattle.async_driver.specs.Heard.{IsTaskOf}
-use Rattle.async_driver.specs.declared.task_id.TaskId.{TaskId}
+use Rattle.async_driver.specs.Tasks.{woken_by}
+use Rattle.async_driver.specs.declared.kept.Kept.{Kept}
 use Rattle.async_driver.specs.declared.weighted_list.WeightedHeard.{WeightedHeard}
 use Rattle.async_driver.specs.declared.weighted_list.WeightedHeard.TheVariants.{Notified, Waiting}
 use Rattle.async_driver.specs.declared.weighted_list.WeightedListed.{WeightedListed}
@@ -22,5 +22,5 @@ OnWaiting (Notified owed) fact = ⊤
 OnWaiting (Waiting entry) fact = fact entry
 
 -- the entry of this id keeps a waker of that task, or none
-abbrev pub KeepsAt : EntryId → Option TaskId → List (Entry (Slot (Load Waker))) → Type 0
-KeepsAt id keeps es = IsTaskOf (kept_at id es) keeps
+abbrev pub KeepsAt : EntryId → Kept → List (Entry (Slot (Load Waker))) → Type 0
+KeepsAt id keeps es = keeps.by ≡ woken_by (kept_at id es)

@@ -1,12 +1,15 @@
 //! The waiting list of a lock that threads share.
 
-ghost use Rattle.std.specs.Prelude.{◌≡◌, ℕ, ◌≤◌, IfOk, IfSome};
-ghost use Rattle.async_driver.specs.Heard.{IsOf, OnPolled, OnWaiting, IsTaskOf, KeepsAt, IsKept};
+ghost use Rattle.std.specs.Prelude.{◌≡◌, ℕ, ◌≤◌, false, IfOk, IfSome, IfNone};
+ghost use Rattle.async_driver.specs.Heard.{IsOf, OnPolled, OnWaiting, KeepsAt, IsKept, HasLeft};
 ghost use Rattle.futures.specs.Task.{Covers, Keeps};
+ghost use Rattle.lock_event.specs.Lists.{is_waiting_at};
+ghost use Rattle.lock_event.specs.Slots.{has_id};
 
 use crate::duty::{Flag, ListKey, Owed};
+use crate::kept::Kept;
 use crate::list_id::ListId;
-use crate::task_id::TaskId;
+use crate::locked::locked;
 use futures::task::{Context, Poll, Source, Waker};
 use lock_event::{Asked, EntryId, Event, Mark, Memory};
 use std::alloc::{AllocFailed, Global};
@@ -31,13 +34,25 @@ impl Wakes for Waker {
 pub struct Listed {
     id: EntryId,
     pub list: ListId,
-    pub keeps: Option<TaskId>,
+    pub keeps: Kept,
 }
 
 impl Listed {
     /// The id of the entry, as [`WaitingList::entry`] shows it.
     pub fn id(&self) -> EntryId {
         self.id
+    }
+
+    /// Ends what is left of an entry that has left its list: [`WaitingList::poll_in_place`] found it notified.
+    #[inline(always)]
+    pub fn end(self)
+        requires { HasLeft self }
+    {
+        let Listed {
+            id: _,
+            list: _,
+            keeps: _,
+        } = self;
     }
 }
 
@@ -54,7 +69,7 @@ pub enum Polled {
     /// The entry was notified, and has left with what it kept.
     Notified(Option<Waker>),
     /// The entry waits, and keeps a waker of this task.
-    Waiting(Option<TaskId>),
+    Waiting(Kept),
 }
 
 /// Wakers that are to be called: these, and one for which memory was refused.
@@ -126,7 +141,7 @@ impl<W: Wakes> WaitingList<W> {
 
     /// Returns the entry at this index, counted from the front, with its mark. It is for tests.
     pub fn entry<R: Wait>(&self, rt: &R, index: usize) -> Option<(EntryId, Mark)> {
-        let entries = self.entries.lock(rt);
+        let entries = locked(&self.entries, rt);
         if index < entries.len() {
             let entry = entries.entry(index);
             Some((entry.key.id, entry.mark))
@@ -140,11 +155,11 @@ impl<W: Wakes> WaitingList<W> {
     pub fn join<R: Wait>(&self, rt: &R) -> Result<Listed, Memory>
         ensures { IfOk result (λ entry. entry.list.id ≡ self.now.name.id) }
     {
-        match join_locked(&mut self.entries.lock(rt), &self.is_listed) {
+        match join_locked(&mut locked(&self.entries, rt), &self.is_listed) {
             Ok(id) => Ok(Listed {
                 id,
                 list: self.id(),
-                keeps: None,
+                keeps: Kept::of(&None),
             }),
             Err(memory) => Err(memory),
         }
@@ -159,7 +174,7 @@ impl<W: Wakes> WaitingList<W> {
     {
         let Listed { id, list, keeps: _ } = entry;
         let asked = ask_locked(
-            &mut self.entries.lock(rt),
+            &mut locked(&self.entries, rt),
             &self.is_listed,
             id,
             waker.take(),
@@ -170,7 +185,7 @@ impl<W: Wakes> WaitingList<W> {
                 Heard::Waiting(Listed {
                     id,
                     list,
-                    keeps: None,
+                    keeps: Kept::of(&None),
                 })
             }
             Asked::Notified { kept, unused } => {
@@ -194,7 +209,7 @@ impl<W: Wakes> WaitingList<W> {
             list: _,
             keeps: _,
         } = entry;
-        let (kept, due) = leave_locked(&mut self.entries.lock(rt), &self.is_listed, id);
+        let (kept, due) = leave_locked(&mut locked(&self.entries, rt), &self.is_listed, id);
         drop(kept);
         if let Some(waker) = due {
             waker.wake();
@@ -221,7 +236,7 @@ impl<W: Wakes> WaitingList<W> {
     {
         if let Some(owed) = owed.unless_listed(&self.is_listed) {
             let due = {
-                let mut entries = self.entries.lock(rt);
+                let mut entries = locked(&self.entries, rt);
                 owed.notify_additional(&mut entries, n);
                 all_due(&mut entries, self.alloc)
             };
@@ -235,13 +250,13 @@ impl<W: Wakes> WaitingList<W> {
         requires { 1 ≤ n }
     {
         if n == 1 {
-            if let Some(waker) = notify_one(&mut self.entries.lock(rt), owed) {
+            if let Some(waker) = notify_one(&mut locked(&self.entries, rt), owed) {
                 waker.wake();
             }
             return;
         }
         let due = {
-            let mut entries = self.entries.lock(rt);
+            let mut entries = locked(&self.entries, rt);
             owed.notify(&mut entries, n);
             all_due(&mut entries, self.alloc)
         };
@@ -265,7 +280,7 @@ impl<W: Wakes> WaitingList<W> {
 
     fn wake_one_by_one<R: Wait>(&self, rt: &R) {
         for _ in rt.forever() {
-            let next = self.entries.lock(rt).next_waker();
+            let next = locked(&self.entries, rt).next_waker();
             match next {
                 Some(waker) => waker.wake(),
                 None => return,
@@ -279,6 +294,7 @@ impl WaitingList<Waker> {
     /// which has registered with `source`; a waker of the same task that it keeps already stays.
     ///
     /// A waiting entry is the receipt of that (`waits`). An entry that isn't there counts as notified.
+    #[inline(always)]
     pub fn poll<R: Wait>(
         &self,
         rt: &R,
@@ -291,13 +307,48 @@ impl WaitingList<Waker> {
         ensures waits { OnWaiting result (λ entry. IsKept cx.new entry.keeps × Covers cx.new (λ s. s ≡ source.now.id)) }
         ensures kept { Keeps cx.old cx.new }
     {
-        let Listed { id, list, keeps: _ } = entry;
-        let polled = poll_locked(&mut self.entries.lock(rt), &self.is_listed, id, source, cx);
+        let mut entry = entry;
+        match self.poll_in_place(rt, &mut entry, source, cx) {
+            Some(owed) => {
+                entry.end();
+                Heard::Notified(owed)
+            }
+            None => Heard::Waiting(entry),
+        }
+    }
+
+    /// Polls this entry where it stands, as [`WaitingList::poll`]. Notified, it has left the list, and [`Listed::end`] ends what
+    /// is left of it (`told`).
+    #[inline(always)]
+    pub fn poll_in_place<R: Wait>(
+        &self,
+        rt: &R,
+        entry: &mut Listed,
+        source: &Source,
+        cx: &mut Context<'_>,
+    ) -> Option<Owed>
+        requires { entry.old.list.id ≡ self.now.name.id }
+        ensures list { entry.new.list.id ≡ self.now.name.id }
+        ensures told { IfSome result (λ owed. (owed.list.id ≡ self.now.name.id) × HasLeft entry.new) }
+        ensures waits { IfNone result (IsKept cx.new entry.new.keeps × Covers cx.new (λ s. s ≡ source.now.id)) }
+        ensures kept { Keeps cx.old cx.new }
+    {
+        let polled = poll_locked(
+            &mut locked(&self.entries, rt),
+            &self.is_listed,
+            entry.id,
+            source,
+            cx,
+        );
         match polled {
-            Polled::Waiting(keeps) => Heard::Waiting(Listed { id, list, keeps }),
+            Polled::Waiting(keeps) => {
+                entry.keeps = keeps;
+                None
+            }
             Polled::Notified(waker) => {
                 drop(waker);
-                Heard::Notified(Owed::new(list))
+                entry.id = EntryId::nobody();
+                Some(Owed::new(entry.list.again()))
             }
         }
     }
@@ -323,6 +374,7 @@ fn ask_locked<W: Wakes>(
 }
 
 // What the entry kept, and the waker that is due then.
+#[inline(always)]
 fn leave_locked<W: Wakes>(
     entries: &mut Event<W>,
     is_listed: &Flag,
@@ -330,6 +382,9 @@ fn leave_locked<W: Wakes>(
 ) -> (Option<W>, Option<W>) {
     let kept = entries.withdraw(id);
     is_listed.follow(entries);
+    if entries.marked() == 0 {
+        return (kept, None);
+    }
     (kept, entries.next_waker())
 }
 
@@ -358,6 +413,7 @@ fn all_due<W: Wakes>(entries: &mut Event<W>, alloc: Global) -> Due<W> {
 }
 
 // By the contract an entry that waits keeps a waker of the task that is answered.
+#[inline(always)]
 fn poll_locked(
     entries: &mut Event<Waker>,
     is_listed: &Flag,
@@ -368,29 +424,24 @@ fn poll_locked(
     ensures waits { OnPolled result (λ keeps. KeepsAt id keeps entries.new.entries × IsKept cx.new keeps × Covers cx.new (λ s. s ≡ source.now.id)) }
     ensures kept { Keeps cx.old cx.new }
 {
-    let mut waker = match entries.ask(id, None) {
-        Asked::Waiting { kept } => kept,
-        Asked::Notified { kept, .. } => {
-            is_listed.follow(entries);
-            return Polled::Notified(kept);
-        }
-        Asked::Unlisted { .. } => return Polled::Notified(None),
-    };
-    let _: Poll<()> = cx.register(source, &mut waker);
-    let keeps = task_of(&waker);
-    match entries.ask(id, waker) {
-        Asked::Waiting { .. } => Polled::Waiting(keeps),
-        Asked::Notified { .. } => unreachable!(),
-        Asked::Unlisted { .. } => unreachable!(),
+    if let Some(slot) = entries.waker_mut(id) {
+        let _: Poll<()> = cx.register(source, slot);
+        return Polled::Waiting(Kept::of(slot));
     }
+    Polled::Notified(told_locked(entries, is_listed, id))
 }
 
-// The task of a waker, if there is one.
-pub(crate) fn task_of(waker: &Option<Waker>) -> Option<TaskId>
-    ensures { IsTaskOf waker.now result }
+// An entry that doesn't wait leaves the list, if it is there: what it kept.
+#[inline(never)]
+fn told_locked(entries: &mut Event<Waker>, is_listed: &Flag, id: EntryId) -> Option<Waker>
+    requires { is_waiting_at (has_id id) entries.old.entries ≡ false }
 {
-    match waker {
-        Some(waker) => Some(TaskId::of(waker)),
-        None => None,
+    match entries.ask(id, None) {
+        Asked::Notified { kept, .. } => {
+            is_listed.follow(entries);
+            kept
+        }
+        Asked::Unlisted { .. } => None,
+        Asked::Waiting { .. } => unreachable!(),
     }
 }

@@ -9,9 +9,10 @@ ghost use Rattle.lock_event.specs.Loads.{laden, weight_of};
 ghost use Rattle.lock_event.specs.Weights.{fitted};
 
 use crate::duty::{Flag, ListKey, Owed};
+use crate::kept::Kept;
 use crate::list_id::ListId;
-use crate::task_id::TaskId;
-use crate::waiting_list::{Polled, Wakes, task_of};
+use crate::locked::locked;
+use crate::waiting_list::{Polled, Wakes};
 use futures::task::{Context, Poll, Source, Waker};
 use lock_event::{Asked, EntryId, Memory, WeightedEvent};
 use std::alloc::Global;
@@ -24,7 +25,7 @@ use std::sync::{Mutex, Wait};
 pub struct WeightedListed {
     id: EntryId,
     pub list: ListId,
-    pub keeps: Option<TaskId>,
+    pub keeps: Kept,
     pub weight: u64,
 }
 
@@ -101,25 +102,25 @@ impl<W: Wakes> WeightedList<W> {
 
     /// Returns how many entries the list has. It is for tests.
     pub fn len<R: Wait>(&self, rt: &R) -> usize {
-        self.entries.lock(rt).len()
+        locked(&self.entries, rt).len()
     }
 
     /// Returns whether the entry of this id stands in the list and is notified. It is for tests.
     pub fn is_notified<R: Wait>(&self, rt: &R, id: EntryId) -> bool {
-        let entries = self.entries.lock(rt);
+        let entries = locked(&self.entries, rt);
         entries.contains(id) && entries.is_notified(id)
     }
 
     /// Adds a waiting entry for so many units at the back, with no waker. [`Memory`] comes only if memory was refused,
     /// and the list then is as it was.
     pub fn join<R: Wait>(&self, rt: &R, weight: u64) -> Result<WeightedListed, Memory>
-        ensures { IfOk result (λ entry. (entry.list.id ≡ self.now.name.id) × (entry.weight ≡ weight) × (entry.keeps ≡ None)) }
+        ensures { IfOk result (λ entry. (entry.list.id ≡ self.now.name.id) × (entry.weight ≡ weight) × (entry.keeps.by ≡ None)) }
     {
-        match join_locked(&mut self.entries.lock(rt), &self.is_listed, weight) {
+        match join_locked(&mut locked(&self.entries, rt), &self.is_listed, weight) {
             Ok(id) => Ok(WeightedListed {
                 id,
                 list: self.id(),
-                keeps: None,
+                keeps: Kept::of(&None),
                 weight,
             }),
             Err(memory) => Err(memory),
@@ -145,7 +146,7 @@ impl<W: Wakes> WeightedList<W> {
             weight,
         } = entry;
         let asked = ask_locked(
-            &mut self.entries.lock(rt),
+            &mut locked(&self.entries, rt),
             &self.is_listed,
             id,
             waker.take(),
@@ -156,7 +157,7 @@ impl<W: Wakes> WeightedList<W> {
                 WeightedHeard::Waiting(WeightedListed {
                     id,
                     list,
-                    keeps: None,
+                    keeps: Kept::of(&None),
                     weight,
                 })
             }
@@ -183,7 +184,11 @@ impl<W: Wakes> WeightedList<W> {
             keeps: _,
             weight: _,
         } = entry;
-        let (was_notified, kept) = remove_locked(&mut self.entries.lock(rt), &self.is_listed, id);
+        let (was_notified, kept) = remove_locked(
+            &mut locked(&self.entries, rt),
+            &self.is_listed,
+            id,
+        );
         drop(kept);
         if was_notified {
             Some(Owed::new(list))
@@ -206,7 +211,7 @@ impl<W: Wakes> WeightedList<W> {
     // As `fit`, of a list that had entries.
     #[inline(never)]
     fn fit_listed<R: Wait>(&self, rt: &R, available: u64, owed: Owed) {
-        let due = fit_locked(&mut self.entries.lock(rt), available, owed);
+        let due = fit_locked(&mut locked(&self.entries, rt), available, owed);
         if let Some(waker) = due {
             waker.wake();
         }
@@ -236,7 +241,13 @@ impl WeightedList<Waker> {
             keeps: _,
             weight,
         } = entry;
-        let polled = poll_locked(&mut self.entries.lock(rt), &self.is_listed, id, source, cx);
+        let polled = poll_locked(
+            &mut locked(&self.entries, rt),
+            &self.is_listed,
+            id,
+            source,
+            cx,
+        );
         match polled {
             Polled::Waiting(keeps) => WeightedHeard::Waiting(WeightedListed {
                 id,
@@ -314,7 +325,7 @@ fn poll_locked(
         Asked::Unlisted { .. } => return Polled::Notified(None),
     };
     let _: Poll<()> = cx.register(source, &mut waker);
-    let keeps = task_of(&waker);
+    let keeps = Kept::of(&waker);
     match entries.ask(id, waker) {
         Asked::Waiting { .. } => Polled::Waiting(keeps),
         Asked::Notified { .. } => unreachable!(),

@@ -1,30 +1,13 @@
--- The entry that waited keeps the waker that was registered into, and still waits when it is handed in.
-use Rattle.std.proofs.Common.{None, subst, sym, ap, ◌∙◌, true≢false}
+-- The entry that waits keeps the waker that was registered into.
+use Rattle.std.proofs.Common.{subst, sym, ap, ◌∙◌}
 use Rattle.futures.specs.Task.{Hears}
-use Rattle.lock_event.specs.Lists.{is_listed, is_marked_at}
-use Rattle.lock_event.specs.Slots.{has_id, waker_at}
-use Rattle.async_driver.specs.Heard.{IsTaskOf}
-use Rattle.async_driver.proofs.Kept.{waker_at-with_key, unmarked-with_key, listed-with_key, is_kept}
+use Rattle.async_driver.specs.Tasks.{woken_by}
+use Rattle.async_driver.proofs.Keeping.{waker_at-waiting, is_kept}
 use Rattle.async_driver.proofs.waiting_list.poll_locked.Goals as goal
 
-pub returns-clause-waits : goal.returns-clause-waits
-returns-clause-waits c =
-    let asked = c.in-Waiting-ask.ensures.asked in
-    let waker = c.register.new.slot in
-    let keeps = c.task_of-keeps.result in (
-      subst (λ w. IsTaskOf w keeps) (sym (ap (waker_at c.args.id) asked.2 ∙ waker_at-with_key c.args.id waker _ asked.0)) c.task_of-keeps.ensures,
-      is_kept _ _ waker keeps c.register.ensures.kept c.task_of-keeps.ensures c.register.ensures.left,
-      (c.register.ensures.armed, λ s is. subst (λ x. Hears c.register.new.self x) (sym is) c.register.ensures.heard),
-    )
-
-pub unreachable-requires : goal.unreachable-requires
-unreachable-requires c =
-    let first = c.in-Waiting.ensures.asked in
-    let marked = c.in-Notified-ask.ensures.asked in
-    true≢false (sym marked.0 ∙ ap (is_marked_at (has_id c.args.id)) first.2 ∙ unmarked-with_key c.args.id None _ first.1)
-
-pub unreachable-requires-in-Unlisted-ask : goal.unreachable-requires-in-Unlisted-ask
-unreachable-requires-in-Unlisted-ask c =
-    let first = c.in-Waiting.ensures.asked in
-    let unlisted = c.in-Unlisted-ask.ensures.asked in
-    true≢false (sym (ap (is_listed (has_id c.args.id)) first.2 ∙ listed-with_key c.args.id None _ first.0) ∙ unlisted.0)
+pub returns-in-Some-clause-waits : goal.returns-in-Some-clause-waits
+returns-in-Some-clause-waits c = (
+  c.of.ensures ∙ ap woken_by (sym (waker_at-waiting c.args.id c.register.new.slot _ (sym c.in-Some.ensures.waits))),
+  is_kept _ _ c.register.new.slot c.of.result c.register.ensures.kept c.of.ensures c.register.ensures.left,
+  (c.register.ensures.armed, λ s is. subst (λ x. Hears c.register.new.self x) (sym is) c.register.ensures.heard),
+)

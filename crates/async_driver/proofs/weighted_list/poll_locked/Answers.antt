@@ -1,21 +1,21 @@
 -- The entry that waited keeps the waker that was registered into, and still waits when it is handed in.
-use Rattle.std.proofs.Common.{None, Some, subst, sym, ap, ◌∙◌, true≢false}
+use Rattle.std.proofs.Common.{◌≡◌, None, Some, subst, sym, ap, ◌∙◌, true≢false}
 use Rattle.futures.specs.Task.{Hears}
 use Rattle.lock_event.specs.Lists.{is_listed, is_marked_at}
-use Rattle.lock_event.specs.Loads.{kept_at, load, weight_at}
+use Rattle.lock_event.specs.Loads.{kept_at, load}
 use Rattle.lock_event.specs.Slots.{has_id}
-use Rattle.async_driver.specs.Heard.{IsTaskOf}
-use Rattle.async_driver.proofs.Kept.{unmarked-with_key, listed-with_key, is_kept}
-use Rattle.async_driver.proofs.KeptWeights.{kept_at-with_key}
+use Rattle.async_driver.specs.Tasks.{woken_by}
+use Rattle.async_driver.proofs.Keeping.{unmarked-with_key, listed-with_key, is_kept}
+use Rattle.async_driver.proofs.KeepingWeights.{kept_at-with_key}
 use Rattle.async_driver.proofs.weighted_list.poll_locked.Goals as goal
 
 pub returns-clause-waits : goal.returns-clause-waits
 returns-clause-waits c =
     let asked = c.in-Waiting-ask.ensures.asked in
     let waker = c.register.new.slot in
-    let keeps = c.task_of-keeps.result in (
-      subst (λ w. IsTaskOf w keeps) (sym (ap (kept_at c.args.id) asked.2 ∙ kept_at-with_key c.args.id _ waker _ asked.0)) c.task_of-keeps.ensures,
-      is_kept _ _ waker keeps c.register.ensures.kept c.task_of-keeps.ensures c.register.ensures.left,
+    let keeps = c.of-keeps.result in (
+      subst (λ w. keeps.by ≡ woken_by w) (sym (ap (kept_at c.args.id) asked.2 ∙ kept_at-with_key c.args.id _ waker _ asked.0)) c.of-keeps.ensures,
+      is_kept _ _ waker keeps c.register.ensures.kept c.of-keeps.ensures c.register.ensures.left,
       (c.register.ensures.armed, λ s is. subst (λ x. Hears c.register.new.self x) (sym is) c.register.ensures.heard),
     )
 

@@ -1,18 +1,19 @@
 -- What an entry keeps that has asked with a waker, and whose waker it is.
-use Rattle.std.proofs.Common.{◌≡◌, ℕ, ◌⊎◌, inl, inr, Bool, true, false, ◌||◌, List, [], ◌∷◌, Option, Some, None, ◌==◌, if◌then◌else◌, IsSomeAnd, refl, ap, ◌∙◌, eq-eqb}
+use Rattle.std.proofs.Common.{◌≡◌, ℕ, ◌⊎◌, inl, inr, Bool, true, false, not, ◌||◌, List, [], ◌∷◌, Option, Some, None, ◌==◌, if◌then◌else◌, IsSomeAnd, refl, ap, ◌∙◌, eq-eqb}
 use Rattle.std.specs.Arc.{arc_value}
 use Rattle.futures.specs.Task.{Keeps, Wakes, Holds, Lasting}
 use Rattle.futures.specs.declared.task.context.Context.{Context}
 use Rattle.futures.specs.declared.task.waker.Origin.{Origin}
 use Rattle.futures.specs.declared.task.waker.Route.{Route}
 use Rattle.futures.specs.declared.task.waker.Waker.{Waker}
-use Rattle.lock_event.specs.Lists.{entry, is_listed, is_marked, is_marked_at, with_key}
+use Rattle.lock_event.specs.Lists.{entry, is_listed, is_marked, is_marked_at, is_waiting_at, with_key}
 use Rattle.lock_event.specs.Slots.{has_id, slot_of, waker_at}
 use Rattle.lock_event.specs.declared.event.Entry.{Entry}
 use Rattle.lock_event.specs.declared.event.EntryId.{EntryId}
 use Rattle.lock_event.specs.declared.event.Slot.{Slot}
-use Rattle.async_driver.specs.Heard.{IsTaskOf, IsKept}
-use Rattle.async_driver.specs.declared.task_id.TaskId.{TaskId}
+use Rattle.async_driver.specs.Tasks.{woken_by}
+use Rattle.async_driver.specs.Heard.{IsKept}
+use Rattle.async_driver.specs.declared.kept.Kept.{Kept}
 
 pub listed_after : (a b : Bool) → a ≡ false → (a || b) ≡ true → b ≡ true
 listed_after true b other h = absurd (cc)
@@ -58,6 +59,32 @@ module _ {W : Type 0} (id : EntryId) (w : Option W) where
   listed-with_key (e ∷ es) listed =
       listed_head (has_id id e.key) e es (with_key (has_id id) (slot_of id w) es) refl listed (listed-with_key es)
 
+-- what is there and isn't marked waits
+module _ {W : Type 0} (id : EntryId) where
+  waits_head : (b : Bool) (e : Entry (Slot W)) (es : List (Entry (Slot W))) → (b || is_listed (has_id id) es) ≡ true → (if b then is_marked e.mark else is_marked_at (has_id id) es) ≡ false
+      → (is_listed (has_id id) es ≡ true → is_marked_at (has_id id) es ≡ false → is_waiting_at (has_id id) es ≡ true)
+      → (if b then not (is_marked e.mark) else is_waiting_at (has_id id) es) ≡ true
+  waits_head true e es listed unmarked rest = ap not unmarked
+  waits_head false e es listed unmarked rest = rest listed unmarked
+
+  pub waits_unmarked : (l : List (Entry (Slot W))) → is_listed (has_id id) l ≡ true → is_marked_at (has_id id) l ≡ false → is_waiting_at (has_id id) l ≡ true
+  waits_unmarked [] listed unmarked = absurd (cc)
+  waits_unmarked (e ∷ es) listed unmarked = waits_head (has_id id e.key) e es listed unmarked (waits_unmarked es)
+
+-- what waits is there, and so keeps what is put there
+module _ {W : Type 0} (id : EntryId) (w : Option W) where
+  there_head : (b c : Bool) (e : Entry (Slot W)) (es : List (Entry (Slot W))) → (if b then c else is_waiting_at (has_id id) es) ≡ true
+      → (is_waiting_at (has_id id) es ≡ true → is_listed (has_id id) es ≡ true) → (b || is_listed (has_id id) es) ≡ true
+  there_head true c e es waits rest = refl
+  there_head false c e es waits rest = rest waits
+
+  waits_listed : (l : List (Entry (Slot W))) → is_waiting_at (has_id id) l ≡ true → is_listed (has_id id) l ≡ true
+  waits_listed [] waits = absurd (cc)
+  waits_listed (e ∷ es) waits = there_head (has_id id e.key) (not (is_marked e.mark)) e es waits (waits_listed es)
+
+  pub waker_at-waiting : (l : List (Entry (Slot W))) → is_waiting_at (has_id id) l ≡ true → waker_at id (with_key (has_id id) (slot_of id w) l) ≡ w
+  waker_at-waiting l waits = waker_at-with_key id w l (waits_listed l waits)
+
 abbrev pub origin_of : Context → Origin
 origin_of cx = (arc_value {X = Route} cx.route.now).origin
 
@@ -66,12 +93,11 @@ pub same_task : (old new : Context) → Keeps old new → (old.turn.task ≡ new
 unfolding Holds
 same_task old new kept = let same = kept (Lasting.same_task old) refl in (ap (λ (cx : Context). cx.turn.task) same, ap origin_of same)
 
-pub is_kept : (old new : Context) (waker : Option Waker) (keeps : Option TaskId) → Keeps old new → IsTaskOf waker keeps
+pub is_kept : (old new : Context) (waker : Option Waker) (keeps : Kept) → Keeps old new → keeps.by ≡ woken_by waker
     → (new.lacks_waker ≡ true) ⊎ IsSomeAnd waker (λ w. Wakes w old) → IsKept new keeps
 is_kept old new waker keeps kept of (inl lacks) = inl lacks
 is_kept old new None keeps kept of (inr wakes) = absurd wakes
-is_kept old new (Some w) None kept of (inr wakes) = absurd of
-is_kept old new (Some w) (Some k) kept of (inr wakes) =
+is_kept old new (Some w) keeps kept of (inr wakes) =
     let same = same_task old new kept in
     let origin = wakes.1 ∙ same.1 in
-    inr (of.0 ∙ wakes.0 ∙ same.0, of.1 ∙ ap (λ (o : Origin). o.executor) origin, of.2 ∙ ap (λ (o : Origin). o.queue) origin)
+    inr (rw of (wakes.0 ∙ same.0, ap (λ (o : Origin). o.executor) origin, ap (λ (o : Origin). o.queue) origin))

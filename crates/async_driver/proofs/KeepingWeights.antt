@@ -1,5 +1,5 @@
 -- What an entry with a weight keeps that has asked with a waker.
-use Rattle.std.proofs.Common.{◌≡◌, ℕ, Bool, true, false, ◌||◌, List, [], ◌∷◌, Option, if◌then◌else◌, refl}
+use Rattle.std.proofs.Common.{◌≡◌, ℕ, Bool, true, false, List, [], ◌∷◌, Option, if◌then◌else◌, refl}
 use Rattle.lock_event.specs.Lists.{entry, is_listed, with_key}
 use Rattle.lock_event.specs.Loads.{kept_at, laden}
 use Rattle.lock_event.specs.Slots.{has_id}
@@ -7,7 +7,7 @@ use Rattle.lock_event.specs.declared.event.Entry.{Entry}
 use Rattle.lock_event.specs.declared.event.EntryId.{EntryId}
 use Rattle.lock_event.specs.declared.event.Slot.{Slot}
 use Rattle.lock_event.specs.declared.weighted.Load.{Load}
-use Rattle.async_driver.proofs.Kept.{listed_after, same_number}
+use Rattle.async_driver.proofs.Keeping.{listed_after, same_number}
 
 module _ {W : Type 0} (id : EntryId) (k : ℕ) (w : Option W) where
   at_head : (b : Bool) (e : Entry (Slot (Load W))) (es fs : List (Entry (Slot (Load W)))) → has_id id e.key ≡ b → (b ≡ false → kept_at id fs ≡ w)

@@ -1,6 +1,6 @@
 use denote.Param.Send.{IsSync, cell_keyless}
 use denote.Memory.{part_of, raw_all}
-use Rattle.async_driver.specs.contracts.task_id.TaskId.{the_row}
+use Rattle.async_driver.specs.contracts.kept.Kept.{the_row}
 
 pub sync : IsSync the_row
 unfolding part_of
