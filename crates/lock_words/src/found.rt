@@ -1,37 +1,8 @@
-//! What the tries find.
+//! What the tries find, beside what those on any mutex's word do.
 
 ghost use Rattle.std.specs.Prelude.{◌≡◌, ◌%◌};
 
 use crate::look::Full;
-use lock_place::Hold;
-
-/// What [`take`](crate::Words::take) found.
-pub enum Taking<T> {
-    /// The lock was free and nobody was starved. The seat holds it now.
-    Got(Hold<T>),
-    /// The lock was held, and nobody was starved.
-    Held,
-    /// Somebody was starved, whether the lock was held or not.
-    Starved,
-}
-
-/// What [`take_alone`](crate::Words::take_alone) found.
-pub enum TakingAlone<T> {
-    /// The lock was free and one waiter was starved. The seat holds it now.
-    Got(Hold<T>),
-    /// The lock was held.
-    Held,
-    /// The lock was free, and the number of the starved was not one.
-    FreeWithOthers,
-}
-
-/// What [`set`](crate::Words::set) found.
-pub enum Setting<T> {
-    /// The lock was free. The seat holds it now.
-    Got(Hold<T>),
-    /// The lock was held.
-    WasSet,
-}
 
 /// A step found the lock held.
 #[derive(Drop)]

@@ -13,8 +13,9 @@ mod rule;
 mod seat;
 mod words;
 
-pub use found::{Counting, Setting, Taking, TakingAlone};
+pub use found::Counting;
 pub use lock_place::{Hold, Room};
 pub use look::Full;
 pub use seat::Seat;
 pub use words::{STARVED_LIMIT, Words};
+pub use words_base::{Setting, Taking, TakingAlone};

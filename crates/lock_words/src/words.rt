@@ -4,18 +4,19 @@
 //! word counts the starved seats, and while nobody holds the lock the right to the value is at home. What a
 //! step tells the seat that makes it stands in specs/Steps.antt.
 
-ghost use Rattle.std.specs.Prelude.{◌≡◌, ℕ, ◌<◌, ◌≤◌, ◌%◌, ◌/◌, true, false, [], ◌∷◌, IfSome, IsSome, IfOk, OnErr, None};
+ghost use Rattle.std.specs.Prelude.{◌≡◌, ℕ, ◌<◌, ◌≤◌, ◌%◌, ◌/◌, true, false, [], ◌∷◌, IfSome, IfNone, IsSome, IfOk, OnErr, None};
 ghost use Rattle.futures.specs.Task.{Covers, Keeps};
 ghost use Rattle.lock_words.specs.Lock.{fresh, holding, cleared, counted, uncounted};
-ghost use Rattle.async_driver.specs.Heard.{IsOf, OnWaiting, IsKept};
-ghost use Rattle.lock_words.specs.Tries.{Holds, OnTaking, OnAlone, OnSetting, OnCounting, left_by_taking, left_by_alone};
+ghost use Rattle.async_driver.specs.Heard.{IsOf, OnWaiting, IsKept, HasLeft};
+ghost use Rattle.lock_words.specs.Tries.{Holds, OnCounting, left_by_taking, left_by_alone};
+ghost use Rattle.words_base.specs.Tries.{OnTaking, OnAlone, OnSetting};
 ghost use Rattle.lock_words.specs.Right.{IsRight};
 ghost use Rattle.lock_words.specs.Seats.{HasSlots};
 ghost use Rattle.lock_words.specs.Steps.{with_holds, without_holds};
 ghost use Rattle.lock_words.specs.declared.rested.Rested.{Rested};
 
 use crate::duty::Key;
-use crate::found::{Counting, Setting, Taking, TakingAlone, WasHeld};
+use crate::found::{Counting, WasHeld};
 use crate::look::{HELD, Look, Ruled, WORD, exchange, peek};
 use crate::rested::Rested;
 use crate::rule::{Clear, Count, Keep, MutexRule, Set, Uncount};
@@ -27,6 +28,7 @@ use lock_place::{Hold, Place, Room, Spare, Ticket};
 use std::alloc::{AllocError, Global};
 use std::marker::Model;
 use std::sync::Wait;
+use words_base::{Setting, Taking, TakingAlone};
 
 /// The greatest number of seats that are counted as starved at once. [`Words::count`] meets it by name.
 pub const STARVED_LIMIT: u64 = 1_073_741_823;
@@ -192,6 +194,7 @@ impl<T> Words<T> {
     }
 
     /// Polls an entry of the lock's list, as [`WaitingList::poll`]. A waiting task registers with the lock's source.
+    #[inline(always)]
     pub fn poll<R: Wait>(&self, rt: &R, entry: Listed, cx: &mut Context<'_>) -> Heard
         requires { entry.list.id ≡ self.now.list }
         ensures list { IsOf self.now.list result }
@@ -201,6 +204,24 @@ impl<T> Words<T> {
         self.list.poll(rt, entry, &self.source, cx)
     }
 
+    /// Polls an entry of the lock's list where it stands, as [`WaitingList::poll_in_place`]. A waiting task registers with the
+    /// lock's source.
+    #[inline(always)]
+    pub fn poll_in_place<R: Wait>(
+        &self,
+        rt: &R,
+        entry: &mut Listed,
+        cx: &mut Context<'_>,
+    ) -> Option<Owed>
+        requires { entry.old.list.id ≡ self.now.list }
+        ensures list { entry.new.list.id ≡ self.now.list }
+        ensures told { IfSome result (λ owed. (owed.list.id ≡ self.now.list) × HasLeft entry.new) }
+        ensures waits { IfNone result (IsKept cx.new entry.new.keeps × Covers cx.new (λ s. s ≡ self.now.source)) }
+        ensures kept { Keeps cx.old cx.new }
+    {
+        self.list.poll_in_place(rt, entry, &self.source, cx)
+    }
+
     /// Takes the lock if it is free and nobody is starved: one try, which is no exchange where the lock
     /// isn't free to take.
     ///
@@ -208,11 +229,11 @@ impl<T> Words<T> {
     /// right to its value, and any other seat is as it was. A duty to notify ends where the lock was found held, since
     /// its holder notifies later (`owed`). Which of the two other answers comes is tested.
     #[inline]
-    pub fn take(&self, seat: &mut Seat<T>, owed: &mut Option<Owed>) -> Taking<T>
+    pub fn take(&self, seat: &mut Seat<T>, owed: &mut Option<Owed>) -> Taking<Hold<T>>
         requires lock { seat.old.lock ≡ self.now.lock }
         requires idle { seat.old.holds ≡ false }
         requires list { IfSome owed.old (λ o. o.list.id ≡ self.now.list) }
-        ensures seat { OnTaking result (λ hold. (seat.new ≡ holding seat.old 0) × Holds self.now seat.new hold) (seat.new ≡ seat.old) }
+        ensures seat { OnTaking result (λ hold. (seat.new ≡ holding seat.old 0) × Holds self.now seat.new hold) (seat.new ≡ seat.old) (seat.new ≡ seat.old) }
         ensures owed { owed.new ≡ left_by_taking result owed.old }
     {
         match self.take_from(seat, FREE) {
@@ -232,11 +253,11 @@ impl<T> Words<T> {
     ///
     /// By the contract a seat that got the lock found one starved (`passed` is 1) and holds it with the
     /// right to its value, and any other seat is as it was. A duty to notify ends where the lock was found held (`owed`).
-    pub fn take_alone(&self, seat: &mut Seat<T>, owed: &mut Option<Owed>) -> TakingAlone<T>
+    pub fn take_alone(&self, seat: &mut Seat<T>, owed: &mut Option<Owed>) -> TakingAlone<Hold<T>>
         requires lock { seat.old.lock ≡ self.now.lock }
         requires idle { seat.old.holds ≡ false }
         requires list { IfSome owed.old (λ o. o.list.id ≡ self.now.list) }
-        ensures seat { OnAlone result (λ hold. (seat.new ≡ holding seat.old 1) × Holds self.now seat.new hold) (seat.new ≡ seat.old) }
+        ensures seat { OnAlone result (λ hold. (seat.new ≡ holding seat.old 1) × Holds self.now seat.new hold) (seat.new ≡ seat.old) (seat.new ≡ seat.old) }
         ensures owed { owed.new ≡ left_by_alone result owed.old }
     {
         match self.take_from(seat, STARVED) {
@@ -288,7 +309,7 @@ impl<T> Words<T> {
 
     /// Makes the lock held, and takes it if it was free, whoever is starved: one step, which changes nothing
     /// where the lock was held.
-    pub fn set(&self, seat: &mut Seat<T>) -> Setting<T>
+    pub fn set(&self, seat: &mut Seat<T>) -> Setting<Hold<T>>
         requires lock { seat.old.lock ≡ self.now.lock }
         requires idle { seat.old.holds ≡ false }
         ensures { OnSetting result (λ hold. (seat.new ≡ holding seat.old seat.new.passed) × Holds self.now seat.new hold) (seat.new ≡ seat.old) }

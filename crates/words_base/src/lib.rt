@@ -1,6 +1,10 @@
 //! What the words of several locks share: a table that has no slots, sums over what all seats have, and the lemmas of
-//! both. There is no code here.
+//! both, and what the tries on a mutex's word find. There is no code here.
 #![tactic(auto)]
+
+mod found;
+
+pub use found::{Setting, Taking, TakingAlone};
 
 /// What the slots of a table have that has none.
 #[derive(Drop)]

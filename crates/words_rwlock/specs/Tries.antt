@@ -1,10 +1,4 @@
 -- What a try answers, by cases.
-use Rattle.words_rwlock.specs.declared.found.Taking.{Taking}
-use Rattle.words_rwlock.specs.declared.found.Taking.TheVariants as taking
-use Rattle.words_rwlock.specs.declared.found.TakingAlone.{TakingAlone}
-use Rattle.words_rwlock.specs.declared.found.TakingAlone.TheVariants as alone
-use Rattle.words_rwlock.specs.declared.found.Setting.{Setting}
-use Rattle.words_rwlock.specs.declared.found.Setting.TheVariants as setting
 use Rattle.words_rwlock.specs.declared.found.Counting.{Counting}
 use Rattle.words_rwlock.specs.declared.found.Counting.TheVariants as counting
 use Rattle.words_rwlock.specs.declared.found.Reading.{Reading}
@@ -13,20 +7,6 @@ use Rattle.words_rwlock.specs.declared.found.Adding.{Adding}
 use Rattle.words_rwlock.specs.declared.found.Adding.TheVariants as adding
 use Rattle.words_rwlock.specs.declared.found.Readers.{Readers}
 use Rattle.words_rwlock.specs.declared.found.Readers.TheVariants as readers
-
-abbrev pub OnTaking : Taking → Type 0 → Type 0 → Type 0 → Type 0
-OnTaking taking.Got got held starved = got
-OnTaking taking.Held got held starved = held
-OnTaking taking.Starved got held starved = starved
-
-abbrev pub OnAlone : TakingAlone → Type 0 → Type 0 → Type 0 → Type 0
-OnAlone alone.Got got held others = got
-OnAlone alone.Held got held others = held
-OnAlone alone.FreeWithOthers got held others = others
-
-abbrev pub OnSetting : Setting → Type 0 → Type 0 → Type 0
-OnSetting setting.Got got was_set = got
-OnSetting setting.WasSet got was_set = was_set
 
 abbrev pub OnCounting : Counting → Type 0 → Type 0 → Type 0 → Type 0
 OnCounting counting.Counted counted at_limit changed = counted

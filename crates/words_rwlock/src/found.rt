@@ -1,36 +1,5 @@
 //! What the tries find.
 
-/// What a try to take the turn found.
-#[derive(Clone, Copy, PartialEq, Eq)]
-pub enum Taking {
-    /// The turn was free and nobody was starved. The seat has it now.
-    Got,
-    /// The turn was held, and nobody was starved.
-    Held,
-    /// Somebody was starved, whether the turn was held or not.
-    Starved,
-}
-
-/// What a starved seat's try to take the turn found.
-#[derive(Clone, Copy, PartialEq, Eq)]
-pub enum TakingAlone {
-    /// The turn was free and one seat was starved. The seat has it now.
-    Got,
-    /// The turn was held.
-    Held,
-    /// The turn was free, and the number of the starved was not one.
-    FreeWithOthers,
-}
-
-/// What setting the turn's bit found.
-#[derive(Clone, Copy, PartialEq, Eq)]
-pub enum Setting {
-    /// The turn was free. The seat has it now.
-    Got,
-    /// The turn was held.
-    WasSet,
-}
-
 /// What a try to count a seat as starved found.
 #[derive(Clone, Copy, PartialEq, Eq)]
 pub enum Counting {

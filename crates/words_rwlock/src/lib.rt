@@ -12,8 +12,9 @@ mod rule;
 mod view;
 mod words;
 
-pub use found::{Adding, Counting, Readers, Reading, Setting, Taking, TakingAlone};
+pub use found::{Adding, Counting, Readers, Reading};
 pub use lists::Lists;
 pub use rule::RwRule;
 pub use view::{Pledge, Seat, View};
 pub use words::{READERS_LIMIT, STARVED_LIMIT, Words};
+pub use words_base::{Setting, Taking, TakingAlone};

@@ -3,9 +3,10 @@
 ghost use Rattle.std.specs.Prelude.{◌≡◌, ◌≢◌, ℕ, ◌+◌, ◌*◌, ◌<◌, ◌≤◌, ◌%◌, ◌/◌, true, false, [], ◌∷◌, IfOk, IfSome, IsSome, ◌↔◌, MatchBool, min};
 ghost use Rattle.words_rwlock.specs.Steps.{first_view, having_found, having_seen, with_turn, without_turn, with_count, without_count, with_read, without_read, with_mark, with_write, upgraded, downgraded, without_mark};
 ghost use Rattle.words_rwlock.specs.declared.view.View.{View as SeatView};
-ghost use Rattle.words_rwlock.specs.Tries.{OnTaking, OnAlone, OnSetting, OnReading, OnAdding, OnCounting, OnReaders};
+ghost use Rattle.words_rwlock.specs.Tries.{OnReading, OnAdding, OnCounting, OnReaders};
+ghost use Rattle.words_base.specs.Tries.{OnTaking, OnAlone, OnSetting};
 
-use crate::found::{Adding, Counting, Readers, Reading, Setting, Taking, TakingAlone};
+use crate::found::{Adding, Counting, Readers, Reading};
 use crate::lists::Lists;
 use crate::rule::{
     AddsStep, ClearsStep, CountsStep, DownsStep, KeptStep, LooksStep, MarksStep, OffsStep,
@@ -17,7 +18,7 @@ use async_driver::Owed;
 use atomic_table::{Shared, Table};
 use std::alloc::{AllocError, Global};
 use std::marker::Model;
-use words_base::Nothing;
+use words_base::{Nothing, Setting, Taking, TakingAlone};
 
 /// The greatest number of seats that are counted as starved for the turn at once.
 pub const STARVED_LIMIT: u64 = 1_073_741_823;
@@ -171,10 +172,10 @@ impl Words {
     }
 
     /// Takes the turn if it is free and nobody is starved for it: one try.
-    pub fn take(&self, seat: &mut Seat) -> Taking
+    pub fn take(&self, seat: &mut Seat) -> Taking<()>
         requires table { seat.old.inner.table_id ≡ self.now.table }
         ensures same { (seat.new.inner.table_id ≡ seat.old.inner.table_id) × (seat.new.inner.id ≡ seat.old.inner.id) }
-        ensures step { OnTaking result (seat.new.inner.me ≡ (with_turn seat.old.inner.me.0, seat.old.inner.me.1)) ((seat.new.inner.me ≡ (having_seen seat.new.inner.me.0.seen seat.old.inner.me.0, seat.old.inner.me.1)) × (seat.new.inner.me.0.seen ≡ 1)) ((seat.new.inner.me ≡ (having_seen seat.new.inner.me.0.seen seat.old.inner.me.0, seat.old.inner.me.1)) × (2 ≤ seat.new.inner.me.0.seen)) }
+        ensures step { OnTaking result (λ _. seat.new.inner.me ≡ (with_turn seat.old.inner.me.0, seat.old.inner.me.1)) ((seat.new.inner.me ≡ (having_seen seat.new.inner.me.0.seen seat.old.inner.me.0, seat.old.inner.me.1)) × (seat.new.inner.me.0.seen ≡ 1)) ((seat.new.inner.me ≡ (having_seen seat.new.inner.me.0.seen seat.old.inner.me.0, seat.old.inner.me.1)) × (2 ≤ seat.new.inner.me.0.seen)) }
     {
         let shared = &self.table.shared;
         let seen = shared.load::<SeesTurnStep>(&mut seat.inner, TURN);
@@ -186,7 +187,7 @@ impl Words {
         }
         let found = shared.compare_exchange::<TookStep>(&mut seat.inner, TURN, 0, 1);
         if found == 0 {
-            Taking::Got
+            Taking::Got(())
         } else if found == 1 {
             Taking::Held
         } else {
@@ -196,15 +197,15 @@ impl Words {
 
     /// Takes the turn if it is free and one seat is starved for it: one try. The starved seat is the one that
     /// tries.
-    pub fn take_alone(&self, seat: &mut Seat) -> TakingAlone
+    pub fn take_alone(&self, seat: &mut Seat) -> TakingAlone<()>
         requires table { seat.old.inner.table_id ≡ self.now.table }
         ensures same { (seat.new.inner.table_id ≡ seat.old.inner.table_id) × (seat.new.inner.id ≡ seat.old.inner.id) }
-        ensures step { OnAlone result (seat.new.inner.me ≡ (with_turn seat.old.inner.me.0, seat.old.inner.me.1)) ((seat.new.inner.me ≡ (having_seen seat.new.inner.me.0.seen seat.old.inner.me.0, seat.old.inner.me.1)) × (seat.new.inner.me.0.seen % 2 ≡ 1)) ((seat.new.inner.me ≡ (having_seen seat.new.inner.me.0.seen seat.old.inner.me.0, seat.old.inner.me.1)) × (seat.new.inner.me.0.seen % 2 ≡ 0) × (seat.new.inner.me.0.seen ≢ 2)) }
+        ensures step { OnAlone result (λ _. seat.new.inner.me ≡ (with_turn seat.old.inner.me.0, seat.old.inner.me.1)) ((seat.new.inner.me ≡ (having_seen seat.new.inner.me.0.seen seat.old.inner.me.0, seat.old.inner.me.1)) × (seat.new.inner.me.0.seen % 2 ≡ 1)) ((seat.new.inner.me ≡ (having_seen seat.new.inner.me.0.seen seat.old.inner.me.0, seat.old.inner.me.1)) × (seat.new.inner.me.0.seen % 2 ≡ 0) × (seat.new.inner.me.0.seen ≢ 2)) }
     {
         let shared = &self.table.shared;
         let found = shared.compare_exchange::<TookStep>(&mut seat.inner, TURN, 2, 3);
         if found == 2 {
-            TakingAlone::Got
+            TakingAlone::Got(())
         } else if found % 2 == 1 {
             TakingAlone::Held
         } else {
@@ -213,17 +214,17 @@ impl Words {
     }
 
     /// Sets the turn's bit, whoever is starved, and takes the turn if it was free: one step.
-    pub fn set(&self, seat: &mut Seat) -> Setting
+    pub fn set(&self, seat: &mut Seat) -> Setting<()>
         requires table { seat.old.inner.table_id ≡ self.now.table }
         ensures same { (seat.new.inner.table_id ≡ seat.old.inner.table_id) × (seat.new.inner.id ≡ seat.old.inner.id) }
-        ensures step { OnSetting result (seat.new.inner.me ≡ (with_turn seat.old.inner.me.0, seat.old.inner.me.1)) ((seat.new.inner.me ≡ (having_seen seat.new.inner.me.0.seen seat.old.inner.me.0, seat.old.inner.me.1)) × (seat.new.inner.me.0.seen % 2 ≡ 1)) }
+        ensures step { OnSetting result (λ _. seat.new.inner.me ≡ (with_turn seat.old.inner.me.0, seat.old.inner.me.1)) ((seat.new.inner.me ≡ (having_seen seat.new.inner.me.0.seen seat.old.inner.me.0, seat.old.inner.me.1)) × (seat.new.inner.me.0.seen % 2 ≡ 1)) }
     {
         let found = self
             .table
             .shared
             .fetch_or::<WasSetStep>(&mut seat.inner, TURN, 1);
         if found % 2 == 0 {
-            Setting::Got
+            Setting::Got(())
         } else {
             Setting::WasSet
         }
