@@ -7,6 +7,7 @@ use Rattle.async_barrier.specs.declared.arrivals.Verdict.{Verdict}
 use Rattle.async_barrier.specs.declared.party.BarrierParty.{BarrierParty}
 use Rattle.async_barrier.specs.declared.raw.RawBarrier.{RawBarrier}
 use Rattle.futures.specs.declared.task.context.Context.{Context}
+use Rattle.lock_driver.specs.Mutexes.{of_mutex}
 use Rattle.lock_driver.specs.Parties as lock
 use Rattle.lock_place.specs.declared.room.Hold.{Hold}
 use Rattle.lock_program.specs.Mutex.{start_of}
@@ -76,7 +77,7 @@ module _ (raw : RawBarrier) (q : BarrierParty) where
   can CancelLeave s = ap (λ x. x.entry) s.2
   can Abandon s = tt
 
-module _ (raw : RawBarrier) (cx : Context) (q q' : BarrierParty) (locked : lock.Stands raw.inner.words q'.lock q'.lock_place) (tied : IsTied raw.list.name.id q'.entry q'.owed) where
+module _ (raw : RawBarrier) (cx : Context) (q q' : BarrierParty) (locked : lock.Stands of_mutex raw.inner q'.lock q'.lock_place) (tied : IsTied raw.list.name.id q'.entry q'.owed) where
   at : (t : Standing) → OnLock t q'.lock_place → having_of q' ≡ having_by t → IsCounted t (is_some q'.arrival) → IfSome q'.lock.hold (λ h. HasSeen raw t h.value) → Stands raw q' t
   at t on has counted seen = (locked, on, has, counted, seen, tied)
 

@@ -55,7 +55,7 @@ abbrev pub IsLockStep : RawBarrier → Context → LockCall → Step → Barrier
 IsLockStep raw cx c s q' = lock.IsStepOf c (end_of_step s) q'.lock_place
 
 abbrev pub TellsLock : RawBarrier → Context → Step → BarrierParty → Type 0
-TellsLock raw cx s q' = IfSome (end_of_step s) (λ e. lock.IfPending e (lock.IsReceipt raw.inner.words cx q'.lock.entry))
+TellsLock raw cx s q' = IfSome (end_of_step s) (λ e. lock.IfPending e (lock.IsReceipt raw.inner.words.list raw.inner.words.source cx q'.lock.entry))
 
 -- how far the barrier is, before and after, for whoever has the inner lock
 abbrev pub OnCount : (Arrivals → Arrivals → Type 0) → BarrierParty → BarrierParty → Type 0

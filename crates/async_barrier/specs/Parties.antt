@@ -14,6 +14,7 @@ use Rattle.futures.specs.declared.task.context.Context.{Context}
 use Rattle.async_driver.specs.Heard.{IsKept}
 use Rattle.async_driver.specs.declared.duty.Owed.{Owed}
 use Rattle.async_driver.specs.declared.waiting_list.Listed.{Listed}
+use Rattle.lock_driver.specs.Mutexes.{of_mutex}
 use Rattle.lock_driver.specs.Parties as lock
 use Rattle.lock_program.specs.declared.end.End.{End}
 use Rattle.lock_program.specs.declared.end.End.TheVariants as ending
@@ -149,7 +150,7 @@ IsTied list entry owed = IfSome entry (λ e. e.list.id ≡ list) × IfSome owed 
 
 -- The party has what it has at this standing.
 abbrev pub Stands : RawBarrier → BarrierParty → Standing → Type 0
-Stands raw q s = lock.Stands raw.inner.words q.lock q.lock_place × OnLock s q.lock_place × (having_of q ≡ having_by s) × IsCounted s (is_some q.arrival)
+Stands raw q s = lock.Stands of_mutex raw.inner q.lock q.lock_place × OnLock s q.lock_place × (having_of q ≡ having_by s) × IsCounted s (is_some q.arrival)
     × IfSome q.lock.hold (λ h. HasSeen raw s h.value) × IsTied raw.list.name.id q.entry q.owed
 
 -- where a party stands by what comes next, and how its call has ended by that

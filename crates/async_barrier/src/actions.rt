@@ -5,6 +5,7 @@ ghost use Rattle.async_barrier.specs.Actions.{CanDo, Does, end_of_step};
 ghost use Rattle.async_barrier.specs.Parties.{IsTied};
 ghost use Rattle.futures.specs.Task.{Keeps};
 ghost use Rattle.futures.specs.declared.task.context.Context.{Context as Polling};
+ghost use Rattle.lock_driver.specs.Mutexes.{of_mutex};
 ghost use Rattle.lock_driver.specs.Parties as lock;
 ghost use Rattle.sync_program.specs.declared.barrier.Action.TheVariants as act;
 
@@ -21,10 +22,10 @@ use sync_program::barrier::Found;
 
 impl BarrierParty {
     pub(crate) fn look(&mut self, raw: &RawBarrier) -> Found
-        requires lock { lock.Stands raw.now.inner.words self.old.lock self.old.lock_place }
+        requires lock { lock.Stands of_mutex raw.now.inner self.old.lock self.old.lock_place }
         requires tied { IsTied raw.now.list.name.id self.old.entry self.old.owed }
         requires can { CanDo raw.now act.Look self.old }
-        ensures lock { lock.Stands raw.now.inner.words self.new.lock self.new.lock_place }
+        ensures lock { lock.Stands of_mutex raw.now.inner self.new.lock self.new.lock_place }
         ensures tied { IsTied raw.now.list.name.id self.new.entry self.new.owed }
         ensures does { (cx : Polling) → Does raw.now cx act.Look result self.old self.new }
     {
@@ -35,10 +36,10 @@ impl BarrierParty {
     }
 
     pub(crate) fn arrive(&mut self, raw: &RawBarrier) -> Found
-        requires lock { lock.Stands raw.now.inner.words self.old.lock self.old.lock_place }
+        requires lock { lock.Stands of_mutex raw.now.inner self.old.lock self.old.lock_place }
         requires tied { IsTied raw.now.list.name.id self.old.entry self.old.owed }
         requires can { CanDo raw.now act.Arrive self.old }
-        ensures lock { lock.Stands raw.now.inner.words self.new.lock self.new.lock_place }
+        ensures lock { lock.Stands of_mutex raw.now.inner self.new.lock self.new.lock_place }
         ensures tied { IsTied raw.now.list.name.id self.new.entry self.new.owed }
         ensures does { (cx : Polling) → Does raw.now cx act.Arrive result self.old self.new }
     {
@@ -52,10 +53,10 @@ impl BarrierParty {
 
     // Whoever finishes a generation owes a notification to all that wait for it.
     pub(crate) fn complete(&mut self, raw: &RawBarrier) -> Found
-        requires lock { lock.Stands raw.now.inner.words self.old.lock self.old.lock_place }
+        requires lock { lock.Stands of_mutex raw.now.inner self.old.lock self.old.lock_place }
         requires tied { IsTied raw.now.list.name.id self.old.entry self.old.owed }
         requires can { CanDo raw.now act.Complete self.old }
-        ensures lock { lock.Stands raw.now.inner.words self.new.lock self.new.lock_place }
+        ensures lock { lock.Stands of_mutex raw.now.inner self.new.lock self.new.lock_place }
         ensures tied { IsTied raw.now.list.name.id self.new.entry self.new.owed }
         ensures does { (cx : Polling) → Does raw.now cx act.Complete result self.old self.new }
     {
@@ -71,10 +72,10 @@ impl BarrierParty {
     }
 
     pub(crate) fn check(&mut self, raw: &RawBarrier) -> Found
-        requires lock { lock.Stands raw.now.inner.words self.old.lock self.old.lock_place }
+        requires lock { lock.Stands of_mutex raw.now.inner self.old.lock self.old.lock_place }
         requires tied { IsTied raw.now.list.name.id self.old.entry self.old.owed }
         requires can { CanDo raw.now act.Check self.old }
-        ensures lock { lock.Stands raw.now.inner.words self.new.lock self.new.lock_place }
+        ensures lock { lock.Stands of_mutex raw.now.inner self.new.lock self.new.lock_place }
         ensures tied { IsTied raw.now.list.name.id self.new.entry self.new.owed }
         ensures does { (cx : Polling) → Does raw.now cx act.Check result self.old self.new }
     {
@@ -91,10 +92,10 @@ impl BarrierParty {
     }
 
     pub(crate) fn join<R: Wait>(&mut self, raw: &RawBarrier, rt: &R) -> Found
-        requires lock { lock.Stands raw.now.inner.words self.old.lock self.old.lock_place }
+        requires lock { lock.Stands of_mutex raw.now.inner self.old.lock self.old.lock_place }
         requires tied { IsTied raw.now.list.name.id self.old.entry self.old.owed }
         requires can { CanDo raw.now act.Join self.old }
-        ensures lock { lock.Stands raw.now.inner.words self.new.lock self.new.lock_place }
+        ensures lock { lock.Stands of_mutex raw.now.inner self.new.lock self.new.lock_place }
         ensures tied { IsTied raw.now.list.name.id self.new.entry self.new.owed }
         ensures does { (cx : Polling) → Does raw.now cx act.Join result self.old self.new }
     {
@@ -108,10 +109,10 @@ impl BarrierParty {
     }
 
     pub(crate) fn ask<R: Wait>(&mut self, raw: &RawBarrier, rt: &R, cx: &mut Context<'_>) -> Found
-        requires lock { lock.Stands raw.now.inner.words self.old.lock self.old.lock_place }
+        requires lock { lock.Stands of_mutex raw.now.inner self.old.lock self.old.lock_place }
         requires tied { IsTied raw.now.list.name.id self.old.entry self.old.owed }
         requires can { CanDo raw.now act.Ask self.old }
-        ensures lock { lock.Stands raw.now.inner.words self.new.lock self.new.lock_place }
+        ensures lock { lock.Stands of_mutex raw.now.inner self.new.lock self.new.lock_place }
         ensures tied { IsTied raw.now.list.name.id self.new.entry self.new.owed }
         ensures does { Does raw.now cx.new act.Ask result self.old self.new }
         ensures kept { Keeps cx.old cx.new }
@@ -132,10 +133,10 @@ impl BarrierParty {
     }
 
     pub(crate) fn leave<R: Wait>(&mut self, raw: &RawBarrier, rt: &R) -> Found
-        requires lock { lock.Stands raw.now.inner.words self.old.lock self.old.lock_place }
+        requires lock { lock.Stands of_mutex raw.now.inner self.old.lock self.old.lock_place }
         requires tied { IsTied raw.now.list.name.id self.old.entry self.old.owed }
         requires can { CanDo raw.now act.Leave self.old }
-        ensures lock { lock.Stands raw.now.inner.words self.new.lock self.new.lock_place }
+        ensures lock { lock.Stands of_mutex raw.now.inner self.new.lock self.new.lock_place }
         ensures tied { IsTied raw.now.list.name.id self.new.entry self.new.owed }
         ensures does { (cx : Polling) → Does raw.now cx act.Leave result self.old self.new }
     {
@@ -147,10 +148,10 @@ impl BarrierParty {
     }
 
     pub(crate) fn notify_all<R: Wait>(&mut self, raw: &RawBarrier, rt: &R) -> Found
-        requires lock { lock.Stands raw.now.inner.words self.old.lock self.old.lock_place }
+        requires lock { lock.Stands of_mutex raw.now.inner self.old.lock self.old.lock_place }
         requires tied { IsTied raw.now.list.name.id self.old.entry self.old.owed }
         requires can { CanDo raw.now act.NotifyAll self.old }
-        ensures lock { lock.Stands raw.now.inner.words self.new.lock self.new.lock_place }
+        ensures lock { lock.Stands of_mutex raw.now.inner self.new.lock self.new.lock_place }
         ensures tied { IsTied raw.now.list.name.id self.new.entry self.new.owed }
         ensures does { (cx : Polling) → Does raw.now cx act.NotifyAll result self.old self.new }
     {
@@ -168,17 +169,15 @@ impl BarrierParty {
         cx: &mut Context<'_>,
         call: LockCall,
     ) -> Found
-        requires lock { lock.Stands raw.now.inner.words self.old.lock self.old.lock_place }
+        requires lock { lock.Stands of_mutex raw.now.inner self.old.lock self.old.lock_place }
         requires tied { IsTied raw.now.list.name.id self.old.entry self.old.owed }
         requires can { CanDo raw.now (act.Begin call) self.old }
-        ensures lock { lock.Stands raw.now.inner.words self.new.lock self.new.lock_place }
+        ensures lock { lock.Stands of_mutex raw.now.inner self.new.lock self.new.lock_place }
         ensures tied { IsTied raw.now.list.name.id self.new.entry self.new.owed }
         ensures does { Does raw.now cx.new (act.Begin call) result self.old self.new }
         ensures kept { Keeps cx.old cx.new }
     {
-        let (end, place) = raw
-            .inner
-            .begin(rt, cx, &mut self.lock, call, self.lock_place);
+        let (end, place) = self.lock.begin(&raw.inner, rt, cx, call, self.lock_place);
         self.lock_place = place;
         Found::Lock(step(end))
     }
@@ -189,15 +188,15 @@ impl BarrierParty {
         rt: &R,
         cx: &mut Context<'_>,
     ) -> Found
-        requires lock { lock.Stands raw.now.inner.words self.old.lock self.old.lock_place }
+        requires lock { lock.Stands of_mutex raw.now.inner self.old.lock self.old.lock_place }
         requires tied { IsTied raw.now.list.name.id self.old.entry self.old.owed }
         requires can { CanDo raw.now act.Go self.old }
-        ensures lock { lock.Stands raw.now.inner.words self.new.lock self.new.lock_place }
+        ensures lock { lock.Stands of_mutex raw.now.inner self.new.lock self.new.lock_place }
         ensures tied { IsTied raw.now.list.name.id self.new.entry self.new.owed }
         ensures does { Does raw.now cx.new act.Go result self.old self.new }
         ensures kept { Keeps cx.old cx.new }
     {
-        let (end, place) = raw.inner.go_on(rt, cx, &mut self.lock, self.lock_place);
+        let (end, place) = self.lock.go_on(&raw.inner, rt, cx, self.lock_place);
         self.lock_place = place;
         Found::Lock(step(end))
     }

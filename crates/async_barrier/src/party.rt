@@ -5,6 +5,7 @@ ghost use Rattle.async_barrier.specs.Actions.{CanDo, Does};
 ghost use Rattle.async_barrier.specs.Counts.{leads as leads_by};
 ghost use Rattle.async_barrier.specs.Parties.{CanPoll, IsPollCall, IsPolled, first_of, first_counted, IsInside, IsTied, entered as entered_at, Stands, end_of, standing_of};
 ghost use Rattle.futures.specs.Task.{Keeps};
+ghost use Rattle.lock_driver.specs.Mutexes.{of_mutex};
 ghost use Rattle.lock_driver.specs.Parties as lock;
 ghost use Rattle.lock_program.specs.declared.end.End.TheVariants as ends;
 ghost use Rattle.lock_program.specs.declared.end.Next.TheVariants as next;
@@ -22,7 +23,7 @@ use crate::arrivals::{Arrival, Arrivals, Verdict};
 use crate::raw::RawBarrier;
 use async_driver::{Carries, Listed, Owed, nothing};
 use futures::task::Context;
-use lock_driver::MutexParty;
+use lock_driver::{MutexParty, RawMutex};
 use lock_program::mutex::Place as LockPlace;
 use lock_program::{End, Next, Refusal};
 use std::sync::Wait;
@@ -57,7 +58,7 @@ pub enum WaitEnd {
 /// has, by a call, and ends by [`BarrierParty::end`] or [`BarrierParty::into_verdict`].
 pub struct BarrierParty {
     /// Its party at the inner lock.
-    pub lock: MutexParty<Arrivals>,
+    pub lock: MutexParty<RawMutex<Arrivals>>,
     /// Where that party stands.
     pub lock_place: LockPlace,
     /// Its entry, while it stands in the barrier's list.
@@ -84,7 +85,7 @@ impl BarrierParty {
             arrival: _,
             verdict,
         } = self;
-        lock.end(&raw.inner.words);
+        lock.end(&raw.inner).rise();
         nothing(entry);
         nothing(owed);
         match verdict {
@@ -105,7 +106,7 @@ impl BarrierParty {
             arrival: _,
             verdict,
         } = self;
-        lock.end(&raw.inner.words);
+        lock.end(&raw.inner).rise();
         nothing(entry);
         nothing(owed);
         nothing(verdict);
@@ -118,7 +119,7 @@ impl RawBarrier {
         ensures { Stands self.now result (left.Outside position.Out) }
     {
         BarrierParty {
-            lock: self.inner.party(),
+            lock: MutexParty::new(&self.inner, self.inner.words.sit()),
             lock_place: LockPlace::Out,
             entry: None,
             owed: None,
@@ -177,7 +178,7 @@ impl RawBarrier {
         if let Some(entry) = entry {
             self.list.leave(rt, entry);
         }
-        self.inner.cancel(rt, lock, lock_place);
+        lock.cancel(&self.inner, rt, lock_place).rise();
     }
 }
 
@@ -316,10 +317,10 @@ impl BarrierParty {
         cx: &mut Context<'_>,
         action: Action,
     ) -> Found
-        requires lock { lock.Stands raw.now.inner.words self.old.lock self.old.lock_place }
+        requires lock { lock.Stands of_mutex raw.now.inner self.old.lock self.old.lock_place }
         requires tied { IsTied raw.now.list.name.id self.old.entry self.old.owed }
         requires can { CanDo raw.now action self.old }
-        ensures lock { lock.Stands raw.now.inner.words self.new.lock self.new.lock_place }
+        ensures lock { lock.Stands of_mutex raw.now.inner self.new.lock self.new.lock_place }
         ensures tied { IsTied raw.now.list.name.id self.new.entry self.new.owed }
         ensures does { Does raw.now cx.new action result self.old self.new }
         ensures kept { Keeps cx.old cx.new }

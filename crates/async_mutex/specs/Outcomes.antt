@@ -1,25 +1,44 @@
--- What a future of a mutex has between its polls, and how a poll goes.
+-- How a poll of a mutex goes.
 use Rattle.std.specs.Prelude.{◌≡◌, false, ⊤, Option, None}
-use Rattle.async_mutex.specs.declared.waiting.Outcome.{Outcome}
-use Rattle.async_mutex.specs.declared.waiting.Outcome.TheVariants as outcome
-use Rattle.async_mutex.specs.declared.waiting.Waiting.{Waiting}
-use Rattle.futures.specs.declared.task.context.Context.{Context}
-use Rattle.lock_driver.specs.Parties.{Stands, CanPoll, EndsAt, EndsPoll, IfPending, IsGivenUp, IsReceipt}
-use Rattle.lock_words.specs.Lock.{Lock}
+use Rattle.async_mutex.specs.declared.outcome.Outcome.{Outcome}
+use Rattle.async_mutex.specs.declared.outcome.Outcome.TheVariants as outcome
+use Rattle.lock_driver.specs.Parties.{IsGivenUp}
+use Rattle.lock_driver.specs.Mutexes.{of_mutex}
+use Rattle.lock_driver.specs.Waits as driver
+use Rattle.lock_driver.specs.declared.waiting.Outcome.{Outcome as DriverOutcome}
+use Rattle.lock_driver.specs.declared.waiting.Outcome.TheVariants as driven
+use Rattle.lock_driver.specs.declared.raw.RawMutex.{RawMutex}
+use Rattle.lock_driver.specs.declared.waiting.Waiting.{Waiting}
+use Rattle.lock_place.specs.declared.room.Hold.{Hold}
+use Rattle.lock_words.specs.Lock.{Lock, Seated}
 use Rattle.lock_words.specs.Tries.{Holds}
-use Rattle.lock_program.specs.declared.end.End.{End}
 
--- the party has what it has at its place, and may be polled there
-abbrev pub Waits : {T : Type 0} → Lock → Waiting T → Type 0
-Waits w q = Stands w q.party q.place × CanPoll q.place
+-- what a mutex's future keeps between two polls
+abbrev pub Kept : Type 0 → Type 0
+Kept T = Waiting (RawMutex T) Seated (Hold T)
 
--- the party of a poll that ended so
-abbrev pub Polled : {T : Type 0} → Lock → Context → End → Waiting T → Type 0
-Polled w cx end q = Stands w q.party q.place × EndsAt end q.place × IfPending end (IsReceipt w cx q.party.entry) × EndsPoll end
+-- it waits at this mutex
+abbrev pub Waits : {T : Type 0} → RawMutex T → Kept T → Type 0
+Waits raw q = driver.Waits of_mutex raw q
+
+-- the driver's outcome
+abbrev pub Driven : Type 0 → Type 0
+Driven T = DriverOutcome (RawMutex T) Seated (Hold T)
+
+-- the seat of a poll that was refused has nothing
+abbrev pub CanRise : {T : Type 0} → Driven T → Type 0
+CanRise (driven.Refused seat refusal) = (seat.holds ≡ false) × (seat.starved ≡ false)
+CanRise _ = ⊤
+
+-- the same without that seat
+abbrev pub outcome_of : {T : Type 0} → Driven T → Outcome T
+outcome_of (driven.Got seat hold) = outcome.Got seat hold
+outcome_of driven.Waits = outcome.Waits
+outcome_of (driven.Refused seat refusal) = outcome.Refused refusal
 
 -- Who got the lock has it, with the right to its value and without a count as starved. A poll is refused for memory, or for too
 -- many starved waiters. In both cases nothing is left of the party.
-abbrev pub OnOutcome : {T : Type 0} → Lock → Outcome T → Option (Waiting T) → Type 0
+abbrev pub OnOutcome : {T : Type 0} → Lock → Outcome T → Option (Kept T) → Type 0
 OnOutcome w (outcome.Got seat hold) left = Holds w seat hold × (seat.starved ≡ false) × (left ≡ None)
 OnOutcome w outcome.Waits left = ⊤
 OnOutcome w (outcome.Refused refusal) left = IsGivenUp refusal × (left ≡ None)

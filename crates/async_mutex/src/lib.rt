@@ -13,9 +13,9 @@ mod guard;
 mod lends;
 mod lock;
 mod mutex;
+mod outcome;
 mod owns;
 mod stage;
-mod waiting;
 
 use std::sync::Arc;
 

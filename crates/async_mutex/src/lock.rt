@@ -9,10 +9,10 @@ ghost use Rattle.async_mutex.specs.Futures.{HasReceipt, IsTurn, WaitsAt, future}
 use crate::guard::Guard;
 use crate::mutex::Mutex;
 use crate::owns::Owns;
-use crate::stage::{Stage, drop_stage, into_guard, poll_stage, take};
-use crate::waiting::{Outcome, Waiting};
+use crate::stage::{Stage, ask, drop_stage, first_turn, into_guard, take, told_turn};
 use async_driver::{Polled, Turn};
 use futures::task::Context;
+use lock_driver::{RawMutex, Waiting};
 use lock_program::Refusal;
 use std::marker::{Model, PhantomData};
 use std::sync::Wait;
@@ -26,13 +26,14 @@ use std::{fmt, mem};
 pub struct LockFuture<T, R: Wait, O: Owns<T, R>> {
     stage: Stage<O>,
     // `None` before the first poll that didn't get the lock, and once it was ready.
-    waiting: Option<Waiting<T>>,
+    waiting: Option<Waiting<RawMutex<T>>>,
     runtime: PhantomData<R>,
 }
 
 impl<T, R: Wait, O: Owns<T, R>> Model for LockFuture<T, R, O> {
     ghost use Rattle.std.specs.Prelude.{IfSome};
-    ghost use Rattle.async_mutex.specs.Futures.{Future, WaitsAs, entry_of, future};
+    ghost use Rattle.async_mutex.specs.Futures.{Future, WaitsAs, future};
+    ghost use Rattle.lock_driver.specs.Waits.{entry_of};
 
     ghost Value = { Future O };
 
@@ -78,31 +79,14 @@ impl<T, R: Wait + Clock, O: Owns<T, R>> LockFuture<T, R, O> {
                 let stage = mem::replace(&mut self.stage, Stage::Finished);
                 return Turn::Ready(into_guard(stage, seat, hold));
             }
-        }
-        if let Stage::Finished = self.stage {
-            return Turn::Refused(Refusal::Finished);
-        }
-        self.go_on(cx)
-    }
-
-    // A poll that doesn't get the lock at once. It stands apart, since what it takes room for would be cleared at
-    // each poll.
-    #[inline(never)]
-    fn go_on(&mut self, cx: &mut Context<'_>) -> Turn<Guard<T, R, O>>
-        requires { is_finished self.old.stage ≡ false }
-        ensures turn { IsTurn (λ guard. IsOf O.lock_of self.old.stage guard.mutex) false result (is_finished self.new.stage) }
-        ensures share { is_finished self.new.stage ≡ false → self.new.stage ≡ self.old.stage }
-        ensures receipt { OnPending result (HasReceipt O.lock_of self.old.stage cx.new self.new.entry) }
-        ensures registered { OnPending result (Covers cx.new (WaitsAt O.lock_of self.old.stage)) }
-        ensures kept { Keeps cx.old cx.new }
-    {
-        match poll_stage::<T, R, O>(&self.stage, cx, &mut self.waiting) {
-            Outcome::Got(seat, hold) => {
-                let stage = mem::replace(&mut self.stage, Stage::Finished);
-                Turn::Ready(into_guard(stage, seat, hold))
+            if let Stage::Finished = self.stage {
+                return Turn::Refused(Refusal::Finished);
             }
-            Outcome::Waits => Turn::Pending,
-            Outcome::Refused(refusal) => Turn::Refused(refusal),
+            return first_turn::<T, R, O>(&mut self.stage, cx, &mut self.waiting);
+        }
+        match ask::<T, R, O>(&self.stage, cx, &mut self.waiting) {
+            None => Turn::Pending,
+            Some(owed) => told_turn::<T, R, O>(&mut self.stage, cx, owed, &mut self.waiting),
         }
     }
 }

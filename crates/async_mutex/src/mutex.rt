@@ -12,11 +12,10 @@ use crate::guard::Guard;
 use crate::lock::LockFuture;
 use crate::lock_futures::{Lock, LockArc};
 use crate::stage::{Stage, first};
-use crate::waiting::Waiting;
 use crate::{MutexGuard, MutexGuardArc};
 use async_driver::Settled;
 use futures::executor::block_on;
-use lock_driver::RawMutex;
+use lock_driver::{RawMutex, Waiting, cancel};
 use lock_program::Refusal;
 use lock_words::{Hold, STARVED_LIMIT, Seat, Words};
 use std::alloc::AllocGlobal;
@@ -115,11 +114,11 @@ impl<T, R: Wait> Mutex<T, R> {
     }
 
     // Gives back what a future has that is dropped.
-    pub(crate) fn cancel(&self, waiting: Waiting<T>)
-        requires { Waits self.now.raw.words waiting }
+    #[inline(always)]
+    pub(crate) fn cancel(&self, waiting: Waiting<RawMutex<T>>)
+        requires { Waits self.now.raw waiting }
     {
-        let Waiting { party, place } = waiting;
-        self.raw.cancel(&self.rt, party, place);
+        cancel(&self.raw, &self.rt, waiting).rise();
     }
 }
 

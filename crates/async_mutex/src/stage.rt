@@ -1,20 +1,24 @@
 //! How far a future is, one poll of it by who has the mutex, and what a dropped one gives back.
 
-ghost use Rattle.std.specs.Prelude.{◌≡◌, false, IfSome};
+ghost use Rattle.std.specs.Prelude.{◌≡◌, false, IfSome, IfNone, IsSomeAnd, None};
 ghost use Rattle.futures.specs.Task.{Keeps};
 ghost use Rattle.async_mutex.specs.Stages.{IsFor, IsOf, is_finished};
-ghost use Rattle.async_mutex.specs.Futures.{GotAt, HasReceipt, OnPolled, WaitsAs, entry_of};
+ghost use Rattle.async_mutex.specs.Futures.{GotAt, HasReceipt, IsAnswer, IsTurn, OnOutcome, OnPolled, ToldAs, WaitsAs};
+ghost use Rattle.async_driver.specs.Turns.{OnPending};
+ghost use Rattle.lock_driver.specs.Waits.{entry_of};
 ghost use Rattle.async_mutex.specs.Outcomes.{OnWaits, Waits};
 ghost use Rattle.async_mutex.specs.declared.mutex.Mutex.{Mutex};
 
 use crate::guard::Guard;
 use crate::mutex::Mutex;
+use crate::outcome::{Outcome, came_to};
 use crate::owns::Owns;
-use crate::waiting::{Outcome, Waiting, poll_waiting};
-use async_driver::nothing;
+use async_driver::{Owed, Turn, nothing};
 use futures::task::Context;
+use lock_driver::{RawMutex, Waiting, poll_entry, poll_first, poll_told};
 use lock_program::Refusal;
 use lock_words::{Hold, Seat};
+use std::mem;
 use std::sync::Wait;
 use std::time::Clock;
 
@@ -68,13 +72,14 @@ pub(crate) fn into_guard<T, R: Wait, O: Owns<T, R>>(
     }
 }
 
-/// One poll by who has the mutex.
-pub(crate) fn poll_stage<T, R: Wait + Clock, O: Owns<T, R>>(
+/// A first poll by who has the mutex, that didn't get the lock at once.
+#[inline(always)]
+pub(crate) fn first_poll<T, R: Wait + Clock, O: Owns<T, R>>(
     stage: &Stage<O>,
     cx: &mut Context<'_>,
-    waiting: &mut Option<Waiting<T>>,
+    waiting: &mut Option<Waiting<RawMutex<T>>>,
 ) -> Outcome<T>
-    requires waiting { IfSome waiting.old (WaitsAs O.lock_of stage.now) }
+    requires none { waiting.old ≡ None }
     requires open { is_finished stage.now ≡ false }
     ensures waiting { IfSome waiting.new (WaitsAs O.lock_of stage.now) }
     ensures outcome { OnPolled O.lock_of stage.now result waiting.new }
@@ -84,16 +89,125 @@ pub(crate) fn poll_stage<T, R: Wait + Clock, O: Owns<T, R>>(
     match stage {
         Stage::Waits(owner) => {
             let mutex = owner.lock();
-            poll_waiting(&mutex.raw, &mutex.rt, cx, waiting)
+            let seat = mutex.raw.words.sit();
+            came_to(poll_first(&mutex.raw, &mutex.rt, cx, seat, waiting))
         }
         Stage::Unowned => Outcome::Refused(Refusal::Memory),
         Stage::Finished => unreachable!(),
     }
 }
 
+/// Asks for the notification of what waits.
+#[inline(always)]
+pub(crate) fn ask<T, R: Wait, O: Owns<T, R>>(
+    stage: &Stage<O>,
+    cx: &mut Context<'_>,
+    waiting: &mut Option<Waiting<RawMutex<T>>>,
+) -> Option<Owed>
+    requires { IsSomeAnd waiting.old (WaitsAs O.lock_of stage.now) }
+    ensures told { IfSome result (λ owed. IsSomeAnd waiting.new (ToldAs O.lock_of stage.now owed)) }
+    ensures waits { IfNone result (IsSomeAnd waiting.new (WaitsAs O.lock_of stage.now) × HasReceipt O.lock_of stage.now cx.new (entry_of waiting.new)) }
+    ensures kept { Keeps cx.old cx.new }
+{
+    match stage {
+        Stage::Waits(owner) => {
+            let mutex = owner.lock();
+            poll_entry(&mutex.raw, &mutex.rt, cx, waiting)
+        }
+        Stage::Unowned | Stage::Finished => unreachable!(),
+    }
+}
+
+/// Goes on with what was told.
+#[inline(always)]
+pub(crate) fn go_on_told<T, R: Wait + Clock, O: Owns<T, R>>(
+    stage: &Stage<O>,
+    cx: &mut Context<'_>,
+    owed: Owed,
+    waiting: &mut Option<Waiting<RawMutex<T>>>,
+) -> Outcome<T>
+    requires { IsSomeAnd waiting.old (ToldAs O.lock_of stage.now owed) }
+    ensures waiting { IfSome waiting.new (WaitsAs O.lock_of stage.now) }
+    ensures outcome { OnPolled O.lock_of stage.now result waiting.new }
+    ensures receipt { OnWaits result (HasReceipt O.lock_of stage.now cx.new (entry_of waiting.new)) }
+    ensures kept { Keeps cx.old cx.new }
+{
+    match stage {
+        Stage::Waits(owner) => {
+            let mutex = owner.lock();
+            came_to(poll_told(&mutex.raw, &mutex.rt, cx, owed, waiting))
+        }
+        Stage::Unowned | Stage::Finished => unreachable!(),
+    }
+}
+
+/// The answer of a poll that went so. Who has the mutex goes to the guard.
+#[inline(always)]
+pub(crate) fn into_turn<T, R: Wait, O: Owns<T, R>>(
+    stage: &mut Stage<O>,
+    outcome: Outcome<T>,
+) -> Turn<Guard<T, R, O>>
+    requires outcome { OnOutcome O.lock_of stage.old outcome }
+    requires open { is_finished stage.old ≡ false }
+    ensures turn { IsTurn (λ guard. IsOf O.lock_of stage.old guard.mutex) false result (is_finished stage.new) }
+    ensures share { is_finished stage.new ≡ false → stage.new ≡ stage.old }
+    ensures answer { IsAnswer outcome result }
+{
+    match outcome {
+        Outcome::Got(seat, hold) => {
+            let stage = mem::replace(stage, Stage::Finished);
+            Turn::Ready(into_guard(stage, seat, hold))
+        }
+        Outcome::Waits => Turn::Pending,
+        Outcome::Refused(refusal) => Turn::Refused(refusal),
+    }
+}
+
+/// The rest of a first poll that didn't get the lock at once. It stands apart, since what it takes room for would be cleared
+/// at each poll.
+#[inline(never)]
+pub(crate) fn first_turn<T, R: Wait + Clock, O: Owns<T, R>>(
+    stage: &mut Stage<O>,
+    cx: &mut Context<'_>,
+    waiting: &mut Option<Waiting<RawMutex<T>>>,
+) -> Turn<Guard<T, R, O>>
+    requires none { waiting.old ≡ None }
+    requires open { is_finished stage.old ≡ false }
+    ensures turn { IsTurn (λ guard. IsOf O.lock_of stage.old guard.mutex) false result (is_finished stage.new) }
+    ensures share { is_finished stage.new ≡ false → stage.new ≡ stage.old }
+    ensures waiting { IfSome waiting.new (WaitsAs O.lock_of stage.new) }
+    ensures receipt { OnPending result (HasReceipt O.lock_of stage.old cx.new (entry_of waiting.new)) }
+    ensures kept { Keeps cx.old cx.new }
+{
+    let outcome = first_poll::<T, R, O>(stage, cx, waiting);
+    into_turn::<T, R, O>(stage, outcome)
+}
+
+/// The rest of a poll that was told. It stands apart as [`first_turn`] does.
+#[inline(never)]
+pub(crate) fn told_turn<T, R: Wait + Clock, O: Owns<T, R>>(
+    stage: &mut Stage<O>,
+    cx: &mut Context<'_>,
+    owed: Owed,
+    waiting: &mut Option<Waiting<RawMutex<T>>>,
+) -> Turn<Guard<T, R, O>>
+    requires { IsSomeAnd waiting.old (ToldAs O.lock_of stage.old owed) }
+    ensures turn { IsTurn (λ guard. IsOf O.lock_of stage.old guard.mutex) false result (is_finished stage.new) }
+    ensures share { is_finished stage.new ≡ false → stage.new ≡ stage.old }
+    ensures waiting { IfSome waiting.new (WaitsAs O.lock_of stage.new) }
+    ensures receipt { OnPending result (HasReceipt O.lock_of stage.old cx.new (entry_of waiting.new)) }
+    ensures kept { Keeps cx.old cx.new }
+{
+    let outcome = go_on_told::<T, R, O>(stage, cx, owed, waiting);
+    into_turn::<T, R, O>(stage, outcome)
+}
+
 /// What a dropped future gives back.
 #[inline]
-pub(crate) fn drop_stage<T, R: Wait, O: Owns<T, R>>(stage: Stage<O>, waiting: Option<Waiting<T>>)
+pub(crate) fn drop_stage<T, R: Wait, O: Owns<T, R>>(
+    stage: Stage<O>,
+    waiting: Option<Waiting<RawMutex<T>>>,
+)
     requires { IfSome waiting (WaitsAs O.lock_of stage) }
 {
     match stage {
@@ -102,11 +216,10 @@ pub(crate) fn drop_stage<T, R: Wait, O: Owns<T, R>>(stage: Stage<O>, waiting: Op
     }
 }
 
-// What a dropped future gives back that hasn't been ready, its share of the mutex last. It stands apart, so that the drop of
-// one that was ready is short.
-#[inline(never)]
-fn leave<T, R: Wait, O: Owns<T, R>>(owner: O, waiting: Option<Waiting<T>>)
-    requires { IfSome waiting (Waits (O.lock_of owner).raw.words) }
+// What a dropped future gives back that hasn't been ready, its share of the mutex last.
+#[inline(always)]
+fn leave<T, R: Wait, O: Owns<T, R>>(owner: O, waiting: Option<Waiting<RawMutex<T>>>)
+    requires { IfSome waiting (Waits (O.lock_of owner).raw) }
 {
     if let Some(waiting) = waiting {
         owner.lock().cancel(waiting);

@@ -4,7 +4,7 @@ use Rattle.std.specs.Option.{IfSome}
 use Rattle.std.proofs.Common.{◌≡◌, true, false, Option, Some, None, refl, ap, sym, subst, ◌∙◌}
 use Rattle.lock_driver.specs.Parties.{AsksNo, CanDo, CanFind, Having, IfPending, IsReached, Stands, after, end_after, having_at, next_place}
 use Rattle.lock_driver.specs.declared.mutex_party.MutexParty.{MutexParty}
-use Rattle.lock_driver.specs.declared.mutex_party.RawMutex.{RawMutex}
+use Rattle.lock_driver.specs.declared.word.MutexWord.{Ghosts}
 use Rattle.lock_program.specs.declared.mutex.Action.{Action}
 use Rattle.lock_program.specs.declared.mutex.Found.{Found}
 use Rattle.lock_program.specs.declared.mutex.Found.TheVariants.{Done, Free, Held, SomeStarved, AtLimit, NoMemory, Yes, No}
@@ -34,10 +34,10 @@ on_start c p = tt
 pub begins : (c : LockCall) (p q : Place) → start_of c p ≡ Some q → (having_at p ≡ having_at q) × IsReached q
 begins c p q is = subst (λ o. OnStart o p) is (on_start c p)
 
-pub starts : (T : Type 0) (c : LockCall) (p : Place) (o : Option Place) → o ≡ start_of c p
-    → IfSome o (λ first. (raw : RawMutex T) (party : MutexParty T) → Stands raw.words party p → Stands raw.words party first)
-starts T c p None is = tt
-starts T c p (Some q) is = λ raw party s. let b = begins c p q (sym is) in (s.0, s.1 ∙ b.0, b.1, s.3)
+pub starts : {W S R : Type 0} (m : Ghosts W S R) (c : LockCall) (p : Place) (o : Option Place) → o ≡ start_of c p
+    → IfSome o (λ first. (word : W) (party : MutexParty W S R) → Stands m word party p → Stands m word party first)
+starts m c p None is = tt
+starts m c p (Some q) is = λ word party s. let b = begins c p q (sym is) in (s.0, s.1 ∙ b.0, b.1, s.3)
 
 can_at : (p : Place) → CanDo (action_of p) (having_at p)
 can_at Out = tt

@@ -1,1 +1,4 @@
 pub mod Parties
+pub mod Words
+pub mod Waits
+pub mod Mutexes

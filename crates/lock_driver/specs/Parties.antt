@@ -1,16 +1,14 @@
 -- What a party of a mutex has at a place of its call, and what an action does to that.
 use Rattle.std.specs.Prelude.{◌≡◌, ℕ, IfSome, IsSomeAnd, Bool, true, false, not, ◌==◌, is_some, Option, Some, None, ⊤}
 use Rattle.lock_driver.specs.declared.mutex_party.MutexParty.{MutexParty}
-use Rattle.lock_place.specs.declared.room.Hold.{Hold}
+use Rattle.lock_driver.specs.declared.word.MutexWord.{Ghosts}
 use Rattle.futures.specs.Task.{Covers}
 use Rattle.futures.specs.declared.task.context.Context.{Context}
 use Rattle.async_driver.specs.Heard.{IsKept}
-use Rattle.lock_words.specs.Lock.{Lock, Seated}
 use Rattle.async_driver.specs.declared.duty.Owed.{Owed}
 use Rattle.async_driver.specs.declared.waiting_list.Listed.{Listed}
 use Rattle.lock_program.specs.declared.refusal.Refusal.{Refusal}
 use Rattle.lock_program.specs.declared.refusal.Refusal.TheVariants.{Memory, Starved}
-use Rattle.lock_words.specs.Tries.{Holds}
 use Rattle.lock_program.specs.declared.mutex.Action.{Action}
 use Rattle.lock_program.specs.declared.mutex.Action.TheVariants as act
 use Rattle.lock_program.specs.declared.end.End.{End}
@@ -128,22 +126,22 @@ CanDo act.Leave h = h.entry ≡ true
 CanDo act.Notify h = h.owes ≡ true
 CanDo _ h = ⊤
 
--- What a party has by its seat and its entry.
-abbrev pub having_of : Seated → Option Listed → Option Owed → Having
-having_of seat entry owed = having seat.holds seat.starved (is_some entry) (is_some owed)
-
--- The seat is the lock's, and the party has the right to the lock's value exactly where the seat holds the lock.
-abbrev pub IsSeated : {T : Type 0} → Lock → Seated → Option (Hold T) → Type 0
-IsSeated w seat (Some hold) = Holds w seat hold
-IsSeated w seat None = (seat.lock ≡ w.lock) × (seat.holds ≡ false)
-
 -- Its entry stands in this list, and whoever it owes a notification does.
 abbrev pub IsTied : ℕ → Option Listed → Option Owed → Type 0
 IsTied list entry owed = IfSome entry (λ e. e.list.id ≡ list) × IfSome owed (λ o. o.list.id ≡ list)
 
--- The party has what it has at this place.
-abbrev pub Stands : {T : Type 0} → Lock → MutexParty T → Place → Type 0
-Stands w q p = IsSeated w q.seat q.hold × (having_of q.seat q.entry q.owed ≡ having_at p) × IsReached p × IsTied w.list q.entry q.owed
+module _ {W S R : Type 0} (m : Ghosts W S R) where
+  -- What a party has by its seat, its entry and its duty.
+  abbrev pub having_of : S → Option Listed → Option Owed → Having
+  having_of seat entry owed = having (m.holds seat) (m.starved seat) (is_some entry) (is_some owed)
+
+  -- The seat is one of this word, and the party has the right exactly where the seat holds the lock.
+  abbrev pub IsSeated : W → S → Option R → Type 0
+  IsSeated w seat hold = m.is_of w seat × (m.holds seat ≡ is_some hold) × IfSome hold (m.right_of w)
+
+  -- The party has what it has at this place.
+  abbrev pub Stands : W → MutexParty W S R → Place → Type 0
+  Stands w q p = IsSeated w q.seat q.hold × (having_of q.seat q.entry q.owed ≡ having_at p) × IsReached p × IsTied (m.list_id w) q.entry q.owed
 
 -- where a party stands by what comes next, and how its call has ended by that
 abbrev pub place_of : Next Place Place → Place
@@ -183,10 +181,10 @@ EndsAt ending.NotFree p = p ≡ Out
 EndsAt ending.GivenBack p = p ≡ Out
 EndsAt (ending.Refused refusal) p = (p ≡ Out) × IsGivenUp refusal
 
--- The receipt of a party that waits: an entry in the lock's list, which keeps a waker of the task that the context polls; and the task
--- has registered with the lock's source.
-abbrev pub IsReceipt : Lock → Context → Option Listed → Type 0
-IsReceipt w cx entry = IsSomeAnd entry (λ e. (e.list.id ≡ w.list) × IsKept cx e.keeps) × Covers cx (λ s. s ≡ w.source)
+-- The receipt of a party that waits: an entry in this list, which keeps a waker of the task that the context polls; and the task
+-- has registered with this source.
+abbrev pub IsReceipt : ℕ → ℕ → Context → Option Listed → Type 0
+IsReceipt list source cx entry = IsSomeAnd entry (λ e. (e.list.id ≡ list) × IsKept cx e.keeps) × Covers cx (λ s. s ≡ source)
 
 -- a fact of a party that asked in vain
 abbrev pub AsksNo : Action → Found → Type 0 → Type 0

@@ -1,73 +1,77 @@
-//! The mutex's program, carried out on a mutex's words and waiting list.
+//! The mutex's program, carried out on a mutex's word and waiting list.
 
 ghost use Rattle.std.specs.Prelude.{◌≡◌, Bool, true, false, not, Option, Some, None, IfSome, IfNone, IsSome, is_some};
 ghost use Rattle.futures.specs.Task.{Keeps};
 ghost use Rattle.lock_driver.specs.Parties.{IsReceipt, IfPending, AsksNo};
-ghost use Rattle.lock_words.specs.Lock.{cleared};
-ghost use Rattle.lock_words.specs.Tries.{Holds};
-ghost use Rattle.lock_program.specs.Mutex.{start_of, action_of, next_of};
+ghost use Rattle.lock_program.specs.Mutex.{start_of};
 ghost use Rattle.lock_program.specs.declared.mutex.Action.TheVariants as does;
-ghost use Rattle.lock_program.specs.declared.end.End.TheVariants as ends;
 ghost use Rattle.lock_program.specs.declared.mutex.Found.TheVariants as finds;
 ghost use Rattle.lock_program.specs.declared.mutex.LockCall.{LockCall};
-ghost use Rattle.lock_program.specs.declared.mutex.LockCall.TheVariants as calls;
-ghost use Rattle.lock_program.specs.declared.end.Next.TheVariants as next;
 ghost use Rattle.lock_program.specs.declared.mutex.Place.TheVariants as at;
 
+use crate::word::{Counting, MutexWord};
 use async_driver::{Carries, Heard, ListId, Listed, Owed, nothing, put};
 use futures::task::Context;
 use lock_program::mutex::{Action, Found, LockCall, Place, action_at, decide, start};
 use lock_program::{End, Next};
-use lock_words::{Counting, Hold, Seat, Setting, Taking, TakingAlone, Words};
+use lock_words::{Setting, Taking, TakingAlone};
 use std::sync::Wait;
 use std::time::{Clock, Duration, Instant};
 
 /// How long a waiter is overtaken by newcomers before it counts as starved, in microseconds.
 const PATIENCE: u64 = 500;
 
-/// A mutex without its runtime: its words, with the value, and its waiting list.
-pub struct RawMutex<T> {
-    /// The words, the right to the value, the value, and who waits.
-    pub words: Words<T>,
-}
-
-// By hand, so that a drop is one call to prove, and not all of its parts again.
-impl<T: Drop> Drop for RawMutex<T> {
-    fn drop(self) {
-        let RawMutex { words: _ } = self;
-    }
-}
-
 /// What a party has that is inside a call on a mutex, or waits between two polls. It has no `Drop`: it gives back
 /// what it has, by a call, and ends by [`MutexParty::end`] or [`MutexParty::into_held`].
-pub struct MutexParty<T> {
-    /// Steps on the mutex's words.
-    pub seat: Seat<T>,
-    /// The right to the value, while the seat holds the lock.
-    pub hold: Option<Hold<T>>,
+pub struct MutexParty<W: MutexWord> {
     /// The party's entry, while it stands in the list.
     pub entry: Option<Listed>,
-    /// A notification that the party has to pass on, while it has taken one or has given the lock back.
-    pub owed: Option<Owed>,
     /// When it first waited. A clock that couldn't be read is tried again.
     pub since: Option<Instant>,
+    /// Steps on the mutex's word.
+    pub seat: W::Seat,
+    /// The right to what the lock guards, while the seat holds the lock.
+    pub hold: Option<W::Right>,
+    /// A notification that the party has to pass on, while it has taken one or has given the lock back.
+    pub owed: Option<Owed>,
 }
 
-impl<T> MutexParty<T> {
+impl<W: MutexWord> MutexParty<W> {
     ghost use Rattle.lock_driver.specs.Parties.{Stands};
 
-    /// The seat and the right to the value of a party that got the lock. The rest of it is dropped.
-    pub fn into_held(self, words: &Words<T>) -> (Seat<T>, Hold<T>)
-        requires stands { Stands words.now self at.Holding }
-        ensures holds { Holds words.now result.0 result.1 }
-        ensures starved { result.0.starved ≡ false }
+    /// Returns a party outside every call, with this seat and nothing else.
+    #[inline(always)]
+    pub fn new(word: &W, seat: W::Seat) -> MutexParty<W>
+        requires of { W.is_of word.now seat }
+        requires idle { (W.holds seat ≡ false) × (W.starved seat ≡ false) }
+        ensures { Stands W.MutexWord word.now result at.Out }
     {
+        let _ = word;
+        MutexParty {
+            entry: None,
+            since: None,
+            seat,
+            hold: None,
+            owed: None,
+        }
+    }
+
+    /// The seat and the right of a party that got the lock. The rest of it is dropped.
+    #[inline(always)]
+    pub fn into_held(self, word: &W) -> (W::Seat, W::Right)
+        requires stands { Stands W.MutexWord word.now self at.Holding }
+        ensures of { W.is_of word.now result.0 }
+        ensures holds { (W.holds result.0 ≡ true) × W.right_of word.now result.1 }
+        ensures starved { W.starved result.0 ≡ false }
+        ensures beside { W.beside result.0 ≡ W.beside self.seat }
+    {
+        let _ = word;
         let MutexParty {
+            entry,
+            since: _,
             seat,
             hold,
-            entry,
             owed,
-            since: _,
         } = self;
         nothing(entry);
         nothing(owed);
@@ -77,220 +81,28 @@ impl<T> MutexParty<T> {
         }
     }
 
-    /// Ends a party that is outside every call, without the lock.
-    pub fn end(self, words: &Words<T>)
-        requires { Stands words.now self at.Out }
+    /// The seat of a party that is outside every call, without the lock. The rest of it is dropped.
+    #[inline(always)]
+    pub fn end(self, word: &W) -> W::Seat
+        requires { Stands W.MutexWord word.now self at.Out }
+        ensures of { W.is_of word.now result }
+        ensures idle { (W.holds result ≡ false) × (W.starved result ≡ false) }
+        ensures beside { W.beside result ≡ W.beside self.seat }
     {
-        let _ = words;
+        let _ = word;
         let MutexParty {
+            entry,
+            since: _,
             seat,
             hold,
-            entry,
             owed,
-            since: _,
         } = self;
         nothing(hold);
         nothing(entry);
         nothing(owed);
-        seat.rise();
+        seat
     }
 }
-
-impl<T> RawMutex<T> {
-    ghost use Rattle.lock_driver.specs.Parties.{Stands, EndsAt};
-
-    /// The value, also of a mutex that a forgotten seat left held. It waits for nobody and takes no memory.
-    pub fn into_inner(self) -> T {
-        let RawMutex { words } = self;
-        words.into_inner()
-    }
-
-    /// A party outside every call, with nothing.
-    pub fn party(&self) -> MutexParty<T>
-        ensures { Stands self.now.words result at.Out }
-    {
-        MutexParty {
-            seat: self.words.sit(),
-            hold: None,
-            entry: None,
-            owed: None,
-            since: None,
-        }
-    }
-
-    /// Takes the lock at once, if it is free and nobody is starved. It is the first action of a try and of a first
-    /// poll, and ends either with the lock; a program that it doesn't end goes on by [`RawMutex::call`].
-    ///
-    /// By the contract the seat that it answers holds the lock, with the right to its value (`holds`).
-    #[inline]
-    pub fn take(&self) -> Option<(Seat<T>, Hold<T>)>
-        ensures holds { IfSome result (λ r. Holds self.now.words r.0 r.1 × (r.0.starved ≡ false)) }
-    {
-        straight_rows();
-        let mut seat = self.words.sit();
-        let mut owed = None;
-        let taking = self.words.take(&mut seat, &mut owed);
-        nothing(owed);
-        match taking {
-            Taking::Got(hold) => Some((seat, hold)),
-            Taking::Held | Taking::Starved => {
-                seat.rise();
-                None
-            }
-        }
-    }
-}
-
-impl<T> RawMutex<T> {
-    ghost use Rattle.lock_driver.specs.Parties.{Stands, IsStepOf, IsWithin};
-
-    /// Begins a call for a party that stands at `place`, and carries out its first action: how the call has ended, if it has,
-    /// and where the party stands. It is for a lock that has this one inside.
-    pub fn begin<R: Wait + Clock>(
-        &self,
-        rt: &R,
-        cx: &mut Context<'_>,
-        party: &mut MutexParty<T>,
-        call: LockCall,
-        place: Place,
-    ) -> (Option<End>, Place)
-        requires stands { Stands self.now.words party.old place }
-        requires begins { IsSome (start_of call place) }
-        ensures stands { Stands self.now.words party.new result.1 }
-        ensures step { IsStepOf call result.0 result.1 }
-        ensures pending { IfSome result.0 (λ end. IfPending end (IsReceipt self.now.words cx.new party.new.entry)) }
-        ensures kept { Keeps cx.old cx.new }
-    {
-        let Some(first) = MutexParty::<T>::start(call, place) else {
-            unreachable!()
-        };
-        // A wait for the lock begins here: what the party waited before, for another purpose, doesn't count.
-        if let Place::Out = place {
-            party.since = None;
-        }
-        self.go_on(rt, cx, party, first)
-    }
-
-    /// Carries out the next action of the call inside which the party stands at `place`, as [`RawMutex::begin`] does. Where a
-    /// word changed during a try nothing has changed, and the party stands where it stood.
-    pub fn go_on<R: Wait + Clock>(
-        &self,
-        rt: &R,
-        cx: &mut Context<'_>,
-        party: &mut MutexParty<T>,
-        place: Place,
-    ) -> (Option<End>, Place)
-        requires stands { Stands self.now.words party.old place }
-        ensures stands { Stands self.now.words party.new result.1 }
-        ensures step { (call : LockCall) → IsWithin call place → IsStepOf call result.0 result.1 }
-        ensures pending { IfSome result.0 (λ end. IfPending end (IsReceipt self.now.words cx.new party.new.entry)) }
-        ensures kept { Keeps cx.old cx.new }
-    {
-        party.go(self, rt, cx, place)
-    }
-}
-
-impl<T> RawMutex<T> {
-    ghost use Rattle.lock_driver.specs.Parties.{Stands, EndsAt, EndsPoll, CanPoll};
-
-    /// Polls a party that stands at `place`, until the poll ends: how it ends, and where the party
-    /// stands then (`ended`), with what it has there (`stands`).
-    ///
-    /// Pending, the party has an entry in the lock's list, which keeps a waker of the task that polls, and the task has
-    /// registered with the lock's source (`pending`).
-    pub fn poll<R: Wait + Clock>(
-        &self,
-        rt: &R,
-        cx: &mut Context<'_>,
-        party: &mut MutexParty<T>,
-        place: Place,
-    ) -> (End, Place)
-        requires stands { Stands self.now.words party.old place }
-        requires begins { CanPoll place }
-        ensures stands { Stands self.now.words party.new result.1 }
-        ensures ended { EndsAt result.0 result.1 }
-        ensures polled { EndsPoll result.0 }
-        ensures pending { IfPending result.0 (IsReceipt self.now.words cx.new party.new.entry) }
-        ensures kept { Keeps cx.old cx.new }
-    {
-        party.call(self, rt, cx, LockCall::Poll, place)
-    }
-
-    /// Gives the lock back by the seat that holds it, with the right to its value. The program of a release has no
-    /// branch, and so its two actions stand here in their order; that they are the table's is proved (`straight_rows`).
-    ///
-    /// By their types the seat can't end before it has given the lock back, nor the call before somebody who waits is
-    /// notified.
-    #[inline]
-    pub fn release<R: Wait>(&self, rt: &R, seat: Seat<T>, hold: Hold<T>)
-        requires holds { Holds self.now.words seat hold }
-        requires starved { seat.starved ≡ false }
-    {
-        self.release_with(rt, seat, hold, || ());
-    }
-
-    /// Releases the lock as [`RawMutex::release`] does, and calls `between` between its two actions. It is for tests.
-    #[inline]
-    pub fn release_with<R: Wait, F: FnOnce()>(
-        &self,
-        rt: &R,
-        seat: Seat<T>,
-        hold: Hold<T>,
-        between: F,
-    )
-        requires holds { Holds self.now.words seat hold }
-        requires starved { seat.starved ≡ false }
-        requires between { F.IsAlwaysCallable between }
-    {
-        straight_rows();
-        let mut seat = seat;
-        let owed = self.words.clear(&mut seat, hold);
-        between();
-        self.words.list().notify(rt, 1, owed);
-        seat.rise();
-    }
-
-    /// Gives back what a party has that waits between two polls. The program of it has no branch, and so its actions
-    /// stand here in their order; that they are the table's is proved (`cancel_rows`).
-    pub fn cancel<R: Wait>(&self, rt: &R, party: MutexParty<T>, place: Place)
-        requires stands { Stands self.now.words party place }
-        requires waits { CanPoll place }
-    {
-        cancel_rows();
-        let mut party = party;
-        match place {
-            Place::Ask => {
-                party.leave(self, rt);
-                party.end(&self.words);
-            }
-            Place::AskStarved => {
-                party.uncount(self);
-                party.leave(self, rt);
-                party.end(&self.words);
-            }
-            _ => party.end(&self.words),
-        }
-    }
-}
-
-// The rows of the program's table that `RawMutex::take` and `RawMutex::release` carry out straight: a free lock is got by a
-// take at once, and a release clears the word and notifies one. It does nothing, and its contract has the rows.
-#[inline]
-fn straight_rows()
-    ensures tries { (action_of at.Try ≡ does.Take) × (next_of at.Try finds.Free ≡ next.End ends.Got at.Holding) }
-    ensures enters { (action_of at.Enter ≡ does.Take) × (next_of at.Enter finds.Free ≡ next.End ends.Got at.Holding) }
-    ensures releases { start_of calls.Release at.Holding ≡ Some at.Clear }
-    ensures clears { (action_of at.Clear ≡ does.Clear) × (next_of at.Clear finds.Done ≡ next.Do at.ReleaseNotify) }
-    ensures notifies { (action_of at.ReleaseNotify ≡ does.Notify) × (next_of at.ReleaseNotify finds.Done ≡ next.End ends.GivenBack at.Out) }
-{}
-
-// The rows of the program's table that `RawMutex::cancel` carries out straight.
-#[inline]
-fn cancel_rows()
-    ensures waiting { (start_of calls.Cancel at.Ask ≡ Some at.CancelLeave) × (action_of at.CancelLeave ≡ does.Leave) × (next_of at.CancelLeave finds.Done ≡ next.End ends.GivenBack at.Out) }
-    ensures starved { (start_of calls.Cancel at.AskStarved ≡ Some at.CancelUncount) × (action_of at.CancelUncount ≡ does.Uncount) × (next_of at.CancelUncount finds.Done ≡ next.Do at.CancelLeave) }
-    ensures out { (start_of calls.Cancel at.Out ≡ Some at.Out) × (next_of at.Out finds.Done ≡ next.End ends.GivenBack at.Out) }
-{}
 
 // A duty to notify, if there was none.
 fn owe(owed: &mut Option<Owed>, list: ListId)
@@ -303,10 +115,59 @@ fn owe(owed: &mut Option<Owed>, list: ListId)
     }
 }
 
-impl<T> Carries for MutexParty<T> {
+impl<W: MutexWord> MutexParty<W> {
+    ghost use Rattle.lock_driver.specs.Parties.{Stands, IsStepOf, IsWithin};
+
+    /// Begins a call for a party that stands at `place`, and carries out its first action: how the call has ended, if it has,
+    /// and where the party stands. It is for a lock that has a mutex inside.
+    pub fn begin<R: Wait + Clock>(
+        &mut self,
+        word: &W,
+        rt: &R,
+        cx: &mut Context<'_>,
+        call: LockCall,
+        place: Place,
+    ) -> (Option<End>, Place)
+        requires stands { Stands W.MutexWord word.now self.old place }
+        requires begins { IsSome (start_of call place) }
+        ensures stands { Stands W.MutexWord word.now self.new result.1 }
+        ensures step { IsStepOf call result.0 result.1 }
+        ensures pending { IfSome result.0 (λ end. IfPending end (IsReceipt (W.list_id word.now) (W.source_id word.now) cx.new self.new.entry)) }
+        ensures kept { Keeps cx.old cx.new }
+    {
+        let Some(first) = Self::start(call, place) else {
+            unreachable!()
+        };
+        // A wait for the lock begins here: what the party waited before, for another purpose, doesn't count.
+        if let Place::Out = place {
+            self.since = None;
+        }
+        self.go_on(word, rt, cx, first)
+    }
+
+    /// Carries out the next action of the call inside which the party stands at `place`, as [`MutexParty::begin`] does. Where a
+    /// word changed during a try nothing has changed, and the party stands where it stood.
+    pub fn go_on<R: Wait + Clock>(
+        &mut self,
+        word: &W,
+        rt: &R,
+        cx: &mut Context<'_>,
+        place: Place,
+    ) -> (Option<End>, Place)
+        requires stands { Stands W.MutexWord word.now self.old place }
+        ensures stands { Stands W.MutexWord word.now self.new result.1 }
+        ensures step { (call : LockCall) → IsWithin call place → IsStepOf call result.0 result.1 }
+        ensures pending { IfSome result.0 (λ end. IfPending end (IsReceipt (W.list_id word.now) (W.source_id word.now) cx.new self.new.entry)) }
+        ensures kept { Keeps cx.old cx.new }
+    {
+        self.go(word, rt, cx, place)
+    }
+}
+
+impl<W: MutexWord> Carries for MutexParty<W> {
     ghost use Rattle.lock_driver.specs.Parties.{Stands, IsWithin, next_place, end_after as ended_by};
 
-    type Shared = RawMutex<T>;
+    type Shared = W;
 
     type Call = LockCall;
 
@@ -316,7 +177,7 @@ impl<T> Carries for MutexParty<T> {
 
     type End = End;
 
-    ghost stands = { λ raw party place. Stands raw.words party place };
+    ghost stands = { λ word party place. Stands W.MutexWord word party place };
 
     ghost first_place = { start_of };
 
@@ -326,7 +187,7 @@ impl<T> Carries for MutexParty<T> {
 
     ghost end_after = { ended_by };
 
-    ghost tells = { λ raw cx party end. IfPending end (IsReceipt raw.words cx party.entry) };
+    ghost tells = { λ word cx party end. IfPending end (IsReceipt (W.list_id word) (W.source_id word) cx party.entry) };
 
     fn start(call: LockCall, place: Place) -> Option<Place> {
         start(call, place)
@@ -334,7 +195,7 @@ impl<T> Carries for MutexParty<T> {
 
     fn act<R: Wait + Clock>(
         &mut self,
-        shared: &RawMutex<T>,
+        shared: &W,
         rt: &R,
         cx: &mut Context<'_>,
         place: Place,
@@ -350,123 +211,131 @@ impl<T> Carries for MutexParty<T> {
     }
 }
 
-impl<T> MutexParty<T> {
+impl<W: MutexWord> MutexParty<W> {
     ghost use Rattle.lock_driver.specs.Parties.{IsSeated, IsTied, CanDo, CanFind, after, having, having_of, still};
 
-    // Carries out one action.
-    fn carry_out<R: Wait + Clock>(
+    /// Carries out one action. It is for a lock whose turn is a mutex.
+    pub fn carry_out<R: Wait + Clock>(
         &mut self,
-        raw: &RawMutex<T>,
+        word: &W,
         rt: &R,
         cx: &mut Context<'_>,
         action: Action,
     ) -> Option<Found>
-        requires seated { IsSeated raw.now.words self.old.seat self.old.hold }
-        requires tied { IsTied raw.now.words.list self.old.entry self.old.owed }
-        requires can { CanDo action (having_of self.old.seat self.old.entry self.old.owed) }
-        ensures seated { IsSeated raw.now.words self.new.seat self.new.hold }
-        ensures tied { IsTied raw.now.words.list self.new.entry self.new.owed }
-        ensures found { IfSome result (λ found. CanFind action found × (having_of self.new.seat self.new.entry self.new.owed ≡ after action found (having_of self.old.seat self.old.entry self.old.owed)) × AsksNo action found (IsReceipt raw.now.words cx.new self.new.entry)) }
-        ensures again { IfNone result (having_of self.new.seat self.new.entry self.new.owed ≡ having_of self.old.seat self.old.entry self.old.owed) }
+        requires seated { IsSeated W.MutexWord word.now self.old.seat self.old.hold }
+        requires tied { IsTied (W.list_id word.now) self.old.entry self.old.owed }
+        requires can { CanDo action (having_of W.MutexWord self.old.seat self.old.entry self.old.owed) }
+        ensures seated { IsSeated W.MutexWord word.now self.new.seat self.new.hold }
+        ensures tied { IsTied (W.list_id word.now) self.new.entry self.new.owed }
+        ensures beside { W.beside self.new.seat ≡ W.beside self.old.seat }
+        ensures found { IfSome result (λ found. CanFind action found × (having_of W.MutexWord self.new.seat self.new.entry self.new.owed ≡ after action found (having_of W.MutexWord self.old.seat self.old.entry self.old.owed)) × AsksNo action found (IsReceipt (W.list_id word.now) (W.source_id word.now) cx.new self.new.entry)) }
+        ensures again { IfNone result (having_of W.MutexWord self.new.seat self.new.entry self.new.owed ≡ having_of W.MutexWord self.old.seat self.old.entry self.old.owed) }
         ensures kept { Keeps cx.old cx.new }
     {
         match action {
             Action::Nothing => Some(Found::Done),
-            Action::Take => Some(self.take(raw, rt)),
-            Action::TakeAlone => Some(self.take_alone(raw)),
-            Action::Set => Some(self.set(raw)),
-            Action::Count => self.count(raw),
-            Action::Uncount => Some(self.uncount(raw)),
-            Action::Clear => Some(self.clear(raw)),
-            Action::Join => Some(self.join(raw, rt)),
-            Action::Ask => Some(self.ask(raw, rt, cx)),
-            Action::Leave => Some(self.leave(raw, rt)),
-            Action::Notify => Some(self.notify(raw, rt)),
+            Action::Take => Some(self.take(word, rt)),
+            Action::TakeAlone => Some(self.take_alone(word)),
+            Action::Set => Some(self.set(word)),
+            Action::Count => self.count(word),
+            Action::Uncount => Some(self.uncount(word)),
+            Action::Clear => Some(self.clear(word)),
+            Action::Join => Some(self.join(word, rt)),
+            Action::Ask => Some(self.ask(word, rt, cx)),
+            Action::Leave => Some(self.leave(word, rt)),
+            Action::Notify => Some(self.notify(word, rt)),
         }
     }
 
-    fn take<R: Clock>(&mut self, raw: &RawMutex<T>, rt: &R) -> Found
-        requires seated { IsSeated raw.now.words self.old.seat self.old.hold }
-        requires tied { IsTied raw.now.words.list self.old.entry self.old.owed }
-        requires idle { self.old.seat.holds ≡ false }
-        ensures seated { IsSeated raw.now.words self.new.seat self.new.hold }
-        ensures tied { IsTied raw.now.words.list self.new.entry self.new.owed }
-        ensures found { CanFind does.Take result × (having_of self.new.seat self.new.entry self.new.owed ≡ after does.Take result (having_of self.old.seat self.old.entry self.old.owed)) }
+    #[inline(always)]
+    pub(crate) fn take<R: Clock>(&mut self, word: &W, rt: &R) -> Found
+        requires seated { IsSeated W.MutexWord word.now self.old.seat self.old.hold }
+        requires tied { IsTied (W.list_id word.now) self.old.entry self.old.owed }
+        requires idle { W.holds self.old.seat ≡ false }
+        ensures seated { IsSeated W.MutexWord word.now self.new.seat self.new.hold }
+        ensures tied { IsTied (W.list_id word.now) self.new.entry self.new.owed }
+        ensures beside { W.beside self.new.seat ≡ W.beside self.old.seat }
+        ensures found { CanFind does.Take result × (having_of W.MutexWord self.new.seat self.new.entry self.new.owed ≡ after does.Take result (having_of W.MutexWord self.old.seat self.old.entry self.old.owed)) }
     {
         let owes = self.owed.is_some();
-        match raw.words.take(&mut self.seat, &mut self.owed) {
-            Taking::Got(hold) => self.got(raw, hold),
-            Taking::Held => self.finds_held(raw, rt, owes),
+        match word.take(&mut self.seat, &mut self.owed) {
+            Taking::Got(hold) => self.got(word, hold),
+            Taking::Held => self.finds_held(word, rt, owes),
             Taking::Starved => Found::SomeStarved,
         }
     }
 
     // A take found the lock held. A party that took a notification, and has not waited for too long, joins the list with it: if
     // its entry is refused, it has to notify.
-    fn finds_held<R: Clock>(&mut self, raw: &RawMutex<T>, rt: &R, owes: bool) -> Found
-        requires seated { IsSeated raw.now.words self.old.seat self.old.hold }
-        requires tied { IsTied raw.now.words.list self.old.entry self.old.owed }
+    #[inline(always)]
+    pub(crate) fn finds_held<R: Clock>(&mut self, word: &W, rt: &R, owes: bool) -> Found
+        requires seated { IsSeated W.MutexWord word.now self.old.seat self.old.hold }
+        requires tied { IsTied (W.list_id word.now) self.old.entry self.old.owed }
         requires owed { self.old.owed ≡ None }
-        ensures seated { IsSeated raw.now.words self.new.seat self.new.hold }
-        ensures tied { IsTied raw.now.words.list self.new.entry self.new.owed }
-        ensures found { (starving : Bool) × (result ≡ finds.Held starving) × (having_of self.new.seat self.new.entry self.new.owed ≡ having self.old.seat.holds self.old.seat.starved (is_some self.old.entry) (still owes (is_some self.old.entry) starving)) }
+        ensures seated { IsSeated W.MutexWord word.now self.new.seat self.new.hold }
+        ensures tied { IsTied (W.list_id word.now) self.new.entry self.new.owed }
+        ensures beside { W.beside self.new.seat ≡ W.beside self.old.seat }
+        ensures found { (starving : Bool) × (result ≡ finds.Held starving) × (having_of W.MutexWord self.new.seat self.new.entry self.new.owed ≡ having (W.holds self.old.seat) (W.starved self.old.seat) (is_some self.old.entry) (still owes (is_some self.old.entry) starving)) }
     {
         if !owes || self.entry.is_some() {
             return Found::Held { starving: false };
         }
         let starving = has_waited_long(rt, &self.since);
         if !starving {
-            put(&mut self.owed, Owed::new(raw.words.list().id()));
+            put(&mut self.owed, Owed::new(word.list().id()));
         }
         Found::Held { starving }
     }
 
-    fn take_alone(&mut self, raw: &RawMutex<T>) -> Found
-        requires seated { IsSeated raw.now.words self.old.seat self.old.hold }
-        requires tied { IsTied raw.now.words.list self.old.entry self.old.owed }
-        requires idle { self.old.seat.holds ≡ false }
-        ensures seated { IsSeated raw.now.words self.new.seat self.new.hold }
-        ensures tied { IsTied raw.now.words.list self.new.entry self.new.owed }
-        ensures found { CanFind does.TakeAlone result × (having_of self.new.seat self.new.entry self.new.owed ≡ after does.TakeAlone result (having_of self.old.seat self.old.entry self.old.owed)) }
+    fn take_alone(&mut self, word: &W) -> Found
+        requires seated { IsSeated W.MutexWord word.now self.old.seat self.old.hold }
+        requires tied { IsTied (W.list_id word.now) self.old.entry self.old.owed }
+        requires idle { W.holds self.old.seat ≡ false }
+        ensures seated { IsSeated W.MutexWord word.now self.new.seat self.new.hold }
+        ensures tied { IsTied (W.list_id word.now) self.new.entry self.new.owed }
+        ensures beside { W.beside self.new.seat ≡ W.beside self.old.seat }
+        ensures found { CanFind does.TakeAlone result × (having_of W.MutexWord self.new.seat self.new.entry self.new.owed ≡ after does.TakeAlone result (having_of W.MutexWord self.old.seat self.old.entry self.old.owed)) }
     {
-        match raw.words.take_alone(&mut self.seat, &mut self.owed) {
-            TakingAlone::Got(hold) => self.got(raw, hold),
+        match word.take_alone(&mut self.seat, &mut self.owed) {
+            TakingAlone::Got(hold) => self.got(word, hold),
             TakingAlone::Held => Found::Held { starving: false },
             TakingAlone::FreeWithOthers => Found::SomeStarved,
         }
     }
 
-    fn set(&mut self, raw: &RawMutex<T>) -> Found
-        requires seated { IsSeated raw.now.words self.old.seat self.old.hold }
-        requires tied { IsTied raw.now.words.list self.old.entry self.old.owed }
-        requires idle { self.old.seat.holds ≡ false }
-        ensures seated { IsSeated raw.now.words self.new.seat self.new.hold }
-        ensures tied { IsTied raw.now.words.list self.new.entry self.new.owed }
-        ensures found { CanFind does.Set result × (having_of self.new.seat self.new.entry self.new.owed ≡ after does.Set result (having_of self.old.seat self.old.entry self.old.owed)) }
+    fn set(&mut self, word: &W) -> Found
+        requires seated { IsSeated W.MutexWord word.now self.old.seat self.old.hold }
+        requires tied { IsTied (W.list_id word.now) self.old.entry self.old.owed }
+        requires idle { W.holds self.old.seat ≡ false }
+        ensures seated { IsSeated W.MutexWord word.now self.new.seat self.new.hold }
+        ensures tied { IsTied (W.list_id word.now) self.new.entry self.new.owed }
+        ensures beside { W.beside self.new.seat ≡ W.beside self.old.seat }
+        ensures found { CanFind does.Set result × (having_of W.MutexWord self.new.seat self.new.entry self.new.owed ≡ after does.Set result (having_of W.MutexWord self.old.seat self.old.entry self.old.owed)) }
     {
-        match raw.words.set(&mut self.seat) {
-            Setting::Got(hold) => self.got(raw, hold),
+        match word.set(&mut self.seat) {
+            Setting::Got(hold) => self.got(word, hold),
             Setting::WasSet => Found::Held { starving: false },
         }
     }
 
-    fn count(&mut self, raw: &RawMutex<T>) -> Option<Found>
-        requires seated { IsSeated raw.now.words self.old.seat self.old.hold }
-        requires tied { IsTied raw.now.words.list self.old.entry self.old.owed }
-        requires one { self.old.seat.starved ≡ false }
-        ensures seated { IsSeated raw.now.words self.new.seat self.new.hold }
-        ensures tied { IsTied raw.now.words.list self.new.entry self.new.owed }
-        ensures found { IfSome result (λ found. CanFind does.Count found × (having_of self.new.seat self.new.entry self.new.owed ≡ after does.Count found (having_of self.old.seat self.old.entry self.old.owed))) }
-        ensures again { IfNone result (having_of self.new.seat self.new.entry self.new.owed ≡ having_of self.old.seat self.old.entry self.old.owed) }
+    fn count(&mut self, word: &W) -> Option<Found>
+        requires seated { IsSeated W.MutexWord word.now self.old.seat self.old.hold }
+        requires tied { IsTied (W.list_id word.now) self.old.entry self.old.owed }
+        requires one { W.starved self.old.seat ≡ false }
+        ensures seated { IsSeated W.MutexWord word.now self.new.seat self.new.hold }
+        ensures tied { IsTied (W.list_id word.now) self.new.entry self.new.owed }
+        ensures beside { W.beside self.new.seat ≡ W.beside self.old.seat }
+        ensures found { IfSome result (λ found. CanFind does.Count found × (having_of W.MutexWord self.new.seat self.new.entry self.new.owed ≡ after does.Count found (having_of W.MutexWord self.old.seat self.old.entry self.old.owed))) }
+        ensures again { IfNone result (having_of W.MutexWord self.new.seat self.new.entry self.new.owed ≡ having_of W.MutexWord self.old.seat self.old.entry self.old.owed) }
     {
-        match raw.words.count(&mut self.seat) {
+        match word.count(&mut self.seat) {
             Counting::Counted => {
-                self.is_counted(raw);
+                self.is_counted(word);
                 Some(Found::Done)
             }
-            Counting::AtLimit(_) => {
+            Counting::AtLimit => {
                 if self.entry.is_none() {
-                    owe(&mut self.owed, raw.words.list().id());
+                    owe(&mut self.owed, word.list().id());
                 }
                 Some(Found::AtLimit)
             }
@@ -474,44 +343,48 @@ impl<T> MutexParty<T> {
         }
     }
 
-    fn uncount(&mut self, raw: &RawMutex<T>) -> Found
-        requires seated { IsSeated raw.now.words self.old.seat self.old.hold }
-        requires tied { IsTied raw.now.words.list self.old.entry self.old.owed }
-        requires counted { self.old.seat.starved ≡ true }
-        ensures seated { IsSeated raw.now.words self.new.seat self.new.hold }
-        ensures tied { IsTied raw.now.words.list self.new.entry self.new.owed }
-        ensures found { CanFind does.Uncount result × (having_of self.new.seat self.new.entry self.new.owed ≡ after does.Uncount result (having_of self.old.seat self.old.entry self.old.owed)) }
+    fn uncount(&mut self, word: &W) -> Found
+        requires seated { IsSeated W.MutexWord word.now self.old.seat self.old.hold }
+        requires tied { IsTied (W.list_id word.now) self.old.entry self.old.owed }
+        requires counted { W.starved self.old.seat ≡ true }
+        ensures seated { IsSeated W.MutexWord word.now self.new.seat self.new.hold }
+        ensures tied { IsTied (W.list_id word.now) self.new.entry self.new.owed }
+        ensures beside { W.beside self.new.seat ≡ W.beside self.old.seat }
+        ensures found { CanFind does.Uncount result × (having_of W.MutexWord self.new.seat self.new.entry self.new.owed ≡ after does.Uncount result (having_of W.MutexWord self.old.seat self.old.entry self.old.owed)) }
     {
-        raw.words.uncount(&mut self.seat);
+        word.uncount(&mut self.seat);
         Found::Done
     }
 
-    fn clear(&mut self, raw: &RawMutex<T>) -> Found
-        requires seated { IsSeated raw.now.words self.old.seat self.old.hold }
-        requires tied { IsTied raw.now.words.list self.old.entry self.old.owed }
-        requires holds { self.old.seat.holds ≡ true }
+    fn clear(&mut self, word: &W) -> Found
+        requires seated { IsSeated W.MutexWord word.now self.old.seat self.old.hold }
+        requires tied { IsTied (W.list_id word.now) self.old.entry self.old.owed }
+        requires holds { W.holds self.old.seat ≡ true }
         requires pays { is_some self.old.owed ≡ false }
-        ensures seated { IsSeated raw.now.words self.new.seat self.new.hold }
-        ensures tied { IsTied raw.now.words.list self.new.entry self.new.owed }
-        ensures found { CanFind does.Clear result × (having_of self.new.seat self.new.entry self.new.owed ≡ after does.Clear result (having_of self.old.seat self.old.entry self.old.owed)) }
+        ensures seated { IsSeated W.MutexWord word.now self.new.seat self.new.hold }
+        ensures tied { IsTied (W.list_id word.now) self.new.entry self.new.owed }
+        ensures beside { W.beside self.new.seat ≡ W.beside self.old.seat }
+        ensures found { CanFind does.Clear result × (having_of W.MutexWord self.new.seat self.new.entry self.new.owed ≡ after does.Clear result (having_of W.MutexWord self.old.seat self.old.entry self.old.owed)) }
     {
         let Some(hold) = self.hold.take() else {
             unreachable!()
         };
-        let owed = raw.words.clear(&mut self.seat, hold);
+        let owed = word.clear(&mut self.seat, hold);
         put(&mut self.owed, owed);
         Found::Done
     }
 
-    fn join<R: Wait>(&mut self, raw: &RawMutex<T>, rt: &R) -> Found
-        requires seated { IsSeated raw.now.words self.old.seat self.old.hold }
-        requires tied { IsTied raw.now.words.list self.old.entry self.old.owed }
+    #[inline(always)]
+    pub(crate) fn join<R: Wait>(&mut self, word: &W, rt: &R) -> Found
+        requires seated { IsSeated W.MutexWord word.now self.old.seat self.old.hold }
+        requires tied { IsTied (W.list_id word.now) self.old.entry self.old.owed }
         requires unlisted { self.old.entry ≡ None }
-        ensures seated { IsSeated raw.now.words self.new.seat self.new.hold }
-        ensures tied { IsTied raw.now.words.list self.new.entry self.new.owed }
-        ensures found { CanFind does.Join result × (having_of self.new.seat self.new.entry self.new.owed ≡ after does.Join result (having_of self.old.seat self.old.entry self.old.owed)) }
+        ensures seated { IsSeated W.MutexWord word.now self.new.seat self.new.hold }
+        ensures tied { IsTied (W.list_id word.now) self.new.entry self.new.owed }
+        ensures beside { W.beside self.new.seat ≡ W.beside self.old.seat }
+        ensures found { CanFind does.Join result × (having_of W.MutexWord self.new.seat self.new.entry self.new.owed ≡ after does.Join result (having_of W.MutexWord self.old.seat self.old.entry self.old.owed)) }
     {
-        match raw.words.list().join(rt) {
+        match word.list().join(rt) {
             Ok(entry) => {
                 put(&mut self.entry, entry);
                 Found::Done
@@ -520,21 +393,23 @@ impl<T> MutexParty<T> {
         }
     }
 
-    fn ask<R: Wait + Clock>(&mut self, raw: &RawMutex<T>, rt: &R, cx: &mut Context<'_>) -> Found
-        requires seated { IsSeated raw.now.words self.old.seat self.old.hold }
-        requires tied { IsTied raw.now.words.list self.old.entry self.old.owed }
+    #[inline(always)]
+    pub(crate) fn ask<R: Wait + Clock>(&mut self, word: &W, rt: &R, cx: &mut Context<'_>) -> Found
+        requires seated { IsSeated W.MutexWord word.now self.old.seat self.old.hold }
+        requires tied { IsTied (W.list_id word.now) self.old.entry self.old.owed }
         requires listed { IsSome self.old.entry }
         requires pays { is_some self.old.owed ≡ false }
-        ensures seated { IsSeated raw.now.words self.new.seat self.new.hold }
-        ensures tied { IsTied raw.now.words.list self.new.entry self.new.owed }
-        ensures found { CanFind does.Ask result × (having_of self.new.seat self.new.entry self.new.owed ≡ after does.Ask result (having_of self.old.seat self.old.entry self.old.owed)) }
-        ensures waits { AsksNo does.Ask result (IsReceipt raw.now.words cx.new self.new.entry) }
+        ensures seated { IsSeated W.MutexWord word.now self.new.seat self.new.hold }
+        ensures tied { IsTied (W.list_id word.now) self.new.entry self.new.owed }
+        ensures beside { W.beside self.new.seat ≡ W.beside self.old.seat }
+        ensures found { CanFind does.Ask result × (having_of W.MutexWord self.new.seat self.new.entry self.new.owed ≡ after does.Ask result (having_of W.MutexWord self.old.seat self.old.entry self.old.owed)) }
+        ensures waits { AsksNo does.Ask result (IsReceipt (W.list_id word.now) (W.source_id word.now) cx.new self.new.entry) }
         ensures kept { Keeps cx.old cx.new }
     {
         let Some(entry) = self.entry.take() else {
             unreachable!()
         };
-        match raw.words.poll(rt, entry, cx) {
+        match word.list().poll(rt, entry, word.source(), cx) {
             Heard::Notified(owed) => {
                 put(&mut self.owed, owed);
                 Found::Yes
@@ -547,79 +422,90 @@ impl<T> MutexParty<T> {
         }
     }
 
-    fn leave<R: Wait>(&mut self, raw: &RawMutex<T>, rt: &R) -> Found
-        requires seated { IsSeated raw.now.words self.old.seat self.old.hold }
-        requires tied { IsTied raw.now.words.list self.old.entry self.old.owed }
+    fn leave<R: Wait>(&mut self, word: &W, rt: &R) -> Found
+        requires seated { IsSeated W.MutexWord word.now self.old.seat self.old.hold }
+        requires tied { IsTied (W.list_id word.now) self.old.entry self.old.owed }
         requires listed { IsSome self.old.entry }
-        ensures seated { IsSeated raw.now.words self.new.seat self.new.hold }
-        ensures tied { IsTied raw.now.words.list self.new.entry self.new.owed }
-        ensures found { CanFind does.Leave result × (having_of self.new.seat self.new.entry self.new.owed ≡ after does.Leave result (having_of self.old.seat self.old.entry self.old.owed)) }
+        ensures seated { IsSeated W.MutexWord word.now self.new.seat self.new.hold }
+        ensures tied { IsTied (W.list_id word.now) self.new.entry self.new.owed }
+        ensures beside { W.beside self.new.seat ≡ W.beside self.old.seat }
+        ensures found { CanFind does.Leave result × (having_of W.MutexWord self.new.seat self.new.entry self.new.owed ≡ after does.Leave result (having_of W.MutexWord self.old.seat self.old.entry self.old.owed)) }
     {
         let Some(entry) = self.entry.take() else {
             unreachable!()
         };
-        raw.words.list().leave(rt, entry);
+        word.list().leave(rt, entry);
         Found::Done
     }
 
-    fn notify<R: Wait>(&mut self, raw: &RawMutex<T>, rt: &R) -> Found
-        requires seated { IsSeated raw.now.words self.old.seat self.old.hold }
-        requires tied { IsTied raw.now.words.list self.old.entry self.old.owed }
+    fn notify<R: Wait>(&mut self, word: &W, rt: &R) -> Found
+        requires seated { IsSeated W.MutexWord word.now self.old.seat self.old.hold }
+        requires tied { IsTied (W.list_id word.now) self.old.entry self.old.owed }
         requires owes { is_some self.old.owed ≡ true }
-        ensures seated { IsSeated raw.now.words self.new.seat self.new.hold }
-        ensures tied { IsTied raw.now.words.list self.new.entry self.new.owed }
-        ensures found { CanFind does.Notify result × (having_of self.new.seat self.new.entry self.new.owed ≡ after does.Notify result (having_of self.old.seat self.old.entry self.old.owed)) }
+        ensures seated { IsSeated W.MutexWord word.now self.new.seat self.new.hold }
+        ensures tied { IsTied (W.list_id word.now) self.new.entry self.new.owed }
+        ensures beside { W.beside self.new.seat ≡ W.beside self.old.seat }
+        ensures found { CanFind does.Notify result × (having_of W.MutexWord self.new.seat self.new.entry self.new.owed ≡ after does.Notify result (having_of W.MutexWord self.old.seat self.old.entry self.old.owed)) }
     {
         let Some(owed) = self.owed.take() else {
             unreachable!()
         };
-        raw.words.list().notify(rt, 1, owed);
+        word.list().notify(rt, 1, owed);
         Found::Done
     }
 
     // The seat has got the lock. Whatever it owed it pays when it gives the lock back.
-    fn got(&mut self, raw: &RawMutex<T>, hold: Hold<T>) -> Found
-        requires holds { Holds raw.now.words self.old.seat hold }
+    #[inline(always)]
+    fn got(&mut self, word: &W, hold: W::Right) -> Found
+        requires of { W.is_of word.now self.old.seat }
+        requires holds { W.holds self.old.seat ≡ true }
+        requires right { W.right_of word.now hold }
         requires empty { is_some self.old.hold ≡ false }
-        requires tied { IsTied raw.now.words.list self.old.entry self.old.owed }
-        ensures seated { IsSeated raw.now.words self.new.seat self.new.hold }
-        ensures tied { IsTied raw.now.words.list self.new.entry self.new.owed }
+        requires tied { IsTied (W.list_id word.now) self.old.entry self.old.owed }
+        ensures seated { IsSeated W.MutexWord word.now self.new.seat self.new.hold }
+        ensures tied { IsTied (W.list_id word.now) self.new.entry self.new.owed }
+        ensures beside { W.beside self.new.seat ≡ W.beside self.old.seat }
         ensures found { (result ≡ finds.Free) × (self.new.seat ≡ self.old.seat) × (self.new.entry ≡ self.old.entry) × (self.new.owed ≡ None) }
     {
         put(&mut self.hold, hold);
         if let Some(owed) = self.owed.take() {
-            raw.words.put_off(owed, &self.seat);
+            word.put_off(owed, &self.seat);
         }
         Found::Free
     }
 
     // The seat is counted as starved: in the list it waits, and else it owes a look on behalf of the others.
-    fn is_counted(&mut self, raw: &RawMutex<T>)
-        requires starved { self.old.seat.starved ≡ true }
-        requires lock { self.old.seat.lock ≡ raw.now.words.lock }
-        requires tied { IsTied raw.now.words.list self.old.entry self.old.owed }
-        ensures tied { IsTied raw.now.words.list self.new.entry self.new.owed }
+    fn is_counted(&mut self, word: &W)
+        requires starved { W.starved self.old.seat ≡ true }
+        requires of { W.is_of word.now self.old.seat }
+        requires tied { IsTied (W.list_id word.now) self.old.entry self.old.owed }
+        ensures tied { IsTied (W.list_id word.now) self.new.entry self.new.owed }
+        ensures beside { W.beside self.new.seat ≡ W.beside self.old.seat }
         ensures same { (self.new.seat ≡ self.old.seat) × (self.new.hold ≡ self.old.hold) × (self.new.entry ≡ self.old.entry) }
         ensures owes { is_some self.new.owed ≡ not (is_some self.old.entry) }
     {
         match &self.entry {
-            None => owe(&mut self.owed, raw.words.list().id()),
+            None => owe(&mut self.owed, word.list().id()),
             Some(entry) => {
                 if let Some(owed) = self.owed.take() {
-                    raw.words.leave_to_list(owed, &self.seat, entry);
+                    word.leave_to_list(owed, &self.seat, entry);
                 }
             }
         }
     }
 }
 
-impl<T> MutexParty<T> {
+impl<W: MutexWord> MutexParty<W> {
     // It waits, for the first time or still.
+    #[inline(always)]
     fn waits<R: Clock>(&mut self, rt: &R)
         ensures { (self.new.seat ≡ self.old.seat) × (self.new.hold ≡ self.old.hold) × (self.new.entry ≡ self.old.entry) × (self.new.owed ≡ self.old.owed) }
     {
         if self.since.is_none() {
-            self.since = Instant::now(rt).ok();
+            // Not by `ok`, which moves the whole through memory.
+            if let Ok(now) = Instant::now(rt) {
+                self.since = Some(now);
+            }
         }
     }
 }

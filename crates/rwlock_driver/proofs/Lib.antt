@@ -1,3 +1,4 @@
 pub mod Polls
 pub mod Rests
 pub mod Stays
+pub mod Turns

@@ -3,7 +3,7 @@ use Rattle.std.proofs.Common.{◌≡◌, ℕ, Bool, true, false, Option, Some, N
 use Rattle.std.specs.Prelude.{IsSomeAnd, IfSome, is_some}
 use Rattle.futures.specs.declared.task.context.Context.{Context}
 use Rattle.async_driver.specs.declared.waiting_list.Listed.{Listed}
-use Rattle.lock_driver.specs.Parties.{Having, having_at}
+use Rattle.lock_driver.specs.Parties.{Having, IsReceipt, having_at}
 use Rattle.lock_program.specs.declared.end.End.{End}
 use Rattle.lock_program.specs.declared.end.End.TheVariants as ending
 use Rattle.lock_program.specs.declared.refusal.Refusal.{Refusal}
@@ -13,7 +13,6 @@ use Rattle.lock_program.specs.declared.rwlock.Place.{Place}
 use Rattle.lock_program.specs.declared.rwlock.Place.TheVariants.{AskNoWriter, WaitTurn, AwaitNoReaders}
 use Rattle.lock_program.specs.declared.rwlock.Purpose.{Purpose}
 use Rattle.lock_program.specs.declared.rwlock.Purpose.TheVariants as purpose
-use Rattle.rwlock_driver.specs.AtLists.{IsReceipt}
 use Rattle.rwlock_driver.specs.Parties.{Fits, IfPending, IsOf, Share, Stands, Waits, share_at, share_of, turned}
 use Rattle.rwlock_driver.specs.Polls.{CanPoll, EndsAt, HasReceipt, Polled, WaitsFor, IsAsking, first_of, got_at, right_of}
 use Rattle.rwlock_driver.specs.Rights.{Has, flags}
@@ -60,20 +59,13 @@ at_place raw cx q t p aim.Upgrade is has shares fits w =
     subst (λ x. HasReceipt raw cx q x) (sym is) (at_no_readers raw cx q t true has (subst (λ x. share_of q ≡ share_at x) is shares) (subst (λ x. Fits x t) is fits) w)
 at_place raw cx q t p a is has shares fits w = absurd is
 
-pub receipt : (raw : RawRwLock) (cx : Context) (q : RwLockParty) (s : Standing) (a : Aim) → IsAsking a s.at → Stands raw q s → Waits raw cx q → HasReceipt raw cx q s.at
+receipt : (raw : RawRwLock) (cx : Context) (q : RwLockParty) (s : Standing) (a : Aim) → IsAsking a s.at → Stands raw q s → Waits raw cx q → HasReceipt raw cx q s.at
 receipt raw cx q s a is st w = at_place raw cx q s.turn s.at a is st.1 st.2 st.4 w
 
--- the same of a party with the same entries
-moved : (raw : RawRwLock) (cx : Context) (q q' : RwLockParty) (p : Place) → q'.turn ≡ q.turn → q'.no_writer ≡ q.no_writer → q'.no_readers ≡ q.no_readers → HasReceipt raw cx q p → HasReceipt raw cx q' p
-moved raw cx q q' AskNoWriter t w r h = subst (λ x. IsReceipt raw.no_writer.name.id raw.source.id cx x.entry) (sym w) h
-moved raw cx q q' (WaitTurn p) t w r h = subst (λ x. IsReceipt raw.turn.name.id raw.source.id cx x.entry) (sym t) h
-moved raw cx q q' (AwaitNoReaders u) t w r h = subst (λ x. IsReceipt raw.no_readers.name.id raw.source.id cx x.entry) (sym r) h
-moved raw cx q q' p t w r h = absurd h
-
-pub pending : (raw : RawRwLock) (cx : Context) (q q' : RwLockParty) (s : Standing) (a : Aim) (e : End) → EndsAt a e s.at → Stands raw q s → IfPending e (Waits raw cx q)
-    → q'.turn ≡ q.turn → q'.no_writer ≡ q.no_writer → q'.no_readers ≡ q.no_readers → IfPending e (HasReceipt raw cx q' s.at)
-pending raw cx q q' s a ending.Pending ends st w t nw nr = moved raw cx q q' s.at t nw nr (receipt raw cx q s a ends st w)
-pending raw cx q q' s a e ends st w t nw nr = tt
+-- a poll that ends pending leaves its party with the receipt of what it wants next
+pub pending : (raw : RawRwLock) (cx : Context) (q : RwLockParty) (s : Standing) (a : Aim) (e : End) → EndsAt a e s.at → Stands raw q s → IfPending e (Waits raw cx q) → IfPending e (HasReceipt raw cx q s.at)
+pending raw cx q s a ending.Pending ends st w = receipt raw cx q s a ends st w
+pending raw cx q s a e ends st w = tt
 
 -- what is taken out is what was there
 pub taken : (o : Option Waiting) (x : Waiting) (P : Waiting → Type 0) → IsSomeAnd o P → IfSome o (λ w. x ≡ w) → P x
@@ -94,7 +86,7 @@ refused raw a cx None e r is h = tt
 refused raw a cx (Some w) e r is h = let ends : EndsAt a (ending.Refused r) w.place.at = subst (λ x. EndsAt a x w.place.at) is h.1 in (h.0, can_begin a w.place.at ends.0)
 
 -- the party has this of the turn, and this beside it
-shows : (raw : RawRwLock) (q : RwLockParty) (t : Having) (h : Share) → IsOf raw q → turned q ≡ t → share_of q ≡ h → Has raw (flags t.right t.count h.marks h.reads h.writes) q.seat
+shows : (raw : RawRwLock) (q : RwLockParty) (t : Having) (h : Share) → IsOf raw q → turned q ≡ t → share_of q ≡ h → Has raw (flags t.right t.count h.marks h.reads h.writes) q.turn.seat
 shows raw q t h of has shares = (of.0, of.1, (ap (λ x. x.right) has, ap (λ x. x.count) has, ap (λ x. x.marks) shares, ap (λ x. x.reads) shares, ap (λ x. x.writes) shares))
 
 -- it stands in no list, and owes no notification
@@ -111,7 +103,7 @@ bare q t h has shares a b c d e f = record {
 }
 
 -- the right that a party got, and that it has nothing else
-pub got : (raw : RawRwLock) (q : RwLockParty) (s : Standing) (a : Aim) → s.at ≡ got_at a → Stands raw q s → Has raw (right_of a) q.seat × IsBare q
+pub got : (raw : RawRwLock) (q : RwLockParty) (s : Standing) (a : Aim) → s.at ≡ got_at a → Stands raw q s → Has raw (right_of a) q.turn.seat × IsBare q
 got raw q s aim.Read is st =
     let has = st.1 ∙ ap having_at (subst (λ p. Fits p s.turn) is st.4) in
     let shares = st.2 ∙ ap share_at is in (shows raw q _ _ st.0 has shares, bare q _ _ has shares refl refl refl refl refl refl)

@@ -3,3 +3,4 @@ pub mod Parties
 pub mod Polls
 pub mod Rights
 pub mod Sound
+pub mod Turns

@@ -1,7 +1,7 @@
 -- What a party of a read-write lock has at a place of its call, and what an action does to that.
 use Rattle.std.specs.Prelude.{◌≡◌, Bool, true, false, is_some, Option, Some, None, [], ⊤, ◌⊎◌}
 use Rattle.futures.specs.declared.task.context.Context.{Context}
-use Rattle.lock_driver.specs.Parties.{Having, having, having_at, IsReached, CanPoll, IsPolling}
+use Rattle.lock_driver.specs.Parties.{Having, having_at, having_of, IsReached, IsReceipt, IsTied, CanPoll, IsPolling}
 use Rattle.lock_driver.specs.Parties as turn
 use Rattle.lock_program.specs.Mutex as turn_table
 use Rattle.lock_program.specs.declared.end.End.{End}
@@ -21,7 +21,8 @@ use Rattle.lock_program.specs.declared.rwlock.Found.TheVariants.{Done, Writer, F
 use Rattle.lock_program.specs.declared.rwlock.Place.{Place}
 use Rattle.lock_program.specs.declared.rwlock.Place.TheVariants.{Reading, Upgradable, Writing, LookNoWriter, AskNoWriter, PassOn, LeaveNoWriter, RefuseLeave, CancelRead, WaitTurn, TakeTurn, CancelTurn, CancellingTurn, ReleaseTurn, ReleasingTurn, Add, TryUpgrade, Upgrade, Mark, TryWrite, JoinNoReaders, LookNoReaders, AskNoReaders, AwaitNoReaders, LookUnlisted, LeaveNoReaders, DropRead, DropReadNotify, DropUpgradable, DropUpgradableNotify, DropWrite, CancelAwait, Unmark, UnmarkNotify, Down, DownNotify, DowngradeNotify}
 use Rattle.lock_program.specs.ReadWrite.{next_of}
-use Rattle.rwlock_driver.specs.AtLists.{IsAt, IsReceipt}
+use Rattle.rwlock_driver.specs.AtLists.{IsAt}
+use Rattle.rwlock_driver.specs.Turns.{of_turn}
 use Rattle.rwlock_driver.specs.declared.finding.Finding.{Finding}
 use Rattle.rwlock_driver.specs.declared.finding.Standing.{Standing}
 use Rattle.rwlock_driver.specs.declared.party.RwLockParty.{RwLockParty}
@@ -242,14 +243,15 @@ Did a q f t h t' h' = (t' ≡ t) × (f.turn ≡ q) × CanFind a f.found × (h' �
 
 -- What a party has by its seat and its entries: of the turn, and beside it.
 abbrev pub turned : RwLockParty → Having
-turned p = having p.seat.inner.me.0.holds p.seat.inner.me.0.starved (is_some p.turn.entry) (is_some p.turn.owed)
+turned p = having_of of_turn p.turn.seat p.turn.entry p.turn.owed
 
 abbrev pub share_of : RwLockParty → Share
-share_of p = share p.seat.inner.me.0.marks p.seat.inner.me.0.reads p.seat.inner.me.0.writes (is_some p.no_writer.entry) (is_some p.no_writer.owed) (is_some p.no_readers.entry) (is_some p.no_readers.owed)
+share_of p = share p.turn.seat.inner.me.0.marks p.turn.seat.inner.me.0.reads p.turn.seat.inner.me.0.writes (is_some p.no_writer.entry) (is_some p.no_writer.owed) (is_some p.no_readers.entry) (is_some p.no_readers.owed)
 
--- Its seat is the lock's, and its entries stand in the lock's lists.
+-- Its seat is the lock's, its entries stand in the lock's lists, and it has the right exactly where its seat has the turn.
 abbrev pub IsOf : RawRwLock → RwLockParty → Type 0
-IsOf raw p = (p.seat.inner.table_id ≡ raw.words.table) × (p.seat.inner.me.1 ≡ []) × IsAt raw.turn.name.id p.turn × IsAt raw.no_writer.name.id p.no_writer × IsAt raw.no_readers.name.id p.no_readers
+IsOf raw p = (p.turn.seat.inner.table_id ≡ raw.words.table) × (p.turn.seat.inner.me.1 ≡ []) × (p.turn.seat.inner.me.0.holds ≡ is_some p.turn.hold)
+    × IsTied raw.turn.name.id p.turn.entry p.turn.owed × IsAt raw.no_writer.name.id p.no_writer × IsAt raw.no_readers.name.id p.no_readers
 
 -- what an action did to a party that found this
 abbrev pub Does : RawRwLock → Action → TurnPlace → Finding → RwLockParty → RwLockParty → Type 0

@@ -1,6 +1,6 @@
 -- The places of a poll, by what it is for, and how it ends.
 use Rattle.std.specs.Prelude.{◌≡◌, Option, Some, None, IsSomeAnd, true, false, ⊤}
-use Rattle.lock_driver.specs.Parties.{IsGivenUp}
+use Rattle.lock_driver.specs.Parties.{IsGivenUp, IsReceipt}
 use Rattle.lock_program.specs.declared.end.End.{End}
 use Rattle.lock_program.specs.declared.end.End.TheVariants as ending
 use Rattle.lock_program.specs.declared.refusal.Refusal.{Refusal}
@@ -21,7 +21,6 @@ use Rattle.rwlock_driver.specs.declared.waiting.Outcome.TheVariants as outcome
 use Rattle.rwlock_driver.specs.declared.waiting.Waiting.{Waiting}
 use Rattle.rwlock_driver.specs.declared.raw.RawRwLock.{RawRwLock}
 use Rattle.futures.specs.declared.task.context.Context.{Context}
-use Rattle.rwlock_driver.specs.AtLists.{IsReceipt}
 use Rattle.rwlock_driver.specs.Parties.{IfPending, Stands, in_turns}
 use Rattle.rwlock_driver.specs.declared.aim.Aim.TheVariants as aim
 use Rattle.rwlock_driver.specs.Rights.{Flags, Has, awaits, passing, reader, upgradable, writer}

@@ -22,7 +22,7 @@ impl RwLockParty {
         ensures did { IfSome result (λ found. Does raw.now does.Read turn found self.old self.new) }
         ensures again { IfNone result (IsSame raw.now self.old self.new) }
     {
-        match raw.words.read(&mut self.seat) {
+        match raw.words.read(&mut self.turn.seat) {
             Reading::Reads => Some(Finding::of(Found::Done, turn)),
             Reading::Writer => Some(Finding::of(Found::Writer, turn)),
             Reading::Full => Some(Finding::of(Found::Full, turn)),
@@ -36,7 +36,7 @@ impl RwLockParty {
         ensures did { IfSome result (λ found. Does raw.now does.Add turn found self.old self.new) }
         ensures again { IfNone result (IsSame raw.now self.old self.new) }
     {
-        match raw.words.add(&mut self.seat) {
+        match raw.words.add(&mut self.turn.seat) {
             Adding::Reads => Some(Finding::of(Found::Done, turn)),
             Adding::Full => Some(Finding::of(Found::Full, turn)),
             Adding::Changed => None,
@@ -48,7 +48,7 @@ impl RwLockParty {
         requires can { CanDo does.Off turn (turned self.old) (share_of self.old) }
         ensures { Does raw.now does.Off turn result self.old self.new }
     {
-        match raw.words.off(&mut self.seat) {
+        match raw.words.off(&mut self.turn.seat) {
             Some(owed) => {
                 put(&mut self.no_readers.owed, owed);
                 Finding::of(Found::NoneLeft, turn)
@@ -62,7 +62,7 @@ impl RwLockParty {
         requires can { CanDo does.Load turn (turned self.old) (share_of self.old) }
         ensures { Does raw.now does.Load turn result self.old self.new }
     {
-        match raw.words.look(&mut self.seat) {
+        match raw.words.look(&mut self.turn.seat) {
             Readers::NoneLeft => Finding::of(Found::NoneLeft, turn),
             Readers::SomeLeft => Finding::of(Found::SomeLeft, turn),
         }
@@ -73,7 +73,7 @@ impl RwLockParty {
         requires can { CanDo does.Mark turn (turned self.old) (share_of self.old) }
         ensures { Does raw.now does.Mark turn result self.old self.new }
     {
-        match raw.words.mark(&mut self.seat) {
+        match raw.words.mark(&mut self.turn.seat) {
             Readers::NoneLeft => Finding::of(Found::NoneLeft, turn),
             Readers::SomeLeft => Finding::of(Found::SomeLeft, turn),
         }
@@ -84,7 +84,7 @@ impl RwLockParty {
         requires can { CanDo does.TryWrite turn (turned self.old) (share_of self.old) }
         ensures { Does raw.now does.TryWrite turn result self.old self.new }
     {
-        if raw.words.try_write(&mut self.seat) {
+        if raw.words.try_write(&mut self.turn.seat) {
             Finding::of(Found::Done, turn)
         } else {
             Finding::of(Found::NotFree, turn)
@@ -96,7 +96,7 @@ impl RwLockParty {
         requires can { CanDo does.TryUpgrade turn (turned self.old) (share_of self.old) }
         ensures { Does raw.now does.TryUpgrade turn result self.old self.new }
     {
-        if raw.words.try_upgrade(&mut self.seat) {
+        if raw.words.try_upgrade(&mut self.turn.seat) {
             Finding::of(Found::Done, turn)
         } else {
             Finding::of(Found::NotFree, turn)
@@ -108,7 +108,7 @@ impl RwLockParty {
         requires can { CanDo does.Upgrade turn (turned self.old) (share_of self.old) }
         ensures { Does raw.now does.Upgrade turn result self.old self.new }
     {
-        raw.words.upgrade(&mut self.seat);
+        raw.words.upgrade(&mut self.turn.seat);
         Finding::of(Found::Done, turn)
     }
 
@@ -117,7 +117,7 @@ impl RwLockParty {
         requires can { CanDo does.Down turn (turned self.old) (share_of self.old) }
         ensures { Does raw.now does.Down turn result self.old self.new }
     {
-        let owed = raw.words.down(&mut self.seat);
+        let owed = raw.words.down(&mut self.turn.seat);
         put(&mut self.no_writer.owed, owed);
         Finding::of(Found::Done, turn)
     }
@@ -127,7 +127,7 @@ impl RwLockParty {
         requires can { CanDo does.Unmark turn (turned self.old) (share_of self.old) }
         ensures { Does raw.now does.Unmark turn result self.old self.new }
     {
-        let owed = raw.words.unmark(&mut self.seat);
+        let owed = raw.words.unmark(&mut self.turn.seat);
         put(&mut self.no_writer.owed, owed);
         Finding::of(Found::Done, turn)
     }
@@ -231,7 +231,7 @@ impl RwLockParty {
             return Finding::of(Found::No, turn);
         }
         if let Some(owed) = self.no_readers.owed.take() {
-            raw.look_next(owed, &self.seat);
+            raw.look_next(owed, &self.turn.seat);
         }
         Finding::of(Found::Yes, turn)
     }

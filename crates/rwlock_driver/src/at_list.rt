@@ -1,8 +1,9 @@
 //! What a party has at one waiting list.
 
-ghost use Rattle.std.specs.Prelude.{◌≡◌, ℕ, Bool, true, false, not, is_some, None};
+ghost use Rattle.std.specs.Prelude.{◌≡◌, ℕ, true, false, not, is_some, None};
 ghost use Rattle.futures.specs.Task.{Keeps};
-ghost use Rattle.rwlock_driver.specs.AtLists.{IsAt, IsReceipt};
+ghost use Rattle.lock_driver.specs.Parties.{IsReceipt};
+ghost use Rattle.rwlock_driver.specs.AtLists.{IsAt};
 
 use async_driver::{Heard, Listed, Owed, WaitingList, nothing, put};
 use futures::task::{Context, Source, Waker};
@@ -111,18 +112,6 @@ impl AtList {
         match self.owed.take() {
             Some(owed) => list.notify(rt, 1, owed),
             None => list.notify(rt, 1, Owed::new(list.id())),
-        }
-    }
-
-    /// Takes the duty to notify on, if there is none yet.
-    pub(crate) fn owe(&mut self, list: &WaitingList<Waker>)
-        requires at { IsAt list.now.name.id self.old }
-        ensures at { IsAt list.now.name.id self.new }
-        ensures owed { is_some self.new.owed ≡ true }
-        ensures entry { self.new.entry ≡ self.old.entry }
-    {
-        if self.owed.is_none() {
-            put(&mut self.owed, Owed::new(list.id()));
         }
     }
 }

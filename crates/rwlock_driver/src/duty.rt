@@ -58,7 +58,7 @@ impl KeyedLists {
 
 impl RawRwLock {
     /// Ends the duty of a seat that has the turn: when it gives the turn back, it notifies.
-    pub(crate) fn put_off(&self, owed: Owed, holder: &Seat)
+    pub(crate) fn put_off_turn(&self, owed: Owed, holder: &Seat)
         requires list { owed.list.id ≡ self.now.turn.name.id }
         requires table { holder.now.inner.table_id ≡ self.now.words.table }
         requires holds { holder.now.inner.me.0.holds ≡ true }
@@ -69,7 +69,7 @@ impl RawRwLock {
 
     /// Ends the duty of a seat whose last look at the turn's word found the turn held: whoever holds it notifies when it gives
     /// it back.
-    pub(crate) fn leave_to_holder(&self, owed: Owed, seat: &Seat)
+    pub(crate) fn leave_turn_to_holder(&self, owed: Owed, seat: &Seat)
         requires list { owed.list.id ≡ self.now.turn.name.id }
         requires table { seat.now.inner.table_id ≡ self.now.words.table }
         requires held { seat.now.inner.me.0.seen % 2 ≡ 1 }
@@ -79,7 +79,7 @@ impl RawRwLock {
     }
 
     /// Ends the duty of a starved seat that stands in the turn's list: whoever gets the turn, or has found it held, notifies it.
-    pub(crate) fn leave_to_list(&self, owed: Owed, waiter: &Seat, entry: &Listed)
+    pub(crate) fn leave_turn_to_list(&self, owed: Owed, waiter: &Seat, entry: &Listed)
         requires list { owed.list.id ≡ self.now.turn.name.id }
         requires table { waiter.now.inner.table_id ≡ self.now.words.table }
         requires starved { waiter.now.inner.me.0.starved ≡ true }

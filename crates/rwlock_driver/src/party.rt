@@ -1,6 +1,6 @@
 //! What a party has that is inside a call on a read-write lock, and its actions.
 
-ghost use Rattle.std.specs.Prelude.{◌≡◌, Bool, true, false, is_some, Option, Some, None, IfSome, IfNone};
+ghost use Rattle.std.specs.Prelude.{◌≡◌, true, false, is_some, Option, Some, None, IfSome, IfNone};
 ghost use Rattle.futures.specs.Task.{Keeps};
 ghost use Rattle.lock_program.specs.ReadWrite.{start_of};
 ghost use Rattle.lock_program.specs.declared.rwlock.RwLockCall.TheVariants as calls;
@@ -11,46 +11,69 @@ use crate::aim::{Aim, Call};
 use crate::at_list::AtList;
 use crate::finding::{Finding, Standing};
 use crate::raw::RawRwLock;
-use async_driver::Carries;
+use async_driver::{Carries, nothing};
 use futures::task::Context;
+use lock_driver::MutexParty;
 use lock_program::rwlock::{
     Action, Found, Place, Purpose, RwLockCall, Wanted, action_at, decide, start,
 };
 use lock_program::{End, Next, mutex};
 use std::sync::Wait;
-use std::time::{Clock, Instant};
+use std::time::Clock;
 use words_rwlock::Seat;
 
 /// What a party has that is inside a call on a read-write lock, or waits between two polls. It has no `Drop`: it gives back
-/// what it has, by a call, and ends by [`RwLockParty::end`] or [`RwLockParty::into_seat`].
+/// what it has, by a call, and ends by [`RwLockParty::into_seat`].
 pub struct RwLockParty {
-    /// Steps on the lock's words.
-    pub seat: Seat,
-    /// What it has at the list of those who wait for the turn.
-    pub turn: AtList,
+    /// Its party at the turn, whose seat steps on the state word too.
+    pub turn: MutexParty<RawRwLock>,
     /// What it has at the list of those who wait until no writer is.
     pub no_writer: AtList,
     /// What it has at the list of the one who waits until no reader is left.
     pub no_readers: AtList,
-    /// When it first waited. A clock that couldn't be read is tried again.
-    pub since: Option<Instant>,
 }
 
 impl RawRwLock {
-    /// A party with this seat and nothing else.
+    /// A party with this seat, which doesn't have the turn, and nothing else.
     pub fn party(&self, seat: Seat) -> RwLockParty
-        ensures seat { result.seat ≡ seat }
+        requires idle { seat.inner.me.0.holds ≡ false }
+        ensures seat { (result.turn.seat ≡ seat) × (result.turn.hold ≡ None) }
         ensures turn { (result.turn.entry ≡ None) × (result.turn.owed ≡ None) }
         ensures no_writer { (result.no_writer.entry ≡ None) × (result.no_writer.owed ≡ None) }
         ensures no_readers { (result.no_readers.entry ≡ None) × (result.no_readers.owed ≡ None) }
     {
-        RwLockParty {
-            seat,
-            turn: AtList::nothing(),
-            no_writer: AtList::nothing(),
-            no_readers: AtList::nothing(),
+        party_of(seat, None)
+    }
+
+    /// A party with this seat, which has the turn, and nothing else.
+    pub fn holder(&self, seat: Seat) -> RwLockParty
+        requires holds { seat.inner.me.0.holds ≡ true }
+        ensures seat { (result.turn.seat ≡ seat) × (result.turn.hold ≡ Some tt) }
+        ensures turn { (result.turn.entry ≡ None) × (result.turn.owed ≡ None) }
+        ensures no_writer { (result.no_writer.entry ≡ None) × (result.no_writer.owed ≡ None) }
+        ensures no_readers { (result.no_readers.entry ≡ None) × (result.no_readers.owed ≡ None) }
+    {
+        party_of(seat, Some(()))
+    }
+}
+
+// A party with this seat, the right to the turn if it has it, and nothing else.
+fn party_of(seat: Seat, hold: Option<()>) -> RwLockParty
+    ensures seat { (result.turn.seat ≡ seat) × (result.turn.hold ≡ hold) }
+    ensures turn { (result.turn.entry ≡ None) × (result.turn.owed ≡ None) }
+    ensures no_writer { (result.no_writer.entry ≡ None) × (result.no_writer.owed ≡ None) }
+    ensures no_readers { (result.no_readers.entry ≡ None) × (result.no_readers.owed ≡ None) }
+{
+    RwLockParty {
+        turn: MutexParty {
+            entry: None,
             since: None,
-        }
+            seat,
+            hold,
+            owed: None,
+        },
+        no_writer: AtList::nothing(),
+        no_readers: AtList::nothing(),
     }
 }
 
@@ -60,16 +83,22 @@ impl RwLockParty {
         requires turn { (is_some self.turn.entry ≡ false) × (is_some self.turn.owed ≡ false) }
         requires no_writer { (is_some self.no_writer.entry ≡ false) × (is_some self.no_writer.owed ≡ false) }
         requires no_readers { (is_some self.no_readers.entry ≡ false) × (is_some self.no_readers.owed ≡ false) }
-        ensures { result ≡ self.seat }
+        ensures { result ≡ self.turn.seat }
     {
         let RwLockParty {
-            seat,
             turn,
             no_writer,
             no_readers,
-            since: _,
         } = self;
-        turn.end();
+        let MutexParty {
+            entry,
+            since: _,
+            seat,
+            hold: _,
+            owed,
+        } = turn;
+        nothing(entry);
+        nothing(owed);
         no_writer.end();
         no_readers.end();
         seat

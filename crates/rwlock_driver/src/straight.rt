@@ -57,7 +57,7 @@ impl RawRwLock {
     {
         let mut seat = self.words.sit();
         match self.words.take(&mut seat) {
-            Taking::Got => Some(seat),
+            Taking::Got(()) => Some(seat),
             Taking::Held | Taking::Starved => {
                 self.words.rise(seat);
                 None

@@ -84,7 +84,7 @@ impl RawRwLock {
         ensures { WaitsFor self.now aims.Upgrade result }
     {
         Waiting {
-            party: self.party(seat),
+            party: self.holder(seat),
             place: Standing {
                 at: Place::LookUnlisted { upgrade: true },
                 turn: TurnPlace::Holding,
@@ -134,9 +134,7 @@ impl RawRwLock {
         ensures pending { IfPending result.0 (HasReceipt self.now cx.new party.new result.1.at) }
         ensures kept { Keeps cx.old cx.new }
     {
-        let (end, place) = party.drive(self, rt, cx, place);
-        party.rests(rt, end);
-        (end, place)
+        party.drive(self, rt, cx, place)
     }
 
     /// Polls in place: there is no party before the first poll and after the last. By the contract the party has what its place
@@ -309,7 +307,7 @@ impl RawRwLock {
             at,
             turn: TurnPlace::Holding,
         };
-        let mut party = self.party(seat);
+        let mut party = self.holder(seat);
         let (end, place) = self.poll_from(rt, cx, aim, &mut party, place);
         put(waiting, Waiting { party, place });
         self.outcome(cx, aim, end, waiting)
@@ -443,19 +441,14 @@ impl RawRwLock {
         requires waits { (turned party ≡ having_at place) × CanPollTurn place }
         requires nothing { share_of party ≡ none }
     {
-        let mut party = party;
-        match place {
-            TurnPlace::Ask => {
-                party.turn.leave(rt, &self.turn);
-                self.end(party);
-            }
-            TurnPlace::AskStarved => {
-                self.words.uncount(&mut party.seat);
-                party.turn.leave(rt, &self.turn);
-                self.end(party);
-            }
-            _ => self.end(party),
-        }
+        let RwLockParty {
+            turn,
+            no_writer,
+            no_readers,
+        } = party;
+        no_writer.end();
+        no_readers.end();
+        self.words.rise(turn.cancel(self, rt, place));
     }
 
     /// Ends a party that has nothing.

@@ -4,7 +4,7 @@ use Rattle.std.proofs.lemmas.Option.{IfSome_then}
 use Rattle.lock_driver.specs.Parties.{EndsAt}
 use Rattle.lock_driver.proofs.Ends.{ends_at, step_of}
 use Rattle.lock_driver.proofs.Polls.{ends_call}
-use Rattle.lock_driver.proofs.mutex_party.RawMutex.go_on.Goals as goal
+use Rattle.lock_driver.proofs.mutex_party.MutexParty.go_on.Goals as goal
 
 pub returns-clause-step : goal.returns-clause-step
 returns-clause-step g c = λ call within.

@@ -1,0 +1,380 @@
+//! A party between two polls, and one poll of it.
+//!
+//! What most polls come to are few rows of the program's table. They stand here in their order, and by contract they are the
+//! table's (`first_rows`, `told_rows`, `cancel_rows`); all else goes on by the driver.
+
+ghost use Rattle.std.specs.Prelude.{◌≡◌, true, false, IfSome, IfNone, IsSomeAnd, Some, None};
+ghost use Rattle.futures.specs.Task.{Keeps};
+ghost use Rattle.lock_driver.specs.Parties.{CanPoll, EndsAt, EndsPoll, IfPending, IsPolling, IsReceipt, IsSeated, IsTied, Stands, having, having_of};
+ghost use Rattle.lock_driver.specs.Waits.{OnOutcome, OnWaits, Waits, WasTold, asked_at, entry_of};
+ghost use Rattle.lock_program.specs.Mutex.{start_of, action_of, next_of};
+ghost use Rattle.lock_program.specs.declared.mutex.Action.TheVariants as does;
+ghost use Rattle.lock_program.specs.declared.end.End.TheVariants as ends;
+ghost use Rattle.lock_program.specs.declared.mutex.Found.TheVariants as finds;
+ghost use Rattle.lock_program.specs.declared.mutex.LockCall.TheVariants as calls;
+ghost use Rattle.lock_program.specs.declared.end.Next.TheVariants as next;
+ghost use Rattle.lock_program.specs.declared.mutex.Place.TheVariants as at;
+ghost use Rattle.lock_program.specs.declared.refusal.Refusal.TheVariants as refused;
+
+use crate::mutex_party::MutexParty;
+use crate::word::MutexWord;
+use async_driver::{Carries, Listed, Owed, nothing, put};
+use futures::task::Context;
+use lock_program::mutex::{Found, Place};
+use lock_program::{End, Refusal};
+use lock_words::Taking;
+use std::sync::Wait;
+use std::time::{Clock, Instant};
+
+/// A party between two polls, as small as it can be kept. It has no `Drop`: a poll goes on with it, or [`cancel`] ends it.
+pub struct Waiting<W: MutexWord> {
+    /// Its entry in the list.
+    pub entry: Listed,
+    /// When it first waited. A clock that couldn't be read is tried again.
+    pub since: Option<Instant>,
+    /// Whether it is counted as starved.
+    pub is_starved: bool,
+    /// Steps on the mutex's word.
+    pub seat: W::Seat,
+}
+
+/// How a poll went.
+pub enum Outcome<W: MutexWord> {
+    /// The lock, by this seat, with the right to what it guards.
+    Got(W::Seat, W::Right),
+    /// It waits.
+    Waits,
+    /// It gave up, and is as when it was made.
+    Refused(W::Seat, Refusal),
+}
+
+/// Goes on with a first poll whose seat found the lock held, or others starved, when it entered: it joins the list, looks
+/// again, and asks.
+///
+/// A party that waits has a receipt of the list (`receipt`).
+#[inline(always)]
+pub fn poll_first<W: MutexWord, R: Wait + Clock>(
+    word: &W,
+    rt: &R,
+    cx: &mut Context<'_>,
+    seat: W::Seat,
+    waiting: &mut Option<Waiting<W>>,
+) -> Outcome<W>
+    requires of { W.is_of word.now seat }
+    requires idle { (W.holds seat ≡ false) × (W.starved seat ≡ false) }
+    requires none { waiting.old ≡ None }
+    ensures waiting { IfSome waiting.new (Waits W.MutexWord word.now) }
+    ensures outcome { OnOutcome W.MutexWord word.now result waiting.new }
+    ensures receipt { OnWaits result (IsReceipt (W.list_id word.now) (W.source_id word.now) cx.new (entry_of waiting.new)) }
+    ensures kept { Keeps cx.old cx.new }
+{
+    first_rows();
+    let mut party = MutexParty::new(word, seat);
+    if let Found::NoMemory = party.join(word, rt) {
+        return Outcome::Refused(party.end(word), Refusal::Memory);
+    }
+    match party.take(word, rt) {
+        Found::Held { .. } => {}
+        Found::Free => return drive(word, rt, cx, party, Place::Leave, waiting),
+        _ => {
+            let count = Place::Count {
+                listed: true,
+                told: false,
+            };
+            return drive(word, rt, cx, party, count, waiting);
+        }
+    }
+    if let Found::Yes = party.ask(word, rt, cx) {
+        return drive(word, rt, cx, party, Place::Retry, waiting);
+    }
+    put(waiting, party.into_waiting(word, false));
+    Outcome::Waits
+}
+
+/// Asks for the notification of a party that waits, where its entry stands. Told, it has its duty, and goes on by
+/// [`poll_told`].
+///
+/// A party that waits on has a receipt of the list (`waits`).
+#[inline(always)]
+pub fn poll_entry<W: MutexWord, R: Wait>(
+    word: &W,
+    rt: &R,
+    cx: &mut Context<'_>,
+    waiting: &mut Option<Waiting<W>>,
+) -> Option<Owed>
+    requires { IsSomeAnd waiting.old (Waits W.MutexWord word.now) }
+    ensures told { IfSome result (λ owed. (owed.list.id ≡ W.list_id word.now) × IsSomeAnd waiting.new (WasTold W.MutexWord word.now)) }
+    ensures waits { IfNone result (IsSomeAnd waiting.new (Waits W.MutexWord word.now) × IsReceipt (W.list_id word.now) (W.source_id word.now) cx.new (entry_of waiting.new)) }
+    ensures kept { Keeps cx.old cx.new }
+{
+    match waiting {
+        Some(inside) => {
+            let source = word.source();
+            word.list().poll_in_place(rt, &mut inside.entry, source, cx)
+        }
+        None => unreachable!(),
+    }
+}
+
+/// Goes on with a party that was told: it takes the lock if it is free, or if it is starved where nobody holds it.
+///
+/// A party that waits has a receipt of the list (`receipt`).
+#[inline(always)]
+pub fn poll_told<W: MutexWord, R: Wait + Clock>(
+    word: &W,
+    rt: &R,
+    cx: &mut Context<'_>,
+    owed: Owed,
+    waiting: &mut Option<Waiting<W>>,
+) -> Outcome<W>
+    requires was { IsSomeAnd waiting.old (WasTold W.MutexWord word.now) }
+    requires owed { owed.list.id ≡ W.list_id word.now }
+    ensures waiting { IfSome waiting.new (Waits W.MutexWord word.now) }
+    ensures outcome { OnOutcome W.MutexWord word.now result waiting.new }
+    ensures receipt { OnWaits result (IsReceipt (W.list_id word.now) (W.source_id word.now) cx.new (entry_of waiting.new)) }
+    ensures kept { Keeps cx.old cx.new }
+{
+    told_rows();
+    let Some(
+        Waiting {
+            entry,
+            since,
+            is_starved,
+            seat,
+        },
+    ) = waiting.take()
+    else {
+        unreachable!()
+    };
+    entry.end();
+    if is_starved {
+        let party = MutexParty::told(word, seat, since, owed);
+        return drive(word, rt, cx, party, Place::Seize, waiting);
+    }
+    let mut seat = seat;
+    let mut owed = Some(owed);
+    match word.take(&mut seat, &mut owed) {
+        Taking::Got(right) => {
+            if let Some(owed) = owed {
+                word.put_off(owed, &seat);
+            }
+            Outcome::Got(seat, right)
+        }
+        Taking::Held => {
+            nothing(owed);
+            finds_held(word, rt, cx, seat, since, waiting)
+        }
+        Taking::Starved => {
+            let Some(owed) = owed else { unreachable!() };
+            let party = MutexParty::told(word, seat, since, owed);
+            drive(word, rt, cx, party, Place::PassOn, waiting)
+        }
+    }
+}
+
+// A party that was told found the lock held. It stands apart, so that a party that got it is never laid out in memory.
+#[inline(never)]
+fn finds_held<W: MutexWord, R: Wait + Clock>(
+    word: &W,
+    rt: &R,
+    cx: &mut Context<'_>,
+    seat: W::Seat,
+    since: Option<Instant>,
+    waiting: &mut Option<Waiting<W>>,
+) -> Outcome<W>
+    requires of { W.is_of word.now seat }
+    requires idle { (W.holds seat ≡ false) × (W.starved seat ≡ false) }
+    requires none { waiting.old ≡ None }
+    ensures waiting { IfSome waiting.new (Waits W.MutexWord word.now) }
+    ensures outcome { OnOutcome W.MutexWord word.now result waiting.new }
+    ensures receipt { OnWaits result (IsReceipt (W.list_id word.now) (W.source_id word.now) cx.new (entry_of waiting.new)) }
+    ensures kept { Keeps cx.old cx.new }
+{
+    let mut party = MutexParty::new(word, seat);
+    party.since = since;
+    let place = match party.finds_held(word, rt, true) {
+        Found::Held { starving: true } => Place::Count {
+            listed: false,
+            told: true,
+        },
+        _ => Place::Join { told: true },
+    };
+    drive(word, rt, cx, party, place, waiting)
+}
+
+// Goes on by the driver, from a place of a poll on.
+#[inline(never)]
+fn drive<W: MutexWord, R: Wait + Clock>(
+    word: &W,
+    rt: &R,
+    cx: &mut Context<'_>,
+    party: MutexParty<W>,
+    place: Place,
+    waiting: &mut Option<Waiting<W>>,
+) -> Outcome<W>
+    requires stands { Stands W.MutexWord word.now party place }
+    requires polls { IsPolling place }
+    requires none { waiting.old ≡ None }
+    ensures waiting { IfSome waiting.new (Waits W.MutexWord word.now) }
+    ensures outcome { OnOutcome W.MutexWord word.now result waiting.new }
+    ensures receipt { OnWaits result (IsReceipt (W.list_id word.now) (W.source_id word.now) cx.new (entry_of waiting.new)) }
+    ensures kept { Keeps cx.old cx.new }
+{
+    let mut party = party;
+    let (end, place) = party.poll_from(word, rt, cx, place);
+    match (end, place) {
+        (End::Pending, Place::Ask) => {
+            put(waiting, party.into_waiting(word, false));
+            Outcome::Waits
+        }
+        (End::Pending, Place::AskStarved) => {
+            put(waiting, party.into_waiting(word, true));
+            Outcome::Waits
+        }
+        (End::Got, _) => {
+            let (seat, right) = party.into_held(word);
+            Outcome::Got(seat, right)
+        }
+        (End::Refused(refusal), _) => Outcome::Refused(party.end(word), refusal),
+        _ => unreachable!(),
+    }
+}
+
+/// Gives back what a party has that waits between two polls: its seat, which has nothing. The program of it has no branch, and
+/// so its actions stand here in their order; that they are the table's is proved (`cancel_rows`).
+#[inline(always)]
+pub fn cancel<W: MutexWord, R: Wait>(word: &W, rt: &R, waiting: Waiting<W>) -> W::Seat
+    requires { Waits W.MutexWord word.now waiting }
+    ensures of { W.is_of word.now result }
+    ensures idle { (W.holds result ≡ false) × (W.starved result ≡ false) }
+    ensures beside { W.beside result ≡ W.beside waiting.seat }
+{
+    cancel_rows();
+    let Waiting {
+        entry,
+        since: _,
+        is_starved,
+        seat,
+    } = waiting;
+    let mut seat = seat;
+    if is_starved {
+        word.uncount(&mut seat);
+    }
+    word.list().leave(rt, entry);
+    seat
+}
+
+impl<W: MutexWord> MutexParty<W> {
+    /// Gives back what a party has that may be polled at `place`: its seat, which has nothing. It is for a lock that has a mutex
+    /// inside.
+    pub fn cancel<R: Wait>(self, word: &W, rt: &R, place: Place) -> W::Seat
+        requires stands { Stands W.MutexWord word.now self place }
+        requires waits { CanPoll place }
+        ensures of { W.is_of word.now result }
+        ensures idle { (W.holds result ≡ false) × (W.starved result ≡ false) }
+        ensures beside { W.beside result ≡ W.beside self.seat }
+    {
+        match place {
+            Place::Ask => cancel(word, rt, self.into_waiting(word, false)),
+            Place::AskStarved => cancel(word, rt, self.into_waiting(word, true)),
+            _ => self.end(word),
+        }
+    }
+
+    // A party that has taken a notification.
+    #[inline(always)]
+    fn told(word: &W, seat: W::Seat, since: Option<Instant>, owed: Owed) -> MutexParty<W>
+        requires of { W.is_of word.now seat }
+        requires idle { W.holds seat ≡ false }
+        requires owed { owed.list.id ≡ W.list_id word.now }
+        ensures seated { IsSeated W.MutexWord word.now result.seat result.hold }
+        ensures tied { IsTied (W.list_id word.now) result.entry result.owed }
+        ensures has { having_of W.MutexWord result.seat result.entry result.owed ≡ having false (W.starved seat) false true }
+    {
+        let _ = word;
+        MutexParty {
+            entry: None,
+            since,
+            seat,
+            hold: None,
+            owed: Some(owed),
+        }
+    }
+
+    // What is kept of a party that asked in vain.
+    #[inline(always)]
+    fn into_waiting(self, word: &W, is_starved: bool) -> Waiting<W>
+        requires { Stands W.MutexWord word.now self (asked_at is_starved) }
+        ensures waits { Waits W.MutexWord word.now result }
+        ensures entry { self.entry ≡ Some result.entry }
+        ensures seat { result.seat ≡ self.seat }
+    {
+        let _ = word;
+        let MutexParty {
+            entry,
+            since,
+            seat,
+            hold,
+            owed,
+        } = self;
+        nothing(hold);
+        nothing(owed);
+        let Some(entry) = entry else { unreachable!() };
+        Waiting {
+            entry,
+            since,
+            is_starved,
+            seat,
+        }
+    }
+
+    // Carries out a poll from this place on.
+    fn poll_from<R: Wait + Clock>(
+        &mut self,
+        word: &W,
+        rt: &R,
+        cx: &mut Context<'_>,
+        place: Place,
+    ) -> (End, Place)
+        requires stands { Stands W.MutexWord word.now self.old place }
+        requires polls { IsPolling place }
+        ensures stands { Stands W.MutexWord word.now self.new result.1 }
+        ensures ended { EndsAt result.0 result.1 }
+        ensures polled { EndsPoll result.0 }
+        ensures pending { IfPending result.0 (IsReceipt (W.list_id word.now) (W.source_id word.now) cx.new self.new.entry) }
+        ensures kept { Keeps cx.old cx.new }
+    {
+        self.drive(word, rt, cx, place)
+    }
+}
+
+// The rows of the program's table that `poll_first` carries out straight.
+#[inline]
+fn first_rows()
+    ensures enters { next_of at.Enter (finds.Held false) ≡ next.Do (at.Join false) }
+    ensures enters_starved { next_of at.Enter finds.SomeStarved ≡ next.Do (at.Join false) }
+    ensures joins { (action_of (at.Join false) ≡ does.Join) × (next_of (at.Join false) finds.Done ≡ next.Do (at.Look false)) }
+    ensures refuses { next_of (at.Join false) finds.NoMemory ≡ next.End (ends.Refused refused.Memory) at.Out }
+    ensures looks { (action_of (at.Look false) ≡ does.Take) × (next_of (at.Look false) (finds.Held false) ≡ next.Do at.Ask) }
+    ensures sees { (next_of (at.Look false) finds.Free ≡ next.Do at.Leave) × (next_of (at.Look false) finds.SomeStarved ≡ next.Do (at.Count true false)) }
+    ensures asks { (action_of at.Ask ≡ does.Ask) × (next_of at.Ask finds.No ≡ next.End ends.Pending at.Ask) × (next_of at.Ask finds.Yes ≡ next.Do at.Retry) }
+{}
+
+// The rows of the program's table that `poll_entry` and `poll_told` carries out straight.
+#[inline]
+fn told_rows()
+    ensures begins { (start_of calls.Poll at.Ask ≡ Some at.Ask) × (start_of calls.Poll at.AskStarved ≡ Some at.AskStarved) }
+    ensures asks { (action_of at.Ask ≡ does.Ask) × (next_of at.Ask finds.No ≡ next.End ends.Pending at.Ask) × (next_of at.Ask finds.Yes ≡ next.Do at.Retry) }
+    ensures asks_starved { (action_of at.AskStarved ≡ does.Ask) × (next_of at.AskStarved finds.No ≡ next.End ends.Pending at.AskStarved) × (next_of at.AskStarved finds.Yes ≡ next.Do at.Seize) }
+    ensures retries { (action_of at.Retry ≡ does.Take) × (next_of at.Retry finds.Free ≡ next.End ends.Got at.Holding) }
+    ensures held { (next_of at.Retry (finds.Held true) ≡ next.Do (at.Count false true)) × (next_of at.Retry (finds.Held false) ≡ next.Do (at.Join true)) }
+    ensures passes { next_of at.Retry finds.SomeStarved ≡ next.Do at.PassOn }
+{}
+
+// The rows of the program's table that `cancel` carries out straight.
+#[inline]
+fn cancel_rows()
+    ensures waiting { (start_of calls.Cancel at.Ask ≡ Some at.CancelLeave) × (action_of at.CancelLeave ≡ does.Leave) × (next_of at.CancelLeave finds.Done ≡ next.End ends.GivenBack at.Out) }
+    ensures starved { (start_of calls.Cancel at.AskStarved ≡ Some at.CancelUncount) × (action_of at.CancelUncount ≡ does.Uncount) × (next_of at.CancelUncount finds.Done ≡ next.Do at.CancelLeave) }
+    ensures out { (start_of calls.Cancel at.Out ≡ Some at.Out) × (next_of at.Out finds.Done ≡ next.End ends.GivenBack at.Out) }
+{}
