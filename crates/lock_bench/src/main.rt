@@ -3,6 +3,7 @@
 
 mod barrier;
 mod once_cell;
+mod permits;
 mod rows;
 mod rwlock;
 mod semaphore;
@@ -186,6 +187,43 @@ where
     Ok(())
 }
 
+/// What is timed of futures that wait for a permit, and with how many of them.
+const PERMITS: [(&str, permits::Part, [u64; 3]); 3] = [
+    (
+        "poll to pending and drop of one more acquire",
+        permits::Part::OneMore,
+        [1, 100, 10_000],
+    ),
+    (
+        "cancel an acquire, the first",
+        permits::Part::Cancel,
+        [1, 100, 10_000],
+    ),
+    (
+        "hand-over of a permit and a new acquire",
+        permits::Part::HandOver,
+        [1, 100, 10_000],
+    ),
+];
+
+/// A permit that futures wait for.
+fn print_permits<R>(rt: &R, task: &MockTask) -> io::Result<()>
+where
+    R: Wait + Clock + Print + AllocGlobal + Copy + Drop,
+{
+    let Ok(semaphore) = Semaphore::new(*rt, 1) else {
+        return Err(io::Error::other("no memory for a semaphore"));
+    };
+    for (name, part, counts) in PERMITS {
+        for waiting in counts {
+            let tenths = permits::median_of(rt, &semaphore, task, part, waiting, SELDOM)?;
+            println!(rt; "{waiting} waiting:")?;
+            print_tenths(rt, name, tenths)?;
+        }
+    }
+    Ok(())
+}
+
 /// A once-cell.
 fn print_cells<R>(rt: &R, task: &MockTask) -> io::Result<()>
 where
@@ -289,6 +327,7 @@ where
     let task = &MockTask::new(&rt)?;
     print_rwlocks(&rt, task)?;
     print_semaphores(&rt, task)?;
+    print_permits(&rt, task)?;
     print_cells(&rt, task)?;
     print_barriers(&rt, task)?;
     print_contenders(&rt, &owned)?;

@@ -57,7 +57,8 @@ pub(crate) fn median_of<R: Wait + Clock + AllocGlobal>(
     Ok(tenths(&mut found, all))
 }
 
-fn empty_slots<'a, R: Wait>(alloc: Global, waiting: u64) -> Slots<'a, R> {
+/// So many places for futures that wait, or as many as memory was found for.
+pub(crate) fn empty_slots<F: Drop>(alloc: Global, waiting: u64) -> Vec<Option<F>> {
     let mut slots = Vec::new(alloc);
     for _ in 0..waiting {
         if slots.push(None).is_err() {
@@ -91,7 +92,8 @@ fn run<'a, R: Wait + Clock>(
     }
 }
 
-fn since<R: Clock>(rt: &R, start: &io::Result<Instant>) -> u64 {
+/// The nanoseconds since then. A clock that can't be read says none.
+pub(crate) fn since<R: Clock>(rt: &R, start: &io::Result<Instant>) -> u64 {
     match start {
         Ok(start) => match start.elapsed(rt) {
             Ok(taken) => nanoseconds(taken),
@@ -126,13 +128,15 @@ fn fill<'a, R: Wait + Clock>(
     }
 }
 
-fn clear<R: Wait>(slots: &mut Slots<'_, R>, at: usize) {
+/// Drops the future at this place.
+pub(crate) fn clear<F: Drop>(slots: &mut Vec<Option<F>>, at: usize) {
     if let Some(slot) = slots.get_mut(at) {
         *slot = None;
     }
 }
 
-fn clear_all<R: Wait>(slots: &mut Slots<'_, R>) {
+/// Drops all futures, the first at first.
+pub(crate) fn clear_all<F: Drop>(slots: &mut Vec<Option<F>>) {
     for at in 0..slots.len() {
         clear(slots, at);
     }
@@ -229,7 +233,8 @@ fn polls_again<'a, R: Wait + Clock>(
     taken
 }
 
-fn next(at: usize, all: usize) -> usize {
+/// The place after this one, round all.
+pub(crate) fn next(at: usize, all: usize) -> usize {
     let next = at.wrapping_add(1);
     if next < all { next } else { 0 }
 }
