@@ -1,19 +1,6 @@
 -- Permits that are available are taken by the first or the second solo poll.
-use Rattle.std.proofs.Common.{◌≡◌, ℕ, zero, suc, ◌+◌, ◌<◌, ◌≤◌, ◌⊎◌, inl, inr, ◌==◌, Bool, true, false, List, [], ◌∷◌, length, is_some, refl, arith, ap, sym, ◌∙◌}
-use Rattle.std.proofs.lemmas.Bool.Decides.{nat_tests}
-use Rattle.lock_event.specs.declared.event.Entry.{Entry}
-use Rattle.lock_event.specs.Lists.{is_marked, is_marked_at, marked_count}
-use Rattle.world_base.specs.queue.Parties.{is_party, entries_of}
-use Rattle.world_base.specs.declared.moves.Answer.{Answer}
-use Rattle.world_base.specs.declared.moves.Call.TheVariants as call
-use Rattle.world_base.specs.declared.moves.Inputs.{Inputs}
+use Rattle.world_semaphore.proofs.Prelude.{◌≡◌, ℕ, zero, suc, ◌+◌, ◌<◌, ◌≤◌, ◌⊎◌, inl, inr, ◌==◌, Bool, true, false, List, [], ◌∷◌, length, is_some, refl, arith, ap, sym, ◌∙◌, nat_tests, Entry, is_marked, is_marked_at, marked_count, is_party, entries_of, Answer, Call, Inputs, marked_listed, some_listed, Share, World, available, has_permits, size_of, IsSound, IsAwake, IsFreeAndWanted, known_of, HandsOver, PassesOver, IsBounded}
 use Rattle.world_base.specs.Bounds.{PassedOver, OneTakes}
-use Rattle.world_base.proofs.Bounds.{marked_listed, some_listed}
-use Rattle.world_semaphore.specs.machine.Seats.{Share}
-use Rattle.world_semaphore.specs.State.{World, available, has_permits, size_of}
-use Rattle.world_semaphore.specs.Laws.{IsSound, IsAwake, IsFreeAndWanted}
-use Rattle.world_semaphore.specs.Runs.{known_of}
-use Rattle.world_semaphore.specs.Bound.{HandsOver, PassesOver, IsBounded}
 use Rattle.world_semaphore.proofs.whole.Promises.{keeps_promises}
 
 -- where some entry is marked, and no party has two, it is some party's
@@ -50,7 +37,7 @@ module _ (w : World) (p : ℕ) (i : Inputs) (a : Answer) (v : World) (o : Passes
   short : available w.state < size_of w p
   short = elim (fewer_or_not (size_of w p) (available w.state)) as (λ _. available w.state < size_of w p) [
     | inl few ↦ (
-        let kept = keeps_promises (known_of w) w p call.Poll i o.whole.more a v o.whole.runs o.whole.ended in
+        let kept = keeps_promises (known_of w) w p Call.Poll i o.whole.more a v o.whole.runs o.whole.ended in
         let took = kept.later refl o.solo.pending few in
         let has : has_permits v.state p ≡ true = ap (λ (z : Share). is_some z.held) took.permits_had in
         absurd (cc (has, o.not_taken))
@@ -61,7 +48,7 @@ module _ (w : World) (p : ℕ) (i : Inputs) (a : Answer) (v : World) (o : Passes
     fewer_or_not k n = grind arith
 
   hands : HandsOver w a v
-  hands = let kept = keeps_promises (known_of w) w p call.Poll i o.whole.more a v o.whole.runs o.whole.ended in kept.hands_over refl o.solo short
+  hands = let kept = keeps_promises (known_of w) w p Call.Poll i o.whole.more a v o.whole.runs o.whole.ended in kept.hands_over refl o.solo short
 
   -- so somebody else is listed too
   two : 2 ≤ length w.entries

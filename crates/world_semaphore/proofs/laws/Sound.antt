@@ -1,34 +1,6 @@
 -- What always holds of a semaphore's World, as callers see it.
-use Rattle.std.proofs.Common.{◌≡◌, ℕ, suc, ◌<◌, ◌≤◌, ◌⊎◌, inl, inr, Bool, true, false, List, [], ◌∷◌, length, Option, refl, arith, ap, sym, ◌∙◌, subst}
-use Rattle.std.specs.List.{list_all}
-use Rattle.lock_event.specs.Lists.{marked_count}
-use Rattle.world_base.specs.queue.Parties.{entries_of}
-use Rattle.world_base.specs.declared.moves.Answer.{Answer}
-use Rattle.world_base.specs.declared.standing.Kind.{Kind}
-use Rattle.world_base.specs.declared.standing.Kind.TheVariants as kind
-use Rattle.world_base.specs.declared.standing.Rest.{Rest}
-use Rattle.world_base.specs.declared.standing.Rest.TheVariants as rest
-use Rattle.world_base.specs.declared.standing.Stage.{Stage}
-use Rattle.world_base.specs.declared.standing.Stage.TheVariants.{Outside, Inside, Forgotten}
-use Rattle.world_base.specs.declared.standing.Within.{Within}
-use Rattle.world_base.specs.Standings.{outside, inside, is_outside, is_outside_stage}
-use Rattle.world_base.proofs.Equations.{both}
+use Rattle.world_semaphore.proofs.Prelude.{◌≡◌, ℕ, suc, ◌<◌, ◌≤◌, ◌⊎◌, inl, inr, Bool, true, false, List, [], ◌∷◌, length, Option, refl, arith, ap, sym, ◌∙◌, subst, list_all, marked_count, entries_of, Answer, Kind, Rest, Stage, Outside, Inside, Forgotten, Within, outside, inside, is_outside, is_outside_stage, both, stage_at, stands_as, Table, past_last, by_stage_or_past, by_stage_or_past_at, rest_seen, outside_at, Place, Take, Retake, Ask, Remove, PassOn, Try, Lower, CancelRemove, CancelLoad, FitGivenBack, Abandon, Position, Out, Unlisted, Waiting, Holding, At, bit, pays, listed, waits, owes, size_at, debt_at, is_short, verdict, is_resting, Semaphore, IsSemaphore, IsAtRest, goes_with, runs, is_begun, position_at, sizes_of, available, standing_of, size_of, debt_of, view_of, IsSound, IsAwake, IsFreeAndWanted, is_at_rest, is_long_call, IsSemaphoreTable}
 use Rattle.world_base.proofs.Owing.{marked_or_owed}
-use Rattle.world_base.specs.table.Stages.{stage_at, stands_as}
-use Rattle.world_base.specs.table.Tables.{Table}
-use Rattle.world_base.proofs.of_table.Mapped.{past_last}
-use Rattle.world_base.proofs.of_table.Past.{by_stage_or_past, by_stage_or_past_at}
-use Rattle.world_base.proofs.of_table.Views.{rest_seen, outside_at}
-use Rattle.sync_program.specs.declared.permits.Place.{Place}
-use Rattle.sync_program.specs.declared.permits.Place.TheVariants.{Take, Retake, Ask, Remove, PassOn, Try, Lower, CancelRemove, CancelLoad, FitGivenBack, Abandon}
-use Rattle.sync_program.specs.declared.permits.Position.{Position}
-use Rattle.sync_program.specs.declared.permits.Position.TheVariants.{Out, Unlisted, Waiting, Holding, At}
-use Rattle.world_semaphore.specs.machine.Seats.{bit, pays, listed, waits, owes, size_at, debt_at, is_short, verdict, is_resting}
-use Rattle.world_semaphore.specs.machine.Machine.{Semaphore, IsSemaphore, IsAtRest, goes_with, runs, is_begun, position_at, sizes_of}
-use Rattle.world_semaphore.specs.State.{available, standing_of, size_of, debt_of}
-use Rattle.world_semaphore.specs.View.{view_of}
-use Rattle.world_semaphore.specs.Laws.{IsSound, IsAwake, IsFreeAndWanted, is_at_rest, is_long_call}
-use Rattle.world_semaphore.specs.Steps.{IsSemaphoreTable}
 use Rattle.world_semaphore.proofs.of_machine.laws.Entries.{wanted_so}
 use Rattle.world_semaphore.proofs.of_machine.laws.Laws.{rests_waits, listed_known}
 use Rattle.world_semaphore.proofs.of_machine.laws.Locks.{one_listed}
@@ -37,15 +9,15 @@ use Rattle.world_semaphore.proofs.step.Owns.{each_has}
 
 -- a call that is begun may take more than one step
 long_by : (k : Kind) (r : Rest) (x : Place) → is_begun x ≡ true → runs k r x ≡ true → is_long_call k r ≡ true
-long_by kind.FirstPoll rest.Idle x b h = refl
-long_by kind.LaterPoll rest.Pending x b h = refl
-long_by kind.Add rest.Idle x b h = refl
-long_by kind.Drop rest.Holding x b h = refl
-long_by kind.Drop rest.Pending x b h = refl
-long_by kind.Try rest.Idle (Try k) b h = absurd (cc)
-long_by kind.Try rest.Idle _ b h = absurd (cc h)
-long_by kind.Forget rest.Holding (Lower k) b h = absurd (cc)
-long_by kind.Forget rest.Holding _ b h = absurd (cc h)
+long_by Kind.FirstPoll Rest.Idle x b h = refl
+long_by Kind.LaterPoll Rest.Pending x b h = refl
+long_by Kind.Add Rest.Idle x b h = refl
+long_by Kind.Drop Rest.Holding x b h = refl
+long_by Kind.Drop Rest.Pending x b h = refl
+long_by Kind.Try Rest.Idle (Try k) b h = absurd (cc)
+long_by Kind.Try Rest.Idle _ b h = absurd (cc h)
+long_by Kind.Forget Rest.Holding (Lower k) b h = absurd (cc)
+long_by Kind.Forget Rest.Holding _ b h = absurd (cc h)
 long_by _ _ x b h = absurd (cc h)
 
 long_at : (s : Stage) (x : Position) (d : Option Answer) (u : Within) (e : Option Answer) → goes_with s x ≡ true → stands_as d s ≡ inside u e → is_long_call u.kind u.was ≡ true
@@ -64,10 +36,10 @@ resting (Outside r) Out g o = refl
 resting (Outside r) (Unlisted k) g o = refl
 resting (Outside r) (Waiting k) g o = refl
 resting (Outside r) (Holding k) g o = refl
-resting (Outside rest.Idle) (At y) g o = absurd (cc)
-resting (Outside rest.Pending) (At y) g o = absurd (cc)
-resting (Outside rest.Holding) (At y) g o = absurd (cc)
-resting (Outside rest.Finished) (At y) g o = absurd (cc)
+resting (Outside Rest.Idle) (At y) g o = absurd (cc)
+resting (Outside Rest.Pending) (At y) g o = absurd (cc)
+resting (Outside Rest.Holding) (At y) g o = absurd (cc)
+resting (Outside Rest.Finished) (At y) g o = absurd (cc)
 resting (Inside w) x g o = absurd (cc)
 resting Forgotten x g o = absurd (cc)
 
@@ -75,13 +47,13 @@ all_rest : (xs : List Position) → ((q : ℕ) → q < length xs → is_resting 
 all_rest [] h = tt
 all_rest (x ∷ xs) h = (h 0 (omega arith), all_rest xs (λ q i. h (suc q) (omega arith)))
 
-waits_so : (s : Stage) (x : Position) (d : Option Answer) → goes_with s x ≡ true → is_outside_stage s ≡ true → 0 < listed x → stands_as d s ≡ outside rest.Pending
-waits_so (Outside rest.Pending) x d g o l = refl
-waits_so (Outside rest.Idle) Out d g o l = absurd (omega arith)
-waits_so (Outside rest.Idle) _ d g o l = absurd (cc g)
-waits_so (Outside rest.Holding) (Holding k) d g o l = absurd (omega arith)
-waits_so (Outside rest.Holding) _ d g o l = absurd (cc g)
-waits_so (Outside rest.Finished) x d g o l = absurd (cc g)
+waits_so : (s : Stage) (x : Position) (d : Option Answer) → goes_with s x ≡ true → is_outside_stage s ≡ true → 0 < listed x → stands_as d s ≡ outside Rest.Pending
+waits_so (Outside Rest.Pending) x d g o l = refl
+waits_so (Outside Rest.Idle) Out d g o l = absurd (omega arith)
+waits_so (Outside Rest.Idle) _ d g o l = absurd (cc g)
+waits_so (Outside Rest.Holding) (Holding k) d g o l = absurd (omega arith)
+waits_so (Outside Rest.Holding) _ d g o l = absurd (cc g)
+waits_so (Outside Rest.Finished) x d g o l = absurd (cc g)
 waits_so (Inside w) x d g o l = absurd (cc o)
 waits_so Forgotten x d g o l = absurd (cc g)
 
@@ -98,10 +70,10 @@ short_so s (At (Ask k told)) g l = refl
 short_so s (At (Remove k more)) g l = refl
 short_so s (At (PassOn k a)) g l = refl
 short_so (Inside w) (At CancelRemove) g l = absurd (cc g)
-short_so (Outside rest.Idle) (At CancelRemove) g l = absurd (cc g)
-short_so (Outside rest.Pending) (At CancelRemove) g l = absurd (cc g)
-short_so (Outside rest.Holding) (At CancelRemove) g l = absurd (cc g)
-short_so (Outside rest.Finished) (At CancelRemove) g l = absurd (cc g)
+short_so (Outside Rest.Idle) (At CancelRemove) g l = absurd (cc g)
+short_so (Outside Rest.Pending) (At CancelRemove) g l = absurd (cc g)
+short_so (Outside Rest.Holding) (At CancelRemove) g l = absurd (cc g)
+short_so (Outside Rest.Finished) (At CancelRemove) g l = absurd (cc g)
 short_so Forgotten (At CancelRemove) g l = absurd (cc g)
 short_so s (At _) g l = absurd (omega arith)
 
@@ -171,7 +143,7 @@ module _ (t : Table Semaphore) (laws : IsSemaphore t.machine) (fits : IsSemaphor
     pub awake : IsAwake (view_of t)
     awake = record {
       marked = λ h. (let so = wanted_there h in laws.wakes (all_rest xs (λ q i. resting (stage_at t.stages q) (position_at xs q) (fits.stands q (omega (arith, i, fits.as_many))) (outside_at t.stages stages_rest q))) (wanted_so (sizes_of xs) t.machine.words.available so.0 t.machine.entries so.1 so.2));
-      pending = λ q some. seen.stands_seen t q ∙ by_stage_or_past t.stages q (stands_as (verdict (position_at xs q)) (stage_at t.stages q) ≡ outside rest.Pending)
+      pending = λ q some. seen.stands_seen t q ∙ by_stage_or_past t.stages q (stands_as (verdict (position_at xs q)) (stage_at t.stages q) ≡ outside Rest.Pending)
           (λ past. (let out : listed (position_at xs q) ≡ 0 = ap listed (past_last xs q Out (omega (arith, past, fits.as_many))) in absurd (omega (arith, out, some, laws.owners q))))
           (λ inside. waits_so (stage_at t.stages q) (position_at xs q) (verdict (position_at xs q)) (fits.stands q inside) (outside_at t.stages stages_rest q) (omega (arith, some, laws.owners q)));
     }

@@ -1,19 +1,7 @@
 -- The laws of a semaphore's World: what follows from one step that its table did.
-use Rattle.std.proofs.Common.{◌≡◌, ◌≢◌, ℕ, ◌+◌, ◌<◌, ◌≤◌, true, refl, sym, subst}
-use Rattle.world_base.specs.declared.moves.Answer.{Answer}
-use Rattle.world_base.specs.declared.moves.Answer.TheVariants as answer
-use Rattle.world_base.specs.declared.moves.Call.{Call}
-use Rattle.world_base.specs.declared.moves.Inputs.{Inputs}
-use Rattle.world_base.specs.declared.moves.Move.{Move}
+use Rattle.world_semaphore.proofs.Prelude.{◌≡◌, ◌≢◌, ℕ, ◌+◌, ◌<◌, ◌≤◌, true, refl, sym, subst, Answer, Call, Inputs, Move, is_outside, is_possible, going_on, StepsWell, left_by, beginning, knows, World, standing_of, Steps, Known, Tells, HoldsWell, known_of, learn}
 use Rattle.world_base.specs.declared.standing.Rest.TheVariants.{Holding}
-use Rattle.world_base.specs.Standings.{is_outside, is_possible}
-use Rattle.world_base.specs.Whole.{going_on}
-use Rattle.world_base.specs.any_world.Steps.{StepsWell, left_by, beginning}
 use Rattle.world_base.proofs.of_any_world.Endings.{ends_outside as outside_at_end}
-use Rattle.world_semaphore.specs.machine.Machine.{knows}
-use Rattle.world_semaphore.specs.State.{World, standing_of}
-use Rattle.world_semaphore.specs.Steps.{Steps}
-use Rattle.world_semaphore.specs.Runs.{Known, Tells, HoldsWell, known_of, learn}
 use Rattle.world_semaphore.specs.Whole.{most_steps_of, steps_left_of}
 use Rattle.world_semaphore.proofs.laws.Sound.{sound, awake}
 use Rattle.world_semaphore.proofs.rights.Rights.{counted, holds_well}
@@ -35,5 +23,5 @@ begins w p c i a v s = whole.begins w.behind v.behind s.did.stood.semaphore s.di
 pub falls : (w : World) (p : ℕ) (i : Inputs) (a : Answer) (v : World) → Steps w (going_on p i) a v → left_by a (steps_left_of v p) < steps_left_of w p
 falls w p i a v s = whole.falls w.behind v.behind s.did.stood.semaphore s.did.stood.fits s.did.stands.semaphore s.did.stands.fits p i a s.did.step
 
-pub ends_outside : (w : World) (m : Move) (a : Answer) (v : World) → Steps w m a v → a ≢ answer.Stepped → is_possible a ≡ true → is_outside (standing_of v m.party) ≡ true
+pub ends_outside : (w : World) (m : Move) (a : Answer) (v : World) → Steps w m a v → a ≢ Answer.Stepped → is_possible a ≡ true → is_outside (standing_of v m.party) ≡ true
 ends_outside w m a v s = outside_at_end standing_of (λ x p. knows) Holding w m a v s.legal.possible s.legal.ends_properly

@@ -1,56 +1,12 @@
 -- After each step what is known tells the rights and the limit.
-use Rattle.std.proofs.Common.{◌≡◌, ◌≢◌, ℕ, ◌+◌, ◌-◌, ◌<◌, ◌≤◌, ◌↔◌, ◌⊎◌, ◌==◌, if◌then◌else◌, inl, inr, Bool, true, false, get_or, length, Option, Some, None, is_some, refl, arith, ap, sym, ◌∙◌, subst}
-use Rattle.std.proofs.Math.Decide.{ℕ_discrete}
-use Rattle.std.specs.List.{sum_by}
-use Rattle.std.proofs.lemmas.List.Sums.{get_or-le-sum_by}
-use Rattle.world_base.specs.declared.moves.Answer.{Answer}
-use Rattle.world_base.specs.declared.moves.Answer.TheVariants as answer
-use Rattle.world_base.specs.declared.moves.Call.TheVariants as call
-use Rattle.world_base.specs.declared.moves.Inputs.{Inputs}
-use Rattle.world_base.specs.declared.moves.Move.{Move}
-use Rattle.world_base.specs.declared.moves.What.{What}
-use Rattle.world_base.specs.declared.moves.What.TheVariants.{Begin, Go}
-use Rattle.lock_program.specs.declared.refusal.Refusal.TheVariants as refusal
-use Rattle.world_base.specs.declared.standing.Kind.{Kind}
-use Rattle.world_base.specs.declared.standing.Kind.TheVariants as kind
-use Rattle.world_base.specs.declared.standing.Rest.{Rest}
-use Rattle.world_base.specs.declared.standing.Rest.TheVariants as rest
-use Rattle.world_base.specs.declared.standing.Stage.{Stage}
-use Rattle.world_base.specs.declared.standing.Stage.TheVariants.{Outside, Inside, Forgotten}
-use Rattle.world_base.specs.declared.standing.Within.{Within}
+use Rattle.world_semaphore.proofs.Prelude.{◌≡◌, ◌≢◌, ℕ, ◌+◌, ◌-◌, ◌<◌, ◌≤◌, ◌↔◌, ◌⊎◌, ◌==◌, if◌then◌else◌, inl, inr, Bool, true, false, get_or, length, Option, Some, None, is_some, refl, arith, ap, sym, ◌∙◌, subst, ℕ_discrete, sum_by, get_or-le-sum_by, Answer, Call, Inputs, Move, What, Begin, Go, Refusal, Kind, Rest, Stage, Outside, Inside, Forgotten, Within, Standing, outside, inside, forgotten, is_outside, refused, inputs_of, some_eq, same_test, other_test, StepsWell, stage_at, stands_as, call_at, polls_again, stage_after, Table, past_last, by_stage_or_past, Action, Found, Done, Left, Available, Yes, No, Place, Take, Retake, Join, Ask, Remove, Load, HandOn, PassOn, RefuseFit, Try, Lower, GiveBack, Raise, GiveAdded, FitAdded, CancelRemove, CancelLoad, FitGivenBack, Abandon, Position, Out, Unlisted, Waiting, Holding, At, Words, Next, action_of, next_of, position_after, Seat, Share, guard_of, seat_of, permits_of, permits_at, share_of, size_at, verdict, Deed, nothing, changes, does, takes, gives_back, forgets, raises, gives, deed_of, words_after, Finds, Semaphore, IsSemaphore, answer_by, position_at, knows, goes_with, runs, is_begun, is_polling, World, share_at, has_permits, standing_of, size_of, size_after, view_of, HasItsOwn, IsSound, IsAwake, is_at_rest, IsSemaphoreTable, TableSteps, Known, Tells, HoldsWell, accounts_of, learn, sizes_after, added_by, forgotten_by}
 use Rattle.world_base.specs.Accounts.{Account, account_after, HasByAnswers}
 use Rattle.world_base.specs.Rights.{Right, permit}
-use Rattle.world_base.specs.Standings.{Standing, outside, inside, forgotten, is_outside, refused, inputs_of}
-use Rattle.world_base.proofs.Equations.{some_eq, same_test, other_test}
-use Rattle.world_base.specs.any_world.Steps.{StepsWell}
 use Rattle.world_base.specs.table.Rights.{account_by, sought_by, TellsAccounts}
-use Rattle.world_base.specs.table.Stages.{stage_at, stands_as, call_at, polls_again, stage_after}
-use Rattle.world_base.specs.table.Tables.{Table}
-use Rattle.world_base.proofs.of_table.Mapped.{past_last}
-use Rattle.world_base.proofs.of_table.Past.{by_stage_or_past}
 use Rattle.world_base.proofs.of_table.Rights.{tells_on, idle_account, again_account}
-use Rattle.sync_program.specs.declared.permits.Action.TheVariants as act
-use Rattle.sync_program.specs.declared.permits.Found.{Found}
-use Rattle.sync_program.specs.declared.permits.Found.TheVariants.{Done, Left, Available, Yes, No}
-use Rattle.sync_program.specs.declared.permits.Place.{Place}
-use Rattle.sync_program.specs.declared.permits.Place.TheVariants.{Take, Retake, Join, Ask, Remove, Load, HandOn, PassOn, RefuseFit, Try, Lower, GiveBack, Raise, GiveAdded, FitAdded, CancelRemove, CancelLoad, FitGivenBack, Abandon}
-use Rattle.sync_program.specs.declared.permits.Position.{Position}
-use Rattle.sync_program.specs.declared.permits.Position.TheVariants.{Out, Unlisted, Waiting, Holding, At}
-use Rattle.world_semaphore.specs.declared.machine.words.Words.{Words}
-use Rattle.world_semaphore.specs.machine.Program.{Next, action_of, next_of, position_after}
-use Rattle.world_semaphore.specs.machine.Seats.{Seat, Share, guard_of, seat_of, permits_of, permits_at, share_of, size_at, verdict}
-use Rattle.world_semaphore.specs.machine.Deeds.{Deed, nothing, changes, does, takes, gives_back, forgets, raises, gives, deed_of, words_after, Finds}
-use Rattle.world_semaphore.specs.machine.Machine.{Semaphore, IsSemaphore, answer_by, position_at, knows, goes_with, runs, is_begun, is_polling}
 use Rattle.world_semaphore.proofs.of_machine.laws.Kept.{after}
 use Rattle.world_semaphore.proofs.of_machine.stages.Taking.{taken}
 use Rattle.world_semaphore.proofs.of_machine.stages.Turns.{Turn, turn}
-use Rattle.world_semaphore.specs.State.{World, share_at, has_permits, standing_of, size_of}
-use Rattle.world_semaphore.specs.Legal.{size_after}
-use Rattle.world_semaphore.specs.View.{view_of}
-use Rattle.world_semaphore.specs.Legal.{HasItsOwn}
-use Rattle.world_semaphore.specs.Laws.{IsSound, IsAwake, is_at_rest}
-use Rattle.world_semaphore.specs.Steps.{IsSemaphoreTable, TableSteps}
-use Rattle.world_semaphore.specs.Runs.{Known, Tells, HoldsWell, accounts_of, learn, sizes_after, added_by, forgotten_by}
 use Rattle.world_semaphore.proofs.table.Seen as seen
 use Rattle.world_semaphore.proofs.step.Acting.{Acting}
 use Rattle.world_semaphore.proofs.step.Acting as acting
@@ -61,7 +17,7 @@ account_at s = account_by s (sought_by permit s) None
 
 -- an action keeps its party's account
 abbrev Kept_by : Stage → What → Within → Position → Next → Type 0
-Kept_by s what w x n = account_after (account_at (stands_as (verdict x) s)) what (answer_by n) ≡ account_at (stands_as (verdict (position_after n)) (stage_after rest.Holding w (answer_by n)))
+Kept_by s what w x n = account_after (account_at (stands_as (verdict x) s)) what (answer_by n) ≡ account_at (stands_as (verdict (position_after n)) (stage_after Rest.Holding w (answer_by n)))
 
 abbrev Kept_at : Stage → What → Within → Position → Place → Found → Type 0
 Kept_at s what w x from f = Kept_by s what w x (next_of from f)
@@ -80,9 +36,9 @@ pub record Accounted (s : Stage) (what : What) (w : Within) (x : Position) (from
 abbrev the : Kind → Rest → Within
 the k r = record { kind = k; was = r }
 
-first_polls : (i : Inputs) (x : Place) (f : Found) → is_polling x ≡ true → Kept_at (Inside (the kind.FirstPoll rest.Idle)) (Go i) (the kind.FirstPoll rest.Idle) (At x) x f
+first_polls : (i : Inputs) (x : Place) (f : Found) → is_polling x ≡ true → Kept_at (Inside (the Kind.FirstPoll Rest.Idle)) (Go i) (the Kind.FirstPoll Rest.Idle) (At x) x f
 first_polls i (Take k true told) (Left a) h = refl
-first_polls i (Take k false true) (Left a) h = taken (Kept_by (Inside (the kind.FirstPoll rest.Idle)) (Go i) (the kind.FirstPoll rest.Idle) (At (Take k false true))) k a refl (λ none. refl)
+first_polls i (Take k false true) (Left a) h = taken (Kept_by (Inside (the Kind.FirstPoll Rest.Idle)) (Go i) (the Kind.FirstPoll Rest.Idle) (At (Take k false true))) k a refl (λ none. refl)
 first_polls i (Take k false false) (Left a) h = refl
 first_polls i (Take k true told) _ h = refl
 first_polls i (Take k false told) _ h = refl
@@ -103,9 +59,9 @@ first_polls i (PassOn k a) _ h = refl
 first_polls i (RefuseFit k a) _ h = refl
 first_polls i _ f h = absurd (cc h)
 
-later_polls : (i : Inputs) (x : Place) (f : Found) → is_polling x ≡ true → Kept_at (Inside (the kind.LaterPoll rest.Pending)) (Go i) (the kind.LaterPoll rest.Pending) (At x) x f
+later_polls : (i : Inputs) (x : Place) (f : Found) → is_polling x ≡ true → Kept_at (Inside (the Kind.LaterPoll Rest.Pending)) (Go i) (the Kind.LaterPoll Rest.Pending) (At x) x f
 later_polls i (Take k true told) (Left a) h = refl
-later_polls i (Take k false true) (Left a) h = taken (Kept_by (Inside (the kind.LaterPoll rest.Pending)) (Go i) (the kind.LaterPoll rest.Pending) (At (Take k false true))) k a refl (λ none. refl)
+later_polls i (Take k false true) (Left a) h = taken (Kept_by (Inside (the Kind.LaterPoll Rest.Pending)) (Go i) (the Kind.LaterPoll Rest.Pending) (At (Take k false true))) k a refl (λ none. refl)
 later_polls i (Take k false false) (Left a) h = refl
 later_polls i (Take k true told) _ h = refl
 later_polls i (Take k false told) _ h = refl
@@ -127,24 +83,24 @@ later_polls i (RefuseFit k a) _ h = refl
 later_polls i _ f h = absurd (cc h)
 
 goes : (k : Kind) (r : Rest) (i : Inputs) (x : Place) (f : Found) → is_begun x ≡ true → runs k r x ≡ true → Kept_at (Inside (the k r)) (Go i) (the k r) (At x) x f
-goes kind.FirstPoll rest.Idle i x f b h = first_polls i x f h
-goes kind.LaterPoll rest.Pending i x f b h = later_polls i x f h
-goes kind.Add rest.Idle i (Raise n) f b h = absurd (cc b)
-goes kind.Add rest.Idle i (GiveAdded n) f b h = refl
-goes kind.Add rest.Idle i (FitAdded a) f b h = refl
-goes kind.Add rest.Idle i _ f b h = absurd (cc h)
-goes kind.Drop rest.Holding i (GiveBack k) f b h = absurd (cc b)
-goes kind.Drop rest.Holding i (FitGivenBack a) f b h = refl
-goes kind.Drop rest.Holding i _ f b h = absurd (cc h)
-goes kind.Drop rest.Pending i CancelRemove f b h = absurd (cc b)
-goes kind.Drop rest.Pending i CancelLoad f b h = refl
-goes kind.Drop rest.Pending i (FitGivenBack a) f b h = refl
-goes kind.Drop rest.Pending i Abandon f b h = absurd (cc b)
-goes kind.Drop rest.Pending i _ f b h = absurd (cc h)
-goes kind.Try rest.Idle i (Try k) f b h = absurd (cc b)
-goes kind.Try rest.Idle i _ f b h = absurd (cc h)
-goes kind.Forget rest.Holding i (Lower k) f b h = absurd (cc b)
-goes kind.Forget rest.Holding i _ f b h = absurd (cc h)
+goes Kind.FirstPoll Rest.Idle i x f b h = first_polls i x f h
+goes Kind.LaterPoll Rest.Pending i x f b h = later_polls i x f h
+goes Kind.Add Rest.Idle i (Raise n) f b h = absurd (cc b)
+goes Kind.Add Rest.Idle i (GiveAdded n) f b h = refl
+goes Kind.Add Rest.Idle i (FitAdded a) f b h = refl
+goes Kind.Add Rest.Idle i _ f b h = absurd (cc h)
+goes Kind.Drop Rest.Holding i (GiveBack k) f b h = absurd (cc b)
+goes Kind.Drop Rest.Holding i (FitGivenBack a) f b h = refl
+goes Kind.Drop Rest.Holding i _ f b h = absurd (cc h)
+goes Kind.Drop Rest.Pending i CancelRemove f b h = absurd (cc b)
+goes Kind.Drop Rest.Pending i CancelLoad f b h = refl
+goes Kind.Drop Rest.Pending i (FitGivenBack a) f b h = refl
+goes Kind.Drop Rest.Pending i Abandon f b h = absurd (cc b)
+goes Kind.Drop Rest.Pending i _ f b h = absurd (cc h)
+goes Kind.Try Rest.Idle i (Try k) f b h = absurd (cc b)
+goes Kind.Try Rest.Idle i _ f b h = absurd (cc h)
+goes Kind.Forget Rest.Holding i (Lower k) f b h = absurd (cc b)
+goes Kind.Forget Rest.Holding i _ f b h = absurd (cc h)
 goes _ _ i x f b h = absurd (cc h)
 
 goes_limit : (i : Inputs) (x : Place) (f : Found) → is_begun x ≡ true → Counts_at (Go i) (At x) x f
@@ -174,63 +130,63 @@ goes_limit i (FitAdded a) Done b l h = refl
 goes_limit i (FitAdded a) _ b l h = refl
 goes_limit i _ f b l h = absurd (cc b)
 
-take_account : (i : Inputs) (k : ℕ) (f : Found) → Kept_at (Outside rest.Idle) (Begin (call.Acquire k) i) (the kind.FirstPoll rest.Idle) Out (Take k false false) f
+take_account : (i : Inputs) (k : ℕ) (f : Found) → Kept_at (Outside Rest.Idle) (Begin (Call.Acquire k) i) (the Kind.FirstPoll Rest.Idle) Out (Take k false false) f
 take_account i k (Left a) = refl
 take_account i k _ = refl
 
-poll_account : (i : Inputs) (k : ℕ) (f : Found) → Kept_at (Outside rest.Pending) (Begin call.Poll i) (the kind.LaterPoll rest.Pending) (Unlisted k) (Take k false false) f
+poll_account : (i : Inputs) (k : ℕ) (f : Found) → Kept_at (Outside Rest.Pending) (Begin Call.Poll i) (the Kind.LaterPoll Rest.Pending) (Unlisted k) (Take k false false) f
 poll_account i k (Left a) = refl
 poll_account i k _ = refl
 
-retake_account : (i : Inputs) (k : ℕ) (f : Found) → Kept_at (Outside rest.Pending) (Begin call.Poll i) (the kind.LaterPoll rest.Pending) (Waiting k) (Retake k) f
+retake_account : (i : Inputs) (k : ℕ) (f : Found) → Kept_at (Outside Rest.Pending) (Begin Call.Poll i) (the Kind.LaterPoll Rest.Pending) (Waiting k) (Retake k) f
 retake_account i k (Left a) = refl
 retake_account i k _ = refl
 
-try_account : (i : Inputs) (k : ℕ) (f : Found) → Kept_at (Outside rest.Idle) (Begin (call.TryAcquire k) i) (the kind.Try rest.Idle) Out (Try k) f
+try_account : (i : Inputs) (k : ℕ) (f : Found) → Kept_at (Outside Rest.Idle) (Begin (Call.TryAcquire k) i) (the Kind.Try Rest.Idle) Out (Try k) f
 try_account i k (Left a) = refl
 try_account i k _ = refl
 
-add_account : (n : ℕ) (i : Inputs) (f : Found) → Kept_at (Outside rest.Idle) (Begin (call.AddPermits n) i) (the kind.Add rest.Idle) Out (Raise n) f
+add_account : (n : ℕ) (i : Inputs) (f : Found) → Kept_at (Outside Rest.Idle) (Begin (Call.AddPermits n) i) (the Kind.Add Rest.Idle) Out (Raise n) f
 add_account n i Done = refl
 add_account n i _ = refl
 
-cancel_account : (i : Inputs) (k : ℕ) (f : Found) → Kept_at (Outside rest.Pending) (Begin call.Drop i) (the kind.Drop rest.Pending) (Waiting k) CancelRemove f
+cancel_account : (i : Inputs) (k : ℕ) (f : Found) → Kept_at (Outside Rest.Pending) (Begin Call.Drop i) (the Kind.Drop Rest.Pending) (Waiting k) CancelRemove f
 cancel_account i k Yes = refl
 cancel_account i k _ = refl
 
-take_limit : (i : Inputs) (k : ℕ) (f : Found) → Counts_at (Begin (call.Acquire k) i) Out (Take k false false) f
+take_limit : (i : Inputs) (k : ℕ) (f : Found) → Counts_at (Begin (Call.Acquire k) i) Out (Take k false false) f
 take_limit i k (Left a) l h = refl
 take_limit i k _ l h = refl
 
-poll_limit : (i : Inputs) (k : ℕ) (f : Found) → Counts_at (Begin call.Poll i) (Unlisted k) (Take k false false) f
+poll_limit : (i : Inputs) (k : ℕ) (f : Found) → Counts_at (Begin Call.Poll i) (Unlisted k) (Take k false false) f
 poll_limit i k (Left a) l h = refl
 poll_limit i k _ l h = refl
 
-retake_limit : (i : Inputs) (k : ℕ) (f : Found) → Counts_at (Begin call.Poll i) (Waiting k) (Retake k) f
+retake_limit : (i : Inputs) (k : ℕ) (f : Found) → Counts_at (Begin Call.Poll i) (Waiting k) (Retake k) f
 retake_limit i k (Left a) l h = refl
 retake_limit i k _ l h = refl
 
-try_limit : (i : Inputs) (k : ℕ) (f : Found) → Counts_at (Begin (call.TryAcquire k) i) Out (Try k) f
+try_limit : (i : Inputs) (k : ℕ) (f : Found) → Counts_at (Begin (Call.TryAcquire k) i) Out (Try k) f
 try_limit i k (Left a) l h = refl
 try_limit i k _ l h = refl
 
-add_limit : (n : ℕ) (i : Inputs) (f : Found) → Counts_at (Begin (call.AddPermits n) i) Out (Raise n) f
+add_limit : (n : ℕ) (i : Inputs) (f : Found) → Counts_at (Begin (Call.AddPermits n) i) Out (Raise n) f
 add_limit n i Done l h = omega arith
 add_limit n i _ l h = omega arith
 
-abandon_limit : (i : Inputs) (k : ℕ) (f : Found) → Counts_at (Begin call.Drop i) (Unlisted k) Abandon f
+abandon_limit : (i : Inputs) (k : ℕ) (f : Found) → Counts_at (Begin Call.Drop i) (Unlisted k) Abandon f
 abandon_limit i k f l h = refl
 
-cancel_limit : (i : Inputs) (k : ℕ) (f : Found) → Counts_at (Begin call.Drop i) (Waiting k) CancelRemove f
+cancel_limit : (i : Inputs) (k : ℕ) (f : Found) → Counts_at (Begin Call.Drop i) (Waiting k) CancelRemove f
 cancel_limit i k Yes l h = refl
 cancel_limit i k No l h = refl
 cancel_limit i k _ l h = refl
 
-give_limit : (i : Inputs) (k : ℕ) (f : Found) → Counts_at (Begin call.Drop i) (Holding k) (GiveBack k) f
+give_limit : (i : Inputs) (k : ℕ) (f : Found) → Counts_at (Begin Call.Drop i) (Holding k) (GiveBack k) f
 give_limit i k (Available a) l h = refl
 give_limit i k _ l h = refl
 
-forget_limit : (i : Inputs) (k : ℕ) (f : Found) → Counts_at (Begin call.Forget i) (Holding k) (Lower k) f
+forget_limit : (i : Inputs) (k : ℕ) (f : Found) → Counts_at (Begin Call.Forget i) (Holding k) (Lower k) f
 forget_limit i k Done l h = let some = (h k refl).0 in omega arith
 forget_limit i k _ l h = absurd (cc ((h k refl).1))
 
@@ -290,7 +246,7 @@ module _ (t u : Table Semaphore) (m : Move) (a : Answer) where
 
     lower_done : (y : Place) (n : ℕ) → y ≡ Lower n → Finds (inputs_of m.what).memory p (action_of y) k.found t.machine.words t.machine.entries → k.found ≡ Done
     lower_done y n e finds = let P : Place → Type 0 = λ y. Finds (inputs_of m.what).memory p (action_of y) k.found t.machine.words t.machine.entries in done_only k.found (subst P e finds) where
-      done_only : (f : Found) → Finds (inputs_of m.what).memory p (act.Lower n) f t.machine.words t.machine.entries → f ≡ Done
+      done_only : (f : Found) → Finds (inputs_of m.what).memory p (Action.Lower n) f t.machine.words t.machine.entries → f ≡ Done
       done_only Done h = refl
       done_only _ h = absurd h
 
@@ -302,7 +258,7 @@ module _ (t u : Table Semaphore) (m : Move) (a : Answer) where
       own = ap (λ z. account_after (account_at z) m.what a) (acting.stood t u m a w k)
           ∙ (ap (account_after (account_at (stands_as (verdict (position_at t.machine.positions p)) (stage_at t.stages p))) m.what) k.answer
           ∙ (so.account k.found
-          ∙ (ap (λ b. account_at (stands_as (verdict (after k.from k.found)) (stage_after rest.Holding w b))) (sym k.answer) ∙ ap account_at (sym (acting.stands t u m a w k)))));
+          ∙ (ap (λ b. account_at (stands_as (verdict (after k.from k.found)) (stage_after Rest.Holding w b))) (sym k.answer) ∙ ap account_at (sym (acting.stands t u m a w k)))));
       others = λ q apart. ap account_at (acting.others_stand t u m a w k q apart);
       limit =
           let is : u.machine.words.limit ≡ limit_by (deed_of (action_of k.from) k.found) t.machine.words.limit = ap (λ (v : Words). v.limit) k.acts.words ∙ limit_seen (deed_of (action_of k.from) k.found) t.machine.words in
@@ -316,14 +272,14 @@ module _ (t u : Table Semaphore) (m : Move) (a : Answer) where
     }
 
   -- a move that does nothing
-  none_added : (what : What) (n : ℕ) → (added_by what answer.NotPossible ≡ 0) × (forgotten_by what answer.NotPossible n ≡ 0)
-  none_added (Begin (call.AddPermits j) i) n = (refl, refl)
-  none_added (Begin call.Forget i) n = (refl, refl)
+  none_added : (what : What) (n : ℕ) → (added_by what Answer.NotPossible ≡ 0) × (forgotten_by what Answer.NotPossible n ≡ 0)
+  none_added (Begin (Call.AddPermits j) i) n = (refl, refl)
+  none_added (Begin Call.Forget i) n = (refl, refl)
   none_added _ n = (refl, refl)
 
-  again_limit : (s : Stage) (what : What) (n : ℕ) → polls_again s what ≡ true → (forgotten_by what (refused refusal.Finished) n ≡ 0) × (added_by what (refused refusal.Finished) ≡ 0) × (n ≡ size_after what (refused refusal.Finished) n)
-  again_limit (Outside rest.Holding) (Begin call.Poll i) n h = (refl, refl, refl)
-  again_limit (Outside rest.Finished) (Begin call.Poll i) n h = (refl, refl, refl)
+  again_limit : (s : Stage) (what : What) (n : ℕ) → polls_again s what ≡ true → (forgotten_by what (refused Refusal.Finished) n ≡ 0) × (added_by what (refused Refusal.Finished) ≡ 0) × (n ≡ size_after what (refused Refusal.Finished) n)
+  again_limit (Outside Rest.Holding) (Begin Call.Poll i) n h = (refl, refl, refl)
+  again_limit (Outside Rest.Finished) (Begin Call.Poll i) n h = (refl, refl, refl)
   again_limit _ _ n h = absurd (cc h)
 
   abbrev On : Answer → Table Semaphore → Type 0
@@ -345,18 +301,18 @@ held_of : (w : World) (p k : ℕ) → share_at w.state p ≡ guard_of k → (sha
 held_of w p k h = ap (λ (z : Share). z.held) h
 
 own_right : (w : World) (p : ℕ) (s : Standing) → is_outside s ≡ true → (s ≡ forgotten → has_permits w.state p ≡ false) → HasItsOwn w p s → (has_permits w.state p ≡ true) ↔ HasByAnswers (account_at s) permit
-own_right w p (outside rest.Idle) o past own = ((λ h. absurd (cc (ap (λ (z : Share). is_some z.held) own.1, h))), (λ h. absurd (cc (h.0))))
-own_right w p (outside rest.Finished) o past own = ((λ h. absurd (cc (ap (λ (z : Share). is_some z.held) own.1, h))), (λ h. absurd (cc (h.0))))
-own_right w p (outside rest.Pending) o past own = ((λ h. absurd (cc (ap (λ (z : Share). is_some z.held) own, h))), (λ h. absurd (cc (h.0))))
-own_right w p (outside rest.Holding) o past own = ((λ h. (refl, refl)), (λ h. ap (λ (z : Share). is_some z.held) own.1))
+own_right w p (outside Rest.Idle) o past own = ((λ h. absurd (cc (ap (λ (z : Share). is_some z.held) own.1, h))), (λ h. absurd (cc (h.0))))
+own_right w p (outside Rest.Finished) o past own = ((λ h. absurd (cc (ap (λ (z : Share). is_some z.held) own.1, h))), (λ h. absurd (cc (h.0))))
+own_right w p (outside Rest.Pending) o past own = ((λ h. absurd (cc (ap (λ (z : Share). is_some z.held) own, h))), (λ h. absurd (cc (h.0))))
+own_right w p (outside Rest.Holding) o past own = ((λ h. (refl, refl)), (λ h. ap (λ (z : Share). is_some z.held) own.1))
 own_right w p (inside u d) o past own = absurd (cc o)
 own_right w p forgotten o past own = ((λ h. absurd (cc (past refl, h))), (λ h. absurd (cc (h.0))))
 
 own_told : (w : World) (p : ℕ) (r : Right) (s : Standing) → HasItsOwn w p s → HasByAnswers (account_at s) r → (r ≡ permit) × ((share_at w.state p).held ≡ Some (size_of w p))
-own_told w p r (outside rest.Idle) own h = absurd (cc (h.0))
-own_told w p r (outside rest.Finished) own h = absurd (cc (h.0))
-own_told w p r (outside rest.Pending) own h = absurd (cc (h.0))
-own_told w p r (outside rest.Holding) own h = (sym (some_eq h.1), held_of w p (size_of w p) own.1)
+own_told w p r (outside Rest.Idle) own h = absurd (cc (h.0))
+own_told w p r (outside Rest.Finished) own h = absurd (cc (h.0))
+own_told w p r (outside Rest.Pending) own h = absurd (cc (h.0))
+own_told w p r (outside Rest.Holding) own h = (sym (some_eq h.1), held_of w p (size_of w p) own.1)
 own_told w p r (inside u d) own h = absurd (cc (h.0))
 own_told w p r forgotten own h = absurd (cc (h.0))
 

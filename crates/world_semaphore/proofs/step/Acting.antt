@@ -1,60 +1,13 @@
 -- An action of a party is a legal step, as callers see it.
-use Rattle.std.proofs.Common.{◌≡◌, ◌≢◌, ℕ, ◌<◌, ◌||◌, ◌⊎◌, inl, inr, Bool, true, false, List, map, length, Option, Some, None, is_some, refl, arith, ap, sym, ◌∙◌, subst, get_or-set_same, get_or-set_other}
-use Rattle.std.proofs.Math.ListN.{set}
+use Rattle.world_semaphore.proofs.Prelude.{◌≡◌, ◌≢◌, ℕ, ◌<◌, ◌||◌, ◌⊎◌, inl, inr, Bool, true, false, List, map, length, Option, Some, None, is_some, refl, arith, ap, sym, ◌∙◌, subst, get_or-set_same, get_or-set_other, set, map-set, Entry, mark_at, is_marked_at, is_party, entries_of, Answer, Call, Plain, Move, What, Begin, Refusal, Kind, Rest, Stage, Outside, Inside, Forgotten, Within, inputs_of, call_in, is_possible, is_stepped, is_decided, may_end, decision, refused, IsUndecided, is_giving_back, is_poll_after_ready, is_refusal, some_eq, none_some, finished_number, stage_at, stands_as, call_at, polls_again, stage_after, Table, set_same, call_seen, again_seen, stands_seen, decided_after, decision_seen, later_ends, Action, Found, Available, Done, Left, PastLimit, Yes, No, Next, Place, Take, Retake, Join, Ask, Remove, Load, HandOn, PassOn, RefuseFit, Try, Lower, GiveBack, Raise, GiveAdded, FitAdded, CancelRemove, CancelLoad, FitGivenBack, Abandon, Position, Out, At, Words, place_for, action_of, next_of, position_after, Seat, Share, Debt, guard_of, a_fit, seat_of, share_of, size_at, debt_at, listed, verdict, verdict_of, Deed, nothing, changes, does, joins, asks, removes, fits, takes, gives_back, forgets, raises, gives, share_after, deed_of, Finds, words_after, entries_after, Semaphore, IsSemaphore, Acts, knows, runs, is_begun, position_at, sizes_of, answer_by, is_polling, State, World, share_at, available, standing_of, size_of, debt_of, view_of, call_of, DecidesOn, state_after, gives_something_back, added_in, wanted, wanted_in, IsAllowed, ChangesOneThing, KnowsSizes, KnowsDebts, Carries, Waits, IsCause, IsRefusedForCause, size_after, LeavesClear, EndsProperly, Legal, IsSemaphoreTable}
 use Rattle.std.proofs.Math.Seq.{map-set_same}
-use Rattle.std.proofs.lemmas.List.{map-set}
-use Rattle.lock_event.specs.declared.event.Entry.{Entry}
 use Rattle.lock_event.specs.declared.event.Mark.TheVariants.{Waiting}
-use Rattle.lock_event.specs.Lists.{mark_at, is_marked_at}
-use Rattle.world_base.specs.queue.Parties.{is_party, entries_of}
 use Rattle.world_base.proofs.of_queue.Told.{waits_at}
-use Rattle.world_base.specs.declared.moves.Answer.{Answer}
-use Rattle.world_base.specs.declared.moves.Answer.TheVariants as answer
-use Rattle.world_base.specs.declared.moves.Call.TheVariants as call
-use Rattle.world_base.specs.declared.moves.Got.TheVariants.{Plain}
-use Rattle.world_base.specs.declared.moves.Move.{Move}
-use Rattle.world_base.specs.declared.moves.What.{What}
-use Rattle.world_base.specs.declared.moves.What.TheVariants.{Begin}
-use Rattle.lock_program.specs.declared.refusal.Refusal.{Refusal}
-use Rattle.lock_program.specs.declared.refusal.Refusal.TheVariants as refusal
-use Rattle.world_base.specs.declared.standing.Kind.{Kind}
-use Rattle.world_base.specs.declared.standing.Kind.TheVariants as kind
-use Rattle.world_base.specs.declared.standing.Rest.{Rest}
-use Rattle.world_base.specs.declared.standing.Rest.TheVariants as rest
-use Rattle.world_base.specs.declared.standing.Stage.{Stage}
-use Rattle.world_base.specs.declared.standing.Stage.TheVariants.{Outside, Inside, Forgotten}
-use Rattle.world_base.specs.declared.standing.Within.{Within}
-use Rattle.world_base.specs.Standings.{inputs_of, call_in, is_possible, is_stepped, is_decided, may_end, decision, refused, IsUndecided}
-use Rattle.world_base.specs.Frame.{is_giving_back, is_poll_after_ready, is_refusal}
 use Rattle.lock_program.specs.Refusals.{number_of}
-use Rattle.world_base.proofs.Equations.{some_eq, none_some, finished_number}
-use Rattle.world_base.specs.table.Stages.{stage_at, stands_as, call_at, polls_again, stage_after}
-use Rattle.world_base.specs.table.Tables.{Table}
-use Rattle.world_base.proofs.of_table.Mapped.{set_same}
 use Rattle.world_base.proofs.of_table.Acting as acting
-use Rattle.world_base.proofs.of_table.Calls.{call_seen, again_seen, stands_seen, decided_after, decision_seen, later_ends}
-use Rattle.sync_program.specs.declared.permits.Action.{Action}
-use Rattle.sync_program.specs.declared.permits.Action.TheVariants as act
-use Rattle.sync_program.specs.declared.permits.Found.{Found}
-use Rattle.sync_program.specs.declared.permits.Found.TheVariants.{Available}
-use Rattle.sync_program.specs.declared.permits.Found.TheVariants.{Done, Left, PastLimit, Yes, No}
-use Rattle.world_semaphore.specs.machine.Program.{Next}
 use Rattle.lock_program.specs.declared.end.Next.TheVariants as next
-use Rattle.lock_program.specs.declared.end.End.TheVariants as «end»
-use Rattle.sync_program.specs.declared.permits.Place.{Place}
-use Rattle.sync_program.specs.declared.permits.Place.TheVariants.{Take, Retake, Join, Ask, Remove, Load, HandOn, PassOn, RefuseFit, Try, Lower, GiveBack, Raise, GiveAdded, FitAdded, CancelRemove, CancelLoad, FitGivenBack, Abandon}
-use Rattle.sync_program.specs.declared.permits.Position.{Position}
-use Rattle.sync_program.specs.declared.permits.Position.TheVariants.{Out, At}
-use Rattle.world_semaphore.specs.declared.machine.words.Words.{Words}
-use Rattle.world_semaphore.specs.machine.Program.{place_for, action_of, next_of, position_after}
-use Rattle.world_semaphore.specs.machine.Seats.{Seat, Share, Debt, guard_of, a_fit, seat_of, share_of, size_at, debt_at, listed, verdict, verdict_of}
-use Rattle.world_semaphore.specs.machine.Deeds.{Deed, nothing, changes, does, joins, asks, removes, fits, takes, gives_back, forgets, raises, gives, share_after, deed_of, Finds, words_after, entries_after}
-use Rattle.world_semaphore.specs.machine.Machine.{Semaphore, IsSemaphore, Acts, knows, runs, is_begun, position_at, sizes_of, answer_by, is_polling}
+use Rattle.lock_program.specs.declared.end.End.{End}
 use Rattle.world_semaphore.proofs.of_machine.laws.Kept.{after}
-use Rattle.world_semaphore.specs.State.{State, World, share_at, available, standing_of, size_of, debt_of}
-use Rattle.world_semaphore.specs.View.{view_of}
-use Rattle.world_semaphore.specs.Legal.{call_of, DecidesOn, state_after, gives_something_back, added_in, wanted, wanted_in, IsAllowed, ChangesOneThing, KnowsSizes, KnowsDebts, Carries, Waits, IsCause, IsRefusedForCause, size_after, LeavesClear, EndsProperly, Legal}
-use Rattle.world_semaphore.specs.Steps.{IsSemaphoreTable}
 use Rattle.world_semaphore.proofs.table.Seen as seen
 use Rattle.world_semaphore.proofs.step.Rows.{said, SharesSo, AllowedAt, is_join, is_ask, Refuses, Reason, Judged, Room, Row, row}
 use Rattle.world_semaphore.proofs.step.Debts.{OwedBy, owed}
@@ -70,35 +23,35 @@ use Rattle.world_semaphore.proofs.step.Owns.{each_has, ends_well, none_owed}
 -- what a call is decided on after this
 said_so : (x : Place) (n : Next) → decided_after (answer_by n) (verdict (position_after n)) ≡ said n
 said_so x (next.Do y) = refl
-said_so x (next.End «end».Got y) = refl
-said_so x (next.End «end».Granted y) = refl
-said_so x (next.End «end».Pending y) = refl
-said_so x (next.End «end».NotFree y) = refl
-said_so x (next.End «end».Waiting y) = refl
-said_so x (next.End «end».GivenBack y) = refl
-said_so x (next.End («end».Refused r) y) = refl
+said_so x (next.End End.Got y) = refl
+said_so x (next.End End.Granted y) = refl
+said_so x (next.End End.Pending y) = refl
+said_so x (next.End End.NotFree y) = refl
+said_so x (next.End End.Waiting y) = refl
+said_so x (next.End End.GivenBack y) = refl
+said_so x (next.End (End.Refused r) y) = refl
 
 possible_by : (n : Next) → is_possible (answer_by n) ≡ true
 possible_by (next.Do y) = refl
-possible_by (next.End «end».Got y) = refl
-possible_by (next.End «end».Granted y) = refl
-possible_by (next.End «end».Pending y) = refl
-possible_by (next.End «end».NotFree y) = refl
-possible_by (next.End «end».Waiting y) = refl
-possible_by (next.End «end».GivenBack y) = refl
-possible_by (next.End («end».Refused r) y) = refl
+possible_by (next.End End.Got y) = refl
+possible_by (next.End End.Granted y) = refl
+possible_by (next.End End.Pending y) = refl
+possible_by (next.End End.NotFree y) = refl
+possible_by (next.End End.Waiting y) = refl
+possible_by (next.End End.GivenBack y) = refl
+possible_by (next.End (End.Refused r) y) = refl
 
 -- what is answered, and doesn't go on, was decided
 said_then : (n : Next) (b : Answer) → is_stepped b ≡ false → answer_by n ≡ b → said n ≡ Some b
-said_then (next.Do y) b h e = let never : is_stepped answer.Stepped ≡ false = ap is_stepped e ∙ h in absurd (cc)
+said_then (next.Do y) b h e = let never : is_stepped Answer.Stepped ≡ false = ap is_stepped e ∙ h in absurd (cc)
 said_then (next.End f y) b h e = ap Some e
 
 abbrev EndsBy : Kind → Next → Type 0
 EndsBy k n = is_stepped (answer_by n) ≡ false → may_end k (answer_by n) ≡ true
 
-polls_end : (x : Place) (f : Found) → is_polling x ≡ true → EndsBy kind.FirstPoll (next_of x f)
+polls_end : (x : Place) (f : Found) → is_polling x ≡ true → EndsBy Kind.FirstPoll (next_of x f)
 polls_end (Take k true told) (Left a) h e = absurd (cc)
-polls_end (Take k false true) (Left a) h e = taken (EndsBy kind.FirstPoll) k a (λ g. absurd (cc g)) (λ none g. refl) e
+polls_end (Take k false true) (Left a) h e = taken (EndsBy Kind.FirstPoll) k a (λ g. absurd (cc g)) (λ none g. refl) e
 polls_end (Take k false false) (Left a) h e = refl
 polls_end (Take k true told) _ h e = absurd (cc)
 polls_end (Take k false told) _ h e = absurd (cc)
@@ -120,27 +73,27 @@ polls_end (RefuseFit k a) _ h e = refl
 polls_end _ f h e = absurd (cc h)
 
 ends_by : (k : Kind) (r : Rest) (x : Place) (f : Found) → runs k r x ≡ true → EndsBy k (next_of x f)
-ends_by kind.FirstPoll rest.Idle x f h e = polls_end x f h e
-ends_by kind.LaterPoll rest.Pending x f h e = later_ends (answer_by (next_of x f)) (polls_end x f h e)
-ends_by kind.Try rest.Idle (Try k) (Left a) h e = refl
-ends_by kind.Try rest.Idle (Try k) _ h e = refl
-ends_by kind.Try rest.Idle _ f h e = absurd (cc h)
-ends_by kind.Add rest.Idle (Raise n) Done h e = absurd (cc)
-ends_by kind.Add rest.Idle (Raise n) _ h e = refl
-ends_by kind.Add rest.Idle (GiveAdded n) f h e = absurd (cc)
-ends_by kind.Add rest.Idle (FitAdded a) f h e = refl
-ends_by kind.Add rest.Idle _ f h e = absurd (cc h)
-ends_by kind.Drop rest.Pending CancelRemove Yes h e = absurd (cc)
-ends_by kind.Drop rest.Pending CancelRemove _ h e = refl
-ends_by kind.Drop rest.Pending CancelLoad f h e = absurd (cc)
-ends_by kind.Drop rest.Pending (FitGivenBack a) f h e = refl
-ends_by kind.Drop rest.Pending Abandon f h e = refl
-ends_by kind.Drop rest.Pending _ f h e = absurd (cc h)
-ends_by kind.Drop rest.Holding (GiveBack k) f h e = absurd (cc)
-ends_by kind.Drop rest.Holding (FitGivenBack a) f h e = refl
-ends_by kind.Drop rest.Holding _ f h e = absurd (cc h)
-ends_by kind.Forget rest.Holding (Lower k) f h e = refl
-ends_by kind.Forget rest.Holding _ f h e = absurd (cc h)
+ends_by Kind.FirstPoll Rest.Idle x f h e = polls_end x f h e
+ends_by Kind.LaterPoll Rest.Pending x f h e = later_ends (answer_by (next_of x f)) (polls_end x f h e)
+ends_by Kind.Try Rest.Idle (Try k) (Left a) h e = refl
+ends_by Kind.Try Rest.Idle (Try k) _ h e = refl
+ends_by Kind.Try Rest.Idle _ f h e = absurd (cc h)
+ends_by Kind.Add Rest.Idle (Raise n) Done h e = absurd (cc)
+ends_by Kind.Add Rest.Idle (Raise n) _ h e = refl
+ends_by Kind.Add Rest.Idle (GiveAdded n) f h e = absurd (cc)
+ends_by Kind.Add Rest.Idle (FitAdded a) f h e = refl
+ends_by Kind.Add Rest.Idle _ f h e = absurd (cc h)
+ends_by Kind.Drop Rest.Pending CancelRemove Yes h e = absurd (cc)
+ends_by Kind.Drop Rest.Pending CancelRemove _ h e = refl
+ends_by Kind.Drop Rest.Pending CancelLoad f h e = absurd (cc)
+ends_by Kind.Drop Rest.Pending (FitGivenBack a) f h e = refl
+ends_by Kind.Drop Rest.Pending Abandon f h e = refl
+ends_by Kind.Drop Rest.Pending _ f h e = absurd (cc h)
+ends_by Kind.Drop Rest.Holding (GiveBack k) f h e = absurd (cc)
+ends_by Kind.Drop Rest.Holding (FitGivenBack a) f h e = refl
+ends_by Kind.Drop Rest.Holding _ f h e = absurd (cc h)
+ends_by Kind.Forget Rest.Holding (Lower k) f h e = refl
+ends_by Kind.Forget Rest.Holding _ f h e = absurd (cc h)
 ends_by _ _ x f h e = absurd (cc h)
 
 -- ---- What was decided, and what is decided now
@@ -154,25 +107,25 @@ module _ (memory : Bool) (w : Words) (x : Place) (f : Found) (n : Next) where
   kept_on (Some c) o b j e = j.0 ∙ e
   kept_on None o b j e = absurd (none_some e)
 
-  reasoned : (v o : Option Answer) (b : Answer) → Judged memory w x f n v o → ((c : Answer) → v ≡ Some c → c ≡ answer.GivenBack) → o ≡ Some b → (b ≡ answer.GivenBack) ⊎ Reason memory w x f n b
+  reasoned : (v o : Option Answer) (b : Answer) → Judged memory w x f n v o → ((c : Answer) → v ≡ Some c → c ≡ Answer.GivenBack) → o ≡ Some b → (b ≡ Answer.GivenBack) ⊎ Reason memory w x f n b
   reasoned (Some c) o b j late e = inl (some_eq (sym e ∙ j.0) ∙ late c refl)
   reasoned None None b j late e = absurd (none_some e)
   reasoned None (Some c) b j late e = let P : Answer → Type 0 = Reason memory w x f n in inr (subst P (some_eq e) j)
 
   overs : (r : Refusal) → 6 ≡ number_of r → Refuses memory w x f r → ⊥
-  overs refusal.Memory e y = omega arith
-  overs refusal.Permits e y = omega arith
-  overs refusal.Finished e y = y
-  overs refusal.Starved e y = y
-  overs refusal.Readers e y = y
-  overs refusal.Generations e y = y
+  overs Refusal.Memory e y = omega arith
+  overs Refusal.Permits e y = omega arith
+  overs Refusal.Finished e y = y
+  overs Refusal.Starved e y = y
+  overs Refusal.Readers e y = y
+  overs Refusal.Generations e y = y
 
-  not_over : (v o : Option Answer) → Judged memory w x f n v o → (v ≡ Some (refused refusal.Finished) → ⊥) → o ≡ Some (refused refusal.Finished) → ⊥
+  not_over : (v o : Option Answer) → Judged memory w x f n v o → (v ≡ Some (refused Refusal.Finished) → ⊥) → o ≡ Some (refused Refusal.Finished) → ⊥
   not_over (Some c) o j late e = late (sym j.0 ∙ e)
   not_over None None j late e = none_some e
   not_over None (Some c) j late e = let P : Answer → Type 0 = Reason memory w x f n in let why = subst P (some_eq e) j in overs why.0 why.1 why.2
 
-never_over : (x : Place) → verdict_of x ≡ Some (refused refusal.Finished) → ⊥
+never_over : (x : Place) → verdict_of x ≡ Some (refused Refusal.Finished) → ⊥
 never_over (RefuseFit k a) e = let six : Path ℕ 1 6 = finished_number 1 (some_eq e) in absurd (omega (arith, six))
 never_over _ e = cc
 
@@ -184,7 +137,7 @@ room_found : (memory : Bool) (d : Deed) → Room memory d → d ≡ does joins �
 room_found memory d h e = let P : Deed → Type 0 = Room memory in subst P e h
 
 -- who is answered Pending stands in the list
-pended_listed : (x : Place) (f : Found) → answer_by (next_of x f) ≡ answer.Pending → listed (after x f) ≡ 1
+pended_listed : (x : Place) (f : Found) → answer_by (next_of x f) ≡ Answer.Pending → listed (after x f) ≡ 1
 pended_listed (Ask k (Some a)) Yes e = absurd (cc e)
 pended_listed (Ask k None) Yes e = absurd (cc e)
 pended_listed (Ask k (Some a)) _ e = absurd (cc e)
@@ -192,7 +145,7 @@ pended_listed (Ask k None) _ e = refl
 pended_listed (PassOn k a) f e = refl
 pended_listed (Take k true told) (Left a) e = absurd (cc e)
 pended_listed (Take k true told) _ e = absurd (cc e)
-pended_listed (Take k false true) (Left a) e = taken (λ n. answer_by n ≡ answer.Pending → listed (position_after n) ≡ 1) k a (λ g. absurd (cc g)) (λ none g. absurd (cc g)) e
+pended_listed (Take k false true) (Left a) e = taken (λ n. answer_by n ≡ Answer.Pending → listed (position_after n) ≡ 1) k a (λ g. absurd (cc g)) (λ none g. absurd (cc g)) e
 pended_listed (Take k false false) (Left a) e = absurd (cc e)
 pended_listed (Take k false told) _ e = absurd (cc e)
 pended_listed (Retake k) (Left a) e = absurd (cc e)
@@ -212,38 +165,38 @@ pended_listed CancelRemove _ e = absurd (cc e)
 pended_listed _ f e = absurd (cc e)
 
 add_stage : (s : Stage) (what : What) (w : Within) (n : ℕ) → added_in what ≡ Some n → call_at knows s what ≡ Some w → s ≡ Outside w.was
-add_stage (Outside rest.Idle) (Begin (call.AddPermits k) i) w n a e = ap (λ (v : Within). Outside v.was) (some_eq e)
-add_stage (Outside rest.Finished) (Begin (call.AddPermits k) i) w n a e = ap (λ (v : Within). Outside v.was) (some_eq e)
-add_stage (Outside rest.Pending) (Begin (call.AddPermits k) i) w n a e = absurd (none_some e)
-add_stage (Outside rest.Holding) (Begin (call.AddPermits k) i) w n a e = absurd (none_some e)
-add_stage (Inside v) (Begin (call.AddPermits k) i) w n a e = absurd (none_some e)
-add_stage Forgotten (Begin (call.AddPermits k) i) w n a e = absurd (none_some e)
+add_stage (Outside Rest.Idle) (Begin (Call.AddPermits k) i) w n a e = ap (λ (v : Within). Outside v.was) (some_eq e)
+add_stage (Outside Rest.Finished) (Begin (Call.AddPermits k) i) w n a e = ap (λ (v : Within). Outside v.was) (some_eq e)
+add_stage (Outside Rest.Pending) (Begin (Call.AddPermits k) i) w n a e = absurd (none_some e)
+add_stage (Outside Rest.Holding) (Begin (Call.AddPermits k) i) w n a e = absurd (none_some e)
+add_stage (Inside v) (Begin (Call.AddPermits k) i) w n a e = absurd (none_some e)
+add_stage Forgotten (Begin (Call.AddPermits k) i) w n a e = absurd (none_some e)
 add_stage s _ w n a e = absurd (cc a)
 
 -- only a fit has an entry notified
-fits_action : (b : Action) (f : Found) (c : ℕ) → deed_of b f ≡ does (fits c) → b ≡ act.Fit c
-fits_action (act.Fit n) Done c e = cc e
-fits_action (act.Fit n) _ c e = absurd (cc e)
-fits_action (act.Take n) (Left d) c e = absurd (cc e)
-fits_action (act.Take n) _ c e = absurd (cc e)
-fits_action (act.GiveBack n) (Available d) c e = absurd (cc e)
-fits_action (act.GiveBack n) _ c e = absurd (cc e)
-fits_action (act.Give n) (Available d) c e = absurd (cc e)
-fits_action (act.Give n) _ c e = absurd (cc e)
-fits_action (act.Raise n) Done c e = absurd (cc e)
-fits_action (act.Raise n) _ c e = absurd (cc e)
-fits_action (act.Lower n) Done c e = absurd (cc e)
-fits_action (act.Lower n) _ c e = absurd (cc e)
-fits_action (act.Join n) Done c e = absurd (cc e)
-fits_action (act.Join n) _ c e = absurd (cc e)
-fits_action act.Ask Yes c e = absurd (cc e)
-fits_action act.Ask No c e = absurd (cc e)
-fits_action act.Ask _ c e = absurd (cc e)
-fits_action act.Remove Yes c e = absurd (cc e)
-fits_action act.Remove No c e = absurd (cc e)
-fits_action act.Remove _ c e = absurd (cc e)
-fits_action act.Load f c e = absurd (cc e)
-fits_action act.Nothing f c e = absurd (cc e)
+fits_action : (b : Action) (f : Found) (c : ℕ) → deed_of b f ≡ does (fits c) → b ≡ Action.Fit c
+fits_action (Action.Fit n) Done c e = cc e
+fits_action (Action.Fit n) _ c e = absurd (cc e)
+fits_action (Action.Take n) (Left d) c e = absurd (cc e)
+fits_action (Action.Take n) _ c e = absurd (cc e)
+fits_action (Action.GiveBack n) (Available d) c e = absurd (cc e)
+fits_action (Action.GiveBack n) _ c e = absurd (cc e)
+fits_action (Action.Give n) (Available d) c e = absurd (cc e)
+fits_action (Action.Give n) _ c e = absurd (cc e)
+fits_action (Action.Raise n) Done c e = absurd (cc e)
+fits_action (Action.Raise n) _ c e = absurd (cc e)
+fits_action (Action.Lower n) Done c e = absurd (cc e)
+fits_action (Action.Lower n) _ c e = absurd (cc e)
+fits_action (Action.Join n) Done c e = absurd (cc e)
+fits_action (Action.Join n) _ c e = absurd (cc e)
+fits_action Action.Ask Yes c e = absurd (cc e)
+fits_action Action.Ask No c e = absurd (cc e)
+fits_action Action.Ask _ c e = absurd (cc e)
+fits_action Action.Remove Yes c e = absurd (cc e)
+fits_action Action.Remove No c e = absurd (cc e)
+fits_action Action.Remove _ c e = absurd (cc e)
+fits_action Action.Load f c e = absurd (cc e)
+fits_action Action.Nothing f c e = absurd (cc e)
 
 same_state : (l k : ℕ) (s r : List Share) → l ≡ k → s ≡ r → Path State (record { limit = l; shares = s }) (record { limit = k; shares = r })
 same_state l k s r e d = cc
@@ -296,7 +249,7 @@ module _ (t u : Table Semaphore) (m : Move) (a : Answer) (w : Within) where
     pub runs : runs w.kind w.was from ≡ true
     pub acts : Acts memory p from found t.machine u.machine
     pub answer : a ≡ answer_by (next_of from found)
-    pub stages : u.stages ≡ set t.stages p (stage_after rest.Holding w a)
+    pub stages : u.stages ≡ set t.stages p (stage_after Rest.Holding w a)
     pub opening : u.opening ≡ t.opening
 
   module _ (k : Acting) where
@@ -327,14 +280,14 @@ module _ (t u : Table Semaphore) (m : Move) (a : Answer) (w : Within) where
     pub stood : standing_of old p ≡ stands_as (verdict x) s
     stood = seen.stands_seen t p
 
-    pub stands : standing_of new p ≡ stands_as (verdict to) (stage_after rest.Holding w a)
-    stands = acting.stands verdict_in rest.Holding t u p w a k.inside k.stages ∙ ap (λ y. stands_as (verdict y) (stage_after rest.Holding w a)) lands
+    pub stands : standing_of new p ≡ stands_as (verdict to) (stage_after Rest.Holding w a)
+    stands = acting.stands verdict_in Rest.Holding t u p w a k.inside k.stages ∙ ap (λ y. stands_as (verdict y) (stage_after Rest.Holding w a)) lands
 
     pub others_stand : (q : ℕ) → q ≢ p → standing_of new q ≡ standing_of old q
-    others_stand q apart = acting.others_stand verdict_in rest.Holding t u p w a k.inside k.stages q apart (ap verdict (stays q apart))
+    others_stand q apart = acting.others_stand verdict_in Rest.Holding t u p w a k.inside k.stages q apart (ap verdict (stays q apart))
 
     pub decides : decision a (standing_of new p) ≡ said (next_of from found)
-    decides = ap (decision a) stands ∙ (decision_seen rest.Holding w a (verdict to) ∙ (ap (λ b. decided_after b (verdict to)) k.answer ∙ said_so from (next_of from found)))
+    decides = ap (decision a) stands ∙ (decision_seen Rest.Holding w a (verdict to) ∙ (ap (λ b. decided_after b (verdict to)) k.answer ∙ said_so from (next_of from found)))
 
     pub share_old : share_at old.state p ≡ (seat_of from).share
     share_old = seen.share_seen t p ∙ ap (λ (z : Seat). z.share) (sym k.here.same)
@@ -361,7 +314,7 @@ module _ (t u : Table Semaphore) (m : Move) (a : Answer) (w : Within) where
     pub debt_new : debt_of new p ≡ debt_at to
     debt_new = seen.debt_seen u p ∙ ap debt_at lands
 
-    pub wants : (n : ℕ) → action_of from ≡ act.Take n → wanted old m ≡ n
+    pub wants : (n : ℕ) → action_of from ≡ Action.Take n → wanted old m ≡ n
     wants n e = ap (wanted_in m.what) (seen.size_seen t p) ∙ k.here.wants n e
 
     allowed_so : (d : Deed) → d ≡ deed → AllowedAt d from t.machine.words → IsAllowed old m d
@@ -398,7 +351,7 @@ module _ (t u : Table Semaphore) (m : Move) (a : Answer) (w : Within) where
       most = most_so deed k.acts.words;
       opening_permits = k.opening;
       others = others_stand;
-      parties = acting.as_many verdict_in rest.Holding t u p w a k.inside k.stages;
+      parties = acting.as_many verdict_in Rest.Holding t u p w a k.inside k.stages;
       found_memory = λ e. room_found memory deed r.room e;
       parting = λ h. parted memory t.machine.words from found (next_of from found) (verdict_of from) (said (next_of from found)) r.judged (sym decided_there ∙ h);
       giving_up = λ h. decided_there ∙ r.held_on h;
@@ -436,13 +389,13 @@ module _ (t u : Table Semaphore) (m : Move) (a : Answer) (w : Within) where
     }
 
     -- what is decided now, and was not before, has its reason, or is given back
-    reason : (b : Answer) → DecidesOn old m a new b → (b ≡ answer.GivenBack) ⊎ Reason memory t.machine.words from found (next_of from found) b
+    reason : (b : Answer) → DecidesOn old m a new b → (b ≡ Answer.GivenBack) ⊎ Reason memory t.machine.words from found (next_of from found) b
     reason b d = reasoned memory t.machine.words from found (next_of from found) (verdict_of from) (said (next_of from found)) b r.judged (k.here.undecided (sym (ap is_decided stood) ∙ d.0)) (sym decides ∙ d.1)
 
     carries : Carries old m a new
     carries = record {
-      ready = λ got d. elim (reason (answer.Ready got) d) as (λ _. (got ≡ Plain) × (share_at new.state p ≡ guard_of (wanted old m))) [ inl e ↦ absurd (cc) | inr y ↦ (y.0, share_new ∙ (y.1.2 ∙ ap guard_of (sym (wants y.1.0 y.1.1)))) ];
-      granted = λ got d. elim (reason (answer.Granted got) d) as (λ _. got ≡ Plain) [ inl e ↦ absurd (cc) | inr y ↦ y ];
+      ready = λ got d. elim (reason (Answer.Ready got) d) as (λ _. (got ≡ Plain) × (share_at new.state p ≡ guard_of (wanted old m))) [ inl e ↦ absurd (cc) | inr y ↦ (y.0, share_new ∙ (y.1.2 ∙ ap guard_of (sym (wants y.1.0 y.1.1)))) ];
+      granted = λ got d. elim (reason (Answer.Granted got) d) as (λ _. got ≡ Plain) [ inl e ↦ absurd (cc) | inr y ↦ y ];
     }
 
     pended_so : (y : Place) (f : Found) (es : List (Entry ℕ)) → is_ask y ≡ true → f ≡ No → Finds memory p (action_of y) f t.machine.words t.machine.entries → es ≡ entries_after (size_of old) p (deed_of (action_of y) f) t.machine.entries → entries_of p t.machine.entries ≡ (seat_of y).listed → mark_at (is_party p) es ≡ Some Waiting
@@ -454,7 +407,7 @@ module _ (t u : Table Semaphore) (m : Move) (a : Answer) (w : Within) where
 
     waits : Waits old m a new
     waits = record {
-      waiting = λ d. elim (reason answer.Pending d) as (λ _. mark_at (is_party p) u.machine.entries ≡ Some Waiting) [ inl e ↦ absurd (cc e) | inr y ↦ pended_so from found u.machine.entries y.0 y.1 k.acts.finds entries_seen own_entries ];
+      waiting = λ d. elim (reason Answer.Pending d) as (λ _. mark_at (is_party p) u.machine.entries ≡ Some Waiting) [ inl e ↦ absurd (cc e) | inr y ↦ pended_so from found u.machine.entries y.0 y.1 k.acts.finds entries_seen own_entries ];
       listed = λ e. k.new_laws.owners p ∙ (ap listed lands ∙ pended_listed from found (sym k.answer ∙ e));
       before = λ v e. (legals.well u k.new_laws k.new_fits).pends p v e;
     }
@@ -468,26 +421,26 @@ module _ (t u : Table Semaphore) (m : Move) (a : Answer) (w : Within) where
         let out : x ≡ Out = (k.here.adds n (k.here.raise n ef)).1 in
         let stage : s ≡ Outside w.was = add_stage s m.what w n (k.here.raise n ef) k.call in
         let positions : u.machine.positions ≡ xs = so.2 ∙ set_same xs p Out Out out there in
-        let stages : u.stages ≡ t.stages = k.stages ∙ (ap (λ b. set t.stages p (stage_after rest.Holding w b)) so.3 ∙ set_same t.stages p Forgotten (Outside w.was) stage k.inside) in
+        let stages : u.stages ≡ t.stages = k.stages ∙ (ap (λ b. set t.stages p (stage_after Rest.Holding w b)) so.3 ∙ set_same t.stages p Forgotten (Outside w.was) stage k.inside) in
         same_table _ _ _ _ _ _ (same_machine _ _ _ _ _ _ so.0 positions so.1) stages k.opening
 
     cause : (c : Refusal) → Refuses memory t.machine.words from found c → IsCause old m new c
-    cause refusal.Memory y = (y.0, own_entries ∙ join_unlisted from y.1, entries_seen ∙ ap (λ (d : Deed). entries_after (size_of old) p d t.machine.entries) y.2, state_is ∙ ap (λ (d : Deed). state_after p d old.state) y.2)
-    cause refusal.Permits y = (y.0, k.here.raise y.0 y.1, y.2, ap view_of (unchanged y.0 y.1 y.3))
-    cause refusal.Finished y = absurd y
+    cause Refusal.Memory y = (y.0, own_entries ∙ join_unlisted from y.1, entries_seen ∙ ap (λ (d : Deed). entries_after (size_of old) p d t.machine.entries) y.2, state_is ∙ ap (λ (d : Deed). state_after p d old.state) y.2)
+    cause Refusal.Permits y = (y.0, k.here.raise y.0 y.1, y.2, ap view_of (unchanged y.0 y.1 y.3))
+    cause Refusal.Finished y = absurd y
     cause _ y = absurd y
 
     was_inside : (c : Refusal) → 1 ≡ number_of c → Refuses memory t.machine.words from found c → IsUndecided (standing_of old p)
-    was_inside refusal.Memory e y = let j = k.here.joins y.1 in (j.0, stood ∙ j.1)
-    was_inside refusal.Permits e y = absurd (omega arith)
+    was_inside Refusal.Memory e y = let j = k.here.joins y.1 in (j.0, stood ∙ j.1)
+    was_inside Refusal.Permits e y = absurd (omega arith)
     was_inside _ e y = absurd y
 
     refused_for_cause : IsRefusedForCause old m a new
     refused_for_cause = record {
-      cause = λ n d. elim (reason (answer.Refused n) d) as (λ _. (c : Refusal) × (n ≡ number_of c) × IsCause old m new c) [ inl e ↦ absurd (cc) | inr y ↦ (y.0, y.1, cause y.0 y.2) ];
-      memory = λ d. elim (reason (refused refusal.Memory) d) as (λ _. IsUndecided (standing_of old p)) [ inl e ↦ absurd (cc) | inr y ↦ was_inside y.0 y.1 y.2 ];
+      cause = λ n d. elim (reason (Answer.Refused n) d) as (λ _. (c : Refusal) × (n ≡ number_of c) × IsCause old m new c) [ inl e ↦ absurd (cc) | inr y ↦ (y.0, y.1, cause y.0 y.2) ];
+      memory = λ d. elim (reason (refused Refusal.Memory) d) as (λ _. IsUndecided (standing_of old p)) [ inl e ↦ absurd (cc) | inr y ↦ was_inside y.0 y.1 y.2 ];
       after_ready = (
-        (λ e. absurd (not_over memory t.machine.words from found (next_of from found) (verdict_of from) (said (next_of from found)) r.judged (never_over from) (said_then (next_of from found) (refused refusal.Finished) refl (sym k.answer ∙ e)))),
+        (λ e. absurd (not_over memory t.machine.words from found (next_of from found) (verdict_of from) (said (next_of from found)) r.judged (never_over from) (said_then (next_of from found) (refused Refusal.Finished) refl (sym k.answer ∙ e)))),
         (λ e. let never : polls_again s m.what ≡ true = sym (again_seen (verdict x) s m.what) ∙ (ap (λ z. is_poll_after_ready z m.what) (sym stood) ∙ e) in absurd (cc (k.first, never))),
       );
     }
@@ -510,12 +463,12 @@ module _ (t u : Table Semaphore) (m : Move) (a : Answer) (w : Within) where
     may_end_so h = ap (may_end w.kind) k.answer ∙ ends_by w.kind w.was from found k.runs (sym (ap is_stepped k.answer) ∙ h)
 
     ends_properly : EndsProperly old m a new
-    ends_properly = acting.ends_so standing_of (λ y q. knows) rest.Holding old m a new w called is_possible_now (rw stands (stands_seen rest.Holding w a (verdict to) is_possible_now may_end_so))
+    ends_properly = acting.ends_so standing_of (λ y q. knows) Rest.Holding old m a new w called is_possible_now (rw stands (stands_seen Rest.Holding w a (verdict to) is_possible_now may_end_so))
         (λ v b e. decides ∙ kept_on memory t.machine.words from found (next_of from found) (verdict_of from) (said (next_of from found)) b r.judged (k.here.kept v b (sym stood ∙ e)))
 
     pub legal : Legal old m a new
     legal = record {
-      possible = acting.possible_so standing_of (λ y q. knows) rest.Holding old m a new w called is_possible_now;
+      possible = acting.possible_so standing_of (λ y q. knows) Rest.Holding old m a new w called is_possible_now;
       one_change = one_change;
       knows_sizes = knows_sizes;
       knows_debts = λ possible. knows_debts;

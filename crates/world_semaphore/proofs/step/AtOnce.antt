@@ -1,43 +1,9 @@
 -- What the first step of a call decides at once.
-use Rattle.std.proofs.Common.{◌≡◌, ℕ, ◌+◌, ◌<◌, ◌≤◌, ◌⊎◌, ◌||◌, inl, inr, Bool, true, false, Option, Some, is_some, nat_le, if◌then◌else◌, refl, arith, ap, sym, ◌∙◌, subst}
-use Rattle.std.proofs.lemmas.Bool.{false≢true, le-leb, lt-leb}
-use Rattle.lock_event.specs.Weights.{fitted}
-use Rattle.world_base.specs.queue.Parties.{entries_of}
-use Rattle.world_base.specs.declared.moves.Answer.{Answer}
-use Rattle.world_base.specs.declared.moves.Answer.TheVariants as answer
-use Rattle.world_base.specs.declared.moves.Got.TheVariants.{Plain}
-use Rattle.world_base.specs.declared.moves.Move.{Move}
-use Rattle.world_base.specs.declared.moves.What.{What}
-use Rattle.world_base.specs.declared.standing.Kind.TheVariants as kind
-use Rattle.world_base.specs.declared.standing.Rest.{Rest}
-use Rattle.world_base.specs.declared.standing.Rest.TheVariants as rest
-use Rattle.world_base.specs.declared.standing.Stage.{Stage}
-use Rattle.world_base.specs.declared.standing.Within.{Within}
-use Rattle.lock_program.specs.declared.refusal.Refusal.TheVariants as refusal
-use Rattle.world_base.specs.Standings.{Standing, outside, inside, inputs_of, decision, refused}
-use Rattle.world_base.specs.Frame.{is_drop}
-use Rattle.world_base.proofs.Equations.{some_eq, not_one, outside_inside}
-use Rattle.world_base.specs.table.Stages.{stage_at, stands_as, call_at, polls_again}
-use Rattle.world_base.specs.table.Tables.{Table}
-use Rattle.sync_program.specs.declared.permits.Action.{Action}
-use Rattle.sync_program.specs.declared.permits.Action.TheVariants as act
-use Rattle.sync_program.specs.declared.permits.Found.{Found}
-use Rattle.sync_program.specs.declared.permits.Found.TheVariants.{Done, Left, Short, Available, PastLimit}
-use Rattle.sync_program.specs.declared.permits.Place.{Place}
-use Rattle.sync_program.specs.declared.permits.Place.TheVariants.{Take, Retake, PassOn, RefuseFit, Try, Lower, GiveBack, Raise, GiveAdded, FitAdded, CancelRemove, CancelLoad, FitGivenBack, Abandon}
-use Rattle.sync_program.specs.declared.permits.Position.{Position}
-use Rattle.sync_program.specs.Permits.{available_in}
-use Rattle.world_semaphore.specs.machine.Program.{action_of, next_of}
-use Rattle.world_semaphore.specs.machine.Seats.{Share, a_look, a_fit, seat_of, share_of, size_at, debt_at, listed, verdict, verdict_of}
-use Rattle.world_semaphore.specs.machine.Deeds.{Deed, nothing, changes, does, fits, takes, gives_back, forgets, gives, entries_after, words_after, deed_of, Finds, FindsPermits, FindsSo, FindsRoom}
-use Rattle.world_semaphore.specs.machine.Machine.{Semaphore, knows, goes_with, runs, is_begun, is_adding, position_at, answer_by}
+use Rattle.world_semaphore.proofs.Prelude.{◌≡◌, ℕ, ◌+◌, ◌<◌, ◌≤◌, ◌⊎◌, ◌||◌, inl, inr, Bool, true, false, Option, Some, is_some, nat_le, if◌then◌else◌, refl, arith, ap, sym, ◌∙◌, subst, false≢true, le-leb, lt-leb, fitted, entries_of, Answer, Plain, Move, What, Kind, Rest, Stage, Within, Refusal, Standing, outside, inside, inputs_of, decision, refused, is_drop, some_eq, not_one, outside_inside, stage_at, stands_as, call_at, polls_again, Table, Action, Found, Done, Left, Short, Available, PastLimit, Place, Take, Retake, PassOn, RefuseFit, Try, Lower, GiveBack, Raise, GiveAdded, FitAdded, CancelRemove, CancelLoad, FitGivenBack, Abandon, Position, available_in, action_of, next_of, Share, a_look, a_fit, seat_of, share_of, size_at, debt_at, listed, verdict, verdict_of, Deed, nothing, changes, does, fits, takes, gives_back, forgets, gives, entries_after, words_after, deed_of, Finds, FindsPermits, FindsSo, FindsRoom, Semaphore, knows, goes_with, runs, is_begun, is_adding, position_at, answer_by, World, share_at, has_permits, available, standing_of, size_of, debt_of, view_of, state_after, added_in, is_forget, wanted, wanted_in, AnswersAtOnce, AddsAtOnce, GivesInTurn, TellsInTurn, is_try, is_poll, is_first_poll}
 use Rattle.world_semaphore.proofs.of_machine.laws.Kept.{after}
-use Rattle.world_semaphore.specs.State.{World, share_at, has_permits, available, standing_of, size_of, debt_of}
-use Rattle.world_semaphore.specs.View.{view_of}
-use Rattle.world_semaphore.specs.Legal.{state_after, added_in, is_forget, wanted, wanted_in}
 use Rattle.world_semaphore.proofs.table.Seen as seen
 use Rattle.world_semaphore.proofs.step.Rows.{said}
-use Rattle.world_semaphore.specs.AtOnce.{AnswersAtOnce, AddsAtOnce, GivesInTurn, TellsInTurn, is_try, is_poll, is_first_poll, is_enough}
+use Rattle.world_semaphore.specs.AtOnce.{is_enough}
 use Rattle.world_semaphore.proofs.of_machine.stages.Turns.{Turn, turn}
 use Rattle.world_semaphore.proofs.step.Acting.{Acting}
 use Rattle.world_semaphore.proofs.step.Acting as acting
@@ -51,28 +17,28 @@ pub record EntranceAt (s : Standing) (what : What) (x : Position) (from : Place)
   pub first : (n : ℕ) → is_first_poll s what n ≡ true → n ≡ listed x → (k : ℕ) × (from ≡ Take k false false) × (wanted_in what (size_at x) ≡ k)
   pub adds : (n : ℕ) → added_in what ≡ Some n → from ≡ Raise n
   pub forgets : is_forget what ≡ true → (k : ℕ) × (from ≡ Lower k) × (size_at x ≡ k)
-  pub drops : is_drop what ≡ true → s ≡ outside rest.Holding → (k : ℕ) × (from ≡ GiveBack k) × (size_at x ≡ k)
+  pub drops : is_drop what ≡ true → s ≡ outside Rest.Holding → (k : ℕ) × (from ≡ GiveBack k) × (size_at x ≡ k)
   -- and those at which a drop and an add go on
-  pub tells : (r : Rest) → s ≡ inside (record { kind = kind.Drop; was = r }) (Some answer.GivenBack) → (from ≡ CancelLoad) ⊎ ((a : ℕ) × (from ≡ FitGivenBack a))
-  pub gives : s ≡ inside (record { kind = kind.Add; was = rest.Idle }) (Some (answer.Granted Plain)) → (n : ℕ) × ((from ≡ GiveAdded n) ⊎ (from ≡ FitAdded n))
+  pub tells : (r : Rest) → s ≡ inside (record { kind = Kind.Drop; was = r }) (Some Answer.GivenBack) → (from ≡ CancelLoad) ⊎ ((a : ℕ) × (from ≡ FitGivenBack a))
+  pub gives : s ≡ inside (record { kind = Kind.Add; was = Rest.Idle }) (Some (Answer.Granted Plain)) → (n : ℕ) × ((from ≡ GiveAdded n) ⊎ (from ≡ FitAdded n))
   -- and where a poll goes on that is to be refused for memory, or to wait on
-  pub refuses : (v : Within) → s ≡ inside v (Some (refused refusal.Memory)) → (k : ℕ) × (a : ℕ) × (from ≡ RefuseFit k a)
-  pub waits : (v : Within) → s ≡ inside v (Some answer.Pending) → (k : ℕ) × (a : ℕ) × (from ≡ PassOn k a)
+  pub refuses : (v : Within) → s ≡ inside v (Some (refused Refusal.Memory)) → (k : ℕ) × (a : ℕ) × (from ≡ RefuseFit k a)
+  pub waits : (v : Within) → s ≡ inside v (Some Answer.Pending) → (k : ℕ) × (a : ℕ) × (from ≡ PassOn k a)
 
 abbrev pub Entrance : Stage → What → Within → Position → Place → Type 0
 Entrance s what w x from = EntranceAt (stands_as (verdict x) s) what x from
 
-dropping_at : (r : Rest) (x : Place) → is_begun x ≡ true → runs kind.Drop r x ≡ true → (x ≡ CancelLoad) ⊎ ((a : ℕ) × (x ≡ FitGivenBack a))
-dropping_at rest.Holding (FitGivenBack a) b h = inr (a, refl)
-dropping_at rest.Holding (GiveBack k) b h = absurd (cc b)
-dropping_at rest.Holding _ b h = absurd (cc h)
-dropping_at rest.Pending (FitGivenBack a) b h = inr (a, refl)
-dropping_at rest.Pending CancelLoad b h = inl refl
-dropping_at rest.Pending CancelRemove b h = absurd (cc b)
-dropping_at rest.Pending Abandon b h = absurd (cc b)
-dropping_at rest.Pending _ b h = absurd (cc h)
-dropping_at rest.Idle x b h = absurd (cc h)
-dropping_at rest.Finished x b h = absurd (cc h)
+dropping_at : (r : Rest) (x : Place) → is_begun x ≡ true → runs Kind.Drop r x ≡ true → (x ≡ CancelLoad) ⊎ ((a : ℕ) × (x ≡ FitGivenBack a))
+dropping_at Rest.Holding (FitGivenBack a) b h = inr (a, refl)
+dropping_at Rest.Holding (GiveBack k) b h = absurd (cc b)
+dropping_at Rest.Holding _ b h = absurd (cc h)
+dropping_at Rest.Pending (FitGivenBack a) b h = inr (a, refl)
+dropping_at Rest.Pending CancelLoad b h = inl refl
+dropping_at Rest.Pending CancelRemove b h = absurd (cc b)
+dropping_at Rest.Pending Abandon b h = absurd (cc b)
+dropping_at Rest.Pending _ b h = absurd (cc h)
+dropping_at Rest.Idle x b h = absurd (cc h)
+dropping_at Rest.Finished x b h = absurd (cc h)
 
 adding_at : (x : Place) → is_begun x ≡ true → is_adding x ≡ true → (n : ℕ) × ((x ≡ GiveAdded n) ⊎ (x ≡ FitAdded n))
 adding_at (GiveAdded n) b h = (n, inl refl)
@@ -87,18 +53,18 @@ same_call w v d e h = cc h
 same_decision : (w v : Within) (d e : Option Answer) → inside w d ≡ inside v e → d ≡ e
 same_decision w v d e h = cc h
 
-refuses_at : (x : Place) → verdict_of x ≡ Some (refused refusal.Memory) → (k : ℕ) × (a : ℕ) × (x ≡ RefuseFit k a)
+refuses_at : (x : Place) → verdict_of x ≡ Some (refused Refusal.Memory) → (k : ℕ) × (a : ℕ) × (x ≡ RefuseFit k a)
 refuses_at (RefuseFit k a) e = (k, a, refl)
 refuses_at _ e = absurd (cc e)
 
-waits_at : (x : Place) → verdict_of x ≡ Some answer.Pending → (k : ℕ) × (a : ℕ) × (x ≡ PassOn k a)
+waits_at : (x : Place) → verdict_of x ≡ Some Answer.Pending → (k : ℕ) × (a : ℕ) × (x ≡ PassOn k a)
 waits_at (PassOn k a) e = (k, a, refl)
 waits_at _ e = absurd (cc e)
 
-tells_at : (w : Within) (x : Place) (r : Rest) → inside w (verdict_of x) ≡ inside (record { kind = kind.Drop; was = r }) (Some answer.GivenBack) → is_begun x ≡ true → runs w.kind w.was x ≡ true → (x ≡ CancelLoad) ⊎ ((a : ℕ) × (x ≡ FitGivenBack a))
+tells_at : (w : Within) (x : Place) (r : Rest) → inside w (verdict_of x) ≡ inside (record { kind = Kind.Drop; was = r }) (Some Answer.GivenBack) → is_begun x ≡ true → runs w.kind w.was x ≡ true → (x ≡ CancelLoad) ⊎ ((a : ℕ) × (x ≡ FitGivenBack a))
 tells_at w x r e begun here = let R : Within → Type 0 = λ v. runs v.kind v.was x ≡ true in dropping_at r x begun (subst R (same_call _ _ _ _ e) here)
 
-gives_at : (w : Within) (x : Place) → inside w (verdict_of x) ≡ inside (record { kind = kind.Add; was = rest.Idle }) (Some (answer.Granted Plain)) → is_begun x ≡ true → runs w.kind w.was x ≡ true → (n : ℕ) × ((x ≡ GiveAdded n) ⊎ (x ≡ FitAdded n))
+gives_at : (w : Within) (x : Place) → inside w (verdict_of x) ≡ inside (record { kind = Kind.Add; was = Rest.Idle }) (Some (Answer.Granted Plain)) → is_begun x ≡ true → runs w.kind w.was x ≡ true → (n : ℕ) × ((x ≡ GiveAdded n) ⊎ (x ≡ FitAdded n))
 gives_at w x e begun here = let R : Within → Type 0 = λ v. runs v.kind v.was x ≡ true in adding_at x begun (subst R (same_call _ _ _ _ e) here)
 
 pub entrance : (s : Stage) (what : What) (w : Within) (x : Position) → goes_with s x ≡ true → call_at knows s what ≡ Some w → polls_again s what ≡ false → Turn Entrance s what w x
@@ -174,7 +140,7 @@ module _ (t u : Table Semaphore) (m : Move) (a : Answer) (w : Within) (k : Actin
   enough_at : (y : Place) (n : ℕ) → k.from ≡ y → wanted_in m.what (size_at (position_at t.machine.positions p)) ≡ n → (Found_there y → FindsPermits n k.found t.machine.words.available) → is_enough old m ≡ is_taken k.found
   enough_at y n e wants look = enough_is n wants ∙ found_enough n k.found t.machine.words.available (look (at y Found_there e k.acts.finds))
 
-  try_answer : (n : ℕ) (f : Found) → answer_by (next_of (Try n) f) ≡ (if is_taken f then answer.Granted Plain else answer.None)
+  try_answer : (n : ℕ) (f : Found) → answer_by (next_of (Try n) f) ≡ (if is_taken f then Answer.Granted Plain else Answer.None)
   try_answer n (Left c) = refl
   try_answer n _ = refl
 
@@ -182,7 +148,7 @@ module _ (t u : Table Semaphore) (m : Move) (a : Answer) (w : Within) (k : Actin
   try_share n (Left c) = refl
   try_share n _ = refl
 
-  take_answer : (n : ℕ) (f : Found) → answer_by (next_of (Take n false false) f) ≡ (if is_taken f then answer.Ready Plain else answer.Stepped)
+  take_answer : (n : ℕ) (f : Found) → answer_by (next_of (Take n false false) f) ≡ (if is_taken f then Answer.Ready Plain else Answer.Stepped)
   take_answer n (Left c) = refl
   take_answer n _ = refl
 
@@ -190,7 +156,7 @@ module _ (t u : Table Semaphore) (m : Move) (a : Answer) (w : Within) (k : Actin
   take_share n (Left c) = refl
   take_share n _ = refl
 
-  take_said : (n : ℕ) (f : Found) → is_taken f ≡ true → said (next_of (Take n false false) f) ≡ Some (answer.Ready Plain)
+  take_said : (n : ℕ) (f : Found) → is_taken f ≡ true → said (next_of (Take n false false) f) ≡ Some (Answer.Ready Plain)
   take_said n (Left c) h = refl
   take_said n _ h = absurd (cc)
 
@@ -198,22 +164,22 @@ module _ (t u : Table Semaphore) (m : Move) (a : Answer) (w : Within) (k : Actin
   retake_share n (Left c) = refl
   retake_share n _ = refl
 
-  retake_said : (n : ℕ) (f : Found) → is_taken f ≡ true → said (next_of (Retake n) f) ≡ Some (answer.Ready Plain)
+  retake_said : (n : ℕ) (f : Found) → is_taken f ≡ true → said (next_of (Retake n) f) ≡ Some (Answer.Ready Plain)
   retake_said n (Left c) h = refl
   retake_said n _ h = absurd (cc)
 
   chosen : {A : Type 0} (b c : Bool) (x y : A) → b ≡ c → (if c then x else y) ≡ (if b then x else y)
   chosen b c x y e = ap (λ z. if z then x else y) (sym e)
 
-  tried : is_try m.what ≡ true → (a ≡ (if is_enough old m then answer.Granted Plain else answer.None)) × (has_permits new.state p ≡ is_enough old m)
+  tried : is_try m.what ≡ true → (a ≡ (if is_enough old m then Answer.Granted Plain else Answer.None)) × (has_permits new.state p ≡ is_enough old m)
   tried h =
       let d = door.tries h in
       let n = d.0 in
       let enough = enough_at (Try n) n d.1 d.2 (λ y. y) in
-      (answered (Try n) d.1 ∙ (try_answer n k.found ∙ chosen (is_enough old m) (is_taken k.found) (answer.Granted Plain) answer.None enough), shared (Try n) d.1 ∙ (try_share n k.found ∙ sym enough))
+      (answered (Try n) d.1 ∙ (try_answer n k.found ∙ chosen (is_enough old m) (is_taken k.found) (Answer.Granted Plain) Answer.None enough), shared (Try n) d.1 ∙ (try_share n k.found ∙ sym enough))
 
   abbrev Polled : Type 0
-  Polled = (has_permits new.state p ≡ is_enough old m) × (is_enough old m ≡ true → decision a (standing_of new p) ≡ Some (answer.Ready Plain))
+  Polled = (has_permits new.state p ≡ is_enough old m) × (is_enough old m ≡ true → decision a (standing_of new p) ≡ Some (Answer.Ready Plain))
 
   polled : is_poll (stands_as (verdict (position_at t.machine.positions p)) (stage_at t.stages p)) m.what ≡ true → Polled
   polled h =
@@ -231,7 +197,7 @@ module _ (t u : Table Semaphore) (m : Move) (a : Answer) (w : Within) (k : Actin
 
     by_found : (f : Found) → FindsRoom n f t.machine.words → k.found ≡ f → AddsAtOnce n old m a new
     by_found Done room is = record {
-      fits = λ h. (acting.state_is t u m a w k ∙ ap (λ (d : Deed). state_after p d old.state) (ap (λ y. deed_of (action_of y) k.found) from ∙ ap (deed_of (act.Raise n)) is), decided (Raise n) from ∙ ap (λ f. said (next_of (Raise n) f)) is);
+      fits = λ h. (acting.state_is t u m a w k ∙ ap (λ (d : Deed). state_after p d old.state) (ap (λ y. deed_of (action_of y) k.found) from ∙ ap (deed_of (Action.Raise n)) is), decided (Raise n) from ∙ ap (λ f. said (next_of (Raise n) f)) is);
       past = λ h. absurd (omega (arith, h, room));
     }
     by_found PastLimit room is = record {
@@ -250,14 +216,14 @@ module _ (t u : Table Semaphore) (m : Move) (a : Answer) (w : Within) (k : Actin
   list_there : (y : Place) → k.from ≡ y → (d : Deed) → deed_of (action_of y) k.found ≡ d → new.entries ≡ entries_after (size_of old) p d old.entries
   list_there y e d is = acting.entries_seen t u m a w k ∙ ap (λ (c : Deed). entries_after (size_of old) p c old.entries) (done_there y e ∙ is)
 
-  lowered : (n : ℕ) (f : Found) → Finds memory p (act.Lower n) f t.machine.words t.machine.entries → deed_of (act.Lower n) f ≡ changes (forgets n)
+  lowered : (n : ℕ) (f : Found) → Finds memory p (Action.Lower n) f t.machine.words t.machine.entries → deed_of (Action.Lower n) f ≡ changes (forgets n)
   lowered n Done e = refl
   lowered n _ e = absurd e
 
   size_is : (n : ℕ) → size_at (position_at t.machine.positions p) ≡ n → size_of old p ≡ n
   size_is n e = seen.size_seen t p ∙ e
 
-  forgotten_so : is_forget m.what ≡ true → (a ≡ answer.GivenBack) × (new.state ≡ state_after p (changes (forgets (size_of old p))) old.state)
+  forgotten_so : is_forget m.what ≡ true → (a ≡ Answer.GivenBack) × (new.state ≡ state_after p (changes (forgets (size_of old p))) old.state)
   forgotten_so h =
       let d = door.forgets h in
       let n = d.0 in
@@ -268,29 +234,29 @@ module _ (t u : Table Semaphore) (m : Move) (a : Answer) (w : Within) (k : Actin
     pub is : deed_of (action_of y) k.found ≡ d
     pub found : available_in k.found ≡ available
 
-  gave_back : (n : ℕ) → Finds memory p (act.GiveBack n) k.found t.machine.words t.machine.entries → Gave (GiveBack n) (changes (gives_back n)) (t.machine.words.available + n)
+  gave_back : (n : ℕ) → Finds memory p (Action.GiveBack n) k.found t.machine.words t.machine.entries → Gave (GiveBack n) (changes (gives_back n)) (t.machine.words.available + n)
   gave_back n finds = by_found k.found refl finds where
     by_found : (f : Found) → k.found ≡ f → FindsSo (t.machine.words.available + n) f → Gave (GiveBack n) (changes (gives_back n)) (t.machine.words.available + n)
-    by_found (Available c) is e = record { is = ap (deed_of (act.GiveBack n)) is; found = ap available_in is ∙ e }
+    by_found (Available c) is e = record { is = ap (deed_of (Action.GiveBack n)) is; found = ap available_in is ∙ e }
     by_found _ is e = absurd e
 
-  gave : (n : ℕ) → Finds memory p (act.Give n) k.found t.machine.words t.machine.entries → Gave (GiveAdded n) (changes (gives n)) (t.machine.words.available + n)
+  gave : (n : ℕ) → Finds memory p (Action.Give n) k.found t.machine.words t.machine.entries → Gave (GiveAdded n) (changes (gives n)) (t.machine.words.available + n)
   gave n finds = by_found k.found refl finds where
     by_found : (f : Found) → k.found ≡ f → FindsSo (t.machine.words.available + n) f → Gave (GiveAdded n) (changes (gives n)) (t.machine.words.available + n)
-    by_found (Available c) is e = record { is = ap (deed_of (act.Give n)) is; found = ap available_in is ∙ e }
+    by_found (Available c) is e = record { is = ap (deed_of (Action.Give n)) is; found = ap available_in is ∙ e }
     by_found _ is e = absurd e
 
-  loaded : Finds memory p act.Load k.found t.machine.words t.machine.entries → Gave CancelLoad nothing t.machine.words.available
+  loaded : Finds memory p Action.Load k.found t.machine.words t.machine.entries → Gave CancelLoad nothing t.machine.words.available
   loaded finds = by_found k.found refl finds where
     by_found : (f : Found) → k.found ≡ f → FindsSo t.machine.words.available f → Gave CancelLoad nothing t.machine.words.available
-    by_found (Available c) is e = record { is = ap (deed_of act.Load) is; found = ap available_in is ∙ e }
+    by_found (Available c) is e = record { is = ap (deed_of Action.Load) is; found = ap available_in is ∙ e }
     by_found _ is e = absurd e
 
   -- so many are available then
   available_there : (y : Place) → k.from ≡ y → (d : Deed) → deed_of (action_of y) k.found ≡ d → available new.state ≡ (words_after d t.machine.words).available
   available_there y e d is = acting.available_new t u m a w k ∙ ap (λ (c : Deed). (words_after c t.machine.words).available) (done_there y e ∙ is)
 
-  returned : is_drop m.what ≡ true → standing_of old p ≡ outside rest.Holding → (a ≡ answer.Stepped) × (new.state ≡ state_after p (changes (gives_back (size_of old p))) old.state) × (debt_of new p ≡ a_fit (available new.state))
+  returned : is_drop m.what ≡ true → standing_of old p ≡ outside Rest.Holding → (a ≡ Answer.Stepped) × (new.state ≡ state_after p (changes (gives_back (size_of old p))) old.state) × (debt_of new p ≡ a_fit (available new.state))
   returned h stands =
       let d = door.drops h (sym (acting.stood t u m a w k) ∙ stands) in
       let n = d.0 in
@@ -303,16 +269,16 @@ module _ (t u : Table Semaphore) (m : Move) (a : Answer) (w : Within) (k : Actin
   abbrev Looked : Type 0
   Looked = (new.state ≡ (if is_enough old m then state_after p (changes (takes (wanted old m))) old.state else old.state)) × (new.entries ≡ old.entries)
 
-  looked : (y : Place) (n : ℕ) → k.from ≡ y → action_of y ≡ act.Take n → wanted old m ≡ n → (f : Found) → k.found ≡ f → FindsPermits n f t.machine.words.available → is_enough old m ≡ is_taken f → Looked
+  looked : (y : Place) (n : ℕ) → k.from ≡ y → action_of y ≡ Action.Take n → wanted old m ≡ n → (f : Found) → k.found ≡ f → FindsPermits n f t.machine.words.available → is_enough old m ≡ is_taken f → Looked
   looked y n e act_is wants (Left c) is found enough =
-      let deed : deed_of (action_of y) k.found ≡ changes (takes n) = ap (λ b. deed_of b k.found) act_is ∙ ap (deed_of (act.Take n)) is in
+      let deed : deed_of (action_of y) k.found ≡ changes (takes n) = ap (λ b. deed_of b k.found) act_is ∙ ap (deed_of (Action.Take n)) is in
       (rw enough (state_there y e (changes (takes n)) deed ∙ ap (λ j. state_after p (changes (takes j)) old.state) (sym wants)), list_there y e (changes (takes n)) deed)
   looked y n e act_is wants (Short c) is found enough =
-      let deed : deed_of (action_of y) k.found ≡ nothing = ap (λ b. deed_of b k.found) act_is ∙ ap (deed_of (act.Take n)) is in
+      let deed : deed_of (action_of y) k.found ≡ nothing = ap (λ b. deed_of b k.found) act_is ∙ ap (deed_of (Action.Take n)) is in
       (rw enough (state_there y e nothing deed), list_there y e nothing deed)
   looked y n e act_is wants _ is found enough = absurd found
 
-  looks_at : (y : Place) (n : ℕ) → k.from ≡ y → action_of y ≡ act.Take n → wanted_in m.what (size_at (position_at t.machine.positions p)) ≡ n → Looked
+  looks_at : (y : Place) (n : ℕ) → k.from ≡ y → action_of y ≡ Action.Take n → wanted_in m.what (size_at (position_at t.machine.positions p)) ≡ n → Looked
   looks_at y n e act_is wants =
       let F : Action → Type 0 = λ b. Finds memory p b k.found t.machine.words t.machine.entries in
       let found : FindsPermits n k.found t.machine.words.available = subst F act_is (at y Found_there e k.acts.finds) in
@@ -323,11 +289,11 @@ module _ (t u : Table Semaphore) (m : Move) (a : Answer) (w : Within) (k : Actin
   looks false true tries polls h = let d = door.polls polls in elim d.1 as (λ _. Looked) [ inl e ↦ looks_at (Take d.0 false false) d.0 e refl d.2 | inr e ↦ looks_at (Retake d.0) d.0 e refl d.2 ]
   looks false false tries polls h = absurd (false≢true h)
 
-  told_there : (y : Place) (c : ℕ) → k.from ≡ y → action_of y ≡ act.Fit c → new.entries ≡ fitted (size_of old) c old.entries
+  told_there : (y : Place) (c : ℕ) → k.from ≡ y → action_of y ≡ Action.Fit c → new.entries ≡ fitted (size_of old) c old.entries
   told_there y c e act_is =
       let F : Action → Type 0 = λ b. Finds memory p b k.found t.machine.words t.machine.entries in
       list_there y e (does (fits c)) (ap (λ b. deed_of b k.found) act_is ∙ told_done c k.found (subst F act_is (at y Found_there e k.acts.finds))) where
-        told_done : (c : ℕ) (f : Found) → Finds memory p (act.Fit c) f t.machine.words t.machine.entries → deed_of (act.Fit c) f ≡ does (fits c)
+        told_done : (c : ℕ) (f : Found) → Finds memory p (Action.Fit c) f t.machine.words t.machine.entries → deed_of (Action.Fit c) f ≡ does (fits c)
         told_done c Done e = refl
         told_done c _ e = absurd e
 
@@ -335,7 +301,7 @@ module _ (t u : Table Semaphore) (m : Move) (a : Answer) (w : Within) (k : Actin
   owed_at y e = acting.debt_old t u m a w k ∙ ap (λ z. (seat_of z).debt) e
 
   -- a place at which the party tells of c permits
-  tells_of : (y : Place) (c : ℕ) (b : Answer) → k.from ≡ y → action_of y ≡ act.Fit c → (seat_of y).debt ≡ a_fit c → answer_by (next_of y k.found) ≡ b → TellsInTurn b old m a new
+  tells_of : (y : Place) (c : ℕ) (b : Answer) → k.from ≡ y → action_of y ≡ Action.Fit c → (seat_of y).debt ≡ a_fit c → answer_by (next_of y k.found) ≡ b → TellsInTurn b old m a new
   tells_of y c b e act_is debt ends = record {
     owes = inr (c, owed_at y e ∙ debt);
     looks = λ h. absurd (cc (sym h ∙ (owed_at y e ∙ debt)));
@@ -344,7 +310,7 @@ module _ (t u : Table Semaphore) (m : Move) (a : Answer) (w : Within) (k : Actin
     same_fit : (c n : ℕ) → a_fit c ≡ a_fit n → c ≡ n
     same_fit c n h = cc h
 
-  tells_so : (k.from ≡ CancelLoad) ⊎ ((c : ℕ) × (k.from ≡ FitGivenBack c)) → TellsInTurn answer.GivenBack old m a new
+  tells_so : (k.from ≡ CancelLoad) ⊎ ((c : ℕ) × (k.from ≡ FitGivenBack c)) → TellsInTurn Answer.GivenBack old m a new
   tells_so (inl e) =
       let g = loaded (at CancelLoad Found_there e k.acts.finds) in
       record {
@@ -357,7 +323,7 @@ module _ (t u : Table Semaphore) (m : Move) (a : Answer) (w : Within) (k : Actin
         );
         tells = λ n h. absurd (cc (sym h ∙ owed_at CancelLoad e));
       }
-  tells_so (inr e) = tells_of (FitGivenBack e.0) e.0 answer.GivenBack e.1 refl refl refl
+  tells_so (inr e) = tells_of (FitGivenBack e.0) e.0 Answer.GivenBack e.1 refl refl refl
 
   gives_so : (n : ℕ) → (k.from ≡ GiveAdded n) ⊎ (k.from ≡ FitAdded n) → GivesInTurn old m a new
   gives_so n (inl e) =
@@ -372,7 +338,7 @@ module _ (t u : Table Semaphore) (m : Move) (a : Answer) (w : Within) (k : Actin
         told = λ c h. absurd (cc (sym h ∙ owed_at (GiveAdded n) e));
       }
   gives_so n (inr e) =
-      let tells = tells_of (FitAdded n) n (answer.Granted Plain) e refl refl refl in
+      let tells = tells_of (FitAdded n) n (Answer.Granted Plain) e refl refl refl in
       record {
         given = λ h. absurd (cc (sym h ∙ owed_at (FitAdded n) e));
         told = tells.tells;
@@ -390,13 +356,13 @@ module _ (t u : Table Semaphore) (m : Move) (a : Answer) (w : Within) (k : Actin
         let d = door.first (entries_of p old.entries) (ap (λ z. is_first_poll z m.what (entries_of p old.entries)) (sym (acting.stood t u m a w k)) ∙ h) (k.old_laws.owners p) in
         let n = d.0 in
         let enough = enough_at (Take n false false) n d.1 d.2 (λ y. y) in
-        answered (Take n false false) d.1 ∙ (take_answer n k.found ∙ chosen (is_enough old m) (is_taken k.found) (answer.Ready Plain) answer.Stepped enough);
+        answered (Take n false false) d.1 ∙ (take_answer n k.found ∙ chosen (is_enough old m) (is_taken k.found) (Answer.Ready Plain) Answer.Stepped enough);
     looks = λ which possible. looks (is_try m.what) (is_poll (stands_as (verdict (position_at t.machine.positions p)) (stage_at t.stages p)) m.what) refl refl (sym (ap (λ z. is_try m.what || is_poll z m.what) (acting.stood t u m a w k)) ∙ which);
     added = λ n e possible. added n e;
     forgotten = λ h possible. forgotten_so h;
     returned = returned;
     tells = λ r stands possible. tells_so (door.tells r (sym (acting.stood t u m a w k) ∙ stands));
     gives = λ stands possible. (let at = door.gives (sym (acting.stood t u m a w k) ∙ stands) in gives_so at.0 at.1);
-    refuses = λ v stands possible. (let e = door.refuses v (sym (acting.stood t u m a w k) ∙ stands) in tells_of (RefuseFit e.0 e.1) e.1 (refused refusal.Memory) e.2 refl refl refl);
-    waits = λ v stands possible. (let e = door.waits v (sym (acting.stood t u m a w k) ∙ stands) in tells_of (PassOn e.0 e.1) e.1 answer.Pending e.2 refl refl refl);
+    refuses = λ v stands possible. (let e = door.refuses v (sym (acting.stood t u m a w k) ∙ stands) in tells_of (RefuseFit e.0 e.1) e.1 (refused Refusal.Memory) e.2 refl refl refl);
+    waits = λ v stands possible. (let e = door.waits v (sym (acting.stood t u m a w k) ∙ stands) in tells_of (PassOn e.0 e.1) e.1 Answer.Pending e.2 refl refl refl);
   }

@@ -1,21 +1,5 @@
 -- What an action does to what its party owes.
-use Rattle.std.proofs.Common.{◌≡◌, ℕ, ◌+◌, ◌<◌, ◌≤◌, ◌⊎◌, inl, inr, Bool, true, false, List, [], ◌∷◌, Option, Some, None, refl, arith, ap, sym}
-use Rattle.std.proofs.lemmas.Bool.Decides.{nat_tests}
-use Rattle.lock_event.specs.declared.event.Entry.{Entry}
-use Rattle.lock_event.specs.Lists.{is_marked_at, marked_count}
-use Rattle.lock_event.specs.Weights.{fitted}
-use Rattle.world_base.specs.queue.Parties.{is_party, entries_of}
-use Rattle.world_base.proofs.Lists.{unlisted_unmarked}
-use Rattle.sync_program.specs.declared.permits.Found.{Found}
-use Rattle.sync_program.specs.declared.permits.Found.TheVariants.{Done, Left, Short, Available, PastLimit, NoMemory, Yes, No}
-use Rattle.sync_program.specs.declared.permits.Place.{Place}
-use Rattle.sync_program.specs.declared.permits.Place.TheVariants.{Take, Retake, Join, Ask, Remove, Load, HandOn, PassOn, RefuseFit, Try, Lower, GiveBack, Raise, GiveAdded, FitAdded, CancelRemove, CancelLoad, FitGivenBack, Abandon}
-use Rattle.sync_program.specs.declared.permits.Position.{Position}
-use Rattle.sync_program.specs.Permits.{told_more}
-use Rattle.world_semaphore.specs.declared.machine.words.Words.{Words}
-use Rattle.world_semaphore.specs.machine.Program.{action_of, next_of, position_after}
-use Rattle.world_semaphore.specs.machine.Seats.{seat_of, debt_at, nothing_owed, a_look, a_fit, fit_if}
-use Rattle.world_semaphore.specs.machine.Deeds.{deed_of, Finds, words_after, entries_after}
+use Rattle.world_semaphore.proofs.Prelude.{◌≡◌, ℕ, ◌+◌, ◌<◌, ◌≤◌, ◌⊎◌, inl, inr, Bool, true, false, List, [], ◌∷◌, Option, Some, None, refl, arith, ap, sym, nat_tests, Entry, is_marked_at, marked_count, fitted, is_party, entries_of, unlisted_unmarked, Found, Done, Left, Short, Available, PastLimit, NoMemory, Yes, No, Place, Take, Retake, Join, Ask, Remove, Load, HandOn, PassOn, RefuseFit, Try, Lower, GiveBack, Raise, GiveAdded, FitAdded, CancelRemove, CancelLoad, FitGivenBack, Abandon, Position, told_more, Words, action_of, next_of, position_after, seat_of, debt_at, nothing_owed, a_look, a_fit, fit_if, deed_of, Finds, words_after, entries_after}
 use Rattle.world_semaphore.proofs.of_machine.laws.Kept.{after, more_is, no_more}
 use Rattle.world_semaphore.proofs.of_machine.stages.Taking.{taken}
 

@@ -1,48 +1,29 @@
 -- What is so where a move begins or goes on.
-use Rattle.std.proofs.Common.{◌≡◌, ℕ, ◌||◌, true, false, Some, is_some, refl, ap, sym, ◌∙◌}
-use Rattle.world_base.specs.declared.moves.Answer.{Answer}
-use Rattle.world_base.specs.declared.moves.Answer.TheVariants as answer
-use Rattle.world_base.specs.declared.moves.Inputs.{Inputs}
-use Rattle.world_base.specs.declared.moves.What.{What}
-use Rattle.world_base.specs.declared.moves.What.TheVariants.{Go}
-use Rattle.world_base.specs.declared.standing.Stage.{Stage}
-use Rattle.world_base.specs.declared.standing.Within.{Within}
-use Rattle.world_base.specs.Frame.{is_drop, is_giving_back}
-use Rattle.world_base.specs.Standings.{inside, is_decided, IsUndecided}
-use Rattle.world_base.proofs.of_table.Calls.{decides_so, undecided_so}
-use Rattle.world_base.specs.table.Stages.{stands_as, call_at, polls_again}
-use Rattle.sync_program.specs.declared.permits.Action.TheVariants as act
-use Rattle.sync_program.specs.declared.permits.Place.{Place}
-use Rattle.sync_program.specs.declared.permits.Place.TheVariants.{Take, Retake, Join, HandOn, PassOn, RefuseFit, Try, Lower, GiveBack, Raise, FitAdded, FitGivenBack}
-use Rattle.sync_program.specs.declared.permits.Position.{Position}
-use Rattle.sync_program.specs.declared.permits.Position.TheVariants.{Out, At}
-use Rattle.world_semaphore.specs.machine.Program.{action_of}
-use Rattle.world_semaphore.specs.machine.Seats.{seat_of, seated, size_of, size_at, verdict, verdict_of}
-use Rattle.world_semaphore.specs.machine.Machine.{knows, goes_with, is_begun}
+use Rattle.world_semaphore.proofs.Prelude.{◌≡◌, ℕ, ◌||◌, true, false, Some, is_some, refl, ap, sym, ◌∙◌, Answer, Inputs, What, Go, Stage, Within, is_drop, is_giving_back, inside, is_decided, IsUndecided, decides_so, undecided_so, stands_as, call_at, polls_again, Action, Place, Take, Retake, Join, HandOn, PassOn, RefuseFit, Try, Lower, GiveBack, Raise, FitAdded, FitGivenBack, Position, Out, At, action_of, seat_of, seated, size_at, verdict, verdict_of, knows, goes_with, is_begun, added_in, is_forget, wanted_in}
+use Rattle.world_semaphore.specs.machine.Seats.{size_of}
 use Rattle.world_semaphore.proofs.of_machine.stages.Turns.{Turn, turn}
-use Rattle.world_semaphore.specs.Legal.{added_in, is_forget, wanted_in}
 use Rattle.world_semaphore.proofs.step.Rows.{is_join}
 
 pub record Here (s : Stage) (what : What) (w : Within) (x : Position) (from : Place) : Type 0 where
   pub same : seat_of from ≡ seated x
   pub decides : is_decided (stands_as (verdict x) s) || is_giving_back what ≡ is_some (verdict_of from)
   pub kept : (u : Within) (b : Answer) → stands_as (verdict x) s ≡ inside u (Some b) → verdict_of from ≡ Some b
-  pub undecided : is_decided (stands_as (verdict x) s) ≡ false → (b : Answer) → verdict_of from ≡ Some b → b ≡ answer.GivenBack
+  pub undecided : is_decided (stands_as (verdict x) s) ≡ false → (b : Answer) → verdict_of from ≡ Some b → b ≡ Answer.GivenBack
   pub joins : is_join from ≡ true → IsUndecided (stands_as (verdict x) s)
   pub drop : (k : ℕ) → from ≡ GiveBack k → is_drop what ≡ true
   pub forget : (k : ℕ) → from ≡ Lower k → is_forget what ≡ true
   pub raise : (n : ℕ) → from ≡ Raise n → added_in what ≡ Some n
   pub adds : (n : ℕ) → added_in what ≡ Some n → (from ≡ Raise n) × (x ≡ Out)
-  pub fits : (a : ℕ) → action_of from ≡ act.Fit a → is_decided (stands_as (verdict x) s) ≡ true
-  pub told : (a : ℕ) → action_of from ≡ act.Fit a → x ≡ At from
-  pub wants : (k : ℕ) → action_of from ≡ act.Take k → wanted_in what (size_at x) ≡ k
+  pub fits : (a : ℕ) → action_of from ≡ Action.Fit a → is_decided (stands_as (verdict x) s) ≡ true
+  pub told : (a : ℕ) → action_of from ≡ Action.Fit a → x ≡ At from
+  pub wants : (k : ℕ) → action_of from ≡ Action.Take k → wanted_in what (size_at x) ≡ k
   pub going : (i : Inputs) → what ≡ Go i → (x ≡ At from) × (is_begun from ≡ true)
 
 joins_so : (w : Within) (x : Place) → is_join x ≡ true → IsUndecided (inside w (verdict_of x))
 joins_so w (Join k told) h = (w, refl)
 joins_so w _ h = absurd (cc)
 
-fits_so : (w : Within) (x : Place) (a : ℕ) → action_of x ≡ act.Fit a → is_decided (inside w (verdict_of x)) ≡ true
+fits_so : (w : Within) (x : Place) (a : ℕ) → action_of x ≡ Action.Fit a → is_decided (inside w (verdict_of x)) ≡ true
 fits_so w (HandOn k c) a e = refl
 fits_so w (PassOn k c) a e = refl
 fits_so w (RefuseFit k c) a e = refl
@@ -50,7 +31,7 @@ fits_so w (FitAdded c) a e = refl
 fits_so w (FitGivenBack c) a e = refl
 fits_so w _ a e = absurd (cc e)
 
-wants_so : (x : Place) (k : ℕ) → action_of x ≡ act.Take k → size_of x ≡ k
+wants_so : (x : Place) (k : ℕ) → action_of x ≡ Action.Take k → size_of x ≡ k
 wants_so (Take n listed told) k e = cc e
 wants_so (Retake n) k e = cc e
 wants_so (Try n) k e = cc e

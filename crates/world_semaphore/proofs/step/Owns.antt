@@ -1,31 +1,5 @@
 -- What each party has, by where it stands.
-use Rattle.std.proofs.Common.{◌≡◌, ℕ, true, false, Option, Some, is_some, refl, arith, ap, sym, ◌∙◌, subst}
-use Rattle.world_base.specs.queue.Parties.{entries_of}
-use Rattle.world_base.specs.declared.moves.Answer.TheVariants as answer
-use Rattle.world_base.specs.declared.standing.Kind.{Kind}
-use Rattle.world_base.specs.declared.standing.Kind.TheVariants as kind
-use Rattle.world_base.specs.declared.standing.Rest.{Rest}
-use Rattle.world_base.specs.declared.standing.Rest.TheVariants as rest
-use Rattle.world_base.specs.declared.standing.Stage.{Stage}
-use Rattle.world_base.specs.declared.standing.Stage.TheVariants.{Outside, Inside, Forgotten}
-use Rattle.world_base.specs.declared.standing.Within.{Within}
-use Rattle.world_base.specs.declared.moves.Answer.{Answer}
-use Rattle.world_base.specs.Standings.{inside, is_outside, may_end}
-use Rattle.world_base.proofs.Equations.{both, some_eq, none_some}
-use Rattle.world_base.specs.table.Stages.{stage_at, stands_as}
-use Rattle.world_base.specs.table.Tables.{Table}
-use Rattle.world_base.proofs.of_table.Mapped.{past_last}
-use Rattle.world_base.proofs.of_table.Past.{by_stage, by_stage_or_past, by_stage_or_past_at}
-use Rattle.sync_program.specs.declared.permits.Place.TheVariants.{Take, Retake, Join, Ask, Remove, Load, HandOn, PassOn, RefuseFit, Try, Lower, GiveBack, Raise, GiveAdded, FitAdded, CancelRemove, CancelLoad, FitGivenBack, Abandon}
-use Rattle.sync_program.specs.declared.permits.Place.{Place}
-use Rattle.sync_program.specs.declared.permits.Position.{Position}
-use Rattle.sync_program.specs.declared.permits.Position.TheVariants.{Out, Unlisted, Waiting as Waits_here, Holding, At}
-use Rattle.world_semaphore.specs.machine.Seats.{Share, Debt, nothing_owed, a_fit, share_of, size_at, listed, debt_at, verdict, verdict_of}
-use Rattle.world_semaphore.specs.machine.Machine.{Semaphore, IsSemaphore, goes_with, runs, is_begun, position_at}
-use Rattle.world_semaphore.specs.State.{World, share_at, standing_of, size_of, debt_of}
-use Rattle.world_semaphore.specs.View.{view_of}
-use Rattle.world_semaphore.specs.Legal.{is_poll_call, HasItsOwn}
-use Rattle.world_semaphore.specs.Steps.{IsSemaphoreTable}
+use Rattle.world_semaphore.proofs.Prelude.{◌≡◌, ℕ, true, false, Option, Some, is_some, refl, arith, ap, sym, ◌∙◌, subst, entries_of, Kind, Rest, Stage, Outside, Inside, Forgotten, Within, Answer, inside, is_outside, may_end, both, some_eq, none_some, stage_at, stands_as, Table, past_last, by_stage, by_stage_or_past, by_stage_or_past_at, Take, Retake, Join, Ask, Remove, Load, HandOn, PassOn, RefuseFit, Try, Lower, GiveBack, Raise, GiveAdded, FitAdded, CancelRemove, CancelLoad, FitGivenBack, Abandon, Place, Position, Out, Unlisted, Waiting as Waits_here, Holding, At, Share, Debt, nothing_owed, a_fit, share_of, size_at, listed, debt_at, verdict, verdict_of, Semaphore, IsSemaphore, goes_with, runs, is_begun, position_at, World, share_at, standing_of, size_of, debt_of, view_of, is_poll_call, HasItsOwn, IsSemaphoreTable}
 use Rattle.world_semaphore.proofs.table.Seen as seen
 use Rattle.world_semaphore.proofs.step.Idle.{StandsWell}
 
@@ -33,38 +7,38 @@ use Rattle.world_semaphore.proofs.step.Idle.{StandsWell}
 
 -- only a poll goes on undecided
 undecided_polls : (k : Kind) (r : Rest) (x : Place) → is_begun x ≡ true → runs k r x ≡ true → is_some (verdict_of x) ≡ false → is_poll_call k ≡ true
-undecided_polls kind.FirstPoll r x b h e = refl
-undecided_polls kind.LaterPoll r x b h e = refl
-undecided_polls kind.Add rest.Idle (Raise n) b h e = absurd (cc b)
-undecided_polls kind.Add rest.Idle (GiveAdded n) b h e = absurd (cc e)
-undecided_polls kind.Add rest.Idle (FitAdded a) b h e = absurd (cc e)
-undecided_polls kind.Add rest.Idle _ b h e = absurd (cc h)
-undecided_polls kind.Drop rest.Pending CancelRemove b h e = absurd (cc b)
-undecided_polls kind.Drop rest.Pending CancelLoad b h e = absurd (cc e)
-undecided_polls kind.Drop rest.Pending (FitGivenBack a) b h e = absurd (cc e)
-undecided_polls kind.Drop rest.Pending Abandon b h e = absurd (cc b)
-undecided_polls kind.Drop rest.Pending _ b h e = absurd (cc h)
-undecided_polls kind.Drop rest.Holding (GiveBack k) b h e = absurd (cc b)
-undecided_polls kind.Drop rest.Holding (FitGivenBack a) b h e = absurd (cc e)
-undecided_polls kind.Drop rest.Holding _ b h e = absurd (cc h)
-undecided_polls kind.Try rest.Idle (Try k) b h e = absurd (cc b)
-undecided_polls kind.Try rest.Idle _ b h e = absurd (cc h)
-undecided_polls kind.Forget rest.Holding (Lower k) b h e = absurd (cc b)
-undecided_polls kind.Forget rest.Holding _ b h e = absurd (cc h)
+undecided_polls Kind.FirstPoll r x b h e = refl
+undecided_polls Kind.LaterPoll r x b h e = refl
+undecided_polls Kind.Add Rest.Idle (Raise n) b h e = absurd (cc b)
+undecided_polls Kind.Add Rest.Idle (GiveAdded n) b h e = absurd (cc e)
+undecided_polls Kind.Add Rest.Idle (FitAdded a) b h e = absurd (cc e)
+undecided_polls Kind.Add Rest.Idle _ b h e = absurd (cc h)
+undecided_polls Kind.Drop Rest.Pending CancelRemove b h e = absurd (cc b)
+undecided_polls Kind.Drop Rest.Pending CancelLoad b h e = absurd (cc e)
+undecided_polls Kind.Drop Rest.Pending (FitGivenBack a) b h e = absurd (cc e)
+undecided_polls Kind.Drop Rest.Pending Abandon b h e = absurd (cc b)
+undecided_polls Kind.Drop Rest.Pending _ b h e = absurd (cc h)
+undecided_polls Kind.Drop Rest.Holding (GiveBack k) b h e = absurd (cc b)
+undecided_polls Kind.Drop Rest.Holding (FitGivenBack a) b h e = absurd (cc e)
+undecided_polls Kind.Drop Rest.Holding _ b h e = absurd (cc h)
+undecided_polls Kind.Try Rest.Idle (Try k) b h e = absurd (cc b)
+undecided_polls Kind.Try Rest.Idle _ b h e = absurd (cc h)
+undecided_polls Kind.Forget Rest.Holding (Lower k) b h e = absurd (cc b)
+undecided_polls Kind.Forget Rest.Holding _ b h e = absurd (cc h)
 undecided_polls _ _ x b h e = absurd (cc h)
 
 poll_goes : (u : Within) (x : Place) → goes_with (Inside u) (At x) ≡ true → is_some (verdict_of x) ≡ false → is_poll_call u.kind ≡ true
 poll_goes u x g e = let two = both (is_begun x) (runs u.kind u.was x) g in undecided_polls u.kind u.was x two.0 two.1 e
 
 own_by : (w : World) (p : ℕ) (s : Stage) (x : Position) → goes_with s x ≡ true → entries_of p w.entries ≡ listed x → share_at w.state p ≡ share_of x → size_of w p ≡ size_at x → HasItsOwn w p (stands_as (verdict x) s)
-own_by w p (Outside rest.Idle) Out g l h z = (l, h, z)
-own_by w p (Outside rest.Idle) _ g l h z = absurd (cc)
-own_by w p (Outside rest.Pending) (Unlisted k) g l h z = h
-own_by w p (Outside rest.Pending) (Waits_here k) g l h z = h
-own_by w p (Outside rest.Pending) _ g l h z = absurd (cc)
-own_by w p (Outside rest.Holding) (Holding k) g l h z = (l, rw z h)
-own_by w p (Outside rest.Holding) _ g l h z = absurd (cc)
-own_by w p (Outside rest.Finished) x g l h z = absurd (cc)
+own_by w p (Outside Rest.Idle) Out g l h z = (l, h, z)
+own_by w p (Outside Rest.Idle) _ g l h z = absurd (cc)
+own_by w p (Outside Rest.Pending) (Unlisted k) g l h z = h
+own_by w p (Outside Rest.Pending) (Waits_here k) g l h z = h
+own_by w p (Outside Rest.Pending) _ g l h z = absurd (cc)
+own_by w p (Outside Rest.Holding) (Holding k) g l h z = (l, rw z h)
+own_by w p (Outside Rest.Holding) _ g l h z = absurd (cc)
+own_by w p (Outside Rest.Finished) x g l h z = absurd (cc)
 own_by w p (Inside u) (At (Remove k more)) g l h z = rw z h
 own_by w p (Inside u) (At (Load k)) g l h z = rw z h
 own_by w p (Inside u) (At (HandOn k a)) g l h z = rw z h
@@ -93,10 +67,10 @@ paid_by (Outside r) Out g o = refl
 paid_by (Outside r) (Unlisted k) g o = refl
 paid_by (Outside r) (Waits_here k) g o = refl
 paid_by (Outside r) (Holding k) g o = refl
-paid_by (Outside rest.Idle) (At y) g o = absurd (cc)
-paid_by (Outside rest.Pending) (At y) g o = absurd (cc)
-paid_by (Outside rest.Holding) (At y) g o = absurd (cc)
-paid_by (Outside rest.Finished) (At y) g o = absurd (cc)
+paid_by (Outside Rest.Idle) (At y) g o = absurd (cc)
+paid_by (Outside Rest.Pending) (At y) g o = absurd (cc)
+paid_by (Outside Rest.Holding) (At y) g o = absurd (cc)
+paid_by (Outside Rest.Finished) (At y) g o = absurd (cc)
 paid_by (Inside u) x g o = absurd (cc)
 paid_by Forgotten x g o = absurd (cc)
 
@@ -105,33 +79,33 @@ abbrev Ends : Kind → Answer → Type 0
 Ends k b = may_end k b ≡ true
 
 decided_ends : (k : Kind) (r : Rest) (x : Place) (b : Answer) → runs k r x ≡ true → verdict_of x ≡ Some b → Ends k b
-decided_ends kind.FirstPoll rest.Idle (Remove n more) b g e = subst (Ends kind.FirstPoll) (some_eq e) refl
-decided_ends kind.FirstPoll rest.Idle (Load n) b g e = subst (Ends kind.FirstPoll) (some_eq e) refl
-decided_ends kind.FirstPoll rest.Idle (HandOn n a) b g e = subst (Ends kind.FirstPoll) (some_eq e) refl
-decided_ends kind.FirstPoll rest.Idle (PassOn n a) b g e = subst (Ends kind.FirstPoll) (some_eq e) refl
-decided_ends kind.FirstPoll rest.Idle (RefuseFit n a) b g e = subst (Ends kind.FirstPoll) (some_eq e) refl
-decided_ends kind.FirstPoll rest.Idle _ b g e = absurd (cc)
-decided_ends kind.LaterPoll rest.Pending (Remove n more) b g e = subst (Ends kind.LaterPoll) (some_eq e) refl
-decided_ends kind.LaterPoll rest.Pending (Load n) b g e = subst (Ends kind.LaterPoll) (some_eq e) refl
-decided_ends kind.LaterPoll rest.Pending (HandOn n a) b g e = subst (Ends kind.LaterPoll) (some_eq e) refl
-decided_ends kind.LaterPoll rest.Pending (PassOn n a) b g e = subst (Ends kind.LaterPoll) (some_eq e) refl
-decided_ends kind.LaterPoll rest.Pending (RefuseFit n a) b g e = subst (Ends kind.LaterPoll) (some_eq e) refl
-decided_ends kind.LaterPoll rest.Pending _ b g e = absurd (cc)
-decided_ends kind.Add rest.Idle (GiveAdded n) b g e = subst (Ends kind.Add) (some_eq e) refl
-decided_ends kind.Add rest.Idle (FitAdded a) b g e = subst (Ends kind.Add) (some_eq e) refl
-decided_ends kind.Add rest.Idle _ b g e = absurd (cc)
-decided_ends kind.Drop rest.Holding (GiveBack n) b g e = subst (Ends kind.Drop) (some_eq e) refl
-decided_ends kind.Drop rest.Holding (FitGivenBack a) b g e = subst (Ends kind.Drop) (some_eq e) refl
-decided_ends kind.Drop rest.Holding _ b g e = absurd (cc)
-decided_ends kind.Drop rest.Pending CancelRemove b g e = subst (Ends kind.Drop) (some_eq e) refl
-decided_ends kind.Drop rest.Pending CancelLoad b g e = subst (Ends kind.Drop) (some_eq e) refl
-decided_ends kind.Drop rest.Pending (FitGivenBack a) b g e = subst (Ends kind.Drop) (some_eq e) refl
-decided_ends kind.Drop rest.Pending Abandon b g e = subst (Ends kind.Drop) (some_eq e) refl
-decided_ends kind.Drop rest.Pending _ b g e = absurd (cc)
-decided_ends kind.Forget rest.Holding (Lower n) b g e = subst (Ends kind.Forget) (some_eq e) refl
-decided_ends kind.Forget rest.Holding _ b g e = absurd (cc)
-decided_ends kind.Try rest.Idle (Try n) b g e = absurd (none_some e)
-decided_ends kind.Try rest.Idle _ b g e = absurd (cc)
+decided_ends Kind.FirstPoll Rest.Idle (Remove n more) b g e = subst (Ends Kind.FirstPoll) (some_eq e) refl
+decided_ends Kind.FirstPoll Rest.Idle (Load n) b g e = subst (Ends Kind.FirstPoll) (some_eq e) refl
+decided_ends Kind.FirstPoll Rest.Idle (HandOn n a) b g e = subst (Ends Kind.FirstPoll) (some_eq e) refl
+decided_ends Kind.FirstPoll Rest.Idle (PassOn n a) b g e = subst (Ends Kind.FirstPoll) (some_eq e) refl
+decided_ends Kind.FirstPoll Rest.Idle (RefuseFit n a) b g e = subst (Ends Kind.FirstPoll) (some_eq e) refl
+decided_ends Kind.FirstPoll Rest.Idle _ b g e = absurd (cc)
+decided_ends Kind.LaterPoll Rest.Pending (Remove n more) b g e = subst (Ends Kind.LaterPoll) (some_eq e) refl
+decided_ends Kind.LaterPoll Rest.Pending (Load n) b g e = subst (Ends Kind.LaterPoll) (some_eq e) refl
+decided_ends Kind.LaterPoll Rest.Pending (HandOn n a) b g e = subst (Ends Kind.LaterPoll) (some_eq e) refl
+decided_ends Kind.LaterPoll Rest.Pending (PassOn n a) b g e = subst (Ends Kind.LaterPoll) (some_eq e) refl
+decided_ends Kind.LaterPoll Rest.Pending (RefuseFit n a) b g e = subst (Ends Kind.LaterPoll) (some_eq e) refl
+decided_ends Kind.LaterPoll Rest.Pending _ b g e = absurd (cc)
+decided_ends Kind.Add Rest.Idle (GiveAdded n) b g e = subst (Ends Kind.Add) (some_eq e) refl
+decided_ends Kind.Add Rest.Idle (FitAdded a) b g e = subst (Ends Kind.Add) (some_eq e) refl
+decided_ends Kind.Add Rest.Idle _ b g e = absurd (cc)
+decided_ends Kind.Drop Rest.Holding (GiveBack n) b g e = subst (Ends Kind.Drop) (some_eq e) refl
+decided_ends Kind.Drop Rest.Holding (FitGivenBack a) b g e = subst (Ends Kind.Drop) (some_eq e) refl
+decided_ends Kind.Drop Rest.Holding _ b g e = absurd (cc)
+decided_ends Kind.Drop Rest.Pending CancelRemove b g e = subst (Ends Kind.Drop) (some_eq e) refl
+decided_ends Kind.Drop Rest.Pending CancelLoad b g e = subst (Ends Kind.Drop) (some_eq e) refl
+decided_ends Kind.Drop Rest.Pending (FitGivenBack a) b g e = subst (Ends Kind.Drop) (some_eq e) refl
+decided_ends Kind.Drop Rest.Pending Abandon b g e = subst (Ends Kind.Drop) (some_eq e) refl
+decided_ends Kind.Drop Rest.Pending _ b g e = absurd (cc)
+decided_ends Kind.Forget Rest.Holding (Lower n) b g e = subst (Ends Kind.Forget) (some_eq e) refl
+decided_ends Kind.Forget Rest.Holding _ b g e = absurd (cc)
+decided_ends Kind.Try Rest.Idle (Try n) b g e = absurd (none_some e)
+decided_ends Kind.Try Rest.Idle _ b g e = absurd (cc)
 decided_ends _ _ x b g e = absurd (cc)
 
 same_call : (w u : Within) (d e : Option Answer) → inside w d ≡ inside u e → w ≡ u
@@ -150,11 +124,11 @@ ends_at (Inside w) (At y) u b g h =
 ends_at (Inside w) _ u b g h = absurd (cc g)
 
 -- who is decided on Pending before that answer has to tell others
-pends_at : (y : Place) → verdict_of y ≡ Some answer.Pending → (n : ℕ) × (debt_at (At y) ≡ a_fit n)
+pends_at : (y : Place) → verdict_of y ≡ Some Answer.Pending → (n : ℕ) × (debt_at (At y) ≡ a_fit n)
 pends_at (PassOn k a) e = (a, refl)
 pends_at _ e = absurd (cc e)
 
-pends_by : (s : Stage) (x : Position) (u : Within) → stands_as (verdict x) s ≡ inside u (Some answer.Pending) → (n : ℕ) × (debt_at x ≡ a_fit n)
+pends_by : (s : Stage) (x : Position) (u : Within) → stands_as (verdict x) s ≡ inside u (Some Answer.Pending) → (n : ℕ) × (debt_at x ≡ a_fit n)
 pends_by (Outside r) x u e = absurd (cc e)
 pends_by (Inside w) (At y) u e = pends_at y (same_decision _ _ _ _ e)
 pends_by (Inside w) _ u e = absurd (cc (same_decision _ _ _ _ e))

@@ -1,29 +1,10 @@
 -- What each place's action does, finding by finding.
-use Rattle.std.proofs.Common.{◌≡◌, ℕ, ◌+◌, ◌<◌, ◌≤◌, Bool, true, false, List, Option, Some, None, is_some, refl, arith}
-use Rattle.lock_event.specs.declared.event.Entry.{Entry}
-use Rattle.world_base.specs.declared.moves.Answer.{Answer}
-use Rattle.world_base.specs.declared.moves.Answer.TheVariants as answer
-use Rattle.world_base.specs.declared.moves.Got.TheVariants.{Plain}
-use Rattle.lock_program.specs.declared.refusal.Refusal.{Refusal}
-use Rattle.lock_program.specs.declared.refusal.Refusal.TheVariants as refusal
-use Rattle.world_base.specs.Frame.{is_refusal}
+use Rattle.world_semaphore.proofs.Prelude.{◌≡◌, ℕ, ◌+◌, ◌<◌, ◌≤◌, Bool, true, false, List, Option, Some, None, is_some, refl, arith, Entry, Answer, Plain, Refusal, is_refusal, Action, Found, Done, Left, Short, Available, PastLimit, NoMemory, Yes, No, Next, Place, Take, Retake, Join, Ask, Remove, Load, HandOn, PassOn, RefuseFit, Try, Lower, GiveBack, Raise, GiveAdded, FitAdded, CancelRemove, CancelLoad, FitGivenBack, Abandon, Words, action_of, next_of, position_after, Share, nothing_had, guard_of, seat_of, share_of, listed, verdict_of, a_fit, Deed, nothing, changes, does, joins, asks, removes, fits, Change, takes, gives_back, forgets, raises, gives, share_after, deed_of, Finds, answer_by, gives_something_back, gives_up}
 use Rattle.lock_program.specs.Refusals.{number_of}
 use Rattle.world_base.specs.table.Ends.{answer_of}
-use Rattle.sync_program.specs.declared.permits.Action.TheVariants as act
-use Rattle.sync_program.specs.declared.permits.Found.{Found}
-use Rattle.sync_program.specs.declared.permits.Found.TheVariants.{Done, Left, Short, Available, PastLimit, NoMemory, Yes, No}
-use Rattle.world_semaphore.specs.machine.Program.{Next}
 use Rattle.lock_program.specs.declared.end.Next.TheVariants as next
-use Rattle.sync_program.specs.declared.permits.Place.{Place}
-use Rattle.sync_program.specs.declared.permits.Place.TheVariants.{Take, Retake, Join, Ask, Remove, Load, HandOn, PassOn, RefuseFit, Try, Lower, GiveBack, Raise, GiveAdded, FitAdded, CancelRemove, CancelLoad, FitGivenBack, Abandon}
-use Rattle.world_semaphore.specs.declared.machine.words.Words.{Words}
-use Rattle.world_semaphore.specs.machine.Program.{action_of, next_of, position_after}
-use Rattle.world_semaphore.specs.machine.Seats.{Share, nothing_had, guard_of, seat_of, share_of, listed, verdict_of, a_fit}
-use Rattle.world_semaphore.specs.machine.Deeds.{Deed, nothing, changes, does, joins, asks, removes, fits, Change, takes, gives_back, forgets, raises, gives, share_after, deed_of, Finds}
-use Rattle.world_semaphore.specs.machine.Machine.{answer_by}
 use Rattle.world_semaphore.proofs.of_machine.laws.Kept.{after}
 use Rattle.world_semaphore.proofs.of_machine.stages.Taking.{taken}
-use Rattle.world_semaphore.specs.Legal.{gives_something_back, gives_up}
 
 -- what a call is decided on after this
 abbrev pub said : Next → Option Answer
@@ -37,7 +18,7 @@ SharesSo _ s t = t ≡ s
 
 -- where a change is made
 abbrev pub AllowedAt : Deed → Place → Words → Type 0
-AllowedAt (changes (takes k)) x w = (action_of x ≡ act.Take k) × (k ≤ w.available) × ((seat_of x).share ≡ nothing_had)
+AllowedAt (changes (takes k)) x w = (action_of x ≡ Action.Take k) × (k ≤ w.available) × ((seat_of x).share ≡ nothing_had)
 AllowedAt (changes (gives_back k)) x w = x ≡ GiveBack k
 AllowedAt (changes (forgets k)) x w = x ≡ Lower k
 AllowedAt (changes (raises n)) x w = (x ≡ Raise n) × (w.limit + n ≤ w.most)
@@ -55,16 +36,16 @@ is_ask _ = false
 
 -- why a call is refused
 abbrev pub Refuses : Bool → Words → Place → Found → Refusal → Type 0
-Refuses memory w x f refusal.Memory = (memory ≡ false) × (is_join x ≡ true) × (deed_of (action_of x) f ≡ nothing)
-Refuses memory w x f refusal.Permits = (n : ℕ) × (x ≡ Raise n) × (w.most < w.limit + n) × (f ≡ PastLimit)
+Refuses memory w x f Refusal.Memory = (memory ≡ false) × (is_join x ≡ true) × (deed_of (action_of x) f ≡ nothing)
+Refuses memory w x f Refusal.Permits = (n : ℕ) × (x ≡ Raise n) × (w.most < w.limit + n) × (f ≡ PastLimit)
 Refuses memory w x f _ = ⊥
 
 -- why a call is decided on this
 abbrev pub Reason : Bool → Words → Place → Found → Next → Answer → Type 0
-Reason memory w x f n (answer.Ready got) = (got ≡ Plain) × ((k : ℕ) × (action_of x ≡ act.Take k) × (share_of (position_after n) ≡ guard_of k))
-Reason memory w x f n (answer.Granted got) = got ≡ Plain
-Reason memory w x f n answer.Pending = (is_ask x ≡ true) × (f ≡ No)
-Reason memory w x f n (answer.Refused m) = (r : Refusal) × (m ≡ number_of r) × Refuses memory w x f r
+Reason memory w x f n (Answer.Ready got) = (got ≡ Plain) × ((k : ℕ) × (action_of x ≡ Action.Take k) × (share_of (position_after n) ≡ guard_of k))
+Reason memory w x f n (Answer.Granted got) = got ≡ Plain
+Reason memory w x f n Answer.Pending = (is_ask x ≡ true) × (f ≡ No)
+Reason memory w x f n (Answer.Refused m) = (r : Refusal) × (m ≡ number_of r) × Refuses memory w x f r
 Reason memory w x f n _ = Unit {0}
 
 -- what was decided is kept, and its party only gives back; what is decided now has its reason
@@ -101,8 +82,8 @@ row memory p w l (Retake k) (Left a) e = record { shares = refl; allowed = (refl
 row memory p w l (Retake k) (Short a) e = record { shares = refl; allowed = tt; judged = tt; room = tt; held_on = λ h. cc; clear = λ h. cc }
 row memory p w l (Retake k) _ e = absurd e
 row memory p w l (Join k told) Done e = record { shares = refl; allowed = tt; judged = tt; room = e; held_on = λ h. cc; clear = λ h. cc }
-row memory p w l (Join k (Some a)) NoMemory e = record { shares = refl; allowed = tt; judged = (refusal.Memory, refl, (e, refl, refl)); room = tt; held_on = λ h. cc; clear = λ h. cc }
-row memory p w l (Join k None) NoMemory e = record { shares = refl; allowed = tt; judged = (refusal.Memory, refl, (e, refl, refl)); room = tt; held_on = λ h. cc; clear = λ h. cc }
+row memory p w l (Join k (Some a)) NoMemory e = record { shares = refl; allowed = tt; judged = (Refusal.Memory, refl, (e, refl, refl)); room = tt; held_on = λ h. cc; clear = λ h. cc }
+row memory p w l (Join k None) NoMemory e = record { shares = refl; allowed = tt; judged = (Refusal.Memory, refl, (e, refl, refl)); room = tt; held_on = λ h. cc; clear = λ h. cc }
 row memory p w l (Join k told) _ e = absurd e
 row memory p w l (Ask k told) Yes e = record { shares = refl; allowed = tt; judged = tt; room = tt; held_on = λ h. cc; clear = λ h. cc }
 row memory p w l (Ask k (Some a)) No e = record { shares = refl; allowed = tt; judged = (refl, refl); room = tt; held_on = λ h. cc; clear = λ h. cc }
@@ -132,7 +113,7 @@ row memory p w l (Lower k) _ e = absurd e
 row memory p w l (GiveBack k) (Available a) e = record { shares = refl; allowed = refl; judged = (refl, refl); room = tt; held_on = λ h. cc; clear = λ h. cc }
 row memory p w l (GiveBack k) _ e = absurd e
 row memory p w l (Raise n) Done e = record { shares = refl; allowed = (refl, e); judged = refl; room = tt; held_on = λ h. cc; clear = λ h. cc }
-row memory p w l (Raise n) PastLimit e = record { shares = refl; allowed = tt; judged = (refusal.Permits, refl, (n, refl, e, refl)); room = tt; held_on = λ h. cc; clear = λ h. cc }
+row memory p w l (Raise n) PastLimit e = record { shares = refl; allowed = tt; judged = (Refusal.Permits, refl, (n, refl, e, refl)); room = tt; held_on = λ h. cc; clear = λ h. cc }
 row memory p w l (Raise n) _ e = absurd e
 row memory p w l (GiveAdded n) (Available a) e = record { shares = refl; allowed = refl; judged = (refl, refl); room = tt; held_on = λ h. cc; clear = λ h. cc }
 row memory p w l (GiveAdded n) _ e = absurd e

@@ -1,21 +1,6 @@
 -- For how many permits a party's future, guard or call is after an action.
-use Rattle.std.proofs.Common.{◌≡◌, ℕ, true, false, Option, Some, None, refl}
-use Rattle.world_base.specs.declared.moves.Call.TheVariants as call
-use Rattle.world_base.specs.declared.moves.Inputs.{Inputs}
-use Rattle.world_base.specs.declared.moves.What.{What}
-use Rattle.world_base.specs.declared.moves.What.TheVariants.{Begin, Go}
-use Rattle.world_base.specs.declared.standing.Stage.{Stage}
-use Rattle.world_base.specs.declared.standing.Within.{Within}
-use Rattle.world_base.specs.table.Stages.{call_at, polls_again}
-use Rattle.sync_program.specs.declared.permits.Found.{Found}
-use Rattle.sync_program.specs.declared.permits.Found.TheVariants.{Done, Left, Yes}
-use Rattle.sync_program.specs.declared.permits.Place.{Place}
-use Rattle.sync_program.specs.declared.permits.Place.TheVariants.{Take, Retake, Join, Ask, Remove, Load, HandOn, PassOn, RefuseFit, Try, Lower, GiveBack, Raise, GiveAdded, FitAdded, CancelRemove, CancelLoad, FitGivenBack, Abandon}
-use Rattle.sync_program.specs.declared.permits.Position.{Position}
-use Rattle.world_semaphore.specs.machine.Program.{Next, next_of, position_after}
-use Rattle.world_semaphore.specs.machine.Seats.{size_of, size_at}
-use Rattle.world_semaphore.specs.machine.Machine.{knows, goes_with, answer_by, is_begun}
-use Rattle.world_semaphore.specs.Legal.{size_after}
+use Rattle.world_semaphore.proofs.Prelude.{◌≡◌, ℕ, true, false, Option, Some, None, refl, Call, Inputs, What, Begin, Go, Stage, Within, call_at, polls_again, Found, Done, Left, Yes, Place, Take, Retake, Join, Ask, Remove, Load, HandOn, PassOn, RefuseFit, Try, Lower, GiveBack, Raise, GiveAdded, FitAdded, CancelRemove, CancelLoad, FitGivenBack, Abandon, Position, Next, next_of, position_after, size_at, knows, goes_with, answer_by, is_begun, size_after}
+use Rattle.world_semaphore.specs.machine.Seats.{size_of}
 use Rattle.world_semaphore.proofs.of_machine.stages.Taking.{taken}
 use Rattle.world_semaphore.proofs.of_machine.stages.Turns.{Turn, turn}
 
@@ -55,28 +40,28 @@ takes : (what : What) (k s : ℕ) → SizedBy what s (next_of (Take k false fals
 takes what k s left short (Left a) = left
 takes what k s left short _ = short
 
-retakes : (i : Inputs) (k : ℕ) (f : Found) → SizedBy (Begin call.Poll i) k (next_of (Retake k) f)
+retakes : (i : Inputs) (k : ℕ) (f : Found) → SizedBy (Begin Call.Poll i) k (next_of (Retake k) f)
 retakes i k (Left a) = refl
 retakes i k _ = refl
 
-tries : (i : Inputs) (k : ℕ) (f : Found) → SizedBy (Begin (call.TryAcquire k) i) 0 (next_of (Try k) f)
+tries : (i : Inputs) (k : ℕ) (f : Found) → SizedBy (Begin (Call.TryAcquire k) i) 0 (next_of (Try k) f)
 tries i k (Left a) = refl
 tries i k _ = refl
 
-adds : (i : Inputs) (n : ℕ) (f : Found) → SizedBy (Begin (call.AddPermits n) i) 0 (next_of (Raise n) f)
+adds : (i : Inputs) (n : ℕ) (f : Found) → SizedBy (Begin (Call.AddPermits n) i) 0 (next_of (Raise n) f)
 adds i n Done = refl
 adds i n _ = refl
 
-cancels : (i : Inputs) (k : ℕ) (f : Found) → SizedBy (Begin call.Drop i) k (next_of CancelRemove f)
+cancels : (i : Inputs) (k : ℕ) (f : Found) → SizedBy (Begin Call.Drop i) k (next_of CancelRemove f)
 cancels i k Yes = refl
 cancels i k _ = refl
 
 pub sized : (s : Stage) (what : What) (w : Within) (x : Position) → goes_with s x ≡ true → call_at knows s what ≡ Some w → polls_again s what ≡ false → Turn Sized s what w x
 sized = turn Sized (record {
-  acquire = λ k i. takes (Begin (call.Acquire k) i) k 0 refl refl;
+  acquire = λ k i. takes (Begin (Call.Acquire k) i) k 0 refl refl;
   try = λ k i. tries i k;
   add = λ n i. adds i n;
-  poll = λ k i. takes (Begin call.Poll i) k k refl refl;
+  poll = λ k i. takes (Begin Call.Poll i) k k refl refl;
   poll_listed = λ k i. retakes i k;
   abandon = λ k i f. refl;
   cancel = λ k i. cancels i k;

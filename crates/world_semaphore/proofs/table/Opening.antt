@@ -1,15 +1,5 @@
 -- A new table is seen as a new World.
-use Rattle.std.proofs.Common.{◌≡◌, ℕ, List, replicate}
-use Rattle.lock_event.specs.declared.event.Entry.{Entry}
-use Rattle.world_base.specs.Standings.{Standing}
-use Rattle.world_base.specs.table.Tables.{Table, new_table}
-use Rattle.world_base.proofs.of_table.Mapped.{mapped_alike}
-use Rattle.world_base.proofs.of_table.Views.{all_idle}
-use Rattle.sync_program.specs.declared.permits.Position.TheVariants.{Out}
-use Rattle.world_semaphore.specs.machine.Seats.{Share, Debt, share_of, size_at, debt_at, verdict}
-use Rattle.world_semaphore.specs.machine.Machine.{Semaphore, new_semaphore, position_at}
-use Rattle.world_semaphore.specs.State.{World, new_world}
-use Rattle.world_semaphore.specs.View.{view_of}
+use Rattle.world_semaphore.proofs.Prelude.{◌≡◌, ℕ, List, replicate, Entry, Standing, Table, new_table, mapped_alike, all_idle, Out, Share, Debt, share_of, size_at, debt_at, verdict, Semaphore, new_semaphore, position_at, World, new_world, view_of}
 
 made : (limit : ℕ) (ss ss' : List Share) (es : List (Entry ℕ)) (ts ts' : List Standing) (ns ns' : List ℕ) (ds ds' : List Debt) (most opening : ℕ) (t : Table Semaphore) → ss ≡ ss' → ts ≡ ts' → ns ≡ ns' → ds ≡ ds'
     → Path World (record { state = record { limit = limit; shares = ss }; entries = es; standings = ts; sizes = ns; debts = ds; most = most; opening_permits = opening; behind = t })

@@ -1,16 +1,5 @@
 -- What callers see of a machine, party by party.
-use Rattle.std.proofs.Common.{◌≡◌, ℕ, List, arith}
-use Rattle.std.specs.List.{sum_by}
-use Rattle.world_base.specs.table.Stages.{stage_at, stands_as}
-use Rattle.world_base.specs.table.Tables.{Table}
-use Rattle.world_base.proofs.of_table.Mapped.{mapped_at, sum_mapped}
-use Rattle.world_base.proofs.of_table.Views.{standings_at}
-use Rattle.sync_program.specs.declared.permits.Position.{Position}
-use Rattle.sync_program.specs.declared.permits.Position.TheVariants.{Out}
-use Rattle.world_semaphore.specs.machine.Seats.{Debt, permits_of, permits_at, under_way_at, share_of, size_at, debt_at, verdict}
-use Rattle.world_semaphore.specs.machine.Machine.{Semaphore, IsSemaphore, position_at, sizes_of}
-use Rattle.world_semaphore.specs.State.{held, under_way, available, share_at, standing_of, size_of, debt_of}
-use Rattle.world_semaphore.specs.View.{view_of}
+use Rattle.world_semaphore.proofs.Prelude.{◌≡◌, ℕ, List, arith, sum_by, stage_at, stands_as, Table, mapped_at, sum_mapped, standings_at, Position, Out, Debt, permits_of, permits_at, under_way_at, share_of, size_at, debt_at, verdict, Semaphore, IsSemaphore, position_at, sizes_of, held, under_way, available, share_at, standing_of, size_of, debt_of, view_of}
 
 module _ (t : Table Semaphore) where
   abbrev xs : List Position

@@ -1,24 +1,5 @@
 -- While a party goes on alone, whoever was notified before or is owed something stays covered.
-use Rattle.std.proofs.Common.{◌≡◌, ℕ, ◌+◌, ◌-◌, ◌<◌, ◌≤◌, ◌⊎◌, inl, inr, Bool, true, false, List, Option, Some, None, refl, arith, ap, sym, ◌∙◌, subst}
-use Rattle.lock_event.specs.declared.event.Entry.{Entry}
-use Rattle.lock_event.specs.Lists.{is_marked_at, marked_count, without}
-use Rattle.lock_event.proofs.Counts.{marked_count-without_waiting}
-use Rattle.lock_event.proofs.Marks.{marked_count-joined}
-use Rattle.world_base.specs.queue.Parties.{is_party, entries_of}
-use Rattle.world_base.specs.Standings.{is_stepped}
-use Rattle.sync_program.specs.declared.permits.Action.TheVariants as act
-use Rattle.sync_program.specs.declared.permits.Found.{Found}
-use Rattle.sync_program.specs.declared.permits.Found.TheVariants.{Done, Left, Short, Available, PastLimit, NoMemory, Yes, No}
-use Rattle.sync_program.specs.declared.permits.Place.{Place}
-use Rattle.sync_program.specs.declared.permits.Place.TheVariants.{Take, Retake, Join, Ask, Remove, Load, HandOn, PassOn, RefuseFit, Try, Lower, GiveBack, Raise, GiveAdded, FitAdded, CancelRemove, CancelLoad, FitGivenBack, Abandon}
-use Rattle.sync_program.specs.declared.permits.Position.{Position}
-use Rattle.sync_program.specs.declared.permits.Position.TheVariants.{At}
-use Rattle.sync_program.specs.Permits.{told_more}
-use Rattle.world_semaphore.specs.declared.machine.words.Words.{Words}
-use Rattle.world_semaphore.specs.machine.Program.{Next, action_of, next_of, position_after}
-use Rattle.world_semaphore.specs.machine.Seats.{Debt, nothing_owed, a_look, a_fit, fit_if, seat_of}
-use Rattle.world_semaphore.specs.machine.Deeds.{deed_of, Finds, words_after, entries_after}
-use Rattle.world_semaphore.specs.machine.Machine.{answer_by}
+use Rattle.world_semaphore.proofs.Prelude.{◌≡◌, ℕ, ◌+◌, ◌-◌, ◌<◌, ◌≤◌, ◌⊎◌, inl, inr, Bool, true, false, List, Option, Some, None, refl, arith, ap, sym, ◌∙◌, subst, Entry, is_marked_at, marked_count, without, marked_count-without_waiting, marked_count-joined, is_party, entries_of, is_stepped, Action, Found, Done, Left, Short, Available, PastLimit, NoMemory, Yes, No, Place, Take, Retake, Join, Ask, Remove, Load, HandOn, PassOn, RefuseFit, Try, Lower, GiveBack, Raise, GiveAdded, FitAdded, CancelRemove, CancelLoad, FitGivenBack, Abandon, Position, At, told_more, Words, Next, action_of, next_of, position_after, Debt, nothing_owed, a_look, a_fit, fit_if, seat_of, deed_of, Finds, words_after, entries_after, answer_by}
 use Rattle.world_semaphore.proofs.of_machine.laws.Entries.{marked_count-fitted}
 use Rattle.world_semaphore.proofs.of_machine.laws.Kept.{more_is, no_more}
 use Rattle.world_semaphore.proofs.of_machine.stages.Taking.{taken}
@@ -29,7 +10,7 @@ Covered d marked available = (0 < marked) ⊎ ((d ≡ a_look) ⊎ ((d ≡ a_fit 
 
 -- What holds then at the end: an entry is marked, nothing is available, or the party has told of what is.
 abbrev pub EndsCovered : Place → ℕ → ℕ → Type 0
-EndsCovered x marked available = (0 < marked) ⊎ ((available ≡ 0) ⊎ (action_of x ≡ act.Fit available))
+EndsCovered x marked available = (0 < marked) ⊎ ((available ≡ 0) ⊎ (action_of x ≡ Action.Fit available))
 
 -- after what comes next
 abbrev pub CoversBy : Place → ℕ → ℕ → Next → Type 0
@@ -62,10 +43,10 @@ free_on d e m n a b none marks words (inr (inl h)) = absurd (cc (sym none ∙ h)
 free_on d e m n a b none marks words (inr (inr (inl h))) = absurd (cc (sym none ∙ h))
 free_on d e m n a b none marks words (inr (inr (inr h))) = inr (inr (inr (words h)))
 
-told_of : (x : Place) (c m n a : ℕ) → action_of x ≡ act.Fit c → (0 < m → 0 < n) → Covered (a_fit c) m a → EndsCovered x n a
+told_of : (x : Place) (c m n a : ℕ) → action_of x ≡ Action.Fit c → (0 < m → 0 < n) → Covered (a_fit c) m a → EndsCovered x n a
 told_of x c m n a act_is marks (inl h) = inl (marks h)
 told_of x c m n a act_is marks (inr (inl h)) = absurd (cc h)
-told_of x c m n a act_is marks (inr (inr (inl h))) = inr (inr (act_is ∙ ap act.Fit (fit_is c a h)))
+told_of x c m n a act_is marks (inr (inr (inl h))) = inr (inr (act_is ∙ ap Action.Fit (fit_is c a h)))
 told_of x c m n a act_is marks (inr (inr (inr h))) = inr (inl h)
 
 -- who took permits when it had been told tells of those that are left

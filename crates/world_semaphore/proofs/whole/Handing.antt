@@ -1,47 +1,7 @@
 -- A notified party for whom there are too few permits hands over to one for whom there are enough.
-use Rattle.std.proofs.Common.{◌≡◌, ◌≢◌, ℕ, ◌+◌, ◌<◌, ◌≤◌, ◌==◌, inl, inr, true, false, Bool, List, [], ◌∷◌, length, Option, Some, None, if◌then◌else◌, refl, arith, ap, sym, ◌∙◌, subst}
-use Rattle.std.proofs.lemmas.Bool.{leb-true}
-use Rattle.std.proofs.lemmas.Bool.Decides.{nat_tests}
-use Rattle.lock_event.specs.declared.event.Entry.{Entry}
-use Rattle.lock_event.specs.Lists.{is_marked, is_marked_at, marked_count}
-use Rattle.lock_event.specs.Weights.{is_enough, fit_first, fitted}
-use Rattle.lock_event.proofs.Counts.{length-joined, length-without, marked_count-without_marked}
-use Rattle.lock_event.proofs.Marks.{marked_count-joined}
-use Rattle.world_base.specs.queue.Parties.{is_party, entries_of}
-use Rattle.world_base.specs.declared.moves.Answer.{Answer}
-use Rattle.world_base.specs.declared.moves.Answer.TheVariants as answer
-use Rattle.world_base.specs.declared.moves.Call.TheVariants as call
-use Rattle.world_base.specs.declared.moves.Inputs.{Inputs}
-use Rattle.world_base.specs.declared.moves.What.{What}
-use Rattle.world_base.specs.declared.moves.What.TheVariants.{Begin}
-use Rattle.world_base.specs.declared.standing.Rest.TheVariants as rest
-use Rattle.world_base.specs.declared.standing.Within.{Within}
-use Rattle.world_base.specs.Standings.{outside, inputs_of, is_stepped}
-use Rattle.world_base.specs.Whole.{moves_of, answers_of}
-use Rattle.world_base.specs.table.Tables.{Table}
-use Rattle.world_base.proofs.Bounds.{marked_listed}
-use Rattle.world_base.proofs.Equations.{some_eq, none_some}
-use Rattle.world_base.proofs.Lists.{is_there}
-use Rattle.sync_program.specs.declared.permits.Action.TheVariants as act
-use Rattle.sync_program.specs.declared.permits.Found.{Found}
-use Rattle.sync_program.specs.declared.permits.Found.TheVariants.{Done, Left, Short, NoMemory, Yes, No}
-use Rattle.sync_program.specs.declared.permits.Place.{Place}
-use Rattle.sync_program.specs.declared.permits.Place.TheVariants.{Take, Retake, Join, Ask, PassOn}
-use Rattle.sync_program.specs.declared.permits.Position.{Position}
-use Rattle.sync_program.specs.declared.permits.Position.TheVariants.{Out, Unlisted, Waiting, At}
-use Rattle.world_semaphore.specs.declared.machine.words.Words.{Words}
-use Rattle.world_semaphore.specs.machine.Program.{action_of, next_of, place_for}
-use Rattle.world_semaphore.specs.machine.Seats.{seat_of, size_at, listed}
-use Rattle.world_semaphore.specs.machine.Deeds.{Deed, nothing, changes, does, deed_of, Finds, words_after, entries_after}
-use Rattle.world_semaphore.specs.machine.Machine.{Semaphore, answer_by, position_at, sizes_of}
+use Rattle.world_semaphore.proofs.Prelude.{◌≡◌, ◌≢◌, ℕ, ◌+◌, ◌<◌, ◌≤◌, ◌==◌, inl, inr, true, false, Bool, List, [], ◌∷◌, length, Option, Some, None, if◌then◌else◌, refl, arith, ap, sym, ◌∙◌, subst, leb-true, nat_tests, Entry, is_marked, is_marked_at, marked_count, is_enough, fit_first, fitted, length-joined, length-without, marked_count-without_marked, marked_count-joined, is_party, entries_of, Answer, Call, Inputs, What, Begin, Rest, Within, outside, inputs_of, is_stepped, moves_of, answers_of, Table, marked_listed, some_eq, none_some, is_there, Action, Found, Done, Left, Short, NoMemory, Yes, No, Place, Take, Retake, Join, Ask, PassOn, Position, Out, Unlisted, Waiting, At, Words, action_of, next_of, place_for, seat_of, size_at, listed, Deed, nothing, changes, does, deed_of, Finds, words_after, entries_after, Semaphore, answer_by, position_at, sizes_of, State, World, standing_of, available, size_of, IsFreeAndWanted, state_after, HandsOver, Known, Runs, view_of}
 use Rattle.world_semaphore.proofs.of_machine.laws.Entries.{length-fitted}
 use Rattle.world_semaphore.proofs.of_machine.laws.Kept.{after}
-use Rattle.world_semaphore.specs.State.{State, World, standing_of, available, size_of}
-use Rattle.world_semaphore.specs.Laws.{IsFreeAndWanted}
-use Rattle.world_semaphore.specs.Legal.{state_after}
-use Rattle.world_semaphore.specs.Bound.{HandsOver}
-use Rattle.world_semaphore.specs.Runs.{Known, Runs}
-use Rattle.world_semaphore.specs.View.{view_of}
 use Rattle.world_semaphore.proofs.table.Seen as seen
 use Rattle.world_semaphore.proofs.step.Acting.{Acting}
 use Rattle.world_semaphore.proofs.step.Acting as acting
@@ -100,7 +60,7 @@ module _ (k a size : ℕ) where
   record Vain (x : Place) (f : Found) (len marked : ℕ) (own : Bool) : Type 0 where
     pub unchanged : is_change (deed_of (action_of x) f) ≡ false
     pub going : (z : Place) → after x f ≡ At z → IsVain z len marked own
-    pub ends : is_stepped (answer_by (next_of x f)) ≡ false → (action_of x ≡ act.Fit a) × (answer_by (next_of x f) ≡ answer.Pending)
+    pub ends : is_stepped (answer_by (next_of x f)) ≡ false → (action_of x ≡ Action.Fit a) × (answer_by (next_of x f) ≡ Answer.Pending)
 
   module _ (p : ℕ) (w : Words) (l : List (Entry ℕ)) (sizes : ℕ → ℕ) (few : w.available ≡ a) (short : a < k) where
     abbrev then_list : Place → Found → List (Entry ℕ)
@@ -135,7 +95,7 @@ module _ (k a size : ℕ) where
     vain (Ask n (Some c)) Yes e own h = absurd (cc (e, none_marked p l h.3))
     vain (Ask n (Some c)) No e own h = on (Ask n (Some c)) No (PassOn n c) refl refl refl (rw e h)
     vain (Ask n (Some c)) _ e own h = absurd e
-    vain (PassOn n c) Done e own h = record { unchanged = refl; going = λ z g. absurd (cc g); ends = λ s. (ap act.Fit h.1, refl) }
+    vain (PassOn n c) Done e own h = record { unchanged = refl; going = λ z g. absurd (cc g); ends = λ s. (ap Action.Fit h.1, refl) }
     vain (PassOn n c) _ e own h = absurd e
     vain _ f e own h = absurd h
 
@@ -143,7 +103,7 @@ module _ (k a size : ℕ) where
 
 -- what is so at its end, by the state, what is available and the list's length
 pub record HasHanded (state : State) (a size : ℕ) (b : Answer) (u : Table Semaphore) : Type 0 where
-  pub pending : b ≡ answer.Pending
+  pub pending : b ≡ Answer.Pending
   pub same : (view_of u).state ≡ state
   pub as_long : length u.machine.entries ≡ size
   pub enough : (q : ℕ) → is_marked_at (is_party q) u.machine.entries ≡ true → size_of (view_of u) q ≤ a
@@ -196,7 +156,7 @@ module _ (state : State) (k a size : ℕ) (short : a < k) where
           as_long = ap length es ∙ (length-fitted sizes a t.machine.entries ∙ vain.0);
           enough = λ q marked. omega (arith, told_enough sizes a q t.machine.entries vain.1 (sym (ap (is_marked_at (is_party q)) es) ∙ marked), same_sizes p t u what b w d a so.0 q, seen.size_seen u q);
         } where
-          tells_vain : (x : Place) → action_of x ≡ act.Fit a → IsVain k a size x (length t.machine.entries) (marked_count t.machine.entries) (is_marked_at (is_party p) t.machine.entries) → (length t.machine.entries ≡ size) × (marked_count t.machine.entries ≡ 0)
+          tells_vain : (x : Place) → action_of x ≡ Action.Fit a → IsVain k a size x (length t.machine.entries) (marked_count t.machine.entries) (is_marked_at (is_party p) t.machine.entries) → (length t.machine.entries ≡ size) × (marked_count t.machine.entries ≡ 0)
           tells_vain (PassOn n c) e h = (h.2, h.3)
           tells_vain (Take n true told) e h = absurd (cc e)
           tells_vain (Take n false told) e h = absurd (cc e)
@@ -206,12 +166,12 @@ module _ (state : State) (k a size : ℕ) (short : a < k) where
           tells_vain _ e h = absurd h
 
 -- where a notified party's poll begins
-begins_vain : (k a size len marked : ℕ) (x : Position) (i : Inputs) (from : Place) → 0 < listed x → size_at x ≡ k → len ≡ size → marked ≡ 1 → place_for (Begin call.Poll i) x ≡ Some from → IsVain k a size from len marked true
+begins_vain : (k a size len marked : ℕ) (x : Position) (i : Inputs) (from : Place) → 0 < listed x → size_at x ≡ k → len ≡ size → marked ≡ 1 → place_for (Begin Call.Poll i) x ≡ Some from → IsVain k a size from len marked true
 begins_vain k a size len marked (Waiting n) i from some is long one starts = let P : Place → Type 0 = λ z. IsVain k a size z len marked true in subst P (some_eq starts) (is, long, refl, one)
 begins_vain k a size len marked (At y) i from some is long one starts = absurd (none_some starts)
 begins_vain k a size len marked _ i from some is long one starts = absurd (omega arith)
 
-pub hands_over : (known : Known) (w : World) (p : ℕ) (i : Inputs) (n : ℕ) (b : Answer) (v : World) → Runs known w (moves_of p call.Poll i n) (answers_of n b) v → b ≢ answer.Stepped → standing_of w p ≡ outside rest.Pending
+pub hands_over : (known : Known) (w : World) (p : ℕ) (i : Inputs) (n : ℕ) (b : Answer) (v : World) → Runs known w (moves_of p Call.Poll i n) (answers_of n b) v → b ≢ Answer.Stepped → standing_of w p ≡ outside Rest.Pending
     → i.memory ≡ true → is_marked_at (is_party p) w.behind.machine.entries ≡ true → marked_count w.behind.machine.entries ≡ 1 → 0 < listed (position_at w.behind.machine.positions p)
     → w.behind.machine.words.available < sizes_of w.behind.machine.positions p → HasHanded (view_of w.behind).state w.behind.machine.words.available (length w.behind.machine.entries) b v.behind
 hands_over known w p i n b v runs over pending memory marked one there short =
@@ -221,5 +181,5 @@ hands_over known w p i n b v runs over pending memory marked one there short =
     let size = length w.behind.machine.entries in
     along_acts p i (λ y t. IsHanding state k a size short p y t) (λ c u. HasHanded state a size c u)
     (λ t u what c x d is g. (hands_on state k a size short p t u what c x d (ap (λ (z : Inputs). z.memory) is ∙ memory) g, ended state k a size short p t u what c x d (ap (λ (z : Inputs). z.memory) is ∙ memory) g))
-    call.Poll (inl refl) known w n b v runs over pending
+    Call.Poll (inl refl) known w n b v runs over pending
     (λ from starts. record { same = refl; few = refl; vain = rw marked (begins_vain k a size size (marked_count w.behind.machine.entries) (position_at w.behind.machine.positions p) i from there refl refl one starts) })

@@ -1,44 +1,8 @@
 -- A poll or a drop of a pending party leaves some entry notified, if as many permits are available as somebody listed waits for, where one was.
-use Rattle.std.proofs.Common.{◌≡◌, ◌≢◌, ℕ, ◌<◌, ◌≤◌, ◌⊎◌, inl, inr, true, false, Bool, List, Option, Some, None, refl, arith, ap, sym, ◌∙◌, subst}
-use Rattle.std.proofs.Math.Decide.{ℕ_discrete}
-use Rattle.lock_event.specs.declared.event.Entry.{Entry}
-use Rattle.lock_event.specs.Lists.{marked_count}
-use Rattle.lock_event.specs.Weights.{fitted}
-use Rattle.world_base.specs.queue.Parties.{entries_of}
-use Rattle.world_base.specs.declared.moves.Answer.{Answer}
-use Rattle.world_base.specs.declared.moves.Answer.TheVariants as answer
-use Rattle.world_base.specs.declared.moves.Call.{Call}
-use Rattle.world_base.specs.declared.moves.Call.TheVariants as call
-use Rattle.world_base.specs.declared.moves.Inputs.{Inputs}
-use Rattle.world_base.specs.declared.moves.What.{What}
-use Rattle.world_base.specs.declared.moves.What.TheVariants.{Begin}
-use Rattle.world_base.specs.declared.standing.Rest.TheVariants as rest
-use Rattle.world_base.specs.declared.standing.Within.{Within}
-use Rattle.world_base.specs.Frame.{is_refusal}
-use Rattle.world_base.specs.Standings.{outside, inputs_of, is_stepped}
-use Rattle.world_base.specs.Whole.{moves_of, answers_of}
-use Rattle.world_base.proofs.Equations.{some_eq, none_some}
-use Rattle.world_base.specs.table.Tables.{Table}
-use Rattle.sync_program.specs.declared.permits.Action.{Action}
-use Rattle.sync_program.specs.declared.permits.Action.TheVariants as act
-use Rattle.sync_program.specs.declared.permits.Found.{Found}
-use Rattle.sync_program.specs.declared.permits.Found.TheVariants.{Done, Left, Yes}
-use Rattle.sync_program.specs.declared.permits.Place.{Place}
-use Rattle.sync_program.specs.declared.permits.Place.TheVariants.{Take, Retake, Join, Ask, Remove, Load, HandOn, PassOn, RefuseFit, FitAdded, FitGivenBack, CancelRemove, Abandon}
-use Rattle.sync_program.specs.declared.permits.Position.{Position}
-use Rattle.sync_program.specs.declared.permits.Position.TheVariants.{Out, Unlisted, Waiting, Holding, At}
-use Rattle.world_semaphore.specs.declared.machine.words.Words.{Words}
-use Rattle.world_semaphore.specs.machine.Program.{action_of, next_of, place_for}
-use Rattle.world_semaphore.specs.machine.Seats.{a_look, seat_of, size_of, size_at, listed}
-use Rattle.world_semaphore.specs.machine.Deeds.{deed_of, Finds, words_after, entries_after}
-use Rattle.world_semaphore.specs.machine.Machine.{Semaphore, IsSemaphore, answer_by, position_at, sizes_of}
+use Rattle.world_semaphore.proofs.Prelude.{◌≡◌, ◌≢◌, ℕ, ◌<◌, ◌≤◌, ◌⊎◌, inl, inr, true, false, Bool, List, Option, Some, None, refl, arith, ap, sym, ◌∙◌, subst, ℕ_discrete, Entry, marked_count, fitted, entries_of, Answer, Call, Inputs, What, Begin, Rest, Within, is_refusal, outside, inputs_of, is_stepped, moves_of, answers_of, some_eq, none_some, Table, Action, Found, Done, Left, Yes, Place, Take, Retake, Join, Ask, Remove, Load, HandOn, PassOn, RefuseFit, FitAdded, FitGivenBack, CancelRemove, Abandon, Position, Out, Unlisted, Waiting, Holding, At, Words, action_of, next_of, place_for, a_look, seat_of, size_at, listed, deed_of, Finds, words_after, entries_after, Semaphore, IsSemaphore, answer_by, position_at, sizes_of, World, standing_of, IsFreeAndWanted, Known, Runs, IsSemaphoreTable, view_of}
+use Rattle.world_semaphore.specs.machine.Seats.{size_of}
 use Rattle.world_semaphore.proofs.of_machine.laws.Entries.{entries_of-fitted, fitted_marks, wanted_so}
 use Rattle.world_semaphore.proofs.of_machine.laws.Kept.{after}
-use Rattle.world_semaphore.specs.State.{World, standing_of}
-use Rattle.world_semaphore.specs.Laws.{IsFreeAndWanted}
-use Rattle.world_semaphore.specs.Runs.{Known, Runs}
-use Rattle.world_semaphore.specs.Steps.{IsSemaphoreTable}
-use Rattle.world_semaphore.specs.View.{view_of}
 use Rattle.world_semaphore.proofs.table.Seen as seen
 use Rattle.world_semaphore.proofs.laws.Sound.{some_wanted, wanted_there}
 use Rattle.world_semaphore.proofs.step.Acting.{Acting}
@@ -47,7 +11,7 @@ use Rattle.world_semaphore.proofs.whole.Covers.{Covered, EndsCovered, CoversBy, 
 use Rattle.world_semaphore.proofs.whole.Onwards.{along_acts}
 
 -- whoever has told others stands for as many permits as before
-tells_size : (x : Place) (f : Found) (c : ℕ) → action_of x ≡ act.Fit c → size_at (after x f) ≡ size_of x
+tells_size : (x : Place) (f : Found) (c : ℕ) → action_of x ≡ Action.Fit c → size_at (after x f) ≡ size_of x
 tells_size (HandOn k a) f c e = refl
 tells_size (PassOn k a) f c e = refl
 tells_size (RefuseFit k a) f c e = refl
@@ -62,7 +26,7 @@ MarksWanted u = IsFreeAndWanted (view_of u) → 0 < marked_count u.machine.entri
 abbrev pub IsCovered : Place → Table Semaphore → Type 0
 IsCovered y t = Covered (seat_of y).debt (marked_count t.machine.entries) t.machine.words.available
 
-fit_done : (memory : Bool) (p c : ℕ) (f : Found) (w : Words) (size : ℕ → ℕ) (l es : List (Entry ℕ)) → Finds memory p (act.Fit c) f w l → es ≡ entries_after size p (deed_of (act.Fit c) f) l → es ≡ fitted size c l
+fit_done : (memory : Bool) (p c : ℕ) (f : Found) (w : Words) (size : ℕ → ℕ) (l es : List (Entry ℕ)) → Finds memory p (Action.Fit c) f w l → es ≡ entries_after size p (deed_of (Action.Fit c) f) l → es ≡ fitted size c l
 fit_done memory p c Done w size l es e is = is
 fit_done memory p c _ w size l es e is = absurd e
 
@@ -77,17 +41,17 @@ module _ (p : ℕ) (t u : Table Semaphore) (what : What) (a : Answer) (w : Withi
       subst Q (sym (ap marked_count k.acts.entries)) (subst (P _) (sym (ap (λ (v : Words). v.available) k.acts.words)) ((covered_so h).0 z e))
 
   -- who has told others stands for as many permits as before
-  pub same_sizes : (c : ℕ) → action_of k.from ≡ act.Fit c → (q : ℕ) → sizes_of u.machine.positions q ≡ sizes_of t.machine.positions q
+  pub same_sizes : (c : ℕ) → action_of k.from ≡ Action.Fit c → (q : ℕ) → sizes_of u.machine.positions q ≡ sizes_of t.machine.positions q
   same_sizes c e q = elim (ℕ_discrete q p) as (λ _. sizes_of u.machine.positions q ≡ sizes_of t.machine.positions q) [
     | yes is ↦ (let P : ℕ → Type 0 = λ j. sizes_of u.machine.positions j ≡ sizes_of t.machine.positions j in
         subst P (sym is) (ap size_at (acting.lands t u (record { party = p; what = what }) a w k) ∙ (tells_size k.from k.found c e ∙ sym (ap size_at (k.here.told c e)))))
     | no apart ↦ ap size_at (acting.stays t u (record { party = p; what = what }) a w k q apart)
   ]
 
-  pub told_then : (c : ℕ) → action_of k.from ≡ act.Fit c → u.machine.entries ≡ fitted (sizes_of t.machine.positions) c t.machine.entries
+  pub told_then : (c : ℕ) → action_of k.from ≡ Action.Fit c → u.machine.entries ≡ fitted (sizes_of t.machine.positions) c t.machine.entries
   told_then c e =
       let F : Action → Type 0 = λ b. Finds (inputs_of what).memory p b k.found t.machine.words t.machine.entries × (u.machine.entries ≡ entries_after (sizes_of t.machine.positions) p (deed_of b k.found) t.machine.entries) in
-      let so : F (act.Fit c) = subst F e (k.acts.finds, k.acts.entries) in
+      let so : F (Action.Fit c) = subst F e (k.acts.finds, k.acts.entries) in
       fit_done (inputs_of what).memory p c k.found t.machine.words (sizes_of t.machine.positions) t.machine.entries u.machine.entries so.0 so.1
 
   by_end : EndsCovered k.from (marked_count u.machine.entries) u.machine.words.available → MarksWanted u
@@ -115,7 +79,7 @@ module _ (p : ℕ) (t u : Table Semaphore) (what : What) (a : Answer) (w : Withi
 covered_at_first : (y : Place) (t : Table Semaphore) → 0 < marked_count t.machine.entries → IsCovered y t
 covered_at_first y t some = inl some
 
-pub passes_on : (known : Known) (w : World) (p : ℕ) (c : Call) (i : Inputs) (n : ℕ) (a : Answer) (v : World) → Runs known w (moves_of p c i n) (answers_of n a) v → a ≢ answer.Stepped → (c ≡ call.Poll) ⊎ (c ≡ call.Drop) → standing_of w p ≡ outside rest.Pending
+pub passes_on : (known : Known) (w : World) (p : ℕ) (c : Call) (i : Inputs) (n : ℕ) (a : Answer) (v : World) → Runs known w (moves_of p c i n) (answers_of n a) v → a ≢ Answer.Stepped → (c ≡ Call.Poll) ⊎ (c ≡ Call.Drop) → standing_of w p ≡ outside Rest.Pending
     → 0 < marked_count w.behind.machine.entries → MarksWanted v.behind
 passes_on known w p c i n a v runs ended which pending some =
     along_acts p i IsCovered (λ b u. MarksWanted u) (λ t u what b x k is h. (on_then p t u what b x k h, marks_then p t u what b x k h)) c which known w n a v runs ended pending (λ from starts. covered_at_first from w.behind some)
@@ -162,12 +126,12 @@ module _ (p : ℕ) (t u : Table Semaphore) (what : What) (a : Answer) (w : Withi
       )
   hands (inr h) = ((λ z e. inr (on_then p t u what a w k h z e)), (λ ends refused. marks_then p t u what a w k h ends))
 
-listed_polls : (x : Position) (i : Inputs) (from : Place) → 0 < listed x → place_for (Begin call.Poll i) x ≡ Some from → is_quiet from ≡ true
+listed_polls : (x : Position) (i : Inputs) (from : Place) → 0 < listed x → place_for (Begin Call.Poll i) x ≡ Some from → is_quiet from ≡ true
 listed_polls (Waiting k) i from some starts = let same : Retake k ≡ from = some_eq starts in ap is_quiet (sym same)
 listed_polls (At y) i from some starts = absurd (none_some starts)
 listed_polls _ i from some starts = absurd (omega arith)
 
-pub hands_on : (known : Known) (w : World) (p : ℕ) (i : Inputs) (n : ℕ) (a : Answer) (v : World) → Runs known w (moves_of p call.Poll i n) (answers_of n a) v → a ≢ answer.Stepped → standing_of w p ≡ outside rest.Pending
+pub hands_on : (known : Known) (w : World) (p : ℕ) (i : Inputs) (n : ℕ) (a : Answer) (v : World) → Runs known w (moves_of p Call.Poll i n) (answers_of n a) v → a ≢ Answer.Stepped → standing_of w p ≡ outside Rest.Pending
     → 0 < listed (position_at w.behind.machine.positions p) → HandsOn a v.behind
 hands_on known w p i n a v runs ended pending some =
-    along_acts p i IsHanding HandsOn (λ t u what b x k is h. hands p t u what b x k h) call.Poll (inl refl) known w n a v runs ended pending (λ from starts. inl (listed_polls (position_at w.behind.machine.positions p) i from some starts))
+    along_acts p i IsHanding HandsOn (λ t u what b x k is h. hands p t u what b x k h) Call.Poll (inl refl) known w n a v runs ended pending (λ from starts. inl (listed_polls (position_at w.behind.machine.positions p) i from some starts))

@@ -1,37 +1,7 @@
 -- What whole calls promise.
-use Rattle.std.proofs.Common.{◌≡◌, ◌≢◌, ℕ, ◌<◌, ◌≤◌, ◌⊎◌, inl, inr, true, false, List, length, Some, refl, arith, ap, sym, ◌∙◌, subst}
-use Rattle.std.proofs.lemmas.Bool.{le-leb}
-use Rattle.lock_event.specs.declared.event.Entry.{Entry}
-use Rattle.lock_event.specs.Lists.{marked_count, is_marked_at}
-use Rattle.world_base.specs.queue.Parties.{is_party, entries_of}
-use Rattle.world_base.specs.declared.moves.Answer.{Answer}
-use Rattle.world_base.specs.declared.moves.Answer.TheVariants as answer
-use Rattle.world_base.specs.declared.moves.Call.{Call}
-use Rattle.world_base.specs.declared.moves.Call.TheVariants as call
-use Rattle.world_base.specs.declared.moves.Got.TheVariants.{Plain}
-use Rattle.world_base.specs.declared.moves.Inputs.{Inputs}
-use Rattle.world_base.specs.declared.moves.What.TheVariants.{Begin, Go}
-use Rattle.world_base.specs.declared.standing.Kind.TheVariants as kind
-use Rattle.world_base.specs.declared.standing.Rest.TheVariants as rest
-use Rattle.world_base.specs.declared.standing.Within.{Within}
-use Rattle.world_base.specs.Standings.{Standing, outside, call_in, StandsAfter}
-use Rattle.world_base.specs.Whole.{going_on, moves_of, answers_of}
-use Rattle.world_base.specs.any_world.Steps.{beginning}
-use Rattle.world_base.proofs.Bounds.{marked_listed}
+use Rattle.world_semaphore.proofs.Prelude.{◌≡◌, ◌≢◌, ℕ, ◌<◌, ◌≤◌, ◌⊎◌, inl, inr, true, false, List, length, Some, refl, arith, ap, sym, ◌∙◌, subst, le-leb, Entry, marked_count, is_marked_at, is_party, entries_of, Answer, Call, Plain, Inputs, Begin, Go, Kind, Rest, Within, Standing, outside, call_in, StandsAfter, going_on, moves_of, answers_of, beginning, marked_listed, chosen, Table, guard_of, listed, Semaphore, knows, position_at, World, share_at, available, standing_of, size_of, call_of, size_after, wanted_in, HasItsOwn, is_first_poll, is_poll, IsFreeAndWanted, Steps, Stands, view_of, Known, HoldsWell, learn, Runs, IsSolo, Takes, HandsOver, Promises}
 use Rattle.world_base.proofs.of_any_world.Endings.{ends_on}
 use Rattle.world_base.proofs.of_any_world.Runs.{Onward, along, at_first, first_of, last_of}
-use Rattle.world_base.proofs.Equations.{chosen}
-use Rattle.world_base.specs.table.Tables.{Table}
-use Rattle.world_semaphore.specs.machine.Seats.{guard_of, listed}
-use Rattle.world_semaphore.specs.machine.Machine.{Semaphore, knows, position_at}
-use Rattle.world_semaphore.specs.State.{World, share_at, available, standing_of, size_of}
-use Rattle.world_semaphore.specs.Legal.{call_of, size_after, wanted_in, HasItsOwn}
-use Rattle.world_semaphore.specs.AtOnce.{is_first_poll, is_poll}
-use Rattle.world_semaphore.specs.Laws.{IsFreeAndWanted}
-use Rattle.world_semaphore.specs.Steps.{Steps, Stands}
-use Rattle.world_semaphore.specs.View.{view_of}
-use Rattle.world_semaphore.specs.Runs.{Known, HoldsWell, learn, Runs}
-use Rattle.world_semaphore.specs.Bound.{IsSolo, Takes, HandsOver, Promises}
 use Rattle.world_semaphore.proofs.table.Seen as seen
 use Rattle.world_semaphore.proofs.whole.Handing.{HasHanded, none_marked}
 use Rattle.world_semaphore.proofs.whole.Handing as handing
@@ -39,20 +9,20 @@ use Rattle.world_semaphore.proofs.whole.Passing.{MarksWanted}
 use Rattle.world_semaphore.proofs.whole.Passing as passing
 
 -- a first poll of a semaphore with as many permits as it is for is ready at its first step
-first_ready : (known : Known) (w : World) (p : ℕ) (c : Call) (i : Inputs) (n : ℕ) (a : Answer) (v : World) → Runs known w (moves_of p c i n) (answers_of n a) v → a ≢ answer.Stepped
-    → is_first_poll (standing_of w p) (Begin c i) (entries_of p w.entries) ≡ true → wanted_in (Begin c i) (size_of w p) ≤ available w.state → a ≡ answer.Ready Plain
-first_ready known w p c i n a v runs ended first few = at_first Steps learn HoldsWell known w p c i n a v (answer.Ready Plain) (λ e. cc (e))
-    (λ b x s. s.at_once.ready first ∙ chosen _ (answer.Ready Plain) answer.Stepped (le-leb (wanted_in (Begin c i) (size_of w p)) (available w.state) few)) ended runs
+first_ready : (known : Known) (w : World) (p : ℕ) (c : Call) (i : Inputs) (n : ℕ) (a : Answer) (v : World) → Runs known w (moves_of p c i n) (answers_of n a) v → a ≢ Answer.Stepped
+    → is_first_poll (standing_of w p) (Begin c i) (entries_of p w.entries) ≡ true → wanted_in (Begin c i) (size_of w p) ≤ available w.state → a ≡ Answer.Ready Plain
+first_ready known w p c i n a v runs ended first few = at_first Steps learn HoldsWell known w p c i n a v (Answer.Ready Plain) (λ e. cc (e))
+    (λ b x s. s.at_once.ready first ∙ chosen _ (Answer.Ready Plain) Answer.Stepped (le-leb (wanted_in (Begin c i) (size_of w p)) (available w.state) few)) ended runs
 
 -- ---- a poll that is to be ready
 
 -- a poll is for as many permits as it was
 go_keeps : (i : Inputs) (a : Answer) (s : ℕ) → size_after (Go i) a s ≡ s
-go_keeps i answer.NotPossible s = refl
+go_keeps i Answer.NotPossible s = refl
 go_keeps i _ s = refl
 
-poll_keeps : (i : Inputs) (a : Answer) (s : ℕ) → size_after (Begin call.Poll i) a s ≡ s
-poll_keeps i answer.NotPossible s = refl
+poll_keeps : (i : Inputs) (a : Answer) (s : ℕ) → size_after (Begin Call.Poll i) a s ≡ s
+poll_keeps i Answer.NotPossible s = refl
 poll_keeps i _ s = refl
 
 module _ (p : ℕ) (i : Inputs) (k : ℕ) where
@@ -64,27 +34,27 @@ module _ (p : ℕ) (i : Inputs) (k : ℕ) where
       let so : IsOf y = s.legal.knows_sizes.own ∙ (go_keeps i b (size_of x p) ∙ g) in
       record { going = λ e. so; ended = λ e. so }
 
-  size_kept : (known : Known) (w : World) (n : ℕ) (a : Answer) (v : World) → Runs known w (moves_of p call.Poll i n) (answers_of n a) v → a ≢ answer.Stepped → IsOf w → IsOf v
-  size_kept known w n a v runs ended is = along Steps learn HoldsWell p i IsOf (λ c z. IsOf z) sized_on known n w (beginning p call.Poll i) a v
+  size_kept : (known : Known) (w : World) (n : ℕ) (a : Answer) (v : World) → Runs known w (moves_of p Call.Poll i n) (answers_of n a) v → a ≢ Answer.Stepped → IsOf w → IsOf v
+  size_kept known w n a v runs ended is = along Steps learn HoldsWell p i IsOf (λ c z. IsOf z) sized_on known n w (beginning p Call.Poll i) a v
       (λ b x s. (let so : IsOf x = s.legal.knows_sizes.own ∙ (poll_keeps i b (size_of w p) ∙ is) in record { going = λ e. so; ended = λ e. so })) ended runs
 
-ready_has : (x : World) (p : ℕ) (u : Within) (a : Answer) → a ≡ answer.Ready Plain → StandsAfter rest.Holding u a (standing_of x p) → HasItsOwn x p (standing_of x p) → share_at x.state p ≡ guard_of (size_of x p)
+ready_has : (x : World) (p : ℕ) (u : Within) (a : Answer) → a ≡ Answer.Ready Plain → StandsAfter Rest.Holding u a (standing_of x p) → HasItsOwn x p (standing_of x p) → share_at x.state p ≡ guard_of (size_of x p)
 ready_has x p u a is stands own =
-    let A : Answer → Type 0 = λ b. StandsAfter rest.Holding u b (standing_of x p) in
-    let there : standing_of x p ≡ outside rest.Holding = (subst A is stands).1 in
+    let A : Answer → Type 0 = λ b. StandsAfter Rest.Holding u b (standing_of x p) in
+    let there : standing_of x p ≡ outside Rest.Holding = (subst A is stands).1 in
     let P : Standing → Type 0 = HasItsOwn x p in
     (subst P there own).1
 
-later_takes : (known : Known) (w : World) (p : ℕ) (i : Inputs) (n : ℕ) (a : Answer) (v : World) → Runs known w (moves_of p call.Poll i n) (answers_of n a) v → a ≢ answer.Stepped → standing_of w p ≡ outside rest.Pending → size_of w p ≤ available w.state → Takes p (size_of w p) a v
+later_takes : (known : Known) (w : World) (p : ℕ) (i : Inputs) (n : ℕ) (a : Answer) (v : World) → Runs known w (moves_of p Call.Poll i n) (answers_of n a) v → a ≢ Answer.Stepped → standing_of w p ≡ outside Rest.Pending → size_of w p ≤ available w.state → Takes p (size_of w p) a v
 later_takes known w p i n a v runs ended pending few =
-    let polls : is_poll (standing_of w p) (Begin call.Poll i) ≡ true = ap (λ z. is_poll z (Begin call.Poll i)) pending in
-    let called : call_of w (beginning p call.Poll i) ≡ Some (record { kind = kind.LaterPoll; was = rest.Pending }) = ap (λ z. call_in knows z (Begin call.Poll i)) pending in
-    let so = ends_on Steps learn HoldsWell standing_of (λ y q. knows) rest.Holding (λ y m b z s. s.legal.possible) (λ y m b z s. s.legal.ends_properly) p i (answer.Ready Plain) known w call.Poll n a v
-    (record { kind = kind.LaterPoll; was = rest.Pending }) called (λ e x s. s.at_once.taken polls (le-leb (size_of w p) (available w.state) few)) ended runs in
+    let polls : is_poll (standing_of w p) (Begin Call.Poll i) ≡ true = ap (λ z. is_poll z (Begin Call.Poll i)) pending in
+    let called : call_of w (beginning p Call.Poll i) ≡ Some (record { kind = Kind.LaterPoll; was = Rest.Pending }) = ap (λ z. call_in knows z (Begin Call.Poll i)) pending in
+    let so = ends_on Steps learn HoldsWell standing_of (λ y q. knows) Rest.Holding (λ y m b z s. s.legal.possible) (λ y m b z s. s.legal.ends_properly) p i (Answer.Ready Plain) known w Call.Poll n a v
+    (record { kind = Kind.LaterPoll; was = Rest.Pending }) called (λ e x s. s.at_once.taken polls (le-leb (size_of w p) (available w.state) few)) ended runs in
     let size : size_of v p ≡ size_of w p = size_kept p i (size_of w p) known w n a v runs ended refl in
     record {
       ready = so.answer;
-      permits_had = ready_has v p so.within a so.answer so.stands ((last_of Steps learn HoldsWell known w p i n (Begin call.Poll i) a v runs).legal.legal.leaves_clear.each p) ∙ ap guard_of size;
+      permits_had = ready_has v p so.within a so.answer so.stands ((last_of Steps learn HoldsWell known w p i n (Begin Call.Poll i) a v runs).legal.legal.leaves_clear.each p) ∙ ap guard_of size;
     }
 
 -- ---- what the machine says, as callers see it
@@ -107,10 +77,10 @@ one_marked p l marked few = by_count (marked_count l) refl few where
     n_is : (n : ℕ) → n ≤ 1 → (n ≡ 0) ⊎ (n ≡ 1)
     n_is n few = grind arith
 
-hands_over : (known : Known) (w : World) (p : ℕ) (i : Inputs) (n : ℕ) (a : Answer) (v : World) → Runs known w (moves_of p call.Poll i n) (answers_of n a) v → a ≢ answer.Stepped → IsSolo w p i → available w.state < size_of w p → HandsOver w a v
+hands_over : (known : Known) (w : World) (p : ℕ) (i : Inputs) (n : ℕ) (a : Answer) (v : World) → Runs known w (moves_of p Call.Poll i n) (answers_of n a) v → a ≢ Answer.Stepped → IsSolo w p i → available w.state < size_of w p → HandsOver w a v
 hands_over known w p i n a v runs ended solo short =
-    let first = stood_first known w p call.Poll i n a v runs in
-    let last = stands_last known w p call.Poll i n a v runs in
+    let first = stood_first known w p Call.Poll i n a v runs in
+    let last = stands_last known w p Call.Poll i n a v runs in
     let t : Table Semaphore = w.behind in
     let es : w.entries ≡ t.machine.entries = ap (λ (z : World). z.entries) first.seen in
     let marked : is_marked_at (is_party p) t.machine.entries ≡ true = sym (ap (is_marked_at (is_party p)) es) ∙ solo.marked in
@@ -130,7 +100,7 @@ hands_over known w p i n a v runs ended solo short =
           );
     }
 
-pub keeps_promises : (known : Known) (w : World) (p : ℕ) (c : Call) (i : Inputs) (n : ℕ) (a : Answer) (v : World) → Runs known w (moves_of p c i n) (answers_of n a) v → a ≢ answer.Stepped → Promises w p c i a v
+pub keeps_promises : (known : Known) (w : World) (p : ℕ) (c : Call) (i : Inputs) (n : ℕ) (a : Answer) (v : World) → Runs known w (moves_of p c i n) (answers_of n a) v → a ≢ Answer.Stepped → Promises w p c i a v
 keeps_promises known w p c i n a v runs ended = record {
   first = first_ready known w p c i n a v runs ended;
   later = λ e pending few. later_takes known w p i n a v (polled e) ended pending few;
@@ -142,5 +112,5 @@ keeps_promises known w p c i n a v runs ended = record {
   stood : Stands w
   stood = stood_first known w p c i n a v runs
 
-  polled : c ≡ call.Poll → Runs known w (moves_of p call.Poll i n) (answers_of n a) v
+  polled : c ≡ Call.Poll → Runs known w (moves_of p Call.Poll i n) (answers_of n a) v
   polled e = let P : Call → Type 0 = λ c. Runs known w (moves_of p c i n) (answers_of n a) v in subst P e runs

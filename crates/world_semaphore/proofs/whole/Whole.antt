@@ -1,40 +1,9 @@
 -- A call that is carried out alone ends within its number of steps.
-use Rattle.std.proofs.Common.{◌≡◌, ℕ, ◌+◌, ◌<◌, ◌≤◌, if◌then◌else◌, Bool, true, false, List, Option, Some, None, refl, arith, ap, sym, ◌∙◌, subst}
-use Rattle.lock_event.specs.declared.event.Entry.{Entry}
-use Rattle.lock_event.specs.Lists.{is_marked_at}
-use Rattle.world_base.specs.queue.Parties.{is_party, entries_of}
-use Rattle.world_base.specs.declared.moves.Answer.{Answer}
-use Rattle.world_base.specs.declared.moves.Call.{Call}
-use Rattle.world_base.specs.declared.moves.Call.TheVariants as call
-use Rattle.world_base.specs.declared.moves.Inputs.{Inputs}
-use Rattle.world_base.specs.declared.moves.Move.{Move}
-use Rattle.world_base.specs.declared.moves.What.{What}
-use Rattle.world_base.specs.declared.moves.What.TheVariants.{Begin, Go}
-use Rattle.world_base.specs.declared.standing.Stage.{Stage}
-use Rattle.world_base.specs.declared.standing.Within.{Within}
-use Rattle.world_base.specs.Standings.{inputs_of}
-use Rattle.world_base.specs.Whole.{going_on}
-use Rattle.world_base.proofs.Equations.{some_eq}
-use Rattle.world_base.specs.any_world.Steps.{left_by, beginning}
-use Rattle.world_base.specs.table.Stages.{stage_at, call_at, polls_again}
-use Rattle.world_base.specs.table.Tables.{Table}
-use Rattle.world_base.proofs.Lists.{unlisted_unmarked, joined_unmarked}
-use Rattle.sync_program.specs.declared.permits.Found.{Found}
-use Rattle.sync_program.specs.declared.permits.Found.TheVariants.{Done, Left as Left_there, Short, Available, PastLimit, NoMemory, Yes, No}
-use Rattle.sync_program.specs.declared.permits.Place.{Place}
-use Rattle.sync_program.specs.declared.permits.Place.TheVariants.{Take, Retake, Join, Ask, Remove, Load, HandOn, PassOn, RefuseFit, Try, Lower, GiveBack, Raise, GiveAdded, FitAdded, CancelRemove, CancelLoad, FitGivenBack, Abandon}
-use Rattle.sync_program.specs.declared.permits.Position.{Position}
-use Rattle.sync_program.specs.declared.permits.Position.TheVariants.{Out, Unlisted, Waiting, Holding, At}
-use Rattle.world_semaphore.specs.declared.machine.words.Words.{Words}
-use Rattle.world_semaphore.specs.machine.Program.{Next, action_of, next_of, position_after}
-use Rattle.world_semaphore.specs.machine.Seats.{seat_of, listed}
-use Rattle.world_semaphore.specs.machine.Deeds.{deed_of, entries_after, Finds}
-use Rattle.world_semaphore.specs.machine.Machine.{Semaphore, IsSemaphore, answer_by, position_at, sizes_of, knows, goes_with}
+use Rattle.world_semaphore.proofs.Prelude.{◌≡◌, ℕ, ◌+◌, ◌<◌, ◌≤◌, if◌then◌else◌, Bool, true, false, List, Option, Some, None, refl, arith, ap, sym, ◌∙◌, subst, Entry, is_marked_at, is_party, entries_of, Answer, Call, Inputs, Move, What, Begin, Go, Stage, Within, inputs_of, going_on, some_eq, left_by, beginning, stage_at, call_at, polls_again, Table, unlisted_unmarked, joined_unmarked, Found, Done, Left as Left_there, Short, Available, PastLimit, NoMemory, Yes, No, Place, Take, Retake, Join, Ask, Remove, Load, HandOn, PassOn, RefuseFit, Try, Lower, GiveBack, Raise, GiveAdded, FitAdded, CancelRemove, CancelLoad, FitGivenBack, Abandon, Position, Out, Unlisted, Waiting, Holding, At, Words, Next, action_of, next_of, position_after, seat_of, listed, deed_of, entries_after, Finds, Semaphore, IsSemaphore, answer_by, position_at, sizes_of, knows, goes_with, IsSemaphoreTable, TableSteps}
 use Rattle.world_semaphore.specs.machine.Ranks.{left, left_at, is_own_marked, steps_left}
 use Rattle.world_semaphore.proofs.of_machine.laws.Kept.{after}
 use Rattle.world_semaphore.proofs.of_machine.stages.Taking.{taken}
 use Rattle.world_semaphore.proofs.of_machine.stages.Turns.{Turn, turn}
-use Rattle.world_semaphore.specs.Steps.{IsSemaphoreTable, TableSteps}
 use Rattle.world_semaphore.specs.Whole.{most_steps_of}
 use Rattle.world_semaphore.proofs.step.Acting.{Acting}
 use Rattle.world_semaphore.proofs.step.Acting as acting
@@ -130,10 +99,10 @@ some_at (Waiting k) b = omega arith
 some_at (Holding k) b = omega arith
 
 one_at_least : (c : Call) → 1 ≤ most_steps_of c
-one_at_least (call.Acquire k) = omega arith
-one_at_least call.Poll = omega arith
-one_at_least call.Drop = omega arith
-one_at_least (call.AddPermits n) = omega arith
+one_at_least (Call.Acquire k) = omega arith
+one_at_least Call.Poll = omega arith
+one_at_least Call.Drop = omega arith
+one_at_least (Call.AddPermits n) = omega arith
 one_at_least _ = omega arith
 
 -- no call has more left where it begins than it may take

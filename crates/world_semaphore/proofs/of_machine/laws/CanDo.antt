@@ -1,18 +1,5 @@
 -- What an action needs is there.
-use Rattle.std.proofs.Common.{◌≡◌, ℕ, ◌+◌, ◌<◌, ◌≤◌, List, length, get_or, refl, arith, sym, ◌∙◌, ap}
-use Rattle.std.specs.List.{sum_by}
-use Rattle.std.proofs.lemmas.List.Sums.{get_or-le-sum_by}
-use Rattle.world_base.specs.queue.Parties.{entries_of}
-use Rattle.world_base.specs.queue.Weighted.{WeightedQueue}
-use Rattle.sync_program.specs.declared.permits.Place.{Place}
-use Rattle.sync_program.specs.declared.permits.Place.TheVariants.{Take, Retake, Join, Ask, Remove, Load, HandOn, PassOn, RefuseFit, Try, Lower, GiveBack, Raise, GiveAdded, FitAdded, CancelRemove, CancelLoad, FitGivenBack, Abandon}
-use Rattle.sync_program.specs.declared.permits.Position.{Position}
-use Rattle.sync_program.specs.declared.permits.Position.TheVariants.{Out}
-use Rattle.world_semaphore.specs.declared.machine.words.Words.{Words}
-use Rattle.world_semaphore.specs.machine.Program.{action_of}
-use Rattle.world_semaphore.specs.machine.Seats.{Seat, seat_of, seated, permits_of, permits_at, under_way_at}
-use Rattle.world_semaphore.specs.machine.Deeds.{CanDo}
-use Rattle.world_semaphore.specs.machine.Machine.{IsKept, position_at}
+use Rattle.world_semaphore.proofs.Prelude.{◌≡◌, ℕ, ◌+◌, ◌<◌, ◌≤◌, List, length, get_or, refl, arith, sym, ◌∙◌, ap, sum_by, get_or-le-sum_by, entries_of, WeightedQueue, Place, Take, Retake, Join, Ask, Remove, Load, HandOn, PassOn, RefuseFit, Try, Lower, GiveBack, Raise, GiveAdded, FitAdded, CancelRemove, CancelLoad, FitGivenBack, Abandon, Position, Out, Words, action_of, Seat, seat_of, seated, permits_of, permits_at, under_way_at, CanDo, IsKept, position_at}
 
 module _ (p : ℕ) (w : Words) (xs : List Position) (q : WeightedQueue) (kept : IsKept w xs q) (known : p < length xs) where
   module _ (x : Place) (same : seat_of x ≡ seated (position_at xs p)) where

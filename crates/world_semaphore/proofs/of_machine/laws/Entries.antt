@@ -1,17 +1,8 @@
 -- What a list function does to the list, in numbers and party by party.
-use Rattle.std.proofs.Common.{◌≡◌, ◌≢◌, ℕ, zero, suc, ◌+◌, ◌<◌, ◌≤◌, ◌⊎◌, inl, inr, ◌==◌, if◌then◌else◌, Bool, true, false, List, [], ◌∷◌, length, nat_le, refl, arith, ap, sym, ◌∙◌, subst}
-use Rattle.std.proofs.lemmas.Bool.{le-leb, leb-true}
-use Rattle.std.proofs.lemmas.Bool.Decides.{nat_tests}
-use Rattle.lock_event.specs.declared.event.Entry.{Entry}
+use Rattle.world_semaphore.proofs.Prelude.{◌≡◌, ◌≢◌, ℕ, zero, suc, ◌+◌, ◌<◌, ◌≤◌, ◌⊎◌, inl, inr, ◌==◌, if◌then◌else◌, Bool, true, false, List, [], ◌∷◌, length, nat_le, refl, arith, ap, sym, ◌∙◌, subst, le-leb, leb-true, nat_tests, Entry, entry, is_marked, is_marked_at, marked_count, without, is_enough, fit_first, fitted, is_wanted, length-joined, length-without, is_party, entries_of, is_there, Deed, ListFunction, nothing, changes, does, joins, asks, removes, fits, list_after, entries_after}
 use Rattle.lock_event.specs.declared.event.Mark.TheVariants.{Waiting}
-use Rattle.lock_event.specs.Lists.{entry, is_marked, is_marked_at, marked_count, without}
-use Rattle.lock_event.specs.Weights.{is_enough, fit_first, fitted, is_wanted}
-use Rattle.lock_event.proofs.Counts.{length-joined, length-without}
-use Rattle.world_base.specs.queue.Parties.{is_party, entries_of}
-use Rattle.world_base.proofs.Lists.{is_there}
 use Rattle.world_base.proofs.of_queue.Queues.{own_one, other_one}
 use Rattle.world_base.proofs.of_queue.Rekeyed.{entries_of-joined, entries_of-without_own, entries_of-without_other}
-use Rattle.world_semaphore.specs.machine.Deeds.{Deed, ListFunction, nothing, changes, does, joins, asks, removes, fits, list_after, entries_after}
 
 module _ (size : ℕ → ℕ) (a : ℕ) where
   length-fit_first : (l : List (Entry ℕ)) → length (fit_first size a l) ≡ length l

@@ -1,17 +1,6 @@
 -- Each step keeps what always holds of the numbers.
-use Rattle.std.proofs.Common.{◌≡◌, ℕ, ◌+◌, ◌<◌, ◌≤◌, ◌⊎◌, inl, inr, zero, suc, true, false, Bool, Option, Some, None, nat_le, nat_lt, ◌==◌, if◌then◌else◌, refl, arith}
-use Rattle.std.proofs.lemmas.Bool.{le-leb, lt-leb}
-use Rattle.std.proofs.lemmas.Bool.Decides.{nat_tests}
-use Rattle.sync_program.specs.declared.permits.Action.TheVariants as act
-use Rattle.sync_program.specs.declared.permits.Found.{Found}
-use Rattle.sync_program.specs.declared.permits.Found.TheVariants.{Done, Left, Short, Available, PastLimit, NoMemory, Yes, No}
-use Rattle.sync_program.specs.declared.permits.Place.{Place}
-use Rattle.sync_program.specs.declared.permits.Place.TheVariants.{Take, Retake, Join, Ask, Remove, Load, HandOn, PassOn, RefuseFit, Try, Lower, GiveBack, Raise, GiveAdded, FitAdded, CancelRemove, CancelLoad, FitGivenBack, Abandon}
-use Rattle.sync_program.specs.declared.permits.Position.{Position}
-use Rattle.sync_program.specs.Permits.{told_more, after_taking_with}
-use Rattle.world_semaphore.specs.machine.Program.{action_of, next_of, position_after}
-use Rattle.world_semaphore.specs.machine.Seats.{seat_of, seated, waits_for, waits, bit, pays, fit_if}
-use Rattle.world_semaphore.specs.machine.Tally.{Tally, Counts, IsSound}
+use Rattle.world_semaphore.proofs.Prelude.{◌≡◌, ℕ, ◌+◌, ◌<◌, ◌≤◌, ◌⊎◌, inl, inr, zero, suc, true, false, Bool, Option, Some, None, nat_le, nat_lt, ◌==◌, if◌then◌else◌, refl, arith, le-leb, lt-leb, nat_tests, Action, Found, Done, Left, Short, Available, PastLimit, NoMemory, Yes, No, Place, Take, Retake, Join, Ask, Remove, Load, HandOn, PassOn, RefuseFit, Try, Lower, GiveBack, Raise, GiveAdded, FitAdded, CancelRemove, CancelLoad, FitGivenBack, Abandon, Position, told_more, after_taking_with, action_of, next_of, position_after, seat_of, seated, waits_for, waits, bit, pays, fit_if, Tally, Counts}
+use Rattle.world_semaphore.specs.machine.Tally.{IsSound}
 use Rattle.world_semaphore.proofs.of_machine.laws.Steps.{Effect, Goes}
 
 abbrev pub after : Place → Found → Position
@@ -45,7 +34,7 @@ module _ (s : ℕ) (some : 0 < s) (t u : Tally) (a b : Counts) where
   -- rows: place, finding
   pub kept : (x : Place) (f : Found) → Effect s a.waiting (action_of x) f t u → IsSound s t a → Goes s (seat_of x) (seated (after x f)) (waits_for s x) (waits s (after x f)) a b → IsSound s u b
   kept (Take k false true) (Left c) e i g = by_more (told_more true c) refl e i g where
-    by_more : (o : Option ℕ) → told_more true c ≡ o → Effect s a.waiting (act.Take k) (Left c) t u → IsSound s t a → Goes s (seat_of (Take k false true)) (seated (position_after (after_taking_with k false o))) 0 (waits s (position_after (after_taking_with k false o))) a b → IsSound s u b
+    by_more : (o : Option ℕ) → told_more true c ≡ o → Effect s a.waiting (Action.Take k) (Left c) t u → IsSound s t a → Goes s (seat_of (Take k false true)) (seated (position_after (after_taking_with k false o))) 0 (waits s (position_after (after_taking_with k false o))) a b → IsSound s u b
     by_more (Some d) is e i g = let same = more_is c d is in record { balanced = omega arith; limited = omega arith; in_list = omega arith; owed = λ h w. let pays = enough s d (omega arith) in omega (arith, pays) }
     by_more None is e i g = let none = no_more c is in record { balanced = omega arith; limited = omega arith; in_list = omega arith; owed = λ h w. omega arith }
   kept (Take k false true) (Short c) e i g = record { balanced = omega arith; limited = omega arith; in_list = omega arith; owed = λ h w. let pays = enough s c (omega arith) in omega (arith, pays) }

@@ -1,18 +1,5 @@
 -- What always holds of a semaphore, as callers see it.
-use Rattle.std.proofs.Common.{◌≡◌, ℕ, zero, suc, ◌<◌, ◌≤◌, true, List, [], ◌∷◌, length, get_or, refl, arith, sym, ◌∙◌, subst}
-use Rattle.std.specs.List.{sum_by}
-use Rattle.std.proofs.lemmas.List.Sums.{get_or-le-sum_by, sum_by-cons}
-use Rattle.lock_event.specs.Lists.{marked_count}
-use Rattle.lock_event.specs.Weights.{is_wanted}
-use Rattle.world_base.specs.queue.Parties.{entries_of}
-use Rattle.world_base.specs.queue.Weighted.{WeightedQueue}
-use Rattle.world_base.proofs.of_table.Mapped.{past_last}
-use Rattle.world_base.proofs.Equations.{same_test}
-use Rattle.sync_program.specs.declared.permits.Position.{Position}
-use Rattle.sync_program.specs.declared.permits.Position.TheVariants.{Out, Unlisted, Waiting, Holding, At}
-use Rattle.world_semaphore.specs.declared.machine.words.Words.{Words}
-use Rattle.world_semaphore.specs.machine.Seats.{bit, listed, waits, owes, size_at, is_short, is_resting}
-use Rattle.world_semaphore.specs.machine.Machine.{IsKept, IsAtRest, IsSemaphore, position_at, sizes_of}
+use Rattle.world_semaphore.proofs.Prelude.{◌≡◌, ℕ, zero, suc, ◌<◌, ◌≤◌, true, List, [], ◌∷◌, length, get_or, refl, arith, sym, ◌∙◌, subst, sum_by, get_or-le-sum_by, sum_by-cons, marked_count, is_wanted, entries_of, WeightedQueue, past_last, same_test, Position, Out, Unlisted, Waiting, Holding, At, Words, bit, listed, waits, owes, size_at, is_short, is_resting, IsKept, IsAtRest, IsSemaphore, position_at, sizes_of}
 use Rattle.world_semaphore.proofs.of_machine.laws.Entries.{wanted_who}
 
 -- a resting party owes nothing, and waits for its size where it is listed

@@ -1,37 +1,9 @@
 -- An action of one party keeps what always holds of a semaphore.
-use Rattle.std.proofs.Common.{◌≡◌, ◌≢◌, ℕ, ◌+◌, ◌<◌, ◌≤◌, ◌⊎◌, inl, inr, Bool, true, false, List, length, get_or, Option, Some, None, ◌==◌, refl, arith, ap, sym, subst, ◌∙◌, length-set, get_or-set_same, get_or-set_other}
-use Rattle.std.proofs.Math.ListN.{set}
-use Rattle.std.proofs.Math.Decide.{ℕ_discrete}
-use Rattle.std.specs.List.{sum_by}
-use Rattle.std.proofs.lemmas.List.{get_or_default}
-use Rattle.std.proofs.lemmas.List.Sums.{sum_by-set, get_or-le-sum_by}
-use Rattle.std.proofs.lemmas.Bool.Decides.{nat_tests}
-use Rattle.lock_event.specs.declared.event.Entry.{Entry}
-use Rattle.lock_event.specs.Weights.{is_wanted}
-use Rattle.world_base.specs.queue.Parties.{entries_of}
-use Rattle.world_base.specs.queue.Weighted.{WeightedQueue, weighted_queue, weight_in}
-use Rattle.world_base.specs.declared.moves.What.{What}
-use Rattle.world_base.specs.declared.standing.Rest.TheVariants as rest
-use Rattle.world_base.specs.declared.standing.Stage.{Stage}
-use Rattle.world_base.specs.declared.standing.Within.{Within}
-use Rattle.world_base.proofs.Equations.{some_eq}
-use Rattle.world_base.specs.table.Stages.{call_at, polls_again, stage_after}
-use Rattle.world_base.specs.table.Tables.{Keeps}
+use Rattle.world_semaphore.proofs.Prelude.{◌≡◌, ◌≢◌, ℕ, ◌+◌, ◌<◌, ◌≤◌, ◌⊎◌, inl, inr, Bool, true, false, List, length, get_or, Option, Some, None, ◌==◌, refl, arith, ap, sym, subst, ◌∙◌, length-set, get_or-set_same, get_or-set_other, set, ℕ_discrete, sum_by, get_or_default, sum_by-set, get_or-le-sum_by, nat_tests, Entry, is_wanted, entries_of, WeightedQueue, weighted_queue, weight_in, What, Rest, Stage, Within, some_eq, call_at, polls_again, stage_after, Keeps, Action, Found, Done, Left, Short, Available, PastLimit, NoMemory, Yes, No, Place, Take, Retake, Join, Ask, Remove, Load, HandOn, PassOn, RefuseFit, Try, Lower, GiveBack, Raise, GiveAdded, FitAdded, CancelRemove, CancelLoad, FitGivenBack, Abandon, Position, Out, Unlisted, Waiting, Holding, At, Words, place_for, action_of, next_of, position_after, Seat, bit, pays, seat_of, seated, permits_of, permits_at, under_way_at, listed, waits_for, waits, owes, size_at, is_short_at, is_short, Deed, CanDo, Finds, deed_of, words_after, entries_after, weights_after, fits as fits_so, does, changes, nothing, joins, asks, removes, Tally, tally_of, counts_of, Semaphore, IsKept, knows, goes_with, answer_by, runs, position_at, sizes_of, told_more}
 use Rattle.world_base.proofs.Owing.{some_term}
-use Rattle.sync_program.specs.declared.permits.Action.{Action}
-use Rattle.sync_program.specs.declared.permits.Action.TheVariants as act
-use Rattle.sync_program.specs.declared.permits.Found.{Found}
-use Rattle.sync_program.specs.declared.permits.Found.TheVariants.{Done, Left, Short, Available, PastLimit, NoMemory, Yes, No}
-use Rattle.sync_program.specs.declared.permits.Place.{Place}
-use Rattle.sync_program.specs.declared.permits.Place.TheVariants.{Take, Retake, Join, Ask, Remove, Load, HandOn, PassOn, RefuseFit, Try, Lower, GiveBack, Raise, GiveAdded, FitAdded, CancelRemove, CancelLoad, FitGivenBack, Abandon}
-use Rattle.sync_program.specs.declared.permits.Position.{Position}
-use Rattle.sync_program.specs.declared.permits.Position.TheVariants.{Out, Unlisted, Waiting, Holding, At}
-use Rattle.world_semaphore.specs.declared.machine.words.Words.{Words}
-use Rattle.world_semaphore.specs.machine.Program.{place_for, action_of, next_of, position_after}
-use Rattle.world_semaphore.specs.machine.Seats.{Seat, bit, pays, seat_of, seated, permits_of, permits_at, under_way_at, listed, waits_for, waits, owes, size_of, size_at, is_short_at, is_short}
-use Rattle.world_semaphore.specs.machine.Deeds.{Deed, CanDo, Finds, deed_of, words_after, entries_after, weights_after, fits as fits_so, does, changes, nothing, joins, asks, removes}
-use Rattle.world_semaphore.specs.machine.Tally.{Tally, IsSound, tally_of, counts_of}
-use Rattle.world_semaphore.specs.machine.Machine.{Semaphore, IsKept, Stands, knows, goes_with, answer_by, runs, position_at, sizes_of}
+use Rattle.world_semaphore.specs.machine.Seats.{size_of}
+use Rattle.world_semaphore.specs.machine.Tally.{IsSound}
+use Rattle.world_semaphore.specs.machine.Machine.{Stands}
 use Rattle.world_semaphore.proofs.of_machine.laws.Steps.{Effect, Goes}
 use Rattle.world_semaphore.proofs.of_machine.laws.Effects.{numbers}
 use Rattle.world_semaphore.proofs.of_machine.laws.Entries.{CanOf, own, others, wanted_so, fitted-agree}
@@ -40,7 +12,6 @@ use Rattle.world_semaphore.proofs.of_machine.laws.Laws.{listed_known}
 use Rattle.world_semaphore.proofs.of_machine.laws.CanDo.{can_do}
 use Rattle.world_semaphore.proofs.of_machine.stages.Turns.{Fits, fits, lands}
 use Rattle.world_semaphore.proofs.of_machine.stages.Taking.{taken}
-use Rattle.sync_program.specs.Permits.{told_more}
 
 -- a party that waits for so many stands in the list for them
 so_many : (s k : ℕ) → 0 < bit (k == s) → k ≡ s
@@ -145,11 +116,11 @@ module _ (p : ℕ) (ws : List ℕ) (known : p < length ws) where
   weighs_by _ f was h = absurd (omega (arith, h))
 
   others_weigh : (a : Action) (f : Found) (j : ℕ) → j ≢ p → weight_in (weights_after p a f ws) j ≡ weight_in ws j
-  others_weigh (act.Join k) Done j apart = get_or-set_other ws p j k 0 apart
+  others_weigh (Action.Join k) Done j apart = get_or-set_other ws p j k 0 apart
   others_weigh _ f j apart = refl
 
 as_many_weights : (p : ℕ) (a : Action) (f : Found) (ws : List ℕ) → length (weights_after p a f ws) ≡ length ws
-as_many_weights p (act.Join k) Done ws = length-set ws p k
+as_many_weights p (Action.Join k) Done ws = length-set ws p k
 as_many_weights p _ f ws = refl
 
 -- ---- one party goes on
@@ -175,28 +146,28 @@ module _ (s : ℕ) (xs : List Position) (p : ℕ) (x : Place) (to : Position) wh
       }
 
 can_of : (p : ℕ) (w : Words) (q : WeightedQueue) (a : Action) (f : Found) → CanDo p a w q → CanOf p q.entries (deed_of a f)
-can_of p w q (act.Take n) (Left a) k = tt
-can_of p w q (act.Take n) _ k = tt
-can_of p w q (act.GiveBack n) (Available a) k = tt
-can_of p w q (act.GiveBack n) _ k = tt
-can_of p w q (act.Give n) (Available a) k = tt
-can_of p w q (act.Give n) _ k = tt
-can_of p w q (act.Raise n) Done k = tt
-can_of p w q (act.Raise n) _ k = tt
-can_of p w q (act.Lower n) Done k = tt
-can_of p w q (act.Lower n) _ k = tt
-can_of p w q act.Load f k = tt
-can_of p w q (act.Join n) Done k = tt
-can_of p w q (act.Join n) _ k = tt
-can_of p w q act.Ask Yes k = k.1
-can_of p w q act.Ask No k = k.1
-can_of p w q act.Ask _ k = tt
-can_of p w q act.Remove Yes k = k.1
-can_of p w q act.Remove No k = k.1
-can_of p w q act.Remove _ k = tt
-can_of p w q (act.Fit n) Done k = tt
-can_of p w q (act.Fit n) _ k = tt
-can_of p w q act.Nothing f k = tt
+can_of p w q (Action.Take n) (Left a) k = tt
+can_of p w q (Action.Take n) _ k = tt
+can_of p w q (Action.GiveBack n) (Available a) k = tt
+can_of p w q (Action.GiveBack n) _ k = tt
+can_of p w q (Action.Give n) (Available a) k = tt
+can_of p w q (Action.Give n) _ k = tt
+can_of p w q (Action.Raise n) Done k = tt
+can_of p w q (Action.Raise n) _ k = tt
+can_of p w q (Action.Lower n) Done k = tt
+can_of p w q (Action.Lower n) _ k = tt
+can_of p w q Action.Load f k = tt
+can_of p w q (Action.Join n) Done k = tt
+can_of p w q (Action.Join n) _ k = tt
+can_of p w q Action.Ask Yes k = k.1
+can_of p w q Action.Ask No k = k.1
+can_of p w q Action.Ask _ k = tt
+can_of p w q Action.Remove Yes k = k.1
+can_of p w q Action.Remove No k = k.1
+can_of p w q Action.Remove _ k = tt
+can_of p w q (Action.Fit n) Done k = tt
+can_of p w q (Action.Fit n) _ k = tt
+can_of p w q Action.Nothing f k = tt
 
 module _ (p : ℕ) (w : Words) (xs : List Position) (q : WeightedQueue) (memory : Bool) (lock : IsKept w xs q) where
   -- whoever waits for as many as are available is wanted
@@ -285,9 +256,9 @@ pub never_lost : (xs : List Position) (p : ℕ) (w : Within) (what : What) (s : 
 never_lost xs p w what s stands call first = let t = fits s what w (position_at xs p) stands call first in (t.from, t.starts)
 
 pub keeps : (x y : Semaphore) (p : ℕ) (w : Within) (from : Place) (f : Found) → p < length x.positions → runs w.kind w.was from ≡ true → y.positions ≡ set x.positions p (after from f)
-    → Keeps (λ (s : Semaphore). length s.positions) Stands x p (stage_after rest.Holding w (answer_by (next_of from f))) y
+    → Keeps (λ (s : Semaphore). length s.positions) Stands x p (stage_after Rest.Holding w (answer_by (next_of from f))) y
 keeps x y p w from f known here to =
-    let P : List Position → Type 0 = λ ps. goes_with (stage_after rest.Holding w (answer_by (next_of from f))) (position_at ps p) ≡ true in
+    let P : List Position → Type 0 = λ ps. goes_with (stage_after Rest.Holding w (answer_by (next_of from f))) (position_at ps p) ≡ true in
     let set_to : P (set x.positions p (after from f)) = rw (get_or-set_same x.positions p (after from f) Out known) (lands w from f here) in
     record {
       as_many = ap length to ∙ length-set x.positions p (after from f);

@@ -1,12 +1,6 @@
 -- A new semaphore.
-use Rattle.std.proofs.Common.{ℕ, ◌≤◌, [], replicate, refl, sym, arith}
-use Rattle.std.proofs.lemmas.List.{length-replicate}
-use Rattle.world_base.specs.queue.Weighted.{weighted_queue}
+use Rattle.world_semaphore.proofs.Prelude.{ℕ, ◌≤◌, [], replicate, refl, sym, arith, length-replicate, weighted_queue, Out, words, permits_at, under_way_at, listed, waits, is_short, IsKept}
 use Rattle.world_base.proofs.Alike.{all_alike, none_of_all}
-use Rattle.sync_program.specs.declared.permits.Position.TheVariants.{Out}
-use Rattle.world_semaphore.specs.machine.Deeds.{words}
-use Rattle.world_semaphore.specs.machine.Seats.{permits_at, under_way_at, listed, waits, is_short}
-use Rattle.world_semaphore.specs.machine.Machine.{IsKept}
 
 pub new_is : (n permits most : ℕ) → permits ≤ most → IsKept (words permits permits most) (replicate n Out) (weighted_queue n [] (replicate n 0))
 new_is n permits most few = record {

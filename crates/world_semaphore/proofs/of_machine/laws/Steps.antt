@@ -1,12 +1,5 @@
 -- What a step does to the numbers.
-use Rattle.std.proofs.Common.{◌≡◌, ℕ, ◌+◌, ◌<◌, ◌≤◌, Bool, true, false}
-use Rattle.sync_program.specs.declared.permits.Action.{Action}
-use Rattle.sync_program.specs.declared.permits.Action.TheVariants as act
-use Rattle.sync_program.specs.declared.permits.Found.{Found}
-use Rattle.sync_program.specs.declared.permits.Found.TheVariants.{Done, Left, Short, Available, PastLimit, NoMemory, Yes, No}
-use Rattle.sync_program.specs.declared.permits.Position.{Position}
-use Rattle.world_semaphore.specs.machine.Seats.{Seat, permits_of, bit, pays}
-use Rattle.world_semaphore.specs.machine.Tally.{Tally, Counts}
+use Rattle.world_semaphore.proofs.Prelude.{◌≡◌, ℕ, ◌+◌, ◌<◌, ◌≤◌, Bool, true, false, Action, Found, Done, Left, Short, Available, PastLimit, NoMemory, Yes, No, Position, Seat, permits_of, bit, pays, Tally, Counts}
 
 abbrev pub SameList : Tally → Tally → Type 0
 SameList s t = (t.size ≡ s.size) × (t.marked ≡ s.marked)
@@ -21,22 +14,22 @@ Told s t = Words s t s.available s.limit × (t.size + 1 ≡ s.size) × (t.marked
 
 -- what an action does to the numbers where it finds this; n is how many wait for s permits
 abbrev pub Effect : ℕ → ℕ → Action → Found → Tally → Tally → Type 0
-Effect s n (act.Take k) (Left a) t u = (u.available ≡ a) × (a + k ≡ t.available) × (u.limit ≡ t.limit) × (u.most ≡ t.most) × SameList t u
-Effect s n (act.Take k) (Short a) t u = (t.available ≡ a) × (a < k) × Words t u t.available t.limit × SameList t u
-Effect s n (act.GiveBack k) (Available a) t u = (a ≡ t.available + k) × Words t u a t.limit × SameList t u
-Effect s n (act.Give k) (Available a) t u = (a ≡ t.available + k) × Words t u a t.limit × SameList t u
-Effect s n (act.Raise k) Done t u = (t.limit + k ≤ t.most) × Words t u t.available (t.limit + k) × SameList t u
-Effect s n (act.Raise k) PastLimit t u = Words t u t.available t.limit × SameList t u
-Effect s n (act.Lower k) Done t u = (u.available ≡ t.available) × (u.limit + k ≡ t.limit) × (u.most ≡ t.most) × SameList t u
-Effect s n act.Load (Available a) t u = (a ≡ t.available) × Words t u t.available t.limit × SameList t u
-Effect s n (act.Join k) Done t u = Words t u t.available t.limit × (u.size ≡ t.size + 1) × (u.marked ≡ t.marked)
-Effect s n (act.Join k) NoMemory t u = Words t u t.available t.limit × SameList t u
-Effect s n act.Ask Yes t u = Told t u
-Effect s n act.Ask No t u = Words t u t.available t.limit × SameList t u
-Effect s n act.Remove Yes t u = Told t u
-Effect s n act.Remove No t u = Words t u t.available t.limit × (u.size + 1 ≡ t.size) × (u.marked ≡ t.marked)
-Effect s n (act.Fit a) Done t u = Words t u t.available t.limit × (u.size ≡ t.size) × (t.marked ≤ u.marked) × (s ≤ a → 0 < n → 0 < u.marked)
-Effect s n act.Nothing Done t u = Words t u t.available t.limit × SameList t u
+Effect s n (Action.Take k) (Left a) t u = (u.available ≡ a) × (a + k ≡ t.available) × (u.limit ≡ t.limit) × (u.most ≡ t.most) × SameList t u
+Effect s n (Action.Take k) (Short a) t u = (t.available ≡ a) × (a < k) × Words t u t.available t.limit × SameList t u
+Effect s n (Action.GiveBack k) (Available a) t u = (a ≡ t.available + k) × Words t u a t.limit × SameList t u
+Effect s n (Action.Give k) (Available a) t u = (a ≡ t.available + k) × Words t u a t.limit × SameList t u
+Effect s n (Action.Raise k) Done t u = (t.limit + k ≤ t.most) × Words t u t.available (t.limit + k) × SameList t u
+Effect s n (Action.Raise k) PastLimit t u = Words t u t.available t.limit × SameList t u
+Effect s n (Action.Lower k) Done t u = (u.available ≡ t.available) × (u.limit + k ≡ t.limit) × (u.most ≡ t.most) × SameList t u
+Effect s n Action.Load (Available a) t u = (a ≡ t.available) × Words t u t.available t.limit × SameList t u
+Effect s n (Action.Join k) Done t u = Words t u t.available t.limit × (u.size ≡ t.size + 1) × (u.marked ≡ t.marked)
+Effect s n (Action.Join k) NoMemory t u = Words t u t.available t.limit × SameList t u
+Effect s n Action.Ask Yes t u = Told t u
+Effect s n Action.Ask No t u = Words t u t.available t.limit × SameList t u
+Effect s n Action.Remove Yes t u = Told t u
+Effect s n Action.Remove No t u = Words t u t.available t.limit × (u.size + 1 ≡ t.size) × (u.marked ≡ t.marked)
+Effect s n (Action.Fit a) Done t u = Words t u t.available t.limit × (u.size ≡ t.size) × (t.marked ≤ u.marked) × (s ≤ a → 0 < n → 0 < u.marked)
+Effect s n Action.Nothing Done t u = Words t u t.available t.limit × SameList t u
 Effect s n _ _ t u = ⊥
 
 -- One party goes from where it has and owes this, and waits for s permits or not, to where it has and owes that. It may have waited where its action's place no longer counts it so.

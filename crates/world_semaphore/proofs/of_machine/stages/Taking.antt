@@ -1,12 +1,7 @@
 -- What comes after a look that took the permits, of a party that was told and isn't listed.
-use Rattle.std.proofs.Common.{◌≡◌, ℕ, true, false, Option, Some, None, refl, sym, subst}
+use Rattle.world_semaphore.proofs.Prelude.{◌≡◌, ℕ, true, false, Option, Some, None, refl, sym, subst, Left, Take, HandOn, Holding, told_more, after_taking_with, Next, next_of}
 use Rattle.lock_program.specs.declared.end.End.TheVariants.{Got}
 use Rattle.lock_program.specs.declared.end.Next.TheVariants as next
-use Rattle.sync_program.specs.declared.permits.Found.TheVariants.{Left}
-use Rattle.sync_program.specs.declared.permits.Place.TheVariants.{Take, HandOn}
-use Rattle.sync_program.specs.declared.permits.Position.TheVariants.{Holding}
-use Rattle.sync_program.specs.Permits.{told_more, after_taking_with}
-use Rattle.world_semaphore.specs.machine.Program.{Next, next_of}
 use Rattle.world_semaphore.proofs.of_machine.laws.Kept.{more_is, no_more}
 
 -- It tells the next of what is left, or there is nothing left.

@@ -1,43 +1,20 @@
 -- Where a call begins or goes on, and at which stage its party is after its action.
-use Rattle.std.proofs.Common.{◌≡◌, ℕ, ◌≤◌, ◌&&◌, true, false, Bool, Option, Some, None, refl, sym, subst, arith}
-use Rattle.std.proofs.lemmas.Bool.{false≢true}
-use Rattle.world_base.specs.declared.moves.Call.TheVariants as call
-use Rattle.world_base.specs.declared.moves.Inputs.{Inputs}
-use Rattle.world_base.specs.declared.moves.What.{What}
-use Rattle.world_base.specs.declared.moves.What.TheVariants.{Begin, Go}
-use Rattle.world_base.specs.declared.standing.Kind.{Kind}
-use Rattle.world_base.specs.declared.standing.Kind.TheVariants as kind
-use Rattle.world_base.specs.declared.standing.Rest.{Rest}
-use Rattle.world_base.specs.declared.standing.Rest.TheVariants as rest
-use Rattle.world_base.specs.declared.standing.Stage.{Stage}
-use Rattle.world_base.specs.declared.standing.Stage.TheVariants.{Outside, Inside, Forgotten}
-use Rattle.world_base.specs.declared.standing.Within.{Within}
-use Rattle.world_base.proofs.Equations.{some_eq, none_some, both}
-use Rattle.world_base.specs.table.Stages.{call_at, polls_again, stage_after}
-use Rattle.sync_program.specs.declared.permits.Found.{Found}
-use Rattle.sync_program.specs.declared.permits.Found.TheVariants.{Done, Left, Yes}
-use Rattle.sync_program.specs.declared.permits.Place.{Place}
-use Rattle.sync_program.specs.declared.permits.Place.TheVariants.{Take, Retake, Join, Ask, Remove, Load, HandOn, PassOn, RefuseFit, Try, Lower, GiveBack, Raise, GiveAdded, FitAdded, CancelRemove, CancelLoad, FitGivenBack, Abandon}
-use Rattle.sync_program.specs.declared.permits.Position.{Position}
-use Rattle.sync_program.specs.declared.permits.Position.TheVariants.{Out, Unlisted, Waiting, Holding, At}
-use Rattle.sync_program.specs.Permits.{told_more, is_told}
-use Rattle.world_semaphore.specs.machine.Program.{Next, place_for, next_of, position_after}
-use Rattle.world_semaphore.specs.machine.Seats.{seat_of, seated, waits_for, waits, is_short_at, is_short, size_of, size_at}
-use Rattle.world_semaphore.specs.machine.Machine.{knows, runs, is_polling, is_begun, goes_with, answer_by}
+use Rattle.world_semaphore.proofs.Prelude.{◌≡◌, ℕ, ◌≤◌, ◌&&◌, true, false, Bool, Option, Some, None, refl, sym, subst, arith, false≢true, Call, Inputs, What, Begin, Go, Kind, Rest, Stage, Outside, Inside, Forgotten, Within, some_eq, none_some, both, call_at, polls_again, stage_after, Found, Done, Left, Yes, Place, Take, Retake, Join, Ask, Remove, Load, HandOn, PassOn, RefuseFit, Try, Lower, GiveBack, Raise, GiveAdded, FitAdded, CancelRemove, CancelLoad, FitGivenBack, Abandon, Position, Out, Unlisted, Waiting, Holding, At, told_more, is_told, Next, place_for, next_of, position_after, seat_of, seated, waits_for, waits, is_short_at, is_short, size_at, knows, runs, is_polling, is_begun, goes_with, answer_by}
+use Rattle.world_semaphore.specs.machine.Seats.{size_of}
 use Rattle.world_semaphore.proofs.of_machine.laws.Kept.{after}
 use Rattle.world_semaphore.proofs.of_machine.stages.Taking.{taken}
 
 -- The moves of a semaphore's parties: each call from where it may begin, and going on.
 pub record Moves (P : Stage → What → Within → Position → Place → Type 0) : Type 0 where
-  pub acquire : (k : ℕ) (i : Inputs) → P (Outside rest.Idle) (Begin (call.Acquire k) i) (record { kind = kind.FirstPoll; was = rest.Idle }) Out (Take k false false)
-  pub try : (k : ℕ) (i : Inputs) → P (Outside rest.Idle) (Begin (call.TryAcquire k) i) (record { kind = kind.Try; was = rest.Idle }) Out (Try k)
-  pub add : (n : ℕ) (i : Inputs) → P (Outside rest.Idle) (Begin (call.AddPermits n) i) (record { kind = kind.Add; was = rest.Idle }) Out (Raise n)
-  pub poll : (k : ℕ) (i : Inputs) → P (Outside rest.Pending) (Begin call.Poll i) (record { kind = kind.LaterPoll; was = rest.Pending }) (Unlisted k) (Take k false false)
-  pub poll_listed : (k : ℕ) (i : Inputs) → P (Outside rest.Pending) (Begin call.Poll i) (record { kind = kind.LaterPoll; was = rest.Pending }) (Waiting k) (Retake k)
-  pub abandon : (k : ℕ) (i : Inputs) → P (Outside rest.Pending) (Begin call.Drop i) (record { kind = kind.Drop; was = rest.Pending }) (Unlisted k) Abandon
-  pub cancel : (k : ℕ) (i : Inputs) → P (Outside rest.Pending) (Begin call.Drop i) (record { kind = kind.Drop; was = rest.Pending }) (Waiting k) CancelRemove
-  pub give_back : (k : ℕ) (i : Inputs) → P (Outside rest.Holding) (Begin call.Drop i) (record { kind = kind.Drop; was = rest.Holding }) (Holding k) (GiveBack k)
-  pub forget : (k : ℕ) (i : Inputs) → P (Outside rest.Holding) (Begin call.Forget i) (record { kind = kind.Forget; was = rest.Holding }) (Holding k) (Lower k)
+  pub acquire : (k : ℕ) (i : Inputs) → P (Outside Rest.Idle) (Begin (Call.Acquire k) i) (record { kind = Kind.FirstPoll; was = Rest.Idle }) Out (Take k false false)
+  pub try : (k : ℕ) (i : Inputs) → P (Outside Rest.Idle) (Begin (Call.TryAcquire k) i) (record { kind = Kind.Try; was = Rest.Idle }) Out (Try k)
+  pub add : (n : ℕ) (i : Inputs) → P (Outside Rest.Idle) (Begin (Call.AddPermits n) i) (record { kind = Kind.Add; was = Rest.Idle }) Out (Raise n)
+  pub poll : (k : ℕ) (i : Inputs) → P (Outside Rest.Pending) (Begin Call.Poll i) (record { kind = Kind.LaterPoll; was = Rest.Pending }) (Unlisted k) (Take k false false)
+  pub poll_listed : (k : ℕ) (i : Inputs) → P (Outside Rest.Pending) (Begin Call.Poll i) (record { kind = Kind.LaterPoll; was = Rest.Pending }) (Waiting k) (Retake k)
+  pub abandon : (k : ℕ) (i : Inputs) → P (Outside Rest.Pending) (Begin Call.Drop i) (record { kind = Kind.Drop; was = Rest.Pending }) (Unlisted k) Abandon
+  pub cancel : (k : ℕ) (i : Inputs) → P (Outside Rest.Pending) (Begin Call.Drop i) (record { kind = Kind.Drop; was = Rest.Pending }) (Waiting k) CancelRemove
+  pub give_back : (k : ℕ) (i : Inputs) → P (Outside Rest.Holding) (Begin Call.Drop i) (record { kind = Kind.Drop; was = Rest.Holding }) (Holding k) (GiveBack k)
+  pub forget : (k : ℕ) (i : Inputs) → P (Outside Rest.Holding) (Begin Call.Forget i) (record { kind = Kind.Forget; was = Rest.Holding }) (Holding k) (Lower k)
   pub go : (w : Within) (x : Place) (i : Inputs) → is_begun x ≡ true → runs w.kind w.was x ≡ true → P (Inside w) (Go i) w (At x) x
 
 -- where a move begins, and what is so there
@@ -51,40 +28,40 @@ module _ (P : Stage → What → Within → Position → Place → Type 0) (k : 
   begun s what v w x from starts e h = let Q : Within → Type 0 = λ u. P s what u x from in record { from = from; starts = starts; holds = subst Q (some_eq e) h }
 
   -- one stage after the other, since each case of a match over all of them at once would be told apart from all others
-  idle : (what : What) (w : Within) → call_at knows (Outside rest.Idle) what ≡ Some w → Turn P (Outside rest.Idle) what w Out
-  idle (Begin (call.Acquire n) i) w e = begun _ _ _ w Out (Take n false false) refl e (k.acquire n i)
-  idle (Begin (call.TryAcquire n) i) w e = begun _ _ _ w Out (Try n) refl e (k.try n i)
-  idle (Begin (call.AddPermits n) i) w e = begun _ _ _ w Out (Raise n) refl e (k.add n i)
+  idle : (what : What) (w : Within) → call_at knows (Outside Rest.Idle) what ≡ Some w → Turn P (Outside Rest.Idle) what w Out
+  idle (Begin (Call.Acquire n) i) w e = begun _ _ _ w Out (Take n false false) refl e (k.acquire n i)
+  idle (Begin (Call.TryAcquire n) i) w e = begun _ _ _ w Out (Try n) refl e (k.try n i)
+  idle (Begin (Call.AddPermits n) i) w e = begun _ _ _ w Out (Raise n) refl e (k.add n i)
   idle (Begin _ i) w e = absurd (none_some e)
   idle (Go i) w e = absurd (none_some e)
 
-  polled : (i : Inputs) (w : Within) (x : Position) → goes_with (Outside rest.Pending) x ≡ true → call_at knows (Outside rest.Pending) (Begin call.Poll i) ≡ Some w → Turn P (Outside rest.Pending) (Begin call.Poll i) w x
+  polled : (i : Inputs) (w : Within) (x : Position) → goes_with (Outside Rest.Pending) x ≡ true → call_at knows (Outside Rest.Pending) (Begin Call.Poll i) ≡ Some w → Turn P (Outside Rest.Pending) (Begin Call.Poll i) w x
   polled i w (Unlisted n) g e = begun _ _ _ w (Unlisted n) (Take n false false) refl e (k.poll n i)
   polled i w (Waiting n) g e = begun _ _ _ w (Waiting n) (Retake n) refl e (k.poll_listed n i)
   polled i w _ g e = absurd (false≢true g)
 
-  dropped : (i : Inputs) (w : Within) (x : Position) → goes_with (Outside rest.Pending) x ≡ true → call_at knows (Outside rest.Pending) (Begin call.Drop i) ≡ Some w → Turn P (Outside rest.Pending) (Begin call.Drop i) w x
+  dropped : (i : Inputs) (w : Within) (x : Position) → goes_with (Outside Rest.Pending) x ≡ true → call_at knows (Outside Rest.Pending) (Begin Call.Drop i) ≡ Some w → Turn P (Outside Rest.Pending) (Begin Call.Drop i) w x
   dropped i w (Unlisted n) g e = begun _ _ _ w (Unlisted n) Abandon refl e (k.abandon n i)
   dropped i w (Waiting n) g e = begun _ _ _ w (Waiting n) CancelRemove refl e (k.cancel n i)
   dropped i w _ g e = absurd (false≢true g)
 
-  pending : (what : What) (w : Within) (x : Position) → goes_with (Outside rest.Pending) x ≡ true → call_at knows (Outside rest.Pending) what ≡ Some w → Turn P (Outside rest.Pending) what w x
-  pending (Begin call.Poll i) w x g e = polled i w x g e
-  pending (Begin call.Drop i) w x g e = dropped i w x g e
+  pending : (what : What) (w : Within) (x : Position) → goes_with (Outside Rest.Pending) x ≡ true → call_at knows (Outside Rest.Pending) what ≡ Some w → Turn P (Outside Rest.Pending) what w x
+  pending (Begin Call.Poll i) w x g e = polled i w x g e
+  pending (Begin Call.Drop i) w x g e = dropped i w x g e
   pending (Begin _ i) w x g e = absurd (none_some e)
   pending (Go i) w x g e = absurd (none_some e)
 
-  holding : (n : ℕ) (what : What) (w : Within) → call_at knows (Outside rest.Holding) what ≡ Some w → polls_again (Outside rest.Holding) what ≡ false → Turn P (Outside rest.Holding) what w (Holding n)
-  holding n (Begin call.Drop i) w e first = begun _ _ _ w (Holding n) (GiveBack n) refl e (k.give_back n i)
-  holding n (Begin call.Forget i) w e first = begun _ _ _ w (Holding n) (Lower n) refl e (k.forget n i)
-  holding n (Begin call.Poll i) w e first = absurd (false≢true (sym first))
+  holding : (n : ℕ) (what : What) (w : Within) → call_at knows (Outside Rest.Holding) what ≡ Some w → polls_again (Outside Rest.Holding) what ≡ false → Turn P (Outside Rest.Holding) what w (Holding n)
+  holding n (Begin Call.Drop i) w e first = begun _ _ _ w (Holding n) (GiveBack n) refl e (k.give_back n i)
+  holding n (Begin Call.Forget i) w e first = begun _ _ _ w (Holding n) (Lower n) refl e (k.forget n i)
+  holding n (Begin Call.Poll i) w e first = absurd (false≢true (sym first))
   holding n (Begin _ i) w e first = absurd (none_some e)
   holding n (Go i) w e first = absurd (none_some e)
 
   resting : (r : Rest) (what : What) (w : Within) (x : Position) → goes_with (Outside r) x ≡ true → call_at knows (Outside r) what ≡ Some w → polls_again (Outside r) what ≡ false → Turn P (Outside r) what w x
-  resting rest.Idle what w Out g e n = idle what w e
-  resting rest.Pending what w x g e n = pending what w x g e
-  resting rest.Holding what w (Holding m) g e n = holding m what w e n
+  resting Rest.Idle what w Out g e n = idle what w e
+  resting Rest.Pending what w x g e n = pending what w x g e
+  resting Rest.Holding what w (Holding m) g e n = holding m what w e n
   resting _ what w _ g e n = absurd (false≢true g)
 
   pub turn : (s : Stage) (what : What) (w : Within) (x : Position) → goes_with s x ≡ true → call_at knows s what ≡ Some w → polls_again s what ≡ false → Turn P s what w x
@@ -118,7 +95,7 @@ fits = turn (λ s what w x from. Fits w x from) (record {
 -- ---- the stage after an action goes with where the party then stands
 
 abbrev LandsBy : Within → Next → Type 0
-LandsBy w n = goes_with (stage_after rest.Holding w (answer_by n)) (position_after n) ≡ true
+LandsBy w n = goes_with (stage_after Rest.Holding w (answer_by n)) (position_after n) ≡ true
 
 abbrev pub Lands : Within → Place → Found → Type 0
 Lands w x f = LandsBy w (next_of x f)
@@ -150,19 +127,19 @@ module _ (w : Within) (inside : (x : Place) → is_begun x && is_polling x ≡ t
 abbrev within : Kind → Rest → Within
 within k r = record { kind = k; was = r }
 
-tries : (x : Place) (f : Found) → runs kind.Try rest.Idle x ≡ true → Lands (within kind.Try rest.Idle) x f
+tries : (x : Place) (f : Found) → runs Kind.Try Rest.Idle x ≡ true → Lands (within Kind.Try Rest.Idle) x f
 tries (Try k) (Left a) h = refl
 tries (Try k) _ h = refl
 tries _ f h = absurd (false≢true h)
 
-adds : (x : Place) (f : Found) → runs kind.Add rest.Idle x ≡ true → Lands (within kind.Add rest.Idle) x f
+adds : (x : Place) (f : Found) → runs Kind.Add Rest.Idle x ≡ true → Lands (within Kind.Add Rest.Idle) x f
 adds (Raise n) Done h = refl
 adds (Raise n) _ h = refl
 adds (GiveAdded n) f h = refl
 adds (FitAdded a) f h = refl
 adds _ f h = absurd (false≢true h)
 
-cancels : (x : Place) (f : Found) → runs kind.Drop rest.Pending x ≡ true → Lands (within kind.Drop rest.Pending) x f
+cancels : (x : Place) (f : Found) → runs Kind.Drop Rest.Pending x ≡ true → Lands (within Kind.Drop Rest.Pending) x f
 cancels CancelRemove Yes h = refl
 cancels CancelRemove _ h = refl
 cancels CancelLoad f h = refl
@@ -170,23 +147,23 @@ cancels (FitGivenBack a) f h = refl
 cancels Abandon f h = refl
 cancels _ f h = absurd (false≢true h)
 
-returns : (x : Place) (f : Found) → runs kind.Drop rest.Holding x ≡ true → Lands (within kind.Drop rest.Holding) x f
+returns : (x : Place) (f : Found) → runs Kind.Drop Rest.Holding x ≡ true → Lands (within Kind.Drop Rest.Holding) x f
 returns (GiveBack k) f h = refl
 returns (FitGivenBack a) f h = refl
 returns _ f h = absurd (false≢true h)
 
-forgets : (x : Place) (f : Found) → runs kind.Forget rest.Holding x ≡ true → Lands (within kind.Forget rest.Holding) x f
+forgets : (x : Place) (f : Found) → runs Kind.Forget Rest.Holding x ≡ true → Lands (within Kind.Forget Rest.Holding) x f
 forgets (Lower k) f h = refl
 forgets _ f h = absurd (false≢true h)
 
 by_kind : (k : Kind) (r : Rest) (x : Place) (f : Found) → runs k r x ≡ true → Lands (within k r) x f
-by_kind kind.FirstPoll rest.Idle x f h = polls (within kind.FirstPoll rest.Idle) (λ y p. p) x f h
-by_kind kind.LaterPoll rest.Pending x f h = polls (within kind.LaterPoll rest.Pending) (λ y p. p) x f h
-by_kind kind.Try rest.Idle x f h = tries x f h
-by_kind kind.Add rest.Idle x f h = adds x f h
-by_kind kind.Drop rest.Pending x f h = cancels x f h
-by_kind kind.Drop rest.Holding x f h = returns x f h
-by_kind kind.Forget rest.Holding x f h = forgets x f h
+by_kind Kind.FirstPoll Rest.Idle x f h = polls (within Kind.FirstPoll Rest.Idle) (λ y p. p) x f h
+by_kind Kind.LaterPoll Rest.Pending x f h = polls (within Kind.LaterPoll Rest.Pending) (λ y p. p) x f h
+by_kind Kind.Try Rest.Idle x f h = tries x f h
+by_kind Kind.Add Rest.Idle x f h = adds x f h
+by_kind Kind.Drop Rest.Pending x f h = cancels x f h
+by_kind Kind.Drop Rest.Holding x f h = returns x f h
+by_kind Kind.Forget Rest.Holding x f h = forgets x f h
 by_kind _ _ x f h = absurd (false≢true h)
 
 pub lands : (w : Within) (x : Place) (f : Found) → runs w.kind w.was x ≡ true → Lands w x f

@@ -1,44 +1,35 @@
 -- What each action finds and does: all else stays as it was.
-use Rattle.std.proofs.Common.{◌≡◌, ℕ, ◌+◌, true, false, Bool, List, refl, sym, ap}
-use Rattle.lock_event.specs.declared.event.Entry.{Entry}
-use Rattle.lock_event.specs.Lists.{is_marked_at, without}
-use Rattle.sync_program.specs.declared.permits.Action.TheVariants as act
-use Rattle.sync_program.specs.declared.permits.Found.{Found}
-use Rattle.sync_program.specs.declared.permits.Found.TheVariants as found
-use Rattle.world_base.specs.queue.Parties.{is_party}
-use Rattle.world_base.specs.queue.Weighted.{WeightedQueue, weighted_queue, weight_in}
-use Rattle.world_semaphore.specs.declared.machine.words.Words.{Words}
-use Rattle.world_semaphore.specs.machine.Deeds.{Finds, FindsSo, deed_of, entries_after, words, words_after, told_by}
+use Rattle.world_semaphore.proofs.Prelude.{◌≡◌, ℕ, ◌+◌, true, false, Bool, List, refl, sym, ap, Entry, is_marked_at, without, Action, Found, is_party, WeightedQueue, weighted_queue, weight_in, Words, Finds, FindsSo, deed_of, entries_after, words, words_after, told_by}
 use Rattle.world_semaphore.specs.machine.Carried.{Carried}
 use Rattle.world_semaphore.proofs.machine.semaphore.carry_out.Goals as goal
 
 -- neither a look at the permits nor a raised limit does anything to the list
-takes_alone : (size : ℕ → ℕ) (p k : ℕ) (f : Found) (l : List (Entry ℕ)) → entries_after size p (deed_of (act.Take k) f) l ≡ l
-takes_alone size p k (found.Left a) l = refl
+takes_alone : (size : ℕ → ℕ) (p k : ℕ) (f : Found) (l : List (Entry ℕ)) → entries_after size p (deed_of (Action.Take k) f) l ≡ l
+takes_alone size p k (Found.Left a) l = refl
 takes_alone size p k _ l = refl
 
-raises_alone : (size : ℕ → ℕ) (p n : ℕ) (f : Found) (l : List (Entry ℕ)) → entries_after size p (deed_of (act.Raise n) f) l ≡ l
-raises_alone size p n found.Done l = refl
+raises_alone : (size : ℕ → ℕ) (p n : ℕ) (f : Found) (l : List (Entry ℕ)) → entries_after size p (deed_of (Action.Raise n) f) l ≡ l
+raises_alone size p n Found.Done l = refl
 raises_alone size p n _ l = refl
 
 module _ (memory : Bool) (p : ℕ) (v : Words) (q : WeightedQueue) where
-  gave_back : (k : ℕ) (f : Found) (w : Words) → FindsSo (v.available + k) f → w ≡ words (v.available + k) v.limit v.most → Carried memory p (act.GiveBack k) f v q w q
-  gave_back k (found.Available a) w e is = record { finds = e; words = is; list = refl }
+  gave_back : (k : ℕ) (f : Found) (w : Words) → FindsSo (v.available + k) f → w ≡ words (v.available + k) v.limit v.most → Carried memory p (Action.GiveBack k) f v q w q
+  gave_back k (Found.Available a) w e is = record { finds = e; words = is; list = refl }
   gave_back k _ w e is = absurd e
 
-  gave : (k : ℕ) (f : Found) (w : Words) → FindsSo (v.available + k) f → w ≡ words (v.available + k) v.limit v.most → Carried memory p (act.Give k) f v q w q
-  gave k (found.Available a) w e is = record { finds = e; words = is; list = refl }
+  gave : (k : ℕ) (f : Found) (w : Words) → FindsSo (v.available + k) f → w ≡ words (v.available + k) v.limit v.most → Carried memory p (Action.Give k) f v q w q
+  gave k (Found.Available a) w e is = record { finds = e; words = is; list = refl }
   gave k _ w e is = absurd e
 
-  loaded : (f : Found) → FindsSo v.available f → Carried memory p act.Load f v q v q
-  loaded (found.Available a) e = record { finds = e; words = refl; list = refl }
+  loaded : (f : Found) → FindsSo v.available f → Carried memory p Action.Load f v q v q
+  loaded (Found.Available a) e = record { finds = e; words = refl; list = refl }
   loaded _ e = absurd e
 
-  asked : (b : Bool) (m : WeightedQueue) → b ≡ is_marked_at (is_party p) q.entries → (b ≡ true → m ≡ weighted_queue q.parties (without (is_party p) q.entries) q.weights) → (b ≡ false → m ≡ q) → Carried memory p act.Ask (told_by b) v q v m
+  asked : (b : Bool) (m : WeightedQueue) → b ≡ is_marked_at (is_party p) q.entries → (b ≡ true → m ≡ weighted_queue q.parties (without (is_party p) q.entries) q.weights) → (b ≡ false → m ≡ q) → Carried memory p Action.Ask (told_by b) v q v m
   asked true m is told waits = record { finds = sym is; words = refl; list = rw (sym is) (told refl) }
   asked false m is told waits = record { finds = sym is; words = refl; list = rw (sym is) (waits refl) }
 
-  removed : (b : Bool) (m : WeightedQueue) → b ≡ is_marked_at (is_party p) q.entries → m ≡ weighted_queue q.parties (without (is_party p) q.entries) q.weights → Carried memory p act.Remove (told_by b) v q v m
+  removed : (b : Bool) (m : WeightedQueue) → b ≡ is_marked_at (is_party p) q.entries → m ≡ weighted_queue q.parties (without (is_party p) q.entries) q.weights → Carried memory p Action.Remove (told_by b) v q v m
   removed true m is gone = record { finds = sym is; words = refl; list = gone }
   removed false m is gone = record { finds = sym is; words = refl; list = gone }
 

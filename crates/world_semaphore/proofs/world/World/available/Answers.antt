@@ -1,7 +1,5 @@
 -- The word is what the state says.
-use Rattle.std.proofs.Common.{ap, sym, ◌∙◌}
-use Rattle.world_semaphore.specs.machine.Machine.{Semaphore}
-use Rattle.world_semaphore.specs.State.{available}
+use Rattle.world_semaphore.proofs.Prelude.{ap, sym, ◌∙◌, Semaphore, available}
 use Rattle.world_semaphore.proofs.table.Seen.{available_seen}
 use Rattle.world_semaphore.proofs.world.World.available.Goals as goal
 

@@ -1,6 +1,5 @@
 -- The limit is what the state says.
-use Rattle.std.proofs.Common.{ap, ◌∙◌}
-use Rattle.world_semaphore.specs.machine.Machine.{Semaphore}
+use Rattle.world_semaphore.proofs.Prelude.{ap, ◌∙◌, Semaphore}
 use Rattle.world_semaphore.proofs.world.World.limit.Goals as goal
 
 pub returns : goal.returns

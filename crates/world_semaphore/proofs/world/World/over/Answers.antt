@@ -1,7 +1,5 @@
 -- A new table is seen as a new World.
-use Rattle.std.proofs.Common.{ap, ◌∙◌}
-use Rattle.world_base.specs.table.Tables.{new_table}
-use Rattle.world_semaphore.specs.View.{view_of}
+use Rattle.world_semaphore.proofs.Prelude.{ap, ◌∙◌, new_table, view_of}
 use Rattle.world_semaphore.proofs.table.Opening.{starts_new}
 use Rattle.world_semaphore.proofs.world.World.over.Goals as goal
 

@@ -1,12 +1,5 @@
 -- An action of one party is one of its program, and keeps what always holds of the semaphore.
-use Rattle.std.proofs.Common.{◌≡◌, ◌<◌, length, ap, sym, ◌∙◌}
-use Rattle.std.proofs.Math.ListN.{set}
-use Rattle.world_base.specs.queue.Weighted.{weighted_queue, weight_in}
-use Rattle.world_base.specs.Standings.{inputs_of}
-use Rattle.world_base.specs.declared.moves.Inputs.{Inputs}
-use Rattle.world_semaphore.specs.machine.Program.{action_of, position_after}
-use Rattle.world_semaphore.specs.machine.Deeds.{Finds, deed_of, words_after, entries_after, weights_after}
-use Rattle.world_semaphore.specs.machine.Machine.{answer_by}
+use Rattle.world_semaphore.proofs.Prelude.{◌≡◌, ◌<◌, length, ap, sym, ◌∙◌, set, weighted_queue, weight_in, inputs_of, Inputs, action_of, position_after, Finds, deed_of, words_after, entries_after, weights_after, answer_by}
 use Rattle.world_semaphore.proofs.of_machine.laws.CanDo.{can_do}
 use Rattle.world_semaphore.proofs.of_machine.laws.Kept.{after}
 use Rattle.world_semaphore.proofs.of_machine.laws.Locks.{began, locked, alike, keeps}
