@@ -1,7 +1,5 @@
 -- A list of one value over and over, as each table of parties begins.
-use Rattle.std.proofs.Common.{◌≡◌, ℕ, zero, suc, get_or, replicate, refl, arith}
-use Rattle.std.specs.List.{sum_by}
-use Rattle.std.proofs.lemmas.List.Sums.{sum_by-cons}
+use Rattle.world_base.proofs.Prelude.{◌≡◌, ℕ, zero, suc, get_or, replicate, refl, arith, sum_by, sum_by-cons}
 
 pub all_alike : {A : Type 0} (x : A) (n p : ℕ) → get_or (replicate n x) p x ≡ x
 all_alike x zero p = refl

@@ -1,11 +1,5 @@
 -- Polls in turn: each that gives way leaves one entry less of a party that isn't starved.
-use Rattle.std.proofs.Common.{◌≡◌, ℕ, zero, suc, ◌+◌, ◌<◌, ◌≤◌, if◌then◌else◌, Bool, true, false, List, [], ◌∷◌, length, get_or, refl, arith}
-use Rattle.std.proofs.lemmas.Bool.Decides.{nat_tests}
-use Rattle.lock_event.specs.declared.event.Entry.{Entry}
-use Rattle.lock_event.specs.Lists.{is_marked, marked_count, is_marked_at, IsMarkedFirst}
-use Rattle.world_base.specs.queue.Parties.{is_party, entries_of}
-use Rattle.world_base.specs.declared.moves.Answer.{Answer}
-use Rattle.world_base.specs.declared.moves.Inputs.{Inputs}
+use Rattle.world_base.proofs.Prelude.{◌≡◌, ℕ, zero, suc, ◌+◌, ◌<◌, ◌≤◌, if◌then◌else◌, Bool, true, false, List, [], ◌∷◌, length, get_or, refl, arith, nat_tests, Entry, is_marked, marked_count, is_marked_at, IsMarkedFirst, is_party, entries_of, Answer, Inputs}
 use Rattle.world_base.specs.Rosters.{is_on, how_many}
 use Rattle.world_base.specs.Bounds.{unstarved_in, GaveWay, PassedOver, OneTakes}
 

@@ -1,16 +1,8 @@
 -- What equations of options, of standings and of tests say. `cc` finds this too, but reads all that is in scope first, in each case of a long function.
-use Rattle.std.proofs.Common.{◌≡◌, ℕ, ◌==◌, if◌then◌else◌, Bool, true, false, Option, Some, None, IsSomeAnd, refl, arith, sym, subst}
+use Rattle.world_base.proofs.Prelude.{◌≡◌, ℕ, ◌==◌, if◌then◌else◌, Bool, true, false, Option, Some, None, IsSomeAnd, refl, arith, sym, subst, nat_tests, none-some, same_Some, Answer, Refusal, Rest, Within, outside, inside, refused}
 pub use Rattle.std.proofs.lemmas.Bool.{and_parts as both}
-use Rattle.std.proofs.lemmas.Bool.Decides.{nat_tests}
-use Rattle.std.proofs.lemmas.Option.{none-some, same_Some}
-use Rattle.world_base.specs.declared.moves.Answer.{Answer}
-use Rattle.world_base.specs.declared.moves.Answer.TheVariants as answer
 use Rattle.world_base.specs.declared.moves.Got.{Got}
 use Rattle.world_base.specs.declared.moves.Got.TheVariants.{Value}
-use Rattle.lock_program.specs.declared.refusal.Refusal.TheVariants as refusal
-use Rattle.world_base.specs.declared.standing.Rest.{Rest}
-use Rattle.world_base.specs.declared.standing.Within.{Within}
-use Rattle.world_base.specs.Standings.{outside, inside, refused}
 
 pub some_eq : {A : Type 0} {x y : A} → Some x ≡ Some y → x ≡ y
 some_eq e = same_Some _ _ e
@@ -34,17 +26,17 @@ is_some_and {A} P o x e h = let Q : Option A → Type 0 = λ y. IsSomeAnd y P in
 
 -- answers told apart
 abbrev pub is_refused : Answer → Bool
-is_refused (answer.Refused n) = true
+is_refused (Answer.Refused n) = true
 is_refused _ = false
 
 abbrev pub is_granted : Answer → Bool
-is_granted (answer.Granted got) = true
+is_granted (Answer.Granted got) = true
 is_granted _ = false
 
-pub granted_eq : (n : ℕ) (got : Got) → answer.Granted (Value n) ≡ answer.Granted got → got ≡ Value n
+pub granted_eq : (n : ℕ) (got : Got) → Answer.Granted (Value n) ≡ Answer.Granted got → got ≡ Value n
 granted_eq n got e = cc
 
-pub finished_number : (n : ℕ) → answer.Refused n ≡ refused refusal.Finished → n ≡ 6
+pub finished_number : (n : ℕ) → Answer.Refused n ≡ refused Refusal.Finished → n ≡ 6
 finished_number n e = cc
 
 -- what a test chooses

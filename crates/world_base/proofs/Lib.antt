@@ -1,3 +1,4 @@
+mod Prelude
 pub mod of_queue
 pub mod Alike
 pub mod Bounds

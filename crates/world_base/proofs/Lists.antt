@@ -1,13 +1,7 @@
 -- What one list function does to a list, in numbers.
-use Rattle.std.proofs.Common.{◌≡◌, ◌≢◌, ℕ, zero, suc, ◌+◌, ◌-◌, ◌<◌, ◌≤◌, if◌then◌else◌, Bool, true, false, List, [], ◌∷◌, length, refl, arith, ap, ◌∙◌}
-use Rattle.std.proofs.lemmas.Bool.Decides.{nat_tests}
-use Rattle.lock_event.specs.declared.event.Entry.{Entry}
-use Rattle.lock_event.specs.declared.event.Mark.{Mark}
-use Rattle.lock_event.specs.declared.event.Mark.TheVariants.{Waiting, Notified, Additional}
-use Rattle.lock_event.specs.Lists.{entry, notified, is_marked, marked_count, mark_waiting, without, mark_at, is_listed, is_marked_at}
+use Rattle.world_base.proofs.Prelude.{◌≡◌, ◌≢◌, ℕ, zero, suc, ◌+◌, ◌-◌, ◌<◌, ◌≤◌, if◌then◌else◌, Bool, true, false, List, [], ◌∷◌, length, refl, arith, ap, ◌∙◌, nat_tests, Entry, Mark, Waiting, Notified, Additional, entry, notified, is_marked, marked_count, mark_waiting, without, mark_at, is_listed, is_marked_at, is_party, entries_of, is_unmarked}
 use Rattle.lock_event.proofs.Marks.{length-mark_waiting, marked_count-joined, mark_waiting-none}
 use Rattle.lock_event.proofs.Counts.{length-joined, length-without, length-passed_on, marked_count-without_marked, marked_count-le-mark_waiting, marked_count-left}
-use Rattle.world_base.specs.queue.Parties.{is_party, entries_of, is_unmarked}
 use Rattle.world_base.proofs.of_queue.Rekeyed.{entries_of-joined, entries_of-mark_waiting, entries_of-passed_on, entries_of-without_own, entries_of-without_other}
 use Rattle.world_base.proofs.of_queue.Queues.{own_one, other_one}
 use Rattle.world_base.proofs.of_queue.Marks.{join_unmarked, without_unmarked, mark_unmarked, pass_unmarked}

@@ -1,9 +1,5 @@
 -- Which list functions mark nobody.
-use Rattle.std.proofs.Common.{◌≡◌, ◌≢◌, ℕ, Bool, true, false, List, [], ◌∷◌, if◌then◌else◌, arith}
-use Rattle.std.proofs.lemmas.Bool.Decides.{nat_tests}
-use Rattle.lock_event.specs.declared.event.Entry.{Entry}
-use Rattle.lock_event.specs.Lists.{is_marked_at, joined, without}
-use Rattle.world_base.specs.queue.Parties.{is_party}
+use Rattle.world_base.proofs.Prelude.{◌≡◌, ◌≢◌, ℕ, Bool, true, false, List, [], ◌∷◌, if◌then◌else◌, arith, nat_tests, Entry, is_marked_at, joined, without, is_party}
 use Rattle.world_base.specs.Marks.{MarksNobody}
 use Rattle.world_base.specs.Steps.{asked}
 

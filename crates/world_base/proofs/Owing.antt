@@ -1,7 +1,5 @@
 -- Who is to pay what a waiting list is owed: where something free is waited for, an entry is marked or some party owes.
-use Rattle.std.proofs.Common.{◌≡◌, ℕ, zero, suc, ◌<◌, ◌⊎◌, inl, inr, List, [], ◌∷◌, length, get_or, refl, arith}
-use Rattle.std.specs.List.{sum_by}
-use Rattle.std.proofs.lemmas.List.Sums.{sum_by-cons, get_or-le-sum_by}
+use Rattle.world_base.proofs.Prelude.{◌≡◌, ℕ, zero, suc, ◌<◌, ◌⊎◌, inl, inr, List, [], ◌∷◌, length, get_or, refl, arith, sum_by, sum_by-cons, get_or-le-sum_by}
 use Rattle.world_base.specs.queue.Debts.{IsOwed}
 
 module _ {P : Type 0} (d : P) where

@@ -1,9 +1,5 @@
 -- A World at rest stays at rest where a party comes out of its call.
-use Rattle.std.proofs.Common.{◌≡◌, ℕ, zero, suc, ◌&&◌, Bool, true, List, [], ◌∷◌, refl}
-use Rattle.std.proofs.Math.ListN.{set}
-use Rattle.std.specs.List.{list_all}
-use Rattle.world_base.specs.declared.standing.Stage.{Stage}
-use Rattle.world_base.specs.Standings.{is_outside_stage}
+use Rattle.world_base.proofs.Prelude.{◌≡◌, ℕ, zero, suc, ◌&&◌, Bool, true, List, [], ◌∷◌, refl, set, list_all, Stage, is_outside_stage}
 use Rattle.world_base.proofs.Equations.{both}
 
 and_so : (a b : Bool) → a ≡ true → b ≡ true → a && b ≡ true

@@ -1,22 +1,10 @@
 -- Runs of any World go on by one step, and are cut in two.
-use Rattle.std.proofs.Common.{◌≡◌, ◌≢◌, ℕ, ◌+◌, true, false, List, [], ◌∷◌, ◌++◌, length, replicate, zero, suc, refl, arith, ap, sym, ◌∙◌, subst, length-append}
-use Rattle.std.proofs.lemmas.List.{length-replicate, replicate-append-replicate}
-use Rattle.world_base.specs.declared.moves.Answer.{Answer}
-use Rattle.world_base.specs.declared.moves.Answer.TheVariants as answer
-use Rattle.world_base.specs.declared.moves.Call.{Call}
-use Rattle.world_base.specs.declared.moves.Inputs.{Inputs}
-use Rattle.world_base.specs.declared.moves.Move.{Move}
-use Rattle.world_base.specs.declared.moves.What.{What}
-use Rattle.world_base.specs.declared.moves.What.TheVariants.{Go}
-use Rattle.world_base.specs.Runs.{Runs}
-use Rattle.world_base.specs.Standings.{is_stepped}
-use Rattle.world_base.specs.Whole.{going_on, moves_of, answers_of}
-use Rattle.world_base.specs.any_world.Steps.{known_by, beginning, KeepsPromises}
+use Rattle.world_base.proofs.Prelude.{◌≡◌, ◌≢◌, ℕ, ◌+◌, true, false, List, [], ◌∷◌, ◌++◌, length, replicate, zero, suc, refl, arith, ap, sym, ◌∙◌, subst, length-append, length-replicate, replicate-append-replicate, Answer, Call, Inputs, Move, What, Go, Runs, is_stepped, going_on, moves_of, answers_of, known_by, beginning, KeepsPromises}
 
 -- what a step leaves: this while its call goes on, and that where it ends
 pub record Onward {W : Type 0} (Going : W → Type 0) (AtEnd : Answer → W → Type 0) (a : Answer) (v : W) : Type 0 where
-  pub going : a ≡ answer.Stepped → Going v
-  pub ended : a ≢ answer.Stepped → AtEnd a v
+  pub going : a ≡ Answer.Stepped → Going v
+  pub ended : a ≢ Answer.Stepped → AtEnd a v
 
 module _ {W Known : Type 0} (Legal : W → Move → Answer → W → Type 0) (learn : Known → Move → Answer → Known) (IsWell : Known → W → Type 0) where
   pub runs_more : (known : Known) (w : W) (ms : List Move) (answers : List Answer) (v : W) (m : Move) (a : Answer) (u : W) → Runs Legal learn IsWell known w ms answers v → Legal v m a u → IsWell (learn (known_by learn known ms answers) m a) u → Runs Legal learn IsWell known w (ms ++ m ∷ []) (answers ++ a ∷ []) u
@@ -42,22 +30,22 @@ module _ {W Known : Type 0} (Legal : W → Move → Answer → W → Type 0) (le
     pub what : What
     pub legal : Legal from (record { party = p; what = what }) a v
 
-  pub last_of : (known : Known) (w : W) (p : ℕ) (i : Inputs) (n : ℕ) (what : What) (a : Answer) (v : W) → Runs Legal learn IsWell known w (record { party = p; what = what } ∷ replicate n (going_on p i)) (replicate n answer.Stepped ++ a ∷ []) v → LastStep w p a v
+  pub last_of : (known : Known) (w : W) (p : ℕ) (i : Inputs) (n : ℕ) (what : What) (a : Answer) (v : W) → Runs Legal learn IsWell known w (record { party = p; what = what } ∷ replicate n (going_on p i)) (replicate n Answer.Stepped ++ a ∷ []) v → LastStep w p a v
   last_of known w p i zero what a v runs = let P : W → Type 0 = λ x. Legal w (record { party = p; what = what }) a x in record { from = w; what = what; legal = subst P (sym runs.3) runs.1 }
-  last_of known w p i (suc n) what a v runs = let r = last_of (learn known (record { party = p; what = what }) answer.Stepped) runs.0 p i n (Go i) a v runs.3 in record { from = r.from; what = r.what; legal = r.legal }
+  last_of known w p i (suc n) what a v runs = let r = last_of (learn known (record { party = p; what = what }) Answer.Stepped) runs.0 p i n (Go i) a v runs.3 in record { from = r.from; what = r.what; legal = r.legal }
 
   -- what each step of a whole call keeps holds along it, and what the step that ends it says holds at the end
   module _ (p : ℕ) (i : Inputs) (Going : W → Type 0) (AtEnd : Answer → W → Type 0) where
     pub along : ((x : W) (a : Answer) (v : W) → Going x → Legal x (going_on p i) a v → Onward Going AtEnd a v)
         → (known : Known) (n : ℕ) (w : W) (m : Move) (a : Answer) (v : W) → ((b : Answer) (x : W) → Legal w m b x → Onward Going AtEnd b x)
-        → a ≢ answer.Stepped → Runs Legal learn IsWell known w (m ∷ replicate n (going_on p i)) (replicate n answer.Stepped ++ a ∷ []) v → AtEnd a v
+        → a ≢ Answer.Stepped → Runs Legal learn IsWell known w (m ∷ replicate n (going_on p i)) (replicate n Answer.Stepped ++ a ∷ []) v → AtEnd a v
     along on known zero w m a v first ended runs = let P : W → Type 0 = AtEnd a in subst P (sym runs.3) ((first a runs.0 runs.1).ended ended)
     along on known (suc n) w m a v first ended runs =
-        along on (learn known m answer.Stepped) n runs.0 (going_on p i) a v (λ b x legal. on runs.0 b x ((first answer.Stepped runs.0 runs.1).going refl) legal) ended runs.3
+        along on (learn known m Answer.Stepped) n runs.0 (going_on p i) a v (λ b x legal. on runs.0 b x ((first Answer.Stepped runs.0 runs.1).going refl) legal) ended runs.3
 
   -- a call whose first step has one answer, and doesn't go on, is answered so
-  pub at_first : (known : Known) (w : W) (p : ℕ) (c : Call) (i : Inputs) (n : ℕ) (a : Answer) (v : W) (r : Answer) → r ≢ answer.Stepped → ((b : Answer) (x : W) → Legal w (beginning p c i) b x → b ≡ r)
-      → a ≢ answer.Stepped → Runs Legal learn IsWell known w (moves_of p c i n) (answers_of n a) v → a ≡ r
+  pub at_first : (known : Known) (w : W) (p : ℕ) (c : Call) (i : Inputs) (n : ℕ) (a : Answer) (v : W) (r : Answer) → r ≢ Answer.Stepped → ((b : Answer) (x : W) → Legal w (beginning p c i) b x → b ≡ r)
+      → a ≢ Answer.Stepped → Runs Legal learn IsWell known w (moves_of p c i n) (answers_of n a) v → a ≡ r
   at_first known w p c i n a v r ends first ended runs =
       along p i (λ x. ⊥) (λ b x. b ≡ r) (λ x b y g s. absurd g) known n w (beginning p c i) a v (λ b x s. record { going = λ e. absurd (ends (sym (first b x s) ∙ e)); ended = λ e. first b x s }) ended runs
 
@@ -72,11 +60,11 @@ module _ {W Known : Type 0} (Legal : W → Move → Answer → W → Type 0) (le
       (r.0, (runs.0, runs.1, runs.2, r.1), r.2)
 
   as_many : (p : ℕ) (c : Call) (i : Inputs) (n : ℕ) (a : Answer) → length (answers_of n a) ≡ length (moves_of p c i n)
-  as_many p c i n a = omega (arith, length-append (replicate n answer.Stepped) (a ∷ []), length-replicate n answer.Stepped, length-replicate n (going_on p i))
+  as_many p c i n a = omega (arith, length-append (replicate n Answer.Stepped) (a ∷ []), length-replicate n Answer.Stepped, length-replicate n (going_on p i))
 
   -- whole calls keep their promises within a run, where they do alone
   pub keeps_promises : (Promises : W → ℕ → Call → Inputs → Answer → W → Type 0)
-      (law : (known : Known) (w : W) (p : ℕ) (c : Call) (i : Inputs) (n : ℕ) (a : Answer) (v : W) → Runs Legal learn IsWell known w (moves_of p c i n) (answers_of n a) v → a ≢ answer.Stepped → Promises w p c i a v)
+      (law : (known : Known) (w : W) (p : ℕ) (c : Call) (i : Inputs) (n : ℕ) (a : Answer) (v : W) → Runs Legal learn IsWell known w (moves_of p c i n) (answers_of n a) v → a ≢ Answer.Stepped → Promises w p c i a v)
       (known : Known) (w : W) (ms : List Move) (answers : List Answer) (v : W) → Runs Legal learn IsWell known w ms answers v → KeepsPromises Legal learn IsWell Promises known w ms answers v
   keeps_promises Promises law known w ms answers v runs before told p c i n a after more em ea long ended =
       let M : List Move → Type 0 = λ xs. Runs Legal learn IsWell known w xs answers v in
@@ -88,9 +76,9 @@ module _ {W Known : Type 0} (Legal : W → Move → Answer → W → Type 0) (le
 pub one_more : {A : Type 0} (n : ℕ) (x : A) → replicate n x ++ x ∷ [] ≡ replicate (n + 1) x
 one_more n x = replicate-append-replicate n 1 x
 
-pub stepped_is : (a : Answer) → is_stepped a ≡ true → a ≡ answer.Stepped
-stepped_is answer.Stepped h = refl
+pub stepped_is : (a : Answer) → is_stepped a ≡ true → a ≡ Answer.Stepped
+stepped_is Answer.Stepped h = refl
 stepped_is _ h = absurd (cc)
 
-pub not_stepped_is : (a : Answer) → is_stepped a ≡ false → a ≢ answer.Stepped
+pub not_stepped_is : (a : Answer) → is_stepped a ≡ false → a ≢ Answer.Stepped
 not_stepped_is a h e = let s : is_stepped a ≡ true = ap is_stepped e in absurd (cc)

@@ -1,7 +1,5 @@
 -- A debt to a waiting list lives until somebody pays it, and at rest it is paid.
-use Rattle.std.proofs.Common.{◌≡◌, ℕ, ◌+◌, ◌<◌, ◌≤◌, zero, suc, List, [], ◌∷◌, refl, arith}
-use Rattle.std.specs.List.{sum_by}
-use Rattle.std.proofs.lemmas.List.Sums.{sum_by-cons}
+use Rattle.world_base.proofs.Prelude.{◌≡◌, ℕ, ◌+◌, ◌<◌, ◌≤◌, zero, suc, List, [], ◌∷◌, refl, arith, sum_by, sum_by-cons}
 use Rattle.world_base.specs.queue.Debts.{IsOwed, Roles, AllRest}
 
 module _ {P : Type 0} (r : Roles P) where

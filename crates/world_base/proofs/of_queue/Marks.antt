@@ -1,11 +1,5 @@
 -- Which entries aren't marked.
-use Rattle.std.proofs.Common.{◌≡◌, ◌≢◌, ℕ, ◌-◌, ◌<◌, ◌≤◌, Bool, true, false, List, [], ◌∷◌, length, Option, Some, None, refl, arith}
-use Rattle.std.proofs.lemmas.Bool.Decides.{nat_tests}
-use Rattle.lock_event.specs.declared.event.Entry.{Entry}
-use Rattle.lock_event.specs.declared.event.Mark.{Mark}
-use Rattle.lock_event.specs.declared.event.Mark.TheVariants.{Waiting, Notified, Additional}
-use Rattle.lock_event.specs.Lists.{is_marked, is_marked_at, marked_count, joined, mark_waiting, without, passed_on}
-use Rattle.world_base.specs.queue.Parties.{is_party, entries_of, is_unmarked}
+use Rattle.world_base.proofs.Prelude.{◌≡◌, ◌≢◌, ℕ, ◌-◌, ◌<◌, ◌≤◌, Bool, true, false, List, [], ◌∷◌, length, Option, Some, None, refl, arith, nat_tests, Entry, Mark, Waiting, Notified, Additional, is_marked, is_marked_at, marked_count, joined, mark_waiting, without, passed_on, is_party, entries_of, is_unmarked}
 
 pub never_unlisted : (p : ℕ) (l : List (Entry ℕ)) → entries_of p l ≡ 0 → is_unmarked p l ≡ true → ⊥
 never_unlisted p [] none h = absurd (cc)

@@ -1,23 +1,10 @@
 -- Each call keeps each party's seat.
-use Rattle.std.proofs.Common.{◌≡◌, ◌≢◌, ℕ, ◌+◌, ◌*◌, ◌<◌, ◌≤◌, Bool, true, false, List, [], ◌∷◌, length, get_or, zero, suc, Option, Some, None, arith, refl, sym, ◌∙◌, ap, subst, IsTrue, get_or-set_same, get_or-set_other, length-set, ◌==◌, eq-eqb}
-use Rattle.std.proofs.Math.ListN.{set}
+use Rattle.world_base.proofs.Prelude.{◌≡◌, ◌≢◌, ℕ, ◌+◌, ◌*◌, ◌<◌, ◌≤◌, Bool, true, false, List, [], ◌∷◌, length, get_or, zero, suc, Option, Some, None, arith, refl, sym, ◌∙◌, ap, subst, IsTrue, get_or-set_same, get_or-set_other, length-set, ◌==◌, eq-eqb, set, sum_by, sum_by-set, sum_by-le, nat_tests, same_Some, Entry, Mark, Waiting, entry, joined, without, left, mark_at, key_at, passed_on, is_marked_at, mark_waiting, IsMarkedFirst, has_id, slot_of, by_party, party_of, entries_of, is_party, rekeyed, seat_of, Joins, Departs, Asked, IsSeated, IsSeatedIf, IsSeatOf, taken, seat_at, IsWaiting, IsQueue, queue}
 use Rattle.std.proofs.Math.Decide.{ℕ_discrete}
-use Rattle.std.specs.List.{sum_by}
-use Rattle.std.proofs.lemmas.List.Sums.{sum_by-set, sum_by-le}
-use Rattle.std.proofs.lemmas.Bool.Decides.{nat_tests}
-use Rattle.std.proofs.lemmas.Option.{same_Some}
-use Rattle.lock_event.specs.declared.event.Entry.{Entry}
 use Rattle.lock_event.specs.declared.event.Slot.{Slot}
 use Rattle.lock_event.specs.declared.event.EntryId.{EntryId}
-use Rattle.lock_event.specs.declared.event.Mark.{Mark}
-use Rattle.lock_event.specs.declared.event.Mark.TheVariants.{Waiting}
-use Rattle.lock_event.specs.Lists.{entry, joined, without, left, mark_at, key_at, passed_on, is_marked_at, mark_waiting, IsMarkedFirst}
-use Rattle.lock_event.specs.Slots.{has_id, slot_of}
 use Rattle.lock_event.proofs.Marks.{length-mark_waiting}
 use Rattle.lock_event.proofs.Counts.{length-joined, length-without, length-passed_on}
-use Rattle.world_base.specs.queue.Parties.{by_party, party_of, entries_of, is_party, rekeyed}
-use Rattle.world_base.specs.queue.Seats.{seat_of, Joins, Departs, Asked, IsSeated, IsSeatedIf, IsSeatOf, taken, seat_at}
-use Rattle.world_base.specs.queue.Queues.{IsWaiting, IsQueue, queue}
 use Rattle.world_base.proofs.of_queue.Keys.{is_listed-key_at, key_at-joined, key_at-joined_new, key_at-mark_waiting, key_at-passed_on, key_at-without}
 use Rattle.world_base.proofs.of_queue.Rekeyed.{marked_count-rekeyed, rekeyed-joined, rekeyed-mark_waiting, rekeyed-without, rekeyed-passed_on, mark_at-rekeyed, is_marked_at-rekeyed, entries_of-joined, entries_of-mark_waiting, entries_of-passed_on, entries_of-without_own, entries_of-without_other}
 

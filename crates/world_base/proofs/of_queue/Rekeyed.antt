@@ -1,11 +1,5 @@
 -- The list as its parties see it goes through the same list functions.
-use Rattle.std.proofs.Common.{◌≡◌, ◌≢◌, ℕ, ◌+◌, ◌-◌, ◌<◌, Bool, List, [], ◌∷◌, length, zero, suc, slice_get, refl, ap, arith, sym, ◌∙◌, Option, Some, None}
-use Rattle.std.proofs.lemmas.Bool.Decides.{nat_tests}
-use Rattle.lock_event.specs.declared.event.Mark.{Mark}
-use Rattle.lock_event.specs.declared.event.Mark.TheVariants.{Waiting, Notified, Additional}
-use Rattle.lock_event.specs.declared.event.Entry.{Entry}
-use Rattle.lock_event.specs.Lists.{entry, joined, notified, passed_on, without, is_marked_at, mark_at, mark_waiting, marked_count, key_at}
-use Rattle.world_base.specs.queue.Parties.{rekeyed, is_party, entries_of}
+use Rattle.world_base.proofs.Prelude.{◌≡◌, ◌≢◌, ℕ, ◌+◌, ◌-◌, ◌<◌, Bool, List, [], ◌∷◌, length, zero, suc, slice_get, refl, ap, arith, sym, ◌∙◌, Option, Some, None, nat_tests, Mark, Waiting, Notified, Additional, Entry, entry, joined, notified, passed_on, without, is_marked_at, mark_at, mark_waiting, marked_count, key_at, rekeyed, is_party, entries_of}
 
 module _ {K L : Type 0} (f : K → L) where
   pub length-rekeyed : (l : List (Entry K)) → length (rekeyed f l) ≡ length l

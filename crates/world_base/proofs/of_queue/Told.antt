@@ -1,11 +1,5 @@
 -- What a listed party has been told.
-use Rattle.std.proofs.Common.{◌≡◌, ℕ, false, List, [], ◌∷◌, Some, refl, arith}
-use Rattle.std.proofs.lemmas.Bool.Decides.{nat_tests}
-use Rattle.lock_event.specs.declared.event.Entry.{Entry}
-use Rattle.lock_event.specs.declared.event.Mark.{Mark}
-use Rattle.lock_event.specs.declared.event.Mark.TheVariants.{Waiting, Notified, Additional}
-use Rattle.lock_event.specs.Lists.{mark_at, is_marked, is_marked_at}
-use Rattle.world_base.specs.queue.Parties.{is_party, entries_of}
+use Rattle.world_base.proofs.Prelude.{◌≡◌, ℕ, false, List, [], ◌∷◌, Some, refl, arith, nat_tests, Entry, Mark, Waiting, Notified, Additional, mark_at, is_marked, is_marked_at, is_party, entries_of}
 
 unmarked : (m : Mark) → is_marked m ≡ false → m ≡ Waiting
 unmarked Waiting h = refl

@@ -1,19 +1,10 @@
 -- A list of weighted entries, as its parties see it.
-use Rattle.std.proofs.Common.{◌≡◌, ◌≢◌, ℕ, ◌+◌, ◌<◌, ◌≤◌, Bool, true, false, List, [], ◌∷◌, length, ◌==◌, Option, Some, None, IsTrue, refl, arith, sym, ap, ◌∙◌, subst, get_or-set_same, get_or-set_other, length-set}
-use Rattle.std.proofs.Math.ListN.{set}
-use Rattle.std.proofs.lemmas.Bool.Decides.{nat_tests}
-use Rattle.lock_event.specs.declared.event.Entry.{Entry}
+use Rattle.world_base.proofs.Prelude.{◌≡◌, ◌≢◌, ℕ, ◌+◌, ◌<◌, ◌≤◌, Bool, true, false, List, [], ◌∷◌, length, ◌==◌, Option, Some, None, IsTrue, refl, arith, sym, ap, ◌∙◌, subst, get_or-set_same, get_or-set_other, length-set, set, nat_tests, Entry, is_marked, joined, without, key_at, is_listed, is_marked_at, marked_count, with_key, has_id, slot_of, rekeyed, by_party, party_of, is_party, entries_of, IsWaiting, Joins, Departs, IsSeated, seat_of, seat_at, taken, unladen, unweighed, weight_in, IsWeighed, IsWeightedWaiting, IsWeightedQueue, IsListedSeat, JoinsWeighted, DepartsWeighted, AskedWeighted, weighted_queue, weighted_seat}
 use Rattle.lock_event.specs.declared.event.Slot.{Slot}
 use Rattle.lock_event.specs.declared.event.EntryId.{EntryId}
 use Rattle.lock_event.specs.declared.weighted.Load.{Load}
-use Rattle.lock_event.specs.Lists.{is_marked, joined, without, key_at, is_listed, is_marked_at, marked_count, with_key}
 use Rattle.lock_event.specs.Loads.{laden, weight_of, weight_at}
-use Rattle.lock_event.specs.Slots.{has_id, slot_of}
 use Rattle.lock_event.specs.Weights.{is_enough, fit_first, fitted}
-use Rattle.world_base.specs.queue.Parties.{rekeyed, by_party, party_of, is_party, entries_of}
-use Rattle.world_base.specs.queue.Queues.{IsWaiting}
-use Rattle.world_base.specs.queue.Seats.{Joins, Departs, IsSeated, seat_of, seat_at, taken}
-use Rattle.world_base.specs.queue.Weighted.{unladen, unweighed, weight_in, IsWeighed, IsWeightedWaiting, IsWeightedQueue, IsListedSeat, JoinsWeighted, DepartsWeighted, AskedWeighted, weighted_queue, weighted_seat}
 use Rattle.world_base.proofs.of_queue.Keys.{is_listed-key_at}
 use Rattle.world_base.proofs.of_queue.Queues as queues
 use Rattle.world_base.proofs.of_queue.Rekeyed.{rekeyed-joined, length-rekeyed, marked_count-rekeyed}

@@ -1,19 +1,6 @@
 -- How callers see the parties once the machine has acted for one of them, in any World on a table.
-use Rattle.std.proofs.Common.{◌≡◌, ◌≢◌, ℕ, ◌<◌, Bool, true, length, get_or, Option, Some, ap, sym, ◌∙◌, subst, get_or-set_same, get_or-set_other, length-set}
-use Rattle.std.proofs.Math.ListN.{set}
-use Rattle.world_base.specs.declared.moves.Answer.{Answer}
-use Rattle.world_base.specs.declared.moves.Answer.TheVariants as answer
-use Rattle.world_base.specs.declared.moves.Call.{Call}
-use Rattle.world_base.specs.declared.moves.Move.{Move}
-use Rattle.world_base.specs.declared.standing.Rest.{Rest}
-use Rattle.world_base.specs.declared.standing.Stage.TheVariants.{Forgotten}
-use Rattle.world_base.specs.declared.standing.Within.{Within}
-use Rattle.world_base.specs.Frame.{call_of, IsPossible, EndsProperly}
-use Rattle.world_base.specs.Standings.{Standing, inside, forgotten, is_possible, decision, StandsAfter}
+use Rattle.world_base.proofs.Prelude.{◌≡◌, ◌≢◌, ℕ, ◌<◌, Bool, true, length, get_or, Option, Some, ap, sym, ◌∙◌, subst, get_or-set_same, get_or-set_other, length-set, set, Answer, Call, Move, Rest, Forgotten, Within, call_of, IsPossible, EndsProperly, Standing, inside, forgotten, is_possible, decision, StandsAfter, stage_at, stands_as, stage_after, Table, standings}
 use Rattle.world_base.proofs.Equations.{some_eq, none_some}
-use Rattle.world_base.specs.table.Stages.{stage_at, stands_as, stage_after}
-use Rattle.world_base.specs.table.Tables.{Table}
-use Rattle.world_base.specs.table.Views.{standings}
 use Rattle.world_base.proofs.of_table.Calls.{decided_after, decision_seen}
 use Rattle.world_base.proofs.of_table.Views.{standings_at, length-standings}
 
@@ -40,8 +27,8 @@ module _ {M : Type 0} (verdict : M → ℕ → Option Answer) where
 
 -- the clauses that speak of no primitive, of a move that belongs to this call
 module _ {W : Type 0} (standing_of : W → ℕ → Standing) (knows : W → ℕ → Call → Bool) (ready : Rest) (old : W) (m : Move) (a : Answer) (new : W) (w : Within) (called : call_of standing_of knows old m ≡ Some w) (possible : is_possible a ≡ true) where
-  never : a ≡ answer.NotPossible → ⊥
-  never e = let no : is_possible answer.NotPossible ≡ true = ap is_possible (sym e) ∙ possible in cc (no)
+  never : a ≡ Answer.NotPossible → ⊥
+  never e = let no : is_possible Answer.NotPossible ≡ true = ap is_possible (sym e) ∙ possible in cc (no)
 
   pub possible_so : IsPossible standing_of knows old m a new
   possible_so = record { exactly = ((λ e. absurd (never e)), (λ e. absurd (none_some (sym e ∙ called)))); unchanged = λ e. absurd (never e) }

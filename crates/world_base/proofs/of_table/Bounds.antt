@@ -1,8 +1,5 @@
 -- What no poll passes over, the first one takes; and where some entry is marked, whose.
-use Rattle.std.proofs.Common.{ℕ, zero, suc, ◌<◌, List, length}
-use Rattle.lock_event.specs.declared.event.Entry.{Entry}
-use Rattle.world_base.specs.declared.moves.Answer.{Answer}
-use Rattle.world_base.specs.declared.moves.Inputs.{Inputs}
+use Rattle.world_base.proofs.Prelude.{ℕ, zero, suc, ◌<◌, List, length, Entry, Answer, Inputs}
 use Rattle.world_base.specs.Bounds.{OneTakes}
 pub use Rattle.world_base.proofs.Bounds.{first_marked}
 

@@ -1,20 +1,7 @@
 -- What is so, in any World, of a move that does nothing: one that its party may not make, and a poll of a future that has been ready.
-use Rattle.std.proofs.Common.{◌≡◌, ℕ, ◌&&◌, if◌then◌else◌, Bool, true, false, Option, Some, None, refl, sym, ◌∙◌, subst}
-use Rattle.world_base.specs.declared.moves.Answer.{Answer}
-use Rattle.world_base.specs.declared.moves.Answer.TheVariants as answer
-use Rattle.world_base.specs.declared.moves.Call.{Call}
+use Rattle.world_base.proofs.Prelude.{◌≡◌, ℕ, ◌&&◌, if◌then◌else◌, Bool, true, false, Option, Some, None, refl, sym, ◌∙◌, subst, Answer, Call, Move, What, Begin, Refusal, Rest, Holding, Finished, Within, is_poll_after_ready, call_of, IsPossible, IsRefusedForCause, EndsProperly, Standing, outside, inside, forgotten, call_in, refused, Decides, StandsAfter}
 use Rattle.world_base.specs.declared.moves.Call.TheVariants.{Poll}
-use Rattle.world_base.specs.declared.moves.Move.{Move}
-use Rattle.world_base.specs.declared.moves.What.{What}
-use Rattle.world_base.specs.declared.moves.What.TheVariants.{Begin}
-use Rattle.lock_program.specs.declared.refusal.Refusal.{Refusal}
-use Rattle.lock_program.specs.declared.refusal.Refusal.TheVariants as refusal
 use Rattle.world_base.specs.declared.standing.Kind.TheVariants.{LaterPoll}
-use Rattle.world_base.specs.declared.standing.Rest.{Rest}
-use Rattle.world_base.specs.declared.standing.Rest.TheVariants.{Holding, Finished}
-use Rattle.world_base.specs.declared.standing.Within.{Within}
-use Rattle.world_base.specs.Frame.{is_poll_after_ready, call_of, IsPossible, IsRefusedForCause, EndsProperly}
-use Rattle.world_base.specs.Standings.{Standing, outside, inside, forgotten, call_in, refused, Decides, StandsAfter}
 use Rattle.world_base.proofs.Equations.{some_eq, none_some, outside_inside}
 
 -- where nothing moves, nothing is decided but the answer
@@ -36,9 +23,9 @@ module _ (knows : Call → Bool) where
   known_as false w u e = absurd (none_some e)
 
   -- and leaves its party as it stood
-  pub again_stands : (ready : Rest) (s : Standing) (what : What) → is_poll_after_ready s what ≡ true → (u : Within) → call_in knows s what ≡ Some u → StandsAfter ready u (refused refusal.Finished) s
-  again_stands ready (outside Holding) (Begin Poll i) h u e = (let P : Within → Type 0 = λ w. StandsAfter ready w (refused refusal.Finished) (outside Holding) in subst P (known_as (knows Poll && true) (record { kind = LaterPoll; was = Holding }) u e) (refl, refl))
-  again_stands ready (outside Finished) (Begin Poll i) h u e = (let P : Within → Type 0 = λ w. StandsAfter ready w (refused refusal.Finished) (outside Finished) in subst P (known_as (knows Poll && true) (record { kind = LaterPoll; was = Finished }) u e) (refl, refl))
+  pub again_stands : (ready : Rest) (s : Standing) (what : What) → is_poll_after_ready s what ≡ true → (u : Within) → call_in knows s what ≡ Some u → StandsAfter ready u (refused Refusal.Finished) s
+  again_stands ready (outside Holding) (Begin Poll i) h u e = (let P : Within → Type 0 = λ w. StandsAfter ready w (refused Refusal.Finished) (outside Holding) in subst P (known_as (knows Poll && true) (record { kind = LaterPoll; was = Holding }) u e) (refl, refl))
+  again_stands ready (outside Finished) (Begin Poll i) h u e = (let P : Within → Type 0 = λ w. StandsAfter ready w (refused Refusal.Finished) (outside Finished) in subst P (known_as (knows Poll && true) (record { kind = LaterPoll; was = Finished }) u e) (refl, refl))
   again_stands ready _ _ h u e = absurd (cc (h))
 
 pub again_outside : (s : Standing) (what : What) → is_poll_after_ready s what ≡ true → (u : Within) (d : Option Answer) → s ≡ inside u d → ⊥
@@ -55,26 +42,26 @@ module _ {W : Type 0} (standing_of : W → ℕ → Standing) (knows : W → ℕ 
     pub refused_for_cause : IsRefusedForCause standing_of IsCause w m a w
     pub ends_properly : EndsProperly standing_of knows ready w m a w
 
-  pub impossible : call_of standing_of knows w m ≡ None → Idle answer.NotPossible
+  pub impossible : call_of standing_of knows w m ≡ None → Idle Answer.NotPossible
   impossible none = record {
     possible = record { exactly = ((λ e. none), (λ e. refl)); unchanged = λ e. refl };
     refused_for_cause = record {
-      cause = λ n d. (let e = same_decides s answer.NotPossible (answer.Refused n) d in absurd (cc (e)));
-      memory = λ d. (let e = same_decides s answer.NotPossible (refused refusal.Memory) d in absurd (cc (e)));
+      cause = λ n d. (let e = same_decides s Answer.NotPossible (Answer.Refused n) d in absurd (cc (e)));
+      memory = λ d. (let e = same_decides s Answer.NotPossible (refused Refusal.Memory) d in absurd (cc (e)));
       after_ready = ((λ e. absurd (cc (e))), (λ e. absurd (again_possible (knows w m.party) polls s m.what e none)));
     };
     ends_properly = record { stands = λ u e. absurd (none_some (sym none ∙ e)); as_decided = λ u b e h. absurd (cc (h)) };
   }
 
-  refused_so : (n k : ℕ) → answer.Refused n ≡ answer.Refused k → n ≡ k
+  refused_so : (n k : ℕ) → Answer.Refused n ≡ Answer.Refused k → n ≡ k
   refused_so n k e = cc
 
-  pub over : is_poll_after_ready s m.what ≡ true → IsCause w m w refusal.Finished → Idle (refused refusal.Finished)
+  pub over : is_poll_after_ready s m.what ≡ true → IsCause w m w Refusal.Finished → Idle (refused Refusal.Finished)
   over again cause = record {
     possible = record { exactly = ((λ e. absurd (cc (e))), (λ e. absurd (again_possible (knows w m.party) polls s m.what again e))); unchanged = λ e. refl };
     refused_for_cause = record {
-      cause = λ n d. (refusal.Finished, refused_so n _ (same_decides s (refused refusal.Finished) (answer.Refused n) d), cause);
-      memory = λ d. (let e : 1 ≡ 6 = refused_so 1 6 (same_decides s (refused refusal.Finished) (refused refusal.Memory) d) in absurd (cc (e)));
+      cause = λ n d. (Refusal.Finished, refused_so n _ (same_decides s (refused Refusal.Finished) (Answer.Refused n) d), cause);
+      memory = λ d. (let e : 1 ≡ 6 = refused_so 1 6 (same_decides s (refused Refusal.Finished) (refused Refusal.Memory) d) in absurd (cc (e)));
       after_ready = ((λ e. again), (λ e. refl));
     };
     ends_properly = record { stands = again_stands (knows w m.party) ready s m.what again; as_decided = λ u b e h. absurd (again_outside s m.what again u (Some b) e) };

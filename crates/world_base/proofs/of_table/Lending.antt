@@ -1,16 +1,7 @@
 -- Each party may stand where it does once a value was lent.
-use Rattle.std.proofs.Common.{◌≡◌, true, ℕ, zero, suc, ◌+◌, ◌<◌, List, [], ◌∷◌, length, map, Option, refl, ap, sym, ◌∙◌, subst}
-use Rattle.world_base.specs.declared.moves.Answer.{Answer}
-use Rattle.world_base.specs.declared.standing.Rest.TheVariants.{Idle, Pending, Holding, Finished}
-use Rattle.world_base.specs.declared.standing.Stage.{Stage}
-use Rattle.world_base.specs.declared.standing.Stage.TheVariants.{Outside, Inside, Forgotten}
-use Rattle.world_base.specs.Standings.{forgets, is_outside_stage}
-use Rattle.std.specs.List.{list_all}
+use Rattle.world_base.proofs.Prelude.{◌≡◌, true, ℕ, zero, suc, ◌+◌, ◌<◌, List, [], ◌∷◌, length, map, Option, refl, ap, sym, ◌∙◌, subst, Answer, Idle, Pending, Holding, Finished, Stage, Outside, Inside, Forgotten, forgets, is_outside_stage, list_all, stage_at, stands_as, standings_from, standings, IsTable}
 use Rattle.world_base.proofs.Equations.{both}
 use Rattle.world_base.specs.table.Lending.{forgotten_then}
-use Rattle.world_base.specs.table.Stages.{stage_at, stands_as}
-use Rattle.world_base.specs.table.Views.{standings_from, standings}
-use Rattle.world_base.specs.table.Tables.{IsTable}
 use Rattle.world_base.proofs.of_table.Views.{outside_at}
 
 -- how many parties there are, and which of them are forgotten

@@ -1,8 +1,5 @@
 -- What is seen of each party of a machine, in lists.
-use Rattle.std.proofs.Common.{◌≡◌, ℕ, zero, suc, ◌<◌, ◌≤◌, List, [], ◌∷◌, map, length, get_or, replicate, refl, arith, ap, sym}
-use Rattle.std.proofs.Math.ListN.{set}
-use Rattle.std.specs.List.{sum_by}
-use Rattle.std.proofs.lemmas.List.Sums.{sum_by-cons}
+use Rattle.world_base.proofs.Prelude.{◌≡◌, ℕ, zero, suc, ◌<◌, ◌≤◌, List, [], ◌∷◌, map, length, get_or, replicate, refl, arith, ap, sym, set, sum_by, sum_by-cons}
 
 pub mapped_at : {A B : Type 0} (f : A → B) (xs : List A) (q : ℕ) (d : A) → get_or (map f xs) q (f d) ≡ f (get_or xs q d)
 mapped_at f [] q d = refl

@@ -1,8 +1,5 @@
 -- A party is in the table, or past it.
-use Rattle.std.proofs.Common.{◌≡◌, ℕ, zero, suc, ◌<◌, ◌≤◌, ◌⊎◌, inl, inr, List, [], ◌∷◌, length, refl, arith, sym, subst}
-use Rattle.world_base.specs.declared.standing.Stage.{Stage}
-use Rattle.world_base.specs.declared.standing.Stage.TheVariants.{Forgotten}
-use Rattle.world_base.specs.table.Stages.{stage_at}
+use Rattle.world_base.proofs.Prelude.{◌≡◌, ℕ, zero, suc, ◌<◌, ◌≤◌, ◌⊎◌, inl, inr, List, [], ◌∷◌, length, refl, arith, sym, subst, Stage, Forgotten, stage_at}
 
 pub inside_or_past : (ss : List Stage) (q : ℕ) → (q < length ss) ⊎ ((length ss ≤ q) × (stage_at ss q ≡ Forgotten))
 inside_or_past [] q = inr (omega arith, refl)

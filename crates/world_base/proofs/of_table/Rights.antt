@@ -1,19 +1,7 @@
 -- After each step what is known tells the rights, if the party that moves keeps its account and the others theirs.
-use Rattle.std.proofs.Common.{◌≡◌, ◌≢◌, ℕ, ◌==◌, true, refl, ap, sym, ◌∙◌, subst}
+use Rattle.world_base.proofs.Prelude.{◌≡◌, ◌≢◌, ℕ, ◌==◌, true, refl, ap, sym, ◌∙◌, subst, Answer, Call, Move, What, Begin, Refusal, Holding, Finished, Stage, Outside, refused, polls_again}
 use Rattle.std.proofs.Math.Decide.{ℕ_discrete}
-use Rattle.world_base.specs.declared.moves.Answer.{Answer}
-use Rattle.world_base.specs.declared.moves.Answer.TheVariants as answer
-use Rattle.world_base.specs.declared.moves.Call.TheVariants as call
-use Rattle.world_base.specs.declared.moves.Move.{Move}
-use Rattle.world_base.specs.declared.moves.What.{What}
-use Rattle.world_base.specs.declared.moves.What.TheVariants.{Begin}
-use Rattle.lock_program.specs.declared.refusal.Refusal.TheVariants as refusal
-use Rattle.world_base.specs.declared.standing.Rest.TheVariants.{Holding, Finished}
-use Rattle.world_base.specs.declared.standing.Stage.{Stage}
-use Rattle.world_base.specs.declared.standing.Stage.TheVariants.{Outside}
-use Rattle.world_base.specs.Standings.{refused}
 use Rattle.world_base.proofs.Equations.{chosen, otherwise, same_test, other_test}
-use Rattle.world_base.specs.table.Stages.{polls_again}
 use Rattle.world_base.specs.Accounts.{Account, account_after, accounts_after}
 use Rattle.world_base.specs.table.Rights.{TellsAccounts}
 
@@ -27,11 +15,11 @@ module _ {W : Type 0} (accounts_of : W → ℕ → Account) where
   ]
 
 -- a move that isn't possible changes no account, and nor does a poll after ready
-pub idle_account : (k : Account) (what : What) → account_after k what answer.NotPossible ≡ k
-idle_account k (Begin call.TryUpgrade i) = refl
+pub idle_account : (k : Account) (what : What) → account_after k what Answer.NotPossible ≡ k
+idle_account k (Begin Call.TryUpgrade i) = refl
 idle_account k _ = refl
 
-pub again_account : (k : Account) (s : Stage) (what : What) → polls_again s what ≡ true → account_after k what (refused refusal.Finished) ≡ k
-again_account k (Outside Holding) (Begin call.Poll i) h = refl
-again_account k (Outside Finished) (Begin call.Poll i) h = refl
+pub again_account : (k : Account) (s : Stage) (what : What) → polls_again s what ≡ true → account_after k what (refused Refusal.Finished) ≡ k
+again_account k (Outside Holding) (Begin Call.Poll i) h = refl
+again_account k (Outside Finished) (Begin Call.Poll i) h = refl
 again_account k _ _ h = absurd (cc (h))

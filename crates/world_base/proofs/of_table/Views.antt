@@ -1,15 +1,6 @@
 -- How callers see the parties of a table, one by one.
-use Rattle.std.proofs.Common.{◌≡◌, ℕ, zero, suc, ◌+◌, ◌&&◌, true, List, [], ◌∷◌, length, get_or, replicate, Option, refl, arith, ap, ◌∙◌}
-use Rattle.std.specs.List.{list_all}
-use Rattle.world_base.specs.declared.moves.Answer.{Answer}
-use Rattle.world_base.specs.declared.standing.Stage.{Stage}
-use Rattle.world_base.specs.declared.standing.Stage.TheVariants.{Outside, Inside, Forgotten}
-use Rattle.world_base.specs.declared.standing.Rest.{Rest}
-use Rattle.world_base.specs.declared.standing.Rest.TheVariants.{Idle}
-use Rattle.world_base.specs.Standings.{outside, forgotten, is_outside, is_outside_stage}
+use Rattle.world_base.proofs.Prelude.{◌≡◌, ℕ, zero, suc, ◌+◌, ◌&&◌, true, List, [], ◌∷◌, length, get_or, replicate, Option, refl, arith, ap, ◌∙◌, list_all, Answer, Stage, Outside, Inside, Forgotten, Rest, Idle, outside, forgotten, is_outside, is_outside_stage, stage_at, stands_as, standings_from, standings}
 use Rattle.world_base.proofs.Equations.{both}
-use Rattle.world_base.specs.table.Stages.{stage_at, stands_as}
-use Rattle.world_base.specs.table.Views.{standings_from, standings}
 
 from_at : (n : ℕ) (verdict : ℕ → Option Answer) (ss : List Stage) (p : ℕ) → get_or (standings_from n verdict ss) p forgotten ≡ stands_as (verdict (n + p)) (stage_at ss p)
 from_at n verdict [] p = refl

@@ -1,23 +1,12 @@
 -- How a move comes about, and what that says of a whole call.
-use Rattle.std.proofs.Common.{◌≡◌, ℕ, Bool, true, false, Option, Some, None, refl, sym, subst}
-use Rattle.world_base.specs.declared.moves.Answer.{Answer}
-use Rattle.world_base.specs.declared.moves.Answer.TheVariants as answer
-use Rattle.world_base.specs.declared.moves.Call.{Call}
-use Rattle.world_base.specs.declared.moves.Move.{Move}
-use Rattle.world_base.specs.declared.moves.What.{What}
-use Rattle.lock_program.specs.declared.refusal.Refusal.TheVariants as refusal
-use Rattle.world_base.specs.declared.standing.Rest.{Rest}
-use Rattle.world_base.specs.declared.standing.Within.{Within}
-use Rattle.world_base.specs.Standings.{refused}
+use Rattle.world_base.proofs.Prelude.{◌≡◌, ℕ, Bool, true, false, Option, Some, None, refl, sym, subst, Answer, Call, Move, What, Refusal, Rest, Within, refused, stage_at, call_at, polls_again, Table, Acted, Does, IsStep}
 use Rattle.world_base.proofs.of_any_world.Runs.{Onward}
-use Rattle.world_base.specs.table.Stages.{stage_at, call_at, polls_again}
-use Rattle.world_base.specs.table.Tables.{Table, Acted, Does, IsStep}
 
 module _ {M : Type 0} (knows : M → ℕ → Call → Bool) (ready : Rest) (Acts : M → ℕ → Within → What → Answer → M → Type 0) where
   -- It isn't possible, polls a future that has been ready, or is carried out by the machine.
   pub data Way (t u : Table M) (m : Move) (a : Answer) : Type 0 where
-    impossible : call_at (knows t.machine m.party) (stage_at t.stages m.party) m.what ≡ None → a ≡ answer.NotPossible → u ≡ t → Way t u m a
-    over : (w : Within) → call_at (knows t.machine m.party) (stage_at t.stages m.party) m.what ≡ Some w → polls_again (stage_at t.stages m.party) m.what ≡ true → a ≡ refused refusal.Finished → u ≡ t → Way t u m a
+    impossible : call_at (knows t.machine m.party) (stage_at t.stages m.party) m.what ≡ None → a ≡ Answer.NotPossible → u ≡ t → Way t u m a
+    over : (w : Within) → call_at (knows t.machine m.party) (stage_at t.stages m.party) m.what ≡ Some w → polls_again (stage_at t.stages m.party) m.what ≡ true → a ≡ refused Refusal.Finished → u ≡ t → Way t u m a
     acts : (w : Within) → call_at (knows t.machine m.party) (stage_at t.stages m.party) m.what ≡ Some w → polls_again (stage_at t.stages m.party) m.what ≡ false → Acted knows ready Acts w t m a u → Way t u m a
 
   module _ (t u : Table M) (m : Move) (a : Answer) where
@@ -31,8 +20,8 @@ module _ {M : Type 0} (knows : M → ℕ → Call → Bool) (ready : Rest) (Acts
 
     -- what holds of each of them holds of a move
     pub by_way : (P : Answer → Table M → Type 0)
-        → (call_at (knows t.machine m.party) (stage_at t.stages m.party) m.what ≡ None → P answer.NotPossible t)
-        → ((w : Within) → call_at (knows t.machine m.party) (stage_at t.stages m.party) m.what ≡ Some w → polls_again (stage_at t.stages m.party) m.what ≡ true → P (refused refusal.Finished) t)
+        → (call_at (knows t.machine m.party) (stage_at t.stages m.party) m.what ≡ None → P Answer.NotPossible t)
+        → ((w : Within) → call_at (knows t.machine m.party) (stage_at t.stages m.party) m.what ≡ Some w → polls_again (stage_at t.stages m.party) m.what ≡ true → P (refused Refusal.Finished) t)
         → ((w : Within) → call_at (knows t.machine m.party) (stage_at t.stages m.party) m.what ≡ Some w → polls_again (stage_at t.stages m.party) m.what ≡ false → Acted knows ready Acts w t m a u → P a u)
         → Way t u m a → P a u
     by_way P none again acted (impossible e ea eu) = let Q : Answer → Type 0 = λ b. P b t in subst (P a) (sym eu) (subst Q (sym ea) (none e))
@@ -40,7 +29,7 @@ module _ {M : Type 0} (knows : M → ℕ → Call → Bool) (ready : Rest) (Acts
     by_way P none again acted (acts w e f k) = acted w e f k
 
     -- a move that the machine doesn't carry out ends a call, if it is in one
-    pub onward : {W : Type 0} (Going : W → Type 0) (AtEnd : Answer → W → Type 0) (see : Table M → W) → AtEnd answer.NotPossible (see t) → AtEnd (refused refusal.Finished) (see t)
+    pub onward : {W : Type 0} (Going : W → Type 0) (AtEnd : Answer → W → Type 0) (see : Table M → W) → AtEnd Answer.NotPossible (see t) → AtEnd (refused Refusal.Finished) (see t)
         → ((w : Within) → call_at (knows t.machine m.party) (stage_at t.stages m.party) m.what ≡ Some w → polls_again (stage_at t.stages m.party) m.what ≡ false → Acted knows ready Acts w t m a u → Onward Going AtEnd a (see u))
         → IsStep knows ready Acts t m a u → Onward Going AtEnd a (see u)
     onward Going AtEnd see none again acted step = by_way (λ b x. Onward Going AtEnd b (see x))

@@ -1,12 +1,5 @@
 -- A call that is carried out alone ends.
-use Rattle.std.proofs.Common.{◌≡◌, ◌≤◌, ◌<◌, ◌+◌, ◌++◌, ◌∷◌, [], List, replicate, arith, subst, sym, ap, ◌∙◌, refl}
-use Rattle.world_base.specs.declared.moves.Answer.{Answer}
-use Rattle.world_base.specs.declared.moves.Answer.TheVariants as answer
-use Rattle.world_base.specs.declared.moves.Move.{Move}
-use Rattle.world_base.specs.declared.moves.What.TheVariants.{Begin}
-use Rattle.world_base.specs.Runs.{Runs}
-use Rattle.world_base.specs.Whole.{going_on, moves_of, answers_of}
-use Rattle.world_base.specs.any_world.Steps.{left_by, known_by}
+use Rattle.world_base.proofs.Prelude.{◌≡◌, ◌≤◌, ◌<◌, ◌+◌, ◌++◌, ◌∷◌, [], List, replicate, arith, subst, sym, ap, ◌∙◌, refl, Answer, Move, Begin, Runs, going_on, moves_of, answers_of, left_by, known_by}
 use Rattle.world_base.proofs.of_any_world.Runs.{runs_more, known_more, last_of, one_more, stepped_is, not_stepped_is}
 use Rattle.world_base.proofs.any_world.AnyWorld.poll_whole.Goals as goal
 
@@ -45,7 +38,7 @@ loop-answer-preserved g c =
     let longer = runs_more w.legal w.learn w.is_well start c.args.self.now past told c.loop-answer.self (going_on p i) b next k.runs c.step-answer-in-loop-answer.ensures well.well in
     let tells = subst (λ x. w.tells x next) (sym known) well.tells in
     let moves : past ++ going_on p i ∷ [] ≡ moves_of p c.args.call i (k.more + 1) = ap (λ ms. record { party = p; what = Begin c.args.call i } ∷ ms) (one_more k.more (going_on p i)) in
-    let answers : told ++ b ∷ [] ≡ answers_of (k.more + 1) b = ap (λ x. (replicate k.more answer.Stepped ++ x ∷ []) ++ b ∷ []) stepped ∙ ap (λ xs. xs ++ b ∷ []) (one_more k.more answer.Stepped) in
+    let answers : told ++ b ∷ [] ≡ answers_of (k.more + 1) b = ap (λ x. (replicate k.more Answer.Stepped ++ x ∷ []) ++ b ∷ []) stepped ∙ ap (λ xs. xs ++ b ∷ []) (one_more k.more Answer.Stepped) in
     let R : List Move → Type 0 = λ ms. Runs w.legal w.learn w.is_well start c.args.self.now ms (told ++ b ∷ []) next in
     let S : List Answer → Type 0 = λ s. Runs w.legal w.learn w.is_well start c.args.self.now (moves_of p c.args.call i (k.more + 1)) s next in
     let T : List Move → Type 0 = λ ms. w.tells (known_by w.learn start ms (told ++ b ∷ [])) next in

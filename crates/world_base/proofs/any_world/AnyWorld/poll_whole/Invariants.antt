@@ -1,7 +1,4 @@
-use Rattle.std.proofs.Common.{◌≤◌, ◌+◌, ℕ}
-use Rattle.world_base.specs.Runs.{Runs}
-use Rattle.world_base.specs.Whole.{moves_of, answers_of}
-use Rattle.world_base.specs.any_world.Steps.{left_by, known_by}
+use Rattle.world_base.proofs.Prelude.{◌≤◌, ◌+◌, ℕ, Runs, moves_of, answers_of, left_by, known_by}
 use Rattle.world_base.proofs.any_world.AnyWorld.poll_whole.Given as goal
 
 abbrev pub invariant-loop-answer : goal.invariant-loop-answer

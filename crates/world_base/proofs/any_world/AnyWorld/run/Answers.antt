@@ -1,8 +1,5 @@
 -- The answers of the run are all that there are.
-use Rattle.std.proofs.Common.{◌≡◌, ◌++◌, List, ap, sym, subst, ◌∙◌}
-use Rattle.world_base.specs.declared.moves.Answer.{Answer}
-use Rattle.world_base.specs.Runs.{Runs}
-use Rattle.world_base.specs.any_world.Steps.{KeepsPromises}
+use Rattle.world_base.proofs.Prelude.{◌≡◌, ◌++◌, List, ap, sym, subst, ◌∙◌, Answer, Runs, KeepsPromises}
 use Rattle.world_base.proofs.any_world.AnyWorld.run.Goals as goal
 
 pub returns-clause-runs : goal.returns-clause-runs

@@ -1,9 +1,5 @@
 -- Each move adds a legal step to the run.
-use Rattle.std.proofs.Common.{◌++◌, ◌∷◌, ◌∙◌, [], List, length-append, append_assoc, take, arith, ap, subst, sym}
-use Rattle.std.proofs.lemmas.List.{take_more, take_all}
-use Rattle.world_base.specs.declared.moves.Move.{Move}
-use Rattle.world_base.specs.Runs.{Runs}
-use Rattle.world_base.specs.any_world.Steps.{known_by}
+use Rattle.world_base.proofs.Prelude.{◌++◌, ◌∷◌, ◌∙◌, [], List, length-append, append_assoc, take, arith, ap, subst, sym, take_more, take_all, Move, Runs, known_by}
 use Rattle.world_base.proofs.of_any_world.Runs.{runs_more, known_more, keeps_promises}
 use Rattle.world_base.proofs.any_world.AnyWorld.run_into.Goals as goal
 

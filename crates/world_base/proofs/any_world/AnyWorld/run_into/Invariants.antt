@@ -1,7 +1,4 @@
-use Rattle.std.proofs.Common.{◌≡◌, ◌≤◌, ◌+◌, ◌++◌, List, length, take, vec_capacity}
-use Rattle.world_base.specs.declared.moves.Answer.{Answer}
-use Rattle.world_base.specs.Runs.{Runs}
-use Rattle.world_base.specs.any_world.Steps.{known_by}
+use Rattle.world_base.proofs.Prelude.{◌≡◌, ◌≤◌, ◌+◌, ◌++◌, List, length, take, vec_capacity, Answer, Runs, known_by}
 use Rattle.world_base.proofs.any_world.AnyWorld.run_into.Given as goal
 
 abbrev pub invariant-loop-m : goal.invariant-loop-m

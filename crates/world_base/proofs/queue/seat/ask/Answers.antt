@@ -1,7 +1,4 @@
-use Rattle.std.proofs.Common.{◌≡◌, false, ap, sym, ◌∙◌}
-use Rattle.lock_event.specs.Lists.{is_marked_at}
-use Rattle.lock_event.specs.Slots.{has_id}
-use Rattle.world_base.specs.queue.Seats.{seat_of, IsSeatOf}
+use Rattle.world_base.proofs.Prelude.{◌≡◌, false, ap, sym, ◌∙◌, is_marked_at, has_id, seat_of, IsSeatOf}
 use Rattle.world_base.proofs.of_queue.Keys.{is_listed-key_at, with_key-same}
 use Rattle.world_base.proofs.queue.seat.ask.Goals as goal
 

@@ -1,6 +1,4 @@
-use Rattle.std.proofs.Common.{◌≡◌, true, false, refl, ap, ◌∙◌, Some, None, ℕ, eq-eqb}
-use Rattle.lock_event.specs.Lists.{is_marked_at, with_key, joined}
-use Rattle.lock_event.specs.Slots.{has_id, slot_of}
+use Rattle.world_base.proofs.Prelude.{◌≡◌, true, false, refl, ap, ◌∙◌, Some, None, ℕ, eq-eqb, is_marked_at, with_key, joined, has_id, slot_of}
 use Rattle.world_base.proofs.of_queue.Keys.{with_key-joined, is_marked_at-joined}
 use Rattle.world_base.proofs.queue.seat.join.Goals as goal
 

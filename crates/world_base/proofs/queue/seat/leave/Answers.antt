@@ -1,5 +1,4 @@
-use Rattle.lock_event.specs.Slots.{has_id}
-use Rattle.world_base.specs.queue.Seats.{IsSeatOf}
+use Rattle.world_base.proofs.Prelude.{has_id, IsSeatOf}
 use Rattle.world_base.proofs.of_queue.Keys.{is_listed-key_at}
 use Rattle.world_base.proofs.queue.seat.leave.Goals as goal
 

@@ -1,9 +1,5 @@
 -- One stage more is as it is forgotten.
-use Rattle.std.proofs.Common.{◌≡◌, ℕ, zero, suc, ◌+◌, ◌<◌, ◌++◌, List, [], ◌∷◌, map, length, get_or, take, drop, ap, ◌∙◌, add-one, arith, rules}
-use Rattle.std.proofs.Math.ListN.{set}
-use Rattle.world_base.specs.declared.standing.Rest.TheVariants.{Idle}
-use Rattle.world_base.specs.declared.standing.Stage.TheVariants.{Outside}
-use Rattle.world_base.specs.Standings.{forgets}
+use Rattle.world_base.proofs.Prelude.{◌≡◌, ℕ, zero, suc, ◌+◌, ◌<◌, ◌++◌, List, [], ◌∷◌, map, length, get_or, take, drop, ap, ◌∙◌, add-one, arith, rules, set, Idle, Outside, forgets}
 use Rattle.world_base.proofs.table.table.forget_all.Goals as goal
 
 one_more : {A : Type 0} (f : A → A) (xs : List A) (i : ℕ) (y d : A) → i < length xs → y ≡ f (get_or xs i d)

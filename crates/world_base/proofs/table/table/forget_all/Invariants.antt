@@ -1,5 +1,4 @@
-use Rattle.std.proofs.Common.{◌≡◌, ◌++◌, take, drop, map}
-use Rattle.world_base.specs.Standings.{forgets}
+use Rattle.world_base.proofs.Prelude.{◌≡◌, ◌++◌, take, drop, map, forgets}
 use Rattle.world_base.proofs.table.table.forget_all.Given as goal
 
 abbrev pub invariant-loop-stage : goal.invariant-loop-stage

@@ -1,6 +1,4 @@
-use Rattle.std.proofs.Common.{◌≤◌, ap, arith, length, sym}
-use Rattle.std.proofs.lemmas.Option.{slice_get_past}
-use Rattle.world_base.specs.queue.Parties.{party_of}
+use Rattle.world_base.proofs.Prelude.{◌≤◌, ap, arith, length, sym, slice_get_past, party_of}
 use Rattle.world_base.proofs.of_queue.Rekeyed.{length-rekeyed, slice_get-rekeyed}
 use Rattle.world_base.proofs.queue.wait_queue.WaitQueue.entry.Goals as goal
 

@@ -1,8 +1,4 @@
-use Rattle.std.proofs.Common.{◌≡◌, ◌<◌, None, length, refl, ap, ◌∙◌, length-set}
-use Rattle.std.proofs.Math.ListN.{set}
-use Rattle.std.proofs.lemmas.List.{get_or_default}
-use Rattle.world_base.specs.queue.Parties.{by_party, entries_of}
-use Rattle.world_base.specs.queue.Seats.{seat_at}
+use Rattle.world_base.proofs.Prelude.{◌≡◌, ◌<◌, None, length, refl, ap, ◌∙◌, length-set, set, get_or_default, by_party, entries_of, seat_at}
 use Rattle.world_base.proofs.of_queue.Queues.{seat, leaves}
 use Rattle.world_base.proofs.queue.wait_queue.WaitQueue.leave.Goals as goal
 

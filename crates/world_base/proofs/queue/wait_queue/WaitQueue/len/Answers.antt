@@ -1,5 +1,4 @@
-use Rattle.std.proofs.Common.{sym, ◌∙◌}
-use Rattle.world_base.specs.queue.Parties.{party_of}
+use Rattle.world_base.proofs.Prelude.{sym, ◌∙◌, party_of}
 use Rattle.world_base.proofs.of_queue.Rekeyed.{length-rekeyed}
 use Rattle.world_base.proofs.queue.wait_queue.WaitQueue.len.Goals as goal
 

@@ -1,8 +1,4 @@
-use Rattle.std.proofs.Common.{◌-◌, ap, arith, length, ◌∙◌}
-use Rattle.lock_event.specs.declared.event.Mark.TheVariants.{Notified}
-use Rattle.lock_event.specs.Lists.{marked_count}
-use Rattle.world_base.specs.queue.Parties.{by_party, party_of}
-use Rattle.world_base.specs.queue.Queues.{queue}
+use Rattle.world_base.proofs.Prelude.{◌-◌, ap, arith, length, ◌∙◌, Notified, marked_count, by_party, party_of, queue}
 use Rattle.world_base.proofs.of_queue.Queues.{marked}
 use Rattle.world_base.proofs.of_queue.Rekeyed.{rekeyed-notified}
 use Rattle.world_base.proofs.queue.wait_queue.WaitQueue.notify.Goals as goal

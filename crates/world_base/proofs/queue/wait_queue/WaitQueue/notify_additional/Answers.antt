@@ -1,7 +1,4 @@
-use Rattle.std.proofs.Common.{ap, arith, length, ◌∙◌}
-use Rattle.lock_event.specs.declared.event.Mark.TheVariants.{Additional}
-use Rattle.world_base.specs.queue.Parties.{by_party, party_of}
-use Rattle.world_base.specs.queue.Queues.{queue}
+use Rattle.world_base.proofs.Prelude.{ap, arith, length, ◌∙◌, Additional, by_party, party_of, queue}
 use Rattle.world_base.proofs.of_queue.Queues.{marked}
 use Rattle.world_base.proofs.of_queue.Rekeyed.{rekeyed-mark_waiting}
 use Rattle.world_base.proofs.queue.wait_queue.WaitQueue.notify_additional.Goals as goal

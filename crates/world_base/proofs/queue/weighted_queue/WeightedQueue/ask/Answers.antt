@@ -1,8 +1,4 @@
-use Rattle.std.proofs.Common.{◌≡◌, ◌<◌, None, length, sym, ap, ◌∙◌}
-use Rattle.std.proofs.lemmas.List.{get_or_default}
-use Rattle.world_base.specs.queue.Parties.{by_party, entries_of}
-use Rattle.world_base.specs.queue.Weighted.{unweighed}
-use Rattle.world_base.specs.queue.Seats.{seat_at}
+use Rattle.world_base.proofs.Prelude.{◌≡◌, ◌<◌, None, length, sym, ap, ◌∙◌, get_or_default, by_party, entries_of, unweighed, seat_at}
 use Rattle.world_base.proofs.of_queue.Weighted.{seat, asked, asks}
 use Rattle.world_base.proofs.queue.weighted_queue.WeightedQueue.ask.Goals as goal
 

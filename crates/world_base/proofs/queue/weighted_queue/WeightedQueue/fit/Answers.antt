@@ -1,6 +1,4 @@
-use Rattle.std.proofs.Common.{ap, arith, length, ◌∙◌}
-use Rattle.world_base.specs.queue.Parties.{by_party}
-use Rattle.world_base.specs.queue.Weighted.{unweighed, weighted_queue}
+use Rattle.world_base.proofs.Prelude.{ap, arith, length, ◌∙◌, by_party, unweighed, weighted_queue}
 use Rattle.world_base.proofs.of_queue.Weighted.{fits}
 use Rattle.world_base.proofs.queue.weighted_queue.WeightedQueue.fit.Goals as goal
 

@@ -1,6 +1,4 @@
-use Rattle.std.proofs.Common.{sym, ◌∙◌}
-use Rattle.world_base.specs.queue.Parties.{party_of}
-use Rattle.world_base.specs.queue.Weighted.{unladen, unweighed}
+use Rattle.world_base.proofs.Prelude.{sym, ◌∙◌, party_of, unladen, unweighed}
 use Rattle.world_base.proofs.of_queue.Rekeyed.{length-rekeyed}
 use Rattle.world_base.proofs.queue.weighted_queue.WeightedQueue.len.Goals as goal
 

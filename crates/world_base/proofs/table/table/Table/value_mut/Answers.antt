@@ -1,7 +1,4 @@
-use Rattle.std.proofs.Common.{ap, sym, ◌∙◌, subst}
-use Rattle.std.specs.List.{list_all}
-use Rattle.world_base.specs.Standings.{is_outside_stage}
-use Rattle.world_base.specs.table.Tables.{IsTable}
+use Rattle.world_base.proofs.Prelude.{ap, sym, ◌∙◌, subst, list_all, is_outside_stage, IsTable}
 use Rattle.world_base.proofs.of_table.Lending.{still_fits}
 use Rattle.world_base.proofs.table.table.Table.value_mut.Goals as goal
 
