@@ -1,56 +1,19 @@
 -- What a poll that is carried out alone does to a free lock, as callers see it.
-use Rattle.std.proofs.Common.{◌≡◌, ◌≢◌, ℕ, ◌<◌, ◌⊎◌, inl, inr, true, false, None, refl, sym, ap, ◌∙◌, subst, arith}
-use Rattle.std.proofs.Math.ListN.{set}
-use Rattle.std.specs.List.{list_all}
-use Rattle.world_base.specs.queue.Parties.{entries_of}
-use Rattle.world_base.specs.declared.moves.Answer.{Answer}
-use Rattle.world_base.specs.declared.moves.Answer.TheVariants as answer
-use Rattle.world_base.specs.declared.moves.Call.TheVariants as call
-use Rattle.world_base.specs.declared.moves.Got.TheVariants.{Value}
-use Rattle.world_base.specs.declared.moves.Inputs.{Inputs}
-use Rattle.lock_program.specs.declared.refusal.Refusal.TheVariants as refusal
-use Rattle.world_base.specs.declared.standing.Rest.TheVariants as rest
-use Rattle.world_base.specs.declared.standing.Stage.TheVariants.{Outside}
-use Rattle.world_base.specs.Accounts.{Account}
-use Rattle.world_base.specs.Rosters.{how_many}
-use Rattle.world_base.specs.Standings.{is_outside_stage}
-use Rattle.world_base.specs.Whole.{moves_of, answers_of}
-use Rattle.world_base.proofs.Bounds.{marked_listed}
+use Rattle.world_mutex.proofs.Prelude.{◌≡◌, ◌≢◌, ℕ, ◌<◌, ◌⊎◌, inl, inr, true, false, None, refl, sym, ap, ◌∙◌, subst, arith, set, list_all, entries_of, Answer, Call, Value, Inputs, Refusal, Rest, Outside, Account, how_many, is_outside_stage, moves_of, answers_of, marked_listed, stage_at, stage_after, Table, by_stage_or_past_at, rest_seen, outside_stage, End, Next, Place, IsMutex, IsStarved, starved, is_waiting, bit, holds, listed, IsCalled, Took, StandsBack, GaveWay, PollsAlone, is_counted, IsSolo, GivesWay, SoloPoll, Guarded, place_of, goes_with, answer_by, is_at_rest, Runs, World, is_starved, Stands, IsMutexTable, verdict, view_of, Kind}
 use Rattle.world_base.proofs.Rests.{still_outside}
-use Rattle.world_base.specs.table.Stages.{stage_at, stage_after}
-use Rattle.world_base.specs.table.Tables.{Table}
-use Rattle.world_base.proofs.of_table.Past.{by_stage_or_past_at}
-use Rattle.world_base.proofs.of_table.Views.{rest_seen, outside_stage}
-use Rattle.lock_program.specs.declared.end.End.{End}
-use Rattle.lock_program.specs.declared.end.End.TheVariants as «end»
-use Rattle.world_mutex.specs.declared.program.led.Next.TheVariants as next
-use Rattle.lock_program.specs.declared.mutex.Place.{Place}
-use Rattle.lock_program.specs.declared.mutex.Place.TheVariants as place
-use Rattle.world_mutex.specs.machine.Acts.{IsMutex, IsStarved, starved}
-use Rattle.world_mutex.specs.machine.Courses.{is_waiting}
-use Rattle.lock_program.specs.MutexRoles.{bit, holds, listed}
-use Rattle.world_mutex.specs.machine.Solo.{IsCalled, Took, StandsBack, GaveWay, PollsAlone}
-use Rattle.world_mutex.specs.machine.State.{is_counted}
 use Rattle.world_mutex.proofs.of_machine.solo_polls.Parts.{gave_way}
 use Rattle.world_mutex.proofs.of_machine.laws.Seen as sees
 use Rattle.world_mutex.proofs.of_machine.solo_polls.SoloPolls.{solo_polls}
-use Rattle.world_mutex.specs.Bound.{IsSolo, Takes, GivesWay, SoloPoll}
-use Rattle.world_mutex.specs.Guarded.{Guarded, place_of, goes_with, answer_by}
-use Rattle.world_mutex.specs.Laws.{is_at_rest}
-use Rattle.world_mutex.specs.Runs.{Runs}
-use Rattle.world_mutex.specs.State.{World, is_starved}
-use Rattle.world_mutex.specs.Steps.{Stands, IsMutexTable}
-use Rattle.world_mutex.specs.View.{verdict, view_of}
+use Rattle.world_mutex.specs.Bound.{Takes}
 use Rattle.world_mutex.proofs.bound.Alone.{Ended, polls_alone}
 use Rattle.world_mutex.proofs.table.Seen as seen
 use Rattle.world_mutex.proofs.table.Turns.{within}
-use Rattle.world_base.specs.declared.standing.Kind.TheVariants as kind
 
 -- a pending party with an entry waits
-pub waits_listed : (x : Place) → goes_with (Outside rest.Pending) x ≡ true → 0 < listed x → is_waiting x ≡ true
-waits_listed place.Out g l = absurd (omega arith)
-waits_listed place.Ask g l = refl
-waits_listed place.AskStarved g l = refl
+pub waits_listed : (x : Place) → goes_with (Outside Rest.Pending) x ≡ true → 0 < listed x → is_waiting x ≡ true
+waits_listed Place.Out g l = absurd (omega arith)
+waits_listed Place.Ask g l = refl
+waits_listed Place.AskStarved g l = refl
 waits_listed _ g l = absurd (cc (g))
 
 module _ (t : Table Guarded) (p : ℕ) where
@@ -60,36 +23,36 @@ module _ (t : Table Guarded) (p : ℕ) where
   module _ (u : Table Guarded) (a : Answer) (um : IsMutex u.machine.lock) (uf : IsMutexTable u) where
     takes_seen : (e : End) → Took p e u.machine.lock → Ended t p a u e → Takes (view_of t) p a (view_of u)
     takes_seen e took k = record {
-      ready = k.answer ∙ (ap (λ x. answer_by false t.machine.value (next.End x)) took.0 ∙ ap (λ v. answer.Ready (Value v)) (sym k.value));
+      ready = k.answer ∙ (ap (λ x. answer_by false t.machine.value (Next.End x)) took.0 ∙ ap (λ v. Answer.Ready (Value v)) (sym k.value));
       kept = k.value;
       holder = sees.holds_it u.machine.lock.places p um.one_holder (ap holds took.1);
     }
 
-    rests_seen : u.stages ≡ set t.stages p (Outside rest.Pending) → is_at_rest (view_of t) ≡ true → is_at_rest (view_of u) ≡ true
+    rests_seen : u.stages ≡ set t.stages p (Outside Rest.Pending) → is_at_rest (view_of t) ≡ true → is_at_rest (view_of u) ≡ true
     rests_seen is resting =
         let before : list_all is_outside_stage t.stages ≡ true = sym (rest_seen (verdict t.machine) t.stages) ∙ resting in
-        rest_seen (verdict u.machine) u.stages ∙ (ap (list_all is_outside_stage) is ∙ still_outside t.stages p (Outside rest.Pending) refl before)
+        rest_seen (verdict u.machine) u.stages ∙ (ap (list_all is_outside_stage) is ∙ still_outside t.stages p (Outside Rest.Pending) refl before)
 
     gives_seen : (e : End) → 0 < entries_of p t.machine.lock.entries → starved t.machine.lock < t.machine.lock.limit → GaveWay p t.machine.lock e u.machine.lock → StandsBack p t.machine.lock e u.machine.lock → Ended t p a u e → GivesWay (view_of t) p a (view_of u)
-    gives_seen «end».Pending there below g back k = record {
+    gives_seen End.Pending there below g back k = record {
       free = sees.none_held 0 u.machine.lock.places g.free;
       pending = k.answer;
       gave_way = gave_way p t.machine.lock u.machine.lock g there;
-      rests = rests_seen (k.stages ∙ ap (λ b. set t.stages p (stage_after rest.Holding (within kind.LaterPoll rest.Pending) b)) k.answer);
+      rests = rests_seen (k.stages ∙ ap (λ b. set t.stages p (stage_after Rest.Holding (within Kind.LaterPoll Rest.Pending) b)) k.answer);
     }
-    gives_seen («end».Refused refusal.Starved) there below g back k = absurd (omega (arith, back.2))
+    gives_seen (End.Refused Refusal.Starved) there below g back k = absurd (omega (arith, back.2))
     gives_seen _ there below g back k = absurd back
 
   module _ (i : Inputs) (tm : IsMutex t.machine.lock) (tf : IsMutexTable t) (solo : IsSolo (view_of t) p i) where
     -- the party stands pending in the table
-    pub at_stage : stage_at t.stages p ≡ Outside rest.Pending
-    at_stage = outside_stage (verdict t.machine p) (stage_at t.stages p) rest.Pending (sym (seen.stands_seen t p) ∙ solo.pending)
+    pub at_stage : stage_at t.stages p ≡ Outside Rest.Pending
+    at_stage = outside_stage (verdict t.machine p) (stage_at t.stages p) Rest.Pending (sym (seen.stands_seen t p) ∙ solo.pending)
 
     listed_here : 0 < entries_of p t.machine.lock.entries
     listed_here = marked_listed p t.machine.lock.entries solo.marked
 
-    pending_inside : (stage_at t.stages p ≡ Outside rest.Pending) → goes_with (Outside rest.Pending) (place_of t.machine p) ≡ true
-    pending_inside at = by_stage_or_past_at t.stages p (goes_with (Outside rest.Pending) (place_of t.machine p) ≡ true)
+    pending_inside : (stage_at t.stages p ≡ Outside Rest.Pending) → goes_with (Outside Rest.Pending) (place_of t.machine p) ≡ true
+    pending_inside at = by_stage_or_past_at t.stages p (goes_with (Outside Rest.Pending) (place_of t.machine p) ≡ true)
         (λ past. absurd (cc (sym past ∙ at)))
         (λ inside. ap (λ s. goes_with s (place_of t.machine p)) (sym at) ∙ tf.stands p inside)
 
@@ -114,7 +77,7 @@ module _ (t : Table Guarded) (p : ℕ) where
           }
 
 -- a solo poll that was carried out alone keeps its promise
-pub poll_seen : (known : ℕ → Account) (w : World) (p : ℕ) (i : Inputs) (k : ℕ) (a : Answer) (v : World) → Stands w → Stands v → Runs known w (moves_of p call.Poll i k) (answers_of k a) v → a ≢ answer.Stepped → IsSolo w p i → w.state.holder ≡ None → SoloPoll w p a v
+pub poll_seen : (known : ℕ → Account) (w : World) (p : ℕ) (i : Inputs) (k : ℕ) (a : Answer) (v : World) → Stands w → Stands v → Runs known w (moves_of p Call.Poll i k) (answers_of k a) v → a ≢ Answer.Stepped → IsSolo w p i → w.state.holder ≡ None → SoloPoll w p a v
 poll_seen known w p i k a v stood stands runs not_stepped solo free =
     let seen_so = subst (λ x. IsSolo x p i) stood.seen solo in
     let polls = polls_alone p i solo.memory known k w v a not_stepped (at_stage w.behind p i stood.mutex stood.fits seen_so) runs in

@@ -1,15 +1,8 @@
 -- Solo polls in turn: each that passes the free lock over gives way.
-use Rattle.std.proofs.Common.{◌≡◌, ◌≢◌, ℕ, ◌⊎◌, inl, inr, Some, None, refl}
-use Rattle.world_base.specs.declared.moves.Answer.{Answer}
-use Rattle.world_base.specs.declared.moves.Call.TheVariants as call
-use Rattle.world_base.specs.declared.moves.Inputs.{Inputs}
+use Rattle.world_mutex.proofs.Prelude.{◌≡◌, ◌≢◌, ℕ, ◌⊎◌, inl, inr, Some, None, refl, Answer, Call, Inputs, one_takes, GivesWay, PassesOver, IsBounded, IsSound, IsAwake, IsFreeAndWanted, accounts_of, World}
 use Rattle.world_base.specs.Bounds.{GaveWay}
-use Rattle.world_base.proofs.Bounds.{one_takes}
 use Rattle.world_base.proofs.of_table.Bounds.{first_marked}
-use Rattle.world_mutex.specs.Bound.{Takes, GivesWay, PassesOver, IsBounded}
-use Rattle.world_mutex.specs.Laws.{IsSound, IsAwake, IsFreeAndWanted}
-use Rattle.world_mutex.specs.Runs.{accounts_of}
-use Rattle.world_mutex.specs.State.{World}
+use Rattle.world_mutex.specs.Bound.{Takes}
 use Rattle.world_mutex.proofs.laws.WorldLaws.{keeps_promise}
 
 abbrev IsFree : World → Type 0
@@ -20,7 +13,7 @@ passed w p a v not_taken (inl takes) = absurd (not_taken takes.holder)
 passed w p a v not_taken (inr gives) = (gives.free, gives.gave_way)
 
 gives : (w : World) (p : ℕ) (inputs : Inputs) (a : Answer) (v : World) → IsFree w → PassesOver w p inputs a v → IsFree v × GaveWay p w.state.starved w.entries v.state.starved v.entries
-gives w p inputs a v free over = passed w p a v over.not_taken (((keeps_promise (accounts_of w) w p call.Poll inputs over.whole.more a v over.whole.runs over.whole.ended).solo refl over.solo free).takes_or_gives_way over.limit)
+gives w p inputs a v free over = passed w p a v over.not_taken (((keeps_promise (accounts_of w) w p Call.Poll inputs over.whole.more a v over.whole.runs over.whole.ended).solo refl over.solo free).takes_or_gives_way over.limit)
 
 pub bounded : (w : World) → IsSound w → IsAwake w → IsFreeAndWanted w → IsBounded w
 bounded w sound awake wanted =

@@ -1,51 +1,14 @@
 -- What always holds of a mutex's World, as callers see it, and that no notification is lost at rest.
-use Rattle.std.proofs.Common.{◌≡◌, ℕ, suc, ◌<◌, ◌⊎◌, inl, inr, Bool, true, List, [], ◌∷◌, length, Option, refl, arith, ap, sym, ◌∙◌, subst}
-use Rattle.std.proofs.lemmas.Bool.Decides.{nat_tests}
-use Rattle.std.specs.List.{list_all}
-use Rattle.lock_event.specs.declared.event.Entry.{Entry}
-use Rattle.world_base.specs.queue.Parties.{entries_of}
-use Rattle.world_base.specs.declared.moves.Answer.{Answer}
-use Rattle.world_base.specs.declared.standing.Kind.{Kind}
-use Rattle.world_base.specs.declared.standing.Kind.TheVariants as kind
-use Rattle.world_base.specs.declared.standing.Rest.{Rest}
-use Rattle.world_base.specs.declared.standing.Rest.TheVariants as rest
-use Rattle.world_base.specs.declared.standing.Stage.{Stage}
-use Rattle.world_base.specs.declared.standing.Stage.TheVariants.{Outside, Inside, Forgotten}
-use Rattle.world_base.specs.declared.standing.Within.{Within}
+use Rattle.world_mutex.proofs.Prelude.{◌≡◌, ℕ, suc, ◌<◌, ◌⊎◌, inl, inr, Bool, true, List, [], ◌∷◌, length, Option, refl, arith, ap, sym, ◌∙◌, subst, nat_tests, list_all, Entry, entries_of, Answer, Kind, Rest, Stage, Outside, Inside, Forgotten, Within, Standing, outside, inside, forgotten, is_outside_stage, stage_at, stands_as, Table, by_stage_or_past_at, rest_seen, outside_at, Place, IsMutex, place_at, counted, listed, is_resting, is_counted, Guarded, place_of, is_within, goes_with, with_value, HasRight, IsSound, is_long_call, is_at_rest, IsAwake, World, IsMutexTable, verdict, view_of, false, None, marked_count, is_outside, past_last, by_stage_or_past, is_due_there, holder_of, is_due, IsDue, standing_of}
 use Rattle.world_base.specs.Rights.{Right, hold}
-use Rattle.world_base.specs.Standings.{Standing, outside, inside, forgotten, is_outside_stage}
 use Rattle.world_base.specs.table.Lending.{table_with}
-use Rattle.world_base.specs.table.Stages.{stage_at, stands_as}
-use Rattle.world_base.specs.table.Tables.{Table}
 use Rattle.world_base.proofs.of_table.Lending.{lent_seen}
-use Rattle.world_base.proofs.of_table.Past.{by_stage_or_past_at}
-use Rattle.world_base.proofs.of_table.Views.{rest_seen, outside_at}
-use Rattle.lock_program.specs.declared.mutex.Place.{Place}
-use Rattle.lock_program.specs.declared.mutex.Place.TheVariants as place
 use Rattle.world_mutex.specs.machine.Acts as lock
-use Rattle.world_mutex.specs.machine.Acts.{IsMutex}
-use Rattle.world_mutex.specs.machine.Machine.{place_at}
-use Rattle.lock_program.specs.MutexRoles.{counted, listed, is_resting}
-use Rattle.world_mutex.specs.machine.State.{is_counted}
 use Rattle.world_mutex.proofs.of_machine.laws.CanDo.{once}
 use Rattle.world_mutex.proofs.of_machine.laws.Seen as sees
-use Rattle.world_mutex.specs.Guarded.{Guarded, place_of, is_within, goes_with, with_value}
-use Rattle.world_mutex.specs.Laws.{HasRight, IsSound, is_long_call, is_at_rest, IsAwake}
 use Rattle.world_mutex.specs.Lending.{world_with}
-use Rattle.world_mutex.specs.State.{World}
-use Rattle.world_mutex.specs.Steps.{IsMutexTable}
-use Rattle.world_mutex.specs.View.{verdict, view_of}
 use Rattle.world_mutex.proofs.step.Owns as owns
 use Rattle.world_mutex.proofs.table.Seen as seen
-use Rattle.std.proofs.Common.{false, None}
-use Rattle.lock_event.specs.Lists.{marked_count}
-use Rattle.world_base.specs.Standings.{is_outside}
-use Rattle.world_base.proofs.of_table.Mapped.{past_last}
-use Rattle.world_base.proofs.of_table.Past.{by_stage_or_past}
-use Rattle.world_mutex.specs.machine.Courses.{is_due as is_due_there}
-use Rattle.world_mutex.specs.machine.State.{holder_of}
-use Rattle.world_mutex.specs.Laws.{is_due, IsDue}
-use Rattle.world_mutex.specs.State.{standing_of}
 use Rattle.world_mutex.proofs.step.Due.{resting, rest_waits, due_at, due_unlisted, outside_stage}
 
 excluded : (w : World) (p q : ℕ) (r s : Right) → HasRight w p r → HasRight w q s → p ≡ q
@@ -55,10 +18,10 @@ excluded w p q _ s a b = absurd a
 
 -- a stage inside a call is a poll's or a drop's
 long_by : (k : Kind) (r : Rest) (x : Place) → is_within k r x ≡ true → is_long_call k r ≡ true
-long_by kind.FirstPoll rest.Idle x h = refl
-long_by kind.LaterPoll rest.Pending x h = refl
-long_by kind.Drop rest.Pending x h = refl
-long_by kind.Drop rest.Holding x h = refl
+long_by Kind.FirstPoll Rest.Idle x h = refl
+long_by Kind.LaterPoll Rest.Pending x h = refl
+long_by Kind.Drop Rest.Pending x h = refl
+long_by Kind.Drop Rest.Holding x h = refl
 long_by _ _ x h = absurd (cc (h))
 
 long_at : (s : Stage) (x : Place) (d : Option Answer) (u : Within) (e : Option Answer) → goes_with s x ≡ true → stands_as d s ≡ inside u e → is_long_call u.kind u.was ≡ true
@@ -74,13 +37,13 @@ all_rest [] h = tt
 all_rest (x ∷ xs) h = (h 0 (omega arith), all_rest xs (λ q i. h (suc q) (omega arith)))
 
 -- a listed party that is outside every call is pending, or was
-pends_so : (s : Stage) (x : Place) (d : Option Answer) → goes_with s x ≡ true → is_outside_stage s ≡ true → 0 < listed x → (stands_as d s ≡ outside rest.Pending) ⊎ (stands_as d s ≡ forgotten)
-pends_so (Outside rest.Pending) x d g o l = inl refl
-pends_so (Outside rest.Idle) place.Out d g o l = absurd (omega arith)
-pends_so (Outside rest.Idle) _ d g o l = absurd (cc g)
-pends_so (Outside rest.Holding) place.Holding d g o l = absurd (omega arith)
-pends_so (Outside rest.Holding) _ d g o l = absurd (cc g)
-pends_so (Outside rest.Finished) x d g o l = absurd (cc g)
+pends_so : (s : Stage) (x : Place) (d : Option Answer) → goes_with s x ≡ true → is_outside_stage s ≡ true → 0 < listed x → (stands_as d s ≡ outside Rest.Pending) ⊎ (stands_as d s ≡ forgotten)
+pends_so (Outside Rest.Pending) x d g o l = inl refl
+pends_so (Outside Rest.Idle) Place.Out d g o l = absurd (omega arith)
+pends_so (Outside Rest.Idle) _ d g o l = absurd (cc g)
+pends_so (Outside Rest.Holding) Place.Holding d g o l = absurd (omega arith)
+pends_so (Outside Rest.Holding) _ d g o l = absurd (cc g)
+pends_so (Outside Rest.Finished) x d g o l = absurd (cc g)
 pends_so (Inside w) x d g o l = absurd (cc o)
 pends_so Forgotten x d g o l = inr refl
 
@@ -93,13 +56,13 @@ module _ (t : Table Guarded) (laws : IsMutex t.machine.lock) (fits : IsMutexTabl
 
   rests_outside : (q : ℕ) → is_outside (standing_of (view_of t) q) ≡ true → is_resting (place_at xs q) ≡ true
   rests_outside q out = by_stage_or_past t.stages q (is_resting (place_at xs q) ≡ true)
-      (λ past. ap is_resting (past_last xs q place.Out (omega (arith, past, fits.as_many))))
+      (λ past. ap is_resting (past_last xs q Place.Out (omega (arith, past, fits.as_many))))
       (λ inside. resting (stage_at t.stages q) (place_at xs q) (fits.stands q inside) (outside_stage (stage_at t.stages q) (verdict t.machine q) (ap is_outside (sym (seen.stands_seen t q)) ∙ out)))
 
   due : (q : ℕ) → is_due_there (place_at xs q) ≡ true → IsDue (view_of t) q
   due q h = record {
     due = ap is_due (seen.stands_seen t q) ∙ by_stage_or_past t.stages q (is_due (stands_as (verdict t.machine q) (stage_at t.stages q)) ≡ true)
-        (λ past. (let none : is_due_there (place_at xs q) ≡ false = ap is_due_there (past_last xs q place.Out (omega (arith, past, fits.as_many))) in absurd (cc (none, h))))
+        (λ past. (let none : is_due_there (place_at xs q) ≡ false = ap is_due_there (past_last xs q Place.Out (omega (arith, past, fits.as_many))) in absurd (cc (none, h))))
         (λ inside. due_at t.machine.value (stage_at t.stages q) (place_at xs q) (fits.stands q inside) h);
     unlisted = λ fresh. laws.owners q ∙ due_unlisted (place_at xs q) h (sym (sees.starved_at xs q) ∙ fresh);
   }
@@ -133,7 +96,7 @@ module _ (t : Table Guarded) (laws : IsMutex t.machine.lock) (fits : IsMutexTabl
     awake = record {
       marked = λ free. laws.wakes places_rest (sees.none_holds 0 xs free.0) free.1;
       pending = λ q some.
-          let P : Standing → Type 0 = λ z. (z ≡ outside rest.Pending) ⊎ (z ≡ forgotten) in
+          let P : Standing → Type 0 = λ z. (z ≡ outside Rest.Pending) ⊎ (z ≡ forgotten) in
           subst P (sym (seen.stands_seen t q)) (by_stage_or_past_at t.stages q (P (stands_as (verdict t.machine q) (stage_at t.stages q)))
           (λ past. inr (ap (stands_as (verdict t.machine q)) past))
           (λ inside. pends_so (stage_at t.stages q) (place_of t.machine q) (verdict t.machine q) (fits.stands q inside) (outside_at t.stages stages_rest q) (omega (arith, some, laws.owners q))));

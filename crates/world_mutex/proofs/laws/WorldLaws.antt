@@ -1,24 +1,7 @@
 -- The laws of a mutex's World: what follows from one step that its table did.
-use Rattle.std.proofs.Common.{◌≡◌, ◌≢◌, ℕ, ◌+◌, ◌<◌, ◌≤◌, true, refl, sym, ap, ◌∙◌, subst}
-use Rattle.world_base.specs.declared.moves.Answer.{Answer}
-use Rattle.world_base.specs.declared.moves.Answer.TheVariants as answer
-use Rattle.world_base.specs.declared.moves.Call.{Call}
-use Rattle.world_base.specs.declared.moves.Inputs.{Inputs}
-use Rattle.world_base.specs.declared.moves.Move.{Move}
-use Rattle.world_base.specs.declared.moves.What.TheVariants.{Begin}
+use Rattle.world_mutex.proofs.Prelude.{◌≡◌, ◌≢◌, ℕ, ◌+◌, ◌<◌, ◌≤◌, true, refl, sym, ap, ◌∙◌, subst, Answer, Call, Inputs, Move, Begin, Account, account_after, accounts_after, is_outside, is_possible, going_on, moves_of, answers_of, StepsWell, left_by, beginning, first_of, last_of, Promises, knows, IsSound, IsAwake, is_at_rest, Runs, HoldsWell, TellsRights, accounts_of, World, standing_of, Stands, Steps}
 use Rattle.world_base.specs.declared.standing.Rest.TheVariants.{Holding}
-use Rattle.world_base.specs.Accounts.{Account, account_after, accounts_after}
-use Rattle.world_base.specs.Standings.{is_outside, is_possible}
-use Rattle.world_base.specs.Whole.{going_on, moves_of, answers_of}
-use Rattle.world_base.specs.any_world.Steps.{StepsWell, left_by, beginning}
 use Rattle.world_base.proofs.of_any_world.Endings.{ends_outside as outside_at_end}
-use Rattle.world_base.proofs.of_any_world.Runs.{first_of, last_of}
-use Rattle.world_mutex.specs.Bound.{Promises}
-use Rattle.world_mutex.specs.Guarded.{knows}
-use Rattle.world_mutex.specs.Laws.{IsSound, IsAwake, is_at_rest}
-use Rattle.world_mutex.specs.Runs.{Runs, HoldsWell, TellsRights, accounts_of}
-use Rattle.world_mutex.specs.State.{World, standing_of}
-use Rattle.world_mutex.specs.Steps.{Stands, Steps}
 use Rattle.world_mutex.specs.Whole.{most_steps_of, steps_left_of}
 use Rattle.world_mutex.proofs.whole.Promises.{keeps_promises}
 use Rattle.world_mutex.proofs.rights.Rights.{own, holds_well}
@@ -48,9 +31,9 @@ begins w p c i a v s = whole.begins w.behind v.behind p c i a s.did.stood.mutex 
 pub falls : (w : World) (p : ℕ) (i : Inputs) (a : Answer) (v : World) → Steps w (going_on p i) a v → left_by a (steps_left_of v p) < steps_left_of w p
 falls w p i a v s = whole.falls w.behind v.behind p i a s.did.stood.mutex s.did.stood.fits s.did.stands.mutex s.did.stands.fits s.did.step
 
-pub ends_outside : (w : World) (m : Move) (a : Answer) (v : World) → Steps w m a v → a ≢ answer.Stepped → is_possible a ≡ true → is_outside (standing_of v m.party) ≡ true
+pub ends_outside : (w : World) (m : Move) (a : Answer) (v : World) → Steps w m a v → a ≢ Answer.Stepped → is_possible a ≡ true → is_outside (standing_of v m.party) ≡ true
 ends_outside w m a v s = outside_at_end standing_of (λ x p. knows) Holding w m a v s.legal.possible s.legal.ends_properly
 
-pub keeps_promise : (known : ℕ → Account) (w : World) (p : ℕ) (c : Call) (i : Inputs) (n : ℕ) (a : Answer) (v : World) → Runs known w (moves_of p c i n) (answers_of n a) v → a ≢ answer.Stepped → Promises w p c i a v
+pub keeps_promise : (known : ℕ → Account) (w : World) (p : ℕ) (c : Call) (i : Inputs) (n : ℕ) (a : Answer) (v : World) → Runs known w (moves_of p c i n) (answers_of n a) v → a ≢ Answer.Stepped → Promises w p c i a v
 keeps_promise known w p c i n a v runs ended =
     keeps_promises known w p c i n a v (first_of Steps accounts_after HoldsWell known w (beginning p c i) _ (answers_of n a) v runs).2.did.stood (last_of Steps accounts_after HoldsWell known w p i n (Begin c i) a v runs).legal.did.stands runs ended

@@ -1,11 +1,6 @@
 -- Where a row of the table leaves its party: at the next place, or where one stands whose call has ended so.
-use Rattle.std.proofs.Common.{◌≡◌, true, false, refl}
-use Rattle.lock_program.specs.declared.mutex.Found.{Found}
-use Rattle.lock_program.specs.declared.mutex.Found.TheVariants.{Done, Free, Held, AtLimit, Yes}
-use Rattle.lock_program.specs.declared.mutex.Place.{Place}
-use Rattle.lock_program.specs.declared.mutex.Place.TheVariants.{Out, Holding, Enter, Try, Clear, CancelUncount, CancelLeave, Join, Look, Ask, Retry, PassOn, Count, JoinStarved, LookAlone, PassOnListed, AskStarved, Seize, Uncount, Leave, RefuseUncount, RefuseLeave, RefuseNotifyMemory, RefuseNotifyStarved, ReleaseNotify}
+use Rattle.world_mutex.proofs.Prelude.{◌≡◌, true, false, refl, Found, Done, Free, Held, AtLimit, Yes, Place, Out, Holding, Enter, Try, Clear, CancelUncount, CancelLeave, Join, Look, Ask, Retry, PassOn, Count, JoinStarved, LookAlone, PassOnListed, AskStarved, Seize, Uncount, Leave, RefuseUncount, RefuseLeave, RefuseNotifyMemory, RefuseNotifyStarved, ReleaseNotify, next_of, place_after, stands_by}
 use Rattle.lock_program.specs.Mutex as mutex
-use Rattle.world_mutex.specs.program.Program.{next_of, place_after, stands_by}
 
 pub stands_there : (p : Place) (f : Found) → stands_by (mutex.next_of p f) ≡ place_after p (next_of p f)
 stands_there Out f = refl

@@ -1,55 +1,16 @@
 -- What the lock carries out for a party is a legal step, as callers see it.
-use Rattle.std.proofs.Common.{◌≡◌, ◌≢◌, ℕ, ◌<◌, ◌⊎◌, ◌↔◌, ◌||◌, inl, inr, Bool, true, false, zero, suc, List, [], ◌∷◌, length, Option, Some, None, is_some, refl, arith, ap, sym, ◌∙◌, subst, get_or-set_same}
-use Rattle.std.proofs.lemmas.Bool.Decides.{nat_tests}
-use Rattle.std.proofs.Math.ListN.{set}
-use Rattle.lock_event.specs.declared.event.Entry.{Entry}
-use Rattle.lock_event.specs.declared.event.Mark.TheVariants.{Waiting}
-use Rattle.world_base.specs.declared.moves.Answer.{Answer}
-use Rattle.world_base.specs.declared.moves.Answer.TheVariants as answer
-use Rattle.world_base.specs.declared.moves.Got.TheVariants.{Value}
-use Rattle.world_base.specs.declared.moves.Move.{Move}
-use Rattle.lock_program.specs.declared.refusal.Refusal.{Refusal}
-use Rattle.lock_program.specs.declared.refusal.Refusal.TheVariants as refusal
-use Rattle.world_base.specs.declared.standing.Rest.TheVariants as rest
-use Rattle.world_base.specs.declared.standing.Stage.{Stage}
-use Rattle.world_base.specs.declared.standing.Within.{Within}
-use Rattle.world_base.specs.Frame.{is_drop, is_refusal, is_poll_after_ready, put_in}
+use Rattle.world_mutex.proofs.Prelude.{◌≡◌, ◌≢◌, ℕ, ◌<◌, ◌⊎◌, ◌↔◌, ◌||◌, inl, inr, Bool, true, false, zero, suc, List, [], ◌∷◌, length, Option, Some, None, is_some, refl, arith, ap, sym, ◌∙◌, subst, get_or-set_same, nat_tests, set, Entry, Waiting, Answer, Value, Move, Refusal, Rest, Stage, Within, is_drop, is_refusal, is_poll_after_ready, put_in, how_many, is_on, inside, inputs_of, call_in, is_possible, is_stepped, may_end, is_decided, decided_on, refused, IsUndecided, Deed, nothing, changes, does, joins, asks, leaves, notifies, notifies_additionally, some_eq, none_some, stage_at, stands_as, call_at, polls_again, stage_after, Table, End, Next, Place, Out, place_after, Lock, place_at, IsMutex, starved, decision, decided_then, IsReason, IsAllowed, IsLegal, counted, listed, holder_of, starved_of, is_counted, Guarded, knows, place_of, is_try_kind, answer_by, Carries, state_after, notifies_one, call_of, DecidesOn, ChangesOneThing, IsTakenFairly, OthersKeepTheirs, CarriesValue, Waits, IsCause, IsRefusedForCause, LeavesClear, IsValueKept, EndsProperly, Legal, State, World, standing_of, is_starved, mark_of, IsMutexTable, answer_on, verdict, view_of, entries_of, may_tell as may_tell_there}
 use Rattle.lock_program.specs.Refusals.{number_of}
-use Rattle.world_base.specs.Rosters.{how_many, is_on}
-use Rattle.world_base.specs.Standings.{inside, inputs_of, call_in, is_possible, is_stepped, may_end, is_decided, decision as decided_on, refused, IsUndecided}
-use Rattle.world_base.specs.Steps.{Deed, nothing, changes, does, joins, asks, leaves, notifies, notifies_additionally}
-use Rattle.world_base.proofs.Equations.{some_eq, none_some}
-use Rattle.world_base.specs.table.Stages.{stage_at, stands_as, call_at, polls_again, stage_after}
-use Rattle.world_base.specs.table.Tables.{Table}
 use Rattle.world_base.proofs.of_table.Acting as acting
 use Rattle.world_base.proofs.of_table.Calls.{decided_after, call_seen, again_seen, stands_seen}
-use Rattle.lock_program.specs.declared.end.End.{End}
-use Rattle.lock_program.specs.declared.end.End.TheVariants as «end»
-use Rattle.world_mutex.specs.declared.program.led.Next.{Next}
-use Rattle.world_mutex.specs.declared.program.led.Next.TheVariants as next
-use Rattle.lock_program.specs.declared.mutex.Place.{Place}
-use Rattle.lock_program.specs.declared.mutex.Place.TheVariants as place
-use Rattle.lock_program.specs.declared.mutex.Place.TheVariants.{Out}
-use Rattle.world_mutex.specs.program.Program.{place_after}
-use Rattle.world_mutex.specs.machine.Machine.{Lock, place_at}
-use Rattle.world_mutex.specs.machine.Acts.{IsMutex, starved}
 use Rattle.world_mutex.specs.machine.Deeds as lock
-use Rattle.world_mutex.specs.machine.Legal.{decision, decided_then, IsReason, IsAllowed, IsLegal}
-use Rattle.lock_program.specs.MutexRoles.{counted, listed}
-use Rattle.world_mutex.specs.machine.State.{holder_of, starved_of, is_counted}
 use Rattle.world_mutex.proofs.of_machine.legal.Promised.{begins_unrefused}
 use Rattle.world_mutex.proofs.of_machine.laws.Seen as sees
-use Rattle.world_mutex.specs.Guarded.{Guarded, knows, place_of, is_try_kind, answer_by, Carries}
-use Rattle.world_mutex.specs.Legal.{Change, ListName, takes, releases, starves, recovers, for_the_lock, state_after, entries_after, gives_back, gives_up, notifies_one, call_of, DecidesOn, ChangesOneThing, IsTakenFairly, OthersKeepTheirs, Carries as CarriesValue, Waits, IsCause, IsRefusedForCause, LeavesClear, IsValueKept, EndsProperly, Legal}
-use Rattle.world_mutex.specs.State.{State, World, standing_of, is_starved, mark_of}
-use Rattle.world_mutex.specs.Steps.{IsMutexTable}
-use Rattle.world_mutex.specs.View.{answer_on, verdict, view_of}
+use Rattle.world_mutex.specs.Legal.{Change, ListName, takes, releases, starves, recovers, for_the_lock, entries_after, gives_back, gives_up}
 use Rattle.world_mutex.proofs.step.Here.{Here, BeginsOrGoes, standing_at}
 use Rattle.world_mutex.proofs.step.Owns as owns
 use Rattle.world_mutex.proofs.table.Seen as seen
 use Rattle.world_mutex.proofs.table.Turns.{Lands}
-use Rattle.world_base.specs.queue.Parties.{entries_of}
-use Rattle.world_mutex.specs.machine.Courses.{may_tell as may_tell_there}
 use Rattle.world_mutex.specs.Legal.{may_tell}
 use Rattle.world_mutex.proofs.step.Due as due
 
@@ -88,100 +49,100 @@ some_other p q e apart = apart (sym (some_eq e))
 
 -- what a call is decided on after this
 abbrev pub said : Bool → ℕ → Next → Option End → Option Answer
-said trying v (next.Do a q) o = answer_on v o
-said trying v (next.End e) o = Some (answer_by trying v (next.End e))
+said trying v (Next.Do a q) o = answer_on v o
+said trying v (Next.End e) o = Some (answer_by trying v (Next.End e))
 
 -- an answer that a call is decided on comes from the lock's end
 pub record Ended (v : ℕ) (n : Next) (to : Place) (b : Answer) : Type 0 where
   pub trying : Bool
   pub ends : End
   pub now : decided_then n to ≡ Some ends
-  pub is : b ≡ answer_by trying v (next.End ends)
+  pub is : b ≡ answer_by trying v (Next.End ends)
 
 ended_by : (trying : Bool) (v : ℕ) (n : Next) (to : Place) (b : Answer) → said trying v n (decision to) ≡ Some b → Ended v n to b
-ended_by trying v (next.End e) to b is = record { trying = trying; ends = e; now = refl; is = sym (some_eq is) }
-ended_by trying v (next.Do a q) to b is = by_end (decision to) refl is where
-  by_end : (o : Option End) → decision to ≡ o → answer_on v o ≡ Some b → Ended v (next.Do a q) to b
+ended_by trying v (Next.End e) to b is = record { trying = trying; ends = e; now = refl; is = sym (some_eq is) }
+ended_by trying v (Next.Do a q) to b is = by_end (decision to) refl is where
+  by_end : (o : Option End) → decision to ≡ o → answer_on v o ≡ Some b → Ended v (Next.Do a q) to b
   by_end None e h = absurd (none_some h)
   by_end (Some f) e h = record { trying = false; ends = f; now = e; is = sym (some_eq h) }
 
 said_kept : (v : ℕ) (n : Next) (to : Place) (e : End) → decided_then n to ≡ Some e → said false v n (decision to) ≡ answer_on v (Some e)
-said_kept v (next.Do a q) to e is = ap (answer_on v) is
-said_kept v (next.End f) to e is = ap (answer_on v) is
+said_kept v (Next.Do a q) to e is = ap (answer_on v) is
+said_kept v (Next.End f) to e is = ap (answer_on v) is
 
 said_so : (trying : Bool) (v : ℕ) (n : Next) (o : Option End) → decided_after (answer_by trying v n) (answer_on v o) ≡ said trying v n o
-said_so trying v (next.Do a q) o = refl
-said_so true v (next.End «end».Got) o = refl
-said_so false v (next.End «end».Got) o = refl
-said_so trying v (next.End «end».Pending) o = refl
-said_so trying v (next.End «end».NotFree) o = refl
-said_so trying v (next.End «end».Granted) o = refl
-said_so trying v (next.End «end».Waiting) o = refl
-said_so trying v (next.End «end».GivenBack) o = refl
-said_so trying v (next.End («end».Refused r)) o = refl
+said_so trying v (Next.Do a q) o = refl
+said_so true v (Next.End End.Got) o = refl
+said_so false v (Next.End End.Got) o = refl
+said_so trying v (Next.End End.Pending) o = refl
+said_so trying v (Next.End End.NotFree) o = refl
+said_so trying v (Next.End End.Granted) o = refl
+said_so trying v (Next.End End.Waiting) o = refl
+said_so trying v (Next.End End.GivenBack) o = refl
+said_so trying v (Next.End (End.Refused r)) o = refl
 
 -- what an end is answered tells the end
 abbrev AsEnd : ℕ → End → Answer → Type 0
-AsEnd v e (answer.Ready got) = (e ≡ «end».Got) × (got ≡ Value v)
-AsEnd v e (answer.Granted got) = (e ≡ «end».Got) × (got ≡ Value v)
-AsEnd v e answer.Pending = e ≡ «end».Pending
-AsEnd v e (answer.Refused n) = (r : Refusal) × (e ≡ «end».Refused r) × (n ≡ number_of r)
+AsEnd v e (Answer.Ready got) = (e ≡ End.Got) × (got ≡ Value v)
+AsEnd v e (Answer.Granted got) = (e ≡ End.Got) × (got ≡ Value v)
+AsEnd v e Answer.Pending = e ≡ End.Pending
+AsEnd v e (Answer.Refused n) = (r : Refusal) × (e ≡ End.Refused r) × (n ≡ number_of r)
 AsEnd v e _ = Unit {0}
 
-ended_as : (trying : Bool) (v : ℕ) (e : End) (b : Answer) → b ≡ answer_by trying v (next.End e) → AsEnd v e b
-ended_as true v «end».Got b is = subst (AsEnd v «end».Got) (sym is) (refl, refl)
-ended_as false v «end».Got b is = subst (AsEnd v «end».Got) (sym is) (refl, refl)
-ended_as trying v «end».Pending b is = subst (AsEnd v «end».Pending) (sym is) refl
-ended_as trying v «end».NotFree b is = subst (AsEnd v «end».NotFree) (sym is) tt
-ended_as trying v «end».Granted b is = subst (AsEnd v «end».Granted) (sym is) tt
-ended_as trying v «end».Waiting b is = subst (AsEnd v «end».Waiting) (sym is) tt
-ended_as trying v «end».GivenBack b is = subst (AsEnd v «end».GivenBack) (sym is) tt
-ended_as trying v («end».Refused r) b is = subst (AsEnd v («end».Refused r)) (sym is) (r, refl, refl)
+ended_as : (trying : Bool) (v : ℕ) (e : End) (b : Answer) → b ≡ answer_by trying v (Next.End e) → AsEnd v e b
+ended_as true v End.Got b is = subst (AsEnd v End.Got) (sym is) (refl, refl)
+ended_as false v End.Got b is = subst (AsEnd v End.Got) (sym is) (refl, refl)
+ended_as trying v End.Pending b is = subst (AsEnd v End.Pending) (sym is) refl
+ended_as trying v End.NotFree b is = subst (AsEnd v End.NotFree) (sym is) tt
+ended_as trying v End.Granted b is = subst (AsEnd v End.Granted) (sym is) tt
+ended_as trying v End.Waiting b is = subst (AsEnd v End.Waiting) (sym is) tt
+ended_as trying v End.GivenBack b is = subst (AsEnd v End.GivenBack) (sym is) tt
+ended_as trying v (End.Refused r) b is = subst (AsEnd v (End.Refused r)) (sym is) (r, refl, refl)
 
-ends_at : (trying : Bool) (v : ℕ) (n : Next) (b : Answer) → b ≡ answer_by trying v n → is_stepped b ≡ false → (e : End) × (n ≡ next.End e)
-ends_at trying v (next.Do a q) b is h = let never : is_stepped answer.Stepped ≡ false = ap is_stepped (sym is) ∙ h in absurd (cc (never))
-ends_at trying v (next.End e) b is h = (e, refl)
+ends_at : (trying : Bool) (v : ℕ) (n : Next) (b : Answer) → b ≡ answer_by trying v n → is_stepped b ≡ false → (e : End) × (n ≡ Next.End e)
+ends_at trying v (Next.Do a q) b is h = let never : is_stepped Answer.Stepped ≡ false = ap is_stepped (sym is) ∙ h in absurd (cc (never))
+ends_at trying v (Next.End e) b is h = (e, refl)
 
 -- a refused party is out
 refused_out : (trying : Bool) (v : ℕ) (from : Place) (n : Next) → is_refusal (answer_by trying v n) ≡ true → place_after from n ≡ Out
-refused_out trying v from (next.Do a q) h = absurd (cc (h))
-refused_out true v from (next.End «end».Got) h = absurd (cc (h))
-refused_out false v from (next.End «end».Got) h = absurd (cc (h))
-refused_out trying v from (next.End «end».Pending) h = absurd (cc (h))
-refused_out trying v from (next.End «end».NotFree) h = absurd (cc (h))
-refused_out trying v from (next.End «end».Granted) h = absurd (cc (h))
-refused_out trying v from (next.End «end».Waiting) h = absurd (cc (h))
-refused_out trying v from (next.End «end».GivenBack) h = absurd (cc (h))
-refused_out trying v from (next.End («end».Refused r)) h = refl
+refused_out trying v from (Next.Do a q) h = absurd (cc (h))
+refused_out true v from (Next.End End.Got) h = absurd (cc (h))
+refused_out false v from (Next.End End.Got) h = absurd (cc (h))
+refused_out trying v from (Next.End End.Pending) h = absurd (cc (h))
+refused_out trying v from (Next.End End.NotFree) h = absurd (cc (h))
+refused_out trying v from (Next.End End.Granted) h = absurd (cc (h))
+refused_out trying v from (Next.End End.Waiting) h = absurd (cc (h))
+refused_out trying v from (Next.End End.GivenBack) h = absurd (cc (h))
+refused_out trying v from (Next.End (End.Refused r)) h = refl
 
 possible_by : (trying : Bool) (v : ℕ) (n : Next) → is_possible (answer_by trying v n) ≡ true
-possible_by trying v (next.Do a q) = refl
-possible_by true v (next.End «end».Got) = refl
-possible_by false v (next.End «end».Got) = refl
-possible_by trying v (next.End «end».Pending) = refl
-possible_by trying v (next.End «end».NotFree) = refl
-possible_by trying v (next.End «end».Granted) = refl
-possible_by trying v (next.End «end».Waiting) = refl
-possible_by trying v (next.End «end».GivenBack) = refl
-possible_by trying v (next.End («end».Refused r)) = refl
+possible_by trying v (Next.Do a q) = refl
+possible_by true v (Next.End End.Got) = refl
+possible_by false v (Next.End End.Got) = refl
+possible_by trying v (Next.End End.Pending) = refl
+possible_by trying v (Next.End End.NotFree) = refl
+possible_by trying v (Next.End End.Granted) = refl
+possible_by trying v (Next.End End.Waiting) = refl
+possible_by trying v (Next.End End.GivenBack) = refl
+possible_by trying v (Next.End (End.Refused r)) = refl
 
-number_six : (l k : Lock) (memory : Bool) (p : ℕ) (r : Refusal) → 6 ≡ number_of r → IsReason memory p l k («end».Refused r) → ⊥
-number_six l k memory p refusal.Memory e y = omega arith
-number_six l k memory p refusal.Starved e y = omega arith
+number_six : (l k : Lock) (memory : Bool) (p : ℕ) (r : Refusal) → 6 ≡ number_of r → IsReason memory p l k (End.Refused r) → ⊥
+number_six l k memory p Refusal.Memory e y = omega arith
+number_six l k memory p Refusal.Starved e y = omega arith
 number_six l k memory p _ e y = y
 
 abbrev number_on : Option End → ℕ
-number_on (Some («end».Refused r)) = number_of r
+number_on (Some (End.Refused r)) = number_of r
 number_on _ = 0
 
 six_at : (x : Place) → number_on (decision x) ≡ 6 → ⊥
-six_at place.RefuseUncount e = omega (arith, e)
-six_at (place.RefuseLeave told) e = omega (arith, e)
-six_at place.RefuseNotifyMemory e = omega (arith, e)
-six_at place.RefuseNotifyStarved e = omega (arith, e)
+six_at Place.RefuseUncount e = omega (arith, e)
+six_at (Place.RefuseLeave told) e = omega (arith, e)
+six_at Place.RefuseNotifyMemory e = omega (arith, e)
+six_at Place.RefuseNotifyStarved e = omega (arith, e)
 six_at _ e = omega (arith, e)
 
-never_six : (x : Place) (r : Refusal) → decision x ≡ Some («end».Refused r) → 6 ≡ number_of r → ⊥
+never_six : (x : Place) (r : Refusal) → decision x ≡ Some (End.Refused r) → 6 ≡ number_of r → ⊥
 never_six x r e six = six_at x (ap number_on e ∙ sym six)
 
 told_deed : (d : Deed lock.Change lock.ListName) (list : ListName) (n : ℕ) → world_deed d ≡ does list (notifies n) → d ≡ does lock.for_the_lock (notifies n)
@@ -247,7 +208,7 @@ module _ (t u : Table Guarded) (m : Move) (a : Answer) (w : Within) where
     pub carries : Carries g p w m.what a h
     pub here : Here s m.what w x carries.from
     pub lands : Lands g.value w carries.next (place_after carries.from carries.next)
-    pub stages : u.stages ≡ set t.stages p (stage_after rest.Holding w a)
+    pub stages : u.stages ≡ set t.stages p (stage_after Rest.Holding w a)
     pub opening : u.opening ≡ t.opening
 
   module _ (k : Acting) where
@@ -281,15 +242,15 @@ module _ (t u : Table Guarded) (m : Move) (a : Answer) (w : Within) where
     pub stood : standing_of old p ≡ standing_at v s x
     stood = seen.stands_seen t p
 
-    pub stands : standing_of new p ≡ stands_as (verdict h p) (stage_after rest.Holding w a)
-    stands = acting.stands verdict rest.Holding t u p w a k.inside k.stages
+    pub stands : standing_of new p ≡ stands_as (verdict h p) (stage_after Rest.Holding w a)
+    stands = acting.stands verdict Rest.Holding t u p w a k.inside k.stages
 
     others_stand : (q : ℕ) → q ≢ p → standing_of new q ≡ standing_of old q
-    others_stand q apart = acting.others_stand verdict rest.Holding t u p w a k.inside k.stages q apart
+    others_stand q apart = acting.others_stand verdict Rest.Holding t u p w a k.inside k.stages q apart
         (ap (λ y. answer_on h.value (decision y)) (way.others q apart) ∙ ap (λ z. answer_on z (decision (place_of g q))) k.carries.carried.value)
 
     decides : decided_on a (standing_of new p) ≡ said trying v n (decision to)
-    decides = acting.decides verdict rest.Holding t u p w a k.inside k.stages
+    decides = acting.decides verdict Rest.Holding t u p w a k.inside k.stages
         ∙ (ap (λ b. decided_after b (verdict h p)) k.carries.answer ∙ (ap (λ z. decided_after (answer_by trying v n) (answer_on z (decision to))) k.carries.carried.value ∙ said_so trying v n (decision to)))
 
     pub state_is : new.state ≡ state_after p (world_deed d) old.state
@@ -320,7 +281,7 @@ module _ (t u : Table Guarded) (m : Move) (a : Answer) (w : Within) where
       limit = way.limit;
       opening_value = k.opening;
       others = others_stand;
-      parties = acting.as_many verdict rest.Holding t u p w a k.inside k.stages;
+      parties = acting.as_many verdict Rest.Holding t u p w a k.inside k.stages;
       found_memory = λ list e. way.found_memory lock.for_the_lock ((same_deed p d).joins list e);
       parting = λ h. parting (decision from) refl (sym decided_there ∙ h);
       giving_up = λ up. decided_there ∙ giving_up (decision from) refl up;
@@ -381,86 +342,86 @@ module _ (t u : Table Guarded) (m : Move) (a : Answer) (w : Within) where
       pub fresh : decision from ≡ None
       pub why : IsReason memory p g.lock h.lock ended.ends
 
-    given_back : (tr : Bool) (e : End) → e ≡ «end».GivenBack → answer_by tr v (next.End e) ≡ answer.GivenBack
-    given_back tr e is = ap (λ z. answer_by tr v (next.End z)) is
+    given_back : (tr : Bool) (e : End) → e ≡ End.GivenBack → answer_by tr v (Next.End e) ≡ Answer.GivenBack
+    given_back tr e is = ap (λ z. answer_by tr v (Next.End z)) is
 
-    reason_by : (b : Answer) → DecidesOn old m a new b → (o : Option End) → decision from ≡ o → (b ≡ answer.GivenBack) ⊎ Reasoned b
+    reason_by : (b : Answer) → DecidesOn old m a new b → (o : Option End) → decision from ≡ o → (b ≡ Answer.GivenBack) ⊎ Reasoned b
     reason_by b on None e = let so = ended_by trying v n to b (sym decides ∙ on.1) in inr (record { ended = so; fresh = e; why = way.reason so.ends e so.now })
     reason_by b on (Some f) e =
         let so = ended_by trying v n to b (sym decides ∙ on.1) in
-        let back : f ≡ «end».GivenBack = k.here.undecided v (sym (ap is_decided stood) ∙ on.0) f e in
+        let back : f ≡ End.GivenBack = k.here.undecided v (sym (ap is_decided stood) ∙ on.0) f e in
         inl (so.is ∙ given_back so.trying so.ends (some_eq (sym so.now ∙ (way.kept f e).0) ∙ back))
 
-    reason : (b : Answer) → DecidesOn old m a new b → (b ≡ answer.GivenBack) ⊎ Reasoned b
+    reason : (b : Answer) → DecidesOn old m a new b → (b ≡ Answer.GivenBack) ⊎ Reasoned b
     reason b on = reason_by b on (decision from) refl
 
-    holder_by : (e : End) → e ≡ «end».Got → IsReason memory p g.lock h.lock e → holder_of h.lock ≡ Some p
+    holder_by : (e : End) → e ≡ End.Got → IsReason memory p g.lock h.lock e → holder_of h.lock ≡ Some p
     holder_by e is y = let P : End → Type 0 = IsReason memory p g.lock h.lock in subst P is y
 
     carries : CarriesValue old m a new
     carries = record {
-      ready = λ got on. elim (reason (answer.Ready got) on) as (λ _. (got ≡ Value new.state.value) × (new.state.holder ≡ Some p)) [
+      ready = λ got on. elim (reason (Answer.Ready got) on) as (λ _. (got ≡ Value new.state.value) × (new.state.holder ≡ Some p)) [
         | inl e ↦ absurd (cc (e))
-        | inr y ↦ (let is = ended_as y.ended.trying v y.ended.ends (answer.Ready got) y.ended.is in (is.1 ∙ ap Value (sym k.carries.carried.value), holder_by y.ended.ends is.0 y.why))
+        | inr y ↦ (let is = ended_as y.ended.trying v y.ended.ends (Answer.Ready got) y.ended.is in (is.1 ∙ ap Value (sym k.carries.carried.value), holder_by y.ended.ends is.0 y.why))
       ];
-      granted = λ got on. elim (reason (answer.Granted got) on) as (λ _. (got ≡ Value new.state.value) × (new.state.holder ≡ Some p)) [
+      granted = λ got on. elim (reason (Answer.Granted got) on) as (λ _. (got ≡ Value new.state.value) × (new.state.holder ≡ Some p)) [
         | inl e ↦ absurd (cc (e))
-        | inr y ↦ (let is = ended_as y.ended.trying v y.ended.ends (answer.Granted got) y.ended.is in (is.1 ∙ ap Value (sym k.carries.carried.value), holder_by y.ended.ends is.0 y.why))
+        | inr y ↦ (let is = ended_as y.ended.trying v y.ended.ends (Answer.Granted got) y.ended.is in (is.1 ∙ ap Value (sym k.carries.carried.value), holder_by y.ended.ends is.0 y.why))
       ];
     }
 
-    waits_by : (o : Option End) → decision from ≡ o → decided_then n to ≡ Some «end».Pending → mark_of new p ≡ Some Waiting
-    waits_by None e now = way.reason «end».Pending e now
+    waits_by : (o : Option End) → decision from ≡ o → decided_then n to ≡ Some End.Pending → mark_of new p ≡ Some Waiting
+    waits_by None e now = way.reason End.Pending e now
     waits_by (Some f) e now = absurd (seen.never_pending from (e ∙ (sym (way.kept f e).0 ∙ now)))
 
     waits : Waits m a new
     waits = record {
       waiting = λ e.
-          let at = ends_at trying v n answer.Pending (sym e ∙ k.carries.answer) refl in
-          let is : at.0 ≡ «end».Pending = ended_as trying v at.0 answer.Pending (sym e ∙ (k.carries.answer ∙ ap (answer_by trying v) at.1)) in
+          let at = ends_at trying v n Answer.Pending (sym e ∙ k.carries.answer) refl in
+          let is : at.0 ≡ End.Pending = ended_as trying v at.0 Answer.Pending (sym e ∙ (k.carries.answer ∙ ap (answer_by trying v) at.1)) in
           waits_by (decision from) refl (ap (λ z. decided_then z to) at.1 ∙ ap Some is);
       not_before = λ within e. owns.not_pending u k.new_laws k.new_fits p within e;
     }
 
-    was_inside : (b : BeginsOrGoes s w x from) → decision from ≡ None → (r : Refusal) → decided_then n to ≡ Some («end».Refused r) → IsUndecided (standing_of old p)
+    was_inside : (b : BeginsOrGoes s w x from) → decision from ≡ None → (r : Refusal) → decided_then n to ≡ Some (End.Refused r) → IsUndecided (standing_of old p)
     was_inside (inl b) fresh r now = absurd (begins_unrefused memory p b.0 x from n g.lock h.lock b.1 k.carries.carried.acts there r now)
     was_inside (inr b) fresh r now = (w, stood ∙ (ap (λ z. standing_at v z x) b.0 ∙ ap (λ o. inside w (answer_on v o)) (ap decision (sym b.1) ∙ fresh)))
 
     not_counted : (y : Place) → counted y ≡ 0 → is_counted y ≡ false
     not_counted y none = grind (arith, nat_tests)
 
-    cause : (c : Refusal) → decision from ≡ None → decided_then n to ≡ Some («end».Refused c) → IsReason memory p g.lock h.lock («end».Refused c) → IsCause old m new c
-    cause refusal.Memory fresh now y = (y.0, y.1, y.2, made _ _ _ _ _ _ y.3 y.4 k.carries.carried.value)
-    cause refusal.Starved fresh now y = (
+    cause : (c : Refusal) → decision from ≡ None → decided_then n to ≡ Some (End.Refused c) → IsReason memory p g.lock h.lock (End.Refused c) → IsCause old m new c
+    cause Refusal.Memory fresh now y = (y.0, y.1, y.2, made _ _ _ _ _ _ y.3 y.4 k.carries.carried.value)
+    cause Refusal.Starved fresh now y = (
       sees.how_many_counted g.lock.places ∙ y.0,
       sees.starved_at g.lock.places p ∙ not_counted x y.1,
-      was_inside k.here.begins fresh refusal.Starved now,
+      was_inside k.here.begins fresh Refusal.Starved now,
       y.2,
       made _ _ _ _ _ _ y.3 y.4 k.carries.carried.value,
     )
-    cause refusal.Finished fresh now y = absurd y
+    cause Refusal.Finished fresh now y = absurd y
     cause _ fresh now y = absurd y
 
-    never_over : (o : Option End) → decision from ≡ o → (e : End) → decided_then n to ≡ Some e → (r : Refusal) → e ≡ «end».Refused r → 6 ≡ number_of r → ⊥
+    never_over : (o : Option End) → decision from ≡ o → (e : End) → decided_then n to ≡ Some e → (r : Refusal) → e ≡ End.Refused r → 6 ≡ number_of r → ⊥
     never_over None is e now r refuses six = let P : End → Type 0 = IsReason memory p g.lock h.lock in number_six g.lock h.lock memory p r six (subst P refuses (way.reason e is now))
     never_over (Some f) is e now r refuses six = never_six from r (is ∙ (sym (way.kept f is).0 ∙ (now ∙ ap Some refuses))) six
 
     refused_for_cause : IsRefusedForCause old m a new
     refused_for_cause = record {
-      cause = λ number on. elim (reason (answer.Refused number) on) as (λ _. (c : Refusal) × (number ≡ number_of c) × IsCause old m new c) [
+      cause = λ number on. elim (reason (Answer.Refused number) on) as (λ _. (c : Refusal) × (number ≡ number_of c) × IsCause old m new c) [
         | inl e ↦ absurd (cc (e))
-        | inr y ↦ (let is = ended_as y.ended.trying v y.ended.ends (answer.Refused number) y.ended.is in
+        | inr y ↦ (let is = ended_as y.ended.trying v y.ended.ends (Answer.Refused number) y.ended.is in
             let P : End → Type 0 = IsReason memory p g.lock h.lock in
             (is.0, is.2, cause is.0 y.fresh (y.ended.now ∙ ap Some is.1) (subst P is.1 y.why)))
       ];
-      memory = λ on. elim (reason (refused refusal.Memory) on) as (λ _. IsUndecided (standing_of old p)) [
+      memory = λ on. elim (reason (refused Refusal.Memory) on) as (λ _. IsUndecided (standing_of old p)) [
         | inl e ↦ absurd (cc (e))
-        | inr y ↦ (let is = ended_as y.ended.trying v y.ended.ends (refused refusal.Memory) y.ended.is in was_inside k.here.begins y.fresh is.0 (y.ended.now ∙ ap Some is.1))
+        | inr y ↦ (let is = ended_as y.ended.trying v y.ended.ends (refused Refusal.Memory) y.ended.is in was_inside k.here.begins y.fresh is.0 (y.ended.now ∙ ap Some is.1))
       ];
       after_ready = (
         (λ e.
-            let at = ends_at trying v n (refused refusal.Finished) (sym e ∙ k.carries.answer) refl in
-            let is = ended_as trying v at.0 (refused refusal.Finished) (sym e ∙ (k.carries.answer ∙ ap (answer_by trying v) at.1)) in
+            let at = ends_at trying v n (refused Refusal.Finished) (sym e ∙ k.carries.answer) refl in
+            let is = ended_as trying v at.0 (refused Refusal.Finished) (sym e ∙ (k.carries.answer ∙ ap (answer_by trying v) at.1)) in
             absurd (never_over (decision from) refl at.0 (ap (λ z. decided_then z to) at.1) is.0 is.1 is.2)),
         (λ e. let never : polls_again s m.what ≡ true = sym (again_seen (answer_on v (decision x)) s m.what) ∙ (ap (λ z. is_poll_after_ready z m.what) (sym stood) ∙ e) in absurd (cc (k.first, never))),
       );
@@ -493,11 +454,11 @@ module _ (t u : Table Guarded) (m : Move) (a : Answer) (w : Within) where
     kept within b e = let so = k.here.kept v within b (sym stood ∙ e) in kept_by (decision from) refl b so.0 so.1
 
     ends_properly : EndsProperly old m a new
-    ends_properly = acting.ends_so standing_of (λ y q. knows) rest.Holding old m a new w called possible (rw stands (stands_seen rest.Holding w a (verdict h p) possible may_end_so)) kept
+    ends_properly = acting.ends_so standing_of (λ y q. knows) Rest.Holding old m a new w called possible (rw stands (stands_seen Rest.Holding w a (verdict h p) possible may_end_so)) kept
 
     pub legal : Legal old m a new
     legal = record {
-      possible = acting.possible_so standing_of (λ y q. knows) rest.Holding old m a new w called possible;
+      possible = acting.possible_so standing_of (λ y q. knows) Rest.Holding old m a new w called possible;
       one_change = one_change;
       taken_fairly = taken_fairly;
       others_keep = others_keep;

@@ -1,56 +1,11 @@
 -- What the first step of a try and of a first poll answers at once.
-use Rattle.std.specs.Prelude.{is_none}
-use Rattle.std.proofs.Common.{◌≡◌, ℕ, ◌+◌, ◌&&◌, ◌||◌, ◌==◌, ◌⊎◌, ◌↔◌, inl, inr, if◌then◌else◌, Bool, true, false, List, map, Option, Some, None, refl, arith, ap, sym, ◌∙◌, subst, get_or-set_same}
-use Rattle.std.proofs.lemmas.Bool.{false≢true, true≢false}
-use Rattle.std.proofs.lemmas.Bool.Decides.{nat_tests}
-use Rattle.std.proofs.Math.ListN.{set}
-use Rattle.std.proofs.Math.Seq.{map-set_same}
-use Rattle.std.proofs.lemmas.List.Sums.{sum_by-set}
-use Rattle.std.specs.List.{sum_by}
-use Rattle.lock_event.specs.declared.event.Entry.{Entry}
-use Rattle.lock_event.specs.Lists.{is_marked_at}
-use Rattle.world_base.specs.queue.Parties.{is_party, entries_of}
-use Rattle.world_base.specs.declared.moves.Answer.{Answer}
-use Rattle.world_base.specs.declared.moves.Answer.TheVariants as answer
-use Rattle.world_base.specs.declared.moves.Got.TheVariants.{Value}
-use Rattle.world_base.specs.declared.moves.Move.{Move}
-use Rattle.world_base.specs.declared.standing.Rest.TheVariants as rest
-use Rattle.world_base.specs.declared.standing.Stage.{Stage}
-use Rattle.world_base.specs.declared.standing.Stage.TheVariants.{Outside, Inside, Forgotten}
-use Rattle.world_base.specs.declared.standing.Within.{Within}
-use Rattle.world_base.specs.Rosters.{how_many}
-use Rattle.world_base.specs.Standings.{inside, inputs_of}
-use Rattle.world_base.specs.Steps.{changes, asked}
-use Rattle.world_base.specs.table.Stages.{stage_at, stands_as}
-use Rattle.world_base.specs.table.Tables.{Table}
-use Rattle.world_base.proofs.of_table.Views.{outside_stage}
-use Rattle.lock_program.specs.declared.mutex.Action.TheVariants as act
-use Rattle.lock_program.specs.declared.mutex.Found.{Found}
-use Rattle.lock_program.specs.declared.mutex.Found.TheVariants.{Free, Held, SomeStarved, Yes, No}
-use Rattle.lock_program.specs.declared.mutex.Place.{Place}
-use Rattle.lock_program.specs.declared.mutex.Place.TheVariants.{Out, Enter, Try, Clear, Ask, AskStarved, ReleaseNotify}
-use Rattle.world_mutex.specs.machine.Acts.{Finds, holders, starved}
-use Rattle.world_mutex.specs.machine.Machine.{Lock, SameRoles, place_at}
-use Rattle.world_mutex.specs.machine.Parties.{OnParties}
-use Rattle.world_mutex.specs.machine.State.{is_holder, is_counted, holder_from}
-use Rattle.world_mutex.specs.program.Program.{action_of, next_of, place_after}
-use Rattle.lock_program.specs.MutexRoles.{bit, holds}
+use Rattle.world_mutex.proofs.Prelude.{is_none, ◌≡◌, ℕ, ◌+◌, ◌&&◌, ◌||◌, ◌==◌, ◌⊎◌, ◌↔◌, inl, inr, if◌then◌else◌, Bool, true, false, List, map, Option, Some, None, refl, arith, ap, sym, ◌∙◌, subst, get_or-set_same, false≢true, true≢false, nat_tests, set, map-set_same, sum_by-set, sum_by, Entry, is_marked_at, is_party, entries_of, Answer, Value, Move, Rest, Stage, Outside, Inside, Forgotten, Within, how_many, inside, inputs_of, changes, asked, stage_at, stands_as, Table, outside_stage, Action, Found, Free, Held, SomeStarved, Yes, No, Place, Out, Enter, Try, Clear, Ask, AskStarved, ReleaseNotify, Finds, holders, starved, Lock, SameRoles, place_at, OnParties, is_holder, is_counted, holder_from, action_of, next_of, place_after, bit, holds, Guarded, place_of, answer_by, is_try_kind, state_after, is_try, is_first_poll, is_later_poll, AnswersAtOnce, World, standing_of, is_free, verdict, view_of, notified, some_eq, none_some, Leave, Uncount, CancelUncount, CancelLeave, RefuseUncount, RefuseLeave, RefuseNotifyMemory, RefuseNotifyStarved, listed, counted, decision, is_starved, answer_on}
 use Rattle.world_mutex.proofs.of_machine.legal.Legal.{entered}
 use Rattle.world_mutex.proofs.of_machine.laws.Seen as sees
-use Rattle.world_mutex.specs.Guarded.{Guarded, place_of, answer_by, is_try_kind}
-use Rattle.world_mutex.specs.Legal.{takes, state_after, is_try, is_first_poll, is_later_poll, AnswersAtOnce}
-use Rattle.world_mutex.specs.State.{World, standing_of, is_free}
-use Rattle.world_mutex.specs.View.{verdict, view_of}
+use Rattle.world_mutex.specs.Legal.{takes}
 use Rattle.world_mutex.proofs.step.Acting.{Acting}
 use Rattle.world_mutex.proofs.step.Acting as acting
 use Rattle.world_mutex.proofs.step.Here.{standing_at, same_roles}
-use Rattle.lock_event.specs.Lists.{notified}
-use Rattle.world_base.proofs.Equations.{some_eq, none_some}
-use Rattle.lock_program.specs.declared.mutex.Place.TheVariants.{Leave, Uncount, CancelUncount, CancelLeave, RefuseUncount, RefuseLeave, RefuseNotifyMemory, RefuseNotifyStarved}
-use Rattle.lock_program.specs.MutexRoles.{listed, counted}
-use Rattle.world_mutex.specs.machine.Legal.{decision}
-use Rattle.world_mutex.specs.State.{is_starved}
-use Rattle.world_mutex.specs.View.{answer_on}
 
 free_test : (h : Option ℕ) (n : ℕ) → h ≡ None → n ≡ 0 → is_none h && (n == 0) ≡ true
 free_test None n h e = rw e refl
@@ -62,26 +17,26 @@ free_means (Some p) n t = absurd (cc)
 
 -- a look at a free lock takes it
 module _ (memory : Bool) (l : Lock) (v : ℕ) (free : Bool) (is : (holders l ≡ 0) → (starved l ≡ 0) → free ≡ true) (means : free ≡ true → (holders l ≡ 0) × (starved l ≡ 0)) where
-  ready_now : (f : Found) → Finds memory act.Take f l → answer_by false v (next_of Enter f) ≡ (if free then answer.Ready (Value v) else answer.Stepped)
+  ready_now : (f : Found) → Finds memory Action.Take f l → answer_by false v (next_of Enter f) ≡ (if free then Answer.Ready (Value v) else Answer.Stepped)
   ready_now Free e = rw (is e.0 e.1) refl
   ready_now (Held b) e = held free refl where
-    held : (c : Bool) → free ≡ c → answer.Stepped ≡ (if c then answer.Ready (Value v) else answer.Stepped)
+    held : (c : Bool) → free ≡ c → Answer.Stepped ≡ (if c then Answer.Ready (Value v) else Answer.Stepped)
     held true h = let m = means h in absurd (omega (arith, e.0, m.0))
     held false h = refl
   ready_now SomeStarved e = some free refl where
-    some : (c : Bool) → free ≡ c → answer.Stepped ≡ (if c then answer.Ready (Value v) else answer.Stepped)
+    some : (c : Bool) → free ≡ c → Answer.Stepped ≡ (if c then Answer.Ready (Value v) else Answer.Stepped)
     some true h = let m = means h in absurd (omega (arith, m.1))
     some false h = refl
   ready_now _ e = absurd e
 
-  tried_now : (f : Found) → Finds memory act.Take f l → answer_by true v (next_of Try f) ≡ (if free then answer.Granted (Value v) else answer.None)
+  tried_now : (f : Found) → Finds memory Action.Take f l → answer_by true v (next_of Try f) ≡ (if free then Answer.Granted (Value v) else Answer.None)
   tried_now Free e = rw (is e.0 e.1) refl
   tried_now (Held b) e = held free refl where
-    held : (c : Bool) → free ≡ c → answer.None ≡ (if c then answer.Granted (Value v) else answer.None)
+    held : (c : Bool) → free ≡ c → Answer.None ≡ (if c then Answer.Granted (Value v) else Answer.None)
     held true h = let m = means h in absurd (omega (arith, e.0, m.0))
     held false h = refl
   tried_now SomeStarved e = some free refl where
-    some : (c : Bool) → free ≡ c → answer.None ≡ (if c then answer.Granted (Value v) else answer.None)
+    some : (c : Bool) → free ≡ c → Answer.None ≡ (if c then Answer.Granted (Value v) else Answer.None)
     some true h = let m = means h in absurd (omega (arith, m.1))
     some false h = refl
   tried_now _ e = absurd e
@@ -111,7 +66,7 @@ entrance_list p _ f es ms h o = absurd (elim h as (λ _. ⊥) [ inl e ↦ cc | i
 
 -- a poll that asks goes on if its party was notified, and changes the list alone
 record Asked (p v : ℕ) (y : Place) (f : Found) (es ms : List (Entry ℕ)) : Type 0 where
-  pub answer : answer_by false v (next_of y f) ≡ (if is_marked_at (is_party p) es then answer.Stepped else answer.Pending)
+  pub answer : answer_by false v (next_of y f) ≡ (if is_marked_at (is_party p) es then Answer.Stepped else Answer.Pending)
   pub entries : ms ≡ asked p es
   pub holds : is_holder (place_after y (next_of y f)) ≡ is_holder y
   pub counts : is_counted (place_after y (next_of y f)) ≡ is_counted y
@@ -225,7 +180,7 @@ module _ (t u : Table Guarded) (m : Move) (a : Answer) (w : Within) (k : Acting 
   looks false false tries first h = absurd (false≢true h)
 
   listed_at : (y : Place) → from ≡ y → (y ≡ Ask) ⊎ (y ≡ AskStarved) → is_try_kind w.kind ≡ false
-      → (a ≡ (if is_marked_at (is_party p) old.entries then answer.Stepped else answer.Pending)) × (new.state ≡ old.state) × (new.entries ≡ asked p old.entries)
+      → (a ≡ (if is_marked_at (is_party p) old.entries then Answer.Stepped else Answer.Pending)) × (new.state ≡ old.state) × (new.entries ≡ asked p old.entries)
   listed_at y at h trying =
       let so = asks_so p g.value (inputs_of m.what).memory g.lock y f old.entries new.entries h (finds y at) (on_list y at) in (
         answered y false at trying ∙ so.answer,
@@ -241,17 +196,17 @@ module _ (t u : Table Guarded) (m : Move) (a : Answer) (w : Within) (k : Acting 
       ap (holder_from 0) (places Clear at) ∙ sees.none_held 0 (set g.lock.places p ReleaseNotify) (omega (arith, sum, had, k.old_laws.one_holder))
 
   -- where a refused party notifies
-  refuses_so : (within : Within) (r : ℕ) → standing_of old p ≡ inside within (Some (answer.Refused r)) → entries_of p old.entries ≡ 0 → is_starved old.state p ≡ false → (a ≡ answer.Refused r) × (new.entries ≡ notified old.entries 1)
+  refuses_so : (within : Within) (r : ℕ) → standing_of old p ≡ inside within (Some (Answer.Refused r)) → entries_of p old.entries ≡ 0 → is_starved old.state p ≡ false → (a ≡ Answer.Refused r) × (new.entries ≡ notified old.entries 1)
   refuses_so within r at none plain =
-      let here : standing_at g.value s (place_of g p) ≡ inside within (Some (answer.Refused r)) = sym (acting.stood t u m a w k) ∙ at in
-      let decided : answer_on g.value (decision from) ≡ Some (answer.Refused r) = (k.here.kept g.value within (answer.Refused r) here).0 in
+      let here : standing_at g.value s (place_of g p) ≡ inside within (Some (Answer.Refused r)) = sym (acting.stood t u m a w k) ∙ at in
+      let decided : answer_on g.value (decision from) ≡ Some (Answer.Refused r) = (k.here.kept g.value within (Answer.Refused r) here).0 in
       let unlisted : listed from ≡ 0 = same.standing ∙ (sym (k.old_laws.owners p) ∙ none) in
       let counted_not : is_counted (place_of g p) ≡ false = sym (sees.starved_at g.lock.places p) ∙ plain in
       let plain_there : counted from ≡ 0 = same.starving ∙ (sym (sees.counted_bit (place_of g p)) ∙ ap bit counted_not) in
       refused_at from f refl (answered from (is_try_kind w.kind) refl refl) (on_list from refl) decided unlisted plain_there
     where
-      refused_at : (y : Place) (f : Found) → y ≡ y → a ≡ answer_by (is_try_kind w.kind) g.value (next_of y f) → OnParties p (action_of y) f old.entries new.entries → answer_on g.value (decision y) ≡ Some (answer.Refused r) → listed y ≡ 0 → counted y ≡ 0
-          → (a ≡ answer.Refused r) × (new.entries ≡ notified old.entries 1)
+      refused_at : (y : Place) (f : Found) → y ≡ y → a ≡ answer_by (is_try_kind w.kind) g.value (next_of y f) → OnParties p (action_of y) f old.entries new.entries → answer_on g.value (decision y) ≡ Some (Answer.Refused r) → listed y ≡ 0 → counted y ≡ 0
+          → (a ≡ Answer.Refused r) × (new.entries ≡ notified old.entries 1)
       refused_at RefuseNotifyMemory f same said on d l c = (said ∙ some_eq d, on)
       refused_at RefuseNotifyStarved f same said on d l c = (said ∙ some_eq d, on)
       refused_at RefuseUncount f same said on d l c = absurd (omega (arith, c))
@@ -278,7 +233,7 @@ module _ (t u : Table Guarded) (m : Move) (a : Answer) (w : Within) (k : Acting 
         let at = k.here.polls g.value seen (omega (arith, some, k.old_laws.owners p)) in
         listed_at from refl at.0 at.1;
     released = λ drops holding.
-        let at = k.here.releases drops (outside_stage (verdict g p) s rest.Holding (sym (acting.stood t u m a w k) ∙ holding)) in (
+        let at = k.here.releases drops (outside_stage (verdict g p) s Rest.Holding (sym (acting.stood t u m a w k) ∙ holding)) in (
           answered Clear false at.0 at.1,
           acting.made _ _ _ _ _ _ (none_then at.0) (same_starved Clear at.0 refl) k.carries.carried.value,
         );

@@ -1,33 +1,7 @@
 -- What is so where a move begins or goes on.
-use Rattle.std.proofs.Common.{◌≡◌, ℕ, ◌<◌, ◌||◌, ◌⊎◌, inl, inr, true, false, Option, Some, None, is_some, refl, arith, ap, sym, subst}
-use Rattle.world_base.specs.declared.moves.Answer.{Answer}
-use Rattle.world_base.specs.declared.moves.What.{What}
-use Rattle.world_base.specs.declared.standing.Kind.{Kind}
-use Rattle.world_base.specs.declared.standing.Kind.TheVariants as kind
-use Rattle.world_base.specs.declared.standing.Rest.{Rest}
-use Rattle.world_base.specs.declared.standing.Rest.TheVariants as rest
-use Rattle.world_base.specs.declared.standing.Stage.{Stage}
-use Rattle.world_base.specs.declared.standing.Stage.TheVariants.{Outside, Inside}
-use Rattle.world_base.specs.declared.standing.Within.{Within}
-use Rattle.world_base.specs.Frame.{is_drop, put_in}
-use Rattle.world_base.specs.Standings.{Standing, inside, is_decided}
-use Rattle.world_base.proofs.Equations.{some_eq, not_one}
-use Rattle.world_base.specs.table.Stages.{stands_as, call_at, polls_again}
-use Rattle.lock_program.specs.declared.end.End.{End}
-use Rattle.lock_program.specs.declared.end.End.TheVariants as «end»
-use Rattle.lock_program.specs.declared.mutex.LockCall.{LockCall}
-use Rattle.lock_program.specs.declared.mutex.LockCall.TheVariants as lock_call
-use Rattle.lock_program.specs.declared.mutex.Place.{Place}
-use Rattle.lock_program.specs.declared.mutex.Place.TheVariants.{Enter, Try, Clear, Ask, AskStarved, ReleaseNotify}
-use Rattle.world_mutex.specs.machine.Legal.{decision}
+use Rattle.world_mutex.proofs.Prelude.{◌≡◌, ℕ, ◌<◌, ◌||◌, ◌⊎◌, inl, inr, true, false, Option, Some, None, is_some, refl, arith, ap, sym, subst, Answer, What, Kind, Rest, Stage, Outside, Inside, Within, is_drop, put_in, Standing, inside, is_decided, some_eq, not_one, stands_as, call_at, polls_again, End, LockCall, Place, Enter, Try, Clear, Ask, AskStarved, ReleaseNotify, decision, SameRoles, start_of, listed, knows, goes_with, is_within, is_try_kind, is_try, is_first_poll, is_later_poll, answer_on}
 use Rattle.world_mutex.specs.machine.Courses.{is_releasing}
-use Rattle.world_mutex.specs.machine.Machine.{SameRoles}
-use Rattle.world_mutex.specs.program.Program.{start_of}
-use Rattle.lock_program.specs.MutexRoles.{listed}
 use Rattle.world_mutex.proofs.of_machine.laws.Starts.{start_same}
-use Rattle.world_mutex.specs.Guarded.{knows, goes_with, is_within, is_try_kind}
-use Rattle.world_mutex.specs.Legal.{is_try, is_first_poll, is_later_poll}
-use Rattle.world_mutex.specs.View.{answer_on}
 use Rattle.world_mutex.proofs.table.Turns.{Turn, turn}
 
 -- the standing of a party at this stage and place
@@ -42,23 +16,23 @@ pub record Here (s : Stage) (what : What) (w : Within) (x from : Place) : Type 0
   pub begins : BeginsOrGoes s w x from
   pub decides : (v : ℕ) → is_decided (standing_at v s x) || is_drop what ≡ is_some (decision from)
   pub kept : (v : ℕ) (u : Within) (b : Answer) → standing_at v s x ≡ inside u (Some b) → (answer_on v (decision from) ≡ Some b) × (is_try_kind w.kind ≡ false)
-  pub undecided : (v : ℕ) → is_decided (standing_at v s x) ≡ false → (e : End) → decision from ≡ Some e → e ≡ «end».GivenBack
+  pub undecided : (v : ℕ) → is_decided (standing_at v s x) ≡ false → (e : End) → decision from ≡ Some e → e ≡ End.GivenBack
   pub first : (v n : ℕ) → is_first_poll (standing_at v s x) what n ≡ true → n ≡ listed x → (from ≡ Enter) × (is_try_kind w.kind ≡ false)
   pub tries : is_try what ≡ true → (from ≡ Try) × (is_try_kind w.kind ≡ true)
   pub polls : (v : ℕ) → is_later_poll (standing_at v s x) what ≡ true → 0 < listed x → ((from ≡ Ask) ⊎ (from ≡ AskStarved)) × (is_try_kind w.kind ≡ false)
-  pub releases : is_drop what ≡ true → s ≡ Outside rest.Holding → (from ≡ Clear) × (is_try_kind w.kind ≡ false)
-  pub tells : s ≡ Inside (record { kind = kind.Drop; was = rest.Holding }) → (from ≡ ReleaseNotify) × (is_try_kind w.kind ≡ false)
+  pub releases : is_drop what ≡ true → s ≡ Outside Rest.Holding → (from ≡ Clear) × (is_try_kind w.kind ≡ false)
+  pub tells : s ≡ Inside (record { kind = Kind.Drop; was = Rest.Holding }) → (from ≡ ReleaseNotify) × (is_try_kind w.kind ≡ false)
 
 decides_so : (v : ℕ) (w : Within) (o : Option End) → is_decided (inside w (answer_on v o)) || false ≡ is_some o
 decides_so v w None = refl
 decides_so v w (Some e) = refl
 
-undecided_so : (v : ℕ) (w : Within) (o : Option End) (e : End) → is_decided (inside w (answer_on v o)) ≡ false → o ≡ Some e → e ≡ «end».GivenBack
+undecided_so : (v : ℕ) (w : Within) (o : Option End) (e : End) → is_decided (inside w (answer_on v o)) ≡ false → o ≡ Some e → e ≡ End.GivenBack
 undecided_so v w None e h is = absurd (cc)
 undecided_so v w (Some f) e h is = absurd (cc)
 
 never_tries : (k : Kind) (r : Rest) (x : Place) → is_within k r x ≡ true → is_try_kind k ≡ false
-never_tries kind.Try r x h = absurd (cc)
+never_tries Kind.Try r x h = absurd (cc)
 never_tries _ r x h = refl
 
 -- inside the drop of a guard the lock is given back, and somebody is to be notified
@@ -66,23 +40,23 @@ told_at : (x : Place) → is_releasing x ≡ true → x ≡ ReleaseNotify
 told_at ReleaseNotify h = refl
 told_at _ h = absurd (cc)
 
-tells_so : (w : Within) (x : Place) → Inside w ≡ Inside (record { kind = kind.Drop; was = rest.Holding }) → is_within w.kind w.was x ≡ true → (x ≡ ReleaseNotify) × (is_try_kind w.kind ≡ false)
+tells_so : (w : Within) (x : Place) → Inside w ≡ Inside (record { kind = Kind.Drop; was = Rest.Holding }) → is_within w.kind w.was x ≡ true → (x ≡ ReleaseNotify) × (is_try_kind w.kind ≡ false)
 tells_so w x e within =
-    let same : w ≡ record { kind = kind.Drop; was = rest.Holding } = cc e in
+    let same : w ≡ record { kind = Kind.Drop; was = Rest.Holding } = cc e in
     let W : Within → Type 0 = λ v. is_within v.kind v.was x ≡ true in
     (told_at x (subst W same within), ap (λ (v : Within). is_try_kind v.kind) same)
 
 pub here : (s : Stage) (what : What) (w : Within) (x : Place) → goes_with s x ≡ true → call_at knows s what ≡ Some w → polls_again s what ≡ false → put_in what ≡ None → Turn Here s what w x
 here = turn Here (record {
-  lock = λ i. record { begins = inl (lock_call.Lock, refl); decides = λ v. refl; kept = λ v u b e. absurd (cc); undecided = λ v h e d. absurd (cc); first = λ v n h l. (refl, refl); tries = λ h. absurd (cc); polls = λ v h some. absurd (cc); releases = λ h e. absurd (cc); tells = λ e. absurd (cc) };
-  try = λ i. record { begins = inl (lock_call.Try, refl); decides = λ v. refl; kept = λ v u b e. absurd (cc); undecided = λ v h e d. absurd (cc); first = λ v n h l. absurd (cc); tries = λ h. (refl, refl); polls = λ v h some. absurd (cc); releases = λ h e. absurd (cc); tells = λ e. absurd (cc) };
-  poll = λ i. record { begins = inl (lock_call.Poll, refl); decides = λ v. refl; kept = λ v u b e. absurd (cc); undecided = λ v h e d. absurd (cc); first = λ v n h l. (refl, refl); tries = λ h. absurd (cc); polls = λ v h some. absurd (omega (arith, some)); releases = λ h e. absurd (cc); tells = λ e. absurd (cc) };
-  poll_listed = λ i. record { begins = inl (lock_call.Poll, refl); decides = λ v. refl; kept = λ v u b e. absurd (cc); undecided = λ v h e d. absurd (cc); first = λ v n h l. absurd (not_one n h l); tries = λ h. absurd (cc); polls = λ v h some. (inl refl, refl); releases = λ h e. absurd (cc); tells = λ e. absurd (cc) };
-  poll_starved = λ i. record { begins = inl (lock_call.Poll, refl); decides = λ v. refl; kept = λ v u b e. absurd (cc); undecided = λ v h e d. absurd (cc); first = λ v n h l. absurd (not_one n h l); tries = λ h. absurd (cc); polls = λ v h some. (inr refl, refl); releases = λ h e. absurd (cc); tells = λ e. absurd (cc) };
-  abandon = λ i. record { begins = inl (lock_call.Cancel, refl); decides = λ v. refl; kept = λ v u b e. absurd (cc); undecided = λ v h e d. sym (some_eq d); first = λ v n h l. absurd (cc); tries = λ h. absurd (cc); polls = λ v h some. absurd (cc); releases = λ h e. absurd (cc); tells = λ e. absurd (cc) };
-  cancel = λ i. record { begins = inl (lock_call.Cancel, refl); decides = λ v. refl; kept = λ v u b e. absurd (cc); undecided = λ v h e d. sym (some_eq d); first = λ v n h l. absurd (cc); tries = λ h. absurd (cc); polls = λ v h some. absurd (cc); releases = λ h e. absurd (cc); tells = λ e. absurd (cc) };
-  cancel_starved = λ i. record { begins = inl (lock_call.Cancel, refl); decides = λ v. refl; kept = λ v u b e. absurd (cc); undecided = λ v h e d. sym (some_eq d); first = λ v n h l. absurd (cc); tries = λ h. absurd (cc); polls = λ v h some. absurd (cc); releases = λ h e. absurd (cc); tells = λ e. absurd (cc) };
-  release = λ i. record { begins = inl (lock_call.Release, refl); decides = λ v. refl; kept = λ v u b e. absurd (cc); undecided = λ v h e d. sym (some_eq d); first = λ v n h l. absurd (cc); tries = λ h. absurd (cc); polls = λ v h some. absurd (cc); releases = λ h e. (refl, refl); tells = λ e. absurd (cc) };
+  lock = λ i. record { begins = inl (LockCall.Lock, refl); decides = λ v. refl; kept = λ v u b e. absurd (cc); undecided = λ v h e d. absurd (cc); first = λ v n h l. (refl, refl); tries = λ h. absurd (cc); polls = λ v h some. absurd (cc); releases = λ h e. absurd (cc); tells = λ e. absurd (cc) };
+  try = λ i. record { begins = inl (LockCall.Try, refl); decides = λ v. refl; kept = λ v u b e. absurd (cc); undecided = λ v h e d. absurd (cc); first = λ v n h l. absurd (cc); tries = λ h. (refl, refl); polls = λ v h some. absurd (cc); releases = λ h e. absurd (cc); tells = λ e. absurd (cc) };
+  poll = λ i. record { begins = inl (LockCall.Poll, refl); decides = λ v. refl; kept = λ v u b e. absurd (cc); undecided = λ v h e d. absurd (cc); first = λ v n h l. (refl, refl); tries = λ h. absurd (cc); polls = λ v h some. absurd (omega (arith, some)); releases = λ h e. absurd (cc); tells = λ e. absurd (cc) };
+  poll_listed = λ i. record { begins = inl (LockCall.Poll, refl); decides = λ v. refl; kept = λ v u b e. absurd (cc); undecided = λ v h e d. absurd (cc); first = λ v n h l. absurd (not_one n h l); tries = λ h. absurd (cc); polls = λ v h some. (inl refl, refl); releases = λ h e. absurd (cc); tells = λ e. absurd (cc) };
+  poll_starved = λ i. record { begins = inl (LockCall.Poll, refl); decides = λ v. refl; kept = λ v u b e. absurd (cc); undecided = λ v h e d. absurd (cc); first = λ v n h l. absurd (not_one n h l); tries = λ h. absurd (cc); polls = λ v h some. (inr refl, refl); releases = λ h e. absurd (cc); tells = λ e. absurd (cc) };
+  abandon = λ i. record { begins = inl (LockCall.Cancel, refl); decides = λ v. refl; kept = λ v u b e. absurd (cc); undecided = λ v h e d. sym (some_eq d); first = λ v n h l. absurd (cc); tries = λ h. absurd (cc); polls = λ v h some. absurd (cc); releases = λ h e. absurd (cc); tells = λ e. absurd (cc) };
+  cancel = λ i. record { begins = inl (LockCall.Cancel, refl); decides = λ v. refl; kept = λ v u b e. absurd (cc); undecided = λ v h e d. sym (some_eq d); first = λ v n h l. absurd (cc); tries = λ h. absurd (cc); polls = λ v h some. absurd (cc); releases = λ h e. absurd (cc); tells = λ e. absurd (cc) };
+  cancel_starved = λ i. record { begins = inl (LockCall.Cancel, refl); decides = λ v. refl; kept = λ v u b e. absurd (cc); undecided = λ v h e d. sym (some_eq d); first = λ v n h l. absurd (cc); tries = λ h. absurd (cc); polls = λ v h some. absurd (cc); releases = λ h e. absurd (cc); tells = λ e. absurd (cc) };
+  release = λ i. record { begins = inl (LockCall.Release, refl); decides = λ v. refl; kept = λ v u b e. absurd (cc); undecided = λ v h e d. sym (some_eq d); first = λ v n h l. absurd (cc); tries = λ h. absurd (cc); polls = λ v h some. absurd (cc); releases = λ h e. (refl, refl); tells = λ e. absurd (cc) };
   go = λ w x i within. record { begins = inr (refl, refl); decides = λ v. decides_so v w (decision x); kept = λ v u b e. (cc, never_tries w.kind w.was x within); undecided = λ v h e d. undecided_so v w (decision x) e h d; first = λ v n h l. absurd (cc); tries = λ h. absurd (cc); polls = λ v h some. absurd (cc); releases = λ h e. absurd (cc); tells = λ e. tells_so w x e within };
 })
 

@@ -1,39 +1,20 @@
 -- A move that does nothing is a legal step: one that its party may not make, and a poll of a future that has been ready.
-use Rattle.std.proofs.Common.{◌≡◌, ◌≢◌, ℕ, ◌||◌, true, false, Option, Some, None, refl, ap, sym, ◌∙◌, subst}
-use Rattle.std.proofs.lemmas.Bool.{false≢true}
-use Rattle.world_base.specs.queue.Parties.{entries_of}
-use Rattle.world_base.specs.declared.moves.Answer.{Answer}
-use Rattle.world_base.specs.declared.moves.Answer.TheVariants as answer
-use Rattle.world_base.specs.declared.moves.Call.TheVariants as call
-use Rattle.world_base.specs.declared.moves.Move.{Move}
-use Rattle.world_base.specs.declared.moves.What.{What}
-use Rattle.world_base.specs.declared.moves.What.TheVariants.{Begin}
-use Rattle.lock_program.specs.declared.refusal.Refusal.TheVariants as refusal
-use Rattle.world_base.specs.declared.standing.Kind.TheVariants as kind
-use Rattle.world_base.specs.declared.standing.Rest.TheVariants as rest
-use Rattle.world_base.specs.declared.standing.Within.{Within}
-use Rattle.world_base.specs.Frame.{is_drop, is_poll_after_ready, put_in}
-use Rattle.world_base.specs.Standings.{Standing, outside, inside, call_in, may_end, refused}
-use Rattle.world_base.specs.Steps.{nothing}
-use Rattle.world_base.proofs.Equations.{outside_inside}
+use Rattle.world_mutex.proofs.Prelude.{◌≡◌, ◌≢◌, ℕ, ◌||◌, true, false, Option, Some, None, refl, ap, sym, ◌∙◌, subst, false≢true, entries_of, Answer, Call, Move, What, Begin, Refusal, Kind, Rest, Within, is_drop, is_poll_after_ready, put_in, Standing, outside, inside, call_in, may_end, refused, nothing, outside_inside, knows, call_of, is_try, is_first_poll, is_later_poll, IsCause, HasItsOwn, Legal, AnswersAtOnce, World, standing_of}
 use Rattle.world_base.proofs.of_table.Idle as idle
 use Rattle.world_base.proofs.of_table.Idle.{Idle, same_decides}
-use Rattle.world_mutex.specs.Guarded.{knows}
-use Rattle.world_mutex.specs.Legal.{call_of, is_try, is_first_poll, is_later_poll, IsCause, HasItsOwn, Legal, AnswersAtOnce}
-use Rattle.world_mutex.specs.State.{World, standing_of}
 
 first_possible : (s : Standing) (what : What) (n : ℕ) → call_in knows s what ≡ None → is_first_poll s what n ≡ false
-first_possible (outside rest.Idle) (Begin call.Lock i) n e = absurd (cc)
-first_possible (outside rest.Finished) (Begin call.Lock i) n e = absurd (cc)
-first_possible (outside rest.Pending) (Begin call.Poll i) n e = absurd (cc)
+first_possible (outside Rest.Idle) (Begin Call.Lock i) n e = absurd (cc)
+first_possible (outside Rest.Finished) (Begin Call.Lock i) n e = absurd (cc)
+first_possible (outside Rest.Pending) (Begin Call.Poll i) n e = absurd (cc)
 first_possible _ _ n e = refl
 
 later_possible : (s : Standing) (what : What) → call_in knows s what ≡ None → is_later_poll s what ≡ false
-later_possible (outside rest.Pending) (Begin call.Poll i) e = absurd (cc)
+later_possible (outside Rest.Pending) (Begin Call.Poll i) e = absurd (cc)
 later_possible _ _ e = refl
 
-drop_possible : (what : What) → is_drop what ≡ true → call_in knows (outside rest.Holding) what ≡ None → ⊥
-drop_possible (Begin call.Drop i) d e = cc
+drop_possible : (what : What) → is_drop what ≡ true → call_in knows (outside Rest.Holding) what ≡ None → ⊥
+drop_possible (Begin Call.Drop i) d e = cc
 drop_possible _ d e = absurd (cc)
 
 -- a poll after ready is nothing else
@@ -46,15 +27,15 @@ record Again (s : Standing) (what : What) : Type 0 where
   pub outside : (u : Within) (d : Option Answer) → s ≢ inside u d
 
 again : (s : Standing) (what : What) → is_poll_after_ready s what ≡ true → Again s what
-again (outside rest.Holding) (Begin call.Poll i) h = record { try = refl; first = λ n. refl; put = refl; later = refl; drop = refl; outside = λ u d. outside_inside }
-again (outside rest.Finished) (Begin call.Poll i) h = record { try = refl; first = λ n. refl; put = refl; later = refl; drop = refl; outside = λ u d. outside_inside }
+again (outside Rest.Holding) (Begin Call.Poll i) h = record { try = refl; first = λ n. refl; put = refl; later = refl; drop = refl; outside = λ u d. outside_inside }
+again (outside Rest.Finished) (Begin Call.Poll i) h = record { try = refl; first = λ n. refl; put = refl; later = refl; drop = refl; outside = λ u d. outside_inside }
 again _ _ h = absurd (cc)
 
 -- what holds of any World that stands
 pub record StandsWell (w : World) : Type 0 where
   pub each : (p : ℕ) → HasItsOwn w p (standing_of w p)
   pub ends : (p : ℕ) (u : Within) (b : Answer) → standing_of w p ≡ inside u (Some b) → may_end u.kind b ≡ true
-  pub never_pending : (p : ℕ) (u : Within) → standing_of w p ≢ inside u (Some answer.Pending)
+  pub never_pending : (p : ℕ) (u : Within) → standing_of w p ≢ inside u (Some Answer.Pending)
 
 -- a legal step, answered at once where it should be
 pub record IsGood (old : World) (m : Move) (a : Answer) (new : World) : Type 0 where
@@ -66,18 +47,18 @@ module _ (w : World) (m : Move) (well : StandsWell w) where
   s = standing_of w m.party
 
   abbrev Still : Answer → Type 0
-  Still = Idle standing_of (λ x p. knows) rest.Holding IsCause w m refl
+  Still = Idle standing_of (λ x p. knows) Rest.Holding IsCause w m refl
 
-  pub impossible : call_of w m ≡ None → IsGood w m answer.NotPossible w
+  pub impossible : call_of w m ≡ None → IsGood w m Answer.NotPossible w
   impossible none =
-      let still : Still answer.NotPossible = idle.impossible standing_of (λ x p. knows) rest.Holding IsCause w m refl none in
+      let still : Still Answer.NotPossible = idle.impossible standing_of (λ x p. knows) Rest.Holding IsCause w m refl none in
       record {
         legal = record {
           possible = still.possible;
           one_change = record { deed = nothing; state = refl; entries = refl; limit = refl; opening_value = refl; others = λ q apart. refl; parties = refl; found_memory = λ list e. absurd (cc); parting = λ h. refl; giving_up = λ g. absurd (cc); notice = refl; tells = λ list n e. absurd (cc) };
           taken_fairly = λ q is was. absurd (was is);
           others_keep = record { lock = λ q apart. ((λ h. h), (λ h. h)); starved = λ q apart. refl; limit = λ was is. absurd (cc) };
-          carries = record { ready = λ got d. (let e = same_decides s answer.NotPossible (answer.Ready got) d in absurd (cc)); granted = λ got d. (let e = same_decides s answer.NotPossible (answer.Granted got) d in absurd (cc)) };
+          carries = record { ready = λ got d. (let e = same_decides s Answer.NotPossible (Answer.Ready got) d in absurd (cc)); granted = λ got d. (let e = same_decides s Answer.NotPossible (Answer.Granted got) d in absurd (cc)) };
           waits = record { waiting = λ e. absurd (cc); not_before = well.never_pending m.party };
           refused_for_cause = still.refused_for_cause;
           leaves_clear = record { each = well.each; decided = well.ends; refused = λ h. absurd (cc) };
@@ -96,9 +77,9 @@ module _ (w : World) (m : Move) (well : StandsWell w) where
         };
       }
 
-  pub over : is_poll_after_ready s m.what ≡ true → IsGood w m (refused refusal.Finished) w
+  pub over : is_poll_after_ready s m.what ≡ true → IsGood w m (refused Refusal.Finished) w
   over h =
-      let still : Still (refused refusal.Finished) = idle.over standing_of (λ x p. knows) rest.Holding IsCause w m refl h refl in
+      let still : Still (refused Refusal.Finished) = idle.over standing_of (λ x p. knows) Rest.Holding IsCause w m refl h refl in
       let so = again s m.what h in
       record {
         legal = record {
@@ -106,7 +87,7 @@ module _ (w : World) (m : Move) (well : StandsWell w) where
           one_change = record { deed = nothing; state = refl; entries = refl; limit = refl; opening_value = refl; others = λ q apart. refl; parties = refl; found_memory = λ list e. absurd (cc); parting = λ h. refl; giving_up = λ g. absurd (cc); notice = refl; tells = λ list n e. absurd (cc) };
           taken_fairly = λ q is was. absurd (was is);
           others_keep = record { lock = λ q apart. ((λ h. h), (λ h. h)); starved = λ q apart. refl; limit = λ was is. absurd (cc) };
-          carries = record { ready = λ got d. (let e = same_decides s (refused refusal.Finished) (answer.Ready got) d in absurd (cc)); granted = λ got d. (let e = same_decides s (refused refusal.Finished) (answer.Granted got) d in absurd (cc)) };
+          carries = record { ready = λ got d. (let e = same_decides s (refused Refusal.Finished) (Answer.Ready got) d in absurd (cc)); granted = λ got d. (let e = same_decides s (refused Refusal.Finished) (Answer.Granted got) d in absurd (cc)) };
           waits = record { waiting = λ e. absurd (cc); not_before = well.never_pending m.party };
           refused_for_cause = still.refused_for_cause;
           leaves_clear = record { each = well.each; decided = well.ends; refused = λ h. absurd (cc) };
@@ -120,7 +101,7 @@ module _ (w : World) (m : Move) (well : StandsWell w) where
           looks = λ e p. absurd (false≢true (sym (ap (λ b. b || is_first_poll s m.what (entries_of m.party w.entries)) so.try ∙ so.first (entries_of m.party w.entries)) ∙ e));
           listed = λ e some. absurd (false≢true (sym so.later ∙ e));
           released = λ d e. absurd (false≢true (sym so.drop ∙ d));
-          notifies = λ e p. absurd (so.outside (record { kind = kind.Drop; was = rest.Holding }) (Some answer.GivenBack) e);
-          refuses = λ within r e none plain possible. absurd (so.outside within (Some (answer.Refused r)) e);
+          notifies = λ e p. absurd (so.outside (record { kind = Kind.Drop; was = Rest.Holding }) (Some Answer.GivenBack) e);
+          refuses = λ within r e none plain possible. absurd (so.outside within (Some (Answer.Refused r)) e);
         };
       }

@@ -1,60 +1,34 @@
 -- What each party has, by how it stands.
-use Rattle.std.proofs.Common.{◌≡◌, ◌≢◌, ℕ, true, false, Option, Some, refl, arith, ap, sym, ◌∙◌, subst, is_some}
-use Rattle.std.proofs.lemmas.Bool.{true≢false}
-use Rattle.world_base.specs.declared.moves.Answer.{Answer}
-use Rattle.world_base.specs.declared.moves.Answer.TheVariants as answer
-use Rattle.world_base.specs.declared.standing.Kind.{Kind}
-use Rattle.world_base.specs.declared.standing.Kind.TheVariants as kind
-use Rattle.world_base.specs.declared.standing.Rest.{Rest}
-use Rattle.world_base.specs.declared.standing.Rest.TheVariants as rest
-use Rattle.world_base.specs.declared.standing.Stage.{Stage}
-use Rattle.world_base.specs.declared.standing.Stage.TheVariants.{Outside, Inside, Forgotten}
-use Rattle.world_base.specs.declared.standing.Within.{Within}
-use Rattle.world_base.specs.Standings.{inside, may_end}
-use Rattle.world_base.proofs.Equations.{some_eq}
-use Rattle.world_base.specs.table.Stages.{stage_at, stands_as}
-use Rattle.world_base.specs.table.Tables.{Table}
-use Rattle.world_base.proofs.of_table.Past.{by_stage, by_stage_or_past_at}
-use Rattle.lock_program.specs.declared.mutex.Place.{Place}
-use Rattle.lock_program.specs.declared.mutex.Place.TheVariants as place
-use Rattle.world_mutex.specs.machine.Acts.{IsMutex}
-use Rattle.world_mutex.specs.machine.Legal.{decision}
-use Rattle.lock_program.specs.MutexRoles.{holds, listed}
-use Rattle.world_mutex.specs.machine.State.{is_counted}
+use Rattle.world_mutex.proofs.Prelude.{◌≡◌, ◌≢◌, ℕ, true, false, Option, Some, refl, arith, ap, sym, ◌∙◌, subst, is_some, true≢false, Answer, Kind, Rest, Stage, Outside, Inside, Forgotten, Within, inside, may_end, some_eq, stage_at, stands_as, Table, by_stage, by_stage_or_past_at, Place, IsMutex, decision, holds, listed, is_counted, Guarded, place_of, is_within, goes_with, HasItsOwn, standing_of, IsClear, IsMutexTable, answer_on, verdict, view_of}
 use Rattle.world_mutex.proofs.of_machine.laws.Seen as sees
-use Rattle.world_mutex.specs.Guarded.{Guarded, place_of, is_within, goes_with}
-use Rattle.world_mutex.specs.Legal.{HasItsOwn}
-use Rattle.world_mutex.specs.State.{standing_of, IsClear}
-use Rattle.world_mutex.specs.Steps.{IsMutexTable}
-use Rattle.world_mutex.specs.View.{answer_on, verdict, view_of}
 use Rattle.world_mutex.proofs.table.Seen.{stands_seen, pending_undecided}
 
 -- an undecided party doesn't hold the lock
-never_within : (k : Kind) (r : Rest) → is_within k r place.Holding ≡ true → ⊥
-never_within kind.FirstPoll rest.Idle g = cc (g)
-never_within kind.LaterPoll rest.Pending g = cc (g)
-never_within kind.Drop rest.Holding g = cc (g)
-never_within kind.Drop rest.Pending g = cc (g)
+never_within : (k : Kind) (r : Rest) → is_within k r Place.Holding ≡ true → ⊥
+never_within Kind.FirstPoll Rest.Idle g = cc (g)
+never_within Kind.LaterPoll Rest.Pending g = cc (g)
+never_within Kind.Drop Rest.Holding g = cc (g)
+never_within Kind.Drop Rest.Pending g = cc (g)
 never_within _ _ g = cc (g)
 
 -- nor is a party inside a call that is about to give it back: that is the call's first step
-never_clears : (k : Kind) (r : Rest) → is_within k r place.Clear ≡ true → ⊥
-never_clears kind.FirstPoll rest.Idle g = cc (g)
-never_clears kind.LaterPoll rest.Pending g = cc (g)
-never_clears kind.Drop rest.Holding g = cc (g)
-never_clears kind.Drop rest.Pending g = cc (g)
+never_clears : (k : Kind) (r : Rest) → is_within k r Place.Clear ≡ true → ⊥
+never_clears Kind.FirstPoll Rest.Idle g = cc (g)
+never_clears Kind.LaterPoll Rest.Pending g = cc (g)
+never_clears Kind.Drop Rest.Holding g = cc (g)
+never_clears Kind.Drop Rest.Pending g = cc (g)
 never_clears _ _ g = cc (g)
 
 -- a drop is decided wherever it is
-drop_decided : (r : Rest) (x : Place) → is_within kind.Drop r x ≡ true → is_some (decision x) ≡ true
-drop_decided rest.Holding place.ReleaseNotify g = refl
-drop_decided rest.Holding _ g = absurd (cc (g))
-drop_decided rest.Pending place.CancelUncount g = refl
-drop_decided rest.Pending place.CancelLeave g = refl
-drop_decided rest.Pending _ g = absurd (cc (g))
+drop_decided : (r : Rest) (x : Place) → is_within Kind.Drop r x ≡ true → is_some (decision x) ≡ true
+drop_decided Rest.Holding Place.ReleaseNotify g = refl
+drop_decided Rest.Holding _ g = absurd (cc (g))
+drop_decided Rest.Pending Place.CancelUncount g = refl
+drop_decided Rest.Pending Place.CancelLeave g = refl
+drop_decided Rest.Pending _ g = absurd (cc (g))
 drop_decided _ x g = absurd (cc (g))
 
-no_drop : (w : Within) (x : Place) → goes_with (Inside w) x ≡ true → is_some (decision x) ≡ false → w.kind ≢ kind.Drop
+no_drop : (w : Within) (x : Place) → goes_with (Inside w) x ≡ true → is_some (decision x) ≡ false → w.kind ≢ Kind.Drop
 no_drop w x g none is = true≢false (sym (drop_decided w.was x (ap (λ k. is_within k w.was x) (sym is) ∙ g)) ∙ none)
 
 -- a call is decided on an answer with which it may end
@@ -62,25 +36,25 @@ abbrev Ends : Kind → Answer → Type 0
 Ends k b = may_end k b ≡ true
 
 decided_ends : (v : ℕ) (k : Kind) (r : Rest) (x : Place) (b : Answer) → is_within k r x ≡ true → answer_on v (decision x) ≡ Some b → Ends k b
-decided_ends v kind.FirstPoll rest.Idle place.Leave b g e = subst (Ends kind.FirstPoll) (some_eq e) refl
-decided_ends v kind.FirstPoll rest.Idle (place.Uncount stands) b g e = subst (Ends kind.FirstPoll) (some_eq e) refl
-decided_ends v kind.FirstPoll rest.Idle place.RefuseUncount b g e = subst (Ends kind.FirstPoll) (some_eq e) refl
-decided_ends v kind.FirstPoll rest.Idle (place.RefuseLeave told) b g e = subst (Ends kind.FirstPoll) (some_eq e) refl
-decided_ends v kind.FirstPoll rest.Idle place.RefuseNotifyMemory b g e = subst (Ends kind.FirstPoll) (some_eq e) refl
-decided_ends v kind.FirstPoll rest.Idle place.RefuseNotifyStarved b g e = subst (Ends kind.FirstPoll) (some_eq e) refl
-decided_ends v kind.FirstPoll rest.Idle _ b g e = absurd (cc)
-decided_ends v kind.LaterPoll rest.Pending place.Leave b g e = subst (Ends kind.LaterPoll) (some_eq e) refl
-decided_ends v kind.LaterPoll rest.Pending (place.Uncount stands) b g e = subst (Ends kind.LaterPoll) (some_eq e) refl
-decided_ends v kind.LaterPoll rest.Pending place.RefuseUncount b g e = subst (Ends kind.LaterPoll) (some_eq e) refl
-decided_ends v kind.LaterPoll rest.Pending (place.RefuseLeave told) b g e = subst (Ends kind.LaterPoll) (some_eq e) refl
-decided_ends v kind.LaterPoll rest.Pending place.RefuseNotifyMemory b g e = subst (Ends kind.LaterPoll) (some_eq e) refl
-decided_ends v kind.LaterPoll rest.Pending place.RefuseNotifyStarved b g e = subst (Ends kind.LaterPoll) (some_eq e) refl
-decided_ends v kind.LaterPoll rest.Pending _ b g e = absurd (cc)
-decided_ends v kind.Drop rest.Holding place.ReleaseNotify b g e = subst (Ends kind.Drop) (some_eq e) refl
-decided_ends v kind.Drop rest.Holding _ b g e = absurd (cc (g))
-decided_ends v kind.Drop rest.Pending place.CancelUncount b g e = subst (Ends kind.Drop) (some_eq e) refl
-decided_ends v kind.Drop rest.Pending place.CancelLeave b g e = subst (Ends kind.Drop) (some_eq e) refl
-decided_ends v kind.Drop rest.Pending _ b g e = absurd (cc (g))
+decided_ends v Kind.FirstPoll Rest.Idle Place.Leave b g e = subst (Ends Kind.FirstPoll) (some_eq e) refl
+decided_ends v Kind.FirstPoll Rest.Idle (Place.Uncount stands) b g e = subst (Ends Kind.FirstPoll) (some_eq e) refl
+decided_ends v Kind.FirstPoll Rest.Idle Place.RefuseUncount b g e = subst (Ends Kind.FirstPoll) (some_eq e) refl
+decided_ends v Kind.FirstPoll Rest.Idle (Place.RefuseLeave told) b g e = subst (Ends Kind.FirstPoll) (some_eq e) refl
+decided_ends v Kind.FirstPoll Rest.Idle Place.RefuseNotifyMemory b g e = subst (Ends Kind.FirstPoll) (some_eq e) refl
+decided_ends v Kind.FirstPoll Rest.Idle Place.RefuseNotifyStarved b g e = subst (Ends Kind.FirstPoll) (some_eq e) refl
+decided_ends v Kind.FirstPoll Rest.Idle _ b g e = absurd (cc)
+decided_ends v Kind.LaterPoll Rest.Pending Place.Leave b g e = subst (Ends Kind.LaterPoll) (some_eq e) refl
+decided_ends v Kind.LaterPoll Rest.Pending (Place.Uncount stands) b g e = subst (Ends Kind.LaterPoll) (some_eq e) refl
+decided_ends v Kind.LaterPoll Rest.Pending Place.RefuseUncount b g e = subst (Ends Kind.LaterPoll) (some_eq e) refl
+decided_ends v Kind.LaterPoll Rest.Pending (Place.RefuseLeave told) b g e = subst (Ends Kind.LaterPoll) (some_eq e) refl
+decided_ends v Kind.LaterPoll Rest.Pending Place.RefuseNotifyMemory b g e = subst (Ends Kind.LaterPoll) (some_eq e) refl
+decided_ends v Kind.LaterPoll Rest.Pending Place.RefuseNotifyStarved b g e = subst (Ends Kind.LaterPoll) (some_eq e) refl
+decided_ends v Kind.LaterPoll Rest.Pending _ b g e = absurd (cc)
+decided_ends v Kind.Drop Rest.Holding Place.ReleaseNotify b g e = subst (Ends Kind.Drop) (some_eq e) refl
+decided_ends v Kind.Drop Rest.Holding _ b g e = absurd (cc (g))
+decided_ends v Kind.Drop Rest.Pending Place.CancelUncount b g e = subst (Ends Kind.Drop) (some_eq e) refl
+decided_ends v Kind.Drop Rest.Pending Place.CancelLeave b g e = subst (Ends Kind.Drop) (some_eq e) refl
+decided_ends v Kind.Drop Rest.Pending _ b g e = absurd (cc (g))
 decided_ends v _ _ x b g e = absurd (cc (g))
 
 same_call : (w u : Within) (d e : Option Answer) → inside w d ≡ inside u e → w ≡ u
@@ -97,13 +71,13 @@ ends_at v (Inside w) x u b g h =
     subst W (same_call w u (answer_on v (decision x)) (Some b) h) (decided_ends v w.kind w.was x b g (same_decision w u (answer_on v (decision x)) (Some b) h))
 
 module _ (t : Table Guarded) (laws : IsMutex t.machine.lock) (fits : IsMutexTable t) where
-  stands_pending : (d : Option Answer) (s : Stage) (u : Within) → (d ≡ Some answer.Pending → ⊥) → stands_as d s ≢ inside u (Some answer.Pending)
+  stands_pending : (d : Option Answer) (s : Stage) (u : Within) → (d ≡ Some Answer.Pending → ⊥) → stands_as d s ≢ inside u (Some Answer.Pending)
   stands_pending d (Outside r) u never e = cc
   stands_pending d (Inside w) u never e = never (cc)
   stands_pending d Forgotten u never e = cc
 
   -- nobody's call is decided on Pending
-  pub not_pending : (q : ℕ) (u : Within) → standing_of (view_of t) q ≢ inside u (Some answer.Pending)
+  pub not_pending : (q : ℕ) (u : Within) → standing_of (view_of t) q ≢ inside u (Some Answer.Pending)
   not_pending q u e = stands_pending (verdict t.machine q) (stage_at t.stages q) u (pending_undecided t.machine.value (place_of t.machine q)) (sym (stands_seen t q) ∙ e)
 
   pub clear_at : (q : ℕ) → listed (place_of t.machine q) ≡ 0 → is_counted (place_of t.machine q) ≡ false → IsClear (view_of t) q
@@ -113,30 +87,30 @@ module _ (t : Table Guarded) (laws : IsMutex t.machine.lock) (fits : IsMutexTabl
   not_holder q none h = let one = sees.is_held_by t.machine.lock.places q h in absurd (omega arith)
 
   inside_has : (q : ℕ) (w : Within) (x : Place) → place_of t.machine q ≡ x → goes_with (Inside w) x ≡ true → HasItsOwn (view_of t) q (inside w (answer_on t.machine.value (decision x)))
-  inside_has q w place.Leave at g = sees.holds_it t.machine.lock.places q laws.one_holder (ap holds at)
-  inside_has q w (place.Uncount b) at g = sees.holds_it t.machine.lock.places q laws.one_holder (ap holds at)
-  inside_has q w place.RefuseUncount at g = not_holder q (ap holds at)
-  inside_has q w (place.RefuseLeave told) at g = not_holder q (ap holds at)
-  inside_has q w place.RefuseNotifyMemory at g = not_holder q (ap holds at)
-  inside_has q w place.RefuseNotifyStarved at g = not_holder q (ap holds at)
-  inside_has q w place.ReleaseNotify at g = not_holder q (ap holds at)
-  inside_has q w place.CancelUncount at g = not_holder q (ap holds at)
-  inside_has q w place.CancelLeave at g = not_holder q (ap holds at)
-  inside_has q w place.Out at g = not_holder q (ap holds at)
-  inside_has q w place.Clear at g = absurd (never_clears w.kind w.was g)
-  inside_has q w place.Holding at g = absurd (never_within w.kind w.was g)
+  inside_has q w Place.Leave at g = sees.holds_it t.machine.lock.places q laws.one_holder (ap holds at)
+  inside_has q w (Place.Uncount b) at g = sees.holds_it t.machine.lock.places q laws.one_holder (ap holds at)
+  inside_has q w Place.RefuseUncount at g = not_holder q (ap holds at)
+  inside_has q w (Place.RefuseLeave told) at g = not_holder q (ap holds at)
+  inside_has q w Place.RefuseNotifyMemory at g = not_holder q (ap holds at)
+  inside_has q w Place.RefuseNotifyStarved at g = not_holder q (ap holds at)
+  inside_has q w Place.ReleaseNotify at g = not_holder q (ap holds at)
+  inside_has q w Place.CancelUncount at g = not_holder q (ap holds at)
+  inside_has q w Place.CancelLeave at g = not_holder q (ap holds at)
+  inside_has q w Place.Out at g = not_holder q (ap holds at)
+  inside_has q w Place.Clear at g = absurd (never_clears w.kind w.was g)
+  inside_has q w Place.Holding at g = absurd (never_within w.kind w.was g)
   inside_has q w x at g = (not_holder q (ap holds at), no_drop w x g refl)
 
   has : (q : ℕ) (s : Stage) (x : Place) → place_of t.machine q ≡ x → goes_with s x ≡ true → HasItsOwn (view_of t) q (stands_as (answer_on t.machine.value (decision x)) s)
-  has q (Outside rest.Idle) place.Out at g = (clear_at q (ap listed at) (ap is_counted at), not_holder q (ap holds at))
-  has q (Outside rest.Idle) _ at g = absurd (cc)
-  has q (Outside rest.Pending) place.Out at g = (not_holder q (ap holds at), λ none. (clear_at q (ap listed at) (ap is_counted at)).1)
-  has q (Outside rest.Pending) place.Ask at g = (not_holder q (ap holds at), λ none. sees.starved_at t.machine.lock.places q ∙ ap is_counted at)
-  has q (Outside rest.Pending) place.AskStarved at g = (not_holder q (ap holds at), λ none. let one : listed (place_of t.machine q) ≡ 1 = ap listed at in absurd (omega (arith, none, laws.owners q, one)))
-  has q (Outside rest.Pending) _ at g = absurd (cc)
-  has q (Outside rest.Holding) place.Holding at g = (clear_at q (ap listed at) (ap is_counted at), sees.holds_it t.machine.lock.places q laws.one_holder (ap holds at))
-  has q (Outside rest.Holding) _ at g = absurd (cc)
-  has q (Outside rest.Finished) x at g = absurd (cc)
+  has q (Outside Rest.Idle) Place.Out at g = (clear_at q (ap listed at) (ap is_counted at), not_holder q (ap holds at))
+  has q (Outside Rest.Idle) _ at g = absurd (cc)
+  has q (Outside Rest.Pending) Place.Out at g = (not_holder q (ap holds at), λ none. (clear_at q (ap listed at) (ap is_counted at)).1)
+  has q (Outside Rest.Pending) Place.Ask at g = (not_holder q (ap holds at), λ none. sees.starved_at t.machine.lock.places q ∙ ap is_counted at)
+  has q (Outside Rest.Pending) Place.AskStarved at g = (not_holder q (ap holds at), λ none. let one : listed (place_of t.machine q) ≡ 1 = ap listed at in absurd (omega (arith, none, laws.owners q, one)))
+  has q (Outside Rest.Pending) _ at g = absurd (cc)
+  has q (Outside Rest.Holding) Place.Holding at g = (clear_at q (ap listed at) (ap is_counted at), sees.holds_it t.machine.lock.places q laws.one_holder (ap holds at))
+  has q (Outside Rest.Holding) _ at g = absurd (cc)
+  has q (Outside Rest.Finished) x at g = absurd (cc)
   has q (Inside w) x at g = inside_has q w x at g
   has q Forgotten x at g = tt
 

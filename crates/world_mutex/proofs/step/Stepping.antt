@@ -1,31 +1,6 @@
 -- A table's step as callers see it.
-use Rattle.std.proofs.Common.{◌≡◌, ℕ, Bool, false, List, Option, Some, None, refl, arith, ap, sym, ◌∙◌, subst}
-use Rattle.std.proofs.Math.ListN.{set}
-use Rattle.world_base.specs.declared.moves.Answer.{Answer}
-use Rattle.world_base.specs.declared.moves.Answer.TheVariants as answer
-use Rattle.world_base.specs.declared.moves.Call.{Call}
-use Rattle.world_base.specs.declared.moves.Got.TheVariants.{Value}
-use Rattle.world_base.specs.declared.moves.Move.{Move}
-use Rattle.world_base.specs.declared.moves.What.{What}
-use Rattle.world_base.specs.declared.standing.Rest.TheVariants as rest
-use Rattle.world_base.specs.declared.standing.Stage.{Stage}
-use Rattle.world_base.specs.declared.standing.Stage.TheVariants.{Outside, Forgotten}
-use Rattle.world_base.specs.declared.standing.Within.{Within}
-use Rattle.world_base.specs.Frame.{is_poll_after_ready, put_in}
-use Rattle.world_base.specs.Standings.{call_in}
-use Rattle.world_base.proofs.Equations.{some_eq}
-use Rattle.world_base.specs.table.Stages.{stage_at, call_at, polls_again, stage_after}
-use Rattle.world_base.specs.table.Tables.{Table, Acted}
+use Rattle.world_mutex.proofs.Prelude.{◌≡◌, ℕ, Bool, false, List, Option, Some, None, refl, arith, ap, sym, ◌∙◌, subst, set, Answer, Call, Value, Move, What, Rest, Stage, Outside, Forgotten, Within, is_poll_after_ready, put_in, call_in, some_eq, stage_at, call_at, polls_again, stage_after, Table, Acted, set_same, way, by_way, Place, IsMutex, Guarded, knows, Moves, MovesBy, Carries, with_value, place_of, call_of, standing_of, IsMutexTable, TableSteps, Stands, Steps, verdict, view_of}
 use Rattle.world_base.proofs.of_table.Calls.{call_seen, again_seen}
-use Rattle.world_base.proofs.of_table.Mapped.{set_same}
-use Rattle.world_base.proofs.of_table.Ways.{way, by_way}
-use Rattle.lock_program.specs.declared.mutex.Place.{Place}
-use Rattle.world_mutex.specs.machine.Acts.{IsMutex}
-use Rattle.world_mutex.specs.Guarded.{Guarded, knows, Moves, MovesBy, Carries, with_value, place_of}
-use Rattle.world_mutex.specs.Legal.{call_of}
-use Rattle.world_mutex.specs.State.{standing_of}
-use Rattle.world_mutex.specs.Steps.{IsMutexTable, TableSteps, Stands, Steps}
-use Rattle.world_mutex.specs.View.{verdict, view_of}
 use Rattle.world_mutex.proofs.step.Acting.{Acting, legal}
 use Rattle.world_mutex.proofs.table.Acts.{landed}
 use Rattle.world_mutex.proofs.step.AtOnce.{at_once}
@@ -48,7 +23,7 @@ module _ (t u : Table Guarded) (m : Move) (a : Answer) (tl : IsMutex t.machine.l
   s = stage_at t.stages m.party
 
   -- what the machine carries out is a put, or the lock's
-  pub carried : (w : Within) → call_at knows s m.what ≡ Some w → polls_again s m.what ≡ false → Acted known_calls rest.Holding Moves w t m a u → put_in m.what ≡ None → Acting t u m a w
+  pub carried : (w : Within) → call_at knows s m.what ≡ Some w → polls_again s m.what ≡ false → Acted known_calls Rest.Holding Moves w t m a u → put_in m.what ≡ None → Acting t u m a w
   carried w e f d none =
       let P : Option ℕ → Type 0 = λ o. MovesBy o t.machine m.party w m.what a u.machine in
       let k : Carries t.machine m.party w m.what a u.machine = subst P none d.acts in
@@ -80,30 +55,30 @@ module _ (t u : Table Guarded) (m : Move) (a : Answer) (tl : IsMutex t.machine.l
   again_is : is_poll_after_ready (standing_of (view_of t) m.party) m.what ≡ polls_again s m.what
   again_is = ap (λ z. is_poll_after_ready z m.what) (seen.stands_seen t m.party) ∙ again_seen (verdict t.machine m.party) s m.what
 
-  put_good : (w : Within) (n : ℕ) → call_at knows s m.what ≡ Some w → Acted known_calls rest.Holding Moves w t m a u → put_in m.what ≡ Some n → IsGood (view_of t) m a (view_of u)
+  put_good : (w : Within) (n : ℕ) → call_at knows s m.what ≡ Some w → Acted known_calls Rest.Holding Moves w t m a u → put_in m.what ≡ Some n → IsGood (view_of t) m a (view_of u)
   put_good w n e d put =
       let is = puts s m.what w n e put in
       let P : Option ℕ → Type 0 = λ o. MovesBy o t.machine m.party w m.what a u.machine in
       let k : MovesBy (Some n) t.machine m.party w m.what a u.machine = subst P put d.acts in
-      let S : Answer → Type 0 = λ b. u.stages ≡ set t.stages m.party (stage_after rest.Holding w b) in
-      let V : Within → Type 0 = λ v. u.stages ≡ set t.stages m.party (stage_after rest.Holding v (answer.Granted (Value n))) in
-      let stages : u.stages ≡ t.stages = subst V is.is (subst S k.0 d.stages) ∙ set_same t.stages m.party Forgotten (Outside rest.Holding) is.stage d.inside in
+      let S : Answer → Type 0 = λ b. u.stages ≡ set t.stages m.party (stage_after Rest.Holding w b) in
+      let V : Within → Type 0 = λ v. u.stages ≡ set t.stages m.party (stage_after Rest.Holding v (Answer.Granted (Value n))) in
+      let stages : u.stages ≡ t.stages = subst V is.is (subst S k.0 d.stages) ∙ set_same t.stages m.party Forgotten (Outside Rest.Holding) is.stage d.inside in
       let same : u ≡ record { machine = with_value t.machine n; stages = t.stages; opening = t.opening } = same_table _ _ _ _ _ _ k.1 stages d.opening in
-      let W : What → Type 0 = λ what. IsGood (view_of t) (record { party = m.party; what = what }) (answer.Granted (Value n)) (view_of (record { machine = with_value t.machine n; stages = t.stages; opening = t.opening })) in
+      let W : What → Type 0 = λ what. IsGood (view_of t) (record { party = m.party; what = what }) (Answer.Granted (Value n)) (view_of (record { machine = with_value t.machine n; stages = t.stages; opening = t.opening })) in
       let A : Answer → Type 0 = λ b. IsGood (view_of t) m b (view_of (record { machine = with_value t.machine n; stages = t.stages; opening = t.opening })) in
       let U : Table Guarded → Type 0 = λ y. IsGood (view_of t) m a (view_of y) in
       subst U (sym same) (subst A (sym k.0) (subst W (sym is.move) (putting t n m.party is.inputs tl tf is.stage)))
 
-  acted_good : (w : Within) → call_at knows s m.what ≡ Some w → polls_again s m.what ≡ false → Acted known_calls rest.Holding Moves w t m a u → (o : Option ℕ) → put_in m.what ≡ o → IsGood (view_of t) m a (view_of u)
+  acted_good : (w : Within) → call_at knows s m.what ≡ Some w → polls_again s m.what ≡ false → Acted known_calls Rest.Holding Moves w t m a u → (o : Option ℕ) → put_in m.what ≡ o → IsGood (view_of t) m a (view_of u)
   acted_good w e f d (Some n) put = put_good w n e d put
   acted_good w e f d None none = let k = carried w e f d none in record { legal = legal t u m a w k; at_once = at_once t u m a w k }
 
   good : TableSteps t m a u → IsGood (view_of t) m a (view_of u)
-  good step = by_way known_calls rest.Holding Moves t u m a (λ b y. IsGood (view_of t) m b (view_of y))
+  good step = by_way known_calls Rest.Holding Moves t u m a (λ b y. IsGood (view_of t) m b (view_of y))
       (λ e. idle.impossible (view_of t) m well (call_is ∙ e))
       (λ w e f. idle.over (view_of t) m well (again_is ∙ f))
       (λ w e f d. acted_good w e f d (put_in m.what) refl)
-      (way known_calls rest.Holding Moves t u m a step)
+      (way known_calls Rest.Holding Moves t u m a step)
 
   stands : (x : Table Guarded) → IsMutex x.machine.lock → IsMutexTable x → Stands (view_of x)
   stands x laws fits = record { seen = refl; mutex = laws; fits = fits }

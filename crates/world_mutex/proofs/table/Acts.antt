@@ -1,19 +1,6 @@
 -- An action leaves each party where it may stand.
-use Rattle.std.proofs.Common.{◌≡◌, ℕ, ◌<◌, true, List, length, None, ap, sym, ◌∙◌, subst, get_or-set_same, get_or-set_other, length-set}
-use Rattle.world_base.specs.declared.moves.Answer.{Answer}
-use Rattle.world_base.specs.declared.moves.What.{What}
-use Rattle.world_base.specs.declared.standing.Rest.TheVariants as rest
-use Rattle.world_base.specs.declared.standing.Within.{Within}
-use Rattle.world_base.specs.Frame.{put_in}
-use Rattle.world_base.proofs.Equations.{some_eq}
-use Rattle.world_base.specs.table.Stages.{stage_after}
-use Rattle.world_base.specs.table.Tables.{Keeps, Called}
-use Rattle.lock_program.specs.declared.mutex.Place.{Place}
-use Rattle.lock_program.specs.declared.mutex.Place.TheVariants.{Out}
-use Rattle.world_mutex.specs.declared.program.led.Next.{Next}
-use Rattle.world_mutex.specs.program.Program.{next_of, place_after}
-use Rattle.world_mutex.specs.machine.Machine.{place_at}
-use Rattle.world_mutex.specs.Guarded.{Guarded, knows, Stands, place_of, goes_with, Carries}
+use Rattle.world_mutex.proofs.Prelude.{◌≡◌, ℕ, ◌<◌, true, List, length, None, ap, sym, ◌∙◌, subst, get_or-set_same, get_or-set_other, length-set, Answer, What, Rest, Within, put_in, some_eq, stage_after, Keeps, Called, Place, Out, Next, next_of, place_after, place_at, Guarded, knows, place_of, goes_with, Carries}
+use Rattle.world_mutex.specs.Guarded.{Stands}
 use Rattle.world_mutex.proofs.table.Turns.{Lands, lands}
 
 abbrev parties : Guarded → ℕ
@@ -29,11 +16,11 @@ module _ (g : Guarded) (p : ℕ) (w : Within) (what : What) (a : Answer) (h : Gu
       subst N (sym k.carried.acts.next_is) (subst F (some_eq (sym turned.starts ∙ k.starts)) (turned.holds k.carried.acts.found))
 
   -- each party stands then where it may
-  pub carry_keeps : put_in what ≡ None → (k : Carries g p w what a h) → Keeps parties Stands g p (stage_after rest.Holding w a) h
+  pub carry_keeps : put_in what ≡ None → (k : Carries g p w what a h) → Keeps parties Stands g p (stage_after Rest.Holding w a) h
   carry_keeps none k =
       let to : Place = place_after k.from k.next in
-      let A : Answer → Type 0 = λ b. goes_with (stage_after rest.Holding w b) to ≡ true in
-      let P : List Place → Type 0 = λ ps. goes_with (stage_after rest.Holding w a) (place_at ps p) ≡ true in
+      let A : Answer → Type 0 = λ b. goes_with (stage_after Rest.Holding w b) to ≡ true in
+      let P : List Place → Type 0 = λ ps. goes_with (stage_after Rest.Holding w a) (place_at ps p) ≡ true in
       record {
         as_many = ap length k.carried.acts.places ∙ length-set g.lock.places p to;
         own = subst P (sym k.carried.acts.places) (rw (get_or-set_same g.lock.places p to Out known) (subst A (sym k.answer) (landed k none).fits));

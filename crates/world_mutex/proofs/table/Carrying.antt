@@ -1,23 +1,6 @@
 -- What the lock does at the beginning of a call, and going on, is one action of the machine.
-use Rattle.std.proofs.Common.{◌≡◌, ℕ, Option, Some, IsSomeAnd, ap, sym, ◌∙◌, subst}
-use Rattle.world_base.specs.declared.moves.Call.{Call}
-use Rattle.world_base.specs.declared.moves.Inputs.{Inputs}
-use Rattle.world_base.specs.declared.moves.What.{What}
-use Rattle.world_base.specs.declared.moves.What.TheVariants.{Begin, Go}
-use Rattle.world_base.specs.declared.standing.Rest.{Rest}
-use Rattle.world_base.specs.Standings.{inputs_of}
-use Rattle.world_base.proofs.Equations.{is_some_and, some_eq, witness}
-use Rattle.lock_program.specs.declared.end.End.{End as LockEnd}
-use Rattle.lock_program.specs.declared.mutex.LockCall.{LockCall}
-use Rattle.world_mutex.specs.declared.program.led.Next.{Next}
-use Rattle.lock_program.specs.declared.mutex.Place.{Place}
-use Rattle.world_mutex.specs.machine.Acts.{Acts}
-use Rattle.world_mutex.specs.machine.Courses.{HeedsClock}
-use Rattle.world_mutex.specs.machine.Deeds.{decided_by}
-use Rattle.world_mutex.specs.machine.Legal.{IsLegal, decision}
-use Rattle.world_mutex.specs.program.Program.{start_of}
+use Rattle.world_mutex.proofs.Prelude.{◌≡◌, ℕ, Option, Some, IsSomeAnd, ap, sym, ◌∙◌, subst, Call, Inputs, What, Begin, Go, Rest, inputs_of, is_some_and, some_eq, witness, End as LockEnd, LockCall, Next, Place, Acts, HeedsClock, decided_by, IsLegal, decision, start_of, Guarded, Carried, place_of, place_for, start_by, lock_call_of}
 use Rattle.world_mutex.proofs.of_machine.legal.Legal.{begins_decided}
-use Rattle.world_mutex.specs.Guarded.{Guarded, Carried, place_of, place_for, start_by, lock_call_of}
 
 module _ (g h : Guarded) (p : ℕ) (was : Rest) (what : What) (inputs : Inputs) (next : Next) (value : h.value ≡ g.value) (as_said : inputs ≡ inputs_of what) where
   -- the place at which a call begins

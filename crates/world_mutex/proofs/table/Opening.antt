@@ -1,13 +1,5 @@
 -- A new table is seen as a new World.
-use Rattle.std.proofs.Common.{◌≡◌, ℕ, ◌+◌, zero, suc, replicate, None, refl}
-use Rattle.world_base.specs.table.Tables.{new_table}
-use Rattle.world_base.proofs.of_table.Mapped.{mapped_alike}
-use Rattle.world_base.proofs.of_table.Views.{all_idle}
-use Rattle.lock_program.specs.declared.mutex.Place.TheVariants.{Out}
-use Rattle.world_mutex.specs.machine.State.{is_counted, holder_from}
-use Rattle.world_mutex.specs.Guarded.{new_guarded}
-use Rattle.world_mutex.specs.State.{new_world}
-use Rattle.world_mutex.specs.View.{verdict, view_of}
+use Rattle.world_mutex.proofs.Prelude.{◌≡◌, ℕ, ◌+◌, zero, suc, replicate, None, refl, new_table, mapped_alike, all_idle, Out, is_counted, holder_from, new_guarded, new_world, verdict, view_of}
 
 no_holder : (n k : ℕ) → holder_from k (replicate n Out) ≡ None
 no_holder zero k = refl

@@ -1,44 +1,6 @@
 -- A first poll isn't refused for the number of starved parties, where nobody is starved.
-use Rattle.std.proofs.Common.{◌≡◌, ℕ, Bool, true, false, List, refl, arith, ap, sym, ◌∙◌, subst, get_or-set_same}
-use Rattle.std.proofs.lemmas.Bool.{true≢false}
-use Rattle.lock_event.specs.declared.event.Entry.{Entry}
-use Rattle.lock_event.specs.Lists.{is_marked_at}
-use Rattle.world_base.specs.queue.Parties.{is_party, entries_of}
-use Rattle.world_base.specs.declared.moves.Answer.{Answer}
-use Rattle.world_base.specs.declared.moves.Answer.TheVariants as answer
-use Rattle.world_base.specs.declared.moves.Call.{Call}
-use Rattle.world_base.specs.declared.moves.Inputs.{Inputs}
-use Rattle.world_base.specs.declared.moves.Move.{Move}
-use Rattle.world_base.specs.declared.moves.What.{What}
-use Rattle.world_base.specs.declared.moves.What.TheVariants.{Begin, Go}
-use Rattle.world_base.specs.declared.standing.Within.{Within}
-use Rattle.world_base.specs.Standings.{inputs_of}
-use Rattle.world_base.specs.Whole.{going_on}
-use Rattle.world_base.proofs.Lists.{joined_unmarked}
-use Rattle.world_base.specs.any_world.Steps.{beginning}
-use Rattle.world_base.proofs.of_any_world.Runs.{Onward}
-use Rattle.world_base.specs.table.Stages.{stage_at}
-use Rattle.world_base.specs.table.Tables.{Table}
-use Rattle.lock_program.specs.declared.end.End.{End}
-use Rattle.lock_program.specs.declared.end.End.TheVariants as «end»
-use Rattle.lock_program.specs.declared.mutex.Found.{Found}
-use Rattle.lock_program.specs.declared.mutex.Found.TheVariants.{Done, Free, Held, SomeStarved, Yes}
-use Rattle.world_mutex.specs.declared.program.led.Next.{Next}
-use Rattle.world_mutex.specs.declared.program.led.Next.TheVariants as next
-use Rattle.lock_program.specs.declared.mutex.Place.{Place}
-use Rattle.lock_program.specs.declared.mutex.Place.TheVariants.{Out, Enter, Join, Look, Ask, Leave}
-use Rattle.world_mutex.specs.program.Program.{action_of, next_of, place_after}
-use Rattle.lock_program.specs.MutexRoles.{listed}
-use Rattle.world_mutex.specs.machine.Acts.{Finds, starved}
-use Rattle.world_mutex.specs.machine.Courses.{is_counting, HeedsClock}
-use Rattle.world_mutex.specs.machine.Machine.{Lock, place_at}
-use Rattle.world_mutex.specs.machine.Parties.{OnParties}
+use Rattle.world_mutex.proofs.Prelude.{◌≡◌, ℕ, Bool, true, false, List, refl, arith, ap, sym, ◌∙◌, subst, get_or-set_same, true≢false, Entry, is_marked_at, is_party, entries_of, Answer, Call, Inputs, Move, What, Begin, Go, Within, inputs_of, going_on, joined_unmarked, beginning, Onward, stage_at, Table, End, Found, Done, Free, Held, SomeStarved, Yes, Next, Place, Out, Enter, Join, Look, Ask, Leave, action_of, next_of, place_after, listed, Finds, starved, is_counting, HeedsClock, Lock, place_at, OnParties, Guarded, place_of, answer_by, is_try_kind, is_first_poll, World, standing_of, Steps, view_of}
 use Rattle.world_mutex.proofs.of_machine.legal.Promised.{none_counted}
-use Rattle.world_mutex.specs.Guarded.{Guarded, place_of, answer_by, is_try_kind}
-use Rattle.world_mutex.specs.Legal.{is_first_poll}
-use Rattle.world_mutex.specs.State.{World, standing_of}
-use Rattle.world_mutex.specs.Steps.{Steps}
-use Rattle.world_mutex.specs.View.{view_of}
 use Rattle.world_mutex.proofs.step.Acting.{Acting}
 use Rattle.world_mutex.proofs.step.Acting as acting
 use Rattle.world_mutex.proofs.step.AtOnce.{first_here}
@@ -56,10 +18,10 @@ FreshAt Leave p l = Unit {0}
 FreshAt x p l = ⊥
 
 abbrev FreshThen : Next → ℕ → List (Entry ℕ) → Type 0
-FreshThen (next.Do a x) p l = FreshAt x p l
-FreshThen (next.End e) p l = (trying : Bool) (v : ℕ) → refuses_many (answer_by trying v (next.End e)) ≡ false
+FreshThen (Next.Do a x) p l = FreshAt x p l
+FreshThen (Next.End e) p l = (trying : Bool) (v : ℕ) → refuses_many (answer_by trying v (Next.End e)) ≡ false
 
-got_so : (trying : Bool) (v : ℕ) → refuses_many (answer_by trying v (next.End «end».Got)) ≡ false
+got_so : (trying : Bool) (v : ℕ) → refuses_many (answer_by trying v (Next.End End.Got)) ≡ false
 got_so true v = refl
 got_so false v = refl
 
@@ -86,15 +48,15 @@ heedless Ask n p l h = (tt, refl)
 heedless Leave n p l h = (tt, refl)
 heedless _ n p l h = absurd h
 
-ends_not : (trying : Bool) (v : ℕ) (e : End) → answer_by trying v (next.End e) ≡ answer.Stepped → ⊥
-ends_not true v «end».Got h = cc h
-ends_not false v «end».Got h = cc h
-ends_not trying v «end».Pending h = cc h
-ends_not trying v «end».NotFree h = cc h
-ends_not trying v «end».Granted h = cc h
-ends_not trying v «end».Waiting h = cc h
-ends_not trying v «end».GivenBack h = cc h
-ends_not trying v («end».Refused r) h = cc h
+ends_not : (trying : Bool) (v : ℕ) (e : End) → answer_by trying v (Next.End e) ≡ Answer.Stepped → ⊥
+ends_not true v End.Got h = cc h
+ends_not false v End.Got h = cc h
+ends_not trying v End.Pending h = cc h
+ends_not trying v End.NotFree h = cc h
+ends_not trying v End.Granted h = cc h
+ends_not trying v End.Waiting h = cc h
+ends_not trying v End.GivenBack h = cc h
+ends_not trying v (End.Refused r) h = cc h
 
 module _ (p : ℕ) (i : Inputs) where
   pub record Fresh (t : Table Guarded) : Type 0 where
@@ -108,11 +70,11 @@ module _ (p : ℕ) (i : Inputs) where
   OnTo = Onward Fresh Unrefused
 
   answered : (trying : Bool) (v : ℕ) (from : Place) (n : Next) (a : Answer) (u : Table Guarded) → a ≡ answer_by trying v n → place_of u.machine p ≡ place_after from n → starved u.machine.lock ≡ 0 → FreshThen n p u.machine.lock.entries → OnTo a u
-  answered trying v from (next.Do b x) a u is to none h = (
+  answered trying v from (Next.Do b x) a u is to none h = (
       let F : Place → Type 0 = λ y. FreshAt y p u.machine.lock.entries in
       record { going = λ e. record { unstarved = none; fresh = subst F (sym to) h }; ended = λ e. ap refuses_many is }
       )
-  answered trying v from (next.End e) a u is to none h = record { going = λ s. absurd (ends_not trying v e (sym is ∙ s)); ended = λ s. ap refuses_many is ∙ h trying v }
+  answered trying v from (Next.End e) a u is to none h = record { going = λ s. absurd (ends_not trying v e (sym is ∙ s)); ended = λ s. ap refuses_many is ∙ h trying v }
 
   acted : (t u : Table Guarded) (what : What) (a : Answer) (w : Within) (k : Acting t u (record { party = p; what = what }) a w) → starved t.machine.lock ≡ 0 → FreshAt k.carries.from p t.machine.lock.entries → OnTo a u
   acted t u what a w k none fresh =
@@ -128,7 +90,7 @@ module _ (p : ℕ) (i : Inputs) where
       let lands : place_of u.machine p ≡ place_after from k.carries.next = ap (λ ps. place_at ps p) did.places ∙ get_or-set_same t.machine.lock.places p (place_after from k.carries.next) Out (acting.there t u m a w k) in
       answered (is_try_kind w.kind) t.machine.value from k.carries.next a u k.carries.answer lands it.0 (subst N (sym did.next_is) on)
 
-  ends_so : (b : Answer) (x : Table Guarded) → (b ≡ answer.Stepped → ⊥) → refuses_many b ≡ false → OnTo b x
+  ends_so : (b : Answer) (x : Table Guarded) → (b ≡ Answer.Stepped → ⊥) → refuses_many b ≡ false → OnTo b x
   ends_so b x f g = record { going = λ s. absurd (f s); ended = λ s. g }
 
   steps : (x : World) (what : What) (a : Answer) (v : World) → starved x.behind.machine.lock ≡ 0 → ((w : Within) (k : Acting x.behind v.behind (record { party = p; what = what }) a w) → FreshAt k.carries.from p x.behind.machine.lock.entries)

@@ -1,52 +1,7 @@
 -- What a whole call promises beside its end, and beside what a solo poll does: by what each of its steps does to the machine.
-use Rattle.std.proofs.Common.{◌≡◌, ◌≢◌, ℕ, ◌<◌, inl, inr, Bool, true, false, List, length, Some, refl, arith, ap, sym, ◌∙◌, subst}
-use Rattle.std.proofs.lemmas.Bool.{true≢false}
-use Rattle.lock_event.specs.declared.event.Entry.{Entry}
-use Rattle.lock_event.specs.Lists.{marked_count}
-use Rattle.world_base.specs.queue.Parties.{entries_of}
-use Rattle.world_base.specs.declared.moves.Answer.{Answer}
-use Rattle.world_base.specs.declared.moves.Answer.TheVariants as answer
-use Rattle.world_base.specs.declared.moves.Call.{Call}
-use Rattle.world_base.specs.declared.moves.Call.TheVariants as call
-use Rattle.world_base.specs.declared.moves.Got.TheVariants.{Value}
-use Rattle.world_base.specs.declared.moves.Inputs.{Inputs}
-use Rattle.world_base.specs.declared.moves.Move.{Move}
-use Rattle.world_base.specs.declared.moves.What.{What}
-use Rattle.world_base.specs.declared.moves.What.TheVariants.{Begin, Go}
-use Rattle.world_base.specs.declared.standing.Kind.TheVariants as kind
-use Rattle.world_base.specs.declared.standing.Rest.TheVariants as rest
-use Rattle.world_base.specs.declared.standing.Stage.{Stage}
-use Rattle.world_base.specs.declared.standing.Stage.TheVariants.{Outside}
-use Rattle.world_base.specs.declared.standing.Within.{Within}
-use Rattle.world_base.specs.Accounts.{Account, accounts_after}
-use Rattle.world_base.specs.Frame.{is_refusal}
-use Rattle.lock_program.specs.declared.refusal.Refusal.TheVariants as refusal
-use Rattle.world_base.specs.Rosters.{how_many}
-use Rattle.world_base.specs.Standings.{outside, inputs_of, refused}
-use Rattle.world_base.specs.Whole.{going_on, moves_of, answers_of}
-use Rattle.world_base.proofs.Equations.{some_eq, none_some, chosen}
-use Rattle.world_base.specs.any_world.Steps.{beginning}
-use Rattle.world_base.proofs.of_any_world.Runs.{along, at_first, Onward}
-use Rattle.world_base.specs.table.Stages.{stage_at, call_at}
-use Rattle.world_base.specs.table.Tables.{Table}
-use Rattle.world_base.proofs.of_table.Views.{outside_stage}
-use Rattle.lock_program.specs.declared.end.End.TheVariants as «end»
-use Rattle.world_mutex.specs.declared.program.led.Next.{Next}
-use Rattle.world_mutex.specs.declared.program.led.Next.TheVariants as next
-use Rattle.lock_program.specs.declared.mutex.Place.{Place}
-use Rattle.world_mutex.specs.machine.Acts.{starved}
-use Rattle.world_mutex.specs.machine.Courses.{is_waiting, is_counting, is_told, HeedsClock}
-use Rattle.world_mutex.specs.machine.Legal.{decision}
+use Rattle.world_mutex.proofs.Prelude.{◌≡◌, ◌≢◌, ℕ, ◌<◌, inl, inr, Bool, true, false, List, length, Some, refl, arith, ap, sym, ◌∙◌, subst, true≢false, Entry, marked_count, entries_of, Answer, Call, Value, Inputs, Move, What, Begin, Go, Kind, Rest, Stage, Outside, Within, Account, accounts_after, is_refusal, Refusal, how_many, outside, inputs_of, refused, going_on, moves_of, answers_of, some_eq, none_some, chosen, beginning, along, at_first, Onward, stage_at, call_at, Table, outside_stage, End, Next, Place, starved, is_waiting, is_counting, is_told, HeedsClock, decision, Promises, Guarded, knows, place_of, place_for, goes_with, answer_by, is_try_kind, is_first_poll, Runs, HoldsWell, World, standing_of, is_starved, is_free, Stands, Steps, verdict, view_of, MarksNobody}
 use Rattle.world_mutex.proofs.of_machine.legal.Promised.{begins_uncounted, none_counted, HandsOn, told_on, begins_told}
 use Rattle.world_mutex.proofs.of_machine.laws.Seen as sees
-use Rattle.world_mutex.specs.Bound.{Promises}
-use Rattle.world_mutex.specs.Guarded.{Guarded, knows, place_of, place_for, goes_with, answer_by, is_try_kind}
-use Rattle.world_mutex.specs.Legal.{is_first_poll}
-use Rattle.world_mutex.specs.Runs.{Runs, HoldsWell}
-use Rattle.world_mutex.specs.State.{World, standing_of, is_starved, is_free}
-use Rattle.world_mutex.specs.Steps.{Stands, Steps}
-use Rattle.world_mutex.specs.View.{verdict, view_of}
-use Rattle.world_base.specs.Marks.{MarksNobody}
 use Rattle.world_mutex.proofs.whole.Ring as ring
 use Rattle.world_mutex.proofs.whole.FirstPolls as fresh
 use Rattle.world_mutex.proofs.step.Acting.{Acting}
@@ -70,7 +25,7 @@ of_world : (G : Table Guarded → Type 0) (E : Answer → Table Guarded → Type
 of_world G E a v o = record { going = o.going; ended = o.ended }
 
 -- a step that does nothing, or puts a value, ends its call
-quiet : (G : Table Guarded → Type 0) (E : Answer → Table Guarded → Type 0) (b : Answer) (x : Table Guarded) → (b ≡ answer.Stepped → ⊥) → E b x → On G E b x
+quiet : (G : Table Guarded → Type 0) (E : Answer → Table Guarded → Type 0) (b : Answer) (x : Table Guarded) → (b ≡ Answer.Stepped → ⊥) → E b x → On G E b x
 quiet G E b x never e = record { going = λ s. absurd (never s); ended = λ s. e }
 
 module _ (p : ℕ) (i : Inputs) where
@@ -124,16 +79,16 @@ module _ (p : ℕ) (i : Inputs) where
   abbrev Handed : Answer → Table Guarded → Type 0
   Handed b t = is_refusal b ≡ true → 0 < length t.machine.lock.entries → 0 < marked_count t.machine.lock.entries
 
-  on_by : (trying : Bool) (n : ℕ) (x : Next) (at : Place) (l : List (Entry ℕ)) (a : Answer) → a ≡ answer_by trying n x → HandsOn x at l → (a ≡ answer.Stepped → is_told at ≡ true) × (is_refusal a ≡ true → 0 < length l → 0 < marked_count l)
-  on_by trying n (next.Do b to) at l a e h = ((λ _. h), (λ r. absurd (cc (sym (ap is_refusal e) ∙ r))))
-  on_by true n (next.End «end».Got) at l a e h = ((λ s. absurd (cc)), (λ r. absurd (cc (sym (ap is_refusal e) ∙ r))))
-  on_by false n (next.End «end».Got) at l a e h = ((λ s. absurd (cc)), (λ r. absurd (cc (sym (ap is_refusal e) ∙ r))))
-  on_by trying n (next.End «end».Pending) at l a e h = ((λ s. absurd (cc)), (λ r. absurd (cc (sym (ap is_refusal e) ∙ r))))
-  on_by trying n (next.End «end».NotFree) at l a e h = ((λ s. absurd (cc)), (λ r. absurd (cc (sym (ap is_refusal e) ∙ r))))
-  on_by trying n (next.End «end».Granted) at l a e h = ((λ s. absurd (cc)), (λ r. absurd (cc (sym (ap is_refusal e) ∙ r))))
-  on_by trying n (next.End «end».Waiting) at l a e h = ((λ s. absurd (cc)), (λ r. absurd (cc (sym (ap is_refusal e) ∙ r))))
-  on_by trying n (next.End «end».GivenBack) at l a e h = ((λ s. absurd (cc)), (λ r. absurd (cc (sym (ap is_refusal e) ∙ r))))
-  on_by trying n (next.End («end».Refused r)) at l a e h = ((λ s. absurd (cc)), (λ _. h))
+  on_by : (trying : Bool) (n : ℕ) (x : Next) (at : Place) (l : List (Entry ℕ)) (a : Answer) → a ≡ answer_by trying n x → HandsOn x at l → (a ≡ Answer.Stepped → is_told at ≡ true) × (is_refusal a ≡ true → 0 < length l → 0 < marked_count l)
+  on_by trying n (Next.Do b to) at l a e h = ((λ _. h), (λ r. absurd (cc (sym (ap is_refusal e) ∙ r))))
+  on_by true n (Next.End End.Got) at l a e h = ((λ s. absurd (cc)), (λ r. absurd (cc (sym (ap is_refusal e) ∙ r))))
+  on_by false n (Next.End End.Got) at l a e h = ((λ s. absurd (cc)), (λ r. absurd (cc (sym (ap is_refusal e) ∙ r))))
+  on_by trying n (Next.End End.Pending) at l a e h = ((λ s. absurd (cc)), (λ r. absurd (cc (sym (ap is_refusal e) ∙ r))))
+  on_by trying n (Next.End End.NotFree) at l a e h = ((λ s. absurd (cc)), (λ r. absurd (cc (sym (ap is_refusal e) ∙ r))))
+  on_by trying n (Next.End End.Granted) at l a e h = ((λ s. absurd (cc)), (λ r. absurd (cc (sym (ap is_refusal e) ∙ r))))
+  on_by trying n (Next.End End.Waiting) at l a e h = ((λ s. absurd (cc)), (λ r. absurd (cc (sym (ap is_refusal e) ∙ r))))
+  on_by trying n (Next.End End.GivenBack) at l a e h = ((λ s. absurd (cc)), (λ r. absurd (cc (sym (ap is_refusal e) ∙ r))))
+  on_by trying n (Next.End (End.Refused r)) at l a e h = ((λ s. absurd (cc)), (λ _. h))
 
   acted_told : (t u : Table Guarded) (what : What) (a : Answer) (w : Within) (k : Acting t u (record { party = p; what = what }) a w) → is_told k.carries.from ≡ true → On Told Handed a u
   acted_told t u what a w k told =
@@ -150,20 +105,20 @@ module _ (p : ℕ) (i : Inputs) where
   onward_told : (x : World) (a : Answer) (v : World) → Told x.behind → Steps x (going_on p i) a v → Onward (λ y. Told y.behind) (λ b y. Handed b y.behind) a v
   onward_told x a v told s = steps_told x (Go i) a v (λ w k. ap is_told (sym (from_turn x.behind v.behind (going_on p i) a w k)) ∙ told) s
 
-  told_from : (s : Stage) (w : Within) (x from : Place) → s ≡ Outside rest.Pending → call_at knows s (Begin call.Poll i) ≡ Some w → place_for w.was (Begin call.Poll i) x ≡ Some from → is_waiting x ≡ true → is_told from ≡ true
+  told_from : (s : Stage) (w : Within) (x from : Place) → s ≡ Outside Rest.Pending → call_at knows s (Begin Call.Poll i) ≡ Some w → place_for w.was (Begin Call.Poll i) x ≡ Some from → is_waiting x ≡ true → is_told from ≡ true
   told_from s w x from is e starts waits =
-      let C : Stage → Type 0 = λ z. call_at knows z (Begin call.Poll i) ≡ Some w in
-      let same : within kind.LaterPoll rest.Pending ≡ w = some_eq (subst C is e) in
-      let S : Within → Type 0 = λ v. place_for v.was (Begin call.Poll i) x ≡ Some from in
+      let C : Stage → Type 0 = λ z. call_at knows z (Begin Call.Poll i) ≡ Some w in
+      let same : within Kind.LaterPoll Rest.Pending ≡ w = some_eq (subst C is e) in
+      let S : Within → Type 0 = λ v. place_for v.was (Begin Call.Poll i) x ≡ Some from in
       begins_told x from waits (subst S (sym same) starts)
 
-  first_told : (w : World) → standing_of w p ≡ outside rest.Pending → 0 < entries_of p w.entries → (a : Answer) (v : World) → Steps w (beginning p call.Poll i) a v → Onward (λ y. Told y.behind) (λ b y. Handed b y.behind) a v
+  first_told : (w : World) → standing_of w p ≡ outside Rest.Pending → 0 < entries_of p w.entries → (a : Answer) (v : World) → Steps w (beginning p Call.Poll i) a v → Onward (λ y. Told y.behind) (λ b y. Handed b y.behind) a v
   first_told w pending some a v s =
       let t = w.behind in
-      let stage : stage_at t.stages p ≡ Outside rest.Pending = outside_stage (verdict t.machine p) (stage_at t.stages p) rest.Pending (sym (seen.stands_seen t p) ∙ (sym (ap (λ x. standing_of x p) s.did.stood.seen) ∙ pending)) in
+      let stage : stage_at t.stages p ≡ Outside Rest.Pending = outside_stage (verdict t.machine p) (stage_at t.stages p) Rest.Pending (sym (seen.stands_seen t p) ∙ (sym (ap (λ x. standing_of x p) s.did.stood.seen) ∙ pending)) in
       let there : 0 < entries_of p t.machine.lock.entries = subst (λ x. 0 < entries_of p x.entries) s.did.stood.seen some in
-      steps_told w (Begin call.Poll i) a v (λ u k.
-      (let fits : goes_with (Outside rest.Pending) (place_of t.machine p) ≡ true = ap (λ z. goes_with z (place_of t.machine p)) (sym stage) ∙ s.did.stood.fits.stands p k.inside in
+      steps_told w (Begin Call.Poll i) a v (λ u k.
+      (let fits : goes_with (Outside Rest.Pending) (place_of t.machine p) ≡ true = ap (λ z. goes_with z (place_of t.machine p)) (sym stage) ∙ s.did.stood.fits.stands p k.inside in
       told_from (stage_at t.stages p) u (place_of t.machine p) k.carries.from stage k.call k.carries.starts (waits_listed (place_of t.machine p) fits (omega (arith, s.did.stood.mutex.owners p, there))))) s
 
 starved_behind : (w : World) → Stands w → how_many w.state.starved ≡ starved w.behind.machine.lock
@@ -174,9 +129,9 @@ not_counted w p s none = ap (λ x. is_starved x.state p) s.seen ∙ sees.none_st
 
 -- ---- the promises
 
-module _ (known : ℕ → Account) (w : World) (p : ℕ) (c : Call) (i : Inputs) (n : ℕ) (a : Answer) (v : World) (stood : Stands w) (stands : Stands v) (runs : Runs known w (moves_of p c i n) (answers_of n a) v) (ended : a ≢ answer.Stepped) where
-  first : is_first_poll (standing_of w p) (Begin c i) (entries_of p w.entries) ≡ true → is_free w.state ≡ true → a ≡ answer.Ready (Value w.state.value)
-  first is free = at_first Steps accounts_after HoldsWell known w p c i n a v (answer.Ready (Value w.state.value)) (λ e. cc (e)) (λ b x s. s.at_once.ready is ∙ chosen (is_free w.state) (answer.Ready (Value w.state.value)) answer.Stepped free) ended runs
+module _ (known : ℕ → Account) (w : World) (p : ℕ) (c : Call) (i : Inputs) (n : ℕ) (a : Answer) (v : World) (stood : Stands w) (stands : Stands v) (runs : Runs known w (moves_of p c i n) (answers_of n a) v) (ended : a ≢ Answer.Stepped) where
+  first : is_first_poll (standing_of w p) (Begin c i) (entries_of p w.entries) ≡ true → is_free w.state ≡ true → a ≡ Answer.Ready (Value w.state.value)
+  first is free = at_first Steps accounts_after HoldsWell known w p c i n a v (Answer.Ready (Value w.state.value)) (λ e. cc (e)) (λ b x s. s.at_once.ready is ∙ chosen (is_free w.state) (Answer.Ready (Value w.state.value)) Answer.Stepped free) ended runs
 
   unrefused : i.starving ≡ false → how_many w.state.starved ≡ 0 → Unrefused p i a v.behind
   unrefused patient none =
@@ -186,10 +141,10 @@ module _ (known : ℕ → Account) (w : World) (p : ℕ) (c : Call) (i : Inputs)
   unstarved : i.starving ≡ false → how_many w.state.starved ≡ 0 → is_starved v.state p ≡ false
   unstarved patient none = not_counted v p stands (unrefused patient none).0
 
-  patient : i.starving ≡ false → how_many w.state.starved ≡ 0 → a ≢ refused refusal.Starved
+  patient : i.starving ≡ false → how_many w.state.starved ≡ 0 → a ≢ refused Refusal.Starved
   patient still none is = true≢false (sym (ap refuses_many is) ∙ (unrefused still none).1)
 
-  tells_nobody : i.starving ≡ false → how_many w.state.starved ≡ 0 → a ≡ answer.Pending → MarksNobody p w.entries v.entries
+  tells_nobody : i.starving ≡ false → how_many w.state.starved ≡ 0 → a ≡ Answer.Pending → MarksNobody p w.entries v.entries
   tells_nobody still none is =
       let zero : starved w.behind.machine.lock ≡ 0 = sym (starved_behind w stood) ∙ none in
       let l : List (Entry ℕ) = w.behind.machine.lock.entries in
@@ -198,17 +153,17 @@ module _ (known : ℕ → Account) (w : World) (p : ℕ) (c : Call) (i : Inputs)
       let Left : World → Type 0 = λ x. M x v in
       subst Left (sym stood.seen) (subst (M (view_of w.behind)) (sym stands.seen) kept)
 
-  first_patient : is_first_poll (standing_of w p) (Begin c i) (entries_of p w.entries) ≡ true → how_many w.state.starved ≡ 0 → a ≢ refused refusal.Starved
+  first_patient : is_first_poll (standing_of w p) (Begin c i) (entries_of p w.entries) ≡ true → how_many w.state.starved ≡ 0 → a ≢ refused Refusal.Starved
   first_patient is none refused_so =
       let zero : starved w.behind.machine.lock ≡ 0 = sym (starved_behind w stood) ∙ none in
       let F : World → Type 0 = λ x. is_first_poll (standing_of x p) (Begin c i) (entries_of p x.entries) ≡ true in
       let kept = along Steps accounts_after HoldsWell p i (λ y. fresh.Fresh p i y.behind) (λ b y. fresh.Unrefused p i b y.behind) (fresh.onward p i) known n w (beginning p c i) a v (fresh.first p i c w zero (subst F stood.seen is)) ended runs in
       true≢false (sym (ap refuses_many refused_so) ∙ kept)
 
-  hands_on : c ≡ call.Poll → standing_of w p ≡ outside rest.Pending → 0 < entries_of p w.entries → is_refusal a ≡ true → 0 < length v.entries → 0 < marked_count v.entries
+  hands_on : c ≡ Call.Poll → standing_of w p ≡ outside Rest.Pending → 0 < entries_of p w.entries → is_refusal a ≡ true → 0 < length v.entries → 0 < marked_count v.entries
   hands_on is pending some refused there =
       let R : Call → Type 0 = λ x. Runs known w (moves_of p x i n) (answers_of n a) v in
-      let h = along Steps accounts_after HoldsWell p i (λ y. Told p i y.behind) (λ b y. Handed p i b y.behind) (onward_told p i) known n w (beginning p call.Poll i) a v (first_told p i w pending some) ended (subst R is runs) in
+      let h = along Steps accounts_after HoldsWell p i (λ y. Told p i y.behind) (λ b y. Handed p i b y.behind) (onward_told p i) known n w (beginning p Call.Poll i) a v (first_told p i w pending some) ended (subst R is runs) in
       subst (λ x. 0 < marked_count x.entries) (sym stands.seen) (h refused (subst (λ x. 0 < length x.entries) stands.seen there))
 
   pub keeps_promises : Promises w p c i a v

@@ -1,45 +1,8 @@
 -- A poll of a party that hasn't waited for too long, while nobody is starved, notifies nobody if it is pending in the end.
-use Rattle.std.proofs.Common.{◌≡◌, ℕ, ◌⊎◌, inl, inr, Bool, true, false, List, Option, Some, None, is_some, refl, ap, sym, ◌∙◌, subst}
-use Rattle.std.proofs.lemmas.Bool.{false≢true, true≢false}
-use Rattle.lock_event.specs.declared.event.Entry.{Entry}
-use Rattle.world_base.specs.declared.moves.Answer.{Answer}
-use Rattle.world_base.specs.declared.moves.Answer.TheVariants as answer
-use Rattle.world_base.specs.declared.moves.Call.{Call}
-use Rattle.world_base.specs.declared.moves.Inputs.{Inputs}
-use Rattle.world_base.specs.declared.moves.What.{What}
-use Rattle.world_base.specs.declared.moves.What.TheVariants.{Begin, Go}
-use Rattle.world_base.specs.declared.standing.Stage.{Stage}
-use Rattle.world_base.specs.declared.standing.Within.{Within}
-use Rattle.world_base.specs.Marks.{MarksNobody}
-use Rattle.world_base.specs.Standings.{inputs_of}
-use Rattle.world_base.specs.Steps.{Deed, nothing, changes, does, joins, asks, leaves, notifies, notifies_additionally}
-use Rattle.world_base.specs.Whole.{going_on}
-use Rattle.world_base.proofs.Equations.{none_some, some_eq}
+use Rattle.world_mutex.proofs.Prelude.{◌≡◌, ℕ, ◌⊎◌, inl, inr, Bool, true, false, List, Option, Some, None, is_some, refl, ap, sym, ◌∙◌, subst, false≢true, true≢false, Entry, Answer, Call, Inputs, What, Begin, Go, Stage, Within, MarksNobody, inputs_of, Deed, nothing, changes, does, joins, asks, leaves, notifies, notifies_additionally, going_on, none_some, some_eq, beginning, Onward, stage_at, call_at, Table, End, LockCall, Next, Place, start_of, starved, is_counting, may_tell, HeedsClock, Change, ListName, for_the_lock, entries_after, gives_up, decision, decided_then, IsAllowed, Lock, place_at, is_counted, Guarded, knows, place_of, answer_by, is_try_kind, World, Steps}
 use Rattle.world_base.proofs.Marks.{joined_marks, asked_marks, marks_more}
-use Rattle.world_base.specs.any_world.Steps.{beginning}
-use Rattle.world_base.proofs.of_any_world.Runs.{Onward}
-use Rattle.world_base.specs.table.Stages.{stage_at, call_at}
-use Rattle.world_base.specs.table.Tables.{Table}
-use Rattle.lock_program.specs.declared.end.End.{End}
-use Rattle.lock_program.specs.declared.end.End.TheVariants as «end»
-use Rattle.lock_program.specs.declared.mutex.LockCall.{LockCall}
-use Rattle.lock_program.specs.declared.mutex.LockCall.TheVariants as lock_call
-use Rattle.world_mutex.specs.declared.program.led.Next.{Next}
-use Rattle.world_mutex.specs.declared.program.led.Next.TheVariants as next
-use Rattle.lock_program.specs.declared.mutex.Place.{Place}
-use Rattle.lock_program.specs.declared.mutex.Place.TheVariants as place
-use Rattle.world_mutex.specs.program.Program.{start_of}
-use Rattle.world_mutex.specs.machine.Acts.{starved}
-use Rattle.world_mutex.specs.machine.Courses.{is_counting, may_tell, HeedsClock}
-use Rattle.world_mutex.specs.machine.Deeds.{Change, ListName, for_the_lock, entries_after, gives_up}
-use Rattle.world_mutex.specs.machine.Legal.{decision, decided_then, IsAllowed}
-use Rattle.world_mutex.specs.machine.Machine.{Lock, place_at}
-use Rattle.world_mutex.specs.machine.State.{is_counted}
 use Rattle.world_mutex.proofs.of_machine.laws.Seen as sees
 use Rattle.world_mutex.proofs.of_machine.legal.Promised.{begins_uncounted, none_counted}
-use Rattle.world_mutex.specs.Guarded.{Guarded, knows, place_of, answer_by, is_try_kind}
-use Rattle.world_mutex.specs.State.{World}
-use Rattle.world_mutex.specs.Steps.{Steps}
 use Rattle.world_mutex.proofs.step.Acting.{Acting}
 use Rattle.world_mutex.proofs.step.Acting as acting
 use Rattle.world_mutex.proofs.step.Here.{BeginsOrGoes, same_roles}
@@ -59,60 +22,60 @@ deed_marks p l (does for_the_lock (notifies_additionally n)) may quiet keeps = a
 -- ---- at places
 
 decided_not_counting : (x : Place) → is_some (decision x) ≡ true → is_counting x ≡ false
-decided_not_counting place.PassOn h = absurd (cc h)
-decided_not_counting (place.Count b t) h = absurd (cc h)
+decided_not_counting Place.PassOn h = absurd (cc h)
+decided_not_counting (Place.Count b t) h = absurd (cc h)
 decided_not_counting _ h = refl
 
 -- an undecided party that isn't starved, nor about to be, notifies nobody
 silent_at : (x : Place) → decision x ≡ None → is_counting x ≡ false → is_counted x ≡ false → may_tell x ≡ false
-silent_at place.PassOn d c s = absurd (cc c)
-silent_at place.PassOnListed d c s = absurd (cc s)
-silent_at place.RefuseNotifyMemory d c s = absurd (cc d)
-silent_at place.RefuseNotifyStarved d c s = absurd (cc d)
-silent_at place.ReleaseNotify d c s = absurd (cc d)
+silent_at Place.PassOn d c s = absurd (cc c)
+silent_at Place.PassOnListed d c s = absurd (cc s)
+silent_at Place.RefuseNotifyMemory d c s = absurd (cc d)
+silent_at Place.RefuseNotifyStarved d c s = absurd (cc d)
+silent_at Place.ReleaseNotify d c s = absurd (cc d)
 silent_at _ d c s = refl
 
 begins_silent : (c : LockCall) (x from : Place) → start_of c x ≡ Some from → may_tell x ≡ false
-begins_silent lock_call.Lock place.Out from e = refl
-begins_silent lock_call.Try place.Out from e = refl
-begins_silent lock_call.Poll place.Out from e = refl
-begins_silent lock_call.Poll place.Ask from e = refl
-begins_silent lock_call.Poll place.AskStarved from e = refl
-begins_silent lock_call.Release place.Holding from e = refl
-begins_silent lock_call.Cancel place.Out from e = refl
-begins_silent lock_call.Cancel place.Ask from e = refl
-begins_silent lock_call.Cancel place.AskStarved from e = refl
+begins_silent LockCall.Lock Place.Out from e = refl
+begins_silent LockCall.Try Place.Out from e = refl
+begins_silent LockCall.Poll Place.Out from e = refl
+begins_silent LockCall.Poll Place.Ask from e = refl
+begins_silent LockCall.Poll Place.AskStarved from e = refl
+begins_silent LockCall.Release Place.Holding from e = refl
+begins_silent LockCall.Cancel Place.Out from e = refl
+begins_silent LockCall.Cancel Place.Ask from e = refl
+begins_silent LockCall.Cancel Place.AskStarved from e = refl
 begins_silent _ _ from e = absurd (none_some e)
 
-never_pending : (x : Place) → decision x ≡ Some «end».Pending → ⊥
-never_pending place.Leave e = cc e
-never_pending (place.Uncount b) e = cc e
-never_pending place.RefuseUncount e = cc e
-never_pending (place.RefuseLeave t) e = cc e
-never_pending place.RefuseNotifyMemory e = cc e
-never_pending place.RefuseNotifyStarved e = cc e
-never_pending place.Clear e = cc e
-never_pending place.ReleaseNotify e = cc e
-never_pending place.CancelUncount e = cc e
-never_pending place.CancelLeave e = cc e
-never_pending place.Out e = cc e
+never_pending : (x : Place) → decision x ≡ Some End.Pending → ⊥
+never_pending Place.Leave e = cc e
+never_pending (Place.Uncount b) e = cc e
+never_pending Place.RefuseUncount e = cc e
+never_pending (Place.RefuseLeave t) e = cc e
+never_pending Place.RefuseNotifyMemory e = cc e
+never_pending Place.RefuseNotifyStarved e = cc e
+never_pending Place.Clear e = cc e
+never_pending Place.ReleaseNotify e = cc e
+never_pending Place.CancelUncount e = cc e
+never_pending Place.CancelLeave e = cc e
+never_pending Place.Out e = cc e
 never_pending _ e = absurd (none_some e)
 
 -- what was decided on another end isn't pending
 record StaysDecided (a : Answer) (to : Place) : Type 0 where
-  pub going : a ≡ answer.Stepped → is_some (decision to) ≡ true
-  pub never : a ≡ answer.Pending → ⊥
+  pub going : a ≡ Answer.Stepped → is_some (decision to) ≡ true
+  pub never : a ≡ Answer.Pending → ⊥
 
-decided_on : (trying : Bool) (v : ℕ) (n : Next) (to : Place) (e : End) (a : Answer) → decided_then n to ≡ Some e → (e ≡ «end».Pending → ⊥) → a ≡ answer_by trying v n → StaysDecided a to
-decided_on trying v (next.Do b x) to e a h f is = record { going = λ s. ap is_some h; never = λ y. (let z = sym is ∙ y in cc z) }
-decided_on true v (next.End «end».Got) to e a h f is = record { going = λ s. (let z = sym is ∙ s in absurd (cc z)); never = λ y. (let z = sym is ∙ y in cc z) }
-decided_on false v (next.End «end».Got) to e a h f is = record { going = λ s. (let z = sym is ∙ s in absurd (cc z)); never = λ y. (let z = sym is ∙ y in cc z) }
-decided_on trying v (next.End «end».Pending) to e a h f is = absurd (f (sym (some_eq h)))
-decided_on trying v (next.End «end».NotFree) to e a h f is = record { going = λ s. (let z = sym is ∙ s in absurd (cc z)); never = λ y. (let z = sym is ∙ y in cc z) }
-decided_on trying v (next.End «end».Granted) to e a h f is = record { going = λ s. (let z = sym is ∙ s in absurd (cc z)); never = λ y. (let z = sym is ∙ y in cc z) }
-decided_on trying v (next.End «end».Waiting) to e a h f is = record { going = λ s. (let z = sym is ∙ s in absurd (cc z)); never = λ y. (let z = sym is ∙ y in cc z) }
-decided_on trying v (next.End «end».GivenBack) to e a h f is = record { going = λ s. (let z = sym is ∙ s in absurd (cc z)); never = λ y. (let z = sym is ∙ y in cc z) }
-decided_on trying v (next.End («end».Refused r)) to e a h f is = record { going = λ s. (let z = sym is ∙ s in absurd (cc z)); never = λ y. (let z = sym is ∙ y in cc z) }
+decided_on : (trying : Bool) (v : ℕ) (n : Next) (to : Place) (e : End) (a : Answer) → decided_then n to ≡ Some e → (e ≡ End.Pending → ⊥) → a ≡ answer_by trying v n → StaysDecided a to
+decided_on trying v (Next.Do b x) to e a h f is = record { going = λ s. ap is_some h; never = λ y. (let z = sym is ∙ y in cc z) }
+decided_on true v (Next.End End.Got) to e a h f is = record { going = λ s. (let z = sym is ∙ s in absurd (cc z)); never = λ y. (let z = sym is ∙ y in cc z) }
+decided_on false v (Next.End End.Got) to e a h f is = record { going = λ s. (let z = sym is ∙ s in absurd (cc z)); never = λ y. (let z = sym is ∙ y in cc z) }
+decided_on trying v (Next.End End.Pending) to e a h f is = absurd (f (sym (some_eq h)))
+decided_on trying v (Next.End End.NotFree) to e a h f is = record { going = λ s. (let z = sym is ∙ s in absurd (cc z)); never = λ y. (let z = sym is ∙ y in cc z) }
+decided_on trying v (Next.End End.Granted) to e a h f is = record { going = λ s. (let z = sym is ∙ s in absurd (cc z)); never = λ y. (let z = sym is ∙ y in cc z) }
+decided_on trying v (Next.End End.Waiting) to e a h f is = record { going = λ s. (let z = sym is ∙ s in absurd (cc z)); never = λ y. (let z = sym is ∙ y in cc z) }
+decided_on trying v (Next.End End.GivenBack) to e a h f is = record { going = λ s. (let z = sym is ∙ s in absurd (cc z)); never = λ y. (let z = sym is ∙ y in cc z) }
+decided_on trying v (Next.End (End.Refused r)) to e a h f is = record { going = λ s. (let z = sym is ∙ s in absurd (cc z)); never = λ y. (let z = sym is ∙ y in cc z) }
 
 -- ---- along the poll
 
@@ -129,7 +92,7 @@ module _ (p : ℕ) (i : Inputs) (patient : i.starving ≡ false) (l0 : List (Ent
   Calm t = (is_some (decision (place_of t.machine p)) ≡ true) ⊎ Silent t
 
   abbrev pub Done : Answer → Table Guarded → Type 0
-  Done b t = b ≡ answer.Pending → Kept t
+  Done b t = b ≡ Answer.Pending → Kept t
 
   abbrev OnTo : Answer → Table Guarded → Type 0
   OnTo = Onward Calm Done
@@ -163,7 +126,7 @@ module _ (p : ℕ) (i : Inputs) (patient : i.starving ≡ false) (l0 : List (Ent
       by_decision None is (inl some) = absurd (cc (sym (ap is_some is) ∙ some))
       by_decision None is (inr h) = was_open is still h.0 h.1 (h.2 is) h.3
 
-  ends_so : (b : Answer) (x : Table Guarded) → (b ≡ answer.Stepped → ⊥) → (b ≡ answer.Pending → ⊥) → OnTo b x
+  ends_so : (b : Answer) (x : Table Guarded) → (b ≡ Answer.Stepped → ⊥) → (b ≡ Answer.Pending → ⊥) → OnTo b x
   ends_so b x f g = record { going = λ s. absurd (f s); ended = λ s y. absurd (g y) }
 
   steps : (x : World) (what : What) (a : Answer) (v : World) → (inputs_of what).starving ≡ false

@@ -1,38 +1,7 @@
 -- A call that is carried out alone ends within its number of steps.
-use Rattle.std.proofs.Common.{◌≡◌, ℕ, ◌+◌, ◌<◌, ◌≤◌, Bool, true, false, Option, Some, None, refl, arith, ap, sym, ◌∙◌, subst}
-use Rattle.world_base.specs.declared.moves.Answer.{Answer}
-use Rattle.world_base.specs.declared.moves.Answer.TheVariants as answer
-use Rattle.world_base.specs.declared.moves.Call.{Call}
-use Rattle.world_base.specs.declared.moves.Call.TheVariants as call
-use Rattle.world_base.specs.declared.moves.Got.TheVariants.{Value}
-use Rattle.world_base.specs.declared.moves.Inputs.{Inputs}
-use Rattle.world_base.specs.declared.moves.Move.{Move}
-use Rattle.world_base.specs.declared.moves.What.{What}
-use Rattle.world_base.specs.declared.moves.What.TheVariants.{Begin, Go}
-use Rattle.lock_program.specs.declared.refusal.Refusal.TheVariants.{Finished}
-use Rattle.world_base.specs.declared.standing.Rest.TheVariants as rest
-use Rattle.world_base.specs.declared.standing.Stage.{Stage}
-use Rattle.world_base.specs.declared.standing.Within.{Within}
-use Rattle.world_base.specs.Frame.{put_in}
-use Rattle.world_base.specs.Standings.{inputs_of, refused}
-use Rattle.world_base.specs.Whole.{going_on}
-use Rattle.world_base.proofs.Equations.{some_eq}
-use Rattle.world_base.specs.any_world.Steps.{beginning, left_by}
-use Rattle.world_base.specs.table.Stages.{stage_at, call_at, polls_again}
-use Rattle.world_base.specs.table.Tables.{Table, Acted}
-use Rattle.world_base.proofs.of_table.Ways.{way, by_way}
-use Rattle.lock_program.specs.declared.end.End.TheVariants as «end»
-use Rattle.world_mutex.specs.declared.program.led.Next.{Next}
-use Rattle.world_mutex.specs.declared.program.led.Next.TheVariants as next
-use Rattle.lock_program.specs.declared.mutex.Place.{Place}
-use Rattle.lock_program.specs.declared.mutex.Place.TheVariants.{Ask, AskStarved}
-use Rattle.world_mutex.specs.machine.Acts.{IsMutex}
-use Rattle.world_mutex.specs.machine.Machine.{Lock}
-use Rattle.world_mutex.specs.machine.Ranks.{left, steps_left, left_after, is_own_marked, is_open}
+use Rattle.world_mutex.proofs.Prelude.{◌≡◌, ℕ, ◌+◌, ◌<◌, ◌≤◌, Bool, true, false, Option, Some, None, refl, arith, ap, sym, ◌∙◌, subst, Answer, Call, Value, Inputs, Move, What, Begin, Go, Finished, Rest, Stage, Within, put_in, inputs_of, refused, going_on, some_eq, beginning, left_by, stage_at, call_at, polls_again, Table, Acted, way, by_way, End, Next, Place, Ask, AskStarved, IsMutex, Lock, left, steps_left, left_after, is_own_marked, is_open, Guarded, knows, Moves, MovesBy, answer_by, is_try_kind, place_of, with_value, goes_with, IsMutexTable, TableSteps}
 use Rattle.world_mutex.proofs.of_machine.falls.Alone.{fewer}
 use Rattle.world_mutex.proofs.of_machine.legal.Sights.{some_left}
-use Rattle.world_mutex.specs.Guarded.{Guarded, knows, Moves, MovesBy, answer_by, is_try_kind, place_of, with_value, goes_with}
-use Rattle.world_mutex.specs.Steps.{IsMutexTable, TableSteps}
 use Rattle.world_mutex.specs.Whole.{most_steps_of}
 use Rattle.world_mutex.proofs.step.Acting as acting
 use Rattle.world_mutex.proofs.step.Here.{same_roles}
@@ -40,9 +9,9 @@ use Rattle.world_mutex.proofs.step.Stepping.{known_calls, carried}
 use Rattle.world_mutex.proofs.table.Turns.{Turn, turn}
 
 one_at_least : (c : Call) → 1 ≤ most_steps_of c
-one_at_least call.Lock = omega arith
-one_at_least call.Poll = omega arith
-one_at_least call.Drop = omega arith
+one_at_least Call.Lock = omega arith
+one_at_least Call.Poll = omega arith
+one_at_least Call.Drop = omega arith
 one_at_least _ = omega arith
 
 -- no call has more left where it begins than it may take
@@ -71,15 +40,15 @@ within_most = turn WithinMost (record {
 })
 
 left_said : (trying : Bool) (v : ℕ) (n : Next) (l : Lock) (p : ℕ) → left_by (answer_by trying v n) (steps_left l p) ≡ left_after n l p
-left_said trying v (next.Do a q) l p = refl
-left_said true v (next.End «end».Got) l p = refl
-left_said false v (next.End «end».Got) l p = refl
-left_said trying v (next.End «end».Pending) l p = refl
-left_said trying v (next.End «end».NotFree) l p = refl
-left_said trying v (next.End «end».Granted) l p = refl
-left_said trying v (next.End «end».Waiting) l p = refl
-left_said trying v (next.End «end».GivenBack) l p = refl
-left_said trying v (next.End («end».Refused r)) l p = refl
+left_said trying v (Next.Do a q) l p = refl
+left_said true v (Next.End End.Got) l p = refl
+left_said false v (Next.End End.Got) l p = refl
+left_said trying v (Next.End End.Pending) l p = refl
+left_said trying v (Next.End End.NotFree) l p = refl
+left_said trying v (Next.End End.Granted) l p = refl
+left_said trying v (Next.End End.Waiting) l p = refl
+left_said trying v (Next.End End.GivenBack) l p = refl
+left_said trying v (Next.End (End.Refused r)) l p = refl
 
 module _ (t u : Table Guarded) (m : Move) (a : Answer) where
   abbrev p : ℕ
@@ -103,12 +72,12 @@ module _ (t u : Table Guarded) (m : Move) (a : Answer) where
 
   module _ (tl : IsMutex t.machine.lock) (tf : IsMutexTable t) (ul : IsMutex u.machine.lock) (uf : IsMutexTable u) (P : Answer → Table Guarded → Type 0) where
     -- what holds where nothing is left, and where the lock acted, holds of each step
-    by_put : (w : Within) → call_at knows (stage_at t.stages p) m.what ≡ Some w → polls_again (stage_at t.stages p) m.what ≡ false → (d : Acted known_calls rest.Holding Moves w t m a u) → ((n : ℕ) → u.machine ≡ with_value t.machine n → P (answer.Granted (Value n)) u) → (acting.Acting t u m a w → P a u) → (o : Option ℕ) → put_in m.what ≡ o → P a u
+    by_put : (w : Within) → call_at knows (stage_at t.stages p) m.what ≡ Some w → polls_again (stage_at t.stages p) m.what ≡ false → (d : Acted known_calls Rest.Holding Moves w t m a u) → ((n : ℕ) → u.machine ≡ with_value t.machine n → P (Answer.Granted (Value n)) u) → (acting.Acting t u m a w → P a u) → (o : Option ℕ) → put_in m.what ≡ o → P a u
     by_put w e f d put act None none = act (carried t u m a tl tf ul uf w e f d none)
     by_put w e f d put act (Some n) some = (let Q : Option ℕ → Type 0 = λ o. MovesBy o t.machine p w m.what a u.machine in let k : Q (Some n) = subst Q some d.acts in let A : Answer → Type 0 = λ b. P b u in subst A (sym k.0) (put n k.1))
 
-    pub by_step : P answer.NotPossible t → P (refused Finished) t → ((n : ℕ) → u.machine ≡ with_value t.machine n → P (answer.Granted (Value n)) u) → ((w : Within) → acting.Acting t u m a w → P a u) → TableSteps t m a u → P a u
-    by_step none again put act step = by_way known_calls rest.Holding Moves t u m a P (λ e. none) (λ w e f. again) (λ w e f d. by_put w e f d put (act w) (put_in m.what) refl) (way known_calls rest.Holding Moves t u m a step)
+    pub by_step : P Answer.NotPossible t → P (refused Finished) t → ((n : ℕ) → u.machine ≡ with_value t.machine n → P (Answer.Granted (Value n)) u) → ((w : Within) → acting.Acting t u m a w → P a u) → TableSteps t m a u → P a u
+    by_step none again put act step = by_way known_calls Rest.Holding Moves t u m a P (λ e. none) (λ w e f. again) (λ w e f d. by_put w e f d put (act w) (put_in m.what) refl) (way known_calls Rest.Holding Moves t u m a step)
 
 pub begins : (t u : Table Guarded) (p : ℕ) (c : Call) (i : Inputs) (a : Answer) → IsMutex t.machine.lock → IsMutexTable t → IsMutex u.machine.lock → IsMutexTable u → TableSteps t (beginning p c i) a u → 1 + left_by a (steps_left u.machine.lock p) ≤ most_steps_of c
 begins t u p c i a tl tf ul uf step = by_step t u (beginning p c i) a tl tf ul uf (λ b x. 1 + left_by b (steps_left x.machine.lock p) ≤ most_steps_of c) (one_at_least c) (one_at_least c) (λ n e. one_at_least c)

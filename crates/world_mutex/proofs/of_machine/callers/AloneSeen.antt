@@ -1,21 +1,10 @@
 -- Polls in a row, each carried out alone while the lock is free, as those see them who build on a mutex.
-use Rattle.std.proofs.Common.{◌≡◌, ℕ, zero, suc, ◌<◌, ◌⊎◌, inl, inr, Bool, true, List, [], ◌∷◌, length, refl, sym, ap, arith, subst, ◌∙◌}
-use Rattle.std.specs.List.{sum_by}
-use Rattle.std.proofs.lemmas.List.Sums.{sum_by-cons}
-use Rattle.lock_event.specs.declared.event.Entry.{Entry}
-use Rattle.lock_program.specs.declared.refusal.Refusal.TheVariants.{Starved}
-use Rattle.lock_program.specs.declared.end.End.{End}
-use Rattle.lock_program.specs.declared.end.End.TheVariants.{Pending, Refused}
-use Rattle.world_mutex.specs.declared.program.led.Next.{Next}
+use Rattle.world_mutex.proofs.Prelude.{◌≡◌, ℕ, zero, suc, ◌<◌, ◌⊎◌, inl, inr, Bool, true, List, [], ◌∷◌, length, refl, sym, ap, arith, subst, ◌∙◌, sum_by, sum_by-cons, Entry, Starved, End, Pending, Refused, Next, Acts, Lock, place_at, Course, out, holding, waiting, reveal, Mutex, course_at, course_of, AreKept, seen, further}
 use Rattle.world_mutex.specs.machine.Acts as acts
-use Rattle.world_mutex.specs.machine.Acts.{Acts}
 use Rattle.world_mutex.specs.machine.Solo as by
-use Rattle.world_mutex.specs.machine.Machine.{Lock, place_at}
-use Rattle.world_mutex.specs.machine.Course.{Course, out, holding, waiting, listed, is_resting, is_waiting}
-use Rattle.world_mutex.specs.machine.Behind.{reveal}
-use Rattle.world_mutex.specs.machine.Mutex.{Mutex, course_at, holders, starved, IsStarved, IsAtRest, IsMutex}
-use Rattle.world_mutex.specs.machine.Seen.{course_of, AreKept, seen}
-use Rattle.world_mutex.specs.machine.Alone.{GoesOnAlone, last, further, PollsAlone, at_once, begun, IsCalled, unstarved, Took, StandsBack, GaveWay, PollsInTurn, SoloPolls}
+use Rattle.world_mutex.specs.machine.Course.{listed, is_resting, is_waiting}
+use Rattle.world_mutex.specs.machine.Mutex.{holders, starved, IsStarved, IsAtRest, IsMutex}
+use Rattle.world_mutex.specs.machine.Alone.{GoesOnAlone, last, PollsAlone, at_once, begun, IsCalled, unstarved, Took, StandsBack, GaveWay, PollsInTurn, SoloPolls}
 use Rattle.world_mutex.proofs.of_machine.legal.Clauses.{was_mutex, all_rest, counted_here}
 use Rattle.world_mutex.proofs.of_machine.legal.Sights.{ended, went_on, waiting_same, at_seen, holders_seen, starved_seen}
 use Rattle.world_mutex.proofs.of_machine.solo_polls.SoloPolls as places

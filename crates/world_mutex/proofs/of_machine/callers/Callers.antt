@@ -1,39 +1,32 @@
 -- What the machines and Worlds above may rest on that take a mutex for a part of their own: which calls may begin, what a party has by the course of its calls, on which end its call is decided, what a new mutex looks like, and giving way as Worlds say it.
-use Rattle.std.proofs.Common.{◌≡◌, ℕ, ◌+◌, ◌<◌, ◌≤◌, ◌⊎◌, inl, inr, zero, suc, true, false, ◌∷◌, length, map, replicate, Option, Some, None, refl, ap, arith, ◌∙◌}
-use Rattle.std.proofs.lemmas.Bool.{false≢true}
+use Rattle.world_mutex.proofs.Prelude.{◌≡◌, ℕ, ◌+◌, ◌<◌, ◌≤◌, ◌⊎◌, inl, inr, zero, suc, true, false, ◌∷◌, length, map, replicate, Option, Some, None, refl, ap, arith, ◌∙◌, false≢true, entries_of, Refusal, some_listed, LockCall, End, Got, Pending, GivenBack, Refused, Course, out, holding, waiting, taking, releasing, cancelling, undecided, called, counting, has_lock, is_out, is_holding, is_taking, is_releasing, is_cancelling, may_begin, Mutex, course_at, new_mutex}
 use Rattle.std.proofs.lemmas.List.{length-replicate}
-use Rattle.world_base.specs.queue.Parties.{entries_of}
-use Rattle.lock_program.specs.declared.refusal.Refusal.{Refusal}
 use Rattle.world_base.specs.Bounds as bounds
 use Rattle.world_base.proofs.Alike.{all_alike}
-use Rattle.world_base.proofs.Bounds.{some_listed}
-use Rattle.lock_program.specs.declared.mutex.LockCall.TheVariants as call
-use Rattle.lock_program.specs.declared.end.End.{End}
-use Rattle.lock_program.specs.declared.end.End.TheVariants.{Got, Pending, GivenBack, Refused}
-use Rattle.world_mutex.specs.machine.Course.{Course, out, holding, waiting, taking, releasing, cancelling, undecided, called, counting, has_lock, gives_up, holds, listed, decision, is_out, is_holding, is_waiting, is_taking, is_releasing, is_cancelling, is_resting, is_counting, may_begin}
-use Rattle.world_mutex.specs.machine.Mutex.{Mutex, course_at, new_mutex, is_counted, holder_from, holder_of, starved_of}
+use Rattle.world_mutex.specs.machine.Course.{gives_up, holds, listed, decision, is_waiting, is_resting, is_counting}
+use Rattle.world_mutex.specs.machine.Mutex.{is_counted, holder_from, holder_of, starved_of}
 use Rattle.world_mutex.specs.machine.Alone.{GaveWay}
 use Rattle.world_mutex.proofs.of_machine.callers.Holders as sees
 pub use Rattle.world_mutex.proofs.of_machine.solo_polls.SoloPolls.{first_marked}
 
 -- which calls may begin
-pub may_lock : (x : Course) → is_out x ≡ true → may_begin call.Lock x ≡ true
+pub may_lock : (x : Course) → is_out x ≡ true → may_begin LockCall.Lock x ≡ true
 may_lock out h = refl
 may_lock _ h = absurd (false≢true h)
 
-pub may_try : (x : Course) → is_out x ≡ true → may_begin call.Try x ≡ true
+pub may_try : (x : Course) → is_out x ≡ true → may_begin LockCall.Try x ≡ true
 may_try out h = refl
 may_try _ h = absurd (false≢true h)
 
-pub may_poll : (x : Course) → is_waiting x ≡ true → may_begin call.Poll x ≡ true
+pub may_poll : (x : Course) → is_waiting x ≡ true → may_begin LockCall.Poll x ≡ true
 may_poll (waiting starved) h = refl
 may_poll _ h = absurd (false≢true h)
 
-pub may_cancel : (x : Course) → is_waiting x ≡ true → may_begin call.Cancel x ≡ true
+pub may_cancel : (x : Course) → is_waiting x ≡ true → may_begin LockCall.Cancel x ≡ true
 may_cancel (waiting starved) h = refl
 may_cancel _ h = absurd (false≢true h)
 
-pub may_release : (x : Course) → is_holding x ≡ true → may_begin call.Release x ≡ true
+pub may_release : (x : Course) → is_holding x ≡ true → may_begin LockCall.Release x ≡ true
 may_release holding h = refl
 may_release _ h = absurd (false≢true h)
 

@@ -1,13 +1,8 @@
 -- Who holds the lock and who is starved, by the courses of the parties' calls.
-use Rattle.std.proofs.Common.{◌≡◌, ℕ, ◌+◌, ◌-◌, ◌≤◌, Bool, true, false, List, map, get_or, refl, Some, None}
+use Rattle.world_mutex.proofs.Prelude.{◌≡◌, ℕ, ◌+◌, ◌-◌, ◌≤◌, Bool, true, false, List, map, get_or, refl, Some, None, set, sum_by, Entry, unstarved_in, how_many, Course, out, holding, waiting, taking, releasing, cancelling, undecided, called, counting, has_lock, course_at}
 use Rattle.std.specs.Prelude.{is_some}
-use Rattle.std.proofs.Math.ListN.{set}
-use Rattle.std.specs.List.{sum_by}
-use Rattle.lock_event.specs.declared.event.Entry.{Entry}
-use Rattle.world_base.specs.Bounds.{unstarved_in}
-use Rattle.world_base.specs.Rosters.{how_many}
-use Rattle.world_mutex.specs.machine.Course.{bit, Course, out, holding, waiting, taking, releasing, cancelling, undecided, called, counting, has_lock, gives_up, holds, counted}
-use Rattle.world_mutex.specs.machine.Mutex.{course_at, is_holder, is_counted, holder_from}
+use Rattle.world_mutex.specs.machine.Course.{bit, gives_up, holds, counted}
+use Rattle.world_mutex.specs.machine.Mutex.{is_holder, is_counted, holder_from}
 use Rattle.world_mutex.proofs.of_machine.callers.Rosters as rosters
 pub use Rattle.world_mutex.proofs.of_machine.callers.Rosters.{is_one}
 

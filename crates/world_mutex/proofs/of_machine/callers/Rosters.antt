@@ -1,15 +1,7 @@
 -- The first of a list of which something is so, and how many there are: for any list of parties, whatever is said of each.
-use Rattle.std.proofs.Common.{◌≡◌, ℕ, ◌+◌, ◌-◌, ◌≤◌, Bool, true, false, List, [], ◌∷◌, map, get_or, zero, suc, refl, arith, ap, sym, ◌∙◌, subst, Option, Some, None, if◌then◌else◌}
+use Rattle.world_mutex.proofs.Prelude.{◌≡◌, ℕ, ◌+◌, ◌-◌, ◌≤◌, Bool, true, false, List, [], ◌∷◌, map, get_or, zero, suc, refl, arith, ap, sym, ◌∙◌, subst, Option, Some, None, if◌then◌else◌, set, sum_by, sum_by-cons, Entry, some_eq, unstarved_in, how_many, is_on, first_from}
 use Rattle.std.specs.Prelude.{◌==◌, is_some}
-use Rattle.std.proofs.Math.ListN.{set}
-use Rattle.std.specs.List.{sum_by}
-use Rattle.std.proofs.lemmas.List.Sums.{sum_by-cons}
-use Rattle.lock_event.specs.declared.event.Entry.{Entry}
-use Rattle.world_base.proofs.Equations.{some_eq}
-use Rattle.world_base.specs.Bounds.{unstarved_in}
-use Rattle.world_base.specs.Rosters.{how_many, is_on}
 use Rattle.world_mutex.specs.machine.Course.{bit}
-use Rattle.world_mutex.specs.machine.State.{first_from}
 
 pub is_one : (b : Bool) → bit b ≡ 1 → b ≡ true
 is_one true h = refl

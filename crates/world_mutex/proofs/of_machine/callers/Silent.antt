@@ -1,19 +1,11 @@
 -- A call that isn't decided notifies nobody, where nobody is starved and its party isn't about to be.
-use Rattle.std.proofs.Common.{◌≡◌, ℕ, Bool, true, false, Option, Some, None, refl, arith, subst, sym, ◌∙◌}
-use Rattle.std.proofs.lemmas.Bool.{false≢true, true≢false}
-use Rattle.world_base.specs.Marks.{MarksNobody}
-use Rattle.world_base.specs.Steps.{Deed, nothing, changes, does, joins, asks, leaves, notifies, notifies_additionally}
+use Rattle.world_mutex.proofs.Prelude.{◌≡◌, ℕ, Bool, true, false, Option, Some, None, refl, arith, subst, sym, ◌∙◌, false≢true, true≢false, MarksNobody, Deed, nothing, changes, does, joins, asks, leaves, notifies, notifies_additionally, End, Step, Course, out, holding, waiting, taking, releasing, cancelling, undecided, called, counting, has_lock, is_out, Change, ListName, for_the_lock, entries_after, Mutex, course_at, none_some}
 use Rattle.world_base.proofs.Marks.{joined_marks, asked_marks}
-use Rattle.lock_program.specs.declared.end.End.{End}
-use Rattle.lock_program.specs.declared.mutex.Step.{Step}
 use Rattle.world_mutex.specs.machine.Conduct.{IsAllowed, IsLegal}
-use Rattle.world_mutex.specs.machine.Course.{Course, out, holding, waiting, taking, releasing, cancelling, undecided, called, counting, has_lock, gives_up, decision, counted, is_out, is_waiting, is_counting, may_tell}
+use Rattle.world_mutex.specs.machine.Course.{gives_up, decision, counted, is_waiting, is_counting, may_tell}
 use Rattle.world_mutex.specs.machine.Deeds as deeds
-use Rattle.world_mutex.specs.machine.Deeds.{Change, ListName, for_the_lock, entries_after}
-use Rattle.world_mutex.specs.machine.Mutex.{Mutex, course_at, starved}
+use Rattle.world_mutex.specs.machine.Mutex.{starved}
 use Rattle.world_mutex.proofs.of_machine.callers.Holders.{none_counted}
-use Rattle.world_base.proofs.Equations.{none_some}
-use Rattle.lock_program.specs.declared.end.End.TheVariants as «end»
 
 -- by where the party's call is
 pub out_silent : (c : Course) → is_out c ≡ true → may_tell c ≡ false
@@ -41,7 +33,7 @@ pub undecided_silent : (l : Mutex) (p : ℕ) → starved l ≡ 0 → decision (c
 undecided_silent l p none midway not_next = uncounted_silent (course_at l.courses p) midway not_next (none_counted l.courses p none)
 
 -- no call is decided on that it is pending
-pub never_pending : (c : Course) → decision c ≡ Some «end».Pending → ⊥
+pub never_pending : (c : Course) → decision c ≡ Some End.Pending → ⊥
 never_pending out h = cc h
 never_pending holding h = none_some h
 never_pending (waiting starved) h = none_some h

@@ -1,45 +1,19 @@
 -- Each step of a party that moves alone leaves fewer steps.
-use Rattle.std.proofs.Common.{◌≡◌, ℕ, ◌+◌, ◌==◌, ◌<◌, ◌≤◌, Bool, true, false, Some, List, length, refl, sym, ap, arith, ◌∙◌, get_or-set_same}
-use Rattle.world_base.proofs.Equations.{none_some}
-use Rattle.std.proofs.Math.ListN.{set}
-use Rattle.std.specs.List.{sum_by}
-use Rattle.std.proofs.lemmas.List.Sums.{sum_by-set}
-use Rattle.std.proofs.lemmas.Bool.Decides.{nat_tests}
-use Rattle.lock_event.specs.declared.event.Entry.{Entry}
-use Rattle.lock_event.specs.Lists.{is_marked_at}
-use Rattle.world_base.specs.queue.Parties.{is_party, entries_of}
-use Rattle.world_base.proofs.Equations.{some_eq}
-use Rattle.world_base.proofs.Lists.{joined_unmarked}
-use Rattle.lock_program.specs.declared.mutex.Place.{Place}
-use Rattle.lock_program.specs.declared.mutex.Place.TheVariants.{Out, Holding, Enter, Try, Clear, CancelUncount, CancelLeave, Join, Look, Ask, Retry, PassOn, Count, JoinStarved, LookAlone, PassOnListed, AskStarved, Seize, Uncount, Leave, RefuseUncount, RefuseLeave, RefuseNotifyMemory, RefuseNotifyStarved, ReleaseNotify}
-use Rattle.lock_program.specs.declared.mutex.LockCall.{LockCall}
-use Rattle.lock_program.specs.declared.mutex.LockCall.TheVariants as call
-use Rattle.lock_program.specs.declared.mutex.Action.{Action}
-use Rattle.lock_program.specs.declared.mutex.Action.TheVariants as act
-use Rattle.world_mutex.specs.declared.program.led.Next.{Next}
-use Rattle.world_mutex.specs.declared.program.led.Next.TheVariants as next
-use Rattle.lock_program.specs.declared.mutex.Found.{Found}
-use Rattle.lock_program.specs.declared.mutex.Found.TheVariants.{Done, Free, Held, SomeStarved, AtLimit, Yes}
-use Rattle.world_mutex.specs.program.Program.{action_of, next_of, place_after, start_of}
-use Rattle.lock_program.specs.MutexRoles.{holds, listed}
-use Rattle.world_mutex.specs.machine.Parties.{OnParties}
-use Rattle.world_mutex.specs.machine.Machine.{Lock, place_at, SameRoles}
-use Rattle.world_mutex.specs.machine.Acts.{Acts, Finds, holders}
-use Rattle.world_mutex.specs.machine.Ranks.{left, left_after, is_own_marked, is_open, most_steps}
+use Rattle.world_mutex.proofs.Prelude.{◌≡◌, ℕ, ◌+◌, ◌==◌, ◌<◌, ◌≤◌, Bool, true, false, Some, List, length, refl, sym, ap, arith, ◌∙◌, get_or-set_same, none_some, set, sum_by, sum_by-set, nat_tests, Entry, is_marked_at, is_party, entries_of, some_eq, joined_unmarked, Place, Out, Holding, Enter, Try, Clear, CancelUncount, CancelLeave, Join, Look, Ask, Retry, PassOn, Count, JoinStarved, LookAlone, PassOnListed, AskStarved, Seize, Uncount, Leave, RefuseUncount, RefuseLeave, RefuseNotifyMemory, RefuseNotifyStarved, ReleaseNotify, LockCall, Action, Next, Found, Done, Free, Held, SomeStarved, AtLimit, Yes, action_of, next_of, place_after, start_of, holds, listed, OnParties, Lock, place_at, SameRoles, Acts, Finds, holders, left, left_after, is_own_marked, is_open, most_steps}
 use Rattle.world_mutex.proofs.of_machine.laws.Kept.{after}
 
 -- what an action says of its party's own mark, before and after
 abbrev Marks : Action → Found → Bool → Bool → Type 0
-Marks act.Join Done m n = n ≡ false
-Marks act.Ask Yes m n = m ≡ true
-Marks act.Take f m n = n ≡ m
-Marks act.TakeAlone f m n = n ≡ m
+Marks Action.Join Done m n = n ≡ false
+Marks Action.Ask Yes m n = m ≡ true
+Marks Action.Take f m n = n ≡ m
+Marks Action.TakeAlone f m n = n ≡ m
 Marks _ f m n = Unit {0}
 
 -- how many steps are left after this, by numbers alone
 abbrev then_left : Next → Bool → Bool → ℕ
-then_left (next.Do a q) n u = left q n u
-then_left (next.End e) n u = 0
+then_left (Next.Do a q) n u = left q n u
+then_left (Next.End e) n u = 0
 
 module _ (memory : Bool) (l : Lock) (m n : Bool) (h : ℕ) where
   falls : (from : Place) (f : Found) → Finds memory (action_of from) f l → h + holds from ≡ holders l + holds (after from f) → Marks (action_of from) f m n → then_left (next_of from f) n (h == 0) < left from m (holders l == 0)
@@ -93,24 +67,24 @@ module _ (memory : Bool) (l : Lock) (m n : Bool) (h : ℕ) where
   falls ReleaseNotify _ e k s = grind (arith, nat_tests)
 
 module _ (p : ℕ) (l m : List (Entry ℕ)) where
-  marks : (a : Action) (f : Found) → OnParties p a f l m → (a ≡ act.Join → entries_of p l ≡ 0) → Marks a f (is_marked_at (is_party p) l) (is_marked_at (is_party p) m)
-  marks act.Join Done o out = rw o (joined_unmarked p l (out refl))
-  marks act.Join _ o out = tt
-  marks act.Ask Yes o out = o.0
-  marks act.Ask _ o out = tt
-  marks act.Take f o out = ap (is_marked_at (is_party p)) o
-  marks act.TakeAlone f o out = ap (is_marked_at (is_party p)) o
+  marks : (a : Action) (f : Found) → OnParties p a f l m → (a ≡ Action.Join → entries_of p l ≡ 0) → Marks a f (is_marked_at (is_party p) l) (is_marked_at (is_party p) m)
+  marks Action.Join Done o out = rw o (joined_unmarked p l (out refl))
+  marks Action.Join _ o out = tt
+  marks Action.Ask Yes o out = o.0
+  marks Action.Ask _ o out = tt
+  marks Action.Take f o out = ap (is_marked_at (is_party p)) o
+  marks Action.TakeAlone f o out = ap (is_marked_at (is_party p)) o
   marks _ f o out = tt
 
 -- only a party that isn't listed joins
-joins_unlisted : (p : Place) → action_of p ≡ act.Join → listed p ≡ 0
+joins_unlisted : (p : Place) → action_of p ≡ Action.Join → listed p ≡ 0
 joins_unlisted (Join told) e = refl
 joins_unlisted JoinStarved e = refl
 joins_unlisted _ e = absurd (cc)
 
 seen_then : (next : Next) (l : Lock) (p : ℕ) (q : Place) → place_at l.places p ≡ place_after q next → left_after next l p ≡ then_left next (is_own_marked l p) (is_open l)
-seen_then (next.Do a q) l p from e = ap (λ x. left x (is_own_marked l p) (is_open l)) e
-seen_then (next.End x) l p from e = refl
+seen_then (Next.Do a q) l p from e = ap (λ x. left x (is_own_marked l p) (is_open l)) e
+seen_then (Next.End x) l p from e = refl
 
 module _ (memory : Bool) (p : ℕ) (from : Place) (next : Next) (old new : Lock) where
   -- a party that moves alone has fewer steps left after each
@@ -143,20 +117,20 @@ at_most _ m u = omega arith
 
 -- no call begins where it has more steps left than it may take
 pub within : (c : LockCall) (at from : Place) (m u : Bool) → start_of c at ≡ Some from → left from m u ≤ most_steps c
-within call.Lock Out from m u e = rw (← some_eq e) (omega arith)
-within call.Lock _ from m u e = absurd (none_some e)
-within call.Try Out from m u e = rw (← some_eq e) (omega arith)
-within call.Try _ from m u e = absurd (none_some e)
-within call.Poll Out from m u e = rw (← some_eq e) (omega arith)
-within call.Poll Ask from m u e = rw (← some_eq e) (grind arith)
-within call.Poll AskStarved from m u e = rw (← some_eq e) (grind arith)
-within call.Poll _ from m u e = absurd (none_some e)
-within call.Release Holding from m u e = rw (← some_eq e) (omega arith)
-within call.Release _ from m u e = absurd (none_some e)
-within call.Cancel Out from m u e = rw (← some_eq e) (omega arith)
-within call.Cancel Ask from m u e = rw (← some_eq e) (omega arith)
-within call.Cancel AskStarved from m u e = rw (← some_eq e) (omega arith)
-within call.Cancel _ from m u e = absurd (none_some e)
+within LockCall.Lock Out from m u e = rw (← some_eq e) (omega arith)
+within LockCall.Lock _ from m u e = absurd (none_some e)
+within LockCall.Try Out from m u e = rw (← some_eq e) (omega arith)
+within LockCall.Try _ from m u e = absurd (none_some e)
+within LockCall.Poll Out from m u e = rw (← some_eq e) (omega arith)
+within LockCall.Poll Ask from m u e = rw (← some_eq e) (grind arith)
+within LockCall.Poll AskStarved from m u e = rw (← some_eq e) (grind arith)
+within LockCall.Poll _ from m u e = absurd (none_some e)
+within LockCall.Release Holding from m u e = rw (← some_eq e) (omega arith)
+within LockCall.Release _ from m u e = absurd (none_some e)
+within LockCall.Cancel Out from m u e = rw (← some_eq e) (omega arith)
+within LockCall.Cancel Ask from m u e = rw (← some_eq e) (omega arith)
+within LockCall.Cancel AskStarved from m u e = rw (← some_eq e) (omega arith)
+within LockCall.Cancel _ from m u e = absurd (none_some e)
 
 -- a call that has begun has fewer steps left than it may take
 pub begun_within : (c : LockCall) (at from : Place) (l : Lock) (p k : ℕ) → start_of c at ≡ Some from → k < left from (is_own_marked l p) (is_open l) → k < most_steps c

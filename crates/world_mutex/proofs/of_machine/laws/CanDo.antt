@@ -1,16 +1,5 @@
 -- Each action can be done where the program does it.
-use Rattle.std.proofs.Common.{◌≡◌, ℕ, ◌<◌, ◌≤◌, Bool, true, false, List, length, get_or, arith, refl}
-use Rattle.std.specs.List.{sum_by}
-use Rattle.std.proofs.lemmas.List.Sums.{get_or-le-sum_by}
-use Rattle.world_base.specs.queue.Queues.{Queue}
-use Rattle.world_base.specs.queue.Parties.{entries_of}
-use Rattle.lock_program.specs.declared.mutex.Place.{Place}
-use Rattle.lock_program.specs.declared.mutex.Place.TheVariants.{Out, Holding, Enter, Try, Clear, CancelUncount, CancelLeave, Join, Look, Ask, Retry, PassOn, Count, JoinStarved, LookAlone, PassOnListed, AskStarved, Seize, Uncount, Leave, RefuseUncount, RefuseLeave, RefuseNotifyMemory, RefuseNotifyStarved, ReleaseNotify}
-use Rattle.world_mutex.specs.declared.program.word.Word.{Word}
-use Rattle.world_mutex.specs.program.Program.{action_of}
-use Rattle.lock_program.specs.MutexRoles.{bit, holds, counted, listed}
-use Rattle.world_mutex.specs.program.Seats.{CanDo}
-use Rattle.world_mutex.specs.machine.Machine.{IsLock, place_at, SameRoles}
+use Rattle.world_mutex.proofs.Prelude.{◌≡◌, ℕ, ◌<◌, ◌≤◌, Bool, true, false, List, length, get_or, arith, refl, sum_by, get_or-le-sum_by, Queue, entries_of, Place, Out, Holding, Enter, Try, Clear, CancelUncount, CancelLeave, Join, Look, Ask, Retry, PassOn, Count, JoinStarved, LookAlone, PassOnListed, AskStarved, Seize, Uncount, Leave, RefuseUncount, RefuseLeave, RefuseNotifyMemory, RefuseNotifyStarved, ReleaseNotify, Word, action_of, bit, holds, counted, listed, CanDo, IsLock, place_at, SameRoles}
 
 bit_true : (b : Bool) → 0 < bit b → b ≡ true
 bit_true true h = refl

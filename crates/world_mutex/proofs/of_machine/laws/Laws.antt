@@ -1,25 +1,8 @@
 -- What always holds of a mutex, as callers see it.
-use Rattle.std.proofs.Common.{◌≡◌, ℕ, Bool, true, zero, suc, List, [], ◌∷◌, length, refl, ap, arith, sym, ◌∙◌}
-use Rattle.lock_event.specs.Lists.{marked_count, IsMarkedFirst}
-use Rattle.world_base.specs.queue.Queues.{Queue}
+use Rattle.world_mutex.proofs.Prelude.{◌≡◌, ℕ, Bool, true, zero, suc, List, [], ◌∷◌, length, refl, ap, arith, sym, ◌∙◌, marked_count, IsMarkedFirst, Queue, Place, Out, Holding, Ask, AskStarved, Action, Found, Done, Free, Held, SomeStarved, AtLimit, NoMemory, Yes, No, Word, bit, counted, listed, waits, owes, is_resting, OnWord, OnList, Lock, IsLock, place_at, Finds, IsAtRest, IsMutex, ◌<◌, ◌⊎◌, inl, inr, is_waiting, is_due_there as is_due, Retry, PassOn, JoinStarved, LookAlone, PassOnListed, Seize, RefuseUncount, RefuseNotifyMemory, RefuseNotifyStarved, ReleaseNotify}
 use Rattle.world_base.specs.queue.Debts.{Roles, Rests, AllRest}
 use Rattle.world_base.proofs.of_queue.Debts.{paid_at_rest}
-use Rattle.lock_program.specs.declared.mutex.Place.{Place}
-use Rattle.lock_program.specs.declared.mutex.Place.TheVariants.{Out, Holding, Ask, AskStarved}
-use Rattle.lock_program.specs.declared.mutex.Action.{Action}
-use Rattle.lock_program.specs.declared.mutex.Action.TheVariants as act
-use Rattle.lock_program.specs.declared.mutex.Found.{Found}
-use Rattle.lock_program.specs.declared.mutex.Found.TheVariants.{Done, Free, Held, SomeStarved, AtLimit, NoMemory, Yes, No}
-use Rattle.world_mutex.specs.declared.program.word.Word.{Word}
-use Rattle.lock_program.specs.MutexRoles.{bit, counted, listed, waits, owes, is_resting}
-use Rattle.world_mutex.specs.program.Words.{OnWord}
-use Rattle.world_mutex.specs.program.Seats.{OnList}
-use Rattle.world_mutex.specs.machine.Machine.{Lock, IsLock, place_at}
-use Rattle.world_mutex.specs.machine.Acts.{Finds, IsAtRest, IsMutex}
-use Rattle.std.proofs.Common.{◌<◌, ◌⊎◌, inl, inr}
 use Rattle.world_base.proofs.Owing.{marked_or_owed}
-use Rattle.world_mutex.specs.machine.Courses.{is_waiting, is_due}
-use Rattle.lock_program.specs.declared.mutex.Place.TheVariants.{Retry, PassOn, JoinStarved, LookAlone, PassOnListed, Seize, RefuseUncount, RefuseNotifyMemory, RefuseNotifyStarved, ReleaseNotify}
 
 abbrev roles : Roles Place
 roles = record { listed = listed; waits = waits; owes = owes }
@@ -100,33 +83,33 @@ module _ (w : Word) (places : List Place) (list : Queue) where
 
   -- what an action found, said of the parties
   pub finds : (p : ℕ) (memory : Bool) (a : Action) (f : Found) (v : Word) (s t : Queue) → IsLock w places list → OnWord a f w v → OnList p memory a f s t → Finds memory a f the_lock
-  finds p memory act.Nothing Done v s t k e l = tt
-  finds p memory act.Nothing _ v s t k e l = absurd e
-  finds p memory act.Take Free v s t k e l = (k.sound.held ∙ ap bit e.0, k.sound.starved ∙ e.1)
-  finds p memory act.Take (Held starving) v s t k e l = (k.sound.held ∙ ap bit e.0, k.sound.starved ∙ e.1)
-  finds p memory act.Take SomeStarved v s t k e l = rw k.sound.starved e.0
-  finds p memory act.Take _ v s t k e l = absurd e
-  finds p memory act.TakeAlone Free v s t k e l = (k.sound.held ∙ ap bit e.0, k.sound.starved ∙ e.1)
-  finds p memory act.TakeAlone (Held starving) v s t k e l = k.sound.held ∙ ap bit e.0
-  finds p memory act.TakeAlone SomeStarved v s t k e l = (k.sound.held ∙ ap bit e.0, λ one. e.1 (sym k.sound.starved ∙ one))
-  finds p memory act.TakeAlone _ v s t k e l = absurd e
-  finds p memory act.Set Free v s t k e l = k.sound.held ∙ ap bit e.0
-  finds p memory act.Set (Held starving) v s t k e l = k.sound.held ∙ ap bit e.0
-  finds p memory act.Set _ v s t k e l = absurd e
-  finds p memory act.Count Done v s t k e l = rw k.sound.starved e.0
-  finds p memory act.Count AtLimit v s t k e l = k.sound.starved ∙ e.0
-  finds p memory act.Count _ v s t k e l = absurd e
-  finds p memory act.Uncount Done v s t k e l = tt
-  finds p memory act.Uncount _ v s t k e l = absurd e
-  finds p memory act.Clear Done v s t k e l = k.sound.held ∙ ap bit e.0
-  finds p memory act.Clear _ v s t k e l = absurd e
-  finds p memory act.Join Done v s t k e l = l.0
-  finds p memory act.Join NoMemory v s t k e l = l.0
-  finds p memory act.Join _ v s t k e l = absurd e
-  finds p memory act.Ask Yes v s t k e l = tt
-  finds p memory act.Ask No v s t k e l = tt
-  finds p memory act.Ask _ v s t k e l = absurd e
-  finds p memory act.Leave Done v s t k e l = tt
-  finds p memory act.Leave _ v s t k e l = absurd e
-  finds p memory act.Notify Done v s t k e l = tt
-  finds p memory act.Notify _ v s t k e l = absurd e
+  finds p memory Action.Nothing Done v s t k e l = tt
+  finds p memory Action.Nothing _ v s t k e l = absurd e
+  finds p memory Action.Take Free v s t k e l = (k.sound.held ∙ ap bit e.0, k.sound.starved ∙ e.1)
+  finds p memory Action.Take (Held starving) v s t k e l = (k.sound.held ∙ ap bit e.0, k.sound.starved ∙ e.1)
+  finds p memory Action.Take SomeStarved v s t k e l = rw k.sound.starved e.0
+  finds p memory Action.Take _ v s t k e l = absurd e
+  finds p memory Action.TakeAlone Free v s t k e l = (k.sound.held ∙ ap bit e.0, k.sound.starved ∙ e.1)
+  finds p memory Action.TakeAlone (Held starving) v s t k e l = k.sound.held ∙ ap bit e.0
+  finds p memory Action.TakeAlone SomeStarved v s t k e l = (k.sound.held ∙ ap bit e.0, λ one. e.1 (sym k.sound.starved ∙ one))
+  finds p memory Action.TakeAlone _ v s t k e l = absurd e
+  finds p memory Action.Set Free v s t k e l = k.sound.held ∙ ap bit e.0
+  finds p memory Action.Set (Held starving) v s t k e l = k.sound.held ∙ ap bit e.0
+  finds p memory Action.Set _ v s t k e l = absurd e
+  finds p memory Action.Count Done v s t k e l = rw k.sound.starved e.0
+  finds p memory Action.Count AtLimit v s t k e l = k.sound.starved ∙ e.0
+  finds p memory Action.Count _ v s t k e l = absurd e
+  finds p memory Action.Uncount Done v s t k e l = tt
+  finds p memory Action.Uncount _ v s t k e l = absurd e
+  finds p memory Action.Clear Done v s t k e l = k.sound.held ∙ ap bit e.0
+  finds p memory Action.Clear _ v s t k e l = absurd e
+  finds p memory Action.Join Done v s t k e l = l.0
+  finds p memory Action.Join NoMemory v s t k e l = l.0
+  finds p memory Action.Join _ v s t k e l = absurd e
+  finds p memory Action.Ask Yes v s t k e l = tt
+  finds p memory Action.Ask No v s t k e l = tt
+  finds p memory Action.Ask _ v s t k e l = absurd e
+  finds p memory Action.Leave Done v s t k e l = tt
+  finds p memory Action.Leave _ v s t k e l = absurd e
+  finds p memory Action.Notify Done v s t k e l = tt
+  finds p memory Action.Notify _ v s t k e l = absurd e

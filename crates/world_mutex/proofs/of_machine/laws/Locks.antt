@@ -1,21 +1,5 @@
 -- An action of one party keeps what always holds of a mutex.
-use Rattle.std.proofs.Common.{◌≡◌, ℕ, ◌+◌, ◌<◌, Bool, List, length, arith, sym, subst, ◌∙◌, length-set, get_or-set_same, get_or-set_other}
-use Rattle.std.proofs.Math.ListN.{set}
-use Rattle.std.proofs.Math.Decide.{ℕ_discrete}
-use Rattle.world_base.specs.queue.Queues.{Queue}
-use Rattle.world_base.specs.queue.Parties.{entries_of}
-use Rattle.world_base.proofs.Lists.{OneAtMost, own_by, others_by}
-use Rattle.lock_program.specs.declared.mutex.Place.{Place}
-use Rattle.lock_program.specs.declared.mutex.Place.TheVariants.{Out}
-use Rattle.lock_program.specs.MutexRoles.{listed}
-use Rattle.world_mutex.specs.machine.Parties.{OnParties}
-use Rattle.lock_program.specs.declared.mutex.Found.{Found}
-use Rattle.world_mutex.specs.declared.program.word.Word.{Word}
-use Rattle.world_mutex.specs.program.Program.{action_of}
-use Rattle.world_mutex.specs.program.Words.{OnWord}
-use Rattle.world_mutex.specs.program.Seats.{CanDo, OnList}
-use Rattle.world_mutex.specs.machine.Tally.{tally_of, counts_of}
-use Rattle.world_mutex.specs.machine.Machine.{IsLock, SameRoles, place_at}
+use Rattle.world_mutex.proofs.Prelude.{◌≡◌, ℕ, ◌+◌, ◌<◌, Bool, List, length, arith, sym, subst, ◌∙◌, length-set, get_or-set_same, get_or-set_other, set, ℕ_discrete, Queue, entries_of, OneAtMost, own_by, others_by, Place, Out, listed, OnParties, Found, Word, action_of, OnWord, CanDo, OnList, tally_of, counts_of, IsLock, SameRoles, place_at}
 use Rattle.world_mutex.proofs.of_machine.laws.CanDo.{can_do}
 use Rattle.world_mutex.proofs.of_machine.laws.Owners.{on_parties, parties_kept, one_at_most}
 use Rattle.world_mutex.proofs.of_machine.laws.Steps.{Effect, Moves}

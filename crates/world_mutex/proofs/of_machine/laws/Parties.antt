@@ -1,13 +1,5 @@
 -- One party goes from one place to another.
-use Rattle.std.proofs.Common.{ℕ, ◌+◌, ◌<◌, ◌≤◌, List, [], ◌∷◌, length, get_or, arith, true, false, get_or-set_same, length-set}
-use Rattle.std.proofs.Math.ListN.{set}
-use Rattle.std.specs.List.{sum_by}
-use Rattle.std.proofs.lemmas.List.Sums.{sum_by-set, sum_by-le-sum_by, get_or-le-sum_by, sum_by-cons}
-use Rattle.lock_program.specs.declared.mutex.Place.{Place}
-use Rattle.lock_program.specs.declared.mutex.Place.TheVariants.{Out, Holding, Enter, Try, Clear, CancelUncount, CancelLeave, Join, Look, Ask, Retry, PassOn, Count, JoinStarved, LookAlone, PassOnListed, AskStarved, Seize, Uncount, Leave, RefuseUncount, RefuseLeave, RefuseNotifyMemory, RefuseNotifyStarved, ReleaseNotify}
-use Rattle.lock_program.specs.MutexRoles.{holds, counted, listed, waits, owes}
-use Rattle.world_mutex.specs.machine.Tally.{counts_of}
-use Rattle.world_mutex.specs.machine.Machine.{place_at, SameRoles}
+use Rattle.world_mutex.proofs.Prelude.{ℕ, ◌+◌, ◌<◌, ◌≤◌, List, [], ◌∷◌, length, get_or, arith, true, false, get_or-set_same, length-set, set, sum_by, sum_by-set, sum_by-le-sum_by, get_or-le-sum_by, sum_by-cons, Place, Out, Holding, Enter, Try, Clear, CancelUncount, CancelLeave, Join, Look, Ask, Retry, PassOn, Count, JoinStarved, LookAlone, PassOnListed, AskStarved, Seize, Uncount, Leave, RefuseUncount, RefuseLeave, RefuseNotifyMemory, RefuseNotifyStarved, ReleaseNotify, holds, counted, listed, waits, owes, counts_of, place_at, SameRoles}
 use Rattle.world_mutex.proofs.of_machine.laws.Steps.{IsCounted, Moves}
 
 module _ (ps : List Place) (p : ℕ) (from to : Place) where

@@ -1,16 +1,6 @@
 -- Who holds the lock and who is starved, party by party.
-use Rattle.std.proofs.Common.{◌≡◌, ℕ, ◌+◌, ◌-◌, ◌≤◌, Bool, false, List, map, get_or, refl, Some, None}
+use Rattle.world_mutex.proofs.Prelude.{◌≡◌, ℕ, ◌+◌, ◌-◌, ◌≤◌, Bool, false, List, map, get_or, refl, Some, None, set, sum_by, Entry, unstarved_in, how_many, Place, Out, Holding, Enter, Try, Clear, CancelUncount, CancelLeave, Join, Look, Ask, Retry, PassOn, Count, JoinStarved, LookAlone, PassOnListed, AskStarved, Seize, Uncount, Leave, RefuseUncount, RefuseLeave, RefuseNotifyMemory, RefuseNotifyStarved, ReleaseNotify, bit, holds, counted, place_at, is_holder, is_counted, holder_from}
 use Rattle.std.specs.Prelude.{is_some}
-use Rattle.std.proofs.Math.ListN.{set}
-use Rattle.std.specs.List.{sum_by}
-use Rattle.lock_event.specs.declared.event.Entry.{Entry}
-use Rattle.world_base.specs.Bounds.{unstarved_in}
-use Rattle.world_base.specs.Rosters.{how_many}
-use Rattle.lock_program.specs.declared.mutex.Place.{Place}
-use Rattle.lock_program.specs.declared.mutex.Place.TheVariants.{Out, Holding, Enter, Try, Clear, CancelUncount, CancelLeave, Join, Look, Ask, Retry, PassOn, Count, JoinStarved, LookAlone, PassOnListed, AskStarved, Seize, Uncount, Leave, RefuseUncount, RefuseLeave, RefuseNotifyMemory, RefuseNotifyStarved, ReleaseNotify}
-use Rattle.lock_program.specs.MutexRoles.{bit, holds, counted}
-use Rattle.world_mutex.specs.machine.Machine.{place_at}
-use Rattle.world_mutex.specs.machine.State.{is_holder, is_counted, holder_from}
 use Rattle.world_mutex.proofs.of_machine.callers.Rosters as rosters
 pub use Rattle.world_mutex.proofs.of_machine.callers.Rosters.{is_one}
 

@@ -1,14 +1,5 @@
 -- What a step does to the numbers.
-use Rattle.std.proofs.Common.{◌≡◌, ◌+◌, ◌<◌, ◌≤◌, ◌≢◌, Bool, true, false}
-use Rattle.world_base.specs.Steps.{ListFunction, joins, asks, leaves, notifies}
-use Rattle.world_base.proofs.Lists.{Counted}
-use Rattle.lock_program.specs.declared.mutex.Place.{Place}
-use Rattle.lock_program.specs.declared.mutex.Action.{Action}
-use Rattle.lock_program.specs.declared.mutex.Action.TheVariants as act
-use Rattle.lock_program.specs.declared.mutex.Found.{Found}
-use Rattle.lock_program.specs.declared.mutex.Found.TheVariants.{Done, Free, Held, SomeStarved, AtLimit, NoMemory, Yes, No}
-use Rattle.world_mutex.specs.machine.Tally.{Tally, Counts}
-use Rattle.lock_program.specs.MutexRoles.{holds, counted, listed as stands, waits, owes}
+use Rattle.world_mutex.proofs.Prelude.{◌≡◌, ◌+◌, ◌<◌, ◌≤◌, ◌≢◌, Bool, true, false, ListFunction, joins, asks, leaves, notifies, Counted, Place, Action, Found, Done, Free, Held, SomeStarved, AtLimit, NoMemory, Yes, No, Tally, Counts, holds, counted, listed as stands, waits, owes}
 
 abbrev pub SameWord : Tally → Tally → Type 0
 SameWord s t = (t.held ≡ s.held) × (t.starved ≡ s.starved) × (t.limit ≡ s.limit)
@@ -21,25 +12,25 @@ ListDid f told s t = SameWord s t × Counted f told s.size s.marked t.size t.mar
 
 -- what an action does to the numbers where it finds this
 abbrev pub Effect : Action → Found → Tally → Tally → Type 0
-Effect act.Nothing Done s t = SameWord s t × SameList s t
-Effect act.Take Free s t = (s.held ≡ 0) × (s.starved ≡ 0) × (t.held ≡ 1) × (t.starved ≡ s.starved) × (t.limit ≡ s.limit) × SameList s t
-Effect act.Take (Held starving) s t = (s.held ≡ 1) × (s.starved ≡ 0) × SameWord s t × SameList s t
-Effect act.Take SomeStarved s t = (0 < s.starved) × SameWord s t × SameList s t
-Effect act.TakeAlone Free s t = (s.held ≡ 0) × (s.starved ≡ 1) × (t.held ≡ 1) × (t.starved ≡ s.starved) × (t.limit ≡ s.limit) × SameList s t
-Effect act.TakeAlone (Held starving) s t = (s.held ≡ 1) × SameWord s t × SameList s t
-Effect act.TakeAlone SomeStarved s t = (s.held ≡ 0) × (s.starved ≢ 1) × SameWord s t × SameList s t
-Effect act.Set Free s t = (s.held ≡ 0) × (t.held ≡ 1) × (t.starved ≡ s.starved) × (t.limit ≡ s.limit) × SameList s t
-Effect act.Set (Held starving) s t = (s.held ≡ 1) × SameWord s t × SameList s t
-Effect act.Count Done s t = (s.starved < s.limit) × (t.held ≡ s.held) × (t.starved ≡ s.starved + 1) × (t.limit ≡ s.limit) × SameList s t
-Effect act.Count AtLimit s t = (s.starved ≡ s.limit) × SameWord s t × SameList s t
-Effect act.Uncount Done s t = (t.held ≡ s.held) × (t.starved + 1 ≡ s.starved) × (t.limit ≡ s.limit) × SameList s t
-Effect act.Clear Done s t = (s.held ≡ 1) × (t.held ≡ 0) × (t.starved ≡ s.starved) × (t.limit ≡ s.limit) × SameList s t
-Effect act.Join Done s t = ListDid joins false s t
-Effect act.Join NoMemory s t = SameWord s t × SameList s t
-Effect act.Ask Yes s t = ListDid asks true s t
-Effect act.Ask No s t = SameWord s t × SameList s t
-Effect act.Leave Done s t = ListDid leaves false s t
-Effect act.Notify Done s t = ListDid (notifies 1) false s t
+Effect Action.Nothing Done s t = SameWord s t × SameList s t
+Effect Action.Take Free s t = (s.held ≡ 0) × (s.starved ≡ 0) × (t.held ≡ 1) × (t.starved ≡ s.starved) × (t.limit ≡ s.limit) × SameList s t
+Effect Action.Take (Held starving) s t = (s.held ≡ 1) × (s.starved ≡ 0) × SameWord s t × SameList s t
+Effect Action.Take SomeStarved s t = (0 < s.starved) × SameWord s t × SameList s t
+Effect Action.TakeAlone Free s t = (s.held ≡ 0) × (s.starved ≡ 1) × (t.held ≡ 1) × (t.starved ≡ s.starved) × (t.limit ≡ s.limit) × SameList s t
+Effect Action.TakeAlone (Held starving) s t = (s.held ≡ 1) × SameWord s t × SameList s t
+Effect Action.TakeAlone SomeStarved s t = (s.held ≡ 0) × (s.starved ≢ 1) × SameWord s t × SameList s t
+Effect Action.Set Free s t = (s.held ≡ 0) × (t.held ≡ 1) × (t.starved ≡ s.starved) × (t.limit ≡ s.limit) × SameList s t
+Effect Action.Set (Held starving) s t = (s.held ≡ 1) × SameWord s t × SameList s t
+Effect Action.Count Done s t = (s.starved < s.limit) × (t.held ≡ s.held) × (t.starved ≡ s.starved + 1) × (t.limit ≡ s.limit) × SameList s t
+Effect Action.Count AtLimit s t = (s.starved ≡ s.limit) × SameWord s t × SameList s t
+Effect Action.Uncount Done s t = (t.held ≡ s.held) × (t.starved + 1 ≡ s.starved) × (t.limit ≡ s.limit) × SameList s t
+Effect Action.Clear Done s t = (s.held ≡ 1) × (t.held ≡ 0) × (t.starved ≡ s.starved) × (t.limit ≡ s.limit) × SameList s t
+Effect Action.Join Done s t = ListDid joins false s t
+Effect Action.Join NoMemory s t = SameWord s t × SameList s t
+Effect Action.Ask Yes s t = ListDid asks true s t
+Effect Action.Ask No s t = SameWord s t × SameList s t
+Effect Action.Leave Done s t = ListDid leaves false s t
+Effect Action.Notify Done s t = ListDid (notifies 1) false s t
 Effect _ _ s t = ⊥
 
 -- what holds of the numbers because it holds of each place

@@ -1,54 +1,32 @@
 -- A poll of a party that stands in the list asks there, and does nothing else.
-use Rattle.std.proofs.Common.{◌≡◌, ℕ, ◌<◌, ◌⊎◌, inl, inr, Bool, List, map, Some, if◌then◌else◌, refl, sym, ap, arith, subst, ◌∙◌}
-use Rattle.std.proofs.Math.Seq.{map-set_same}
-use Rattle.lock_event.specs.declared.event.Entry.{Entry}
-use Rattle.lock_event.specs.Lists.{is_marked_at}
-use Rattle.world_base.specs.queue.Parties.{is_party}
-use Rattle.world_base.specs.Steps.{asked}
-use Rattle.world_base.proofs.Equations.{some_eq, none_some}
-use Rattle.lock_program.specs.declared.end.End.TheVariants.{Pending}
-use Rattle.lock_program.specs.declared.mutex.LockCall.{LockCall}
-use Rattle.lock_program.specs.declared.mutex.LockCall.TheVariants as call
-use Rattle.lock_program.specs.declared.mutex.Step.TheVariants as step
-use Rattle.lock_program.specs.declared.mutex.Found.{Found}
-use Rattle.lock_program.specs.declared.mutex.Found.TheVariants.{Yes, No}
-use Rattle.world_mutex.specs.declared.program.led.Next.{Next}
-use Rattle.lock_program.specs.declared.mutex.Place.{Place}
-use Rattle.lock_program.specs.declared.mutex.Place.TheVariants as place
-use Rattle.world_mutex.specs.program.Program.{start_of, action_of, next_of, place_after, step_of}
+use Rattle.world_mutex.proofs.Prelude.{◌≡◌, ℕ, ◌<◌, ◌⊎◌, inl, inr, Bool, List, map, Some, if◌then◌else◌, refl, sym, ap, arith, subst, ◌∙◌, map-set_same, Entry, is_marked_at, is_party, asked, some_eq, none_some, Pending, LockCall, Step, Found, Yes, No, Next, Place, start_of, action_of, next_of, place_after, step_of, Acts, Finds, Asks, Lock, place_at, OnParties, seen, is_holder, is_counted, holder_from}
 use Rattle.lock_program.specs.MutexRoles as by
-use Rattle.world_mutex.specs.machine.Acts.{Acts, Finds}
-use Rattle.world_mutex.specs.machine.Conduct.{Asks}
-use Rattle.world_mutex.specs.machine.Machine.{Lock, place_at}
-use Rattle.world_mutex.specs.machine.Parties.{OnParties}
-use Rattle.world_mutex.specs.machine.Seen.{seen}
-use Rattle.world_mutex.specs.machine.State.{is_holder, is_counted, holder_from}
 use Rattle.world_mutex.proofs.of_machine.laws.Kept.{after}
 use Rattle.world_mutex.proofs.of_machine.laws.Seen.{same_holder}
 use Rattle.world_mutex.proofs.of_machine.legal.Sights.{holder_seen, roster_seen}
 
 abbrev IsAsking : Place → Type 0
-IsAsking x = (x ≡ place.Ask) ⊎ (x ≡ place.AskStarved)
+IsAsking x = (x ≡ Place.Ask) ⊎ (x ≡ Place.AskStarved)
 
-asks_from : (x from : Place) → start_of call.Poll x ≡ Some from → 0 < by.listed x → (x ≡ from) × IsAsking from
-asks_from place.Out from e some = absurd (omega (arith, some))
-asks_from place.Ask from e some = (some_eq e, inl (sym (some_eq e)))
-asks_from place.AskStarved from e some = (some_eq e, inr (sym (some_eq e)))
+asks_from : (x from : Place) → start_of LockCall.Poll x ≡ Some from → 0 < by.listed x → (x ≡ from) × IsAsking from
+asks_from Place.Out from e some = absurd (omega (arith, some))
+asks_from Place.Ask from e some = (some_eq e, inl (sym (some_eq e)))
+asks_from Place.AskStarved from e some = (some_eq e, inr (sym (some_eq e)))
 asks_from _ from e some = absurd (none_some e)
 
 record AskedAt (p : ℕ) (x : Place) (f : Found) (es ms : List (Entry ℕ)) : Type 0 where
-  pub step : step_of (next_of x f) ≡ (if is_marked_at (is_party p) es then step.More else step.End Pending)
+  pub step : step_of (next_of x f) ≡ (if is_marked_at (is_party p) es then Step.More else Step.End Pending)
   pub entries : ms ≡ asked p es
   pub holds : is_holder (after x f) ≡ is_holder x
   pub counts : is_counted (after x f) ≡ is_counted x
 
 asked_at : (memory : Bool) (p : ℕ) (l : Lock) (x : Place) (f : Found) (es ms : List (Entry ℕ)) → IsAsking x → Finds memory (action_of x) f l → OnParties p (action_of x) f es ms → AskedAt p x f es ms
-asked_at memory p l place.Ask Yes es ms h e o = record { step = rw o.0 refl; entries = rw o.0 o.1; holds = refl; counts = refl }
-asked_at memory p l place.Ask No es ms h e o = record { step = rw o.0 refl; entries = rw o.0 o.1; holds = refl; counts = refl }
-asked_at memory p l place.Ask _ es ms h e o = absurd e
-asked_at memory p l place.AskStarved Yes es ms h e o = record { step = rw o.0 refl; entries = rw o.0 o.1; holds = refl; counts = refl }
-asked_at memory p l place.AskStarved No es ms h e o = record { step = rw o.0 refl; entries = rw o.0 o.1; holds = refl; counts = refl }
-asked_at memory p l place.AskStarved _ es ms h e o = absurd e
+asked_at memory p l Place.Ask Yes es ms h e o = record { step = rw o.0 refl; entries = rw o.0 o.1; holds = refl; counts = refl }
+asked_at memory p l Place.Ask No es ms h e o = record { step = rw o.0 refl; entries = rw o.0 o.1; holds = refl; counts = refl }
+asked_at memory p l Place.Ask _ es ms h e o = absurd e
+asked_at memory p l Place.AskStarved Yes es ms h e o = record { step = rw o.0 refl; entries = rw o.0 o.1; holds = refl; counts = refl }
+asked_at memory p l Place.AskStarved No es ms h e o = record { step = rw o.0 refl; entries = rw o.0 o.1; holds = refl; counts = refl }
+asked_at memory p l Place.AskStarved _ es ms h e o = absurd e
 asked_at memory p l _ f es ms h e o = absurd (elim h as (λ _. ⊥) [ inl e ↦ cc | inr e ↦ cc ])
 
 module _ (l k : Lock) (memory : Bool) (p : ℕ) (from : Place) (n : Next) (did : Acts memory p from n l k) where
@@ -59,10 +37,10 @@ module _ (l k : Lock) (memory : Bool) (p : ℕ) (from : Place) (n : Next) (did :
         step = ap step_of did.next_is ∙ so.step;
         entries = so.entries;
         holder = holder_seen 0 k.places ∙ (ap (holder_from 0) did.places ∙ same_holder 0 l.places p (place_after from n) (ap is_holder lands ∙ (so.holds ∙ ap is_holder (sym here))) ∙ sym (holder_seen 0 l.places));
-        starved = roster_seen k.places ∙ (ap (map is_counted) did.places ∙ map-set_same is_counted l.places p (place_after from n) place.Out (ap is_counted lands ∙ (so.counts ∙ ap is_counted (sym here))) ∙ sym (roster_seen l.places));
+        starved = roster_seen k.places ∙ (ap (map is_counted) did.places ∙ map-set_same is_counted l.places p (place_after from n) Place.Out (ap is_counted lands ∙ (so.counts ∙ ap is_counted (sym here))) ∙ sym (roster_seen l.places));
       }
 
-  pub asks_here : (c : LockCall) → start_of c (place_at l.places p) ≡ Some from → c ≡ call.Poll → 0 < by.listed (place_at l.places p) → Asks p (step_of n) (seen l) (seen k)
+  pub asks_here : (c : LockCall) → start_of c (place_at l.places p) ≡ Some from → c ≡ LockCall.Poll → 0 < by.listed (place_at l.places p) → Asks p (step_of n) (seen l) (seen k)
   asks_here c starts polls some =
       let S : LockCall → Type 0 = λ d. start_of d (place_at l.places p) ≡ Some from in
       let at = asks_from (place_at l.places p) from (subst S polls starts) some in

@@ -1,35 +1,13 @@
 -- What a machine promises by its places, said of the mutex as those see it who build on one.
-use Rattle.std.proofs.Common.{◌≡◌, ℕ, suc, ◌<◌, ◌⊎◌, inl, inr, Bool, true, false, List, [], ◌∷◌, length, Option, Some, IsSome, refl, sym, ap, arith, subst, ◌∙◌, get_or-set_same}
-use Rattle.lock_event.specs.declared.event.Entry.{Entry}
-use Rattle.world_base.specs.queue.Parties.{entries_of}
-use Rattle.lock_program.specs.declared.refusal.Refusal.TheVariants.{Memory, Starved}
-use Rattle.world_base.specs.Steps.{Deed, nothing, changes, does, joins, asks, leaves, notifies, notifies_additionally}
-use Rattle.lock_event.specs.Lists.{marked_count}
-use Rattle.lock_program.specs.declared.mutex.Place.{Place}
-use Rattle.lock_program.specs.declared.mutex.Place.TheVariants as place
-use Rattle.lock_program.specs.declared.mutex.LockCall.{LockCall}
-use Rattle.lock_program.specs.declared.mutex.LockCall.TheVariants as call
-use Rattle.lock_program.specs.declared.mutex.Found.{Found}
-use Rattle.lock_program.specs.declared.mutex.Found.TheVariants.{Free, Held, SomeStarved}
-use Rattle.lock_program.specs.declared.end.End.{End}
-use Rattle.lock_program.specs.declared.end.End.TheVariants.{Got, Pending, NotFree, GivenBack, Refused}
-use Rattle.world_mutex.specs.declared.program.led.Next.{Next}
-use Rattle.world_mutex.specs.declared.program.led.Next.TheVariants as next
-use Rattle.world_mutex.specs.program.Program.{start_of, action_of, next_of, place_after, step_of}
+use Rattle.world_mutex.proofs.Prelude.{◌≡◌, ℕ, suc, ◌<◌, ◌⊎◌, inl, inr, Bool, true, false, List, [], ◌∷◌, length, Option, Some, IsSome, refl, sym, ap, arith, subst, ◌∙◌, get_or-set_same, Entry, entries_of, Memory, Starved, Deed, nothing, changes, does, joins, asks, leaves, notifies, notifies_additionally, marked_count, Place, LockCall, Found, Free, Held, SomeStarved, End, Got, Pending, NotFree, GivenBack, Refused, Next, start_of, action_of, next_of, place_after, step_of, Acts, Finds, Lock, SameRoles, place_at, Change, takes, releases, starves, recovers, ListName, Course, Begins, may_begin, is_called, is_releasing, reveal, conceal, revealed, Mutex, course_at, TakesAtOnce, CountsNobody, HandsOn, BeginsToHandOn, course_of, is_kept, AreKept, seen, IsDone}
 use Rattle.lock_program.specs.MutexRoles as by
 use Rattle.world_mutex.specs.machine.Courses as way
 use Rattle.world_mutex.specs.machine.Acts as acts
-use Rattle.world_mutex.specs.machine.Acts.{Acts, Finds}
 use Rattle.world_mutex.specs.machine.Legal as legal
 use Rattle.world_mutex.specs.machine.Ranks as ranks
-use Rattle.world_mutex.specs.machine.Machine.{Lock, SameRoles, place_at}
-use Rattle.world_mutex.specs.machine.Deeds.{Change, takes, releases, starves, recovers, ListName}
-use Rattle.world_mutex.specs.machine.Course.{Course, Begins, GoesOn, may_begin, holds, counted, decision, is_waiting, is_counting, is_called, is_told, is_due, may_tell, is_releasing}
-use Rattle.world_mutex.specs.machine.Behind.{reveal, conceal, revealed}
-use Rattle.world_mutex.specs.machine.Mutex.{Mutex, course_at, holders, starved, left_after, IsAtRest, TakenFairly, IsMutex}
-use Rattle.world_mutex.specs.machine.Conduct.{decided_then, IsUnrefused, IsReason, IsAllowed, IsLegal, TakesAtOnce, HeedsClock, CountsNobody, HandsOn, BeginsToHandOn}
-use Rattle.world_mutex.specs.machine.Seen.{course_of, is_kept, AreKept, seen}
-use Rattle.world_mutex.specs.machine.Alone.{IsDone}
+use Rattle.world_mutex.specs.machine.Course.{GoesOn, holds, counted, decision, is_waiting, is_counting, is_told, is_due, may_tell}
+use Rattle.world_mutex.specs.machine.Mutex.{holders, starved, left_after, IsAtRest, TakenFairly, IsMutex}
+use Rattle.world_mutex.specs.machine.Conduct.{decided_then, IsUnrefused, IsReason, IsAllowed, IsLegal, HeedsClock}
 use Rattle.world_mutex.proofs.of_machine.laws.Kept.{after}
 use Rattle.world_mutex.proofs.of_machine.legal.Legal.{begins_fresh}
 use Rattle.world_mutex.proofs.of_machine.legal.Promised.{HandsOn as HandsOnThere, begins_uncounted, begins_heedless, none_counted, told_on, begins_told}
@@ -41,17 +19,17 @@ pub same_place : (x : Place) → SameRoles x x
 same_place x = record { holding = refl; starving = refl; standing = refl; waiting = refl; owing = refl; counting = refl; telling = refl; releasing = refl }
 
 decided_same : (n : Next) (x : Place) → is_kept x ≡ true → decided_then (step_of n) (course_of x) ≡ legal.decided_then n x
-decided_same (next.Do a q) x k = decision_same x k
-decided_same (next.End e) x k = refl
+decided_same (Next.Do a q) x k = decision_same x k
+decided_same (Next.End e) x k = refl
 
 pub told_there : (n : Next) (x : Place) (l : List (Entry ℕ)) → HandsOnThere n x l → HandsOn (step_of n) (course_of x) l
-told_there (next.Do a q) x l h = told_same x ∙ h
-told_there (next.End (Refused r)) x l h = h
-told_there (next.End Got) x l h = tt
-told_there (next.End Pending) x l h = tt
-told_there (next.End NotFree) x l h = tt
-told_there (next.End GivenBack) x l h = tt
-told_there (next.End _) x l h = tt
+told_there (Next.Do a q) x l h = told_same x ∙ h
+told_there (Next.End (Refused r)) x l h = h
+told_there (Next.End Got) x l h = tt
+told_there (Next.End Pending) x l h = tt
+told_there (Next.End NotFree) x l h = tt
+told_there (Next.End GivenBack) x l h = tt
+told_there (Next.End _) x l h = tt
 
 pub known_there : (l : Lock) (m : Mutex) (p : ℕ) → seen l ≡ m → p < length m.courses → p < length l.places
 known_there l m p e h = omega (arith, h, ap (λ x. length x.courses) e, length_seen l.places)
@@ -159,8 +137,8 @@ module _ (l k : Lock) where
       (holders_seen l.places ∙ b.0, elim b.1 as (λ _. (starved (seen l) ≡ 0) ⊎ (counted (course_at (seen l).courses q) ≡ 1)) [ inl none ↦ inl (starved_seen l.places ∙ none) | inr own ↦ inr (counted_here l q ∙ own) ])
 
   pub left_seen : (n : Next) (p : ℕ) → left_after (step_of n) (seen k) p ≡ ranks.left_after n k p
-  left_seen (next.Do a q) p = steps_seen k p
-  left_seen (next.End e) p = refl
+  left_seen (Next.Do a q) p = steps_seen k p
+  left_seen (Next.End e) p = refl
 
   -- what was done behind the one led to what is behind the other
   pub is_done : (Does : Next → Lock → Lock → Type 0) (n : Next) → AreKept l.places → Does n l k → IsDone Does (step_of n) (seen l) (seen k)
@@ -179,19 +157,19 @@ module _ (l k : Lock) where
 
   module _ (memory : Bool) (p : ℕ) (from : Place) (n : Next) (known : p < length l.places) (did : Acts memory p from n l k) where
     lands : course_at (seen k).courses p ≡ course_of (after from did.found)
-    lands = at_seen k.places p ∙ ap course_of (ap (λ ps. place_at ps p) did.places ∙ (get_or-set_same l.places p (place_after from n) place.Out known ∙ ap (place_after from) did.next_is))
+    lands = at_seen k.places p ∙ ap course_of (ap (λ ps. place_at ps p) did.places ∙ (get_or-set_same l.places p (place_after from n) Place.Out known ∙ ap (place_after from) did.next_is))
 
-    heeds : (starving : Bool) (x : Place) (f : Found) → Finds memory (action_of x) f l → x ≡ place.Retry → way.HeedsClock starving x (next_of x f) → acts.holders l ≡ 1 → acts.starved l ≡ 0 → way.is_counting (after x f) ≡ starving
-    heeds starving place.Retry Free e at c one none = absurd (omega (arith, e.0, one))
-    heeds starving place.Retry (Held true) e at c one none = sym c
-    heeds starving place.Retry (Held false) e at c one none = sym c
-    heeds starving place.Retry SomeStarved e at c one none = absurd (omega (arith, e, none))
-    heeds starving place.Retry _ e at c one none = absurd e
+    heeds : (starving : Bool) (x : Place) (f : Found) → Finds memory (action_of x) f l → x ≡ Place.Retry → way.HeedsClock starving x (next_of x f) → acts.holders l ≡ 1 → acts.starved l ≡ 0 → way.is_counting (after x f) ≡ starving
+    heeds starving Place.Retry Free e at c one none = absurd (omega (arith, e.0, one))
+    heeds starving Place.Retry (Held true) e at c one none = sym c
+    heeds starving Place.Retry (Held false) e at c one none = sym c
+    heeds starving Place.Retry SomeStarved e at c one none = absurd (omega (arith, e, none))
+    heeds starving Place.Retry _ e at c one none = absurd e
     heeds starving _ f e at c one none = absurd (cc)
 
     pub clock : (starving : Bool) → from ≡ place_at l.places p → way.HeedsClock starving from n → HeedsClock starving (course_at (seen l).courses p) (seen l) (course_at (seen k).courses p)
     clock starving is c called one none =
-        let at : from ≡ place.Retry = is ∙ looks (place_at l.places p) (sym (ap is_called (at_seen l.places p)) ∙ called) in
+        let at : from ≡ Place.Retry = is ∙ looks (place_at l.places p) (sym (ap is_called (at_seen l.places p)) ∙ called) in
         let C : Next → Type 0 = λ m. way.HeedsClock starving from m in
         ap is_counting lands ∙ (counting_same (after from did.found) ∙ heeds starving from did.found did.finds at (subst C did.next_is c) (sym (holders_seen l.places) ∙ one) (sym (starved_seen l.places) ∙ none))
 
@@ -207,15 +185,15 @@ module _ (l k : Lock) where
         subst H (sym (at_seen k.places p)) (told_there n (place_at k.places p) k.entries (told_on memory p from n l k did known told))
 
     -- an entrance that finds the lock free leads to it
-    got : (x : Place) (f : Found) → Finds memory (action_of x) f l → (x ≡ place.Enter) ⊎ (x ≡ place.Try) → acts.holders l ≡ 0 → acts.starved l ≡ 0 → next_of x f ≡ next.End Got
-    got place.Enter Free e h free none = refl
-    got place.Enter (Held b) e h free none = absurd (omega (arith, e.0, free))
-    got place.Enter SomeStarved e h free none = absurd (omega (arith, e, none))
-    got place.Enter _ e h free none = absurd e
-    got place.Try Free e h free none = refl
-    got place.Try (Held b) e h free none = absurd (omega (arith, e.0, free))
-    got place.Try SomeStarved e h free none = absurd (omega (arith, e, none))
-    got place.Try _ e h free none = absurd e
+    got : (x : Place) (f : Found) → Finds memory (action_of x) f l → (x ≡ Place.Enter) ⊎ (x ≡ Place.Try) → acts.holders l ≡ 0 → acts.starved l ≡ 0 → next_of x f ≡ Next.End Got
+    got Place.Enter Free e h free none = refl
+    got Place.Enter (Held b) e h free none = absurd (omega (arith, e.0, free))
+    got Place.Enter SomeStarved e h free none = absurd (omega (arith, e, none))
+    got Place.Enter _ e h free none = absurd e
+    got Place.Try Free e h free none = refl
+    got Place.Try (Held b) e h free none = absurd (omega (arith, e.0, free))
+    got Place.Try SomeStarved e h free none = absurd (omega (arith, e, none))
+    got Place.Try _ e h free none = absurd e
     got _ f e h free none = absurd (elim h as (λ _. ⊥) [ inl e ↦ cc | inr e ↦ cc ])
 
     pub at_once : (c : LockCall) → start_of c (place_at l.places p) ≡ Some from → entries_of p l.entries ≡ by.listed (place_at l.places p) → legal.TakesAtOnce c p l k → TakesAtOnce c p (step_of n) (seen l) (seen k)
@@ -228,15 +206,15 @@ module _ (l k : Lock) where
       listed = λ polls some. asks_here l k memory p from n did c starts polls (omega (arith, own, some));
     }
 
-    polled : start_of call.Poll (place_at l.places p) ≡ Some from → is_waiting (course_at (seen l).courses p) ≡ true → HandsOn (step_of n) (course_at (seen k).courses p) k.entries
+    polled : start_of LockCall.Poll (place_at l.places p) ≡ Some from → is_waiting (course_at (seen l).courses p) ≡ true → HandsOn (step_of n) (course_at (seen k).courses p) k.entries
     polled starts waits = hands_on (begins_told (place_at l.places p) from (sym (waiting_same (place_at l.places p)) ∙ (sym (ap is_waiting (at_seen l.places p)) ∙ waits)) starts)
 
     pub begins_told_on : (c : LockCall) → start_of c (place_at l.places p) ≡ Some from → BeginsToHandOn c (course_at (seen l).courses p) (step_of n) (course_at (seen k).courses p) k.entries
-    begins_told_on call.Poll starts = polled starts
-    begins_told_on call.Lock starts = tt
-    begins_told_on call.Try starts = tt
-    begins_told_on call.Release starts = tt
-    begins_told_on call.Cancel starts = tt
+    begins_told_on LockCall.Poll starts = polled starts
+    begins_told_on LockCall.Lock starts = tt
+    begins_told_on LockCall.Try starts = tt
+    begins_told_on LockCall.Release starts = tt
+    begins_told_on LockCall.Cancel starts = tt
 
     -- the first action of a call counts nobody
     pub begins_patient : (c : LockCall) (starving : Bool) → start_of c (place_at l.places p) ≡ Some from → CountsNobody starving p (seen l) (seen k)

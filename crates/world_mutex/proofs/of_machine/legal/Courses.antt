@@ -1,22 +1,6 @@
 -- Where each action leads, told by courses.
-use Rattle.std.proofs.Common.{◌≡◌, ℕ, ◌<◌, Bool, true, false, Some, length, refl, sym, ap, ◌∙◌, get_or-set_same}
-use Rattle.world_base.proofs.Equations.{none_some}
-use Rattle.std.proofs.lemmas.Bool.{false≢true}
-use Rattle.world_base.proofs.Equations.{some_eq}
-use Rattle.lock_program.specs.declared.mutex.Place.{Place}
-use Rattle.lock_program.specs.declared.mutex.Place.TheVariants.{Out, Holding, Enter, CancelUncount, CancelLeave, Join, Look, Ask, Retry, PassOn, Count, JoinStarved, LookAlone, PassOnListed, AskStarved, Seize, Uncount, Leave, RefuseUncount, RefuseLeave, RefuseNotifyMemory, RefuseNotifyStarved, ReleaseNotify}
-use Rattle.lock_program.specs.declared.mutex.Found.{Found}
-use Rattle.lock_program.specs.declared.mutex.Found.TheVariants.{Done, Free, Held, AtLimit, Yes}
-use Rattle.lock_program.specs.declared.mutex.LockCall.{LockCall}
-use Rattle.lock_program.specs.declared.mutex.LockCall.TheVariants as call
-use Rattle.world_mutex.specs.declared.program.led.Next.{Next}
-use Rattle.world_mutex.specs.declared.program.led.Next.TheVariants as next
-use Rattle.lock_program.specs.declared.end.End.TheVariants.{GivenBack}
-use Rattle.lock_program.specs.declared.mutex.Action.TheVariants as act
-use Rattle.world_mutex.specs.program.Program.{action_of, next_of, place_after, start_of}
-use Rattle.world_mutex.specs.machine.Courses.{is_taking, is_releasing, is_cancelling, Takes, Cancels, Begins, GoesOn, HeedsClock}
-use Rattle.world_mutex.specs.machine.Machine.{Lock, place_at}
-use Rattle.world_mutex.specs.machine.Acts.{Acts}
+use Rattle.world_mutex.proofs.Prelude.{◌≡◌, ℕ, ◌<◌, Bool, true, false, Some, length, refl, sym, ap, ◌∙◌, get_or-set_same, none_some, false≢true, some_eq, Place, Out, Holding, Enter, CancelUncount, CancelLeave, Join, Look, Ask, Retry, PassOn, Count, JoinStarved, LookAlone, PassOnListed, AskStarved, Seize, Uncount, Leave, RefuseUncount, RefuseLeave, RefuseNotifyMemory, RefuseNotifyStarved, ReleaseNotify, Found, Done, Free, Held, AtLimit, Yes, LockCall, Next, GivenBack, Action, action_of, next_of, place_after, start_of, Takes, Cancels, GoesOn, HeedsClock, Lock, place_at, Acts}
+use Rattle.world_mutex.specs.machine.Courses.{is_taking, is_releasing, is_cancelling, Begins}
 
 abbrev polls : Place → Bool
 polls Enter = true
@@ -71,7 +55,7 @@ polling : (p : Place) → is_taking p ≡ true → polls p ≡ true
 polling Enter h = refl
 polling _ h = h
 
-releasing : (p : Place) (f : Found) → is_releasing p ≡ true → (next_of p f ≡ next.End GivenBack) × (place_after p (next_of p f) ≡ Out)
+releasing : (p : Place) (f : Found) → is_releasing p ≡ true → (next_of p f ≡ Next.End GivenBack) × (place_after p (next_of p f) ≡ Out)
 releasing ReleaseNotify f h = (refl, refl)
 releasing _ f h = absurd (false≢true h)
 
@@ -84,21 +68,21 @@ pub goes : (p : Place) (f : Found) → GoesOn p (next_of p f) (place_after p (ne
 goes p f = record { takes = λ h. takes p f (polling p h); releases = releasing p f; cancels = cancelling p f }
 
 pub begins : (c : LockCall) (at from : Place) (f : Found) → start_of c at ≡ Some from → Begins c (next_of from f) (place_after from (next_of from f))
-begins call.Lock Out from f e = rw (← some_eq e) (takes Enter f refl)
-begins call.Lock _ from f e = absurd (none_some e)
-begins call.Poll Out from f e = rw (← some_eq e) (takes Enter f refl)
-begins call.Poll Ask from f e = rw (← some_eq e) (takes Ask f refl)
-begins call.Poll AskStarved from f e = rw (← some_eq e) (takes AskStarved f refl)
-begins call.Poll _ from f e = absurd (none_some e)
-begins call.Try Out from Free e = rw (← some_eq e) refl
-begins call.Try Out from _ e = rw (← some_eq e) refl
-begins call.Try _ from f e = absurd (none_some e)
-begins call.Release Holding from f e = rw (← some_eq e) refl
-begins call.Release _ from f e = absurd (none_some e)
-begins call.Cancel Out from f e = rw (← some_eq e) refl
-begins call.Cancel Ask from f e = rw (← some_eq e) refl
-begins call.Cancel AskStarved from f e = rw (← some_eq e) refl
-begins call.Cancel _ from f e = absurd (none_some e)
+begins LockCall.Lock Out from f e = rw (← some_eq e) (takes Enter f refl)
+begins LockCall.Lock _ from f e = absurd (none_some e)
+begins LockCall.Poll Out from f e = rw (← some_eq e) (takes Enter f refl)
+begins LockCall.Poll Ask from f e = rw (← some_eq e) (takes Ask f refl)
+begins LockCall.Poll AskStarved from f e = rw (← some_eq e) (takes AskStarved f refl)
+begins LockCall.Poll _ from f e = absurd (none_some e)
+begins LockCall.Try Out from Free e = rw (← some_eq e) refl
+begins LockCall.Try Out from _ e = rw (← some_eq e) refl
+begins LockCall.Try _ from f e = absurd (none_some e)
+begins LockCall.Release Holding from f e = rw (← some_eq e) refl
+begins LockCall.Release _ from f e = absurd (none_some e)
+begins LockCall.Cancel Out from f e = rw (← some_eq e) refl
+begins LockCall.Cancel Ask from f e = rw (← some_eq e) refl
+begins LockCall.Cancel AskStarved from f e = rw (← some_eq e) refl
+begins LockCall.Cancel _ from f e = absurd (none_some e)
 
 module _ (memory : Bool) (p : ℕ) (next : Next) (old new : Lock) (known : p < length old.places) where
   lands : (from : Place) → Acts memory p from next old new → place_at new.places p ≡ place_after from next
@@ -111,7 +95,7 @@ module _ (memory : Bool) (p : ℕ) (next : Next) (old new : Lock) (known : p < l
   begins_so c from e a = rw (lands from a, a.next_is) (begins c (place_at old.places p) from a.found e)
 
 -- the clock is heeded where the lock is found held
-pub heeds : (starving : Bool) (p : Place) (f : Found) → ((long : Bool) → action_of p ≡ act.Take → f ≡ Held long → long ≡ starving) → HeedsClock starving p (next_of p f)
+pub heeds : (starving : Bool) (p : Place) (f : Found) → ((long : Bool) → action_of p ≡ Action.Take → f ≡ Held long → long ≡ starving) → HeedsClock starving p (next_of p f)
 heeds starving Retry Free k = tt
 heeds starving Retry (Held true) k = sym (k true refl refl)
 heeds starving Retry (Held false) k = sym (k false refl refl)

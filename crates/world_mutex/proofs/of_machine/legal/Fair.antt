@@ -1,16 +1,5 @@
 -- A lock is taken only where nobody holds it, and where nobody or the taker is starved.
-use Rattle.std.proofs.Common.{◌≡◌, ℕ, ◌<◌, ◌⊎◌, inl, inr, Bool, true, false, length, refl, arith, sym, ◌∙◌, subst, get_or-set_same, get_or-set_other}
-use Rattle.std.proofs.Math.ListN.{set}
-use Rattle.std.proofs.Math.Decide.{ℕ_discrete}
-use Rattle.lock_program.specs.declared.mutex.Place.{Place}
-use Rattle.lock_program.specs.declared.mutex.Place.TheVariants.{Out, Holding, Enter, Try, Clear, CancelUncount, CancelLeave, Join, Look, Ask, Retry, PassOn, Count, JoinStarved, LookAlone, PassOnListed, AskStarved, Seize, Uncount, Leave, RefuseUncount, RefuseLeave, RefuseNotifyMemory, RefuseNotifyStarved, ReleaseNotify}
-use Rattle.world_mutex.specs.declared.program.led.Next.{Next}
-use Rattle.lock_program.specs.declared.mutex.Found.{Found}
-use Rattle.lock_program.specs.declared.mutex.Found.TheVariants.{Done, Free, Held, SomeStarved, AtLimit, NoMemory, Yes, No}
-use Rattle.world_mutex.specs.program.Program.{action_of, place_after}
-use Rattle.lock_program.specs.MutexRoles.{holds, counted}
-use Rattle.world_mutex.specs.machine.Machine.{Lock, place_at, SameRoles}
-use Rattle.world_mutex.specs.machine.Acts.{Acts, Finds, holders, starved, TakenFairly}
+use Rattle.world_mutex.proofs.Prelude.{◌≡◌, ℕ, ◌<◌, ◌⊎◌, inl, inr, Bool, true, false, length, refl, arith, sym, ◌∙◌, subst, get_or-set_same, get_or-set_other, set, ℕ_discrete, Place, Out, Holding, Enter, Try, Clear, CancelUncount, CancelLeave, Join, Look, Ask, Retry, PassOn, Count, JoinStarved, LookAlone, PassOnListed, AskStarved, Seize, Uncount, Leave, RefuseUncount, RefuseLeave, RefuseNotifyMemory, RefuseNotifyStarved, ReleaseNotify, Next, Found, Done, Free, Held, SomeStarved, AtLimit, NoMemory, Yes, No, action_of, place_after, holds, counted, Lock, place_at, SameRoles, Acts, Finds, holders, starved, TakenFairly}
 use Rattle.world_mutex.proofs.of_machine.laws.Kept.{after}
 
 module _ (memory : Bool) (l : Lock) where

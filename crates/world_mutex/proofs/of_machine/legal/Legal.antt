@@ -1,83 +1,48 @@
 -- An action of one party is a legal step of the mutex.
-use Rattle.std.proofs.Common.{◌≡◌, ℕ, ◌+◌, ◌<◌, ◌≤◌, ◌⊎◌, ◌==◌, ◌↔◌, inl, inr, Bool, true, false, List, map, length, Option, Some, None, refl, arith, ap, sym, ◌∙◌, subst, get_or-set_same, get_or-set_other, length-set}
-use Rattle.std.proofs.Math.ListN.{set}
-use Rattle.std.proofs.lemmas.Bool.Decides.{nat_tests}
-use Rattle.std.proofs.Math.Seq.{map-set_same}
+use Rattle.world_mutex.proofs.Prelude.{◌≡◌, ℕ, ◌+◌, ◌<◌, ◌≤◌, ◌⊎◌, ◌==◌, ◌↔◌, inl, inr, Bool, true, false, List, map, length, Option, Some, None, refl, arith, ap, sym, ◌∙◌, subst, get_or-set_same, get_or-set_other, length-set, set, nat_tests, map-set_same, sum_by-set, sum_by, Entry, Waiting, mark_at, is_marked_at, without, is_party, entries_of, Deed, nothing, changes, does, joins, notifies, notifies_additionally, some_eq, none_some, some_none, chosen, Place, Out, Holding, Enter, Try, Ask, AskStarved, LockCall, Action, Found, Done, Free, Held, SomeStarved, AtLimit, NoMemory, Yes, No, Next, End, Got, Pending, NotFree, GivenBack, Refused, start_of, action_of, next_of, bit, holds, counted, listed, OnParties, Lock, SameRoles, place_at, Acts, Finds, holders, starved, is_holder, is_counted, holder_of, starved_of, decision, decided_then, IsReason, IsAllowed, IsLegal, Change, ListName, takes, releases, starves, recovers, holder_after, starved_after, entries_after, gives_back, gives_up, is_release, decided_by, is_fresh, Refusal, for_the_lock}
 use Rattle.std.proofs.lemmas.List.{map-set}
-use Rattle.std.proofs.lemmas.List.Sums.{sum_by-set}
-use Rattle.std.specs.List.{sum_by}
-use Rattle.lock_event.specs.declared.event.Entry.{Entry}
-use Rattle.lock_event.specs.declared.event.Mark.TheVariants.{Waiting}
-use Rattle.lock_event.specs.Lists.{mark_at, is_marked_at, without}
-use Rattle.world_base.specs.queue.Parties.{is_party, entries_of}
 use Rattle.world_base.proofs.of_queue.Told.{waits_at}
-use Rattle.lock_program.specs.declared.refusal.Refusal.TheVariants as refusal
-use Rattle.world_base.specs.Steps.{Deed, nothing, changes, does, joins, notifies, notifies_additionally}
-use Rattle.world_base.proofs.Equations.{some_eq, none_some, some_none, chosen}
-use Rattle.lock_program.specs.declared.mutex.Place.{Place}
-use Rattle.lock_program.specs.declared.mutex.Place.TheVariants.{Out, Holding, Enter, Try, Ask, AskStarved}
-use Rattle.lock_program.specs.declared.mutex.LockCall.{LockCall}
-use Rattle.lock_program.specs.declared.mutex.LockCall.TheVariants as call
-use Rattle.lock_program.specs.declared.mutex.Action.{Action}
-use Rattle.lock_program.specs.declared.mutex.Action.TheVariants as act
-use Rattle.lock_program.specs.declared.mutex.Found.{Found}
-use Rattle.lock_program.specs.declared.mutex.Found.TheVariants.{Done, Free, Held, SomeStarved, AtLimit, NoMemory, Yes, No}
-use Rattle.world_mutex.specs.declared.program.led.Next.{Next}
-use Rattle.world_mutex.specs.declared.program.led.Next.TheVariants as next
-use Rattle.lock_program.specs.declared.end.End.{End}
-use Rattle.lock_program.specs.declared.end.End.TheVariants.{Got, Pending, NotFree, GivenBack, Refused}
-use Rattle.world_mutex.specs.program.Program.{start_of, action_of, next_of}
-use Rattle.lock_program.specs.MutexRoles.{bit, holds, counted, listed}
-use Rattle.world_mutex.specs.machine.Parties.{OnParties}
-use Rattle.world_mutex.specs.machine.Machine.{Lock, SameRoles, place_at}
-use Rattle.world_mutex.specs.machine.Acts.{Acts, Finds, holders, starved}
-use Rattle.world_mutex.specs.machine.State.{is_holder, is_counted, holder_of, starved_of}
-use Rattle.world_mutex.specs.machine.Legal.{decision, decided_then, IsReason, IsAllowed, IsLegal}
-use Rattle.world_mutex.specs.machine.Deeds.{Change, ListName, takes, releases, starves, recovers, holder_after, starved_after, entries_after, gives_back, gives_up, is_release, decided_by, is_fresh}
 use Rattle.world_mutex.proofs.of_machine.laws.Kept.{after}
 use Rattle.world_mutex.proofs.of_machine.legal.Rows.{Row, row, deed_of, decision_by, Holds, Starves, Finding, Room, HoldsOn, Reason, Judged}
 use Rattle.world_mutex.proofs.of_machine.laws.Seen as sees
-use Rattle.lock_program.specs.declared.refusal.Refusal.{Refusal}
-use Rattle.lock_program.specs.declared.mutex.Place.TheVariants as place
 use Rattle.world_mutex.specs.machine.Courses.{is_releasing}
-use Rattle.world_mutex.specs.machine.Deeds.{for_the_lock}
 
 -- what an action does to the list is what its deed does
 pub list_is : (memory : Bool) (lock : Lock) (p : ℕ) (a : Action) (f : Found) (l m : List (Entry ℕ)) → Finds memory a f lock → OnParties p a f l m → m ≡ entries_after p (deed_of a f) l
-list_is memory lock p act.Nothing Done l m e o = o
-list_is memory lock p act.Take Free l m e o = o
-list_is memory lock p act.Take (Held b) l m e o = o
-list_is memory lock p act.Take SomeStarved l m e o = o
-list_is memory lock p act.TakeAlone Free l m e o = o
-list_is memory lock p act.TakeAlone (Held b) l m e o = o
-list_is memory lock p act.TakeAlone SomeStarved l m e o = o
-list_is memory lock p act.Set Free l m e o = o
-list_is memory lock p act.Set (Held b) l m e o = o
-list_is memory lock p act.Count Done l m e o = o
-list_is memory lock p act.Count AtLimit l m e o = o
-list_is memory lock p act.Uncount Done l m e o = o
-list_is memory lock p act.Clear Done l m e o = o
-list_is memory lock p act.Join Done l m e o = o
-list_is memory lock p act.Join NoMemory l m e o = o
-list_is memory lock p act.Ask Yes l m e o = o.1 ∙ sym (chosen (is_marked_at (is_party p) l) (without (is_party p) l) l o.0)
-list_is memory lock p act.Ask No l m e o = o.1
-list_is memory lock p act.Leave Done l m e o = o
-list_is memory lock p act.Notify Done l m e o = o
-list_is memory lock p act.Nothing _ l m e o = absurd e
-list_is memory lock p act.Take _ l m e o = absurd e
-list_is memory lock p act.TakeAlone _ l m e o = absurd e
-list_is memory lock p act.Set _ l m e o = absurd e
-list_is memory lock p act.Count _ l m e o = absurd e
-list_is memory lock p act.Uncount _ l m e o = absurd e
-list_is memory lock p act.Clear _ l m e o = absurd e
-list_is memory lock p act.Join _ l m e o = absurd e
-list_is memory lock p act.Ask _ l m e o = absurd e
-list_is memory lock p act.Leave _ l m e o = absurd e
-list_is memory lock p act.Notify _ l m e o = absurd e
+list_is memory lock p Action.Nothing Done l m e o = o
+list_is memory lock p Action.Take Free l m e o = o
+list_is memory lock p Action.Take (Held b) l m e o = o
+list_is memory lock p Action.Take SomeStarved l m e o = o
+list_is memory lock p Action.TakeAlone Free l m e o = o
+list_is memory lock p Action.TakeAlone (Held b) l m e o = o
+list_is memory lock p Action.TakeAlone SomeStarved l m e o = o
+list_is memory lock p Action.Set Free l m e o = o
+list_is memory lock p Action.Set (Held b) l m e o = o
+list_is memory lock p Action.Count Done l m e o = o
+list_is memory lock p Action.Count AtLimit l m e o = o
+list_is memory lock p Action.Uncount Done l m e o = o
+list_is memory lock p Action.Clear Done l m e o = o
+list_is memory lock p Action.Join Done l m e o = o
+list_is memory lock p Action.Join NoMemory l m e o = o
+list_is memory lock p Action.Ask Yes l m e o = o.1 ∙ sym (chosen (is_marked_at (is_party p) l) (without (is_party p) l) l o.0)
+list_is memory lock p Action.Ask No l m e o = o.1
+list_is memory lock p Action.Leave Done l m e o = o
+list_is memory lock p Action.Notify Done l m e o = o
+list_is memory lock p Action.Nothing _ l m e o = absurd e
+list_is memory lock p Action.Take _ l m e o = absurd e
+list_is memory lock p Action.TakeAlone _ l m e o = absurd e
+list_is memory lock p Action.Set _ l m e o = absurd e
+list_is memory lock p Action.Count _ l m e o = absurd e
+list_is memory lock p Action.Uncount _ l m e o = absurd e
+list_is memory lock p Action.Clear _ l m e o = absurd e
+list_is memory lock p Action.Join _ l m e o = absurd e
+list_is memory lock p Action.Ask _ l m e o = absurd e
+list_is memory lock p Action.Leave _ l m e o = absurd e
+list_is memory lock p Action.Notify _ l m e o = absurd e
 
 -- a party that asked in vain wasn't marked
-asked : (p : ℕ) (a : Action) (f : Found) (l m : List (Entry ℕ)) → OnParties p a f l m → a ≡ act.Ask → f ≡ No → OnParties p act.Ask No l m
-asked p a f l m o ea ef = let P : Action → Found → Type 0 = λ b g. OnParties p b g l m in let o2 : P act.Ask f = subst (λ (b : Action). P b f) ea o in subst (P act.Ask) ef o2
+asked : (p : ℕ) (a : Action) (f : Found) (l m : List (Entry ℕ)) → OnParties p a f l m → a ≡ Action.Ask → f ≡ No → OnParties p Action.Ask No l m
+asked p a f l m o ea ef = let P : Action → Found → Type 0 = λ b g. OnParties p b g l m in let o2 : P Action.Ask f = subst (λ (b : Action). P b f) ea o in subst (P Action.Ask) ef o2
 
 -- an action keeps what was decided, and what it decides has a reason
 keep : (memory : Bool) (l : Lock) (from : Place) (f : Found) (w o : Option End) (e : End) → Judged memory l from f w o → w ≡ Some e → (o ≡ Some e) × (gives_back (deed_of (action_of from) f) ≡ true)
@@ -109,11 +74,11 @@ kept_lock (Some _) d h e = absurd (cc)
 -- an end is decided by what comes next, wherever it leads
 then_same : (from : Place) (f : Found) → decided_then (next_of from f) (after from f) ≡ decision_by (next_of from f)
 then_same from f = by_next (next_of from f) (after from f) (λ a q e. led from f a q e) where
-  by_next : (n : Next) (to : Place) → ((a : Action) (q : Place) → n ≡ next.Do a q → to ≡ q) → decided_then n to ≡ decision_by n
-  by_next (next.Do a q) to leads = ap decision (leads a q refl)
-  by_next (next.End e) to leads = refl
+  by_next : (n : Next) (to : Place) → ((a : Action) (q : Place) → n ≡ Next.Do a q → to ≡ q) → decided_then n to ≡ decision_by n
+  by_next (Next.Do a q) to leads = ap decision (leads a q refl)
+  by_next (Next.End e) to leads = refl
 
-  led : (from : Place) (f : Found) (a : Action) (q : Place) → next_of from f ≡ next.Do a q → after from f ≡ q
+  led : (from : Place) (f : Found) (a : Action) (q : Place) → next_of from f ≡ Next.Do a q → after from f ≡ q
   led from f a q e = rw e refl
 
 module _ (memory : Bool) (p : ℕ) (from : Place) (f : Found) (l : Lock) (es : List (Entry ℕ)) where
@@ -205,7 +170,7 @@ module _ (memory : Bool) (p : ℕ) (from : Place) (f : Found) (l : Lock) (es : L
     list_so : es ≡ entries_after p deed l.entries
     list_so = list_is memory l p (action_of from) f l.entries es k.finds k.list
 
-    waits_there : action_of from ≡ act.Ask → f ≡ No → listed from ≡ 1 → mark_at (is_party p) es ≡ Some Waiting
+    waits_there : action_of from ≡ Action.Ask → f ≡ No → listed from ≡ 1 → mark_at (is_party p) es ≡ Some Waiting
     waits_there a g one =
         let o = asked p (action_of from) f l.entries es k.list a g in
         rw o.1 (waits_at p l.entries (stands_listed ∙ one) o.0)
@@ -222,34 +187,34 @@ module _ (memory : Bool) (p : ℕ) (from : Place) (f : Found) (l : Lock) (es : L
     reason_is Pending y = waits_there y.0 y.1 y.2
     reason_is NotFree y = y
     reason_is GivenBack y = tt
-    reason_is (Refused refusal.Memory) y = let same = unchanged y.2 in (y.0, stands_listed ∙ y.1, same.0, same.1, same.2)
-    reason_is (Refused refusal.Starved) y = let same = unchanged y.2 in (y.0, sym k.same.starving ∙ y.1, same.0, same.1, same.2, sym k.same.counting ∙ y.3)
+    reason_is (Refused Refusal.Memory) y = let same = unchanged y.2 in (y.0, stands_listed ∙ y.1, same.0, same.1, same.2)
+    reason_is (Refused Refusal.Starved) y = let same = unchanged y.2 in (y.0, sym k.same.starving ∙ y.1, same.0, same.1, same.2, sym k.same.counting ∙ y.3)
     reason_is _ y = absurd y
 
     idle_by : (why : Refusal) → Reason memory l from f (Refused why) → deed ≡ nothing
-    idle_by refusal.Memory y = y.2
-    idle_by refusal.Starved y = y.2
+    idle_by Refusal.Memory y = y.2
+    idle_by Refusal.Starved y = y.2
     idle_by _ y = absurd y
 
     released : (x : Place) (g : Found) → Finds memory (action_of x) g l → is_releasing x ≡ true → deed_of (action_of x) g ≡ does for_the_lock (notifies 1)
-    released place.ReleaseNotify Done e h = refl
-    released place.ReleaseNotify _ e h = absurd e
+    released Place.ReleaseNotify Done e h = refl
+    released Place.ReleaseNotify _ e h = absurd e
     released _ g e h = absurd (cc h)
 
-    refused_at : (x : Place) (g : Found) (why : Refusal) → Finds memory (action_of x) g l → decision x ≡ Some (Refused why) → listed x ≡ 0 → counted x ≡ 0 → (deed_of (action_of x) g ≡ does for_the_lock (notifies 1)) × (next_of x g ≡ next.End (Refused why))
-    refused_at place.RefuseNotifyMemory Done why e d none plain = (refl, ap next.End (some_eq d))
-    refused_at place.RefuseNotifyMemory _ why e d none plain = absurd e
-    refused_at place.RefuseNotifyStarved Done why e d none plain = (refl, ap next.End (some_eq d))
-    refused_at place.RefuseNotifyStarved _ why e d none plain = absurd e
-    refused_at place.RefuseUncount g why e d none plain = absurd (omega (arith, plain))
-    refused_at (place.RefuseLeave told) g why e d none plain = absurd (omega (arith, none))
-    refused_at place.Out g why e d none plain = absurd (cc d)
-    refused_at place.Leave g why e d none plain = absurd (cc d)
-    refused_at (place.Uncount b) g why e d none plain = absurd (cc d)
-    refused_at place.Clear g why e d none plain = absurd (cc d)
-    refused_at place.ReleaseNotify g why e d none plain = absurd (cc d)
-    refused_at place.CancelUncount g why e d none plain = absurd (cc d)
-    refused_at place.CancelLeave g why e d none plain = absurd (cc d)
+    refused_at : (x : Place) (g : Found) (why : Refusal) → Finds memory (action_of x) g l → decision x ≡ Some (Refused why) → listed x ≡ 0 → counted x ≡ 0 → (deed_of (action_of x) g ≡ does for_the_lock (notifies 1)) × (next_of x g ≡ Next.End (Refused why))
+    refused_at Place.RefuseNotifyMemory Done why e d none plain = (refl, ap Next.End (some_eq d))
+    refused_at Place.RefuseNotifyMemory _ why e d none plain = absurd e
+    refused_at Place.RefuseNotifyStarved Done why e d none plain = (refl, ap Next.End (some_eq d))
+    refused_at Place.RefuseNotifyStarved _ why e d none plain = absurd e
+    refused_at Place.RefuseUncount g why e d none plain = absurd (omega (arith, plain))
+    refused_at (Place.RefuseLeave told) g why e d none plain = absurd (omega (arith, none))
+    refused_at Place.Out g why e d none plain = absurd (cc d)
+    refused_at Place.Leave g why e d none plain = absurd (cc d)
+    refused_at (Place.Uncount b) g why e d none plain = absurd (cc d)
+    refused_at Place.Clear g why e d none plain = absurd (cc d)
+    refused_at Place.ReleaseNotify g why e d none plain = absurd (cc d)
+    refused_at Place.CancelUncount g why e d none plain = absurd (cc d)
+    refused_at Place.CancelLeave g why e d none plain = absurd (cc d)
     refused_at _ g why e d none plain = absurd (none_some d)
 
     decided : decided_then (next_of from f) (place_at new.places p) ≡ decision_by (next_of from f)
@@ -347,32 +312,32 @@ begun_at : (a b : Place) → Some a ≡ Some b → b ≡ a
 begun_at a b e = sym (some_eq e)
 
 pub begins_decided : (c : LockCall) (here from : Place) → start_of c here ≡ Some from → decision from ≡ decided_by c
-begins_decided call.Lock Out from e = ap decision (begun_at _ _ e)
-begins_decided call.Lock _ from e = absurd (none_some e)
-begins_decided call.Try Out from e = ap decision (begun_at _ _ e)
-begins_decided call.Try _ from e = absurd (none_some e)
-begins_decided call.Poll Out from e = ap decision (begun_at _ _ e)
-begins_decided call.Poll Ask from e = ap decision (begun_at _ _ e)
-begins_decided call.Poll AskStarved from e = ap decision (begun_at _ _ e)
-begins_decided call.Poll _ from e = absurd (none_some e)
-begins_decided call.Release Holding from e = ap decision (begun_at _ _ e)
-begins_decided call.Release _ from e = absurd (none_some e)
-begins_decided call.Cancel Out from e = ap decision (begun_at _ _ e)
-begins_decided call.Cancel Ask from e = ap decision (begun_at _ _ e)
-begins_decided call.Cancel AskStarved from e = ap decision (begun_at _ _ e)
-begins_decided call.Cancel _ from e = absurd (none_some e)
+begins_decided LockCall.Lock Out from e = ap decision (begun_at _ _ e)
+begins_decided LockCall.Lock _ from e = absurd (none_some e)
+begins_decided LockCall.Try Out from e = ap decision (begun_at _ _ e)
+begins_decided LockCall.Try _ from e = absurd (none_some e)
+begins_decided LockCall.Poll Out from e = ap decision (begun_at _ _ e)
+begins_decided LockCall.Poll Ask from e = ap decision (begun_at _ _ e)
+begins_decided LockCall.Poll AskStarved from e = ap decision (begun_at _ _ e)
+begins_decided LockCall.Poll _ from e = absurd (none_some e)
+begins_decided LockCall.Release Holding from e = ap decision (begun_at _ _ e)
+begins_decided LockCall.Release _ from e = absurd (none_some e)
+begins_decided LockCall.Cancel Out from e = ap decision (begun_at _ _ e)
+begins_decided LockCall.Cancel Ask from e = ap decision (begun_at _ _ e)
+begins_decided LockCall.Cancel AskStarved from e = ap decision (begun_at _ _ e)
+begins_decided LockCall.Cancel _ from e = absurd (none_some e)
 
 not_fresh : (n : ℕ) → n ≡ 1 → (n == 0) ≡ true → ⊥
 not_fresh n e h = grind (arith, nat_tests)
 
 pub begins_fresh : (c : LockCall) (here from : Place) (n : ℕ) → n ≡ listed here → start_of c here ≡ Some from → is_fresh c n ≡ true → (from ≡ Enter) ⊎ (from ≡ Try)
-begins_fresh call.Lock Out from n l e h = inl (begun_at _ _ e)
-begins_fresh call.Lock _ from n l e h = absurd (none_some e)
-begins_fresh call.Try Out from n l e h = inr (begun_at _ _ e)
-begins_fresh call.Try _ from n l e h = absurd (none_some e)
-begins_fresh call.Poll Out from n l e h = inl (begun_at _ _ e)
-begins_fresh call.Poll Ask from n l e h = absurd (not_fresh n l h)
-begins_fresh call.Poll AskStarved from n l e h = absurd (not_fresh n l h)
-begins_fresh call.Poll _ from n l e h = absurd (cc)
-begins_fresh call.Release _ from n l e h = absurd (cc)
-begins_fresh call.Cancel _ from n l e h = absurd (cc)
+begins_fresh LockCall.Lock Out from n l e h = inl (begun_at _ _ e)
+begins_fresh LockCall.Lock _ from n l e h = absurd (none_some e)
+begins_fresh LockCall.Try Out from n l e h = inr (begun_at _ _ e)
+begins_fresh LockCall.Try _ from n l e h = absurd (none_some e)
+begins_fresh LockCall.Poll Out from n l e h = inl (begun_at _ _ e)
+begins_fresh LockCall.Poll Ask from n l e h = absurd (not_fresh n l h)
+begins_fresh LockCall.Poll AskStarved from n l e h = absurd (not_fresh n l h)
+begins_fresh LockCall.Poll _ from n l e h = absurd (cc)
+begins_fresh LockCall.Release _ from n l e h = absurd (cc)
+begins_fresh LockCall.Cancel _ from n l e h = absurd (cc)

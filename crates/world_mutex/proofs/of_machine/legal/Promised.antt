@@ -1,34 +1,7 @@
 -- What the actions of a poll lead to: who isn't starving isn't counted while nobody is, and who was told and is refused notifies.
-use Rattle.std.proofs.Common.{◌≡◌, ℕ, ◌+◌, ◌<◌, ◌≤◌, Bool, true, false, List, length, refl, arith, ap, sym, ◌∙◌, subst, get_or-set_same}
-use Rattle.std.proofs.lemmas.Bool.{false≢true}
-use Rattle.world_base.proofs.Equations.{some_eq, none_some}
-use Rattle.std.proofs.Math.ListN.{set}
-use Rattle.std.proofs.lemmas.List.Sums.{sum_by-set, get_or-le-sum_by}
-use Rattle.std.specs.List.{sum_by}
-use Rattle.lock_event.specs.declared.event.Entry.{Entry}
-use Rattle.lock_event.specs.Lists.{marked_count}
-use Rattle.lock_program.specs.declared.refusal.Refusal.{Refusal}
-use Rattle.lock_program.specs.declared.mutex.Place.{Place}
-use Rattle.lock_program.specs.declared.mutex.Place.TheVariants.{Out, Holding, Enter, Try, Clear, CancelUncount, CancelLeave, Join, Look, Ask, Retry, PassOn, Count, JoinStarved, LookAlone, PassOnListed, AskStarved, Seize, Uncount, Leave, RefuseUncount, RefuseLeave, RefuseNotifyMemory, RefuseNotifyStarved, ReleaseNotify}
-use Rattle.lock_program.specs.declared.mutex.LockCall.TheVariants as call
-use Rattle.lock_program.specs.declared.mutex.Action.{Action}
-use Rattle.lock_program.specs.declared.mutex.Action.TheVariants as act
-use Rattle.lock_program.specs.declared.mutex.Found.{Found}
-use Rattle.lock_program.specs.declared.mutex.Found.TheVariants.{Done, Free, Held, SomeStarved, AtLimit, NoMemory, Yes, No}
-use Rattle.world_mutex.specs.declared.program.led.Next.{Next}
-use Rattle.world_mutex.specs.declared.program.led.Next.TheVariants as next
-use Rattle.lock_program.specs.declared.end.End.{End}
-use Rattle.lock_program.specs.declared.end.End.TheVariants.{Got, Pending, NotFree, GivenBack, Refused}
+use Rattle.world_mutex.proofs.Prelude.{◌≡◌, ℕ, ◌+◌, ◌<◌, ◌≤◌, Bool, true, false, List, length, refl, arith, ap, sym, ◌∙◌, subst, get_or-set_same, false≢true, some_eq, none_some, set, sum_by-set, get_or-le-sum_by, sum_by, Entry, marked_count, Refusal, Place, Out, Holding, Enter, Try, Clear, CancelUncount, CancelLeave, Join, Look, Ask, Retry, PassOn, Count, JoinStarved, LookAlone, PassOnListed, AskStarved, Seize, Uncount, Leave, RefuseUncount, RefuseLeave, RefuseNotifyMemory, RefuseNotifyStarved, ReleaseNotify, LockCall, Action, Found, Done, Free, Held, SomeStarved, AtLimit, NoMemory, Yes, No, Next, End, Got, Pending, NotFree, GivenBack, Refused, start_of, action_of, next_of, place_after, counted, OnParties, is_waiting, is_counting, is_told, HeedsClock, Lock, SameRoles, place_at, Acts, Finds, starved, decided_then, IsUnrefused, notified_marked}
 use Rattle.std.specs.Prelude.{Option, Some}
-use Rattle.world_mutex.specs.program.Program.{start_of, action_of, next_of, place_after}
-use Rattle.lock_program.specs.MutexRoles.{counted}
-use Rattle.world_mutex.specs.machine.Parties.{OnParties}
-use Rattle.world_mutex.specs.machine.Courses.{is_waiting, is_counting, is_told, HeedsClock}
-use Rattle.world_mutex.specs.machine.Machine.{Lock, SameRoles, place_at}
-use Rattle.world_mutex.specs.machine.Acts.{Acts, Finds, starved}
-use Rattle.world_mutex.specs.machine.Legal.{decided_then, IsUnrefused}
 use Rattle.world_mutex.proofs.of_machine.laws.Kept.{after}
-use Rattle.world_base.proofs.Lists.{notified_marked}
 
 -- ---- nobody is counted while nobody is starved
 
@@ -92,28 +65,28 @@ some_place x y e = some_eq e
 
 -- no call begins where its party is about to be counted
 pub begins_uncounted : (c : _) (x from : Place) → start_of c x ≡ Some from → is_counting from ≡ false
-begins_uncounted call.Lock Out from e = ap is_counting (sym (some_place Enter from e))
-begins_uncounted call.Try Out from e = ap is_counting (sym (some_place Try from e))
-begins_uncounted call.Poll Out from e = ap is_counting (sym (some_place Enter from e))
-begins_uncounted call.Poll Ask from e = ap is_counting (sym (some_place Ask from e))
-begins_uncounted call.Poll AskStarved from e = ap is_counting (sym (some_place AskStarved from e))
-begins_uncounted call.Release Holding from e = ap is_counting (sym (some_place Clear from e))
-begins_uncounted call.Cancel Out from e = ap is_counting (sym (some_place Out from e))
-begins_uncounted call.Cancel Ask from e = ap is_counting (sym (some_place CancelLeave from e))
-begins_uncounted call.Cancel AskStarved from e = ap is_counting (sym (some_place CancelUncount from e))
+begins_uncounted LockCall.Lock Out from e = ap is_counting (sym (some_place Enter from e))
+begins_uncounted LockCall.Try Out from e = ap is_counting (sym (some_place Try from e))
+begins_uncounted LockCall.Poll Out from e = ap is_counting (sym (some_place Enter from e))
+begins_uncounted LockCall.Poll Ask from e = ap is_counting (sym (some_place Ask from e))
+begins_uncounted LockCall.Poll AskStarved from e = ap is_counting (sym (some_place AskStarved from e))
+begins_uncounted LockCall.Release Holding from e = ap is_counting (sym (some_place Clear from e))
+begins_uncounted LockCall.Cancel Out from e = ap is_counting (sym (some_place Out from e))
+begins_uncounted LockCall.Cancel Ask from e = ap is_counting (sym (some_place CancelLeave from e))
+begins_uncounted LockCall.Cancel AskStarved from e = ap is_counting (sym (some_place CancelUncount from e))
 begins_uncounted _ _ from e = absurd (none_some e)
 
 -- no call begins where the clock matters
 pub begins_heedless : (c : _) (x from : Place) (n : Next) (b : Bool) → start_of c x ≡ Some from → HeedsClock b from n
-begins_heedless call.Lock Out from n b e = let H : Place → Type 0 = λ y. HeedsClock b y n in subst H (some_place Enter from e) tt
-begins_heedless call.Try Out from n b e = let H : Place → Type 0 = λ y. HeedsClock b y n in subst H (some_place Try from e) tt
-begins_heedless call.Poll Out from n b e = let H : Place → Type 0 = λ y. HeedsClock b y n in subst H (some_place Enter from e) tt
-begins_heedless call.Poll Ask from n b e = let H : Place → Type 0 = λ y. HeedsClock b y n in subst H (some_place Ask from e) tt
-begins_heedless call.Poll AskStarved from n b e = let H : Place → Type 0 = λ y. HeedsClock b y n in subst H (some_place AskStarved from e) tt
-begins_heedless call.Release Holding from n b e = let H : Place → Type 0 = λ y. HeedsClock b y n in subst H (some_place Clear from e) tt
-begins_heedless call.Cancel Out from n b e = let H : Place → Type 0 = λ y. HeedsClock b y n in subst H (some_place Out from e) tt
-begins_heedless call.Cancel Ask from n b e = let H : Place → Type 0 = λ y. HeedsClock b y n in subst H (some_place CancelLeave from e) tt
-begins_heedless call.Cancel AskStarved from n b e = let H : Place → Type 0 = λ y. HeedsClock b y n in subst H (some_place CancelUncount from e) tt
+begins_heedless LockCall.Lock Out from n b e = let H : Place → Type 0 = λ y. HeedsClock b y n in subst H (some_place Enter from e) tt
+begins_heedless LockCall.Try Out from n b e = let H : Place → Type 0 = λ y. HeedsClock b y n in subst H (some_place Try from e) tt
+begins_heedless LockCall.Poll Out from n b e = let H : Place → Type 0 = λ y. HeedsClock b y n in subst H (some_place Enter from e) tt
+begins_heedless LockCall.Poll Ask from n b e = let H : Place → Type 0 = λ y. HeedsClock b y n in subst H (some_place Ask from e) tt
+begins_heedless LockCall.Poll AskStarved from n b e = let H : Place → Type 0 = λ y. HeedsClock b y n in subst H (some_place AskStarved from e) tt
+begins_heedless LockCall.Release Holding from n b e = let H : Place → Type 0 = λ y. HeedsClock b y n in subst H (some_place Clear from e) tt
+begins_heedless LockCall.Cancel Out from n b e = let H : Place → Type 0 = λ y. HeedsClock b y n in subst H (some_place Out from e) tt
+begins_heedless LockCall.Cancel Ask from n b e = let H : Place → Type 0 = λ y. HeedsClock b y n in subst H (some_place CancelLeave from e) tt
+begins_heedless LockCall.Cancel AskStarved from n b e = let H : Place → Type 0 = λ y. HeedsClock b y n in subst H (some_place CancelUncount from e) tt
 begins_heedless _ _ from n b e = absurd (none_some e)
 
 pub none_counted : (memory : Bool) (p : ℕ) (from : Place) (n : Next) (old new : Lock) → Acts memory p from n old new → HeedsClock false from n → p < length old.places → SameRoles from (place_at old.places p) → starved old ≡ 0 → is_counting from ≡ false
@@ -136,9 +109,9 @@ none_counted memory p from n old new acts clock there same none not_next =
 
 -- what an action of a told party leads to: it is told still, or its call ends, and if by a refusal then after a notification
 abbrev StaysTold : Action → Next → Type 0
-StaysTold a (next.Do b to) = is_told to ≡ true
-StaysTold a (next.End (Refused r)) = a ≡ act.Notify
-StaysTold a (next.End e) = Unit {0}
+StaysTold a (Next.Do b to) = is_told to ≡ true
+StaysTold a (Next.End (Refused r)) = a ≡ Action.Notify
+StaysTold a (Next.End e) = Unit {0}
 
 stays : (memory : Bool) (l : Lock) (from : Place) (f : Found) → Finds memory (action_of from) f l → is_told from ≡ true → StaysTold (action_of from) (next_of from f)
 stays memory l Retry Free e t = tt
@@ -191,25 +164,25 @@ stays memory l _ _ e t = absurd e
 
 -- what becomes of a told party's call: it goes on as told, or ends; and where it is refused some entry is marked, if there is any
 abbrev pub HandsOn : Next → Place → List (Entry ℕ) → Type 0
-HandsOn (next.Do b to) at l = is_told at ≡ true
-HandsOn (next.End (Refused r)) at l = 0 < length l → 0 < marked_count l
-HandsOn (next.End e) at l = Unit {0}
+HandsOn (Next.Do b to) at l = is_told at ≡ true
+HandsOn (Next.End (Refused r)) at l = 0 < length l → 0 < marked_count l
+HandsOn (Next.End e) at l = Unit {0}
 
-pub notified_now : (p : ℕ) (a : Action) (f : Found) (l m : List (Entry ℕ)) → a ≡ act.Notify → OnParties p a f l m → 0 < length m → 0 < marked_count m
+pub notified_now : (p : ℕ) (a : Action) (f : Found) (l m : List (Entry ℕ)) → a ≡ Action.Notify → OnParties p a f l m → 0 < length m → 0 < marked_count m
 notified_now p a f l m e o some =
     let P : Action → Type 0 = λ b. OnParties p b f l m in
     notified_marked l m (subst P e o) some
 
-handed : (p : ℕ) (a : Action) (f : Found) (n : Next) (at : Place) (l m : List (Entry ℕ)) → StaysTold a n → ((b : Action) (to : Place) → n ≡ next.Do b to → at ≡ to) → OnParties p a f l m → HandsOn n at m
-handed p a f (next.Do b to) at l m s leads o = ap is_told (leads b to refl) ∙ s
-handed p a f (next.End (Refused r)) at l m s leads o = notified_now p a f l m s o
-handed p a f (next.End Got) at l m s leads o = tt
-handed p a f (next.End Pending) at l m s leads o = tt
-handed p a f (next.End NotFree) at l m s leads o = tt
-handed p a f (next.End GivenBack) at l m s leads o = tt
-handed p a f (next.End _) at l m s leads o = tt
+handed : (p : ℕ) (a : Action) (f : Found) (n : Next) (at : Place) (l m : List (Entry ℕ)) → StaysTold a n → ((b : Action) (to : Place) → n ≡ Next.Do b to → at ≡ to) → OnParties p a f l m → HandsOn n at m
+handed p a f (Next.Do b to) at l m s leads o = ap is_told (leads b to refl) ∙ s
+handed p a f (Next.End (Refused r)) at l m s leads o = notified_now p a f l m s o
+handed p a f (Next.End Got) at l m s leads o = tt
+handed p a f (Next.End Pending) at l m s leads o = tt
+handed p a f (Next.End NotFree) at l m s leads o = tt
+handed p a f (Next.End GivenBack) at l m s leads o = tt
+handed p a f (Next.End _) at l m s leads o = tt
 
-at_next : (from : Place) (n : Next) (b : Action) (to : Place) → n ≡ next.Do b to → place_after from n ≡ to
+at_next : (from : Place) (n : Next) (b : Action) (to : Place) → n ≡ Next.Do b to → place_after from n ≡ to
 at_next from n b to e = rw e refl
 
 -- an action of a told party hands on
@@ -220,7 +193,7 @@ told_on memory p from n old new acts there told =
     handed p (action_of from) acts.found n (place_at new.places p) old.entries new.entries (subst S (sym acts.next_is) (stays memory old from acts.found acts.finds told)) (λ b to e. lands ∙ at_next from n b to e) acts.list
 
 -- a poll of a party that waits begins as one that may be told
-pub begins_told : (x from : Place) → is_waiting x ≡ true → start_of call.Poll x ≡ Some from → is_told from ≡ true
+pub begins_told : (x from : Place) → is_waiting x ≡ true → start_of LockCall.Poll x ≡ Some from → is_told from ≡ true
 begins_told Ask from w e = ap is_told (sym (some_place Ask from e))
 begins_told AskStarved from w e = ap is_told (sym (some_place AskStarved from e))
 begins_told _ from w e = absurd (false≢true w)
@@ -277,15 +250,15 @@ begins_at memory l ReleaseNotify f r e s h = false≢true s
 begins_at memory l _ _ r e s h = absurd e
 
 starts_at : (c : _) (x from : Place) → start_of c x ≡ Some from → is_start from ≡ true
-starts_at call.Lock Out from e = ap is_start (sym (some_place Enter from e))
-starts_at call.Try Out from e = ap is_start (sym (some_place Try from e))
-starts_at call.Poll Out from e = ap is_start (sym (some_place Enter from e))
-starts_at call.Poll Ask from e = ap is_start (sym (some_place Ask from e))
-starts_at call.Poll AskStarved from e = ap is_start (sym (some_place AskStarved from e))
-starts_at call.Release Holding from e = ap is_start (sym (some_place Clear from e))
-starts_at call.Cancel Out from e = ap is_start (sym (some_place Out from e))
-starts_at call.Cancel Ask from e = ap is_start (sym (some_place CancelLeave from e))
-starts_at call.Cancel AskStarved from e = ap is_start (sym (some_place CancelUncount from e))
+starts_at LockCall.Lock Out from e = ap is_start (sym (some_place Enter from e))
+starts_at LockCall.Try Out from e = ap is_start (sym (some_place Try from e))
+starts_at LockCall.Poll Out from e = ap is_start (sym (some_place Enter from e))
+starts_at LockCall.Poll Ask from e = ap is_start (sym (some_place Ask from e))
+starts_at LockCall.Poll AskStarved from e = ap is_start (sym (some_place AskStarved from e))
+starts_at LockCall.Release Holding from e = ap is_start (sym (some_place Clear from e))
+starts_at LockCall.Cancel Out from e = ap is_start (sym (some_place Out from e))
+starts_at LockCall.Cancel Ask from e = ap is_start (sym (some_place CancelLeave from e))
+starts_at LockCall.Cancel AskStarved from e = ap is_start (sym (some_place CancelUncount from e))
 starts_at _ _ from e = absurd (none_some e)
 
 pub begins_unrefused : (memory : Bool) (p : ℕ) (c : _) (x from : Place) (n : Next) (old new : Lock) → start_of c x ≡ Some from → Acts memory p from n old new → p < length old.places → IsUnrefused n (place_at new.places p)

@@ -1,35 +1,12 @@
 -- What the courses of the parties' calls tell of the places behind them.
-use Rattle.std.proofs.Common.{◌≡◌, ℕ, ◌+◌, ◌<◌, Bool, true, false, zero, suc, List, [], ◌∷◌, length, map, replicate, get_or, Option, Some, None, IsSome, IsSomeAnd, refl, sym, ap, arith, ◌∙◌}
-use Rattle.std.proofs.lemmas.Bool.{false≢true}
-use Rattle.std.proofs.Math.ListN.{set}
+use Rattle.world_mutex.proofs.Prelude.{◌≡◌, ℕ, ◌+◌, ◌<◌, Bool, true, false, zero, suc, List, [], ◌∷◌, length, map, replicate, get_or, Option, Some, None, IsSome, IsSomeAnd, refl, sym, ap, arith, ◌∙◌, false≢true, set, sum_by, sum_by-cons, Memory, Starved, Place, LockCall, Action, Found, Done, Free, Held, AtLimit, Yes, End, Got, Pending, NotFree, GivenBack, Refused, Next, Step, start_of, place_after, step_of, Lock, place_at, new_lock, conceal, Acts, left, is_own_marked, is_open, Course, out, is_taking, is_releasing, is_cancelling, is_called, may_begin, Begins, Mutex, new_mutex, course_at, course_of, is_kept, AreKept, steps_from, seen}
 use Rattle.std.specs.Prelude.{◌==◌, if◌then◌else◌}
-use Rattle.std.specs.List.{sum_by}
-use Rattle.std.proofs.lemmas.List.Sums.{sum_by-cons}
-use Rattle.lock_program.specs.declared.refusal.Refusal.TheVariants.{Memory, Starved}
-use Rattle.lock_program.specs.declared.mutex.Place.{Place}
-use Rattle.lock_program.specs.declared.mutex.Place.TheVariants as place
-use Rattle.lock_program.specs.declared.mutex.LockCall.{LockCall}
-use Rattle.lock_program.specs.declared.mutex.LockCall.TheVariants as call
-use Rattle.lock_program.specs.declared.mutex.Action.{Action}
-use Rattle.lock_program.specs.declared.mutex.Found.{Found}
-use Rattle.lock_program.specs.declared.mutex.Found.TheVariants.{Done, Free, Held, AtLimit, Yes}
-use Rattle.lock_program.specs.declared.end.End.{End}
-use Rattle.lock_program.specs.declared.end.End.TheVariants.{Got, Pending, NotFree, GivenBack, Refused}
-use Rattle.world_mutex.specs.declared.program.led.Next.{Next}
-use Rattle.world_mutex.specs.declared.program.led.Next.TheVariants as next
-use Rattle.lock_program.specs.declared.mutex.Step.TheVariants as step
-use Rattle.world_mutex.specs.program.Program.{start_of, place_after, step_of}
 use Rattle.lock_program.specs.MutexRoles as by
 use Rattle.world_mutex.specs.machine.Courses as way
 use Rattle.world_mutex.specs.machine.Legal as legal
 use Rattle.world_mutex.specs.machine.State as state
-use Rattle.world_mutex.specs.machine.Machine.{Lock, place_at, new_lock}
-use Rattle.world_mutex.specs.machine.Behind.{conceal}
-use Rattle.world_mutex.specs.machine.Acts.{Acts}
-use Rattle.world_mutex.specs.machine.Ranks.{left, is_own_marked, is_open}
-use Rattle.world_mutex.specs.machine.Course.{Course, out, holds, counted, listed, decision, is_waiting, is_taking, is_releasing, is_cancelling, is_resting, is_told, is_counting, is_called, is_due, may_tell, may_begin, Takes, Tries, Releases, Cancels, Begins, GoesOn}
-use Rattle.world_mutex.specs.machine.Mutex.{Mutex, new_mutex, course_at, is_holder, is_counted, holder_from}
-use Rattle.world_mutex.specs.machine.Seen.{course_of, is_kept, AreKept, steps_from, seen}
+use Rattle.world_mutex.specs.machine.Course.{holds, counted, listed, decision, is_waiting, is_resting, is_told, is_counting, is_due, may_tell, Takes, Tries, Releases, Cancels, GoesOn}
+use Rattle.world_mutex.specs.machine.Mutex.{is_holder, is_counted, holder_from}
 use Rattle.world_mutex.proofs.of_machine.laws.Kept.{after}
 
 -- what a party has, and how far its call is
@@ -53,38 +30,38 @@ by_course x = record { holds = holds x; counted = counted x; listed = listed x; 
 
 -- both say the same
 same : (x : Place) → by_course (course_of x) ≡ by_place x
-same place.Out = refl
-same place.Holding = refl
-same place.Enter = refl
-same place.Try = refl
-same place.Clear = refl
-same place.CancelUncount = refl
-same place.CancelLeave = refl
-same place.Ask = refl
-same place.Retry = refl
-same place.PassOn = refl
-same place.JoinStarved = refl
-same place.LookAlone = refl
-same place.PassOnListed = refl
-same place.AskStarved = refl
-same place.Seize = refl
-same place.Leave = refl
-same place.RefuseUncount = refl
-same place.RefuseNotifyMemory = refl
-same place.RefuseNotifyStarved = refl
-same place.ReleaseNotify = refl
-same (place.Join true) = refl
-same (place.Join false) = refl
-same (place.Look true) = refl
-same (place.Look false) = refl
-same (place.RefuseLeave true) = refl
-same (place.RefuseLeave false) = refl
-same (place.Count true true) = refl
-same (place.Count true false) = refl
-same (place.Count false true) = refl
-same (place.Count false false) = refl
-same (place.Uncount true) = refl
-same (place.Uncount false) = refl
+same Place.Out = refl
+same Place.Holding = refl
+same Place.Enter = refl
+same Place.Try = refl
+same Place.Clear = refl
+same Place.CancelUncount = refl
+same Place.CancelLeave = refl
+same Place.Ask = refl
+same Place.Retry = refl
+same Place.PassOn = refl
+same Place.JoinStarved = refl
+same Place.LookAlone = refl
+same Place.PassOnListed = refl
+same Place.AskStarved = refl
+same Place.Seize = refl
+same Place.Leave = refl
+same Place.RefuseUncount = refl
+same Place.RefuseNotifyMemory = refl
+same Place.RefuseNotifyStarved = refl
+same Place.ReleaseNotify = refl
+same (Place.Join true) = refl
+same (Place.Join false) = refl
+same (Place.Look true) = refl
+same (Place.Look false) = refl
+same (Place.RefuseLeave true) = refl
+same (Place.RefuseLeave false) = refl
+same (Place.Count true true) = refl
+same (Place.Count true false) = refl
+same (Place.Count false true) = refl
+same (Place.Count false false) = refl
+same (Place.Uncount true) = refl
+same (Place.Uncount false) = refl
 
 pub holds_same : (x : Place) → holds (course_of x) ≡ by.holds x
 holds_same x = ap (λ h. h.holds) (same x)
@@ -118,127 +95,127 @@ pub due_same : (x : Place) → is_due (course_of x) ≡ way.is_due x
 due_same x = ap (λ h. h.due) (same x)
 
 pub telling_same : (x : Place) → way.may_tell x ≡ true → may_tell (course_of x) ≡ true
-telling_same place.PassOn h = refl
-telling_same place.PassOnListed h = refl
-telling_same place.RefuseNotifyMemory h = refl
-telling_same place.RefuseNotifyStarved h = refl
-telling_same place.ReleaseNotify h = refl
+telling_same Place.PassOn h = refl
+telling_same Place.PassOnListed h = refl
+telling_same Place.RefuseNotifyMemory h = refl
+telling_same Place.RefuseNotifyStarved h = refl
+telling_same Place.ReleaseNotify h = refl
 telling_same _ h = absurd (cc h)
 
 pub decision_same : (x : Place) → is_kept x ≡ true → decision (course_of x) ≡ legal.decision x
-decision_same place.Out k = refl
-decision_same place.Holding k = refl
-decision_same place.Enter k = absurd (false≢true k)
-decision_same place.Try k = absurd (false≢true k)
-decision_same place.Clear k = absurd (false≢true k)
-decision_same place.CancelUncount k = refl
-decision_same place.CancelLeave k = refl
-decision_same place.Ask k = refl
-decision_same place.Retry k = refl
-decision_same place.PassOn k = refl
-decision_same place.JoinStarved k = refl
-decision_same place.LookAlone k = refl
-decision_same place.PassOnListed k = refl
-decision_same place.AskStarved k = refl
-decision_same place.Seize k = refl
-decision_same place.Leave k = refl
-decision_same place.RefuseUncount k = refl
-decision_same place.RefuseNotifyMemory k = refl
-decision_same place.RefuseNotifyStarved k = refl
-decision_same place.ReleaseNotify k = refl
-decision_same (place.Join told) k = refl
-decision_same (place.Look told) k = refl
-decision_same (place.RefuseLeave told) k = refl
-decision_same (place.Count listed told) k = refl
-decision_same (place.Uncount listed) k = refl
+decision_same Place.Out k = refl
+decision_same Place.Holding k = refl
+decision_same Place.Enter k = absurd (false≢true k)
+decision_same Place.Try k = absurd (false≢true k)
+decision_same Place.Clear k = absurd (false≢true k)
+decision_same Place.CancelUncount k = refl
+decision_same Place.CancelLeave k = refl
+decision_same Place.Ask k = refl
+decision_same Place.Retry k = refl
+decision_same Place.PassOn k = refl
+decision_same Place.JoinStarved k = refl
+decision_same Place.LookAlone k = refl
+decision_same Place.PassOnListed k = refl
+decision_same Place.AskStarved k = refl
+decision_same Place.Seize k = refl
+decision_same Place.Leave k = refl
+decision_same Place.RefuseUncount k = refl
+decision_same Place.RefuseNotifyMemory k = refl
+decision_same Place.RefuseNotifyStarved k = refl
+decision_same Place.ReleaseNotify k = refl
+decision_same (Place.Join told) k = refl
+decision_same (Place.Look told) k = refl
+decision_same (Place.RefuseLeave told) k = refl
+decision_same (Place.Count listed told) k = refl
+decision_same (Place.Uncount listed) k = refl
 
 -- whether it rests,
 pub rests_there : (x : Place) → is_kept x ≡ true → is_resting (course_of x) ≡ true → by.is_resting x ≡ true
-rests_there place.Out k h = refl
-rests_there place.Holding k h = refl
-rests_there place.Ask k h = refl
-rests_there place.AskStarved k h = refl
+rests_there Place.Out k h = refl
+rests_there Place.Holding k h = refl
+rests_there Place.Ask k h = refl
+rests_there Place.AskStarved k h = refl
 rests_there _ k h = absurd (cc)
 
 pub rests_here : (x : Place) → by.is_resting x ≡ true → is_resting (course_of x) ≡ true
-rests_here place.Out h = refl
-rests_here place.Holding h = refl
-rests_here place.Ask h = refl
-rests_here place.AskStarved h = refl
+rests_here Place.Out h = refl
+rests_here Place.Holding h = refl
+rests_here Place.Ask h = refl
+rests_here Place.AskStarved h = refl
 rests_here _ h = absurd (false≢true h)
 
 -- and which calls may begin there
 pub may_start : (c : LockCall) (x : Place) → is_kept x ≡ true → may_begin c (course_of x) ≡ true → IsSome (start_of c x)
-may_start call.Lock place.Out k h = refl
-may_start call.Try place.Out k h = refl
-may_start call.Poll place.Out k h = refl
-may_start call.Poll place.Ask k h = refl
-may_start call.Poll place.AskStarved k h = refl
-may_start call.Release place.Holding k h = refl
-may_start call.Cancel place.Out k h = refl
-may_start call.Cancel place.Ask k h = refl
-may_start call.Cancel place.AskStarved k h = refl
-may_start _ place.Enter k h = absurd (false≢true k)
-may_start _ place.Try k h = absurd (false≢true k)
-may_start _ place.Clear k h = absurd (false≢true k)
+may_start LockCall.Lock Place.Out k h = refl
+may_start LockCall.Try Place.Out k h = refl
+may_start LockCall.Poll Place.Out k h = refl
+may_start LockCall.Poll Place.Ask k h = refl
+may_start LockCall.Poll Place.AskStarved k h = refl
+may_start LockCall.Release Place.Holding k h = refl
+may_start LockCall.Cancel Place.Out k h = refl
+may_start LockCall.Cancel Place.Ask k h = refl
+may_start LockCall.Cancel Place.AskStarved k h = refl
+may_start _ Place.Enter k h = absurd (false≢true k)
+may_start _ Place.Try k h = absurd (false≢true k)
+may_start _ Place.Clear k h = absurd (false≢true k)
 may_start _ _ k h = absurd (false≢true h)
 
 -- a party that looks at the lock after a notification
-pub looks : (x : Place) → is_called (course_of x) ≡ true → x ≡ place.Retry
-looks place.Retry h = refl
+pub looks : (x : Place) → is_called (course_of x) ≡ true → x ≡ Place.Retry
+looks Place.Retry h = refl
 looks _ h = absurd (false≢true h)
 
 -- ---- where a step leaves its party
 
 -- a step leaves its party where one may be left
 kept_after : (x : Place) (f : Found) → is_kept (after x f) ≡ true
-kept_after place.Out f = refl
-kept_after place.Holding f = refl
-kept_after place.Enter Free = refl
-kept_after place.Enter _ = refl
-kept_after place.Try Free = refl
-kept_after place.Try _ = refl
-kept_after place.Clear f = refl
-kept_after place.CancelUncount f = refl
-kept_after place.CancelLeave f = refl
-kept_after (place.Join true) Done = refl
-kept_after (place.Join true) _ = refl
-kept_after (place.Join false) Done = refl
-kept_after (place.Join false) _ = refl
-kept_after (place.Look told) Free = refl
-kept_after (place.Look told) (Held b) = refl
-kept_after (place.Look told) _ = refl
-kept_after place.Ask Yes = refl
-kept_after place.Ask _ = refl
-kept_after place.Retry Free = refl
-kept_after place.Retry (Held true) = refl
-kept_after place.Retry (Held false) = refl
-kept_after place.Retry _ = refl
-kept_after place.PassOn f = refl
-kept_after (place.Count true told) AtLimit = refl
-kept_after (place.Count true told) _ = refl
-kept_after (place.Count false true) AtLimit = refl
-kept_after (place.Count false false) AtLimit = refl
-kept_after (place.Count false told) _ = refl
-kept_after place.JoinStarved Done = refl
-kept_after place.JoinStarved _ = refl
-kept_after place.LookAlone Free = refl
-kept_after place.LookAlone (Held b) = refl
-kept_after place.LookAlone _ = refl
-kept_after place.PassOnListed f = refl
-kept_after place.AskStarved Yes = refl
-kept_after place.AskStarved _ = refl
-kept_after place.Seize Free = refl
-kept_after place.Seize _ = refl
-kept_after (place.Uncount true) f = refl
-kept_after (place.Uncount false) f = refl
-kept_after place.Leave f = refl
-kept_after place.RefuseUncount f = refl
-kept_after (place.RefuseLeave true) f = refl
-kept_after (place.RefuseLeave false) f = refl
-kept_after place.RefuseNotifyMemory f = refl
-kept_after place.RefuseNotifyStarved f = refl
-kept_after place.ReleaseNotify f = refl
+kept_after Place.Out f = refl
+kept_after Place.Holding f = refl
+kept_after Place.Enter Free = refl
+kept_after Place.Enter _ = refl
+kept_after Place.Try Free = refl
+kept_after Place.Try _ = refl
+kept_after Place.Clear f = refl
+kept_after Place.CancelUncount f = refl
+kept_after Place.CancelLeave f = refl
+kept_after (Place.Join true) Done = refl
+kept_after (Place.Join true) _ = refl
+kept_after (Place.Join false) Done = refl
+kept_after (Place.Join false) _ = refl
+kept_after (Place.Look told) Free = refl
+kept_after (Place.Look told) (Held b) = refl
+kept_after (Place.Look told) _ = refl
+kept_after Place.Ask Yes = refl
+kept_after Place.Ask _ = refl
+kept_after Place.Retry Free = refl
+kept_after Place.Retry (Held true) = refl
+kept_after Place.Retry (Held false) = refl
+kept_after Place.Retry _ = refl
+kept_after Place.PassOn f = refl
+kept_after (Place.Count true told) AtLimit = refl
+kept_after (Place.Count true told) _ = refl
+kept_after (Place.Count false true) AtLimit = refl
+kept_after (Place.Count false false) AtLimit = refl
+kept_after (Place.Count false told) _ = refl
+kept_after Place.JoinStarved Done = refl
+kept_after Place.JoinStarved _ = refl
+kept_after Place.LookAlone Free = refl
+kept_after Place.LookAlone (Held b) = refl
+kept_after Place.LookAlone _ = refl
+kept_after Place.PassOnListed f = refl
+kept_after Place.AskStarved Yes = refl
+kept_after Place.AskStarved _ = refl
+kept_after Place.Seize Free = refl
+kept_after Place.Seize _ = refl
+kept_after (Place.Uncount true) f = refl
+kept_after (Place.Uncount false) f = refl
+kept_after Place.Leave f = refl
+kept_after Place.RefuseUncount f = refl
+kept_after (Place.RefuseLeave true) f = refl
+kept_after (Place.RefuseLeave false) f = refl
+kept_after Place.RefuseNotifyMemory f = refl
+kept_after Place.RefuseNotifyStarved f = refl
+kept_after Place.ReleaseNotify f = refl
 
 past_end : (ps : List Place) (p : ℕ) (y : Place) (q : ℕ) → AreKept ps → is_kept y ≡ true → is_kept (place_at (set ps p y) q) ≡ true
 past_end [] p y q k h = refl
@@ -254,45 +231,45 @@ acts_kept memory p from n l k kept a q =
     ap (λ ps. is_kept (place_at ps q)) there ∙ past_end l.places p y q kept (kept_after from a.found)
 
 -- a step told by its end came to this end
-pub ended : (n : Next) (e : End) → step.End e ≡ step_of n → n ≡ next.End e
-ended (next.Do a q) e h = absurd (cc)
-ended (next.End x) e h = let same : x ≡ e = cc in ap (λ y. next.End y) same
+pub ended : (n : Next) (e : End) → Step.End e ≡ step_of n → n ≡ Next.End e
+ended (Next.Do a q) e h = absurd (cc)
+ended (Next.End x) e h = let same : x ≡ e = cc in ap (λ y. Next.End y) same
 
-pub went_on : (n : Next) → step.More ≡ step_of n → (a : Action) × (q : Place) × (n ≡ next.Do a q)
-went_on (next.Do a q) h = (a, q, refl)
-went_on (next.End x) h = absurd (cc)
+pub went_on : (n : Next) → Step.More ≡ step_of n → (a : Action) × (q : Place) × (n ≡ Next.Do a q)
+went_on (Next.Do a q) h = (a, q, refl)
+went_on (Next.End x) h = absurd (cc)
 
 -- ---- courses of calls
 
 takes_so : (n : Next) (to : Place) → way.Takes n to → Takes (step_of n) (course_of to)
-takes_so (next.Do a q) to h = taking_same to ∙ h
-takes_so (next.End Got) to h = ap course_of h
-takes_so (next.End Pending) to h = waiting_same to ∙ h
-takes_so (next.End (Refused Memory)) to h = ap course_of h
-takes_so (next.End (Refused Starved)) to h = ap course_of h
-takes_so (next.End _) to h = absurd h
+takes_so (Next.Do a q) to h = taking_same to ∙ h
+takes_so (Next.End Got) to h = ap course_of h
+takes_so (Next.End Pending) to h = waiting_same to ∙ h
+takes_so (Next.End (Refused Memory)) to h = ap course_of h
+takes_so (Next.End (Refused Starved)) to h = ap course_of h
+takes_so (Next.End _) to h = absurd h
 
 tries_so : (n : Next) (to : Place) → way.Tries n to → Tries (step_of n) (course_of to)
-tries_so (next.End Got) to h = ap course_of h
-tries_so (next.End NotFree) to h = ap course_of h
+tries_so (Next.End Got) to h = ap course_of h
+tries_so (Next.End NotFree) to h = ap course_of h
 tries_so _ to h = absurd h
 
 releases_so : (n : Next) (to : Place) → way.Releases n to → Releases (step_of n) (course_of to)
-releases_so (next.Do a q) to h = releasing_same to ∙ h
-releases_so (next.End GivenBack) to h = ap course_of h
+releases_so (Next.Do a q) to h = releasing_same to ∙ h
+releases_so (Next.End GivenBack) to h = ap course_of h
 releases_so _ to h = absurd h
 
 cancels_so : (n : Next) (to : Place) → way.Cancels n to → Cancels (step_of n) (course_of to)
-cancels_so (next.Do a q) to h = cancelling_same to ∙ h
-cancels_so (next.End GivenBack) to h = ap course_of h
+cancels_so (Next.Do a q) to h = cancelling_same to ∙ h
+cancels_so (Next.End GivenBack) to h = ap course_of h
 cancels_so _ to h = absurd h
 
 pub begins_so : (c : LockCall) (n : Next) (to : Place) → way.Begins c n to → Begins c (step_of n) (course_of to)
-begins_so call.Lock n to h = takes_so n to h
-begins_so call.Poll n to h = takes_so n to h
-begins_so call.Try n to h = tries_so n to h
-begins_so call.Release n to h = releases_so n to h
-begins_so call.Cancel n to h = cancels_so n to h
+begins_so LockCall.Lock n to h = takes_so n to h
+begins_so LockCall.Poll n to h = takes_so n to h
+begins_so LockCall.Try n to h = tries_so n to h
+begins_so LockCall.Release n to h = releases_so n to h
+begins_so LockCall.Cancel n to h = cancels_so n to h
 
 pub goes_so : (at : Place) (n : Next) (to : Place) → way.GoesOn at n to → GoesOn (course_of at) (step_of n) (course_of to)
 goes_so at n to g = record {
@@ -343,30 +320,30 @@ steps_seen l p = steps_at l 0 l.places p ∙ ap (λ q. left (place_at l.places p
 
 -- no place has no steps left
 pub some_left : (x : Place) (marked free : Bool) → 0 < left x marked free
-some_left (place.Look told) m o = grind arith
-some_left place.Ask m o = grind arith
-some_left place.JoinStarved m o = grind arith
-some_left place.LookAlone m o = grind arith
-some_left place.PassOnListed m o = grind arith
-some_left place.AskStarved m o = grind arith
-some_left place.Seize m o = grind arith
-some_left (place.Count true told) m o = omega arith
-some_left (place.Count false told) m o = omega arith
-some_left (place.Uncount true) m o = omega arith
-some_left (place.Uncount false) m o = omega arith
+some_left (Place.Look told) m o = grind arith
+some_left Place.Ask m o = grind arith
+some_left Place.JoinStarved m o = grind arith
+some_left Place.LookAlone m o = grind arith
+some_left Place.PassOnListed m o = grind arith
+some_left Place.AskStarved m o = grind arith
+some_left Place.Seize m o = grind arith
+some_left (Place.Count true told) m o = omega arith
+some_left (Place.Count false told) m o = omega arith
+some_left (Place.Uncount true) m o = omega arith
+some_left (Place.Uncount false) m o = omega arith
 some_left _ m o = omega arith
 
 -- ---- a new mutex
 
-pub courses_new : (n : ℕ) → map course_of (replicate n place.Out) ≡ replicate n out
+pub courses_new : (n : ℕ) → map course_of (replicate n Place.Out) ≡ replicate n out
 courses_new zero = refl
 courses_new (suc n) = ap (λ l. out ∷ l) (courses_new n)
 
-pub steps_new : (l : Lock) (k n : ℕ) → steps_from l k (replicate n place.Out) ≡ replicate n 1
+pub steps_new : (l : Lock) (k n : ℕ) → steps_from l k (replicate n Place.Out) ≡ replicate n 1
 steps_new l k zero = refl
 steps_new l k (suc n) = ap (λ s. 1 ∷ s) (steps_new l (k + 1) n)
 
-pub kept_new : (n p : ℕ) → is_kept (place_at (replicate n place.Out) p) ≡ true
+pub kept_new : (n p : ℕ) → is_kept (place_at (replicate n Place.Out) p) ≡ true
 kept_new zero p = refl
 kept_new (suc n) zero = refl
 kept_new (suc n) (suc p) = kept_new n p

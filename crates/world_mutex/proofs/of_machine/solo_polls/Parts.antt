@@ -1,12 +1,6 @@
 -- Giving way, place by place, as Worlds say it.
-use Rattle.std.proofs.Common.{ℕ, ◌<◌, ap, arith, ◌∙◌}
-use Rattle.world_base.specs.queue.Parties.{entries_of}
+use Rattle.world_mutex.proofs.Prelude.{ℕ, ◌<◌, ap, arith, ◌∙◌, entries_of, some_listed, Pending, Lock, is_counted, starved_of, GaveWay}
 use Rattle.world_base.specs.Bounds as bounds
-use Rattle.world_base.proofs.Bounds.{some_listed}
-use Rattle.lock_program.specs.declared.end.End.TheVariants.{Pending}
-use Rattle.world_mutex.specs.machine.Machine.{Lock}
-use Rattle.world_mutex.specs.machine.State.{is_counted, starved_of}
-use Rattle.world_mutex.specs.machine.Solo.{GaveWay}
 use Rattle.world_mutex.proofs.of_machine.laws.Seen as sees
 
 -- the entries of parties that aren't starved are as many in the roster of the starved

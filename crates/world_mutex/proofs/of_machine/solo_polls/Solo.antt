@@ -1,27 +1,5 @@
 -- Where a poll leads that is carried out alone while the lock is free.
-use Rattle.std.proofs.Common.{◌≡◌, ◌≢◌, ℕ, ◌+◌, ◌<◌, ◌⊎◌, inl, inr, Bool, true, false, List, length, get_or, refl, ap, arith, subst, ◌∙◌, get_or-set_same, get_or-set_other, length-set}
-use Rattle.std.proofs.Math.ListN.{set}
-use Rattle.std.specs.List.{sum_by}
-use Rattle.std.proofs.lemmas.List.Sums.{sum_by-set}
-use Rattle.lock_event.specs.declared.event.Entry.{Entry}
-use Rattle.lock_event.specs.Lists.{is_marked_at, joined, notified, without}
-use Rattle.world_base.specs.queue.Parties.{is_party}
-use Rattle.lock_program.specs.declared.refusal.Refusal.TheVariants.{Starved}
-use Rattle.lock_program.specs.declared.mutex.Place.{Place}
-use Rattle.lock_program.specs.declared.mutex.Place.TheVariants.{Out, Ask, Retry, PassOn, Count, JoinStarved, LookAlone, PassOnListed, AskStarved, Seize, Uncount, RefuseNotifyStarved}
-use Rattle.lock_program.specs.declared.mutex.Action.TheVariants as act
-use Rattle.world_mutex.specs.declared.program.led.Next.{Next}
-use Rattle.world_mutex.specs.declared.program.led.Next.TheVariants as next
-use Rattle.lock_program.specs.declared.end.End.{End}
-use Rattle.lock_program.specs.declared.end.End.TheVariants.{Got, Pending, Refused}
-use Rattle.lock_program.specs.declared.mutex.Found.{Found}
-use Rattle.lock_program.specs.declared.mutex.Found.TheVariants.{Done, Free, Held, SomeStarved, AtLimit, NoMemory, Yes, No}
-use Rattle.world_mutex.specs.program.Program.{next_of, place_after, go_to, ends}
-use Rattle.lock_program.specs.MutexRoles.{holds, counted}
-use Rattle.world_mutex.specs.machine.Parties.{OnParties}
-use Rattle.world_mutex.specs.machine.Machine.{Lock, place_at}
-use Rattle.world_mutex.specs.machine.Acts.{Acts, Finds, holders, starved}
-use Rattle.world_mutex.specs.machine.Solo.{GoesOnAlone, last, step, Took}
+use Rattle.world_mutex.proofs.Prelude.{◌≡◌, ◌≢◌, ℕ, ◌+◌, ◌<◌, ◌⊎◌, inl, inr, Bool, true, false, List, length, get_or, refl, ap, arith, subst, ◌∙◌, get_or-set_same, get_or-set_other, length-set, set, sum_by, sum_by-set, Entry, is_marked_at, joined, notified, without, is_party, Starved, Place, Out, Ask, Retry, PassOn, Count, JoinStarved, LookAlone, PassOnListed, AskStarved, Seize, Uncount, RefuseNotifyStarved, Action, Next, End, Got, Pending, Refused, Found, Done, Free, Held, SomeStarved, AtLimit, NoMemory, Yes, No, next_of, place_after, go_to, ends, holds, counted, OnParties, Lock, place_at, Acts, Finds, holders, starved, GoesOnAlone, last, step, Took}
 
 module _ (p : ℕ) (l : Lock) where
   -- since l only this party has moved, and it stands at x
@@ -53,8 +31,8 @@ module _ (p : ℕ) (l : Lock) where
   module _ (memory : Bool) (e : End) (new : Lock) where
     -- what is left of a call after an action
     abbrev pub Rest : Next → Lock → Type 0
-    Rest (next.Do a q) m = GoesOnAlone memory p e new m
-    Rest (next.End x) m = (e ≡ x) × (new ≡ m)
+    Rest (Next.Do a q) m = GoesOnAlone memory p e new m
+    Rest (Next.End x) m = (e ≡ x) × (new ≡ m)
 
     -- the next action of a call from x, and the rest of it
     pub record Unfolded (x : Place) (m : Lock) : Type 0 where
@@ -65,8 +43,8 @@ module _ (p : ℕ) (l : Lock) where
       pub reached : Reached (place_after x next) mid
 
     unfolds_here : (m : Lock) → GoesOnAlone memory p e new m → (next : Next) × (mid : Lock) × Acts memory p (place_at m.places p) next m mid × Rest next mid
-    unfolds_here m (last old a) = (next.End e, new, a, (refl, refl))
-    unfolds_here m (step old mid a to acts on) = (next.Do a to, mid, acts, on)
+    unfolds_here m (last old a) = (Next.End e, new, a, (refl, refl))
+    unfolds_here m (step old mid a to acts on) = (Next.Do a to, mid, acts, on)
 
     pub unfolds : (x : Place) (m : Lock) → Reached x m → GoesOnAlone memory p e new m → Unfolded x m
     unfolds x m r g =
@@ -78,36 +56,36 @@ module _ (p : ℕ) (l : Lock) where
     along x m u n is = (subst (λ k. Rest k u.mid) is u.rest, subst (λ k. Reached (place_after x k) u.mid) is u.reached)
 
 -- what is found where nobody holds the lock
-sets : (memory : Bool) (f : Found) (m : Lock) → Finds memory act.Set f m → holders m ≡ 0 → next_of Seize f ≡ go_to (Uncount false)
+sets : (memory : Bool) (f : Found) (m : Lock) → Finds memory Action.Set f m → holders m ≡ 0 → next_of Seize f ≡ go_to (Uncount false)
 sets memory Free m e h = refl
 sets memory (Held b) m e h = absurd (omega arith)
 sets memory _ m e h = absurd e
 
-retakes : (memory : Bool) (f : Found) (m : Lock) → Finds memory act.Take f m → holders m ≡ 0 → (next_of Retry f ≡ ends Got) ⊎ ((next_of Retry f ≡ go_to PassOn) × (0 < starved m))
+retakes : (memory : Bool) (f : Found) (m : Lock) → Finds memory Action.Take f m → holders m ≡ 0 → (next_of Retry f ≡ ends Got) ⊎ ((next_of Retry f ≡ go_to PassOn) × (0 < starved m))
 retakes memory Free m e h = inl refl
 retakes memory (Held b) m e h = absurd (omega arith)
 retakes memory SomeStarved m e h = inr (refl, e)
 retakes memory _ m e h = absurd e
 
-looks : (memory : Bool) (f : Found) (m : Lock) → Finds memory act.TakeAlone f m → holders m ≡ 0 → 1 < starved m → next_of LookAlone f ≡ go_to PassOnListed
+looks : (memory : Bool) (f : Found) (m : Lock) → Finds memory Action.TakeAlone f m → holders m ≡ 0 → 1 < starved m → next_of LookAlone f ≡ go_to PassOnListed
 looks memory Free m e h some = absurd (omega arith)
 looks memory (Held b) m e h some = absurd (omega arith)
 looks memory SomeStarved m e h some = refl
 looks memory _ m e h some = absurd e
 
-counts : (memory : Bool) (f : Found) (m : Lock) → Finds memory act.Count f m → (next_of (Count false true) f ≡ go_to JoinStarved) ⊎ ((next_of (Count false true) f ≡ go_to RefuseNotifyStarved) × (starved m ≡ m.limit))
+counts : (memory : Bool) (f : Found) (m : Lock) → Finds memory Action.Count f m → (next_of (Count false true) f ≡ go_to JoinStarved) ⊎ ((next_of (Count false true) f ≡ go_to RefuseNotifyStarved) × (starved m ≡ m.limit))
 counts memory Done m e = inl refl
 counts memory AtLimit m e = inr (refl, e)
 counts memory _ m e = absurd e
 
 module _ (p : ℕ) (es fs : List (Entry ℕ)) where
-  rejoins : (memory : Bool) → memory ≡ true → (f : Found) (m : Lock) → Finds memory act.Join f m → OnParties p act.Join f es fs → (next_of JoinStarved f ≡ go_to LookAlone) × (fs ≡ joined es p)
+  rejoins : (memory : Bool) → memory ≡ true → (f : Found) (m : Lock) → Finds memory Action.Join f m → OnParties p Action.Join f es fs → (next_of JoinStarved f ≡ go_to LookAlone) × (fs ≡ joined es p)
   rejoins memory has Done m e o = (refl, o)
   rejoins memory has NoMemory m e o = absurd (cc (has, e))
   rejoins memory has _ m e o = absurd e
 
   -- a party that asks, and what it is told
-  asks : (memory : Bool) (f : Found) (m : Lock) → Finds memory act.Ask f m → OnParties p act.Ask f es fs
+  asks : (memory : Bool) (f : Found) (m : Lock) → Finds memory Action.Ask f m → OnParties p Action.Ask f es fs
       → ((f ≡ Yes) × (fs ≡ without (is_party p) es)) ⊎ ((f ≡ No) × (is_marked_at (is_party p) es ≡ false) × (fs ≡ es))
   asks memory Yes m e o = inl (refl, o.1)
   asks memory No m e o = inr (refl, o.0, o.1)

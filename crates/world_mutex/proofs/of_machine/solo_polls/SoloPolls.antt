@@ -1,34 +1,11 @@
 -- Polls in a row, each carried out alone while the lock is free.
-use Rattle.std.proofs.Common.{◌≡◌, ◌≢◌, ℕ, zero, suc, ◌+◌, ◌-◌, ◌<◌, ◌≤◌, ◌⊎◌, inl, inr, Bool, true, IsSomeAnd, List, [], ◌∷◌, length, refl, sym, ap, arith, subst, ◌∙◌}
-use Rattle.std.proofs.Math.Decide.{ℕ_discrete}
-use Rattle.std.specs.List.{sum_by}
-use Rattle.std.proofs.lemmas.List.Sums.{sum_by-cons}
-use Rattle.std.proofs.lemmas.Bool.Decides.{nat_tests}
-use Rattle.lock_event.specs.declared.event.Entry.{Entry}
+use Rattle.world_mutex.proofs.Prelude.{◌≡◌, ◌≢◌, ℕ, zero, suc, ◌+◌, ◌-◌, ◌<◌, ◌≤◌, ◌⊎◌, inl, inr, Bool, true, IsSomeAnd, List, [], ◌∷◌, length, refl, sym, ap, arith, subst, ◌∙◌, ℕ_discrete, sum_by, sum_by-cons, nat_tests, Entry, Waiting, Notified, entry, joined, notified, without, marked_count, mark_waiting, is_party, entries_of, Refusal, is_there, Place, Out, Holding, Ask, AskStarved, LockCall, Next, End, Got, Pending, Refused, start_of, holds, counted, listed, is_resting, is_waiting, Lock, place_at, Acts, IsMutex, IsAtRest, IsStarved, holders, starved, GoesOnAlone, last, step, PollsAlone, at_once, begun, IsCalled, unstarved, unstarved_listed, Took, GaveWay, PollsInTurn, SoloPolls}
 use Rattle.lock_event.specs.declared.event.Mark.{Mark}
-use Rattle.lock_event.specs.declared.event.Mark.TheVariants.{Waiting, Notified}
-use Rattle.lock_event.specs.Lists.{entry, joined, notified, without, marked_count, mark_waiting}
 use Rattle.lock_event.proofs.Marks.{length-mark_waiting}
 use Rattle.lock_event.proofs.Counts.{length-joined, length-without, marked_count-notified}
-use Rattle.world_base.specs.queue.Parties.{is_party, entries_of}
 use Rattle.world_base.proofs.of_queue.Rekeyed.{entries_of-joined, entries_of-mark_waiting, entries_of-without_own, entries_of-without_other}
 use Rattle.world_base.proofs.of_queue.Queues.{own_one, other_one}
-use Rattle.lock_program.specs.declared.refusal.Refusal.TheVariants as refusal
 pub use Rattle.world_base.proofs.Bounds.{first_marked}
-use Rattle.world_base.proofs.Lists.{is_there}
-use Rattle.lock_program.specs.declared.mutex.Place.{Place}
-use Rattle.lock_program.specs.declared.mutex.Place.TheVariants.{Out, Holding, Ask, AskStarved}
-use Rattle.lock_program.specs.declared.mutex.LockCall.TheVariants as call
-use Rattle.world_mutex.specs.declared.program.led.Next.{Next}
-use Rattle.world_mutex.specs.declared.program.led.Next.TheVariants as next
-use Rattle.lock_program.specs.declared.end.End.{End}
-use Rattle.lock_program.specs.declared.end.End.TheVariants.{Got, Pending, Refused}
-use Rattle.world_mutex.specs.program.Program.{start_of}
-use Rattle.lock_program.specs.MutexRoles.{holds, counted, listed, is_resting}
-use Rattle.world_mutex.specs.machine.Courses.{is_waiting}
-use Rattle.world_mutex.specs.machine.Machine.{Lock, place_at}
-use Rattle.world_mutex.specs.machine.Acts.{Acts, IsMutex, IsAtRest, IsStarved, holders, starved}
-use Rattle.world_mutex.specs.machine.Solo.{GoesOnAlone, last, step, PollsAlone, at_once, begun, IsCalled, unstarved, unstarved_listed, Took, GaveWay, PollsInTurn, SoloPolls}
 use Rattle.world_mutex.proofs.of_machine.laws.Laws.{resting_at}
 use Rattle.world_mutex.proofs.of_machine.solo_polls.Solo.{Reached, Gives, Ends, polls_unstarved, polls_starved, polls_free}
 
@@ -79,15 +56,15 @@ known_party [] p h = absurd (cc)
 known_party (x ∷ xs) zero h = omega arith
 known_party (x ∷ xs) (suc p) h = let more : p < length xs = known_party xs p h in omega arith
 
-begins_here : (memory : Bool) (p : ℕ) (x : Place) (n : Next) (old mid : Lock) → is_waiting x ≡ true → IsSomeAnd (start_of call.Poll x) (λ from. Acts memory p from n old mid) → Acts memory p x n old mid
+begins_here : (memory : Bool) (p : ℕ) (x : Place) (n : Next) (old mid : Lock) → is_waiting x ≡ true → IsSomeAnd (start_of LockCall.Poll x) (λ from. Acts memory p from n old mid) → Acts memory p x n old mid
 begins_here memory p Ask n old mid h a = a
 begins_here memory p AskStarved n old mid h a = a
 begins_here memory p _ n old mid h a = absurd (cc)
 
 -- the poll of a pending party goes on where it stands
 goes_on_here : (memory : Bool) (p : ℕ) (e : End) (new l : Lock) → is_waiting (place_at l.places p) ≡ true → PollsAlone memory p e new l → GoesOnAlone memory p e new l
-goes_on_here memory p e new l h (at_once old a) = last l (begins_here memory p (place_at l.places p) (next.End e) l new h a)
-goes_on_here memory p e new l h (begun old mid a to acts on) = step l mid a to (begins_here memory p (place_at l.places p) (next.Do a to) l mid h acts) on
+goes_on_here memory p e new l h (at_once old a) = last l (begins_here memory p (place_at l.places p) (Next.End e) l new h a)
+goes_on_here memory p e new l h (begun old mid a to acts on) = step l mid a to (begins_here memory p (place_at l.places p) (Next.Do a to) l mid h acts) on
 
 abbrev Owned : Lock → Type 0
 Owned l = (q : ℕ) → entries_of q l.entries ≡ listed (place_at l.places q)
@@ -148,7 +125,7 @@ module _ (p : ℕ) (l new : Lock) (own : entries_of p l.entries ≡ 1) where
           notified = λ many. rw g.0 (marked_count-notified (joined (told gone) p) (omega (arith, length-joined (told gone) p)));
           fewer = omega (arith, back_keyed AskStarved g.1 refl, gone_keyed AskStarved Ask here g.1);
         }
-    gave (Refused refusal.Starved) some g =
+    gave (Refused Refusal.Starved) some g =
         let sum : unstarved_listed new ≡ keyed (unstarved new) new.entries = keyed_is (unstarved new) new.entries in
         let now : keyed (unstarved new) new.entries ≡ keyed (unstarved new) (told (told gone)) = ap (keyed (unstarved new)) g.0 in
         let size : length new.entries ≡ length gone = ap length g.0 ∙ (told_length (told gone) ∙ told_length gone) in
@@ -181,7 +158,7 @@ module _ (p : ℕ) (l new : Lock) (own : entries_of p l.entries ≡ 1) where
         owned_by AskStarved back owned g.1 g.0
         (back_entries p ∙ (own_one p (told gone) ∙ (ap (λ n. 1 + n) (told_entries p gone) ∙ ap (λ n. 1 + n) none_of_it)))
         (λ q apart. back_entries q ∙ (other_one q p (told gone) apart ∙ (told_entries q gone ∙ entries_of-without_other q p l.entries apart)))
-    still_owned (Refused refusal.Starved) owned g =
+    still_owned (Refused Refusal.Starved) owned g =
         owned_by Out (told (told gone)) owned g.1 g.0
         (told_entries p (told gone) ∙ (told_entries p gone ∙ none_of_it))
         (λ q apart. told_entries q (told gone) ∙ (told_entries q gone ∙ entries_of-without_other q p l.entries apart))

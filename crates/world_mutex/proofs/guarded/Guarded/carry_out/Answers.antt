@@ -1,6 +1,5 @@
 -- What the lock does is one action of the machine, from the place at which the call begins or goes on.
-use Rattle.std.proofs.Common.{IsSomeAnd, refl, subst}
-use Rattle.world_mutex.specs.Guarded.{Guarded, Carried, place_of, place_for}
+use Rattle.world_mutex.proofs.Prelude.{IsSomeAnd, refl, subst, Guarded, Carried, place_of, place_for}
 use Rattle.world_mutex.proofs.table.Carrying.{begun, gone_on}
 use Rattle.world_mutex.proofs.guarded.Guarded.carry_out.Goals as goal
 

@@ -1,10 +1,6 @@
 -- What the lock carries out is one action of its program, and leaves each party where it may stand.
-use Rattle.std.proofs.Common.{◌≡◌, ℕ, Option, Some, None, ap, sym, ◌∙◌, refl, subst}
+use Rattle.world_mutex.proofs.Prelude.{◌≡◌, ℕ, Option, Some, None, ap, sym, ◌∙◌, refl, subst, Value, put_in, Guarded, MovesBy, with_value, Carries, place_for, place_of, is_try_kind, answer_by, witness}
 use Rattle.world_base.specs.declared.moves.Answer.TheVariants.{Granted}
-use Rattle.world_base.specs.declared.moves.Got.TheVariants.{Value}
-use Rattle.world_base.specs.Frame.{put_in}
-use Rattle.world_mutex.specs.Guarded.{Guarded, MovesBy, with_value, Carries, place_for, place_of, is_try_kind, answer_by}
-use Rattle.world_base.proofs.Equations.{witness}
 use Rattle.world_mutex.proofs.table.Acts.{carry_keeps}
 use Rattle.world_mutex.proofs.guarded.GuardedMachine.act.Goals as goal
 

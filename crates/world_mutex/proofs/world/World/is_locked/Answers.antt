@@ -1,9 +1,7 @@
 -- The word is held exactly if there is a holder.
-use Rattle.std.proofs.Common.{ap, ◌∙◌}
+use Rattle.world_mutex.proofs.Prelude.{ap, ◌∙◌, holders, Guarded}
 use Rattle.std.specs.Prelude.{is_some}
-use Rattle.world_mutex.specs.machine.Acts.{holders}
 use Rattle.world_mutex.proofs.of_machine.laws.Seen.{held_seen}
-use Rattle.world_mutex.specs.Guarded.{Guarded}
 use Rattle.world_mutex.proofs.world.World.is_locked.Goals as goal
 
 pub returns : goal.returns

@@ -1,8 +1,5 @@
 -- The word's number is the size of the starved set.
-use Rattle.std.proofs.Common.{ap, sym, ◌∙◌}
-use Rattle.world_base.specs.Rosters.{how_many}
-use Rattle.world_mutex.specs.machine.Acts.{starved}
-use Rattle.world_mutex.specs.Guarded.{Guarded}
+use Rattle.world_mutex.proofs.Prelude.{ap, sym, ◌∙◌, how_many, starved, Guarded}
 use Rattle.world_mutex.proofs.of_machine.laws.Seen.{how_many_counted}
 use Rattle.world_mutex.proofs.world.World.starved.Goals as goal
 

@@ -1,12 +1,6 @@
 -- An action of one party keeps what always holds of the mutex.
-use Rattle.std.proofs.Common.{◌≡◌, Bool, ◌<◌, ◌≤◌, length, ap, sym, ◌∙◌, arith}
-use Rattle.std.specs.List.{sum_by}
-use Rattle.std.proofs.Math.ListN.{set}
-use Rattle.world_mutex.specs.program.Program.{action_of, next_of, place_after, led_by, stands_by}
+use Rattle.world_mutex.proofs.Prelude.{◌≡◌, Bool, ◌<◌, ◌≤◌, length, ap, sym, ◌∙◌, arith, sum_by, set, action_of, next_of, place_after, led_by, stands_by, OnWord, OnList, SameRoles, place_at, entries_of, holds, listed, Action, Held}
 use Rattle.world_mutex.proofs.of_program.Rests.{stands_there}
-use Rattle.world_mutex.specs.program.Words.{OnWord}
-use Rattle.world_mutex.specs.program.Seats.{OnList}
-use Rattle.world_mutex.specs.machine.Machine.{SameRoles, place_at}
 use Rattle.world_mutex.proofs.of_machine.laws.CanDo.{can_do}
 use Rattle.world_mutex.proofs.of_machine.laws.Laws.{finds}
 use Rattle.world_mutex.proofs.of_machine.laws.Owners.{on_parties}
@@ -14,12 +8,8 @@ use Rattle.world_mutex.proofs.of_machine.laws.Effects.{limit_kept}
 use Rattle.world_mutex.proofs.of_machine.laws.Kept.{after}
 use Rattle.world_mutex.proofs.of_machine.legal.Fair.{acts_fairly}
 use Rattle.world_mutex.proofs.of_machine.falls.Alone.{fewer}
-use Rattle.world_base.specs.queue.Parties.{entries_of}
-use Rattle.lock_program.specs.MutexRoles.{holds, listed}
 use Rattle.world_mutex.proofs.of_machine.legal.Legal.{acts_legally, entered}
 use Rattle.world_mutex.proofs.of_machine.laws.Locks.{locked}
-use Rattle.lock_program.specs.declared.mutex.Action.TheVariants as act
-use Rattle.lock_program.specs.declared.mutex.Found.TheVariants.{Held}
 use Rattle.world_mutex.proofs.of_machine.legal.Courses.{heeds}
 use Rattle.world_mutex.proofs.machine.lock.Lock.act.Goals as goal
 
@@ -77,7 +67,7 @@ returns-clause-falls c =
 
 pub returns-clause-clock : goal.returns-clause-clock
 returns-clause-clock c =
-    let found : (long : Bool) → action_of c.args.from ≡ act.Take → c.carry_out-found.result ≡ Held long → long ≡ c.args.starving =
+    let found : (long : Bool) → action_of c.args.from ≡ Action.Take → c.carry_out-found.result ≡ Held long → long ≡ c.args.starving =
     λ long a f. c.carry_out-found.ensures.clock long (c.action_at-action.ensures ∙ a) f in
     rw (c.led.ensures ∙ ap led_by c.decide-next.ensures) (heeds c.args.starving c.args.from c.carry_out-found.result found)
 

@@ -1,15 +1,9 @@
 -- A call begins with the roles that its party has.
-use Rattle.std.proofs.Common.{◌≡◌, Option, Some, sym, ◌∙◌, subst}
+use Rattle.world_mutex.proofs.Prelude.{◌≡◌, Option, Some, sym, ◌∙◌, subst, start_of, entries_of, End, listed, IsLegal, decision, decided_by}
 use Rattle.world_mutex.proofs.of_machine.laws.Starts.{start_same}
-use Rattle.world_mutex.specs.program.Program.{start_of}
 use Rattle.world_mutex.proofs.of_machine.legal.Courses.{begins_so}
 use Rattle.world_mutex.proofs.of_machine.falls.Alone.{begun_within}
 use Rattle.world_mutex.proofs.of_machine.legal.Promised.{begins_unrefused}
-use Rattle.world_base.specs.queue.Parties.{entries_of}
-use Rattle.lock_program.specs.declared.end.End.{End}
-use Rattle.lock_program.specs.MutexRoles.{listed}
-use Rattle.world_mutex.specs.machine.Legal.{IsLegal, decision}
-use Rattle.world_mutex.specs.machine.Deeds.{decided_by}
 use Rattle.world_mutex.proofs.of_machine.legal.Legal.{begins_decided, begins_fresh}
 use Rattle.world_mutex.proofs.machine.lock.Lock.begin.Goals as goal
 

@@ -1,12 +1,5 @@
 -- What the machine did, said of the mutex.
-use Rattle.std.proofs.Common.{subst}
-use Rattle.lock_program.specs.declared.mutex.LockCall.{LockCall}
-use Rattle.world_mutex.specs.program.Program.{start_of, step_of}
-use Rattle.world_mutex.specs.machine.Alone.{HasBegun}
-use Rattle.world_mutex.specs.machine.Machine.{Lock, place_at}
-use Rattle.world_mutex.specs.machine.Acts.{Acts}
-use Rattle.world_mutex.specs.machine.Seen.{seen}
-use Rattle.world_base.proofs.Equations.{witness}
+use Rattle.world_mutex.proofs.Prelude.{subst, LockCall, start_of, step_of, HasBegun, Lock, place_at, Acts, seen, witness}
 use Rattle.world_mutex.proofs.of_machine.callers.Begun.{lock_goes}
 use Rattle.world_mutex.proofs.of_machine.callers.Released.{release_goes}
 use Rattle.world_mutex.proofs.of_machine.legal.Clauses.{known_there, can_there, begins_here, is_legal, is_unrefused, fairly, left_seen, is_done, at_once, begins_told_on, begins_patient}

@@ -1,11 +1,7 @@
 -- What the machine did, said of the mutex.
-use Rattle.std.proofs.Common.{refl, sym, subst}
-use Rattle.lock_program.specs.declared.end.End.{End}
-use Rattle.world_mutex.specs.machine.Machine.{Lock, place_at}
+use Rattle.world_mutex.proofs.Prelude.{refl, sym, subst, End, Lock, place_at, seen, step_of}
 use Rattle.std.specs.Prelude.{Option}
 use Rattle.world_mutex.specs.machine.Conduct.{IsLegal}
-use Rattle.world_mutex.specs.machine.Seen.{seen}
-use Rattle.world_mutex.specs.program.Program.{step_of}
 use Rattle.world_mutex.proofs.of_machine.legal.Clauses.{known_there, is_legal, fairly, left_seen, is_done, same_place, clock, patient, hands_on, goes_here, decided_here, told_here}
 use Rattle.world_mutex.proofs.of_machine.legal.Sights.{acts_kept, steps_seen}
 use Rattle.world_mutex.proofs.machine.mutex.Mutex.go.Goals as goal

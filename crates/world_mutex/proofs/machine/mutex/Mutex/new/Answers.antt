@@ -1,6 +1,5 @@
 -- A new mutex, as it is seen.
-use Rattle.std.proofs.Common.{ap, ◌∙◌}
-use Rattle.world_mutex.specs.machine.Seen.{seen}
+use Rattle.world_mutex.proofs.Prelude.{ap, ◌∙◌, seen}
 use Rattle.world_mutex.proofs.of_machine.legal.Sights.{seen_new}
 use Rattle.world_mutex.proofs.machine.mutex.Mutex.new.Goals as goal
 

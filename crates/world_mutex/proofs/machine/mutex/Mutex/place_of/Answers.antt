@@ -1,9 +1,5 @@
 -- The place is the concealed machine's.
-use Rattle.std.proofs.Common.{ap, sym, ◌∙◌}
-use Rattle.std.specs.Prelude.{slice_get}
-use Rattle.world_mutex.specs.machine.Behind.{reveal, revealed, place_behind}
-use Rattle.world_mutex.specs.machine.Machine.{Lock}
-use Rattle.world_mutex.specs.machine.Mutex.{Mutex}
+use Rattle.world_mutex.proofs.Prelude.{ap, sym, ◌∙◌, slice_get, reveal, revealed, place_behind, Lock, Mutex}
 use Rattle.world_mutex.proofs.machine.mutex.Mutex.place_of.Goals as goal
 
 pub returns : goal.returns

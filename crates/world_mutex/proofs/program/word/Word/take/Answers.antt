@@ -1,8 +1,6 @@
 -- What is found of a held word says whether the taker has waited for too long.
+use Rattle.world_mutex.proofs.Prelude.{ap, sym, Found, Held}
 use Rattle.std.specs.Prelude.{Bool, false}
-use Rattle.std.proofs.Common.{ap, sym}
-use Rattle.lock_program.specs.declared.mutex.Found.{Found}
-use Rattle.lock_program.specs.declared.mutex.Found.TheVariants.{Held}
 use Rattle.world_mutex.proofs.program.word.Word.take.Goals as goal
 
 starving_of : Found → Bool
